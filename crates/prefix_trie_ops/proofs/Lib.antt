@@ -1,0 +1,14 @@
+pub mod Lists
+pub mod Sorted
+pub mod Chains
+pub mod Combining
+pub mod Comparing
+pub mod Covers
+pub mod Marking
+pub mod Merging
+pub mod Pairs
+pub mod Reading
+pub mod Removing
+pub mod Selecting
+pub mod Uppermost
+pub mod Walking

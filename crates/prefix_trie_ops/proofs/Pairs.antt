@@ -1,0 +1,87 @@
+-- The keys that two maps have, as a map: its listing, and its values.
+use Rattle.std.proofs.Common.{◌≡◌, ◌∙◌, ◌&&◌, Bool, true, false, cond, List, [], ◌∷◌, map, filter, Option, Some, None, ap, sym, subst, refl, T}
+use Rattle.std.specs.List.{Contains, cons_option, filter_map}
+use Rattle.std.specs.Option.{option_map}
+use Rattle.std.specs.Ordering.{is_lt}
+use Rattle.std.specs.FinMap.{entries_sorted, entries-from_sorted, get, get-entries, get-from_sorted}
+use Rattle.std.specs.FinMap.Entries.{below_all, find, is_sorted}
+use Rattle.prefix_trie_bits.specs.Order.{listing_cmp, same_string}
+use Rattle.prefix_trie.specs.Words.{Entries, listing, shown}
+use Rattle.prefix_trie_ops.specs.Combining.{both_values, common, with_partner}
+use Rattle.prefix_trie_ops.proofs.Lists.{contains_here, contains_later}
+use Rattle.prefix_trie_ops.proofs.Sorted.{same_is, t_both, t_first, t_second}
+
+module _ {X Y : Type 0} (n : Entries Y) where
+  -- the items with their partners
+  abbrev pairs : List (List Bool × X) → List (List Bool × (X × Y))
+  pairs es = filter_map (with_partner (λ s. s) n) es
+
+  below_pairs : (q : List Bool) (es : List (List Bool × X)) → T (below_all listing_cmp q es) → T (below_all listing_cmp q (pairs es))
+  below_pairs q [] h = tt
+  below_pairs q (e ∷ es) h =
+      let rest = below_pairs q es (t_second (is_lt (listing_cmp q e.0)) (below_all listing_cmp q es) h) in
+      elim (get n e.0) as (λ o. T (below_all listing_cmp q (cons_option (option_map (λ w. (e.0, (e.1, w))) o) (pairs es)))) [
+        | None ↦ rest
+        | Some w ↦ t_both (is_lt (listing_cmp q e.0)) (below_all listing_cmp q (pairs es)) (t_first (is_lt (listing_cmp q e.0)) (below_all listing_cmp q es) h) rest
+      ]
+
+  sorted_pairs : (es : List (List Bool × X)) → T (is_sorted listing_cmp es) → T (is_sorted listing_cmp (pairs es))
+  sorted_pairs [] h = tt
+  sorted_pairs (e ∷ es) h =
+      let rest = sorted_pairs es (t_second (below_all listing_cmp e.0 es) (is_sorted listing_cmp es) h) in
+      elim (get n e.0) as (λ o. T (is_sorted listing_cmp (cons_option (option_map (λ w. (e.0, (e.1, w))) o) (pairs es)))) [
+        | None ↦ rest
+        | Some w ↦ t_both (below_all listing_cmp e.0 (pairs es)) (is_sorted listing_cmp (pairs es)) (below_pairs e.0 es (t_first (below_all listing_cmp e.0 es) (is_sorted listing_cmp es) h)) rest
+      ]
+
+  find_pairs : (q : List Bool) (es : List (List Bool × X)) → find listing_cmp q (pairs es) ≡ both_values (find listing_cmp q es) (get n q)
+  find_pairs q [] = refl
+  find_pairs q (e ∷ es) =
+      elim (same_string q e.0) as (λ b. same_string q e.0 ≡ b → find listing_cmp q (cons_option (option_map (λ w. (e.0, (e.1, w))) (get n e.0)) (pairs es)) ≡ both_values (cond b (Some e.1) (find listing_cmp q es)) (get n q)) [
+        | true ↦ λ h. elim (get n e.0) as (λ o. get n e.0 ≡ o → find listing_cmp q (cons_option (option_map (λ w. (e.0, (e.1, w))) o) (pairs es)) ≡ both_values (Some e.1) (get n q)) [
+          | None ↦ λ g.
+              let none : get n q ≡ None = ap (get n) (same_is q e.0 h) ∙ g in
+              find_pairs q es ∙ ap (both_values (find listing_cmp q es)) none ∙ no_pair (find listing_cmp q es) ∙ sym (ap (both_values (Some e.1)) none)
+          | Some w ↦ λ g.
+              let some : get n q ≡ Some w = ap (get n) (same_is q e.0 h) ∙ g in
+              ap (λ b. cond b (Some (e.1, w)) (find listing_cmp q (pairs es))) h ∙ sym (ap (both_values (Some e.1)) some)
+        ] refl
+        | false ↦ λ h. elim (get n e.0) as (λ o. find listing_cmp q (cons_option (option_map (λ w. (e.0, (e.1, w))) o) (pairs es)) ≡ both_values (find listing_cmp q es) (get n q)) [
+          | None ↦ find_pairs q es
+          | Some w ↦ ap (λ b. cond b (Some (e.1, w)) (find listing_cmp q (pairs es))) h ∙ find_pairs q es
+        ]
+      ] refl
+    where
+      no_pair : (o : Option X) → both_values {T = X} {U = Y} o None ≡ None
+      no_pair None = refl
+      no_pair (Some v) = refl
+
+  pub get_common : (m : Entries X) (q : List Bool) → get (common m n) q ≡ both_values (get m q) (get n q)
+  unfolding common
+  get_common m q =
+      get-from_sorted listing_cmp (pairs (listing m)) q (sorted_pairs (listing m) (entries_sorted m)) ∙ find_pairs q (listing m)
+      ∙ ap (λ o. both_values o (get n q)) (sym (get-entries m q))
+
+  module _ {P : Type 0} (path : P → List Bool) (back : List Bool → P) where
+    pairs_shown : (es : List (List Bool × X)) → ((e : List Bool × X) → Contains es e → path (back e.0) ≡ e.0)
+        → filter_map (with_partner path n) (shown back es) ≡ shown back (pairs es)
+    pairs_shown [] known = refl
+    pairs_shown (e ∷ es) known =
+        ap (λ s. cons_option (option_map (λ w. (back e.0, (e.1, w))) (get n s)) (filter_map (with_partner path n) (shown back es))) (known e (contains_here e es))
+        ∙ ap (cons_option (option_map (λ w. (back e.0, (e.1, w))) (get n e.0))) (pairs_shown es (λ d at. known d (contains_later e d es at)))
+        ∙ elim (get n e.0) as (λ o. cons_option (option_map (λ w. (back e.0, (e.1, w))) o) (shown back (pairs es)) ≡ shown back (cons_option (option_map (λ w. (e.0, (e.1, w))) o) (pairs es))) [
+          | None ↦ refl
+          | Some w ↦ refl
+        ]
+
+    -- the items of a walk that have a partner are the listing of the common keys
+    pub common_shown : (m : Entries X) → ((e : List Bool × X) → Contains (listing m) e → path (back e.0) ≡ e.0)
+        → filter_map (with_partner path n) (shown back (listing m)) ≡ shown back (listing (common m n))
+    unfolding common
+    common_shown m known = pairs_shown (listing m) known ∙ sym (ap (shown back) (entries-from_sorted listing_cmp (pairs (listing m)) (sorted_pairs (listing m) (entries_sorted m))))
+
+-- an item without a partner is skipped
+pub pairs_skip : {P X Y : Type 0} (path : P → List Bool) (n : Entries Y) (xs rest : List (P × X)) (x : P × X) → xs ≡ x ∷ rest → None ≡ get n (path x.0)
+    → filter_map (with_partner path n) rest ≡ filter_map (with_partner path n) xs
+pairs_skip path n xs rest x is none =
+    ap (λ o. cons_option (option_map (λ w. (x.0, (x.1, w))) o) (filter_map (with_partner path n) rest)) none ∙ sym (ap (filter_map (with_partner path n)) is)

@@ -1,0 +1,21 @@
+use Rattle.std.proofs.Common.{◌≡◌, ◌∙◌}
+use Rattle.prefix_trie_ops.specs.Covered.{is_uppermost, without_covered}
+use Rattle.prefix_trie_ops.proofs.Uppermost.{none_covered, same_covered, uppermost_entries}
+use Rattle.prefix_trie_ops.proofs.set.aggregation.aggregate_consistent.Goals as goal
+
+pub returns-clause-entries : goal.returns-clause-entries
+returns-clause-entries g c =
+    let m = c.args.set.now.entries in
+    uppermost_entries m c.keep_marked.new.set.entries (c.keep_marked.ensures.kept (is_uppermost m) (c.as_slice.ensures.value ∙ c.in_ok-marks.ensures))
+
+pub returns-clause-covered : goal.returns-clause-covered
+returns-clause-covered g c q =
+    let m = c.args.set.now.entries in
+    same_covered c.lookup_laws.ensures c.match_laws.ensures m c.keep_marked.new.set.entries
+    (uppermost_entries m c.keep_marked.new.set.entries (c.keep_marked.ensures.kept (is_uppermost m) (c.as_slice.ensures.value ∙ c.in_ok-marks.ensures))) q
+
+pub returns-clause-tidy : goal.returns-clause-tidy
+returns-clause-tidy g c s there =
+    let m = c.args.set.now.entries in
+    none_covered c.lookup_laws.ensures c.match_laws.ensures m c.keep_marked.new.set.entries
+    (uppermost_entries m c.keep_marked.new.set.entries (c.keep_marked.ensures.kept (is_uppermost m) (c.as_slice.ensures.value ∙ c.in_ok-marks.ensures))) s there

@@ -1,0 +1,33 @@
+-- Maps that are made of two maps, by their entries.
+use Rattle.std.specs.Prelude.{Bool, not, List, [], ◌∷◌, Option, Some, None}
+use Rattle.std.specs.Option.{is_some, option_map}
+use Rattle.std.specs.List.{filter_map}
+use Rattle.std.specs.FinMap.{contains_key, from_sorted, get, retain_keys}
+use Rattle.prefix_trie.specs.Words.{Entries, listing, shortest_match}
+
+module _ {T U : Type 0} where
+  -- the entries of m whose keys n does not have
+  abbrev pub minus : Entries T → Entries U → Entries T
+  minus m n = retain_keys m (λ s. not (contains_key n s))
+
+  -- the entries of m whose keys n has too
+  abbrev pub restricted_to : Entries T → Entries U → Entries T
+  restricted_to m n = retain_keys m (λ s. contains_key n s)
+
+  -- the entries of m whose keys no key of n begins
+  abbrev pub not_covered : Entries T → Entries U → Entries T
+  not_covered m n = retain_keys m (λ s. not (is_some (shortest_match n s)))
+
+  -- both values, if there are both
+  abbrev pub both_values : Option T → Option U → Option (T × U)
+  both_values None w = None
+  both_values (Some v) None = None
+  both_values (Some v) (Some w) = Some (v, w)
+
+  -- an item with the value that n has at its key, if it has one
+  abbrev pub with_partner : {P : Type 0} → (P → List Bool) → Entries U → P × T → Option (P × (T × U))
+  with_partner path n e = option_map (λ w. (e.0, (e.1, w))) (get n (path e.0))
+
+  -- the keys that both maps have, each with both values
+  unfoldable pub common : Entries T → Entries U → Entries (T × U)
+  common m n = from_sorted (filter_map (with_partner (λ s. s) n) (listing m))

@@ -1,0 +1,7 @@
+pub mod Combining
+pub mod Covered
+pub mod Laws
+pub mod Lending
+pub mod Merging
+pub mod Turned
+pub mod Values

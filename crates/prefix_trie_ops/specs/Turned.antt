@@ -1,0 +1,13 @@
+-- What two maps have at a key, with the sides turned round.
+use Rattle.prefix_trie_ops.specs.declared.map.sides.Side.{Side}
+use Rattle.prefix_trie_ops.specs.declared.map.sides.Side.TheVariants.{Left, Right, Both}
+
+module _ {T U : Type 0} where
+  -- the left value on the right, and the right one on the left
+  abbrev pub turned_side : Side T U → Side U T
+  turned_side (Left v) = Right v
+  turned_side (Right w) = Left w
+  turned_side (Both v w) = Both w v
+
+  abbrev pub turned_pair : T × U → U × T
+  turned_pair p = (p.1, p.0)

@@ -1,0 +1,105 @@
+//! The keys of either of two maps.
+ghost use Rattle.std.specs.Prelude.{◌≡◌, List, length};
+ghost use Rattle.std.specs.Iterator.{at_most};
+ghost use Rattle.std.specs.Map.Iter.{ShowsInOrder, TakesFirst};
+ghost use Rattle.prefix_trie.specs.Words.{listing, shown};
+ghost use Rattle.prefix_trie_ops.specs.Merging.{first_side_of, lent_side, merged, union_of};
+
+use crate::ahead::Ahead;
+use crate::map::sides::Side;
+use crate::order::listing_order;
+use prefix_trie::laws::{listed_laws, listing_laws};
+use prefix_trie::{Prefix, PrefixMap};
+use std::alloc::Allocator;
+use std::cmp::Ordering;
+use std::marker::Model;
+
+/// The keys of either of two maps, each with what both have there, in listing order.
+///
+/// The walk does not allocate. After its last item it returns `None` each time.
+#[derive(Drop)]
+pub struct UnionWalk<'a, P: Prefix, T: Drop, U: Drop, A: Allocator, B: Allocator> {
+    left: Ahead<'a, P, T, A>,
+    right: Ahead<'a, P, U, B>,
+}
+
+impl<'a, P: Prefix, T: Drop, U: Drop, A: Allocator, B: Allocator> Model
+    for UnionWalk<'a, P, T, U, A, B> {
+    ghost use Rattle.std.specs.Prelude.{List};
+    ghost use Rattle.prefix_trie_ops.specs.Merging.{merged};
+    ghost use Rattle.prefix_trie_ops.specs.declared.map.sides.Side.{Side};
+
+    ghost Value = { List (P × Side T U) };
+
+    ghost view = { λ w. merged P.path w.left w.right };
+}
+
+/// Returns a walk over the keys of either map, each with what both maps have there, in listing order.
+///
+/// # Examples
+///
+/// ```text
+/// left has 10.0.0.0/8 and 10.1.0.0/16 with 1 and 2, and right has 10.1.0.0/16 and 10.2.0.0/16 with 8 and 9
+/// union(&left, &right)    gives (10.0.0.0/8, Left(&1)), (10.1.0.0/16, Both(&2, &8)) and (10.2.0.0/16, Right(&9))
+/// ```
+pub fn union<'a, P: Prefix, T: Drop, U: Drop, A: Allocator, B: Allocator>(
+    left: &'a PrefixMap<P, T, A>,
+    right: &'a PrefixMap<P, U, B>,
+) -> UnionWalk<'a, P, T, U, A, B>
+    ensures items { result ≡ shown P.back (listing (union_of left.now.entries right.now.entries)) }
+    ensures runs { ShowsInOrder (lent_side {P = P} {T = T} {U = U}) }
+{
+    listing_laws::<T>();
+    listing_laws::<U>();
+    listed_laws::<P, T>();
+    listed_laws::<P, U>();
+
+    // The proofs learn from it that no key is longer than the width.
+    let _ = (left.len(), right.len());
+    UnionWalk {
+        left: Ahead::of(left),
+        right: Ahead::of(right),
+    }
+}
+
+impl<'a, P: Prefix, T: Drop, U: Drop, A: Allocator, B: Allocator> Iterator
+    for UnionWalk<'a, P, T, U, A, B> {
+    type Item = (P, Side<&'a T, &'a U>);
+
+    ghost next_gives = { TakesFirst lent_side };
+
+    ghost remaining = { λ items. at_most (length items) };
+
+    fn next(&mut self) -> Option<(P, Side<&'a T, &'a U>)> {
+        match first_side(&self.left, &self.right)? {
+            Ordering::Less => {
+                let (prefix, value) = self.left.take()?;
+                Some((prefix, Side::Left(value)))
+            }
+            Ordering::Greater => {
+                let (prefix, value) = self.right.take()?;
+                Some((prefix, Side::Right(value)))
+            }
+            Ordering::Equal => {
+                let (prefix, left) = self.left.take()?;
+                let (_, right) = self.right.take()?;
+                Some((prefix, Side::Both(left, right)))
+            }
+        }
+    }
+}
+
+/// Returns which of two walks has the first item: the left one (`Less`), the right one, or both. It returns `None` if both are at their end.
+fn first_side<P: Prefix, T: Drop, U: Drop, A: Allocator, B: Allocator>(
+    left: &Ahead<'_, P, T, A>,
+    right: &Ahead<'_, P, U, B>,
+) -> Option<Ordering>
+    ensures { result ≡ first_side_of P.path left.now right.now }
+{
+    match (&left.next, &right.next) {
+        (Some((left, _)), Some((right, _))) => Some(listing_order(left, right)),
+        (Some(_), None) => Some(Ordering::Less),
+        (None, Some(_)) => Some(Ordering::Greater),
+        (None, None) => None,
+    }
+}

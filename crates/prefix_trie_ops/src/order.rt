@@ -1,0 +1,22 @@
+//! The listing order of prefixes.
+ghost use Rattle.std.specs.Prelude.{◌≡◌};
+ghost use Rattle.prefix_trie.specs.Words.{listing_cmp};
+
+use prefix_trie::laws::{listing_laws, path_laws};
+use prefix_trie::{Key, Prefix};
+use std::cmp::Ordering;
+
+/// Returns which of two prefixes comes first in a listing.
+///
+/// A prefix comes before those that it contains. Of two that differ in a bit, the one with 0 comes first.
+#[inline]
+pub fn listing_order<P: Prefix>(left: &P, right: &P) -> Ordering
+    requires fits { P.IsFitting left.now }
+    requires other_fits { P.IsFitting right.now }
+    ensures { result ≡ listing_cmp (P.path left.now) (P.path right.now) }
+{
+    listing_laws::<()>();
+    path_laws::<P>();
+    let order = left.mask().compare(right.mask());
+    order.then(left.prefix_len().cmp(&right.prefix_len()))
+}

@@ -1,0 +1,138 @@
+//! Walks that give the items of another walk whose prefixes pass a test.
+ghost use Rattle.std.specs.Prelude.{◌≡◌, ◌<◌, ◌^◌, All, List, Bool, filter, length, map};
+ghost use Rattle.std.specs.Iterator.{at_most};
+ghost use Rattle.std.specs.Map.Iter.{GivesInOrder, ShowsInOrder, TakesFirst};
+ghost use Rattle.prefix_trie.specs.Words.{lent_item};
+
+use prefix_trie::map::Iter;
+use prefix_trie::{Prefix, set};
+use std::alloc::Allocator;
+use std::marker::Model;
+
+/// A test of prefixes by their paths.
+pub trait PathTest<P: Prefix>: Drop {
+    // what it returns at a path
+    ghost outcome: { Self → List Bool → Bool };
+
+    /// Returns whether a prefix passes. A call does not change what the test returns.
+    fn passes(&mut self, prefix: &P) -> bool
+        requires { P.IsFitting prefix.now }
+        ensures decides { result ≡ outcome self.old (P.path prefix.now) }
+        ensures same { outcome self.new ≡ outcome self.old };
+}
+
+/// The entries of a map whose prefixes pass a test, in listing order.
+///
+/// The walk does not allocate. After its last item it returns `None` each time.
+#[derive(Drop)]
+pub struct Selected<'a, P: Prefix, T: Drop, A: Allocator, F: PathTest<P>> {
+    entries: Iter<'a, P, T, A>,
+    test: F,
+}
+
+impl<'a, P: Prefix, T: Drop, A: Allocator, F: PathTest<P>> Model for Selected<'a, P, T, A, F> {
+    ghost use Rattle.std.specs.Prelude.{All, List, filter};
+
+    ghost Value = { List (P × T) };
+
+    ghost view = { λ w. filter (λ e. F.outcome w.test (P.path e.0)) w.entries };
+
+    ghost invariant = { λ w. All (λ e. P.IsFitting e.0) w.entries };
+}
+
+impl<'a, P: Prefix, T: Drop, A: Allocator, F: PathTest<P>> Selected<'a, P, T, A, F> {
+    /// Returns the walk over those of the entries that pass the test.
+    pub(crate) fn new(entries: Iter<'a, P, T, A>, test: F) -> Self
+        requires { All (λ e. P.IsFitting e.0) entries }
+        ensures { result ≡ filter (λ e. F.outcome test (P.path e.0)) entries.entry }
+    {
+        Selected { entries, test }
+    }
+}
+
+impl<'a, P: Prefix, T: Drop, A: Allocator, F: PathTest<P>> Iterator for Selected<'a, P, T, A, F> {
+    type Item = (P, &'a T);
+
+    ghost next_gives = { TakesFirst lent_item };
+
+    ghost remaining = { λ items. at_most (length items) };
+
+    fn next(&mut self) -> Option<(P, &'a T)> {
+        next_entry(&mut self.entries, &mut self.test)
+    }
+}
+
+/// Returns the next entry that passes, and skips those before it.
+fn next_entry<'a, P: Prefix, T: Drop, A: Allocator, F: PathTest<P>>(
+    entries: &mut Iter<'a, P, T, A>,
+    test: &mut F,
+) -> Option<(P, &'a T)>
+    requires { All (λ e. P.IsFitting e.0) entries.old }
+    ensures takes { TakesFirst lent_item (filter (λ e. F.outcome test.old (P.path e.0)) entries.old) result (filter (λ e. F.outcome test.new (P.path e.0)) entries.new) }
+    ensures fit { All (λ e. P.IsFitting e.0) entries.new }
+{
+    while let Some((prefix, value)) = entries.next() {
+        if test.passes(&prefix) {
+            return Some((prefix, value));
+        }
+    }
+    None
+}
+
+/// The keys of a set that pass a test, in listing order.
+///
+/// The walk does not allocate. After its last item it returns `None` each time.
+#[derive(Drop)]
+pub struct SelectedKeys<'a, P: Prefix, A: Allocator, F: PathTest<P>> {
+    keys: set::Iter<'a, P, A>,
+    test: F,
+}
+
+impl<'a, P: Prefix, A: Allocator, F: PathTest<P>> Model for SelectedKeys<'a, P, A, F> {
+    ghost use Rattle.std.specs.Prelude.{All, List, filter};
+
+    ghost Value = { List P };
+
+    ghost view = { λ w. filter (λ p. F.outcome w.test (P.path p)) w.keys };
+
+    ghost invariant = { λ w. All P.IsFitting w.keys };
+}
+
+impl<'a, P: Prefix, A: Allocator, F: PathTest<P>> SelectedKeys<'a, P, A, F> {
+    /// Returns the walk over those of the keys that pass the test.
+    pub(crate) fn new(keys: set::Iter<'a, P, A>, test: F) -> Self
+        requires { All P.IsFitting keys }
+        ensures { result ≡ filter (λ p. F.outcome test (P.path p)) keys.entry }
+    {
+        SelectedKeys { keys, test }
+    }
+}
+
+impl<'a, P: Prefix, A: Allocator, F: PathTest<P>> Iterator for SelectedKeys<'a, P, A, F> {
+    type Item = P;
+
+    ghost next_gives = { TakesFirst (λ p. p) };
+
+    ghost remaining = { λ items. at_most (length items) };
+
+    fn next(&mut self) -> Option<P> {
+        next_key(&mut self.keys, &mut self.test)
+    }
+}
+
+/// Returns the next key that passes, and skips those before it.
+fn next_key<'a, P: Prefix, A: Allocator, F: PathTest<P>>(
+    keys: &mut set::Iter<'a, P, A>,
+    test: &mut F,
+) -> Option<P>
+    requires { All P.IsFitting keys.old }
+    ensures takes { TakesFirst (λ p. p) (filter (λ p. F.outcome test.old (P.path p)) keys.old) result (filter (λ p. F.outcome test.new (P.path p)) keys.new) }
+    ensures fit { All P.IsFitting keys.new }
+{
+    while let Some(prefix) = keys.next() {
+        if test.passes(&prefix) {
+            return Some(prefix);
+        }
+    }
+    None
+}

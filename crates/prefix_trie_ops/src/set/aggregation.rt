@@ -1,0 +1,87 @@
+//! Removal of keys that a shorter key covers.
+ghost use Rattle.std.specs.Prelude.{◌≡◌, ◌&&◌, Bool, true, false, not, List, IfOk, IfErr, IfSome, filter, map};
+ghost use Rattle.std.specs.Option.{is_some};
+ghost use Rattle.std.specs.FinMap.{contains_key};
+ghost use Rattle.prefix_trie.specs.Words.{begins, listing, needed, shortest_match};
+ghost use Rattle.prefix_trie_ops.specs.Covered.{contains_path, is_below_another, is_uppermost, without_covered};
+
+use prefix_trie::laws::{listed_laws, listing_laws, lookup_laws, match_laws};
+use prefix_trie::{Prefix, PrefixSet};
+use std::alloc::{AllocError, Allocator};
+
+/// Removes each key that a shorter key covers.
+///
+/// `is_covered` returns the same as before for every question, of any length. No such key is left, and nothing else changes.
+/// It allocates one byte for each key.
+///
+/// # Errors
+///
+/// Returns the allocator's error if an allocation fails. The set is unchanged then.
+///
+/// # Examples
+///
+/// ```text
+/// 10.0.0.0/8, 10.1.0.0/16, 10.1.2.0/24 and 11.0.0.0/8 are stored
+/// aggregate_consistent(&mut set, alloc)?
+/// set.iter()                               gives 10.0.0.0/8 and 11.0.0.0/8
+/// ```
+pub fn aggregate_consistent<P: Prefix, A: Allocator, B: Allocator>(
+    set: &mut PrefixSet<P, A>,
+    alloc: B,
+) -> Result<(), AllocError>
+    ensures entries { IfOk result (λ _. set.new.entries ≡ without_covered set.old.entries) }
+    ensures covered { IfOk result (λ _. (q : List Bool) → is_some (shortest_match set.new.entries q) ≡ is_some (shortest_match set.old.entries q)) }
+    ensures tidy { IfOk result (λ _. (s : List Bool) → contains_key set.new.entries s ≡ true → is_below_another set.new.entries s ≡ false) }
+    ensures unchanged { IfErr result (λ _. set.new ≡ set.old) }
+{
+    lookup_laws::<P, ()>();
+    match_laws::<()>();
+    let marks = marks_of(set, alloc)?;
+    keep_marked(set, marks.as_slice());
+    Ok(())
+}
+
+/// Returns a mark for each key, in listing order: whether it stays.
+fn marks_of<P: Prefix, A: Allocator, B: Allocator>(
+    set: &PrefixSet<P, A>,
+    alloc: B,
+) -> Result<Vec<bool, B>, AllocError>
+    ensures { IfOk result (λ marks. marks.items ≡ map (is_uppermost set.now.entries) (listing set.now.entries)) }
+{
+    listing_laws::<()>();
+    listed_laws::<P, ()>();
+    match_laws::<()>();
+    let mut uppermost = None;
+    let mut marks = Vec::new(alloc);
+    for prefix in set.iter() {
+        let is_covered = does_contain(&uppermost, &prefix);
+        marks.push(!is_covered)?;
+        if !is_covered {
+            uppermost = Some(prefix);
+        }
+    }
+    Ok(marks)
+}
+
+/// Returns whether there is a covering prefix, and it contains this one.
+fn does_contain<P: Prefix>(covering: &Option<P>, prefix: &P) -> bool
+    requires fits { P.IsFitting prefix.now }
+    requires covering_fits { IfSome covering.now (λ p. P.IsFitting p) }
+    ensures { result ≡ contains_path P.path covering.now (P.path prefix.now) }
+{
+    match covering {
+        Some(covering) => covering.contains(prefix),
+        None => false,
+    }
+}
+
+/// Keeps the keys that are marked. There is a mark for each key, in listing order.
+#[tactic(auto, using(prefix_trie::proofs::Callers::may_ask_always))]
+fn keep_marked<P: Prefix, A: Allocator>(set: &mut PrefixSet<P, A>, marks: &[bool])
+    ensures kept { (keep : List Bool × Unit {0} → Bool) → marks.now ≡ map keep (listing set.old.entries)
+        → listing set.new.entries ≡ filter keep (listing set.old.entries) }
+    ensures nodes { set.new.nodes ≡ needed set.new.entries }
+{
+    let mut left = marks.iter();
+    set.retain(move |_| left.next().copied().unwrap_or(true));
+}
