@@ -1,14 +1,15 @@
-//! Nodes and values stand in two arrays, each cut into blocks of seven sizes: 1, 2, 4, 8, 16, 24 and 31 slots for the values of
-//! a node, and 32 in place of 31 for its children. Slot 0 of the array of nodes is the root's, outside every block.
+//! Nodes and values are stored in two arrays. Each array is cut into blocks of seven sizes: 1, 2, 4, 8, 16, 24, and 31 slots for
+//! the values of a node or 32 for its children. Slot 0 of the node array is the root, outside every block.
 //!
-//! A block holds one list, from its first slot on; its other slots are vacant, and so are all slots of a free block. The used
-//! blocks and the free ones together tile the array, so each slot is in one block, and no block has two owners.
+//! A block in use holds one list, which starts at its first slot. Its other slots are vacant, and so are all slots of a free block.
+//! Used and free blocks together tile the array, so each slot is in one block, and no block has two owners.
 //!
-//! Each size has a list of its free blocks. A list of values that outgrows its block moves to a free one of the smallest size
-//! that holds it, and one that shrinks moves to a smaller one; the block that is left becomes free. A block is made at the
-//! array's end, only where none of its size is free, and its place in the list of free ones is reserved with it: so giving a
-//! block back never asks for memory. Apart from making or copying an array only `prepare` can be refused, and it writes no
-//! list: what a change needs is obtained first, as free blocks, and the change itself then always succeeds.
+//! Each size has a free list. A list that outgrows its block moves to a free block of the smallest size that fits. A list that
+//! shrinks moves to a smaller block. The block that it leaves becomes free. A block is made at the end of the array, only if none
+//! of its size is free. Its capacity in the free list is reserved at the same time, so freeing a block never allocates.
+//!
+//! Only `prepare`, and making, copying or building an array, can fail. `prepare` makes free blocks and writes no list, so a change
+//! that follows it always succeeds.
 pub mod array;
 pub mod block_count;
 pub mod blocks;

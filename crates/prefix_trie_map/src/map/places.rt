@@ -91,7 +91,8 @@ impl<P: Prefix, T: Drop, A: Allocator> PrefixMap<P, T, A> {
     }
 
     // Inserts a new prefix, whose way ends here, and answers where its value stands.
-    #[inline]
+    // It is not inlined, so that what an entry's callers do with a stored key stays small.
+    #[inline(never)]
     pub(super) fn place(&mut self, prefix: &P, end: WayEnd, value: T) -> Result<Seat, Refused<T>>
         requires fits { P.IsFitting prefix.now }
         requires absent { contains_key self.old.entries (P.path prefix.now) ≡ false }

@@ -1,4 +1,4 @@
-//! An array of slots, which `Blocks` cuts into blocks. Contracts see a list and a capacity.
+//! The array of slots that `Blocks` cuts into blocks. Contracts see a list and a capacity.
 ghost use Rattle.std.specs.Prelude.{◌≡◌, ℕ, ◌+◌, ◌<◌, ◌≤◌, ◌++◌, [], ◌∷◌, List, length, swap, take, insert, remove, slice_index_or, slice_set, OnOk, OnErr, IsOk};
 ghost use Rattle.prefix_trie_table.specs.Growth.{Reserves};
 
@@ -11,13 +11,13 @@ pub trait SlotArray<S: Slot>: Drop {
     // the values of the slots
     ghost list: { Self → List S };
 
-    // how many slots there is memory for
+    // how many slots fit into the allocated memory
     ghost capacity: { Self → ℕ };
 
     // what a slot can hold
     ghost can_hold: { S → Type 0 };
 
-    /// The number of slots.
+    /// Returns the number of slots.
     fn count(&self) -> usize
         ensures { result ≡ length (list self.now) };
 
@@ -28,14 +28,14 @@ pub trait SlotArray<S: Slot>: Drop {
         ensures grown { Reserves (capacity self.old) (length (list self.old) + count) (capacity self.new) }
         ensures succeeds { length (list self.old) + count ≤ capacity self.old → IsOk result };
 
-    /// Appends a slot, for which there is memory.
+    /// Appends a slot to an array that has spare capacity.
     fn append(&mut self, value: S)
         requires memory { length (list self.old) < capacity self.old }
         requires value { can_hold value }
         ensures list { list self.new ≡ list self.old ++ value ∷ [] }
         ensures capacity { capacity self.new ≡ capacity self.old };
 
-    /// Writes a slot, and returns its previous value.
+    /// Writes a slot and returns its previous value.
     fn put(&mut self, at: usize, value: S) -> S
         requires at { at < length (list self.old) }
         requires value { can_hold value }
@@ -50,7 +50,7 @@ pub trait SlotArray<S: Slot>: Drop {
         ensures list { list self.new ≡ swap (list self.old) a b }
         ensures capacity { capacity self.new ≡ capacity self.old };
 
-    /// Puts `value` at `from`, moves the values from there to before `to` one slot on, and drops the one at `to`.
+    /// Inserts a value at `from`, moves the values of `from..to` to the next slot, and drops the value of `to`.
     fn insert_shifting(&mut self, from: usize, to: usize, value: S)
         requires in_order { from ≤ to }
         requires within { to < length (list self.old) }
@@ -58,7 +58,7 @@ pub trait SlotArray<S: Slot>: Drop {
         ensures list { list self.new ≡ insert (remove (list self.old) to) from value }
         ensures capacity { capacity self.new ≡ capacity self.old };
 
-    /// Takes the value at `from`, moves those after it up to `to` one slot back, and leaves the slot `to` vacant.
+    /// Removes and returns the value at `from`, moves the values after it, up to `to`, to the previous slot, and makes `to` vacant.
     fn remove_shifting(&mut self, from: usize, to: usize) -> S
         requires in_order { from ≤ to }
         requires within { to < length (list self.old) }
@@ -66,18 +66,18 @@ pub trait SlotArray<S: Slot>: Drop {
         ensures list { list self.new ≡ insert (remove (list self.old) from) to S.vacant }
         ensures capacity { capacity self.new ≡ capacity self.old };
 
-    /// Drops all slots from `count` on. It frees no memory.
+    /// Drops all slots from `count` on, and keeps the capacity.
     fn cut(&mut self, count: usize)
         ensures list { list self.new ≡ take count (list self.old) }
         ensures capacity { capacity self.new ≡ capacity self.old };
 
-    /// Frees the memory that no slot needs.
+    /// Frees the spare capacity.
     fn shrink(&mut self) -> Result<(), AllocError>
         ensures list { list self.new ≡ list self.old }
         ensures ok { OnOk result (capacity self.new ≤ length (list self.new)) }
         ensures capacity { capacity self.new ≤ capacity self.old };
 
-    // a vacant slot is one
+    // a slot can be vacant
     ghost holds_vacant: { can_hold S.vacant };
 }
 

@@ -1,16 +1,17 @@
-//! How many blocks of one size an array has.
+//! The number of blocks of one size.
 
-/// How many blocks of one size stand in an array.
+/// Counts the blocks of one size in an array.
 ///
 /// ```text
-/// map.cell_blocks()[0]   BlockCount { size: 1, used: 3, free: 1 }, where three nodes have one value each
+/// // three nodes have one value each, and one block is free
+/// map.cell_blocks()[0] == BlockCount { size: 1, used: 3, free: 1 }
 /// ```
 #[derive(Clone, Copy, PartialEq, Eq, Debug)]
 pub struct BlockCount {
-    /// How many slots each has.
+    /// The number of slots of each block.
     pub size: usize,
-    /// How many are in use, each with the children or the values of one node.
+    /// The number of blocks in use. Each holds the children or the values of one node.
     pub used: usize,
-    /// How many are free. An insertion takes these first.
+    /// The number of free blocks. An insertion uses these first.
     pub free: usize,
 }

@@ -1,4 +1,4 @@
-//! An array that is cut into blocks of a few sizes. A block in use holds one list, from its first slot on.
+//! An array that is cut into blocks of a few sizes. A block in use holds one list, which starts at its first slot.
 mod copying;
 mod insertion;
 mod laying;
@@ -26,20 +26,22 @@ use prefix_trie_bits::prefix::Refusal;
 use std::alloc::{AllocError, Allocator};
 use std::marker::{Model, PhantomData};
 
-/// Where a block stands: the number of its size among the array's sizes, ascending from 0, and its first slot.
+/// A block: the index of its size among the array's ascending sizes, and its first slot.
 #[derive(Clone, Copy)]
 pub struct BlockRef {
     pub tier: usize,
     pub start: u32,
 }
 
-/// The array, and for each size the list of its free blocks. Who holds a block is not known here: a caller keeps, for each
-/// list, a `BlockRef` and the number of its values, and hands both to each call on it.
+/// The array, and the free list of each size.
+///
+/// The array does not store who uses a block. A caller keeps the `BlockRef` and the length of each list, and passes both to each
+/// call on the list.
 ///
 /// ```text
 /// let mut cells = cells(&alloc, limit)?;
-/// cells.prepare(0, 0, 0)?;                       // room for the first value of a list
-/// let at = cells.insert_at(0, 0, 0, 0, Some(7)); // which then stands in a block of one slot
+/// cells.prepare(0, 0, 0)?;                       // a block for the first value of a list
+/// let at = cells.insert_at(0, 0, 0, 0, Some(7)); // the list is in a block of one slot now
 /// let (value, rest) = cells.remove_at(at.tier, at.start, 1, 0);
 /// ```
 #[derive(Drop)]
@@ -51,7 +53,7 @@ pub struct Blocks<S: Slot, R: SlotArray<S>, A: Allocator> {
     of: PhantomData<S>,
 }
 
-// Clauses see the array, the place where its first block starts, its tiers and its limit.
+// Clauses see the slots, the start of the first block, the tiers, the limit and the capacity.
 impl<S: Slot, R: SlotArray<S>, A: Allocator> Model for Blocks<S, R, A> {
     ghost use Rattle.std.specs.Prelude.{◌≡◌, ◌+◌, ◌≤◌, ◌<◌, length, All};
     ghost use Rattle.prefix_trie_table.specs.Store.{Store, slots_made};
@@ -65,8 +67,9 @@ impl<S: Slot, R: SlotArray<S>, A: Allocator> Model for Blocks<S, R, A> {
 }
 
 impl<S: Slot, R: SlotArray<S>, A: Allocator> Blocks<S, R, A> {
-    /// The number of slots: those before the first block, and of each size the blocks that were made, used or free.
-    /// Never more than the limit, which is below 2^32.
+    /// Returns the number of slots: those before the first block, and those of all blocks, used and free.
+    ///
+    /// It never exceeds the limit, which is below 2^32.
     #[inline]
     pub fn len(&self) -> usize
         ensures len { result ≡ length self.now.slots }
@@ -79,7 +82,7 @@ impl<S: Slot, R: SlotArray<S>, A: Allocator> Blocks<S, R, A> {
         self.slots.count()
     }
 
-    /// How many slots a block of tier `k` has.
+    /// Returns the number of slots of a block of tier `k`.
     fn size_of(&self, k: usize) -> u32
         requires { k < length self.now.tiers }
         ensures { result ≡ size_in (tier_sizes self.now.tiers) k }
@@ -87,7 +90,7 @@ impl<S: Slot, R: SlotArray<S>, A: Allocator> Blocks<S, R, A> {
         self.lists[k].size()
     }
 
-    /// How many blocks of tier `k` are free. The others that were made hold a list.
+    /// Returns the number of free blocks of tier `k`. Each other block of that tier holds a list.
     pub fn free_of(&self, k: usize) -> usize
         requires { k < length self.now.tiers }
         ensures { result ≡ free_in self.now.tiers (size_in (tier_sizes self.now.tiers) k) }
@@ -95,13 +98,13 @@ impl<S: Slot, R: SlotArray<S>, A: Allocator> Blocks<S, R, A> {
         self.lists[k].free()
     }
 
-    /// How many blocks of each size are in use and free, sizes ascending.
+    /// Counts the blocks of each size, used and free, in ascending order of size.
     pub fn counts(&self) -> [BlockCount; 7]
         requires { length self.now.tiers ≡ 7 }
         ensures counts { result ≡ map tier_count self.now.tiers }
         ensures made { length self.now.slots ≡ self.now.first + slots_made self.now.tiers }
     {
-        // Read for the proof alone: the blocks that were made take all slots from the first on.
+        // Read for the proof alone: the blocks fill all slots from the first block on.
         let _slots = &self.slots;
         [
             self.count_of(0),
@@ -114,7 +117,7 @@ impl<S: Slot, R: SlotArray<S>, A: Allocator> Blocks<S, R, A> {
         ]
     }
 
-    // How many blocks of tier `k` are in use and free.
+    // Counts the blocks of tier `k`, used and free.
     fn count_of(&self, k: usize) -> BlockCount
         requires { k < length self.now.tiers }
         ensures { result ≡ tier_count (tier_at self.now.tiers k) }
@@ -122,7 +125,7 @@ impl<S: Slot, R: SlotArray<S>, A: Allocator> Blocks<S, R, A> {
         self.lists[k].count()
     }
 
-    /// Writes over the value in a slot, of a block in use or before the first block, and hands out what stood there.
+    /// Writes a slot of a block in use, or one before the first block, and returns its previous value.
     #[inline]
     pub fn put(&mut self, start: u32, place: u32, value: S) -> S
         requires within { start + place < length self.old.slots }
@@ -138,8 +141,9 @@ impl<S: Slot, R: SlotArray<S>, A: Allocator> Blocks<S, R, A> {
         self.slots.put(start as usize + place as usize, value)
     }
 
-    /// Takes all blocks out of the array, and lets the values in them go. What stands before the first block stays.
-    /// It asks for no memory.
+    /// Removes all blocks and drops their values. The slots before the first block stay.
+    ///
+    /// This does not allocate, and keeps the capacity.
     pub fn clear(&mut self)
         ensures value { self.new ≡ record self.old {
           slots = take self.old.first self.old.slots;
@@ -151,7 +155,11 @@ impl<S: Slot, R: SlotArray<S>, A: Allocator> Blocks<S, R, A> {
         clear_all(&mut self.lists);
     }
 
-    /// Frees the memory that no slot needs and no place in a list of free blocks that was reserved for a block.
+    /// Frees the spare capacity of the array and of its free lists. Each free list keeps capacity for all blocks of its size.
+    ///
+    /// # Errors
+    ///
+    /// Returns an error if the allocator does not shrink one of them. Slots and blocks are unchanged then.
     pub fn shrink_to_fit(&mut self) -> Result<(), AllocError>
         ensures kept { self.new ≡ record self.old { capacity = self.new.capacity } }
         ensures fits { OnOk result (self.new.capacity ≤ length self.new.slots) }
@@ -161,7 +169,7 @@ impl<S: Slot, R: SlotArray<S>, A: Allocator> Blocks<S, R, A> {
         shrink_all(&mut self.lists)
     }
 
-    /// An array whose slots all stand outside every block, with a list for each size, of which no block is made.
+    /// Creates an array that has no blocks. All its slots are before the first block.
     fn new(slots: R, lists: Vec<FreeList<A>, A>, limit: u32) -> Self
         requires within { length (R.list slots) ≤ limit }
         requires sizes { HasSizes lists.items }
@@ -184,7 +192,7 @@ impl<S: Slot, R: SlotArray<S>, A: Allocator> Blocks<S, R, A> {
 pub type Cells<T, A> = Blocks<Option<T>, Vec<Option<T>, A>, A>;
 
 impl<S: Slot, A: Allocator> Blocks<S, Vec<S, A>, A> {
-    /// The value in a slot: of the block that starts at `start`, the one at `place`.
+    /// Borrows the value at `place` of the block that starts at `start`.
     #[inline]
     pub fn at(&self, start: u32, place: u32) -> &S
         requires { start + place < length self.now.slots }
@@ -196,7 +204,7 @@ impl<S: Slot, A: Allocator> Blocks<S, Vec<S, A>, A> {
         &self.slots[start as usize + place as usize]
     }
 
-    /// The value in a slot, for writing: of the block that starts at `start`, the one at `place`.
+    /// Borrows the value at `place` of the block that starts at `start`, mutably.
     #[inline]
     pub fn at_mut(&mut self, start: u32, place: u32) -> &mut S
         requires { start + place < length self.old.slots }
@@ -215,7 +223,7 @@ impl<A: Allocator> Blocks<Node, NodeArray<A>, A> {
     ghost use Rattle.prefix_trie_table.specs.Cells.{node_at};
     ghost use Rattle.prefix_trie_table.specs.NodeArrays.{FitsByte};
 
-    /// As `NodeArray::sizes_fit`.
+    /// Calls `NodeArray::sizes_fit`.
     #[inline]
     pub(super) fn sizes_fit(&self)
         ensures { (slot : ℕ) → slot < length self.now.slots → FitsByte (node_at self.now.slots slot) }
@@ -223,7 +231,7 @@ impl<A: Allocator> Blocks<Node, NodeArray<A>, A> {
         self.slots.sizes_fit();
     }
 
-    /// The node in a slot: of the block that starts at `start`, the one at `place`.
+    /// Returns the node at `place` of the block that starts at `start`.
     #[inline]
     pub(super) fn node(&self, start: u32, place: u32) -> Node
         requires { start + place < length self.now.slots }
@@ -235,7 +243,11 @@ impl<A: Allocator> Blocks<Node, NodeArray<A>, A> {
 }
 
 impl<A: Allocator + Clone> Blocks<Node, NodeArray<A>, A> {
-    /// An array with the same nodes and blocks, in memory of its own. Refused only for memory.
+    /// Copies the array with its nodes and blocks.
+    ///
+    /// # Errors
+    ///
+    /// Returns an error if an allocation fails.
     pub(super) fn clone_nodes(&self) -> Result<Self, AllocError>
         ensures { IfOk result (λ copy. copy ≡ record self.now { capacity = copy.capacity }) }
     {
@@ -251,7 +263,7 @@ impl<A: Allocator + Clone> Blocks<Node, NodeArray<A>, A> {
     }
 }
 
-/// A list for each of these sizes, of blocks of which none is made.
+/// Creates a free list for each size, with no blocks.
 fn empty_lists<A: Allocator + Clone>(
     alloc: &A,
     sizes: &[u32],
@@ -265,10 +277,14 @@ fn empty_lists<A: Allocator + Clone>(
     Ok(lists)
 }
 
-// The sizes of blocks of values, of which a node has 31 at most.
+// The sizes of blocks of values. A node has at most 31 values.
 const CELL_SIZES: [u32; 7] = [1, 2, 4, 8, 16, 24, 31];
 
-/// An empty array of cells, for the values of nodes, that is never longer than `limit`. Refused only for memory.
+/// Creates an empty array of cells, which never has more than `limit` slots.
+///
+/// # Errors
+///
+/// Returns an error if an allocation fails.
 pub fn cells<T: Drop, A: Allocator + Clone>(
     alloc: &A,
     limit: u32,
@@ -282,10 +298,14 @@ pub fn cells<T: Drop, A: Allocator + Clone>(
     Ok(Blocks::new(slots, lists, limit))
 }
 
-// The sizes of blocks of nodes, of which one has 32 children at most.
+// The sizes of blocks of nodes. A node has at most 32 children.
 const NODE_SIZES: [u32; 7] = [1, 2, 4, 8, 16, 24, 32];
 
-/// An array with the root, blank, and no block.
+/// Creates an array that has a blank root and no blocks.
+///
+/// # Errors
+///
+/// Returns `IndexRange` if `limit` is 0, and `Memory` if an allocation fails.
 pub(super) fn node_blocks<A: Allocator + Clone>(
     alloc: &A,
     limit: u32,
@@ -302,7 +322,7 @@ pub(super) fn node_blocks<A: Allocator + Clone>(
     node_array(alloc, limit).map_err(|_| Refusal::Memory)
 }
 
-/// The same under a limit that has room for the root.
+/// Creates the same array under a limit that is not 0.
 fn node_array<A: Allocator + Clone>(
     alloc: &A,
     limit: u32,

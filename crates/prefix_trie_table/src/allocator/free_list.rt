@@ -1,4 +1,4 @@
-//! The blocks of one size: a stack of the free ones, with a place for each block that was made.
+//! The free list of one size: a stack of free blocks, with reserved capacity for all blocks of that size.
 ghost use Rattle.std.specs.Prelude.{◌≡◌, ℕ, ◌+◌, ◌^◌, ◌<◌, ◌≤◌, ◌↔◌, [], ◌∷◌, ◌++◌, length, map, IsTrue, OnOk, OnErr, vec_len, vec_capacity};
 ghost use Rattle.prefix_trie_table.specs.Store.{no_blocks};
 ghost use Rattle.prefix_trie_table.specs.BlockCounts.{tier_count};
@@ -8,7 +8,7 @@ use crate::allocator::slots::{make_room, shrink};
 use std::alloc::{AllocError, Allocator};
 use std::marker::Model;
 
-/// The size of the blocks, how many were made, and where the free ones start.
+/// The blocks of one size: how many exist, and where the free ones start.
 #[derive(Drop)]
 pub struct FreeList<A: Allocator> {
     size: u32,
@@ -16,7 +16,7 @@ pub struct FreeList<A: Allocator> {
     starts: Vec<u32, A>,
 }
 
-// Clauses see the size, the number made and the free starts. A place is kept for each block made.
+// Clauses see the size, the number of blocks and the starts of the free ones. The capacity is enough for all blocks.
 impl<A: Allocator> Model for FreeList<A> {
     ghost use Rattle.std.specs.Prelude.{◌≤◌, vec_len, vec_capacity};
     ghost use Rattle.prefix_trie_table.specs.Store.{Tier};
@@ -29,7 +29,7 @@ impl<A: Allocator> Model for FreeList<A> {
 }
 
 impl<A: Allocator> FreeList<A> {
-    /// The list of a size of which no block is made.
+    /// Creates the list of a size that has no blocks yet.
     pub fn new(alloc: A, size: u32) -> Self
         ensures { result ≡ record { size = size; made = 0; starts = [] } }
     {
@@ -40,14 +40,14 @@ impl<A: Allocator> FreeList<A> {
         }
     }
 
-    /// How many slots a block has.
+    /// Returns the number of slots of a block.
     pub fn size(&self) -> u32
         ensures { result ≡ self.now.size }
     {
         self.size
     }
 
-    /// How many blocks are in use, and how many are free.
+    /// Counts the blocks in use and the free ones.
     pub fn count(&self) -> BlockCount
         ensures { result ≡ tier_count self.now }
     {
@@ -59,7 +59,7 @@ impl<A: Allocator> FreeList<A> {
         }
     }
 
-    /// How many blocks are free.
+    /// Returns the number of free blocks.
     pub fn free(&self) -> usize
         ensures count { result ≡ length self.now.starts }
         ensures within { length self.now.starts ≤ self.now.made }
@@ -67,7 +67,11 @@ impl<A: Allocator> FreeList<A> {
         self.starts.len()
     }
 
-    /// Counts a block that begins at `start` as made and free, and reserves its place. Refused only for memory.
+    /// Adds a new block that starts at `start` as a free one, and reserves capacity for it.
+    ///
+    /// # Errors
+    ///
+    /// Returns an error if an allocation fails. The list is unchanged then.
     pub fn push_made(&mut self, start: u32) -> Result<(), AllocError>
         requires { self.old.made + 1 < 2 ^ 32 }
         ensures ok { OnOk result (self.new ≡ record self.old { made = self.old.made + 1; starts = self.old.starts ++ start ∷ [] }) }
@@ -80,7 +84,7 @@ impl<A: Allocator> FreeList<A> {
         Ok(())
     }
 
-    /// Takes a free block.
+    /// Removes a free block and returns its start.
     pub fn pop(&mut self) -> u32
         requires { 0 < length self.old.starts }
         ensures starts { self.old.starts ≡ self.new.starts ++ result ∷ [] }
@@ -89,7 +93,7 @@ impl<A: Allocator> FreeList<A> {
         self.starts.take_last()
     }
 
-    /// Gives a block back, whose place was reserved when it was made: this asks for no memory.
+    /// Adds a block that is no longer in use. Its capacity was reserved when the block was made, so this does not allocate.
     pub fn push(&mut self, start: u32)
         requires { length self.old.starts < self.old.made }
         ensures { self.new ≡ record self.old { starts = self.old.starts ++ start ∷ [] } }
@@ -97,14 +101,14 @@ impl<A: Allocator> FreeList<A> {
         self.starts.push_reserved(start);
     }
 
-    /// Frees the memory beyond a place for each block that was made.
+    /// Frees the capacity that exceeds the number of blocks.
     pub fn shrink_to_fit(&mut self) -> Result<(), AllocError>
         ensures { self.new ≡ self.old }
     {
         shrink(&mut self.starts, self.made as usize)
     }
 
-    /// Forgets all blocks, the free ones too. The places that were reserved stay.
+    /// Removes all blocks, used and free, and keeps the capacity.
     pub fn clear(&mut self)
         ensures { self.new ≡ no_blocks self.old.size }
     {
@@ -113,7 +117,7 @@ impl<A: Allocator> FreeList<A> {
     }
 }
 
-// A copy has a place for each block that was made, so giving one back asks for no memory there either.
+// A clone also has capacity for all blocks, so `push` does not allocate there either.
 impl<A: Allocator + Clone> Clone for FreeList<A> {
     ghost use Rattle.std.specs.Prelude.{◌≡◌};
 
@@ -131,7 +135,7 @@ impl<A: Allocator + Clone> Clone for FreeList<A> {
     }
 }
 
-/// Forgets all blocks of all sizes.
+/// Removes all blocks of all sizes.
 pub fn clear_all<A: Allocator>(lists: &mut Vec<FreeList<A>, A>)
     ensures { lists.new.items ≡ map (λ t. no_blocks t.size) lists.old.items }
 {
@@ -140,7 +144,7 @@ pub fn clear_all<A: Allocator>(lists: &mut Vec<FreeList<A>, A>)
     }
 }
 
-/// Frees the memory that the lists have beyond a place for each block that was made.
+/// Frees the capacity of each list that exceeds its number of blocks.
 pub fn shrink_all<A: Allocator>(lists: &mut Vec<FreeList<A>, A>) -> Result<(), AllocError>
     ensures { lists.new.items ≡ lists.old.items }
 {

@@ -1,12 +1,13 @@
-//! A node, and where it stands.
+//! A node, and the slot that it is stored in.
 ghost use Rattle.std.specs.Prelude.{◌≡◌, ◌+◌, ◌<◌};
 ghost use Rattle.prefix_trie_table.specs.Forest.{child_slot as slot_of_child};
 
 use crate::allocator::slots::Slot;
 use prefix_trie_bits::node::rank;
 
-/// A node of five levels: which of its 31 strings have a value, which of its 32 children are there, and the blocks where
-/// both stand, each by its first slot and the number of its size. A block's fields say nothing where its bitmap is 0.
+/// A node of five levels: the bitmaps of its 31 values and 32 children, and the blocks that hold both.
+///
+/// A block is given by its first slot and the index of its size. The fields of a block mean nothing if its bitmap is 0.
 #[derive(Clone, Copy, Default)]
 pub struct Node {
     pub value_bitmap: u32,
@@ -20,7 +21,7 @@ pub struct Node {
 impl Node {
     ghost use Rattle.prefix_trie_table.specs.Cells.{blank_node};
 
-    /// A node without values and children.
+    /// Returns a node that has no values and no children.
     #[inline]
     pub fn blank() -> Node
         ensures { result ≡ blank_node }
@@ -35,7 +36,7 @@ impl Node {
         }
     }
 
-    /// Where the child at a bit stands.
+    /// Returns the slot of the child at a bit.
     #[inline]
     pub fn child_slot(self, child: u32) -> NodeSlot
         requires { child < 32 }
@@ -58,7 +59,7 @@ impl Slot for Node {
     }
 }
 
-/// Where a node stands: the first slot of its block, and its place in that block.
+/// The slot of a node: the first slot of its block, and its position in that block.
 #[derive(Clone, Copy, Default)]
 pub struct NodeSlot {
     pub start: u32,
@@ -66,6 +67,6 @@ pub struct NodeSlot {
 }
 
 impl NodeSlot {
-    /// The slot of the root, which stands outside every block.
+    /// The slot of the root, which is outside every block.
     pub const ROOT: NodeSlot = NodeSlot { start: 0, place: 0 };
 }

@@ -1,4 +1,4 @@
-//! The nodes in two arrays: sixteen bytes of each, which are all that a lookup reads, and the sizes of its blocks.
+//! The nodes in two arrays: 16 bytes of each, which are all that a lookup reads, and one byte for the sizes of its blocks.
 ghost use Rattle.std.specs.Prelude.{◌≡◌, ℕ, ◌+◌, ◌*◌, ◌^◌, ◌<◌, ◌≤◌, ◌++◌, [], ◌∷◌, List, length, take, insert, remove, slice_index, slice_index_or, slice_set, OnOk, OnErr, IfOk};
 ghost use Rattle.prefix_trie_table.specs.Cells.{node_at};
 ghost use Rattle.prefix_trie_table.specs.Growth.{Reserves};
@@ -11,7 +11,7 @@ use std::alloc::{AllocError, Allocator};
 use std::marker::Model;
 use std::mem;
 
-// What a lookup reads of a node.
+// The part of a node that a lookup reads.
 #[derive(Clone, Copy)]
 pub struct Head {
     value_bitmap: u32,
@@ -24,11 +24,12 @@ pub struct Head {
 #[derive(Drop)]
 pub struct NodeArray<A: Allocator> {
     heads: Vec<Head, A>,
-    // Of each node the numbers of the sizes of its blocks: of values, and 8 times that of children.
+    // For each node the index of the size of its value block, plus 8 times the index of the size of its child block.
     tiers: Vec<u8, A>,
 }
 
-// Clauses see the nodes, and how many there is memory for. Both arrays have the same length, and memory for a head for each byte.
+// Clauses see the nodes and the capacity, which is the capacity of `tiers`. Both arrays have the same length, and `heads` has at least the
+// capacity of `tiers`.
 impl<A: Allocator> Model for NodeArray<A> {
     ghost use Rattle.std.specs.Prelude.{◌≡◌, ◌≤◌, length, vec_capacity};
     ghost use Rattle.prefix_trie_table.specs.NodeArrays.{NodeList, nodes_of};
@@ -40,7 +41,7 @@ impl<A: Allocator> Model for NodeArray<A> {
     ghost invariant = { λ a. (length a.heads.items ≡ length a.tiers.items) × (vec_capacity a.tiers ≤ vec_capacity a.heads) };
 }
 
-// Bytes are below 256. It does nothing: its contract is a law.
+// Does nothing. Calling it brings the fact that bytes are below 256 into the proof.
 #[inline]
 fn are_bytes(bytes: &[u8])
     ensures { (k : ℕ) → slice_index bytes.now k < 256 }
@@ -48,7 +49,7 @@ fn are_bytes(bytes: &[u8])
     let _count = bytes.len();
 }
 
-/// A node of its two parts.
+/// Joins the two parts of a node.
 #[inline]
 fn joined(head: Head, tiers: u8) -> Node
     ensures node { result ≡ node_of head tiers }
@@ -65,7 +66,7 @@ fn joined(head: Head, tiers: u8) -> Node
 }
 
 impl<A: Allocator> NodeArray<A> {
-    /// The node in a slot.
+    /// Returns the node in a slot.
     #[inline]
     pub fn get(&self, at: usize) -> Node
         requires { at < length self.now.list }
@@ -77,7 +78,7 @@ impl<A: Allocator> NodeArray<A> {
         joined(head, tiers)
     }
 
-    /// The sizes of each node's blocks fit. It does nothing: its contract is a law.
+    /// Does nothing. Calling it brings the fact that both indices of each node fit into a byte into the proof.
     #[inline]
     pub fn sizes_fit(&self)
         ensures { (at : ℕ) → at < length self.now.list → FitsByte (node_at self.now.list at) }
@@ -85,8 +86,8 @@ impl<A: Allocator> NodeArray<A> {
         are_bytes(&self.tiers);
     }
 
-    // The part of `make_room` that requests memory, apart so that the test is inlined. The second array is the one that may be shorter, so
-    // where it is refused the next call begins with the same capacity.
+    // The part of `make_room` that allocates. It is a function of its own so that the test is inlined. `tiers` grows last: if that fails, the
+    // next call starts from the same capacity.
     #[cold]
     #[inline(never)]
     fn grow(&mut self, count: usize) -> Result<(), AllocError>
@@ -102,7 +103,11 @@ impl<A: Allocator> NodeArray<A> {
 }
 
 impl<A: Allocator + Clone> NodeArray<A> {
-    /// An array of no nodes.
+    /// Creates an empty array.
+    ///
+    /// # Errors
+    ///
+    /// Returns an error if the allocator cannot be cloned.
     pub fn new(alloc: &A) -> Result<Self, AllocError>
         ensures { IfOk result (λ a. a.list ≡ []) }
     {
@@ -111,13 +116,17 @@ impl<A: Allocator + Clone> NodeArray<A> {
         Ok(NodeArray { heads, tiers })
     }
 
-    /// An array of the same nodes, in memory of its own.
+    /// Copies the array.
+    ///
+    /// # Errors
+    ///
+    /// Returns an error if an allocation fails.
     pub fn clone(&self) -> Result<Self, AllocError>
         ensures { IfOk result (λ a. a.list ≡ self.now.list) }
     {
         let heads = Vec::from_clones(self.heads.allocator().clone()?, &self.heads)?;
         let mut tiers = Vec::from_clones(self.tiers.allocator().clone()?, &self.tiers)?;
-        // It has no memory to free, which `from_clones` does not promise.
+        // Its capacity is its length already, but `from_clones` does not promise that.
         shrink(&mut tiers, 0)?;
         Ok(NodeArray { heads, tiers })
     }

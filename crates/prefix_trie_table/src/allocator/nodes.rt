@@ -1,4 +1,4 @@
-//! The array of nodes. Every read of a node is counted.
+//! The array of nodes. Each read of a node is counted.
 ghost use Rattle.std.specs.Prelude.{◌≡◌, ℕ, ◌+◌, ◌-◌, ◌^◌, ◌<◌, ◌≤◌, ◌↔◌, [], ◌∷◌, ◌++◌, All, List, None, OnOk, IfOk, IfErr, IsErr, IsSome, length, map, insert, remove, slice_set};
 ghost use Rattle.std.specs.Option.{option_or};
 ghost use Rattle.prefix_trie_bits.specs.Model.Blocks.{StepsDown, smallest_size, made_of};
@@ -19,25 +19,26 @@ use prefix_trie_bits::prefix::Refusal;
 use std::alloc::{AllocError, Allocator};
 use std::marker::{Model, PhantomData};
 
-/// A counter of node reads. Its number exists in contracts alone, and nothing here makes a counter.
+/// A counter of node reads. Its count is seen only by contracts, and no function here creates a counter.
 pub trait Tick: Sized + Drop {
-    // how many reads were counted
+    // the number of reads that were counted
     ghost count: { Self → ℕ };
 
-    /// Counts one read more.
+    /// Counts one more read.
     fn tick(&mut self)
         ensures { count self.new ≡ count self.old + 1 };
 }
 
-/// The array of nodes: the root at slot 0, outside every block, and behind it the blocks, each with the children of one node.
-/// `visit` is the only way to read a node, and counts it, and `put` and the changes of a block are the only ways to write one.
+/// The array of nodes: the root at slot 0, outside every block, and after it the blocks, each with the children of one node.
+///
+/// Only `visit` reads a node, and it counts the read. Only `put` and the changes of a block write one.
 #[derive(Drop)]
 pub struct NodeAllocator<A: Allocator, V: Drop> {
     blocks: Blocks<Node, NodeArray<A>, A>,
     counter: PhantomData<V>,
 }
 
-// Clauses see what they see of the blocks.
+// Clauses see the same as for the blocks.
 impl<A: Allocator, V: Drop> Model for NodeAllocator<A, V> {
     ghost use Rattle.prefix_trie_table.specs.Store.{Store};
     ghost use Rattle.prefix_trie_table.specs.declared.allocator.node.Node.{Node};
@@ -48,8 +49,11 @@ impl<A: Allocator, V: Drop> Model for NodeAllocator<A, V> {
 }
 
 impl<A: Allocator + Clone, V: Drop> NodeAllocator<A, V> {
-    /// An array with a blank root and no block, which is never longer than `limit`. Refused with `IndexRange` exactly where
-    /// `limit` is 0, and with `Memory` only where memory was refused.
+    /// Creates an array that has a blank root and no blocks, and never has more than `limit` slots.
+    ///
+    /// # Errors
+    ///
+    /// Returns `IndexRange` if and only if `limit` is 0, and `Memory` if an allocation fails.
     pub fn new(alloc: &A, limit: u32) -> Result<Self, Refusal>
         ensures empty { IfOk result
             (λ a. a ≡ record { slots = blank_node ∷ []; first = 1; tiers = map no_blocks node_sizes; limit = limit; capacity = a.capacity }) }
@@ -64,7 +68,7 @@ impl<A: Allocator + Clone, V: Drop> NodeAllocator<A, V> {
         })
     }
 
-    /// A new array under the same limit, in memory of its own. Refused as `new` is.
+    /// Creates an array as `new` does, with the allocator and the limit of this one.
     pub fn another(&self) -> Result<Self, Refusal>
         ensures empty { IfOk result
             (λ a. a ≡ record { slots = blank_node ∷ []; first = 1; tiers = map no_blocks node_sizes; limit = self.now.limit; capacity = a.capacity }) }
@@ -74,7 +78,11 @@ impl<A: Allocator + Clone, V: Drop> NodeAllocator<A, V> {
         NodeAllocator::new(self.blocks.allocator(), self.blocks.limit())
     }
 
-    /// An array with the same root and blocks, in memory of its own. Refused only for memory.
+    /// Copies the array with its root and blocks.
+    ///
+    /// # Errors
+    ///
+    /// Returns an error if an allocation fails.
     pub fn clone(&self) -> Result<Self, AllocError>
         ensures same { IfOk result (λ copy. copy ≡ record self.now { capacity = copy.capacity }) }
     {
@@ -88,7 +96,7 @@ impl<A: Allocator + Clone, V: Drop> NodeAllocator<A, V> {
 impl<A: Allocator, V: Tick> NodeAllocator<A, V> {
     ghost use Rattle.prefix_trie_table.specs.declared.allocator.node.Node.{Node};
 
-    /// The node in a slot. The counter goes up by one.
+    /// Returns the node in a slot, and counts the read.
     #[inline]
     pub fn visit(&self, at: NodeSlot, counter: &mut V) -> Node
         requires { at.start + at.place < length self.now.slots }
@@ -104,7 +112,7 @@ impl<A: Allocator, V: Tick> NodeAllocator<A, V> {
 impl<A: Allocator, V: Drop> NodeAllocator<A, V> {
     ghost use Rattle.prefix_trie_table.specs.declared.allocator.node.Node.{Node};
 
-    /// Writes a node over the one in a slot. The number of a size is one of the seven, or that of the node in the slot.
+    /// Writes a node to a slot. The index of each size must be one of the seven, or that of the node in the slot.
     #[inline]
     pub fn put(&mut self, at: NodeSlot, node: Node)
         requires within { at.start + at.place < length self.old.slots }
@@ -122,8 +130,9 @@ impl<A: Allocator, V: Drop> NodeAllocator<A, V> {
         self.blocks.put(at.start, at.place, node);
     }
 
-    /// The number of slots: 1, and of each size the blocks that were made, used or free. Never more than the limit,
-    /// which is below 2^32.
+    /// Returns the number of slots: 1 for the root, and those of all blocks, used and free.
+    ///
+    /// It never exceeds the limit, which is below 2^32.
     #[inline]
     pub fn len(&self) -> usize
         ensures len { result ≡ length self.now.slots }
@@ -134,7 +143,7 @@ impl<A: Allocator, V: Drop> NodeAllocator<A, V> {
         self.blocks.len()
     }
 
-    /// As `Blocks::counts`: how many blocks of each size are in use and free, sizes ascending.
+    /// Counts the blocks of each size, used and free, in ascending order of size.
     pub fn counts(&self) -> [BlockCount; 7]
         requires { length self.now.tiers ≡ 7 }
         ensures counts { result ≡ map tier_count self.now.tiers }
@@ -143,8 +152,12 @@ impl<A: Allocator, V: Drop> NodeAllocator<A, V> {
         self.blocks.counts()
     }
 
-    /// As `Blocks::prepare`: sees to it that a list of `count` nodes can take one more, and that `lists` others can then take
-    /// their first. Refused only where a block lacks beyond the free ones.
+    /// Makes the blocks that are missing for one more node in a list of `count` nodes, and then for the first node of each of `lists`
+    /// other lists.
+    ///
+    /// # Errors
+    ///
+    /// Returns an error only if a block is missing, as `Blocks::prepare` does.
     pub fn prepare(&mut self, k: usize, count: u32, lists: usize) -> Result<(), Refusal>
         requires tier { 0 < count → k < length self.old.tiers }
         requires sizes { HasSizes self.old.tiers }
@@ -160,8 +173,9 @@ impl<A: Allocator, V: Drop> NodeAllocator<A, V> {
         self.blocks.prepare(k, count, lists)
     }
 
-    /// As `Blocks::insert_at`: puts a blank node into a list of `count` nodes, and says where the list stands then. The blank
-    /// node is made here, since one that is handed in goes through memory.
+    /// Inserts a blank node into a list of `count` nodes, as `Blocks::insert_at` does, and returns the block of the list.
+    // The blank node is made here, since a node that is passed as an argument goes through memory.
+    #[inline(always)]
     pub fn insert_blank(&mut self, k: usize, start: u32, count: u32, place: u32) -> BlockRef
         requires holds { HasList blank_node self.old k start count }
         requires sizes { HasSizes self.old.tiers }
@@ -181,8 +195,9 @@ impl<A: Allocator, V: Drop> NodeAllocator<A, V> {
         self.blocks.insert_at(k, start, count, place, Node::blank())
     }
 
-    /// As `Blocks::remove_at`: takes a node out of a list of `count` nodes, lets it go unread, and says where the rest
-    /// stands.
+    /// Removes a node from a list of `count` nodes, as `Blocks::remove_at` does, and returns the block of the rest.
+    ///
+    /// The removed node is dropped unread.
     pub fn remove_at(&mut self, k: usize, start: u32, count: u32, place: u32) -> BlockRef
         requires holds { HasList blank_node self.old k start count }
         requires sizes { HasSizes self.old.tiers }
@@ -199,7 +214,7 @@ impl<A: Allocator, V: Drop> NodeAllocator<A, V> {
         rest
     }
 
-    /// As `Blocks::lay`: lays a list of these nodes in a block of the smallest size that holds them, and says where it stands.
+    /// Builds a list of these nodes in a block of the smallest size that fits, as `Blocks::lay` does, and returns the block.
     pub fn lay(&mut self, items: &[Node]) -> Result<BlockRef, Refusal>
         requires tiers { All FitsByte items.now }
         requires sound { (live : List (UsedBlock Node)) × Sound blank_node live self.old }
@@ -214,7 +229,7 @@ impl<A: Allocator, V: Drop> NodeAllocator<A, V> {
         self.blocks.lay(items)
     }
 
-    /// As `Blocks::shrink_to_fit`.
+    /// Frees the spare capacity, as `Blocks::shrink_to_fit` does.
     pub fn shrink_to_fit(&mut self) -> Result<(), AllocError>
         ensures kept { self.new ≡ record self.old { capacity = self.new.capacity } }
         ensures fits { OnOk result (self.new.capacity ≤ length self.new.slots) }
@@ -223,7 +238,7 @@ impl<A: Allocator, V: Drop> NodeAllocator<A, V> {
         self.blocks.shrink_to_fit()
     }
 
-    /// Takes all nodes out but the root, which is then blank. It asks for no memory.
+    /// Removes all nodes except the root, which becomes blank. This does not allocate.
     pub fn clear(&mut self)
         requires first { self.old.first ≡ 1 }
         requires root { 0 < length self.old.slots }

@@ -1,4 +1,4 @@
-//! What a slot of an array can hold, and work on runs of slots. None of these asks for memory.
+//! What a slot can hold, how an array grows, and changes of runs of slots.
 ghost use Rattle.std.specs.Prelude.{◌≡◌, ℕ, ◌+◌, ◌^◌, ◌<◌, ◌≤◌, ◌⊎◌, ◌++◌, All, length, min, max, replicate, insert, remove, vec_len, vec_capacity, slice_index_or, OnOk, OnErr, IsOk};
 ghost use Rattle.prefix_trie_table.specs.Growth.{Reserves};
 ghost use Rattle.prefix_trie_table.specs.Runs.{run, put_run, swap_runs};
@@ -7,12 +7,12 @@ use crate::allocator::array::SlotArray;
 use std::alloc::{AllocError, Allocator};
 use std::mem;
 
-/// What can stand in a slot of an array of blocks, with a value for a slot that is not used.
+/// A type that a slot can hold, with a value for slots that are not in use.
 pub trait Slot: Drop {
-    // the value of a slot that is not used
+    // the value of a slot that is not in use
     ghost vacant: { Self };
 
-    /// The value of a slot that is not used.
+    /// Returns the value of a slot that is not in use.
     fn vacant() -> Self
         ensures { result ≡ vacant };
 }
@@ -27,7 +27,7 @@ impl<T: Drop> Slot for Option<T> {
     }
 }
 
-/// Reserves memory for so many more items, by one request for memory at most.
+/// Reserves memory for `count` more items, by at most one allocation.
 #[inline]
 pub(super) fn make_room<S, A: Allocator>(
     items: &mut Vec<S, A>,
@@ -46,7 +46,7 @@ pub(super) fn make_room<S, A: Allocator>(
     grow(items, count)
 }
 
-// The part of `make_room` that requests memory, apart so that the test is inlined.
+// The part of `make_room` that allocates. It is a function of its own so that the test is inlined.
 #[cold]
 #[inline(never)]
 fn grow<S, A: Allocator>(items: &mut Vec<S, A>, count: usize) -> Result<(), AllocError>
@@ -61,14 +61,14 @@ fn grow<S, A: Allocator>(items: &mut Vec<S, A>, count: usize) -> Result<(), Allo
     items.reserve_exact(more)
 }
 
-// An array of this capacity or more grows by half, a shorter one to twice its capacity: so little of a long one is unused, and a
-// short one is seldom moved.
+// An array of this capacity or more grows by half, a smaller one to twice its capacity. So a long array has little spare capacity, and a
+// short one seldom moves.
 const LONG: usize = 262_144;
 
-// The slots that an array gets at least when it grows.
+// An array grows by at least this number of slots.
 const LEAST: usize = 4;
 
-/// How many slots more than `len` an array of this capacity reserves when it lacks some of the next `count`.
+/// Returns how many slots after `len` an array of this capacity reserves if the next `count` do not fit.
 pub(super) fn growth(capacity: usize, len: usize, count: usize) -> usize
     requires long { len ≤ capacity }
     requires short { capacity < 2 ^ 63 }
@@ -84,7 +84,11 @@ pub(super) fn growth(capacity: usize, len: usize, count: usize) -> usize
     count.max(capacity + step - len)
 }
 
-/// Frees the memory behind the items, except for the first `least` of all.
+/// Frees the spare capacity, except a capacity of `least`.
+///
+/// # Errors
+///
+/// Returns an error if the allocator does not shrink the memory.
 pub(super) fn shrink<S, A: Allocator>(items: &mut Vec<S, A>, least: usize) -> Result<(), AllocError>
     ensures items { items.new.items ≡ items.old.items }
     ensures len { vec_len items.new ≡ vec_len items.old }
@@ -99,7 +103,7 @@ pub(super) fn shrink<S, A: Allocator>(items: &mut Vec<S, A>, least: usize) -> Re
     Ok(())
 }
 
-/// Appends vacant slots, for which there is memory.
+/// Appends vacant slots to an array that has the capacity for them.
 pub(super) fn push_vacant<S: Slot, R: SlotArray<S>>(slots: &mut R, count: u32)
     requires { length (R.list slots.old) + count ≤ R.capacity slots.old }
     ensures list { R.list slots.new ≡ R.list slots.old ++ replicate count S.vacant }
@@ -110,7 +114,7 @@ pub(super) fn push_vacant<S: Slot, R: SlotArray<S>>(slots: &mut R, count: u32)
     }
 }
 
-/// Puts `value` at `from`, moves the items from there to before `to` one place on, and drops the one at `to`.
+/// Inserts a value at `from`, moves the items of `from..to` to the next place, and drops the item at `to`.
 #[inline]
 pub(super) fn shift_in<S: Drop, A: Allocator>(
     items: &mut Vec<S, A>,
@@ -130,7 +134,7 @@ pub(super) fn shift_in<S: Drop, A: Allocator>(
     }
 }
 
-/// Takes the item at `from`, moves those after it up to `to` one place back, and puts `vacant` at `to`.
+/// Removes and returns the item at `from`, moves the items after it, up to `to`, to the previous place, and writes `vacant` at `to`.
 #[inline]
 pub(super) fn shift_out<S: Drop, A: Allocator>(
     items: &mut Vec<S, A>,
@@ -145,14 +149,14 @@ pub(super) fn shift_out<S: Drop, A: Allocator>(
     ensures len { vec_len items.new ≡ vec_len items.old }
     ensures capacity { vec_capacity items.new ≡ vec_capacity items.old }
 {
-    let value = mem::replace(&mut items[from], vacant);
-    for i in from..to {
-        items.swap(i, i + 1);
+    let mut carried = mem::replace(&mut items[to], vacant);
+    for i in (from..to).rev() {
+        carried = mem::replace(&mut items[i], carried);
     }
-    value
+    carried
 }
 
-/// Exchanges two runs of `count` places.
+/// Exchanges two runs of `count` slots.
 pub(super) fn exchange<S: Slot, R: SlotArray<S>>(slots: &mut R, a: usize, b: usize, count: usize)
     requires a_within { a + count ≤ length (R.list slots.old) }
     requires b_within { b + count ≤ length (R.list slots.old) }
@@ -160,14 +164,14 @@ pub(super) fn exchange<S: Slot, R: SlotArray<S>>(slots: &mut R, a: usize, b: usi
     ensures len { length (R.list slots.new) ≡ length (R.list slots.old) }
     ensures capacity { R.capacity slots.new ≡ R.capacity slots.old }
 {
-    // Read for the proof alone: the length is a number of the machine.
+    // Read for the proof alone: the length fits into a `usize`.
     let _count = slots.count();
     for i in 0..count {
         slots.exchange(a + i, b + i);
     }
 }
 
-/// Moves `count` values to unused places, with one more among them at `place`, and leaves theirs unused.
+/// Moves `count` values to vacant slots, inserts one more among them at `place`, and makes their old slots vacant.
 pub(super) fn move_in<S: Slot, R: SlotArray<S>>(
     slots: &mut R,
     from: usize,
@@ -193,7 +197,7 @@ pub(super) fn move_in<S: Slot, R: SlotArray<S>>(
     exchange(slots, from + place, to + place + 1, count - place);
 }
 
-/// Writes items over as many places from `from` on.
+/// Writes items over the slots from `from` on.
 pub(super) fn write_run<S: Slot + Copy, R: SlotArray<S>>(slots: &mut R, from: usize, items: &[S])
     requires within { from + length items.now ≤ length (R.list slots.old) }
     requires values { All R.can_hold items.now }

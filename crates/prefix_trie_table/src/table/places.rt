@@ -94,8 +94,7 @@ impl<T: Drop, A: Allocator, V: Tick> Table<T, A, V> {
     /// the value stands. No node is read.
     ///
     /// Errors: as of `insert`, and then it hands the value back. Never right behind a `make_room` of the same string that was not refused.
-    // It stands apart, so that what callers do with a stored key stays small.
-    #[inline(never)]
+    #[inline(always)]
     pub fn place<K: Key>(
         &mut self,
         key: K,

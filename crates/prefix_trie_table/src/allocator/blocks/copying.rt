@@ -1,4 +1,4 @@
-//! A copy of an array with its blocks.
+//! Cloning an array with its blocks.
 ghost use Rattle.std.specs.Prelude.{◌≡◌, IfOk};
 ghost use Rattle.std.specs.List.{AllZip};
 
@@ -8,8 +8,11 @@ use std::alloc::{AllocError, Allocator};
 use std::marker::PhantomData;
 
 impl<S: Slot + Clone, A: Allocator + Clone> Blocks<S, Vec<S, A>, A> {
-    /// An array with the same blocks, used and free, in memory of its own. All of that is asked for before the first value
-    /// is cloned. Refused only where memory is, for the array or for a value.
+    /// Clones the array with its blocks, used and free. All memory is allocated before the first value is cloned.
+    ///
+    /// # Errors
+    ///
+    /// Returns an error if an allocation fails, for the array or in the `clone` of a value.
     pub fn clone(&self) -> Result<Self, AllocError>
         ensures slots { IfOk result (λ copy. AllZip S.is_clone self.now.slots copy.slots) }
         ensures rest { IfOk result (λ copy. copy ≡ record self.now { slots = copy.slots; capacity = copy.capacity }) }

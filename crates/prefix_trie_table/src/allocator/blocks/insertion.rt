@@ -1,4 +1,4 @@
-//! Putting an item into a list.
+//! Inserting an item into a list.
 ghost use Rattle.std.specs.Prelude.{◌≡◌, ℕ, ◌+◌, ◌<◌, ◌≤◌, [], ◌∷◌, ◌++◌, List, Some, None, length, replicate, insert, remove};
 ghost use Rattle.std.specs.Option.{option_or};
 ghost use Rattle.prefix_trie_table.specs.Runs.{run, put_run};
@@ -11,9 +11,11 @@ use crate::allocator::slots::{Slot, move_in};
 use std::alloc::Allocator;
 
 impl<S: Slot, R: SlotArray<S>, A: Allocator> Blocks<S, R, A> {
-    /// Puts a value into the list of `count` values in a block of tier `k` that starts at `start` (none if `count` is 0), and says
-    /// where the list stands then. A block with room keeps it. Else it moves to a free block of the smallest size that holds it,
-    /// and its old block is free. It makes no block and asks for no memory: `prepare` does that before.
+    /// Inserts a value into the list of `count` values in the block of tier `k` that starts at `start`, and returns the block of the list.
+    ///
+    /// A list of 0 values has no block. If the block is full, the list moves to a free block of the smallest size that fits, and its old
+    /// block becomes free. This makes no block and does not allocate: `prepare` does both before.
+    #[inline(always)]
     pub fn insert_at(&mut self, k: usize, start: u32, count: u32, place: u32, value: S) -> BlockRef
         requires holds { HasList S.vacant self.old k start count }
         requires sizes { HasSizes self.old.tiers }
@@ -39,7 +41,7 @@ impl<S: Slot, R: SlotArray<S>, A: Allocator> Blocks<S, R, A> {
         self.insert_into(k, start, count, place, value)
     }
 
-    /// Puts a value into the list of a block. A full one is left for a free block of the smallest size that holds the list.
+    /// Inserts a value into the list of a block. If the block is full, the list moves to a free block of the smallest size that fits.
     fn insert_into(&mut self, k: usize, start: u32, count: u32, place: u32, value: S) -> BlockRef
         requires in_use { InUse S.vacant self.old k start count }
         requires some { 0 < count }
@@ -64,8 +66,8 @@ impl<S: Slot, R: SlotArray<S>, A: Allocator> Blocks<S, R, A> {
         BlockRef { tier, start }
     }
 
-    /// Moves the list of a block to a free block of tier `to`, puts a value into it, and gives the old block back.
-    // It stands apart, so that an item for which there is room costs less.
+    /// Moves the list of a full block to a free block of tier `to`, inserts a value, and frees the old block.
+    // It is a function of its own so that an insertion into a block that is not full costs less.
     #[inline(never)]
     fn insert_moving(
         &mut self,
@@ -93,7 +95,7 @@ impl<S: Slot, R: SlotArray<S>, A: Allocator> Blocks<S, R, A> {
         new
     }
 
-    /// Moves the values of a block to another, which holds none and has room for one more, and puts a value among them.
+    /// Moves the values of a block to an empty larger one, and inserts a value among them.
     fn move_in(&mut self, from: u32, to: u32, count: u32, place: u32, value: S)
         requires blocks { (a : UsedBlock S) × (b : UsedBlock S) × (live : List (UsedBlock S))
             × Sound S.vacant (a ∷ b ∷ live) self.old × (a.start ≡ from) × (b.start ≡ to)
@@ -117,7 +119,7 @@ impl<S: Slot, R: SlotArray<S>, A: Allocator> Blocks<S, R, A> {
         );
     }
 
-    /// Puts a value into a block that has room for it, whose list has `count` values.
+    /// Inserts a value into a block that is not full, whose list has `count` values.
     fn insert_within(&mut self, start: u32, count: u32, place: u32, value: S)
         requires room { start + count < length self.old.slots }
         requires place { place ≤ count }

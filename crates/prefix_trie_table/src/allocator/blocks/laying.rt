@@ -1,4 +1,4 @@
-//! Laying a whole list at once, in a block of its final size.
+//! Building a whole list at once, in a block of its final size.
 ghost use Rattle.std.specs.Prelude.{◌≡◌, ◌+◌, ◌^◌, ◌<◌, ◌≤◌, All, List, length, replicate, IfOk, IfErr, IsSome};
 ghost use Rattle.prefix_trie_table.specs.HandingOut.Laying.{LaysList};
 ghost use Rattle.prefix_trie_table.specs.Store.{UsedBlock, Sound, tier_sizes};
@@ -13,22 +13,25 @@ use prefix_trie_bits::prefix::Refusal;
 use std::alloc::Allocator;
 
 impl<S: Slot, R: SlotArray<S>, A: Allocator> Blocks<S, R, A> {
-    /// Where the array has its memory from.
+    /// Returns the allocator of the array.
     pub fn allocator(&self) -> &A {
         self.lists.allocator()
     }
 
-    /// The length that the array never passes.
+    /// Returns the number of slots that the array never exceeds.
     pub fn limit(&self) -> u32
         ensures { result ≡ self.now.limit }
     {
         self.limit
     }
 
-    /// Takes a block of the smallest size that holds `count` items for a list of so many vacant ones, and says where it stands. If none
-    /// is free it is made at the array's end. A list of none stands nowhere (tier 0, start 0).
+    /// Builds a list of `count` vacant items in a block of the smallest size that fits, and returns the block.
     ///
-    /// Refused with `IndexRange` only where the block would pass the limit, and with `Memory` only where memory was refused.
+    /// The block is made at the end of the array if none of its size is free. An empty list has no block (tier 0, start 0).
+    ///
+    /// # Errors
+    ///
+    /// Returns `IndexRange` if the block would exceed the limit, and `Memory` if an allocation fails.
     pub fn lay_vacant(&mut self, count: u32) -> Result<BlockRef, Refusal>
         requires sound { (live : List (UsedBlock S)) × Sound S.vacant live self.old }
         requires fits { IsSome (smallest_size (tier_sizes self.old.tiers) count) }
@@ -48,7 +51,7 @@ impl<S: Slot, R: SlotArray<S>, A: Allocator> Blocks<S, R, A> {
 }
 
 impl<S: Slot + Copy, R: SlotArray<S>, A: Allocator> Blocks<S, R, A> {
-    /// The same for a list of these items.
+    /// Builds a list of these items, as `lay_vacant` does for vacant ones.
     pub fn lay(&mut self, items: &[S]) -> Result<BlockRef, Refusal>
         requires values { All R.can_hold items.now }
         requires sound { (live : List (UsedBlock S)) × Sound S.vacant live self.old }

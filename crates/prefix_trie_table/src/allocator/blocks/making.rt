@@ -1,4 +1,4 @@
-//! Making blocks, before a list takes one more item.
+//! Making blocks, before an item is inserted into a list.
 ghost use Rattle.std.specs.Prelude.{◌≡◌, ℕ, ◌+◌, ◌-◌, ◌^◌, ◌<◌, ◌≤◌, ◌↔◌, List, None, length, option_map, IfSome, OnOk, OnErr, IfErr, IsSome};
 ghost use Rattle.prefix_trie_bits.specs.Model.Blocks.{smallest_size};
 ghost use Rattle.prefix_trie_table.specs.Cells.{HasSizes};
@@ -12,11 +12,15 @@ use prefix_trie_bits::prefix::Refusal;
 use std::alloc::Allocator;
 
 impl<S: Slot, R: SlotArray<S>, A: Allocator> Blocks<S, R, A> {
-    /// Sees to it that a list of `count` values in a block of tier `k` (none if `count` is 0) can take one more, and that
-    /// `lists` other lists can then take their first. What lacks beyond the free blocks, size by size, is made at the array's end.
+    /// Makes the blocks that are missing for one more value in the list of `count` values in a block of tier `k`, and then for the first
+    /// value of each of `lists` other lists.
     ///
-    /// Refused only where a block lacks: with `IndexRange` only where the slots of the lacking blocks would pass the limit, and
-    /// with `Memory` only where memory was refused. What was made until then stays, free.
+    /// A list of 0 values has no block. Free blocks are counted first, size by size, and missing blocks are made at the end of the array.
+    ///
+    /// # Errors
+    ///
+    /// Returns an error only if a block is missing: `IndexRange` if the slots of the missing blocks would exceed the limit, and `Memory`
+    /// if an allocation fails. The blocks that were made before stay, and are free.
     pub fn prepare(&mut self, k: usize, count: u32, lists: usize) -> Result<(), Refusal>
         requires tier { 0 < count → k < length self.old.tiers }
         requires sizes { HasSizes self.old.tiers }
@@ -40,7 +44,7 @@ impl<S: Slot, R: SlotArray<S>, A: Allocator> Blocks<S, R, A> {
         self.obtain(0, singles)
     }
 
-    /// The tier of the block that must be free before a list of `count` values in a block of tier `k` takes one more.
+    /// Returns the tier of the block that must be free before a value is inserted into the list of `count` values in a block of tier `k`.
     fn lacking(&self, k: usize, count: u32) -> Option<usize>
         requires tier { 0 < count → k < length self.now.tiers }
         requires sizes { HasSizes self.now.tiers }
@@ -57,7 +61,7 @@ impl<S: Slot, R: SlotArray<S>, A: Allocator> Blocks<S, R, A> {
         Some(self.tier_holding(count as usize + 1))
     }
 
-    /// Makes a block of tier `k` at the array's end. It is free, with its place in the list of free ones.
+    /// Makes a block of tier `k` at the end of the array, as a free one.
     #[inline(never)]
     fn make(&mut self, k: usize) -> Result<(), Refusal>
         requires { k < length self.old.tiers }
@@ -85,7 +89,7 @@ impl<S: Slot, R: SlotArray<S>, A: Allocator> Blocks<S, R, A> {
         Ok(())
     }
 
-    /// Sees to it that `n` blocks of tier `k` are free, and makes those that lack. After a refusal those made stay free.
+    /// Makes the blocks of tier `k` that are missing until `n` are free. After an error, those made before stay free.
     #[inline(always)]
     pub(super) fn obtain(&mut self, k: usize, n: usize) -> Result<(), Refusal>
         requires { k < length self.old.tiers }

@@ -1,4 +1,4 @@
-//! Taking a block, giving it back, and moving a list from one to another.
+//! Taking a free block, freeing one, and moving a list to another block.
 ghost use Rattle.std.specs.Prelude.{◌≡◌, ℕ, ◌+◌, ◌<◌, ◌≤◌, [], ◌∷◌, List, length, None, Some};
 ghost use Rattle.prefix_trie_table.specs.Runs.{swap_runs};
 ghost use Rattle.prefix_trie_table.specs.Store.{UsedBlock, Sound, Turnover, tier_at, tier_sizes, size_in, free_in, none_of, block};
@@ -9,7 +9,7 @@ use crate::allocator::slots::{Slot, exchange};
 use std::alloc::Allocator;
 
 impl<S: Slot, R: SlotArray<S>, A: Allocator> Blocks<S, R, A> {
-    /// Takes a free block of tier `k`.
+    /// Removes a block of tier `k` from its free list, and returns its start.
     pub(super) fn take(&mut self, k: usize) -> u32
         requires within { k < length self.old.tiers }
         requires ready { 0 < free_in self.old.tiers (size_in (tier_sizes self.old.tiers) k) }
@@ -21,7 +21,8 @@ impl<S: Slot, R: SlotArray<S>, A: Allocator> Blocks<S, R, A> {
         list.pop()
     }
 
-    /// Gives a block of tier `k` back, whose slots are vacant. Its place was reserved when it was made: this asks for no memory.
+    /// Frees a block of tier `k` whose slots are vacant. Its capacity in the free list was reserved when the block was made, so this does
+    /// not allocate.
     pub(super) fn give_back(&mut self, k: usize, start: u32)
         requires within { k < length self.old.tiers }
         requires place { length (tier_at self.old.tiers k).starts < (tier_at self.old.tiers k).made }
@@ -33,7 +34,7 @@ impl<S: Slot, R: SlotArray<S>, A: Allocator> Blocks<S, R, A> {
         list.push(start);
     }
 
-    /// Moves the values of a block to another, which holds none.
+    /// Moves the values of a block to an empty one.
     pub(super) fn move_items(&mut self, from: u32, to: u32, count: u32)
         requires from_within { from + count ≤ length self.old.slots }
         requires to_within { to + count ≤ length self.old.slots }

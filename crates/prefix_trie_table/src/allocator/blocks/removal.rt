@@ -1,4 +1,4 @@
-//! Taking an item out of a list.
+//! Removing an item from a list.
 ghost use Rattle.std.specs.Prelude.{◌≡◌, ℕ, ◌+◌, ◌-◌, ◌<◌, ◌≤◌, ◌↔◌, ◌∷◌, ◌++◌, List, None, Some, length, insert, remove, option_map, IfSome, IfNone, IsSome, MatchOption, slice_index_or};
 ghost use Rattle.prefix_trie_table.specs.Cells.{HasSizes};
 ghost use Rattle.prefix_trie_table.specs.Losing.{LosesOne};
@@ -10,9 +10,12 @@ use crate::allocator::slots::Slot;
 use std::alloc::Allocator;
 
 impl<S: Slot, R: SlotArray<S>, A: Allocator> Blocks<S, R, A> {
-    /// Takes a value out of the list of `count` values in a block of tier `k` that starts at `start`, and says where the rest
-    /// stands. Where a smaller size holds the rest it moves to a block of the smallest, if one is free or can be made, and else
-    /// it stays. The block that it leaves is free. An empty rest stands nowhere (tier 0, start 0). Never refused.
+    /// Removes a value from the list of `count` values in the block of tier `k` that starts at `start`, and returns the value and the
+    /// block of the rest.
+    ///
+    /// If a smaller size holds the rest, it moves to a block of the smallest such size that is free or can be made, and its old block
+    /// becomes free. If no such block can be had, the rest stays. An empty rest has no block (tier 0, start 0). This never fails.
+    #[inline(always)]
     pub fn remove_at(&mut self, k: usize, start: u32, count: u32, place: u32) -> (S, BlockRef)
         requires holds { HasList S.vacant self.old k start count }
         requires sizes { HasSizes self.old.tiers }
@@ -35,7 +38,8 @@ impl<S: Slot, R: SlotArray<S>, A: Allocator> Blocks<S, R, A> {
         }
     }
 
-    /// Takes a value out of the list of a block, and says where the rest stands, if any is left.
+    /// Removes a value from the list of a block, and returns the value and the block of the rest, if any is left.
+    #[inline(always)]
     fn remove_from(&mut self, k: usize, start: u32, count: u32, place: u32) -> (S, Option<BlockRef>)
         requires in_use { InUse S.vacant self.old k start count }
         requires sizes { HasSizes self.old.tiers }
@@ -67,7 +71,7 @@ impl<S: Slot, R: SlotArray<S>, A: Allocator> Blocks<S, R, A> {
         (value, Some(BlockRef { tier: k, start }))
     }
 
-    /// Moves the list of a block to a block of tier `to`, if one is free or can be made, and gives the old block back.
+    /// Moves the list of a block to a block of tier `to`, if one is free or can be made, and frees the old block.
     fn step_down(&mut self, k: usize, start: u32, to: usize, count: u32) -> Option<u32>
         requires in_use { InUse S.vacant self.old k start count }
         requires within { to < length self.old.tiers }
@@ -90,7 +94,7 @@ impl<S: Slot, R: SlotArray<S>, A: Allocator> Blocks<S, R, A> {
         Some(new)
     }
 
-    /// Takes a value out of a block whose list has `count` values.
+    /// Removes a value from a block whose list has `count` values.
     fn remove_within(&mut self, start: u32, count: u32, place: u32) -> S
         requires within { start + count ≤ length self.old.slots }
         requires place { place < count }

@@ -1,4 +1,4 @@
-//! Which size of block serves a list.
+//! The block size for the length of a list.
 ghost use Rattle.std.specs.Prelude.{◌≡◌, ◌<◌, length, Some, IsSome};
 ghost use Rattle.prefix_trie_bits.specs.Model.Blocks.{smallest_size};
 ghost use Rattle.prefix_trie_table.specs.Cells.{HasSizes};
@@ -10,7 +10,7 @@ use crate::allocator::slots::Slot;
 use std::alloc::Allocator;
 
 impl<S: Slot, R: SlotArray<S>, A: Allocator> Blocks<S, R, A> {
-    /// The tier of the smallest blocks that have `n` slots or more, where there are such.
+    /// Returns the tier of the smallest blocks that have at least `n` slots.
     #[inline]
     pub(super) fn tier_holding(&self, n: usize) -> usize
         requires { IsSome (smallest_size (tier_sizes self.now.tiers) n) }
@@ -24,7 +24,7 @@ impl<S: Slot, R: SlotArray<S>, A: Allocator> Blocks<S, R, A> {
     }
 }
 
-// The tier for each count. The sizes of nodes and of values differ in the last alone, so it is the same for both.
+// The tier for each length. The sizes of nodes and of values differ only in the last, so one table serves both.
 static TIERS: [u8; 33] = [
     0, 0, 1, 2, 2, 3, 3, 3, 3, 4, 4, 4, 4, 4, 4, 4, 4, 5, 5, 5, 5, 5, 5, 5, 5, 6, 6, 6, 6, 6, 6, 6,
     6,
