@@ -2,6 +2,7 @@
 //! once.
 use crate::cases::keys::adds_key;
 use crate::cases::prefix_of;
+use crate::networks::v4;
 use crate::refusing::Refusing;
 use crate::stored::adds;
 use prefix_trie::map::{IntoIter, IntoKeys, IntoValues};
@@ -32,10 +33,10 @@ type SetKeys<A> = IntoKeys<Key, (), A>;
 
 /// Three keys, and one that is not stored.
 const KEYS: [Key; 4] = [
-    (0x0a00_0000, 8),
-    (0x0a00_0000, 9),
-    (0x0a01_0000, 24),
-    (0, 0),
+    v4!(10, 0, 0, 0; 8),
+    v4!(10, 0, 0, 0; 9),
+    v4!(10, 1, 0, 0; 24),
+    v4!(0, 0, 0, 0; 0),
 ];
 
 /// The names at the keys.

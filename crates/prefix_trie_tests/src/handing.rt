@@ -4,6 +4,7 @@ use crate::cases::prefix_of;
 use crate::cases::questions::{has_cells, pair_of};
 use crate::drops::let_go;
 use crate::examples::splitting::split_and_merge;
+use crate::networks::v4;
 use crate::on_new::on_new;
 use crate::refusing::Refusing;
 use crate::stored::adds;
@@ -33,12 +34,12 @@ type Map<'a, A> = PrefixMap<Ipv4Prefix, Numbered<'a>, A>;
 
 /// Networks of one node, numbered from 1 on. The second contains the third and the fourth.
 const NETWORKS: [(u32, u8); 6] = [
-    (0xc0a8_0000, 21),
-    (0xc0a8_0000, 22),
-    (0xc0a8_0000, 23),
-    (0xc0a8_0000, 24),
-    (0xc0a8_0400, 22),
-    (0xc0a8_0400, 23),
+    v4!(192, 168, 0, 0; 21),
+    v4!(192, 168, 0, 0; 22),
+    v4!(192, 168, 0, 0; 23),
+    v4!(192, 168, 0, 0; 24),
+    v4!(192, 168, 4, 0; 22),
+    v4!(192, 168, 4, 0; 23),
 ];
 
 /// The numbers of all six.
@@ -164,10 +165,10 @@ fn a_split_is_whole_or_refused(rt: HostRuntime) {
 
 /// Hosts of one network.
 const HOSTS: [(u32, u8); 4] = [
-    (0x0102_0300, 32),
-    (0x0102_0301, 32),
-    (0x0102_0302, 32),
-    (0x0102_0303, 32),
+    v4!(1, 2, 3, 0; 32),
+    v4!(1, 2, 3, 1; 32),
+    v4!(1, 2, 3, 2; 32),
+    v4!(1, 2, 3, 3; 32),
 ];
 
 /// Puts them into a set.

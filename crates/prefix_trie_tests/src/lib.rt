@@ -26,6 +26,8 @@ mod key_order;
 #[cfg(test)]
 mod memory;
 #[cfg(test)]
+mod networks;
+#[cfg(test)]
 mod node;
 #[cfg(test)]
 mod on_new;

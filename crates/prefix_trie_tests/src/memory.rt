@@ -1,5 +1,6 @@
 //! Maps and sets that give memory back: what refused requests leave, and that no value is lost.
 use crate::cases::prefix_of;
+use crate::networks::v4;
 use crate::refusing::Refusing;
 use crate::stored::adds;
 use prefix_trie::{Ipv4Prefix, PrefixMap, PrefixSet, Refusal};
@@ -14,12 +15,12 @@ type Map<A> = PrefixMap<Ipv4Prefix, u64, A>;
 
 /// Networks of one node.
 const NETWORKS: [(u32, u8); 6] = [
-    (0xc0a8_0000, 21),
-    (0xc0a8_0000, 22),
-    (0xc0a8_0000, 23),
-    (0xc0a8_0000, 24),
-    (0xc0a8_0400, 22),
-    (0xc0a8_0400, 23),
+    v4!(192, 168, 0, 0; 21),
+    v4!(192, 168, 0, 0; 22),
+    v4!(192, 168, 0, 0; 23),
+    v4!(192, 168, 0, 0; 24),
+    v4!(192, 168, 4, 0; 22),
+    v4!(192, 168, 4, 0; 23),
 ];
 
 /// Stores them, numbered from 1 on. Returns whether each is new.

@@ -5,6 +5,7 @@ mod mixed;
 mod mixed_sets;
 
 use crate::cases::questions::has_sums;
+use crate::networks::v4;
 use crate::on_new::on_new;
 use crate::refusing::Refusing;
 use crate::stored::{put, stores};
@@ -20,7 +21,7 @@ type Key = (u32, u8);
 type Map<A> = PrefixMap<Key, u64, A>;
 
 /// Two networks that are there before the run.
-const TWO: [(Key, u64); 2] = [((0, 0), 7), ((0x0a00_0000, 8), 8)];
+const TWO: [(Key, u64); 2] = [(v4!(0, 0, 0, 0; 0), 7), (v4!(10, 0, 0, 0; 8), 8)];
 
 /// What the six calls of a run answer as numbers, and the nodes then: with none refused, and where the insertion is.
 const GRANTED: [usize; 7] = [2, 1, 1, 1, 0, 3, 8];

@@ -1,5 +1,6 @@
 //! All forms of lookups, counted ones too: of a count there is nothing to read.
 use crate::cases::Case::{Finds, Inserts, Lists, Writes, WritesLongest};
+use crate::networks::v4;
 use crate::refusing::Refusing;
 use crate::trials::{How, Table, on_both};
 use prefix_trie::Visits;
@@ -42,10 +43,10 @@ fn answers_and_writes_of_all_lookups(rt: HostRuntime) {
 pub const NONE: [Table<'static, u32>; 1] = [(
     &[],
     &[
-        Finds((0xc0a8_0000, 23), None, None, None),
-        Inserts((0xc0a8_0000, 23), 1, None),
-        Finds((0xc0a8_0200, 24), None, None, None),
-        Finds((0xc0a8_0000, 22), None, None, None),
+        Finds(v4!(192, 168, 0, 0; 23), None, None, None),
+        Inserts(v4!(192, 168, 0, 0; 23), 1, None),
+        Finds(v4!(192, 168, 2, 0; 24), None, None, None),
+        Finds(v4!(192, 168, 0, 0; 22), None, None, None),
     ],
 )];
 

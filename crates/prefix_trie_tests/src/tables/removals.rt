@@ -4,6 +4,7 @@ use crate::cases::Case::{
     RetainsLong,
 };
 use crate::cases::Pair;
+use crate::networks::v4;
 use crate::refusing::Refusing;
 use crate::trials::{How, Table, Wrong, on_both, on_maps};
 use prefix_trie::Ipv4Prefix;
@@ -14,12 +15,12 @@ use std::test::Fail;
 /// others.
 pub const BY_LENGTH: [Table<'static, u32>; 1] = [(
     &[
-        Inserts((0, 0), 0, None),
-        Inserts((0, 1), 1, None),
-        Inserts((0, 2), 2, None),
-        Inserts((0, 5), 3, None),
-        Inserts((0, 6), 4, None),
-        Inserts((0x0800_0000, 7), 5, None),
+        Inserts(v4!(0, 0, 0, 0; 0), 0, None),
+        Inserts(v4!(0, 0, 0, 0; 1), 1, None),
+        Inserts(v4!(0, 0, 0, 0; 2), 2, None),
+        Inserts(v4!(0, 0, 0, 0; 5), 3, None),
+        Inserts(v4!(0, 0, 0, 0; 6), 4, None),
+        Inserts(v4!(8, 0, 0, 0; 7), 5, None),
     ],
     &[
         RetainsLong(1),
@@ -28,9 +29,9 @@ pub const BY_LENGTH: [Table<'static, u32>; 1] = [(
         Len(4),
         Nodes(3),
         RetainsLong(6),
-        Lists(&[((0, 6), 4), ((0x0800_0000, 7), 5)]),
+        Lists(&[(v4!(0, 0, 0, 0; 6), 4), (v4!(8, 0, 0, 0; 7), 5)]),
         RetainsLong(7),
-        Lists(&[((0x0800_0000, 7), 5)]),
+        Lists(&[(v4!(8, 0, 0, 0; 7), 5)]),
         Nodes(2),
     ],
 )];
@@ -39,12 +40,12 @@ pub const BY_LENGTH: [Table<'static, u32>; 1] = [(
 pub const OFF_THE_WAY: [Table<'static, u32>; 1] = [(
     &[],
     &[
-        Inserts((0, 32), 1, None),
-        Empties((0, 32), Some(1)),
+        Inserts(v4!(0, 0, 0, 0; 32), 1, None),
+        Empties(v4!(0, 0, 0, 0; 32), Some(1)),
         Nodes(7),
-        Inserts((0x8000_0000, 5), 2, None),
+        Inserts(v4!(128, 0, 0, 0; 5), 2, None),
         Nodes(8),
-        Removes((0x8000_0000, 5), Some(2)),
+        Removes(v4!(128, 0, 0, 0; 5), Some(2)),
         Nodes(7),
     ],
 )];
