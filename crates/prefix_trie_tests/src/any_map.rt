@@ -8,7 +8,7 @@ ghost use Rattle.prefix_trie_map.specs.Steps.{storage};
 use crate::examples::expiry::keep_from;
 use crate::examples::merge::merge;
 use crate::on_new::{on_new, on_two_new};
-use crate::stored::{has_keys, stores};
+use crate::contents::{has_keys, stores};
 use prefix_trie::{Prefix, PrefixMap};
 use prefix_trie_bits::laws::slot_laws;
 use prefix_trie_map::laws::copy_laws;

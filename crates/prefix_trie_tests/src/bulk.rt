@@ -2,13 +2,13 @@
 //! groups; and a burst of packets.
 ghost use Rattle.std.specs.Prelude.{◌≡◌, ◌^◌, ◌<◌, ◌≤◌, All, length};
 
-use crate::cases::changes::put_in;
-use crate::cases::questions::{shown, value_in};
+use crate::cases::writes::put_in;
+use crate::cases::lookups::{as_entry, value_of_entry};
 use crate::cases::{Entry, Pair};
 use crate::examples::batch::next_hops;
 use crate::examples::forwarding::add;
 use crate::on_new::on_new;
-use crate::stored::stores;
+use crate::contents::stores;
 use prefix_trie::{Ipv4Prefix, Prefix, PrefixMap};
 use prefix_trie_table::table::bulk::FEW_NODES;
 use std::alloc::Global;
@@ -44,18 +44,18 @@ fn ask_in_turn(asked: &mut [Pair<u128>])
     ensures fit { All (λ p. (p.0 < 2 ^ 128) × (p.1 ≤ 128)) asked.new }
     ensures length { length asked.new ≡ length asked.old }
 {
-    for place in 0..asked.len() {
-        let prefix = CASES[place % 5].0;
+    for index in 0..asked.len() {
+        let prefix = CASES[index % 5].0;
         if prefix.fits() {
-            asked[place] = prefix;
+            asked[index] = prefix;
         }
     }
 }
 
 /// Whether entries are the answers of the cases in turn.
 fn are_entries(found: &[Option<(Pair<u128>, &u64)>]) -> bool {
-    for (place, entry) in found.iter().enumerate() {
-        if shown(*entry) != CASES[place % 5].1 {
+    for (index, entry) in found.iter().enumerate() {
+        if as_entry(*entry) != CASES[index % 5].1 {
             return false;
         }
     }
@@ -64,8 +64,8 @@ fn are_entries(found: &[Option<(Pair<u128>, &u64)>]) -> bool {
 
 /// The same of values.
 fn are_values(found: &[Option<&u64>]) -> bool {
-    for (place, value) in found.iter().enumerate() {
-        if value.copied() != value_in(CASES[place % 5].1) {
+    for (index, value) in found.iter().enumerate() {
+        if value.copied() != value_of_entry(CASES[index % 5].1) {
             return false;
         }
     }

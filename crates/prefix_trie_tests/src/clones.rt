@@ -1,10 +1,10 @@
 //! Copies of a map and a set, and of the walks that take them apart, with each request for memory refused in turn: each value is cloned
 //! once.
-use crate::cases::keys::adds_key;
+use crate::cases::sets::adds_key;
 use crate::cases::prefix_of;
 use crate::networks::v4;
 use crate::refusing::Refusing;
-use crate::stored::adds;
+use crate::contents::adds;
 use prefix_trie::map::{IntoIter, IntoKeys, IntoValues};
 use prefix_trie::{Prefix, PrefixMap, PrefixSet};
 use std::alloc::{AllocError, Allocator, Global};
@@ -42,18 +42,18 @@ const KEYS: [Key; 4] = [
 /// The names at the keys.
 const NAMES: [&str; 3] = ["outer", "next", "inner"];
 
-/// The key at a place.
-fn key_at(place: usize) -> Key
+/// The key at a index.
+fn key_at(index: usize) -> Key
     ensures { ⟦<Key as Prefix>⟧.IsFitting result }
 {
-    prefix_of(KEYS[place % 4])
+    prefix_of(KEYS[index % 4])
 }
 
 /// Stores the three names.
 fn put_names<A: Allocator + Copy>(alloc: A, names: &mut Names<A>) -> Result<bool, AllocError> {
-    for (place, text) in NAMES.iter().enumerate() {
+    for (index, text) in NAMES.iter().enumerate() {
         let name = String::from_str(alloc, text)?;
-        if !adds(names, key_at(place), name) {
+        if !adds(names, key_at(index), name) {
             return Ok(false);
         }
     }
@@ -98,51 +98,51 @@ impl<P: Prefix, T: Clone, A: Allocator + Clone> Copied for IntoValues<P, T, A> {
 
 /// What has three names, or their keys, which a walk gives in turn.
 trait Named: Copied {
-    /// Whether it has or gives the one at a place, and at the fourth none.
-    fn gives(&mut self, place: usize) -> bool;
+    /// Whether it has or gives the one at a index, and at the fourth none.
+    fn gives(&mut self, index: usize) -> bool;
 }
 
 impl<A: Allocator + Clone> Named for Names<A> {
-    fn gives(&mut self, place: usize) -> bool {
-        is_name(self.get(&key_at(place)), place) & (self.len() == 3)
+    fn gives(&mut self, index: usize) -> bool {
+        is_name(self.get(&key_at(index)), index) & (self.len() == 3)
     }
 }
 
 impl<A: Allocator + Clone> Named for PrefixSet<Key, A> {
-    fn gives(&mut self, place: usize) -> bool {
-        (self.contains(&key_at(place)) == (place < 3)) & (self.len() == 3)
+    fn gives(&mut self, index: usize) -> bool {
+        (self.contains(&key_at(index)) == (index < 3)) & (self.len() == 3)
     }
 }
 
 impl<A: Allocator + Clone> Named for IntoIter<Key, String<A>, A> {
-    fn gives(&mut self, place: usize) -> bool {
+    fn gives(&mut self, index: usize) -> bool {
         match self.next() {
-            Some((key, name)) => (key == key_at(place)) & is_name(Some(&name), place),
-            None => place == 3,
+            Some((key, name)) => (key == key_at(index)) & is_name(Some(&name), index),
+            None => index == 3,
         }
     }
 }
 
 impl<T: Clone, A: Allocator + Clone> Named for IntoKeys<Key, T, A> {
-    fn gives(&mut self, place: usize) -> bool {
+    fn gives(&mut self, index: usize) -> bool {
         match self.next() {
-            Some(key) => (key == key_at(place)) & (place < 3),
-            None => place == 3,
+            Some(key) => (key == key_at(index)) & (index < 3),
+            None => index == 3,
         }
     }
 }
 
 impl<A: Allocator + Clone> Named for IntoValues<Key, String<A>, A> {
-    fn gives(&mut self, place: usize) -> bool {
-        is_name(self.next().as_ref(), place)
+    fn gives(&mut self, index: usize) -> bool {
+        is_name(self.next().as_ref(), index)
     }
 }
 
-/// Whether a name is that at a place, where there is one.
-fn is_name<A: Allocator>(name: Option<&String<A>>, place: usize) -> bool {
+/// Whether a name is that at a index, where there is one.
+fn is_name<A: Allocator>(name: Option<&String<A>>, index: usize) -> bool {
     match name {
-        Some(name) => NAMES.get(place) == Some(&name.as_str()),
-        None => place == 3,
+        Some(name) => NAMES.get(index) == Some(&name.as_str()),
+        None => index == 3,
     }
 }
 
@@ -196,10 +196,10 @@ impl<A: Allocator + Copy> Made<A> for SetKeys<A> {
     }
 }
 
-/// Whether it gives all from a place on.
+/// Whether it gives all from a index on.
 fn gives_from<W: Named>(named: &mut W, first: usize) -> bool {
-    for place in first..4_usize {
-        if !named.gives(place) {
+    for index in first..4_usize {
+        if !named.gives(index) {
             return false;
         }
     }
@@ -214,7 +214,7 @@ fn is_refused_from<W: Named>(heap: &Heap, named: &W, passed: u64) -> bool {
 
 /// Copies what was made with every request refused, with another request refused each time: it alone, and with all behind it. Answers
 /// how many were, if each copy was refused exactly where one was, and at last both the copy and what was copied give their names from a
-/// place on with every request refused, of which none comes.
+/// index on with every request refused, of which none comes.
 fn copies<W: Named>(heap: &Heap, mut named: W, first: usize) -> Option<u64> {
     let is_unasked = heap.left() == u64::MAX;
     for passed in 0..MANY {
@@ -263,8 +263,8 @@ fn requests_left<A: Allocator + Copy, W: Made<A>>(heap: &Heap, alloc: A) -> Opti
 
 /// Stores the three keys.
 fn put_keys<A: Allocator>(set: &mut PrefixSet<Key, A>) -> bool {
-    for place in 0..3_usize {
-        if !adds_key(set, key_at(place)) {
+    for index in 0..3_usize {
+        if !adds_key(set, key_at(index)) {
             return false;
         }
     }

@@ -6,7 +6,7 @@ ghost use Rattle.prefix_trie_bits.specs.Model.Room.{LeavesRoom};
 
 use crate::examples::counter::count;
 use crate::on_new::{on_new, on_two_new};
-use crate::stored::{has_values, stores};
+use crate::contents::{has_values, stores};
 use prefix_trie::map::Entry;
 use prefix_trie::{Prefix, PrefixMap, Refusal, Refused};
 use std::alloc::{Allocator, Global};

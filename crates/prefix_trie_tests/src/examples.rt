@@ -19,7 +19,7 @@ pub mod scaling;
 pub mod splitting;
 
 use crate::on_new::{on_new, on_two_new};
-use crate::stored::stores;
+use crate::contents::stores;
 use access::{may_enter, reasons};
 use cache::store;
 use copy::copied;

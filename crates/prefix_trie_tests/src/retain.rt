@@ -2,7 +2,7 @@
 
 use crate::examples::expiry::keep_from;
 use crate::on_new::on_new;
-use crate::stored::{has_keys, stores};
+use crate::contents::{has_keys, stores};
 use prefix_trie::{Prefix, PrefixMap, PrefixSet};
 use std::alloc::{Allocator, Global};
 

@@ -4,11 +4,11 @@ mod callers;
 mod mixed;
 mod mixed_sets;
 
-use crate::cases::questions::has_sums;
+use crate::cases::lookups::slots_add_up;
 use crate::networks::v4;
 use crate::on_new::on_new;
 use crate::refusing::Refusing;
-use crate::stored::{put, stores};
+use crate::contents::{put, stores};
 use prefix_trie::replay::{Call, Reply, run};
 use prefix_trie::{PrefixMap, Refusal};
 use std::alloc::{AllocError, Allocator, Global};
@@ -28,7 +28,7 @@ const GRANTED: [usize; 7] = [2, 1, 1, 1, 0, 3, 8];
 
 const WITHOUT_INSERTION: [usize; 7] = [2, 1, 1, 1, 0, 2, 2];
 
-/// The place of the insertion among the calls. Those before it list, and the one behind it counts.
+/// The index of the insertion among the calls. Those before it list, and the one behind it counts.
 const INSERTION: usize = 4;
 
 /// Runs six calls on a map.
@@ -58,22 +58,22 @@ fn number_of<A: Allocator>(reply: &Reply<Key, A>) -> Option<usize> {
     }
 }
 
-/// The place of the first call that was refused, or that behind the last call.
+/// The index of the first call that was refused, or that behind the last call.
 fn first_refused<A: Allocator>(replies: &[Reply<Key, A>]) -> usize {
-    for (place, reply) in replies.iter().enumerate() {
+    for (index, reply) in replies.iter().enumerate() {
         if number_of(reply).is_none() {
-            return place;
+            return index;
         }
     }
     replies.len()
 }
 
-/// Whether the call at a place is refused, where that at another is the first, alone or with all behind it that ask for memory.
-fn is_lost(place: usize, first: usize, is_all: bool) -> bool {
-    place == first || is_all && first < place && place <= INSERTION
+/// Whether the call at a index is refused, where that at another is the first, alone or with all behind it that ask for memory.
+fn is_lost(index: usize, first: usize, is_all: bool) -> bool {
+    index == first || is_all && first < index && index <= INSERTION
 }
 
-/// Whether the replies and the map are as they should be, where the call at this place is the first that is refused.
+/// Whether the replies and the map are as they should be, where the call at this index is the first that is refused.
 fn are_from<A: Allocator>(
     replies: &[Reply<Key, A>],
     map: &Map<A>,
@@ -85,11 +85,11 @@ fn are_from<A: Allocator>(
     } else {
         GRANTED
     };
-    for (place, reply) in replies.iter().enumerate() {
-        let number = if is_lost(place, first, is_all) {
+    for (index, reply) in replies.iter().enumerate() {
+        let number = if is_lost(index, first, is_all) {
             None
         } else {
-            wanted.get(place).copied()
+            wanted.get(index).copied()
         };
         if number_of(reply) != number {
             return false;
@@ -112,7 +112,7 @@ fn first_part<A: Allocator>(
         }
         Err(AllocError) => (0, (map.len() == 2) & (map.node_count() == 2)),
     };
-    (is_right & has_sums(map)).then_some(part)
+    (is_right & slots_add_up(map)).then_some(part)
 }
 
 /// Runs the calls with so many requests refused, once so many were passed on.
@@ -202,16 +202,16 @@ fn run_removals(
 
 /// Whether the counts among replies are these, in turn.
 fn has_counts(replies: &[Reply<Key, Global>], wanted: &[usize]) -> bool {
-    let mut place = 0_usize;
+    let mut index = 0_usize;
     for reply in replies {
         if let Reply::Count(count) = reply {
-            if wanted.get(place) != Some(count) {
+            if wanted.get(index) != Some(count) {
                 return false;
             }
-            place = place.wrapping_add(1);
+            index = index.wrapping_add(1);
         }
     }
-    place == wanted.len()
+    index == wanted.len()
 }
 
 /// Whether removals leave so many nodes in a map without entries.

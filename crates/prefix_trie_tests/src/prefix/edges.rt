@@ -1,26 +1,26 @@
 //! The ends of each width: to every call a prefix with all host bits set and one with none are the same.
 use crate::cases::Case::{
-    self, ChangesEntry, Covers, DropsChildren, Empties, Fills, Finds, Inserts, Len, ListsFrom,
-    Removes, TakesOut, Writes, WritesLongest,
+    self, ChangesEntry, Covers, DropsChildren, RemovesKeepTree, Fills, Finds, Inserts, Len, ListsFrom,
+    Removes, RemovesEntry, Writes, WritesLongest,
 };
-use crate::cases::filling::Fill;
-use crate::cases::lists::kept;
-use crate::cases::tried::{Tried, holds_alone};
+use crate::cases::entries::InsertVia;
+use crate::cases::walks::clear_host_bits;
+use crate::cases::under_test::{UnderTest, holds_alone};
 use crate::cases::{Entry, Pair, prefix_of};
 use crate::refusing::Refusing;
 use prefix_trie::{Key, Narrow, Prefix, PrefixMap, PrefixSet};
 use std::alloc::{AllocError, Allocator, Global};
 
 /// The calls that store a value, and the values that they set.
-const FILLS: [(Fill, u64); 8] = [
-    (Fill::Map, 6),
-    (Fill::Put, 6),
-    (Fill::OrInsert, 6),
-    (Fill::OrInsertWith, 6),
-    (Fill::OrDefault, 0),
-    (Fill::Insert, 6),
-    (Fill::InsertWith, 6),
-    (Fill::Default, 0),
+const FILLS: [(InsertVia, u64); 8] = [
+    (InsertVia::Map, 6),
+    (InsertVia::Put, 6),
+    (InsertVia::OrInsert, 6),
+    (InsertVia::OrInsertWith, 6),
+    (InsertVia::OrDefault, 0),
+    (InsertVia::Insert, 6),
+    (InsertVia::InsertWith, 6),
+    (InsertVia::Default, 0),
 ];
 
 /// Whether a length is one of the first and the last of a width, or by the end of the first node.
@@ -43,7 +43,7 @@ fn case_at<'a, K: Key + 'a>(step: u32, at: Pair<K>, other: Pair<K>, clean: Pair<
         6 => WritesLongest(at, 4, Some((clean, 3))),
         7 => ChangesEntry(at, 5, 4),
         8 => Removes(at, Some(5)),
-        10 => Empties(at, Some(1)),
+        10 => RemovesKeepTree(at, Some(1)),
         12 => DropsChildren(at),
         13 => Len(0),
         1 | 9 | 11 | 14 => Inserts(other, 1, None),
@@ -53,7 +53,7 @@ fn case_at<'a, K: Key + 'a>(step: u32, at: Pair<K>, other: Pair<K>, clean: Pair<
 }
 
 /// Whether all of them hold.
-fn are_changed<K: Key, A: Allocator + Copy, M: Tried<K, A>>(
+fn are_changed<K: Key, A: Allocator + Copy, M: UnderTest<K, A>>(
     heap: &Refusing<Global>,
     tried: &mut M,
     at: Pair<K>,
@@ -69,7 +69,7 @@ fn are_changed<K: Key, A: Allocator + Copy, M: Tried<K, A>>(
 }
 
 /// Whether what was handed out has one entry alone, and nothing is left.
-fn is_part<K: Key, A: Allocator + Copy, M: Tried<K, A>>(
+fn is_part<K: Key, A: Allocator + Copy, M: UnderTest<K, A>>(
     heap: &Refusing<Global>,
     tried: &mut M,
     part: &mut M,
@@ -82,20 +82,20 @@ fn is_part<K: Key, A: Allocator + Copy, M: Tried<K, A>>(
 }
 
 /// Whether that is so of what is handed out at a pair.
-fn hands_out<K: Key, A: Allocator + Copy, M: Tried<K, A>>(
+fn hands_out<K: Key, A: Allocator + Copy, M: UnderTest<K, A>>(
     heap: &Refusing<Global>,
     tried: &mut M,
     at: Pair<K>,
     entry: Entry<K>,
 ) -> bool {
-    match tried.part(at) {
+    match tried.split_off(at) {
         Some(mut part) => is_part::<K, A, M>(heap, tried, &mut part, entry),
         None => false,
     }
 }
 
 /// Whether what each call stores at one pair is taken out at the other.
-fn are_filled<K: Key, A: Allocator + Copy, M: Tried<K, A>>(
+fn are_filled<K: Key, A: Allocator + Copy, M: UnderTest<K, A>>(
     heap: &Refusing<Global>,
     tried: &mut M,
     at: Pair<K>,
@@ -103,7 +103,7 @@ fn are_filled<K: Key, A: Allocator + Copy, M: Tried<K, A>>(
 ) -> bool {
     for (fill, value) in &FILLS {
         let is_stored = holds_alone::<K, A, M>(heap, tried, &Fills(*fill, at, *value));
-        if !(is_stored & holds_alone::<K, A, M>(heap, tried, &TakesOut(other, *value))) {
+        if !(is_stored & holds_alone::<K, A, M>(heap, tried, &RemovesEntry(other, *value))) {
             return false;
         }
     }
@@ -111,7 +111,7 @@ fn are_filled<K: Key, A: Allocator + Copy, M: Tried<K, A>>(
 }
 
 /// Whether all calls take two pairs for the third, where nothing else is stored.
-fn are_alike_alone<K: Key, A: Allocator + Copy, M: Tried<K, A>>(
+fn are_alike_alone<K: Key, A: Allocator + Copy, M: UnderTest<K, A>>(
     heap: &Refusing<Global>,
     tried: &mut M,
     at: Pair<K>,
@@ -124,14 +124,14 @@ fn are_alike_alone<K: Key, A: Allocator + Copy, M: Tried<K, A>>(
 }
 
 /// The same at each length. Nothing is stored before and behind it.
-fn are_alike_in_turn<K: Key, A: Allocator + Copy, M: Tried<K, A>>(
+fn are_alike_in_turn<K: Key, A: Allocator + Copy, M: UnderTest<K, A>>(
     heap: &Refusing<Global>,
     tried: &mut M,
     ones: K,
 ) -> bool {
     let width = K::width().min(128) as u8;
     for len in 0..width.saturating_add(1) {
-        let (clean, host) = ((kept(ones, len), len), (ones, len));
+        let (clean, host) = ((clear_host_bits(ones, len), len), (ones, len));
         let is_alike = !is_end(len, width)
             || are_alike_alone::<K, A, M>(heap, tried, clean, host, clean)
                 & are_alike_alone::<K, A, M>(heap, tried, host, clean, clean);
@@ -143,7 +143,7 @@ fn are_alike_in_turn<K: Key, A: Allocator + Copy, M: Tried<K, A>>(
 }
 
 /// Stores each length as its value, with host bits, and adds its entry to those in listing order. Answers whether all are new.
-fn stores_ends<K: Key, A: Allocator + Copy, M: Tried<K, A>>(
+fn stores_ends<K: Key, A: Allocator + Copy, M: UnderTest<K, A>>(
     tried: &mut M,
     ones: K,
     entries: &mut Vec<Entry<K>>,
@@ -152,25 +152,25 @@ fn stores_ends<K: Key, A: Allocator + Copy, M: Tried<K, A>>(
     for len in 0..width.saturating_add(1) {
         let value = u64::from(len);
         if is_end(len, width) {
-            if tried.store(Fill::Map, (ones, len), value) != Ok(None) {
+            if tried.store(InsertVia::Map, (ones, len), value) != Ok(None) {
                 return Ok(false);
             }
-            entries.push(((kept(ones, len), len), value))?;
+            entries.push(((clear_host_bits(ones, len), len), value))?;
         }
     }
     Ok(true)
 }
 
-/// Whether lookups and walks take a pair for the entry at a place, each of which contains the next.
-fn is_found<K: Key, A: Allocator + Copy, M: Tried<K, A>>(
+/// Whether lookups and walks take a pair for the entry at a index, each of which contains the next.
+fn is_found<K: Key, A: Allocator + Copy, M: UnderTest<K, A>>(
     heap: &Refusing<Global>,
     tried: &mut M,
     at: Pair<K>,
     entries: &[Entry<K>],
-    place: usize,
+    index: usize,
 ) -> bool {
-    let around = entries.get(..place.wrapping_add(1)).unwrap_or(&[]);
-    let from = entries.get(place..).unwrap_or(&[]);
+    let around = entries.get(..index.wrapping_add(1)).unwrap_or(&[]);
+    let from = entries.get(index..).unwrap_or(&[]);
     let stored = from.first().copied();
     let shortest = entries.first().copied();
     holds_alone::<K, A, M>(heap, tried, &Finds(at, stored, stored, shortest))
@@ -179,16 +179,16 @@ fn is_found<K: Key, A: Allocator + Copy, M: Tried<K, A>>(
 }
 
 /// Whether they take both pairs of each entry for it.
-fn are_alike_together<K: Key, A: Allocator + Copy, M: Tried<K, A>>(
+fn are_alike_together<K: Key, A: Allocator + Copy, M: UnderTest<K, A>>(
     heap: &Refusing<Global>,
     tried: &mut M,
     entries: &[Entry<K>],
     ones: K,
 ) -> bool {
-    for (place, entry) in entries.iter().enumerate() {
+    for (index, entry) in entries.iter().enumerate() {
         let (clean, _) = *entry;
-        let is_alike = is_found::<K, A, M>(heap, tried, clean, entries, place)
-            & is_found::<K, A, M>(heap, tried, (ones, clean.1), entries, place);
+        let is_alike = is_found::<K, A, M>(heap, tried, clean, entries, index)
+            & is_found::<K, A, M>(heap, tried, (ones, clean.1), entries, index);
         if !is_alike {
             return false;
         }
@@ -197,7 +197,7 @@ fn are_alike_together<K: Key, A: Allocator + Copy, M: Tried<K, A>>(
 }
 
 /// Whether both hold of one.
-fn are_alike_in<K: Key, A: Allocator + Copy, M: Tried<K, A>>(
+fn are_alike_in<K: Key, A: Allocator + Copy, M: UnderTest<K, A>>(
     heap: &Refusing<Global>,
     tried: &mut M,
     ones: K,
@@ -209,12 +209,12 @@ fn are_alike_in<K: Key, A: Allocator + Copy, M: Tried<K, A>>(
 }
 
 /// A new one that takes both prefixes of each length for one, with all of them.
-fn stored_alike<K: Key, A: Allocator + Copy, M: Tried<K, A>>(
+fn stored_alike<K: Key, A: Allocator + Copy, M: UnderTest<K, A>>(
     heap: &Refusing<Global>,
     alloc: A,
     ones: K,
 ) -> Option<M> {
-    let mut tried = M::made(alloc, None).ok()?;
+    let mut tried = M::create(alloc, None).ok()?;
     let is_alike = are_alike_in::<K, A, M>(heap, &mut tried, ones);
     if is_alike { Some(tried) } else { None }
 }
@@ -234,7 +234,7 @@ fn taken<P: Prefix, A: Allocator + Clone>(
 /// Whether both prefixes of each length take the same out of a map.
 fn are_taken<P: Prefix, A: Allocator + Clone>(map: &PrefixMap<P, u64, A>, ones: P::R) -> bool {
     for len in 0..(P::num_bits().min(128) as u8).saturating_add(1) {
-        if taken(map, (kept(ones, len), len)) != taken(map, (ones, len)) {
+        if taken(map, (clear_host_bits(ones, len), len)) != taken(map, (ones, len)) {
             return false;
         }
     }

@@ -2,7 +2,7 @@
 ghost use Rattle.std.specs.Prelude.{◌≤◌, All, IfOk};
 ghost use Rattle.prefix_trie.specs.Words.{IsFittingCall};
 
-use crate::cases::questions::has_sums;
+use crate::cases::lookups::slots_add_up;
 use crate::cases::{Pair, prefix_of};
 use crate::on_new::on_new;
 use prefix_trie::replay::{Call, Reply, run};
@@ -187,16 +187,16 @@ fn selects(call: &Call<Key>, key: Key) -> bool {
 
 /// Whether a list is the one that a call asks for.
 fn are_selected(entries: &[Entry], call: &Call<Key>, list: &[Entry]) -> bool {
-    let mut place = 0_usize;
+    let mut index = 0_usize;
     for entry in list {
         if selects(call, entry.0) {
-            if entries.get(place) != Some(entry) {
+            if entries.get(index) != Some(entry) {
                 return false;
             }
-            place = place.wrapping_add(1);
+            index = index.wrapping_add(1);
         }
     }
-    place == entries.len()
+    index == entries.len()
 }
 
 /// Whether a reply is that of the list, to which the call was not yet made. Of a count of nodes the list says nothing.
@@ -299,7 +299,7 @@ fn runs_alike(
     requires { All (IsFittingCall ⟦<Key as Prefix>⟧.IsFitting) calls.now }
 {
     let replies = run(alloc, map, calls)?;
-    Ok(are_replies(alloc, &replies, calls, list)? & has_sums(map))
+    Ok(are_replies(alloc, &replies, calls, list)? & slots_add_up(map))
 }
 
 /// Draws and makes all runs. Answers whether all replies are those of a list.

@@ -2,18 +2,18 @@
 ghost use Rattle.std.specs.Prelude.{◌≤◌};
 
 use crate::cases::Case::{
-    self, Addresses, Clears, Covers, DropsChildren, Empties, Finds, Inserts, Len, Lists, Nodes,
+    self, AddressCount, Clears, Covers, DropsChildren, RemovesKeepTree, Finds, Inserts, Len, Lists, NodeCount,
     Removes, RetainsLong,
 };
 use crate::cases::Entry;
-use crate::cases::lists::entries_of;
-use crate::cases::questions::shown;
-use crate::cases::tried::holds_alone;
+use crate::cases::walks::entries_of;
+use crate::cases::lookups::as_entry;
+use crate::cases::under_test::holds_alone;
 use crate::on_new::on_two_new;
 use crate::refusing::Refusing;
 use crate::retain::retain_long;
 use crate::runs::mixed::{Key, drawn_call};
-use crate::stored::put;
+use crate::contents::put;
 use prefix_trie::{PrefixMap, PrefixSet};
 use std::alloc::{AllocError, Global};
 
@@ -27,7 +27,7 @@ type Map = PrefixMap<Key, u64, Global>;
 
 type Set = PrefixSet<Key, Global>;
 
-/// Makes a call that stores, or takes out all or what is short. Answers it beside its answer.
+/// StartsAnew a call that stores, or takes out all or what is short. Answers it beside its answer.
 fn changed(map: &mut Map, a: u64, asked: Key) -> Case<'static, u8>
     requires { asked.1 ≤ 8 }
 {
@@ -50,7 +50,7 @@ fn removed(map: &mut Map, which: u64, asked: Key) -> Case<'static, u8>
 {
     match which {
         10 => Removes(asked, map.remove(&asked)),
-        11 => Empties(asked, map.remove_keep_tree(&asked)),
+        11 => RemovesKeepTree(asked, map.remove_keep_tree(&asked)),
         _ => {
             map.drop_children(&asked);
             DropsChildren(asked)
@@ -64,13 +64,13 @@ fn answered(map: &Map, which: u64, asked: Key) -> Case<'static, u8>
 {
     match which {
         5 => Len(map.len()),
-        6 => Nodes(map.node_count()),
-        7 => Addresses(map.address_count()),
+        6 => NodeCount(map.node_count()),
+        7 => AddressCount(map.address_count()),
         _ => Finds(
             asked,
-            shown(map.get_key_value(&asked)),
-            shown(map.get_lpm(&asked)),
-            shown(map.get_spm(&asked)),
+            as_entry(map.get_key_value(&asked)),
+            as_entry(map.get_lpm(&asked)),
+            as_entry(map.get_spm(&asked)),
         ),
     }
 }
@@ -89,7 +89,7 @@ fn listed(alloc: Global, map: &Map, which: u64, asked: Key) -> Result<Vec<Entry<
     Ok(entries)
 }
 
-/// Makes one call on a map. Answers whether a set answers it alike.
+/// StartsAnew one call on a map. Answers whether a set answers it alike.
 fn agrees(
     heap: &Refusing<Global>,
     map: &mut Map,
@@ -111,7 +111,7 @@ fn agrees(
     Ok(holds_alone::<u8, Global, Set>(heap, set, &case))
 }
 
-/// Makes all calls. Answers whether each was answered alike, and both have the same keys at the end.
+/// StartsAnew all calls. Answers whether each was answered alike, and both have the same keys at the end.
 fn answer_alike(map: &mut Map, set: &mut Set, heap: &Refusing<Global>) -> Result<bool, AllocError> {
     let mut x = 1;
     for _index in 0..CALLS {

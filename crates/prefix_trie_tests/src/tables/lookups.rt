@@ -2,12 +2,12 @@
 use crate::cases::Case::{Finds, Inserts, Lists, Writes, WritesLongest};
 use crate::networks::v4;
 use crate::refusing::Refusing;
-use crate::trials::{How, Table, on_both};
+use crate::trials::{FaultPlan, Table, on_both};
 use prefix_trie::Visits;
 use std::mem::size_of;
 
 /// Asked for the longer with host bits, for an address in it, and for one that neither contains.
-const BOTH: Table<'static, u16> = (
+const NESTED: Table<'static, u16> = (
     &[],
     &[
         Inserts((0x8000, 1), 1, None),
@@ -36,11 +36,11 @@ const BOTH: Table<'static, u16> = (
 #[test]
 fn answers_and_writes_of_all_lookups(rt: HostRuntime) {
     let heap = Refusing::new(rt.alloc());
-    assert_eq!(rt; on_both::<(u16, u8)>(&heap, &BOTH, How::InTurn), Ok(()));
+    assert_eq!(rt; on_both::<(u16, u8)>(&heap, &NESTED, FaultPlan::EachRequest), Ok(()));
 }
 
 /// In an empty map, and beside a stored network or above it.
-pub const NONE: [Table<'static, u32>; 1] = [(
+pub const NO_MATCH: [Table<'static, u32>; 1] = [(
     &[],
     &[
         Finds(v4!(192, 168, 0, 0; 23), None, None, None),

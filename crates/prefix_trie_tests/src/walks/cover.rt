@@ -4,7 +4,7 @@ ghost use Rattle.std.specs.List.{list_all};
 ghost use Rattle.prefix_trie.specs.Words.{covers, shown};
 
 use crate::on_new::on_new;
-use crate::stored::stores;
+use crate::contents::stores;
 use prefix_trie::{Prefix, PrefixMap};
 use std::alloc::{AllocError, Allocator, Global};
 

@@ -5,7 +5,7 @@ ghost use Rattle.std.specs.List.{list_all};
 ghost use Rattle.prefix_trie.specs.Words.{listing, shown};
 
 use crate::on_new::on_new;
-use crate::stored::stores;
+use crate::contents::stores;
 use prefix_trie::map::Iter;
 use prefix_trie::{Prefix, PrefixMap};
 use prefix_trie_map::laws::resume_laws;

@@ -7,7 +7,7 @@ ghost use Rattle.prefix_trie_map.specs.WritingWalks.{EndsIn, FirstIn, PassesIn};
 use crate::examples::scaling::double_all;
 use crate::on_new::on_new;
 use crate::refusing::Refusing;
-use crate::stored::{has_values, stores};
+use crate::contents::{has_values, stores};
 use prefix_trie::map::IterMut;
 use prefix_trie::{Prefix, PrefixMap};
 use std::alloc::{Allocator, Global};
@@ -64,9 +64,9 @@ fn writes_next<'b, 'm, A: Allocator>(
     value: u64,
 ) -> bool {
     match walk.next() {
-        Some((prefix, place)) => {
-            let is_same = (prefix, *place) == entry;
-            *place = value;
+        Some((prefix, stored)) => {
+            let is_same = (prefix, *stored) == entry;
+            *stored = value;
             is_same
         }
         None => false,

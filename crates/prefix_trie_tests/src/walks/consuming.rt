@@ -3,9 +3,9 @@ ghost use Rattle.std.specs.Prelude.{◌≡◌, OnOk};
 ghost use Rattle.prefix_trie.specs.Words.{listing, put_all, shown};
 
 use crate::clones::Copied;
-use crate::drops::{Counted, let_go};
+use crate::drops::{Counted, drop_now};
 use crate::refusing::Refusing;
-use crate::stored::{self, adds};
+use crate::contents::{self, adds};
 use prefix_trie::map::{IntoIter, IntoKeys, IntoValues};
 use prefix_trie::{Prefix, PrefixMap, Refused};
 use std::alloc::{Allocator, Global};
@@ -57,31 +57,31 @@ pub fn three<'a>(alloc: Global, keys: &[Key; 3], drops: &'a Cell<u64>) -> Option
 /// A walk that takes a map apart.
 trait Taking: Copied {
     /// Takes the next item, if there is one, and lets it go.
-    fn lets_next_go(&mut self);
+    fn drop_next(&mut self);
 }
 
 impl Taking for IntoIter<Key, Counted<'_>, Global> {
-    fn lets_next_go(&mut self) {
-        let_go(self.next());
+    fn drop_next(&mut self) {
+        drop_now(self.next());
     }
 }
 
 impl Taking for IntoKeys<Key, Counted<'_>, Global> {
-    fn lets_next_go(&mut self) {
-        let_go(self.next());
+    fn drop_next(&mut self) {
+        drop_now(self.next());
     }
 }
 
 impl Taking for IntoValues<Key, Counted<'_>, Global> {
-    fn lets_next_go(&mut self) {
-        let_go(self.next());
+    fn drop_next(&mut self) {
+        drop_now(self.next());
     }
 }
 
 /// Takes so many items.
 fn take<W: Taking>(walk: &mut W, count: u64) {
     for _ in 0..count {
-        walk.lets_next_go();
+        walk.drop_next();
     }
 }
 
@@ -91,9 +91,9 @@ fn drops_of<W: Taking>(mut walk: W, taken: u64, drops: &Cell<u64>) -> Option<(u6
     let first = drops.get();
     let mut copy = walk.copy().ok()?;
     take(&mut copy, 4);
-    let_go(copy);
+    drop_now(copy);
     let second = drops.get();
-    let_go(walk);
+    drop_now(walk);
     Some((first, second, drops.replace(0)))
 }
 
@@ -114,7 +114,7 @@ fn drops_of_one_taken(alloc: Global) -> Option<(u64, u64)> {
     let mut walk = three(alloc, &KEYS, &drops)?.into_iter();
     take(&mut walk, 1);
     let first = drops.get();
-    let_go(walk);
+    drop_now(walk);
     Some((first, drops.get()))
 }
 
@@ -137,9 +137,9 @@ fn what_is_not_taken_is_dropped_with_the_walk(rt: HostRuntime) {
 fn drops_of_calls<'a>(map: &mut Counting<'a>, drops: &'a Cell<u64>) -> Option<[u64; 4]> {
     let are_put = put_three(map, &KEYS, drops);
     let first = drops.get();
-    let is_replaced = stored::put(map, (0, 1), Counted { drops }).is_ok();
+    let is_replaced = contents::put(map, (0, 1), Counted { drops }).is_ok();
     let second = drops.get();
-    let_go(map.remove_keep_tree(&(0, 0)));
+    drop_now(map.remove_keep_tree(&(0, 0)));
     let third = drops.get();
     map.clear();
     (are_put & is_replaced).then_some([first, second, third, drops.get()])
@@ -150,7 +150,7 @@ fn drops_of_map(alloc: Global) -> Option<([u64; 4], u64)> {
     let drops = Cell::new(0);
     let mut map = PrefixMap::new(alloc).ok()?;
     let during = drops_of_calls(&mut map, &drops)?;
-    let_go(map);
+    drop_now(map);
     Some((during, drops.get()))
 }
 
@@ -158,12 +158,12 @@ fn drops_of_map(alloc: Global) -> Option<([u64; 4], u64)> {
 fn drops_of_refused(alloc: Global) -> Option<[u64; 3]> {
     let drops = Cell::new(0);
     let mut map = PrefixMap::with_slot_limit(alloc, 1).ok()?;
-    let answer = stored::put(&mut map, CHAIN[2], Counted { drops: &drops });
+    let answer = contents::put(&mut map, CHAIN[2], Counted { drops: &drops });
     let first = drops.get();
     let is_refused = answer.is_err();
-    let_go(answer);
+    drop_now(answer);
     let second = drops.get();
-    let_go(map);
+    drop_now(map);
     is_refused.then_some([first, second, drops.get()])
 }
 
@@ -208,7 +208,7 @@ fn put_names<'a, A: Allocator + Copy>(
 fn is_copy_refused<A: Allocator + Clone>(names: &Names<'_, A>) -> bool {
     let copy = names.clone();
     let is_refused = copy.is_err();
-    let_go(copy);
+    drop_now(copy);
     is_refused
 }
 

@@ -2,7 +2,7 @@
 use crate::cases::prefix_of;
 use crate::networks::v4;
 use crate::refusing::Refusing;
-use crate::stored::adds;
+use crate::contents::adds;
 use prefix_trie::{Ipv4Prefix, PrefixMap, PrefixSet, Refusal};
 use std::alloc::{Allocator, Global};
 

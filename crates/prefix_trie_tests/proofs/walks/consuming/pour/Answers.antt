@@ -1,5 +1,5 @@
 use Rattle.prefix_trie.proofs.Putting.{next_fits, leads_on, all_lead}
-use Rattle.prefix_trie_tests.proofs.walks.taking.pour.Goals as goal
+use Rattle.prefix_trie_tests.proofs.walks.consuming.pour.Goals as goal
 
 pub loop-prefix-init : goal.loop-prefix-init
 loop-prefix-init g c =

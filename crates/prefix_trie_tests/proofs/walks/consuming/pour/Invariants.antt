@@ -1,5 +1,5 @@
 use Rattle.prefix_trie_tests.proofs.Prelude.{put_all, listing, shown, Leads}
-use Rattle.prefix_trie_tests.proofs.walks.taking.pour.Given as goal
+use Rattle.prefix_trie_tests.proofs.walks.consuming.pour.Given as goal
 
 abbrev pub invariant-loop-prefix : goal.invariant-loop-prefix
 invariant-loop-prefix g l =

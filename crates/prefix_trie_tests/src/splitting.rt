@@ -1,13 +1,13 @@
 //! Maps and sets that are split: what refused requests for memory leave, and what is dropped when.
-use crate::cases::keys::adds_key;
+use crate::cases::sets::adds_key;
 use crate::cases::prefix_of;
-use crate::cases::questions::{has_cells, pair_of};
-use crate::drops::let_go;
+use crate::cases::lookups::{has_cells, pair_of};
+use crate::drops::drop_now;
 use crate::examples::splitting::split_and_merge;
 use crate::networks::v4;
 use crate::on_new::on_new;
 use crate::refusing::Refusing;
-use crate::stored::adds;
+use crate::contents::adds;
 use prefix_trie::{Ipv4Prefix, PrefixMap, PrefixSet, Refusal};
 use std::alloc::{Allocator, Global};
 use std::cell::Cell;
@@ -106,7 +106,7 @@ fn is_split<A: Allocator + Clone>(map: &mut Map<'_, A>, drops: &Cell<u64>) -> Op
     match map.remove_children(&prefix_of((0xc0a8_0000, 22))) {
         Ok(part) => {
             let are_right = has_in_place(map, &[1, 5, 6]) & is_part(&part) & (drops.get() == 0);
-            let_go(part);
+            drop_now(part);
             (are_right & (drops.get() == 3)).then_some(true)
         }
         Err(cause) => {
@@ -141,7 +141,7 @@ fn is_split_anew<A: Allocator + Clone>(
     let drops = Cell::new(0);
     let mut map = six(heap, alloc, &drops)?;
     let is_refused = is_split_or_refused::<A>(heap, &mut map, &drops, passed, refused);
-    let_go(map);
+    drop_now(map);
     if drops.get() == 6 { is_refused } else { None }
 }
 

@@ -1,8 +1,8 @@
 //! Cases, as calls of a set: of an entry the key counts.
-use crate::cases::filling::Fill;
-use crate::cases::lists::below;
-use crate::cases::questions::{found_pair, is_found_pair, pair_in, pair_of, was_refused};
-use crate::cases::tried::{Answer, State, Tried};
+use crate::cases::entries::InsertVia;
+use crate::cases::walks::contained_in_first;
+use crate::cases::lookups::{as_pair, has_pair, pair_of_entry, pair_of, was_refused};
+use crate::cases::under_test::{InsertResult, State, UnderTest};
 use crate::cases::{Case, Entry, Pair, prefix_of};
 use crate::refusing::Refusing;
 use crate::retain::retain_long_keys;
@@ -49,14 +49,14 @@ fn gives<P: Prefix + Copy, A: Allocator>(
     entries: &[Entry<P::R>],
 ) -> bool {
     for entry in entries {
-        if found_pair(walk.next()) != Some(entry.0) {
+        if as_pair(walk.next()) != Some(entry.0) {
             return false;
         }
     }
     walk.next().is_none()
 }
 
-/// Whether the walks from a prefix on, behind it and below it give the keys of these entries, which begin with its own.
+/// Whether the walks from a prefix on, behind it and contained_in_first it give the keys of these entries, which begin with its own.
 fn gives_from<P: Prefix + Copy, A: Allocator>(
     set: &PrefixSet<P, A>,
     at: Pair<P::R>,
@@ -68,7 +68,7 @@ fn gives_from<P: Prefix + Copy, A: Allocator>(
             set.iter_from(&prefix, false),
             entries.get(1..).unwrap_or(&[]),
         )
-        & gives(set.children(&prefix), below(entries))
+        & gives(set.children(&prefix), contained_in_first(entries))
 }
 
 /// Whether a walk around a prefix gives these keys.
@@ -77,7 +77,7 @@ fn covers<P: Prefix + Copy, A: Allocator>(
     entries: &[Entry<P::R>],
 ) -> bool {
     for entry in entries {
-        if found_pair(walk.next()) != Some(entry.0) {
+        if as_pair(walk.next()) != Some(entry.0) {
             return false;
         }
     }
@@ -93,30 +93,30 @@ fn finds<P: Prefix + Copy, A: Allocator>(
     shortest: Option<Pair<P::R>>,
 ) -> bool {
     let prefix = prefix_of(at);
-    is_found_pair(set.get(&prefix), exact)
+    has_pair(set.get(&prefix), exact)
         & (set.contains(&prefix) == exact.is_some())
-        & is_found_pair(set.get_lpm(&prefix), longest)
-        & is_found_pair(set.get_spm(&prefix), shortest)
+        & has_pair(set.get_lpm(&prefix), longest)
+        & has_pair(set.get_spm(&prefix), shortest)
         & (set.is_covered(&prefix) == shortest.is_some())
 }
 
-impl<P: Prefix + Copy + PartialEq, A: Allocator + Copy> Tried<P::R, A> for PrefixSet<P, A> {
-    fn made(alloc: A, limit: Option<u32>) -> Result<Self, Refusal> {
+impl<P: Prefix + Copy + PartialEq, A: Allocator + Copy> UnderTest<P::R, A> for PrefixSet<P, A> {
+    fn create(alloc: A, limit: Option<u32>) -> Result<Self, Refusal> {
         match limit {
             Some(slots) => PrefixSet::with_slot_limit(alloc, slots),
             None => PrefixSet::new(alloc),
         }
     }
 
-    fn copied(&self) -> Result<Self, AllocError> {
+    fn copy(&self) -> Result<Self, AllocError> {
         self.clone()
     }
 
-    fn part(&mut self, at: Pair<P::R>) -> Option<Self> {
+    fn split_off(&mut self, at: Pair<P::R>) -> Option<Self> {
         self.remove_children(&prefix_of(at)).ok()
     }
 
-    fn store(&mut self, _call: Fill, at: Pair<P::R>, _value: u64) -> Answer {
+    fn store(&mut self, _call: InsertVia, at: Pair<P::R>, _value: u64) -> InsertResult {
         match put(self, prefix_of(at)) {
             Ok(true) => Ok(None),
             Ok(false) => Ok(Some(0)),
@@ -124,7 +124,7 @@ impl<P: Prefix + Copy + PartialEq, A: Allocator + Copy> Tried<P::R, A> for Prefi
         }
     }
 
-    fn kept(_value: u64) -> u64 {
+    fn stored_value(_value: u64) -> u64 {
         0
     }
 
@@ -132,7 +132,7 @@ impl<P: Prefix + Copy + PartialEq, A: Allocator + Copy> Tried<P::R, A> for Prefi
         Ok((entries_of(alloc, self)?, self.node_count()))
     }
 
-    fn is_as(&self, state: &State<P::R>) -> bool {
+    fn has_state(&self, state: &State<P::R>) -> bool {
         gives(self.iter(), &state.0)
             & (self.len() == state.0.len())
             & (self.node_count() == state.1)
@@ -146,29 +146,29 @@ impl<P: Prefix + Copy + PartialEq, A: Allocator + Copy> Tried<P::R, A> for Prefi
             & (self.cell_slots() == other.cell_slots())
     }
 
-    fn has_sums(&self) -> bool {
+    fn slots_add_up(&self) -> bool {
         (self.node_count() <= self.node_slots()) & (self.len() <= self.cell_slots())
     }
 
-    fn is_as_said(&mut self, heap: &Refusing<Global>, case: &Case<'_, P::R>) -> bool {
+    fn check_call(&mut self, heap: &Refusing<Global>, case: &Case<'_, P::R>) -> bool {
         match case {
             Case::Removes(at, before) => self.remove(&prefix_of(*at)) == before.is_some(),
-            Case::Empties(at, before) => {
+            Case::RemovesKeepTree(at, before) => {
                 self.remove_keep_tree(&prefix_of(*at)) == before.is_some()
             }
-            Case::TakesOut(at, _) => self.remove_keep_tree(&prefix_of(*at)),
+            Case::RemovesEntry(at, _) => self.remove_keep_tree(&prefix_of(*at)),
             Case::ChangesEntry(at, _, _) => put(self, prefix_of(*at)) == Ok(false),
             Case::DropsChildren(_) | Case::RetainsLong(_) | Case::Clears => is_reduced(self, case),
             Case::Finds(at, exact, longest, shortest) => {
-                let found = (pair_in(*exact), pair_in(*longest), pair_in(*shortest));
+                let found = (pair_of_entry(*exact), pair_of_entry(*longest), pair_of_entry(*shortest));
                 finds(self, *at, found.0, found.1, found.2)
             }
             Case::Lists(entries) => lists(self, entries),
             Case::ListsFrom(at, entries) => gives_from(self, *at, entries),
             Case::Covers(at, entries) => covers(self.cover(&prefix_of(*at)), entries),
             Case::Len(len) => (self.len(), self.is_empty()) == (*len, *len == 0),
-            Case::Addresses(count) => self.address_count() == *count,
-            Case::Nodes(nodes) => self.node_count() == *nodes,
+            Case::AddressCount(count) => self.address_count() == *count,
+            Case::NodeCount(nodes) => self.node_count() == *nodes,
             Case::Slots(nodes, cells) => {
                 was_refused(heap) || (self.node_slots(), self.cell_slots()) == (*nodes, *cells)
             }
@@ -176,13 +176,13 @@ impl<P: Prefix + Copy + PartialEq, A: Allocator + Copy> Tried<P::R, A> for Prefi
             Case::RetainsFrom(_) | Case::Writes(..) | Case::WritesLongest(..) => true,
             Case::LeavesVacant(_) | Case::NodeBlocks(..) | Case::CellBlocks(..) => true,
             // `tried` makes these calls itself.
-            Case::Makes(_) | Case::Copies | Case::Same | Case::Turns => false,
-            Case::Inserts(..) | Case::PassesLimit(..) | Case::Fills(..) => false,
+            Case::StartsAnew(_) | Case::Copies | Case::AreSame | Case::Swaps => false,
+            Case::Inserts(..) | Case::ExceedsLimit(..) | Case::Fills(..) => false,
         }
     }
 }
 
-/// Makes the call of a case that removes all that a prefix contains, or all that a test rejects, or all.
+/// StartsAnew the call of a case that removes all that a prefix contains, or all that a test rejects, or all.
 fn is_reduced<P: Prefix, A: Allocator>(set: &mut PrefixSet<P, A>, case: &Case<'_, P::R>) -> bool {
     match case {
         Case::DropsChildren(at) => {

@@ -1,8 +1,8 @@
 //! Cases that write to a map.
-use crate::cases::questions::{pair_in, pair_of, value_in};
-use crate::cases::tried::Answer;
+use crate::cases::lookups::{pair_of_entry, pair_of, value_of_entry};
+use crate::cases::under_test::InsertResult;
 use crate::cases::{Entry, Pair, prefix_of};
-use crate::stored::put;
+use crate::contents::put;
 use prefix_trie::{Prefix, PrefixMap};
 use std::alloc::Allocator;
 use std::mem;
@@ -12,12 +12,12 @@ pub fn put_in<P: Prefix, A: Allocator>(
     map: &mut PrefixMap<P, u64, A>,
     at: Pair<P::R>,
     value: u64,
-) -> Answer {
+) -> InsertResult {
     put(map, prefix_of(at), value)
 }
 
 /// Writes over what is lent, if anything is, and answers what was there.
-fn written(lent: Option<&mut u64>, value: u64) -> Option<u64> {
+fn write_lent(lent: Option<&mut u64>, value: u64) -> Option<u64> {
     match lent {
         Some(stored) => Some(mem::replace(stored, value)),
         None => None,
@@ -34,14 +34,14 @@ pub fn writes<P: Prefix + Copy, A: Allocator>(
     let prefix = prefix_of(at);
     let last = before.unwrap_or(value);
     let now = before.and(Some(value));
-    let first = written(map.get_mut(&prefix), value);
-    let second = written(map.get_mut_counted(&prefix).0, last);
-    let third = written(map.get_mut(&prefix), value);
+    let first = write_lent(map.get_mut(&prefix), value);
+    let second = write_lent(map.get_mut_counted(&prefix).0, last);
+    let third = write_lent(map.get_mut(&prefix), value);
     (first == before) & (second == now) & (third == before)
 }
 
 /// Writes over the value of the longest match. Answers the entry that was there.
-fn written_longest<P: Prefix + Copy, A: Allocator>(
+fn write_longest<P: Prefix + Copy, A: Allocator>(
     map: &mut PrefixMap<P, u64, A>,
     prefix: &P,
     value: u64,
@@ -57,7 +57,7 @@ fn written_longest<P: Prefix + Copy, A: Allocator>(
 }
 
 /// The same by the counted form.
-fn written_longest_counted<P: Prefix + Copy, A: Allocator>(
+fn write_longest_counted<P: Prefix + Copy, A: Allocator>(
     map: &mut PrefixMap<P, u64, A>,
     prefix: &P,
     value: u64,
@@ -81,10 +81,10 @@ pub fn writes_longest<P: Prefix + Copy, A: Allocator>(
     before: Option<Entry<P::R>>,
 ) -> bool {
     let prefix = prefix_of(at);
-    let last = value_in(before);
-    let now = pair_in(before).zip(Some(value));
-    let first = written_longest(map, &prefix, value);
-    let second = written_longest_counted(map, &prefix, last.unwrap_or(value));
-    let third = written(map.get_lpm_value_mut(&prefix), value);
+    let last = value_of_entry(before);
+    let now = pair_of_entry(before).zip(Some(value));
+    let first = write_longest(map, &prefix, value);
+    let second = write_longest_counted(map, &prefix, last.unwrap_or(value));
+    let third = write_lent(map.get_lpm_value_mut(&prefix), value);
     (first == before) & (second == now) & (third == last)
 }

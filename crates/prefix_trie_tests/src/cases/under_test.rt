@@ -2,7 +2,7 @@
 //!
 //! Where a request is refused, the call that made it is refused with `Memory`, changes nothing and is made once more, with none
 //! refused from then on; but a removal does all that it should.
-use crate::cases::filling::Fill;
+use crate::cases::entries::InsertVia;
 use crate::cases::{Case, Entry, Pair};
 use crate::refusing::Refusing;
 use prefix_trie::{Key, Refusal, Refused};
@@ -10,40 +10,40 @@ use std::alloc::{AllocError, Allocator, Global};
 use std::mem;
 
 /// What an insertion answers.
-pub type Answer = Result<Option<u64>, Refused<u64>>;
+pub type InsertResult = Result<Option<u64>, Refused<u64>>;
 
 /// Entries in listing order, and how many nodes there are.
 pub type State<K> = (Vec<Entry<K>>, usize);
 
 /// A map or a set of prefixes, which are handed over as pairs. A value of a set is 0.
-pub trait Tried<K: Key, A: Allocator + Copy>: Drop {
+pub trait UnderTest<K: Key, A: Allocator + Copy>: Drop {
     /// A new one, under a limit of slots or none.
-    fn made(alloc: A, limit: Option<u32>) -> Result<Self, Refusal>;
+    fn create(alloc: A, limit: Option<u32>) -> Result<Self, Refusal>;
 
     /// A copy.
-    fn copied(&self) -> Result<Self, AllocError>;
+    fn copy(&self) -> Result<Self, AllocError>;
 
     /// What it hands out, as what a pair contains.
-    fn part(&mut self, at: Pair<K>) -> Option<Self>;
+    fn split_off(&mut self, at: Pair<K>) -> Option<Self>;
 
     /// Stores a value by a call.
-    fn store(&mut self, call: Fill, at: Pair<K>, value: u64) -> Answer;
+    fn store(&mut self, call: InsertVia, at: Pair<K>, value: u64) -> InsertResult;
 
     /// What a value is once it is stored.
-    fn kept(value: u64) -> u64;
+    fn stored_value(value: u64) -> u64;
 
     fn state(&self, alloc: Global) -> Result<State<K>, AllocError>;
 
-    fn is_as(&self, state: &State<K>) -> bool;
+    fn has_state(&self, state: &State<K>) -> bool;
 
     /// Whether another has the same entries, nodes and blocks.
     fn is_same(&self, other: &Self) -> bool;
 
     /// Whether its arrays have room for what it has, as its blocks are.
-    fn has_sums(&self) -> bool;
+    fn slots_add_up(&self) -> bool;
 
-    /// Makes the call of a case that is of one alone and cannot be refused, and compares its answer.
-    fn is_as_said(&mut self, heap: &Refusing<Global>, case: &Case<'_, K>) -> bool;
+    /// StartsAnew the call of a case that is of one alone and cannot be refused, and compares its answer.
+    fn check_call(&mut self, heap: &Refusing<Global>, case: &Case<'_, K>) -> bool;
 }
 
 /// Puts what was made, if it was, in place of another, and answers whether it is there.
@@ -57,55 +57,55 @@ fn replaces<V: Drop, E: Drop>(place: &mut V, made: Result<V, E>) -> bool {
     }
 }
 
-/// Makes a new one in place of one. Answers whether it was refused where a request was, and only there.
-fn makes<K: Key, A: Allocator + Copy, M: Tried<K, A>>(
+/// StartsAnew a new one in place of one. Answers whether it was refused where a request was, and only there.
+fn makes<K: Key, A: Allocator + Copy, M: UnderTest<K, A>>(
     heap: &Refusing<Global>,
     alloc: A,
     tried: &mut M,
     limit: Option<u32>,
 ) -> bool {
     let left = heap.left();
-    let answer = M::made(alloc, limit);
+    let answer = M::create(alloc, limit);
     if heap.left() == left {
         return replaces(tried, answer);
     }
     heap.refuse(0, 0);
-    (answer.err() == Some(Refusal::Memory)) & replaces(tried, M::made(alloc, limit))
+    (answer.err() == Some(Refusal::Memory)) & replaces(tried, M::create(alloc, limit))
 }
 
 /// Puts a copy in place of the other. Answers whether it was refused where a request was, and only there.
-fn copies<K: Key, A: Allocator + Copy, M: Tried<K, A>>(
+fn copies<K: Key, A: Allocator + Copy, M: UnderTest<K, A>>(
     heap: &Refusing<Global>,
     tried: &M,
     other: &mut M,
 ) -> bool {
     let left = heap.left();
-    let answer = tried.copied();
+    let answer = tried.copy();
     if heap.left() == left {
         return replaces(other, answer) & tried.is_same(other);
     }
     heap.refuse(0, 0);
-    answer.is_err() & replaces(other, tried.copied()) & tried.is_same(other)
+    answer.is_err() & replaces(other, tried.copy()) & tried.is_same(other)
 }
 
 /// Whether the answer of an insertion is as wanted, and nothing was changed where that is a refusal.
-fn is_answered<K: Key, A: Allocator + Copy, M: Tried<K, A>>(
+fn is_answered<K: Key, A: Allocator + Copy, M: UnderTest<K, A>>(
     tried: &M,
     old: &State<K>,
-    answer: Answer,
-    wanted: &Answer,
+    answer: InsertResult,
+    wanted: &InsertResult,
 ) -> bool {
-    (answer == *wanted) & (answer.is_ok() || tried.is_as(old))
+    (answer == *wanted) & (answer.is_ok() || tried.has_state(old))
 }
 
-/// Makes an insertion into one of this state, as `stores` does.
-fn stores_into<K: Key, A: Allocator + Copy, M: Tried<K, A>>(
+/// StartsAnew an insertion into one of this state, as `stores` does.
+fn stores_into<K: Key, A: Allocator + Copy, M: UnderTest<K, A>>(
     heap: &Refusing<Global>,
     tried: &mut M,
     old: &State<K>,
-    call: Fill,
+    call: InsertVia,
     added: &Entry<K>,
-    wanted: &Answer,
+    wanted: &InsertResult,
 ) -> bool {
     let (at, value) = *added;
     let left = heap.left();
@@ -113,7 +113,7 @@ fn stores_into<K: Key, A: Allocator + Copy, M: Tried<K, A>>(
     if heap.left() == left {
         return is_answered::<K, A, M>(tried, old, answer, wanted);
     }
-    let value_back = M::kept(value);
+    let value_back = M::stored_value(value);
     let refused = Err(Refused {
         cause: Refusal::Memory,
         value: value_back,
@@ -125,27 +125,27 @@ fn stores_into<K: Key, A: Allocator + Copy, M: Tried<K, A>>(
 }
 
 /// What an insertion of a value answers: the value that was there, or a refusal that hands this one back.
-fn answer_of<K: Key, A: Allocator + Copy, M: Tried<K, A>>(
+fn answer_of<K: Key, A: Allocator + Copy, M: UnderTest<K, A>>(
     outcome: Result<Option<u64>, Refusal>,
     value: u64,
-) -> Answer {
+) -> InsertResult {
     match outcome {
-        Ok(Some(before)) => Ok(Some(M::kept(before))),
+        Ok(Some(before)) => Ok(Some(M::stored_value(before))),
         Ok(None) => Ok(None),
         Err(cause) => Err(Refused {
             cause,
-            value: M::kept(value),
+            value: M::stored_value(value),
         }),
     }
 }
 
-/// Makes an insertion, and once more where a request was refused. Answers whether it was answered as wanted, but with `Memory`
+/// StartsAnew an insertion, and once more where a request was refused. Answers whether it was answered as wanted, but with `Memory`
 /// where a request was refused and only there, and changed nothing where it was refused. Where none is left to be refused, the
 /// answer alone is looked at.
-fn stores<K: Key, A: Allocator + Copy, M: Tried<K, A>>(
+fn stores<K: Key, A: Allocator + Copy, M: UnderTest<K, A>>(
     heap: &Refusing<Global>,
     tried: &mut M,
-    call: Fill,
+    call: InsertVia,
     added: &Entry<K>,
     wanted: Result<Option<u64>, Refusal>,
 ) -> bool {
@@ -160,22 +160,22 @@ fn stores<K: Key, A: Allocator + Copy, M: Tried<K, A>>(
 }
 
 /// Whether all walks give these entries.
-fn lists<K: Key, A: Allocator + Copy, M: Tried<K, A>>(
+fn lists<K: Key, A: Allocator + Copy, M: UnderTest<K, A>>(
     heap: &Refusing<Global>,
     tried: &mut M,
     entries: &[Entry<K>],
 ) -> bool {
     for (index, entry) in entries.iter().enumerate() {
         let case = Case::ListsFrom(entry.0, entries.get(index..).unwrap_or(&[]));
-        if !tried.is_as_said(heap, &case) {
+        if !tried.check_call(heap, &case) {
             return false;
         }
     }
-    tried.is_as_said(heap, &Case::Lists(entries))
+    tried.check_call(heap, &Case::Lists(entries))
 }
 
-/// Makes the call of a case, and compares its answer. Whether it is as said, and the arrays have the room that they should.
-pub fn holds<K: Key, A: Allocator + Copy, M: Tried<K, A>>(
+/// StartsAnew the call of a case, and compares its answer. Whether it is as said, and the arrays have the room that they should.
+pub fn holds<K: Key, A: Allocator + Copy, M: UnderTest<K, A>>(
     heap: &Refusing<Global>,
     alloc: A,
     tried: &mut M,
@@ -183,51 +183,51 @@ pub fn holds<K: Key, A: Allocator + Copy, M: Tried<K, A>>(
     case: &Case<'_, K>,
 ) -> bool {
     let is_held = match case {
-        Case::Makes(limit) => makes::<K, A, M>(heap, alloc, tried, *limit),
+        Case::StartsAnew(limit) => makes::<K, A, M>(heap, alloc, tried, *limit),
         Case::Copies => copies::<K, A, M>(heap, tried, other),
-        Case::Same => tried.is_same(other),
-        Case::Turns => {
+        Case::AreSame => tried.is_same(other),
+        Case::Swaps => {
             mem::swap(tried, other);
             true
         }
         Case::Lists(entries) => lists::<K, A, M>(heap, tried, entries),
         _ => holds_in::<K, A, M>(heap, tried, case),
     };
-    is_held & tried.has_sums()
+    is_held & tried.slots_add_up()
 }
 
 /// The same of a case that is of one alone.
-pub fn holds_alone<K: Key, A: Allocator + Copy, M: Tried<K, A>>(
+pub fn holds_alone<K: Key, A: Allocator + Copy, M: UnderTest<K, A>>(
     heap: &Refusing<Global>,
     tried: &mut M,
     case: &Case<'_, K>,
 ) -> bool {
-    holds_in::<K, A, M>(heap, tried, case) & tried.has_sums()
+    holds_in::<K, A, M>(heap, tried, case) & tried.slots_add_up()
 }
 
 /// The same without the arrays.
-fn holds_in<K: Key, A: Allocator + Copy, M: Tried<K, A>>(
+fn holds_in<K: Key, A: Allocator + Copy, M: UnderTest<K, A>>(
     heap: &Refusing<Global>,
     tried: &mut M,
     case: &Case<'_, K>,
 ) -> bool {
     match case {
         Case::Inserts(at, value, before) => {
-            stores::<K, A, M>(heap, tried, Fill::Map, &(*at, *value), Ok(*before))
+            stores::<K, A, M>(heap, tried, InsertVia::Map, &(*at, *value), Ok(*before))
         }
-        Case::PassesLimit(at, value) => {
+        Case::ExceedsLimit(at, value) => {
             let refused = Err(Refusal::IndexRange);
-            stores::<K, A, M>(heap, tried, Fill::Map, &(*at, *value), refused)
+            stores::<K, A, M>(heap, tried, InsertVia::Map, &(*at, *value), refused)
         }
         Case::Fills(call, at, value) => {
             stores::<K, A, M>(heap, tried, *call, &(*at, *value), Ok(None))
         }
-        _ => tried.is_as_said(heap, case),
+        _ => tried.check_call(heap, case),
     }
 }
 
 /// Whether all cases hold of one, beside another; else the first that does not.
-pub fn first_wrong<K: Key, A: Allocator + Copy, M: Tried<K, A>>(
+pub fn first_failure<K: Key, A: Allocator + Copy, M: UnderTest<K, A>>(
     heap: &Refusing<Global>,
     alloc: A,
     tried: &mut M,

@@ -1,10 +1,10 @@
 //! Walks that are dropped early, over values that count their drops; and tests with a state.
-use crate::cases::keys::{adds_key, gives_keys};
-use crate::drops::{Counted, let_go};
+use crate::cases::sets::{adds_key, gives_keys};
+use crate::drops::{Counted, drop_now};
 use crate::on_new::on_new;
 use crate::retain::{keep_keys_where, keep_where};
-use crate::stored::{has_keys, stores};
-use crate::walks::taking::{CHAIN, three};
+use crate::contents::{has_keys, stores};
+use crate::walks::consuming::{CHAIN, three};
 use prefix_trie::map::{IterMut, ValuesMut};
 use prefix_trie::{PrefixMap, PrefixSet, Refusal};
 use std::alloc::Global;
@@ -101,7 +101,7 @@ fn drops_of_early(alloc: Global, count: u8) -> Option<(u64, [u64; 4], u64)> {
     let is_given = are_read(&map, usize::from(count)) & are_covered(&map, usize::from(count));
     let reading = drops.get();
     let lending = drops_of_lending(&mut map, &drops, u64::from(count));
-    let_go(map);
+    drop_now(map);
     is_given.then_some((reading, lending, drops.get()))
 }
 

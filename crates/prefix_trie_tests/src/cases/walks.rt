@@ -1,5 +1,5 @@
 //! Cases that ask for all entries of a map, and for those around a prefix.
-use crate::cases::questions::{found_pair, pair_of, shown};
+use crate::cases::lookups::{as_pair, pair_of, as_entry};
 use crate::cases::{Entry, Pair, prefix_of};
 use prefix_trie::map::{Iter, IterMut, Keys, Values};
 use prefix_trie::{Key, Prefix, PrefixMap};
@@ -23,7 +23,7 @@ pub fn gives<P: Prefix + Copy, A: Allocator>(
     entries: &[Entry<P::R>],
 ) -> bool {
     for entry in entries {
-        if shown(walk.next()) != Some(*entry) {
+        if as_entry(walk.next()) != Some(*entry) {
             return false;
         }
     }
@@ -36,7 +36,7 @@ pub fn gives_same<P: Prefix + Copy, A: Allocator>(
     mut other: Iter<'_, P, u64, A>,
 ) -> bool {
     for entry in walk {
-        if shown(other.next()) != shown(Some(entry)) {
+        if as_entry(other.next()) != as_entry(Some(entry)) {
             return false;
         }
     }
@@ -50,13 +50,13 @@ fn are_parts<P: Prefix + Copy>(
     value: Option<&u64>,
     entry: &Entry<P::R>,
 ) -> bool {
-    (shown(item) == Some(*entry))
-        & (found_pair(key) == Some(entry.0))
+    (as_entry(item) == Some(*entry))
+        & (as_pair(key) == Some(entry.0))
         & (value.copied() == Some(entry.1))
 }
 
 /// Whether three walks give these entries, their prefixes and their values.
-fn give_all<P: Prefix + Copy, A: Allocator>(
+fn give_entries<P: Prefix + Copy, A: Allocator>(
     mut items: Iter<'_, P, u64, A>,
     mut keys: Keys<'_, P, u64, A>,
     mut values: Values<'_, P, u64, A>,
@@ -71,42 +71,42 @@ fn give_all<P: Prefix + Copy, A: Allocator>(
 }
 
 /// Whether three walks are at these entries, and behind the first give the rest, as clones of them do.
-pub fn gives_twice<P: Prefix + Copy, A: Allocator>(
+pub fn gives_before_and_after_next<P: Prefix + Copy, A: Allocator>(
     mut items: Iter<'_, P, u64, A>,
     mut keys: Keys<'_, P, u64, A>,
     mut values: Values<'_, P, u64, A>,
     entries: &[Entry<P::R>],
 ) -> bool {
-    let are_at = give_all(items.clone(), keys.clone(), values.clone(), entries);
+    let are_at = give_entries(items.clone(), keys.clone(), values.clone(), entries);
     let _ = items.next();
     let _ = keys.next();
     let _ = values.next();
     let rest = &entries[entries.len().min(1)..];
     are_at
-        & give_all(items.clone(), keys.clone(), values.clone(), rest)
-        & give_all(items, keys, values, rest)
+        & give_entries(items.clone(), keys.clone(), values.clone(), rest)
+        & give_entries(items, keys, values, rest)
 }
 
 /// The first bits of a number, with all others cleared.
-pub fn kept<K: Key>(number: K, len: u8) -> K {
+pub fn clear_host_bits<K: Key>(number: K, len: u8) -> K {
     let _ = number.is_key();
     number.keep(u32::from(len).min(K::width()))
 }
 
 /// The first entries of a list, whose prefixes the first contains.
-pub fn below<K: Key>(entries: &[Entry<K>]) -> &[Entry<K>] {
+pub fn contained_in_first<K: Key>(entries: &[Entry<K>]) -> &[Entry<K>] {
     let Some(((number, len), _)) = entries.first() else {
         return entries;
     };
     for (end, ((other, _), _)) in entries.iter().enumerate() {
-        if kept(*other, *len) != kept(*number, *len) {
+        if clear_host_bits(*other, *len) != clear_host_bits(*number, *len) {
             return entries.get(..end).unwrap_or(entries);
         }
     }
     entries
 }
 
-/// Whether the walks from a prefix on, behind it and below it give these entries, which begin with its own.
+/// Whether the walks from a prefix on, behind it and contained_in_first it give these entries, which begin with its own.
 pub fn gives_from<P: Prefix + Copy, A: Allocator>(
     map: &PrefixMap<P, u64, A>,
     at: Pair<P::R>,
@@ -118,7 +118,7 @@ pub fn gives_from<P: Prefix + Copy, A: Allocator>(
             map.iter_from(&prefix, false),
             entries.get(1..).unwrap_or(&[]),
         )
-        & gives(map.children(&prefix), below(entries))
+        & gives(map.children(&prefix), contained_in_first(entries))
 }
 
 /// Whether a walk that lends values lends those of these entries.
@@ -138,7 +138,7 @@ fn lends<'b, 'm, P: Prefix, A: Allocator>(
 }
 
 /// Whether the walk that lends values from a prefix on, or behind it, lends those.
-fn lends_on<P: Prefix, A: Allocator>(
+fn lends_from_prefix<P: Prefix, A: Allocator>(
     map: &mut PrefixMap<P, u64, A>,
     prefix: &P,
     inclusive: bool,
@@ -150,8 +150,8 @@ fn lends_on<P: Prefix, A: Allocator>(
     lends(&mut walk, entries)
 }
 
-/// Whether the one below it does.
-fn lends_below<P: Prefix, A: Allocator>(
+/// Whether the one contained_in_first it does.
+fn lends_children<P: Prefix, A: Allocator>(
     map: &mut PrefixMap<P, u64, A>,
     prefix: &P,
     entries: &[Entry<P::R>],
@@ -162,16 +162,16 @@ fn lends_below<P: Prefix, A: Allocator>(
     lends(&mut walk, entries)
 }
 
-/// Whether the walks that lend values from a prefix on, behind it and below it lend those of these entries, which begin with its own.
+/// Whether the walks that lend values from a prefix on, behind it and contained_in_first it lend those of these entries, which begin with its own.
 pub fn lends_from<P: Prefix, A: Allocator>(
     map: &mut PrefixMap<P, u64, A>,
     at: Pair<P::R>,
     entries: &[Entry<P::R>],
 ) -> bool {
     let prefix = prefix_of(at);
-    lends_on(map, &prefix, true, entries)
-        & lends_on(map, &prefix, false, entries.get(1..).unwrap_or(&[]))
-        & lends_below(map, &prefix, below(entries))
+    lends_from_prefix(map, &prefix, true, entries)
+        & lends_from_prefix(map, &prefix, false, entries.get(1..).unwrap_or(&[]))
+        & lends_children(map, &prefix, contained_in_first(entries))
 }
 
 /// Whether the walks around a prefix give these entries.

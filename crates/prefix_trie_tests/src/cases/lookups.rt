@@ -17,7 +17,7 @@ pub fn pair_of<P: Prefix + Copy>(prefix: P) -> Pair<P::R> {
 }
 
 /// The pair of a prefix that was found.
-pub fn found_pair<P: Prefix + Copy>(found: Option<P>) -> Option<Pair<P::R>> {
+pub fn as_pair<P: Prefix + Copy>(found: Option<P>) -> Option<Pair<P::R>> {
     match found {
         Some(prefix) => Some(pair_of(prefix)),
         None => None,
@@ -25,7 +25,7 @@ pub fn found_pair<P: Prefix + Copy>(found: Option<P>) -> Option<Pair<P::R>> {
 }
 
 /// What was found, as it stands in tables.
-pub fn shown<P: Prefix + Copy>(found: Option<(P, &u64)>) -> Option<Entry<P::R>> {
+pub fn as_entry<P: Prefix + Copy>(found: Option<(P, &u64)>) -> Option<Entry<P::R>> {
     match found {
         Some((prefix, value)) => Some((pair_of(prefix), *value)),
         None => None,
@@ -33,7 +33,7 @@ pub fn shown<P: Prefix + Copy>(found: Option<(P, &u64)>) -> Option<Entry<P::R>> 
 }
 
 /// The pair of an entry.
-pub fn pair_in<K: Copy>(entry: Option<Entry<K>>) -> Option<Pair<K>> {
+pub fn pair_of_entry<K: Copy>(entry: Option<Entry<K>>) -> Option<Pair<K>> {
     match entry {
         Some((pair, _)) => Some(pair),
         None => None,
@@ -41,7 +41,7 @@ pub fn pair_in<K: Copy>(entry: Option<Entry<K>>) -> Option<Pair<K>> {
 }
 
 /// The value of an entry.
-pub fn value_in<K: Copy>(entry: Option<Entry<K>>) -> Option<u64> {
+pub fn value_of_entry<K: Copy>(entry: Option<Entry<K>>) -> Option<u64> {
     match entry {
         Some((_, value)) => Some(value),
         None => None,
@@ -50,12 +50,12 @@ pub fn value_in<K: Copy>(entry: Option<Entry<K>>) -> Option<u64> {
 
 /// Whether this entry was found.
 fn is_found<P: Prefix + Copy>(found: Option<(P, &u64)>, wanted: Option<Entry<P::R>>) -> bool {
-    shown(found) == wanted
+    as_entry(found) == wanted
 }
 
 /// Whether the prefix of this pair was found.
-pub fn is_found_pair<P: Prefix + Copy>(found: Option<P>, wanted: Option<Pair<P::R>>) -> bool {
-    found_pair(found) == wanted
+pub fn has_pair<P: Prefix + Copy>(found: Option<P>, wanted: Option<Pair<P::R>>) -> bool {
+    as_pair(found) == wanted
 }
 
 /// Whether this value was found.
@@ -73,7 +73,7 @@ fn has<P: Prefix + Copy, A: Allocator>(
 {
     is_found(map.get_key_value(prefix), exact)
         & is_found(map.get_key_value_counted(prefix).0, exact)
-        & has_value(map, prefix, value_in(exact))
+        & has_value(map, prefix, value_of_entry(exact))
 }
 
 /// Whether those of its value do.
@@ -100,13 +100,13 @@ fn has_longest<P: Prefix + Copy, A: Allocator>(
 {
     is_found(map.get_lpm(prefix), longest)
         & is_found(map.get_lpm_counted(prefix).0, longest)
-        & is_found_pair(map.get_lpm_prefix(prefix), pair_in(longest))
-        & is_found_pair(map.get_lpm_prefix_counted(prefix).0, pair_in(longest))
-        & is_found_value(map.get_lpm_value(prefix), value_in(longest))
+        & has_pair(map.get_lpm_prefix(prefix), pair_of_entry(longest))
+        & has_pair(map.get_lpm_prefix_counted(prefix).0, pair_of_entry(longest))
+        & is_found_value(map.get_lpm_value(prefix), value_of_entry(longest))
 }
 
 /// Whether those of many longest matches do, asked for one prefix.
-fn has_longest_in_bulk<'a, P: Prefix + Copy, A: Allocator>(
+fn has_entry_in_bulk_of<'a, P: Prefix + Copy, A: Allocator>(
     map: &'a PrefixMap<P, u64, A>,
     asked: &[P],
     found: &mut [Option<(P, &'a u64)>],
@@ -142,7 +142,7 @@ fn has_value_in_bulk<'a, P: Prefix + Copy, A: Allocator>(
 }
 
 /// One item, in memory of its own.
-fn one_in<T: Drop>(alloc: Global, item: T) -> Result<Vec<T>, AllocError>
+fn vec_of_one<T: Drop>(alloc: Global, item: T) -> Result<Vec<T>, AllocError>
     ensures { IfOk result (λ items. items.items ≡ item ∷ []) }
 {
     let mut items = Vec::new(alloc);
@@ -160,8 +160,8 @@ fn has_entry_in_bulk<P: Prefix + Copy, A: Allocator>(
     requires fit { All P.IsFitting asked.now }
     requires one { length asked.now ≡ 1 }
 {
-    match one_in(alloc, None) {
-        Ok(mut found) => has_longest_in_bulk(map, asked, &mut found, longest),
+    match vec_of_one(alloc, None) {
+        Ok(mut found) => has_entry_in_bulk_of(map, asked, &mut found, longest),
         Err(AllocError) => false,
     }
 }
@@ -176,14 +176,14 @@ fn has_only_value_in_bulk<P: Prefix + Copy, A: Allocator>(
     requires fit { All P.IsFitting asked.now }
     requires one { length asked.now ≡ 1 }
 {
-    match one_in(alloc, None) {
+    match vec_of_one(alloc, None) {
         Ok(mut found) => has_value_in_bulk(map, asked, &mut found, value),
         Err(AllocError) => false,
     }
 }
 
 /// Whether both do for this prefix alone.
-fn has_in_bulk<P: Prefix + Copy, A: Allocator>(
+fn matches_in_bulk<P: Prefix + Copy, A: Allocator>(
     alloc: Global,
     map: &PrefixMap<P, u64, A>,
     prefix: P,
@@ -191,10 +191,10 @@ fn has_in_bulk<P: Prefix + Copy, A: Allocator>(
 ) -> bool
     requires { P.IsFitting prefix }
 {
-    match one_in(alloc, prefix) {
+    match vec_of_one(alloc, prefix) {
         Ok(asked) => {
             has_entry_in_bulk(alloc, map, &asked, longest)
-                & has_only_value_in_bulk(alloc, map, &asked, value_in(longest))
+                & has_only_value_in_bulk(alloc, map, &asked, value_of_entry(longest))
         }
         Err(AllocError) => false,
     }
@@ -210,7 +210,7 @@ fn has_shortest<P: Prefix + Copy, A: Allocator>(
 {
     is_found(map.get_spm(prefix), shortest)
         & is_found(map.get_spm_counted(prefix).0, shortest)
-        & has_shortest_prefix(map, prefix, pair_in(shortest))
+        & has_shortest_prefix(map, prefix, pair_of_entry(shortest))
 }
 
 /// Whether those of its prefix do.
@@ -221,8 +221,8 @@ fn has_shortest_prefix<P: Prefix + Copy, A: Allocator>(
 ) -> bool
     requires { P.IsFitting prefix.now }
 {
-    is_found_pair(map.get_spm_prefix(prefix), pair)
-        & is_found_pair(map.get_spm_prefix_counted(prefix).0, pair)
+    has_pair(map.get_spm_prefix(prefix), pair)
+        & has_pair(map.get_spm_prefix_counted(prefix).0, pair)
         & (map.is_covered(prefix) == pair.is_some())
         & (map.is_covered_counted(prefix).0 == pair.is_some())
 }
@@ -239,7 +239,7 @@ pub fn finds<P: Prefix + Copy, A: Allocator>(
     let prefix = prefix_of(at);
     has(map, &prefix, exact)
         & has_longest(map, &prefix, longest)
-        & has_in_bulk(alloc, map, prefix, longest)
+        & matches_in_bulk(alloc, map, prefix, longest)
         & has_shortest(map, &prefix, shortest)
 }
 
@@ -254,7 +254,7 @@ fn slots_in(counts: &[BlockCount]) -> usize {
 }
 
 /// Whether both arrays are as long as their blocks, and the root's slot.
-pub fn has_sums<P: Prefix, A: Allocator>(map: &PrefixMap<P, u64, A>) -> bool {
+pub fn slots_add_up<P: Prefix, A: Allocator>(map: &PrefixMap<P, u64, A>) -> bool {
     (map.node_slots() == slots_in(&map.node_blocks()).wrapping_add(1))
         & (map.cell_slots() == slots_in(&map.cell_blocks()))
 }
