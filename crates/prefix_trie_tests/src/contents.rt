@@ -3,7 +3,7 @@ use prefix_trie::{Prefix, PrefixMap, Refused};
 use std::alloc::Allocator;
 
 /// Whether an insertion was of a new key.
-fn is_new<T: Drop>(answer: Result<Option<T>, Refused<T>>) -> bool {
+fn is_new_key<T: Drop>(answer: Result<Option<T>, Refused<T>>) -> bool {
     match answer {
         Ok(None) => true,
         _ => false,
@@ -27,7 +27,7 @@ pub fn adds<P: Prefix, T: Drop, A: Allocator>(
     prefix: P,
     value: T,
 ) -> bool {
-    prefix.fits() && is_new(put(map, prefix, value))
+    prefix.fits() && is_new_key(put(map, prefix, value))
 }
 
 /// Stores entries in turn. Answers whether each prefix fits and is new.

@@ -1,8 +1,8 @@
 //! Maps and sets that give memory back: what refused requests leave, and that no value is lost.
 use crate::cases::prefix_of;
+use crate::contents::adds;
 use crate::networks::v4;
 use crate::refusing::Refusing;
-use crate::contents::adds;
 use prefix_trie::{Ipv4Prefix, PrefixMap, PrefixSet, Refusal};
 use std::alloc::{Allocator, Global};
 
@@ -24,7 +24,7 @@ const NETWORKS: [(u32, u8); 6] = [
 ];
 
 /// Stores them, numbered from 1 on. Returns whether each is new.
-fn put_six<A: Allocator>(map: &mut Map<A>) -> bool {
+fn insert_six<A: Allocator>(map: &mut Map<A>) -> bool {
     let mut number = 0_u64;
     for pair in &NETWORKS {
         number = number.wrapping_add(1);
@@ -36,18 +36,18 @@ fn put_six<A: Allocator>(map: &mut Map<A>) -> bool {
 }
 
 /// Removes four of them, and leaves the nodes.
-fn take_four<A: Allocator>(map: &mut Map<A>) {
-    for at in 2..NETWORKS.len() {
-        map.remove_keep_tree(&prefix_of(NETWORKS[at]));
+fn remove_four<A: Allocator>(map: &mut Map<A>) {
+    for index in 2..NETWORKS.len() {
+        map.remove_keep_tree(&prefix_of(NETWORKS[index]));
     }
 }
 
 /// A map with two networks left of six, whose values are in a larger block than they need or beside free ones.
-fn loose<A: Allocator + Clone>(heap: &Heap, alloc: A) -> Option<Map<A>> {
+fn map_with_free_slots<A: Allocator + Clone>(heap: &Heap, alloc: A) -> Option<Map<A>> {
     heap.refuse(0, 0);
     let mut map = PrefixMap::new(alloc).ok()?;
-    let is_filled = put_six(&mut map);
-    take_four(&mut map);
+    let is_filled = insert_six(&mut map);
+    remove_four(&mut map);
     if is_filled { Some(map) } else { None }
 }
 
@@ -93,7 +93,7 @@ fn is_compact_anew<A: Allocator + Clone>(
     passed: u64,
     refused: u64,
 ) -> Option<bool> {
-    let mut map = loose(heap, alloc)?;
+    let mut map = map_with_free_slots(heap, alloc)?;
     heap.refuse(passed, refused);
     let is_granted = is_compact::<A>(&mut map)?;
     let is_refused = heap.left() != refused;
@@ -107,7 +107,7 @@ fn is_shrunk_anew<A: Allocator + Clone>(
     passed: u64,
     refused: u64,
 ) -> Option<bool> {
-    let mut map = loose(heap, alloc)?;
+    let mut map = map_with_free_slots(heap, alloc)?;
     heap.refuse(passed, refused);
     let is_granted = is_shrunk::<A>(&mut map)?;
     let is_refused = heap.left() != refused;
@@ -115,7 +115,7 @@ fn is_shrunk_anew<A: Allocator + Clone>(
 }
 
 /// How many requests a compaction makes, if each of them is refused in turn.
-fn compactions_refused<A: Allocator + Copy>(heap: &Heap, alloc: A, refused: u64) -> Option<u64> {
+fn compaction_requests<A: Allocator + Copy>(heap: &Heap, alloc: A, refused: u64) -> Option<u64> {
     for passed in 0..MANY {
         if !is_compact_anew(heap, alloc, passed, refused)? {
             return Some(passed);
@@ -125,7 +125,7 @@ fn compactions_refused<A: Allocator + Copy>(heap: &Heap, alloc: A, refused: u64)
 }
 
 /// How many requests shrinking makes, if each of them is refused in turn.
-fn shrinks_refused<A: Allocator + Copy>(heap: &Heap, alloc: A, refused: u64) -> Option<u64> {
+fn shrink_requests<A: Allocator + Copy>(heap: &Heap, alloc: A, refused: u64) -> Option<u64> {
     for passed in 0..MANY {
         if !is_shrunk_anew(heap, alloc, passed, refused)? {
             return Some(passed);
@@ -135,23 +135,23 @@ fn shrinks_refused<A: Allocator + Copy>(heap: &Heap, alloc: A, refused: u64) -> 
 }
 
 #[test]
-fn a_compaction_is_whole_or_refused(rt: HostRuntime) {
+fn compacting_is_complete_or_changes_nothing(rt: HostRuntime) {
     let heap = Refusing::new(rt.alloc());
-    assert!(rt; compactions_refused(&heap, &heap, 1) > Some(0));
-    assert!(rt; compactions_refused(&heap, &heap, u64::MAX) > Some(0));
+    assert!(rt; compaction_requests(&heap, &heap, 1) > Some(0));
+    assert!(rt; compaction_requests(&heap, &heap, u64::MAX) > Some(0));
 }
 
 #[test]
-fn shrinking_is_refused_in_turn(rt: HostRuntime) {
+fn shrinking_fails_exactly_if_an_allocation_fails(rt: HostRuntime) {
     let heap = Refusing::new(rt.alloc());
-    assert!(rt; shrinks_refused(&heap, &heap, 1) > Some(0));
-    assert!(rt; shrinks_refused(&heap, &heap, u64::MAX) > Some(0));
+    assert!(rt; shrink_requests(&heap, &heap, 1) > Some(0));
+    assert!(rt; shrink_requests(&heap, &heap, u64::MAX) > Some(0));
 }
 
 /// Removes the two from a map that was shrunk, with every request refused. Returns whether none came: the places for the blocks that are
 /// given back are kept.
-fn keeps_places<A: Allocator + Clone>(heap: &Heap, alloc: A) -> Option<bool> {
-    let mut map = loose(heap, alloc)?;
+fn removes_without_memory<A: Allocator + Clone>(heap: &Heap, alloc: A) -> Option<bool> {
+    let mut map = map_with_free_slots(heap, alloc)?;
     map.shrink_to_fit().ok()?;
     heap.refuse(0, u64::MAX);
     let first = map.remove(&prefix_of(NETWORKS[0]));
@@ -160,19 +160,19 @@ fn keeps_places<A: Allocator + Clone>(heap: &Heap, alloc: A) -> Option<bool> {
 }
 
 #[test]
-fn a_shrunk_map_gives_blocks_back(rt: HostRuntime) {
+fn removals_from_a_shrunk_map_do_not_allocate(rt: HostRuntime) {
     let heap = Refusing::new(rt.alloc());
-    assert!(rt; keeps_places(&heap, &heap) == Some(true));
+    assert!(rt; removes_without_memory(&heap, &heap) == Some(true));
 }
 
 /// Whether a set of two keys stays the same, and is as small as it can be at last.
-fn set_gives_back<A: Allocator + Clone>(alloc: A) -> Option<bool> {
+fn set_shrinks<A: Allocator + Clone>(alloc: A) -> Option<bool> {
     let mut set: PrefixSet<Ipv4Prefix, A> = PrefixSet::new(alloc).ok()?;
     for pair in &NETWORKS {
         set.insert(prefix_of(*pair)).ok()?;
     }
-    for at in 2..NETWORKS.len() {
-        set.remove_keep_tree(&prefix_of(NETWORKS[at]));
+    for index in 2..NETWORKS.len() {
+        set.remove_keep_tree(&prefix_of(NETWORKS[index]));
     }
     set.shrink_to_fit().ok()?;
     let is_same = set.len() == 2;
@@ -187,6 +187,6 @@ fn set_gives_back<A: Allocator + Clone>(alloc: A) -> Option<bool> {
 }
 
 #[test]
-fn a_set_gives_memory_back(rt: HostRuntime) {
-    assert!(rt; set_gives_back(rt.alloc()) == Some(true));
+fn a_set_shrinks_and_compacts(rt: HostRuntime) {
+    assert!(rt; set_shrinks(rt.alloc()) == Some(true));
 }

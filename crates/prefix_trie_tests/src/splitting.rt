@@ -1,13 +1,13 @@
 //! Maps and sets that are split: what refused requests for memory leave, and what is dropped when.
-use crate::cases::sets::adds_key;
-use crate::cases::prefix_of;
 use crate::cases::lookups::{has_cells, pair_of};
+use crate::cases::prefix_of;
+use crate::cases::sets::adds_key;
+use crate::contents::adds;
 use crate::drops::drop_now;
 use crate::examples::splitting::split_and_merge;
 use crate::networks::v4;
 use crate::on_new::on_new;
 use crate::refusing::Refusing;
-use crate::contents::adds;
 use prefix_trie::{Ipv4Prefix, PrefixMap, PrefixSet, Refusal};
 use std::alloc::{Allocator, Global};
 use std::cell::Cell;
@@ -46,7 +46,7 @@ const NETWORKS: [(u32, u8); 6] = [
 const ALL: [u64; 6] = [1, 2, 3, 4, 5, 6];
 
 /// Stores them. Answers whether each is new.
-fn put_six<'a, A: Allocator>(map: &mut Map<'a, A>, drops: &'a Cell<u64>) -> bool {
+fn insert_six<'a, A: Allocator>(map: &mut Map<'a, A>, drops: &'a Cell<u64>) -> bool {
     let mut number = 0_u64;
     for pair in &NETWORKS {
         number = number.wrapping_add(1);
@@ -58,14 +58,14 @@ fn put_six<'a, A: Allocator>(map: &mut Map<'a, A>, drops: &'a Cell<u64>) -> bool
 }
 
 /// A map of them.
-fn six<'a, A: Allocator + Clone>(
+fn map_of_six<'a, A: Allocator + Clone>(
     heap: &Heap,
     alloc: A,
     drops: &'a Cell<u64>,
 ) -> Option<Map<'a, A>> {
     heap.refuse(0, 0);
     let mut map = PrefixMap::new(alloc).ok()?;
-    let is_filled = put_six(&mut map, drops);
+    let is_filled = insert_six(&mut map, drops);
     if is_filled { Some(map) } else { None }
 }
 
@@ -87,7 +87,7 @@ fn has_networks<A: Allocator>(map: &Map<'_, A>, numbers: &[u64]) -> bool {
 }
 
 /// Whether a map has these networks, in as many nodes and slots as all six needed.
-fn has_in_place<A: Allocator>(map: &Map<'_, A>, numbers: &[u64]) -> bool {
+fn has_in_five_nodes<A: Allocator>(map: &Map<'_, A>, numbers: &[u64]) -> bool {
     has_networks(map, numbers) & (map.node_count() == 5) & (map.cell_slots() == 15)
 }
 
@@ -103,14 +103,16 @@ fn is_part<A: Allocator>(map: &Map<'_, A>) -> bool {
 /// Splits a map of the six along the second network. Answers whether that was granted, if no value is dropped by it, and both maps are as
 /// they should be, or the one as it was.
 fn is_split<A: Allocator + Clone>(map: &mut Map<'_, A>, drops: &Cell<u64>) -> Option<bool> {
-    match map.remove_children(&prefix_of((0xc0a8_0000, 22))) {
+    match map.remove_children(&prefix_of(NETWORKS[1])) {
         Ok(part) => {
-            let are_right = has_in_place(map, &[1, 5, 6]) & is_part(&part) & (drops.get() == 0);
+            let are_right = has_in_five_nodes(map, &[1, 5, 6])
+                & is_part(&part)
+                & (drops.get() == 0);
             drop_now(part);
             (are_right & (drops.get() == 3)).then_some(true)
         }
         Err(cause) => {
-            let is_as_before = has_in_place(map, &ALL) & (drops.get() == 0);
+            let is_as_before = has_in_five_nodes(map, &ALL) & (drops.get() == 0);
             (is_as_before & (cause == Refusal::Memory)).then_some(false)
         }
     }
@@ -139,7 +141,7 @@ fn is_split_anew<A: Allocator + Clone>(
     refused: u64,
 ) -> Option<bool> {
     let drops = Cell::new(0);
-    let mut map = six(heap, alloc, &drops)?;
+    let mut map = map_of_six(heap, alloc, &drops)?;
     let is_refused = is_split_or_refused::<A>(heap, &mut map, &drops, passed, refused);
     drop_now(map);
     if drops.get() == 6 { is_refused } else { None }
@@ -147,7 +149,7 @@ fn is_split_anew<A: Allocator + Clone>(
 
 /// Splits new maps, with another request refused each time, and as many behind it as are to be refused. Answers how many were, until at
 /// last none is.
-fn refused_in_turn<A: Allocator + Copy>(heap: &Heap, alloc: A, refused: u64) -> Option<u64> {
+fn requests_if_each_fails<A: Allocator + Copy>(heap: &Heap, alloc: A, refused: u64) -> Option<u64> {
     for passed in 0..MANY {
         if !is_split_anew(heap, alloc, passed, refused)? {
             return Some(passed);
@@ -157,10 +159,10 @@ fn refused_in_turn<A: Allocator + Copy>(heap: &Heap, alloc: A, refused: u64) -> 
 }
 
 #[test]
-fn a_split_is_whole_or_refused(rt: HostRuntime) {
+fn a_split_is_complete_or_changes_nothing(rt: HostRuntime) {
     let heap = Refusing::new(rt.alloc());
-    assert!(rt; refused_in_turn(&heap, &heap, 1) > Some(0));
-    assert!(rt; refused_in_turn(&heap, &heap, u64::MAX) > Some(0));
+    assert!(rt; requests_if_each_fails(&heap, &heap, 1) > Some(0));
+    assert!(rt; requests_if_each_fails(&heap, &heap, u64::MAX) > Some(0));
 }
 
 /// Hosts of one network.
@@ -172,7 +174,7 @@ const HOSTS: [(u32, u8); 4] = [
 ];
 
 /// Puts them into a set.
-fn put_hosts<A: Allocator>(set: &mut PrefixSet<(u32, u8), A>) -> bool {
+fn insert_hosts<A: Allocator>(set: &mut PrefixSet<(u32, u8), A>) -> bool {
     for host in &HOSTS {
         if !adds_key(set, *host) {
             return false;
@@ -192,14 +194,14 @@ fn len_of<A: Allocator>(
 }
 
 /// Whether a set of the hosts hands all of them out once there is memory, and then none.
-fn hands_out_hosts<A: Allocator + Clone>(set: &mut PrefixSet<(u32, u8), A>, heap: &Heap) -> bool {
-    let are_put = put_hosts(set);
+fn splits_off_hosts<A: Allocator + Clone>(set: &mut PrefixSet<(u32, u8), A>, heap: &Heap) -> bool {
+    let are_put = insert_hosts(set);
     heap.refuse(0, u64::MAX);
-    let refused = len_of(set.remove_children(&(7, 0)));
+    let refused = len_of(set.remove_children(&v4!(0, 0, 0, 7; 0)));
     let len = set.len();
     heap.refuse(0, 0);
-    let all = len_of(set.remove_children(&(7, 0)));
-    let none = len_of(set.remove_children(&(0, 9)));
+    let all = len_of(set.remove_children(&v4!(0, 0, 0, 7; 0)));
+    let none = len_of(set.remove_children(&v4!(0, 0, 0, 0; 9)));
     are_put
         & (refused == Err(Refusal::Memory))
         & (len == 4)
@@ -210,21 +212,21 @@ fn hands_out_hosts<A: Allocator + Clone>(set: &mut PrefixSet<(u32, u8), A>, heap
 
 /// Whether a map of the six is split and merged again.
 fn is_merged_again<A: Allocator + Clone>(map: &mut Map<'_, A>) -> bool {
-    let count = split_and_merge(map, &prefix_of((0xc0a8_0000, 22)));
-    (count == Ok(3)) & has_in_place(map, &ALL)
+    let count = split_and_merge(map, &prefix_of(NETWORKS[1]));
+    (count == Ok(3)) & has_in_five_nodes(map, &ALL)
 }
 
 /// The same of a new map.
 fn is_merged_again_anew<A: Allocator + Clone>(heap: &Heap, alloc: A) -> Option<bool> {
     let drops = Cell::new(0);
-    let mut map = six(heap, alloc, &drops)?;
+    let mut map = map_of_six(heap, alloc, &drops)?;
     Some(is_merged_again::<A>(&mut map))
 }
 
 // A body that always answers that there is no memory fails it: handing_out_always_out_of_memory.
 #[test]
-fn with_memory_a_split_is_granted(rt: HostRuntime) {
+fn a_split_succeeds_if_no_allocation_fails(rt: HostRuntime) {
     let heap = Refusing::new(rt.alloc());
-    assert!(rt; on_new(PrefixSet::new(&heap), &heap, hands_out_hosts) == Ok(true));
+    assert!(rt; on_new(PrefixSet::new(&heap), &heap, splits_off_hosts) == Ok(true));
     assert!(rt; is_merged_again_anew(&heap, &heap) == Some(true));
 }

@@ -31,11 +31,17 @@ static NO_REQUESTS: [&[Table<'static, u32>]; 3] = [
 ];
 
 #[test]
-fn tables_with_each_request_refused_in_turn(rt: HostRuntime) {
-    assert_eq!(rt; run_all(rt.alloc(), &EACH_REQUEST, FaultPlan::EachRequest), Ok(()));
+fn tables_hold_with_each_allocation_failing(rt: HostRuntime) {
+    assert_eq!(rt;
+        run_all(rt.alloc(), &EACH_REQUEST, FaultPlan::EachRequest),
+        Ok(())
+    );
 }
 
 #[test]
-fn tables_with_every_request_refused(rt: HostRuntime) {
-    assert_eq!(rt; run_all(rt.alloc(), &NO_REQUESTS, FaultPlan::NoRequests), Ok(()));
+fn tables_hold_without_allocating(rt: HostRuntime) {
+    assert_eq!(rt;
+        run_all(rt.alloc(), &NO_REQUESTS, FaultPlan::NoRequests),
+        Ok(())
+    );
 }

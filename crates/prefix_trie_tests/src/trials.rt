@@ -45,17 +45,17 @@ impl From<Refusal> for Failure {
 fn run_parts<K: Key, A: Allocator + Copy, M: UnderTest<K, A>>(
     heap: &Refusing<Global>,
     alloc: A,
-    tried: &mut M,
+    subject: &mut M,
     other: &mut M,
     table: &Table<'_, K>,
     requests: (u64, u64),
 ) -> Result<(), Failure> {
     heap.refuse(0, 0);
-    if let Some(case) = first_failure::<K, A, M>(heap, alloc, tried, other, table.0) {
+    if let Some(case) = first_failure::<K, A, M>(heap, alloc, subject, other, table.0) {
         return Err(Failure::FirstPart(case));
     }
     heap.refuse(requests.0, requests.1);
-    match first_failure::<K, A, M>(heap, alloc, tried, other, table.1) {
+    match first_failure::<K, A, M>(heap, alloc, subject, other, table.1) {
         Some(case) => Err(Failure::SecondPart(case, requests.0, requests.1)),
         None => Ok(()),
     }
@@ -65,12 +65,12 @@ fn run_parts<K: Key, A: Allocator + Copy, M: UnderTest<K, A>>(
 fn run_parts_beside<K: Key, A: Allocator + Copy, M: UnderTest<K, A>>(
     heap: &Refusing<Global>,
     alloc: A,
-    tried: &mut M,
+    subject: &mut M,
     table: &Table<'_, K>,
     requests: (u64, u64),
 ) -> Result<(), Failure> {
     let mut other = M::create(alloc, None)?;
-    run_parts::<K, A, M>(heap, alloc, tried, &mut other, table, requests)
+    run_parts::<K, A, M>(heap, alloc, subject, &mut other, table, requests)
 }
 
 /// The same of two new ones.
@@ -81,8 +81,8 @@ fn run_anew<K: Key, A: Allocator + Copy, M: UnderTest<K, A>>(
     requests: (u64, u64),
 ) -> Result<(), Failure> {
     heap.refuse(0, 0);
-    let mut tried = M::create(alloc, None)?;
-    run_parts_beside::<K, A, M>(heap, alloc, &mut tried, table, requests)
+    let mut subject = M::create(alloc, None)?;
+    run_parts_beside::<K, A, M>(heap, alloc, &mut subject, table, requests)
 }
 
 /// Runs a table time and again, with so many requests of its second part refused from another one on each time, and at last with none.
@@ -184,7 +184,11 @@ pub fn on_both<P: Prefix + Copy + PartialEq>(
 }
 
 /// The same of tables, at networks and at pairs.
-fn run_all_on_both(heap: &Refusing<Global>, tables: &[Table<'_, u32>], plan: FaultPlan) -> Result<(), Failure> {
+fn run_all_on_both(
+    heap: &Refusing<Global>,
+    tables: &[Table<'_, u32>],
+    plan: FaultPlan,
+) -> Result<(), Failure> {
     for table in tables {
         on_both::<Ipv4Prefix>(heap, table, plan)?;
         on_both::<(u32, u8)>(heap, table, plan)?;
@@ -193,7 +197,11 @@ fn run_all_on_both(heap: &Refusing<Global>, tables: &[Table<'_, u32>], plan: Fau
 }
 
 /// The same of several lists of tables. Answers which of them goes failure, and where.
-pub fn run_all(alloc: Global, lists: &[&[Table<'_, u32>]], plan: FaultPlan) -> Result<(), (usize, Failure)> {
+pub fn run_all(
+    alloc: Global,
+    lists: &[&[Table<'_, u32>]],
+    plan: FaultPlan,
+) -> Result<(), (usize, Failure)> {
     let heap = Refusing::new(alloc);
     for (number, tables) in lists.iter().enumerate() {
         if let Err(failure) = run_all_on_both(&heap, tables, plan) {

@@ -44,7 +44,7 @@ pub const EVEN_VALUES_KEPT: [Line; 9] = [
 ];
 
 /// Row 22: a removal prunes on the way to its prefix, also where that is not stored, and nowhere else.
-pub const PRUNED_ON_THE_WAY: [Line; 8] = [
+pub const PRUNED_ON_THE_PATH: [Line; 8] = [
     Insert((0, 32), 1, Ok(None)),
     RemoveKeepTree((0, 32), Some(1)),
     Remove((0, 32), None),

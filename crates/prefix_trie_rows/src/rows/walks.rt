@@ -25,7 +25,7 @@ pub const IN_LISTING_ORDER: [Line; 6] = [
 ];
 
 /// Row 8: what comes behind a network, which is stored or not.
-pub const BEHIND_A_NETWORK: [Line; 15] = [
+pub const AFTER_A_NETWORK: [Line; 15] = [
     Insert(v4!(10, 0, 0, 0; 8), 1, Ok(None)),
     Insert(v4!(10, 1, 0, 0; 16), 2, Ok(None)),
     Insert(v4!(10, 2, 0, 0; 16), 3, Ok(None)),

@@ -1,6 +1,6 @@
 //! Cases of entries: what fills one, changes_entry one and takes one out.
-use crate::cases::writes::put_in;
 use crate::cases::under_test::InsertResult;
+use crate::cases::writes::put_in;
 use crate::cases::{Pair, prefix_of};
 use prefix_trie::map::Entry;
 use prefix_trie::{Prefix, PrefixMap, Refusal, Refused};
@@ -46,7 +46,11 @@ fn result_of_new(answer: Result<&mut u64, Refusal>, value: u64) -> InsertResult 
 /// The answer of a call whose closure was if_called_once so often, which is right once where the value is stored, and else never.
 fn if_called_once(answer: InsertResult, calls: u64) -> InsertResult {
     let wanted = u64::from(answer == Ok(None));
-    if calls == wanted { answer } else { WRONG_RESULT }
+    if calls == wanted {
+        answer
+    } else {
+        WRONG_RESULT
+    }
 }
 
 /// The entry of a prefix. It has no `ensures`: those of `entry` would be checked again at each call.
@@ -121,7 +125,9 @@ pub fn insert_via<P: Prefix, A: Allocator>(
 }
 
 /// The prefix of an entry as a pair, and its value.
-fn key_and_value<P: Prefix, A: Allocator>(entry: &Entry<'_, P, u64, A>) -> (Pair<P::R>, Option<u64>) {
+fn key_and_value<P: Prefix, A: Allocator>(
+    entry: &Entry<'_, P, u64, A>,
+) -> (Pair<P::R>, Option<u64>) {
     let key = entry.key();
     ((key.repr(), key.prefix_len()), entry.get().copied())
 }
@@ -175,13 +181,19 @@ pub fn changes_entry<P: Prefix, A: Allocator>(
 }
 
 /// Adds one by `and_modify`, which finds the entry insert_via.
-fn adds_one<P: Prefix, A: Allocator>(map: &mut PrefixMap<P, u64, A>, at: Pair<P::R>) -> InsertResult {
+fn adds_one<P: Prefix, A: Allocator>(
+    map: &mut PrefixMap<P, u64, A>,
+    at: Pair<P::R>,
+) -> InsertResult {
     let entry = entry_at(map, at).and_modify(|n| *n = n.saturating_add(1));
     result_of_lent(entry.or_insert(0), 0)
 }
 
 /// Reads a stored value by each call of its entry that reads_occupied, if it has its prefix without host bits. The entry is released.
-fn reads_occupied<P: Prefix, A: Allocator>(map: &mut PrefixMap<P, u64, A>, at: Pair<P::R>) -> Option<u64> {
+fn reads_occupied<P: Prefix, A: Allocator>(
+    map: &mut PrefixMap<P, u64, A>,
+    at: Pair<P::R>,
+) -> Option<u64> {
     let prefix: P = prefix_of(at);
     let first = entry_key_and_value(map, at);
     match entry_at(map, at) {

@@ -1,11 +1,11 @@
 //! Cases, as calls of a map.
-use crate::cases::writes::{writes, writes_longest};
 use crate::cases::entries::{InsertVia, changes_entry, insert_via, is_vacant, removes_entry};
-use crate::cases::walks::{
-    covers, entries_of, gives, gives_from, gives_same, gives_before_and_after_next, lends_from,
-};
 use crate::cases::lookups::{finds, has_cells, has_nodes, slots_add_up, was_refused};
 use crate::cases::under_test::{InsertResult, State, UnderTest};
+use crate::cases::walks::{
+    covers, entries_of, gives, gives_before_and_after_next, gives_from, gives_same, lends_from,
+};
+use crate::cases::writes::{writes, writes_longest};
 use crate::cases::{Case, Entry, Pair, prefix_of};
 use crate::examples::expiry::keep_from;
 use crate::refusing::Refusing;
@@ -13,7 +13,8 @@ use crate::retain::retain_long;
 use prefix_trie::{Prefix, PrefixMap, Refusal};
 use std::alloc::{AllocError, Allocator, Global};
 
-impl<P: Prefix + Copy + PartialEq, A: Allocator + Copy> UnderTest<P::R, A> for PrefixMap<P, u64, A> {
+impl<P: Prefix + Copy + PartialEq, A: Allocator + Copy> UnderTest<P::R, A>
+    for PrefixMap<P, u64, A> {
     fn create(alloc: A, limit: Option<u32>) -> Result<Self, Refusal> {
         match limit {
             Some(slots) => PrefixMap::with_slot_limit(alloc, slots),
@@ -85,7 +86,7 @@ impl<P: Prefix + Copy + PartialEq, A: Allocator + Copy> UnderTest<P::R, A> for P
             Case::Slots(..) | Case::NodeBlocks(..) | Case::CellBlocks(..) => {
                 was_refused(heap) || is_stored_in(self, case)
             }
-            // `tried` makes these calls itself.
+            // `under_test` makes these calls itself.
             Case::StartsAnew(_) | Case::Copies | Case::AreSame | Case::Swaps => false,
             Case::Inserts(..) | Case::ExceedsLimit(..) | Case::Fills(..) => false,
         }

@@ -1,8 +1,8 @@
 //! Cases, as calls of a set: of an entry the key counts.
 use crate::cases::entries::InsertVia;
-use crate::cases::walks::contained_in_first;
-use crate::cases::lookups::{as_pair, has_pair, pair_of_entry, pair_of, was_refused};
+use crate::cases::lookups::{as_pair, has_pair, pair_of, pair_of_entry, was_refused};
 use crate::cases::under_test::{InsertResult, State, UnderTest};
+use crate::cases::walks::contained_in_first;
 use crate::cases::{Case, Entry, Pair, prefix_of};
 use crate::refusing::Refusing;
 use crate::retain::retain_long_keys;
@@ -160,7 +160,11 @@ impl<P: Prefix + Copy + PartialEq, A: Allocator + Copy> UnderTest<P::R, A> for P
             Case::ChangesEntry(at, _, _) => put(self, prefix_of(*at)) == Ok(false),
             Case::DropsChildren(_) | Case::RetainsLong(_) | Case::Clears => is_reduced(self, case),
             Case::Finds(at, exact, longest, shortest) => {
-                let found = (pair_of_entry(*exact), pair_of_entry(*longest), pair_of_entry(*shortest));
+                let found = (
+                    pair_of_entry(*exact),
+                    pair_of_entry(*longest),
+                    pair_of_entry(*shortest),
+                );
                 finds(self, *at, found.0, found.1, found.2)
             }
             Case::Lists(entries) => lists(self, entries),
@@ -175,7 +179,7 @@ impl<P: Prefix + Copy + PartialEq, A: Allocator + Copy> UnderTest<P::R, A> for P
             // A set has no values, no entries to fill, and no call for the sizes of its blocks.
             Case::RetainsFrom(_) | Case::Writes(..) | Case::WritesLongest(..) => true,
             Case::LeavesVacant(_) | Case::NodeBlocks(..) | Case::CellBlocks(..) => true,
-            // `tried` makes these calls itself.
+            // `under_test` makes these calls itself.
             Case::StartsAnew(_) | Case::Copies | Case::AreSame | Case::Swaps => false,
             Case::Inserts(..) | Case::ExceedsLimit(..) | Case::Fills(..) => false,
         }

@@ -47,10 +47,10 @@ pub trait UnderTest<K: Key, A: Allocator + Copy>: Drop {
 }
 
 /// Puts what was made, if it was, in place of another, and answers whether it is there.
-fn replaces<V: Drop, E: Drop>(place: &mut V, made: Result<V, E>) -> bool {
+fn replace_if_ok<V: Drop, E: Drop>(target: &mut V, made: Result<V, E>) -> bool {
     match made {
         Ok(new) => {
-            *place = new;
+            *target = new;
             true
         }
         Err(_) => false,
@@ -58,50 +58,50 @@ fn replaces<V: Drop, E: Drop>(place: &mut V, made: Result<V, E>) -> bool {
 }
 
 /// StartsAnew a new one in place of one. Answers whether it was refused where a request was, and only there.
-fn makes<K: Key, A: Allocator + Copy, M: UnderTest<K, A>>(
+fn starts_anew<K: Key, A: Allocator + Copy, M: UnderTest<K, A>>(
     heap: &Refusing<Global>,
     alloc: A,
-    tried: &mut M,
+    subject: &mut M,
     limit: Option<u32>,
 ) -> bool {
     let left = heap.left();
     let answer = M::create(alloc, limit);
     if heap.left() == left {
-        return replaces(tried, answer);
+        return replace_if_ok(subject, answer);
     }
     heap.refuse(0, 0);
-    (answer.err() == Some(Refusal::Memory)) & replaces(tried, M::create(alloc, limit))
+    (answer.err() == Some(Refusal::Memory)) & replace_if_ok(subject, M::create(alloc, limit))
 }
 
 /// Puts a copy in place of the other. Answers whether it was refused where a request was, and only there.
 fn copies<K: Key, A: Allocator + Copy, M: UnderTest<K, A>>(
     heap: &Refusing<Global>,
-    tried: &M,
+    subject: &M,
     other: &mut M,
 ) -> bool {
     let left = heap.left();
-    let answer = tried.copy();
+    let answer = subject.copy();
     if heap.left() == left {
-        return replaces(other, answer) & tried.is_same(other);
+        return replace_if_ok(other, answer) & subject.is_same(other);
     }
     heap.refuse(0, 0);
-    answer.is_err() & replaces(other, tried.copy()) & tried.is_same(other)
+    answer.is_err() & replace_if_ok(other, subject.copy()) & subject.is_same(other)
 }
 
 /// Whether the answer of an insertion is as wanted, and nothing was changed where that is a refusal.
-fn is_answered<K: Key, A: Allocator + Copy, M: UnderTest<K, A>>(
-    tried: &M,
+fn is_result<K: Key, A: Allocator + Copy, M: UnderTest<K, A>>(
+    subject: &M,
     old: &State<K>,
     answer: InsertResult,
     wanted: &InsertResult,
 ) -> bool {
-    (answer == *wanted) & (answer.is_ok() || tried.has_state(old))
+    (answer == *wanted) & (answer.is_ok() || subject.has_state(old))
 }
 
 /// StartsAnew an insertion into one of this state, as `stores` does.
-fn stores_into<K: Key, A: Allocator + Copy, M: UnderTest<K, A>>(
+fn stores_in_state<K: Key, A: Allocator + Copy, M: UnderTest<K, A>>(
     heap: &Refusing<Global>,
-    tried: &mut M,
+    subject: &mut M,
     old: &State<K>,
     call: InsertVia,
     added: &Entry<K>,
@@ -109,23 +109,23 @@ fn stores_into<K: Key, A: Allocator + Copy, M: UnderTest<K, A>>(
 ) -> bool {
     let (at, value) = *added;
     let left = heap.left();
-    let answer = tried.store(call, at, value);
+    let answer = subject.store(call, at, value);
     if heap.left() == left {
-        return is_answered::<K, A, M>(tried, old, answer, wanted);
+        return is_result::<K, A, M>(subject, old, answer, wanted);
     }
     let value_back = M::stored_value(value);
     let refused = Err(Refused {
         cause: Refusal::Memory,
         value: value_back,
     });
-    let is_refused = is_answered::<K, A, M>(tried, old, answer, &refused);
+    let is_refused = is_result::<K, A, M>(subject, old, answer, &refused);
     heap.refuse(0, 0);
-    let again = tried.store(call, at, value);
-    is_refused & is_answered::<K, A, M>(tried, old, again, wanted)
+    let again = subject.store(call, at, value);
+    is_refused & is_result::<K, A, M>(subject, old, again, wanted)
 }
 
 /// What an insertion of a value answers: the value that was there, or a refusal that hands this one back.
-fn answer_of<K: Key, A: Allocator + Copy, M: UnderTest<K, A>>(
+fn expected_result<K: Key, A: Allocator + Copy, M: UnderTest<K, A>>(
     outcome: Result<Option<u64>, Refusal>,
     value: u64,
 ) -> InsertResult {
@@ -144,17 +144,17 @@ fn answer_of<K: Key, A: Allocator + Copy, M: UnderTest<K, A>>(
 /// answer alone is looked at.
 fn stores<K: Key, A: Allocator + Copy, M: UnderTest<K, A>>(
     heap: &Refusing<Global>,
-    tried: &mut M,
+    subject: &mut M,
     call: InsertVia,
     added: &Entry<K>,
     wanted: Result<Option<u64>, Refusal>,
 ) -> bool {
-    let wanted = answer_of::<K, A, M>(wanted, added.1);
+    let wanted = expected_result::<K, A, M>(wanted, added.1);
     if heap.left() == 0 {
-        return tried.store(call, added.0, added.1) == wanted;
+        return subject.store(call, added.0, added.1) == wanted;
     }
-    match tried.state(heap.inner()) {
-        Ok(old) => stores_into::<K, A, M>(heap, tried, &old, call, added, &wanted),
+    match subject.state(heap.inner()) {
+        Ok(old) => stores_in_state::<K, A, M>(heap, subject, &old, call, added, &wanted),
         Err(AllocError) => false,
     }
 }
@@ -162,67 +162,67 @@ fn stores<K: Key, A: Allocator + Copy, M: UnderTest<K, A>>(
 /// Whether all walks give these entries.
 fn lists<K: Key, A: Allocator + Copy, M: UnderTest<K, A>>(
     heap: &Refusing<Global>,
-    tried: &mut M,
+    subject: &mut M,
     entries: &[Entry<K>],
 ) -> bool {
     for (index, entry) in entries.iter().enumerate() {
         let case = Case::ListsFrom(entry.0, entries.get(index..).unwrap_or(&[]));
-        if !tried.check_call(heap, &case) {
+        if !subject.check_call(heap, &case) {
             return false;
         }
     }
-    tried.check_call(heap, &Case::Lists(entries))
+    subject.check_call(heap, &Case::Lists(entries))
 }
 
 /// StartsAnew the call of a case, and compares its answer. Whether it is as said, and the arrays have the room that they should.
 pub fn holds<K: Key, A: Allocator + Copy, M: UnderTest<K, A>>(
     heap: &Refusing<Global>,
     alloc: A,
-    tried: &mut M,
+    subject: &mut M,
     other: &mut M,
     case: &Case<'_, K>,
 ) -> bool {
     let is_held = match case {
-        Case::StartsAnew(limit) => makes::<K, A, M>(heap, alloc, tried, *limit),
-        Case::Copies => copies::<K, A, M>(heap, tried, other),
-        Case::AreSame => tried.is_same(other),
+        Case::StartsAnew(limit) => starts_anew::<K, A, M>(heap, alloc, subject, *limit),
+        Case::Copies => copies::<K, A, M>(heap, subject, other),
+        Case::AreSame => subject.is_same(other),
         Case::Swaps => {
-            mem::swap(tried, other);
+            mem::swap(subject, other);
             true
         }
-        Case::Lists(entries) => lists::<K, A, M>(heap, tried, entries),
-        _ => holds_in::<K, A, M>(heap, tried, case),
+        Case::Lists(entries) => lists::<K, A, M>(heap, subject, entries),
+        _ => holds_on_one::<K, A, M>(heap, subject, case),
     };
-    is_held & tried.slots_add_up()
+    is_held & subject.slots_add_up()
 }
 
 /// The same of a case that is of one alone.
 pub fn holds_alone<K: Key, A: Allocator + Copy, M: UnderTest<K, A>>(
     heap: &Refusing<Global>,
-    tried: &mut M,
+    subject: &mut M,
     case: &Case<'_, K>,
 ) -> bool {
-    holds_in::<K, A, M>(heap, tried, case) & tried.slots_add_up()
+    holds_on_one::<K, A, M>(heap, subject, case) & subject.slots_add_up()
 }
 
 /// The same without the arrays.
-fn holds_in<K: Key, A: Allocator + Copy, M: UnderTest<K, A>>(
+fn holds_on_one<K: Key, A: Allocator + Copy, M: UnderTest<K, A>>(
     heap: &Refusing<Global>,
-    tried: &mut M,
+    subject: &mut M,
     case: &Case<'_, K>,
 ) -> bool {
     match case {
         Case::Inserts(at, value, before) => {
-            stores::<K, A, M>(heap, tried, InsertVia::Map, &(*at, *value), Ok(*before))
+            stores::<K, A, M>(heap, subject, InsertVia::Map, &(*at, *value), Ok(*before))
         }
         Case::ExceedsLimit(at, value) => {
             let refused = Err(Refusal::IndexRange);
-            stores::<K, A, M>(heap, tried, InsertVia::Map, &(*at, *value), refused)
+            stores::<K, A, M>(heap, subject, InsertVia::Map, &(*at, *value), refused)
         }
         Case::Fills(call, at, value) => {
-            stores::<K, A, M>(heap, tried, *call, &(*at, *value), Ok(None))
+            stores::<K, A, M>(heap, subject, *call, &(*at, *value), Ok(None))
         }
-        _ => tried.check_call(heap, case),
+        _ => subject.check_call(heap, case),
     }
 }
 
@@ -230,12 +230,12 @@ fn holds_in<K: Key, A: Allocator + Copy, M: UnderTest<K, A>>(
 pub fn first_failure<K: Key, A: Allocator + Copy, M: UnderTest<K, A>>(
     heap: &Refusing<Global>,
     alloc: A,
-    tried: &mut M,
+    subject: &mut M,
     other: &mut M,
     cases: &[Case<'_, K>],
 ) -> Option<usize> {
     for (index, case) in cases.iter().enumerate() {
-        if !holds::<K, A, M>(heap, alloc, tried, other, case) {
+        if !holds::<K, A, M>(heap, alloc, subject, other, case) {
             return Some(index);
         }
     }

@@ -1,5 +1,5 @@
 //! Cases that ask for all entries of a map, and for those around a prefix.
-use crate::cases::lookups::{as_pair, pair_of, as_entry};
+use crate::cases::lookups::{as_entry, as_pair, pair_of};
 use crate::cases::{Entry, Pair, prefix_of};
 use prefix_trie::map::{Iter, IterMut, Keys, Values};
 use prefix_trie::{Key, Prefix, PrefixMap};

@@ -1,5 +1,5 @@
 //! Cases that write to a map.
-use crate::cases::lookups::{pair_of_entry, pair_of, value_of_entry};
+use crate::cases::lookups::{pair_of, pair_of_entry, value_of_entry};
 use crate::cases::under_test::InsertResult;
 use crate::cases::{Entry, Pair, prefix_of};
 use crate::contents::put;

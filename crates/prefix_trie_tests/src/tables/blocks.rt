@@ -1,7 +1,8 @@
 //! Free blocks: what takes them with every request for memory refused, and a removal that makes one.
 use crate::cases::Case::{
-    self, AddressCount, CellBlocks, Clears, Covers, DropsChildren, RemovesKeepTree, Finds, Inserts,
-    LeavesVacant, Len, Lists, StartsAnew, NodeBlocks, NodeCount, Removes, Slots, Writes, WritesLongest,
+    self, AddressCount, CellBlocks, Clears, Covers, DropsChildren, Finds, Inserts, LeavesVacant,
+    Len, Lists, NodeBlocks, NodeCount, Removes, RemovesKeepTree, Slots, StartsAnew, Writes,
+    WritesLongest,
 };
 use crate::cases::Entry;
 use crate::networks::v4;
@@ -109,9 +110,12 @@ const INTO_FREE_BLOCK: Table<'static, u8> = (
 );
 
 #[test]
-fn a_free_block_grants_an_insertion(rt: HostRuntime) {
+fn an_insertion_uses_a_free_block(rt: HostRuntime) {
     let heap = Refusing::new(rt.alloc());
-    assert_eq!(rt; on_both::<(u8, u8)>(&heap, &INTO_FREE_BLOCK, FaultPlan::NoRequests), Ok(()));
+    assert_eq!(rt;
+        on_both::<(u8, u8)>(&heap, &INTO_FREE_BLOCK, FaultPlan::NoRequests),
+        Ok(())
+    );
 }
 
 /// Once the root has one value, no block of one is free, and the limit has room for another: a removal that takes only free blocks
@@ -131,9 +135,12 @@ const SMALLER_BLOCK_MADE: Table<'static, u8> = (
 );
 
 #[test]
-fn removal_steps_down_not_only_onto_free_blocks(rt: HostRuntime) {
+fn a_removal_makes_a_smaller_block(rt: HostRuntime) {
     let heap = Refusing::new(rt.alloc());
-    assert_eq!(rt; on_both::<(u8, u8)>(&heap, &SMALLER_BLOCK_MADE, FaultPlan::EachRequest), Ok(()));
+    assert_eq!(rt;
+        on_both::<(u8, u8)>(&heap, &SMALLER_BLOCK_MADE, FaultPlan::EachRequest),
+        Ok(())
+    );
 }
 
 /// Five networks, each in the one before it.

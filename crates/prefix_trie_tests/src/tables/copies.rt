@@ -1,6 +1,6 @@
 //! Copies of a map, with each request for memory refused in turn, and with every one refused.
 use crate::cases::Case::{
-    AddressCount, Clears, Copies, Finds, Inserts, Lists, NodeCount, Removes, AreSame, Swaps,
+    AddressCount, AreSame, Clears, Copies, Finds, Inserts, Lists, NodeCount, Removes, Swaps,
 };
 use crate::cases::Entry;
 use crate::networks::v4;

@@ -8,10 +8,17 @@ use crate::trials::Table;
 
 /// A host's seven nodes, by each call that fills an entry; and a value more in a full block.
 pub const VACANT: [Table<'static, u32>; 9] = [
-    (&[], &[Fills(Put, v4!(0, 0, 0, 0; 32), 9), Len(1), NodeCount(7)]),
     (
         &[],
-        &[Fills(OrInsert, v4!(0, 0, 0, 0; 32), 9), Len(1), NodeCount(7)],
+        &[Fills(Put, v4!(0, 0, 0, 0; 32), 9), Len(1), NodeCount(7)],
+    ),
+    (
+        &[],
+        &[
+            Fills(OrInsert, v4!(0, 0, 0, 0; 32), 9),
+            Len(1),
+            NodeCount(7),
+        ],
     ),
     (
         &[],
@@ -23,7 +30,11 @@ pub const VACANT: [Table<'static, u32>; 9] = [
     ),
     (
         &[],
-        &[Fills(OrDefault, v4!(0, 0, 0, 0; 32), 0), Len(1), NodeCount(7)],
+        &[
+            Fills(OrDefault, v4!(0, 0, 0, 0; 32), 0),
+            Len(1),
+            NodeCount(7),
+        ],
     ),
     (
         &[],
@@ -31,7 +42,11 @@ pub const VACANT: [Table<'static, u32>; 9] = [
     ),
     (
         &[],
-        &[Fills(InsertWith, v4!(0, 0, 0, 0; 32), 9), Len(1), NodeCount(7)],
+        &[
+            Fills(InsertWith, v4!(0, 0, 0, 0; 32), 9),
+            Len(1),
+            NodeCount(7),
+        ],
     ),
     (
         &[],

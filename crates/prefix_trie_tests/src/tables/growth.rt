@@ -1,5 +1,5 @@
 //! New maps, insertions and limits, with each request for memory refused in turn.
-use crate::cases::Case::{Inserts, Len, Lists, StartsAnew, NodeCount, ExceedsLimit};
+use crate::cases::Case::{ExceedsLimit, Inserts, Len, Lists, NodeCount, StartsAnew};
 use crate::networks::v4;
 use crate::trials::Table;
 

@@ -34,9 +34,12 @@ const NESTED: Table<'static, u16> = (
 );
 
 #[test]
-fn answers_and_writes_of_all_lookups(rt: HostRuntime) {
+fn all_lookups_read_and_write(rt: HostRuntime) {
     let heap = Refusing::new(rt.alloc());
-    assert_eq!(rt; on_both::<(u16, u8)>(&heap, &NESTED, FaultPlan::EachRequest), Ok(()));
+    assert_eq!(rt;
+        on_both::<(u16, u8)>(&heap, &NESTED, FaultPlan::EachRequest),
+        Ok(())
+    );
 }
 
 /// In an empty map, and beside a stored network or above it.

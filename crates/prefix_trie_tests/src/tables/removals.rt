@@ -1,12 +1,12 @@
 //! Taking entries out of a map, with each request for memory refused in turn, and with every one refused.
 use crate::cases::Case::{
-    self, DropsChildren, RemovesKeepTree, Finds, Inserts, Len, Lists, NodeCount, Removes, RetainsFrom,
-    RetainsLong,
+    self, DropsChildren, Finds, Inserts, Len, Lists, NodeCount, Removes, RemovesKeepTree,
+    RetainsFrom, RetainsLong,
 };
 use crate::cases::Pair;
 use crate::networks::v4;
 use crate::refusing::Refusing;
-use crate::trials::{FaultPlan, Table, Failure, on_both, on_maps};
+use crate::trials::{Failure, FaultPlan, Table, on_both, on_maps};
 use prefix_trie::Ipv4Prefix;
 use std::alloc::{AllocError, Global};
 use std::test::Fail;
@@ -222,7 +222,7 @@ fn remove_even(alloc: Global, end: u32, plan: FaultPlan) -> Result<(), Fail> {
 }
 
 #[test]
-fn others_stay(rt: HostRuntime) -> Result<(), Fail> {
+fn removals_keep_other_entries(rt: HostRuntime) -> Result<(), Fail> {
     remove_even(rt.alloc(), 255, FaultPlan::EachRequest)
 }
 
@@ -248,16 +248,21 @@ fn remove_groups(
 }
 
 #[test]
-fn each_request_for_values_refused(rt: HostRuntime) -> Result<(), Fail> {
+fn removals_succeed_if_allocations_for_values_fail(rt: HostRuntime) -> Result<(), Fail> {
     let heap = Refusing::new(rt.alloc());
-    for via in [RemoveVia::Remove, RemoveVia::KeepTree, RemoveVia::Children, RemoveVia::Retain] {
+    for via in [
+        RemoveVia::Remove,
+        RemoveVia::KeepTree,
+        RemoveVia::Children,
+        RemoveVia::Retain,
+    ] {
         remove_groups(&heap, rt.alloc(), GROUP_IN_ONE_NODE, via)?;
     }
     Ok(())
 }
 
 #[test]
-fn each_request_for_nodes_refused(rt: HostRuntime) -> Result<(), Fail> {
+fn removals_succeed_if_allocations_for_nodes_fail(rt: HostRuntime) -> Result<(), Fail> {
     let heap = Refusing::new(rt.alloc());
     for via in [RemoveVia::Remove, RemoveVia::Children, RemoveVia::Retain] {
         remove_groups(&heap, rt.alloc(), GROUP_BELOW_ONE_NODE, via)?;

@@ -57,6 +57,6 @@ fn are_over(
 }
 
 #[test]
-fn walks_of_no_map(rt: HostRuntime) {
+fn default_walks_are_empty(rt: HostRuntime) {
     assert!(rt; are_over(Iter::default(), Keys::default(), Values::default()));
 }

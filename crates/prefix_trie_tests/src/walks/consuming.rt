@@ -2,10 +2,10 @@
 ghost use Rattle.std.specs.Prelude.{◌≡◌, OnOk};
 ghost use Rattle.prefix_trie.specs.Words.{listing, put_all, shown};
 
-use crate::clones::Copied;
+use crate::clones::TryClone;
+use crate::contents::{self, adds};
 use crate::drops::{Counted, drop_now};
 use crate::refusing::Refusing;
-use crate::contents::{self, adds};
 use prefix_trie::map::{IntoIter, IntoKeys, IntoValues};
 use prefix_trie::{Prefix, PrefixMap, Refused};
 use std::alloc::{Allocator, Global};
@@ -26,7 +26,7 @@ fn pour<P: Prefix, T: Drop, A: Allocator>(
 
 type Key = (u32, u8);
 
-type Counting<'a> = PrefixMap<Key, Counted<'a>, Global>;
+type CountedMap<'a> = PrefixMap<Key, Counted<'a>, Global>;
 
 /// More requests than one copy makes.
 const MANY: u64 = 100;
@@ -38,7 +38,7 @@ const KEYS: [Key; 3] = [(0, 0), (0, 1), (0x8000_0000, 1)];
 pub const CHAIN: [Key; 3] = [(0, 0), (0, 1), (0, 8)];
 
 /// Stores them. Answers whether each is new.
-fn put_three<'a>(map: &mut Counting<'a>, keys: &[Key; 3], drops: &'a Cell<u64>) -> bool {
+fn insert_three<'a>(map: &mut CountedMap<'a>, keys: &[Key; 3], drops: &'a Cell<u64>) -> bool {
     for key in keys {
         if !adds(map, *key, Counted { drops }) {
             return false;
@@ -48,48 +48,56 @@ fn put_three<'a>(map: &mut Counting<'a>, keys: &[Key; 3], drops: &'a Cell<u64>) 
 }
 
 /// A map of them.
-pub fn three<'a>(alloc: Global, keys: &[Key; 3], drops: &'a Cell<u64>) -> Option<Counting<'a>> {
+pub fn map_of_three<'a>(
+    alloc: Global,
+    keys: &[Key; 3],
+    drops: &'a Cell<u64>,
+) -> Option<CountedMap<'a>> {
     let mut map = PrefixMap::new(alloc).ok()?;
-    let is_filled = put_three(&mut map, keys, drops);
+    let is_filled = insert_three(&mut map, keys, drops);
     if is_filled { Some(map) } else { None }
 }
 
 /// A walk that takes a map apart.
-trait Taking: Copied {
+trait ConsumingWalk: TryClone {
     /// Takes the next item, if there is one, and lets it go.
     fn drop_next(&mut self);
 }
 
-impl Taking for IntoIter<Key, Counted<'_>, Global> {
+impl ConsumingWalk for IntoIter<Key, Counted<'_>, Global> {
     fn drop_next(&mut self) {
         drop_now(self.next());
     }
 }
 
-impl Taking for IntoKeys<Key, Counted<'_>, Global> {
+impl ConsumingWalk for IntoKeys<Key, Counted<'_>, Global> {
     fn drop_next(&mut self) {
         drop_now(self.next());
     }
 }
 
-impl Taking for IntoValues<Key, Counted<'_>, Global> {
+impl ConsumingWalk for IntoValues<Key, Counted<'_>, Global> {
     fn drop_next(&mut self) {
         drop_now(self.next());
     }
 }
 
 /// Takes so many items.
-fn take<W: Taking>(walk: &mut W, count: u64) {
+fn take<W: ConsumingWalk>(walk: &mut W, count: u64) {
     for _ in 0..count {
         walk.drop_next();
     }
 }
 
 /// How many are dropped once a walk gave so many items, once its copy gave all that are left and was dropped, and once the walk was.
-fn drops_of<W: Taking>(mut walk: W, taken: u64, drops: &Cell<u64>) -> Option<(u64, u64, u64)> {
+fn drops_of<W: ConsumingWalk>(
+    mut walk: W,
+    taken: u64,
+    drops: &Cell<u64>,
+) -> Option<(u64, u64, u64)> {
     take(&mut walk, taken);
     let first = drops.get();
-    let mut copy = walk.copy().ok()?;
+    let mut copy = walk.try_clone().ok()?;
     take(&mut copy, 4);
     drop_now(copy);
     let second = drops.get();
@@ -98,20 +106,32 @@ fn drops_of<W: Taking>(mut walk: W, taken: u64, drops: &Cell<u64>) -> Option<(u6
 }
 
 /// The same of each walk.
-fn dropped(alloc: Global, taken: u64) -> Option<[Option<(u64, u64, u64)>; 4]> {
+fn drops_of_each_walk(alloc: Global, taken: u64) -> Option<[Option<(u64, u64, u64)>; 4]> {
     let drops = Cell::new(0);
-    let items = drops_of(three(alloc, &KEYS, &drops)?.into_iter(), taken, &drops);
-    let part = three(alloc, &CHAIN, &drops)?.into_children(&(0, 1));
+    let items = drops_of(
+        map_of_three(alloc, &KEYS, &drops)?.into_iter(),
+        taken,
+        &drops,
+    );
+    let part = map_of_three(alloc, &CHAIN, &drops)?.into_children(&(0, 1));
     let part = drops_of(part, taken, &drops);
-    let keys = drops_of(three(alloc, &KEYS, &drops)?.into_keys(), taken, &drops);
-    let values = drops_of(three(alloc, &KEYS, &drops)?.into_values(), taken, &drops);
+    let keys = drops_of(
+        map_of_three(alloc, &KEYS, &drops)?.into_keys(),
+        taken,
+        &drops,
+    );
+    let values = drops_of(
+        map_of_three(alloc, &KEYS, &drops)?.into_values(),
+        taken,
+        &drops,
+    );
     Some([items, part, keys, values])
 }
 
 /// How many are dropped once a walk gave the first of three values, and once the walk was dropped.
 fn drops_of_one_taken(alloc: Global) -> Option<(u64, u64)> {
     let drops = Cell::new(0);
-    let mut walk = three(alloc, &KEYS, &drops)?.into_iter();
+    let mut walk = map_of_three(alloc, &KEYS, &drops)?.into_iter();
     take(&mut walk, 1);
     let first = drops.get();
     drop_now(walk);
@@ -124,18 +144,18 @@ fn what_is_not_taken_is_dropped_with_the_walk(rt: HostRuntime) {
     let alloc = rt.alloc();
     assert!(rt; drops_of_one_taken(alloc) == Some((1, 3)));
     let none = Some((0, 3, 6));
-    assert!(rt; dropped(alloc, 0) == Some([none, none, none, none]));
+    assert!(rt; drops_of_each_walk(alloc, 0) == Some([none, none, none, none]));
     let one = Some((1, 3, 5));
-    assert!(rt; dropped(alloc, 1) == Some([one, one, one, one]));
+    assert!(rt; drops_of_each_walk(alloc, 1) == Some([one, one, one, one]));
     let two = Some((2, 3, 4));
-    assert!(rt; dropped(alloc, 2) == Some([two, two, two, two]));
+    assert!(rt; drops_of_each_walk(alloc, 2) == Some([two, two, two, two]));
     let all = Some((3, 3, 3));
-    assert!(rt; dropped(alloc, 4) == Some([all, two, all, all]));
+    assert!(rt; drops_of_each_walk(alloc, 4) == Some([all, two, all, all]));
 }
 
 /// How many are dropped once three are stored and one of them is replaced, one is taken out, and all are cleared.
-fn drops_of_calls<'a>(map: &mut Counting<'a>, drops: &'a Cell<u64>) -> Option<[u64; 4]> {
-    let are_put = put_three(map, &KEYS, drops);
+fn drops_of_calls<'a>(map: &mut CountedMap<'a>, drops: &'a Cell<u64>) -> Option<[u64; 4]> {
+    let are_put = insert_three(map, &KEYS, drops);
     let first = drops.get();
     let is_replaced = contents::put(map, (0, 1), Counted { drops }).is_ok();
     let second = drops.get();
@@ -177,7 +197,7 @@ struct Named<'a, A: Allocator> {
 type Names<'a, A> = PrefixMap<Key, Named<'a, A>, A>;
 
 /// Stores a name.
-fn put_name<'a, A: Allocator>(
+fn insert_name<'a, A: Allocator>(
     alloc: A,
     names: &mut Names<'a, A>,
     key: Key,
@@ -191,13 +211,13 @@ fn put_name<'a, A: Allocator>(
 }
 
 /// Stores a name at each of the three keys.
-fn put_names<'a, A: Allocator + Copy>(
+fn insert_names<'a, A: Allocator + Copy>(
     alloc: A,
     names: &mut Names<'a, A>,
     drops: &'a Cell<u64>,
 ) -> bool {
     for key in &KEYS {
-        if !put_name(alloc, names, *key, drops) {
+        if !insert_name(alloc, names, *key, drops) {
             return false;
         }
     }
@@ -238,7 +258,7 @@ fn drops_of_copies_of_three<A: Allocator + Copy>(
 ) -> Option<(u64, u64)> {
     let drops = Cell::new(0);
     let mut names = PrefixMap::new(alloc).ok()?;
-    let are_put = put_names(alloc, &mut names, &drops);
+    let are_put = insert_names(alloc, &mut names, &drops);
     let counts = drops_of_copies(heap, &names, &drops);
     are_put.then_some(counts)
 }

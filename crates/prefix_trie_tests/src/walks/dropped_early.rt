@@ -1,10 +1,10 @@
 //! Walks that are dropped early, over values that count their drops; and tests with a state.
 use crate::cases::sets::{adds_key, gives_keys};
+use crate::contents::{has_keys, stores};
 use crate::drops::{Counted, drop_now};
 use crate::on_new::on_new;
 use crate::retain::{keep_keys_where, keep_where};
-use crate::contents::{has_keys, stores};
-use crate::walks::consuming::{CHAIN, three};
+use crate::walks::consuming::{CHAIN, map_of_three};
 use prefix_trie::map::{IterMut, ValuesMut};
 use prefix_trie::{PrefixMap, PrefixSet, Refusal};
 use std::alloc::Global;
@@ -97,7 +97,7 @@ fn drops_of_lending<'a>(
 /// How many are dropped by walks over a new map that are dropped so early, and by letting it go. None where one gives another number.
 fn drops_of_early(alloc: Global, count: u8) -> Option<(u64, [u64; 4], u64)> {
     let drops = Cell::new(0);
-    let mut map = three(alloc, &CHAIN, &drops)?;
+    let mut map = map_of_three(alloc, &CHAIN, &drops)?;
     let is_given = are_read(&map, usize::from(count)) & are_covered(&map, usize::from(count));
     let reading = drops.get();
     let lending = drops_of_lending(&mut map, &drops, u64::from(count));
@@ -106,14 +106,14 @@ fn drops_of_early(alloc: Global, count: u8) -> Option<(u64, [u64; 4], u64)> {
 }
 
 #[test]
-fn walks_dropped_early(rt: HostRuntime) {
+fn walks_dropped_early_drop_no_stored_value(rt: HostRuntime) {
     let alloc = rt.alloc();
     assert!(rt; drops_of_early(alloc, 0) == Some((0, [0, 0, 0, 0], 3)));
     assert!(rt; drops_of_early(alloc, 1) == Some((0, [1, 1, 1, 1], 3)));
     assert!(rt; drops_of_early(alloc, 2) == Some((0, [2, 2, 2, 2], 3)));
     for count in 0..3_usize {
         assert!(rt;
-            is_taken_early(alloc, count) == Ok(true),
+            is_consumed_early(alloc, count) == Ok(true),
             "a set after {count}"
         );
     }
@@ -158,14 +158,14 @@ fn is_kept_in_set(set: &mut PrefixSet<Key, Global>, _: ()) -> bool {
 }
 
 /// Whether the walk that takes a new set of three apart gives so many, and is dropped then.
-fn is_taken_early(alloc: Global, count: usize) -> Result<bool, Refusal> {
+fn is_consumed_early(alloc: Global, count: usize) -> Result<bool, Refusal> {
     let mut set = PrefixSet::new(alloc)?;
     let is_filled = adds_three(&mut set);
     Ok(is_filled & gives(set.into_iter(), count))
 }
 
 #[test]
-fn a_test_with_a_state(rt: HostRuntime) {
+fn retain_calls_its_test_once_in_order(rt: HostRuntime) {
     assert!(rt; on_new(PrefixMap::new(rt.alloc()), (), is_kept) == Ok(true));
     assert!(rt; on_new(PrefixSet::new(rt.alloc()), (), is_kept_in_set) == Ok(true));
 }

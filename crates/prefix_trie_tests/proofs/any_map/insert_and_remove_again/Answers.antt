@@ -1,7 +1,7 @@
 use Rattle.prefix_trie_tests.proofs.Prelude.{◌≡◌, path_within, state}
 use Rattle.prefix_trie_tests.proofs.AnyMap.{as_before}
-use Rattle.prefix_trie_tests.proofs.any_map.set_and_take_out.Given as given
-use Rattle.prefix_trie_tests.proofs.any_map.set_and_take_out.Goals as goal
+use Rattle.prefix_trie_tests.proofs.any_map.insert_and_remove_again.Given as given
+use Rattle.prefix_trie_tests.proofs.any_map.insert_and_remove_again.Goals as goal
 
 before : (g : given.Over) (c : goal.Joined-insert-2 g) → (c.remove.new.self.entries ≡ c.args.map.now.entries) × (c.remove.new.self.nodes ≡ c.args.map.now.nodes)
 before g c =

@@ -1,6 +1,6 @@
 use Rattle.prefix_trie_tests.proofs.Prelude.{arith, path_within, stored, inserted}
 use Rattle.prefix_trie.proofs.Callers.{insert_step}
-use Rattle.prefix_trie_tests.proofs.any_map.set_within.Goals as goal
+use Rattle.prefix_trie_tests.proofs.any_map.insert_within_bound.Goals as goal
 
 pub returns : goal.returns
 returns g c =

@@ -1,5 +1,5 @@
 use Rattle.prefix_trie_tests.proofs.Prelude.{ℕ, ◌&&◌, nat_eq, List, Bool, ap, ◌∙◌, and_equiv, on_equiv, nat_eq_equiv, pointwise, lists_equiv, listing, shown, Contents}
-use Rattle.prefix_trie_tests.proofs.collecting.is_its_copy.Goals as goal
+use Rattle.prefix_trie_tests.proofs.collecting.equals_its_copy.Goals as goal
 
 pub returns : goal.returns
 returns g c =

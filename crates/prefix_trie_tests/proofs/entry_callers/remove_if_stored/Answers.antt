@@ -1,5 +1,5 @@
 use Rattle.prefix_trie_tests.proofs.Prelude.{ap₂, sym, get, ◌∙◌}
-use Rattle.prefix_trie_tests.proofs.entry_callers.take_out.Goals as goal
+use Rattle.prefix_trie_tests.proofs.entry_callers.remove_if_stored.Goals as goal
 
 pub returns-in-Occupied-clause-value : goal.returns-in-Occupied-clause-value
 returns-in-Occupied-clause-value g c =

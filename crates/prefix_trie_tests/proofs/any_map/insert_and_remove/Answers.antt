@@ -1,7 +1,7 @@
 use Rattle.prefix_trie_tests.proofs.Prelude.{ap, ◌∙◌, len, path_within, IsTidy, state, inserted}
 use Rattle.prefix_trie_tests.proofs.AnyMap.{tidy_again}
-use Rattle.prefix_trie_tests.proofs.any_map.set_and_remove.Given as given
-use Rattle.prefix_trie_tests.proofs.any_map.set_and_remove.Goals as goal
+use Rattle.prefix_trie_tests.proofs.any_map.insert_and_remove.Given as given
+use Rattle.prefix_trie_tests.proofs.any_map.insert_and_remove.Goals as goal
 
 tidy : (g : given.Over) (c : goal.After-node_count g) → IsTidy c.remove.new.self.entries c.remove.new.self.nodes
 tidy g c =

@@ -1,5 +1,5 @@
 use Rattle.prefix_trie_tests.proofs.Prelude.{rules}
-use Rattle.prefix_trie_tests.proofs.examples.copy.copied.Goals as goal
+use Rattle.prefix_trie_tests.proofs.examples.copy.copy_of.Goals as goal
 
 pub loop-prefix-init : goal.loop-prefix-init
 loop-prefix-init g c =

@@ -1,6 +1,6 @@
 use Rattle.prefix_trie_tests.proofs.Prelude.{All-same, into_iter_items, into_iter_steps}
 use Rattle.prefix_trie.proofs.Collecting.{all_along}
-use Rattle.prefix_trie_tests.proofs.sets.of_prefixes.Goals as goal
+use Rattle.prefix_trie_tests.proofs.sets.set_of_prefixes.Goals as goal
 
 pub from_iter-requires-clause-fit : goal.from_iter-requires-clause-fit
 from_iter-requires-clause-fit g c it gives =

@@ -1,6 +1,6 @@
 use Rattle.prefix_trie_tests.proofs.Prelude.{ap, ◌∙◌, All-same, IfOk-weaker, TakesFirst, no_entries, put_all, listing, shown, listed_fit}
 use Rattle.prefix_trie.proofs.Collecting.{all_along, all_given}
-use Rattle.prefix_trie_tests.proofs.collecting.rebuilt.Goals as goal
+use Rattle.prefix_trie_tests.proofs.collecting.rebuild.Goals as goal
 
 pub from_iter-requires-clause-fit : goal.from_iter-requires-clause-fit
 from_iter-requires-clause-fit g c it gives =

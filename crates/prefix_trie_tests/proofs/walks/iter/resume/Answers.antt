@@ -1,5 +1,5 @@
 use Rattle.prefix_trie_tests.proofs.Prelude.{◌≡◌, ◌++◌, ◌∷◌, sym, ap, ◌∙◌, All-head, All-same, listing, shown, All-append_right, listed_fit}
-use Rattle.prefix_trie_tests.proofs.walks.iter.resumed.Goals as goal
+use Rattle.prefix_trie_tests.proofs.walks.iter.resume.Goals as goal
 
 pub iter_from-requires : goal.iter_from-requires
 iter_from-requires g c =

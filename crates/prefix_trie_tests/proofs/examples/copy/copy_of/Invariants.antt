@@ -1,5 +1,5 @@
 use Rattle.prefix_trie.specs.Words.{Leads}
-use Rattle.prefix_trie_tests.proofs.examples.copy.copied.Given as goal
+use Rattle.prefix_trie_tests.proofs.examples.copy.copy_of.Given as goal
 
 abbrev pub invariant-loop-prefix : goal.invariant-loop-prefix
 invariant-loop-prefix g l =
