@@ -4,7 +4,6 @@ mod blocks;
 mod edges;
 mod entries;
 mod equality;
-mod handing;
 mod limits;
 mod lookups;
 mod narrow;
@@ -12,13 +11,14 @@ mod prefixes;
 mod removals;
 mod runs;
 mod sets;
+mod splitting;
 mod texts;
 mod walks;
 mod widths;
 
-use crate::run::{Turn, all_reply};
-use crate::table::narrow::{Asked, all_made};
-use crate::table::sets::{self as of_sets, SetLine};
+use crate::run::{RunCall, all_reply};
+use crate::table::narrow::{KeyCase, all_as_expected};
+use crate::table::sets::{self as set_tables, SetLine};
 use crate::table::{Line, all_hold};
 use prefix_trie::{Ipv4Prefix, Ipv6Prefix, Narrow, Refusal};
 use std::alloc::Global;
@@ -41,9 +41,9 @@ pub enum Table {
     Narrow5(&'static [Line]),
     Narrow10(&'static [Line]),
     /// Which numbers are narrow keys.
-    NarrowKeys(&'static [Asked]),
+    NarrowKeys(&'static [KeyCase]),
     /// A run on a new map of this limit.
-    Run(u32, &'static [Turn]),
+    Run(u32, &'static [RunCall]),
     /// Calls of a set.
     Set(Set),
 }
@@ -72,7 +72,7 @@ const ROWS: [(u32, Row); 46] = [
     (5, &[Table::U32(&widths::HOSTS_OF_32_BITS)]),
     (6, &[Table::U128(&widths::ENDS_OF_128_BITS)]),
     (7, &[Table::Ipv4(&walks::IN_LISTING_ORDER)]),
-    (8, &[Table::Ipv4(&walks::BEHIND_A_NETWORK)]),
+    (8, &[Table::Ipv4(&walks::AFTER_A_NETWORK)]),
     (9, &[Table::Ipv4(&removals::BELOW_A_NETWORK)]),
     (10, &[Table::U32(&removals::NODES_LEFT)]),
     (
@@ -90,7 +90,7 @@ const ROWS: [(u32, Row); 46] = [
     (19, &[Table::U8(&widths::ENDS_OF_8_BITS)]),
     (20, &[Table::Ipv4(&entries::COUNTED)]),
     (21, &[Table::Ipv4(&walks::WRITTEN_AND_TAKEN)]),
-    (22, &[Table::U32(&removals::PRUNED_ON_THE_WAY)]),
+    (22, &[Table::U32(&removals::PRUNED_ON_THE_PATH)]),
     (
         23,
         &[
@@ -169,19 +169,19 @@ const ROWS: [(u32, Row); 46] = [
             Table::Narrow5(&narrow::FIVE_BITS),
         ],
     ),
-    (47, &[Table::Ipv4(&handing::A_NETWORK)]),
+    (47, &[Table::Ipv4(&splitting::A_NETWORK)]),
     (
         48,
         &[
-            Table::U32(&handing::ALL_AND_NONE),
-            Table::Set(Set::U32(&handing::ALL_KEYS)),
+            Table::U32(&splitting::ALL_AND_NONE),
+            Table::Set(Set::U32(&splitting::ALL_KEYS)),
         ],
     ),
-    (49, &[Table::U8(&handing::UNDER_THREE_SLOTS)]),
+    (49, &[Table::U8(&splitting::UNDER_THREE_SLOTS)]),
 ];
 
 /// Whether there is a row of this number, and each of its tables comes out as it should.
-pub fn comes_out(alloc: Global, number: u32) -> bool {
+pub fn row_holds(alloc: Global, number: u32) -> bool {
     for (other, row) in &ROWS {
         if *other == number {
             return all_hold_in(alloc, row);
@@ -212,17 +212,17 @@ fn holds(alloc: Global, table: &Table) -> Result<bool, Refusal> {
         Table::Narrow3(lines) => all_hold::<(Narrow<3>, u8)>(alloc, lines),
         Table::Narrow5(lines) => all_hold::<(Narrow<5>, u8)>(alloc, lines),
         Table::Narrow10(lines) => all_hold::<(Narrow<10>, u8)>(alloc, lines),
-        Table::NarrowKeys(table) => Ok(all_made(table)),
-        Table::Run(limit, turns) => all_reply::<(u8, u8)>(alloc, *limit, turns),
+        Table::NarrowKeys(table) => Ok(all_as_expected(table)),
+        Table::Run(limit, lines) => all_reply::<(u8, u8)>(alloc, *limit, lines),
         Table::Set(set) => holds_of_set(alloc, set),
     }
 }
 
 fn holds_of_set(alloc: Global, set: &Set) -> Result<bool, Refusal> {
     match set {
-        Set::Ipv4(lines) => of_sets::all_hold::<Ipv4Prefix>(alloc, lines),
-        Set::U8(lines) => of_sets::all_hold::<(u8, u8)>(alloc, lines),
-        Set::U32(lines) => of_sets::all_hold::<(u32, u8)>(alloc, lines),
-        Set::U128(lines) => of_sets::all_hold::<(u128, u8)>(alloc, lines),
+        Set::Ipv4(lines) => set_tables::all_hold::<Ipv4Prefix>(alloc, lines),
+        Set::U8(lines) => set_tables::all_hold::<(u8, u8)>(alloc, lines),
+        Set::U32(lines) => set_tables::all_hold::<(u32, u8)>(alloc, lines),
+        Set::U128(lines) => set_tables::all_hold::<(u128, u8)>(alloc, lines),
     }
 }

@@ -2,12 +2,12 @@
 ghost use Rattle.std.specs.Prelude.{IfSome};
 
 mod comparing;
+mod consuming;
 mod entries;
-mod handing;
 pub mod narrow;
 mod numbers;
 pub mod sets;
-mod taking;
+mod splitting;
 mod texts;
 mod walks;
 mod writing;
@@ -112,32 +112,32 @@ pub enum Line {
 }
 
 /// A prefix that tables write as a number and a length.
-pub trait Written: Prefix + PartialEq {
+pub trait TablePrefix: Prefix + PartialEq {
     /// The prefix of this number and length, if there is one.
     fn of(number: Number, len: u8) -> Option<Self>;
 }
 
 /// There is one for each key, but it need not fit.
-impl<R: Key> Written for (R, u8) {
+impl<R: Key> TablePrefix for (R, u8) {
     fn of(number: Number, len: u8) -> Option<Self> {
         Some((key_of(number)?, len))
     }
 }
 
-impl Written for Ipv4Prefix {
+impl TablePrefix for Ipv4Prefix {
     fn of(number: Number, len: u8) -> Option<Self> {
         Ipv4Prefix::new(key_of(number)?, len)
     }
 }
 
-impl Written for Ipv6Prefix {
+impl TablePrefix for Ipv6Prefix {
     fn of(number: Number, len: u8) -> Option<Self> {
         Ipv6Prefix::new(key_of(number)?, len)
     }
 }
 
 /// The prefix that is written so, if there is one and it fits.
-pub fn fitting<P: Written>(pair: Pair) -> Option<P>
+pub fn fitting_prefix<P: TablePrefix>(pair: Pair) -> Option<P>
     ensures { IfSome result P.IsFitting }
 {
     match P::of(pair.0, pair.1) {
@@ -147,18 +147,18 @@ pub fn fitting<P: Written>(pair: Pair) -> Option<P>
 }
 
 /// Whether tables write a prefix so.
-pub fn is<P: Prefix>(prefix: &P, (number, len): Pair) -> bool {
+pub fn is_prefix<P: Prefix>(prefix: &P, (number, len): Pair) -> bool {
     key_of(number) == Some(prefix.repr()) && prefix.prefix_len() == len
 }
 
 /// Whether each call of a table has its answer, in order. Refused if there is no memory for the first map.
-pub fn all_hold<P: Written>(alloc: Global, lines: &[Line]) -> Result<bool, Refusal> {
+pub fn all_hold<P: TablePrefix>(alloc: Global, lines: &[Line]) -> Result<bool, Refusal> {
     let mut map: Map<P> = PrefixMap::new(alloc)?;
     Ok(hold_in_order(alloc, &mut map, lines))
 }
 
 /// Whether each call has its answer, where they are put to a map in order.
-fn hold_in_order<P: Written>(alloc: Global, map: &mut Map<P>, lines: &[Line]) -> bool {
+fn hold_in_order<P: TablePrefix>(alloc: Global, map: &mut Map<P>, lines: &[Line]) -> bool {
     for line in lines {
         if !holds(alloc, map, line) {
             return false;
@@ -168,25 +168,25 @@ fn hold_in_order<P: Written>(alloc: Global, map: &mut Map<P>, lines: &[Line]) ->
 }
 
 /// Whether a call has its answer.
-fn holds<P: Written>(alloc: Global, map: &mut Map<P>, line: &Line) -> bool {
+fn holds<P: TablePrefix>(alloc: Global, map: &mut Map<P>, line: &Line) -> bool {
     match line {
-        Line::New => renews(map, PrefixMap::new(alloc), Ok(())),
-        Line::WithSlotLimit(limit, answer) => {
-            renews(map, PrefixMap::with_slot_limit(alloc, *limit), *answer)
+        Line::New => replaces(map, PrefixMap::new(alloc), Ok(())),
+        Line::WithSlotLimit(limit, expected) => {
+            replaces(map, PrefixMap::with_slot_limit(alloc, *limit), *expected)
         }
-        Line::Insert(pair, value, answer) => inserts(map, *pair, *value, *answer),
+        Line::Insert(pair, value, expected) => inserts(map, *pair, *value, *expected),
         Line::InsertAll(pairs) => inserts_all(map, pairs),
-        Line::GetLpmMut(pair, value, answer) => writes(map, *pair, *value, *answer),
-        Line::Remove(pair, answer) => removes(map, *pair, *answer),
-        Line::RemoveKeepTree(pair, answer) => removes_keeping_tree(map, *pair, *answer),
+        Line::GetLpmMut(pair, value, expected) => writes(map, *pair, *value, *expected),
+        Line::Remove(pair, expected) => removes(map, *pair, *expected),
+        Line::RemoveKeepTree(pair, expected) => removes_keeping_tree(map, *pair, *expected),
         Line::DropChildren(pair) => drops_children(map, *pair),
-        Line::RemoveChildren(pair, lines) => handing::hands_out(map, *pair, lines),
+        Line::RemoveChildren(pair, lines) => splitting::splits_off(map, *pair, lines),
         Line::Retain(asked) => retains(map, asked),
         Line::Clear => clears(map),
         Line::IterFromMut(pair, inclusive, more) => writing::adds(map, *pair, *inclusive, *more),
         Line::ChildrenMut(pair, factor) => writing::multiplies(map, *pair, *factor),
         Line::ValuesMut(value) => writing::sets_first(map, *value),
-        Line::Equals(entries, answer) => comparing::equals(alloc, map, entries, *answer),
+        Line::Equals(entries, expected) => comparing::equals(alloc, map, entries, *expected),
         Line::Text(text) => texts::is_text(alloc, map, text),
         Line::PrefixText(pair, text) => texts::is_prefix_text::<P>(alloc, *pair, text),
         _ => holds_at_entry(map, line),
@@ -194,29 +194,29 @@ fn holds<P: Written>(alloc: Global, map: &mut Map<P>, line: &Line) -> bool {
 }
 
 /// Whether a call of an entry has its answer.
-fn holds_at_entry<P: Written>(map: &mut Map<P>, line: &Line) -> bool {
+fn holds_at_entry<P: TablePrefix>(map: &mut Map<P>, line: &Line) -> bool {
     match line {
-        Line::EntryKey(pair, answer) => entries::has_key(map, *pair, *answer),
-        Line::EntryGet(pair, answer) => entries::has_value(map, *pair, *answer),
-        Line::EntryInsert(pair, value, answer) => entries::inserts(map, *pair, *value, *answer),
-        Line::AddOrInsert(pair, fresh, answer) => entries::adds(map, *pair, *fresh, *answer),
-        Line::OrDefault(pair, answer, then) => entries::or_default(map, *pair, *answer, *then),
-        Line::OrInsertWith(pair, fresh, answer, calls) => {
-            entries::or_insert_with(map, *pair, *fresh, *answer, *calls)
+        Line::EntryKey(pair, expected) => entries::has_key(map, *pair, *expected),
+        Line::EntryGet(pair, expected) => entries::has_value(map, *pair, *expected),
+        Line::EntryInsert(pair, value, expected) => entries::inserts(map, *pair, *value, *expected),
+        Line::AddOrInsert(pair, fresh, expected) => entries::adds(map, *pair, *fresh, *expected),
+        Line::OrDefault(pair, expected, then) => entries::or_default(map, *pair, *expected, *then),
+        Line::OrInsertWith(pair, fresh, expected, calls) => {
+            entries::or_insert_with(map, *pair, *fresh, *expected, *calls)
         }
-        Line::RemoveEntry(pair, answer) => entries::removes(map, *pair, *answer),
-        _ => answers(map, line),
+        Line::RemoveEntry(pair, expected) => entries::removes(map, *pair, *expected),
+        _ => holds_unchanged(map, line),
     }
 }
 
 /// Whether a call that changes no map has its answer.
-fn answers<P: Written>(map: &Map<P>, line: &Line) -> bool {
+fn holds_unchanged<P: TablePrefix>(map: &Map<P>, line: &Line) -> bool {
     match line {
-        Line::Get(pair, answer) => gets(map, *pair, *answer),
-        Line::GetKeyValue(pair, answer) => finds(map, *pair, *answer),
-        Line::GetLpm(pair, answer) => finds_longest(map, *pair, *answer),
-        Line::GetSpm(pair, answer) => finds_shortest(map, *pair, *answer),
-        Line::IsCovered(pair, answer) => is_covered(map, *pair, *answer),
+        Line::Get(pair, expected) => gets(map, *pair, *expected),
+        Line::GetKeyValue(pair, expected) => finds(map, *pair, *expected),
+        Line::GetLpm(pair, expected) => finds_longest(map, *pair, *expected),
+        Line::GetSpm(pair, expected) => finds_shortest(map, *pair, *expected),
+        Line::IsCovered(pair, expected) => is_covered(map, *pair, *expected),
         Line::Entries(entries) => walks::lists_entries(map, entries),
         Line::Iter(pairs) => walks::lists(map, pairs),
         Line::Values(values) => map.values().eq(*values),
@@ -231,22 +231,22 @@ fn answers<P: Written>(map: &Map<P>, line: &Line) -> bool {
         Line::AddressCount(count) => is_number(map.address_count(), *count),
         Line::NodeSlots(count) => map.node_slots() == *count,
         Line::CellSlots(count) => map.cell_slots() == *count,
-        Line::NodeBlocks(used, free) => are(map.node_blocks(), NODE_SIZES, *used, *free),
-        Line::CellBlocks(used, free) => are(map.cell_blocks(), CELL_SIZES, *used, *free),
-        Line::IntoChildren(pair, entries) => taking::gives_children(map, *pair, entries),
-        Line::IntoKeys(pairs) => taking::gives_keys(map, pairs),
+        Line::NodeBlocks(used, free) => has_blocks(map.node_blocks(), NODE_SIZES, *used, *free),
+        Line::CellBlocks(used, free) => has_blocks(map.cell_blocks(), CELL_SIZES, *used, *free),
+        Line::IntoChildren(pair, entries) => consuming::gives_children(map, *pair, entries),
+        Line::IntoKeys(pairs) => consuming::gives_keys(map, pairs),
         Line::Clone => comparing::clones(map),
-        _ => answers_alone::<P>(line),
+        _ => holds_of_prefix::<P>(line),
     }
 }
 
 /// Whether a question about a prefix by itself has its answer.
-fn answers_alone<P: Written>(line: &Line) -> bool {
+fn holds_of_prefix<P: TablePrefix>(line: &Line) -> bool {
     match line {
-        Line::IsPrefix((number, len), answer) => P::of(*number, *len).is_some() == *answer,
-        Line::Fits((number, len), answer) => fits::<P>(*number, *len) == Some(*answer),
-        Line::Mask(pair, answer) => masks::<P>(*pair, *answer),
-        Line::Contains(outer, inner, answer) => contains::<P>(*outer, *inner) == Some(*answer),
+        Line::IsPrefix((number, len), expected) => P::of(*number, *len).is_some() == *expected,
+        Line::Fits((number, len), expected) => fits::<P>(*number, *len) == Some(*expected),
+        Line::Mask(pair, expected) => masks::<P>(*pair, *expected),
+        Line::Contains(outer, inner, expected) => contains::<P>(*outer, *inner) == Some(*expected),
         _ => false,
     }
 }
@@ -254,34 +254,34 @@ fn answers_alone<P: Written>(line: &Line) -> bool {
 // ---- what changes a map
 
 /// Goes on with another map, if there is one.
-fn renews<P: Prefix>(
+fn replaces<P: Prefix>(
     map: &mut Map<P>,
     made: Result<Map<P>, Refusal>,
-    answer: Result<(), Refusal>,
+    expected: Result<(), Refusal>,
 ) -> bool {
     match made {
         Ok(fresh) => {
             *map = fresh;
-            answer.is_ok()
+            expected.is_ok()
         }
-        Err(cause) => answer == Err(cause),
+        Err(cause) => expected == Err(cause),
     }
 }
 
-fn inserts<P: Written>(
+fn inserts<P: TablePrefix>(
     map: &mut Map<P>,
     pair: Pair,
     value: u64,
-    answer: Result<Option<u64>, Refusal>,
+    expected: Result<Option<u64>, Refusal>,
 ) -> bool {
-    match fitting::<P>(pair) {
+    match fitting_prefix::<P>(pair) {
         Some(prefix) => map.insert(prefix, value)
-            == answer.map_err(|cause| Refused { cause, value }),
+            == expected.map_err(|cause| Refused { cause, value }),
         None => false,
     }
 }
 
-fn inserts_all<P: Written>(map: &mut Map<P>, pairs: &[Pair]) -> bool {
+fn inserts_all<P: TablePrefix>(map: &mut Map<P>, pairs: &[Pair]) -> bool {
     let mut value = 0_u64;
     for pair in pairs {
         if !inserts(map, *pair, value, Ok(None)) {
@@ -292,35 +292,39 @@ fn inserts_all<P: Written>(map: &mut Map<P>, pairs: &[Pair]) -> bool {
     true
 }
 
-fn writes<P: Written>(map: &mut Map<P>, pair: Pair, value: u64, answer: Pair) -> bool {
-    let Some(prefix) = fitting::<P>(pair) else {
+fn writes<P: TablePrefix>(map: &mut Map<P>, pair: Pair, value: u64, expected: Pair) -> bool {
+    let Some(prefix) = fitting_prefix::<P>(pair) else {
         return false;
     };
     match map.get_lpm_mut(&prefix) {
-        Some((found, place)) => {
-            *place = value;
-            is(&found, answer)
+        Some((found, stored)) => {
+            *stored = value;
+            is_prefix(&found, expected)
         }
         None => false,
     }
 }
 
-fn removes<P: Written>(map: &mut Map<P>, pair: Pair, answer: Option<u64>) -> bool {
-    match fitting::<P>(pair) {
-        Some(prefix) => map.remove(&prefix) == answer,
+fn removes<P: TablePrefix>(map: &mut Map<P>, pair: Pair, expected: Option<u64>) -> bool {
+    match fitting_prefix::<P>(pair) {
+        Some(prefix) => map.remove(&prefix) == expected,
         None => false,
     }
 }
 
-fn removes_keeping_tree<P: Written>(map: &mut Map<P>, pair: Pair, answer: Option<u64>) -> bool {
-    match fitting::<P>(pair) {
-        Some(prefix) => map.remove_keep_tree(&prefix) == answer,
+fn removes_keeping_tree<P: TablePrefix>(
+    map: &mut Map<P>,
+    pair: Pair,
+    expected: Option<u64>,
+) -> bool {
+    match fitting_prefix::<P>(pair) {
+        Some(prefix) => map.remove_keep_tree(&prefix) == expected,
         None => false,
     }
 }
 
-fn drops_children<P: Written>(map: &mut Map<P>, pair: Pair) -> bool {
-    match fitting::<P>(pair) {
+fn drops_children<P: TablePrefix>(map: &mut Map<P>, pair: Pair) -> bool {
+    match fitting_prefix::<P>(pair) {
         Some(prefix) => {
             map.drop_children(&prefix);
             true
@@ -357,46 +361,47 @@ fn clears<P: Prefix>(map: &mut Map<P>) -> bool {
 
 // ---- what a map answers
 
-fn gets<P: Written>(map: &Map<P>, pair: Pair, answer: Option<u64>) -> bool {
-    match fitting::<P>(pair) {
-        Some(prefix) => map.get(&prefix).copied() == answer,
+fn gets<P: TablePrefix>(map: &Map<P>, pair: Pair, expected: Option<u64>) -> bool {
+    match fitting_prefix::<P>(pair) {
+        Some(prefix) => map.get(&prefix).copied() == expected,
         None => false,
     }
 }
 
 /// Whether tables write so what a lookup or a walk gives.
-fn is_shown<P: Prefix>(found: Option<(P, &u64)>, answer: Option<Entry>) -> bool {
-    match (found, answer) {
-        (Some((prefix, value)), Some((pair, expected))) => is(&prefix, pair) && *value == expected,
+fn is_entry<P: Prefix>(found: Option<(P, &u64)>, expected: Option<Entry>) -> bool {
+    match (found, expected) {
+        (Some((prefix, value)), Some((pair, expected))) => is_prefix(&prefix, pair)
+            && *value == expected,
         (None, None) => true,
         _ => false,
     }
 }
 
-fn finds<P: Written>(map: &Map<P>, pair: Pair, answer: Option<Entry>) -> bool {
-    match fitting::<P>(pair) {
-        Some(prefix) => is_shown(map.get_key_value(&prefix), answer),
+fn finds<P: TablePrefix>(map: &Map<P>, pair: Pair, expected: Option<Entry>) -> bool {
+    match fitting_prefix::<P>(pair) {
+        Some(prefix) => is_entry(map.get_key_value(&prefix), expected),
         None => false,
     }
 }
 
-fn finds_longest<P: Written>(map: &Map<P>, pair: Pair, answer: Option<Entry>) -> bool {
-    match fitting::<P>(pair) {
-        Some(prefix) => is_shown(map.get_lpm(&prefix), answer),
+fn finds_longest<P: TablePrefix>(map: &Map<P>, pair: Pair, expected: Option<Entry>) -> bool {
+    match fitting_prefix::<P>(pair) {
+        Some(prefix) => is_entry(map.get_lpm(&prefix), expected),
         None => false,
     }
 }
 
-fn finds_shortest<P: Written>(map: &Map<P>, pair: Pair, answer: Option<Entry>) -> bool {
-    match fitting::<P>(pair) {
-        Some(prefix) => is_shown(map.get_spm(&prefix), answer),
+fn finds_shortest<P: TablePrefix>(map: &Map<P>, pair: Pair, expected: Option<Entry>) -> bool {
+    match fitting_prefix::<P>(pair) {
+        Some(prefix) => is_entry(map.get_spm(&prefix), expected),
         None => false,
     }
 }
 
-fn is_covered<P: Written>(map: &Map<P>, pair: Pair, answer: bool) -> bool {
-    match fitting::<P>(pair) {
-        Some(prefix) => map.is_covered(&prefix) == answer,
+fn is_covered<P: TablePrefix>(map: &Map<P>, pair: Pair, expected: bool) -> bool {
+    match fitting_prefix::<P>(pair) {
+        Some(prefix) => map.is_covered(&prefix) == expected,
         None => false,
     }
 }
@@ -409,7 +414,12 @@ const NODE_SIZES: [usize; 7] = [1, 2, 4, 8, 16, 24, 32];
 const CELL_SIZES: [usize; 7] = [1, 2, 4, 8, 16, 24, 31];
 
 /// Whether the blocks have these sizes, and of each so many are in use and so many free.
-fn are(blocks: [BlockCount; 7], sizes: [usize; 7], used: [usize; 7], free: [usize; 7]) -> bool {
+fn has_blocks(
+    blocks: [BlockCount; 7],
+    sizes: [usize; 7],
+    used: [usize; 7],
+    free: [usize; 7],
+) -> bool {
     blocks.iter().map(|block| block.size).eq(sizes)
         && blocks.iter().map(|block| block.used).eq(used)
         && blocks.iter().map(|block| block.free).eq(free)
@@ -417,19 +427,19 @@ fn are(blocks: [BlockCount; 7], sizes: [usize; 7], used: [usize; 7], free: [usiz
 
 // ---- what a prefix answers by itself
 
-fn fits<P: Written>(number: Number, len: u8) -> Option<bool> {
+fn fits<P: TablePrefix>(number: Number, len: u8) -> Option<bool> {
     P::of(number, len).map(|prefix| prefix.fits())
 }
 
-fn masks<P: Written>(pair: Pair, answer: Number) -> bool {
-    match fitting::<P>(pair) {
-        Some(prefix) => key_of(answer) == Some(prefix.mask()),
+fn masks<P: TablePrefix>(pair: Pair, expected: Number) -> bool {
+    match fitting_prefix::<P>(pair) {
+        Some(prefix) => key_of(expected) == Some(prefix.mask()),
         None => false,
     }
 }
 
-fn contains<P: Written>(outer: Pair, inner: Pair) -> Option<bool> {
-    match (fitting::<P>(outer), fitting::<P>(inner)) {
+fn contains<P: TablePrefix>(outer: Pair, inner: Pair) -> Option<bool> {
+    match (fitting_prefix::<P>(outer), fitting_prefix::<P>(inner)) {
         (Some(outer), Some(inner)) => Some(outer.contains(&inner)),
         _ => None,
     }

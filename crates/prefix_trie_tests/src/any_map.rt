@@ -5,10 +5,10 @@ ghost use Rattle.prefix_trie.specs.Words.{listing, needed, IsTidy};
 ghost use Rattle.prefix_trie_bits.specs.Laws.Slots.{MakesSlots};
 ghost use Rattle.prefix_trie_map.specs.Steps.{storage};
 
+use crate::contents::{has_keys, stores};
 use crate::examples::expiry::keep_from;
 use crate::examples::merge::merge;
 use crate::on_new::{on_new, on_two_new};
-use crate::stored::{has_keys, stores};
 use prefix_trie::{Prefix, PrefixMap};
 use prefix_trie_bits::laws::slot_laws;
 use prefix_trie_map::laws::copy_laws;
@@ -27,7 +27,7 @@ fn keep_common<P: Prefix, A: Allocator>(
 }
 
 // Sets a key of a tidy map, takes one out, and counts the nodes then.
-fn set_and_remove<P: Prefix, T: Drop, A: Allocator>(
+fn insert_and_remove<P: Prefix, T: Drop, A: Allocator>(
     map: &mut PrefixMap<P, T, A>,
     prefix: P,
     value: T,
@@ -59,7 +59,7 @@ fn use_emptied<P: Prefix, T: Drop, A: Allocator>(
     ensures counted { result ≡ len (needed map.new.entries) }
 {
     map.clear();
-    set_and_remove(map, prefix, value, out)
+    insert_and_remove(map, prefix, value, out)
 }
 
 // And of what `retain` leaves of any map.
@@ -75,11 +75,11 @@ fn use_retained<P: Prefix, A: Allocator>(
     ensures counted { result ≡ len (needed map.new.entries) }
 {
     keep_from(map, least);
-    set_and_remove(map, prefix, least, out)
+    insert_and_remove(map, prefix, least, out)
 }
 
 // Sets a new key of a tidy map and takes it out again.
-fn set_and_take_out<P: Prefix, T: Drop, A: Allocator>(
+fn insert_and_remove_again<P: Prefix, T: Drop, A: Allocator>(
     map: &mut PrefixMap<P, T, A>,
     prefix: P,
     value: T,
@@ -104,7 +104,7 @@ fn set_and_take_out<P: Prefix, T: Drop, A: Allocator>(
 }
 
 // Sets a key of any map: how many slots that makes at most.
-fn set_within<P: Prefix, T: Drop, A: Allocator>(
+fn insert_within_bound<P: Prefix, T: Drop, A: Allocator>(
     map: &mut PrefixMap<P, T, A>,
     prefix: P,
     value: T,
@@ -148,7 +148,7 @@ fn has_common_with_two(to: &mut Numbers, from: &mut Numbers, _alloc: Global) -> 
 }
 
 #[test]
-fn entries_of_another_map(rt: HostRuntime) {
+fn keeping_common_keys_intersects_two_maps(rt: HostRuntime) {
     assert!(rt;
         on_two_new(
             PrefixMap::new(rt.alloc()),
@@ -160,12 +160,12 @@ fn entries_of_another_map(rt: HostRuntime) {
 }
 
 /// Whether a map has the nodes that its keys need once it was used, and keeps them where a key comes and goes.
-fn is_counted(map: &mut Numbers) -> bool {
+fn has_needed_nodes(map: &mut Numbers) -> bool {
     let nodes = use_retained(map, 10, (0x0a0b, 11), &(0x0a0b, 16));
     if map.contains_key(&(0xffff, 16)) {
         return false;
     }
-    set_and_take_out(map, (0xffff, 16), 1, &(0xffff, 16));
+    insert_and_remove_again(map, (0xffff, 16), 1, &(0xffff, 16));
     (nodes, map.node_count()) == (3, 3)
 }
 
@@ -179,11 +179,14 @@ fn has_tidy_copy(map: &mut Numbers) -> bool {
 }
 
 /// Both in turn, and a key set between them, of a map of two numbers.
-fn is_used(map: &mut Numbers, _alloc: Global) -> bool {
-    stores(map, &TWO) & is_counted(map) & set_within(map, (0x0a0b, 16), 12) & has_tidy_copy(map)
+fn stays_tidy(map: &mut Numbers, _alloc: Global) -> bool {
+    stores(map, &TWO)
+        & has_needed_nodes(map)
+        & insert_within_bound(map, (0x0a0b, 16), 12)
+        & has_tidy_copy(map)
 }
 
 #[test]
-fn a_map_that_was_used_before(rt: HostRuntime) {
-    assert!(rt; on_new(PrefixMap::new(rt.alloc()), rt.alloc(), is_used) == Ok(true));
+fn a_used_map_has_exactly_the_needed_nodes(rt: HostRuntime) {
+    assert!(rt; on_new(PrefixMap::new(rt.alloc()), rt.alloc(), stays_tidy) == Ok(true));
 }

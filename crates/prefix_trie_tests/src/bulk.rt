@@ -2,13 +2,14 @@
 //! groups; and a burst of packets.
 ghost use Rattle.std.specs.Prelude.{◌≡◌, ◌^◌, ◌<◌, ◌≤◌, All, length};
 
-use crate::cases::changes::put_in;
-use crate::cases::questions::{shown, value_in};
+use crate::cases::lookups::{as_entry, value_of_entry};
+use crate::cases::writes::put_in;
 use crate::cases::{Entry, Pair};
+use crate::contents::stores;
 use crate::examples::batch::next_hops;
 use crate::examples::forwarding::add;
+use crate::networks::v4;
 use crate::on_new::on_new;
-use crate::stored::stores;
 use prefix_trie::{Ipv4Prefix, Prefix, PrefixMap};
 use prefix_trie_table::table::bulk::FEW_NODES;
 use std::alloc::Global;
@@ -16,46 +17,46 @@ use std::alloc::Global;
 type Map = PrefixMap<Pair<u128>, u64, Global>;
 
 /// A network, and one within it.
-const WIDE: Entry<u128> = ((0x2001_0db8 << 96, 32), 1);
+const WIDE: Entry<u128> = ((0x2001_0db8_0000_0000_0000_0000_0000_0000, 32), 1);
 
-const NEAR: Entry<u128> = ((0x2001_0db8_0001 << 80, 48), 2);
+const NEAR: Entry<u128> = ((0x2001_0db8_0001_0000_0000_0000_0000_0000, 48), 2);
 
 /// Prefixes, each beside its longest match among the two: in both, in none, in the wider, the narrower itself, and around both.
 const CASES: [(Pair<u128>, Option<Entry<u128>>); 5] = [
-    ((0x2001_0db8_0001 << 80 | 7, 128), Some(NEAR)),
+    ((0x2001_0db8_0001_0000_0000_0000_0000_0007, 128), Some(NEAR)),
     ((1, 128), None),
-    ((0x2001_0db8_0002 << 80, 48), Some(WIDE)),
-    ((0x2001_0db8_0001 << 80, 48), Some(NEAR)),
-    ((0x2001_0db8 << 96, 31), None),
+    ((0x2001_0db8_0002_0000_0000_0000_0000_0000, 48), Some(WIDE)),
+    ((0x2001_0db8_0001_0000_0000_0000_0000_0000, 48), Some(NEAR)),
+    ((0x2001_0db8_0000_0000_0000_0000_0000_0000, 31), None),
 ];
 
 /// As many as three calls ask in groups of 32: two whole ones, and a part.
-const MOST: usize = 70;
+const MOST_PREFIXES: usize = 70;
 
 /// How many prefixes one call asks for.
-const COUNTS: [usize; 5] = [0, 1, 32, 33, MOST];
+const PREFIX_COUNTS: [usize; 5] = [0, 1, 32, 33, MOST_PREFIXES];
 
 /// So many hosts have more nodes than a map has that asks one prefix after another.
-const HOSTS: u64 = 3_200;
+const HOST_COUNT: u64 = 3_200;
 
 /// Writes the prefixes of the cases into a slice, over and over.
-fn ask_in_turn(asked: &mut [Pair<u128>])
+fn repeat_cases(asked: &mut [Pair<u128>])
     requires fit { All (λ p. (p.0 < 2 ^ 128) × (p.1 ≤ 128)) asked.old }
     ensures fit { All (λ p. (p.0 < 2 ^ 128) × (p.1 ≤ 128)) asked.new }
     ensures length { length asked.new ≡ length asked.old }
 {
-    for place in 0..asked.len() {
-        let prefix = CASES[place % 5].0;
+    for index in 0..asked.len() {
+        let prefix = CASES[index % 5].0;
         if prefix.fits() {
-            asked[place] = prefix;
+            asked[index] = prefix;
         }
     }
 }
 
 /// Whether entries are the answers of the cases in turn.
 fn are_entries(found: &[Option<(Pair<u128>, &u64)>]) -> bool {
-    for (place, entry) in found.iter().enumerate() {
-        if shown(*entry) != CASES[place % 5].1 {
+    for (index, entry) in found.iter().enumerate() {
+        if as_entry(*entry) != CASES[index % 5].1 {
             return false;
         }
     }
@@ -64,8 +65,8 @@ fn are_entries(found: &[Option<(Pair<u128>, &u64)>]) -> bool {
 
 /// The same of values.
 fn are_values(found: &[Option<&u64>]) -> bool {
-    for (place, value) in found.iter().enumerate() {
-        if value.copied() != value_in(CASES[place % 5].1) {
+    for (index, value) in found.iter().enumerate() {
+        if value.copied() != value_of_entry(CASES[index % 5].1) {
             return false;
         }
     }
@@ -78,8 +79,8 @@ fn gives_entries(map: &Map, asked: &[Pair<u128>]) -> bool
     requires few { length asked.now ≤ 70 }
 {
     let count = asked.len();
-    let mut found = [None; MOST];
-    let mut counted = [None; MOST];
+    let mut found = [None; MOST_PREFIXES];
+    let mut counted = [None; MOST_PREFIXES];
     map.get_lpm_bulk(asked, &mut found[..count]);
     map.get_lpm_bulk_counted(asked, &mut counted[..count]);
     are_entries(&found[..count]) & are_entries(&counted[..count])
@@ -91,8 +92,8 @@ fn gives_values(map: &Map, asked: &[Pair<u128>]) -> bool
     requires few { length asked.now ≤ 70 }
 {
     let count = asked.len();
-    let mut found = [None; MOST];
-    let mut counted = [None; MOST];
+    let mut found = [None; MOST_PREFIXES];
+    let mut counted = [None; MOST_PREFIXES];
     map.get_lpm_value_bulk(asked, &mut found[..count]);
     map.get_lpm_value_bulk_counted(asked, &mut counted[..count]);
     are_values(&found[..count]) & are_values(&counted[..count])
@@ -100,10 +101,10 @@ fn gives_values(map: &Map, asked: &[Pair<u128>]) -> bool
 
 /// Whether a map of the two answers as many prefixes as are counted, each time.
 fn gives_all(map: &Map) -> bool {
-    let mut asked = [(0, 0); MOST];
-    ask_in_turn(&mut asked);
-    for count in &COUNTS {
-        let some = &asked[..(*count).min(MOST)];
+    let mut asked = [(0, 0); MOST_PREFIXES];
+    repeat_cases(&mut asked);
+    for count in &PREFIX_COUNTS {
+        let some = &asked[..(*count).min(MOST_PREFIXES)];
         if !gives_entries(map, some) || !gives_values(map, some) {
             return false;
         }
@@ -113,7 +114,7 @@ fn gives_all(map: &Map) -> bool {
 
 /// Stores hosts, none of which is in a case.
 fn stores_hosts(map: &mut Map) -> bool {
-    for number in 0..HOSTS {
+    for number in 0..HOST_COUNT {
         if put_in(map, ((0x8000 | u128::from(number)) << 112, 128), number) != Ok(None) {
             return false;
         }
@@ -122,20 +123,20 @@ fn stores_hosts(map: &mut Map) -> bool {
 }
 
 /// Whether a new map answers so with few nodes and with many.
-fn answers(map: &mut Map, _: ()) -> bool {
+fn finds_with_few_and_many_nodes(map: &mut Map, _: ()) -> bool {
     let few = stores(map, &[WIDE, NEAR]) & (map.node_slots() <= FEW_NODES) & gives_all(map);
     let are_stored = stores_hosts(map);
     few & are_stored & (FEW_NODES < map.node_slots()) & gives_all(map)
 }
 
 /// Whether 40 addresses have their hops, in their order.
-fn answers_burst(table: &mut PrefixMap<Ipv4Prefix, u32, Global>, _: ()) -> bool {
-    let wide = Ipv4Prefix::new(0x0a00_0000, 8).unwrap();
-    let near = Ipv4Prefix::new(0x0a01_0000, 16).unwrap();
+fn finds_hops_of_burst(table: &mut PrefixMap<Ipv4Prefix, u32, Global>, _: ()) -> bool {
+    let wide = Ipv4Prefix::new(v4!(10, 0, 0, 0), 8).unwrap();
+    let near = Ipv4Prefix::new(v4!(10, 1, 0, 0), 16).unwrap();
     let are_added = add(table, wide, 1).is_ok() & add(table, near, 2).is_ok();
-    let mut addresses = [0x0a02_0203; 40];
-    addresses[33] = 0x0a01_0203;
-    addresses[39] = 0x0b00_0000;
+    let mut addresses = [v4!(10, 2, 2, 3); 40];
+    addresses[33] = v4!(10, 1, 2, 3);
+    addresses[39] = v4!(11, 0, 0, 0);
     let mut hops = [None; 40];
     next_hops(table, &addresses, &mut hops);
     are_added
@@ -146,7 +147,13 @@ fn answers_burst(table: &mut PrefixMap<Ipv4Prefix, u32, Global>, _: ()) -> bool 
 }
 
 #[test]
-fn bulk_answers_in_order(rt: HostRuntime) {
-    assert!(rt; on_new(PrefixMap::new(rt.alloc()), (), answers) == Ok(true));
-    assert!(rt; on_new(PrefixMap::new(rt.alloc()), (), answers_burst) == Ok(true));
+fn bulk_lookups_return_matches_in_order(rt: HostRuntime) {
+    assert!(rt;
+        on_new(
+            PrefixMap::new(rt.alloc()),
+            (),
+            finds_with_few_and_many_nodes
+        ) == Ok(true)
+    );
+    assert!(rt; on_new(PrefixMap::new(rt.alloc()), (), finds_hops_of_burst) == Ok(true));
 }

@@ -1,13 +1,13 @@
 //! Cases: calls of a map or a set, each beside what it should answer.
-pub mod changes;
-pub mod filling;
-pub mod keys;
-pub mod lists;
+pub mod entries;
+pub mod lookups;
 pub mod maps;
-pub mod questions;
-pub mod tried;
+pub mod sets;
+pub mod under_test;
+pub mod walks;
+pub mod writes;
 
-use crate::cases::filling::Fill;
+use crate::cases::entries::InsertVia;
 use prefix_trie::{Key, Prefix};
 
 /// A number and a length, which make a prefix.
@@ -20,15 +20,15 @@ pub type Entry<K> = (Pair<K>, u64);
 #[derive(Drop)]
 pub enum Case<'a, K: 'a> {
     /// A new map is made in place of this one, under a limit of slots or none.
-    Makes(Option<u32>),
+    StartsAnew(Option<u32>),
     /// `insert` sets this value, and answers the one that was there.
     Inserts(Pair<K>, u64, Option<u64>),
     /// `insert` of this value is refused, since the slots would pass the limit.
-    PassesLimit(Pair<K>, u64),
+    ExceedsLimit(Pair<K>, u64),
     /// `remove` answers so.
     Removes(Pair<K>, Option<u64>),
     /// `remove_keep_tree` answers so.
-    Empties(Pair<K>, Option<u64>),
+    RemovesKeepTree(Pair<K>, Option<u64>),
     /// `drop_children` is made.
     DropsChildren(Pair<K>),
     /// `retain` keeps the values from this one on.
@@ -40,19 +40,19 @@ pub enum Case<'a, K: 'a> {
     /// `clone` makes a second map that is the same.
     Copies,
     /// The two maps are the same: their entries, nodes and blocks.
-    Same,
+    AreSame,
     /// The two maps change places.
-    Turns,
+    Swaps,
     /// What is lent for a prefix has the second value, or nothing is lent; the first is written over it.
     Writes(Pair<K>, u64, Option<u64>),
     /// The same of the longest match.
     WritesLongest(Pair<K>, u64, Option<Entry<K>>),
     /// A vacant entry is filled by this call with this value.
-    Fills(Fill, Pair<K>, u64),
+    Fills(InsertVia, Pair<K>, u64),
     /// An entry is vacant, and is let go.
     LeavesVacant(Pair<K>),
     /// An occupied entry is taken out, and has this value.
-    TakesOut(Pair<K>, u64),
+    RemovesEntry(Pair<K>, u64),
     /// An occupied entry is set to the first value, and had the second.
     ChangesEntry(Pair<K>, u64, u64),
     /// All lookups of a prefix: the entry of exactly it, its longest match and its shortest.
@@ -66,9 +66,9 @@ pub enum Case<'a, K: 'a> {
     /// So many entries.
     Len(usize),
     /// So many addresses.
-    Addresses(Option<K>),
+    AddressCount(Option<K>),
     /// So many nodes.
-    Nodes(usize),
+    NodeCount(usize),
     /// So many slots of nodes and of cells.
     Slots(usize, usize),
     /// The blocks of this size in the array of nodes: used and free.

@@ -1,9 +1,10 @@
 //! Copies of a map and a set, and of the walks that take them apart, with each request for memory refused in turn: each value is cloned
 //! once.
-use crate::cases::keys::adds_key;
 use crate::cases::prefix_of;
+use crate::cases::sets::adds_key;
+use crate::contents::adds;
+use crate::networks::v4;
 use crate::refusing::Refusing;
-use crate::stored::adds;
 use prefix_trie::map::{IntoIter, IntoKeys, IntoValues};
 use prefix_trie::{Prefix, PrefixMap, PrefixSet};
 use std::alloc::{AllocError, Allocator, Global};
@@ -32,27 +33,27 @@ type SetKeys<A> = IntoKeys<Key, (), A>;
 
 /// Three keys, and one that is not stored.
 const KEYS: [Key; 4] = [
-    (0x0a00_0000, 8),
-    (0x0a00_0000, 9),
-    (0x0a01_0000, 24),
-    (0, 0),
+    v4!(10, 0, 0, 0; 8),
+    v4!(10, 0, 0, 0; 9),
+    v4!(10, 1, 0, 0; 24),
+    v4!(0, 0, 0, 0; 0),
 ];
 
 /// The names at the keys.
 const NAMES: [&str; 3] = ["outer", "next", "inner"];
 
-/// The key at a place.
-fn key_at(place: usize) -> Key
+/// The key at a index.
+fn key_at(index: usize) -> Key
     ensures { ⟦<Key as Prefix>⟧.IsFitting result }
 {
-    prefix_of(KEYS[place % 4])
+    prefix_of(KEYS[index % 4])
 }
 
 /// Stores the three names.
 fn put_names<A: Allocator + Copy>(alloc: A, names: &mut Names<A>) -> Result<bool, AllocError> {
-    for (place, text) in NAMES.iter().enumerate() {
+    for (index, text) in NAMES.iter().enumerate() {
         let name = String::from_str(alloc, text)?;
-        if !adds(names, key_at(place), name) {
+        if !adds(names, key_at(index), name) {
             return Ok(false);
         }
     }
@@ -60,99 +61,99 @@ fn put_names<A: Allocator + Copy>(alloc: A, names: &mut Names<A>) -> Result<bool
 }
 
 /// What has a copy, which may be refused.
-pub trait Copied: Drop {
+pub trait TryClone: Drop {
     /// A copy of it.
-    fn copy(&self) -> Result<Self, AllocError>;
+    fn try_clone(&self) -> Result<Self, AllocError>;
 }
 
-impl<P: Prefix, T: Clone, A: Allocator + Clone> Copied for PrefixMap<P, T, A> {
-    fn copy(&self) -> Result<Self, AllocError> {
+impl<P: Prefix, T: Clone, A: Allocator + Clone> TryClone for PrefixMap<P, T, A> {
+    fn try_clone(&self) -> Result<Self, AllocError> {
         self.clone()
     }
 }
 
-impl<P: Prefix, A: Allocator + Clone> Copied for PrefixSet<P, A> {
-    fn copy(&self) -> Result<Self, AllocError> {
+impl<P: Prefix, A: Allocator + Clone> TryClone for PrefixSet<P, A> {
+    fn try_clone(&self) -> Result<Self, AllocError> {
         self.clone()
     }
 }
 
-impl<P: Prefix, T: Clone, A: Allocator + Clone> Copied for IntoIter<P, T, A> {
-    fn copy(&self) -> Result<Self, AllocError> {
+impl<P: Prefix, T: Clone, A: Allocator + Clone> TryClone for IntoIter<P, T, A> {
+    fn try_clone(&self) -> Result<Self, AllocError> {
         self.clone()
     }
 }
 
-impl<P: Prefix, T: Clone, A: Allocator + Clone> Copied for IntoKeys<P, T, A> {
-    fn copy(&self) -> Result<Self, AllocError> {
+impl<P: Prefix, T: Clone, A: Allocator + Clone> TryClone for IntoKeys<P, T, A> {
+    fn try_clone(&self) -> Result<Self, AllocError> {
         self.clone()
     }
 }
 
-impl<P: Prefix, T: Clone, A: Allocator + Clone> Copied for IntoValues<P, T, A> {
-    fn copy(&self) -> Result<Self, AllocError> {
+impl<P: Prefix, T: Clone, A: Allocator + Clone> TryClone for IntoValues<P, T, A> {
+    fn try_clone(&self) -> Result<Self, AllocError> {
         self.clone()
     }
 }
 
 /// What has three names, or their keys, which a walk gives in turn.
-trait Named: Copied {
-    /// Whether it has or gives the one at a place, and at the fourth none.
-    fn gives(&mut self, place: usize) -> bool;
+trait HasNames: TryClone {
+    /// Whether it has or gives the one at a index, and at the fourth none.
+    fn yields(&mut self, index: usize) -> bool;
 }
 
-impl<A: Allocator + Clone> Named for Names<A> {
-    fn gives(&mut self, place: usize) -> bool {
-        is_name(self.get(&key_at(place)), place) & (self.len() == 3)
+impl<A: Allocator + Clone> HasNames for Names<A> {
+    fn yields(&mut self, index: usize) -> bool {
+        is_name(self.get(&key_at(index)), index) & (self.len() == 3)
     }
 }
 
-impl<A: Allocator + Clone> Named for PrefixSet<Key, A> {
-    fn gives(&mut self, place: usize) -> bool {
-        (self.contains(&key_at(place)) == (place < 3)) & (self.len() == 3)
+impl<A: Allocator + Clone> HasNames for PrefixSet<Key, A> {
+    fn yields(&mut self, index: usize) -> bool {
+        (self.contains(&key_at(index)) == (index < 3)) & (self.len() == 3)
     }
 }
 
-impl<A: Allocator + Clone> Named for IntoIter<Key, String<A>, A> {
-    fn gives(&mut self, place: usize) -> bool {
+impl<A: Allocator + Clone> HasNames for IntoIter<Key, String<A>, A> {
+    fn yields(&mut self, index: usize) -> bool {
         match self.next() {
-            Some((key, name)) => (key == key_at(place)) & is_name(Some(&name), place),
-            None => place == 3,
+            Some((key, name)) => (key == key_at(index)) & is_name(Some(&name), index),
+            None => index == 3,
         }
     }
 }
 
-impl<T: Clone, A: Allocator + Clone> Named for IntoKeys<Key, T, A> {
-    fn gives(&mut self, place: usize) -> bool {
+impl<T: Clone, A: Allocator + Clone> HasNames for IntoKeys<Key, T, A> {
+    fn yields(&mut self, index: usize) -> bool {
         match self.next() {
-            Some(key) => (key == key_at(place)) & (place < 3),
-            None => place == 3,
+            Some(key) => (key == key_at(index)) & (index < 3),
+            None => index == 3,
         }
     }
 }
 
-impl<A: Allocator + Clone> Named for IntoValues<Key, String<A>, A> {
-    fn gives(&mut self, place: usize) -> bool {
-        is_name(self.next().as_ref(), place)
+impl<A: Allocator + Clone> HasNames for IntoValues<Key, String<A>, A> {
+    fn yields(&mut self, index: usize) -> bool {
+        is_name(self.next().as_ref(), index)
     }
 }
 
-/// Whether a name is that at a place, where there is one.
-fn is_name<A: Allocator>(name: Option<&String<A>>, place: usize) -> bool {
+/// Whether a name is that at a index, where there is one.
+fn is_name<A: Allocator>(name: Option<&String<A>>, index: usize) -> bool {
     match name {
-        Some(name) => NAMES.get(place) == Some(&name.as_str()),
-        None => place == 3,
+        Some(name) => NAMES.get(index) == Some(&name.as_str()),
+        None => index == 3,
     }
 }
 
 /// What can be made anew, with every request refused from then on.
-trait Made<A: Allocator + Copy>: Named {
+trait BuildNames<A: Allocator + Copy>: HasNames {
     /// One of all three, in memory of an allocator.
-    fn made(heap: &Heap, alloc: A) -> Option<Self>;
+    fn build(heap: &Heap, alloc: A) -> Option<Self>;
 }
 
-impl<A: Allocator + Copy> Made<A> for Names<A> {
-    fn made(heap: &Heap, alloc: A) -> Option<Names<A>> {
+impl<A: Allocator + Copy> BuildNames<A> for Names<A> {
+    fn build(heap: &Heap, alloc: A) -> Option<Names<A>> {
         heap.refuse(0, 0);
         let mut names = PrefixMap::new(alloc).ok()?;
         let is_filled = put_names(alloc, &mut names) == Ok(true);
@@ -161,26 +162,26 @@ impl<A: Allocator + Copy> Made<A> for Names<A> {
     }
 }
 
-impl<A: Allocator + Copy> Made<A> for Items<A> {
-    fn made(heap: &Heap, alloc: A) -> Option<Items<A>> {
-        Some(Names::made(heap, alloc)?.into_iter())
+impl<A: Allocator + Copy> BuildNames<A> for Items<A> {
+    fn build(heap: &Heap, alloc: A) -> Option<Items<A>> {
+        Some(Names::build(heap, alloc)?.into_iter())
     }
 }
 
-impl<A: Allocator + Copy> Made<A> for Keys<A> {
-    fn made(heap: &Heap, alloc: A) -> Option<Keys<A>> {
-        Some(Names::made(heap, alloc)?.into_keys())
+impl<A: Allocator + Copy> BuildNames<A> for Keys<A> {
+    fn build(heap: &Heap, alloc: A) -> Option<Keys<A>> {
+        Some(Names::build(heap, alloc)?.into_keys())
     }
 }
 
-impl<A: Allocator + Copy> Made<A> for Values<A> {
-    fn made(heap: &Heap, alloc: A) -> Option<Values<A>> {
-        Some(Names::made(heap, alloc)?.into_values())
+impl<A: Allocator + Copy> BuildNames<A> for Values<A> {
+    fn build(heap: &Heap, alloc: A) -> Option<Values<A>> {
+        Some(Names::build(heap, alloc)?.into_values())
     }
 }
 
-impl<A: Allocator + Copy> Made<A> for Set<A> {
-    fn made(heap: &Heap, alloc: A) -> Option<Set<A>> {
+impl<A: Allocator + Copy> BuildNames<A> for Set<A> {
+    fn build(heap: &Heap, alloc: A) -> Option<Set<A>> {
         heap.refuse(0, 0);
         let mut set = PrefixSet::new(alloc).ok()?;
         let is_filled = put_keys(&mut set);
@@ -189,16 +190,16 @@ impl<A: Allocator + Copy> Made<A> for Set<A> {
     }
 }
 
-impl<A: Allocator + Copy> Made<A> for SetKeys<A> {
-    fn made(heap: &Heap, alloc: A) -> Option<SetKeys<A>> {
-        Some(Set::made(heap, alloc)?.into_iter())
+impl<A: Allocator + Copy> BuildNames<A> for SetKeys<A> {
+    fn build(heap: &Heap, alloc: A) -> Option<SetKeys<A>> {
+        Some(Set::build(heap, alloc)?.into_iter())
     }
 }
 
-/// Whether it gives all from a place on.
-fn gives_from<W: Named>(named: &mut W, first: usize) -> bool {
-    for place in first..4_usize {
-        if !named.gives(place) {
+/// Whether it gives all from a index on.
+fn yields_from<W: HasNames>(named: &mut W, first: usize) -> bool {
+    for index in first..4_usize {
+        if !named.yields(index) {
             return false;
         }
     }
@@ -206,27 +207,27 @@ fn gives_from<W: Named>(named: &mut W, first: usize) -> bool {
 }
 
 /// Whether a copy is refused exactly where a request is, with all refused once so many were passed on.
-fn is_refused_from<W: Named>(heap: &Heap, named: &W, passed: u64) -> bool {
+fn fails_from<W: HasNames>(heap: &Heap, named: &W, passed: u64) -> bool {
     heap.refuse(passed, u64::MAX);
-    named.copy().is_err() == (heap.left() < u64::MAX)
+    named.try_clone().is_err() == (heap.left() < u64::MAX)
 }
 
 /// Copies what was made with every request refused, with another request refused each time: it alone, and with all behind it. Answers
 /// how many were, if each copy was refused exactly where one was, and at last both the copy and what was copied give their names from a
-/// place on with every request refused, of which none comes.
-fn copies<W: Named>(heap: &Heap, mut named: W, first: usize) -> Option<u64> {
+/// index on with every request refused, of which none comes.
+fn copy_requests<W: HasNames>(heap: &Heap, mut named: W, first: usize) -> Option<u64> {
     let is_unasked = heap.left() == u64::MAX;
     for passed in 0..MANY {
-        let is_refused = is_refused_from(heap, &named, passed);
+        let is_refused = fails_from(heap, &named, passed);
         heap.refuse(passed, 1);
-        let answer = named.copy();
+        let answer = named.try_clone();
         if !is_refused || answer.is_err() != (heap.left() == 0) {
             return None;
         }
         if let Ok(mut copy) = answer {
             heap.refuse(0, u64::MAX);
-            let give_all = gives_from(&mut copy, first)
-                & gives_from(&mut named, first)
+            let give_all = yields_from(&mut copy, first)
+                & yields_from(&mut named, first)
                 & (heap.left() == u64::MAX);
             return (is_unasked & give_all).then_some(passed);
         }
@@ -235,35 +236,45 @@ fn copies<W: Named>(heap: &Heap, mut named: W, first: usize) -> Option<u64> {
 }
 
 /// The same of one that is made anew, and of one that has given the first of three.
-fn requests<A: Allocator + Copy, W: Made<A>>(heap: &Heap, alloc: A) -> (Option<u64>, Option<u64>) {
+fn requests<A: Allocator + Copy, W: BuildNames<A>>(
+    heap: &Heap,
+    alloc: A,
+) -> (Option<u64>, Option<u64>) {
     (
-        requests_of_whole::<A, W>(heap, alloc),
-        requests_left::<A, W>(heap, alloc),
+        requests_of_new::<A, W>(heap, alloc),
+        requests_after_first::<A, W>(heap, alloc),
     )
 }
 
 /// The first of these.
-fn requests_of_whole<A: Allocator + Copy, W: Made<A>>(heap: &Heap, alloc: A) -> Option<u64> {
-    copies(heap, W::made(heap, alloc)?, 0)
+fn requests_of_new<A: Allocator + Copy, W: BuildNames<A>>(heap: &Heap, alloc: A) -> Option<u64> {
+    copy_requests(heap, W::build(heap, alloc)?, 0)
 }
 
 /// The same of the part of a map behind its first name.
 fn requests_of_part<A: Allocator + Copy>(heap: &Heap, alloc: A) -> Option<u64> {
-    copies(heap, Names::made(heap, alloc)?.into_children(&key_at(1)), 1)
+    copy_requests(
+        heap,
+        Names::build(heap, alloc)?.into_children(&key_at(1)),
+        1,
+    )
 }
 
 /// The second of them.
-fn requests_left<A: Allocator + Copy, W: Made<A>>(heap: &Heap, alloc: A) -> Option<u64> {
-    let mut named = W::made(heap, alloc)?;
-    let is_given = named.gives(0);
-    let requests = copies(heap, named, 1)?;
+fn requests_after_first<A: Allocator + Copy, W: BuildNames<A>>(
+    heap: &Heap,
+    alloc: A,
+) -> Option<u64> {
+    let mut named = W::build(heap, alloc)?;
+    let is_given = named.yields(0);
+    let requests = copy_requests(heap, named, 1)?;
     is_given.then_some(requests)
 }
 
 /// Stores the three keys.
 fn put_keys<A: Allocator>(set: &mut PrefixSet<Key, A>) -> bool {
-    for place in 0..3_usize {
-        if !adds_key(set, key_at(place)) {
+    for index in 0..3_usize {
+        if !adds_key(set, key_at(index)) {
             return false;
         }
     }
@@ -272,7 +283,7 @@ fn put_keys<A: Allocator>(set: &mut PrefixSet<Key, A>) -> bool {
 
 /// Whether the copy of a map of names, and that of each walk which takes it apart, make as many requests, and one less where a walk gave
 /// the first name.
-fn are_requests<A: Allocator + Copy>(heap: &Heap, alloc: A) -> bool {
+fn maps_and_walks_agree<A: Allocator + Copy>(heap: &Heap, alloc: A) -> bool {
     let of_items = requests::<A, Items<A>>(heap, alloc);
     let of_two = of_items.1.unwrap_or(0);
     let of_three = Some(of_two.wrapping_add(1));
@@ -285,7 +296,7 @@ fn are_requests<A: Allocator + Copy>(heap: &Heap, alloc: A) -> bool {
 }
 
 /// Whether the copy of a set, and that of the walk that takes it apart, makes as many requests as the other, and some.
-fn are_alike<A: Allocator + Copy>(heap: &Heap, alloc: A) -> bool {
+fn sets_and_walks_agree<A: Allocator + Copy>(heap: &Heap, alloc: A) -> bool {
     let of_set = requests::<A, Set<A>>(heap, alloc);
     (of_set.0.unwrap_or(0) > 0)
         & (of_set.1 == of_set.0)
@@ -293,8 +304,8 @@ fn are_alike<A: Allocator + Copy>(heap: &Heap, alloc: A) -> bool {
 }
 
 #[test]
-fn each_request_of_a_copy_refused(rt: HostRuntime) {
+fn a_copy_fails_exactly_if_an_allocation_fails(rt: HostRuntime) {
     let heap = Refusing::new(rt.alloc());
-    assert!(rt; are_requests(&heap, &heap));
-    assert!(rt; are_alike(&heap, &heap));
+    assert!(rt; maps_and_walks_agree(&heap, &heap));
+    assert!(rt; sets_and_walks_agree(&heap, &heap));
 }

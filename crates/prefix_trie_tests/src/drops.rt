@@ -15,4 +15,4 @@ impl Drop for Counted<'_> {
 }
 
 /// Lets a value go.
-pub fn let_go<V: Drop>(_value: V) {}
+pub fn drop_now<V: Drop>(_value: V) {}

@@ -4,9 +4,9 @@ ghost use Rattle.std.specs.FinMap.{get, contains_key, len};
 ghost use Rattle.prefix_trie.specs.Words.{listing, put_all, shown, with_entry, with_needed, with_value_at, without_entry};
 ghost use Rattle.prefix_trie_bits.specs.Model.Room.{LeavesRoom};
 
+use crate::contents::{has_values, stores};
 use crate::examples::counter::count;
 use crate::on_new::{on_new, on_two_new};
-use crate::stored::{has_values, stores};
 use prefix_trie::map::Entry;
 use prefix_trie::{Prefix, PrefixMap, Refusal, Refused};
 use std::alloc::{Allocator, Global};
@@ -39,7 +39,10 @@ fn write_stored<P: Prefix, A: Allocator>(map: &mut PrefixMap<P, u64, A>, prefix:
 }
 
 // Takes an entry out, if it is there.
-fn take_out<P: Prefix, T: Drop, A: Allocator>(map: &mut PrefixMap<P, T, A>, prefix: P) -> Option<T>
+fn remove_if_stored<P: Prefix, T: Drop, A: Allocator>(
+    map: &mut PrefixMap<P, T, A>,
+    prefix: P,
+) -> Option<T>
     requires { P.IsFitting prefix }
     ensures value { result ≡ get map.old.entries (P.path prefix) }
     ensures entries { IsTrue (is_some result) → map.new.entries ≡ without_entry map.old.entries (P.path prefix) }
@@ -72,7 +75,10 @@ fn rewrite<P: Prefix, T: Drop, A: Allocator>(
 }
 
 // Copies a stored value, and lets the entry go.
-fn look<P: Prefix, T: Copy, A: Allocator>(map: &mut PrefixMap<P, T, A>, prefix: P) -> Option<T>
+fn read_and_release<P: Prefix, T: Copy, A: Allocator>(
+    map: &mut PrefixMap<P, T, A>,
+    prefix: P,
+) -> Option<T>
     requires { P.IsFitting prefix }
     ensures value { result ≡ get map.old.entries (P.path prefix) }
     ensures unchanged { map.new ≡ map.old }
@@ -164,7 +170,9 @@ fn lends_none(map: &mut PrefixMap<(u8, u8), u64, Global>) -> bool {
 fn counts_once_more(map: &mut PrefixMap<(u8, u8), u64, Global>) -> bool {
     count_again(map, (0xa0, 3));
     count_again(map, (0xc0, 3));
-    lends_none(map) & (look(map, (0xa0, 3)) == Some(4)) & look(map, (0xc0, 3)).is_none()
+    lends_none(map)
+        & (read_and_release(map, (0xa0, 3)) == Some(4))
+        & read_and_release(map, (0xc0, 3)).is_none()
 }
 
 /// Whether counting and storing answer so.
@@ -180,27 +188,27 @@ fn counts(map: &mut PrefixMap<(u8, u8), u64, Global>) -> bool {
 }
 
 /// Whether one of the two that are there then is taken out.
-fn takes_one_out(map: &mut PrefixMap<(u8, u8), u64, Global>) -> bool {
+fn removes_one(map: &mut PrefixMap<(u8, u8), u64, Global>) -> bool {
     has_values(map, &[4, 8])
-        & (take_out(map, (0xa5, 8)) == Some(8))
-        & take_out(map, (0xa5, 8)).is_none()
+        & (remove_if_stored(map, (0xa5, 8)) == Some(8))
+        & remove_if_stored(map, (0xa5, 8)).is_none()
         & (map.len() == 1)
 }
 
 /// Both in turn.
-fn are_counted(map: &mut PrefixMap<(u8, u8), u64, Global>, _: ()) -> bool {
-    counts(map) & takes_one_out(map)
+fn counts_and_removes(map: &mut PrefixMap<(u8, u8), u64, Global>, _: ()) -> bool {
+    counts(map) & removes_one(map)
 }
 
 #[test]
-fn entries_are_counted(rt: HostRuntime) {
-    assert!(rt; on_new(PrefixMap::new(rt.alloc()), (), are_counted) == Ok(true));
+fn entries_count_and_remove(rt: HostRuntime) {
+    assert!(rt; on_new(PrefixMap::new(rt.alloc()), (), counts_and_removes) == Ok(true));
 }
 
 type Numbers = PrefixMap<(u16, u8), u64, Global>;
 
 /// Whether a stored number of one map takes the place of that in another.
-fn is_put(from: &mut Numbers, to: &mut Numbers, _: ()) -> bool {
+fn replaces_stored(from: &mut Numbers, to: &mut Numbers, _: ()) -> bool {
     stores(from, &[((0x0a00, 8), 9)])
         & stores(to, &[((0x0a00, 8), 1)])
         & fill_from(to, from).is_ok()
@@ -208,7 +216,7 @@ fn is_put(from: &mut Numbers, to: &mut Numbers, _: ()) -> bool {
 }
 
 #[test]
-fn entries_of_another_map_are_put(rt: HostRuntime) {
+fn entries_of_another_map_are_inserted(rt: HostRuntime) {
     let (from, to) = (PrefixMap::new(rt.alloc()), PrefixMap::new(rt.alloc()));
-    assert!(rt; on_two_new(from, to, (), is_put) == Ok(true));
+    assert!(rt; on_two_new(from, to, (), replaces_stored) == Ok(true));
 }

@@ -18,11 +18,12 @@ pub mod routes_from_text;
 pub mod scaling;
 pub mod splitting;
 
+use crate::contents::stores;
+use crate::networks::v4;
 use crate::on_new::{on_new, on_two_new};
-use crate::stored::stores;
 use access::{may_enter, reasons};
 use cache::store;
-use copy::copied;
+use copy::copy_of;
 use counter::{add_all, total};
 use delegations::{holder, record};
 use forwarding::{add, next_hop};
@@ -45,51 +46,66 @@ type Networks = PrefixSet<Ipv4Prefix, Global>;
 
 type Counts = PrefixMap<(u8, u8), u64, Global>;
 
+/// A network, an address in it, and a network within it with one of its addresses.
+const WIDE: u32 = v4!(10, 0, 0, 0);
+
+const IN_WIDE: u32 = v4!(10, 2, 2, 3);
+
+const NEAR: u32 = v4!(10, 1, 0, 0);
+
+const IN_NEAR: u32 = v4!(10, 1, 2, 3);
+
+/// An address outside of both.
+const OUTSIDE: u32 = v4!(11, 0, 0, 0);
+
+/// The address of an IPv6 network.
+const SITE: u128 = 0x2001_0db8_0000_0000_0000_0000_0000_0000;
+
 /// Whether two tables are the same until a route of one is changed, which changes its next hops.
 fn differs_once_rerouted(map: &Numbers, copy: &mut Numbers) -> bool {
     are_same(map, copy)
-        & !reroute(copy, 0x0b00_0000, 5)
+        & !reroute(copy, OUTSIDE, 5)
         & are_same(map, copy)
-        & reroute(copy, 0x0a01_0203, 4)
+        & reroute(copy, IN_NEAR, 4)
         & !are_same(map, copy)
-        & (next_hop(copy, 0x0a01_0203) == Some(4))
-        & (next_hop(copy, 0x0a02_0203) == Some(1))
+        & (next_hop(copy, IN_NEAR) == Some(4))
+        & (next_hop(copy, IN_WIDE) == Some(1))
 }
 
 /// The same of a map and its copy.
 fn is_copied(map: &Numbers, alloc: Global) -> bool {
-    match copied(map, alloc) {
+    match copy_of(map, alloc) {
         Ok(mut copy) => differs_once_rerouted(map, &mut copy),
         Err(_) => false,
     }
 }
 
 /// Whether a network and one within it are a forwarding table, an inventory and a cache.
-fn stands_for_both(map: &mut Numbers) -> bool {
-    let wide = Ipv4Prefix::new(0x0a00_0000, 8).unwrap();
-    let near = Ipv4Prefix::new(0x0a01_0000, 16).unwrap();
+fn serves_two_networks(map: &mut Numbers) -> bool {
+    let wide = Ipv4Prefix::new(WIDE, 8).unwrap();
+    let near = Ipv4Prefix::new(NEAR, 16).unwrap();
     add(map, wide, 1).is_ok()
         & add(map, near, 2).is_ok()
-        & (next_hop(map, 0x0a01_0203) == Some(2))
-        & (next_hop(map, 0x0a02_0203) == Some(1))
-        & next_hop(map, 0x0b00_0000).is_none()
+        & (next_hop(map, IN_NEAR) == Some(2))
+        & (next_hop(map, IN_WIDE) == Some(1))
+        & next_hop(map, OUTSIDE).is_none()
         & (next(map, wide) == Some((near, 2)))
         & (count(map, wide) == 2)
         & (addresses(map) == Some(0x0100_0000))
         & (store(map, near, 3) == Ok(true))
-        & (next_hop(map, 0x0a01_0203) == Some(3))
+        & (next_hop(map, IN_NEAR) == Some(3))
 }
 
 /// The same, and of its copy.
-fn stands_for_both_and_copy(map: &mut Numbers, alloc: Global) -> bool {
-    stands_for_both(map) & is_copied(map, alloc)
+fn serves_two_networks_and_copy(map: &mut Numbers, alloc: Global) -> bool {
+    serves_two_networks(map) & is_copied(map, alloc)
 }
 
 /// Whether the holder of a network is found at its addresses alone.
 fn is_held(table: &mut Delegated, _: ()) -> bool {
-    let network = Ipv6Prefix::new(0x2001_0db8 << 96, 32).unwrap();
+    let network = Ipv6Prefix::new(SITE, 32).unwrap();
     record(table, network, 7).is_ok()
-        & (holder(table, 0x2001_0db8 << 96 | 1) == Some(7))
+        & (holder(table, SITE + 1) == Some(7))
         & holder(table, 1).is_none()
 }
 
@@ -103,14 +119,14 @@ fn is_reason(denied: &Networks, addr: u32, network: Ipv4Prefix, alloc: Global) -
 
 /// Whether a network within an allowed one is kept out, and no other address of that.
 fn keeps_out(allowed: &mut Networks, denied: &mut Networks, alloc: Global) -> bool {
-    let wide = Ipv4Prefix::new(0x0a00_0000, 8).unwrap();
-    let near = Ipv4Prefix::new(0x0a01_0000, 16).unwrap();
+    let wide = Ipv4Prefix::new(WIDE, 8).unwrap();
+    let near = Ipv4Prefix::new(NEAR, 16).unwrap();
     (allowed.insert(wide) == Ok(true))
         & (denied.insert(near) == Ok(true))
-        & may_enter(allowed, denied, 0x0a02_0203)
-        & !may_enter(allowed, denied, 0x0a01_0203)
-        & !may_enter(allowed, denied, 0x0b00_0000)
-        & is_reason(denied, 0x0a01_0203, near, alloc)
+        & may_enter(allowed, denied, IN_WIDE)
+        & !may_enter(allowed, denied, IN_NEAR)
+        & !may_enter(allowed, denied, OUTSIDE)
+        & is_reason(denied, IN_NEAR, near, alloc)
 }
 
 /// Whether numbers of 12 bits have the owners of the narrowest ranges with them.
@@ -160,7 +176,7 @@ fn are_counts(counts: &mut Counts, more: &mut Counts, alloc: Global) -> bool {
 #[test]
 fn examples_run(rt: HostRuntime) {
     let alloc = rt.alloc();
-    assert!(rt; on_new(PrefixMap::new(alloc), alloc, stands_for_both_and_copy) == Ok(true));
+    assert!(rt; on_new(PrefixMap::new(alloc), alloc, serves_two_networks_and_copy) == Ok(true));
     assert!(rt; on_new(PrefixMap::new(alloc), (), is_held) == Ok(true));
     let (allowed, denied) = (PrefixSet::new(alloc), PrefixSet::new(alloc));
     assert!(rt; on_two_new(allowed, denied, alloc, keeps_out) == Ok(true));

@@ -14,17 +14,17 @@ mod clones;
 #[cfg(test)]
 mod collecting;
 #[cfg(test)]
+mod contents;
+#[cfg(test)]
 mod drops;
 #[cfg(test)]
 mod entry_callers;
 #[cfg(test)]
 mod examples;
 #[cfg(test)]
-mod handing;
-#[cfg(test)]
 mod key_order;
 #[cfg(test)]
-mod memory;
+mod networks;
 #[cfg(test)]
 mod node;
 #[cfg(test)]
@@ -42,7 +42,9 @@ mod runs;
 #[cfg(test)]
 mod sets;
 #[cfg(test)]
-mod stored;
+mod shrinking;
+#[cfg(test)]
+mod splitting;
 #[cfg(test)]
 mod tables;
 #[cfg(test)]

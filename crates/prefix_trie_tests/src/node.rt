@@ -126,7 +126,7 @@ const WIDES: [Sample<u128>; 3] = [
 ];
 
 #[test]
-fn bits_and_masks_of_keys(rt: HostRuntime) {
+fn keys_have_these_bits_and_masks(rt: HostRuntime) {
     assert!(rt; are_sampled(&WORDS));
     assert!(rt; are_sampled(&BYTES));
     assert!(rt; are_sampled(&SHORTS) && are_sampled(&LONGS) && are_sampled(&WIDES));
@@ -142,14 +142,14 @@ const RANKS: [(u32, u32, u32); 5] = [
 ];
 
 #[test]
-fn ranks(rt: HostRuntime) {
+fn ranks_count_lower_bits(rt: HostRuntime) {
     for (bitmap, bit, below) in RANKS {
         assert!(rt; bit < 32 && rank(bitmap, bit) == below);
     }
 }
 
 #[test]
-fn single_bits(rt: HostRuntime) {
+fn single_bits_are_read_and_set(rt: HostRuntime) {
     assert!(rt;
         string_of(0) == (0, 0)
             && string_of(28) == (4, 13)
@@ -180,7 +180,7 @@ fn is_matched(key: u32, len: u32, longest: Option<u32>, shortest: Option<u32>) -
 }
 
 #[test]
-fn matches(rt: HostRuntime) {
+fn matches_are_the_longest_and_the_shortest(rt: HostRuntime) {
     for (key, len, longest, shortest) in MATCHES {
         assert!(rt; is_matched(key, len, longest, shortest));
     }
@@ -201,7 +201,7 @@ const BEHIND_CHILDREN: [(u32, (u32, u32)); 3] = [
 ];
 
 #[test]
-fn what_comes_after(rt: HostRuntime) {
+fn bits_after_a_place_are_masked(rt: HostRuntime) {
     for (bit, places) in FROM_VALUES {
         assert!(rt; bit < 31 && from_value(bit) == places);
     }
@@ -229,7 +229,7 @@ fn are_left(mut places: Places, order: &[u32]) -> bool {
 }
 
 #[test]
-fn order_of_all_places(rt: HostRuntime) {
+fn all_places_come_in_listing_order(rt: HostRuntime) {
     let order = [
         0, 1, 3, 7, 15, 100, 101, 16, 102, 103, 8, 17, 104, 105, 18, 106, 107, 4, 9, 19, 108, 109,
         20, 110, 111, 10, 21, 112, 113, 22, 114, 115, 2, 5, 11, 23, 116, 117, 24, 118, 119, 12, 25,
@@ -239,7 +239,7 @@ fn order_of_all_places(rt: HostRuntime) {
 }
 
 #[test]
-fn order_of_some_places(rt: HostRuntime) {
+fn some_places_come_in_listing_order(rt: HostRuntime) {
     let mut places = Places::new(1 << 2 | 1 << 15 | 1 << 7, 1 << 1 | 1 << 31);
     assert!(rt;
         places.next_place() == Some(Place::Value(7))

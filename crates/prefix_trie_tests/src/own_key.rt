@@ -75,7 +75,7 @@ fn are_alike(byte: u8, n: u32) -> bool {
 }
 
 #[test]
-fn bodies_of_the_trait(rt: HostRuntime) {
+fn provided_methods_return_what_those_of_u8_return(rt: HostRuntime) {
     for n in 0..9_u32 {
         assert!(rt; are_alike(0xb5, n) && are_alike(0xff, n));
     }

@@ -92,13 +92,13 @@ const WIDES: [Sample<u128>; 5] = [
 
 // A key's bits, past its end too.
 #[test]
-fn keys(rt: HostRuntime) {
+fn keys_have_these_bits(rt: HostRuntime) {
     assert!(rt; are_sampled(&BYTES) && are_sampled(&SHORTS) && are_sampled(&WORDS));
     assert!(rt; are_sampled(&LONGS) && are_sampled(&SIZES) && are_sampled(&WIDES));
 }
 
 #[test]
-fn extended(rt: HostRuntime) {
+fn keys_are_extended(rt: HostRuntime) {
     assert!(rt;
         0xbf_u8.extend(3, 5, 9) == 0xa9
             && 0xffff_u16.extend(15, 1, 0) == 0xfffe
@@ -112,7 +112,7 @@ fn extended(rt: HostRuntime) {
 }
 
 #[test]
-fn pairs(rt: HostRuntime) {
+fn pairs_are_prefixes(rt: HostRuntime) {
     let pair = (0xdead_beef_u32, 13_u8);
     assert!(rt;
         <(u32, u8)>::num_bits() == 32
@@ -132,7 +132,7 @@ fn pairs(rt: HostRuntime) {
 }
 
 #[test]
-fn ipv4(rt: HostRuntime) {
+fn ipv4_networks_are_prefixes(rt: HostRuntime) {
     let ten = Ipv4Prefix::from_repr_len(0x0a01_0000, 8);
     let numbers = [
         Ipv4Prefix::num_bits(),
@@ -157,7 +157,7 @@ fn ipv4(rt: HostRuntime) {
 }
 
 #[test]
-fn ipv6(rt: HostRuntime) {
+fn ipv6_networks_are_prefixes(rt: HostRuntime) {
     let network = Ipv6Prefix::from_repr_len(0x2001_0db8_0000_0000_0000_0000_0000_0001, 32);
     let numbers = [network.addr(), network.repr(), network.mask()];
     assert!(rt;
@@ -190,7 +190,7 @@ fn shows<T: Debug + Display>(alloc: Global, value: &T, expected: &str) -> bool {
 }
 
 #[test]
-fn texts(rt: HostRuntime) {
+fn networks_are_printed(rt: HostRuntime) {
     let four = Ipv4Prefix::host(0x0a01_0203);
     let six = Ipv6Prefix::host(1);
     let documentation = Ipv6Prefix::from_repr_len(0x2001_0db8_0000_0000_0000_0000_0000_00ff, 32);
@@ -212,7 +212,7 @@ fn texts(rt: HostRuntime) {
 }
 
 #[test]
-fn refusals(rt: HostRuntime) {
+fn refusals_have_numbers_and_compare(rt: HostRuntime) {
     assert!(rt; Refusal::Memory as u8 == 1 && Refusal::IndexRange as u8 == 2);
     let refused = Refused {
         cause: Refusal::Memory,
@@ -293,7 +293,7 @@ impl Prefix for Tag {
 }
 
 #[test]
-fn replaced_bodies(rt: HostRuntime) {
+fn a_prefix_type_may_replace_methods(rt: HostRuntime) {
     let tag = Tag { byte: 0xff, len: 3 };
     assert!(rt;
         tag.mask() == 0xe0

@@ -1,8 +1,8 @@
 //! Callers of `retain`: with any test that may always be asked, and at concrete types.
 
+use crate::contents::{has_keys, stores};
 use crate::examples::expiry::keep_from;
 use crate::on_new::on_new;
-use crate::stored::{has_keys, stores};
 use prefix_trie::{Prefix, PrefixMap, PrefixSet};
 use std::alloc::{Allocator, Global};
 
@@ -54,6 +54,6 @@ fn keeps_two(map: &mut PrefixMap<(u8, u8), u64, Global>, _: ()) -> bool {
 }
 
 #[test]
-fn numbers_from_three_on(rt: HostRuntime) {
+fn retain_keeps_values_from_three_on(rt: HostRuntime) {
     assert!(rt; on_new(PrefixMap::new(rt.alloc()), (), keeps_two) == Ok(true));
 }

@@ -4,10 +4,11 @@ mod callers;
 mod mixed;
 mod mixed_sets;
 
-use crate::cases::questions::has_sums;
+use crate::cases::lookups::slots_add_up;
+use crate::contents::{put, stores};
+use crate::networks::v4;
 use crate::on_new::on_new;
 use crate::refusing::Refusing;
-use crate::stored::{put, stores};
 use prefix_trie::replay::{Call, Reply, run};
 use prefix_trie::{PrefixMap, Refusal};
 use std::alloc::{AllocError, Allocator, Global};
@@ -20,14 +21,14 @@ type Key = (u32, u8);
 type Map<A> = PrefixMap<Key, u64, A>;
 
 /// Two networks that are there before the run.
-const TWO: [(Key, u64); 2] = [((0, 0), 7), ((0x0a00_0000, 8), 8)];
+const TWO: [(Key, u64); 2] = [(v4!(0, 0, 0, 0; 0), 7), (v4!(10, 0, 0, 0; 8), 8)];
 
 /// What the six calls of a run answer as numbers, and the nodes then: with none refused, and where the insertion is.
 const GRANTED: [usize; 7] = [2, 1, 1, 1, 0, 3, 8];
 
 const WITHOUT_INSERTION: [usize; 7] = [2, 1, 1, 1, 0, 2, 2];
 
-/// The place of the insertion among the calls. Those before it list, and the one behind it counts.
+/// The index of the insertion among the calls. Those before it list, and the one behind it counts.
 const INSERTION: usize = 4;
 
 /// Runs six calls on a map.
@@ -37,10 +38,10 @@ fn run_six<A: Allocator + Clone>(
 ) -> Result<Vec<Reply<Key, A>, A>, AllocError> {
     let calls = [
         Call::List,
-        Call::ListFrom((0, 0), false),
-        Call::Children((0x0a00_0000, 8)),
-        Call::Cover((3, 32)),
-        Call::Insert((3, 32), 1),
+        Call::ListFrom(v4!(0, 0, 0, 0; 0), false),
+        Call::Children(v4!(10, 0, 0, 0; 8)),
+        Call::Cover(v4!(0, 0, 0, 3; 32)),
+        Call::Insert(v4!(0, 0, 0, 3; 32), 1),
         Call::Len,
     ];
     run(alloc, map, &calls)
@@ -57,38 +58,38 @@ fn number_of<A: Allocator>(reply: &Reply<Key, A>) -> Option<usize> {
     }
 }
 
-/// The place of the first call that was refused, or that behind the last call.
+/// The index of the first call that was refused, or that behind the last call.
 fn first_refused<A: Allocator>(replies: &[Reply<Key, A>]) -> usize {
-    for (place, reply) in replies.iter().enumerate() {
+    for (index, reply) in replies.iter().enumerate() {
         if number_of(reply).is_none() {
-            return place;
+            return index;
         }
     }
     replies.len()
 }
 
-/// Whether the call at a place is refused, where that at another is the first, alone or with all behind it that ask for memory.
-fn is_lost(place: usize, first: usize, is_all: bool) -> bool {
-    place == first || is_all && first < place && place <= INSERTION
+/// Whether the call at a index is refused, where that at another is the first, alone or with all behind it that ask for memory.
+fn is_refused(index: usize, first: usize, is_rest_refused: bool) -> bool {
+    index == first || is_rest_refused && first < index && index <= INSERTION
 }
 
-/// Whether the replies and the map are as they should be, where the call at this place is the first that is refused.
-fn are_from<A: Allocator>(
+/// Whether the replies and the map are as they should be, where the call at this index is the first that is refused.
+fn are_as_expected<A: Allocator>(
     replies: &[Reply<Key, A>],
     map: &Map<A>,
     first: usize,
-    is_all: bool,
+    is_rest_refused: bool,
 ) -> bool {
-    let wanted = if is_lost(INSERTION, first, is_all) {
+    let wanted = if is_refused(INSERTION, first, is_rest_refused) {
         WITHOUT_INSERTION
     } else {
         GRANTED
     };
-    for (place, reply) in replies.iter().enumerate() {
-        let number = if is_lost(place, first, is_all) {
+    for (index, reply) in replies.iter().enumerate() {
+        let number = if is_refused(index, first, is_rest_refused) {
             None
         } else {
-            wanted.get(place).copied()
+            wanted.get(index).copied()
         };
         if number_of(reply) != number {
             return false;
@@ -99,19 +100,22 @@ fn are_from<A: Allocator>(
 
 /// What is the first that was refused: 0 is the run, in which then no call was carried out, and the calls follow. None where the
 /// replies or the map are not as they should be then.
-fn first_part<A: Allocator>(
+fn first_refused_part<A: Allocator>(
     outcome: &Result<Vec<Reply<Key, A>, A>, AllocError>,
     map: &Map<A>,
-    is_all: bool,
+    is_rest_refused: bool,
 ) -> Option<usize> {
     let (part, is_right) = match outcome {
         Ok(replies) => {
             let first = first_refused(replies);
-            (first.wrapping_add(1), are_from(replies, map, first, is_all))
+            (
+                first.wrapping_add(1),
+                are_as_expected(replies, map, first, is_rest_refused),
+            )
         }
         Err(AllocError) => (0, (map.len() == 2) & (map.node_count() == 2)),
     };
-    (is_right & has_sums(map)).then_some(part)
+    (is_right & slots_add_up(map)).then_some(part)
 }
 
 /// Runs the calls with so many requests refused, once so many were passed on.
@@ -124,7 +128,7 @@ fn run_refused<A: Allocator + Clone>(
     let is_stored = stores(map, &TWO);
     heap.refuse(requests.0, requests.1);
     let outcome = run_six(alloc, map);
-    let part = first_part(&outcome, map, requests.1 > 1);
+    let part = first_refused_part(&outcome, map, requests.1 > 1);
     if is_stored { part } else { None }
 }
 
@@ -141,7 +145,7 @@ fn run_once<A: Allocator + Copy>(
 
 /// Whether the requests refused in turn, so many each time, are that for the replies, which comes first, one or more of each list and of
 /// the insertion, and none.
-fn are_refused_in_turn<A: Allocator + Copy>(
+fn each_part_is_refused_once<A: Allocator + Copy>(
     heap: &Refusing<Global>,
     alloc: A,
     refused: u64,
@@ -163,10 +167,10 @@ fn are_refused_in_turn<A: Allocator + Copy>(
 }
 
 #[test]
-fn each_request_of_a_run_refused(rt: HostRuntime) {
+fn a_run_loses_only_calls_whose_allocation_fails(rt: HostRuntime) {
     let heap = Refusing::new(rt.alloc());
-    assert!(rt; are_refused_in_turn(&heap, &heap, 1) == Ok(true));
-    assert!(rt; are_refused_in_turn(&heap, &heap, u64::MAX) == Ok(true));
+    assert!(rt; each_part_is_refused_once(&heap, &heap, 1) == Ok(true));
+    assert!(rt; each_part_is_refused_once(&heap, &heap, u64::MAX) == Ok(true));
 }
 
 /// How many nodes there are once a key of 24 bits is stored, is taken out alone, and with its nodes; once keys of 8, 16 and 7 bits are
@@ -179,21 +183,21 @@ fn run_removals(
     map: &mut Map<Global>,
 ) -> Result<Vec<Reply<Key, Global>>, AllocError> {
     let calls = [
-        Call::Insert((0x0a01_0100, 24), 1),
+        Call::Insert(v4!(10, 1, 1, 0; 24), 1),
         Call::NodeCount,
-        Call::RemoveKeepTree((0x0a01_01ff, 24)),
+        Call::RemoveKeepTree(v4!(10, 1, 1, 255; 24)),
         Call::NodeCount,
-        Call::Remove((0x0a01_0100, 24)),
+        Call::Remove(v4!(10, 1, 1, 0; 24)),
         Call::NodeCount,
-        Call::Insert((0x0a00_0000, 8), 2),
-        Call::Insert((0x0a01_0000, 16), 3),
-        Call::Insert((0xc000_0000, 7), 4),
+        Call::Insert(v4!(10, 0, 0, 0; 8), 2),
+        Call::Insert(v4!(10, 1, 0, 0; 16), 3),
+        Call::Insert(v4!(192, 0, 0, 0; 7), 4),
         Call::NodeCount,
         Call::RetainAtLeast(8),
         Call::NodeCount,
-        Call::RemoveChildren((0x0a01_ffff, 16)),
+        Call::RemoveChildren(v4!(10, 1, 255, 255; 16)),
         Call::NodeCount,
-        Call::Remove((0x0aff_ffff, 8)),
+        Call::Remove(v4!(10, 255, 255, 255; 8)),
         Call::NodeCount,
     ];
     run(alloc, map, &calls)
@@ -201,16 +205,16 @@ fn run_removals(
 
 /// Whether the counts among replies are these, in turn.
 fn has_counts(replies: &[Reply<Key, Global>], wanted: &[usize]) -> bool {
-    let mut place = 0_usize;
+    let mut index = 0_usize;
     for reply in replies {
         if let Reply::Count(count) = reply {
-            if wanted.get(place) != Some(count) {
+            if wanted.get(index) != Some(count) {
                 return false;
             }
-            place = place.wrapping_add(1);
+            index = index.wrapping_add(1);
         }
     }
-    place == wanted.len()
+    index == wanted.len()
 }
 
 /// Whether removals leave so many nodes in a map without entries.
@@ -222,22 +226,22 @@ fn leaves_nodes(map: &mut Map<Global>, alloc: Global) -> bool {
 }
 
 #[test]
-fn nodes_that_removals_leave(rt: HostRuntime) {
+fn removals_leave_the_needed_nodes(rt: HostRuntime) {
     assert!(rt; on_new(PrefixMap::new(rt.alloc()), rt.alloc(), leaves_nodes) == Ok(true));
 }
 
 /// How many entries a long list has: a prime, so that multiples of a smaller number come in another order.
-const LONG: u32 = 1_031;
+const LIST_LEN: u32 = 1_031;
 
 /// The network of 16 bits that has this number, with the number as value.
-fn numbered(number: u32) -> (Key, u64) {
+fn numbered_entry(number: u32) -> (Key, u64) {
     ((number << 16, 16), u64::from(number))
 }
 
 /// Stores all of them, in another order than they are listed in. Answers whether each is new.
 fn stores_all(map: &mut Map<Global>) -> bool {
-    for step in 0..LONG {
-        let number = step * 389 % LONG;
+    for step in 0..LIST_LEN {
+        let number = step * 389 % LIST_LEN;
         if put(map, (number << 16, 16), u64::from(number)) != Ok(None) {
             return false;
         }
@@ -247,12 +251,12 @@ fn stores_all(map: &mut Map<Global>) -> bool {
 
 /// Whether a list has all of them, in order.
 fn has_all(list: &[(Key, u64)]) -> bool {
-    for (entry, number) in list.iter().zip(0..LONG) {
-        if *entry != numbered(number) {
+    for (entry, number) in list.iter().zip(0..LIST_LEN) {
+        if *entry != numbered_entry(number) {
             return false;
         }
     }
-    list.len() == LONG as usize
+    list.len() == LIST_LEN as usize
 }
 
 /// Whether the one reply is the list of all.
@@ -264,7 +268,7 @@ fn lists_all(replies: &[Reply<Key, Global>]) -> bool {
 }
 
 /// Whether a run lists all of them, once they are stored.
-fn is_long(map: &mut Map<Global>, alloc: Global) -> bool {
+fn lists_all_stored(map: &mut Map<Global>, alloc: Global) -> bool {
     let is_stored = stores_all(map);
     match run(alloc, map, &[Call::List]) {
         Ok(replies) => is_stored & lists_all(&replies),
@@ -273,6 +277,6 @@ fn is_long(map: &mut Map<Global>, alloc: Global) -> bool {
 }
 
 #[test]
-fn a_list_of_more_than_a_thousand(rt: HostRuntime) {
-    assert!(rt; on_new(PrefixMap::new(rt.alloc()), rt.alloc(), is_long) == Ok(true));
+fn a_run_lists_more_than_a_thousand_entries(rt: HostRuntime) {
+    assert!(rt; on_new(PrefixMap::new(rt.alloc()), rt.alloc(), lists_all_stored) == Ok(true));
 }

@@ -11,7 +11,7 @@ const MANY: u64 = 100;
 type Heap = Refusing<Global>;
 
 // The set of the prefixes of a vector.
-fn of_prefixes<P: Prefix, A: Allocator + Clone>(
+fn set_of_prefixes<P: Prefix, A: Allocator + Clone>(
     alloc: A,
     prefixes: Vec<P>,
 ) -> Result<PrefixSet<P, A>, Refusal>
@@ -21,19 +21,19 @@ fn of_prefixes<P: Prefix, A: Allocator + Clone>(
 }
 
 /// How many prefixes the set of two hosts and a network has.
-fn collected(heap: &Heap) -> Result<usize, Refusal> {
+fn len_of_three(heap: &Heap) -> Result<usize, Refusal> {
     match vec![in heap.inner(); (0_u32, 32_u8), (0, 8), (0x8000_0000, 32)] {
-        Ok(keys) => Ok(of_prefixes(heap, keys)?.len()),
+        Ok(keys) => Ok(set_of_prefixes(heap, keys)?.len()),
         Err(_) => Err(Refusal::Memory),
     }
 }
 
 /// Collects them with so many requests refused from another one on each time. Answers whether some were, each time with a refusal, and
 /// at last there are three prefixes.
-fn is_refused_in_turn(heap: &Heap, refused: u64) -> bool {
+fn fails_exactly_if_refused(heap: &Heap, refused: u64) -> bool {
     for passed in 0..MANY {
         heap.refuse(passed, refused);
-        let answer = collected(heap);
+        let answer = len_of_three(heap);
         if heap.left() == refused {
             return 0 < passed && answer == Ok(3);
         }
@@ -45,7 +45,7 @@ fn is_refused_in_turn(heap: &Heap, refused: u64) -> bool {
 }
 
 #[test]
-fn each_request_of_a_set_of_prefixes_refused(rt: HostRuntime) {
+fn collecting_a_set_fails_exactly_if_an_allocation_fails(rt: HostRuntime) {
     let heap = Refusing::new(rt.alloc());
-    assert!(rt; is_refused_in_turn(&heap, 1) & is_refused_in_turn(&heap, u64::MAX));
+    assert!(rt; fails_exactly_if_refused(&heap, 1) & fails_exactly_if_refused(&heap, u64::MAX));
 }

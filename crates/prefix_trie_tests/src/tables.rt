@@ -8,34 +8,40 @@ mod lookups;
 mod removals;
 mod walks;
 
-use crate::trials::{How, Table, all};
+use crate::trials::{FaultPlan, Table, run_all};
 
 /// The tables that are run with each request refused in turn. As a static the list is a third as dear to check as a constant.
-static IN_TURN: [&[Table<'static, u32>]; 9] = [
-    &growth::NEW,
+static EACH_REQUEST: [&[Table<'static, u32>]; 9] = [
+    &growth::NEW_MAPS,
     &growth::GROWTHS,
     &growth::LIMITS,
-    &lookups::NONE,
+    &lookups::NO_MATCH,
     &walks::ROUTES,
-    &entries::ENTRIES,
-    &copies::APART,
-    &removals::OFF_THE_WAY,
+    &entries::VACANT,
+    &copies::INDEPENDENT,
+    &removals::OFF_THE_PATH,
     &removals::BY_LENGTH,
 ];
 
 /// Those that are run with every request refused.
-static STARVED: [&[Table<'static, u32>]; 3] = [
-    &entries::STORED,
-    &copies::FREE,
+static NO_REQUESTS: [&[Table<'static, u32>]; 3] = [
+    &entries::OCCUPIED,
+    &copies::INTO_FREE_BLOCKS,
     &blocks::AMONG_FREE,
 ];
 
 #[test]
-fn tables_with_each_request_refused_in_turn(rt: HostRuntime) {
-    assert_eq!(rt; all(rt.alloc(), &IN_TURN, How::InTurn), Ok(()));
+fn tables_hold_with_each_allocation_failing(rt: HostRuntime) {
+    assert_eq!(rt;
+        run_all(rt.alloc(), &EACH_REQUEST, FaultPlan::EachRequest),
+        Ok(())
+    );
 }
 
 #[test]
-fn tables_with_every_request_refused(rt: HostRuntime) {
-    assert_eq!(rt; all(rt.alloc(), &STARVED, How::Starved), Ok(()));
+fn tables_hold_without_allocating(rt: HostRuntime) {
+    assert_eq!(rt;
+        run_all(rt.alloc(), &NO_REQUESTS, FaultPlan::NoRequests),
+        Ok(())
+    );
 }

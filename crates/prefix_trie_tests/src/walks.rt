@@ -1,8 +1,8 @@
 //! Walks: what a caller knows of them, those that lend values for writing, those that take a map apart, and those that are dropped early.
 
+mod consuming;
 mod cover;
-mod early;
+mod dropped_early;
 mod iter;
 mod lending;
-mod taking;
 mod writing;

@@ -16,7 +16,7 @@ returns-then-not-print_line-clause-begins g c =
 pub loop-number-preserved : goal.loop-number-preserved
 loop-number-preserved g c =
     let (outcomes, same, appended, all) = c.loop-number.invariant in
-    let holds = c.comes_out-holds.result in
+    let holds = c.row_holds-holds.result in
     let i = c.loop-number.number-index in
     let grown = take_more c.args.numbers.now i 0 (search rules) in (
       outcomes ++ (_, holds) ∷ [],

@@ -1,4 +1,5 @@
 //! Rows at the ends of widths, and of a test that counts how often it is asked.
+use crate::networks::v4;
 use crate::table::Line::{self, *};
 
 /// Row 41: the shortest and the longest key of eight bits, with host bits and behind all others.
@@ -22,11 +23,11 @@ pub const LAST_OF_128_BITS: [Line; 5] = [
 
 /// Row 42: a test that says yes at its first, third and fifth asking, of row 7's map.
 pub const EACH_SECOND_KEPT: [Line; 7] = [
-    Insert((0xc0a8_0000, 22), 1, Ok(None)),
-    Insert((0xc0a8_0000, 23), 2, Ok(None)),
-    Insert((0xc0a8_0200, 23), 3, Ok(None)),
-    Insert((0xc0a8_0000, 24), 4, Ok(None)),
-    Insert((0xc0a8_0200, 24), 5, Ok(None)),
+    Insert(v4!(192, 168, 0, 0; 22), 1, Ok(None)),
+    Insert(v4!(192, 168, 0, 0; 23), 2, Ok(None)),
+    Insert(v4!(192, 168, 2, 0; 23), 3, Ok(None)),
+    Insert(v4!(192, 168, 0, 0; 24), 4, Ok(None)),
+    Insert(v4!(192, 168, 2, 0; 24), 5, Ok(None)),
     Retain(&[(1, true), (2, false), (4, true), (3, false), (5, true)]),
     Values(&[1, 4, 5]),
 ];

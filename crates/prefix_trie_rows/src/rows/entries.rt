@@ -1,22 +1,23 @@
 //! Rows of entries.
+use crate::networks::v4;
 use crate::table::Line::{self, *};
 
 /// Row 2: a stored prefix has no host bits, and one that is not stored has those that were handed in.
 pub const HOST_BITS: [Line; 4] = [
-    Insert((0xc0a8_0001, 24), 1, Ok(None)),
-    GetKeyValue((0xc0a8_0000, 24), Some(((0xc0a8_0000, 24), 1))),
-    EntryKey((0xc0a8_0007, 24), (0xc0a8_0000, 24)),
-    EntryKey((0xc0a8_0907, 24), (0xc0a8_0907, 24)),
+    Insert(v4!(192, 168, 0, 1; 24), 1, Ok(None)),
+    GetKeyValue(v4!(192, 168, 0, 0; 24), Some((v4!(192, 168, 0, 0; 24), 1))),
+    EntryKey(v4!(192, 168, 0, 7; 24), v4!(192, 168, 0, 0; 24)),
+    EntryKey(v4!(192, 168, 9, 7; 24), v4!(192, 168, 9, 7; 24)),
 ];
 
 /// Row 20: a stored value is changed and a missing one inserted; both are taken out, and their nodes stay.
 pub const COUNTED: [Line; 10] = [
-    Insert((0xc0a8_0100, 24), 1, Ok(None)),
-    AddOrInsert((0xc0a8_0100, 24), 9, 2),
-    AddOrInsert((0xc0a8_0200, 24), 9, 9),
+    Insert(v4!(192, 168, 1, 0; 24), 1, Ok(None)),
+    AddOrInsert(v4!(192, 168, 1, 0; 24), 9, 2),
+    AddOrInsert(v4!(192, 168, 2, 0; 24), 9, 9),
     NodeCount(5),
-    RemoveEntry((0xc0a8_0100, 24), Some(2)),
-    RemoveEntry((0xc0a8_0200, 24), Some(9)),
+    RemoveEntry(v4!(192, 168, 1, 0; 24), Some(2)),
+    RemoveEntry(v4!(192, 168, 2, 0; 24), Some(9)),
     Len(0),
     NodeCount(5),
     Clear,

@@ -1,10 +1,10 @@
 //! Rows of narrow keys.
 use crate::table::Line::{self, *};
 use crate::table::Pair;
-use crate::table::narrow::Asked;
+use crate::table::narrow::KeyCase;
 
 /// Row 44: the least number and the greatest of a width; a width of 0 is read as 1, and one above 63 as 63.
-pub const ENDS_OF_WIDTHS: [Asked; 6] = [
+pub const ENDS_OF_WIDTHS: [KeyCase; 6] = [
     (5, 31, true),
     (5, 32, false),
     (0, 1, true),

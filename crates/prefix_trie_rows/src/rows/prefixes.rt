@@ -1,13 +1,14 @@
 //! Rows of prefixes by themselves.
+use crate::networks::v4;
 use crate::table::Line::{self, *};
 
 /// Row 26: which lengths a network has, its mask, and which network contains which.
 pub const NETWORKS: [Line; 5] = [
-    IsPrefix((0, 33), false),
-    IsPrefix((0, 32), true),
-    Mask((0x0a01_0000, 8), 0x0a00_0000),
-    Contains((0x0a19_0208, 8), (0x0a82_0205, 9), true),
-    Contains((0x0a82_0205, 9), (0x0a19_0208, 8), false),
+    IsPrefix(v4!(0, 0, 0, 0; 33), false),
+    IsPrefix(v4!(0, 0, 0, 0; 32), true),
+    Mask(v4!(10, 1, 0, 0; 8), v4!(10, 0, 0, 0)),
+    Contains(v4!(10, 25, 2, 8; 8), v4!(10, 130, 2, 5; 9), true),
+    Contains(v4!(10, 130, 2, 5; 9), v4!(10, 25, 2, 8; 8), false),
 ];
 
 /// Row 26: a pair whose length is greater than its number's width does not fit.

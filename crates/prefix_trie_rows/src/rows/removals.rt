@@ -1,15 +1,16 @@
 //! Rows of removals.
+use crate::networks::v4;
 use crate::table::Line::{self, *};
 
 /// Row 9: a network goes with all those in it.
 pub const BELOW_A_NETWORK: [Line; 9] = [
-    Insert((0xc0a8_0000, 21), 1, Ok(None)),
-    Insert((0xc0a8_0000, 22), 2, Ok(None)),
-    Insert((0xc0a8_0000, 23), 3, Ok(None)),
-    Insert((0xc0a8_0000, 24), 4, Ok(None)),
-    Insert((0xc0a8_0400, 22), 5, Ok(None)),
-    Insert((0xc0a8_0400, 23), 6, Ok(None)),
-    DropChildren((0xc0a8_0000, 22)),
+    Insert(v4!(192, 168, 0, 0; 21), 1, Ok(None)),
+    Insert(v4!(192, 168, 0, 0; 22), 2, Ok(None)),
+    Insert(v4!(192, 168, 0, 0; 23), 3, Ok(None)),
+    Insert(v4!(192, 168, 0, 0; 24), 4, Ok(None)),
+    Insert(v4!(192, 168, 4, 0; 22), 5, Ok(None)),
+    Insert(v4!(192, 168, 4, 0; 23), 6, Ok(None)),
+    DropChildren(v4!(192, 168, 0, 0; 22)),
     Len(3),
     Values(&[1, 5, 6]),
 ];
@@ -31,19 +32,19 @@ pub const NODES_LEFT: [Line; 11] = [
 
 /// Row 18: the even values are kept. The test is asked once at each entry, in listing order.
 pub const EVEN_VALUES_KEPT: [Line; 9] = [
-    Insert((0xc0a8_0000, 24), 1, Ok(None)),
-    Insert((0xc0a8_0100, 24), 2, Ok(None)),
-    Insert((0xc0a8_0200, 24), 3, Ok(None)),
-    Insert((0xc0a8_0200, 25), 4, Ok(None)),
+    Insert(v4!(192, 168, 0, 0; 24), 1, Ok(None)),
+    Insert(v4!(192, 168, 1, 0; 24), 2, Ok(None)),
+    Insert(v4!(192, 168, 2, 0; 24), 3, Ok(None)),
+    Insert(v4!(192, 168, 2, 0; 25), 4, Ok(None)),
     Retain(&[(1, false), (2, true), (3, false), (4, true)]),
-    Get((0xc0a8_0000, 24), None),
-    Get((0xc0a8_0100, 24), Some(2)),
-    Get((0xc0a8_0200, 24), None),
-    Get((0xc0a8_0200, 25), Some(4)),
+    Get(v4!(192, 168, 0, 0; 24), None),
+    Get(v4!(192, 168, 1, 0; 24), Some(2)),
+    Get(v4!(192, 168, 2, 0; 24), None),
+    Get(v4!(192, 168, 2, 0; 25), Some(4)),
 ];
 
 /// Row 22: a removal prunes on the way to its prefix, also where that is not stored, and nowhere else.
-pub const PRUNED_ON_THE_WAY: [Line; 8] = [
+pub const PRUNED_ON_THE_PATH: [Line; 8] = [
     Insert((0, 32), 1, Ok(None)),
     RemoveKeepTree((0, 32), Some(1)),
     Remove((0, 32), None),

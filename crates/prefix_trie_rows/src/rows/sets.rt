@@ -1,4 +1,5 @@
 //! Rows of sets.
+use crate::networks::v4;
 use crate::table::sets::SetLine::{self, *};
 use prefix_trie::Refusal::IndexRange;
 
@@ -44,7 +45,7 @@ pub const ADDRESSES_OF_128_BITS: [SetLine; 6] = [
 /// Row 36: the text of an empty set, and of networks, without their host bits.
 pub const NETWORKS_AS_TEXT: [SetLine; 3] = [
     Text("{}"),
-    FromIter(&[(0x0a01_0203, 8), (0x0a01_0000, 16)]),
+    FromIter(&[v4!(10, 1, 2, 3; 8), v4!(10, 1, 0, 0; 16)]),
     Text("{10.0.0.0/8, 10.1.0.0/16}"),
 ];
 

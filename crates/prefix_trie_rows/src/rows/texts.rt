@@ -1,4 +1,5 @@
 //! Rows of debug text.
+use crate::networks::v4;
 use crate::table::Line::{self, *};
 
 /// Row 24: the entries that a prefix contains stand within its own.
@@ -12,12 +13,12 @@ pub const NESTED: [Line; 4] = [
 /// Row 36: an empty map, and a network with its host bits. And entries that are closed at several depths.
 pub const NETWORKS: [Line; 8] = [
     Text("{}"),
-    PrefixText((0x0a01_0203, 8), "10.1.2.3/8"),
-    Insert((0x0a00_0000, 8), 1, Ok(None)),
-    Insert((0x0a01_0000, 16), 2, Ok(None)),
-    Insert((0x0a01_0100, 24), 3, Ok(None)),
-    Insert((0x0a02_0000, 16), 4, Ok(None)),
-    Insert((0x0b00_0000, 8), 5, Ok(None)),
+    PrefixText(v4!(10, 1, 2, 3; 8), "10.1.2.3/8"),
+    Insert(v4!(10, 0, 0, 0; 8), 1, Ok(None)),
+    Insert(v4!(10, 1, 0, 0; 16), 2, Ok(None)),
+    Insert(v4!(10, 1, 1, 0; 24), 3, Ok(None)),
+    Insert(v4!(10, 2, 0, 0; 16), 4, Ok(None)),
+    Insert(v4!(11, 0, 0, 0; 8), 5, Ok(None)),
     Text(
         "{10.0.0.0/8: { value: 1, children: {10.1.0.0/16: { value: 2, children: {10.1.1.0/24: { value: 3 }} }, 10.2.0.0/16: { value: 4 }} }, 11.0.0.0/8: { value: 5 }}",
     ),

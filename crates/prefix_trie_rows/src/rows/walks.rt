@@ -1,77 +1,78 @@
 //! Rows of walks.
+use crate::networks::v4;
 use crate::table::Line::{self, *};
 
 /// Row 4: the network of all addresses, and an empty map.
 pub const ALL_ADDRESSES: [Line; 8] = [
-    Insert((0, 0), 0, Ok(None)),
-    Cover((0x0a00_0000, 8), &[((0, 0), 0)]),
+    Insert(v4!(0, 0, 0, 0; 0), 0, Ok(None)),
+    Cover(v4!(10, 0, 0, 0; 8), &[(v4!(0, 0, 0, 0; 0), 0)]),
     New,
-    Cover((0, 0), &[]),
+    Cover(v4!(0, 0, 0, 0; 0), &[]),
     Iter(&[]),
-    Children((0, 0), &[]),
-    GetLpm((0, 0), None),
+    Children(v4!(0, 0, 0, 0; 0), &[]),
+    GetLpm(v4!(0, 0, 0, 0; 0), None),
     NodeCount(1),
 ];
 
 /// Row 7: values come in the listing order of their networks, in whatever order they were inserted.
 pub const IN_LISTING_ORDER: [Line; 6] = [
-    Insert((0xc0a8_0000, 22), 1, Ok(None)),
-    Insert((0xc0a8_0000, 23), 2, Ok(None)),
-    Insert((0xc0a8_0200, 23), 3, Ok(None)),
-    Insert((0xc0a8_0000, 24), 4, Ok(None)),
-    Insert((0xc0a8_0200, 24), 5, Ok(None)),
+    Insert(v4!(192, 168, 0, 0; 22), 1, Ok(None)),
+    Insert(v4!(192, 168, 0, 0; 23), 2, Ok(None)),
+    Insert(v4!(192, 168, 2, 0; 23), 3, Ok(None)),
+    Insert(v4!(192, 168, 0, 0; 24), 4, Ok(None)),
+    Insert(v4!(192, 168, 2, 0; 24), 5, Ok(None)),
     Values(&[1, 2, 4, 3, 5]),
 ];
 
 /// Row 8: what comes behind a network, which is stored or not.
-pub const BEHIND_A_NETWORK: [Line; 15] = [
-    Insert((0x0a00_0000, 8), 1, Ok(None)),
-    Insert((0x0a01_0000, 16), 2, Ok(None)),
-    Insert((0x0a02_0000, 16), 3, Ok(None)),
-    Insert((0x0a02_0000, 24), 4, Ok(None)),
-    Insert((0x0a03_0000, 16), 5, Ok(None)),
-    Insert((0x0a04_0000, 16), 6, Ok(None)),
-    IterFrom((0x0a02_0000, 16), true, 3, &[3, 4, 5]),
-    IterFrom((0x0a02_0000, 16), false, 3, &[4, 5, 6]),
-    IterFrom((0x0a02_8000, 17), false, 3, &[5, 6]),
+pub const AFTER_A_NETWORK: [Line; 15] = [
+    Insert(v4!(10, 0, 0, 0; 8), 1, Ok(None)),
+    Insert(v4!(10, 1, 0, 0; 16), 2, Ok(None)),
+    Insert(v4!(10, 2, 0, 0; 16), 3, Ok(None)),
+    Insert(v4!(10, 2, 0, 0; 24), 4, Ok(None)),
+    Insert(v4!(10, 3, 0, 0; 16), 5, Ok(None)),
+    Insert(v4!(10, 4, 0, 0; 16), 6, Ok(None)),
+    IterFrom(v4!(10, 2, 0, 0; 16), true, 3, &[3, 4, 5]),
+    IterFrom(v4!(10, 2, 0, 0; 16), false, 3, &[4, 5, 6]),
+    IterFrom(v4!(10, 2, 128, 0; 17), false, 3, &[5, 6]),
     // Resumed behind each entry, a walk gives the rest.
-    IterFrom((0x0a00_0000, 8), false, 6, &[2, 3, 4, 5, 6]),
-    IterFrom((0x0a01_0000, 16), false, 6, &[3, 4, 5, 6]),
-    IterFrom((0x0a02_0000, 16), false, 6, &[4, 5, 6]),
-    IterFrom((0x0a02_0000, 24), false, 6, &[5, 6]),
-    IterFrom((0x0a03_0000, 16), false, 6, &[6]),
-    IterFrom((0x0a04_0000, 16), false, 6, &[]),
+    IterFrom(v4!(10, 0, 0, 0; 8), false, 6, &[2, 3, 4, 5, 6]),
+    IterFrom(v4!(10, 1, 0, 0; 16), false, 6, &[3, 4, 5, 6]),
+    IterFrom(v4!(10, 2, 0, 0; 16), false, 6, &[4, 5, 6]),
+    IterFrom(v4!(10, 2, 0, 0; 24), false, 6, &[5, 6]),
+    IterFrom(v4!(10, 3, 0, 0; 16), false, 6, &[6]),
+    IterFrom(v4!(10, 4, 0, 0; 16), false, 6, &[]),
 ];
 
 /// Row 21: the values that a network contains are written, and then taken out of the map.
 pub const WRITTEN_AND_TAKEN: [Line; 8] = [
-    Insert((0xc0a8_0000, 22), 1, Ok(None)),
-    Insert((0xc0a8_0000, 23), 2, Ok(None)),
-    Insert((0xc0a8_0000, 24), 3, Ok(None)),
-    Insert((0xc0a8_0200, 23), 4, Ok(None)),
-    Insert((0xc0a8_0200, 24), 5, Ok(None)),
-    ChildrenMut((0xc0a8_0000, 23), 10),
+    Insert(v4!(192, 168, 0, 0; 22), 1, Ok(None)),
+    Insert(v4!(192, 168, 0, 0; 23), 2, Ok(None)),
+    Insert(v4!(192, 168, 0, 0; 24), 3, Ok(None)),
+    Insert(v4!(192, 168, 2, 0; 23), 4, Ok(None)),
+    Insert(v4!(192, 168, 2, 0; 24), 5, Ok(None)),
+    ChildrenMut(v4!(192, 168, 0, 0; 23), 10),
     Values(&[1, 20, 30, 4, 5]),
     IntoChildren(
-        (0xc0a8_0000, 23),
-        &[((0xc0a8_0000, 23), 20), ((0xc0a8_0000, 24), 30)],
+        v4!(192, 168, 0, 0; 23),
+        &[(v4!(192, 168, 0, 0; 23), 20), (v4!(192, 168, 0, 0; 24), 30)],
     ),
 ];
 
 /// Row 25: the networks that contain one, the shortest first.
 pub const AROUND_A_NETWORK: [Line; 7] = [
-    Insert((0x0a00_0000, 8), 0, Ok(None)),
-    Insert((0x0a01_0000, 16), 1, Ok(None)),
-    Insert((0x0a01_0100, 24), 2, Ok(None)),
-    Insert((0x0a01_0200, 24), 3, Ok(None)),
-    Insert((0x0a01_0100, 25), 4, Ok(None)),
-    Insert((0x0b00_0000, 8), 5, Ok(None)),
+    Insert(v4!(10, 0, 0, 0; 8), 0, Ok(None)),
+    Insert(v4!(10, 1, 0, 0; 16), 1, Ok(None)),
+    Insert(v4!(10, 1, 1, 0; 24), 2, Ok(None)),
+    Insert(v4!(10, 1, 2, 0; 24), 3, Ok(None)),
+    Insert(v4!(10, 1, 1, 0; 25), 4, Ok(None)),
+    Insert(v4!(11, 0, 0, 0; 8), 5, Ok(None)),
     Cover(
-        (0x0a01_0100, 24),
+        v4!(10, 1, 1, 0; 24),
         &[
-            ((0x0a00_0000, 8), 0),
-            ((0x0a01_0000, 16), 1),
-            ((0x0a01_0100, 24), 2),
+            (v4!(10, 0, 0, 0; 8), 0),
+            (v4!(10, 1, 0, 0; 16), 1),
+            (v4!(10, 1, 1, 0; 24), 2),
         ],
     ),
 ];

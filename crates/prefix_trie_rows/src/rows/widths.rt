@@ -1,17 +1,18 @@
 //! Rows of numbers of each width, at the ends of their keys.
+use crate::networks::v4;
 use crate::table::Line::{self, *};
 
 /// Row 5: four hosts in a row share all nodes.
 pub const HOSTS_OF_32_BITS: [Line; 10] = [
-    Insert((0x0102_0300, 32), 1, Ok(None)),
-    Insert((0x0102_0301, 32), 2, Ok(None)),
-    Insert((0x0102_0302, 32), 3, Ok(None)),
-    Insert((0x0102_0303, 32), 4, Ok(None)),
+    Insert(v4!(1, 2, 3, 0; 32), 1, Ok(None)),
+    Insert(v4!(1, 2, 3, 1; 32), 2, Ok(None)),
+    Insert(v4!(1, 2, 3, 2; 32), 3, Ok(None)),
+    Insert(v4!(1, 2, 3, 3; 32), 4, Ok(None)),
     Len(4),
-    Get((0x0102_0300, 32), Some(1)),
-    Get((0x0102_0301, 32), Some(2)),
-    Get((0x0102_0302, 32), Some(3)),
-    Get((0x0102_0303, 32), Some(4)),
+    Get(v4!(1, 2, 3, 0; 32), Some(1)),
+    Get(v4!(1, 2, 3, 1; 32), Some(2)),
+    Get(v4!(1, 2, 3, 2; 32), Some(3)),
+    Get(v4!(1, 2, 3, 3; 32), Some(4)),
     NodeCount(7),
 ];
 

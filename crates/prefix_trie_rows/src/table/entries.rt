@@ -1,58 +1,58 @@
 //! What is put to one entry of a map.
-use crate::table::{Map, Pair, Written, fitting, is};
+use crate::table::{Map, Pair, TablePrefix, fitting_prefix, is_prefix};
 use prefix_trie::map::Entry as MapEntry;
 use prefix_trie::{Prefix, Refusal, Refused};
 
-pub fn has_key<P: Written>(map: &mut Map<P>, pair: Pair, answer: Pair) -> bool {
-    match fitting::<P>(pair) {
-        Some(prefix) => is(map.entry(prefix).key(), answer),
+pub fn has_key<P: TablePrefix>(map: &mut Map<P>, pair: Pair, expected: Pair) -> bool {
+    match fitting_prefix::<P>(pair) {
+        Some(prefix) => is_prefix(map.entry(prefix).key(), expected),
         None => false,
     }
 }
 
-pub fn has_value<P: Written>(map: &mut Map<P>, pair: Pair, answer: Option<u64>) -> bool {
-    match fitting::<P>(pair) {
-        Some(prefix) => map.entry(prefix).get().copied() == answer,
+pub fn has_value<P: TablePrefix>(map: &mut Map<P>, pair: Pair, expected: Option<u64>) -> bool {
+    match fitting_prefix::<P>(pair) {
+        Some(prefix) => map.entry(prefix).get().copied() == expected,
         None => false,
     }
 }
 
 /// One is added where there is a value, and else this one is inserted.
-pub fn adds<P: Written>(map: &mut Map<P>, pair: Pair, fresh: u64, answer: u64) -> bool {
-    let Some(prefix) = fitting::<P>(pair) else {
+pub fn adds<P: TablePrefix>(map: &mut Map<P>, pair: Pair, fresh: u64, expected: u64) -> bool {
+    let Some(prefix) = fitting_prefix::<P>(pair) else {
         return false;
     };
     let entry = map.entry(prefix).and_modify(|n| *n = n.saturating_add(1));
     match entry.or_insert(fresh) {
-        Ok(value) => *value == answer,
+        Ok(value) => *value == expected,
         Err(_) => false,
     }
 }
 
 /// The value is the answer, and is then set to another.
-pub fn or_default<P: Written>(map: &mut Map<P>, pair: Pair, answer: u64, then: u64) -> bool {
-    let Some(prefix) = fitting::<P>(pair) else {
+pub fn or_default<P: TablePrefix>(map: &mut Map<P>, pair: Pair, expected: u64, then: u64) -> bool {
+    let Some(prefix) = fitting_prefix::<P>(pair) else {
         return false;
     };
     match map.entry(prefix).or_default() {
         Ok(value) => {
             let found = *value;
             *value = then;
-            found == answer
+            found == expected
         }
         Err(_) => false,
     }
 }
 
 /// A closure that gives this value is called so many times.
-pub fn or_insert_with<P: Written>(
+pub fn or_insert_with<P: TablePrefix>(
     map: &mut Map<P>,
     pair: Pair,
     fresh: u64,
-    answer: u64,
+    expected: u64,
     calls: u64,
 ) -> bool {
-    let Some(prefix) = fitting::<P>(pair) else {
+    let Some(prefix) = fitting_prefix::<P>(pair) else {
         return false;
     };
     let mut called = 0_u64;
@@ -64,28 +64,28 @@ pub fn or_insert_with<P: Written>(
         Ok(value) => *value,
         Err(_) => return false,
     };
-    found == answer && called == calls
+    found == expected && called == calls
 }
 
-pub fn inserts<P: Written>(
+pub fn inserts<P: TablePrefix>(
     map: &mut Map<P>,
     pair: Pair,
     value: u64,
-    answer: Result<Option<u64>, Refusal>,
+    expected: Result<Option<u64>, Refusal>,
 ) -> bool {
-    match fitting::<P>(pair) {
+    match fitting_prefix::<P>(pair) {
         Some(prefix) => map.entry(prefix).put(value).answer()
-            == answer.map_err(|cause| Refused { cause, value }),
+            == expected.map_err(|cause| Refused { cause, value }),
         None => false,
     }
 }
 
-pub fn removes<P: Written>(map: &mut Map<P>, pair: Pair, answer: Option<u64>) -> bool {
-    let Some(prefix) = fitting::<P>(pair) else {
+pub fn removes<P: TablePrefix>(map: &mut Map<P>, pair: Pair, expected: Option<u64>) -> bool {
+    let Some(prefix) = fitting_prefix::<P>(pair) else {
         return false;
     };
     match map.entry(prefix) {
-        MapEntry::Occupied(entry) => Some(entry.remove()) == answer,
-        MapEntry::Vacant(_) => answer.is_none(),
+        MapEntry::Occupied(entry) => Some(entry.remove()) == expected,
+        MapEntry::Vacant(_) => expected.is_none(),
     }
 }

@@ -2,12 +2,12 @@
 use prefix_trie::Narrow;
 
 /// A width that is asked for, a number, and whether it is a key of that width.
-pub type Asked = (u32, u64, bool);
+pub type KeyCase = (u32, u64, bool);
 
 /// Whether each number is a key exactly where a table says so.
-pub fn all_made(table: &[Asked]) -> bool {
-    for (width, number, answer) in table {
-        if is_key(*width, *number) != *answer {
+pub fn all_as_expected(table: &[KeyCase]) -> bool {
+    for (width, number, expected) in table {
+        if is_key(*width, *number) != *expected {
             return false;
         }
     }

@@ -19,8 +19,8 @@ pub fn key_of<K: Key>(number: Number) -> Option<K> {
 }
 
 /// Whether tables write so what a count of addresses answers.
-pub fn is_number<K: Key>(count: Option<K>, answer: Option<Number>) -> bool {
-    match (count, answer) {
+pub fn is_number<K: Key>(count: Option<K>, expected: Option<Number>) -> bool {
+    match (count, expected) {
         (Some(key), Some(number)) => key_of(number) == Some(key),
         (None, None) => true,
         _ => false,

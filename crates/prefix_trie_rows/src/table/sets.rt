@@ -1,7 +1,7 @@
 //! Tables of sets: calls of a set beside the answers that they should have, and what puts them to a set.
 ghost use Rattle.std.specs.Prelude.{All, IfSome, IfOk};
 
-use crate::table::{Number, Pair, Written, fitting, is, is_number};
+use crate::table::{Number, Pair, TablePrefix, fitting_prefix, is_number, is_prefix};
 use prefix_trie::{Prefix, PrefixSet, Refusal};
 use std::alloc::{AllocError, Global};
 
@@ -33,13 +33,13 @@ pub enum SetLine {
 }
 
 /// Whether each call of a table has its answer, in order. Refused if there is no memory for the first set.
-pub fn all_hold<P: Written>(alloc: Global, lines: &[SetLine]) -> Result<bool, Refusal> {
+pub fn all_hold<P: TablePrefix>(alloc: Global, lines: &[SetLine]) -> Result<bool, Refusal> {
     let mut set: Set<P> = PrefixSet::new(alloc)?;
     Ok(hold_in_order(alloc, &mut set, lines))
 }
 
 /// Whether each call has its answer, where they are put to a set in order.
-fn hold_in_order<P: Written>(alloc: Global, set: &mut Set<P>, lines: &[SetLine]) -> bool {
+fn hold_in_order<P: TablePrefix>(alloc: Global, set: &mut Set<P>, lines: &[SetLine]) -> bool {
     for line in lines {
         if !holds(alloc, set, line) {
             return false;
@@ -49,24 +49,24 @@ fn hold_in_order<P: Written>(alloc: Global, set: &mut Set<P>, lines: &[SetLine])
 }
 
 /// Whether a call has its answer.
-fn holds<P: Written>(alloc: Global, set: &mut Set<P>, line: &SetLine) -> bool {
+fn holds<P: TablePrefix>(alloc: Global, set: &mut Set<P>, line: &SetLine) -> bool {
     match line {
-        SetLine::WithSlotLimit(limit) => renews(set, PrefixSet::with_slot_limit(alloc, *limit)),
-        SetLine::FromIter(pairs) => renews(set, set_of(alloc, pairs)),
-        SetLine::Insert(pair, answer) => inserts(set, *pair, *answer),
-        SetLine::Remove(pair, answer) => removes(set, *pair, *answer),
-        SetLine::RemoveChildren(pair, count) => hands_out(set, *pair, *count),
-        SetLine::Equals(pairs, answer) => equals(set, set_of(alloc, pairs), *answer),
-        SetLine::AddressCount(answer) => is_number(set.address_count(), *answer),
+        SetLine::WithSlotLimit(limit) => replaces(set, PrefixSet::with_slot_limit(alloc, *limit)),
+        SetLine::FromIter(pairs) => replaces(set, set_of(alloc, pairs)),
+        SetLine::Insert(pair, expected) => inserts(set, *pair, *expected),
+        SetLine::Remove(pair, expected) => removes(set, *pair, *expected),
+        SetLine::RemoveChildren(pair, count) => splits_off(set, *pair, *count),
+        SetLine::Equals(pairs, expected) => equals(set, set_of(alloc, pairs), *expected),
+        SetLine::AddressCount(expected) => is_number(set.address_count(), *expected),
         SetLine::Len(count) => set.len() == *count && set.is_empty() == (*count == 0),
         SetLine::NodeCount(count) => set.node_count() == *count,
         SetLine::Text(text) => has_text(alloc, set, text),
-        SetLine::Keys(pairs) => lists(set, pairs) && gives_up(set, pairs),
+        SetLine::Keys(pairs) => lists(set, pairs) && consumes(set, pairs),
     }
 }
 
 /// Goes on with another set, if there is one.
-fn renews<P: Prefix>(set: &mut Set<P>, made: Result<Set<P>, Refusal>) -> bool {
+fn replaces<P: Prefix>(set: &mut Set<P>, made: Result<Set<P>, Refusal>) -> bool {
     match made {
         Ok(fresh) => {
             *set = fresh;
@@ -77,26 +77,26 @@ fn renews<P: Prefix>(set: &mut Set<P>, made: Result<Set<P>, Refusal>) -> bool {
 }
 
 /// The set of these prefixes. Refused for a prefix that does not fit, too.
-fn set_of<P: Written>(alloc: Global, pairs: &[Pair]) -> Result<Set<P>, Refusal> {
+fn set_of<P: TablePrefix>(alloc: Global, pairs: &[Pair]) -> Result<Set<P>, Refusal> {
     match prefixes_of::<P>(alloc, pairs) {
         Ok(Some(prefixes)) => collected(alloc, prefixes),
         _ => Err(Refusal::Memory),
     }
 }
 
-fn collected<P: Written>(alloc: Global, prefixes: Vec<P>) -> Result<Set<P>, Refusal>
+fn collected<P: TablePrefix>(alloc: Global, prefixes: Vec<P>) -> Result<Set<P>, Refusal>
     requires { All P.IsFitting prefixes.items }
 {
     PrefixSet::from_iter(alloc, prefixes)
 }
 
 /// The prefixes, if each fits.
-fn prefixes_of<P: Written>(alloc: Global, pairs: &[Pair]) -> Result<Option<Vec<P>>, AllocError>
+fn prefixes_of<P: TablePrefix>(alloc: Global, pairs: &[Pair]) -> Result<Option<Vec<P>>, AllocError>
     ensures { IfOk result (λ found. IfSome found (λ xs. All P.IsFitting xs.items)) }
 {
     let mut prefixes = Vec::new(alloc);
     for pair in pairs {
-        match fitting::<P>(*pair) {
+        match fitting_prefix::<P>(*pair) {
             Some(prefix) => prefixes.push(prefix)?,
             None => return Ok(None),
         }
@@ -104,31 +104,31 @@ fn prefixes_of<P: Written>(alloc: Global, pairs: &[Pair]) -> Result<Option<Vec<P
     Ok(Some(prefixes))
 }
 
-fn inserts<P: Written>(set: &mut Set<P>, pair: Pair, answer: Result<bool, Refusal>) -> bool {
-    match fitting::<P>(pair) {
-        Some(prefix) => set.insert(prefix) == answer,
+fn inserts<P: TablePrefix>(set: &mut Set<P>, pair: Pair, expected: Result<bool, Refusal>) -> bool {
+    match fitting_prefix::<P>(pair) {
+        Some(prefix) => set.insert(prefix) == expected,
         None => false,
     }
 }
 
-fn removes<P: Written>(set: &mut Set<P>, pair: Pair, answer: bool) -> bool {
-    match fitting::<P>(pair) {
-        Some(prefix) => set.remove(&prefix) == answer,
+fn removes<P: TablePrefix>(set: &mut Set<P>, pair: Pair, expected: bool) -> bool {
+    match fitting_prefix::<P>(pair) {
+        Some(prefix) => set.remove(&prefix) == expected,
         None => false,
     }
 }
 
 /// Whether the keys that a prefix contains are handed out as a set of so many.
-fn hands_out<P: Written>(set: &mut Set<P>, pair: Pair, count: usize) -> bool {
-    match fitting::<P>(pair) {
+fn splits_off<P: TablePrefix>(set: &mut Set<P>, pair: Pair, count: usize) -> bool {
+    match fitting_prefix::<P>(pair) {
         Some(prefix) => set.remove_children(&prefix).map(|second| second.len()) == Ok(count),
         None => false,
     }
 }
 
-fn equals<P: Prefix>(set: &Set<P>, other: Result<Set<P>, Refusal>, answer: bool) -> bool {
+fn equals<P: Prefix>(set: &Set<P>, other: Result<Set<P>, Refusal>, expected: bool) -> bool {
     match other {
-        Ok(other) => (*set == other) == answer,
+        Ok(other) => (*set == other) == expected,
         Err(_) => false,
     }
 }
@@ -145,7 +145,7 @@ fn lists<P: Prefix>(set: &Set<P>, pairs: &[Pair]) -> bool {
     let mut rest = pairs.iter();
     for prefix in set {
         match rest.next() {
-            Some(pair) if is(&prefix, *pair) => {}
+            Some(pair) if is_prefix(&prefix, *pair) => {}
             _ => return false,
         }
     }
@@ -153,7 +153,7 @@ fn lists<P: Prefix>(set: &Set<P>, pairs: &[Pair]) -> bool {
 }
 
 /// Whether a loop that takes a copy of a set apart gives these keys.
-fn gives_up<P: Prefix>(set: &Set<P>, pairs: &[Pair]) -> bool {
+fn consumes<P: Prefix>(set: &Set<P>, pairs: &[Pair]) -> bool {
     match set.clone() {
         Ok(copy) => are_keys(copy, pairs),
         Err(_) => false,
@@ -164,7 +164,7 @@ fn are_keys<P: Prefix>(set: Set<P>, pairs: &[Pair]) -> bool {
     let mut rest = pairs.iter();
     for prefix in set {
         match rest.next() {
-            Some(pair) if is(&prefix, *pair) => {}
+            Some(pair) if is_prefix(&prefix, *pair) => {}
             _ => return false,
         }
     }

@@ -1,5 +1,5 @@
 //! Debug text.
-use crate::table::{Map, Pair, Written};
+use crate::table::{Map, Pair, TablePrefix};
 use prefix_trie::Prefix;
 use std::alloc::Global;
 
@@ -10,7 +10,7 @@ pub fn is_text<P: Prefix>(alloc: Global, map: &Map<P>, text: &str) -> bool {
     }
 }
 
-pub fn is_prefix_text<P: Written>(alloc: Global, (number, len): Pair, text: &str) -> bool {
+pub fn is_prefix_text<P: TablePrefix>(alloc: Global, (number, len): Pair, text: &str) -> bool {
     let Some(prefix) = P::of(number, len) else {
         return false;
     };

@@ -1,12 +1,12 @@
 //! What the walks of a map give.
-use crate::table::{Entry, Map, Pair, Written, fitting, is_shown};
+use crate::table::{Entry, Map, Pair, TablePrefix, fitting_prefix, is_entry};
 use prefix_trie::Prefix;
 
 pub fn lists<P: Prefix>(map: &Map<P>, pairs: &[Pair]) -> bool {
     let mut walk = map.iter();
     let mut value = 0_u64;
     for pair in pairs {
-        if !is_shown(walk.next(), Some((*pair, value))) {
+        if !is_entry(walk.next(), Some((*pair, value))) {
             return false;
         }
         value = value.wrapping_add(1);
@@ -17,21 +17,21 @@ pub fn lists<P: Prefix>(map: &Map<P>, pairs: &[Pair]) -> bool {
 pub fn lists_entries<P: Prefix>(map: &Map<P>, entries: &[Entry]) -> bool {
     let mut walk = map.iter();
     for entry in entries {
-        if !is_shown(walk.next(), Some(*entry)) {
+        if !is_entry(walk.next(), Some(*entry)) {
             return false;
         }
     }
     walk.next().is_none()
 }
 
-pub fn goes_on_from<P: Written>(
+pub fn goes_on_from<P: TablePrefix>(
     map: &Map<P>,
     pair: Pair,
     inclusive: bool,
     count: usize,
     values: &[u64],
 ) -> bool {
-    match fitting::<P>(pair) {
+    match fitting_prefix::<P>(pair) {
         Some(prefix) => map
             .iter_from(&prefix, inclusive)
             .map(value_of)
@@ -41,8 +41,8 @@ pub fn goes_on_from<P: Written>(
     }
 }
 
-pub fn has_children<P: Written>(map: &Map<P>, pair: Pair, values: &[u64]) -> bool {
-    match fitting::<P>(pair) {
+pub fn has_children<P: TablePrefix>(map: &Map<P>, pair: Pair, values: &[u64]) -> bool {
+    match fitting_prefix::<P>(pair) {
         Some(prefix) => map.children(&prefix).map(value_of).eq(values),
         None => false,
     }
@@ -54,21 +54,21 @@ fn value_of<'a, P: Prefix>(entry: (P, &'a u64)) -> &'a u64 {
     value
 }
 
-pub fn covers<P: Written>(map: &Map<P>, pair: Pair, entries: &[Entry]) -> bool {
-    let Some(prefix) = fitting::<P>(pair) else {
+pub fn covers<P: TablePrefix>(map: &Map<P>, pair: Pair, entries: &[Entry]) -> bool {
+    let Some(prefix) = fitting_prefix::<P>(pair) else {
         return false;
     };
     let mut walk = map.cover(&prefix);
     for entry in entries {
-        if !is_shown(walk.next(), Some(*entry)) {
+        if !is_entry(walk.next(), Some(*entry)) {
             return false;
         }
     }
     walk.next().is_none()
 }
 
-pub fn covers_values<P: Written>(map: &Map<P>, pair: Pair, values: &[u64]) -> bool {
-    match fitting::<P>(pair) {
+pub fn covers_values<P: TablePrefix>(map: &Map<P>, pair: Pair, values: &[u64]) -> bool {
+    match fitting_prefix::<P>(pair) {
         Some(prefix) => map.cover_values(&prefix).eq(values),
         None => false,
     }

@@ -1,13 +1,13 @@
 //! What walks that write make of a map.
-use crate::table::{Map, Pair, Written, fitting};
+use crate::table::{Map, Pair, TablePrefix, fitting_prefix};
 use prefix_trie::Prefix;
 use prefix_trie::map::IterMut;
 use std::alloc::Global;
 
 /// A number is added to each value from a prefix on.
-pub fn adds<P: Written>(map: &mut Map<P>, pair: Pair, inclusive: bool, more: u64) -> bool {
+pub fn adds<P: TablePrefix>(map: &mut Map<P>, pair: Pair, inclusive: bool, more: u64) -> bool {
     let steps = map.len();
-    match fitting::<P>(pair) {
+    match fitting_prefix::<P>(pair) {
         Some(prefix) => {
             change_each(&mut map.iter_from_mut(&prefix, inclusive), steps, 1, more);
             true
@@ -17,9 +17,9 @@ pub fn adds<P: Written>(map: &mut Map<P>, pair: Pair, inclusive: bool, more: u64
 }
 
 /// Each value that a prefix contains is multiplied.
-pub fn multiplies<P: Written>(map: &mut Map<P>, pair: Pair, factor: u64) -> bool {
+pub fn multiplies<P: TablePrefix>(map: &mut Map<P>, pair: Pair, factor: u64) -> bool {
     let steps = map.len();
-    match fitting::<P>(pair) {
+    match fitting_prefix::<P>(pair) {
         Some(prefix) => {
             change_each(&mut map.children_mut(&prefix), steps, factor, 0);
             true

@@ -1,11 +1,11 @@
 //! Cases, as calls of a map.
-use crate::cases::changes::{writes, writes_longest};
-use crate::cases::filling::{Fill, changes, filled, is_vacant, takes_out};
-use crate::cases::lists::{
-    covers, entries_of, gives, gives_from, gives_same, gives_twice, lends_from,
+use crate::cases::entries::{InsertVia, changes_entry, insert_via, is_vacant, removes_entry};
+use crate::cases::lookups::{finds, has_cells, has_nodes, slots_add_up, was_refused};
+use crate::cases::under_test::{InsertResult, State, UnderTest};
+use crate::cases::walks::{
+    covers, entries_of, gives, gives_before_and_after_next, gives_from, gives_same, lends_from,
 };
-use crate::cases::questions::{finds, has_cells, has_nodes, has_sums, was_refused};
-use crate::cases::tried::{Answer, State, Tried};
+use crate::cases::writes::{writes, writes_longest};
 use crate::cases::{Case, Entry, Pair, prefix_of};
 use crate::examples::expiry::keep_from;
 use crate::refusing::Refusing;
@@ -13,27 +13,28 @@ use crate::retain::retain_long;
 use prefix_trie::{Prefix, PrefixMap, Refusal};
 use std::alloc::{AllocError, Allocator, Global};
 
-impl<P: Prefix + Copy + PartialEq, A: Allocator + Copy> Tried<P::R, A> for PrefixMap<P, u64, A> {
-    fn made(alloc: A, limit: Option<u32>) -> Result<Self, Refusal> {
+impl<P: Prefix + Copy + PartialEq, A: Allocator + Copy> UnderTest<P::R, A>
+    for PrefixMap<P, u64, A> {
+    fn create(alloc: A, limit: Option<u32>) -> Result<Self, Refusal> {
         match limit {
             Some(slots) => PrefixMap::with_slot_limit(alloc, slots),
             None => PrefixMap::new(alloc),
         }
     }
 
-    fn copied(&self) -> Result<Self, AllocError> {
+    fn copy(&self) -> Result<Self, AllocError> {
         self.clone()
     }
 
-    fn part(&mut self, at: Pair<P::R>) -> Option<Self> {
+    fn split_off(&mut self, at: Pair<P::R>) -> Option<Self> {
         self.remove_children(&prefix_of(at)).ok()
     }
 
-    fn store(&mut self, call: Fill, at: Pair<P::R>, value: u64) -> Answer {
-        filled(self, call, at, value)
+    fn store(&mut self, call: InsertVia, at: Pair<P::R>, value: u64) -> InsertResult {
+        insert_via(self, call, at, value)
     }
 
-    fn kept(value: u64) -> u64 {
+    fn stored_value(value: u64) -> u64 {
         value
     }
 
@@ -41,11 +42,11 @@ impl<P: Prefix + Copy + PartialEq, A: Allocator + Copy> Tried<P::R, A> for Prefi
         Ok((entries_of(alloc, self)?, self.node_count()))
     }
 
-    fn is_as(&self, state: &State<P::R>) -> bool {
+    fn has_state(&self, state: &State<P::R>) -> bool {
         gives(self.iter(), &state.0)
             & (self.len() == state.0.len())
             & (self.node_count() == state.1)
-            & has_sums(self)
+            & slots_add_up(self)
     }
 
     fn is_same(&self, other: &Self) -> bool {
@@ -56,20 +57,20 @@ impl<P: Prefix + Copy + PartialEq, A: Allocator + Copy> Tried<P::R, A> for Prefi
             & (self.cell_blocks() == other.cell_blocks())
     }
 
-    fn has_sums(&self) -> bool {
-        has_sums(self)
+    fn slots_add_up(&self) -> bool {
+        slots_add_up(self)
     }
 
-    fn is_as_said(&mut self, heap: &Refusing<Global>, case: &Case<'_, P::R>) -> bool {
+    fn check_call(&mut self, heap: &Refusing<Global>, case: &Case<'_, P::R>) -> bool {
         match case {
             Case::Removes(at, before) => self.remove(&prefix_of(*at)) == *before,
-            Case::Empties(at, before) => self.remove_keep_tree(&prefix_of(*at)) == *before,
+            Case::RemovesKeepTree(at, before) => self.remove_keep_tree(&prefix_of(*at)) == *before,
             Case::DropsChildren(_) | Case::RetainsFrom(_) | Case::RetainsLong(_) | Case::Clears =>
                 is_reduced(self, case),
             Case::Writes(..)
             | Case::WritesLongest(..)
             | Case::LeavesVacant(_)
-            | Case::TakesOut(..)
+            | Case::RemovesEntry(..)
             | Case::ChangesEntry(..) => is_written(self, case),
             Case::Finds(at, exact, longest, shortest) => {
                 finds(heap.inner(), self, *at, *exact, *longest, *shortest)
@@ -80,19 +81,19 @@ impl<P: Prefix + Copy + PartialEq, A: Allocator + Copy> Tried<P::R, A> for Prefi
             }
             Case::Covers(at, entries) => covers(self, *at, entries),
             Case::Len(len) => (self.len(), self.is_empty()) == (*len, *len == 0),
-            Case::Addresses(count) => self.address_count() == *count,
-            Case::Nodes(nodes) => self.node_count() == *nodes,
+            Case::AddressCount(count) => self.address_count() == *count,
+            Case::NodeCount(nodes) => self.node_count() == *nodes,
             Case::Slots(..) | Case::NodeBlocks(..) | Case::CellBlocks(..) => {
                 was_refused(heap) || is_stored_in(self, case)
             }
-            // `tried` makes these calls itself.
-            Case::Makes(_) | Case::Copies | Case::Same | Case::Turns => false,
-            Case::Inserts(..) | Case::PassesLimit(..) | Case::Fills(..) => false,
+            // `under_test` makes these calls itself.
+            Case::StartsAnew(_) | Case::Copies | Case::AreSame | Case::Swaps => false,
+            Case::Inserts(..) | Case::ExceedsLimit(..) | Case::Fills(..) => false,
         }
     }
 }
 
-/// Makes the call of a case that removes all that a prefix contains, or all that a test rejects, or all.
+/// StartsAnew the call of a case that removes all that a prefix contains, or all that a test rejects, or all.
 fn is_reduced<P: Prefix, A: Allocator>(
     map: &mut PrefixMap<P, u64, A>,
     case: &Case<'_, P::R>,
@@ -127,8 +128,8 @@ fn is_written<P: Prefix + Copy, A: Allocator>(
         Case::Writes(at, value, before) => writes(map, *at, *value, *before),
         Case::WritesLongest(at, value, before) => writes_longest(map, *at, *value, *before),
         Case::LeavesVacant(at) => is_vacant(map, *at),
-        Case::TakesOut(at, before) => takes_out(map, *at, *before),
-        Case::ChangesEntry(at, value, before) => changes(map, *at, *value, *before),
+        Case::RemovesEntry(at, before) => removes_entry(map, *at, *before),
+        Case::ChangesEntry(at, value, before) => changes_entry(map, *at, *value, *before),
         _ => false,
     }
 }
@@ -140,7 +141,7 @@ fn lists<P: Prefix + Copy, A: Allocator>(
 ) -> bool {
     (map.len() == entries.len())
         & gives(map.into_iter(), entries)
-        & gives_twice(map.iter(), map.keys(), map.values(), entries)
+        & gives_before_and_after_next(map.iter(), map.keys(), map.values(), entries)
 }
 
 /// Whether the slots or the blocks of a map are as a case says. Which these are is asked only if no request was refused, since a

@@ -6,7 +6,7 @@ use prefix_trie::{Prefix, PrefixMap, Refusal};
 use std::alloc::Allocator;
 
 /// A map with the same entries.
-pub fn copied<P: Prefix, T: Copy + Drop, A: Allocator, B: Allocator + Clone>(
+pub fn copy_of<P: Prefix, T: Copy + Drop, A: Allocator, B: Allocator + Clone>(
     from: &PrefixMap<P, T, A>,
     alloc: B,
 ) -> Result<PrefixMap<P, T, B>, Refusal>

@@ -13,8 +13,8 @@ fn double_rest<'b, 'a, P: Prefix, A: Allocator>(walk: &'b mut ValuesMut<'a, P, u
     requires { OrderedIn walk.old.walk.course }
     ensures { RewritesIn (λ v. (v * 2) % 2 ^ 64) walk.old.walk.course walk.new.walk.course }
 {
-    while let Some(place) = walk.next() {
-        *place = place.wrapping_mul(2);
+    while let Some(stored) = walk.next() {
+        *stored = stored.wrapping_mul(2);
     }
 }
 
@@ -34,8 +34,8 @@ fn double_entries<'b, 'a, P: Prefix, A: Allocator>(walk: &'b mut IterMut<'a, P, 
     ensures { RewritesIn (λ v. (v * 2) % 2 ^ 64) walk.old.course walk.new.course }
 {
     while let Some((_prefix, stop)) = walk.step() {
-        let place = walk.value(stop);
-        *place = place.wrapping_mul(2);
+        let stored = walk.value(stop);
+        *stored = stored.wrapping_mul(2);
     }
 }
 

@@ -98,7 +98,7 @@ fn has_two_anew(alloc: Global) -> bool {
 }
 
 #[test]
-fn runs_on_a_map(rt: HostRuntime) {
+fn runs_return_counts_and_matches(rt: HostRuntime) {
     assert!(rt; has_two_anew(rt.alloc()));
     assert!(rt; on_new(PrefixMap::new(rt.alloc()), rt.alloc(), is_counted) == Ok(true));
 }

@@ -2,7 +2,7 @@
 ghost use Rattle.std.specs.Prelude.{◌≤◌, All, IfOk};
 ghost use Rattle.prefix_trie.specs.Words.{IsFittingCall};
 
-use crate::cases::questions::has_sums;
+use crate::cases::lookups::slots_add_up;
 use crate::cases::{Pair, prefix_of};
 use crate::on_new::on_new;
 use prefix_trie::replay::{Call, Reply, run};
@@ -31,17 +31,17 @@ struct Draw<K> {
 }
 
 /// The draw after this one.
-fn drawn(x: u64) -> u64 {
+fn next_random(x: u64) -> u64 {
     x.wrapping_mul(1_103_515_245).wrapping_add(12_345) % 0x8000_0000
 }
 
 /// The next call's number, and the key that it asks for; the draws are moved on.
-pub fn drawn_call(x: &mut u64) -> (u64, Key)
+pub fn random_call(x: &mut u64) -> (u64, Key)
     ensures { result.1.1 ≤ 8 }
 {
-    let call = drawn(*x);
-    let number = drawn(call);
-    let len = drawn(number);
+    let call = next_random(*x);
+    let number = next_random(call);
+    let len = next_random(number);
     *x = len;
     (
         call / 65_536 % 1024,
@@ -50,7 +50,7 @@ pub fn drawn_call(x: &mut u64) -> (u64, Key)
 }
 
 /// The key of as many bits of this number, without host bits.
-fn cleared(number: u8, len: u8) -> Key {
+fn without_host_bits(number: u8, len: u8) -> Key {
     let host_bits = 0xff_u8.checked_shr(u32::from(len)).unwrap_or(0);
     (number & !host_bits, len)
 }
@@ -62,12 +62,12 @@ fn rank(key: Key) -> u16 {
 
 /// Whether an entry of this key contains what is asked for.
 fn contains(key: Key, asked: Key) -> bool {
-    key.1 <= asked.1 && key == cleared(asked.0, key.1)
+    key.1 <= asked.1 && key == without_host_bits(asked.0, key.1)
 }
 
-fn exact(list: &[Entry], asked: Key) -> Option<u64> {
+fn exact_match(list: &[Entry], asked: Key) -> Option<u64> {
     for entry in list {
-        if entry.0 == cleared(asked.0, asked.1) {
+        if entry.0 == without_host_bits(asked.0, asked.1) {
             return Some(entry.1);
         }
     }
@@ -75,7 +75,7 @@ fn exact(list: &[Entry], asked: Key) -> Option<u64> {
 }
 
 /// The first entry that contains the key: in listing order, the shortest.
-fn shortest(list: &[Entry], asked: Key) -> Option<Entry> {
+fn shortest_match(list: &[Entry], asked: Key) -> Option<Entry> {
     for entry in list {
         if contains(entry.0, asked) {
             return Some(*entry);
@@ -85,7 +85,7 @@ fn shortest(list: &[Entry], asked: Key) -> Option<Entry> {
 }
 
 /// The last entry that contains the key: in listing order, the longest.
-fn longest(list: &[Entry], asked: Key) -> Option<Entry> {
+fn longest_match(list: &[Entry], asked: Key) -> Option<Entry> {
     let mut last = None;
     for entry in list {
         if contains(entry.0, asked) {
@@ -96,10 +96,10 @@ fn longest(list: &[Entry], asked: Key) -> Option<Entry> {
 }
 
 /// How many keys of all eight bits an entry contains. None if all.
-fn addresses(list: &[Entry]) -> Option<u8> {
+fn address_count(list: &[Entry]) -> Option<u8> {
     let mut count = 0_u8;
     for number in 0..256_u16 {
-        if shortest(list, (number as u8, 8)).is_some() {
+        if shortest_match(list, (number as u8, 8)).is_some() {
             count = count.checked_add(1)?;
         }
     }
@@ -158,10 +158,10 @@ fn calls_of<P: Prefix>(
 }
 
 /// The draws of a run.
-fn drawn_run(alloc: Global, x: &mut u64) -> Result<Vec<Draw<u8>>, AllocError> {
+fn random_run(alloc: Global, x: &mut u64) -> Result<Vec<Draw<u8>>, AllocError> {
     let mut draws = Vec::new(alloc);
     for _index in 0..CALLS {
-        let (kind, at) = drawn_call(x);
+        let (kind, at) = random_call(x);
         let is_even = at.0 % 2 == 0;
         draws.push(Draw { kind, at, is_even })?;
     }
@@ -173,10 +173,10 @@ fn selects(call: &Call<Key>, key: Key) -> bool {
     match call {
         Call::List => true,
         Call::ListFrom((number, len), inclusive) => {
-            let from = rank(cleared(*number, *len));
+            let from = rank(without_host_bits(*number, *len));
             from < rank(key) || (*inclusive && from == rank(key))
         }
-        Call::Children((number, len)) => contains(cleared(*number, *len), key),
+        Call::Children((number, len)) => contains(without_host_bits(*number, *len), key),
         Call::Cover(at) => contains(key, *at),
         Call::Insert(..) | Call::Get(_) | Call::Lpm(_) | Call::Spm(_) => false,
         Call::Remove(_) | Call::RemoveKeepTree(_) | Call::RemoveChildren(_) => false,
@@ -187,30 +187,31 @@ fn selects(call: &Call<Key>, key: Key) -> bool {
 
 /// Whether a list is the one that a call asks for.
 fn are_selected(entries: &[Entry], call: &Call<Key>, list: &[Entry]) -> bool {
-    let mut place = 0_usize;
+    let mut index = 0_usize;
     for entry in list {
         if selects(call, entry.0) {
-            if entries.get(place) != Some(entry) {
+            if entries.get(index) != Some(entry) {
                 return false;
             }
-            place = place.wrapping_add(1);
+            index = index.wrapping_add(1);
         }
     }
-    place == entries.len()
+    index == entries.len()
 }
 
 /// Whether a reply is that of the list, to which the call was not yet made. Of a count of nodes the list says nothing.
 fn is_reply(reply: &Reply<Key, Global>, call: &Call<Key>, list: &[Entry]) -> bool {
     match call {
         Call::Insert(at, _) | Call::Get(at) | Call::Remove(at) | Call::RemoveKeepTree(at) => {
-            matches!(reply, Reply::Value(value) if *value == exact(list, *at))
+            matches!(reply, Reply::Value(value) if *value == exact_match(list, *at))
         }
-        Call::Lpm(at) => matches!(reply, Reply::Match(found) if *found == longest(list, *at)),
-        Call::Spm(at) => matches!(reply, Reply::Match(found) if *found == shortest(list, *at)),
+        Call::Lpm(at) => matches!(reply, Reply::Match(found) if *found == longest_match(list, *at)),
+        Call::Spm(at) =>
+            matches!(reply, Reply::Match(found) if *found == shortest_match(list, *at)),
         Call::Len => matches!(reply, Reply::Count(count) if *count == list.len()),
         Call::NodeCount => matches!(reply, Reply::Count(count) if 1 <= *count),
         Call::AddressCount => {
-            matches!(reply, Reply::Addresses(count) if *count == addresses(list))
+            matches!(reply, Reply::Addresses(count) if *count == address_count(list))
         }
         Call::RemoveChildren(_) | Call::RetainAtLeast(_) | Call::Clear => {
             matches!(reply, Reply::Done)
@@ -226,8 +227,8 @@ fn keeps(call: &Call<Key>, key: Key) -> bool {
     match call {
         Call::Insert((number, len), _)
         | Call::Remove((number, len))
-        | Call::RemoveKeepTree((number, len)) => key != cleared(*number, *len),
-        Call::RemoveChildren((number, len)) => !contains(cleared(*number, *len), key),
+        | Call::RemoveKeepTree((number, len)) => key != without_host_bits(*number, *len),
+        Call::RemoveChildren((number, len)) => !contains(without_host_bits(*number, *len), key),
         Call::RetainAtLeast(len) => *len <= key.1,
         Call::Clear => false,
         Call::Get(_) | Call::Lpm(_) | Call::Spm(_) => true,
@@ -237,7 +238,7 @@ fn keeps(call: &Call<Key>, key: Key) -> bool {
 }
 
 /// The list of the entries that stay as they are.
-fn kept(alloc: Global, list: &[Entry], call: &Call<Key>) -> Result<Vec<Entry>, AllocError> {
+fn entries_kept(alloc: Global, list: &[Entry], call: &Call<Key>) -> Result<Vec<Entry>, AllocError> {
     let mut left = Vec::new(alloc);
     for entry in list {
         if keeps(call, entry.0) {
@@ -248,7 +249,7 @@ fn kept(alloc: Global, list: &[Entry], call: &Call<Key>) -> Result<Vec<Entry>, A
 }
 
 /// The list with this entry before the first of a higher rank. No entry has its key.
-fn with(alloc: Global, list: &[Entry], added: Entry) -> Result<Vec<Entry>, AllocError> {
+fn list_with(alloc: Global, list: &[Entry], added: Entry) -> Result<Vec<Entry>, AllocError> {
     let mut all = Vec::new(alloc);
     let mut is_in = false;
     for entry in list {
@@ -265,10 +266,14 @@ fn with(alloc: Global, list: &[Entry], added: Entry) -> Result<Vec<Entry>, Alloc
 }
 
 /// The list once a call was made.
-fn changed(alloc: Global, list: &[Entry], call: &Call<Key>) -> Result<Vec<Entry>, AllocError> {
-    let left = kept(alloc, list, call)?;
+fn list_after(alloc: Global, list: &[Entry], call: &Call<Key>) -> Result<Vec<Entry>, AllocError> {
+    let left = entries_kept(alloc, list, call)?;
     match call {
-        Call::Insert((number, len), value) => with(alloc, &left, (cleared(*number, *len), *value)),
+        Call::Insert((number, len), value) => list_with(
+            alloc,
+            &left,
+            (without_host_bits(*number, *len), *value),
+        ),
         _ => Ok(left),
     }
 }
@@ -284,7 +289,7 @@ fn are_replies(
         if !is_reply(reply, call, list) {
             return Ok(false);
         }
-        *list = changed(alloc, list, call)?;
+        *list = list_after(alloc, list, call)?;
     }
     Ok(replies.len() == calls.len())
 }
@@ -299,7 +304,7 @@ fn runs_alike(
     requires { All (IsFittingCall ⟦<Key as Prefix>⟧.IsFitting) calls.now }
 {
     let replies = run(alloc, map, calls)?;
-    Ok(are_replies(alloc, &replies, calls, list)? & has_sums(map))
+    Ok(are_replies(alloc, &replies, calls, list)? & slots_add_up(map))
 }
 
 /// Draws and makes all runs. Answers whether all replies are those of a list.
@@ -307,7 +312,7 @@ fn all_run_alike(map: &mut Map, alloc: Global) -> Result<bool, AllocError> {
     let mut list = Vec::new(alloc);
     let mut x = 1;
     for number in 0..RUNS {
-        let draws = drawn_run(alloc, &mut x)?;
+        let draws = random_run(alloc, &mut x)?;
         let calls = calls_of::<Key>(alloc, &draws, number.wrapping_mul(CALLS))?;
         if !runs_alike(alloc, map, &calls, &mut list)? {
             return Ok(false);
@@ -317,6 +322,6 @@ fn all_run_alike(map: &mut Map, alloc: Global) -> Result<bool, AllocError> {
 }
 
 #[test]
-fn a_long_run_as_on_a_sorted_list(rt: HostRuntime) {
+fn a_long_run_replies_as_a_sorted_list(rt: HostRuntime) {
     assert!(rt; on_new(PrefixMap::new(rt.alloc()), rt.alloc(), all_run_alike) == Ok(Ok(true)));
 }

@@ -2,18 +2,18 @@
 ghost use Rattle.std.specs.Prelude.{◌≤◌};
 
 use crate::cases::Case::{
-    self, Addresses, Clears, Covers, DropsChildren, Empties, Finds, Inserts, Len, Lists, Nodes,
-    Removes, RetainsLong,
+    self, AddressCount, Clears, Covers, DropsChildren, Finds, Inserts, Len, Lists, NodeCount,
+    Removes, RemovesKeepTree, RetainsLong,
 };
 use crate::cases::Entry;
-use crate::cases::lists::entries_of;
-use crate::cases::questions::shown;
-use crate::cases::tried::holds_alone;
+use crate::cases::lookups::as_entry;
+use crate::cases::under_test::holds_alone;
+use crate::cases::walks::entries_of;
+use crate::contents::put;
 use crate::on_new::on_two_new;
 use crate::refusing::Refusing;
 use crate::retain::retain_long;
-use crate::runs::mixed::{Key, drawn_call};
-use crate::stored::put;
+use crate::runs::mixed::{Key, random_call};
 use prefix_trie::{PrefixMap, PrefixSet};
 use std::alloc::{AllocError, Global};
 
@@ -27,11 +27,11 @@ type Map = PrefixMap<Key, u64, Global>;
 
 type Set = PrefixSet<Key, Global>;
 
-/// Makes a call that stores, or takes out all or what is short. Answers it beside its answer.
-fn changed(map: &mut Map, a: u64, asked: Key) -> Case<'static, u8>
+/// StartsAnew a call that stores, or takes out all or what is short. Answers it beside its answer.
+fn write_case(map: &mut Map, number: u64, asked: Key) -> Case<'static, u8>
     requires { asked.1 ≤ 8 }
 {
-    match a {
+    match number {
         600 => {
             map.clear();
             Clears
@@ -40,17 +40,17 @@ fn changed(map: &mut Map, a: u64, asked: Key) -> Case<'static, u8>
             retain_long(map, asked.1);
             RetainsLong(asked.1)
         }
-        _ => Inserts(asked, a, put(map, asked, a).unwrap_or(None)),
+        _ => Inserts(asked, number, put(map, asked, number).unwrap_or(None)),
     }
 }
 
 /// The same of a removal.
-fn removed(map: &mut Map, which: u64, asked: Key) -> Case<'static, u8>
+fn removal_case(map: &mut Map, which: u64, asked: Key) -> Case<'static, u8>
     requires { asked.1 ≤ 8 }
 {
     match which {
         10 => Removes(asked, map.remove(&asked)),
-        11 => Empties(asked, map.remove_keep_tree(&asked)),
+        11 => RemovesKeepTree(asked, map.remove_keep_tree(&asked)),
         _ => {
             map.drop_children(&asked);
             DropsChildren(asked)
@@ -59,24 +59,29 @@ fn removed(map: &mut Map, which: u64, asked: Key) -> Case<'static, u8>
 }
 
 /// The same of a question.
-fn answered(map: &Map, which: u64, asked: Key) -> Case<'static, u8>
+fn lookup_case(map: &Map, which: u64, asked: Key) -> Case<'static, u8>
     requires { asked.1 ≤ 8 }
 {
     match which {
         5 => Len(map.len()),
-        6 => Nodes(map.node_count()),
-        7 => Addresses(map.address_count()),
+        6 => NodeCount(map.node_count()),
+        7 => AddressCount(map.address_count()),
         _ => Finds(
             asked,
-            shown(map.get_key_value(&asked)),
-            shown(map.get_lpm(&asked)),
-            shown(map.get_spm(&asked)),
+            as_entry(map.get_key_value(&asked)),
+            as_entry(map.get_lpm(&asked)),
+            as_entry(map.get_spm(&asked)),
         ),
     }
 }
 
 /// The entries that a call lists: all, or those around a prefix.
-fn listed(alloc: Global, map: &Map, which: u64, asked: Key) -> Result<Vec<Entry<u8>>, AllocError>
+fn listed_entries(
+    alloc: Global,
+    map: &Map,
+    which: u64,
+    asked: Key,
+) -> Result<Vec<Entry<u8>>, AllocError>
     requires { asked.1 ≤ 8 }
 {
     if which == 8 {
@@ -89,34 +94,34 @@ fn listed(alloc: Global, map: &Map, which: u64, asked: Key) -> Result<Vec<Entry<
     Ok(entries)
 }
 
-/// Makes one call on a map. Answers whether a set answers it alike.
+/// StartsAnew one call on a map. Answers whether a set answers it alike.
 fn agrees(
     heap: &Refusing<Global>,
     map: &mut Map,
     set: &mut Set,
-    a: u64,
+    number: u64,
     asked: Key,
 ) -> Result<bool, AllocError>
     requires { asked.1 ≤ 8 }
 {
-    let which = a.wrapping_sub(602) % 13;
-    let entries = listed(heap.inner(), map, which, asked)?;
-    let case = match a {
-        0..602 => changed(map, a, asked),
+    let which = number.wrapping_sub(602) % 13;
+    let entries = listed_entries(heap.inner(), map, which, asked)?;
+    let case = match number {
+        0..602 => write_case(map, number, asked),
         _ if which == 8 => Lists(&entries),
         _ if which == 9 => Covers(asked, &entries),
-        _ if 9 < which => removed(map, which, asked),
-        _ => answered(map, which, asked),
+        _ if 9 < which => removal_case(map, which, asked),
+        _ => lookup_case(map, which, asked),
     };
     Ok(holds_alone::<u8, Global, Set>(heap, set, &case))
 }
 
-/// Makes all calls. Answers whether each was answered alike, and both have the same keys at the end.
-fn answer_alike(map: &mut Map, set: &mut Set, heap: &Refusing<Global>) -> Result<bool, AllocError> {
+/// StartsAnew all calls. Answers whether each was answered alike, and both have the same keys at the end.
+fn all_agree(map: &mut Map, set: &mut Set, heap: &Refusing<Global>) -> Result<bool, AllocError> {
     let mut x = 1;
     for _index in 0..CALLS {
-        let (a, asked) = drawn_call(&mut x);
-        if !agrees(heap, map, set, a, asked)? {
+        let (number, asked) = random_call(&mut x);
+        if !agrees(heap, map, set, number, asked)? {
             return Ok(false);
         }
     }
@@ -124,8 +129,8 @@ fn answer_alike(map: &mut Map, set: &mut Set, heap: &Refusing<Global>) -> Result
 }
 
 #[test]
-fn mixed_calls_of_a_set_as_of_a_map(rt: HostRuntime) {
+fn a_set_returns_what_a_map_returns(rt: HostRuntime) {
     let heap = Refusing::new(rt.alloc());
     let (map, set) = (PrefixMap::new(rt.alloc()), PrefixSet::new(rt.alloc()));
-    assert!(rt; on_two_new(map, set, &heap, answer_alike) == Ok(Ok(true)));
+    assert!(rt; on_two_new(map, set, &heap, all_agree) == Ok(Ok(true)));
 }

@@ -1,14 +1,16 @@
 //! Free blocks: what takes them with every request for memory refused, and a removal that makes one.
 use crate::cases::Case::{
-    self, Addresses, CellBlocks, Clears, Covers, DropsChildren, Empties, Finds, Inserts,
-    LeavesVacant, Len, Lists, Makes, NodeBlocks, Nodes, Removes, Slots, Writes, WritesLongest,
+    self, AddressCount, CellBlocks, Clears, Covers, DropsChildren, Finds, Inserts, LeavesVacant,
+    Len, Lists, NodeBlocks, NodeCount, Removes, RemovesKeepTree, Slots, StartsAnew, Writes,
+    WritesLongest,
 };
 use crate::cases::Entry;
+use crate::networks::v4;
 use crate::refusing::Refusing;
-use crate::trials::{How, Table, on_both};
+use crate::trials::{FaultPlan, Table, on_both};
 
 /// The first 24 of all pairs of at most four bits, which stand in a block of 24 once the other seven are gone.
-const LEFT: [Entry<u8>; 24] = [
+const FIRST_24: [Entry<u8>; 24] = [
     ((0, 0), 0),
     ((0, 1), 1),
     ((0, 2), 2),
@@ -36,7 +38,7 @@ const LEFT: [Entry<u8>; 24] = [
 ];
 
 /// With every request refused the 25th goes into the free block of 31 and out again, a value is replaced, and all are taken out.
-const FREE: Table<'static, u8> = (
+const INTO_FREE_BLOCK: Table<'static, u8> = (
     &[
         Inserts((0, 0), 0, None),
         Inserts((0, 1), 1, None),
@@ -81,8 +83,8 @@ const FREE: Table<'static, u8> = (
         Slots(1, 86),
         CellBlocks(24, 1, 0),
         CellBlocks(31, 0, 1),
-        Nodes(1),
-        Lists(&LEFT),
+        NodeCount(1),
+        Lists(&FIRST_24),
         Finds(
             (128, 1),
             Some(((128, 1), 16)),
@@ -99,8 +101,8 @@ const FREE: Table<'static, u8> = (
         Slots(1, 86),
         CellBlocks(24, 1, 0),
         CellBlocks(31, 0, 1),
-        Nodes(1),
-        Lists(&LEFT),
+        NodeCount(1),
+        Lists(&FIRST_24),
         Inserts((128, 1), 77, Some(16)),
         Clears,
         Slots(1, 0),
@@ -108,17 +110,20 @@ const FREE: Table<'static, u8> = (
 );
 
 #[test]
-fn a_free_block_grants_an_insertion(rt: HostRuntime) {
+fn an_insertion_uses_a_free_block(rt: HostRuntime) {
     let heap = Refusing::new(rt.alloc());
-    assert_eq!(rt; on_both::<(u8, u8)>(&heap, &FREE, How::Starved), Ok(()));
+    assert_eq!(rt;
+        on_both::<(u8, u8)>(&heap, &INTO_FREE_BLOCK, FaultPlan::NoRequests),
+        Ok(())
+    );
 }
 
 /// Once the root has one value, no block of one is free, and the limit has room for another: a removal that takes only free blocks
 /// makes none.
-const MADE: Table<'static, u8> = (
+const SMALLER_BLOCK_MADE: Table<'static, u8> = (
     &[],
     &[
-        Makes(Some(4)),
+        StartsAnew(Some(4)),
         Inserts((0, 1), 1, None),
         Inserts((128, 1), 2, None),
         Inserts((0, 5), 3, None),
@@ -130,99 +135,112 @@ const MADE: Table<'static, u8> = (
 );
 
 #[test]
-fn removal_steps_down_not_only_onto_free_blocks(rt: HostRuntime) {
+fn a_removal_makes_a_smaller_block(rt: HostRuntime) {
     let heap = Refusing::new(rt.alloc());
-    assert_eq!(rt; on_both::<(u8, u8)>(&heap, &MADE, How::InTurn), Ok(()));
+    assert_eq!(rt;
+        on_both::<(u8, u8)>(&heap, &SMALLER_BLOCK_MADE, FaultPlan::EachRequest),
+        Ok(())
+    );
 }
 
 /// Five networks, each in the one before it.
-const FIVE: [Entry<u32>; 5] = [
-    ((0, 0), 0),
-    ((0, 1), 1),
-    ((0x0a00_0000, 8), 8),
-    ((0x0a01_0100, 24), 24),
-    ((0x0a01_0101, 32), 32),
+const FIVE_NETWORKS: [Entry<u32>; 5] = [
+    (v4!(0, 0, 0, 0; 0), 0),
+    (v4!(0, 0, 0, 0; 1), 1),
+    (v4!(10, 0, 0, 0; 8), 8),
+    (v4!(10, 1, 1, 0; 24), 24),
+    (v4!(10, 1, 1, 1; 32), 32),
 ];
 
 /// The root's two values come last: so a block of one is free.
-const PUT_FIVE: [Case<'static, u32>; 5] = [
-    Inserts((0x0a00_0000, 8), 8, None),
-    Inserts((0x0a01_0100, 24), 24, None),
-    Inserts((0x0a01_0101, 32), 32, None),
-    Inserts((0, 0), 0, None),
-    Inserts((0, 1), 1, None),
+const INSERT_FIVE: [Case<'static, u32>; 5] = [
+    Inserts(v4!(10, 0, 0, 0; 8), 8, None),
+    Inserts(v4!(10, 1, 1, 0; 24), 24, None),
+    Inserts(v4!(10, 1, 1, 1; 32), 32, None),
+    Inserts(v4!(0, 0, 0, 0; 0), 0, None),
+    Inserts(v4!(0, 0, 0, 0; 1), 1, None),
 ];
 
 /// All questions, and changes, of the five networks.
 pub const AMONG_FREE: [Table<'static, u32>; 2] = [
     (
-        &PUT_FIVE,
+        &INSERT_FIVE,
         &[
             Len(5),
-            Addresses(None),
-            LeavesVacant((0x0a01_0102, 32)),
-            LeavesVacant((0xffff_ffff, 32)),
-            Nodes(7),
+            AddressCount(None),
+            LeavesVacant(v4!(10, 1, 1, 2; 32)),
+            LeavesVacant(v4!(255, 255, 255, 255; 32)),
+            NodeCount(7),
             Slots(7, 6),
             NodeBlocks(1, 6, 0),
             CellBlocks(1, 3, 1),
             CellBlocks(2, 1, 0),
-            Lists(&FIVE),
-            Covers((0x0a01_0101, 32), &FIVE),
+            Lists(&FIVE_NETWORKS),
+            Covers(v4!(10, 1, 1, 1; 32), &FIVE_NETWORKS),
             Finds(
-                (0x0a01_0101, 32),
-                Some(((0x0a01_0101, 32), 32)),
-                Some(((0x0a01_0101, 32), 32)),
-                Some(((0, 0), 0)),
+                v4!(10, 1, 1, 1; 32),
+                Some((v4!(10, 1, 1, 1; 32), 32)),
+                Some((v4!(10, 1, 1, 1; 32), 32)),
+                Some((v4!(0, 0, 0, 0; 0), 0)),
             ),
             Finds(
-                (0x0a01_0100, 24),
-                Some(((0x0a01_0100, 24), 24)),
-                Some(((0x0a01_0100, 24), 24)),
-                Some(((0, 0), 0)),
+                v4!(10, 1, 1, 0; 24),
+                Some((v4!(10, 1, 1, 0; 24), 24)),
+                Some((v4!(10, 1, 1, 0; 24), 24)),
+                Some((v4!(0, 0, 0, 0; 0), 0)),
             ),
             Finds(
-                (0x0a01_0200, 24),
+                v4!(10, 1, 2, 0; 24),
                 None,
-                Some(((0x0a00_0000, 8), 8)),
-                Some(((0, 0), 0)),
+                Some((v4!(10, 0, 0, 0; 8), 8)),
+                Some((v4!(0, 0, 0, 0; 0), 0)),
             ),
-            Finds((0x0b00_0000, 8), None, Some(((0, 1), 1)), Some(((0, 0), 0))),
-            Finds((0xff00_0000, 8), None, Some(((0, 0), 0)), Some(((0, 0), 0))),
-            Writes((0x0a01_0101, 32), 32, Some(32)),
-            Writes((0x0a01_0200, 24), 9, None),
-            WritesLongest((0x0a01_0101, 32), 32, Some(((0x0a01_0101, 32), 32))),
-            WritesLongest((0x0a01_0100, 24), 24, Some(((0x0a01_0100, 24), 24))),
-            WritesLongest((0x0a01_0200, 24), 8, Some(((0x0a00_0000, 8), 8))),
-            WritesLongest((0x0b00_0000, 8), 1, Some(((0, 1), 1))),
-            WritesLongest((0xff00_0000, 8), 0, Some(((0, 0), 0))),
+            Finds(
+                v4!(11, 0, 0, 0; 8),
+                None,
+                Some((v4!(0, 0, 0, 0; 1), 1)),
+                Some((v4!(0, 0, 0, 0; 0), 0)),
+            ),
+            Finds(
+                v4!(255, 0, 0, 0; 8),
+                None,
+                Some((v4!(0, 0, 0, 0; 0), 0)),
+                Some((v4!(0, 0, 0, 0; 0), 0)),
+            ),
+            Writes(v4!(10, 1, 1, 1; 32), 32, Some(32)),
+            Writes(v4!(10, 1, 2, 0; 24), 9, None),
+            WritesLongest(v4!(10, 1, 1, 1; 32), 32, Some((v4!(10, 1, 1, 1; 32), 32))),
+            WritesLongest(v4!(10, 1, 1, 0; 24), 24, Some((v4!(10, 1, 1, 0; 24), 24))),
+            WritesLongest(v4!(10, 1, 2, 0; 24), 8, Some((v4!(10, 0, 0, 0; 8), 8))),
+            WritesLongest(v4!(11, 0, 0, 0; 8), 1, Some((v4!(0, 0, 0, 0; 1), 1))),
+            WritesLongest(v4!(255, 0, 0, 0; 8), 0, Some((v4!(0, 0, 0, 0; 0), 0))),
         ],
     ),
     // A host and a half of all addresses go and come, and then all are taken out. The root's second value moves the first to the free
     // block of one and back.
     (
-        &PUT_FIVE,
+        &INSERT_FIVE,
         &[
-            Inserts((0x0a01_0101, 32), 99, Some(32)),
-            Removes((0x0a01_0101, 32), Some(99)),
-            Inserts((0x0a01_0101, 32), 32, None),
-            Empties((0x0a01_0101, 32), Some(32)),
-            Removes((0x0a01_0101, 32), None),
-            Inserts((0x0a01_0101, 32), 32, None),
-            Inserts((0, 1), 99, Some(1)),
-            Removes((0, 1), Some(99)),
-            Inserts((0, 1), 1, None),
-            Empties((0, 1), Some(1)),
-            Removes((0, 1), None),
-            Inserts((0, 1), 1, None),
-            Nodes(7),
+            Inserts(v4!(10, 1, 1, 1; 32), 99, Some(32)),
+            Removes(v4!(10, 1, 1, 1; 32), Some(99)),
+            Inserts(v4!(10, 1, 1, 1; 32), 32, None),
+            RemovesKeepTree(v4!(10, 1, 1, 1; 32), Some(32)),
+            Removes(v4!(10, 1, 1, 1; 32), None),
+            Inserts(v4!(10, 1, 1, 1; 32), 32, None),
+            Inserts(v4!(0, 0, 0, 0; 1), 99, Some(1)),
+            Removes(v4!(0, 0, 0, 0; 1), Some(99)),
+            Inserts(v4!(0, 0, 0, 0; 1), 1, None),
+            RemovesKeepTree(v4!(0, 0, 0, 0; 1), Some(1)),
+            Removes(v4!(0, 0, 0, 0; 1), None),
+            Inserts(v4!(0, 0, 0, 0; 1), 1, None),
+            NodeCount(7),
             Slots(7, 6),
             NodeBlocks(1, 6, 0),
             CellBlocks(1, 3, 1),
             CellBlocks(2, 1, 0),
-            Lists(&FIVE),
-            Covers((0x0a01_0101, 32), &FIVE),
-            DropsChildren((0x0a00_0000, 8)),
+            Lists(&FIVE_NETWORKS),
+            Covers(v4!(10, 1, 1, 1; 32), &FIVE_NETWORKS),
+            DropsChildren(v4!(10, 0, 0, 0; 8)),
             Len(2),
             Clears,
             Slots(1, 0),

@@ -1,65 +1,66 @@
 //! Copies of a map, with each request for memory refused in turn, and with every one refused.
 use crate::cases::Case::{
-    Addresses, Clears, Copies, Finds, Inserts, Lists, Nodes, Removes, Same, Turns,
+    AddressCount, AreSame, Clears, Copies, Finds, Inserts, Lists, NodeCount, Removes, Swaps,
 };
 use crate::cases::Entry;
+use crate::networks::v4;
 use crate::trials::Table;
 
-const TWO: [Entry<u32>; 2] = [((0x0a00_0000, 8), 8), ((0x0a01_0000, 16), 16)];
+const TWO_NETWORKS: [Entry<u32>; 2] = [(v4!(10, 0, 0, 0; 8), 8), (v4!(10, 1, 0, 0; 16), 16)];
 
 /// Two networks, with free blocks in both arrays. The copy changes and the source does not, and the other way round.
-pub const APART: [Table<'static, u32>; 1] = [(
+pub const INDEPENDENT: [Table<'static, u32>; 1] = [(
     &[],
     &[
-        Inserts((0x0a00_0000, 8), 8, None),
-        Inserts((0x0a01_0000, 16), 16, None),
-        Inserts((0xc0a8_0100, 24), 24, None),
-        Removes((0xc0a8_0100, 24), Some(24)),
+        Inserts(v4!(10, 0, 0, 0; 8), 8, None),
+        Inserts(v4!(10, 1, 0, 0; 16), 16, None),
+        Inserts(v4!(192, 168, 1, 0; 24), 24, None),
+        Removes(v4!(192, 168, 1, 0; 24), Some(24)),
         Copies,
-        Turns,
-        Nodes(4),
-        Lists(&TWO),
+        Swaps,
+        NodeCount(4),
+        Lists(&TWO_NETWORKS),
         Finds(
-            (0x0a02_0000, 32),
+            v4!(10, 2, 0, 0; 32),
             None,
-            Some(((0x0a00_0000, 8), 8)),
-            Some(((0x0a00_0000, 8), 8)),
+            Some((v4!(10, 0, 0, 0; 8), 8)),
+            Some((v4!(10, 0, 0, 0; 8), 8)),
         ),
-        Inserts((0x0a01_0000, 16), 1, Some(16)),
-        Removes((0x0a00_0000, 8), Some(8)),
-        Turns,
-        Nodes(4),
-        Lists(&TWO),
+        Inserts(v4!(10, 1, 0, 0; 16), 1, Some(16)),
+        Removes(v4!(10, 0, 0, 0; 8), Some(8)),
+        Swaps,
+        NodeCount(4),
+        Lists(&TWO_NETWORKS),
         Finds(
-            (0x0a02_0000, 32),
+            v4!(10, 2, 0, 0; 32),
             None,
-            Some(((0x0a00_0000, 8), 8)),
-            Some(((0x0a00_0000, 8), 8)),
+            Some((v4!(10, 0, 0, 0; 8), 8)),
+            Some((v4!(10, 0, 0, 0; 8), 8)),
         ),
         Clears,
-        Turns,
-        Lists(&[((0x0a01_0000, 16), 1)]),
+        Swaps,
+        Lists(&[(v4!(10, 1, 0, 0; 16), 1)]),
     ],
 )];
 
 /// A network goes into the blocks that a removed one left, and out again.
-pub const FREE: [Table<'static, u32>; 1] = [(
+pub const INTO_FREE_BLOCKS: [Table<'static, u32>; 1] = [(
     &[
-        Inserts((0x0a00_0000, 8), 8, None),
-        Inserts((0x0a01_0000, 16), 16, None),
-        Inserts((0xc0a8_0100, 24), 24, None),
-        Removes((0xc0a8_0100, 24), Some(24)),
+        Inserts(v4!(10, 0, 0, 0; 8), 8, None),
+        Inserts(v4!(10, 1, 0, 0; 16), 16, None),
+        Inserts(v4!(192, 168, 1, 0; 24), 24, None),
+        Removes(v4!(192, 168, 1, 0; 24), Some(24)),
         Copies,
-        Turns,
+        Swaps,
     ],
     &[
-        Inserts((0xc0a8_0100, 24), 1, None),
-        Addresses(Some(0x0100_0100)),
-        Removes((0xc0a8_0100, 24), Some(1)),
-        Addresses(Some(0x0100_0000)),
-        Lists(&TWO),
-        Same,
-        Turns,
-        Lists(&TWO),
+        Inserts(v4!(192, 168, 1, 0; 24), 1, None),
+        AddressCount(Some(0x0100_0100)),
+        Removes(v4!(192, 168, 1, 0; 24), Some(1)),
+        AddressCount(Some(0x0100_0000)),
+        Lists(&TWO_NETWORKS),
+        AreSame,
+        Swaps,
+        Lists(&TWO_NETWORKS),
     ],
 )];

@@ -1,51 +1,100 @@
 //! Entries, with each request for memory refused in turn, and with every one refused.
-use crate::cases::Case::{ChangesEntry, Fills, Inserts, Len, Lists, Nodes, TakesOut};
-use crate::cases::filling::Fill::{
+use crate::cases::Case::{ChangesEntry, Fills, Inserts, Len, Lists, NodeCount, RemovesEntry};
+use crate::cases::entries::InsertVia::{
     Default, Insert, InsertWith, OrDefault, OrInsert, OrInsertWith, Put,
 };
+use crate::networks::v4;
 use crate::trials::Table;
 
 /// A host's seven nodes, by each call that fills an entry; and a value more in a full block.
-pub const ENTRIES: [Table<'static, u32>; 9] = [
-    (&[], &[Fills(Put, (0, 32), 9), Len(1), Nodes(7)]),
-    (&[], &[Fills(OrInsert, (0, 32), 9), Len(1), Nodes(7)]),
-    (&[], &[Fills(OrInsertWith, (0, 32), 9), Len(1), Nodes(7)]),
-    (&[], &[Fills(OrDefault, (0, 32), 0), Len(1), Nodes(7)]),
-    (&[], &[Fills(Insert, (0, 32), 9), Len(1), Nodes(7)]),
-    (&[], &[Fills(InsertWith, (0, 32), 9), Len(1), Nodes(7)]),
-    (&[], &[Fills(Default, (0, 32), 0), Len(1), Nodes(7)]),
+pub const VACANT: [Table<'static, u32>; 9] = [
     (
-        &[Inserts((0, 0), 0, None), Inserts((0, 1), 1, None)],
+        &[],
+        &[Fills(Put, v4!(0, 0, 0, 0; 32), 9), Len(1), NodeCount(7)],
+    ),
+    (
+        &[],
         &[
-            Fills(InsertWith, (0, 2), 2),
-            Lists(&[((0, 0), 0), ((0, 1), 1), ((0, 2), 2)]),
+            Fills(OrInsert, v4!(0, 0, 0, 0; 32), 9),
+            Len(1),
+            NodeCount(7),
+        ],
+    ),
+    (
+        &[],
+        &[
+            Fills(OrInsertWith, v4!(0, 0, 0, 0; 32), 9),
+            Len(1),
+            NodeCount(7),
+        ],
+    ),
+    (
+        &[],
+        &[
+            Fills(OrDefault, v4!(0, 0, 0, 0; 32), 0),
+            Len(1),
+            NodeCount(7),
+        ],
+    ),
+    (
+        &[],
+        &[Fills(Insert, v4!(0, 0, 0, 0; 32), 9), Len(1), NodeCount(7)],
+    ),
+    (
+        &[],
+        &[
+            Fills(InsertWith, v4!(0, 0, 0, 0; 32), 9),
+            Len(1),
+            NodeCount(7),
+        ],
+    ),
+    (
+        &[],
+        &[Fills(Default, v4!(0, 0, 0, 0; 32), 0), Len(1), NodeCount(7)],
+    ),
+    (
+        &[
+            Inserts(v4!(0, 0, 0, 0; 0), 0, None),
+            Inserts(v4!(0, 0, 0, 0; 1), 1, None),
+        ],
+        &[
+            Fills(InsertWith, v4!(0, 0, 0, 0; 2), 2),
+            Lists(&[
+                (v4!(0, 0, 0, 0; 0), 0),
+                (v4!(0, 0, 0, 0; 1), 1),
+                (v4!(0, 0, 0, 0; 2), 2),
+            ]),
         ],
     ),
     // Values are taken out of a node that has smaller blocks then, of which none was free.
     (
         &[
-            Inserts((0, 0), 0, None),
-            Inserts((0, 1), 1, None),
-            Inserts((0, 2), 2, None),
-            Inserts((0, 5), 5, None),
-            Inserts((0, 6), 6, None),
+            Inserts(v4!(0, 0, 0, 0; 0), 0, None),
+            Inserts(v4!(0, 0, 0, 0; 1), 1, None),
+            Inserts(v4!(0, 0, 0, 0; 2), 2, None),
+            Inserts(v4!(0, 0, 0, 0; 5), 5, None),
+            Inserts(v4!(0, 0, 0, 0; 6), 6, None),
         ],
         &[
-            TakesOut((0, 1), 1),
-            TakesOut((0, 0), 0),
-            Lists(&[((0, 2), 2), ((0, 5), 5), ((0, 6), 6)]),
-            Nodes(2),
+            RemovesEntry(v4!(0, 0, 0, 0; 1), 1),
+            RemovesEntry(v4!(0, 0, 0, 0; 0), 0),
+            Lists(&[
+                (v4!(0, 0, 0, 0; 2), 2),
+                (v4!(0, 0, 0, 0; 5), 5),
+                (v4!(0, 0, 0, 0; 6), 6),
+            ]),
+            NodeCount(2),
         ],
     ),
 ];
 
 /// A stored value is read, changed and set without memory.
-pub const STORED: [Table<'static, u32>; 1] = [(
-    &[Inserts((0, 32), 1, None)],
+pub const OCCUPIED: [Table<'static, u32>; 1] = [(
+    &[Inserts(v4!(0, 0, 0, 0; 32), 1, None)],
     &[
-        ChangesEntry((0, 32), 7, 1),
-        ChangesEntry((0, 32), 1, 7),
+        ChangesEntry(v4!(0, 0, 0, 0; 32), 7, 1),
+        ChangesEntry(v4!(0, 0, 0, 0; 32), 1, 7),
         Len(1),
-        Nodes(7),
+        NodeCount(7),
     ],
 )];

@@ -1,43 +1,59 @@
 //! New maps, insertions and limits, with each request for memory refused in turn.
-use crate::cases::Case::{Inserts, Len, Lists, Makes, Nodes, PassesLimit};
+use crate::cases::Case::{ExceedsLimit, Inserts, Len, Lists, NodeCount, StartsAnew};
+use crate::networks::v4;
 use crate::trials::Table;
 
 /// A new map, without a limit and under one of one slot.
-pub const NEW: [Table<'static, u32>; 2] = [
-    (&[], &[Makes(None), Len(0), Nodes(1)]),
-    (&[], &[Makes(Some(1)), Len(0), Nodes(1)]),
+pub const NEW_MAPS: [Table<'static, u32>; 2] = [
+    (&[], &[StartsAnew(None), Len(0), NodeCount(1)]),
+    (&[], &[StartsAnew(Some(1)), Len(0), NodeCount(1)]),
 ];
 
 /// A host's seven nodes, twice; a third value in the root, whose block of two is full; and a third child of the root, with nodes
 /// below it.
 pub const GROWTHS: [Table<'static, u32>; 4] = [
     (
-        &[Nodes(1)],
+        &[NodeCount(1)],
         &[
-            Inserts((0, 32), 32, None),
-            Nodes(7),
-            Lists(&[((0, 32), 32)]),
-        ],
-    ),
-    (&[], &[Inserts((0, 32), 9, None), Len(1), Nodes(7)]),
-    (
-        &[Inserts((0, 0), 0, None), Inserts((0, 1), 1, None), Nodes(1)],
-        &[
-            Inserts((0, 2), 2, None),
-            Nodes(1),
-            Lists(&[((0, 0), 0), ((0, 1), 1), ((0, 2), 2)]),
+            Inserts(v4!(0, 0, 0, 0; 32), 32, None),
+            NodeCount(7),
+            Lists(&[(v4!(0, 0, 0, 0; 32), 32)]),
         ],
     ),
     (
+        &[],
+        &[Inserts(v4!(0, 0, 0, 0; 32), 9, None), Len(1), NodeCount(7)],
+    ),
+    (
         &[
-            Inserts((0, 5), 5, None),
-            Inserts((0x0800_0000, 5), 6, None),
-            Nodes(3),
+            Inserts(v4!(0, 0, 0, 0; 0), 0, None),
+            Inserts(v4!(0, 0, 0, 0; 1), 1, None),
+            NodeCount(1),
         ],
         &[
-            Inserts((0xf800_0000, 15), 15, None),
-            Nodes(6),
-            Lists(&[((0, 5), 5), ((0x0800_0000, 5), 6), ((0xf800_0000, 15), 15)]),
+            Inserts(v4!(0, 0, 0, 0; 2), 2, None),
+            NodeCount(1),
+            Lists(&[
+                (v4!(0, 0, 0, 0; 0), 0),
+                (v4!(0, 0, 0, 0; 1), 1),
+                (v4!(0, 0, 0, 0; 2), 2),
+            ]),
+        ],
+    ),
+    (
+        &[
+            Inserts(v4!(0, 0, 0, 0; 5), 5, None),
+            Inserts(v4!(8, 0, 0, 0; 5), 6, None),
+            NodeCount(3),
+        ],
+        &[
+            Inserts(v4!(248, 0, 0, 0; 15), 15, None),
+            NodeCount(6),
+            Lists(&[
+                (v4!(0, 0, 0, 0; 5), 5),
+                (v4!(8, 0, 0, 0; 5), 6),
+                (v4!(248, 0, 0, 0; 15), 15),
+            ]),
         ],
     ),
 ];
@@ -47,21 +63,21 @@ pub const LIMITS: [Table<'static, u32>; 2] = [
     (
         &[],
         &[
-            Makes(Some(6)),
-            PassesLimit((0, 32), 1),
-            Makes(Some(7)),
-            Inserts((0, 32), 1, None),
+            StartsAnew(Some(6)),
+            ExceedsLimit(v4!(0, 0, 0, 0; 32), 1),
+            StartsAnew(Some(7)),
+            Inserts(v4!(0, 0, 0, 0; 32), 1, None),
         ],
     ),
     (
         &[],
         &[
-            Makes(Some(2)),
-            Inserts((0, 0), 1, None),
-            PassesLimit((0, 1), 2),
-            Makes(Some(3)),
-            Inserts((0, 0), 1, None),
-            Inserts((0, 1), 2, None),
+            StartsAnew(Some(2)),
+            Inserts(v4!(0, 0, 0, 0; 0), 1, None),
+            ExceedsLimit(v4!(0, 0, 0, 0; 1), 2),
+            StartsAnew(Some(3)),
+            Inserts(v4!(0, 0, 0, 0; 0), 1, None),
+            Inserts(v4!(0, 0, 0, 0; 1), 2, None),
         ],
     ),
 ];

@@ -1,12 +1,13 @@
 //! All forms of lookups, counted ones too: of a count there is nothing to read.
 use crate::cases::Case::{Finds, Inserts, Lists, Writes, WritesLongest};
+use crate::networks::v4;
 use crate::refusing::Refusing;
-use crate::trials::{How, Table, on_both};
+use crate::trials::{FaultPlan, Table, on_both};
 use prefix_trie::Visits;
 use std::mem::size_of;
 
 /// Asked for the longer with host bits, for an address in it, and for one that neither contains.
-const BOTH: Table<'static, u16> = (
+const NESTED: Table<'static, u16> = (
     &[],
     &[
         Inserts((0x8000, 1), 1, None),
@@ -33,19 +34,22 @@ const BOTH: Table<'static, u16> = (
 );
 
 #[test]
-fn answers_and_writes_of_all_lookups(rt: HostRuntime) {
+fn all_lookups_read_and_write(rt: HostRuntime) {
     let heap = Refusing::new(rt.alloc());
-    assert_eq!(rt; on_both::<(u16, u8)>(&heap, &BOTH, How::InTurn), Ok(()));
+    assert_eq!(rt;
+        on_both::<(u16, u8)>(&heap, &NESTED, FaultPlan::EachRequest),
+        Ok(())
+    );
 }
 
 /// In an empty map, and beside a stored network or above it.
-pub const NONE: [Table<'static, u32>; 1] = [(
+pub const NO_MATCH: [Table<'static, u32>; 1] = [(
     &[],
     &[
-        Finds((0xc0a8_0000, 23), None, None, None),
-        Inserts((0xc0a8_0000, 23), 1, None),
-        Finds((0xc0a8_0200, 24), None, None, None),
-        Finds((0xc0a8_0000, 22), None, None, None),
+        Finds(v4!(192, 168, 0, 0; 23), None, None, None),
+        Inserts(v4!(192, 168, 0, 0; 23), 1, None),
+        Finds(v4!(192, 168, 2, 0; 24), None, None, None),
+        Finds(v4!(192, 168, 0, 0; 22), None, None, None),
     ],
 )];
 

@@ -1,5 +1,6 @@
 //! The walks of a map of networks, by the names that this crate gives them.
 use crate::cases::Case::{Covers, Inserts, Lists, Writes, WritesLongest};
+use crate::networks::v4;
 use crate::trials::Table;
 use prefix_trie::map::{Iter, Keys, Values};
 use std::alloc::Global;
@@ -10,30 +11,38 @@ pub const ROUTES: [Table<'static, u32>; 1] = [(
     &[],
     &[
         Lists(&[]),
-        Covers((0, 0), &[]),
-        Inserts((0xc0a9_0000, 16), 4, None),
-        Inserts((0xc0a8_0100, 24), 3, None),
-        Inserts((0xc0a8_0000, 16), 2, None),
-        Inserts((0, 0), 1, None),
+        Covers(v4!(0, 0, 0, 0; 0), &[]),
+        Inserts(v4!(192, 169, 0, 0; 16), 4, None),
+        Inserts(v4!(192, 168, 1, 0; 24), 3, None),
+        Inserts(v4!(192, 168, 0, 0; 16), 2, None),
+        Inserts(v4!(0, 0, 0, 0; 0), 1, None),
         Lists(&[
-            ((0, 0), 1),
-            ((0xc0a8_0000, 16), 2),
-            ((0xc0a8_0100, 24), 3),
-            ((0xc0a9_0000, 16), 4),
+            (v4!(0, 0, 0, 0; 0), 1),
+            (v4!(192, 168, 0, 0; 16), 2),
+            (v4!(192, 168, 1, 0; 24), 3),
+            (v4!(192, 169, 0, 0; 16), 4),
         ]),
         Covers(
-            (0xc0a8_01ff, 32),
-            &[((0, 0), 1), ((0xc0a8_0000, 16), 2), ((0xc0a8_0100, 24), 3)],
+            v4!(192, 168, 1, 255; 32),
+            &[
+                (v4!(0, 0, 0, 0; 0), 1),
+                (v4!(192, 168, 0, 0; 16), 2),
+                (v4!(192, 168, 1, 0; 24), 3),
+            ],
         ),
-        Covers((0xc0a9_0000, 15), &[((0, 0), 1)]),
-        Writes((0xc0a8_0000, 16), 7, Some(2)),
-        Writes((0xc0a8_0101, 32), 9, None),
-        WritesLongest((0xc0a8_0101, 32), 8, Some(((0xc0a8_0100, 24), 3))),
+        Covers(v4!(192, 169, 0, 0; 15), &[(v4!(0, 0, 0, 0; 0), 1)]),
+        Writes(v4!(192, 168, 0, 0; 16), 7, Some(2)),
+        Writes(v4!(192, 168, 1, 1; 32), 9, None),
+        WritesLongest(
+            v4!(192, 168, 1, 1; 32),
+            8,
+            Some((v4!(192, 168, 1, 0; 24), 3)),
+        ),
         Lists(&[
-            ((0, 0), 1),
-            ((0xc0a8_0000, 16), 7),
-            ((0xc0a8_0100, 24), 8),
-            ((0xc0a9_0000, 16), 4),
+            (v4!(0, 0, 0, 0; 0), 1),
+            (v4!(192, 168, 0, 0; 16), 7),
+            (v4!(192, 168, 1, 0; 24), 8),
+            (v4!(192, 169, 0, 0; 16), 4),
         ]),
     ],
 )];
@@ -48,6 +57,6 @@ fn are_over(
 }
 
 #[test]
-fn walks_of_no_map(rt: HostRuntime) {
+fn default_walks_are_empty(rt: HostRuntime) {
     assert!(rt; are_over(Iter::default(), Keys::default(), Values::default()));
 }

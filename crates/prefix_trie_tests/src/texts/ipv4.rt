@@ -67,7 +67,7 @@ fn ipv4_networks_are_read_and_printed(rt: HostRuntime) -> Result<(), Fail> {
 }
 
 #[test]
-fn other_texts_are_no_ipv4_network(rt: HostRuntime) {
+fn other_texts_are_refused_as_ipv4_networks(rt: HostRuntime) {
     for (text, reason) in REFUSED {
         assert_eq!(rt; text.parse::<Ipv4Prefix>().err(), Some(reason), "{text}");
     }
@@ -117,7 +117,7 @@ fn is_parent(
 }
 
 #[test]
-fn ends_and_parents_of_ipv4_networks(rt: HostRuntime) -> Result<(), Fail> {
+fn ipv4_networks_have_ends_and_parents(rt: HostRuntime) -> Result<(), Fail> {
     for (text, lowest, highest, parent) in ENDS {
         let network: Ipv4Prefix = text.parse()?;
         assert_eq!(rt; network.network(), lowest.parse::<Ipv4Addr>()?, "{text}");

@@ -245,7 +245,7 @@ fn ipv6_networks_are_read_and_printed(rt: HostRuntime) -> Result<(), Fail> {
 }
 
 #[test]
-fn other_texts_are_no_ipv6_network(rt: HostRuntime) {
+fn other_texts_are_refused_as_ipv6_networks(rt: HostRuntime) {
     for (text, reason) in REFUSED {
         assert_eq!(rt; text.parse::<Ipv6Prefix>().err(), Some(reason), "{text}");
     }
@@ -313,7 +313,7 @@ fn is_parent(
 }
 
 #[test]
-fn ends_and_parents_of_ipv6_networks(rt: HostRuntime) -> Result<(), Fail> {
+fn ipv6_networks_have_ends_and_parents(rt: HostRuntime) -> Result<(), Fail> {
     for (text, lowest, highest, parent) in ENDS {
         let network: Ipv6Prefix = text.parse()?;
         assert_eq!(rt; network.network(), lowest.parse::<Ipv6Addr>()?, "{text}");

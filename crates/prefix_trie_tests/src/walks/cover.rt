@@ -3,8 +3,8 @@ ghost use Rattle.std.specs.Prelude.{◌≡◌, length, nat_le};
 ghost use Rattle.std.specs.List.{list_all};
 ghost use Rattle.prefix_trie.specs.Words.{covers, shown};
 
+use crate::contents::stores;
 use crate::on_new::on_new;
-use crate::stored::stores;
 use prefix_trie::{Prefix, PrefixMap};
 use std::alloc::{AllocError, Allocator, Global};
 

@@ -4,8 +4,8 @@ ghost use Rattle.std.specs.FinMap.{len};
 ghost use Rattle.std.specs.List.{list_all};
 ghost use Rattle.prefix_trie.specs.Words.{listing, shown};
 
+use crate::contents::stores;
 use crate::on_new::on_new;
-use crate::stored::stores;
 use prefix_trie::map::Iter;
 use prefix_trie::{Prefix, PrefixMap};
 use prefix_trie_map::laws::resume_laws;
@@ -44,7 +44,7 @@ fn none_below<P: Prefix, A: Allocator>(m: &PrefixMap<P, u32, A>, least: u32) -> 
 }
 
 // Reads the next entry of a walk that has come so far, and goes on behind it by a walk of its own.
-fn resumed<'m, P: Prefix, T: Drop, A: Allocator>(
+fn resume<'m, P: Prefix, T: Drop, A: Allocator>(
     m: &'m PrefixMap<P, T, A>,
     mut walk: Iter<'m, P, T, A>,
 ) -> Option<Iter<'m, P, T, A>>
@@ -91,7 +91,7 @@ fn gives(mut walk: Iter<'_, (u8, u8), u32, Global>, values: &[u32]) -> bool {
 
 /// Whether a walk that is resumed behind the first of four gives the rest.
 fn goes_on(map: &Numbers) -> bool {
-    match resumed(map, map.iter()) {
+    match resume(map, map.iter()) {
         Some(walk) => gives(walk, &[4, 5, 6]),
         None => false,
     }

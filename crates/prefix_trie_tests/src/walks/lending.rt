@@ -5,8 +5,8 @@ ghost use Rattle.prefix_trie.specs.Words.{longest_match, shown_match, with_longe
 ghost use Rattle.prefix_trie_bits.specs.Begins.{same_bool};
 ghost use Rattle.prefix_trie_bits.specs.Order.{same_string};
 
+use crate::contents::{has_values, put, stores};
 use crate::on_new::on_new;
-use crate::stored::{has_values, put, stores};
 use prefix_trie::{Ipv6Prefix, Prefix, PrefixMap};
 use std::alloc::{AllocError, Allocator, Global};
 

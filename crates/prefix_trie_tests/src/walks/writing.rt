@@ -4,10 +4,10 @@ ghost use Rattle.prefix_trie.specs.Words.{listing, shown, with_value_at};
 ghost use Rattle.prefix_trie_map.specs.Writing.{ComesToEnd, GoesOver, IsFirst};
 ghost use Rattle.prefix_trie_map.specs.WritingWalks.{EndsIn, FirstIn, PassesIn};
 
+use crate::contents::{has_values, stores};
 use crate::examples::scaling::double_all;
 use crate::on_new::on_new;
 use crate::refusing::Refusing;
-use crate::stored::{has_values, stores};
 use prefix_trie::map::IterMut;
 use prefix_trie::{Prefix, PrefixMap};
 use std::alloc::{Allocator, Global};
@@ -64,9 +64,9 @@ fn writes_next<'b, 'm, A: Allocator>(
     value: u64,
 ) -> bool {
     match walk.next() {
-        Some((prefix, place)) => {
-            let is_same = (prefix, *place) == entry;
-            *place = value;
+        Some((prefix, stored)) => {
+            let is_same = (prefix, *stored) == entry;
+            *stored = value;
             is_same
         }
         None => false,
@@ -124,7 +124,7 @@ fn are_written<A: Allocator>(map: &mut Numbers<A>, heap: &Refusing<Global>) -> b
 }
 
 #[test]
-fn values_are_written_on_the_way(rt: HostRuntime) {
+fn walks_write_values(rt: HostRuntime) {
     let heap = Refusing::new(rt.alloc());
     assert!(rt; on_new(PrefixMap::new(&heap), &heap, are_written) == Ok(true));
 }

@@ -2,5 +2,5 @@ use Rattle.std.proofs.Common.{All}
 use Rattle.prefix_trie.specs.Words.{IsFittingCall}
 use Rattle.prefix_trie_rows.proofs.run.calls_of.Given as goal
 
-abbrev pub invariant-loop-turn : goal.invariant-loop-turn
-invariant-loop-turn g l = All (IsFittingCall g.P.Prefix.IsFitting) l.calls.items
+abbrev pub invariant-loop-line : goal.invariant-loop-line
+invariant-loop-line g l = All (IsFittingCall g.P.Prefix.IsFitting) l.calls.items

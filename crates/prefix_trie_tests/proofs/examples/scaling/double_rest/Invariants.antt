@@ -2,8 +2,8 @@ use Rattle.prefix_trie_tests.proofs.Prelude.{◌*◌, ◌%◌, ◌^◌}
 use Rattle.prefix_trie.proofs.Callers.{HasRewrittenIn, left_in}
 use Rattle.prefix_trie_tests.proofs.examples.scaling.double_rest.Given as goal
 
-abbrev pub invariant-loop-place : goal.invariant-loop-place
-invariant-loop-place g l = HasRewrittenIn (λ v. (v * 2) % 2 ^ 64) l.initial.walk.walk.course l.walk.walk.course
+abbrev pub invariant-loop-stored : goal.invariant-loop-stored
+invariant-loop-stored g l = HasRewrittenIn (λ v. (v * 2) % 2 ^ 64) l.initial.walk.walk.course l.walk.walk.course
 
-abbrev pub decreases-loop-place : goal.decreases-loop-place
-decreases-loop-place g l = left_in l.walk.walk.course
+abbrev pub decreases-loop-stored : goal.decreases-loop-stored
+decreases-loop-stored g l = left_in l.walk.walk.course

@@ -1,0 +1,28 @@
+//! Maps that are handed out.
+use crate::table::{Line, Map, Pair, TablePrefix, fitting_prefix, holds_unchanged};
+use prefix_trie::Refusal;
+
+/// Whether the entries that a prefix contains are handed out as a map that holds_unchanged these lines.
+pub fn splits_off<P: TablePrefix>(map: &mut Map<P>, pair: Pair, lines: &[Line]) -> bool {
+    match fitting_prefix::<P>(pair) {
+        Some(prefix) => all_hold_in_part(map.remove_children(&prefix), lines),
+        None => false,
+    }
+}
+
+fn all_hold_in_part<P: TablePrefix>(second: Result<Map<P>, Refusal>, lines: &[Line]) -> bool {
+    match second {
+        Ok(second) => all_hold_in(&second, lines),
+        Err(_) => false,
+    }
+}
+
+/// Whether a map has the answer of each line.
+fn all_hold_in<P: TablePrefix>(map: &Map<P>, lines: &[Line]) -> bool {
+    for line in lines {
+        if !holds_unchanged(map, line) {
+            return false;
+        }
+    }
+    true
+}

@@ -1,5 +1,0 @@
-use Rattle.prefix_trie_tests.proofs.Prelude.{◌^◌, ◌<◌, ◌≤◌, All}
-use Rattle.prefix_trie_tests.proofs.bulk.ask_in_turn.Given as goal
-
-abbrev pub invariant-loop-place : goal.invariant-loop-place
-invariant-loop-place l = All (λ p. (p.0 < 2 ^ 128) × (p.1 ≤ 128)) l.asked

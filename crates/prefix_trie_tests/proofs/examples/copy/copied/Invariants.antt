@@ -1,8 +1,0 @@
-use Rattle.prefix_trie.specs.Words.{Leads}
-use Rattle.prefix_trie_tests.proofs.examples.copy.copied.Given as goal
-
-abbrev pub invariant-loop-prefix : goal.invariant-loop-prefix
-invariant-loop-prefix g l =
-    (goal.iterator-loop-prefix g).can_next l.prefix-iterator
-    × (goal.iterator-loop-prefix g).is_finite l.prefix-iterator
-    × Leads g.P.Prefix.path g.P.Prefix.IsFitting l.prefix-iterator l.to.entries l.from.entries

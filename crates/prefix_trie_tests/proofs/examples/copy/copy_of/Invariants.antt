@@ -1,0 +1,8 @@
+use Rattle.prefix_trie.specs.Words.{Leads}
+use Rattle.prefix_trie_tests.proofs.examples.copy.copy_of.Given as goal
+
+abbrev pub invariant-loop-prefix : goal.invariant-loop-prefix
+invariant-loop-prefix g l =
+    (goal.iterator-loop-prefix g).can_next l.prefix-iterator
+    × (goal.iterator-loop-prefix g).is_finite l.prefix-iterator
+    × Leads g.P.Prefix.path g.P.Prefix.IsFitting l.prefix-iterator l.to.entries l.from.entries
