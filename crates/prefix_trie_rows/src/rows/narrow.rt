@@ -3,7 +3,7 @@ use crate::table::Line::{self, *};
 use crate::table::Pair;
 use crate::table::narrow::KeyCase;
 
-/// Row 44: the least number and the greatest of a width; a width of 0 is read as 1, and one above 63 as 63.
+/// Row 44: the least and the greatest number of a width. A width of 0 is read as 1, and a width above 63 as 63.
 pub const ENDS_OF_WIDTHS: [KeyCase; 6] = [
     (5, 31, true),
     (5, 32, false),
@@ -13,7 +13,7 @@ pub const ENDS_OF_WIDTHS: [KeyCase; 6] = [
     (64, 0x8000_0000_0000_0000, false),
 ];
 
-/// Row 45: ten bits, so the last node holds the full length alone.
+/// Row 45: ten bits, so the last node has only the full length.
 pub const TWICE_FIVE_BITS: [Line; 14] = [
     Insert((0, 0), 1, Ok(None)),
     Insert((1023, 10), 2, Ok(None)),

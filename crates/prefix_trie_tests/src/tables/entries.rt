@@ -1,4 +1,4 @@
-//! Entries, with each request for memory refused in turn, and with every one refused.
+//! Entries that are filled, changed and removed.
 use crate::cases::Case::{ChangesEntry, Fills, Inserts, Len, Lists, NodeCount, RemovesEntry};
 use crate::cases::entries::InsertVia::{
     Default, Insert, InsertWith, OrDefault, OrInsert, OrInsertWith, Put,
@@ -6,7 +6,7 @@ use crate::cases::entries::InsertVia::{
 use crate::networks::v4;
 use crate::trials::Table;
 
-/// A host's seven nodes, by each call that fills an entry; and a value more in a full block.
+/// Each call that fills an entry inserts a host's seven nodes. Another inserts a value into a full block.
 pub const VACANT: [Table<'static, u32>; 9] = [
     (
         &[],
@@ -66,7 +66,7 @@ pub const VACANT: [Table<'static, u32>; 9] = [
             ]),
         ],
     ),
-    // Values are taken out of a node that has smaller blocks then, of which none was free.
+    // Values are removed from a node whose smaller blocks are not free.
     (
         &[
             Inserts(v4!(0, 0, 0, 0; 0), 0, None),
@@ -88,7 +88,7 @@ pub const VACANT: [Table<'static, u32>; 9] = [
     ),
 ];
 
-/// A stored value is read, changed and set without memory.
+/// A stored value is read, changed and set without allocating.
 pub const OCCUPIED: [Table<'static, u32>; 1] = [(
     &[Inserts(v4!(0, 0, 0, 0; 32), 1, None)],
     &[
