@@ -194,7 +194,7 @@ const FROM_VALUES: [(u32, (u32, u32)); 3] = [
 ];
 
 /// A child bit, with the values and the children after it.
-const BEHIND_CHILDREN: [(u32, (u32, u32)); 3] = [
+const AFTER_CHILDREN: [(u32, (u32, u32)); 3] = [
     (15, (0x7f80_7864, 0xffff_0000)),
     (30, (0, 0x8000_0000)),
     (31, (0, 0)),
@@ -205,7 +205,7 @@ fn bits_after_a_place_are_masked(rt: HostRuntime) {
     for (bit, places) in FROM_VALUES {
         assert!(rt; bit < 31 && from_value(bit) == places);
     }
-    for (bit, places) in BEHIND_CHILDREN {
+    for (bit, places) in AFTER_CHILDREN {
         assert!(rt; bit < 32 && behind_child(bit) == places);
     }
 }

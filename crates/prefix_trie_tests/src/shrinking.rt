@@ -1,8 +1,8 @@
 //! Maps and sets that return memory: what stays if an allocation fails, and that no value is lost.
 use crate::cases::prefix_of;
 use crate::contents::adds;
-use crate::networks::v4;
 use crate::refusing::Refusing;
+use crate::splitting::NETWORKS;
 use prefix_trie::{Ipv4Prefix, PrefixMap, PrefixSet, Refusal};
 use std::alloc::{Allocator, Global};
 
@@ -12,16 +12,6 @@ const MANY: u64 = 1_000;
 type Heap = Refusing<Global>;
 
 type Map<A> = PrefixMap<Ipv4Prefix, u64, A>;
-
-/// Networks in one node.
-const NETWORKS: [(u32, u8); 6] = [
-    v4!(192, 168, 0, 0; 21),
-    v4!(192, 168, 0, 0; 22),
-    v4!(192, 168, 0, 0; 23),
-    v4!(192, 168, 0, 0; 24),
-    v4!(192, 168, 4, 0; 22),
-    v4!(192, 168, 4, 0; 23),
-];
 
 /// Inserts the networks with the values 1 to 6. Returns whether each is new.
 fn insert_six<A: Allocator>(map: &mut Map<A>) -> bool {
@@ -86,50 +76,41 @@ fn is_shrunk<A: Allocator>(map: &mut Map<A>) -> Option<bool> {
     (has_two::<A>(map) & (slots_of::<A>(map) == before)).then_some(is_granted)
 }
 
-/// Compacts a new map with some allocations failing. Returns whether one failed, if the call succeeds exactly if none
-/// does.
-fn is_compact_anew<A: Allocator + Clone>(
+/// The calls that return memory.
+#[derive(Clone, Copy)]
+enum Shrinking {
+    Compact,
+    ShrinkToFit,
+}
+
+/// Makes a call on a new map with some allocations failing. Returns whether one failed, if the call succeeds exactly if
+/// none does.
+fn is_refused_anew<A: Allocator + Clone>(
     heap: &Heap,
     alloc: A,
+    call: Shrinking,
     passed: u64,
     refused: u64,
 ) -> Option<bool> {
     let mut map = map_with_free_slots(heap, alloc)?;
     heap.refuse(passed, refused);
-    let is_granted = is_compact::<A>(&mut map)?;
+    let is_granted = match call {
+        Shrinking::Compact => is_compact::<A>(&mut map)?,
+        Shrinking::ShrinkToFit => is_shrunk::<A>(&mut map)?,
+    };
     let is_refused = heap.left() != refused;
     (is_granted != is_refused).then_some(is_refused)
 }
 
-/// Shrinks a new map with some allocations failing. Returns whether one failed, if the call succeeds exactly if none
-/// does.
-fn is_shrunk_anew<A: Allocator + Clone>(
+/// Returns the number of allocations of a call, if it fails exactly if one of them does.
+fn requests_of<A: Allocator + Copy>(
     heap: &Heap,
     alloc: A,
-    passed: u64,
+    call: Shrinking,
     refused: u64,
-) -> Option<bool> {
-    let mut map = map_with_free_slots(heap, alloc)?;
-    heap.refuse(passed, refused);
-    let is_granted = is_shrunk::<A>(&mut map)?;
-    let is_refused = heap.left() != refused;
-    (is_granted != is_refused).then_some(is_refused)
-}
-
-/// Returns the number of allocations of a compaction, if it fails exactly if one of them does.
-fn compaction_requests<A: Allocator + Copy>(heap: &Heap, alloc: A, refused: u64) -> Option<u64> {
+) -> Option<u64> {
     for passed in 0..MANY {
-        if !is_compact_anew(heap, alloc, passed, refused)? {
-            return Some(passed);
-        }
-    }
-    None
-}
-
-/// Returns the number of allocations of `shrink_to_fit`, if it fails exactly if one of them does.
-fn shrink_requests<A: Allocator + Copy>(heap: &Heap, alloc: A, refused: u64) -> Option<u64> {
-    for passed in 0..MANY {
-        if !is_shrunk_anew(heap, alloc, passed, refused)? {
+        if !is_refused_anew(heap, alloc, call, passed, refused)? {
             return Some(passed);
         }
     }
@@ -139,15 +120,15 @@ fn shrink_requests<A: Allocator + Copy>(heap: &Heap, alloc: A, refused: u64) -> 
 #[test]
 fn compacting_is_complete_or_changes_nothing(rt: HostRuntime) {
     let heap = Refusing::new(rt.alloc());
-    assert!(rt; compaction_requests(&heap, &heap, 1) > Some(0));
-    assert!(rt; compaction_requests(&heap, &heap, u64::MAX) > Some(0));
+    assert!(rt; requests_of(&heap, &heap, Shrinking::Compact, 1) > Some(0));
+    assert!(rt; requests_of(&heap, &heap, Shrinking::Compact, u64::MAX) > Some(0));
 }
 
 #[test]
 fn shrinking_fails_exactly_if_an_allocation_fails(rt: HostRuntime) {
     let heap = Refusing::new(rt.alloc());
-    assert!(rt; shrink_requests(&heap, &heap, 1) > Some(0));
-    assert!(rt; shrink_requests(&heap, &heap, u64::MAX) > Some(0));
+    assert!(rt; requests_of(&heap, &heap, Shrinking::ShrinkToFit, 1) > Some(0));
+    assert!(rt; requests_of(&heap, &heap, Shrinking::ShrinkToFit, u64::MAX) > Some(0));
 }
 
 /// Removes both networks from a map that was shrunk. Returns whether this did not allocate: the free lists keep their

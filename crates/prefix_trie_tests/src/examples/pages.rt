@@ -8,7 +8,7 @@ use prefix_trie::{Prefix, PrefixMap};
 use std::alloc::{AllocError, Allocator};
 
 /// Returns the walk after the entries that were read, which are the first of the map.
-fn behind<'m, P: Prefix, A: Allocator>(
+fn walk_after<'m, P: Prefix, A: Allocator>(
     map: &'m PrefixMap<P, u64, A>,
     read: &[(P, u64)],
 ) -> Iter<'m, P, u64, A>
@@ -33,7 +33,7 @@ pub fn read_page<P: Prefix, A: Allocator, B: Allocator>(
     requires { (rest : List (P × ℕ)) × (shown P.back (listing map.now.entries) ≡ read.old.items ++ rest) }
     ensures { OnOk result (read.new.items ≡ take (length read.old.items + size) (shown P.back (listing map.now.entries))) }
 {
-    let mut walk = behind(map, read);
+    let mut walk = walk_after(map, read);
     for _i in 0..size {
         let Some((prefix, value)) = walk.next() else {
             return Ok(());
