@@ -48,7 +48,7 @@ pub enum Case<'a, K: 'a> {
     /// Mutable lookups of the longest match find this entry, or none. They replace its value by the first value.
     WritesLongest(Pair<K>, u64, Option<Entry<K>>),
     /// This call inserts the value at a vacant entry.
-    Fills(InsertVia, Pair<K>, u64),
+    InsertsVia(InsertVia, Pair<K>, u64),
     /// The entry is vacant, and is dropped.
     LeavesVacant(Pair<K>),
     /// Removes an occupied entry with this value.

@@ -1,4 +1,4 @@
-//! Cases of entries: calls that fill, change and remove one.
+//! Cases of entries: calls that call, change and remove one.
 use crate::cases::under_test::InsertResult;
 use crate::cases::writes::put_in;
 use crate::cases::{Pair, prefix_of};
@@ -95,11 +95,11 @@ fn insert_with<P: Prefix, A: Allocator>(
 /// Inserts by a call of a vacant entry that takes no closure.
 fn insert_if_vacant<P: Prefix, A: Allocator>(
     map: &mut PrefixMap<P, u64, A>,
-    fill: InsertVia,
+    call: InsertVia,
     at: Pair<P::R>,
     value: u64,
 ) -> InsertResult {
-    match (entry_at(map, at), fill) {
+    match (entry_at(map, at), call) {
         (Entry::Vacant(entry), InsertVia::Insert) => result_of_lent(entry.insert(value), value),
         (Entry::Vacant(entry), _) => result_of_new(entry.default(), value),
         (Entry::Occupied(_), _) => WRONG_RESULT,
@@ -109,18 +109,18 @@ fn insert_if_vacant<P: Prefix, A: Allocator>(
 /// Inserts a value by a call.
 pub fn insert_via<P: Prefix, A: Allocator>(
     map: &mut PrefixMap<P, u64, A>,
-    fill: InsertVia,
+    call: InsertVia,
     at: Pair<P::R>,
     value: u64,
 ) -> InsertResult {
-    match fill {
+    match call {
         InsertVia::Map => put_in(map, at, value),
         InsertVia::Put => entry_at(map, at).put(value).answer(),
         InsertVia::OrInsert => result_of_lent(entry_at(map, at).or_insert(value), value),
         InsertVia::OrInsertWith => or_insert_with(map, at, value),
         InsertVia::OrDefault => result_of_new(entry_at(map, at).or_default(), value),
         InsertVia::InsertWith => insert_with(map, at, value),
-        InsertVia::Insert | InsertVia::Default => insert_if_vacant(map, fill, at, value),
+        InsertVia::Insert | InsertVia::Default => insert_if_vacant(map, call, at, value),
     }
 }
 

@@ -88,7 +88,7 @@ impl<P: Prefix + Copy + PartialEq, A: Allocator + Copy> UnderTest<P::R, A>
             }
             // `under_test` makes these calls itself.
             Case::StartsAnew(_) | Case::Copies | Case::AreSame | Case::Swaps => false,
-            Case::Inserts(..) | Case::ExceedsLimit(..) | Case::Fills(..) => false,
+            Case::Inserts(..) | Case::ExceedsLimit(..) | Case::InsertsVia(..) => false,
         }
     }
 }

@@ -182,7 +182,7 @@ impl<P: Prefix + Copy + PartialEq, A: Allocator + Copy> UnderTest<P::R, A> for P
             Case::LeavesVacant(_) | Case::NodeBlocks(..) | Case::CellBlocks(..) => true,
             // `under_test` makes these calls itself.
             Case::StartsAnew(_) | Case::Copies | Case::AreSame | Case::Swaps => false,
-            Case::Inserts(..) | Case::ExceedsLimit(..) | Case::Fills(..) => false,
+            Case::Inserts(..) | Case::ExceedsLimit(..) | Case::InsertsVia(..) => false,
         }
     }
 }

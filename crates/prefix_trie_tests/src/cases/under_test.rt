@@ -222,7 +222,7 @@ fn holds_on_one<K: Key, A: Allocator + Copy, M: UnderTest<K, A>>(
             let refused = Err(Refusal::IndexRange);
             stores::<K, A, M>(heap, subject, InsertVia::Map, &(*at, *value), refused)
         }
-        Case::Fills(call, at, value) => {
+        Case::InsertsVia(call, at, value) => {
             stores::<K, A, M>(heap, subject, *call, &(*at, *value), Ok(None))
         }
         _ => subject.check_call(heap, case),

@@ -1,6 +1,6 @@
 //! The ends of each width. Every call treats a prefix with all host bits set and one without host bits alike.
 use crate::cases::Case::{
-    self, ChangesEntry, Covers, DropsChildren, Fills, Finds, Inserts, Len, ListsFrom, Removes,
+    self, ChangesEntry, Covers, DropsChildren, Finds, Inserts, InsertsVia, Len, ListsFrom, Removes,
     RemovesEntry, RemovesKeepTree, Writes, WritesLongest,
 };
 use crate::cases::entries::InsertVia;
@@ -108,7 +108,7 @@ fn are_inserted_and_removed<K: Key, A: Allocator + Copy, M: UnderTest<K, A>>(
     other: Pair<K>,
 ) -> bool {
     for (fill, value) in &FILLS {
-        let is_stored = holds_alone::<K, A, M>(heap, subject, &Fills(*fill, at, *value));
+        let is_stored = holds_alone::<K, A, M>(heap, subject, &InsertsVia(*fill, at, *value));
         if !(is_stored & holds_alone::<K, A, M>(heap, subject, &RemovesEntry(other, *value))) {
             return false;
         }

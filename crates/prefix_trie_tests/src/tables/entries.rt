@@ -1,5 +1,5 @@
 //! Entries that are filled, changed and removed.
-use crate::cases::Case::{ChangesEntry, Fills, Inserts, Len, Lists, NodeCount, RemovesEntry};
+use crate::cases::Case::{ChangesEntry, Inserts, InsertsVia, Len, Lists, NodeCount, RemovesEntry};
 use crate::cases::entries::InsertVia::{
     Default, Insert, InsertWith, OrDefault, OrInsert, OrInsertWith, Put,
 };
@@ -10,12 +10,8 @@ use crate::trials::Table;
 pub const VACANT: [Table<'static, u32>; 9] = [
     (
         &[],
-        &[Fills(Put, v4!(0, 0, 0, 0; 32), 9), Len(1), NodeCount(7)],
-    ),
-    (
-        &[],
         &[
-            Fills(OrInsert, v4!(0, 0, 0, 0; 32), 9),
+            InsertsVia(Put, v4!(0, 0, 0, 0; 32), 9),
             Len(1),
             NodeCount(7),
         ],
@@ -23,7 +19,7 @@ pub const VACANT: [Table<'static, u32>; 9] = [
     (
         &[],
         &[
-            Fills(OrInsertWith, v4!(0, 0, 0, 0; 32), 9),
+            InsertsVia(OrInsert, v4!(0, 0, 0, 0; 32), 9),
             Len(1),
             NodeCount(7),
         ],
@@ -31,26 +27,42 @@ pub const VACANT: [Table<'static, u32>; 9] = [
     (
         &[],
         &[
-            Fills(OrDefault, v4!(0, 0, 0, 0; 32), 0),
+            InsertsVia(OrInsertWith, v4!(0, 0, 0, 0; 32), 9),
             Len(1),
             NodeCount(7),
         ],
-    ),
-    (
-        &[],
-        &[Fills(Insert, v4!(0, 0, 0, 0; 32), 9), Len(1), NodeCount(7)],
     ),
     (
         &[],
         &[
-            Fills(InsertWith, v4!(0, 0, 0, 0; 32), 9),
+            InsertsVia(OrDefault, v4!(0, 0, 0, 0; 32), 0),
             Len(1),
             NodeCount(7),
         ],
     ),
     (
         &[],
-        &[Fills(Default, v4!(0, 0, 0, 0; 32), 0), Len(1), NodeCount(7)],
+        &[
+            InsertsVia(Insert, v4!(0, 0, 0, 0; 32), 9),
+            Len(1),
+            NodeCount(7),
+        ],
+    ),
+    (
+        &[],
+        &[
+            InsertsVia(InsertWith, v4!(0, 0, 0, 0; 32), 9),
+            Len(1),
+            NodeCount(7),
+        ],
+    ),
+    (
+        &[],
+        &[
+            InsertsVia(Default, v4!(0, 0, 0, 0; 32), 0),
+            Len(1),
+            NodeCount(7),
+        ],
     ),
     (
         &[
@@ -58,7 +70,7 @@ pub const VACANT: [Table<'static, u32>; 9] = [
             Inserts(v4!(0, 0, 0, 0; 1), 1, None),
         ],
         &[
-            Fills(InsertWith, v4!(0, 0, 0, 0; 2), 2),
+            InsertsVia(InsertWith, v4!(0, 0, 0, 0; 2), 2),
             Lists(&[
                 (v4!(0, 0, 0, 0; 0), 0),
                 (v4!(0, 0, 0, 0; 1), 1),
