@@ -1,4 +1,4 @@
-//! Mixed calls of a map, which a set must answer in the same way.
+//! Mixed calls of a map, for which a set must return the same.
 ghost use Rattle.std.specs.Prelude.{◌≤◌};
 
 use crate::cases::Case::{
