@@ -6,7 +6,7 @@ ghost use Rattle.prefix_trie_rows.specs.Lines.{row_line, Begins};
 use std::alloc::Global;
 use std::io::Write;
 
-/// Prints the line of a row, and returns whether all of it was written.
+/// Prints the line of a row. Returns whether all of it was written.
 pub fn print_line<W: Write>(alloc: Global, out: &mut W, number: u32, holds: bool) -> bool
     ensures written { IsTrue result → Appends (W.contents out.old) (W.contents out.new) (row_line number holds) }
     ensures begins { (bs : List ℕ) × Appends (W.contents out.old) (W.contents out.new) bs × Begins bs (row_line number holds) }
@@ -18,7 +18,7 @@ pub fn print_line<W: Write>(alloc: Global, out: &mut W, number: u32, holds: bool
     }
 }
 
-/// Writes bytes, and returns whether all were written. After a write that is refused, or that takes none, it makes no other.
+/// Writes bytes. Returns whether all were written. After a write that fails or writes nothing, it makes no other.
 fn write_once<W: Write>(out: &mut W, bytes: &[u8]) -> bool
     ensures written { IsTrue result → Appends (W.contents out.old) (W.contents out.new) bytes.now }
     ensures begins { (bs : List ℕ) × Appends (W.contents out.old) (W.contents out.new) bs × Begins bs bytes.now }

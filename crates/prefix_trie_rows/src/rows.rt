@@ -26,7 +26,7 @@ use std::alloc::Global;
 /// The tables of a row.
 type Row = &'static [Table];
 
-/// A table with the prefixes of its maps: IP networks, or pairs of a number and a length.
+/// A table, with the type of its prefixes: IP networks, or pairs of a number and a length.
 #[derive(Drop)]
 pub enum Table {
     Ipv4(&'static [Line]),
@@ -40,15 +40,15 @@ pub enum Table {
     Narrow3(&'static [Line]),
     Narrow5(&'static [Line]),
     Narrow10(&'static [Line]),
-    /// Which numbers are narrow keys.
+    /// Numbers that are narrow keys, and numbers that are not.
     NarrowKeys(&'static [KeyCase]),
-    /// A run on a new map of this limit.
+    /// A run on a new map with this slot limit.
     Run(u32, &'static [RunCall]),
     /// Calls of a set.
     Set(Set),
 }
 
-/// A table of a set with its prefixes.
+/// A table of a set, with the type of its prefixes.
 #[derive(Drop)]
 pub enum Set {
     Ipv4(&'static [SetLine]),
@@ -180,7 +180,7 @@ const ROWS: [(u32, Row); 46] = [
     (49, &[Table::U8(&splitting::UNDER_THREE_SLOTS)]),
 ];
 
-/// Whether there is a row of this number, and each of its tables comes out as it should.
+/// Returns whether there is a row with this number, and all its tables hold.
 pub fn row_holds(alloc: Global, number: u32) -> bool {
     for (other, row) in &ROWS {
         if *other == number {

@@ -1,4 +1,4 @@
-//! Lists of calls that are run in one, each beside its reply.
+//! Runs: lists of calls, each with its expected reply.
 ghost use Rattle.std.specs.Prelude.{All, IfSome, IfOk};
 ghost use Rattle.prefix_trie.specs.Words.{IsFittingCall};
 
@@ -7,7 +7,7 @@ use prefix_trie::replay::{Call, Reply, run};
 use prefix_trie::{Prefix, PrefixMap, Refusal};
 use std::alloc::{AllocError, Global};
 
-/// A call of a run, and the reply that it should have.
+/// A call of a run with its expected reply.
 #[derive(Drop)]
 pub struct RunCall(pub Call<Pair>, pub ExpectedReply);
 
@@ -23,7 +23,11 @@ pub enum ExpectedReply {
     Refused(Refusal),
 }
 
-/// Whether a run of the calls on a new map of this limit gives their replies. Refused if there is no memory for the map.
+/// Returns whether a run on a new map with this slot limit gives the expected replies.
+///
+/// # Errors
+///
+/// Returns an error if the map cannot be made.
 pub fn all_reply<P: TablePrefix>(
     alloc: Global,
     limit: u32,
@@ -33,7 +37,11 @@ pub fn all_reply<P: TablePrefix>(
     Ok(reply_in_order(alloc, &mut map, lines) == Ok(true))
 }
 
-/// Whether a run of the calls on a map gives their replies. Refused if there is no memory for calls or replies.
+/// Returns whether a run on a map gives the expected replies.
+///
+/// # Errors
+///
+/// Returns an error if there is no memory for the calls or the replies.
 fn reply_in_order<P: TablePrefix>(
     alloc: Global,
     map: &mut Map<P>,
@@ -45,7 +53,7 @@ fn reply_in_order<P: TablePrefix>(
     }
 }
 
-/// The calls of a run, if each fits.
+/// Returns the calls of a run, if all their prefixes fit.
 fn calls_of<P: TablePrefix>(
     alloc: Global,
     lines: &[RunCall],
@@ -62,7 +70,7 @@ fn calls_of<P: TablePrefix>(
     Ok(Some(calls))
 }
 
-/// A call as the map takes it, if its prefix fits.
+/// Returns a call with the map's type of prefix, if the prefix fits.
 fn call_of<P: TablePrefix>(call: &Call<Pair>) -> Option<Call<P>>
     ensures { IfSome result (IsFittingCall P.IsFitting) }
 {
@@ -79,7 +87,7 @@ fn call_of<P: TablePrefix>(call: &Call<Pair>) -> Option<Call<P>>
     }
 }
 
-/// Whether there is one reply for each call, and each is as it should be.
+/// Returns whether there is one reply for each call, and each is the expected one.
 fn are_expected<P: Prefix>(replies: &[Reply<P, Global>], lines: &[RunCall]) -> bool {
     let mut rest = replies.iter();
     for line in lines {

@@ -1,4 +1,4 @@
-//! Tables: calls of a map beside the answers that they should have, and what puts them to a map.
+//! Tables: calls of a map with the expected results, and what makes these calls.
 ghost use Rattle.std.specs.Prelude.{IfSome};
 
 mod comparing;
@@ -20,28 +20,28 @@ use std::alloc::Global;
 /// The map of a table, from prefixes to numbers.
 pub type Map<P> = PrefixMap<P, u64, Global>;
 
-/// A prefix as tables write it, a number and a length.
+/// A prefix as tables write it: a number and a length.
 pub type Pair = (Number, u8);
 
 /// An entry as tables write it.
 pub type Entry = (Pair, u64);
 
-/// A call, and last the answer that it should have. Calls that answer nothing stand alone.
+/// A call of a map. The last field is the expected result, if the call has one.
 #[derive(Drop)]
 pub enum Line {
-    /// Goes on with a new map. A table begins with one.
+    /// Continues with a new map. Each table starts with one.
     New,
-    /// Goes on with a new map of this limit, if there is one.
+    /// Continues with a new map with this slot limit, if it can be made.
     WithSlotLimit(u32, Result<(), Refusal>),
-    /// The value that the prefix had, or why the new one was refused and handed back.
+    /// Inserts a value. The result is the previous value, or the reason why the new one was refused and returned.
     Insert(Pair, u64, Result<Option<u64>, Refusal>),
-    /// Inserts prefixes in turn, with values from 0 up. All are new.
+    /// Inserts new prefixes in order, with values from 0 up.
     InsertAll(&'static [Pair]),
     Get(Pair, Option<u64>),
     GetKeyValue(Pair, Option<Entry>),
     GetLpm(Pair, Option<Entry>),
     GetSpm(Pair, Option<Entry>),
-    /// Finds a prefix, whose value is then set to the number.
+    /// Finds the last prefix by a lookup of the first, and sets its value to the number.
     GetLpmMut(Pair, u64, Pair),
     IsCovered(Pair, bool),
     /// All entries, in order.
@@ -49,41 +49,42 @@ pub enum Line {
     /// All prefixes, in order, with values from 0 up.
     Iter(&'static [Pair]),
     Values(&'static [u64]),
-    /// The first values of the walk from a prefix: all, where they are fewer than the number.
+    /// The first values of the walk from a prefix: this many, or all if there are fewer.
     IterFrom(Pair, bool, usize, &'static [u64]),
     Children(Pair, &'static [u64]),
-    /// The number is added to each value that the walk from a prefix lends.
+    /// Adds the number to each value that the walk from a prefix lends.
     IterFromMut(Pair, bool, u64),
-    /// Each value that the prefix contains is multiplied by the number.
+    /// Multiplies each value that the prefix contains by the number.
     ChildrenMut(Pair, u64),
-    /// The first value is set to the number, and the walk is dropped.
+    /// Sets the first value to the number, and drops the walk.
     ValuesMut(u64),
-    /// A copy of the map gives these up, in order.
+    /// A consuming walk over the children in a clone yields these entries.
     IntoChildren(Pair, &'static [Entry]),
-    /// The same of all prefixes.
+    /// A consuming walk over the keys of a clone yields these prefixes.
     IntoKeys(&'static [Pair]),
     Cover(Pair, &'static [Entry]),
     CoverValues(Pair, &'static [u64]),
     Remove(Pair, Option<u64>),
     RemoveKeepTree(Pair, Option<u64>),
     DropChildren(Pair),
-    /// What the map that is handed out answers.
+    /// Splits off a map, for which these lines hold.
     RemoveChildren(Pair, &'static [Line]),
     /// The prefix of an entry.
     EntryKey(Pair, Pair),
     /// The value of an entry.
     EntryGet(Pair, Option<u64>),
-    /// The value set by an entry, and the one that was there before.
+    /// Sets a value through an entry. The result is the previous value.
     EntryInsert(Pair, u64, Result<Option<u64>, Refusal>),
-    /// `and_modify` that adds one, and then `or_insert` of the number.
+    /// Adds one by `and_modify`, and inserts the first number by `or_insert`. The result is the value.
     AddOrInsert(Pair, u64, u64),
-    /// `or_default` answers the first number, and the value is then set to the second.
+    /// Calls `or_default`, which lends the first number, and sets the value to the second.
     OrDefault(Pair, u64, u64),
-    /// `or_insert_with` of a closure that gives the first number answers the second, and calls the closure so many times.
+    /// Calls `or_insert_with` with a closure that returns the first number. The call lends the second number, and calls
+    /// the closure this many times.
     OrInsertWith(Pair, u64, u64, u64),
-    /// What an occupied entry hands out as it is taken out, if it is one.
+    /// The value that an occupied entry returns when it is removed, or `None` if the entry is vacant.
     RemoveEntry(Pair, Option<u64>),
-    /// The values that the test is asked about, in order, each with what the test says.
+    /// The values that the test is called with, in order, and what it returns.
     Retain(&'static [(u64, bool)]),
     Clear,
     /// The number of entries. The map is empty exactly if it is 0.
@@ -92,32 +93,32 @@ pub enum Line {
     AddressCount(Option<Number>),
     NodeSlots(usize),
     CellSlots(usize),
-    /// How many blocks of each size are in use, and how many are free.
+    /// The number of used and of free blocks of each size.
     NodeBlocks([usize; 7], [usize; 7]),
     CellBlocks([usize; 7], [usize; 7]),
-    /// A copy is equal to its map, and has its slots and blocks.
+    /// A clone is equal to its map, and has its slots and blocks.
     Clone,
-    /// Whether a new map, into which these entries are inserted in this order, is equal to the map.
+    /// Whether a new map with these entries, inserted in this order, is equal to the map.
     Equals(&'static [Entry], bool),
     /// The map as text.
     Text(&'static str),
     /// A prefix as text.
     PrefixText(Pair, &'static str),
-    /// Whether there is a prefix of this number and length.
+    /// Whether there is a prefix with this number and length.
     IsPrefix(Pair, bool),
     Fits(Pair, bool),
     Mask(Pair, Number),
-    /// Whether the first contains the second.
+    /// Whether the first prefix contains the second.
     Contains(Pair, Pair, bool),
 }
 
-/// A prefix that tables write as a number and a length.
+/// A prefix type whose prefixes tables write as a number and a length.
 pub trait TablePrefix: Prefix + PartialEq {
-    /// The prefix of this number and length, if there is one.
+    /// Returns the prefix with this number and length, if there is one.
     fn of(number: Number, len: u8) -> Option<Self>;
 }
 
-/// There is one for each key, but it need not fit.
+/// There is a pair for each key. It need not fit.
 impl<R: Key> TablePrefix for (R, u8) {
     fn of(number: Number, len: u8) -> Option<Self> {
         Some((key_of(number)?, len))
@@ -136,7 +137,7 @@ impl TablePrefix for Ipv6Prefix {
     }
 }
 
-/// The prefix that is written so, if there is one and it fits.
+/// Returns the prefix that is written so, if there is one and it fits.
 pub fn fitting_prefix<P: TablePrefix>(pair: Pair) -> Option<P>
     ensures { IfSome result P.IsFitting }
 {
@@ -146,18 +147,22 @@ pub fn fitting_prefix<P: TablePrefix>(pair: Pair) -> Option<P>
     }
 }
 
-/// Whether tables write a prefix so.
+/// Returns whether tables write a prefix so.
 pub fn is_prefix<P: Prefix>(prefix: &P, (number, len): Pair) -> bool {
     key_of(number) == Some(prefix.repr()) && prefix.prefix_len() == len
 }
 
-/// Whether each call of a table has its answer, in order. Refused if there is no memory for the first map.
+/// Returns whether all calls of a table have the expected results.
+///
+/// # Errors
+///
+/// Returns an error if the first map cannot be made.
 pub fn all_hold<P: TablePrefix>(alloc: Global, lines: &[Line]) -> Result<bool, Refusal> {
     let mut map: Map<P> = PrefixMap::new(alloc)?;
     Ok(hold_in_order(alloc, &mut map, lines))
 }
 
-/// Whether each call has its answer, where they are put to a map in order.
+/// Returns whether all calls have the expected results, when they are made on a map in order.
 fn hold_in_order<P: TablePrefix>(alloc: Global, map: &mut Map<P>, lines: &[Line]) -> bool {
     for line in lines {
         if !holds(alloc, map, line) {
@@ -167,7 +172,7 @@ fn hold_in_order<P: TablePrefix>(alloc: Global, map: &mut Map<P>, lines: &[Line]
     true
 }
 
-/// Whether a call has its answer.
+/// Returns whether a call has the expected result.
 fn holds<P: TablePrefix>(alloc: Global, map: &mut Map<P>, line: &Line) -> bool {
     match line {
         Line::New => replaces(map, PrefixMap::new(alloc), Ok(())),
@@ -193,7 +198,7 @@ fn holds<P: TablePrefix>(alloc: Global, map: &mut Map<P>, line: &Line) -> bool {
     }
 }
 
-/// Whether a call of an entry has its answer.
+/// Returns whether a call of an entry has the expected result.
 fn holds_at_entry<P: TablePrefix>(map: &mut Map<P>, line: &Line) -> bool {
     match line {
         Line::EntryKey(pair, expected) => entries::has_key(map, *pair, *expected),
@@ -209,7 +214,7 @@ fn holds_at_entry<P: TablePrefix>(map: &mut Map<P>, line: &Line) -> bool {
     }
 }
 
-/// Whether a call that changes no map has its answer.
+/// Returns whether a call that does not change the map has the expected result.
 fn holds_unchanged<P: TablePrefix>(map: &Map<P>, line: &Line) -> bool {
     match line {
         Line::Get(pair, expected) => gets(map, *pair, *expected),
@@ -240,7 +245,7 @@ fn holds_unchanged<P: TablePrefix>(map: &Map<P>, line: &Line) -> bool {
     }
 }
 
-/// Whether a question about a prefix by itself has its answer.
+/// Returns whether a call of a prefix has the expected result.
 fn holds_of_prefix<P: TablePrefix>(line: &Line) -> bool {
     match line {
         Line::IsPrefix((number, len), expected) => P::of(*number, *len).is_some() == *expected,
@@ -251,9 +256,9 @@ fn holds_of_prefix<P: TablePrefix>(line: &Line) -> bool {
     }
 }
 
-// ---- what changes a map
+// ---- calls that change a map
 
-/// Goes on with another map, if there is one.
+/// Continues with another map, if it could be made.
 fn replaces<P: Prefix>(
     map: &mut Map<P>,
     made: Result<Map<P>, Refusal>,
@@ -333,7 +338,7 @@ fn drops_children<P: TablePrefix>(map: &mut Map<P>, pair: Pair) -> bool {
     }
 }
 
-/// Whether a test is asked about these values, each once and in order.
+/// Returns whether a test is called with these values, each once and in order.
 fn retains<P: Prefix>(map: &mut Map<P>, asked: &[(u64, bool)]) -> bool {
     let mut count = 0_usize;
     let mut in_order = true;
@@ -346,7 +351,7 @@ fn retains<P: Prefix>(map: &mut Map<P>, asked: &[(u64, bool)]) -> bool {
     in_order && count == asked.len()
 }
 
-/// Keeps the entries at which a test answers true. It has no `ensures`, which its caller would have to read.
+/// Keeps the entries for which a test returns `true`. It has no `ensures`, because its caller would have to read it.
 #[tactic(auto, using(prefix_trie::proofs::Always::may_ask_of_map))]
 fn keep_where<P: Prefix, F: FnMut(&P, &u64) -> bool + Drop>(map: &mut Map<P>, test: F)
     requires { F.IsAlwaysCallable test }
@@ -359,7 +364,7 @@ fn clears<P: Prefix>(map: &mut Map<P>) -> bool {
     true
 }
 
-// ---- what a map answers
+// ---- calls that read a map
 
 fn gets<P: TablePrefix>(map: &Map<P>, pair: Pair, expected: Option<u64>) -> bool {
     match fitting_prefix::<P>(pair) {
@@ -368,7 +373,7 @@ fn gets<P: TablePrefix>(map: &Map<P>, pair: Pair, expected: Option<u64>) -> bool
     }
 }
 
-/// Whether tables write so what a lookup or a walk gives.
+/// Returns whether a lookup or a walk returned this entry.
 fn is_entry<P: Prefix>(found: Option<(P, &u64)>, expected: Option<Entry>) -> bool {
     match (found, expected) {
         (Some((prefix, value)), Some((pair, expected))) => is_prefix(&prefix, pair)
@@ -413,7 +418,7 @@ const NODE_SIZES: [usize; 7] = [1, 2, 4, 8, 16, 24, 32];
 
 const CELL_SIZES: [usize; 7] = [1, 2, 4, 8, 16, 24, 31];
 
-/// Whether the blocks have these sizes, and of each so many are in use and so many free.
+/// Returns whether the blocks have these sizes, and this many of each size are used and free.
 fn has_blocks(
     blocks: [BlockCount; 7],
     sizes: [usize; 7],
@@ -425,7 +430,7 @@ fn has_blocks(
         && blocks.iter().map(|block| block.free).eq(free)
 }
 
-// ---- what a prefix answers by itself
+// ---- calls of a prefix
 
 fn fits<P: TablePrefix>(number: Number, len: u8) -> Option<bool> {
     P::of(number, len).map(|prefix| prefix.fits())

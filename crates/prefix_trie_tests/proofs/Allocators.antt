@@ -1,4 +1,4 @@
--- What the proofs of an allocator that wraps another one name of the kit, in one list.
+-- The names of the toolchain that the proofs of a wrapping allocator use, in one list.
 pub use Rattle.std.proofs.Common.{Bool, ◌≡◌, ℕ, ◌+◌, ◌^◌, ◌<◌, true, false, List, [], ◌∷◌, Ok, Err, refl, w64, Bor, ap}
 pub use Rattle.std.proofs.alloc.Calls.{Al, α, seen, Answer, answer_val, Answer-typed, Answer-Ok, Answer-err, takes_key, Takes, at_takes, Answered, Takes-goes, Takes-gives, answers, token, gives_key, Gives, at_gives, Gives-goes, Gives-Gives}
 pub use base.Fml.{Lft, Share, ftrue, flft, fsep, ffalse, froom}

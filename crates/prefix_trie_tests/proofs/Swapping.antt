@@ -1,4 +1,4 @@
--- What a map becomes whose first value is swapped on a walk.
+-- What a map becomes when a walk swaps its first value: lemmas for `walks::writing`.
 use Rattle.prefix_trie_tests.proofs.Prelude.{◌≡◌, Bool, true, List, [], ◌∷◌, map, Option, None, Some, IfNone, MatchOption, is_none, slice_get, refl, sym, ap, ap₂, ◌∙◌, true≢false, unwrap_or, get, get-entries, find, listing_cmp, Entries, listing, shown, found_first, Contents, with_value_at, Course, IsFirst, GoesOver, ComesToEnd, StartsIn, HandsBack, PassesIn, EndsIn, IsOverIn, FirstIn, left_at_start, left_behind}
 use Rattle.std.specs.Borrow.{MutBor}
 use Rattle.std.specs.declared.cmp.PartialEq as partial
@@ -10,7 +10,7 @@ no_keys : {T : Type 0} (es : List (List Bool × T)) → map (λ e. e.0) es ≡ [
 no_keys [] is = refl
 no_keys (e ∷ es) is = absurd cc
 
--- the first entry of a map, as users see it
+-- The first entry of a map, as users see it.
 first_shown : {P T : Type 0} (back : List Bool → P) (m : Entries T) (es : List (List Bool × T)) (s : List Bool) (rest : List (List Bool)) (v : T) →
     listing m ≡ es → map (λ e. e.0) es ≡ s ∷ rest → get m s ≡ Some v → Some (back s, v) ≡ slice_get (shown back es) 0
 first_shown back m [] s rest v listed is found = absurd cc
@@ -20,7 +20,7 @@ first_shown back m (e ∷ es) s rest v listed is found =
     ap₂ (λ q x. Some (q, x)) (ap back (sym key)) (ap (λ o. unwrap_or o v) value)
 
 module _ {P T : Type 0} where
-  -- what is answered of a map whose first value is swapped for another, and the map then
+  -- The result of swapping the first value of a map, and the map after it.
   pub record SwapsFirst (back : List Bool → P) (value : T) (r : Option (P × T)) (m n : MutBor (Contents T)) : Type 0 where
     pub same_map : n.ghost_name ≡ m.ghost_name
     pub before : r ≡ slice_get (shown back (listing m.now.entries)) 0
@@ -28,7 +28,7 @@ module _ {P T : Type 0} where
     pub swapped : (q : List Bool) (v : T) (rest : List (List Bool × T)) → listing m.now.entries ≡ (q, v) ∷ rest → n.now ≡ with_value_at m.now q value
 
 module _ {P T A R : Type 0} {p : prefix.Ghosts P R} {shows : debug.Ghosts P} {k : key.Ghosts R} {same : partial.Ghosts R} {writes : debug.Ghosts R} where
-  -- a walk over a map that is over at its start
+  -- A walk over a map that is over at its start.
   pub over_at_start : {X : Type 0} (m : MutBor (Contents T)) (o : Option (Course P T A R p shows k same writes)) (found : Option X) →
       StartsIn m (listing m.now.entries) o → IfNone found (IsOverIn ComesToEnd o) → is_none found ≡ true → listing m.now.entries ≡ []
   over_at_start m o (Some x) starts over none = absurd (true≢false (sym none))

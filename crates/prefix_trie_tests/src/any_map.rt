@@ -1,4 +1,4 @@
-//! What a caller learns of a map that was handed to it, whatever was done to it before.
+//! What callers learn about a map with an unknown history.
 ghost use Rattle.std.specs.Prelude.{◌≡◌, false, filter, IfOk};
 ghost use Rattle.std.specs.FinMap.{contains_key, len};
 ghost use Rattle.prefix_trie.specs.Words.{listing, needed, IsTidy};
@@ -14,19 +14,19 @@ use prefix_trie_bits::laws::slot_laws;
 use prefix_trie_map::laws::copy_laws;
 use std::alloc::{AllocError, Allocator, Global};
 
-// Keeps the entries whose prefixes another map stores too.
+// Keeps the entries whose prefixes another map also stores.
 fn keep_common<P: Prefix, A: Allocator>(
     map: &mut PrefixMap<P, u64, A>,
     other: &PrefixMap<P, u64, A>,
 )
     ensures { listing map.new.entries ≡ filter (λ e. contains_key other.now.entries e.0) (listing map.old.entries) }
 {
-    // The proof learns from it that each prefix shown to the test fits.
+    // Tells the proof that each prefix passed to the test fits.
     let _ = map.len();
     map.retain(move |prefix, _| other.contains_key(prefix));
 }
 
-// Sets a key of a tidy map, takes one out, and counts the nodes then.
+// Inserts into a tidy map, removes a key, and counts the nodes.
 fn insert_and_remove<P: Prefix, T: Drop, A: Allocator>(
     map: &mut PrefixMap<P, T, A>,
     prefix: P,
@@ -39,14 +39,14 @@ fn insert_and_remove<P: Prefix, T: Drop, A: Allocator>(
     ensures tidy { IsTidy map.new.entries map.new.nodes }
     ensures counted { result ≡ len (needed map.new.entries) }
 {
-    // The proof learns from it that the nodes are those of a map.
+    // Tells the proof that the nodes are those of a map.
     let _ = map.len();
     let _ = map.insert(prefix, value);
     map.remove(out);
     map.node_count()
 }
 
-// The same of any map, once it is emptied.
+// Clears any map, and then does the same.
 fn use_emptied<P: Prefix, T: Drop, A: Allocator>(
     map: &mut PrefixMap<P, T, A>,
     prefix: P,
@@ -62,7 +62,7 @@ fn use_emptied<P: Prefix, T: Drop, A: Allocator>(
     insert_and_remove(map, prefix, value, out)
 }
 
-// And of what `retain` leaves of any map.
+// Keeps some values of any map, and then does the same.
 fn use_retained<P: Prefix, A: Allocator>(
     map: &mut PrefixMap<P, u64, A>,
     least: u64,
@@ -78,7 +78,7 @@ fn use_retained<P: Prefix, A: Allocator>(
     insert_and_remove(map, prefix, least, out)
 }
 
-// Sets a new key of a tidy map and takes it out again.
+// Inserts a new key into a tidy map and removes it again.
 fn insert_and_remove_again<P: Prefix, T: Drop, A: Allocator>(
     map: &mut PrefixMap<P, T, A>,
     prefix: P,
@@ -93,7 +93,7 @@ fn insert_and_remove_again<P: Prefix, T: Drop, A: Allocator>(
     ensures entries { map.new.entries ≡ map.old.entries }
     ensures nodes { map.new.nodes ≡ map.old.nodes }
 {
-    // The proof learns from it that no key is longer than the width.
+    // Tells the proof that no key is longer than the width.
     let _ = map.len();
     match map.insert(prefix, value) {
         Ok(_) => {
@@ -103,7 +103,7 @@ fn insert_and_remove_again<P: Prefix, T: Drop, A: Allocator>(
     }
 }
 
-// Sets a key of any map: how many slots that makes at most.
+// Inserts a key into any map. The contract bounds the slots that this adds.
 fn insert_within_bound<P: Prefix, T: Drop, A: Allocator>(
     map: &mut PrefixMap<P, T, A>,
     prefix: P,
@@ -113,12 +113,12 @@ fn insert_within_bound<P: Prefix, T: Drop, A: Allocator>(
     ensures { MakesSlots 56 31 (storage map.old) (storage map.new) }
 {
     slot_laws::<P, T>();
-    // The proof learns from it that the map is whole.
+    // Tells the proof that the map is whole.
     let _ = map.len();
     map.insert(prefix, value).is_ok()
 }
 
-// A copy of a tidy map, which is tidy too.
+// Clones a tidy map. The clone is tidy too.
 fn tidy_copy<P: Prefix, T: Clone, A: Allocator + Clone>(
     map: &PrefixMap<P, T, A>,
 ) -> Result<PrefixMap<P, T, A>, AllocError>
@@ -131,10 +131,10 @@ fn tidy_copy<P: Prefix, T: Clone, A: Allocator + Clone>(
 
 type Numbers = PrefixMap<(u16, u8), u64, Global>;
 
-/// Two numbers, one of them below ten.
+/// Two numbers, one of them less than ten.
 const TWO: [((u16, u8), u64); 2] = [((0x0a00, 8), 9), ((0x0a0b, 16), 10)];
 
-/// Whether the two entries of one map, put into the other, are all that is common to both.
+/// Merges one map into the other. Returns whether keeping the common keys leaves exactly the two entries of the first.
 fn has_common(to: &mut Numbers, from: &Numbers) -> bool {
     let is_put = stores(to, &[((0x0b00, 8), 1)]) & merge(to, from).is_ok();
     let len = to.len();
@@ -142,7 +142,7 @@ fn has_common(to: &mut Numbers, from: &Numbers) -> bool {
     is_put & (len == 3) & has_keys(to, &[(0x0a00, 8), (0x0a0b, 16)])
 }
 
-/// The same once the other has the two.
+/// Fills the other map with the two entries, and then does the same.
 fn has_common_with_two(to: &mut Numbers, from: &mut Numbers, _alloc: Global) -> bool {
     stores(from, &TWO) & has_common(to, from)
 }
@@ -159,7 +159,7 @@ fn keeping_common_keys_intersects_two_maps(rt: HostRuntime) {
     );
 }
 
-/// Whether a map has the nodes that its keys need once it was used, and keeps them where a key comes and goes.
+/// Returns whether a used map has exactly the needed nodes, and keeps them when a key is inserted and removed.
 fn has_needed_nodes(map: &mut Numbers) -> bool {
     let nodes = use_retained(map, 10, (0x0a0b, 11), &(0x0a0b, 16));
     if map.contains_key(&(0xffff, 16)) {
@@ -169,7 +169,7 @@ fn has_needed_nodes(map: &mut Numbers) -> bool {
     (nodes, map.node_count()) == (3, 3)
 }
 
-/// Whether a map that is emptied and used again has those nodes, and a copy of it.
+/// Returns whether a map that is cleared and used again, and its clone, have exactly the needed nodes.
 fn has_tidy_copy(map: &mut Numbers) -> bool {
     let nodes = use_emptied(map, (0x0a0b, 16), 1, &(0x0a0b, 8));
     match tidy_copy(map) {
@@ -178,7 +178,7 @@ fn has_tidy_copy(map: &mut Numbers) -> bool {
     }
 }
 
-/// Both in turn, and a key set between them, of a map of two numbers.
+/// Returns whether both checks hold for a map of two numbers, with an insertion between them.
 fn stays_tidy(map: &mut Numbers, _alloc: Global) -> bool {
     stores(map, &TWO)
         & has_needed_nodes(map)

@@ -1,5 +1,5 @@
-//! Many longest matches in one call: of no prefix, of one group and of more, in a map of few nodes and in one of so many that it asks in
-//! groups; and a burst of packets.
+//! Bulk lookups: of no prefix, of one group and of several, in maps with few and with many nodes, and for a burst of
+//! packets.
 ghost use Rattle.std.specs.Prelude.{◌≡◌, ◌^◌, ◌<◌, ◌≤◌, All, length};
 
 use crate::cases::lookups::{as_entry, value_of_entry};
@@ -21,7 +21,8 @@ const WIDE: Entry<u128> = ((0x2001_0db8_0000_0000_0000_0000_0000_0000, 32), 1);
 
 const NEAR: Entry<u128> = ((0x2001_0db8_0001_0000_0000_0000_0000_0000, 48), 2);
 
-/// Prefixes, each beside its longest match among the two: in both, in none, in the wider, the narrower itself, and around both.
+/// Prefixes with their longest match: a host in both networks, no match, another network in the wider one, the narrower
+/// network itself, and a network around both.
 const CASES: [(Pair<u128>, Option<Entry<u128>>); 5] = [
     ((0x2001_0db8_0001_0000_0000_0000_0000_0007, 128), Some(NEAR)),
     ((1, 128), None),
@@ -30,16 +31,16 @@ const CASES: [(Pair<u128>, Option<Entry<u128>>); 5] = [
     ((0x2001_0db8_0000_0000_0000_0000_0000_0000, 31), None),
 ];
 
-/// As many as three calls ask in groups of 32: two whole ones, and a part.
+/// The largest number of prefixes in one call. It makes two full groups of 32 and a part of one.
 const MOST_PREFIXES: usize = 70;
 
-/// How many prefixes one call asks for.
+/// The numbers of prefixes in the calls.
 const PREFIX_COUNTS: [usize; 5] = [0, 1, 32, 33, MOST_PREFIXES];
 
-/// So many hosts have more nodes than a map has that asks one prefix after another.
+/// The number of hosts that gives a map more than `FEW_NODES` nodes.
 const HOST_COUNT: u64 = 3_200;
 
-/// Writes the prefixes of the cases into a slice, over and over.
+/// Fills a slice with the prefixes of the cases, over and over.
 fn repeat_cases(asked: &mut [Pair<u128>])
     requires fit { All (λ p. (p.0 < 2 ^ 128) × (p.1 ≤ 128)) asked.old }
     ensures fit { All (λ p. (p.0 < 2 ^ 128) × (p.1 ≤ 128)) asked.new }
@@ -53,7 +54,7 @@ fn repeat_cases(asked: &mut [Pair<u128>])
     }
 }
 
-/// Whether entries are the answers of the cases in turn.
+/// Returns whether these are the entries of the cases, over and over.
 fn are_entries(found: &[Option<(Pair<u128>, &u64)>]) -> bool {
     for (index, entry) in found.iter().enumerate() {
         if as_entry(*entry) != CASES[index % 5].1 {
@@ -63,7 +64,7 @@ fn are_entries(found: &[Option<(Pair<u128>, &u64)>]) -> bool {
     true
 }
 
-/// The same of values.
+/// Returns whether these are the values of the cases, over and over.
 fn are_values(found: &[Option<&u64>]) -> bool {
     for (index, value) in found.iter().enumerate() {
         if value.copied() != value_of_entry(CASES[index % 5].1) {
@@ -73,7 +74,7 @@ fn are_values(found: &[Option<&u64>]) -> bool {
     true
 }
 
-/// Whether the two calls that answer entries do so for the cases in turn.
+/// Returns whether both calls that return entries return those of the cases.
 fn gives_entries(map: &Map, asked: &[Pair<u128>]) -> bool
     requires fit { All (λ p. (p.0 < 2 ^ 128) × (p.1 ≤ 128)) asked.now }
     requires few { length asked.now ≤ 70 }
@@ -86,7 +87,7 @@ fn gives_entries(map: &Map, asked: &[Pair<u128>]) -> bool
     are_entries(&found[..count]) & are_entries(&counted[..count])
 }
 
-/// The same of the two that answer values.
+/// Returns whether both calls that return values return those of the cases.
 fn gives_values(map: &Map, asked: &[Pair<u128>]) -> bool
     requires fit { All (λ p. (p.0 < 2 ^ 128) × (p.1 ≤ 128)) asked.now }
     requires few { length asked.now ≤ 70 }
@@ -99,7 +100,7 @@ fn gives_values(map: &Map, asked: &[Pair<u128>]) -> bool
     are_values(&found[..count]) & are_values(&counted[..count])
 }
 
-/// Whether a map of the two answers as many prefixes as are counted, each time.
+/// Returns whether a map of the two networks finds all matches, at each number of prefixes.
 fn gives_all(map: &Map) -> bool {
     let mut asked = [(0, 0); MOST_PREFIXES];
     repeat_cases(&mut asked);
@@ -112,7 +113,7 @@ fn gives_all(map: &Map) -> bool {
     true
 }
 
-/// Stores hosts, none of which is in a case.
+/// Inserts hosts that are outside of all cases. Returns whether each is new.
 fn stores_hosts(map: &mut Map) -> bool {
     for number in 0..HOST_COUNT {
         if put_in(map, ((0x8000 | u128::from(number)) << 112, 128), number) != Ok(None) {
@@ -122,14 +123,14 @@ fn stores_hosts(map: &mut Map) -> bool {
     true
 }
 
-/// Whether a new map answers so with few nodes and with many.
+/// Returns whether a new map finds all matches with few nodes and with many.
 fn finds_with_few_and_many_nodes(map: &mut Map, _: ()) -> bool {
     let few = stores(map, &[WIDE, NEAR]) & (map.node_slots() <= FEW_NODES) & gives_all(map);
     let are_stored = stores_hosts(map);
     few & are_stored & (FEW_NODES < map.node_slots()) & gives_all(map)
 }
 
-/// Whether 40 addresses have their hops, in their order.
+/// Returns whether the hops of 40 addresses come in the order of the addresses.
 fn finds_hops_of_burst(table: &mut PrefixMap<Ipv4Prefix, u32, Global>, _: ()) -> bool {
     let wide = Ipv4Prefix::new(v4!(10, 0, 0, 0), 8).unwrap();
     let near = Ipv4Prefix::new(v4!(10, 1, 0, 0), 16).unwrap();

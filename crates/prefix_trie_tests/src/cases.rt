@@ -1,4 +1,4 @@
-//! Cases: calls of a map or a set, each beside what it should answer.
+//! Cases: calls of a map or a set with the expected results.
 pub mod entries;
 pub mod lookups;
 pub mod maps;
@@ -16,68 +16,68 @@ pub type Pair<K> = (K, u8);
 /// A pair without host bits, and its value.
 pub type Entry<K> = (Pair<K>, u64);
 
-/// A call beside what it should answer. Prefixes stand as pairs, so one table serves all types that have these numbers.
+/// A call with its expected result. Prefixes are pairs, so one table serves all prefix types with these numbers.
 #[derive(Drop)]
 pub enum Case<'a, K: 'a> {
-    /// A new map is made in place of this one, under a limit of slots or none.
+    /// Replaces the map by a new one, with a slot limit or without.
     StartsAnew(Option<u32>),
-    /// `insert` sets this value, and answers the one that was there.
+    /// `insert` sets this value and returns the previous one.
     Inserts(Pair<K>, u64, Option<u64>),
-    /// `insert` of this value is refused, since the slots would pass the limit.
+    /// `insert` of this value fails, because the slots would exceed the limit.
     ExceedsLimit(Pair<K>, u64),
-    /// `remove` answers so.
+    /// `remove` returns this value.
     Removes(Pair<K>, Option<u64>),
-    /// `remove_keep_tree` answers so.
+    /// `remove_keep_tree` returns this value.
     RemovesKeepTree(Pair<K>, Option<u64>),
-    /// `drop_children` is made.
+    /// Calls `drop_children`.
     DropsChildren(Pair<K>),
     /// `retain` keeps the values from this one on.
     RetainsFrom(u64),
-    /// `retain` keeps the prefixes of at least so many bits.
+    /// `retain` keeps the prefixes with at least this many bits.
     RetainsLong(u8),
-    /// `clear` is made.
+    /// Calls `clear`.
     Clears,
-    /// `clone` makes a second map that is the same.
+    /// `clone` makes the second map equal to the first.
     Copies,
-    /// The two maps are the same: their entries, nodes and blocks.
+    /// The two maps have the same entries, nodes and blocks.
     AreSame,
-    /// The two maps change places.
+    /// Swaps the two maps.
     Swaps,
-    /// What is lent for a prefix has the second value, or nothing is lent; the first is written over it.
+    /// Mutable lookups of a prefix find the second value, or none. They replace it by the first.
     Writes(Pair<K>, u64, Option<u64>),
-    /// The same of the longest match.
+    /// Mutable lookups of the longest match find this entry, or none. They replace its value by the first value.
     WritesLongest(Pair<K>, u64, Option<Entry<K>>),
-    /// A vacant entry is filled by this call with this value.
-    Fills(InsertVia, Pair<K>, u64),
-    /// An entry is vacant, and is let go.
+    /// This call inserts the value at a vacant entry.
+    InsertsVia(InsertVia, Pair<K>, u64),
+    /// The entry is vacant, and is dropped.
     LeavesVacant(Pair<K>),
-    /// An occupied entry is taken out, and has this value.
+    /// Removes an occupied entry with this value.
     RemovesEntry(Pair<K>, u64),
-    /// An occupied entry is set to the first value, and had the second.
+    /// Sets an occupied entry to the first value. It had the second.
     ChangesEntry(Pair<K>, u64, u64),
-    /// All lookups of a prefix: the entry of exactly it, its longest match and its shortest.
+    /// All lookups of a prefix: its own entry, its longest match and its shortest match.
     Finds(Pair<K>, Option<Entry<K>>, Option<Entry<K>>, Option<Entry<K>>),
-    /// All walks give these entries.
+    /// All walks return these entries.
     Lists(&'a [Entry<K>]),
-    /// The walks from a prefix on, behind it and below it give these, of which the first is its own.
+    /// The walks from a prefix on, after it and among its children return these entries. The first entry is its own.
     ListsFrom(Pair<K>, &'a [Entry<K>]),
-    /// The walks around a prefix give these.
+    /// The walks over the prefixes that contain this one return these entries.
     Covers(Pair<K>, &'a [Entry<K>]),
-    /// So many entries.
+    /// The number of entries.
     Len(usize),
-    /// So many addresses.
+    /// The number of addresses.
     AddressCount(Option<K>),
-    /// So many nodes.
+    /// The number of nodes.
     NodeCount(usize),
-    /// So many slots of nodes and of cells.
+    /// The number of slots for nodes and for values.
     Slots(usize, usize),
     /// The blocks of this size in the array of nodes: used and free.
     NodeBlocks(usize, usize, usize),
-    /// The same in the array of cells.
+    /// The blocks of this size in the array of values: used and free.
     CellBlocks(usize, usize, usize),
 }
 
-/// The prefix of a pair, whose length is cut at the greatest.
+/// Makes the prefix of a pair. A length greater than the width is cut to the width.
 pub fn prefix_of<P: Prefix>(pair: Pair<P::R>) -> P
     ensures { P.IsFitting result }
 {

@@ -1,5 +1,4 @@
-//! Copies of a map and a set, and of the walks that take them apart, with each request for memory refused in turn: each value is cloned
-//! once.
+//! Clones of maps, of sets and of the walks that consume them, with each allocation failing. Each value is cloned once.
 use crate::cases::prefix_of;
 use crate::cases::sets::adds_key;
 use crate::contents::adds;
@@ -9,24 +8,24 @@ use prefix_trie::map::{IntoIter, IntoKeys, IntoValues};
 use prefix_trie::{Prefix, PrefixMap, PrefixSet};
 use std::alloc::{AllocError, Allocator, Global};
 
-/// More requests than one copy makes.
+/// More allocations than one clone makes.
 const MANY: u64 = 100;
 
 type Heap = Refusing<Global>;
 
 type Key = (u32, u8);
 
-/// Names, each of which asks for memory once when it is cloned.
+/// A map of names. Cloning a name allocates once.
 type Names<A> = PrefixMap<Key, String<A>, A>;
 
-/// The walks that take them apart.
+/// The walks that consume a map of names.
 type Items<A> = IntoIter<Key, String<A>, A>;
 
 type Keys<A> = IntoKeys<Key, String<A>, A>;
 
 type Values<A> = IntoValues<Key, String<A>, A>;
 
-/// The keys alone, and the walk that takes them apart.
+/// A set of the keys, and the walk that consumes it.
 type Set<A> = PrefixSet<Key, A>;
 
 type SetKeys<A> = IntoKeys<Key, (), A>;
@@ -42,14 +41,14 @@ const KEYS: [Key; 4] = [
 /// The names at the keys.
 const NAMES: [&str; 3] = ["outer", "next", "inner"];
 
-/// The key at a index.
+/// Returns the key at an index.
 fn key_at(index: usize) -> Key
     ensures { ⟦<Key as Prefix>⟧.IsFitting result }
 {
     prefix_of(KEYS[index % 4])
 }
 
-/// Stores the three names.
+/// Inserts the three names. Returns whether each key is new.
 fn put_names<A: Allocator + Copy>(alloc: A, names: &mut Names<A>) -> Result<bool, AllocError> {
     for (index, text) in NAMES.iter().enumerate() {
         let name = String::from_str(alloc, text)?;
@@ -60,9 +59,9 @@ fn put_names<A: Allocator + Copy>(alloc: A, names: &mut Names<A>) -> Result<bool
     Ok(true)
 }
 
-/// What has a copy, which may be refused.
+/// A value that can be cloned, unless an allocation fails.
 pub trait TryClone: Drop {
-    /// A copy of it.
+    /// Clones the value.
     fn try_clone(&self) -> Result<Self, AllocError>;
 }
 
@@ -96,9 +95,9 @@ impl<P: Prefix, T: Clone, A: Allocator + Clone> TryClone for IntoValues<P, T, A>
     }
 }
 
-/// What has three names, or their keys, which a walk gives in turn.
+/// A map or set of the three names or keys, or a walk over them.
 trait HasNames: TryClone {
-    /// Whether it has or gives the one at a index, and at the fourth none.
+    /// Returns whether it has or yields the item at an index, and at the fourth index none.
     fn yields(&mut self, index: usize) -> bool;
 }
 
@@ -138,7 +137,7 @@ impl<A: Allocator + Clone> HasNames for IntoValues<Key, String<A>, A> {
     }
 }
 
-/// Whether a name is that at a index, where there is one.
+/// Returns whether this is the name at an index, or none after the last.
 fn is_name<A: Allocator>(name: Option<&String<A>>, index: usize) -> bool {
     match name {
         Some(name) => NAMES.get(index) == Some(&name.as_str()),
@@ -146,9 +145,9 @@ fn is_name<A: Allocator>(name: Option<&String<A>>, index: usize) -> bool {
     }
 }
 
-/// What can be made anew, with every request refused from then on.
+/// A value that can be built. All later allocations fail.
 trait BuildNames<A: Allocator + Copy>: HasNames {
-    /// One of all three, in memory of an allocator.
+    /// Builds one with all three items.
     fn build(heap: &Heap, alloc: A) -> Option<Self>;
 }
 
@@ -196,7 +195,7 @@ impl<A: Allocator + Copy> BuildNames<A> for SetKeys<A> {
     }
 }
 
-/// Whether it gives all from a index on.
+/// Returns whether it has or yields all items from an index on.
 fn yields_from<W: HasNames>(named: &mut W, first: usize) -> bool {
     for index in first..4_usize {
         if !named.yields(index) {
@@ -206,15 +205,15 @@ fn yields_from<W: HasNames>(named: &mut W, first: usize) -> bool {
     true
 }
 
-/// Whether a copy is refused exactly where a request is, with all refused once so many were passed on.
+/// Returns whether cloning fails exactly if an allocation does. All allocations after the first `passed` fail.
 fn fails_from<W: HasNames>(heap: &Heap, named: &W, passed: u64) -> bool {
     heap.refuse(passed, u64::MAX);
     named.try_clone().is_err() == (heap.left() < u64::MAX)
 }
 
-/// Copies what was made with every request refused, with another request refused each time: it alone, and with all behind it. Answers
-/// how many were, if each copy was refused exactly where one was, and at last both the copy and what was copied give their names from a
-/// index on with every request refused, of which none comes.
+/// Clones a value with each allocation failing, alone and with all later ones. Returns the number of allocations, if
+/// each clone fails exactly if an allocation does. At last, the value and its clone must have their items from an index
+/// on, without allocating.
 fn copy_requests<W: HasNames>(heap: &Heap, mut named: W, first: usize) -> Option<u64> {
     let is_unasked = heap.left() == u64::MAX;
     for passed in 0..MANY {
@@ -235,7 +234,7 @@ fn copy_requests<W: HasNames>(heap: &Heap, mut named: W, first: usize) -> Option
     None
 }
 
-/// The same of one that is made anew, and of one that has given the first of three.
+/// Returns the allocations of a clone of a new value, and of one that has yielded its first item.
 fn requests<A: Allocator + Copy, W: BuildNames<A>>(
     heap: &Heap,
     alloc: A,
@@ -246,12 +245,12 @@ fn requests<A: Allocator + Copy, W: BuildNames<A>>(
     )
 }
 
-/// The first of these.
+/// Returns the allocations of a clone of a new value.
 fn requests_of_new<A: Allocator + Copy, W: BuildNames<A>>(heap: &Heap, alloc: A) -> Option<u64> {
     copy_requests(heap, W::build(heap, alloc)?, 0)
 }
 
-/// The same of the part of a map behind its first name.
+/// Returns the allocations of a clone of the walk over a map's part after its first name.
 fn requests_of_part<A: Allocator + Copy>(heap: &Heap, alloc: A) -> Option<u64> {
     copy_requests(
         heap,
@@ -260,7 +259,7 @@ fn requests_of_part<A: Allocator + Copy>(heap: &Heap, alloc: A) -> Option<u64> {
     )
 }
 
-/// The second of them.
+/// Returns the allocations of a clone of a value that has yielded its first item.
 fn requests_after_first<A: Allocator + Copy, W: BuildNames<A>>(
     heap: &Heap,
     alloc: A,
@@ -271,7 +270,7 @@ fn requests_after_first<A: Allocator + Copy, W: BuildNames<A>>(
     is_given.then_some(requests)
 }
 
-/// Stores the three keys.
+/// Inserts the three keys. Returns whether each is new.
 fn put_keys<A: Allocator>(set: &mut PrefixSet<Key, A>) -> bool {
     for index in 0..3_usize {
         if !adds_key(set, key_at(index)) {
@@ -281,8 +280,8 @@ fn put_keys<A: Allocator>(set: &mut PrefixSet<Key, A>) -> bool {
     true
 }
 
-/// Whether the copy of a map of names, and that of each walk which takes it apart, make as many requests, and one less where a walk gave
-/// the first name.
+/// Returns whether cloning a map of names and cloning each walk that consumes it allocate equally often. A walk that
+/// has yielded a name allocates once less.
 fn maps_and_walks_agree<A: Allocator + Copy>(heap: &Heap, alloc: A) -> bool {
     let of_items = requests::<A, Items<A>>(heap, alloc);
     let of_two = of_items.1.unwrap_or(0);
@@ -295,7 +294,7 @@ fn maps_and_walks_agree<A: Allocator + Copy>(heap: &Heap, alloc: A) -> bool {
         & (requests::<A, Values<A>>(heap, alloc) == of_items)
 }
 
-/// Whether the copy of a set, and that of the walk that takes it apart, makes as many requests as the other, and some.
+/// Returns whether cloning a set and cloning the walk that consumes it allocate equally often, and at least once.
 fn sets_and_walks_agree<A: Allocator + Copy>(heap: &Heap, alloc: A) -> bool {
     let of_set = requests::<A, Set<A>>(heap, alloc);
     (of_set.0.unwrap_or(0) > 0)

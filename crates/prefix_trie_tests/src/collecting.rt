@@ -1,5 +1,5 @@
-//! Maps of the items of an iterator: what a caller knows of them, and what is dropped where a request for memory is refused. And what
-//! a caller knows of equal maps.
+//! Maps that are collected from an iterator, and maps that are compared: what callers learn, and what is dropped if an
+//! allocation fails.
 ghost use Rattle.std.specs.Prelude.{◌≡◌, All, IfOk, IsTrue};
 ghost use Rattle.prefix_trie.specs.Words.{listing, no_entries, put_all, shown, IsTidy};
 
@@ -10,7 +10,7 @@ use prefix_trie::{Prefix, PrefixMap, Refusal};
 use std::alloc::{AllocError, Allocator, Global};
 use std::cell::Cell;
 
-// The map of the pairs of a vector.
+// Collects the pairs of a vector into a map.
 fn map_of_pairs<P: Prefix, T: Drop, A: Allocator + Clone>(
     alloc: A,
     pairs: Vec<(P, T)>,
@@ -21,7 +21,7 @@ fn map_of_pairs<P: Prefix, T: Drop, A: Allocator + Clone>(
     PrefixMap::from_iter(alloc, pairs)
 }
 
-// The entries of a map, moved into another one, which is tidy.
+// Moves the entries of a map into a new map, which is tidy.
 fn rebuild<P: Prefix, T: Drop, A: Allocator, B: Allocator + Clone>(
     map: PrefixMap<P, T, A>,
     alloc: B,
@@ -32,7 +32,7 @@ fn rebuild<P: Prefix, T: Drop, A: Allocator, B: Allocator + Clone>(
     PrefixMap::from_iter(alloc, map)
 }
 
-// A map is equal to its copy.
+// Compares a map with its clone. They are equal.
 fn equals_its_copy<P: Prefix + Eq, A: Allocator + Clone>(
     map: &PrefixMap<P, u64, A>,
 ) -> Result<bool, AllocError>
@@ -42,10 +42,10 @@ fn equals_its_copy<P: Prefix + Eq, A: Allocator + Clone>(
     Ok(*map == copy)
 }
 
-/// More requests than one map of three makes.
+/// More allocations than one map of three entries makes.
 const MANY: u64 = 100;
 
-/// Three values that count, two of them at one key.
+/// Returns three values that count their drops, two of them at one key.
 fn three<'a>(
     alloc: Global,
     drops: &'a Cell<u64>,
@@ -59,7 +59,7 @@ fn three<'a>(
     Ok(pairs)
 }
 
-/// The number of entries that they have as a map, and how many are dropped while it stands.
+/// Collects the pairs into a map. Returns its number of entries, and the number of drops so far.
 fn len_and_drops(
     heap: &Refusing<Global>,
     pairs: Vec<((u32, u8), Counted<'_>)>,
@@ -71,9 +71,8 @@ fn len_and_drops(
     Ok((map.len(), drops.get()))
 }
 
-/// Collects them with so many requests refused from another one on each time. Answers how many were passed on at last, if each time
-/// the refusal was answered, and at last the map has both keys and the value that was there first is dropped; all are dropped in the
-/// end.
+/// Collects the pairs with each allocation failing. Returns the number of allocations, if collecting fails exactly if
+/// one does. The last map must have both keys and have dropped the earlier value. All values are dropped in the end.
 fn requests_if_each_fails(heap: &Refusing<Global>, refused: u64) -> Option<u64> {
     for passed in 0..MANY {
         heap.refuse(passed, refused);
@@ -102,7 +101,7 @@ fn from_iter_fails_exactly_if_an_allocation_fails(rt: HostRuntime) {
     assert!(rt; requests_if_each_fails(&heap, u64::MAX).unwrap_or(0) > 0);
 }
 
-/// Whether a map of one entry is equal to its copy.
+/// Returns whether a map of one entry is equal to its clone.
 fn one_entry_equals_its_copy(alloc: Global) -> Result<bool, Refusal> {
     let Ok(pairs) = vec![in alloc; ((0_u8, 1_u8), 1_u64)] else {
         return Err(Refusal::Memory);
@@ -116,7 +115,7 @@ fn a_map_is_equal_to_its_copy(rt: HostRuntime) {
     assert!(rt; one_entry_equals_its_copy(rt.alloc()) == Ok(true));
 }
 
-/// The number of entries of two items at one key, and the value there.
+/// Collects two items with one key. Returns the number of entries, and the value.
 fn later_of_two(alloc: Global) -> Result<(usize, Option<u64>), Refusal> {
     let Ok(pairs) = vec![in alloc; ((0_u32, 1_u8), 1_u64), ((0, 1), 2)] else {
         return Err(Refusal::Memory);

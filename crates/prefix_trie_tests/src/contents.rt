@@ -1,8 +1,8 @@
-//! What tests of any map have in common: entries are stored, and all keys or all values are asked for.
+//! Filling maps and comparing their contents, for the tests of any map.
 use prefix_trie::{Prefix, PrefixMap, Refused};
 use std::alloc::Allocator;
 
-/// Whether an insertion was of a new key.
+/// Returns whether an insertion was of a new key.
 fn is_new_key<T: Drop>(answer: Result<Option<T>, Refused<T>>) -> bool {
     match answer {
         Ok(None) => true,
@@ -10,7 +10,7 @@ fn is_new_key<T: Drop>(answer: Result<Option<T>, Refused<T>>) -> bool {
     }
 }
 
-/// Inserts a value. It has no `ensures`: those of `insert` would be checked again at each call.
+/// Inserts a value. It has no `ensures`, because each caller would check the clauses of `insert` again.
 pub fn put<P: Prefix, T: Drop, A: Allocator>(
     map: &mut PrefixMap<P, T, A>,
     prefix: P,
@@ -21,7 +21,7 @@ pub fn put<P: Prefix, T: Drop, A: Allocator>(
     map.insert(prefix, value)
 }
 
-/// Stores a value. Answers whether its prefix fits and is new.
+/// Inserts a value. Returns whether its prefix fits and is new.
 pub fn adds<P: Prefix, T: Drop, A: Allocator>(
     map: &mut PrefixMap<P, T, A>,
     prefix: P,
@@ -30,7 +30,7 @@ pub fn adds<P: Prefix, T: Drop, A: Allocator>(
     prefix.fits() && is_new_key(put(map, prefix, value))
 }
 
-/// Stores entries in turn. Answers whether each prefix fits and is new.
+/// Inserts entries in order. Returns whether each prefix fits and is new.
 pub fn stores<P: Prefix + Copy, T: Copy + Drop, A: Allocator>(
     map: &mut PrefixMap<P, T, A>,
     entries: &[(P, T)],
@@ -43,7 +43,7 @@ pub fn stores<P: Prefix + Copy, T: Copy + Drop, A: Allocator>(
     true
 }
 
-/// Whether all prefixes are these, in listing order.
+/// Returns whether these are all prefixes, in listing order.
 pub fn has_keys<P: Prefix + Copy + PartialEq, T: Drop, A: Allocator>(
     map: &PrefixMap<P, T, A>,
     prefixes: &[P],
@@ -57,7 +57,7 @@ pub fn has_keys<P: Prefix + Copy + PartialEq, T: Drop, A: Allocator>(
     keys.next().is_none()
 }
 
-/// Whether all values are these, in listing order.
+/// Returns whether these are all values, in listing order.
 pub fn has_values<P: Prefix, T: Copy + PartialEq + Drop, A: Allocator>(
     map: &PrefixMap<P, T, A>,
     expected: &[T],

@@ -1,7 +1,7 @@
 //! Values that count their drops.
 use std::cell::Cell;
 
-/// Counts that it is dropped, and that each clone of it is.
+/// A value that counts its own drop and the drops of its clones.
 #[derive(Clone)]
 pub struct Counted<'a> {
     pub drops: &'a Cell<u64>,
@@ -14,5 +14,5 @@ impl Drop for Counted<'_> {
     }
 }
 
-/// Lets a value go.
+/// Drops a value.
 pub fn drop_now<V: Drop>(_value: V) {}

@@ -1,4 +1,4 @@
-//! Callers of entries, and what they know of the map afterwards.
+//! Callers of entries, and what they learn about the map.
 ghost use Rattle.std.specs.Prelude.{◌≡◌, true, ℕ, ◌+◌, ◌-◌, ◌<◌, ◌^◌, IfOk, OnOk, OnErr, None, Some, IsTrue, IsFalse, is_some};
 ghost use Rattle.std.specs.FinMap.{get, contains_key, len};
 ghost use Rattle.prefix_trie.specs.Words.{listing, put_all, shown, with_entry, with_needed, with_value_at, without_entry};
@@ -11,7 +11,7 @@ use prefix_trie::map::Entry;
 use prefix_trie::{Prefix, PrefixMap, Refusal, Refused};
 use std::alloc::{Allocator, Global};
 
-// Stores nine, whether the prefix is new or not.
+// Sets a value to nine, whether the prefix is new or not.
 fn store_nine<P: Prefix, A: Allocator>(
     map: &mut PrefixMap<P, u64, A>,
     prefix: P,
@@ -26,7 +26,7 @@ fn store_nine<P: Prefix, A: Allocator>(
     Ok(())
 }
 
-// Writes over a value that is known to be stored, which is not refused.
+// Replaces a value that is known to be stored. This never fails.
 fn write_stored<P: Prefix, A: Allocator>(map: &mut PrefixMap<P, u64, A>, prefix: P, value: u64)
     requires fits { P.IsFitting prefix }
     requires stored { contains_key map.old.entries (P.path prefix) ≡ true }
@@ -38,7 +38,7 @@ fn write_stored<P: Prefix, A: Allocator>(map: &mut PrefixMap<P, u64, A>, prefix:
     }
 }
 
-// Takes an entry out, if it is there.
+// Removes an entry, if it is stored.
 fn remove_if_stored<P: Prefix, T: Drop, A: Allocator>(
     map: &mut PrefixMap<P, T, A>,
     prefix: P,
@@ -55,7 +55,7 @@ fn remove_if_stored<P: Prefix, T: Drop, A: Allocator>(
     }
 }
 
-// Writes over a stored value, and says whether there was one.
+// Replaces a stored value. Returns whether there was one.
 fn rewrite<P: Prefix, T: Drop, A: Allocator>(
     map: &mut PrefixMap<P, T, A>,
     prefix: P,
@@ -74,7 +74,7 @@ fn rewrite<P: Prefix, T: Drop, A: Allocator>(
     }
 }
 
-// Copies a stored value, and lets the entry go.
+// Copies a stored value and releases the entry.
 fn read_and_release<P: Prefix, T: Copy, A: Allocator>(
     map: &mut PrefixMap<P, T, A>,
     prefix: P,
@@ -123,7 +123,7 @@ fn swap<P: Prefix, T: Drop, A: Allocator>(
     }
 }
 
-// Sets a value by its entry.
+// Sets a value through its entry.
 fn set<P: Prefix, T: Drop, A: Allocator>(
     map: &mut PrefixMap<P, T, A>,
     prefix: P,
@@ -138,7 +138,7 @@ fn set<P: Prefix, T: Drop, A: Allocator>(
     map.entry(prefix).put(value).answer()
 }
 
-// Puts all entries of one map into another, and stops where one is refused.
+// Inserts all entries of one map into another, and stops at the first error.
 fn fill_from<P: Prefix, A: Allocator>(
     to: &mut PrefixMap<P, u64, A>,
     from: &PrefixMap<P, u64, A>,
@@ -151,7 +151,7 @@ fn fill_from<P: Prefix, A: Allocator>(
     Ok(())
 }
 
-/// Whether a value that is stored is written over.
+/// Returns whether a stored value is replaced.
 fn writes_stored(map: &mut PrefixMap<(u8, u8), u64, Global>) -> bool {
     if !map.contains_key(&(0xa5, 8)) {
         return false;
@@ -160,13 +160,14 @@ fn writes_stored(map: &mut PrefixMap<(u8, u8), u64, Global>) -> bool {
     map.get(&(0xa5, 8)) == Some(&6)
 }
 
-/// Whether the entry of a prefix that is not stored lends no value for writing.
+/// Returns whether the entry of a missing prefix lends no value.
 fn lends_none(map: &mut PrefixMap<(u8, u8), u64, Global>) -> bool {
     let mut entry = map.entry((0xc0, 3));
     entry.get_mut().is_none()
 }
 
-/// Whether one more is counted where a count is stored, and none where not. Asking a vacant entry for its value changes nothing.
+/// Returns whether a stored count grows by one and a missing one stays missing. Looking at a vacant entry changes
+/// nothing.
 fn counts_once_more(map: &mut PrefixMap<(u8, u8), u64, Global>) -> bool {
     count_again(map, (0xa0, 3));
     count_again(map, (0xc0, 3));
@@ -175,7 +176,7 @@ fn counts_once_more(map: &mut PrefixMap<(u8, u8), u64, Global>) -> bool {
         & read_and_release(map, (0xc0, 3)).is_none()
 }
 
-/// Whether counting and storing answer so.
+/// Returns whether counting and setting return what they should.
 fn counts(map: &mut PrefixMap<(u8, u8), u64, Global>) -> bool {
     count(map, (0xa5, 8)).is_ok()
         & count(map, (0xa5, 8)).is_ok()
@@ -187,7 +188,7 @@ fn counts(map: &mut PrefixMap<(u8, u8), u64, Global>) -> bool {
         & counts_once_more(map)
 }
 
-/// Whether one of the two that are there then is taken out.
+/// Returns whether one of the two entries is removed, and only once.
 fn removes_one(map: &mut PrefixMap<(u8, u8), u64, Global>) -> bool {
     has_values(map, &[4, 8])
         & (remove_if_stored(map, (0xa5, 8)) == Some(8))
@@ -195,7 +196,7 @@ fn removes_one(map: &mut PrefixMap<(u8, u8), u64, Global>) -> bool {
         & (map.len() == 1)
 }
 
-/// Both in turn.
+/// Returns whether both checks hold.
 fn counts_and_removes(map: &mut PrefixMap<(u8, u8), u64, Global>, _: ()) -> bool {
     counts(map) & removes_one(map)
 }
@@ -207,7 +208,7 @@ fn entries_count_and_remove(rt: HostRuntime) {
 
 type Numbers = PrefixMap<(u16, u8), u64, Global>;
 
-/// Whether a stored number of one map takes the place of that in another.
+/// Returns whether a number of one map replaces the number in another.
 fn replaces_stored(from: &mut Numbers, to: &mut Numbers, _: ()) -> bool {
     stores(from, &[((0x0a00, 8), 9)])
         & stores(to, &[((0x0a00, 8), 1)])

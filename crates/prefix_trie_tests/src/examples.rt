@@ -1,4 +1,4 @@
-//! Programs over the crate as a user writes them, each with a contract of its own.
+//! Proved example programs, written as a user would write them.
 pub mod access;
 pub mod batch;
 pub mod cache;
@@ -61,7 +61,7 @@ const OUTSIDE: u32 = v4!(11, 0, 0, 0);
 /// The address of an IPv6 network.
 const SITE: u128 = 0x2001_0db8_0000_0000_0000_0000_0000_0000;
 
-/// Whether two tables are the same until a route of one is changed, which changes its next hops.
+/// Returns whether two tables are equal until a route of one is changed, and then have different next hops.
 fn differs_once_rerouted(map: &Numbers, copy: &mut Numbers) -> bool {
     are_same(map, copy)
         & !reroute(copy, OUTSIDE, 5)
@@ -72,7 +72,7 @@ fn differs_once_rerouted(map: &Numbers, copy: &mut Numbers) -> bool {
         & (next_hop(copy, IN_WIDE) == Some(1))
 }
 
-/// The same of a map and its copy.
+/// Returns whether a table and its copy pass the same check.
 fn is_copied(map: &Numbers, alloc: Global) -> bool {
     match copy_of(map, alloc) {
         Ok(mut copy) => differs_once_rerouted(map, &mut copy),
@@ -80,7 +80,7 @@ fn is_copied(map: &Numbers, alloc: Global) -> bool {
     }
 }
 
-/// Whether a network and one within it are a forwarding table, an inventory and a cache.
+/// Returns whether two nested networks work as a forwarding table, an inventory and a cache.
 fn serves_two_networks(map: &mut Numbers) -> bool {
     let wide = Ipv4Prefix::new(WIDE, 8).unwrap();
     let near = Ipv4Prefix::new(NEAR, 16).unwrap();
@@ -96,12 +96,12 @@ fn serves_two_networks(map: &mut Numbers) -> bool {
         & (next_hop(map, IN_NEAR) == Some(3))
 }
 
-/// The same, and of its copy.
+/// Returns whether the table and its copy work.
 fn serves_two_networks_and_copy(map: &mut Numbers, alloc: Global) -> bool {
     serves_two_networks(map) & is_copied(map, alloc)
 }
 
-/// Whether the holder of a network is found at its addresses alone.
+/// Returns whether exactly the addresses in a network have its holder.
 fn is_held(table: &mut Delegated, _: ()) -> bool {
     let network = Ipv6Prefix::new(SITE, 32).unwrap();
     record(table, network, 7).is_ok()
@@ -109,7 +109,7 @@ fn is_held(table: &mut Delegated, _: ()) -> bool {
         & holder(table, 1).is_none()
 }
 
-/// Whether the networks that keep an address out are this one.
+/// Returns whether this is the only network that denies an address.
 fn is_reason(denied: &Networks, addr: u32, network: Ipv4Prefix, alloc: Global) -> bool {
     match reasons(denied, addr, alloc) {
         Ok(networks) => networks.as_slice() == [network].as_slice(),
@@ -117,7 +117,7 @@ fn is_reason(denied: &Networks, addr: u32, network: Ipv4Prefix, alloc: Global) -
     }
 }
 
-/// Whether a network within an allowed one is kept out, and no other address of that.
+/// Returns whether a network within an allowed one is denied, and no other address of it.
 fn keeps_out(allowed: &mut Networks, denied: &mut Networks, alloc: Global) -> bool {
     let wide = Ipv4Prefix::new(WIDE, 8).unwrap();
     let near = Ipv4Prefix::new(NEAR, 16).unwrap();
@@ -129,7 +129,7 @@ fn keeps_out(allowed: &mut Networks, denied: &mut Networks, alloc: Global) -> bo
         & is_reason(denied, IN_NEAR, near, alloc)
 }
 
-/// Whether numbers of 12 bits have the owners of the narrowest ranges with them.
+/// Returns whether numbers of 12 bits have the owner of the narrowest range around them.
 fn is_owned(plan: &mut Vlans, _: ()) -> bool {
     let office = Narrow::<12>::new(0x640).unwrap();
     let printers = Narrow::<12>::new(0x642).unwrap();
@@ -141,7 +141,7 @@ fn is_owned(plan: &mut Vlans, _: ()) -> bool {
         & owner(plan, guests).is_none()
 }
 
-/// Whether the counts of two maps are added up and doubled.
+/// Returns whether the counts of two maps are added and doubled.
 fn adds_up(counts: &mut Counts, more: &mut Counts) -> bool {
     let is_filled = stores(counts, &[((0xa0, 3), 1), ((0xa5, 8), 2)])
         & stores(more, &[((0xa5, 8), 5), ((0x80, 1), 7)])
@@ -151,7 +151,7 @@ fn adds_up(counts: &mut Counts, more: &mut Counts) -> bool {
     is_filled & (total(counts) == 30)
 }
 
-/// Whether pages of two have the three counts then.
+/// Returns whether reading pages of two returns all three counts.
 fn is_read(counts: &Counts, alloc: Global) -> bool {
     match read_all(counts, 2, alloc) {
         Ok(read) => read.as_slice()
@@ -160,7 +160,7 @@ fn is_read(counts: &Counts, alloc: Global) -> bool {
     }
 }
 
-/// Whether the one of them that the other map has not is left alone, in the root.
+/// Returns whether only the count that the other map does not have is left, in the root.
 fn is_pruned(counts: &Counts, out: &Counts, alloc: Global) -> bool {
     match without(counts, out, alloc) {
         Ok(map) => (map.get(&(0xa0, 3)) == Some(&2)) & (map.len() == 1) & (map.node_count() == 1),
@@ -168,7 +168,7 @@ fn is_pruned(counts: &Counts, out: &Counts, alloc: Global) -> bool {
     }
 }
 
-/// All three in turn.
+/// Returns whether all three checks hold.
 fn are_counts(counts: &mut Counts, more: &mut Counts, alloc: Global) -> bool {
     adds_up(counts, more) & is_read(counts, alloc) & is_pruned(counts, more, alloc)
 }

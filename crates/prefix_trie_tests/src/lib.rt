@@ -1,6 +1,6 @@
-//! The tests of all crates, and programs over `prefix_trie` as a user writes them.
+//! The tests of all crates, and example programs over `prefix_trie` as users write them.
 //!
-//! What a table can say is a list of cases, which `trials` runs; the rest is code.
+//! Most tests are tables of cases, which `trials` runs. The others are code.
 #![tactic(auto)]
 
 #[cfg(test)]

@@ -1,4 +1,4 @@
-//! Sample entries of a node's tables, each of its calls once, and its size.
+//! Samples of a node's tables, each call of a node once, and the size of a node.
 ghost use Rattle.std.specs.Prelude.{◌+◌, ◌<◌, ◌≤◌, IsTrue};
 
 use self::Sample::{Child, ChildCovers, Covers, Matches, Value};
@@ -11,21 +11,21 @@ use prefix_trie_bits::node::{
 use prefix_trie_table::allocator::node::Node;
 use std::mem::size_of;
 
-/// An entry of a node's tables for a key, from a depth on and to a length.
+/// A sample of a node's tables: a key, a depth, a length and the expected bit or mask.
 enum Sample<K> {
-    /// The value bit.
+    /// A value bit.
     Value(K, u32, u32, u32),
-    /// The child bit.
+    /// A child bit.
     Child(K, u32, u32),
-    /// The values that match.
+    /// The mask of the values that match.
     Matches(K, u32, u32, u32),
-    /// The values that are covered.
+    /// The mask of the values that are contained.
     Covers(K, u32, u32, u32),
-    /// The children that are covered.
+    /// The mask of the children that are contained.
     ChildCovers(K, u32, u32, u32),
 }
 
-/// Whether a key has a string of less than five bits from a depth on.
+/// Returns whether a key has a string of fewer than five bits at a depth.
 fn is_within<K: Key>(key: K, depth: u32, len: u32) -> bool
     ensures { IsTrue result → K.IsKey key × (depth ≤ len) × (len < depth + 5) × (len ≤ K.bit_width) }
 {
@@ -88,7 +88,7 @@ const WORDS: [Sample<u32>; 26] = [
     ChildCovers(0x8000_0000, 0, 1, 0xffff_0000),
     ChildCovers(0x3000_0000, 0, 3, 0x0000_00f0),
     ChildCovers(0xf000_0000, 0, 4, 0xc000_0000),
-    // At the end of a key the missing bits read as 0.
+    // Bits after the end of a key read as 0.
     Value(3, 30, 30, 0),
     Value(3, 30, 31, 2),
     Value(3, 30, 32, 6),
@@ -132,7 +132,7 @@ fn keys_have_these_bits_and_masks(rt: HostRuntime) {
     assert!(rt; are_sampled(&SHORTS) && are_sampled(&LONGS) && are_sampled(&WIDES));
 }
 
-/// A bitmap, a bit of it and its rank.
+/// A bitmap, one of its bits and the rank of the bit.
 const RANKS: [(u32, u32, u32); 5] = [
     (0b0101, 2, 1),
     (0b1111, 3, 3),
@@ -162,7 +162,7 @@ fn single_bits_are_read_and_set(rt: HostRuntime) {
     );
 }
 
-/// A key of no more than so many bits, and its longest and shortest matches among the strings 0, 01 and 1101.
+/// A key, a length, and the longest and shortest match among the strings 0, 01 and 1101.
 const MATCHES: [(u32, u32, Option<u32>, Option<u32>); 5] = [
     (0x7000_0000, 32, Some(4), Some(1)),
     (0x7000_0000, 1, Some(1), Some(1)),
@@ -171,7 +171,7 @@ const MATCHES: [(u32, u32, Option<u32>, Option<u32>); 5] = [
     (0xd000_0000, 3, None, None),
 ];
 
-/// Whether these are the longest and the shortest match.
+/// Returns whether these are the longest and the shortest match.
 fn is_matched(key: u32, len: u32, longest: Option<u32>, shortest: Option<u32>) -> bool {
     let bitmap = 1 << 1 | 1 << 4 | 1 << 28;
     len <= 32
@@ -186,15 +186,15 @@ fn matches_are_the_longest_and_the_shortest(rt: HostRuntime) {
     }
 }
 
-/// A value bit with the values and the children from it on.
+/// A value bit, with the values and the children from it on.
 const FROM_VALUES: [(u32, (u32, u32)); 3] = [
     (0, (0x7fff_ffff, 0xffff_ffff)),
     (2, (0x7f80_7864, 0xffff_0000)),
     (30, (0x4000_0000, 0xc000_0000)),
 ];
 
-/// A child bit with those behind it.
-const BEHIND_CHILDREN: [(u32, (u32, u32)); 3] = [
+/// A child bit, with the values and the children after it.
+const AFTER_CHILDREN: [(u32, (u32, u32)); 3] = [
     (15, (0x7f80_7864, 0xffff_0000)),
     (30, (0, 0x8000_0000)),
     (31, (0, 0)),
@@ -205,12 +205,12 @@ fn bits_after_a_place_are_masked(rt: HostRuntime) {
     for (bit, places) in FROM_VALUES {
         assert!(rt; bit < 31 && from_value(bit) == places);
     }
-    for (bit, places) in BEHIND_CHILDREN {
+    for (bit, places) in AFTER_CHILDREN {
         assert!(rt; bit < 32 && behind_child(bit) == places);
     }
 }
 
-// A value bit b as b, and a child bit c as 100 + c.
+// Gives value bit b the code b, and child bit c the code 100 + c.
 fn code_of(place: Place) -> u32 {
     match place {
         Place::Value(bit) => bit,
@@ -218,7 +218,7 @@ fn code_of(place: Place) -> u32 {
     }
 }
 
-/// Whether these are all places that are left.
+/// Returns whether exactly these places are left, in this order.
 fn are_left(mut places: Places, order: &[u32]) -> bool {
     for code in order {
         if places.next_place().map(code_of) != Some(*code) {

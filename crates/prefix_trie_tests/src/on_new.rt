@@ -1,8 +1,8 @@
-//! New maps for tests. They are held in these short functions alone, to which a map is any value, since whoever holds a map pays
-//! for each way out.
+//! New maps for tests. Only these short functions hold a map, and they take it as any value. A longer function that
+//! holds a map costs proof time at each of its exits.
 use prefix_trie::Refusal;
 
-/// What is answered of a new map.
+/// Passes a new map to a function. Returns the result of the function.
 pub fn on_new<V: Drop, W: Copy, R, F: FnOnce(&mut V, W) -> R + Drop>(
     made: Result<V, Refusal>,
     with: W,
@@ -14,7 +14,7 @@ pub fn on_new<V: Drop, W: Copy, R, F: FnOnce(&mut V, W) -> R + Drop>(
     Ok(asks(&mut map, with))
 }
 
-/// What is answered of two.
+/// Passes two new maps to a function. Returns the result of the function.
 pub fn on_two_new<V: Drop, U: Drop, W: Copy, R, F: FnOnce(&mut V, &mut U, W) -> R + Drop>(
     made: Result<V, Refusal>,
     other: Result<U, Refusal>,

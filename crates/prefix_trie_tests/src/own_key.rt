@@ -1,4 +1,4 @@
-//! A key of a user's own, which has the calls that it must have and no more.
+//! A key type of a user's own, which implements only the required methods.
 ghost use Rattle.std.specs.Prelude.{ℕ, ◌^◌, ◌<◌};
 ghost use Rattle.std.proofs.Common.{lit≤, eqb-true};
 ghost use Rattle.prefix_trie_bits.specs.Keys.{number_keys};
@@ -7,13 +7,13 @@ ghost use Rattle.prefix_trie_bits.specs.Bits.{number, digits};
 use prefix_trie::Key;
 use std::marker::Model;
 
-/// Eight bits.
+/// A key of eight bits.
 #[derive(Clone, Copy, PartialEq, Eq, Debug)]
 struct Octet {
     byte: u8,
 }
 
-// a contract sees the byte
+// A contract sees the byte.
 impl Model for Octet {
     ghost Value = { ℕ };
 
@@ -67,7 +67,7 @@ impl Key for Octet {
     }
 }
 
-/// Whether the bodies of the trait give what those of the number type give.
+/// Returns whether the provided methods return what those of the number type return.
 fn are_alike(byte: u8, n: u32) -> bool {
     n <= 8
         && Octet { byte }.behind(n).byte == byte.behind(n)

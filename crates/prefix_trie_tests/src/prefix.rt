@@ -1,4 +1,4 @@
-//! Worked examples, and a prefix type that replaces bodies of the trait.
+//! Worked examples of keys and networks, and a prefix type that replaces provided methods.
 ghost use Rattle.std.specs.Prelude.{ℕ, ◌-◌, ◌^◌, ◌<◌, ◌≤◌, ◌++◌, length, take, refl};
 ghost use Rattle.std.proofs.Common.{lit≤};
 ghost use Rattle.prefix_trie_bits.specs.Keys.{number_keys};
@@ -11,13 +11,13 @@ use prefix_trie::{Ipv4Prefix, Ipv6Prefix, Key, Prefix, Refusal, Refused};
 use std::alloc::Global;
 use std::fmt::{Debug, Display};
 
-/// What a key answers.
+/// A call of a key with its expected result.
 enum Sample<K> {
-    /// So many bits, the greatest key and the one whose bits are all 0.
+    /// The width, the greatest key and the key without set bits.
     Width(u32, K, K),
-    /// The number of so many bits from a depth on.
+    /// A key, a depth, a number of bits, and the number that these bits make.
     Window(K, u32, u32, u32),
-    /// The first bits.
+    /// A key, a length, and the key with only its first bits.
     Keep(K, u32, K),
 }
 
@@ -90,7 +90,7 @@ const WIDES: [Sample<u128>; 5] = [
     Keep(0xffff, 120, 0xff00),
 ];
 
-// A key's bits, past its end too.
+// Bits after the end of a key read as 0.
 #[test]
 fn keys_have_these_bits(rt: HostRuntime) {
     assert!(rt; are_sampled(&BYTES) && are_sampled(&SHORTS) && are_sampled(&WORDS));
@@ -181,7 +181,7 @@ fn ipv6_networks_are_prefixes(rt: HostRuntime) {
     assert!(rt; answers == [true; 7]);
 }
 
-/// Whether these are the debug text and the display text of a value.
+/// Returns whether these are the debug text and the display text of a value.
 fn shows<T: Debug + Display>(alloc: Global, value: &T, expected: &str) -> bool {
     match format!(in alloc; "{value:?} {value}") {
         Ok(text) => text.as_str() == expected,

@@ -1,8 +1,9 @@
-//! An allocator for tests, which refuses chosen requests for memory.
+//! A test allocator that fails chosen allocations.
 use std::alloc::{AllocError, Allocator};
 use std::cell::Cell;
 
-/// Passes requests on to `inner`, but for those that a test has it refuse. A `&` to it is an allocator that can be cloned.
+/// Passes allocations on to `inner`, except those that a test makes fail. A reference to it is an allocator that can be
+/// cloned.
 #[derive(Drop)]
 pub struct Refusing<B: Allocator> {
     inner: B,
@@ -16,7 +17,7 @@ struct Meter {
 }
 
 impl<B: Allocator> Refusing<B> {
-    /// Refuses none at first.
+    /// Creates an allocator that fails no allocation at first.
     pub fn new(inner: B) -> Refusing<B> {
         Refusing {
             inner,
@@ -27,25 +28,25 @@ impl<B: Allocator> Refusing<B> {
         }
     }
 
-    /// Passes on the next `passed` requests, and refuses the `refused` after them.
+    /// Passes the next `passed` allocations on, and fails the `refused` ones after them.
     pub fn refuse(&self, passed: u64, refused: u64) {
         self.meter.passed.set(passed);
         self.meter.refused.set(refused);
     }
 
-    /// How many requests are still to be passed on before any is refused: one less for each that was.
+    /// Returns the number of allocations still to pass on before any fails.
     pub fn to_pass(&self) -> u64 {
         self.meter.passed.get()
     }
 
-    /// How many requests are still to be refused: one less for each that was.
+    /// Returns the number of allocations still to fail.
     pub fn left(&self) -> u64 {
         self.meter.refused.get()
     }
 }
 
 impl<B: Allocator + Copy> Refusing<B> {
-    /// The allocator that it passes requests on to.
+    /// Returns the inner allocator.
     pub fn inner(&self) -> B {
         self.inner
     }

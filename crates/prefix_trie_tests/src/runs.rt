@@ -1,4 +1,4 @@
-//! Runs: one with each of its requests for memory refused, the nodes that removals leave, and a list that is long.
+//! Runs: with each allocation failing, with removals that prune nodes, and with a long list.
 
 mod callers;
 mod mixed;
@@ -13,22 +13,22 @@ use prefix_trie::replay::{Call, Reply, run};
 use prefix_trie::{PrefixMap, Refusal};
 use std::alloc::{AllocError, Allocator, Global};
 
-/// More requests than one run makes.
+/// More allocations than one run makes.
 const MANY: u64 = 100;
 
 type Key = (u32, u8);
 
 type Map<A> = PrefixMap<Key, u64, A>;
 
-/// Two networks that are there before the run.
+/// Two networks that are stored before the run.
 const TWO: [(Key, u64); 2] = [(v4!(0, 0, 0, 0; 0), 7), (v4!(10, 0, 0, 0; 8), 8)];
 
-/// What the six calls of a run answer as numbers, and the nodes then: with none refused, and where the insertion is.
+/// The results of the six calls as numbers, and then the number of nodes: if nothing fails, and if the insertion fails.
 const GRANTED: [usize; 7] = [2, 1, 1, 1, 0, 3, 8];
 
 const WITHOUT_INSERTION: [usize; 7] = [2, 1, 1, 1, 0, 2, 2];
 
-/// The index of the insertion among the calls. Those before it list, and the one behind it counts.
+/// The index of the insertion among the calls. The calls before it list entries, and the call after it counts them.
 const INSERTION: usize = 4;
 
 /// Runs six calls on a map.
@@ -47,7 +47,8 @@ fn run_six<A: Allocator + Clone>(
     run(alloc, map, &calls)
 }
 
-/// A reply as a number: of entries, a count, or a value, which is 0 where there is none. None if no memory was found.
+/// Returns a reply as a number: a count of entries, or a value, or 0 if there is no value. Returns `None` if an
+/// allocation failed.
 fn number_of<A: Allocator>(reply: &Reply<Key, A>) -> Option<usize> {
     match reply {
         Reply::Entries(entries) => Some(entries.len()),
@@ -58,7 +59,7 @@ fn number_of<A: Allocator>(reply: &Reply<Key, A>) -> Option<usize> {
     }
 }
 
-/// The index of the first call that was refused, or that behind the last call.
+/// Returns the index of the first call that failed, or the number of calls if none did.
 fn first_refused<A: Allocator>(replies: &[Reply<Key, A>]) -> usize {
     for (index, reply) in replies.iter().enumerate() {
         if number_of(reply).is_none() {
@@ -68,12 +69,13 @@ fn first_refused<A: Allocator>(replies: &[Reply<Key, A>]) -> usize {
     replies.len()
 }
 
-/// Whether the call at a index is refused, where that at another is the first, alone or with all behind it that ask for memory.
+/// Returns whether the call at an index fails if the first failure is at `first`. It fails alone, or with all later
+/// calls that allocate.
 fn is_refused(index: usize, first: usize, is_rest_refused: bool) -> bool {
     index == first || is_rest_refused && first < index && index <= INSERTION
 }
 
-/// Whether the replies and the map are as they should be, where the call at this index is the first that is refused.
+/// Returns whether the replies and the map are as expected if the first failure is at `first`.
 fn are_as_expected<A: Allocator>(
     replies: &[Reply<Key, A>],
     map: &Map<A>,
@@ -98,8 +100,8 @@ fn are_as_expected<A: Allocator>(
     (replies.len() == 6) & (map.len() == wanted[5]) & (map.node_count() == wanted[6])
 }
 
-/// What is the first that was refused: 0 is the run, in which then no call was carried out, and the calls follow. None where the
-/// replies or the map are not as they should be then.
+/// Returns what failed first: 0 is the run itself, which then made no call, and the calls follow from 1 on. Returns
+/// `None` if the replies or the map are not as expected.
 fn first_refused_part<A: Allocator>(
     outcome: &Result<Vec<Reply<Key, A>, A>, AllocError>,
     map: &Map<A>,
@@ -118,7 +120,7 @@ fn first_refused_part<A: Allocator>(
     (is_right & slots_add_up(map)).then_some(part)
 }
 
-/// Runs the calls with so many requests refused, once so many were passed on.
+/// Runs the calls with some allocations failing.
 fn run_refused<A: Allocator + Clone>(
     heap: &Refusing<Global>,
     alloc: A,
@@ -132,7 +134,7 @@ fn run_refused<A: Allocator + Clone>(
     if is_stored { part } else { None }
 }
 
-/// The same of a new map.
+/// Runs the calls on a new map.
 fn run_once<A: Allocator + Copy>(
     heap: &Refusing<Global>,
     alloc: A,
@@ -143,8 +145,8 @@ fn run_once<A: Allocator + Copy>(
     Ok(run_refused::<A>(heap, alloc, &mut map, requests))
 }
 
-/// Whether the requests refused in turn, so many each time, are that for the replies, which comes first, one or more of each list and of
-/// the insertion, and none.
+/// Returns whether the failures come in this order: the list of replies, each list and the insertion once or more
+/// often, and then none.
 fn each_part_is_refused_once<A: Allocator + Copy>(
     heap: &Refusing<Global>,
     alloc: A,
@@ -173,11 +175,11 @@ fn a_run_loses_only_calls_whose_allocation_fails(rt: HostRuntime) {
     assert!(rt; each_part_is_refused_once(&heap, &heap, u64::MAX) == Ok(true));
 }
 
-/// How many nodes there are once a key of 24 bits is stored, is taken out alone, and with its nodes; once keys of 8, 16 and 7 bits are
-/// stored, those of 8 bits and more are kept, what the key of 16 contains is taken out, and that of 8.
+/// The numbers of nodes: after inserting 24 bits, after `remove_keep_tree`, after `remove`, after inserting 8, 16 and 7
+/// bits, after keeping 8 bits and more, after removing the children of the 16 bits, and after removing the 8 bits.
 const NODES_LEFT: [usize; 7] = [5, 5, 1, 5, 4, 2, 1];
 
-/// Runs removals, and counts the nodes behind each.
+/// Runs removals, and counts the nodes after each.
 fn run_removals(
     alloc: Global,
     map: &mut Map<Global>,
@@ -203,7 +205,7 @@ fn run_removals(
     run(alloc, map, &calls)
 }
 
-/// Whether the counts among replies are these, in turn.
+/// Returns whether these are the counts among the replies, in order.
 fn has_counts(replies: &[Reply<Key, Global>], wanted: &[usize]) -> bool {
     let mut index = 0_usize;
     for reply in replies {
@@ -217,7 +219,7 @@ fn has_counts(replies: &[Reply<Key, Global>], wanted: &[usize]) -> bool {
     index == wanted.len()
 }
 
-/// Whether removals leave so many nodes in a map without entries.
+/// Returns whether removals leave the expected numbers of nodes in an empty map.
 fn leaves_nodes(map: &mut Map<Global>, alloc: Global) -> bool {
     match run_removals(alloc, map) {
         Ok(replies) => has_counts(&replies, &NODES_LEFT),
@@ -230,15 +232,15 @@ fn removals_leave_the_needed_nodes(rt: HostRuntime) {
     assert!(rt; on_new(PrefixMap::new(rt.alloc()), rt.alloc(), leaves_nodes) == Ok(true));
 }
 
-/// How many entries a long list has: a prime, so that multiples of a smaller number come in another order.
+/// The number of entries of the long list. It is a prime, so the multiples of a smaller number come in another order.
 const LIST_LEN: u32 = 1_031;
 
-/// The network of 16 bits that has this number, with the number as value.
+/// Returns the network of 16 bits with this number, and the number as its value.
 fn numbered_entry(number: u32) -> (Key, u64) {
     ((number << 16, 16), u64::from(number))
 }
 
-/// Stores all of them, in another order than they are listed in. Answers whether each is new.
+/// Inserts all networks, in another order than listing order. Returns whether each is new.
 fn stores_all(map: &mut Map<Global>) -> bool {
     for step in 0..LIST_LEN {
         let number = step * 389 % LIST_LEN;
@@ -249,7 +251,7 @@ fn stores_all(map: &mut Map<Global>) -> bool {
     true
 }
 
-/// Whether a list has all of them, in order.
+/// Returns whether a list has all networks, in order.
 fn has_all(list: &[(Key, u64)]) -> bool {
     for (entry, number) in list.iter().zip(0..LIST_LEN) {
         if *entry != numbered_entry(number) {
@@ -259,7 +261,7 @@ fn has_all(list: &[(Key, u64)]) -> bool {
     list.len() == LIST_LEN as usize
 }
 
-/// Whether the one reply is the list of all.
+/// Returns whether the only reply is the list of all networks.
 fn lists_all(replies: &[Reply<Key, Global>]) -> bool {
     match replies {
         [Reply::Entries(entries)] => has_all(entries),
@@ -267,7 +269,7 @@ fn lists_all(replies: &[Reply<Key, Global>]) -> bool {
     }
 }
 
-/// Whether a run lists all of them, once they are stored.
+/// Returns whether a run lists all networks after they are inserted.
 fn lists_all_stored(map: &mut Map<Global>, alloc: Global) -> bool {
     let is_stored = stores_all(map);
     match run(alloc, map, &[Call::List]) {

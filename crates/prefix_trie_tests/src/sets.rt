@@ -1,16 +1,16 @@
-//! Sets of the prefixes of an iterator, with each request for memory refused in turn.
+//! Sets that are collected from an iterator, with each allocation failing.
 ghost use Rattle.std.specs.Prelude.{All};
 
 use crate::refusing::Refusing;
 use prefix_trie::{Prefix, PrefixSet, Refusal};
 use std::alloc::{Allocator, Global};
 
-/// More requests than one call makes.
+/// More allocations than one call makes.
 const MANY: u64 = 100;
 
 type Heap = Refusing<Global>;
 
-// The set of the prefixes of a vector.
+// Collects the prefixes of a vector into a set.
 fn set_of_prefixes<P: Prefix, A: Allocator + Clone>(
     alloc: A,
     prefixes: Vec<P>,
@@ -20,7 +20,7 @@ fn set_of_prefixes<P: Prefix, A: Allocator + Clone>(
     PrefixSet::from_iter(alloc, prefixes)
 }
 
-/// How many prefixes the set of two hosts and a network has.
+/// Collects two hosts and a network into a set. Returns its number of prefixes.
 fn len_of_three(heap: &Heap) -> Result<usize, Refusal> {
     match vec![in heap.inner(); (0_u32, 32_u8), (0, 8), (0x8000_0000, 32)] {
         Ok(keys) => Ok(set_of_prefixes(heap, keys)?.len()),
@@ -28,8 +28,8 @@ fn len_of_three(heap: &Heap) -> Result<usize, Refusal> {
     }
 }
 
-/// Collects them with so many requests refused from another one on each time. Answers whether some were, each time with a refusal, and
-/// at last there are three prefixes.
+/// Collects the prefixes with each allocation failing. Returns whether collecting fails exactly if an allocation does,
+/// and at last has three prefixes.
 fn fails_exactly_if_refused(heap: &Heap, refused: u64) -> bool {
     for passed in 0..MANY {
         heap.refuse(passed, refused);

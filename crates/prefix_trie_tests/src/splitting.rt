@@ -1,4 +1,4 @@
-//! Maps and sets that are split: what refused requests for memory leave, and what is dropped when.
+//! Maps and sets that are split: what stays if an allocation fails, and when values are dropped.
 use crate::cases::lookups::{has_cells, pair_of};
 use crate::cases::prefix_of;
 use crate::cases::sets::adds_key;
@@ -12,12 +12,12 @@ use prefix_trie::{Ipv4Prefix, PrefixMap, PrefixSet, Refusal};
 use std::alloc::{Allocator, Global};
 use std::cell::Cell;
 
-/// More requests than one split makes.
+/// More allocations than one split makes.
 const MANY: u64 = 1_000;
 
 type Heap = Refusing<Global>;
 
-/// A number that counts that it is dropped.
+/// A number that counts its own drop.
 struct Numbered<'a> {
     number: u64,
     drops: &'a Cell<u64>,
@@ -32,8 +32,8 @@ impl Drop for Numbered<'_> {
 
 type Map<'a, A> = PrefixMap<Ipv4Prefix, Numbered<'a>, A>;
 
-/// Networks of one node, numbered from 1 on. The second contains the third and the fourth.
-const NETWORKS: [(u32, u8); 6] = [
+/// Networks in one node, numbered from 1 on. The second contains the third and the fourth.
+pub const NETWORKS: [(u32, u8); 6] = [
     v4!(192, 168, 0, 0; 21),
     v4!(192, 168, 0, 0; 22),
     v4!(192, 168, 0, 0; 23),
@@ -42,10 +42,10 @@ const NETWORKS: [(u32, u8); 6] = [
     v4!(192, 168, 4, 0; 23),
 ];
 
-/// The numbers of all six.
+/// The numbers of all six networks.
 const ALL: [u64; 6] = [1, 2, 3, 4, 5, 6];
 
-/// Stores them. Answers whether each is new.
+/// Inserts the networks. Returns whether each is new.
 fn insert_six<'a, A: Allocator>(map: &mut Map<'a, A>, drops: &'a Cell<u64>) -> bool {
     let mut number = 0_u64;
     for pair in &NETWORKS {
@@ -57,7 +57,7 @@ fn insert_six<'a, A: Allocator>(map: &mut Map<'a, A>, drops: &'a Cell<u64>) -> b
     true
 }
 
-/// A map of them.
+/// Returns a map of the six networks.
 fn map_of_six<'a, A: Allocator + Clone>(
     heap: &Heap,
     alloc: A,
@@ -69,7 +69,7 @@ fn map_of_six<'a, A: Allocator + Clone>(
     if is_filled { Some(map) } else { None }
 }
 
-/// Whether a map has these networks, by their numbers, and no others.
+/// Returns whether a map has exactly the networks with these numbers.
 fn has_networks<A: Allocator>(map: &Map<'_, A>, numbers: &[u64]) -> bool {
     let mut entries = map.iter();
     for number in numbers {
@@ -86,12 +86,12 @@ fn has_networks<A: Allocator>(map: &Map<'_, A>, numbers: &[u64]) -> bool {
     entries.next().is_none()
 }
 
-/// Whether a map has these networks, in as many nodes and slots as all six needed.
+/// Returns whether a map has exactly these networks, in the nodes and slots that all six needed.
 fn has_in_five_nodes<A: Allocator>(map: &Map<'_, A>, numbers: &[u64]) -> bool {
     has_networks(map, numbers) & (map.node_count() == 5) & (map.cell_slots() == 15)
 }
 
-/// Whether it has those that the second network contains, and no free slots.
+/// Returns whether a map has exactly the networks that the second contains, and no free slots.
 fn is_part<A: Allocator>(map: &Map<'_, A>) -> bool {
     has_networks(map, &[2, 3, 4])
         & (map.node_count() == 5)
@@ -100,8 +100,8 @@ fn is_part<A: Allocator>(map: &Map<'_, A>) -> bool {
         & has_cells(map, 4, 1, 0)
 }
 
-/// Splits a map of the six along the second network. Answers whether that was granted, if no value is dropped by it, and both maps are as
-/// they should be, or the one as it was.
+/// Splits a map of the six networks along the second. Returns whether that succeeded, if no value is dropped and both
+/// maps are as expected, or if it failed and the map is unchanged.
 fn is_split<A: Allocator + Clone>(map: &mut Map<'_, A>, drops: &Cell<u64>) -> Option<bool> {
     match map.remove_children(&prefix_of(NETWORKS[1])) {
         Ok(part) => {
@@ -118,8 +118,7 @@ fn is_split<A: Allocator + Clone>(map: &mut Map<'_, A>, drops: &Cell<u64>) -> Op
     }
 }
 
-/// Splits it with so many requests passed on and so many behind them refused. Answers whether one was, if the split is granted where none
-/// was.
+/// Splits a map with some allocations failing. Returns whether one failed, if the split succeeds when none does.
 fn is_split_or_refused<A: Allocator + Clone>(
     heap: &Heap,
     map: &mut Map<'_, A>,
@@ -133,7 +132,7 @@ fn is_split_or_refused<A: Allocator + Clone>(
     (is_refused | is_granted).then_some(is_refused)
 }
 
-/// The same of a new map, if all six are dropped with it.
+/// Splits a new map. Returns whether an allocation failed, if all six values are dropped with the maps.
 fn is_split_anew<A: Allocator + Clone>(
     heap: &Heap,
     alloc: A,
@@ -147,8 +146,7 @@ fn is_split_anew<A: Allocator + Clone>(
     if drops.get() == 6 { is_refused } else { None }
 }
 
-/// Splits new maps, with another request refused each time, and as many behind it as are to be refused. Answers how many were, until at
-/// last none is.
+/// Splits new maps, with each allocation failing. Returns the number of allocations of a split.
 fn requests_if_each_fails<A: Allocator + Copy>(heap: &Heap, alloc: A, refused: u64) -> Option<u64> {
     for passed in 0..MANY {
         if !is_split_anew(heap, alloc, passed, refused)? {
@@ -165,7 +163,7 @@ fn a_split_is_complete_or_changes_nothing(rt: HostRuntime) {
     assert!(rt; requests_if_each_fails(&heap, &heap, u64::MAX) > Some(0));
 }
 
-/// Hosts of one network.
+/// Hosts in one network.
 const HOSTS: [(u32, u8); 4] = [
     v4!(1, 2, 3, 0; 32),
     v4!(1, 2, 3, 1; 32),
@@ -173,7 +171,7 @@ const HOSTS: [(u32, u8); 4] = [
     v4!(1, 2, 3, 3; 32),
 ];
 
-/// Puts them into a set.
+/// Inserts the hosts into a set. Returns whether each is new.
 fn insert_hosts<A: Allocator>(set: &mut PrefixSet<(u32, u8), A>) -> bool {
     for host in &HOSTS {
         if !adds_key(set, *host) {
@@ -183,7 +181,7 @@ fn insert_hosts<A: Allocator>(set: &mut PrefixSet<(u32, u8), A>) -> bool {
     true
 }
 
-/// How many keys a set has that was handed out.
+/// Returns the number of keys of a set that was split off.
 fn len_of<A: Allocator>(
     answer: Result<PrefixSet<(u32, u8), A>, Refusal>,
 ) -> Result<usize, Refusal> {
@@ -193,7 +191,7 @@ fn len_of<A: Allocator>(
     }
 }
 
-/// Whether a set of the hosts hands all of them out once there is memory, and then none.
+/// Returns whether a set of the hosts splits all of them off after an allocation failed once, and then none.
 fn splits_off_hosts<A: Allocator + Clone>(set: &mut PrefixSet<(u32, u8), A>, heap: &Heap) -> bool {
     let are_put = insert_hosts(set);
     heap.refuse(0, u64::MAX);
@@ -210,20 +208,20 @@ fn splits_off_hosts<A: Allocator + Clone>(set: &mut PrefixSet<(u32, u8), A>, hea
         & (none == Ok(0))
 }
 
-/// Whether a map of the six is split and merged again.
+/// Returns whether a map of the six networks is split and merged again.
 fn is_merged_again<A: Allocator + Clone>(map: &mut Map<'_, A>) -> bool {
     let count = split_and_merge(map, &prefix_of(NETWORKS[1]));
     (count == Ok(3)) & has_in_five_nodes(map, &ALL)
 }
 
-/// The same of a new map.
+/// Returns whether a new map is split and merged again.
 fn is_merged_again_anew<A: Allocator + Clone>(heap: &Heap, alloc: A) -> Option<bool> {
     let drops = Cell::new(0);
     let mut map = map_of_six(heap, alloc, &drops)?;
     Some(is_merged_again::<A>(&mut map))
 }
 
-// A body that always answers that there is no memory fails it: handing_out_always_out_of_memory.
+// A split that always reports out of memory fails this test: the mutant handing_out_always_out_of_memory.
 #[test]
 fn a_split_succeeds_if_no_allocation_fails(rt: HostRuntime) {
     let heap = Refusing::new(rt.alloc());

@@ -1,4 +1,4 @@
-//! Tables of cases: what a line of a table can say, with ample memory and with each request refused.
+//! The tables of cases, which run with each allocation failing, or without allocating.
 
 mod blocks;
 mod copies;
@@ -10,7 +10,7 @@ mod walks;
 
 use crate::trials::{FaultPlan, Table, run_all};
 
-/// The tables that are run with each request refused in turn. As a static the list is a third as dear to check as a constant.
+/// The tables that run with each allocation failing. Checking a static list costs a third of checking a constant one.
 static EACH_REQUEST: [&[Table<'static, u32>]; 9] = [
     &growth::NEW_MAPS,
     &growth::GROWTHS,
@@ -23,7 +23,7 @@ static EACH_REQUEST: [&[Table<'static, u32>]; 9] = [
     &removals::BY_LENGTH,
 ];
 
-/// Those that are run with every request refused.
+/// The tables whose second part does not allocate.
 static NO_REQUESTS: [&[Table<'static, u32>]; 3] = [
     &entries::OCCUPIED,
     &copies::INTO_FREE_BLOCKS,

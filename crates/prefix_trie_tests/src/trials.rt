@@ -1,37 +1,37 @@
-//! Tables of cases, run on maps and on sets: with each request for memory refused in turn, or with every one refused.
+//! Runs tables of cases on maps and on sets, with each allocation failing or with all failing.
 use crate::cases::Case;
 use crate::cases::under_test::{UnderTest, first_failure};
 use crate::refusing::Refusing;
 use prefix_trie::{Ipv4Prefix, Key, Prefix, PrefixMap, PrefixSet, Refusal};
 use std::alloc::{Allocator, Global};
 
-/// More requests than one table makes.
+/// More allocations than one table makes.
 const MANY: u64 = 1_000;
 
-/// Cases in two parts, the first with ample memory.
+/// Cases in two parts. No allocation fails in the first part.
 pub type Table<'a, K> = (&'a [Case<'a, K>], &'a [Case<'a, K>]);
 
-/// Which requests of a table's second part are refused.
+/// The allocations that fail in a table's second part.
 #[derive(Clone, Copy)]
 pub enum FaultPlan {
-    /// Each in turn: it alone, and with all behind it.
+    /// Each one, alone and with all later ones.
     EachRequest,
-    /// All.
+    /// All of them.
     AllRequests,
-    /// All, where none comes. Those of the first part are refused in turn before.
+    /// All of them, and the second part must not allocate. Before that, each allocation of the first part fails.
     NoRequests,
 }
 
-/// Where a table goes failure.
+/// Where a table fails.
 #[derive(Clone, Copy, PartialEq, Eq, Debug)]
 pub enum Failure {
     /// At this case of the first part.
     FirstPart(usize),
-    /// At this case of the second part, once so many requests were passed on, with so many to be refused.
+    /// At this case of the second part, after this many allocations passed, with this many to fail.
     SecondPart(usize, u64, u64),
-    /// Two new ones are refused with ample memory.
+    /// An empty map or set cannot be made, although no allocation is to fail.
     Refused(Refusal),
-    /// No request could be refused, or too many.
+    /// The table makes no allocation that could fail, or too many.
     RequestCount,
 }
 
@@ -41,7 +41,7 @@ impl From<Refusal> for Failure {
     }
 }
 
-/// Runs both parts of a table, the first with ample memory.
+/// Runs both parts of a table. No allocation fails in the first part.
 fn run_parts<K: Key, A: Allocator + Copy, M: UnderTest<K, A>>(
     heap: &Refusing<Global>,
     alloc: A,
@@ -61,7 +61,7 @@ fn run_parts<K: Key, A: Allocator + Copy, M: UnderTest<K, A>>(
     }
 }
 
-/// The same of one, and of a new one beside it.
+/// Runs a table on one subject, with a new one beside it.
 fn run_parts_beside<K: Key, A: Allocator + Copy, M: UnderTest<K, A>>(
     heap: &Refusing<Global>,
     alloc: A,
@@ -73,7 +73,7 @@ fn run_parts_beside<K: Key, A: Allocator + Copy, M: UnderTest<K, A>>(
     run_parts::<K, A, M>(heap, alloc, subject, &mut other, table, requests)
 }
 
-/// The same of two new ones.
+/// Runs a table on two new subjects.
 fn run_anew<K: Key, A: Allocator + Copy, M: UnderTest<K, A>>(
     heap: &Refusing<Global>,
     alloc: A,
@@ -85,7 +85,8 @@ fn run_anew<K: Key, A: Allocator + Copy, M: UnderTest<K, A>>(
     run_parts_beside::<K, A, M>(heap, alloc, &mut subject, table, requests)
 }
 
-/// Runs a table time and again, with so many requests of its second part refused from another one on each time, and at last with none.
+/// Runs a table once for each allocation of its second part, which fails with the next `refused - 1` ones, and at last
+/// with none failing.
 fn fail_from_each<K: Key, A: Allocator + Copy, M: UnderTest<K, A>>(
     heap: &Refusing<Global>,
     alloc: A,
@@ -105,7 +106,7 @@ fn fail_from_each<K: Key, A: Allocator + Copy, M: UnderTest<K, A>>(
     Err(Failure::RequestCount)
 }
 
-/// Runs a table with each request of its second part refused in turn: it alone, and with all behind it.
+/// Runs a table with each allocation of its second part failing, alone and with all later ones.
 fn fail_each<K: Key, A: Allocator + Copy, M: UnderTest<K, A>>(
     heap: &Refusing<Global>,
     alloc: A,
@@ -115,7 +116,7 @@ fn fail_each<K: Key, A: Allocator + Copy, M: UnderTest<K, A>>(
     fail_from_each::<K, A, M>(heap, alloc, table, u64::MAX)
 }
 
-/// Runs a table with every request of its second part refused, where none comes. Those of the first are refused in turn before.
+/// Runs a table whose second part must not allocate. Before that, each allocation of the first part fails.
 fn fail_if_requested<K: Key, A: Allocator + Copy, M: UnderTest<K, A>>(
     heap: &Refusing<Global>,
     alloc: A,
@@ -130,7 +131,7 @@ fn fail_if_requested<K: Key, A: Allocator + Copy, M: UnderTest<K, A>>(
     }
 }
 
-/// Runs a table with requests refused so.
+/// Runs a table under a plan.
 fn run_plan<K: Key, A: Allocator + Copy, M: UnderTest<K, A>>(
     heap: &Refusing<Global>,
     alloc: A,
@@ -144,7 +145,7 @@ fn run_plan<K: Key, A: Allocator + Copy, M: UnderTest<K, A>>(
     }
 }
 
-/// Runs it on maps in memory of an allocator.
+/// Runs a table on maps that use this allocator.
 fn run_on_maps<P: Prefix + Copy + PartialEq, A: Allocator + Copy>(
     heap: &Refusing<Global>,
     alloc: A,
@@ -154,7 +155,7 @@ fn run_on_maps<P: Prefix + Copy + PartialEq, A: Allocator + Copy>(
     run_plan::<P::R, A, PrefixMap<P, u64, A>>(heap, alloc, table, plan)
 }
 
-/// The same on sets.
+/// Runs a table on sets that use this allocator.
 fn run_on_sets<P: Prefix + Copy + PartialEq, A: Allocator + Copy>(
     heap: &Refusing<Global>,
     alloc: A,
@@ -173,7 +174,7 @@ pub fn on_maps<P: Prefix + Copy + PartialEq>(
     run_on_maps::<P, &Refusing<Global>>(heap, heap, table, plan)
 }
 
-/// The same on maps and on sets.
+/// Runs a table on maps and on sets.
 pub fn on_both<P: Prefix + Copy + PartialEq>(
     heap: &Refusing<Global>,
     table: &Table<'_, P::R>,
@@ -183,7 +184,7 @@ pub fn on_both<P: Prefix + Copy + PartialEq>(
     run_on_sets::<P, &Refusing<Global>>(heap, heap, table, plan)
 }
 
-/// The same of tables, at networks and at pairs.
+/// Runs tables on maps and on sets, with networks and with pairs as prefixes.
 fn run_all_on_both(
     heap: &Refusing<Global>,
     tables: &[Table<'_, u32>],
@@ -196,7 +197,7 @@ fn run_all_on_both(
     Ok(())
 }
 
-/// The same of several lists of tables. Answers which of them goes failure, and where.
+/// Runs several lists of tables. Returns which list fails, and where.
 pub fn run_all(
     alloc: Global,
     lists: &[&[Table<'_, u32>]],

@@ -1,4 +1,4 @@
-//! Walks: what a caller knows of them, those that lend values for writing, those that take a map apart, and those that are dropped early.
+//! Walks: what callers learn, values written on the way, walks that consume a map, and walks that are dropped early.
 
 mod consuming;
 mod cover;

@@ -1,8 +1,8 @@
-//! Rows of how many addresses a map covers.
+//! Rows of address counts.
 use crate::networks::v4;
 use crate::table::Line::{self, *};
 
-/// Row 11: a network within another one counts for nothing.
+/// Row 11: a network within another one adds no addresses.
 pub const WITHIN_ANOTHER: [Line; 4] = [
     Insert(v4!(192, 0, 2, 0; 24), 1, Ok(None)),
     Insert(v4!(192, 0, 2, 128; 25), 2, Ok(None)),

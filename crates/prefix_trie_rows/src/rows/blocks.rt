@@ -1,8 +1,8 @@
-//! Rows of blocks: how both arrays of a map are cut, and which blocks are free.
+//! Rows of blocks: how both arrays are cut into blocks, and which blocks are free.
 use crate::table::Line::{self, *};
 use crate::table::Pair;
 
-/// All prefixes of up to four bits, in listing order.
+/// All prefixes with at most four bits, in listing order.
 #[rattlefmt::skip]
 const UP_TO_FOUR_BITS: [Pair; 31] = [
     (0, 0), (0, 1), (0, 2), (0, 3), (0, 4), (16, 4), (32, 3), (32, 4),
@@ -11,8 +11,7 @@ const UP_TO_FOUR_BITS: [Pair; 31] = [
     (192, 2), (192, 3), (192, 4), (208, 4), (224, 3), (224, 4), (240, 4),
 ];
 
-/// Row 14: a root with a value at each of its places. On the way to it a block of each size was made, and all but the greatest
-/// are free.
+/// Row 14: a root with all its values. While it grew, a block of each size was made. All but the largest are free.
 pub const FULL_ROOT: [Line; 6] = [
     InsertAll(&UP_TO_FOUR_BITS),
     Len(31),
@@ -59,7 +58,7 @@ const ADDRESSES: [Pair; 256] = [
     (248, 8), (249, 8), (250, 8), (251, 8), (252, 8), (253, 8), (254, 8), (255, 8),
 ];
 
-/// Row 15: all addresses of eight bits. Nodes take the blocks that others outgrew.
+/// Row 15: all addresses of eight bits. Nodes use the blocks that others outgrew.
 pub const ALL_ADDRESSES: [Line; 11] = [
     InsertAll(&ADDRESSES),
     Len(256),
@@ -74,7 +73,7 @@ pub const ALL_ADDRESSES: [Line; 11] = [
     CellSlots(0),
 ];
 
-/// Row 17: removals step down to free blocks, and an insertion takes the free block that it needs.
+/// Row 17: removals move lists to smaller free blocks, and an insertion uses the free block that it needs.
 pub const STEPS: [Line; 14] = [
     InsertAll(&UP_TO_FOUR_BITS),
     Remove((192, 2), Some(24)),
@@ -92,7 +91,7 @@ pub const STEPS: [Line; 14] = [
     CellBlocks([0, 0, 0, 0, 0, 0, 1], [1, 1, 1, 1, 1, 1, 0]),
 ];
 
-/// Row 37: the nodes of two hosts. What one leaves the other takes.
+/// Row 37: the nodes of two hosts. One uses the slots that the other leaves.
 pub const TWO_HOSTS: [Line; 21] = [
     Insert((0, 32), 1, Ok(None)),
     NodeSlots(7),
@@ -102,19 +101,19 @@ pub const TWO_HOSTS: [Line; 21] = [
     CellSlots(1),
     NodeBlocks([0; 7], [6, 0, 0, 0, 0, 0, 0]),
 
-    // In a map without entries the other host takes the slots that the first has left.
+    // In an empty map, the other host uses the slots that the first one left.
     Insert((0xffff_ffff, 32), 2, Ok(None)),
     NodeSlots(7),
     CellSlots(1),
 
-    // Both share no more than the root.
+    // Both hosts share only the root.
     Insert((0, 32), 3, Ok(None)),
     NodeCount(13),
     NodeSlots(14),
     CellSlots(2),
     NodeBlocks([10, 1, 0, 0, 0, 0, 0], [1, 0, 0, 0, 0, 0, 0]),
 
-    // The root goes back to a block of one.
+    // The list of the root moves back to a block of one.
     Remove((0xffff_ffff, 32), Some(2)),
     NodeCount(7),
     NodeSlots(14),

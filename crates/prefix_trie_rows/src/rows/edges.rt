@@ -1,8 +1,8 @@
-//! Rows at the ends of widths, and of a test that counts how often it is asked.
+//! Rows at the ends of widths, and of a test that counts its calls.
 use crate::networks::v4;
 use crate::table::Line::{self, *};
 
-/// Row 41: the shortest and the longest key of eight bits, with host bits and behind all others.
+/// Row 41: the shortest and the longest key of eight bits, with host bits and after all others.
 pub const ENDS_OF_ALL_ONES: [Line; 6] = [
     Insert((255, 0), 1, Ok(None)),
     Insert((255, 8), 2, Ok(None)),
@@ -21,7 +21,7 @@ pub const LAST_OF_128_BITS: [Line; 5] = [
     NodeCount(1),
 ];
 
-/// Row 42: a test that says yes at its first, third and fifth asking, of row 7's map.
+/// Row 42: a test that returns `true` at its first, third and fifth call, on the map of row 7.
 pub const EACH_SECOND_KEPT: [Line; 7] = [
     Insert(v4!(192, 168, 0, 0; 22), 1, Ok(None)),
     Insert(v4!(192, 168, 0, 0; 23), 2, Ok(None)),

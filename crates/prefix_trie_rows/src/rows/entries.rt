@@ -2,7 +2,7 @@
 use crate::networks::v4;
 use crate::table::Line::{self, *};
 
-/// Row 2: a stored prefix has no host bits, and one that is not stored has those that were handed in.
+/// Row 2: a stored prefix has no host bits. A prefix that is not stored has those it was passed with.
 pub const HOST_BITS: [Line; 4] = [
     Insert(v4!(192, 168, 0, 1; 24), 1, Ok(None)),
     GetKeyValue(v4!(192, 168, 0, 0; 24), Some((v4!(192, 168, 0, 0; 24), 1))),
@@ -10,7 +10,7 @@ pub const HOST_BITS: [Line; 4] = [
     EntryKey(v4!(192, 168, 9, 7; 24), v4!(192, 168, 9, 7; 24)),
 ];
 
-/// Row 20: a stored value is changed and a missing one inserted; both are taken out, and their nodes stay.
+/// Row 20: a stored value is changed and a missing one is inserted. Both are removed, and their nodes stay.
 pub const COUNTED: [Line; 10] = [
     Insert(v4!(192, 168, 1, 0; 24), 1, Ok(None)),
     AddOrInsert(v4!(192, 168, 1, 0; 24), 9, 2),
@@ -24,7 +24,7 @@ pub const COUNTED: [Line; 10] = [
     NodeCount(1),
 ];
 
-/// Row 33: what fills an entry is asked for only where it is vacant.
+/// Row 33: a closure that makes a value is called only if the entry is vacant.
 pub const FILLED: [Line; 8] = [
     EntryKey((131, 1), (131, 1)),
     OrDefault((131, 1), 0, 5),

@@ -1,7 +1,7 @@
 //! Rows of equality.
 use crate::table::Line::{self, *};
 
-/// Row 23: maps are equal whatever the order of their insertions, unless a value differs.
+/// Row 23: maps are equal in any order of insertions, unless a value differs.
 pub const IN_EITHER_ORDER: [Line; 10] = [
     Insert((0, 1), 1, Ok(None)),
     Insert((128, 1), 2, Ok(None)),

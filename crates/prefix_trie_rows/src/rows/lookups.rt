@@ -2,7 +2,7 @@
 use crate::networks::v4;
 use crate::table::Line::{self, *};
 
-/// Row 1: a map answers for the networks that it holds, and for no other.
+/// Row 1: a map returns values for the networks that it stores, and for no other.
 pub const EXACT: [Line; 6] = [
     Insert(v4!(192, 168, 0, 0; 23), 1, Ok(None)),
     Insert(v4!(192, 168, 1, 0; 24), 2, Ok(None)),

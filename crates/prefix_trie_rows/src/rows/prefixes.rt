@@ -1,8 +1,8 @@
-//! Rows of prefixes by themselves.
+//! Rows of single prefixes.
 use crate::networks::v4;
 use crate::table::Line::{self, *};
 
-/// Row 26: which lengths a network has, its mask, and which network contains which.
+/// Row 26: the lengths of networks, their masks, and which network contains which.
 pub const NETWORKS: [Line; 5] = [
     IsPrefix(v4!(0, 0, 0, 0; 33), false),
     IsPrefix(v4!(0, 0, 0, 0; 32), true),
@@ -11,7 +11,7 @@ pub const NETWORKS: [Line; 5] = [
     Contains(v4!(10, 130, 2, 5; 9), v4!(10, 25, 2, 8; 8), false),
 ];
 
-/// Row 26: a pair whose length is greater than its number's width does not fit.
+/// Row 26: a pair with a length greater than its width does not fit.
 pub const PAIRS: [Line; 1] = [Fits((0, 9), false)];
 
 /// Row 30: the greatest length of an IPv6 network.

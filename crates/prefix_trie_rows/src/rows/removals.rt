@@ -2,7 +2,7 @@
 use crate::networks::v4;
 use crate::table::Line::{self, *};
 
-/// Row 9: a network goes with all those in it.
+/// Row 9: a network is removed together with all networks within it.
 pub const BELOW_A_NETWORK: [Line; 9] = [
     Insert(v4!(192, 168, 0, 0; 21), 1, Ok(None)),
     Insert(v4!(192, 168, 0, 0; 22), 2, Ok(None)),
@@ -15,7 +15,7 @@ pub const BELOW_A_NETWORK: [Line; 9] = [
     Values(&[1, 5, 6]),
 ];
 
-/// Row 10: which nodes each way of taking out the one entry of a map leaves.
+/// Row 10: the nodes that are left after each call that removes the only entry.
 pub const NODES_LEFT: [Line; 11] = [
     NodeCount(1),
     Insert((0, 32), 1, Ok(None)),
@@ -30,7 +30,7 @@ pub const NODES_LEFT: [Line; 11] = [
     NodeCount(1),
 ];
 
-/// Row 18: the even values are kept. The test is asked once at each entry, in listing order.
+/// Row 18: the even values are kept. The test is called once for each entry, in listing order.
 pub const EVEN_VALUES_KEPT: [Line; 9] = [
     Insert(v4!(192, 168, 0, 0; 24), 1, Ok(None)),
     Insert(v4!(192, 168, 1, 0; 24), 2, Ok(None)),
@@ -43,7 +43,7 @@ pub const EVEN_VALUES_KEPT: [Line; 9] = [
     Get(v4!(192, 168, 2, 0; 25), Some(4)),
 ];
 
-/// Row 22: a removal prunes on the way to its prefix, also where that is not stored, and nowhere else.
+/// Row 22: a removal prunes nodes on the path to its prefix, stored or not, and no others.
 pub const PRUNED_ON_THE_PATH: [Line; 8] = [
     Insert((0, 32), 1, Ok(None)),
     RemoveKeepTree((0, 32), Some(1)),
@@ -55,10 +55,10 @@ pub const PRUNED_ON_THE_PATH: [Line; 8] = [
     NodeCount(7),
 ];
 
-/// Row 31: taking out what stands below a prefix takes all nodes below its own with it, prunes upward from that, and leaves
-/// what stands beside the prefix in one node.
+/// Row 31: `drop_children` removes all nodes below the prefix's own, prunes upward from it, and keeps the entries
+/// beside the prefix in the same node.
 pub const BELOW_HALF_NODES: [Line; 22] = [
-    // A node is emptied from its middle, and its places are used again.
+    // A node is emptied from its middle, and its slots are used again.
     Insert((0, 11), 1, Ok(None)),
     NodeCount(3),
     DropChildren((0, 5)),
@@ -70,14 +70,14 @@ pub const BELOW_HALF_NODES: [Line; 22] = [
     Get((0x8000_0000, 11), Some(2)),
     Get((0, 11), Some(3)),
 
-    // The one entry stands below the prefix's node.
+    // The only entry is below the prefix's node.
     New,
     Insert((0, 16), 1, Ok(None)),
     NodeCount(4),
     DropChildren((0, 12)),
     NodeCount(1),
 
-    // Another entry stands in the prefix's node.
+    // Another entry is in the prefix's node.
     New,
     Insert((0, 6), 1, Ok(None)),
     Insert((0x0400_0000, 6), 2, Ok(None)),
@@ -87,7 +87,8 @@ pub const BELOW_HALF_NODES: [Line; 22] = [
     Get((0x0400_0000, 6), Some(2)),
 ];
 
-/// Row 32: empty nodes stay where they have a child, or where the prefix's own node is missing; below the prefix they go.
+/// Row 32: empty nodes stay if they have a child, or if the prefix's own node is missing. Below the prefix they are
+/// removed.
 pub const EMPTY_NODES_ELSEWHERE: [Line; 9] = [
     Insert((0, 16), 1, Ok(None)),
     RemoveKeepTree((0, 16), Some(1)),

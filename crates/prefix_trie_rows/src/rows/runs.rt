@@ -14,7 +14,7 @@ pub const REPLIES_IN_ORDER: [RunCall; 6] = [
     RunCall(Len, Count(0)),
 ];
 
-/// Row 28: the bits behind a prefix's length count for nothing, and replies show prefixes without them.
+/// Row 28: the bits after a prefix's length are ignored, and replies show prefixes without them.
 pub const HOST_BITS: [RunCall; 8] = [
     RunCall(Insert((255, 0), 1), Value(None)),
     RunCall(Insert((129, 1), 2), Value(None)),
@@ -26,8 +26,8 @@ pub const HOST_BITS: [RunCall; 8] = [
     RunCall(List, Entries(&[((0, 0), 1), ((1, 8), 3), ((128, 1), 2)])),
 ];
 
-/// Row 40: under a limit of two slots, a second child of the root is refused and the run goes on. The first key, which is
-/// stored, is set again.
+/// Row 40: under a limit of two slots, a second child of the root is refused and the run continues. The first key is
+/// stored, and is set again.
 pub const UNDER_TWO_SLOTS: [RunCall; 5] = [
     RunCall(Insert((0, 8), 1), Value(None)),
     RunCall(Insert((128, 8), 2), Refused(IndexRange)),

@@ -3,7 +3,7 @@ use crate::networks::v4;
 use crate::table::sets::SetLine::{self, *};
 use prefix_trie::Refusal::IndexRange;
 
-/// Row 11: addresses of one half, and of both.
+/// Row 11: the addresses of one half, and of both.
 pub const HALVES: [SetLine; 4] = [
     Insert((0, 1), Ok(true)),
     AddressCount(Some(128)),
@@ -11,7 +11,7 @@ pub const HALVES: [SetLine; 4] = [
     AddressCount(None),
 ];
 
-/// Row 23: sets are equal that have the same keys, in whichever order they came.
+/// Row 23: sets with the same keys are equal, in any order of insertions.
 pub const EQUAL: [SetLine; 3] = [
     FromIter(&[(0, 1), (128, 1)]),
     Equals(&[(128, 1), (0, 1)], true),
@@ -25,7 +25,7 @@ pub const PAIRS_AS_TEXT: [SetLine; 3] = [
     Text("{(0, 0), (0, 1), (2147483648, 1)}"),
 ];
 
-/// Row 35: addresses that two keys share are counted once.
+/// Row 35: addresses of two keys are counted once.
 pub const SHARED_ADDRESSES: [SetLine; 3] = [
     FromIter(&[(0, 8), (1, 8), (0, 7), (255, 8)]),
     Len(4),
@@ -42,14 +42,14 @@ pub const ADDRESSES_OF_128_BITS: [SetLine; 6] = [
     AddressCount(None),
 ];
 
-/// Row 36: the text of an empty set, and of networks, without their host bits.
+/// Row 36: the text of an empty set, and of networks, without host bits.
 pub const NETWORKS_AS_TEXT: [SetLine; 3] = [
     Text("{}"),
     FromIter(&[v4!(10, 1, 2, 3; 8), v4!(10, 1, 0, 0; 16)]),
     Text("{10.0.0.0/8, 10.1.0.0/16}"),
 ];
 
-/// Row 39: a set under a limit of one slot has the root's keys alone.
+/// Row 39: a set with a limit of one slot stores only keys of the root.
 pub const ONE_SLOT: [SetLine; 7] = [
     WithSlotLimit(1),
     Insert((0, 0), Ok(true)),

@@ -1,9 +1,10 @@
-//! Rows of handing out.
+//! Rows of maps and sets that are split.
 use crate::networks::v4;
 use crate::table::Line::{self, *};
 use crate::table::sets::SetLine;
 
-/// Row 47: a network with all those in it as a second map, each block of which is the smallest that holds its items.
+/// Row 47: a network and all networks within it become a second map. Each of its blocks is the smallest that holds its
+/// items.
 pub const A_NETWORK: [Line; 11] = [
     Insert(v4!(192, 168, 0, 0; 21), 1, Ok(None)),
     Insert(v4!(192, 168, 0, 0; 22), 2, Ok(None)),
@@ -31,7 +32,7 @@ pub const A_NETWORK: [Line; 11] = [
     CellSlots(15),
 ];
 
-/// Row 48: all entries are handed out at length 0, and none where the prefix's node is missing.
+/// Row 48: length 0 splits off all entries. A prefix without a node splits off none.
 pub const ALL_AND_NONE: [Line; 9] = [
     Insert(v4!(1, 2, 3, 0; 32), 1, Ok(None)),
     Insert(v4!(1, 2, 3, 1; 32), 2, Ok(None)),
@@ -56,7 +57,7 @@ pub const ALL_KEYS: [SetLine; 3] = [
     SetLine::Len(0),
 ];
 
-/// Row 49: under a limit that both maps keep to.
+/// Row 49: both maps keep the same slot limit.
 pub const UNDER_THREE_SLOTS: [Line; 8] = [
     WithSlotLimit(3, Ok(())),
     Insert((0, 1), 1, Ok(None)),

@@ -2,7 +2,7 @@
 use crate::networks::v4;
 use crate::table::Line::{self, *};
 
-/// Row 24: the entries that a prefix contains stand within its own.
+/// Row 24: the entries that a prefix contains are nested in its own.
 pub const NESTED: [Line; 4] = [
     Insert((0, 0), 1, Ok(None)),
     Insert((0, 1), 2, Ok(None)),
@@ -10,7 +10,7 @@ pub const NESTED: [Line; 4] = [
     Text("{(0, 0): { value: 1, children: {(0, 1): { value: 2 }, (2147483648, 1): { value: 3 }} }}"),
 ];
 
-/// Row 36: an empty map, and a network with its host bits. And entries that are closed at several depths.
+/// Row 36: an empty map, a network with its host bits, and entries that are closed at several depths.
 pub const NETWORKS: [Line; 8] = [
     Text("{}"),
     PrefixText(v4!(10, 1, 2, 3; 8), "10.1.2.3/8"),

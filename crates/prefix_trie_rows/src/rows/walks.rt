@@ -14,7 +14,7 @@ pub const ALL_ADDRESSES: [Line; 8] = [
     NodeCount(1),
 ];
 
-/// Row 7: values come in the listing order of their networks, in whatever order they were inserted.
+/// Row 7: values come in the listing order of their networks, in any order of insertions.
 pub const IN_LISTING_ORDER: [Line; 6] = [
     Insert(v4!(192, 168, 0, 0; 22), 1, Ok(None)),
     Insert(v4!(192, 168, 0, 0; 23), 2, Ok(None)),
@@ -24,7 +24,7 @@ pub const IN_LISTING_ORDER: [Line; 6] = [
     Values(&[1, 2, 4, 3, 5]),
 ];
 
-/// Row 8: what comes behind a network, which is stored or not.
+/// Row 8: the entries after a network, stored or not.
 pub const AFTER_A_NETWORK: [Line; 15] = [
     Insert(v4!(10, 0, 0, 0; 8), 1, Ok(None)),
     Insert(v4!(10, 1, 0, 0; 16), 2, Ok(None)),
@@ -35,7 +35,7 @@ pub const AFTER_A_NETWORK: [Line; 15] = [
     IterFrom(v4!(10, 2, 0, 0; 16), true, 3, &[3, 4, 5]),
     IterFrom(v4!(10, 2, 0, 0; 16), false, 3, &[4, 5, 6]),
     IterFrom(v4!(10, 2, 128, 0; 17), false, 3, &[5, 6]),
-    // Resumed behind each entry, a walk gives the rest.
+    // A walk that resumes after an entry yields the rest.
     IterFrom(v4!(10, 0, 0, 0; 8), false, 6, &[2, 3, 4, 5, 6]),
     IterFrom(v4!(10, 1, 0, 0; 16), false, 6, &[3, 4, 5, 6]),
     IterFrom(v4!(10, 2, 0, 0; 16), false, 6, &[4, 5, 6]),
@@ -44,7 +44,7 @@ pub const AFTER_A_NETWORK: [Line; 15] = [
     IterFrom(v4!(10, 4, 0, 0; 16), false, 6, &[]),
 ];
 
-/// Row 21: the values that a network contains are written, and then taken out of the map.
+/// Row 21: the values that a network contains are written, and then moved out of the map.
 pub const WRITTEN_AND_TAKEN: [Line; 8] = [
     Insert(v4!(192, 168, 0, 0; 22), 1, Ok(None)),
     Insert(v4!(192, 168, 0, 0; 23), 2, Ok(None)),
@@ -77,7 +77,7 @@ pub const AROUND_A_NETWORK: [Line; 7] = [
     ),
 ];
 
-/// Row 34: walks from prefixes and below them, stored or not, that read, write and take the map apart.
+/// Row 34: walks from prefixes and over their children, stored or not, that read, write and consume the map.
 pub const FROM_AND_BELOW: [Line; 19] = [
     Insert((0, 5), 1, Ok(None)),
     Insert((4, 6), 2, Ok(None)),

@@ -2,7 +2,7 @@
 use crate::networks::v4;
 use crate::table::Line::{self, *};
 
-/// Row 5: four hosts in a row share all nodes.
+/// Row 5: four adjacent hosts share all nodes.
 pub const HOSTS_OF_32_BITS: [Line; 10] = [
     Insert(v4!(1, 2, 3, 0; 32), 1, Ok(None)),
     Insert(v4!(1, 2, 3, 1; 32), 2, Ok(None)),
@@ -37,7 +37,7 @@ pub const ENDS_OF_8_BITS: [Line; 8] = [
     NodeCount(2),
 ];
 
-/// Row 29: the last node of a key of 64 bits, which spans four bits. The last length but one is set through a longer prefix.
+/// Row 29: the last node of a key of 64 bits, which spans four bits. The value at 63 bits is set by a longer prefix.
 pub const ENDS_OF_U64: [Line; 10] = [
     Insert((0, 60), 1, Ok(None)),
     Insert((5, 64), 2, Ok(None)),
@@ -51,7 +51,7 @@ pub const ENDS_OF_U64: [Line; 10] = [
     Get((5, 64), Some(2)),
 ];
 
-/// Row 29: the same of the other type of such numbers.
+/// Row 29: the same calls with the other type of 64 bits.
 pub const ENDS_OF_USIZE: [Line; 10] = [
     Insert((0, 60), 1, Ok(None)),
     Insert((5, 64), 2, Ok(None)),

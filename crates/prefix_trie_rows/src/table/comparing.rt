@@ -1,9 +1,9 @@
-//! Maps beside others.
+//! Maps that are compared with others.
 use crate::table::{Entry, Map, TablePrefix, inserts};
 use prefix_trie::Prefix;
 use std::alloc::Global;
 
-/// Whether a map is equal to its copy, and the copy has the slots and the blocks of the map.
+/// Returns whether a map is equal to its clone, and the clone has the same slots and blocks.
 pub fn clones<P: TablePrefix>(map: &Map<P>) -> bool {
     match map.clone() {
         Ok(copy) => copy == *map && is_stored_alike(map, &copy),
@@ -18,7 +18,7 @@ fn is_stored_alike<P: Prefix>(map: &Map<P>, copy: &Map<P>) -> bool {
         && copy.cell_blocks() == map.cell_blocks()
 }
 
-/// Whether a new map, into which these entries are inserted in this order, is equal to the map.
+/// Returns whether a new map with these entries, inserted in this order, is equal to the map, as expected.
 pub fn equals<P: TablePrefix>(
     alloc: Global,
     map: &Map<P>,
@@ -31,7 +31,7 @@ pub fn equals<P: TablePrefix>(
     inserts_each(&mut other, entries) & ((other == *map) == expected)
 }
 
-/// Inserts entries in order. Returns whether each was inserted and is new.
+/// Inserts entries in order. Returns whether each is new.
 fn inserts_each<P: TablePrefix>(map: &mut Map<P>, entries: &[Entry]) -> bool {
     for (pair, value) in entries {
         if !inserts(map, *pair, *value, Ok(None)) {

@@ -1,4 +1,4 @@
-//! What walks give that take a map apart: a copy, so that the map stays for the lines to come.
+//! Walks that consume a map. They consume a clone, so that the lines after them find the map unchanged.
 use crate::table::{Entry, Map, Pair, TablePrefix, fitting_prefix, is_prefix};
 use prefix_trie::Prefix;
 use prefix_trie::map::{IntoIter, IntoKeys};

@@ -1,4 +1,4 @@
-//! What is put to one entry of a map.
+//! Calls of one entry of a map.
 use crate::table::{Map, Pair, TablePrefix, fitting_prefix, is_prefix};
 use prefix_trie::map::Entry as MapEntry;
 use prefix_trie::{Prefix, Refusal, Refused};
@@ -17,7 +17,7 @@ pub fn has_value<P: TablePrefix>(map: &mut Map<P>, pair: Pair, expected: Option<
     }
 }
 
-/// One is added where there is a value, and else this one is inserted.
+/// Adds one to a stored value, or inserts this one. Returns whether the value is then the expected one.
 pub fn adds<P: TablePrefix>(map: &mut Map<P>, pair: Pair, fresh: u64, expected: u64) -> bool {
     let Some(prefix) = fitting_prefix::<P>(pair) else {
         return false;
@@ -29,7 +29,7 @@ pub fn adds<P: TablePrefix>(map: &mut Map<P>, pair: Pair, fresh: u64, expected: 
     }
 }
 
-/// The value is the answer, and is then set to another.
+/// Returns whether `or_default` lends the expected value. Sets it to another.
 pub fn or_default<P: TablePrefix>(map: &mut Map<P>, pair: Pair, expected: u64, then: u64) -> bool {
     let Some(prefix) = fitting_prefix::<P>(pair) else {
         return false;
@@ -44,7 +44,7 @@ pub fn or_default<P: TablePrefix>(map: &mut Map<P>, pair: Pair, expected: u64, t
     }
 }
 
-/// A closure that gives this value is called so many times.
+/// Returns whether the value is the expected one and the closure, which returns `fresh`, is called this many times.
 pub fn or_insert_with<P: TablePrefix>(
     map: &mut Map<P>,
     pair: Pair,

@@ -1,10 +1,10 @@
 //! Numbers as narrow keys.
 use prefix_trie::Narrow;
 
-/// A width that is asked for, a number, and whether it is a key of that width.
+/// A width, a number, and whether the number is a key of this width.
 pub type KeyCase = (u32, u64, bool);
 
-/// Whether each number is a key exactly where a table says so.
+/// Returns whether exactly the numbers are keys that should be.
 pub fn all_as_expected(table: &[KeyCase]) -> bool {
     for (width, number, expected) in table {
         if is_key(*width, *number) != *expected {
@@ -14,7 +14,7 @@ pub fn all_as_expected(table: &[KeyCase]) -> bool {
     true
 }
 
-/// Of the widths in tables.
+/// Returns whether a number is a key, for the widths in tables.
 fn is_key(width: u32, number: u64) -> bool {
     match width {
         0 => Narrow::<0>::new(number).is_some(),

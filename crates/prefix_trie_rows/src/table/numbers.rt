@@ -1,10 +1,10 @@
-//! Numbers as tables write them, read at the type of a key.
+//! Numbers as tables write them, read as keys of any type.
 use prefix_trie::Key;
 
-/// A number as tables write it, whatever the type of the keys: not each key is a constant of its type.
+/// A number as tables write it. Keys of some types are no constants, so all tables use this type.
 pub type Number = u128;
 
-/// The key of a number, if there is one.
+/// Returns the key with this number, if there is one.
 pub fn key_of<K: Key>(number: Number) -> Option<K> {
     let width = K::width();
     if width < 128 && number >> width != 0 {
@@ -18,7 +18,7 @@ pub fn key_of<K: Key>(number: Number) -> Option<K> {
     Some(key)
 }
 
-/// Whether tables write so what a count of addresses answers.
+/// Returns whether a count of addresses is this number.
 pub fn is_number<K: Key>(count: Option<K>, expected: Option<Number>) -> bool {
     match (count, expected) {
         (Some(key), Some(number)) => key_of(number) == Some(key),

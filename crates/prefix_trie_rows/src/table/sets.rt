@@ -1,4 +1,4 @@
-//! Tables of sets: calls of a set beside the answers that they should have, and what puts them to a set.
+//! Tables of sets: calls of a set with the expected results, and what makes these calls.
 ghost use Rattle.std.specs.Prelude.{All, IfSome, IfOk};
 
 use crate::table::{Number, Pair, TablePrefix, fitting_prefix, is_number, is_prefix};
@@ -8,37 +8,41 @@ use std::alloc::{AllocError, Global};
 /// The set of a table.
 type Set<P> = PrefixSet<P, Global>;
 
-/// A call, and last the answer that it should have. A table begins with an empty set.
+/// A call of a set. The last field is the expected result, if the call has one. Each table starts with an empty set.
 #[derive(Drop)]
 pub enum SetLine {
-    /// Goes on with a new set of this limit.
+    /// Continues with a new set with this slot limit.
     WithSlotLimit(u32),
-    /// Goes on with the set of these prefixes.
+    /// Continues with the set of these prefixes.
     FromIter(&'static [Pair]),
-    /// Whether the prefix is new, or why it was refused.
+    /// Whether the prefix is new, or the reason why it was refused.
     Insert(Pair, Result<bool, Refusal>),
     Remove(Pair, bool),
-    /// How many keys the set has that is handed out.
+    /// The number of keys that are split off.
     RemoveChildren(Pair, usize),
-    /// Whether the set equals that of these prefixes.
+    /// Whether the set is equal to the set of these prefixes.
     Equals(&'static [Pair], bool),
-    /// How many addresses the keys contain, if not all.
+    /// The number of addresses in all keys, unless they are all addresses.
     AddressCount(Option<Number>),
     Len(usize),
     NodeCount(usize),
     /// The debug text.
     Text(&'static str),
-    /// All keys in order, in a `for` over the set and in one that takes a copy apart.
+    /// All keys in order, in a `for` over the set and in one that consumes a clone.
     Keys(&'static [Pair]),
 }
 
-/// Whether each call of a table has its answer, in order. Refused if there is no memory for the first set.
+/// Returns whether all calls of a table have the expected results.
+///
+/// # Errors
+///
+/// Returns an error if the first set cannot be made.
 pub fn all_hold<P: TablePrefix>(alloc: Global, lines: &[SetLine]) -> Result<bool, Refusal> {
     let mut set: Set<P> = PrefixSet::new(alloc)?;
     Ok(hold_in_order(alloc, &mut set, lines))
 }
 
-/// Whether each call has its answer, where they are put to a set in order.
+/// Returns whether all calls have the expected results, when they are made on a set in order.
 fn hold_in_order<P: TablePrefix>(alloc: Global, set: &mut Set<P>, lines: &[SetLine]) -> bool {
     for line in lines {
         if !holds(alloc, set, line) {
@@ -48,7 +52,7 @@ fn hold_in_order<P: TablePrefix>(alloc: Global, set: &mut Set<P>, lines: &[SetLi
     true
 }
 
-/// Whether a call has its answer.
+/// Returns whether a call has the expected result.
 fn holds<P: TablePrefix>(alloc: Global, set: &mut Set<P>, line: &SetLine) -> bool {
     match line {
         SetLine::WithSlotLimit(limit) => replaces(set, PrefixSet::with_slot_limit(alloc, *limit)),
@@ -65,7 +69,7 @@ fn holds<P: TablePrefix>(alloc: Global, set: &mut Set<P>, line: &SetLine) -> boo
     }
 }
 
-/// Goes on with another set, if there is one.
+/// Continues with another set, if it could be made.
 fn replaces<P: Prefix>(set: &mut Set<P>, made: Result<Set<P>, Refusal>) -> bool {
     match made {
         Ok(fresh) => {
@@ -76,7 +80,11 @@ fn replaces<P: Prefix>(set: &mut Set<P>, made: Result<Set<P>, Refusal>) -> bool 
     }
 }
 
-/// The set of these prefixes. Refused for a prefix that does not fit, too.
+/// Returns the set of these prefixes.
+///
+/// # Errors
+///
+/// Returns an error if the set cannot be made, or if a prefix does not fit.
 fn set_of<P: TablePrefix>(alloc: Global, pairs: &[Pair]) -> Result<Set<P>, Refusal> {
     match prefixes_of::<P>(alloc, pairs) {
         Ok(Some(prefixes)) => collected(alloc, prefixes),
@@ -90,7 +98,7 @@ fn collected<P: TablePrefix>(alloc: Global, prefixes: Vec<P>) -> Result<Set<P>, 
     PrefixSet::from_iter(alloc, prefixes)
 }
 
-/// The prefixes, if each fits.
+/// Returns the prefixes, if they all fit.
 fn prefixes_of<P: TablePrefix>(alloc: Global, pairs: &[Pair]) -> Result<Option<Vec<P>>, AllocError>
     ensures { IfOk result (λ found. IfSome found (λ xs. All P.IsFitting xs.items)) }
 {
@@ -118,7 +126,7 @@ fn removes<P: TablePrefix>(set: &mut Set<P>, pair: Pair, expected: bool) -> bool
     }
 }
 
-/// Whether the keys that a prefix contains are handed out as a set of so many.
+/// Returns whether splitting at a prefix returns a set with this many keys.
 fn splits_off<P: TablePrefix>(set: &mut Set<P>, pair: Pair, count: usize) -> bool {
     match fitting_prefix::<P>(pair) {
         Some(prefix) => set.remove_children(&prefix).map(|second| second.len()) == Ok(count),
@@ -140,7 +148,7 @@ fn has_text<P: Prefix>(alloc: Global, set: &Set<P>, text: &str) -> bool {
     }
 }
 
-/// Whether a loop over a set gives these keys. This crate lists `prefix_trie` alone, as a user's may.
+/// Returns whether a loop over a set yields these keys. This crate lists only `prefix_trie`, as a user's crate may.
 fn lists<P: Prefix>(set: &Set<P>, pairs: &[Pair]) -> bool {
     let mut rest = pairs.iter();
     for prefix in set {
@@ -152,7 +160,7 @@ fn lists<P: Prefix>(set: &Set<P>, pairs: &[Pair]) -> bool {
     rest.next().is_none()
 }
 
-/// Whether a loop that takes a copy of a set apart gives these keys.
+/// Returns whether a loop that consumes a clone of a set yields these keys.
 fn consumes<P: Prefix>(set: &Set<P>, pairs: &[Pair]) -> bool {
     match set.clone() {
         Ok(copy) => are_keys(copy, pairs),

@@ -1,8 +1,8 @@
-//! Maps that are handed out.
+//! Maps that are split off.
 use crate::table::{Line, Map, Pair, TablePrefix, fitting_prefix, holds_unchanged};
 use prefix_trie::Refusal;
 
-/// Whether the entries that a prefix contains are handed out as a map that holds_unchanged these lines.
+/// Returns whether these lines hold for the map with the entries that a prefix contains.
 pub fn splits_off<P: TablePrefix>(map: &mut Map<P>, pair: Pair, lines: &[Line]) -> bool {
     match fitting_prefix::<P>(pair) {
         Some(prefix) => all_hold_in_part(map.remove_children(&prefix), lines),
@@ -17,7 +17,7 @@ fn all_hold_in_part<P: TablePrefix>(second: Result<Map<P>, Refusal>, lines: &[Li
     }
 }
 
-/// Whether a map has the answer of each line.
+/// Returns whether all lines hold for a map.
 fn all_hold_in<P: TablePrefix>(map: &Map<P>, lines: &[Line]) -> bool {
     for line in lines {
         if !holds_unchanged(map, line) {

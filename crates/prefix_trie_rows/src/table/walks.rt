@@ -1,4 +1,4 @@
-//! What the walks of a map give.
+//! The walks of a map.
 use crate::table::{Entry, Map, Pair, TablePrefix, fitting_prefix, is_entry};
 use prefix_trie::Prefix;
 
@@ -48,7 +48,7 @@ pub fn has_children<P: TablePrefix>(map: &Map<P>, pair: Pair, values: &[u64]) ->
     }
 }
 
-/// The value of an entry that is lent.
+/// Returns the value of an entry that is lent.
 fn value_of<'a, P: Prefix>(entry: (P, &'a u64)) -> &'a u64 {
     let (_, value) = entry;
     value

@@ -1,10 +1,10 @@
-//! What walks that write make of a map.
+//! Walks that write to a map.
 use crate::table::{Map, Pair, TablePrefix, fitting_prefix};
 use prefix_trie::Prefix;
 use prefix_trie::map::IterMut;
 use std::alloc::Global;
 
-/// A number is added to each value from a prefix on.
+/// Adds a number to each value from a prefix on.
 pub fn adds<P: TablePrefix>(map: &mut Map<P>, pair: Pair, inclusive: bool, more: u64) -> bool {
     let steps = map.len();
     match fitting_prefix::<P>(pair) {
@@ -16,7 +16,7 @@ pub fn adds<P: TablePrefix>(map: &mut Map<P>, pair: Pair, inclusive: bool, more:
     }
 }
 
-/// Each value that a prefix contains is multiplied.
+/// Multiplies each value that a prefix contains.
 pub fn multiplies<P: TablePrefix>(map: &mut Map<P>, pair: Pair, factor: u64) -> bool {
     let steps = map.len();
     match fitting_prefix::<P>(pair) {
@@ -28,7 +28,7 @@ pub fn multiplies<P: TablePrefix>(map: &mut Map<P>, pair: Pair, factor: u64) -> 
     }
 }
 
-/// Multiplies each value, and adds a number to it, in as many steps as there are entries.
+/// Multiplies each value and adds a number to it, in as many steps as there are entries.
 fn change_each<'b, 'a, P: Prefix>(
     walk: &'b mut IterMut<'a, P, u64, Global>,
     steps: usize,
@@ -42,7 +42,7 @@ fn change_each<'b, 'a, P: Prefix>(
     }
 }
 
-/// The first value is set, if there is one.
+/// Sets the first value, if there is one.
 pub fn sets_first<P: Prefix>(map: &mut Map<P>, value: u64) -> bool {
     match map.values_mut().next() {
         Some(first) => {

@@ -1,4 +1,4 @@
-//! Cases of entries: what fills one, changes_entry one and takes one out.
+//! Cases of entries: calls that call, change and remove one.
 use crate::cases::under_test::InsertResult;
 use crate::cases::writes::put_in;
 use crate::cases::{Pair, prefix_of};
@@ -6,7 +6,7 @@ use prefix_trie::map::Entry;
 use prefix_trie::{Prefix, PrefixMap, Refusal, Refused};
 use std::alloc::Allocator;
 
-/// The calls that store a value: of a map, of `Entry`, and of `VacantEntry`.
+/// The calls that insert a value: of a map, of `Entry` and of `VacantEntry`.
 #[derive(Clone, Copy)]
 pub enum InsertVia {
     Map,
@@ -19,15 +19,15 @@ pub enum InsertVia {
     Default,
 }
 
-/// An answer that no table has.
+/// A result that no table has.
 const WRONG_RESULT: InsertResult = Ok(Some(u64::MAX));
 
-/// What a lent value tells of the one that was there: none if it is the one that was result_of_lent in.
+/// Returns the value that was there before a call lent this one, or `None` if it is the new value.
 fn previous_value(lent: u64, value: u64) -> Option<u64> {
     (lent != value).then_some(lent)
 }
 
-/// A lent value, or a refusal that hands the value back.
+/// Turns a lent value, or an error that returns the value, into the result of an insertion.
 fn result_of_lent(answer: Result<&mut u64, Refused<u64>>, value: u64) -> InsertResult {
     match answer {
         Ok(lent) => Ok(previous_value(*lent, value)),
@@ -35,7 +35,7 @@ fn result_of_lent(answer: Result<&mut u64, Refused<u64>>, value: u64) -> InsertR
     }
 }
 
-/// A lent value that was result_of_new by the call, or a refusal.
+/// Turns a lent value that the call itself made, or an error, into the result of an insertion.
 fn result_of_new(answer: Result<&mut u64, Refusal>, value: u64) -> InsertResult {
     match answer {
         Ok(lent) => Ok(previous_value(*lent, value)),
@@ -43,7 +43,7 @@ fn result_of_new(answer: Result<&mut u64, Refusal>, value: u64) -> InsertResult 
     }
 }
 
-/// The answer of a call whose closure was if_called_once so often, which is right once where the value is stored, and else never.
+/// Returns the result if the closure was called exactly once for a vacant entry and never for an occupied one.
 fn if_called_once(answer: InsertResult, calls: u64) -> InsertResult {
     let wanted = u64::from(answer == Ok(None));
     if calls == wanted {
@@ -53,7 +53,7 @@ fn if_called_once(answer: InsertResult, calls: u64) -> InsertResult {
     }
 }
 
-/// The entry of a prefix. It has no `ensures`: those of `entry` would be checked again at each call.
+/// Returns the entry of a prefix. It has no `ensures`, because each caller would check the clauses of `entry` again.
 fn entry_at<P: Prefix, A: Allocator>(
     map: &mut PrefixMap<P, u64, A>,
     at: Pair<P::R>,
@@ -92,39 +92,39 @@ fn insert_with<P: Prefix, A: Allocator>(
     }
 }
 
-/// The calls of a vacant entry that take no closure.
+/// Inserts by a call of a vacant entry that takes no closure.
 fn insert_if_vacant<P: Prefix, A: Allocator>(
     map: &mut PrefixMap<P, u64, A>,
-    fill: InsertVia,
+    call: InsertVia,
     at: Pair<P::R>,
     value: u64,
 ) -> InsertResult {
-    match (entry_at(map, at), fill) {
+    match (entry_at(map, at), call) {
         (Entry::Vacant(entry), InsertVia::Insert) => result_of_lent(entry.insert(value), value),
         (Entry::Vacant(entry), _) => result_of_new(entry.default(), value),
         (Entry::Occupied(_), _) => WRONG_RESULT,
     }
 }
 
-/// Stores a value by a call.
+/// Inserts a value by a call.
 pub fn insert_via<P: Prefix, A: Allocator>(
     map: &mut PrefixMap<P, u64, A>,
-    fill: InsertVia,
+    call: InsertVia,
     at: Pair<P::R>,
     value: u64,
 ) -> InsertResult {
-    match fill {
+    match call {
         InsertVia::Map => put_in(map, at, value),
         InsertVia::Put => entry_at(map, at).put(value).answer(),
         InsertVia::OrInsert => result_of_lent(entry_at(map, at).or_insert(value), value),
         InsertVia::OrInsertWith => or_insert_with(map, at, value),
         InsertVia::OrDefault => result_of_new(entry_at(map, at).or_default(), value),
         InsertVia::InsertWith => insert_with(map, at, value),
-        InsertVia::Insert | InsertVia::Default => insert_if_vacant(map, fill, at, value),
+        InsertVia::Insert | InsertVia::Default => insert_if_vacant(map, call, at, value),
     }
 }
 
-/// The prefix of an entry as a pair, and its value.
+/// Returns the prefix of an entry as a pair, and its value.
 fn key_and_value<P: Prefix, A: Allocator>(
     entry: &Entry<'_, P, u64, A>,
 ) -> (Pair<P::R>, Option<u64>) {
@@ -132,7 +132,7 @@ fn key_and_value<P: Prefix, A: Allocator>(
     ((key.repr(), key.prefix_len()), entry.get().copied())
 }
 
-/// The same of the entry of a pair.
+/// Returns the prefix and the value of the entry at a pair.
 fn entry_key_and_value<P: Prefix, A: Allocator>(
     map: &mut PrefixMap<P, u64, A>,
     at: Pair<P::R>,
@@ -140,7 +140,7 @@ fn entry_key_and_value<P: Prefix, A: Allocator>(
     key_and_value(&entry_at(map, at))
 }
 
-/// Whether an entry has its prefix as it was result_of_lent in, and no value. It is let go.
+/// Returns whether an entry is vacant and has its prefix with host bits. Drops the entry.
 pub fn is_vacant<P: Prefix, A: Allocator>(map: &mut PrefixMap<P, u64, A>, at: Pair<P::R>) -> bool {
     let is_empty = entry_key_and_value(map, at) == (at, None);
     match entry_at(map, at) {
@@ -149,7 +149,7 @@ pub fn is_vacant<P: Prefix, A: Allocator>(map: &mut PrefixMap<P, u64, A>, at: Pa
     }
 }
 
-/// Takes a stored value out by its entry.
+/// Removes a stored value through its entry. Returns whether it was this one.
 pub fn removes_entry<P: Prefix, A: Allocator>(
     map: &mut PrefixMap<P, u64, A>,
     at: Pair<P::R>,
@@ -161,8 +161,8 @@ pub fn removes_entry<P: Prefix, A: Allocator>(
     }
 }
 
-/// Calls all that finds an occupied entry, which takes none out: each has the value that the one before it left, and no closure
-/// that fills is if_called_once. The last insert_occupied it to another.
+/// Makes each call that finds an occupied entry and does not remove it. Each must find the value that the call before
+/// it left, and no closure that makes a value is called. The last call sets another value.
 pub fn changes_entry<P: Prefix, A: Allocator>(
     map: &mut PrefixMap<P, u64, A>,
     at: Pair<P::R>,
@@ -180,7 +180,7 @@ pub fn changes_entry<P: Prefix, A: Allocator>(
         & (reads_mut(map, at) == Some(value))
 }
 
-/// Adds one by `and_modify`, which finds the entry insert_via.
+/// Adds one by `and_modify`, which finds the entry occupied.
 fn adds_one<P: Prefix, A: Allocator>(
     map: &mut PrefixMap<P, u64, A>,
     at: Pair<P::R>,
@@ -189,7 +189,8 @@ fn adds_one<P: Prefix, A: Allocator>(
     result_of_lent(entry.or_insert(0), 0)
 }
 
-/// Reads a stored value by each call of its entry that reads_occupied, if it has its prefix without host bits. The entry is released.
+/// Reads a stored value by each call of its entry that reads. Returns it if the prefix has no host bits. Releases the
+/// entry.
 fn reads_occupied<P: Prefix, A: Allocator>(
     map: &mut PrefixMap<P, u64, A>,
     at: Pair<P::R>,
@@ -208,7 +209,7 @@ fn reads_occupied<P: Prefix, A: Allocator>(
     }
 }
 
-/// Sets a stored value by its entry, and answers the one that was there.
+/// Sets a stored value through its entry and returns the previous one.
 fn insert_occupied<P: Prefix, A: Allocator>(
     map: &mut PrefixMap<P, u64, A>,
     at: Pair<P::R>,
@@ -220,7 +221,7 @@ fn insert_occupied<P: Prefix, A: Allocator>(
     }
 }
 
-/// Reads it where it may be written, by `get_mut` of the entry.
+/// Reads a stored value by `get_mut` of the entry.
 fn read_by_get_mut<P: Prefix, A: Allocator>(
     map: &mut PrefixMap<P, u64, A>,
     at: Pair<P::R>,
@@ -232,7 +233,7 @@ fn read_by_get_mut<P: Prefix, A: Allocator>(
     }
 }
 
-/// The same, and by `get_mut` of the occupied entry and by `into_mut`.
+/// Reads a stored value by each call that lends it mutably.
 fn reads_mut<P: Prefix, A: Allocator>(
     map: &mut PrefixMap<P, u64, A>,
     at: Pair<P::R>,

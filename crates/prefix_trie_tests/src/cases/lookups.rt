@@ -1,4 +1,4 @@
-//! Cases that ask a map for a prefix, and for its counts.
+//! Cases that look up a prefix of a map, or count.
 ghost use Rattle.std.specs.Prelude.{◌≡◌, ◌∷◌, [], All, IfOk, length};
 
 use crate::cases::{Entry, Pair, prefix_of};
@@ -6,17 +6,17 @@ use crate::refusing::Refusing;
 use prefix_trie::{BlockCount, Prefix, PrefixMap};
 use std::alloc::{AllocError, Allocator, Global};
 
-/// Whether a request was refused, where one was to be or all; or none was to be.
+/// Returns whether a planned failure has happened, or none was planned.
 pub fn was_refused(heap: &Refusing<Global>) -> bool {
     (heap.left() != 1) & (heap.left() != u64::MAX)
 }
 
-/// A prefix as a pair.
+/// Returns a prefix as a pair.
 pub fn pair_of<P: Prefix + Copy>(prefix: P) -> Pair<P::R> {
     (prefix.repr(), prefix.prefix_len())
 }
 
-/// The pair of a prefix that was found.
+/// Returns a prefix that was found as a pair.
 pub fn as_pair<P: Prefix + Copy>(found: Option<P>) -> Option<Pair<P::R>> {
     match found {
         Some(prefix) => Some(pair_of(prefix)),
@@ -24,7 +24,7 @@ pub fn as_pair<P: Prefix + Copy>(found: Option<P>) -> Option<Pair<P::R>> {
     }
 }
 
-/// What was found, as it stands in tables.
+/// Returns an entry that was found as tables write it.
 pub fn as_entry<P: Prefix + Copy>(found: Option<(P, &u64)>) -> Option<Entry<P::R>> {
     match found {
         Some((prefix, value)) => Some((pair_of(prefix), *value)),
@@ -32,7 +32,7 @@ pub fn as_entry<P: Prefix + Copy>(found: Option<(P, &u64)>) -> Option<Entry<P::R
     }
 }
 
-/// The pair of an entry.
+/// Returns the pair of an entry.
 pub fn pair_of_entry<K: Copy>(entry: Option<Entry<K>>) -> Option<Pair<K>> {
     match entry {
         Some((pair, _)) => Some(pair),
@@ -40,7 +40,7 @@ pub fn pair_of_entry<K: Copy>(entry: Option<Entry<K>>) -> Option<Pair<K>> {
     }
 }
 
-/// The value of an entry.
+/// Returns the value of an entry.
 pub fn value_of_entry<K: Copy>(entry: Option<Entry<K>>) -> Option<u64> {
     match entry {
         Some((_, value)) => Some(value),
@@ -48,22 +48,22 @@ pub fn value_of_entry<K: Copy>(entry: Option<Entry<K>>) -> Option<u64> {
     }
 }
 
-/// Whether this entry was found.
+/// Returns whether this entry was found.
 fn is_found<P: Prefix + Copy>(found: Option<(P, &u64)>, wanted: Option<Entry<P::R>>) -> bool {
     as_entry(found) == wanted
 }
 
-/// Whether the prefix of this pair was found.
+/// Returns whether the prefix of this pair was found.
 pub fn has_pair<P: Prefix + Copy>(found: Option<P>, wanted: Option<Pair<P::R>>) -> bool {
     as_pair(found) == wanted
 }
 
-/// Whether this value was found.
+/// Returns whether this value was found.
 fn is_found_value(found: Option<&u64>, wanted: Option<u64>) -> bool {
     found.copied() == wanted
 }
 
-/// Whether the lookups of exactly a prefix answer so.
+/// Returns whether the exact lookups of a prefix find this entry.
 fn has<P: Prefix + Copy, A: Allocator>(
     map: &PrefixMap<P, u64, A>,
     prefix: &P,
@@ -76,7 +76,7 @@ fn has<P: Prefix + Copy, A: Allocator>(
         & has_value(map, prefix, value_of_entry(exact))
 }
 
-/// Whether those of its value do.
+/// Returns whether the exact lookups of its value find this one.
 fn has_value<P: Prefix + Copy, A: Allocator>(
     map: &PrefixMap<P, u64, A>,
     prefix: &P,
@@ -90,7 +90,7 @@ fn has_value<P: Prefix + Copy, A: Allocator>(
         & (map.contains_key_counted(prefix).0 == value.is_some())
 }
 
-/// Whether the lookups of the longest match answer so.
+/// Returns whether the lookups of the longest match find this entry.
 fn has_longest<P: Prefix + Copy, A: Allocator>(
     map: &PrefixMap<P, u64, A>,
     prefix: &P,
@@ -105,7 +105,7 @@ fn has_longest<P: Prefix + Copy, A: Allocator>(
         & is_found_value(map.get_lpm_value(prefix), value_of_entry(longest))
 }
 
-/// Whether those of many longest matches do, asked for one prefix.
+/// Returns whether the bulk lookups of one prefix find this entry.
 fn has_entry_in_bulk_of<'a, P: Prefix + Copy, A: Allocator>(
     map: &'a PrefixMap<P, u64, A>,
     asked: &[P],
@@ -123,7 +123,7 @@ fn has_entry_in_bulk_of<'a, P: Prefix + Copy, A: Allocator>(
     is_first & is_found(found.first().copied().flatten(), longest)
 }
 
-/// Whether those of their values do.
+/// Returns whether the bulk lookups of one prefix find this value.
 fn has_value_in_bulk<'a, P: Prefix + Copy, A: Allocator>(
     map: &'a PrefixMap<P, u64, A>,
     asked: &[P],
@@ -141,7 +141,7 @@ fn has_value_in_bulk<'a, P: Prefix + Copy, A: Allocator>(
     is_first & is_found_value(found[0], value)
 }
 
-/// One item, in memory of its own.
+/// Returns a vector with one item.
 fn vec_of_one<T: Drop>(alloc: Global, item: T) -> Result<Vec<T>, AllocError>
     ensures { IfOk result (λ items. items.items ≡ item ∷ []) }
 {
@@ -150,7 +150,7 @@ fn vec_of_one<T: Drop>(alloc: Global, item: T) -> Result<Vec<T>, AllocError>
     Ok(items)
 }
 
-/// Whether the lookups of many longest matches answer so for one prefix. What they answer stands in memory of its own.
+/// Returns whether the bulk lookups of one prefix find this entry, with a buffer for the result.
 fn has_entry_in_bulk<P: Prefix + Copy, A: Allocator>(
     alloc: Global,
     map: &PrefixMap<P, u64, A>,
@@ -166,7 +166,7 @@ fn has_entry_in_bulk<P: Prefix + Copy, A: Allocator>(
     }
 }
 
-/// Whether those of their values do.
+/// Returns whether the bulk lookups of one prefix find this value, with a buffer for the result.
 fn has_only_value_in_bulk<P: Prefix + Copy, A: Allocator>(
     alloc: Global,
     map: &PrefixMap<P, u64, A>,
@@ -182,7 +182,7 @@ fn has_only_value_in_bulk<P: Prefix + Copy, A: Allocator>(
     }
 }
 
-/// Whether both do for this prefix alone.
+/// Returns whether all bulk lookups of one prefix find this entry.
 fn matches_in_bulk<P: Prefix + Copy, A: Allocator>(
     alloc: Global,
     map: &PrefixMap<P, u64, A>,
@@ -200,7 +200,7 @@ fn matches_in_bulk<P: Prefix + Copy, A: Allocator>(
     }
 }
 
-/// Whether the lookups of the shortest match answer so.
+/// Returns whether the lookups of the shortest match find this entry.
 fn has_shortest<P: Prefix + Copy, A: Allocator>(
     map: &PrefixMap<P, u64, A>,
     prefix: &P,
@@ -213,7 +213,7 @@ fn has_shortest<P: Prefix + Copy, A: Allocator>(
         & has_shortest_prefix(map, prefix, pair_of_entry(shortest))
 }
 
-/// Whether those of its prefix do.
+/// Returns whether the lookups of the shortest match find this prefix.
 fn has_shortest_prefix<P: Prefix + Copy, A: Allocator>(
     map: &PrefixMap<P, u64, A>,
     prefix: &P,
@@ -227,7 +227,7 @@ fn has_shortest_prefix<P: Prefix + Copy, A: Allocator>(
         & (map.is_covered_counted(prefix).0 == pair.is_some())
 }
 
-/// Whether all lookups of a prefix answer so.
+/// Returns whether all lookups of a prefix find these entries.
 pub fn finds<P: Prefix + Copy, A: Allocator>(
     alloc: Global,
     map: &PrefixMap<P, u64, A>,
@@ -243,7 +243,7 @@ pub fn finds<P: Prefix + Copy, A: Allocator>(
         & has_shortest(map, &prefix, shortest)
 }
 
-/// How many slots blocks have.
+/// Returns the number of slots in all blocks.
 fn slots_in(counts: &[BlockCount]) -> usize {
     let mut slots = 0_usize;
     for count in counts {
@@ -253,13 +253,13 @@ fn slots_in(counts: &[BlockCount]) -> usize {
     slots
 }
 
-/// Whether both arrays are as long as their blocks, and the root's slot.
+/// Returns whether each array is as long as its blocks and, in the array of nodes, the slot of the root.
 pub fn slots_add_up<P: Prefix, A: Allocator>(map: &PrefixMap<P, u64, A>) -> bool {
     (map.node_slots() == slots_in(&map.node_blocks()).wrapping_add(1))
         & (map.cell_slots() == slots_in(&map.cell_blocks()))
 }
 
-/// Whether the blocks of a size are so many used and so many free.
+/// Returns whether this many blocks of a size are used and free.
 fn has_blocks(counts: &[BlockCount], wanted: BlockCount) -> bool {
     for count in counts {
         if count.size == wanted.size {

@@ -1,4 +1,4 @@
-//! Cases, as calls of a map.
+//! Cases as calls of a map.
 use crate::cases::entries::{InsertVia, changes_entry, insert_via, is_vacant, removes_entry};
 use crate::cases::lookups::{finds, has_cells, has_nodes, slots_add_up, was_refused};
 use crate::cases::under_test::{InsertResult, State, UnderTest};
@@ -88,12 +88,12 @@ impl<P: Prefix + Copy + PartialEq, A: Allocator + Copy> UnderTest<P::R, A>
             }
             // `under_test` makes these calls itself.
             Case::StartsAnew(_) | Case::Copies | Case::AreSame | Case::Swaps => false,
-            Case::Inserts(..) | Case::ExceedsLimit(..) | Case::Fills(..) => false,
+            Case::Inserts(..) | Case::ExceedsLimit(..) | Case::InsertsVia(..) => false,
         }
     }
 }
 
-/// StartsAnew the call of a case that removes all that a prefix contains, or all that a test rejects, or all.
+/// Makes the call of a case that removes all children of a prefix, all entries that a test rejects, or all entries.
 fn is_reduced<P: Prefix, A: Allocator>(
     map: &mut PrefixMap<P, u64, A>,
     case: &Case<'_, P::R>,
@@ -119,7 +119,7 @@ fn is_reduced<P: Prefix, A: Allocator>(
     }
 }
 
-/// Whether the call of a case that writes a value or takes an entry out returns what it should.
+/// Returns whether the call of a case that writes a value or removes an entry returns what it should.
 fn is_written<P: Prefix + Copy, A: Allocator>(
     map: &mut PrefixMap<P, u64, A>,
     case: &Case<'_, P::R>,
@@ -134,7 +134,7 @@ fn is_written<P: Prefix + Copy, A: Allocator>(
     }
 }
 
-/// Whether all walks give these entries.
+/// Returns whether all walks return these entries.
 fn lists<P: Prefix + Copy, A: Allocator>(
     map: &PrefixMap<P, u64, A>,
     entries: &[Entry<P::R>],
@@ -144,8 +144,8 @@ fn lists<P: Prefix + Copy, A: Allocator>(
         & gives_before_and_after_next(map.iter(), map.keys(), map.values(), entries)
 }
 
-/// Whether the slots or the blocks of a map are as a case says. Which these are is asked only if no request was refused, since a
-/// removal may then take fewer.
+/// Returns whether the slots or blocks of a map are those of a case. After a failed allocation this is not checked,
+/// because a removal may keep its larger block.
 fn is_stored_in<P: Prefix, A: Allocator>(
     map: &PrefixMap<P, u64, A>,
     case: &Case<'_, P::R>,

@@ -1,4 +1,4 @@
-//! Cases, as calls of a set: of an entry the key counts.
+//! Cases as calls of a set. Only the keys of the entries count.
 use crate::cases::entries::InsertVia;
 use crate::cases::lookups::{as_pair, has_pair, pair_of, pair_of_entry, was_refused};
 use crate::cases::under_test::{InsertResult, State, UnderTest};
@@ -11,7 +11,7 @@ use prefix_trie::set::Iter;
 use prefix_trie::{Prefix, PrefixSet, Refusal, Refused};
 use std::alloc::{AllocError, Allocator, Global};
 
-/// Whether a walk gives these keys.
+/// Returns whether a walk returns these keys.
 pub fn gives_keys<P: Prefix + Copy + PartialEq, A: Allocator>(
     walk: Iter<'_, P, A>,
     keys: &[P],
@@ -19,19 +19,19 @@ pub fn gives_keys<P: Prefix + Copy + PartialEq, A: Allocator>(
     walk.eq(keys.iter().copied())
 }
 
-/// Inserts a prefix. It has no `ensures`: those of `insert` would be checked again at each call.
+/// Inserts a prefix. It has no `ensures`, because each caller would check the clauses of `insert` again.
 pub fn put<P: Prefix, A: Allocator>(set: &mut PrefixSet<P, A>, prefix: P) -> Result<bool, Refusal>
     requires { P.IsFitting prefix }
 {
     set.insert(prefix)
 }
 
-/// Inserts a prefix. Answers whether it fits and is new.
+/// Inserts a prefix. Returns whether it fits and is new.
 pub fn adds_key<P: Prefix, A: Allocator>(set: &mut PrefixSet<P, A>, prefix: P) -> bool {
     prefix.fits() && put(set, prefix) == Ok(true)
 }
 
-/// All keys, as entries.
+/// Returns all keys as entries.
 fn entries_of<P: Prefix + Copy, A: Allocator>(
     alloc: Global,
     set: &PrefixSet<P, A>,
@@ -43,7 +43,7 @@ fn entries_of<P: Prefix + Copy, A: Allocator>(
     Ok(entries)
 }
 
-/// Whether a walk gives the keys of these entries.
+/// Returns whether a walk returns the keys of these entries.
 fn gives<P: Prefix + Copy, A: Allocator>(
     mut walk: Iter<'_, P, A>,
     entries: &[Entry<P::R>],
@@ -56,7 +56,8 @@ fn gives<P: Prefix + Copy, A: Allocator>(
     walk.next().is_none()
 }
 
-/// Whether the walks from a prefix on, behind it and contained_in_first it give the keys of these entries, which begin with its own.
+/// Returns whether the walks from a prefix on, after it and among its children return the keys of these entries. The
+/// first key is its own.
 fn gives_from<P: Prefix + Copy, A: Allocator>(
     set: &PrefixSet<P, A>,
     at: Pair<P::R>,
@@ -71,7 +72,7 @@ fn gives_from<P: Prefix + Copy, A: Allocator>(
         & gives(set.children(&prefix), contained_in_first(entries))
 }
 
-/// Whether a walk around a prefix gives these keys.
+/// Returns whether a walk over the keys that contain a prefix returns these.
 fn covers<P: Prefix + Copy, A: Allocator>(
     mut walk: CoverKeys<'_, P, (), A>,
     entries: &[Entry<P::R>],
@@ -84,7 +85,7 @@ fn covers<P: Prefix + Copy, A: Allocator>(
     walk.next().is_none()
 }
 
-/// Whether all lookups of a prefix answer so.
+/// Returns whether all lookups of a prefix find these keys.
 fn finds<P: Prefix + Copy, A: Allocator>(
     set: &PrefixSet<P, A>,
     at: Pair<P::R>,
@@ -181,12 +182,12 @@ impl<P: Prefix + Copy + PartialEq, A: Allocator + Copy> UnderTest<P::R, A> for P
             Case::LeavesVacant(_) | Case::NodeBlocks(..) | Case::CellBlocks(..) => true,
             // `under_test` makes these calls itself.
             Case::StartsAnew(_) | Case::Copies | Case::AreSame | Case::Swaps => false,
-            Case::Inserts(..) | Case::ExceedsLimit(..) | Case::Fills(..) => false,
+            Case::Inserts(..) | Case::ExceedsLimit(..) | Case::InsertsVia(..) => false,
         }
     }
 }
 
-/// StartsAnew the call of a case that removes all that a prefix contains, or all that a test rejects, or all.
+/// Makes the call of a case that removes all children of a prefix, all keys that a test rejects, or all keys.
 fn is_reduced<P: Prefix, A: Allocator>(set: &mut PrefixSet<P, A>, case: &Case<'_, P::R>) -> bool {
     match case {
         Case::DropsChildren(at) => {
@@ -205,7 +206,7 @@ fn is_reduced<P: Prefix, A: Allocator>(set: &mut PrefixSet<P, A>, case: &Case<'_
     }
 }
 
-/// Whether a set has the keys of these entries, and a walk and its clone give them.
+/// Returns whether a set has the keys of these entries, and a walk and its clone return them.
 fn lists<P: Prefix + Copy, A: Allocator>(set: &PrefixSet<P, A>, entries: &[Entry<P::R>]) -> bool {
     (set.len() == entries.len()) & gives(set.iter(), entries) & gives(set.iter().clone(), entries)
 }

@@ -1,7 +1,8 @@
-//! What cases are calls of, maps and sets, and what is the same of both: calls that may be refused, and those of two at once.
+//! The maps and sets that cases call, and the calls that both have in common: those that may fail, and those with two
+//! maps.
 //!
-//! Where a request is refused, the call that made it is refused with `Memory`, changes nothing and is made once more, with none
-//! refused from then on; but a removal does all that it should.
+//! If an allocation fails, the call must return `Memory` and change nothing. It is then made again, with no failures
+//! from then on. Removals must succeed nevertheless.
 use crate::cases::entries::InsertVia;
 use crate::cases::{Case, Entry, Pair};
 use crate::refusing::Refusing;
@@ -9,44 +10,45 @@ use prefix_trie::{Key, Refusal, Refused};
 use std::alloc::{AllocError, Allocator, Global};
 use std::mem;
 
-/// What an insertion answers.
+/// The result of an insertion.
 pub type InsertResult = Result<Option<u64>, Refused<u64>>;
 
-/// Entries in listing order, and how many nodes there are.
+/// Entries in listing order, and the number of nodes.
 pub type State<K> = (Vec<Entry<K>>, usize);
 
-/// A map or a set of prefixes, which are handed over as pairs. A value of a set is 0.
+/// A map or a set of prefixes, which are passed as pairs. A set stores the value 0 with each prefix.
 pub trait UnderTest<K: Key, A: Allocator + Copy>: Drop {
-    /// A new one, under a limit of slots or none.
+    /// Creates an empty one, with a slot limit or without.
     fn create(alloc: A, limit: Option<u32>) -> Result<Self, Refusal>;
 
-    /// A copy.
+    /// Clones it.
     fn copy(&self) -> Result<Self, AllocError>;
 
-    /// What it hands out, as what a pair contains.
+    /// Splits off the entries that a pair contains.
     fn split_off(&mut self, at: Pair<K>) -> Option<Self>;
 
-    /// Stores a value by a call.
+    /// Inserts a value by a call.
     fn store(&mut self, call: InsertVia, at: Pair<K>, value: u64) -> InsertResult;
 
-    /// What a value is once it is stored.
+    /// Returns what is stored for a value.
     fn stored_value(value: u64) -> u64;
 
     fn state(&self, alloc: Global) -> Result<State<K>, AllocError>;
 
     fn has_state(&self, state: &State<K>) -> bool;
 
-    /// Whether another has the same entries, nodes and blocks.
+    /// Returns whether another has the same entries, nodes and blocks.
     fn is_same(&self, other: &Self) -> bool;
 
-    /// Whether its arrays have room for what it has, as its blocks are.
+    /// Returns whether the arrays are as long as their blocks require.
     fn slots_add_up(&self) -> bool;
 
-    /// StartsAnew the call of a case that is of one alone and cannot be refused, and compares its answer.
+    /// Makes the call of a case that needs no second map and cannot fail. Returns whether the result is the expected
+    /// one.
     fn check_call(&mut self, heap: &Refusing<Global>, case: &Case<'_, K>) -> bool;
 }
 
-/// Puts what was made, if it was, in place of another, and answers whether it is there.
+/// Replaces a value if a new one was made. Returns whether it was.
 fn replace_if_ok<V: Drop, E: Drop>(target: &mut V, made: Result<V, E>) -> bool {
     match made {
         Ok(new) => {
@@ -57,7 +59,7 @@ fn replace_if_ok<V: Drop, E: Drop>(target: &mut V, made: Result<V, E>) -> bool {
     }
 }
 
-/// StartsAnew a new one in place of one. Answers whether it was refused where a request was, and only there.
+/// Replaces the subject by a new one. Returns whether this failed exactly if an allocation did.
 fn starts_anew<K: Key, A: Allocator + Copy, M: UnderTest<K, A>>(
     heap: &Refusing<Global>,
     alloc: A,
@@ -73,7 +75,7 @@ fn starts_anew<K: Key, A: Allocator + Copy, M: UnderTest<K, A>>(
     (answer.err() == Some(Refusal::Memory)) & replace_if_ok(subject, M::create(alloc, limit))
 }
 
-/// Puts a copy in place of the other. Answers whether it was refused where a request was, and only there.
+/// Replaces the other by a clone. Returns whether this failed exactly if an allocation did.
 fn copies<K: Key, A: Allocator + Copy, M: UnderTest<K, A>>(
     heap: &Refusing<Global>,
     subject: &M,
@@ -88,7 +90,7 @@ fn copies<K: Key, A: Allocator + Copy, M: UnderTest<K, A>>(
     answer.is_err() & replace_if_ok(other, subject.copy()) & subject.is_same(other)
 }
 
-/// Whether the answer of an insertion is as wanted, and nothing was changed where that is a refusal.
+/// Returns whether an insertion has the expected result and, if it failed, changed nothing.
 fn is_result<K: Key, A: Allocator + Copy, M: UnderTest<K, A>>(
     subject: &M,
     old: &State<K>,
@@ -98,7 +100,7 @@ fn is_result<K: Key, A: Allocator + Copy, M: UnderTest<K, A>>(
     (answer == *wanted) & (answer.is_ok() || subject.has_state(old))
 }
 
-/// StartsAnew an insertion into one of this state, as `stores` does.
+/// Makes an insertion into a subject with this state, as `stores` does.
 fn stores_in_state<K: Key, A: Allocator + Copy, M: UnderTest<K, A>>(
     heap: &Refusing<Global>,
     subject: &mut M,
@@ -124,7 +126,7 @@ fn stores_in_state<K: Key, A: Allocator + Copy, M: UnderTest<K, A>>(
     is_refused & is_result::<K, A, M>(subject, old, again, wanted)
 }
 
-/// What an insertion of a value answers: the value that was there, or a refusal that hands this one back.
+/// Returns the result of an insertion: the previous value, or an error that returns this value.
 fn expected_result<K: Key, A: Allocator + Copy, M: UnderTest<K, A>>(
     outcome: Result<Option<u64>, Refusal>,
     value: u64,
@@ -139,9 +141,9 @@ fn expected_result<K: Key, A: Allocator + Copy, M: UnderTest<K, A>>(
     }
 }
 
-/// StartsAnew an insertion, and once more where a request was refused. Answers whether it was answered as wanted, but with `Memory`
-/// where a request was refused and only there, and changed nothing where it was refused. Where none is left to be refused, the
-/// answer alone is looked at.
+/// Makes an insertion, and makes it again if an allocation failed. Returns whether it returned `Memory` exactly if an
+/// allocation failed, changed nothing then, and else had the expected result. If no allocation is to fail any more,
+/// only the result is compared.
 fn stores<K: Key, A: Allocator + Copy, M: UnderTest<K, A>>(
     heap: &Refusing<Global>,
     subject: &mut M,
@@ -159,7 +161,7 @@ fn stores<K: Key, A: Allocator + Copy, M: UnderTest<K, A>>(
     }
 }
 
-/// Whether all walks give these entries.
+/// Returns whether all walks return these entries.
 fn lists<K: Key, A: Allocator + Copy, M: UnderTest<K, A>>(
     heap: &Refusing<Global>,
     subject: &mut M,
@@ -174,7 +176,8 @@ fn lists<K: Key, A: Allocator + Copy, M: UnderTest<K, A>>(
     subject.check_call(heap, &Case::Lists(entries))
 }
 
-/// StartsAnew the call of a case, and compares its answer. Whether it is as said, and the arrays have the room that they should.
+/// Makes the call of a case. Returns whether the result is the expected one and the arrays are as long as they should
+/// be.
 pub fn holds<K: Key, A: Allocator + Copy, M: UnderTest<K, A>>(
     heap: &Refusing<Global>,
     alloc: A,
@@ -196,7 +199,7 @@ pub fn holds<K: Key, A: Allocator + Copy, M: UnderTest<K, A>>(
     is_held & subject.slots_add_up()
 }
 
-/// The same of a case that is of one alone.
+/// Makes the call of a case that needs no second map, and checks the same.
 pub fn holds_alone<K: Key, A: Allocator + Copy, M: UnderTest<K, A>>(
     heap: &Refusing<Global>,
     subject: &mut M,
@@ -205,7 +208,7 @@ pub fn holds_alone<K: Key, A: Allocator + Copy, M: UnderTest<K, A>>(
     holds_on_one::<K, A, M>(heap, subject, case) & subject.slots_add_up()
 }
 
-/// The same without the arrays.
+/// Makes the call of a case that needs no second map, without checking the arrays.
 fn holds_on_one<K: Key, A: Allocator + Copy, M: UnderTest<K, A>>(
     heap: &Refusing<Global>,
     subject: &mut M,
@@ -219,14 +222,14 @@ fn holds_on_one<K: Key, A: Allocator + Copy, M: UnderTest<K, A>>(
             let refused = Err(Refusal::IndexRange);
             stores::<K, A, M>(heap, subject, InsertVia::Map, &(*at, *value), refused)
         }
-        Case::Fills(call, at, value) => {
+        Case::InsertsVia(call, at, value) => {
             stores::<K, A, M>(heap, subject, *call, &(*at, *value), Ok(None))
         }
         _ => subject.check_call(heap, case),
     }
 }
 
-/// Whether all cases hold of one, beside another; else the first that does not.
+/// Returns the index of the first case that does not hold, if there is one.
 pub fn first_failure<K: Key, A: Allocator + Copy, M: UnderTest<K, A>>(
     heap: &Refusing<Global>,
     alloc: A,

@@ -1,11 +1,11 @@
-//! Cases that ask for all entries of a map, and for those around a prefix.
+//! Cases that walk all entries of a map, or those around a prefix.
 use crate::cases::lookups::{as_entry, as_pair, pair_of};
 use crate::cases::{Entry, Pair, prefix_of};
 use prefix_trie::map::{Iter, IterMut, Keys, Values};
 use prefix_trie::{Key, Prefix, PrefixMap};
 use std::alloc::{AllocError, Allocator, Global};
 
-/// All entries, by a loop over the map.
+/// Returns all entries, by a loop over the map.
 pub fn entries_of<P: Prefix + Copy, A: Allocator>(
     alloc: Global,
     map: &PrefixMap<P, u64, A>,
@@ -17,7 +17,7 @@ pub fn entries_of<P: Prefix + Copy, A: Allocator>(
     Ok(entries)
 }
 
-/// Whether a walk gives these entries.
+/// Returns whether a walk returns these entries.
 pub fn gives<P: Prefix + Copy, A: Allocator>(
     mut walk: Iter<'_, P, u64, A>,
     entries: &[Entry<P::R>],
@@ -30,7 +30,7 @@ pub fn gives<P: Prefix + Copy, A: Allocator>(
     walk.next().is_none()
 }
 
-/// Whether two walks give the same.
+/// Returns whether two walks return the same entries.
 pub fn gives_same<P: Prefix + Copy, A: Allocator>(
     walk: Iter<'_, P, u64, A>,
     mut other: Iter<'_, P, u64, A>,
@@ -43,7 +43,7 @@ pub fn gives_same<P: Prefix + Copy, A: Allocator>(
     other.next().is_none()
 }
 
-/// Whether this entry, its prefix and its value are an entry of a table.
+/// Returns whether an item, a key and a value are those of an entry.
 fn are_parts<P: Prefix + Copy>(
     item: Option<(P, &u64)>,
     key: Option<P>,
@@ -55,7 +55,7 @@ fn are_parts<P: Prefix + Copy>(
         & (value.copied() == Some(entry.1))
 }
 
-/// Whether three walks give these entries, their prefixes and their values.
+/// Returns whether three walks return these entries, their prefixes and their values.
 fn give_entries<P: Prefix + Copy, A: Allocator>(
     mut items: Iter<'_, P, u64, A>,
     mut keys: Keys<'_, P, u64, A>,
@@ -70,7 +70,8 @@ fn give_entries<P: Prefix + Copy, A: Allocator>(
     items.next().is_none() & keys.next().is_none() & values.next().is_none()
 }
 
-/// Whether three walks are at these entries, and behind the first give the rest, as clones of them do.
+/// Returns whether three walks return these entries and, after their first step, the rest. Their clones must do the
+/// same.
 pub fn gives_before_and_after_next<P: Prefix + Copy, A: Allocator>(
     mut items: Iter<'_, P, u64, A>,
     mut keys: Keys<'_, P, u64, A>,
@@ -87,13 +88,13 @@ pub fn gives_before_and_after_next<P: Prefix + Copy, A: Allocator>(
         & give_entries(items, keys, values, rest)
 }
 
-/// The first bits of a number, with all others cleared.
+/// Clears all bits of a number after the first ones.
 pub fn clear_host_bits<K: Key>(number: K, len: u8) -> K {
     let _ = number.is_key();
     number.keep(u32::from(len).min(K::width()))
 }
 
-/// The first entries of a list, whose prefixes the first contains.
+/// Returns the entries at the start of a list that its first entry contains.
 pub fn contained_in_first<K: Key>(entries: &[Entry<K>]) -> &[Entry<K>] {
     let Some(((number, len), _)) = entries.first() else {
         return entries;
@@ -106,7 +107,8 @@ pub fn contained_in_first<K: Key>(entries: &[Entry<K>]) -> &[Entry<K>] {
     entries
 }
 
-/// Whether the walks from a prefix on, behind it and contained_in_first it give these entries, which begin with its own.
+/// Returns whether the walks from a prefix on, after it and among its children return these entries. The first entry is
+/// its own.
 pub fn gives_from<P: Prefix + Copy, A: Allocator>(
     map: &PrefixMap<P, u64, A>,
     at: Pair<P::R>,
@@ -121,7 +123,7 @@ pub fn gives_from<P: Prefix + Copy, A: Allocator>(
         & gives(map.children(&prefix), contained_in_first(entries))
 }
 
-/// Whether a walk that lends values lends those of these entries.
+/// Returns whether a mutable walk lends the values of these entries.
 fn lends<'b, 'm, P: Prefix, A: Allocator>(
     walk: &'b mut IterMut<'m, P, u64, A>,
     entries: &[Entry<P::R>],
@@ -137,7 +139,7 @@ fn lends<'b, 'm, P: Prefix, A: Allocator>(
     walk.next_value().is_none()
 }
 
-/// Whether the walk that lends values from a prefix on, or behind it, lends those.
+/// Returns whether the mutable walk from a prefix on, or after it, lends these values.
 fn lends_from_prefix<P: Prefix, A: Allocator>(
     map: &mut PrefixMap<P, u64, A>,
     prefix: &P,
@@ -150,7 +152,7 @@ fn lends_from_prefix<P: Prefix, A: Allocator>(
     lends(&mut walk, entries)
 }
 
-/// Whether the one contained_in_first it does.
+/// Returns whether the mutable walk over the children of a prefix lends these values.
 fn lends_children<P: Prefix, A: Allocator>(
     map: &mut PrefixMap<P, u64, A>,
     prefix: &P,
@@ -162,7 +164,8 @@ fn lends_children<P: Prefix, A: Allocator>(
     lends(&mut walk, entries)
 }
 
-/// Whether the walks that lend values from a prefix on, behind it and contained_in_first it lend those of these entries, which begin with its own.
+/// Returns whether the mutable walks from a prefix on, after it and among its children lend the values of these
+/// entries. The first entry is its own.
 pub fn lends_from<P: Prefix, A: Allocator>(
     map: &mut PrefixMap<P, u64, A>,
     at: Pair<P::R>,
@@ -174,7 +177,7 @@ pub fn lends_from<P: Prefix, A: Allocator>(
         & lends_children(map, &prefix, contained_in_first(entries))
 }
 
-/// Whether the walks around a prefix give these entries.
+/// Returns whether the walks over the prefixes that contain this one return these entries.
 pub fn covers<P: Prefix + Copy, A: Allocator>(
     map: &PrefixMap<P, u64, A>,
     at: Pair<P::R>,

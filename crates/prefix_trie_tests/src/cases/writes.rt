@@ -16,7 +16,7 @@ pub fn put_in<P: Prefix, A: Allocator>(
     put(map, prefix_of(at), value)
 }
 
-/// Writes over what is lent, if anything is, and answers what was there.
+/// Replaces a value that is lent, and returns the previous one.
 fn write_lent(lent: Option<&mut u64>, value: u64) -> Option<u64> {
     match lent {
         Some(stored) => Some(mem::replace(stored, value)),
@@ -24,7 +24,7 @@ fn write_lent(lent: Option<&mut u64>, value: u64) -> Option<u64> {
     }
 }
 
-/// Writes a value by `get_mut`, the one before by the counted form, and the value again.
+/// Writes a value by `get_mut`, the previous one by the counted form, and the value again.
 pub fn writes<P: Prefix + Copy, A: Allocator>(
     map: &mut PrefixMap<P, u64, A>,
     at: Pair<P::R>,
@@ -40,7 +40,7 @@ pub fn writes<P: Prefix + Copy, A: Allocator>(
     (first == before) & (second == now) & (third == before)
 }
 
-/// Writes over the value of the longest match. Answers the entry that was there.
+/// Replaces the value of the longest match. Returns the previous entry.
 fn write_longest<P: Prefix + Copy, A: Allocator>(
     map: &mut PrefixMap<P, u64, A>,
     prefix: &P,
@@ -56,7 +56,7 @@ fn write_longest<P: Prefix + Copy, A: Allocator>(
     Some((pair_of(found), before))
 }
 
-/// The same by the counted form.
+/// Replaces the value of the longest match by the counted form. Returns the previous entry.
 fn write_longest_counted<P: Prefix + Copy, A: Allocator>(
     map: &mut PrefixMap<P, u64, A>,
     prefix: &P,
@@ -73,7 +73,7 @@ fn write_longest_counted<P: Prefix + Copy, A: Allocator>(
     Some((pair_of(found), before))
 }
 
-/// Writes a value by `get_lpm_mut`, the one before by the counted form, and the value again by `get_lpm_value_mut`.
+/// Writes a value by `get_lpm_mut`, the previous one by the counted form, and the value again by `get_lpm_value_mut`.
 pub fn writes_longest<P: Prefix + Copy, A: Allocator>(
     map: &mut PrefixMap<P, u64, A>,
     at: Pair<P::R>,

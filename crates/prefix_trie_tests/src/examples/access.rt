@@ -1,4 +1,4 @@
-//! An access list: networks whose addresses may enter, and networks whose addresses may not.
+//! An access list: networks that are allowed, and networks that are denied.
 ghost use Rattle.std.specs.Prelude.{◌≡◌, ◌&&◌, not, map, IfOk, IsTrue};
 ghost use Rattle.std.specs.Option.{is_some};
 ghost use Rattle.prefix_trie.specs.Words.{covers, ipv4_address, ipv4_back, shortest_match, IsUncovered};
@@ -7,10 +7,10 @@ use prefix_trie::laws::lookup_laws;
 use prefix_trie::{Ipv4Prefix, PrefixSet};
 use std::alloc::{AllocError, Allocator};
 
-/// Networks that are allowed, or those that are denied.
+/// Networks that are allowed, or networks that are denied.
 type Networks<A> = PrefixSet<Ipv4Prefix, A>;
 
-/// Whether an address may enter: an allowed network contains it, and no denied one does.
+/// Returns whether an address may enter: an allowed network contains it, and no denied one does.
 pub fn may_enter<A: Allocator>(allowed: &Networks<A>, denied: &Networks<A>, addr: u32) -> bool
     ensures decides { result ≡ (is_some (shortest_match allowed.now.entries (ipv4_address addr))
         && not (is_some (shortest_match denied.now.entries (ipv4_address addr)))) }
@@ -21,7 +21,7 @@ pub fn may_enter<A: Allocator>(allowed: &Networks<A>, denied: &Networks<A>, addr
     allowed.is_covered(&source) && !denied.is_covered(&source)
 }
 
-/// The denied networks that keep an address out, the widest first.
+/// Returns the denied networks that contain an address, the widest first.
 pub fn reasons<A: Allocator>(
     denied: &Networks<A>,
     addr: u32,

@@ -1,4 +1,4 @@
-//! A burst of packets: each address goes the way of the longest route that contains it, and one call looks all of them up.
+//! A burst of packets: one call finds the next hops of all addresses.
 ghost use Rattle.std.specs.Prelude.{◌≡◌, ◌^◌, ◌<◌, ◌≤◌, All, length, map, take};
 ghost use Rattle.std.specs.Option.{option_copied, option_map};
 ghost use Rattle.prefix_trie.specs.Words.{ipv4_address, longest_match};
@@ -9,10 +9,11 @@ use std::alloc::Allocator;
 /// Routes, each with the number of its next hop.
 type Routes<A> = PrefixMap<Ipv4Prefix, u32, A>;
 
-/// How many packets a burst has at most.
+/// The largest number of packets in a burst.
 pub const BURST: usize = 64;
 
-/// The next hop of each address, in the order of the addresses: that of the longest route which contains it, if one does.
+/// Writes the next hop of each address, in the order of the addresses. It is the hop of the longest route that contains
+/// the address, if there is one.
 pub fn next_hops<A: Allocator>(table: &Routes<A>, addresses: &[u32], hops: &mut [Option<u32>])
     requires burst { length addresses.now ≤ 64 }
     requires same_length { length hops.old ≡ length addresses.now }
@@ -27,7 +28,7 @@ pub fn next_hops<A: Allocator>(table: &Routes<A>, addresses: &[u32], hops: &mut 
     copy_values(&found[..count], hops);
 }
 
-/// The addresses as prefixes, which `prefixes` then begins with.
+/// Writes the addresses as prefixes to the start of a slice.
 fn as_prefixes(addresses: &[u32], prefixes: &mut [Ipv4Prefix])
     requires room { length addresses.now ≤ length prefixes.old }
     requires fit { All (λ p. (p.0 < 2 ^ 32) × (p.1 ≤ 32)) prefixes.old }
@@ -40,7 +41,7 @@ fn as_prefixes(addresses: &[u32], prefixes: &mut [Ipv4Prefix])
     }
 }
 
-/// Copies what was lent.
+/// Copies values that are lent.
 fn copy_values(found: &[Option<&u32>], values: &mut [Option<u32>])
     requires same_length { length values.old ≡ length found.now }
     ensures { values.new ≡ map option_copied found.now }

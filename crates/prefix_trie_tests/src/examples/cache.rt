@@ -1,13 +1,16 @@
-//! A cache: where a new entry is refused it forgets what it holds.
+//! A cache, which forgets all entries if a new one cannot be inserted.
 ghost use Rattle.std.specs.Prelude.{◌≡◌, cond, IfOk, IfErr};
 ghost use Rattle.prefix_trie.specs.Words.{no_entries, with_entry};
 
 use prefix_trie::{Prefix, PrefixMap, Refused};
 use std::alloc::Allocator;
 
-/// Stores a value, and answers whether all else stayed. Where an insertion is refused the cache forgets all, and tries once more.
+/// Stores a value. Returns whether all other entries were kept. If the insertion fails, the cache forgets all entries
+/// and tries once more.
 ///
-/// Errors: a refusal of the empty cache, with the value in it.
+/// # Errors
+///
+/// Returns the value back if the empty cache cannot store it either.
 pub fn store<P: Prefix + Copy, T: Drop, A: Allocator>(
     cache: &mut PrefixMap<P, T, A>,
     prefix: P,

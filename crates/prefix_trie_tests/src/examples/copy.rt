@@ -1,11 +1,11 @@
-//! A copy of a map, in memory of another allocator.
+//! A copy of a map that uses another allocator.
 ghost use Rattle.std.specs.Prelude.{◌≡◌, IfOk};
 
 use prefix_trie::laws::put_laws;
 use prefix_trie::{Prefix, PrefixMap, Refusal};
 use std::alloc::Allocator;
 
-/// A map with the same entries.
+/// Copies the entries of a map into a new one.
 pub fn copy_of<P: Prefix, T: Copy + Drop, A: Allocator, B: Allocator + Clone>(
     from: &PrefixMap<P, T, A>,
     alloc: B,

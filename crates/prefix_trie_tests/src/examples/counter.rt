@@ -1,4 +1,4 @@
-//! Counts of prefixes: how often each was seen, modulo 2^64, and what is made of them.
+//! Counts of prefixes, modulo 2^64, with their total and their sum.
 ghost use Rattle.std.specs.Prelude.{◌≡◌, ◌+◌, ◌%◌, ◌^◌, List, Bool, OnOk, map};
 ghost use Rattle.std.specs.Option.{option_map, unwrap_or};
 ghost use Rattle.std.specs.FinMap.{get};
@@ -25,7 +25,7 @@ pub fn count<P: Prefix, A: Allocator>(
     Ok(())
 }
 
-/// How often any prefix was seen.
+/// Returns the total of all counts.
 pub fn total<P: Prefix, A: Allocator>(counts: &PrefixMap<P, u64, A>) -> u64
     ensures { result ≡ sum (map (λ e. e.1) (listing counts.now.entries)) % 2 ^ 64 }
 {
@@ -37,7 +37,7 @@ pub fn total<P: Prefix, A: Allocator>(counts: &PrefixMap<P, u64, A>) -> u64
     total
 }
 
-/// A count that may be there, and one more.
+/// Adds to a count, which may be missing.
 fn added(before: Option<u64>, more: u64) -> u64
     ensures { result ≡ with_value (λ m n. (m + n) % 2 ^ 64) before more }
 {

@@ -1,4 +1,4 @@
-//! Delegations: IPv6 networks, each with the number of the one who holds it.
+//! Delegations: IPv6 networks, each with the number of its holder.
 ghost use Rattle.std.specs.Prelude.{◌≡◌, ◌≤◌, List, Bool, true, Some, IfSome, length, OnOk, OnErr};
 ghost use Rattle.std.specs.Option.{option_map};
 ghost use Rattle.prefix_trie.specs.Words.{begins, ipv6_address, ipv6_path, longest_match};
@@ -11,7 +11,11 @@ use std::io;
 /// Networks, each with the number of its holder.
 type Delegations<A> = PrefixMap<Ipv6Prefix, u32, A>;
 
-/// Records who holds a network, unless memory lacks. Addresses within it that no longer one contains are the holder's from then on.
+/// Records the holder of a network. Its addresses then have this holder, unless a longer network contains them.
+///
+/// # Errors
+///
+/// Returns an error if an allocation fails. The table is unchanged then.
 pub fn record<A: Allocator>(
     table: &mut Delegations<A>,
     network: Ipv6Prefix,
@@ -27,7 +31,7 @@ pub fn record<A: Allocator>(
     Ok(())
 }
 
-/// Who holds an address.
+/// Returns the holder of an address.
 pub fn holder<A: Allocator>(table: &Delegations<A>, addr: u128) -> Option<u32>
     ensures { result ≡ option_map (λ found. found.1) (longest_match table.now.entries (ipv6_address addr)) }
 {

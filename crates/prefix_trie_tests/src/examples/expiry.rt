@@ -1,4 +1,4 @@
-//! Entries that are kept by their values.
+//! Entries that are kept by their values, such as the time they were last seen.
 ghost use Rattle.std.specs.Prelude.{◌≡◌, nat_le, filter};
 ghost use Rattle.prefix_trie.specs.Words.{listing, needed};
 

@@ -9,7 +9,7 @@ use std::alloc::Allocator;
 /// Networks, each with the number of its owner.
 type Inventory<A> = PrefixMap<Ipv4Prefix, u32, A>;
 
-/// The first network behind the one that was read last, and its owner.
+/// Returns the first network after the one that was read last, and its owner.
 pub fn next<A: Allocator>(networks: &Inventory<A>, last: Ipv4Prefix) -> Option<(Ipv4Prefix, u32)>
     ensures { result ≡ first_item (shown ipv4_back (listing_after networks.now.entries (ipv4_path last))) }
 {
@@ -19,14 +19,14 @@ pub fn next<A: Allocator>(networks: &Inventory<A>, last: Ipv4Prefix) -> Option<(
     }
 }
 
-/// How many networks a block contains.
+/// Returns the number of networks within a block.
 pub fn count<A: Allocator>(networks: &Inventory<A>, block: Ipv4Prefix) -> usize
     ensures { result ≡ length (listing_below networks.now.entries (ipv4_path block)) }
 {
     networks.children(&block).count()
 }
 
-/// How many addresses the networks have, each counted once; none where that is all of them.
+/// Returns the number of addresses in all networks, each counted once, or `None` if they are all addresses.
 pub fn addresses<A: Allocator>(networks: &Inventory<A>) -> Option<u32>
     ensures { result ≡ address_answer 32 networks.now.entries }
 {

@@ -1,4 +1,4 @@
-//! The entries of one map put into another.
+//! Merging one map into another.
 ghost use Rattle.std.specs.Prelude.{◌≡◌, List, Bool, OnOk};
 ghost use Rattle.std.specs.Option.{option_or};
 ghost use Rattle.std.specs.FinMap.{get};
@@ -7,7 +7,7 @@ use prefix_trie::laws::put_laws;
 use prefix_trie::{Prefix, PrefixMap, Refusal};
 use std::alloc::Allocator;
 
-/// Puts all entries of one map into another. A prefix of both has the value that comes; each other one keeps the value that it has.
+/// Inserts all entries of one map into another. A prefix of both maps gets the new value. All other entries are kept.
 pub fn merge<P: Prefix, T: Copy + Drop, A: Allocator, B: Allocator>(
     to: &mut PrefixMap<P, T, A>,
     from: &PrefixMap<P, T, B>,

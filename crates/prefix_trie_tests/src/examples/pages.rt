@@ -1,4 +1,4 @@
-//! Entries that are read in pages: each begins behind the last entry of the one before.
+//! Entries that are read in pages. Each page starts after the last entry of the page before.
 ghost use Rattle.std.specs.Prelude.{◌≡◌, ℕ, ◌+◌, ◌<◌, ◌++◌, List, IfOk, OnOk, length, take};
 ghost use Rattle.prefix_trie.specs.Words.{listing, shown};
 
@@ -7,8 +7,8 @@ use prefix_trie::map::Iter;
 use prefix_trie::{Prefix, PrefixMap};
 use std::alloc::{AllocError, Allocator};
 
-/// The walk behind the entries that were read, which are the first of the map.
-fn behind<'m, P: Prefix, A: Allocator>(
+/// Returns the walk after the entries that were read, which are the first of the map.
+fn walk_after<'m, P: Prefix, A: Allocator>(
     map: &'m PrefixMap<P, u64, A>,
     read: &[(P, u64)],
 ) -> Iter<'m, P, u64, A>
@@ -16,7 +16,7 @@ fn behind<'m, P: Prefix, A: Allocator>(
     ensures { shown P.back (listing map.now.entries) ≡ read.now ++ result }
 {
     page_laws::<P, u64>();
-    // The proof learns from it that no key is longer than the width.
+    // Tells the proof that no key is longer than the width.
     let _ = map.len();
     match read.last() {
         Some((last, _)) => map.iter_from(last, false),
@@ -24,7 +24,7 @@ fn behind<'m, P: Prefix, A: Allocator>(
     }
 }
 
-/// Reads a page: at most `size` entries more, behind those that were read, which are the first of the map.
+/// Reads a page: at most `size` entries after those that were read, which are the first of the map.
 pub fn read_page<P: Prefix, A: Allocator, B: Allocator>(
     map: &PrefixMap<P, u64, A>,
     size: usize,
@@ -33,7 +33,7 @@ pub fn read_page<P: Prefix, A: Allocator, B: Allocator>(
     requires { (rest : List (P × ℕ)) × (shown P.back (listing map.now.entries) ≡ read.old.items ++ rest) }
     ensures { OnOk result (read.new.items ≡ take (length read.old.items + size) (shown P.back (listing map.now.entries))) }
 {
-    let mut walk = behind(map, read);
+    let mut walk = walk_after(map, read);
     for _i in 0..size {
         let Some((prefix, value)) = walk.next() else {
             return Ok(());
@@ -43,7 +43,7 @@ pub fn read_page<P: Prefix, A: Allocator, B: Allocator>(
     Ok(())
 }
 
-/// All entries, in pages of `size`.
+/// Reads all entries, in pages of `size`.
 pub fn read_all<P: Prefix, A: Allocator, B: Allocator>(
     map: &PrefixMap<P, u64, A>,
     size: usize,

@@ -1,4 +1,4 @@
-//! A map made anew, filled and pruned: it has exactly the nodes that its keys need.
+//! A map that is filled and pruned. It has exactly the nodes that its keys need.
 ghost use Rattle.std.specs.Prelude.{◌≡◌, IfOk};
 ghost use Rattle.prefix_trie.specs.Words.{needed, IsTidy};
 
@@ -6,7 +6,7 @@ use prefix_trie::laws::{listed_laws, node_laws, pruning_laws};
 use prefix_trie::{Prefix, PrefixMap, Refusal};
 use std::alloc::Allocator;
 
-/// Takes the prefixes of one map out of another. A tidy map stays tidy.
+/// Removes the prefixes of one map from another. A tidy map stays tidy.
 pub fn prune<P: Prefix, T: Drop, U: Drop, A: Allocator, B: Allocator>(
     map: &mut PrefixMap<P, T, A>,
     out: &PrefixMap<P, U, B>,
@@ -17,13 +17,13 @@ pub fn prune<P: Prefix, T: Drop, U: Drop, A: Allocator, B: Allocator>(
     listed_laws::<P, U>();
     pruning_laws::<T>();
     for (prefix, _unused) in out {
-        // The proof learns from it that the nodes are those of a map.
+        // Tells the proof that the nodes are those of a map.
         let _ = map.len();
         map.remove(&prefix);
     }
 }
 
-/// The entries of one map, but for the prefixes of another.
+/// Copies the entries of one map, except those whose prefix is in another.
 pub fn without<P: Prefix, T: Copy + Drop, U: Drop, A: Allocator>(
     from: &PrefixMap<P, T, A>,
     out: &PrefixMap<P, U, A>,

@@ -7,11 +7,15 @@ use prefix_trie::laws::{lookup_laws, narrow_laws};
 use prefix_trie::{Key, Narrow, PrefixMap, Refusal};
 use std::alloc::Allocator;
 
-/// Ranges, each the numbers that share their first bits, with the number of its owner.
+/// Ranges of numbers that share their first bits, each with the number of its owner.
 type Plan<const W: u32, A> = PrefixMap<(Narrow<W>, u8), u32, A>;
 
-/// Gives the numbers that share their first `len` bits with this one to an owner, unless memory lacks. The numbers of narrower
-/// ranges keep theirs.
+/// Gives the numbers that share their first `len` bits with this one to an owner. Numbers in narrower ranges keep
+/// theirs.
+///
+/// # Errors
+///
+/// Returns an error if an allocation fails. The plan is unchanged then.
 pub fn assign<const W: u32, A: Allocator>(
     plan: &mut Plan<W, A>,
     first: Narrow<W>,
@@ -34,7 +38,7 @@ pub fn assign<const W: u32, A: Allocator>(
     Ok(())
 }
 
-/// Who has a number: the owner of the narrowest range with it.
+/// Returns the owner of a number: the owner of the narrowest range that contains it.
 pub fn owner<const W: u32, A: Allocator>(plan: &Plan<W, A>, number: Narrow<W>) -> Option<u32>
     ensures { result ≡ option_map (λ found. found.1) (longest_match plan.now.entries (digits (narrow_width W) number.entry)) }
 {

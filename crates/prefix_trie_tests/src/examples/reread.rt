@@ -1,4 +1,4 @@
-//! Networks that are printed and read again, and networks in the order of a map.
+//! Networks that are printed and read again, and networks that are compared.
 ghost use Rattle.std.specs.Prelude.{◌≡◌, IfOk, Some};
 ghost use Rattle.prefix_trie.specs.Words.{ipv4_path, listing_cmp, HasNoHostBits};
 
@@ -7,7 +7,7 @@ use prefix_trie::{Ipv4Prefix, Ipv6Prefix};
 use std::alloc::{AllocError, Allocator};
 use std::cmp::Ordering;
 
-/// Prints a network and reads the text, which gives the network back.
+/// Prints a network and reads the text. The result is the network.
 pub fn reread<A: Allocator>(network: Ipv4Prefix, alloc: A) -> Result<Option<Ipv4Prefix>, AllocError>
     ensures { IfOk result (λ read. read ≡ Some network) }
 {
@@ -17,7 +17,7 @@ pub fn reread<A: Allocator>(network: Ipv4Prefix, alloc: A) -> Result<Option<Ipv4
     Ok(text.parse::<Ipv4Prefix>().ok())
 }
 
-/// The same for IPv6.
+/// Prints an IPv6 network and reads the text. The result is the network.
 pub fn reread_ipv6<A: Allocator>(
     network: Ipv6Prefix,
     alloc: A,
@@ -30,7 +30,7 @@ pub fn reread_ipv6<A: Allocator>(
     Ok(text.parse::<Ipv6Prefix>().ok())
 }
 
-/// Compares networks without host bits as a map lists them: what a program needs that merges two walks.
+/// Compares networks without host bits in listing order, as a program does that merges two walks.
 pub fn compare(a: &Ipv4Prefix, b: &Ipv4Prefix) -> Ordering
     ensures { HasNoHostBits 32 a.now → HasNoHostBits 32 b.now → result ≡ listing_cmp (ipv4_path a.now) (ipv4_path b.now) }
 {

@@ -1,4 +1,4 @@
-//! A route that is changed where it is found, and tables that are compared.
+//! Routes that are changed where they are stored, and tables that are compared.
 ghost use Rattle.std.specs.Prelude.{◌≡◌, ◌↔◌, IsTrue, MatchOption, is_some};
 ghost use Rattle.prefix_trie.specs.Words.{ipv4_address, longest_match, with_entry};
 
@@ -9,7 +9,7 @@ use std::alloc::Allocator;
 /// Routes, each with the number of its next hop.
 type Routes<A> = PrefixMap<Ipv4Prefix, u32, A>;
 
-/// Gives the longest route that contains an address another next hop, and answers whether there is one.
+/// Changes the next hop of the longest route that contains an address. Returns whether there is one.
 pub fn reroute<A: Allocator>(routes: &mut Routes<A>, addr: u32, hop: u32) -> bool
     ensures found { result ≡ is_some (longest_match routes.old.entries (ipv4_address addr)) }
     ensures changed { MatchOption (longest_match routes.old.entries (ipv4_address addr))
@@ -25,12 +25,12 @@ pub fn reroute<A: Allocator>(routes: &mut Routes<A>, addr: u32, hop: u32) -> boo
     }
 }
 
-/// Whether two tables have the same routes, each with the same next hop.
+/// Returns whether two tables have the same routes with the same next hops.
 pub fn are_same<A: Allocator>(routes: &Routes<A>, others: &Routes<A>) -> bool
     ensures { IsTrue result ↔ (routes.now.entries ≡ others.now.entries) }
 {
     equal_laws::<Ipv4Prefix, u32>();
-    // The proof learns from them that both are maps.
+    // Tells the proof that both are maps.
     let _ = routes.len();
     let _ = others.len();
     routes == others

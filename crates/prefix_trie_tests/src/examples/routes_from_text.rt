@@ -1,4 +1,4 @@
-//! A forwarding table as text: lines such as `10.0.0.0/8 7` are read into it, and it is printed as such lines.
+//! A forwarding table that is read from lines such as `10.0.0.0/8 7`, and printed as such lines.
 ghost use Rattle.std.specs.Prelude.{◌≡◌, ℕ, List, ◌++◌, IfOk, OnOk, OnErr, codes, decimal, flat_map, string_bytes};
 ghost use Rattle.std.specs.Option.{option_map};
 ghost use Rattle.std.specs.Net.Addr.{ipv4_bits};
@@ -13,7 +13,7 @@ use std::net::Ipv4Addr;
 /// Routes, each with the number of its next hop.
 type Routes<A> = PrefixMap<Ipv4Prefix, u32, A>;
 
-/// Why a line is not added.
+/// The reason why a line was not added.
 #[derive(Clone, Copy, PartialEq, Eq, Debug)]
 pub enum LineError {
     /// The line has no space.
@@ -22,7 +22,7 @@ pub enum LineError {
     Network(ParseNetworkError),
     /// The text after the first space is not a number of 32 bits.
     Hop,
-    /// The table refuses the route.
+    /// The table refused the route.
     Refused(Refusal),
 }
 
@@ -44,7 +44,11 @@ pub fn read_route(line: &str) -> Result<(Ipv4Prefix, u32), LineError>
     Ok((network, hop))
 }
 
-/// Adds the route of a line, or changes its next hop if the table has the route. On error the table is unchanged.
+/// Adds the route of a line, or changes its next hop if the table has the route.
+///
+/// # Errors
+///
+/// Returns the reason if the line is not a route or the table refuses it. The table is unchanged then.
 pub fn add_line<A: Allocator>(table: &mut Routes<A>, line: &str) -> Result<(), LineError>
     ensures added { OnOk result ((route : (ℕ × ℕ) × ℕ) × ((network hop : List ℕ) × (line.now ≡ network ++ (codes " " ++ hop))
         × IsIpv4NetworkText network route.0 × (digits_value 10 (without_leading_plus hop) ≡ route.1))
@@ -58,7 +62,7 @@ pub fn add_line<A: Allocator>(table: &mut Routes<A>, line: &str) -> Result<(), L
     }
 }
 
-/// The next hop of an address: that of the longest route which contains it, if one does.
+/// Returns the next hop of an address: the hop of the longest route that contains it, if there is one.
 pub fn next_hop<A: Allocator>(table: &Routes<A>, address: Ipv4Addr) -> Option<u32>
     ensures { result ≡ option_map (λ route. route.1) (longest_match table.now.entries (ipv4_address (ipv4_bits address))) }
 {
@@ -66,7 +70,7 @@ pub fn next_hop<A: Allocator>(table: &Routes<A>, address: Ipv4Addr) -> Option<u3
     table.get_lpm_value(&Ipv4Prefix::from(address)).copied()
 }
 
-/// Prints the table, a line for each route, in listing order.
+/// Prints the table in listing order, with one line for each route.
 pub fn print<A: Allocator, B: Allocator>(
     table: &Routes<A>,
     alloc: B,

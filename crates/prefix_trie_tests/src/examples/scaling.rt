@@ -1,4 +1,4 @@
-//! Values that are all changed in place.
+//! Values that are all changed where they are stored.
 ghost use Rattle.std.specs.Prelude.{◌≡◌, ◌*◌, ◌%◌, ◌^◌, List, Bool};
 ghost use Rattle.std.specs.FinMap.{get};
 ghost use Rattle.std.specs.Option.{option_map};
@@ -39,7 +39,7 @@ fn double_entries<'b, 'a, P: Prefix, A: Allocator>(walk: &'b mut IterMut<'a, P, 
     }
 }
 
-/// The same by a walk that gives the prefixes too.
+/// Doubles all values of a map by a walk that also yields the prefixes.
 pub fn double_each<P: Prefix, A: Allocator>(map: &mut PrefixMap<P, u64, A>)
     ensures entries { (s : List Bool) → get map.new.entries s ≡ option_map (λ v. (v * 2) % 2 ^ 64) (get map.old.entries s) }
 {

@@ -7,7 +7,8 @@ use prefix_trie::laws::{handing_laws, put_laws};
 use prefix_trie::{Prefix, PrefixMap, Refusal};
 use std::alloc::Allocator;
 
-/// Takes the entries that a prefix contains out of a table, as a table of their own, and puts them back. Answers how many there are.
+/// Splits the entries that a prefix contains off into a table of their own, and merges them again. Returns their
+/// number.
 pub fn split_and_merge<P: Prefix, T: Drop, A: Allocator + Clone>(
     table: &mut PrefixMap<P, T, A>,
     prefix: &P,

@@ -1,6 +1,6 @@
-//! The ends of each width: to every call a prefix with all host bits set and one with none are the same.
+//! The ends of each width. Every call treats a prefix with all host bits set and one without host bits alike.
 use crate::cases::Case::{
-    self, ChangesEntry, Covers, DropsChildren, Fills, Finds, Inserts, Len, ListsFrom, Removes,
+    self, ChangesEntry, Covers, DropsChildren, Finds, Inserts, InsertsVia, Len, ListsFrom, Removes,
     RemovesEntry, RemovesKeepTree, Writes, WritesLongest,
 };
 use crate::cases::entries::InsertVia;
@@ -11,7 +11,7 @@ use crate::refusing::Refusing;
 use prefix_trie::{Key, Narrow, Prefix, PrefixMap, PrefixSet};
 use std::alloc::{AllocError, Allocator, Global};
 
-/// The calls that store a value, and the values that they set.
+/// The calls that insert a value, and the values that they set.
 const FILLS: [(InsertVia, u64); 8] = [
     (InsertVia::Map, 6),
     (InsertVia::Put, 6),
@@ -23,15 +23,16 @@ const FILLS: [(InsertVia, u64); 8] = [
     (InsertVia::Default, 0),
 ];
 
-/// Whether a length is one of the first and the last of a width, or by the end of the first node.
+/// Returns whether a length is one of the first or last of a width, or next to the end of the first node.
 fn is_end(len: u8, width: u8) -> bool {
     matches!(len, 0 | 1 | 4 | 5) || width.saturating_sub(len) < 2
 }
 
-/// How many cases there are of two pairs where no other is stored.
+/// The number of cases of two pairs when no other is stored.
 const STEPS: u32 = 15;
 
-/// These in turn: insertions, lookups and removals take both pairs for the third. The entry is left.
+/// Returns one of these cases. They insert, look up and remove by both pairs, and find the third. The last one leaves
+/// the entry.
 fn case_at<'a, K: Key + 'a>(
     step: u32,
     at: Pair<K>,
@@ -52,12 +53,12 @@ fn case_at<'a, K: Key + 'a>(
         12 => DropsChildren(at),
         13 => Len(0),
         1 | 9 | 11 | 14 => Inserts(other, 1, None),
-        // No other step is one of them, so this never holds.
+        // There is no other step, so this never holds.
         _ => Len(usize::MAX),
     }
 }
 
-/// Whether all of them hold.
+/// Returns whether all cases hold, one after another.
 fn hold_in_order<K: Key, A: Allocator + Copy, M: UnderTest<K, A>>(
     heap: &Refusing<Global>,
     subject: &mut M,
@@ -73,7 +74,7 @@ fn hold_in_order<K: Key, A: Allocator + Copy, M: UnderTest<K, A>>(
     true
 }
 
-/// Whether what was handed out has one entry alone, and nothing is left.
+/// Returns whether the part has exactly one entry, and nothing is left.
 fn is_part<K: Key, A: Allocator + Copy, M: UnderTest<K, A>>(
     heap: &Refusing<Global>,
     subject: &mut M,
@@ -86,7 +87,7 @@ fn is_part<K: Key, A: Allocator + Copy, M: UnderTest<K, A>>(
         & holds_alone::<K, A, M>(heap, part, &Finds(entry.0, stored, stored, stored))
 }
 
-/// Whether that is so of what is handed out at a pair.
+/// Returns whether splitting at a pair gives exactly one entry, and leaves nothing.
 fn splits_off<K: Key, A: Allocator + Copy, M: UnderTest<K, A>>(
     heap: &Refusing<Global>,
     subject: &mut M,
@@ -99,7 +100,7 @@ fn splits_off<K: Key, A: Allocator + Copy, M: UnderTest<K, A>>(
     }
 }
 
-/// Whether what each call stores at one pair is taken out at the other.
+/// Returns whether what each call inserts at one pair is removed at the other.
 fn are_inserted_and_removed<K: Key, A: Allocator + Copy, M: UnderTest<K, A>>(
     heap: &Refusing<Global>,
     subject: &mut M,
@@ -107,7 +108,7 @@ fn are_inserted_and_removed<K: Key, A: Allocator + Copy, M: UnderTest<K, A>>(
     other: Pair<K>,
 ) -> bool {
     for (fill, value) in &FILLS {
-        let is_stored = holds_alone::<K, A, M>(heap, subject, &Fills(*fill, at, *value));
+        let is_stored = holds_alone::<K, A, M>(heap, subject, &InsertsVia(*fill, at, *value));
         if !(is_stored & holds_alone::<K, A, M>(heap, subject, &RemovesEntry(other, *value))) {
             return false;
         }
@@ -115,7 +116,7 @@ fn are_inserted_and_removed<K: Key, A: Allocator + Copy, M: UnderTest<K, A>>(
     true
 }
 
-/// Whether all calls take two pairs for the third, where nothing else is stored.
+/// Returns whether all calls treat two pairs as the third, when nothing else is stored.
 fn are_alike_alone<K: Key, A: Allocator + Copy, M: UnderTest<K, A>>(
     heap: &Refusing<Global>,
     subject: &mut M,
@@ -128,7 +129,7 @@ fn are_alike_alone<K: Key, A: Allocator + Copy, M: UnderTest<K, A>>(
         & are_inserted_and_removed::<K, A, M>(heap, subject, at, other)
 }
 
-/// The same at each length. Nothing is stored before and behind it.
+/// Returns whether both pairs of each length are treated alike. Nothing is stored before and after.
 fn are_alike_at_each_length<K: Key, A: Allocator + Copy, M: UnderTest<K, A>>(
     heap: &Refusing<Global>,
     subject: &mut M,
@@ -147,7 +148,8 @@ fn are_alike_at_each_length<K: Key, A: Allocator + Copy, M: UnderTest<K, A>>(
     true
 }
 
-/// Stores each length as its value, with host bits, and adds its entry to those in listing order. Answers whether all are new.
+/// Inserts each length as its value, with host bits. Adds the entries to a list, in listing order. Returns whether all
+/// are new.
 fn stores_ends<K: Key, A: Allocator + Copy, M: UnderTest<K, A>>(
     subject: &mut M,
     all_ones: K,
@@ -166,7 +168,7 @@ fn stores_ends<K: Key, A: Allocator + Copy, M: UnderTest<K, A>>(
     Ok(true)
 }
 
-/// Whether lookups and walks take a pair for the entry at a index, each of which contains the next.
+/// Returns whether lookups and walks treat a pair as the entry at an index. Each entry contains the next.
 fn is_found<K: Key, A: Allocator + Copy, M: UnderTest<K, A>>(
     heap: &Refusing<Global>,
     subject: &mut M,
@@ -183,7 +185,7 @@ fn is_found<K: Key, A: Allocator + Copy, M: UnderTest<K, A>>(
         & holds_alone::<K, A, M>(heap, subject, &ListsFrom(at, from))
 }
 
-/// Whether they take both pairs of each entry for it.
+/// Returns whether lookups and walks treat both pairs of each entry as its key.
 fn are_alike_together<K: Key, A: Allocator + Copy, M: UnderTest<K, A>>(
     heap: &Refusing<Global>,
     subject: &mut M,
@@ -201,7 +203,7 @@ fn are_alike_together<K: Key, A: Allocator + Copy, M: UnderTest<K, A>>(
     true
 }
 
-/// Whether both hold of one.
+/// Returns whether both checks hold.
 fn are_alike_in<K: Key, A: Allocator + Copy, M: UnderTest<K, A>>(
     heap: &Refusing<Global>,
     subject: &mut M,
@@ -213,7 +215,7 @@ fn are_alike_in<K: Key, A: Allocator + Copy, M: UnderTest<K, A>>(
         & are_alike_together::<K, A, M>(heap, subject, &entries, all_ones)
 }
 
-/// A new one that takes both prefixes of each length for one, with all of them.
+/// Builds a subject that treats both pairs of each length alike, alone and together.
 fn build_alike<K: Key, A: Allocator + Copy, M: UnderTest<K, A>>(
     heap: &Refusing<Global>,
     alloc: A,
@@ -224,7 +226,7 @@ fn build_alike<K: Key, A: Allocator + Copy, M: UnderTest<K, A>>(
     if is_alike { Some(subject) } else { None }
 }
 
-/// A number made of the values that a prefix takes out of a copy, in turn.
+/// Returns a digest of the values that a consuming walk over a clone yields, in order.
 fn digest_of_children<P: Prefix, A: Allocator + Clone>(
     map: &PrefixMap<P, u64, A>,
     at: Pair<P::R>,
@@ -236,7 +238,7 @@ fn digest_of_children<P: Prefix, A: Allocator + Clone>(
     Ok(number)
 }
 
-/// Whether both prefixes of each length take the same out of a map.
+/// Returns whether both pairs of each length have the same children in a map.
 fn have_same_children<P: Prefix, A: Allocator + Clone>(
     map: &PrefixMap<P, u64, A>,
     all_ones: P::R,
@@ -251,7 +253,7 @@ fn have_same_children<P: Prefix, A: Allocator + Clone>(
     true
 }
 
-/// Whether a new map takes both prefixes of each length for one, in all calls; the bits are those of a number.
+/// Returns whether a new map treats both pairs of each length alike in all calls. All bits of the number are set.
 fn is_map_alike<P: Prefix + Copy + PartialEq, A: Allocator + Copy>(
     heap: &Refusing<Global>,
     alloc: A,
@@ -263,7 +265,7 @@ fn is_map_alike<P: Prefix + Copy + PartialEq, A: Allocator + Copy>(
     }
 }
 
-/// The same of a new set and a new map.
+/// Returns whether a new set and a new map treat both pairs of each length alike.
 fn are_alike_anew<P: Prefix + Copy + PartialEq, A: Allocator + Copy>(
     heap: &Refusing<Global>,
     alloc: A,
@@ -273,7 +275,7 @@ fn are_alike_anew<P: Prefix + Copy + PartialEq, A: Allocator + Copy>(
         & is_map_alike::<P, A>(heap, alloc, all_ones)
 }
 
-/// The same of prefixes that are pairs.
+/// Returns whether maps and sets of pairs treat host bits alike.
 fn are_alike<K: Key>(heap: &Refusing<Global>, all_ones: K) -> bool {
     are_alike_anew::<(K, u8), &Refusing<Global>>(heap, heap, all_ones)
 }
@@ -289,7 +291,7 @@ fn host_bits_change_no_result(rt: HostRuntime) {
     );
 }
 
-/// The same of narrow keys, the greatest of which is this number.
+/// Returns whether maps and sets of narrow keys treat host bits alike. The number is the greatest key.
 fn are_narrow_alike<const W: u32>(heap: &Refusing<Global>, all_ones: u64) -> bool {
     match Narrow::<W>::new(all_ones) {
         Some(key) => are_alike(heap, key),

@@ -1,4 +1,4 @@
-//! What a caller of a run learns of its replies, by its contract alone.
+//! What the caller of a run learns from the contract alone.
 ghost use Rattle.std.specs.Prelude.{◌≡◌, ◌≤◌, ◌+◌, ◌/◌, ℕ, [], ◌∷◌, Some, IfOk, OnOk, length};
 ghost use Rattle.std.specs.FinMap.{len};
 ghost use Rattle.prefix_trie.specs.Words.{longest_match, needed, replies_of, shown_match};
@@ -14,7 +14,7 @@ type Pair = (u16, u8);
 
 type Numbers<A> = PrefixMap<Pair, u64, A>;
 
-// Asks a map for a longest match, whatever was done to it before: the match, and how many nodes were read.
+// Runs a longest match on any map. Returns the match and the number of nodes read.
 fn longest_of<A: Allocator + Clone>(
     alloc: A,
     map: &mut Numbers<A>,
@@ -29,7 +29,7 @@ fn longest_of<A: Allocator + Clone>(
     run_counted(alloc, map, &[Call::Lpm(prefix)])
 }
 
-// Counts the nodes of a map that is emptied and gets a key, whatever was done to it before.
+// Clears any map, inserts a key, and counts the nodes.
 fn nodes_once_cleared<A: Allocator + Clone>(
     alloc: A,
     map: &mut Numbers<A>,
@@ -43,7 +43,7 @@ fn nodes_once_cleared<A: Allocator + Clone>(
     run(alloc, map, &calls)
 }
 
-// Counts the nodes of a new map that gets a key.
+// Inserts a key into a new map, and counts the nodes.
 fn nodes_of_new<A: Allocator + Clone>(
     alloc: A,
     other: A,
@@ -60,7 +60,7 @@ fn nodes_of_new<A: Allocator + Clone>(
     }
 }
 
-/// Whether the last reply is this number of nodes.
+/// Returns whether the last reply is this number of nodes.
 fn ends_in(replies: &[Reply<Pair, Global>], nodes: usize) -> bool {
     match replies.last() {
         Some(Reply::Count(count)) => *count == nodes,
@@ -68,7 +68,7 @@ fn ends_in(replies: &[Reply<Pair, Global>], nodes: usize) -> bool {
     }
 }
 
-/// Whether a map has two nodes once it is emptied and gets a key of eight bits.
+/// Returns whether a map that is cleared and gets a key of eight bits has two nodes.
 fn has_two(map: &mut Numbers<Global>, alloc: Global) -> bool {
     match nodes_once_cleared(alloc, map, (0x0a00, 8)) {
         Ok(replies) => ends_in(&replies, 2),
@@ -76,7 +76,7 @@ fn has_two(map: &mut Numbers<Global>, alloc: Global) -> bool {
     }
 }
 
-/// Whether one match is found then.
+/// Returns whether one match is found.
 fn finds_one(map: &mut Numbers<Global>, alloc: Global) -> bool {
     match longest_of(alloc, map, (0x0a0b, 16)) {
         Ok(found) => found.0.len() == 1,
@@ -84,12 +84,12 @@ fn finds_one(map: &mut Numbers<Global>, alloc: Global) -> bool {
     }
 }
 
-/// Both in turn.
+/// Returns whether both checks hold.
 fn is_counted(map: &mut Numbers<Global>, alloc: Global) -> bool {
     has_two(map, alloc) & finds_one(map, alloc)
 }
 
-/// Whether a new map that gets such a key has two nodes.
+/// Returns whether a new map with a key of eight bits has two nodes.
 fn has_two_anew(alloc: Global) -> bool {
     match nodes_of_new(alloc, alloc, (0x0a00, 8)) {
         Ok(made) => ends_in(&made.1, 2),

@@ -1,4 +1,4 @@
-//! A long run: calls of all sixteen kinds, and their replies beside those of a plain sorted list.
+//! A long run of all sixteen kinds of calls, compared with a sorted list.
 ghost use Rattle.std.specs.Prelude.{◌≤◌, All, IfOk};
 ghost use Rattle.prefix_trie.specs.Words.{IsFittingCall};
 
@@ -9,7 +9,7 @@ use prefix_trie::replay::{Call, Reply, run};
 use prefix_trie::{Prefix, PrefixMap};
 use std::alloc::{AllocError, Global};
 
-/// How many runs are made, and of how many calls.
+/// The number of runs, and the number of calls in each.
 const RUNS: u64 = 100;
 
 const CALLS: u64 = 1_000;
@@ -22,7 +22,7 @@ type Entry = (Key, u64);
 
 type Map = PrefixMap<Key, u64, Global>;
 
-/// What is drawn of a call.
+/// The random choices for one call.
 #[derive(Clone, Copy)]
 struct Draw<K> {
     kind: u64,
@@ -30,12 +30,12 @@ struct Draw<K> {
     is_even: bool,
 }
 
-/// The draw after this one.
+/// Returns the random number after this one.
 fn next_random(x: u64) -> u64 {
     x.wrapping_mul(1_103_515_245).wrapping_add(12_345) % 0x8000_0000
 }
 
-/// The next call's number, and the key that it asks for; the draws are moved on.
+/// Returns a random number for the kind of a call, and a random key.
 pub fn random_call(x: &mut u64) -> (u64, Key)
     ensures { result.1.1 ≤ 8 }
 {
@@ -49,18 +49,18 @@ pub fn random_call(x: &mut u64) -> (u64, Key)
     )
 }
 
-/// The key of as many bits of this number, without host bits.
+/// Returns the key with the first bits of a number, without host bits.
 fn without_host_bits(number: u8, len: u8) -> Key {
     let host_bits = 0xff_u8.checked_shr(u32::from(len)).unwrap_or(0);
     (number & !host_bits, len)
 }
 
-/// Where a key without host bits stands in listing order: a string comes before its extensions, and 0 before 1.
+/// Returns the rank of a key without host bits in listing order: a string comes before its extensions, and 0 before 1.
 fn rank(key: Key) -> u16 {
     u16::from(key.0) * 256 + u16::from(key.1)
 }
 
-/// Whether an entry of this key contains what is asked for.
+/// Returns whether an entry with this key contains another key.
 fn contains(key: Key, asked: Key) -> bool {
     key.1 <= asked.1 && key == without_host_bits(asked.0, key.1)
 }
@@ -74,7 +74,7 @@ fn exact_match(list: &[Entry], asked: Key) -> Option<u64> {
     None
 }
 
-/// The first entry that contains the key: in listing order, the shortest.
+/// Returns the shortest match: the first entry in listing order that contains the key.
 fn shortest_match(list: &[Entry], asked: Key) -> Option<Entry> {
     for entry in list {
         if contains(entry.0, asked) {
@@ -84,7 +84,7 @@ fn shortest_match(list: &[Entry], asked: Key) -> Option<Entry> {
     None
 }
 
-/// The last entry that contains the key: in listing order, the longest.
+/// Returns the longest match: the last entry in listing order that contains the key.
 fn longest_match(list: &[Entry], asked: Key) -> Option<Entry> {
     let mut last = None;
     for entry in list {
@@ -95,7 +95,7 @@ fn longest_match(list: &[Entry], asked: Key) -> Option<Entry> {
     last
 }
 
-/// How many keys of all eight bits an entry contains. None if all.
+/// Returns the number of keys of all eight bits that an entry contains, or `None` if all are.
 fn address_count(list: &[Entry]) -> Option<u8> {
     let mut count = 0_u8;
     for number in 0..256_u16 {
@@ -106,7 +106,7 @@ fn address_count(list: &[Entry]) -> Option<u8> {
     Some(count)
 }
 
-/// One of the thirteen kinds of call that are drawn alike.
+/// Returns one of the thirteen kinds of call that are equally likely.
 fn other_call<P: Prefix>(which: u64, at: P, inclusive: bool) -> Call<P>
     requires { P.IsFitting at }
     ensures { IsFittingCall P.IsFitting result }
@@ -128,7 +128,7 @@ fn other_call<P: Prefix>(which: u64, at: P, inclusive: bool) -> Call<P>
     }
 }
 
-/// The call of a draw, in which an insertion sets this value.
+/// Returns the call for some choices. An insertion sets this value.
 fn call_of<P: Prefix>(draw: &Draw<P::R>, value: u64) -> Call<P>
     ensures { IsFittingCall P.IsFitting result }
 {
@@ -141,7 +141,7 @@ fn call_of<P: Prefix>(draw: &Draw<P::R>, value: u64) -> Call<P>
     }
 }
 
-/// The calls of a run, of which the first has this index.
+/// Returns the calls of a run. The first has this index.
 fn calls_of<P: Prefix>(
     alloc: Global,
     draws: &[Draw<P::R>],
@@ -157,7 +157,7 @@ fn calls_of<P: Prefix>(
     Ok(calls)
 }
 
-/// The draws of a run.
+/// Returns the choices for a run.
 fn random_run(alloc: Global, x: &mut u64) -> Result<Vec<Draw<u8>>, AllocError> {
     let mut draws = Vec::new(alloc);
     for _index in 0..CALLS {
@@ -168,7 +168,7 @@ fn random_run(alloc: Global, x: &mut u64) -> Result<Vec<Draw<u8>>, AllocError> {
     Ok(draws)
 }
 
-/// Whether a list that a call asks for has the entry of this key.
+/// Returns whether the list that a call returns has the entry of this key.
 fn selects(call: &Call<Key>, key: Key) -> bool {
     match call {
         Call::List => true,
@@ -185,7 +185,7 @@ fn selects(call: &Call<Key>, key: Key) -> bool {
     }
 }
 
-/// Whether a list is the one that a call asks for.
+/// Returns whether a call returns these entries.
 fn are_selected(entries: &[Entry], call: &Call<Key>, list: &[Entry]) -> bool {
     let mut index = 0_usize;
     for entry in list {
@@ -199,7 +199,8 @@ fn are_selected(entries: &[Entry], call: &Call<Key>, list: &[Entry]) -> bool {
     index == entries.len()
 }
 
-/// Whether a reply is that of the list, to which the call was not yet made. Of a count of nodes the list says nothing.
+/// Returns whether a reply is that of the list before the call. The list has no nodes, so a node count is only compared
+/// with 1.
 fn is_reply(reply: &Reply<Key, Global>, call: &Call<Key>, list: &[Entry]) -> bool {
     match call {
         Call::Insert(at, _) | Call::Get(at) | Call::Remove(at) | Call::RemoveKeepTree(at) => {
@@ -222,7 +223,7 @@ fn is_reply(reply: &Reply<Key, Global>, call: &Call<Key>, list: &[Entry]) -> boo
     }
 }
 
-/// Whether the entry of this key stays as it is.
+/// Returns whether a call leaves the entry of this key unchanged.
 fn keeps(call: &Call<Key>, key: Key) -> bool {
     match call {
         Call::Insert((number, len), _)
@@ -237,7 +238,7 @@ fn keeps(call: &Call<Key>, key: Key) -> bool {
     }
 }
 
-/// The list of the entries that stay as they are.
+/// Returns the entries that a call leaves unchanged.
 fn entries_kept(alloc: Global, list: &[Entry], call: &Call<Key>) -> Result<Vec<Entry>, AllocError> {
     let mut left = Vec::new(alloc);
     for entry in list {
@@ -248,7 +249,7 @@ fn entries_kept(alloc: Global, list: &[Entry], call: &Call<Key>) -> Result<Vec<E
     Ok(left)
 }
 
-/// The list with this entry before the first of a higher rank. No entry has its key.
+/// Returns the list with a new entry before the first one of a higher rank. No entry has its key.
 fn list_with(alloc: Global, list: &[Entry], added: Entry) -> Result<Vec<Entry>, AllocError> {
     let mut all = Vec::new(alloc);
     let mut is_in = false;
@@ -265,7 +266,7 @@ fn list_with(alloc: Global, list: &[Entry], added: Entry) -> Result<Vec<Entry>, 
     Ok(all)
 }
 
-/// The list once a call was made.
+/// Returns the list after a call.
 fn list_after(alloc: Global, list: &[Entry], call: &Call<Key>) -> Result<Vec<Entry>, AllocError> {
     let left = entries_kept(alloc, list, call)?;
     match call {
@@ -278,7 +279,7 @@ fn list_after(alloc: Global, list: &[Entry], call: &Call<Key>) -> Result<Vec<Ent
     }
 }
 
-/// Makes the calls on the list in turn. Answers whether each reply is that of the list.
+/// Makes the calls on the list. Returns whether all replies are those of the list.
 fn are_replies(
     alloc: Global,
     replies: &[Reply<Key, Global>],
@@ -294,7 +295,7 @@ fn are_replies(
     Ok(replies.len() == calls.len())
 }
 
-/// Makes one run. Answers whether each reply is that of the list, and both arrays are as long as their blocks afterwards.
+/// Makes one run. Returns whether all replies are those of the list, and both arrays are then as long as their blocks.
 fn runs_alike(
     alloc: Global,
     map: &mut Map,
@@ -307,7 +308,7 @@ fn runs_alike(
     Ok(are_replies(alloc, &replies, calls, list)? & slots_add_up(map))
 }
 
-/// Draws and makes all runs. Answers whether all replies are those of a list.
+/// Makes all runs with random calls. Returns whether all replies are those of the list.
 fn all_run_alike(map: &mut Map, alloc: Global) -> Result<bool, AllocError> {
     let mut list = Vec::new(alloc);
     let mut x = 1;

@@ -1,4 +1,4 @@
-//! Mixed calls of a map, each of which a set has to answer alike.
+//! Mixed calls of a map, for which a set must return the same.
 ghost use Rattle.std.specs.Prelude.{◌≤◌};
 
 use crate::cases::Case::{
@@ -17,7 +17,7 @@ use crate::runs::mixed::{Key, random_call};
 use prefix_trie::{PrefixMap, PrefixSet};
 use std::alloc::{AllocError, Global};
 
-/// How many calls are made.
+/// The number of calls.
 const CALLS: u64 = 20_000;
 
 /// The number of a call that lists all entries.
@@ -27,7 +27,7 @@ type Map = PrefixMap<Key, u64, Global>;
 
 type Set = PrefixSet<Key, Global>;
 
-/// StartsAnew a call that stores, or takes out all or what is short. Answers it beside its answer.
+/// Makes a call that inserts, clears or retains. Returns it as a case with its result.
 fn write_case(map: &mut Map, number: u64, asked: Key) -> Case<'static, u8>
     requires { asked.1 ≤ 8 }
 {
@@ -44,7 +44,7 @@ fn write_case(map: &mut Map, number: u64, asked: Key) -> Case<'static, u8>
     }
 }
 
-/// The same of a removal.
+/// Makes a removal. Returns it as a case with its result.
 fn removal_case(map: &mut Map, which: u64, asked: Key) -> Case<'static, u8>
     requires { asked.1 ≤ 8 }
 {
@@ -58,7 +58,7 @@ fn removal_case(map: &mut Map, which: u64, asked: Key) -> Case<'static, u8>
     }
 }
 
-/// The same of a question.
+/// Makes a lookup or counts. Returns it as a case with its result.
 fn lookup_case(map: &Map, which: u64, asked: Key) -> Case<'static, u8>
     requires { asked.1 ≤ 8 }
 {
@@ -75,7 +75,7 @@ fn lookup_case(map: &Map, which: u64, asked: Key) -> Case<'static, u8>
     }
 }
 
-/// The entries that a call lists: all, or those around a prefix.
+/// Returns the entries that a call lists: all, or those around a prefix.
 fn listed_entries(
     alloc: Global,
     map: &Map,
@@ -94,7 +94,7 @@ fn listed_entries(
     Ok(entries)
 }
 
-/// StartsAnew one call on a map. Answers whether a set answers it alike.
+/// Makes a call on a map. Returns whether a set gives the same result.
 fn agrees(
     heap: &Refusing<Global>,
     map: &mut Map,
@@ -116,7 +116,7 @@ fn agrees(
     Ok(holds_alone::<u8, Global, Set>(heap, set, &case))
 }
 
-/// StartsAnew all calls. Answers whether each was answered alike, and both have the same keys at the end.
+/// Makes all calls. Returns whether a set gives the same results, and has the same keys at the end.
 fn all_agree(map: &mut Map, set: &mut Set, heap: &Refusing<Global>) -> Result<bool, AllocError> {
     let mut x = 1;
     for _index in 0..CALLS {

@@ -1,4 +1,4 @@
-//! Free blocks: what takes them with every request for memory refused, and a removal that makes one.
+//! Free blocks: insertions that use them without allocating, and a removal that makes one.
 use crate::cases::Case::{
     self, AddressCount, CellBlocks, Clears, Covers, DropsChildren, Finds, Inserts, LeavesVacant,
     Len, Lists, NodeBlocks, NodeCount, Removes, RemovesKeepTree, Slots, StartsAnew, Writes,
@@ -9,7 +9,8 @@ use crate::networks::v4;
 use crate::refusing::Refusing;
 use crate::trials::{FaultPlan, Table, on_both};
 
-/// The first 24 of all pairs of at most four bits, which stand in a block of 24 once the other seven are gone.
+/// The first 24 of all pairs with at most four bits. They are stored in a block of 24 after the other seven are
+/// removed.
 const FIRST_24: [Entry<u8>; 24] = [
     ((0, 0), 0),
     ((0, 1), 1),
@@ -37,7 +38,8 @@ const FIRST_24: [Entry<u8>; 24] = [
     ((176, 4), 23),
 ];
 
-/// With every request refused the 25th goes into the free block of 31 and out again, a value is replaced, and all are taken out.
+/// Without allocating, a 25th pair is inserted into the free block of 31 and removed again, a value is replaced, and
+/// all are removed.
 const INTO_FREE_BLOCK: Table<'static, u8> = (
     &[
         Inserts((0, 0), 0, None),
@@ -118,8 +120,8 @@ fn an_insertion_uses_a_free_block(rt: HostRuntime) {
     );
 }
 
-/// Once the root has one value, no block of one is free, and the limit has room for another: a removal that takes only free blocks
-/// makes none.
+/// The root keeps one value, no block of one is free, and the limit leaves capacity for one: the removal makes it. A
+/// removal that used only free blocks would make none.
 const SMALLER_BLOCK_MADE: Table<'static, u8> = (
     &[],
     &[
@@ -143,7 +145,7 @@ fn a_removal_makes_a_smaller_block(rt: HostRuntime) {
     );
 }
 
-/// Five networks, each in the one before it.
+/// Five networks, each within the one before it.
 const FIVE_NETWORKS: [Entry<u32>; 5] = [
     (v4!(0, 0, 0, 0; 0), 0),
     (v4!(0, 0, 0, 0; 1), 1),
@@ -152,7 +154,7 @@ const FIVE_NETWORKS: [Entry<u32>; 5] = [
     (v4!(10, 1, 1, 1; 32), 32),
 ];
 
-/// The root's two values come last: so a block of one is free.
+/// The two values of the root are inserted last, so a block of one is free.
 const INSERT_FIVE: [Case<'static, u32>; 5] = [
     Inserts(v4!(10, 0, 0, 0; 8), 8, None),
     Inserts(v4!(10, 1, 1, 0; 24), 24, None),
@@ -161,7 +163,7 @@ const INSERT_FIVE: [Case<'static, u32>; 5] = [
     Inserts(v4!(0, 0, 0, 0; 1), 1, None),
 ];
 
-/// All questions, and changes, of the five networks.
+/// All lookups and changes of the five networks.
 pub const AMONG_FREE: [Table<'static, u32>; 2] = [
     (
         &INSERT_FIVE,
@@ -216,8 +218,8 @@ pub const AMONG_FREE: [Table<'static, u32>; 2] = [
             WritesLongest(v4!(255, 0, 0, 0; 8), 0, Some((v4!(0, 0, 0, 0; 0), 0))),
         ],
     ),
-    // A host and a half of all addresses go and come, and then all are taken out. The root's second value moves the first to the free
-    // block of one and back.
+    // A host and the lower half of all addresses are removed and inserted again, and then all are removed. The second
+    // value of the root moves the first to the free block of one and back.
     (
         &INSERT_FIVE,
         &[

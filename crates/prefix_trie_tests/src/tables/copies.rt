@@ -1,4 +1,4 @@
-//! Copies of a map, with each request for memory refused in turn, and with every one refused.
+//! Clones of a map.
 use crate::cases::Case::{
     AddressCount, AreSame, Clears, Copies, Finds, Inserts, Lists, NodeCount, Removes, Swaps,
 };
@@ -8,7 +8,8 @@ use crate::trials::Table;
 
 const TWO_NETWORKS: [Entry<u32>; 2] = [(v4!(10, 0, 0, 0; 8), 8), (v4!(10, 1, 0, 0; 16), 16)];
 
-/// Two networks, with free blocks in both arrays. The copy changes and the source does not, and the other way round.
+/// Two networks, with free blocks in both arrays. A change of the clone does not change the original, and the other way
+/// round.
 pub const INDEPENDENT: [Table<'static, u32>; 1] = [(
     &[],
     &[
@@ -43,7 +44,7 @@ pub const INDEPENDENT: [Table<'static, u32>; 1] = [(
     ],
 )];
 
-/// A network goes into the blocks that a removed one left, and out again.
+/// A network is inserted into the blocks that a removed one left, and is removed again.
 pub const INTO_FREE_BLOCKS: [Table<'static, u32>; 1] = [(
     &[
         Inserts(v4!(10, 0, 0, 0; 8), 8, None),

@@ -1,21 +1,17 @@
-//! Entries, with each request for memory refused in turn, and with every one refused.
-use crate::cases::Case::{ChangesEntry, Fills, Inserts, Len, Lists, NodeCount, RemovesEntry};
+//! Entries that are filled, changed and removed.
+use crate::cases::Case::{ChangesEntry, Inserts, InsertsVia, Len, Lists, NodeCount, RemovesEntry};
 use crate::cases::entries::InsertVia::{
     Default, Insert, InsertWith, OrDefault, OrInsert, OrInsertWith, Put,
 };
 use crate::networks::v4;
 use crate::trials::Table;
 
-/// A host's seven nodes, by each call that fills an entry; and a value more in a full block.
+/// Each call that fills an entry inserts a host's seven nodes. Another inserts a value into a full block.
 pub const VACANT: [Table<'static, u32>; 9] = [
     (
         &[],
-        &[Fills(Put, v4!(0, 0, 0, 0; 32), 9), Len(1), NodeCount(7)],
-    ),
-    (
-        &[],
         &[
-            Fills(OrInsert, v4!(0, 0, 0, 0; 32), 9),
+            InsertsVia(Put, v4!(0, 0, 0, 0; 32), 9),
             Len(1),
             NodeCount(7),
         ],
@@ -23,7 +19,7 @@ pub const VACANT: [Table<'static, u32>; 9] = [
     (
         &[],
         &[
-            Fills(OrInsertWith, v4!(0, 0, 0, 0; 32), 9),
+            InsertsVia(OrInsert, v4!(0, 0, 0, 0; 32), 9),
             Len(1),
             NodeCount(7),
         ],
@@ -31,26 +27,42 @@ pub const VACANT: [Table<'static, u32>; 9] = [
     (
         &[],
         &[
-            Fills(OrDefault, v4!(0, 0, 0, 0; 32), 0),
+            InsertsVia(OrInsertWith, v4!(0, 0, 0, 0; 32), 9),
             Len(1),
             NodeCount(7),
         ],
-    ),
-    (
-        &[],
-        &[Fills(Insert, v4!(0, 0, 0, 0; 32), 9), Len(1), NodeCount(7)],
     ),
     (
         &[],
         &[
-            Fills(InsertWith, v4!(0, 0, 0, 0; 32), 9),
+            InsertsVia(OrDefault, v4!(0, 0, 0, 0; 32), 0),
             Len(1),
             NodeCount(7),
         ],
     ),
     (
         &[],
-        &[Fills(Default, v4!(0, 0, 0, 0; 32), 0), Len(1), NodeCount(7)],
+        &[
+            InsertsVia(Insert, v4!(0, 0, 0, 0; 32), 9),
+            Len(1),
+            NodeCount(7),
+        ],
+    ),
+    (
+        &[],
+        &[
+            InsertsVia(InsertWith, v4!(0, 0, 0, 0; 32), 9),
+            Len(1),
+            NodeCount(7),
+        ],
+    ),
+    (
+        &[],
+        &[
+            InsertsVia(Default, v4!(0, 0, 0, 0; 32), 0),
+            Len(1),
+            NodeCount(7),
+        ],
     ),
     (
         &[
@@ -58,7 +70,7 @@ pub const VACANT: [Table<'static, u32>; 9] = [
             Inserts(v4!(0, 0, 0, 0; 1), 1, None),
         ],
         &[
-            Fills(InsertWith, v4!(0, 0, 0, 0; 2), 2),
+            InsertsVia(InsertWith, v4!(0, 0, 0, 0; 2), 2),
             Lists(&[
                 (v4!(0, 0, 0, 0; 0), 0),
                 (v4!(0, 0, 0, 0; 1), 1),
@@ -66,7 +78,7 @@ pub const VACANT: [Table<'static, u32>; 9] = [
             ]),
         ],
     ),
-    // Values are taken out of a node that has smaller blocks then, of which none was free.
+    // Values are removed from a node whose smaller blocks are not free.
     (
         &[
             Inserts(v4!(0, 0, 0, 0; 0), 0, None),
@@ -88,7 +100,7 @@ pub const VACANT: [Table<'static, u32>; 9] = [
     ),
 ];
 
-/// A stored value is read, changed and set without memory.
+/// A stored value is read, changed and set without allocating.
 pub const OCCUPIED: [Table<'static, u32>; 1] = [(
     &[Inserts(v4!(0, 0, 0, 0; 32), 1, None)],
     &[

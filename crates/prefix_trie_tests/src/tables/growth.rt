@@ -1,16 +1,16 @@
-//! New maps, insertions and limits, with each request for memory refused in turn.
+//! New maps, insertions and limits.
 use crate::cases::Case::{ExceedsLimit, Inserts, Len, Lists, NodeCount, StartsAnew};
 use crate::networks::v4;
 use crate::trials::Table;
 
-/// A new map, without a limit and under one of one slot.
+/// A new map without a limit, and one with a limit of one slot.
 pub const NEW_MAPS: [Table<'static, u32>; 2] = [
     (&[], &[StartsAnew(None), Len(0), NodeCount(1)]),
     (&[], &[StartsAnew(Some(1)), Len(0), NodeCount(1)]),
 ];
 
-/// A host's seven nodes, twice; a third value in the root, whose block of two is full; and a third child of the root, with nodes
-/// below it.
+/// A host's seven nodes, twice. A third value in the root, whose block of two is full. A third child of the root, with
+/// nodes below it.
 pub const GROWTHS: [Table<'static, u32>; 4] = [
     (
         &[NodeCount(1)],
@@ -58,7 +58,8 @@ pub const GROWTHS: [Table<'static, u32>; 4] = [
     ),
 ];
 
-/// A host's way has seven nodes. The root's two values stand in a block of two, and the first stood in a block of one.
+/// The search path of a host has seven nodes. The two values of the root are stored in a block of two, and the first
+/// was stored in a block of one.
 pub const LIMITS: [Table<'static, u32>; 2] = [
     (
         &[],

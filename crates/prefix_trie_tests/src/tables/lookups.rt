@@ -1,4 +1,4 @@
-//! All forms of lookups, counted ones too: of a count there is nothing to read.
+//! All forms of lookups, including the counted ones. A count has nothing to read.
 use crate::cases::Case::{Finds, Inserts, Lists, Writes, WritesLongest};
 use crate::networks::v4;
 use crate::refusing::Refusing;
@@ -6,7 +6,7 @@ use crate::trials::{FaultPlan, Table, on_both};
 use prefix_trie::Visits;
 use std::mem::size_of;
 
-/// Asked for the longer with host bits, for an address in it, and for one that neither contains.
+/// Looks up the longer prefix with host bits, an address in it, and one that neither contains.
 const NESTED: Table<'static, u16> = (
     &[],
     &[
@@ -42,7 +42,7 @@ fn all_lookups_read_and_write(rt: HostRuntime) {
     );
 }
 
-/// In an empty map, and beside a stored network or above it.
+/// Looks up a network in an empty map, beside a stored network, and around it.
 pub const NO_MATCH: [Table<'static, u32>; 1] = [(
     &[],
     &[

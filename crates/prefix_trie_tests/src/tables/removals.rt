@@ -1,4 +1,4 @@
-//! Taking entries out of a map, with each request for memory refused in turn, and with every one refused.
+//! Removals from a map, with each allocation failing and with all failing.
 use crate::cases::Case::{
     self, DropsChildren, Finds, Inserts, Len, Lists, NodeCount, Removes, RemovesKeepTree,
     RetainsFrom, RetainsLong,
@@ -11,8 +11,8 @@ use prefix_trie::Ipv4Prefix;
 use std::alloc::{AllocError, Global};
 use std::test::Fail;
 
-/// Keys are kept via their lengths. The smaller blocks that a node outgrew are taken via the node filled after it: so `retain` asks for
-/// others.
+/// Keys are kept by their lengths. The node filled later uses the smaller blocks that the first node outgrew, so
+/// `retain` must make others.
 pub const BY_LENGTH: [Table<'static, u32>; 1] = [(
     &[
         Inserts(v4!(0, 0, 0, 0; 0), 0, None),
@@ -36,7 +36,7 @@ pub const BY_LENGTH: [Table<'static, u32>; 1] = [(
     ],
 )];
 
-/// An empty node that is not on the way of a removal stays, and the removal's own goes.
+/// A removal prunes its own empty node, and no empty node off its search path.
 pub const OFF_THE_PATH: [Table<'static, u32>; 1] = [(
     &[],
     &[
@@ -50,7 +50,7 @@ pub const OFF_THE_PATH: [Table<'static, u32>; 1] = [(
     ],
 )];
 
-/// FaultPlan far apart 16 groups of five networks stand, and the networks in a group.
+/// The distance of 16 groups of five networks, and of the networks in a group.
 #[derive(Clone, Copy)]
 struct Groups {
     group_stride: u32,
@@ -58,21 +58,21 @@ struct Groups {
     len: u8,
 }
 
-/// Each group in a node of its own.
+/// Each group has a node of its own.
 const GROUP_IN_ONE_NODE: Groups = Groups {
     group_stride: 1 << 7,
     network_stride: 1 << 3,
     len: 29,
 };
 
-/// Each network in a node of its own, and those of a group below one node.
+/// Each network has a node of its own, and the nodes of a group are below one node.
 const GROUP_BELOW_ONE_NODE: Groups = Groups {
     group_stride: 1 << 12,
     network_stride: 1 << 7,
     len: 25,
 };
 
-/// FaultPlan entries are taken out.
+/// The calls that remove entries.
 #[derive(Clone, Copy)]
 enum RemoveVia {
     Remove,
@@ -89,13 +89,13 @@ fn network(groups: Groups, group: u32, item: u32) -> Pair<u32> {
     )
 }
 
-/// A network of 15 bits.
+/// Returns the network of 15 bits with this number.
 fn numbered_network(number: u32) -> Pair<u32> {
     (number << 17, 15)
 }
 
-/// What is made of the networks that are numbered_network below this: each second of them is taken out, from the first on, and once more: it
-/// is then not there, and that behind it is. Then the others are there, and no more.
+/// Returns a step of the removal of each second network, from the first on. Each is removed twice, and the second
+/// removal finds nothing. Then exactly the others must be left.
 fn even_removal_case(end: u32, step: u32) -> Case<'static, u32> {
     let steps = end.saturating_add(end % 2);
     let number = step % steps.max(1);
@@ -113,8 +113,8 @@ fn even_removal_case(end: u32, step: u32) -> Case<'static, u32> {
     }
 }
 
-/// Takes a network of this value out; via a prefix that is shorter via two bits also those beside it, and via a test those of the
-/// other groups.
+/// Returns the removal of a network with this value. `Children` uses a prefix that is two bits shorter, and so removes
+/// its neighbors. `Retain` uses a test, and so removes from all groups.
 fn removal_case(at: Pair<u32>, item: u32, via: RemoveVia) -> Case<'static, u32> {
     let value = u64::from(item);
     match via {
@@ -125,7 +125,7 @@ fn removal_case(at: Pair<u32>, item: u32, via: RemoveVia) -> Case<'static, u32> 
     }
 }
 
-/// FaultPlan many networks of a group are left once this one of it was taken out.
+/// Returns the number of networks left in a group after this one is removed.
 fn entries_left_in_group(item: u32, via: RemoveVia) -> usize {
     match via {
         RemoveVia::Children if item < 4 => 1,
@@ -133,8 +133,8 @@ fn entries_left_in_group(item: u32, via: RemoveVia) -> usize {
     }
 }
 
-/// What is made of groups: all networks are taken out, the first of each group before any second: then a group needs small blocks that
-/// none has left. Each removal does all that it should, and no more.
+/// Returns a step of the removal of all networks. The first of each group is removed before any second, so the group
+/// needs small blocks that no other group has left. Each removal must remove what it should, and no more.
 fn group_removal_case(groups: Groups, via: RemoveVia, step: u32) -> Case<'static, u32> {
     let (item, position) = (step / 33, step % 33);
     let at = network(groups, position / 2, item);
@@ -148,17 +148,17 @@ fn group_removal_case(groups: Groups, via: RemoveVia, step: u32) -> Case<'static
 /// A list of cases.
 #[derive(Clone, Copy)]
 enum CaseList {
-    /// Stores the networks of 15 bits, with their numbers as values.
+    /// Inserts the networks of 15 bits, with their numbers as values.
     InsertNumbered,
-    /// Takes each second of so many out.
+    /// Removes each second one of this many networks.
     RemoveEven(u32),
-    /// Stores groups, one after the other: then a group takes the small blocks that the one before it left.
+    /// Inserts groups one after another. Each group uses the small blocks that the group before it left.
     InsertGroups(Groups),
-    /// Takes groups out.
+    /// Removes groups by a call.
     RemoveGroups(Groups, RemoveVia),
 }
 
-/// The case of this number.
+/// Returns the case with this number.
 fn case_at(list: CaseList, number: u32) -> Case<'static, u32> {
     match list {
         CaseList::InsertNumbered => Inserts(numbered_network(number), u64::from(number), None),
@@ -173,7 +173,7 @@ fn case_at(list: CaseList, number: u32) -> Case<'static, u32> {
 
 type Cases = Vec<Case<'static, u32>, Global>;
 
-/// The first cases of a list.
+/// Returns the first cases of a list.
 fn cases_of(alloc: Global, list: CaseList, len: u32) -> Result<Cases, AllocError> {
     let mut cases = Vec::new(alloc);
     for number in 0..len {
@@ -182,7 +182,7 @@ fn cases_of(alloc: Global, list: CaseList, len: u32) -> Result<Cases, AllocError
     Ok(cases)
 }
 
-/// Runs a table, on maps and, unless a set has no such call, on sets.
+/// Runs a table on maps and, if sets have the call, on sets.
 fn run(
     heap: &Refusing<Global>,
     table: &Table<'_, u32>,
@@ -196,7 +196,7 @@ fn run(
     }
 }
 
-/// The same of the first cases of two lists.
+/// Runs the first cases of two lists.
 fn run_lists(
     heap: &Refusing<Global>,
     first: Result<Cases, AllocError>,
@@ -209,7 +209,7 @@ fn run_lists(
     Ok(())
 }
 
-/// Takes each second network out with each request of the removals refused in turn, or with every one refused.
+/// Removes each second network under a plan for the allocations of the removals.
 fn remove_even(alloc: Global, end: u32, plan: FaultPlan) -> Result<(), Fail> {
     let heap = Refusing::new(alloc);
     let first = cases_of(alloc, CaseList::InsertNumbered, end);
@@ -231,7 +231,7 @@ fn removals_need_no_memory(rt: HostRuntime) -> Result<(), Fail> {
     remove_even(rt.alloc(), 50, FaultPlan::AllRequests)
 }
 
-/// Takes groups out with each request of the removals refused in turn.
+/// Removes groups with each allocation of the removals failing.
 fn remove_groups(
     heap: &Refusing<Global>,
     alloc: Global,

@@ -1,12 +1,12 @@
-//! The walks of a map of networks, by the names that this crate gives them.
+//! The walks of a map of networks.
 use crate::cases::Case::{Covers, Inserts, Lists, Writes, WritesLongest};
 use crate::networks::v4;
 use crate::trials::Table;
 use prefix_trie::map::{Iter, Keys, Values};
 use std::alloc::Global;
 
-/// A neighbour of a site, an office of the site, the site and all addresses. The walks are around a host of the office, and around
-/// a network that contains the site.
+/// A site's neighbor, an office of the site, the site and all addresses. The walks are around a host of the office, and
+/// around a network that contains the site.
 pub const ROUTES: [Table<'static, u32>; 1] = [(
     &[],
     &[
@@ -47,7 +47,7 @@ pub const ROUTES: [Table<'static, u32>; 1] = [(
     ],
 )];
 
-/// Whether walks of no map are at their end.
+/// Returns whether default walks are at their end.
 fn are_over(
     mut entries: Iter<'_, (u32, u8), u64, Global>,
     mut keys: Keys<'_, (u32, u8), u64, Global>,

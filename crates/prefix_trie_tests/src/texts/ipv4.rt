@@ -4,7 +4,7 @@ use prefix_trie::{Ipv4Prefix, Prefix};
 use std::net::Ipv4Addr;
 use std::test::Fail;
 
-/// A text, with the address and the length that it writes. Each is printed as it was read.
+/// A text, and its address and length. Each network is printed as it was read.
 static READ: [(&str, u32, u8); 7] = [
     ("0.0.0.0/0", 0, 0),
     ("255.255.255.255/32", 0xffff_ffff, 32),
@@ -103,7 +103,7 @@ static ENDS: [(&str, &str, &str, Option<&str>); 6] = [
     ("1.2.3.4/0", "0.0.0.0", "255.255.255.255", None),
 ];
 
-/// Whether the printed parent is the expected one.
+/// Returns whether the printed parent is the expected one.
 fn is_parent(
     rt: &HostRuntime,
     parent: Option<Ipv4Prefix>,

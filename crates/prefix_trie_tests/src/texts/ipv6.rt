@@ -4,8 +4,8 @@ use prefix_trie::{Ipv6Prefix, Prefix};
 use std::net::Ipv6Addr;
 use std::test::Fail;
 
-/// A text, the address and the length that it writes, and the text that is printed. The first part is from RFC 4291, then come the
-/// examples of RFC 5952, and others at the edges of its rules.
+/// A text, its address and length, and the printed text. The first part is from RFC 4291. Then come the examples of RFC
+/// 5952, and others at the edges of its rules.
 static READ: [(&str, u128, u8, &str); 35] = [
     (
         "ABCD:EF01:2345:6789:ABCD:EF01:2345:6789/128",
@@ -189,7 +189,7 @@ static READ: [(&str, u128, u8, &str); 35] = [
     ),
 ];
 
-/// A text that is not a network, and the reason. The text with `CD3` is one that RFC 4291 calls not legal.
+/// A text that is not a network, and the reason. RFC 4291 calls the text with `CD3` not legal.
 static REFUSED: [(&str, ParseNetworkError); 37] = [
     ("", MissingSlash),
     ("::", MissingSlash),
@@ -237,7 +237,7 @@ fn ipv6_networks_are_read_and_printed(rt: HostRuntime) -> Result<(), Fail> {
         assert_eq!(rt; network.addr(), addr, "{text}");
         assert_eq!(rt; network.prefix_len(), len, "{text}");
         assert_eq!(rt; format!(in rt.alloc(); "{network}")?.as_str(), printed);
-        // the full text is read as the same network
+        // The full text is read as the same network.
         let full = format!(in rt.alloc(); "{network:?}")?;
         assert_eq!(rt; full.as_str().parse::<Ipv6Prefix>()?, network, "{text}");
     }
@@ -251,7 +251,7 @@ fn other_texts_are_refused_as_ipv6_networks(rt: HostRuntime) {
     }
 }
 
-/// The longest texts, which fill the buffer that they are padded in. That writing them does not fail is what no contract says.
+/// The longest texts fill the buffer in which they are padded. No contract says that writing them does not fail.
 #[test]
 fn longest_texts_are_printed(rt: HostRuntime) -> Result<(), Fail> {
     let longest = "1111:2222:3333:4444:5555:6666:7777:8888/128";
@@ -299,7 +299,7 @@ static ENDS: [(&str, &str, &str, Option<&str>); 5] = [
     ),
 ];
 
-/// Whether the printed parent is the expected one.
+/// Returns whether the printed parent is the expected one.
 fn is_parent(
     rt: &HostRuntime,
     parent: Option<Ipv6Prefix>,

@@ -1,4 +1,4 @@
-//! Numbers of any width, errors, widths of the printed text, and the order of networks.
+//! Numbers of any width, errors, widths of printed texts, and the order of networks.
 use prefix_trie::{Ipv4Prefix, Ipv6Prefix, Narrow, ParseNarrowError, ParseNetworkError, PrefixMap};
 use std::hash::{DefaultHasher, Hash, Hasher};
 use std::net::{Ipv4Addr, Ipv6Addr};
@@ -87,7 +87,7 @@ fn networks_are_made_of_addresses(rt: HostRuntime) -> Result<(), Fail> {
     Ok(())
 }
 
-/// The hash of a network.
+/// Returns the hash of a value.
 fn hash_of<T: Hash>(value: &T) -> u64 {
     let mut hasher = DefaultHasher::new();
     value.hash(&mut hasher);

@@ -1,4 +1,4 @@
-//! The example of a table as text.
+//! The example programs that read and print networks.
 use crate::examples::reread::{compare, reread, reread_ipv6};
 use crate::examples::routes_from_text::{LineError, add_line, next_hop, print};
 use prefix_trie::{ParseNetworkError, PrefixMap};

@@ -1,4 +1,4 @@
-//! Walks that take a map apart: what a caller knows of them, and what is dropped when.
+//! Walks that consume a map: what callers learn, and when values are dropped.
 ghost use Rattle.std.specs.Prelude.{◌≡◌, OnOk};
 ghost use Rattle.prefix_trie.specs.Words.{listing, put_all, shown};
 
@@ -11,7 +11,7 @@ use prefix_trie::{Prefix, PrefixMap, Refused};
 use std::alloc::{Allocator, Global};
 use std::cell::Cell;
 
-// Moves all entries of one map into another, and stops where one is refused.
+// Moves all entries of one map into another, and stops at the first error.
 fn pour<P: Prefix, T: Drop, A: Allocator>(
     to: &mut PrefixMap<P, T, A>,
     from: PrefixMap<P, T, A>,
@@ -28,16 +28,16 @@ type Key = (u32, u8);
 
 type CountedMap<'a> = PrefixMap<Key, Counted<'a>, Global>;
 
-/// More requests than one copy makes.
+/// More allocations than one clone makes.
 const MANY: u64 = 100;
 
-/// The keys of three that count. The first contains the others.
+/// The keys of three values that count their drops. The first key contains the others.
 const KEYS: [Key; 3] = [(0, 0), (0, 1), (0x8000_0000, 1)];
 
-/// The same of a chain: each contains the next.
+/// The keys of a chain. Each contains the next.
 pub const CHAIN: [Key; 3] = [(0, 0), (0, 1), (0, 8)];
 
-/// Stores them. Answers whether each is new.
+/// Inserts three values. Returns whether each key is new.
 fn insert_three<'a>(map: &mut CountedMap<'a>, keys: &[Key; 3], drops: &'a Cell<u64>) -> bool {
     for key in keys {
         if !adds(map, *key, Counted { drops }) {
@@ -47,7 +47,7 @@ fn insert_three<'a>(map: &mut CountedMap<'a>, keys: &[Key; 3], drops: &'a Cell<u
     true
 }
 
-/// A map of them.
+/// Returns a map of three values.
 pub fn map_of_three<'a>(
     alloc: Global,
     keys: &[Key; 3],
@@ -58,9 +58,9 @@ pub fn map_of_three<'a>(
     if is_filled { Some(map) } else { None }
 }
 
-/// A walk that takes a map apart.
+/// A walk that consumes a map.
 trait ConsumingWalk: TryClone {
-    /// Takes the next item, if there is one, and lets it go.
+    /// Drops the next item, if there is one.
     fn drop_next(&mut self);
 }
 
@@ -82,14 +82,15 @@ impl ConsumingWalk for IntoValues<Key, Counted<'_>, Global> {
     }
 }
 
-/// Takes so many items.
+/// Drops this many items of a walk.
 fn take<W: ConsumingWalk>(walk: &mut W, count: u64) {
     for _ in 0..count {
         walk.drop_next();
     }
 }
 
-/// How many are dropped once a walk gave so many items, once its copy gave all that are left and was dropped, and once the walk was.
+/// Returns the number of drops after the walk yielded some items, after its clone yielded all others and was dropped,
+/// and after the walk was dropped.
 fn drops_of<W: ConsumingWalk>(
     mut walk: W,
     taken: u64,
@@ -105,7 +106,7 @@ fn drops_of<W: ConsumingWalk>(
     Some((first, second, drops.replace(0)))
 }
 
-/// The same of each walk.
+/// Returns these numbers of drops for each walk.
 fn drops_of_each_walk(alloc: Global, taken: u64) -> Option<[Option<(u64, u64, u64)>; 4]> {
     let drops = Cell::new(0);
     let items = drops_of(
@@ -128,7 +129,7 @@ fn drops_of_each_walk(alloc: Global, taken: u64) -> Option<[Option<(u64, u64, u6
     Some([items, part, keys, values])
 }
 
-/// How many are dropped once a walk gave the first of three values, and once the walk was dropped.
+/// Returns the number of drops after a walk yielded the first of three values, and after the walk was dropped.
 fn drops_of_one_taken(alloc: Global) -> Option<(u64, u64)> {
     let drops = Cell::new(0);
     let mut walk = map_of_three(alloc, &KEYS, &drops)?.into_iter();
@@ -138,7 +139,7 @@ fn drops_of_one_taken(alloc: Global) -> Option<(u64, u64)> {
     Some((first, drops.get()))
 }
 
-// The part has two items, and the value above them beside.
+// The walk over the part has two items. The value above them is outside of the part.
 #[test]
 fn what_is_not_taken_is_dropped_with_the_walk(rt: HostRuntime) {
     let alloc = rt.alloc();
@@ -153,7 +154,7 @@ fn what_is_not_taken_is_dropped_with_the_walk(rt: HostRuntime) {
     assert!(rt; drops_of_each_walk(alloc, 4) == Some([all, two, all, all]));
 }
 
-/// How many are dropped once three are stored and one of them is replaced, one is taken out, and all are cleared.
+/// Returns the number of drops after three values are inserted, one is replaced, one is removed, and all are cleared.
 fn drops_of_calls<'a>(map: &mut CountedMap<'a>, drops: &'a Cell<u64>) -> Option<[u64; 4]> {
     let are_put = insert_three(map, &KEYS, drops);
     let first = drops.get();
@@ -165,7 +166,7 @@ fn drops_of_calls<'a>(map: &mut CountedMap<'a>, drops: &'a Cell<u64>) -> Option<
     (are_put & is_replaced).then_some([first, second, third, drops.get()])
 }
 
-/// The same of a new map, and how many are dropped once it is let go.
+/// Returns these numbers for a new map, and the number of drops after the map is dropped.
 fn drops_of_map(alloc: Global) -> Option<([u64; 4], u64)> {
     let drops = Cell::new(0);
     let mut map = PrefixMap::new(alloc).ok()?;
@@ -174,7 +175,7 @@ fn drops_of_map(alloc: Global) -> Option<([u64; 4], u64)> {
     Some((during, drops.get()))
 }
 
-/// How many are dropped by an insertion that is refused, by letting its value go, and by letting the map go.
+/// Returns the number of drops after an insertion fails, after its value is dropped, and after the map is dropped.
 fn drops_of_refused(alloc: Global) -> Option<[u64; 3]> {
     let drops = Cell::new(0);
     let mut map = PrefixMap::with_slot_limit(alloc, 1).ok()?;
@@ -187,7 +188,7 @@ fn drops_of_refused(alloc: Global) -> Option<[u64; 3]> {
     is_refused.then_some([first, second, drops.get()])
 }
 
-/// A name beside a count of its drops: its copy asks for memory once.
+/// A name with a counter of its drops. Cloning it allocates once.
 #[derive(Clone, Drop)]
 struct Named<'a, A: Allocator> {
     name: String<A>,
@@ -196,7 +197,7 @@ struct Named<'a, A: Allocator> {
 
 type Names<'a, A> = PrefixMap<Key, Named<'a, A>, A>;
 
-/// Stores a name.
+/// Inserts a name. Returns whether its key is new.
 fn insert_name<'a, A: Allocator>(
     alloc: A,
     names: &mut Names<'a, A>,
@@ -210,7 +211,7 @@ fn insert_name<'a, A: Allocator>(
     adds(names, key, Named { name, counted })
 }
 
-/// Stores a name at each of the three keys.
+/// Inserts a name at each of the three keys. Returns whether each is new.
 fn insert_names<'a, A: Allocator + Copy>(
     alloc: A,
     names: &mut Names<'a, A>,
@@ -224,7 +225,7 @@ fn insert_names<'a, A: Allocator + Copy>(
     true
 }
 
-/// Whether a copy is refused. It is let go.
+/// Returns whether cloning fails. Drops the clone.
 fn is_copy_refused<A: Allocator + Clone>(names: &Names<'_, A>) -> bool {
     let copy = names.clone();
     let is_refused = copy.is_err();
@@ -232,7 +233,7 @@ fn is_copy_refused<A: Allocator + Clone>(names: &Names<'_, A>) -> bool {
     is_refused
 }
 
-/// How many are dropped by copies with another request refused each time, one alone, and by the first that is granted.
+/// Returns the number of drops by clones that fail, each at another allocation, and by the first clone that succeeds.
 fn drops_of_copies<A: Allocator + Clone>(
     heap: &Refusing<Global>,
     names: &Names<'_, A>,
@@ -251,7 +252,8 @@ fn drops_of_copies<A: Allocator + Clone>(
     (by_refused, 0)
 }
 
-/// The same of copies of three. Those are dropped that were copied by then: none, one and two, where a name's own request is refused.
+/// Returns these numbers for a map of three. A clone that fails at a name drops the names that were cloned by then:
+/// none, one or two.
 fn drops_of_copies_of_three<A: Allocator + Copy>(
     heap: &Refusing<Global>,
     alloc: A,

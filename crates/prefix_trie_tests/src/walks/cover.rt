@@ -1,4 +1,4 @@
-//! What callers of the covering walks learn from their contracts.
+//! What callers learn about the walks over the prefixes that contain one.
 ghost use Rattle.std.specs.Prelude.{◌≡◌, length, nat_le};
 ghost use Rattle.std.specs.List.{list_all};
 ghost use Rattle.prefix_trie.specs.Words.{covers, shown};
@@ -8,7 +8,7 @@ use crate::on_new::on_new;
 use prefix_trie::{Prefix, PrefixMap};
 use std::alloc::{AllocError, Allocator, Global};
 
-// How many stored prefixes contain one.
+// Returns the number of stored prefixes that contain one.
 fn count<P: Prefix, T: Drop, A: Allocator>(m: &PrefixMap<P, T, A>, prefix: &P) -> usize
     requires { P.IsFitting prefix.now }
     ensures { result ≡ length (covers m.now.entries (P.path prefix.now)) }
@@ -16,7 +16,7 @@ fn count<P: Prefix, T: Drop, A: Allocator>(m: &PrefixMap<P, T, A>, prefix: &P) -
     m.cover(prefix).count()
 }
 
-// Whether no value stored for those prefixes is below this one.
+// Returns whether no value of these prefixes is less than this one.
 fn none_below<P: Prefix, A: Allocator>(m: &PrefixMap<P, u32, A>, prefix: &P, least: u32) -> bool
     requires { P.IsFitting prefix.now }
     ensures { result ≡ list_all (λ e. nat_le least e.1) (shown P.back (covers m.now.entries (P.path prefix.now))) }
@@ -31,10 +31,10 @@ fn none_below<P: Prefix, A: Allocator>(m: &PrefixMap<P, u32, A>, prefix: &P, lea
 
 type Numbers = PrefixMap<(u16, u8), u32, Global>;
 
-/// Two numbers, of the two last lengths of 16 bits.
+/// Two numbers, with the last two lengths of 16 bits.
 const TWO: [((u16, u8), u32); 2] = [((0x8000, 15), 1), ((0x8001, 16), 2)];
 
-/// Whether the prefixes that contain the last key come in listing order.
+/// Returns whether the prefixes that contain the last key come in listing order.
 fn lists_both(map: &Numbers, alloc: Global) -> bool {
     let keys: Result<Vec<(u16, u8)>, AllocError> = map.cover_keys(&(0x8001, 16)).collect(alloc);
     match keys {
@@ -43,7 +43,7 @@ fn lists_both(map: &Numbers, alloc: Global) -> bool {
     }
 }
 
-/// Whether the callers above answer so of the two.
+/// Returns whether the callers above return what they should for both numbers.
 fn has_two(map: &mut Numbers, alloc: Global) -> bool {
     let answers = [
         stores(map, &TWO),

@@ -1,4 +1,4 @@
-//! Walks that are dropped early, over values that count their drops; and tests with a state.
+//! Walks that are dropped early, over values that count their drops, and tests with a state.
 use crate::cases::sets::{adds_key, gives_keys};
 use crate::contents::{has_keys, stores};
 use crate::drops::{Counted, drop_now};
@@ -12,7 +12,7 @@ use std::cell::Cell;
 
 type Key = (u32, u8);
 
-/// Whether a walk gives so many, and is dropped then.
+/// Returns whether a walk yields this many items. The walk is then dropped.
 fn gives<I: Iterator + Drop>(mut walk: I, count: usize) -> bool
 where
     I::Item: Drop,
@@ -24,7 +24,7 @@ where
     }
 }
 
-/// Whether each walk over a map of three keys does.
+/// Returns whether each walk over a map of three keys yields this many items.
 fn are_read(map: &PrefixMap<Key, Counted<'_>, Global>, count: usize) -> bool {
     gives(map.iter(), count)
         & gives(map.keys(), count)
@@ -33,14 +33,14 @@ fn are_read(map: &PrefixMap<Key, Counted<'_>, Global>, count: usize) -> bool {
         & gives(map.children(&(0, 0)), count)
 }
 
-/// Whether each walk around the second key does.
+/// Returns whether each walk around the second key yields this many items.
 fn are_covered(map: &PrefixMap<Key, Counted<'_>, Global>, count: usize) -> bool {
     gives(map.cover(&(0, 1)), count)
         & gives(map.cover_keys(&(0, 1)), count)
         & gives(map.cover_values(&(0, 1)), count)
 }
 
-/// Whether each walk over a set of three keys does, and around the second.
+/// Returns whether each walk over a set of three keys, and each around the second key, yields this many items.
 fn are_keys_read(set: &PrefixSet<Key, Global>, count: usize) -> bool {
     gives(set.iter(), count)
         & gives(set.iter_from(&(0, 0), true), count)
@@ -61,7 +61,7 @@ fn replaces<'b, 'm, 'a>(
     }
 }
 
-/// The same of a walk of values alone.
+/// Replaces the next values of a walk over values.
 fn replaces_values<'b, 'm, 'a>(
     walk: &'b mut ValuesMut<'m, Key, Counted<'a>, Global>,
     drops: &'a Cell<u64>,
@@ -74,7 +74,7 @@ fn replaces_values<'b, 'm, 'a>(
     }
 }
 
-/// How many are dropped by each walk that lends, whose first values are replaced before it is dropped.
+/// Returns the number of drops by each mutable walk. Its first values are replaced, and then it is dropped.
 fn drops_of_lending<'a>(
     map: &mut PrefixMap<Key, Counted<'a>, Global>,
     drops: &'a Cell<u64>,
@@ -94,7 +94,8 @@ fn drops_of_lending<'a>(
     [items, from, below, drops.replace(0)]
 }
 
-/// How many are dropped by walks over a new map that are dropped so early, and by letting it go. None where one gives another number.
+/// Returns the number of drops by walks over a new map that are dropped early, and then by dropping the map. Returns
+/// `None` if a walk yields another number of items.
 fn drops_of_early(alloc: Global, count: u8) -> Option<(u64, [u64; 4], u64)> {
     let drops = Cell::new(0);
     let mut map = map_of_three(alloc, &CHAIN, &drops)?;
@@ -119,7 +120,7 @@ fn walks_dropped_early_drop_no_stored_value(rt: HostRuntime) {
     }
 }
 
-/// Keeps the first key of a map, the third and so on.
+/// Keeps every second key of a map, from the first on.
 fn keep_each_second(map: &mut PrefixMap<Key, u64, Global>) {
     let mut is_kept = false;
     keep_where(map, |_, _| {
@@ -128,7 +129,7 @@ fn keep_each_second(map: &mut PrefixMap<Key, u64, Global>) {
     });
 }
 
-/// The same of a set.
+/// Keeps every second key of a set, from the first on.
 fn keep_each_second_key(set: &mut PrefixSet<Key, Global>) {
     let mut is_kept = false;
     keep_keys_where(set, |_| {
@@ -137,19 +138,19 @@ fn keep_each_second_key(set: &mut PrefixSet<Key, Global>) {
     });
 }
 
-/// Whether the first and the third of three keys are kept in a map.
+/// Returns whether the first and the third of three keys are kept in a map.
 fn is_kept(map: &mut PrefixMap<Key, u64, Global>, _: ()) -> bool {
     let is_filled = stores(map, &[((0, 0), 1), ((0, 1), 2), ((0, 8), 3)]);
     keep_each_second(map);
     is_filled & has_keys(map, &[(0, 0), (0, 8)])
 }
 
-/// Adds three keys to a set. Returns whether each is new.
+/// Inserts three keys into a set. Returns whether each is new.
 fn adds_three(set: &mut PrefixSet<Key, Global>) -> bool {
     adds_key(set, CHAIN[0]) & adds_key(set, CHAIN[1]) & adds_key(set, CHAIN[2])
 }
 
-/// The same of a set, whose walks are dropped early before.
+/// Returns whether the first and the third of three keys are kept in a set, after its walks are dropped early.
 fn is_kept_in_set(set: &mut PrefixSet<Key, Global>, _: ()) -> bool {
     let is_filled = adds_three(set);
     let is_given = are_keys_read(set, 0) & are_keys_read(set, 1) & are_keys_read(set, 2);
@@ -157,7 +158,7 @@ fn is_kept_in_set(set: &mut PrefixSet<Key, Global>, _: ()) -> bool {
     is_filled & is_given & gives_keys(set.iter(), &[(0, 0), (0, 8)])
 }
 
-/// Whether the walk that takes a new set of three apart gives so many, and is dropped then.
+/// Returns whether the walk that consumes a new set of three yields this many items. The walk is then dropped.
 fn is_consumed_early(alloc: Global, count: usize) -> Result<bool, Refusal> {
     let mut set = PrefixSet::new(alloc)?;
     let is_filled = adds_three(&mut set);

@@ -1,4 +1,4 @@
-//! What callers of the walks learn from their contracts.
+//! What callers learn about the walks over all entries.
 ghost use Rattle.std.specs.Prelude.{◌≡◌, ◌++◌, ◌∷◌, [], List, map, nat_le, IfOk, MatchOption};
 ghost use Rattle.std.specs.FinMap.{len};
 ghost use Rattle.std.specs.List.{list_all};
@@ -11,7 +11,7 @@ use prefix_trie::{Prefix, PrefixMap};
 use prefix_trie_map::laws::resume_laws;
 use std::alloc::{AllocError, Allocator, Global};
 
-// How many entries a walk finds, and a clone of it.
+// Returns the number of entries that a walk and its clone yield.
 fn count_twice<P: Prefix, T: Drop, A: Allocator>(m: &PrefixMap<P, T, A>) -> (usize, usize)
     ensures first { result.0 ≡ len m.now.entries }
     ensures second { result.1 ≡ len m.now.entries }
@@ -21,7 +21,7 @@ fn count_twice<P: Prefix, T: Drop, A: Allocator>(m: &PrefixMap<P, T, A>) -> (usi
     (walk.count(), again.count())
 }
 
-// All prefixes in listing order.
+// Collects all prefixes in listing order.
 fn all_keys<P: Prefix, T: Drop, A: Allocator>(
     alloc: A,
     m: &PrefixMap<P, T, A>,
@@ -31,7 +31,7 @@ fn all_keys<P: Prefix, T: Drop, A: Allocator>(
     m.keys().collect(alloc)
 }
 
-// Whether no value is below this one.
+// Returns whether no value is less than this one.
 fn none_below<P: Prefix, A: Allocator>(m: &PrefixMap<P, u32, A>, least: u32) -> bool
     ensures { result ≡ list_all (λ e. nat_le least e.1) (shown P.back (listing m.now.entries)) }
 {
@@ -43,7 +43,7 @@ fn none_below<P: Prefix, A: Allocator>(m: &PrefixMap<P, u32, A>, least: u32) -> 
     true
 }
 
-// Reads the next entry of a walk that has come so far, and goes on behind it by a walk of its own.
+// Reads the next entry of a walk, and returns a new walk that starts after it.
 fn resume<'m, P: Prefix, T: Drop, A: Allocator>(
     m: &'m PrefixMap<P, T, A>,
     mut walk: Iter<'m, P, T, A>,
@@ -52,7 +52,7 @@ fn resume<'m, P: Prefix, T: Drop, A: Allocator>(
     ensures { MatchOption result (walk.entry ≡ []) (λ rest. (last : P × T) × (walk.entry ≡ last ∷ rest)) }
 {
     resume_laws::<P, T>();
-    // The proof learns from it that the prefix read fits.
+    // Tells the proof that the prefix that was read fits.
     let _ = m.len();
     let Some((last, _)) = walk.next() else {
         return None;
@@ -62,7 +62,7 @@ fn resume<'m, P: Prefix, T: Drop, A: Allocator>(
 
 type Numbers = PrefixMap<(u8, u8), u32, Global>;
 
-/// Four numbers, two of them below a key that has the first three bits.
+/// Four numbers, two of them within a key of three bits.
 const FOUR: [((u8, u8), u32); 4] = [
     ((0xa5, 8), 6),
     ((0xbf, 3), 4),
@@ -70,7 +70,7 @@ const FOUR: [((u8, u8), u32); 4] = [
     ((0xa3, 7), 5),
 ];
 
-/// Whether all prefixes come in listing order.
+/// Returns whether all prefixes come in listing order.
 fn lists_four(map: &Numbers, alloc: Global) -> bool {
     match all_keys(alloc, map) {
         Ok(keys) => keys.as_slice() == [(0x80, 1), (0xa0, 3), (0xa2, 7), (0xa5, 8)].as_slice(),
@@ -78,7 +78,7 @@ fn lists_four(map: &Numbers, alloc: Global) -> bool {
     }
 }
 
-/// Whether a walk gives these values.
+/// Returns whether a walk yields these values.
 fn gives(mut walk: Iter<'_, (u8, u8), u32, Global>, values: &[u32]) -> bool {
     for expected in values {
         match walk.next() {
@@ -89,7 +89,7 @@ fn gives(mut walk: Iter<'_, (u8, u8), u32, Global>, values: &[u32]) -> bool {
     walk.next().is_none()
 }
 
-/// Whether a walk that is resumed behind the first of four gives the rest.
+/// Returns whether a walk that resumes after the first of four entries yields the rest.
 fn goes_on(map: &Numbers) -> bool {
     match resume(map, map.iter()) {
         Some(walk) => gives(walk, &[4, 5, 6]),
@@ -97,7 +97,7 @@ fn goes_on(map: &Numbers) -> bool {
     }
 }
 
-/// Whether the callers above answer so of the four.
+/// Returns whether the callers above return what they should for the four numbers.
 fn has_four(map: &mut Numbers, alloc: Global) -> bool {
     let answers = [
         stores(map, &FOUR),

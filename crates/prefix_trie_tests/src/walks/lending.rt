@@ -1,4 +1,4 @@
-//! Callers that write through what a map lends, and what they know of the map afterwards.
+//! Callers that write to values that a map lends, and what they learn about the map.
 ghost use Rattle.std.specs.Prelude.{◌≡◌, List, Bool, false, IsTrue, IsFalse, None, Some};
 ghost use Rattle.std.specs.FinMap.{get};
 ghost use Rattle.prefix_trie.specs.Words.{longest_match, shown_match, with_longest_at, with_value_at};
@@ -10,7 +10,7 @@ use crate::on_new::on_new;
 use prefix_trie::{Ipv6Prefix, Prefix, PrefixMap};
 use std::alloc::{AllocError, Allocator, Global};
 
-// Writes over a stored value, and says whether there was one.
+// Replaces a stored value. Returns whether there was one.
 fn write<P: Prefix, T: Drop, A: Allocator>(
     map: &mut PrefixMap<P, T, A>,
     prefix: &P,
@@ -30,7 +30,7 @@ fn write<P: Prefix, T: Drop, A: Allocator>(
     false
 }
 
-// Writes over the value of the longest match, and says whether there was one.
+// Replaces the value of the longest match. Returns whether there was one.
 fn write_longest<P: Prefix, T: Drop, A: Allocator>(
     map: &mut PrefixMap<P, T, A>,
     prefix: &P,
@@ -48,7 +48,7 @@ fn write_longest<P: Prefix, T: Drop, A: Allocator>(
     false
 }
 
-// Writes over the value of the longest match, and answers its prefix.
+// Replaces the value of the longest match. Returns its prefix and the previous value.
 fn rewrite<P: Prefix, A: Allocator>(
     map: &mut PrefixMap<P, u8, A>,
     prefix: &P,
@@ -68,7 +68,7 @@ fn rewrite<P: Prefix, A: Allocator>(
 /// Three keys at the end of 64 bits.
 const LAST_BITS: [((u64, u8), u8); 3] = [((0, 60), 1), ((5, 64), 2), ((6, 63), 3)];
 
-/// Whether the value of the longest match is written over, twice, and that of no match is not.
+/// Returns whether the value of the longest match is replaced twice, and nothing is replaced without a match.
 fn is_rewritten(map: &mut PrefixMap<(u64, u8), u8, Global>, _: ()) -> bool {
     stores(map, &LAST_BITS)
         & (rewrite(map, &(7, 64), 8) == Some(((6, 63), 3)))
@@ -85,10 +85,10 @@ fn the_longest_match_is_written(rt: HostRuntime) {
 
 type Texts = PrefixMap<Ipv6Prefix, String<Global>, Global>;
 
-/// The address of a site, which has 32 bits.
+/// The address of a network of 32 bits.
 const SITE: u128 = 0x2001_0db8_0000_0000_0000_0000_0000_0000;
 
-/// Whether the text of the site is this.
+/// Returns whether this is the text of the network.
 fn has(map: &Texts, text: &str) -> bool {
     match map.get(&Ipv6Prefix::from_repr_len(SITE, 32)) {
         Some(stored) => stored.as_str() == text,
@@ -96,7 +96,7 @@ fn has(map: &Texts, text: &str) -> bool {
     }
 }
 
-/// Sets the text of the site, and answers whether it had this one before.
+/// Sets the text of the network. Returns whether this was the previous one.
 fn replaces(map: &mut Texts, text: String<Global>, expected: Option<&str>) -> bool {
     match put(map, Ipv6Prefix::from_repr_len(SITE, 32), text) {
         Ok(before) => before.as_deref() == expected,
@@ -104,14 +104,14 @@ fn replaces(map: &mut Texts, text: String<Global>, expected: Option<&str>) -> bo
     }
 }
 
-/// Sets a text and then another. Answers whether the first was handed out.
+/// Sets a text and then another. Returns whether the first is returned.
 fn are_set(map: &mut Texts, alloc: Global) -> Result<bool, AllocError> {
     let first = String::from_str(alloc, "first")?;
     let second = String::from_str(alloc, "second")?;
     Ok(replaces(map, first, None) & replaces(map, second, Some("first")) & has(map, "second"))
 }
 
-/// Adds to the text of the site where it stands.
+/// Appends to the text of the network where it is stored.
 fn lengthens(map: &mut Texts) -> bool {
     let (stored, _visits) = map.get_mut_counted(&Ipv6Prefix::from_repr_len(SITE, 32));
     match stored {
@@ -120,7 +120,7 @@ fn lengthens(map: &mut Texts) -> bool {
     }
 }
 
-/// Empties the text of the longest match of a host.
+/// Clears the text of the longest match of a host.
 fn empties(map: &mut Texts) -> bool {
     match map.get_lpm_mut(&Ipv6Prefix::from_repr_len(SITE + 1, 128)) {
         Some((_, text)) => {
@@ -131,7 +131,7 @@ fn empties(map: &mut Texts) -> bool {
     }
 }
 
-/// Writes over a text, by another prefix of the same path, and then changes it twice where it stands.
+/// Replaces a text by another prefix with the same bits, and then changes it twice where it is stored.
 fn is_changed(map: &mut Texts, alloc: Global) -> Result<bool, AllocError> {
     let third = String::from_str(alloc, "third")?;
     let same = Ipv6Prefix::from_repr_len(SITE + 1, 32);
@@ -145,7 +145,7 @@ fn is_changed(map: &mut Texts, alloc: Global) -> Result<bool, AllocError> {
     )
 }
 
-/// Both in turn.
+/// Returns whether both checks hold.
 fn is_written(map: &mut Texts, alloc: Global) -> Result<bool, AllocError> {
     Ok(are_set(map, alloc)? & is_changed(map, alloc)?)
 }

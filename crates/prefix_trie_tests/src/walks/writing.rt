@@ -1,4 +1,4 @@
-//! Callers of walks that lend values for writing, and what they know of the map afterwards.
+//! Callers of mutable walks, and what they learn about the map.
 ghost use Rattle.std.specs.Prelude.{◌≡◌, List, Bool, [], ◌∷◌, IsTrue, MatchOption, slice_get};
 ghost use Rattle.prefix_trie.specs.Words.{listing, shown, with_value_at};
 ghost use Rattle.prefix_trie_map.specs.Writing.{ComesToEnd, GoesOver, IsFirst};
@@ -13,7 +13,7 @@ use prefix_trie::{Prefix, PrefixMap};
 use std::alloc::{Allocator, Global};
 use std::mem;
 
-// Swaps the next value for another, and answers its prefix and what was there.
+// Swaps the next value for another. Returns its prefix and the previous value.
 fn swap_next<'b, 'a, P: Prefix, T: Drop, A: Allocator>(
     walk: &'b mut IterMut<'a, P, T, A>,
     value: T,
@@ -26,7 +26,7 @@ fn swap_next<'b, 'a, P: Prefix, T: Drop, A: Allocator>(
     Some((prefix, before))
 }
 
-// Swaps the first value of a map for another, and answers its prefix and what was there.
+// Swaps the first value of a map for another. Returns its prefix and the previous value.
 fn swap_first<P: Prefix, T: Drop, A: Allocator>(
     map: &mut PrefixMap<P, T, A>,
     value: T,
@@ -42,7 +42,7 @@ fn swap_first<P: Prefix, T: Drop, A: Allocator>(
     before
 }
 
-// Whether a map has no value to write.
+// Returns whether a map has no value.
 fn has_none<P: Prefix, T: Drop, A: Allocator>(map: &mut PrefixMap<P, T, A>) -> bool
     ensures { IsTrue result → listing map.old.entries ≡ [] }
 {
@@ -57,7 +57,7 @@ type Entries<'m, A> = IterMut<'m, (u8, u8), u64, A>;
 /// Three numbers.
 const THREE: [((u8, u8), u64); 3] = [((0x80, 1), 3), ((0xa5, 8), u64::MAX), ((0xa0, 3), 4)];
 
-/// Whether the next entry is this one, over whose value another is written.
+/// Returns whether the next entry is this one. Its value is replaced.
 fn writes_next<'b, 'm, A: Allocator>(
     walk: &'b mut Entries<'m, A>,
     entry: ((u8, u8), u64),
@@ -73,7 +73,7 @@ fn writes_next<'b, 'm, A: Allocator>(
     }
 }
 
-/// Whether `iter_mut` gives all three entries.
+/// Returns whether `iter_mut` yields all three entries.
 fn writes_all<A: Allocator>(map: &mut Numbers<A>) -> bool {
     let mut walk = map.iter_mut();
     writes_next(&mut walk, ((0x80, 1), 1), 10)
@@ -82,7 +82,7 @@ fn writes_all<A: Allocator>(map: &mut Numbers<A>) -> bool {
         & walk.next().is_none()
 }
 
-/// Whether `iter_from_mut` gives what comes from the second on, or behind it.
+/// Returns whether `iter_from_mut` yields the entries from the second on, or after it.
 fn writes_from<A: Allocator>(map: &mut Numbers<A>, inclusive: bool) -> bool {
     let mut walk = map.iter_from_mut(&(0xbf, 3), inclusive);
     (!inclusive || writes_next(&mut walk, ((0xa0, 3), 20), 21))
@@ -90,7 +90,7 @@ fn writes_from<A: Allocator>(map: &mut Numbers<A>, inclusive: bool) -> bool {
         & walk.next().is_none()
 }
 
-/// Whether `children_mut` gives what lies below the second.
+/// Returns whether `children_mut` yields the entries within the second key.
 fn writes_below<A: Allocator>(map: &mut Numbers<A>) -> bool {
     let mut walk = map.children_mut(&(0xa0, 2));
     writes_next(&mut walk, ((0xa0, 3), 21), 22)
@@ -98,13 +98,13 @@ fn writes_below<A: Allocator>(map: &mut Numbers<A>) -> bool {
         & walk.next().is_none()
 }
 
-/// Whether walks by default have nothing to come, and no map.
+/// Returns whether default walks are empty and have no map.
 fn are_empty<A: Allocator>(_map: &mut Numbers<A>) -> bool {
     let mut walk: Entries<'_, A> = IterMut::default();
     walk.next().is_none() & walk.into_map().is_none()
 }
 
-/// Whether walks over three entries write so, with every request for memory refused, of which none comes.
+/// Returns whether walks over three entries write their values without allocating.
 fn are_written<A: Allocator>(map: &mut Numbers<A>, heap: &Refusing<Global>) -> bool {
     let is_put = has_none(map) & stores(map, &THREE);
     heap.refuse(0, u64::MAX);

@@ -6,7 +6,7 @@ use Rattle.prefix_trie_bits.specs.declared.prefix.Key as key
 use Rattle.prefix_trie_tests.proofs.entry_callers.set.Goals as goal
 
 module _ {P T A R : Type 0} {p : prefix.Ghosts P R} {shows : debug.Ghosts P} {k : key.Ghosts R} {same : partial.Ghosts R} {writes : debug.Ghosts R} where
-  -- both steps say what room is left
+  -- Both outcomes leave a bounded number of slots.
   room_left : (e : Entry P T A R p shows k same writes) (old new : Contents T) (value : T) (answer : Result (Option T) (Refused T)) → entry_map e ≡ old
       → IfOk answer (λ before. (before ≡ entry_value e) × Fills e new value)
       → IfErr answer (λ refused. (refused.value ≡ value) × (entry_value e ≡ None) × RefusesToFill e refused.cause new) → LeavesRoom (len old.nodes) old.room new.room

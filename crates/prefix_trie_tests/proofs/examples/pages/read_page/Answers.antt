@@ -3,7 +3,7 @@ use Rattle.prefix_trie.proofs.Callers.{read_more, read_so_far, read_to_end}
 use Rattle.prefix_trie_tests.proofs.examples.pages.read_page.Goals as goal
 
 pub loop-i-init : goal.loop-i-init
-loop-i-init g c = (c.behind-walk.ensures ∙ ap (λ xs. xs ++ c.behind-walk.result) c.deref.ensures.value, omega arith)
+loop-i-init g c = (c.walk_after-walk.ensures ∙ ap (λ xs. xs ++ c.walk_after-walk.result) c.deref.ensures.value, omega arith)
 
 pub returns-in_default : goal.returns-in_default
 returns-in_default g c =

@@ -2,7 +2,7 @@ use Rattle.std.specs.Prelude.{◌≡◌, ◌++◌, ℕ, List, codes, decimal, fl
 use Rattle.prefix_trie.specs.Words.{ipv4_back, ipv4_network_text, listing, shown}
 use Rattle.prefix_trie_tests.proofs.examples.routes_from_text.print.Given as goal
 
--- a line of a route
+-- The line of a route.
 abbrev pub line : (ℕ × ℕ) × ℕ → List ℕ
 line route = ipv4_network_text route.0 ++ (codes " " ++ (decimal route.1 ++ codes "\n"))
 

@@ -15,7 +15,7 @@ pub loop-key-preserved-in_ok-insert : goal.loop-key-preserved-in_ok-insert
 loop-key-preserved-in_ok-insert g c =
     (tt, tt, c.put_laws.ensures.goes_on c.loop-key.table.entries _ _ (c.in-Some.key, c.in-Some.value) _ _ c.in-Some.ensures.steps c.in_ok-insert.ensures.entries c.loop-key.invariant.2)
 
--- one way round drops the value that was there before, the other has none
+-- One path through the loop drops the previous value. The other has none.
 pub loop-key-preserved : goal.loop-key-preserved
 loop-key-preserved g c =
     (tt, tt, c.put_laws.ensures.goes_on c.loop-key.table.entries _ _ (c.in-Some.key, c.in-Some.value) _ _ c.in-Some.ensures.steps c.in_ok-insert.ensures.entries c.loop-key.invariant.2)

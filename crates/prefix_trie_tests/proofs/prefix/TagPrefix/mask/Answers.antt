@@ -1,7 +1,7 @@
 use Rattle.prefix_trie_tests.proofs.Prelude.{ℕ, ◌≡◌, ◌-◌, ◌*◌, ◌%◌, ◌^◌, ◌<◌, ◌≤◌, ◌++◌, take, bit_and, sub-le, ap, ◌∙◌, ones_shl, and_high_mask, digits, zeros, digits-keep, kept_of_none}
 use Rattle.prefix_trie_tests.proofs.prefix.TagPrefix.mask.Goals as goal
 
--- what `value & (ones << (w - k))` computes
+-- The value of `value & (ones << (w - k))`.
 digits-masked : (w v k : ℕ) → k ≤ w → v < 2 ^ w → digits w (bit_and v ((2 ^ w - 1) * 2 ^ (w - k) % 2 ^ w)) ≡ take k (digits w v) ++ zeros (w - k)
 digits-masked w v k h small =
     ap (λ m. digits w (bit_and v m)) (ones_shl w (w - k) (sub-le w k)) ∙

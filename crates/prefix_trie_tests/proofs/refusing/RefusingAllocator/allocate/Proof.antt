@@ -1,4 +1,4 @@
--- It answers an error, or what the inner allocator answers. Assumes `Logic`.
+-- Proves that `allocate` returns an error, or what the inner allocator returns. Assumes `Logic`.
 use Rattle.prefix_trie_tests.proofs.Allocators.{Bool, ◌≡◌, ℕ, ◌+◌, ◌^◌, ◌<◌, true, false, List, [], ◌∷◌, Ok, Err, refl, w64, Bor, ap, Ura, Ty, Args, Fn, a_type, dnil, dcons, Val, vbool, vint, vptr, inst_fn, SProp, ent, id⊢}
 use Rattle.prefix_trie_tests.proofs.Allocators.{sep, ex, guard, Lft, Share, ftrue, flft, fsep, Memory, size, align, capped, up, Routine, WpFn, Tables, Logic, sem, ◌⊑◌, ⊑_trans, Fun, fact, tables, tables_of, fm_of, WpFn-mono}
 use Rattle.prefix_trie_tests.proofs.Allocators.{stop, fld, addr, lit, no_more, and_then, first, branches, skips, exec, returns, returns_within, enter, yes, owns, RattleType, shr_vals, unhide, bounded, param, uint_vals}
@@ -92,7 +92,7 @@ module _ (Z : Al) {M : Type 1} {𝓤 : Ura M} (𝓛 : Logic 𝓤) (at_mem : Memo
         use2 𝓛 (raw ((Refuses 𝓛 at_mem run).pre (at_meter 𝓛 at_mem run κ₁ q₁ c m))) (Refuses-goes 𝓛 at_mem run κ₁ q₁ c m) $
         calls_at ! (fm_of 𝓤 H 𝓛.laws 𝓣) (Refuses 𝓛 at_mem run) kn (at_meter 𝓛 at_mem run κ₁ q₁ c m) (and_then ! (get ! refl) (no_more !)) (λ u.
         use1 𝓛 (later (some (λ (no : Bool). given (u ≡ vbool no) (‵ (flft κ₁ q₁))))) (Refuses-gives 𝓛 at_mem run κ₁ q₁ c m u) $ await ! tt $ pick ! (λ no. learn ! (λ eu. lands_as ! eu refl (tt, tt) $
-        -- [the token of the first lifetime; the inner handle; the token of the second]
+        -- The hypotheses: the token of the first lifetime, the inner handle, the token of the second lifetime.
         first ! $ branches ! (get ! refl)
         (λ refused. sets ! (agg ! (no_more !)) refl (tt, tt) $
         sets ! (agg ! (and_then ! (lit ! tt) (and_then ! (get ! refl) (no_more !)))) refl (Answer-typed false 0 0) $

@@ -1,4 +1,4 @@
--- It gives the block back to the inner allocator. Assumes `Logic`.
+-- Proves that `deallocate` returns the block to the inner allocator. Assumes `Logic`.
 use Rattle.prefix_trie_tests.proofs.Allocators.{◌≡◌, ℕ, ◌+◌, ◌^◌, ◌<◌, List, [], ◌∷◌, refl, w64, Bor, Ura, Ty, Args, Fn, a_type, dnil, dcons, Val, vint, vptr, vunit, inst_fn, SProp, ent, id⊢, never_e, Lft, Share, ftrue, flft}
 use Rattle.prefix_trie_tests.proofs.Allocators.{ffalse, fsep, froom, Memory, size, align, capped, up, Routine, WpFn, Tables, Logic, ◌⊑◌, ⊑_trans, Fun, fact, tables, tables_of, fm_of, WpFn-mono, stop, fld, addr, no_more}
 use Rattle.prefix_trie_tests.proofs.Allocators.{and_then, of_opd, returns, enter, unit_lit, yes, owns, shr_vals, unhide, bounded, param, uint_vals, uint_Tells, Slot, plain, types_at, heard, nothing, Ended, Clauses, triple_of}

@@ -13,7 +13,7 @@ pub loop-prefix-preserved-in_ok-insert : goal.loop-prefix-preserved-in_ok-insert
 loop-prefix-preserved-in_ok-insert g c =
     (tt, tt, leads_on g.P.Prefix.path g.P.Prefix.IsFitting c.loop-prefix.to.entries {item = (c.in-Some.prefix, c.in-Some.value)} c.in-Some.ensures.steps (c.in_ok-insert.ensures.entries) c.loop-prefix.invariant.2)
 
--- one way round drops the value that was there before, the other has none
+-- One path through the loop drops the previous value. The other has none.
 pub loop-prefix-preserved : goal.loop-prefix-preserved
 loop-prefix-preserved g c =
     (tt, tt, leads_on g.P.Prefix.path g.P.Prefix.IsFitting c.loop-prefix.to.entries {item = (c.in-Some.prefix, c.in-Some.value)} c.in-Some.ensures.steps (c.in_ok-insert.ensures.entries) c.loop-prefix.invariant.2)

@@ -1,5 +1,5 @@
 use Rattle.prefix_trie_tests.proofs.Prelude.{rules, ◌++◌, sym, ap, ◌∙◌}
-use Rattle.prefix_trie_tests.proofs.examples.pages.behind.Goals as goal
+use Rattle.prefix_trie_tests.proofs.examples.pages.walk_after.Goals as goal
 
 pub returns-in-Some : goal.returns-in-Some
 returns-in-Some g c =
