@@ -86,7 +86,7 @@ impl<A: Allocator> NodeArray<A> {
         are_bytes(&self.tiers);
     }
 
-    // The part of `make_room` that allocates. It is a function of its own so that the test is inlined. `tiers` grows last: if that fails, the
+    // The part of `reserve` that allocates. It is a function of its own so that the test is inlined. `tiers` grows last: if that fails, the
     // next call starts from the same capacity.
     #[cold]
     #[inline(never)]
@@ -167,7 +167,7 @@ impl<A: Allocator> SlotArray<Node> for NodeArray<A> {
     }
 
     #[inline]
-    fn make_room(&mut self, count: usize) -> Result<(), AllocError> {
+    fn reserve(&mut self, count: usize) -> Result<(), AllocError> {
         if count <= self.tiers.capacity() - self.tiers.len() {
             return Ok(());
         }
