@@ -1,9 +1,9 @@
 -- Two maps that `==` finds equal have the same entries.
-use Rattle.prefix_trie.proofs.Prelude.{◌≡◌, ◌↔◌, ℕ, Bool, true, ◌&&◌, eqb, eqb-true, eq-eqb, List, [], ◌∷◌, map, refl, sym, ap, ◌∙◌, pointwise_decides, same_entries_map, All-head, All-tail, PrefixLaws, listing, shown, and-first, and-second, and-join, listed_paths, EqualLaws}
+use Rattle.prefix_trie.proofs.Prelude.{◌≡◌, ◌↔◌, ℕ, Bool, true, ◌&&◌, eqb, eqb-true, eq-eqb, List, [], ◌∷◌, map, refl, sym, ap, ◌∙◌, pointwise_decides, same_entries_map, All-head, All-tail, PrefixLaws, listing, prefix_pairs, and-first, and-second, and-join, listed_paths, EqualLaws}
 use Rattle.std.specs.List.{All}
 
 -- the keys of items are the paths of the prefixes that are shown
-unshown : {P T : Type 0} (path : P → List Bool) (back : List Bool → P) (es : List (List Bool × T)) → All (λ e. path (back e.0) ≡ e.0) es → map (λ x. (path x.0, x.1)) (shown back es) ≡ es
+unshown : {P T : Type 0} (path : P → List Bool) (back : List Bool → P) (es : List (List Bool × T)) → All (λ e. path (back e.0) ≡ e.0) es → map (λ x. (path x.0, x.1)) (prefix_pairs back es) ≡ es
 unshown path back [] paths = refl
 unshown path back (e ∷ es) paths = λ i. (All-head (λ e. path (back e.0) ≡ e.0) e es paths i, e.1) ∷ unshown path back es (All-tail (λ e. path (back e.0) ≡ e.0) e es paths) i
 
@@ -14,9 +14,9 @@ equal_laws {path = path} {back = back} laws T = record {
       let items = pointwise_decides {E = λ x y. eq_prefix x.0 y.0 && eq_value x.1 y.1} (λ x y. (
         λ h i. ((prefixes x.0 y.0).0 (and-first (eq_prefix x.0 y.0) (eq_value x.1 y.1) h) i, (values x.1 y.1).0 (and-second (eq_prefix x.0 y.0) (eq_value x.1 y.1) h) i),
         λ e. and-join (eq_prefix x.0 y.0) (eq_value x.1 y.1) ((prefixes x.0 y.0).1 (ap (λ z. z.0) e)) ((values x.1 y.1).1 (ap (λ z. z.1) e)),
-      )) (shown back (listing m)) (shown back (listing n)) in (
+      )) (prefix_pairs back (listing m)) (prefix_pairs back (listing n)) in (
         λ h. same_entries_map m n (sym (unshown path back (listing m) (listed_paths laws m within)) ∙ ap (map (λ x. (path x.0, x.1))) (items.0 h) ∙ unshown path back (listing n) (listed_paths laws n within')),
-        λ e. items.1 (ap (λ m. shown back (listing m)) e),
+        λ e. items.1 (ap (λ m. prefix_pairs back (listing m)) e),
       );
 }
 

@@ -1,5 +1,5 @@
 -- What a loop leaves that joins the values of one map to those of another, and how its invariant goes on.
-use Rattle.prefix_trie.proofs.Prelude.{◌≡◌, ℕ, Bool, true, false, cond, T, List, [], ◌∷◌, Some, refl, sym, ap, ◌∙◌, entries_sorted, get, get-entries, is_sorted, find, All-head, All-tail, All-same, PrefixLaws, listing_cmp, same_string, Entries, with_entry, listing, shown, get-with_entry, same_string-is, sorted-tail, JoinLaws, join_all, joined_by, with_value, listed_fit, listed_paths}
+use Rattle.prefix_trie.proofs.Prelude.{◌≡◌, ℕ, Bool, true, false, cond, T, List, [], ◌∷◌, Some, refl, sym, ap, ◌∙◌, entries_sorted, get, get-entries, is_sorted, find, All-head, All-tail, All-same, PrefixLaws, listing_cmp, same_string, Entries, with_entry, listing, prefix_pairs, get-with_entry, same_string-is, sorted-tail, JoinLaws, join_all, joined_by, with_value, listed_fit, listed_paths}
 use lib.Dec.{T as IsT}
 use Rattle.std.specs.List.{All}
 use Rattle.prefix_trie.proofs.Putting.{fit_in_turn, not_behind}
@@ -7,7 +7,7 @@ use Rattle.prefix_trie.proofs.Putting.{fit_in_turn, not_behind}
 module _ {P T : Type 0} (join : T → T → T) (path : P → List Bool) (back : List Bool → P) where
   -- pairs joined in turn: of each key its value joined to the one that stands among them
   pairs_joined : (es : List (List Bool × T)) (to : Entries T) → IsT (is_sorted listing_cmp es) → All (λ e. path (back e.0) ≡ e.0) es → (s : List Bool) →
-      get (join_all join path (shown back es) to) s ≡ joined_by join (get to s) (find listing_cmp s es)
+      get (join_all join path (prefix_pairs back es) to) s ≡ joined_by join (get to s) (find listing_cmp s es)
   pairs_joined [] to sorted paths s = refl
   pairs_joined (x ∷ es) to sorted paths s =
       pairs_joined es (with_entry to (path (back x.0)) (with_value join (get to (path (back x.0))) x.1)) (sorted-tail x es sorted) (All-tail (λ e. path (back e.0) ≡ e.0) x es paths) s
@@ -25,7 +25,7 @@ pub join_laws : {K P : Type 0} {w : ℕ} {IsKey : K → Type 0} {bits : K → Li
     PrefixLaws w IsKey bits key_of repr_of len_of path IsFitting from_parts back → (T : Type 0) → JoinLaws T w path IsFitting back
 join_laws {path = path} {IsFitting = IsFitting} {back = back} laws T = record {
   starts = λ join from to within walk gives.
-      (All-same (λ e. IsFitting e.0) walk (shown back (listing from)) gives (listed_fit laws from within), ap (λ xs. join_all join path xs to) gives);
+      (All-same (λ e. IsFitting e.0) walk (prefix_pairs back (listing from)) gives (listed_fit laws from within), ap (λ xs. join_all join path xs to) gives);
   next_fits = λ join now whole item rest left first joins. (fit_in_turn IsFitting first joins.0).0;
   goes_on = λ join now next whole item rest left first put joins. (
     (fit_in_turn IsFitting first joins.0).1,

@@ -1,5 +1,5 @@
 -- What lookups find, in words, and which stored key is the longest that begins a question after a change.
-use Rattle.prefix_trie.proofs.Prelude.{◌≡◌, ◌≢◌, inl, inr, ℕ, ◌+◌, ◌<◌, ◌≤◌, Bool, true, false, List, [], length, take, Option, Some, None, is_some, refl, sym, ap, ◌∙◌, subst, arith, true≢false, length-take-le, cases_lt, IfSome, option_map, contains_key, get, begins, begins-trans, begins-linear, begins-length, take-begins, Entries, no_entries, with_entry, without_entry, IsLongestMatch, shortest_match, shown_match, match_laws, one_of_length, some-value, of-key, IsUncovered, LookupLaws}
+use Rattle.prefix_trie.proofs.Prelude.{◌≡◌, ◌≢◌, inl, inr, ℕ, ◌+◌, ◌<◌, ◌≤◌, Bool, true, false, List, [], length, take, Option, Some, None, is_some, refl, sym, ap, ◌∙◌, subst, arith, true≢false, length-take-le, cases_lt, IfSome, option_map, contains_key, get, begins, begins-trans, begins-linear, begins-length, take-begins, Entries, no_entries, with_entry, without_entry, IsLongestMatch, shortest_match, prefix_pair, match_laws, one_of_length, some-value, of-key, IsUncovered, LookupLaws}
 use Rattle.std.specs.Option.{MatchOption}
 use Rattle.prefix_trie_bits.specs.Model.Matches.{longest_match}
 use Rattle.prefix_trie.proofs.Stored.{stored_laws, set_stored, taken_stored}
@@ -158,7 +158,7 @@ module _ {T : Type 0} where
   taken_last : (m : Entries T) (q : List Bool) (v : T) → longest_match m q ≡ Some ([], v) → longest_match (without_entry m []) q ≡ None
   taken_last m q v is = no_longest (without_entry m []) q (λ t w stored b. omega (arith, left_shorter m q [] v is t w stored b))
 
-  shown_value : {P : Type 0} (back : List Bool → P) (found : Option (List Bool × T)) → option_map (λ e. e.1) (shown_match back found) ≡ option_map (λ e. e.1) found
+  shown_value : {P : Type 0} (back : List Bool → P) (found : Option (List Bool × T)) → option_map (λ e. e.1) (prefix_pair back found) ≡ option_map (λ e. e.1) found
   shown_value back None = refl
   shown_value back (Some e) = refl
 

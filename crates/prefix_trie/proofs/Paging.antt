@@ -1,5 +1,5 @@
 -- A list that is read in pages, and what is behind the last item that was read of a listing.
-use Rattle.prefix_trie.proofs.Prelude.{◌≡◌, ℕ, ◌+◌, ◌-◌, ◌<◌, ◌≤◌, Bool, List, [], ◌∷◌, ◌++◌, Some, length, take, drop, min, get_or, sym, ap, ◌∙◌, arith, suc, append_assoc, append-nil, length-append, len, len-entries, slice_get_within, slice_get-get_or, length-map, length-take, nil_from_length, take_all, take-append-drop, All-head, All-same, drop-cons, take-append_seam, drop_of_length-le, PrefixLaws, Entries, listing, shown, All-append_right, listed_fit, resume_laws, PageLaws}
+use Rattle.prefix_trie.proofs.Prelude.{◌≡◌, ℕ, ◌+◌, ◌-◌, ◌<◌, ◌≤◌, Bool, List, [], ◌∷◌, ◌++◌, Some, length, take, drop, min, get_or, sym, ap, ◌∙◌, arith, suc, append_assoc, append-nil, length-append, len, len-entries, slice_get_within, slice_get-get_or, length-map, length-take, nil_from_length, take_all, take-append-drop, All-head, All-same, drop-cons, take-append_seam, drop_of_length-le, PrefixLaws, Entries, listing, prefix_pairs, All-append_right, listed_fit, resume_laws, PageLaws}
 use Rattle.std.specs.List.{slice_get}
 use Rattle.std.specs.Option.{unwrap_or}
 
@@ -41,18 +41,18 @@ module _ {X : Type 0} (whole now : List X) (n : ℕ) (page : now ≡ take n whol
 
 -- a map of which the first items are read, in pages
 module _ {P T : Type 0} (back : List Bool → P) (m : Entries T) where
-  as_many : length (shown back (listing m)) ≡ len m
+  as_many : length (prefix_pairs back (listing m)) ≡ len m
   as_many = length-map (listing m) (λ (e : List Bool × T). (back e.0, e.1)) ∙ sym (len-entries m)
 
   -- a page leaves less to read
-  pub page_goes_on : (read now : List (P × T)) (size : ℕ) → now ≡ take (length read + size) (shown back (listing m)) → 0 < size → length read < len m
+  pub page_goes_on : (read now : List (P × T)) (size : ℕ) → now ≡ take (length read + size) (prefix_pairs back (listing m)) → 0 < size → length read < len m
       → len m - length now < len m - length read
   page_goes_on read now size page some short =
-      let many : length now ≡ min (length read + size) (length (shown back (listing m))) = ap length page ∙ length-take (length read + size) (shown back (listing m)) in
+      let many : length now ≡ min (length read + size) (length (prefix_pairs back (listing m))) = ap length page ∙ length-take (length read + size) (prefix_pairs back (listing m)) in
       omega (arith, some, short, many, as_many)
 
   -- where as many were read as there are entries, all were
-  pub all_read : (read rest : List (P × T)) → shown back (listing m) ≡ read ++ rest → len m ≤ length read → read ≡ shown back (listing m)
+  pub all_read : (read rest : List (P × T)) → prefix_pairs back (listing m) ≡ read ++ rest → len m ≤ length read → read ≡ prefix_pairs back (listing m)
   all_read read rest begins far =
       let none : rest ≡ [] = nil_from_length rest (omega (arith, far, as_many, ap length begins, length-append read rest)) in
       sym (begins ∙ ap (λ xs. read ++ xs) none ∙ append-nil read)
@@ -62,9 +62,9 @@ module _ {K P : Type 0} {w : ℕ} {IsKey : K → Type 0} {bits : K → List Bool
   page_laws T = record {
     last_fits = λ m within read rest last is found.
         let front = take (length read - 1) read in
-        let listed = All-same (λ e. IsFitting e.0) (front ++ last ∷ rest) (shown back (listing m)) (sym (begins_so read last found (shown back (listing m)) rest is)) (listed_fit laws m within) in
+        let listed = All-same (λ e. IsFitting e.0) (front ++ last ∷ rest) (prefix_pairs back (listing m)) (sym (begins_so read last found (prefix_pairs back (listing m)) rest is)) (listed_fit laws m within) in
         All-head (λ e. IsFitting e.0) last rest (All-append_right (λ e. IsFitting e.0) front (last ∷ rest) listed);
     behind_last = λ m within read rest last is found.
-        (resume_laws laws T).after_iter m within (take (length read - 1) read) last rest (begins_so read last found (shown back (listing m)) rest is);
+        (resume_laws laws T).after_iter m within (take (length read - 1) read) last rest (begins_so read last found (prefix_pairs back (listing m)) rest is);
     as_many = as_many back;
   }

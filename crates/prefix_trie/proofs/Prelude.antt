@@ -26,7 +26,7 @@ pub use Rattle.std.specs.Option.{IfSome, option_map, option_or}
 pub use Rattle.std.specs.Ordering.{on}
 pub use Rattle.std.specs.Vec.Iter.{into_iter_items, into_iter_steps}
 pub use Rattle.std.specs.declared.iter.Map.{Map}
-pub use Rattle.prefix_trie_bits.proofs.Model.Askings.{keeps_filter}
+pub use Rattle.prefix_trie_bits.proofs.Model.RetainCalls.{keeps_filter}
 pub use Rattle.prefix_trie_bits.proofs.Model.Counted.{StepsSoFar, all_fit_more, counted_laws, run_counted, step_pushed}
 pub use Rattle.prefix_trie_bits.proofs.Model.Matches.{match_laws, one_of_length}
 pub use Rattle.prefix_trie_bits.proofs.Model.Members.{and-first, and-join, and-second, get-with_entry, get-without_entry, is-same_string, of-key, or-left, or-right, same_entries, same_string-is, some-value}
@@ -42,14 +42,14 @@ pub use Rattle.prefix_trie_bits.specs.Keys.{PrefixLaws, fits_back, len_back, nar
 pub use Rattle.prefix_trie_bits.specs.Laws.Nodes.{NodeLaws}
 pub use Rattle.prefix_trie_bits.specs.Laws.Pruning.{PruningLaws}
 pub use Rattle.prefix_trie_bits.specs.Laws.Steps.{IsMap}
-pub use Rattle.prefix_trie_bits.specs.Model.Asking.{AsksInOrder, MayAskInOrder}
+pub use Rattle.prefix_trie_bits.specs.Model.Retaining.{RetainsEntries, CallableOnEachEntry}
 pub use Rattle.prefix_trie_bits.specs.Model.Counted.{CountedFrom, CountedRun}
 pub use Rattle.prefix_trie_bits.specs.Model.Entries.{AreWithin, Entries, no_entries, put_all, with_entry, without_entry}
-pub use Rattle.prefix_trie_bits.specs.Model.HandsOut.{HandsOutInStorage}
-pub use Rattle.prefix_trie_bits.specs.Model.Matches.{IsLongestMatch, shortest_match, shown_match}
+pub use Rattle.prefix_trie_bits.specs.Model.SplitsOff.{SplitsOffInStorage}
+pub use Rattle.prefix_trie_bits.specs.Model.Matches.{IsLongestMatch, shortest_match, prefix_pair}
 pub use Rattle.prefix_trie_bits.specs.Model.Nodes.{AreNodes, IsTidy, Nodes, needed, nodes_without, with_needed}
-pub use Rattle.prefix_trie_bits.specs.Model.Room.{LeavesRoom}
-pub use Rattle.prefix_trie_bits.specs.Model.Selections.{listing, listing_after, listing_below, listing_from, shown}
+pub use Rattle.prefix_trie_bits.specs.Model.Space.{LeavesSpace}
+pub use Rattle.prefix_trie_bits.specs.Model.Selections.{listing, listing_after, listing_below, listing_from, prefix_pairs}
 pub use Rattle.prefix_trie_bits.specs.Model.Step.{Call, Clear, Count, Done, Insert, Lpm, Match, NodeCount, Remove, RemoveChildren, RemoveKeepTree, Reply, State, Step, Value}
 pub use Rattle.prefix_trie_bits.specs.Model.Storage.{RetainsInStorage, StepByPath, StepInStorage, Storage}
 pub use Rattle.prefix_trie_bits.specs.Model.Visits.{ReadsExactly, visits}
@@ -67,14 +67,14 @@ pub use Rattle.prefix_trie_map.proofs.Resumed.{resume_laws}
 pub use Rattle.prefix_trie_map.proofs.Writing.{left_at_start, left_behind, none_left}
 pub use Rattle.prefix_trie_map.specs.Copied.{CopyLaws}
 pub use Rattle.prefix_trie_map.specs.Entry.{Fills, ModifiesEntry, RefusesToFill, entry_key, entry_map, entry_path, entry_value}
-pub use Rattle.prefix_trie_map.specs.Steps.{inserted, state, storage, stored}
+pub use Rattle.prefix_trie_map.specs.Steps.{insert_reply, state, storage, stored_state}
 pub use Rattle.prefix_trie_map.specs.Walks.{lent_item}
 pub use Rattle.prefix_trie_map.specs.Whole.{IsWhole}
-pub use Rattle.prefix_trie_map.specs.Writing.{ComesToEnd, GoesOver, HandsBack, IsFirst, StartsIn, keys_left}
+pub use Rattle.prefix_trie_map.specs.Writing.{ComesToEnd, GoesOver, ReturnsMap, IsFirst, StartsIn, keys_left}
 pub use Rattle.prefix_trie_map.specs.WritingWalks.{EndsIn, FirstIn, IsOverIn, PassesIn}
 pub use Rattle.prefix_trie_map.specs.declared.map.entry.Entry.{Entry}
 pub use Rattle.prefix_trie_map.specs.declared.map.entry.Entry.TheVariants.{Occupied, Vacant}
-pub use Rattle.prefix_trie_map.specs.declared.map.writing.course.Course.{Course}
+pub use Rattle.prefix_trie_map.specs.declared.map.writing.cursor.MapCursor.{MapCursor}
 pub use Rattle.prefix_trie.specs.Laws.Comparing.{EqualLaws}
 pub use Rattle.prefix_trie.specs.Laws.Joining.{JoinLaws, join_all, joined_by, with_value}
 pub use Rattle.prefix_trie.specs.Laws.Lookups.{IsUncovered, LookupLaws}

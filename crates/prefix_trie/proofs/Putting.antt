@@ -1,5 +1,5 @@
 -- What a loop leaves that puts the entries of one map into another, and how its invariant goes on.
-use Rattle.prefix_trie.proofs.Prelude.{◌≡◌, ℕ, Bool, true, false, cond, T, List, [], ◌∷◌, Option, Some, None, refl, sym, ap, ◌∙◌, option_or, entries_sorted, get, get-entries, is_sorted, find, All-head, All-tail, All-same, PrefixLaws, listing_cmp, same_string, Entries, AreWithin, no_entries, put_all, with_entry, listing, shown, get-with_entry, same_string-is, same_entries, each-behind, not_itself, sorted-head, sorted-tail, Leads, PutLaws, listed_fit, listed_paths}
+use Rattle.prefix_trie.proofs.Prelude.{◌≡◌, ℕ, Bool, true, false, cond, T, List, [], ◌∷◌, Option, Some, None, refl, sym, ap, ◌∙◌, option_or, entries_sorted, get, get-entries, is_sorted, find, All-head, All-tail, All-same, PrefixLaws, listing_cmp, same_string, Entries, AreWithin, no_entries, put_all, with_entry, listing, prefix_pairs, get-with_entry, same_string-is, same_entries, each-behind, not_itself, sorted-head, sorted-tail, Leads, PutLaws, listed_fit, listed_paths}
 use lib.Dec.{T as IsT}
 use Rattle.std.specs.List.{All}
 use Rattle.prefix_trie.proofs.Stored.{stored_laws}
@@ -30,7 +30,7 @@ module _ {P T : Type 0} (path : P → List Bool) (back : List Bool → P) where
 
   -- pairs put in turn: of each key the value that stands among them, or else the one that was there
   pairs_put : (es : List (List Bool × T)) (to : Entries T) → IsT (is_sorted listing_cmp es) → All (λ e. path (back e.0) ≡ e.0) es → (s : List Bool) →
-      get (put_all path (shown back es) to) s ≡ option_or (find listing_cmp s es) (get to s)
+      get (put_all path (prefix_pairs back es) to) s ≡ option_or (find listing_cmp s es) (get to s)
   pairs_put [] to sorted paths s = refl
   pairs_put (x ∷ es) to sorted paths s =
       pairs_put es (with_entry to (path (back x.0)) x.1) (sorted-tail x es sorted) (All-tail (λ e. path (back e.0) ≡ e.0) x es paths) s
@@ -42,7 +42,7 @@ module _ {P T : Type 0} (path : P → List Bool) (back : List Bool → P) where
       ] refl
 
   -- pairs put under the paths of their prefixes are put under their strings
-  pairs_listed : (es : List (List Bool × T)) (to : Entries T) → All (λ e. path (back e.0) ≡ e.0) es → put_all path (shown back es) to ≡ put_all (λ s. s) es to
+  pairs_listed : (es : List (List Bool × T)) (to : Entries T) → All (λ e. path (back e.0) ≡ e.0) es → put_all path (prefix_pairs back es) to ≡ put_all (λ s. s) es to
   pairs_listed [] to paths = refl
   pairs_listed (x ∷ es) to paths =
       pairs_listed es (with_entry to (path (back x.0)) x.1) (All-tail (λ e. path (back e.0) ≡ e.0) x es paths)
@@ -54,23 +54,23 @@ or_none (Some v) = refl
 
 module _ {K P : Type 0} {w : ℕ} {IsKey : K → Type 0} {bits : K → List Bool} {key_of : List Bool → K} {repr_of : P → K} {len_of : P → ℕ} {path : P → List Bool} {IsFitting : P → Type 0} {from_parts : K → ℕ → P} {back : List Bool → P} (laws : PrefixLaws w IsKey bits key_of repr_of len_of path IsFitting from_parts back) {T : Type 0} (from : Entries T) (within : AreWithin w from) where
   -- a walk over a whole map leads to all its entries put
-  pub all_lead : (to : Entries T) (walk : List (P × T)) → walk ≡ shown back (listing from) → Leads path IsFitting walk to (put_all path (shown back (listing from)) to)
+  pub all_lead : (to : Entries T) (walk : List (P × T)) → walk ≡ prefix_pairs back (listing from) → Leads path IsFitting walk to (put_all path (prefix_pairs back (listing from)) to)
   all_lead to walk gives =
-      (All-same (λ e. IsFitting e.0) walk (shown back (listing from)) gives (listed_fit laws from within), ap (λ xs. put_all path xs to) gives)
+      (All-same (λ e. IsFitting e.0) walk (prefix_pairs back (listing from)) gives (listed_fit laws from within), ap (λ xs. put_all path xs to) gives)
 
-  map_put : (to : Entries T) (s : List Bool) → get (put_all path (shown back (listing from)) to) s ≡ option_or (get from s) (get to s)
+  map_put : (to : Entries T) (s : List Bool) → get (put_all path (prefix_pairs back (listing from)) to) s ≡ option_or (get from s) (get to s)
   map_put to s =
       pairs_put path back (listing from) to (entries_sorted from) (listed_paths laws from within) s
       ∙ ap (λ o. option_or o (get to s)) (sym (get-entries from s))
 
-  copied : put_all path (shown back (listing from)) no_entries ≡ from
-  copied = same_entries (put_all path (shown back (listing from)) no_entries) from (λ s. map_put no_entries s ∙ ap (option_or (get from s)) ((stored_laws T).nothing s) ∙ or_none (get from s))
+  copied : put_all path (prefix_pairs back (listing from)) no_entries ≡ from
+  copied = same_entries (put_all path (prefix_pairs back (listing from)) no_entries) from (λ s. map_put no_entries s ∙ ap (option_or (get from s)) ((stored_laws T).nothing s) ∙ or_none (get from s))
 
   -- into an empty map a walk leads to the whole map
-  starts_empty : (to : Entries T) → to ≡ no_entries → (walk : List (P × T)) → walk ≡ shown back (listing from) → Leads path IsFitting walk to from
+  starts_empty : (to : Entries T) → to ≡ no_entries → (walk : List (P × T)) → walk ≡ prefix_pairs back (listing from) → Leads path IsFitting walk to from
   starts_empty to empty walk gives =
       let leads = all_lead to walk gives in
-      (leads.0, leads.1 ∙ ap (put_all path (shown back (listing from))) empty ∙ copied)
+      (leads.0, leads.1 ∙ ap (put_all path (prefix_pairs back (listing from))) empty ∙ copied)
 
 pub put_laws : {K P : Type 0} {w : ℕ} {IsKey : K → Type 0} {bits : K → List Bool} {key_of : List Bool → K} {repr_of : P → K} {len_of : P → ℕ} {path : P → List Bool} {IsFitting : P → Type 0} {from_parts : K → ℕ → P} {back : List Bool → P} →
     PrefixLaws w IsKey bits key_of repr_of len_of path IsFitting from_parts back → (T : Type 0) → PutLaws T w path IsFitting back

@@ -1,5 +1,5 @@
 -- What a loop that changes each value by a function of the old one has done so far.
-use Rattle.prefix_trie.proofs.Prelude.{◌≡◌, ℕ, ◌<◌, Bool, true, false, cond, ◌||◌, ◌&&◌, List, [], ◌∷◌, length, map, Option, None, Some, is_some, is_lt, is_eq, Ordering, Less, Equal, Greater, refl, sym, ap, ◌∙◌, subst, arith, true≢false, list_any, option_map, get, contains_key-keys, entries_sorted, is_sorted, below_all, listing_cmp, same_string, Entries, with_entry, listing, and-first, and-second, or-right, get-with_entry, is-same_string, same_string-is, same_entries, sorted-head, sorted-tail, t-true, true-t, Contents, bare, sorted_mapped, Course, keys_left, IsFirst, GoesOver, ComesToEnd, StartsIn, HandsBack, PassesIn, EndsIn, FirstIn, left_at_start, left_behind, none_left, keyed, AreOrdered, is_left, Rewrites, RewritesIn, OrderedIn}
+use Rattle.prefix_trie.proofs.Prelude.{◌≡◌, ℕ, ◌<◌, Bool, true, false, cond, ◌||◌, ◌&&◌, List, [], ◌∷◌, length, map, Option, None, Some, is_some, is_lt, is_eq, Ordering, Less, Equal, Greater, refl, sym, ap, ◌∙◌, subst, arith, true≢false, list_any, option_map, get, contains_key-keys, entries_sorted, is_sorted, below_all, listing_cmp, same_string, Entries, with_entry, listing, and-first, and-second, or-right, get-with_entry, is-same_string, same_string-is, same_entries, sorted-head, sorted-tail, t-true, true-t, Contents, bare, sorted_mapped, MapCursor, keys_left, IsFirst, GoesOver, ComesToEnd, StartsIn, ReturnsMap, PassesIn, EndsIn, FirstIn, left_at_start, left_behind, none_left, keyed, AreOrdered, is_left, Rewrites, RewritesIn, OrderedIn}
 use lib.Dec.{T as IsT}
 use Rattle.std.specs.Borrow.{MutBor}
 use Rattle.std.specs.declared.cmp.PartialEq as partial
@@ -38,17 +38,17 @@ pub record RewritesMap {T : Type 0} (f : T → T) (m n : MutBor (Contents T)) : 
 
 module _ {P T A R : Type 0} {p : prefix.Ghosts P R} {shows : debug.Ghosts P} {k : key.Ghosts R} {same : partial.Ghosts R} {writes : debug.Ghosts R} where
   -- how many are to come
-  abbrev pub left_in : Option (Course P T A R p shows k same writes) → ℕ
+  abbrev pub left_in : Option (MapCursor P T A R p shows k same writes) → ℕ
   left_in None = 0
   left_in (Some c) = length (keys_left c)
 
   -- a walk over a whole map starts with its keys in order
-  pub starts_ordered : (m : MutBor (Contents T)) (o : Option (Course P T A R p shows k same writes)) → StartsIn m (listing m.now.entries) o → OrderedIn o
+  pub starts_ordered : (m : MutBor (Contents T)) (o : Option (MapCursor P T A R p shows k same writes)) → StartsIn m (listing m.now.entries) o → OrderedIn o
   starts_ordered m None starts = absurd starts
   starts_ordered m (Some c) starts = subst AreOrdered (sym (left_at_start m _ c starts)) (listing_ordered m.now.entries)
 
   -- a walk at its end changes nothing more
-  pub only_once : (f g : T → T) (c d e : Course P T A R p shows k same writes) → Rewrites f c d → Rewrites g d e → e.map.now ≡ d.map.now
+  pub only_once : (f g : T → T) (c d e : MapCursor P T A R p shows k same writes) → Rewrites f c d → Rewrites g d e → e.map.now ≡ d.map.now
   only_once f g c d e first second =
       let m = d.map.now.entries in
       second.others
@@ -57,7 +57,7 @@ module _ {P T A R : Type 0} {p : prefix.Ghosts P R} {shows : debug.Ghosts P} {k 
 
 module _ {P T A R : Type 0} {p : prefix.Ghosts P R} {shows : debug.Ghosts P} {k : key.Ghosts R} {same : partial.Ghosts R} {writes : debug.Ghosts R} (f : T → T) where
   -- what was to come at first and is not any more has its value changed
-  pub record HasRewritten (c d : Course P T A R p shows k same writes) : Type 0 where
+  pub record HasRewritten (c d : MapCursor P T A R p shows k same writes) : Type 0 where
     pub same_map : d.map.ghost_name ≡ c.map.ghost_name
     pub ordered : AreOrdered (keys_left d)
     pub part : (s : List Bool) → is_left d s ≡ true → is_left c s ≡ true
@@ -65,7 +65,7 @@ module _ {P T A R : Type 0} {p : prefix.Ghosts P R} {shows : debug.Ghosts P} {k 
     pub others : d.map.now ≡ record c.map.now { entries = d.map.now.entries }
 
   -- one more is changed
-  rewrites_one : (c d e : Course P T A R p shows k same writes) (q : P) (x : T) → HasRewritten c d → IsFirst d q x → GoesOver d (f x) e → HasRewritten c e
+  rewrites_one : (c d e : MapCursor P T A R p shows k same writes) (q : P) (x : T) → HasRewritten c d → IsFirst d q x → GoesOver d (f x) e → HasRewritten c e
   rewrites_one c d e q x so_far first goes = record {
     same_map = ap (λ (b : MutBor (Contents T)). b.ghost_name) goes.map ∙ so_far.same_map;
     ordered = sorted-tail (keyed goes.key) (map keyed (keys_left e)) sorted;
@@ -112,7 +112,7 @@ module _ {P T A R : Type 0} {p : prefix.Ghosts P R} {shows : debug.Ghosts P} {k 
           ∙ ap (λ b. cond b (get c.map.now.entries s) (cond (is_left c s) (option_map f (get c.map.now.entries s)) (get c.map.now.entries s)))
           (ap (list_any (same_string s)) behind ∙ ap (λ b. b || is_left e s) is)
 
-  rewrites_all : (c d e : Course P T A R p shows k same writes) → HasRewritten c d → ComesToEnd d e → Rewrites f c e
+  rewrites_all : (c d e : MapCursor P T A R p shows k same writes) → HasRewritten c d → ComesToEnd d e → Rewrites f c e
   rewrites_all c d e so_far ends = record {
     same_map = ap (λ (b : MutBor (Contents T)). b.ghost_name) ends.map ∙ so_far.same_map;
     values = λ s. ap (λ (b : MutBor (Contents T)). get b.now.entries s) ends.map ∙ so_far.values s
@@ -122,13 +122,13 @@ module _ {P T A R : Type 0} {p : prefix.Ghosts P R} {shows : debug.Ghosts P} {k 
   }
 
   -- the same of a walk that may have no map
-  abbrev pub HasRewrittenIn : Option (Course P T A R p shows k same writes) → Option (Course P T A R p shows k same writes) → Type 0
+  abbrev pub HasRewrittenIn : Option (MapCursor P T A R p shows k same writes) → Option (MapCursor P T A R p shows k same writes) → Type 0
   HasRewrittenIn None None = Unit {0}
   HasRewrittenIn None (Some d) = ⊥
   HasRewrittenIn (Some c) None = ⊥
   HasRewrittenIn (Some c) (Some d) = HasRewritten c d
 
-  pub goes_on_rewriting : (start o n : Option (Course P T A R p shows k same writes)) (x : T) → HasRewrittenIn start o → ((q : P) × FirstIn IsFirst o q x) →
+  pub goes_on_rewriting : (start o n : Option (MapCursor P T A R p shows k same writes)) (x : T) → HasRewrittenIn start o → ((q : P) × FirstIn IsFirst o q x) →
       PassesIn GoesOver o (f x) n → HasRewrittenIn start n × (left_in n < left_in o)
   goes_on_rewriting start None n x so_far first goes = absurd goes
   goes_on_rewriting start (Some d) None x so_far first goes = absurd goes
@@ -139,7 +139,7 @@ module _ {P T A R : Type 0} {p : prefix.Ghosts P R} {shows : debug.Ghosts P} {k 
       shorter : (xs ys : List (List Bool)) (y : List Bool) → xs ≡ y ∷ ys → length ys < length xs
       shorter xs ys y same = omega (arith, ap length same)
 
-  pub ends_rewriting : (start o n : Option (Course P T A R p shows k same writes)) → HasRewrittenIn start o → EndsIn ComesToEnd o n → RewritesIn f start n
+  pub ends_rewriting : (start o n : Option (MapCursor P T A R p shows k same writes)) → HasRewrittenIn start o → EndsIn ComesToEnd o n → RewritesIn f start n
   ends_rewriting None None None so_far ends = tt
   ends_rewriting None None (Some e) so_far ends = absurd ends
   ends_rewriting None (Some d) n so_far ends = absurd so_far
@@ -148,8 +148,8 @@ module _ {P T A R : Type 0} {p : prefix.Ghosts P R} {shows : debug.Ghosts P} {k 
   ends_rewriting (Some c) (Some d) (Some e) so_far ends = rewrites_all c d e so_far ends
 
   -- the map that it hands back, once all was to come is changed
-  pub rewritten : (m : MutBor (Contents T)) (o d : Option (Course P T A R p shows k same writes)) (n : MutBor (Contents T)) →
-      StartsIn m (listing m.now.entries) o → RewritesIn f o d → HandsBack d (Some n) → RewritesMap f m n
+  pub rewritten : (m : MutBor (Contents T)) (o d : Option (MapCursor P T A R p shows k same writes)) (n : MutBor (Contents T)) →
+      StartsIn m (listing m.now.entries) o → RewritesIn f o d → ReturnsMap d (Some n) → RewritesMap f m n
   rewritten m None d n starts done back = absurd starts
   rewritten m (Some c) None n starts done back = absurd back
   rewritten m (Some c) (Some d) n starts done back = record {

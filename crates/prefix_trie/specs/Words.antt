@@ -6,14 +6,14 @@ pub use Rattle.prefix_trie_bits.specs.Order.{IsBefore, listing_cmp}
 pub use Rattle.prefix_trie_bits.specs.Texts.{ipv4_network_text, ipv6_network_text, ipv6_full_text, IsIpv4NetworkText, IsIpv6NetworkText, ParsesIpv4Network, ParsesIpv6Network, IsNarrowText, ParsesNarrow, parse_network_error_text, parse_narrow_error_text}
 pub use Rattle.prefix_trie_bits.specs.Model.Entries.{Entries, no_entries, with_entry, without_entry, without_below, part_below, put_all, AreWithin}
 pub use Rattle.prefix_trie_bits.specs.Model.Nodes.{Nodes, needed, with_needed, nodes_without, nodes_without_below, root_alone, AreNodes, IsTidy}
-pub use Rattle.prefix_trie_bits.specs.Model.Selections.{listing, listing_from, listing_after, listing_below, shown}
-pub use Rattle.prefix_trie_bits.specs.Model.Matches.{first_item, last_item, covers, IsMatch, IsLongestMatch, IsShortestMatch, longest_match, shortest_match, shown_match}
+pub use Rattle.prefix_trie_bits.specs.Model.Selections.{listing, listing_from, listing_after, listing_below, prefix_pairs}
+pub use Rattle.prefix_trie_bits.specs.Model.Matches.{first_item, last_item, covers, IsMatch, IsLongestMatch, IsShortestMatch, longest_match, shortest_match, prefix_pair}
 pub use Rattle.prefix_trie_bits.specs.Model.Addresses.{addresses, address_answer}
-pub use Rattle.prefix_trie_bits.specs.Model.HandsOut.{HandsOut, IsPacked, packed_node_slots, packed_cell_slots}
-pub use Rattle.prefix_trie_bits.specs.Laws.HandsOut.{Splits}
-pub use Rattle.prefix_trie_table.specs.Settling.{headroom_of}
+pub use Rattle.prefix_trie_bits.specs.Model.SplitsOff.{SplitsOff, IsPacked, packed_node_slots, packed_cell_slots}
+pub use Rattle.prefix_trie_bits.specs.Laws.SplitsOff.{Splits}
+pub use Rattle.prefix_trie_table.specs.GrowthBounds.{headroom_of}
 pub use Rattle.prefix_trie_table.specs.Shape.{with_value_at, with_match_at, with_longest_at}
-pub use Rattle.prefix_trie_table.specs.Steps.{SettlesInStorage}
+pub use Rattle.prefix_trie_table.specs.Steps.{BoundsStorageGrowth}
 pub use Rattle.prefix_trie_map.specs.Walks.{lent_item}
 pub use Rattle.prefix_trie_map.specs.Whole.{IsWhole}
 pub use Rattle.prefix_trie.specs.Sets.{AsksKeyAt, TakesKeyAt, as_item, put_in, same_keys, same_parts, taken_out}

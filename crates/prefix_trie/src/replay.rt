@@ -5,13 +5,13 @@ ghost use Rattle.std.specs.Iterator.{Drains, IsFinite};
 ghost use Rattle.std.specs.FinMap.{get, len};
 ghost use Rattle.prefix_trie_bits.specs.Model.Addresses.{address_answer};
 ghost use Rattle.prefix_trie_bits.specs.Model.Counted.{CountedStep, CountedRun, CountsReads, TidyIf, tidy_after_all};
-ghost use Rattle.prefix_trie_bits.specs.Model.Matches.{covers, longest_match, shortest_match, shown_match};
-ghost use Rattle.prefix_trie_bits.specs.Model.Selections.{listing, listing_from, listing_after, listing_below, shown};
+ghost use Rattle.prefix_trie_bits.specs.Model.Matches.{covers, longest_match, shortest_match, prefix_pair};
+ghost use Rattle.prefix_trie_bits.specs.Model.Selections.{listing, listing_from, listing_after, listing_below, prefix_pairs};
 ghost use Rattle.prefix_trie_bits.specs.Model.Step.{Run, Insert, Get, Lpm, Spm, Remove, RemoveKeepTree, RemoveChildren, RetainAtLeast, Clear, Value, Match, Done, Count, Addresses, Items, Refused};
 ghost use Rattle.prefix_trie_bits.specs.Model.Storage.{StepInStorage, RunInStorage, RetainsInStorage};
 ghost use Rattle.prefix_trie_bits.specs.declared.prefix.Refusal.TheVariants.{Memory};
-ghost use Rattle.prefix_trie_map.specs.Asking.{AsksAt};
-ghost use Rattle.prefix_trie_map.specs.Steps.{state, stored};
+ghost use Rattle.prefix_trie_map.specs.Calling.{CalledAtEntry};
+ghost use Rattle.prefix_trie_map.specs.Steps.{state, stored_state};
 ghost use Rattle.prefix_trie_map.specs.Walks.{lent_item};
 ghost use Rattle.prefix_trie_map.specs.Whole.{IsWhole};
 ghost use Rattle.prefix_trie.specs.Replay.{IsFittingCall, call_of, calls_of, reply_of, replies_of};
@@ -130,13 +130,13 @@ pub fn run<P: Prefix, A: Allocator + Clone>(
 
     // And one that sees how the map is stored: which blocks each call takes, how far the arrays grow, and when a new key is refused.
     ensures run_in_storage { IfOk result (λ replies. RunInStorage P.path P.back P.R.bit_width
-        (stored map.old) (calls_of calls.now) (replies_of P.R.bits replies.items) (stored map.new)) }
+        (stored_state map.old) (calls_of calls.now) (replies_of P.R.bits replies.items) (stored_state map.new)) }
 
     // And one that counts: each lookup reads exactly the nodes on its way, at most one for each five bits and one more. Where the
     // map was tidy before, or is cleared or retained on the way, its nodes are exactly those that its keys need, until a
     // `RemoveKeepTree`. `run_counted` says that these numbers are those of the map's counters.
     ensures counted { IfOk result (λ replies. (reads : List (Option ℕ)) × CountedRun P.path P.back P.R.bit_width
-        (stored map.old) (calls_of calls.now) (replies_of P.R.bits replies.items) reads (stored map.new)) }
+        (stored_state map.old) (calls_of calls.now) (replies_of P.R.bits replies.items) reads (stored_state map.new)) }
     ensures tidy { OnOk result ((tidy : Bool) → TidyIf tidy (state map.old)
         → TidyIf (tidy_after_all tidy (calls_of calls.now)) (state map.new)) }
     ensures one_each { IfOk result (λ replies. vec_len replies ≡ length calls.now) }
@@ -158,7 +158,7 @@ pub fn run_counted<P: Prefix, A: Allocator + Clone>(
 ) -> Result<(Vec<Reply<P, A>, A>, Reads), AllocError>
     requires { All (IsFittingCall P.IsFitting) calls.now }
     ensures counted { IfOk result (λ ran. CountedRun P.path P.back P.R.bit_width
-        (stored map.old) (calls_of calls.now) (replies_of P.R.bits ran.0.items) ran.1 (stored map.new)) }
+        (stored_state map.old) (calls_of calls.now) (replies_of P.R.bits ran.0.items) ran.1 (stored_state map.new)) }
     ensures one_each { IfOk result (λ ran. vec_len ran.0 ≡ length calls.now) }
     ensures none_carried_out { OnErr result (map.new ≡ map.old) }
 {
@@ -182,7 +182,7 @@ fn answer<P: Prefix, A: Allocator + Clone>(
 ) -> (Reply<P, A>, Option<Visits>)
     requires { IsFittingCall P.IsFitting call.now }
     ensures { CountedStep P.path P.back P.R.bit_width
-        (stored map.old) (call_of call.now) (reply_of P.R.bits result.0, result.1) (stored map.new) }
+        (stored_state map.old) (call_of call.now) (reply_of P.R.bits result.0, result.1) (stored_state map.new) }
 {
     // The proof learns from it that neither array passes the limit.
     let _ = map.len();
@@ -217,7 +217,7 @@ fn insert<P: Prefix, A: Allocator>(
 ) -> Reply<P, A>
     requires { P.IsFitting prefix.now }
     ensures { StepInStorage P.path P.back P.R.bit_width
-        (stored map.old) (Insert prefix.now value) (reply_of P.R.bits result) (stored map.new) }
+        (stored_state map.old) (Insert prefix.now value) (reply_of P.R.bits result) (stored_state map.new) }
 {
     match map.insert(same_path(prefix), value) {
         Ok(before) => Reply::Value(before),
@@ -232,7 +232,7 @@ fn remove_keep_tree<P: Prefix, A: Allocator>(
 ) -> Reply<P, A>
     requires { P.IsFitting prefix.now }
     ensures { StepInStorage P.path P.back P.R.bit_width
-        (stored map.old) (RemoveKeepTree prefix.now) (reply_of P.R.bits result) (stored map.new) }
+        (stored_state map.old) (RemoveKeepTree prefix.now) (reply_of P.R.bits result) (stored_state map.new) }
 {
     Reply::Value(map.remove_keep_tree(prefix))
 }
@@ -241,7 +241,7 @@ fn remove_keep_tree<P: Prefix, A: Allocator>(
 fn drop_children<P: Prefix, A: Allocator>(map: &mut PrefixMap<P, u64, A>, prefix: &P) -> Reply<P, A>
     requires { P.IsFitting prefix.now }
     ensures { StepInStorage P.path P.back P.R.bit_width
-        (stored map.old) (RemoveChildren prefix.now) (reply_of P.R.bits result) (stored map.new) }
+        (stored_state map.old) (RemoveChildren prefix.now) (reply_of P.R.bits result) (stored_state map.new) }
 {
     map.drop_children(prefix);
     Reply::Done
@@ -251,7 +251,7 @@ fn drop_children<P: Prefix, A: Allocator>(map: &mut PrefixMap<P, u64, A>, prefix
 fn remove<P: Prefix, A: Allocator>(map: &mut PrefixMap<P, u64, A>, prefix: &P) -> Reply<P, A>
     requires { P.IsFitting prefix.now }
     ensures { StepInStorage P.path P.back P.R.bit_width
-        (stored map.old) (Remove prefix.now) (reply_of P.R.bits result) (stored map.new) }
+        (stored_state map.old) (Remove prefix.now) (reply_of P.R.bits result) (stored_state map.new) }
 {
     Reply::Value(map.remove(prefix))
 }
@@ -259,7 +259,7 @@ fn remove<P: Prefix, A: Allocator>(map: &mut PrefixMap<P, u64, A>, prefix: &P) -
 /// Takes all entries out.
 fn clear<P: Prefix, A: Allocator>(map: &mut PrefixMap<P, u64, A>) -> Reply<P, A>
     ensures { StepInStorage P.path P.back P.R.bit_width
-        (stored map.old) Clear (reply_of P.R.bits result) (stored map.new) }
+        (stored_state map.old) Clear (reply_of P.R.bits result) (stored_state map.new) }
 {
     map.clear();
     Reply::Done
@@ -271,7 +271,7 @@ fn retain_at_least<P: Prefix, A: Allocator>(
     least: u8,
 ) -> Reply<P, A>
     ensures { StepInStorage P.path P.back P.R.bit_width
-        (stored map.old) (RetainAtLeast least) (reply_of P.R.bits result) (stored map.new) }
+        (stored_state map.old) (RetainAtLeast least) (reply_of P.R.bits result) (stored_state map.new) }
 {
     keep_where(map, |prefix, _| least <= prefix.prefix_len());
     Reply::Done
@@ -285,7 +285,7 @@ fn keep_where<P: Prefix, A: Allocator, F: FnMut(&P, &u64) -> bool + Drop>(
 )
     requires { F.IsAlwaysCallable test }
     ensures whole { IsWhole P.R.bit_width map.old }
-    ensures step { RetainsInStorage (AsksAt F.FnMut P.back) test (stored map.old) (stored map.new) }
+    ensures step { RetainsInStorage (CalledAtEntry F.FnMut P.back) test (stored_state map.old) (stored_state map.new) }
 {
     map.retain(test);
 }
@@ -330,7 +330,7 @@ fn longest<P: Prefix, A: Allocator>(
     prefix: &P,
 ) -> (Reply<P, A>, Option<Visits>)
     requires { P.IsFitting prefix.now }
-    ensures reply { reply_of P.R.bits result.0 ≡ Match (shown_match P.back (longest_match map.now.entries (P.path prefix.now))) }
+    ensures reply { reply_of P.R.bits result.0 ≡ Match (prefix_pair P.back (longest_match map.now.entries (P.path prefix.now))) }
     ensures reads { CountsReads P.path (state map.now) (Lpm prefix.now) result.1 }
 {
     let (found, visits) = map.get_lpm_counted(prefix);
@@ -343,7 +343,7 @@ fn shortest<P: Prefix, A: Allocator>(
     prefix: &P,
 ) -> (Reply<P, A>, Option<Visits>)
     requires { P.IsFitting prefix.now }
-    ensures reply { reply_of P.R.bits result.0 ≡ Match (shown_match P.back (shortest_match map.now.entries (P.path prefix.now))) }
+    ensures reply { reply_of P.R.bits result.0 ≡ Match (prefix_pair P.back (shortest_match map.now.entries (P.path prefix.now))) }
     ensures reads { CountsReads P.path (state map.now) (Spm prefix.now) result.1 }
 {
     let (found, visits) = map.get_spm_counted(prefix);
@@ -372,7 +372,7 @@ fn listed<P: Prefix, A: Allocator + Clone>(
     alloc: &A,
     map: &PrefixMap<P, u64, A>,
 ) -> Result<Vec<(P, u64), A>, AllocError>
-    ensures { IfOk result (λ entries. entries.items ≡ shown P.back (listing map.now.entries)) }
+    ensures { IfOk result (λ entries. entries.items ≡ prefix_pairs P.back (listing map.now.entries)) }
 {
     copied(alloc, map.len(), map.iter())
 }
@@ -385,7 +385,7 @@ fn listed_from<P: Prefix, A: Allocator + Clone>(
     inclusive: bool,
 ) -> Result<Vec<(P, u64), A>, AllocError>
     requires { P.IsFitting prefix.now }
-    ensures { IfOk result (λ entries. entries.items ≡ shown P.back (cond inclusive
+    ensures { IfOk result (λ entries. entries.items ≡ prefix_pairs P.back (cond inclusive
         (listing_from map.now.entries (P.path prefix.now))
         (listing_after map.now.entries (P.path prefix.now)))) }
 {
@@ -400,7 +400,7 @@ fn children<P: Prefix, A: Allocator + Clone>(
     prefix: &P,
 ) -> Result<Vec<(P, u64), A>, AllocError>
     requires { P.IsFitting prefix.now }
-    ensures { IfOk result (λ entries. entries.items ≡ shown P.back (listing_below map.now.entries (P.path prefix.now))) }
+    ensures { IfOk result (λ entries. entries.items ≡ prefix_pairs P.back (listing_below map.now.entries (P.path prefix.now))) }
 {
     let count = map.children(prefix).count();
     copied(alloc, count, map.children(prefix))
@@ -413,7 +413,7 @@ fn covered<P: Prefix, A: Allocator + Clone>(
     prefix: &P,
 ) -> Result<Vec<(P, u64), A>, AllocError>
     requires { P.IsFitting prefix.now }
-    ensures { IfOk result (λ entries. entries.items ≡ shown P.back (covers map.now.entries (P.path prefix.now))) }
+    ensures { IfOk result (λ entries. entries.items ≡ prefix_pairs P.back (covers map.now.entries (P.path prefix.now))) }
 {
     let count = map.cover(prefix).count();
     copied(alloc, count, map.cover(prefix))

@@ -13,17 +13,17 @@ ghost use Rattle.prefix_trie_bits.specs.Model.Entries.{no_entries, with_entry};
 ghost use Rattle.prefix_trie_bits.specs.Model.Nodes.{root_alone, with_needed};
 ghost use Rattle.prefix_trie_bits.specs.Model.Step.{Insert};
 ghost use Rattle.prefix_trie_bits.specs.Model.Storage.{StepByPath};
-ghost use Rattle.prefix_trie_map.specs.Steps.{stored};
+ghost use Rattle.prefix_trie_map.specs.Steps.{stored_state};
 ghost use Rattle.prefix_trie_map.specs.Whole.{IsWhole};
 ghost use Rattle.prefix_trie.specs.Sets.{put_in};
 
 mod collecting;
-mod handing;
+mod splitting;
 mod iter;
 mod lookup;
 mod memory;
 mod removal;
-mod shown;
+mod equality;
 
 pub use iter::{IntoIter, Iter};
 use prefix_trie_bits::prefix::{Prefix, Refusal};
@@ -68,7 +68,7 @@ impl<P: Prefix, A: Allocator + Clone> PrefixSet<P, A> {
     pub fn new(alloc: A) -> Result<Self, Refusal>
         ensures entries { IfOk result (λ set. set.entries ≡ no_entries) }
         ensures nodes { IfOk result (λ set. set.nodes ≡ root_alone) }
-        ensures room { IfOk result (λ set. set.room ≡ record { limit = 2 ^ 32 - 1; node_slots = 1; cell_slots = 0 }) }
+        ensures space { IfOk result (λ set. set.space ≡ record { limit = 2 ^ 32 - 1; node_slots = 1; cell_slots = 0 }) }
         ensures layout { IfOk result (λ set. set.layout ≡ no_layout) }
         ensures only_memory { IfErr result (λ refusal. refusal ≡ Memory) }
     {
@@ -91,7 +91,7 @@ impl<P: Prefix, A: Allocator + Clone> PrefixSet<P, A> {
     pub fn with_slot_limit(alloc: A, limit: u32) -> Result<Self, Refusal>
         ensures entries { IfOk result (λ set. set.entries ≡ no_entries) }
         ensures nodes { IfOk result (λ set. set.nodes ≡ root_alone) }
-        ensures room { IfOk result (λ set. set.room ≡ record { limit = limit; node_slots = 1; cell_slots = 0 }) }
+        ensures space { IfOk result (λ set. set.space ≡ record { limit = limit; node_slots = 1; cell_slots = 0 }) }
         ensures layout { IfOk result (λ set. set.layout ≡ no_layout) }
         ensures range { IfErr result (λ cause. (cause ≡ IndexRange) ↔ (limit ≡ 0)) }
         ensures none { limit ≡ 0 → IsErr result }
@@ -171,7 +171,7 @@ impl<P: Prefix, A: Allocator> PrefixSet<P, A> {
     /// slots; only `clear` takes them away, and `drop_children` and `remove_children` of a prefix of length 0.
     #[inline]
     pub fn node_slots(&self) -> usize
-        ensures slots { result ≡ self.now.room.node_slots }
+        ensures slots { result ≡ self.now.space.node_slots }
         ensures whole { IsWhole P.R.bit_width self.now }
     {
         self.map.node_slots()
@@ -180,7 +180,7 @@ impl<P: Prefix, A: Allocator> PrefixSet<P, A> {
     /// How many slots the array of keys has, used or free: a new set has none. Never more than the limit.
     #[inline]
     pub fn cell_slots(&self) -> usize
-        ensures slots { result ≡ self.now.room.cell_slots }
+        ensures slots { result ≡ self.now.space.cell_slots }
         ensures whole { IsWhole P.R.bit_width self.now }
     {
         self.map.cell_slots()
@@ -202,7 +202,7 @@ impl<P: Prefix, A: Allocator> PrefixSet<P, A> {
         ensures unchanged { OnErr result ((self.new.entries ≡ self.old.entries) × (self.new.nodes ≡ self.old.nodes)) }
 
         // It is a step of the model, of the storage too: that of a map of units (`PrefixMap::insert`).
-        ensures step { StepByPath P.R.bit_width (stored self.old) (Insert (P.path prefix) tt) (put_in result) (stored self.new) }
+        ensures step { StepByPath P.R.bit_width (stored_state self.old) (Insert (P.path prefix) tt) (put_in result) (stored_state self.new) }
     {
         match self.map.insert(prefix, ()) {
             Ok(before) => Ok(before.is_none()),

@@ -17,7 +17,7 @@ pub mod Counted
 pub mod Determined
 pub mod Levels
 pub mod Total
-pub mod Askings
+pub mod RetainCalls
 pub mod Retained
 pub mod Storage
-pub mod HandsOut
+pub mod SplitsOff

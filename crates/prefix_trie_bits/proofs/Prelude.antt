@@ -33,13 +33,13 @@ pub use Rattle.prefix_trie_bits.specs.Bits.{same_bit, zeros}
 unfoldable pub use Rattle.prefix_trie_bits.specs.Bits.{begins, digits, number}
 pub use Rattle.prefix_trie_bits.specs.Comparing.{order-filled, order-here, order-later, order-numbers}
 pub use Rattle.prefix_trie_bits.specs.Facts.{FactsHold}
-pub use Rattle.prefix_trie_bits.specs.Facts.Blocks.{BlocksHold, at_slot, none_free, room_of, six_free}
+pub use Rattle.prefix_trie_bits.specs.Facts.Blocks.{BlocksHold, at_slot, none_free, space_of, six_free}
 pub use Rattle.prefix_trie_bits.specs.Facts.Insertions.{Blocks, InsertionsHold, by_path, far_children, far_layout, lacking, layout_at, ones_free, sizes_at, three_slots, with_one}
 pub use Rattle.prefix_trie_bits.specs.Facts.Steps.{FilledFacts, KeepsFacts, StepsHold, Takes, both_free, child_value, four_free, root_child, root_value, two_free}
 pub use Rattle.prefix_trie_bits.specs.Laws.Addresses.{AddressLaws}
 pub use Rattle.prefix_trie_bits.specs.Laws.Counted.{CountedLaws}
 pub use Rattle.prefix_trie_bits.specs.Laws.Determined.{DeterminedLaws, is_memory, is_refusal, may_refuse}
-pub use Rattle.prefix_trie_bits.specs.Laws.HandsOut.{HandingLaws, Splits}
+pub use Rattle.prefix_trie_bits.specs.Laws.SplitsOff.{HandingLaws, Splits}
 pub use Rattle.prefix_trie_bits.specs.Laws.Listings.{IsListedBefore, ListingLaws}
 pub use Rattle.prefix_trie_bits.specs.Laws.Matches.{MatchLaws}
 pub use Rattle.prefix_trie_bits.specs.Laws.Nodes.{BeginsKey, IsHome, NodeLaws}
@@ -51,19 +51,19 @@ pub use Rattle.prefix_trie_bits.specs.Laws.Total.{GivesCause, IsStoredMap, Total
 pub use Rattle.prefix_trie_bits.specs.Laws.Visits.{VisitLaws}
 pub use Rattle.prefix_trie_bits.specs.Model.Addresses.{address_answer, addresses}
 unfoldable pub use Rattle.prefix_trie_bits.specs.Model.Addresses.{covered, full_strings}
-pub use Rattle.prefix_trie_bits.specs.Model.Asking.{AsksInOrder, MayAskInOrder}
+pub use Rattle.prefix_trie_bits.specs.Model.Retaining.{RetainsEntries, CallableOnEachEntry}
 pub use Rattle.prefix_trie_bits.specs.Model.Blocks.{AreBlocksOf, Block, HasBlock, Layout, LongerByOne, LosesNoBlock, NodesHaveBlocks, Sizes, SizesStepBetween, SizesStepDown, StepsBetween, StepsDown, Tiles, child_block_count, child_block_sizes, child_count, free_of, made_of, no_layout, one_of, own_entries, smallest_size, used_of, value_block_count, value_block_sizes}
 pub use Rattle.prefix_trie_bits.specs.Model.Counted.{CountedFrom, CountedStep, CountsReads, TidyIf, tidy_after, tidy_after_all}
 pub use Rattle.prefix_trie_bits.specs.Model.Entries.{AreWithin, Entries, no_entries, part_at_least, part_below, put_all, with_entry, without_below, without_entry}
-pub use Rattle.prefix_trie_bits.specs.Model.HandsOut.{ArePacked, HandsOut, HandsOutInStorage, packed_block, packed_cell_slots, packed_node_slots, packed_slots}
-pub use Rattle.prefix_trie_bits.specs.Model.Insertion.{LacksWithinLimit, TakesBlocks, block_needed, cell_slots_lacking, child_block_needed, child_blocks_lacking, child_blocks_needed, gains_child, lacking_of, lacking_slots, node_slots_lacking, value_block_needed, value_blocks_lacking, value_blocks_needed}
-pub use Rattle.prefix_trie_bits.specs.Model.Matches.{IsLongestMatch, IsMatch, IsShortestMatch, covers, first_item, last_item, longest_match, shortest_match, shown_match}
+pub use Rattle.prefix_trie_bits.specs.Model.SplitsOff.{ArePacked, SplitsOff, SplitsOffInStorage, packed_block, packed_cell_slots, packed_node_slots, packed_slots}
+pub use Rattle.prefix_trie_bits.specs.Model.Insertion.{MissingFitsLimit, TakesBlocks, block_needed, missing_cell_slots, child_block_needed, missing_child_blocks, child_blocks_needed, gains_child, missing_of, slots_of_missing, missing_node_slots, value_block_needed, missing_value_blocks, value_blocks_needed}
+pub use Rattle.prefix_trie_bits.specs.Model.Matches.{IsLongestMatch, IsMatch, IsShortestMatch, covers, first_item, last_item, longest_match, shortest_match, prefix_pair}
 pub use Rattle.prefix_trie_bits.specs.Model.NodeListings.{listing_at_place, listing_at_places, pair_of}
 pub use Rattle.prefix_trie_bits.specs.Model.Nodes.{AreNodes, IsTidy, Nodes, beginnings, has_node, home, is_node_depth, is_pruned, is_root, needed, nodes_above, nodes_not_below, nodes_without, nodes_without_below, pruned, root_alone, with_needed, with_nodes}
-pub use Rattle.prefix_trie_bits.specs.Model.Room.{LeavesRoom, MayPassLimit, Room}
-pub use Rattle.prefix_trie_bits.specs.Model.Selections.{listing, listing_after, listing_below, listing_from, shown}
+pub use Rattle.prefix_trie_bits.specs.Model.Space.{LeavesSpace, MayPassLimit, Space}
+pub use Rattle.prefix_trie_bits.specs.Model.Selections.{listing, listing_after, listing_below, listing_from, prefix_pairs}
 pub use Rattle.prefix_trie_bits.specs.Model.Step.{AddressCount, Addresses, Call, CallFits, Children, Clear, Count, Cover, Done, Get, IndexRange, Insert, Items, Len, ListAll, ListFrom, Lists, Lpm, Match, Memory, NodeCount, Refusal, Refused, Remove, RemoveChildren, RemoveKeepTree, Reply, RetainAtLeast, Run, Runs, Spm, State, Step, Value}
-pub use Rattle.prefix_trie_bits.specs.Model.Storage.{HaveBlocks, InsertsInStorage, LeavesStorage, PrunesInStorage, ReadiesInStorage, RefusesInStorage, RemovesManyInStorage, RemovesValueInStorage, RetainsInStorage, RunInStorage, StepInStorage, Storage, cleared}
+pub use Rattle.prefix_trie_bits.specs.Model.Storage.{HaveBlocks, InsertsInStorage, LeavesStorage, PrunesInStorage, PreparesInStorage, RefusesInStorage, RemovesManyInStorage, RemovesValueInStorage, RetainsInStorage, RunInStorage, StepInStorage, Storage, empty_storage}
 pub use Rattle.prefix_trie_bits.specs.Model.Visits.{ReadsExactly, visits, visits_of_match, visits_to_match}
 pub use Rattle.prefix_trie_bits.specs.Model.WritingWalk.{WritingWalk, walk_over}
 pub use Rattle.prefix_trie_bits.specs.Order.{IsBefore, listing-common, listing-extension, listing-refl, listing_cmp, listing_same, listing_total, same_string}

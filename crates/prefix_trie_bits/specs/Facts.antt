@@ -5,13 +5,13 @@ pub mod Insertions
 pub mod Steps
 use Rattle.std.specs.Prelude.{◌≡◌, ℕ, ◌+◌, ◌%◌, ◌==◌, true, false, [], ◌∷◌, length, Some, None}
 use Rattle.std.specs.FinMap.{len, values}
-use Rattle.prefix_trie_bits.specs.Model.Selections.{listing, listing_after, shown}
+use Rattle.prefix_trie_bits.specs.Model.Selections.{listing, listing_after, prefix_pairs}
 use Rattle.prefix_trie_bits.specs.Model.Nodes.{holders, parents}
 use Rattle.prefix_trie_bits.specs.Model.Visits.{visits, visits_to_match}
-use Rattle.prefix_trie_bits.specs.Model.Asking.{AsksInOrder}
+use Rattle.prefix_trie_bits.specs.Model.Retaining.{RetainsEntries}
 use Rattle.prefix_trie_bits.specs.Model.WritingWalk.{WritingWalk, walk_over, Next, Passes}
 use Rattle.prefix_trie_bits.specs.Model.Blocks.{AreBlocksOf, value_block_sizes, child_block_sizes, smallest_size, own_entries, child_count}
-use Rattle.prefix_trie_bits.specs.Model.HandsOut.{HandsOut, packed_block, packed_slots, packed_node_slots, packed_cell_slots}
+use Rattle.prefix_trie_bits.specs.Model.SplitsOff.{SplitsOff, packed_block, packed_slots, packed_node_slots, packed_cell_slots}
 use Rattle.prefix_trie_bits.specs.Model.Step.{State, Insert, Remove, RemoveKeepTree, Value}
 use Rattle.prefix_trie_bits.specs.Facts.Blocks.{at_slot}
 use Rattle.prefix_trie_bits.specs.Rows.Examples.{path_at, back_at, Row, LeadsTo, sets}
@@ -85,12 +85,12 @@ pub record FactsHold : Type 0 where
   pub empty_array : AreBlocksOf child_block_sizes 1 [] [] 1
   -- row 42: a test that is asked in listing order, and answers true at its first, third and fifth asking
   pub odd_askings :
-      AsksInOrder (λ f _ (_ : ℕ) b f'. (b ≡ (f % 2 == 0)) × (f' ≡ f + 1)) 0
+      RetainsEntries (λ f _ (_ : ℕ) b f'. (b ≡ (f % 2 == 0)) × (f' ≡ f + 1)) 0
       ((false ∷ [], 1) ∷ (false ∷ false ∷ [], 2) ∷ (false ∷ false ∷ false ∷ [], 4) ∷ (false ∷ true ∷ [], 3) ∷ (false ∷ true ∷ false ∷ [], 5) ∷ [])
       ((false ∷ [], 1) ∷ (false ∷ false ∷ false ∷ [], 4) ∷ (false ∷ true ∷ false ∷ [], 5) ∷ [])
   -- such a test is not true twice in a row, since each call starts in the state that the call before it left
   pub not_from_one_state :
-      ¬ (AsksInOrder (λ f _ (_ : ℕ) b f'. (b ≡ (f % 2 == 0)) × (f' ≡ f + 1)) 0
+      ¬ (RetainsEntries (λ f _ (_ : ℕ) b f'. (b ≡ (f % 2 == 0)) × (f' ≡ f + 1)) 0
       ((false ∷ [], 1) ∷ (true ∷ [], 2) ∷ []) ((false ∷ [], 1) ∷ (true ∷ [], 2) ∷ []))
   -- row 34: a writing walk that starts behind (5, 8) adds ten to each value that it lends, and no other value changes. It does not end with a key to come
   pub written : LeadsTo 8 five_calls (λ t.
@@ -102,9 +102,9 @@ pub record FactsHold : Type 0 where
       × ((early : WritingWalk ℕ) → ¬ (Next second None early))
       × (values last.entries ≡ 1 ∷ 2 ∷ 13 ∷ 14 ∷ 15 ∷ []))
   -- row 47: handing out 192.168.0.0/22 gives a second map of three entries, and both maps have five nodes
-  pub handed : LeadsTo 32 six_calls (λ t.
-      (second : State ℕ) × (after : State ℕ) × HandsOut t (path_at 32 (0xc0a80000, 22)) second after
-      × (shown (back_at 32) (listing second.entries) ≡ ((0xc0a80000, 22), 2) ∷ ((0xc0a80000, 23), 3) ∷ ((0xc0a80000, 24), 4) ∷ [])
+  pub split_off : LeadsTo 32 six_calls (λ t.
+      (second : State ℕ) × (after : State ℕ) × SplitsOff t (path_at 32 (0xc0a80000, 22)) second after
+      × (prefix_pairs (back_at 32) (listing second.entries) ≡ ((0xc0a80000, 22), 2) ∷ ((0xc0a80000, 23), 3) ∷ ((0xc0a80000, 24), 4) ∷ [])
       × (len second.nodes ≡ 5) × (own_entries second.entries (path_at 32 (0xc0a80000, 20)) ≡ 3)
       × (values after.entries ≡ 1 ∷ 5 ∷ 6 ∷ []) × (len after.nodes ≡ 5)
       × (packed_node_slots second.nodes ≡ 5) × (packed_cell_slots second.entries second.nodes ≡ 4))

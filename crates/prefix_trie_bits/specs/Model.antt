@@ -6,12 +6,12 @@ pub mod Nodes
 pub mod NodeListings
 pub mod Visits
 pub mod Addresses
-pub mod Asking
+pub mod Retaining
 pub mod WritingWalk
 pub mod Blocks
 pub mod Step
-pub mod Room
+pub mod Space
 pub mod Insertion
 pub mod Storage
-pub mod HandsOut
+pub mod SplitsOff
 pub mod Counted

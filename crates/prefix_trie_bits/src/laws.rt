@@ -6,7 +6,7 @@ ghost use Rattle.prefix_trie_bits.specs.Networks.{network_cmp};
 ghost use Rattle.prefix_trie_bits.specs.Laws.Addresses.{AddressLaws};
 ghost use Rattle.prefix_trie_bits.specs.Laws.Counted.{CountedLaws};
 ghost use Rattle.prefix_trie_bits.specs.Laws.Determined.{DeterminedLaws};
-ghost use Rattle.prefix_trie_bits.specs.Laws.HandsOut.{HandingLaws};
+ghost use Rattle.prefix_trie_bits.specs.Laws.SplitsOff.{HandingLaws};
 ghost use Rattle.prefix_trie_bits.specs.Laws.Listings.{ListingLaws};
 ghost use Rattle.prefix_trie_bits.specs.Laws.Matches.{MatchLaws};
 ghost use Rattle.prefix_trie_bits.specs.Laws.NetworkOrder.{NetworkOrderLaws};
@@ -79,7 +79,7 @@ pub fn address_laws<T>()
 
 /// Of what there was, the second map has the entries whose keys the prefix begins and the first has the others, and those of the
 /// second set in the first again make what there was. Both are maps, and the second is tidy.
-#[tactic(auto, using(crate::proofs::Model::HandsOut::handing_laws))]
+#[tactic(auto, using(crate::proofs::Model::SplitsOff::handing_laws))]
 pub fn handing_laws<T>()
     ensures { HandingLaws T }
 {}

@@ -26,10 +26,10 @@ reads_one path nodes prefixes n inside p is asked same start before after so_far
 pub found_more : {P K : Type 0} (bits : K → List Bool) (number : P → K) (len : P → ℕ) (nodes : List Node) (prefixes : List P) (from n : ℕ) (found rest : List (Option Found))
     → from + n ≤ length prefixes → length found ≡ n → AreAnswers bits nodes (questions_of number len (slice_range prefixes from (from + n))) found
     → AreFound bits number len nodes prefixes from n (found ++ rest)
-found_more bits number len nodes prefixes from n found rest room long answers i p a inside p_is a_is =
+found_more bits number len nodes prefixes from n found rest space long answers i p a inside p_is a_is =
     let many : from + n - from ≡ n = omega arith in
     let group : slice_range prefixes from (from + n) ≡ take n (drop from prefixes) = ap (λ k. take k (drop from prefixes)) many in
-    let fits : i < length (take n (drop from prefixes)) = omega (arith, inside, length-take-le n (drop from prefixes) (omega (arith, length-drop from prefixes, room))) in
+    let fits : i < length (take n (drop from prefixes)) = omega (arith, inside, length-take-le n (drop from prefixes) (omega (arith, length-drop from prefixes, space))) in
     let read : get_or (take n (drop from prefixes)) i p ≡ p = get_or-take n (drop from prefixes) i p inside ∙ get_or-drop from prefixes i p ∙ sym p_is in
     let q = asks number len p in
     subst (λ l. AreAnswers bits nodes (questions_of number len l) found) group answers i q a (omega (arith, fits, length-map (take n (drop from prefixes)) (asks number len)))
@@ -38,9 +38,9 @@ found_more bits number len nodes prefixes from n found rest room long answers i 
 -- one answer more
 pub answered_more : {P X Y : Type 0} (shows : X → Y) (answer : P → Y) (prefixes : List P) (out : List X) (n m : ℕ) → AreAnswered shows answer prefixes out n → m ≡ n + 1
     → n < length out → n < length prefixes → (p : P) → p ≡ get_or prefixes n p → (x : X) → shows x ≡ answer p → AreAnswered shows answer prefixes (set out n x) m
-answered_more shows answer prefixes out n m so_far more room inside p is x shown =
+answered_more shows answer prefixes out n m so_far more space inside p is x shown =
     subst (AreAnswered shows answer prefixes (set out n x)) (sym more)
-    (ap (map shows) (take_more_set out n x room) ∙ map-append shows (take n out) (x ∷ [])
+    (ap (map shows) (take_more_set out n x space) ∙ map-append shows (take n out) (x ∷ [])
     ∙ ap₂ (λ l y. l ++ y ∷ []) so_far (shown ∙ ap answer is)
     ∙ sym (ap (map answer) (take_more prefixes n p inside) ∙ map-append answer (take n prefixes) (get_or prefixes n p ∷ [])))
 
@@ -59,7 +59,7 @@ values_found key (Some f) = refl
 -- the answers to all
 pub answered_all : {P X Y : Type 0} (shows : X → Y) (answer : P → Y) (prefixes : List P) (out : List X) (n : ℕ) → AreAnswered shows answer prefixes out n → length prefixes ≤ n → length out ≤ n
     → map shows out ≡ map answer prefixes
-answered_all shows answer prefixes out n so_far all room = sym (ap (map shows) (take_all n out room)) ∙ so_far ∙ ap (map answer) (take_all n prefixes all)
+answered_all shows answer prefixes out n so_far all space = sym (ap (map shows) (take_all n out space)) ∙ so_far ∙ ap (map answer) (take_all n prefixes all)
 
 -- the reads of all
 pub read_all : {P : Type 0} (path : P → List Bool) (nodes : Nodes) (prefixes : List P) (n start now : ℕ) → now ≡ start + visits_of_all path nodes (take n prefixes) → length prefixes ≤ n

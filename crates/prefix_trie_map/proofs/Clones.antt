@@ -1,5 +1,5 @@
 -- The copy of a map, and walks whose pairs are clones.
-use Rattle.prefix_trie_map.proofs.Prelude.{◌≡◌, ◌↔◌, ℕ, true, List, Bool, sym, ◌∙◌, subst, get, contains_key, Entries, Nodes, AreNodes, IsTidy, needed, State, IsMap, same_nodes, needed_fewer, AreCloned, cloned_there, CopyLaws, [], ◌∷◌, map, refl, ap, ap₂, AllZip, shown, IsPairCloned, Option, None, Some, IsSomeAnd, IsCloned, same_entries, none-some, same_Some}
+use Rattle.prefix_trie_map.proofs.Prelude.{◌≡◌, ◌↔◌, ℕ, true, List, Bool, sym, ◌∙◌, subst, get, contains_key, Entries, Nodes, AreNodes, IsTidy, needed, State, IsMap, same_nodes, needed_fewer, AreCloned, cloned_there, CopyLaws, [], ◌∷◌, map, refl, ap, ap₂, AllZip, prefix_pairs, IsPairCloned, Option, None, Some, IsSomeAnd, IsCloned, same_entries, none-some, same_Some}
 
 -- the copy of a map, with the same keys and nodes, is a map
 pub IsMap-copied : {T : Type 0} (C : T → T → Type 0) (width : ℕ) (s copy : State T) → AreCloned C s.entries copy.entries → copy.nodes ≡ s.nodes →
@@ -51,7 +51,7 @@ module _ {T : Type 0} (C : T → T → Type 0) where
 module _ {T : Type 0} (C : T → T → Type 0) where
   -- as users see them
   pub shown_cloned : {P : Type 0} (back : List Bool → P) (xs ys : List (List Bool × T)) → AllZip (IsPairCloned C) xs ys →
-      AllZip (IsPairCloned C) (shown back xs) (shown back ys)
+      AllZip (IsPairCloned C) (prefix_pairs back xs) (prefix_pairs back ys)
   shown_cloned back [] [] z = tt
   shown_cloned back [] (y ∷ ys) z = absurd z
   shown_cloned back (x ∷ xs) [] z = absurd z

@@ -1,6 +1,6 @@
 -- What a map becomes where an entry is filled.
 use denote.Param.Members.{Once}
-use Rattle.prefix_trie_map.proofs.Prelude.{◌≡◌, Bool, cond, List, None, Some, MutBor, inl, refl, sym, ap, ◌∙◌, true≢false, subst, arith, get, Refusal, IndexRange, with_entry, with_needed, Insert, Value, StepByPath, Contents, with_value_at, is_none-None, stored, IsWhole, VacantEntry, OccupiedEntry, Vacant, Occupied, Fills, RefusesToFill, ModifiesEntry}
+use Rattle.prefix_trie_map.proofs.Prelude.{◌≡◌, Bool, cond, List, None, Some, MutBor, inl, refl, sym, ap, ◌∙◌, true≢false, subst, arith, get, Refusal, IndexRange, with_entry, with_needed, Insert, Value, StepByPath, Contents, with_value_at, is_none-None, stored_state, IsWhole, VacantEntry, OccupiedEntry, Vacant, Occupied, Fills, RefusesToFill, ModifiesEntry}
 use Rattle.std.specs.declared.cmp.PartialEq as partial
 use Rattle.std.specs.declared.fmt.Debug as debug
 use Rattle.prefix_trie_bits.specs.declared.prefix.Prefix as prefix
@@ -13,12 +13,12 @@ module _ {P T A R : Type 0} {p : prefix.Ghosts P R} {shows : debug.Ghosts P} {k 
   module _ (e : VacantEntry P T A R p shows k same writes) (new : Contents T) where
     -- what a key left that was placed, with the value last written there
     pub Fills-placed : (v w : T) → new.entries ≡ with_entry e.map.now.entries (p.path e.key) v → new.nodes ≡ with_needed e.map.now.nodes (p.path e.key)
-        → StepByPath k.bit_width (stored e.map.now) (Insert (p.path e.key) v) (Value None) (stored new)
+        → StepByPath k.bit_width (stored_state e.map.now) (Insert (p.path e.key) v) (Value None) (stored_state new)
         → Fills (Vacant e) (with_value_at new (p.path e.key) w) w
     Fills-placed v w entries nodes step = record {
       entries = ap (λ m. with_entry m (p.path e.key) w) entries ∙ entry_twice e.map.now.entries (p.path e.key) v w;
       nodes = nodes;
-      step = subst (λ x. StepByPath k.bit_width (stored e.map.now) (Insert (p.path e.key) w) (Value x) (stored (with_value_at new (p.path e.key) w)))
+      step = subst (λ x. StepByPath k.bit_width (stored_state e.map.now) (Insert (p.path e.key) w) (Value x) (stored_state (with_value_at new (p.path e.key) w)))
           (sym (is_none-None (get e.map.now.entries (p.path e.key)) e.absent))
           (written_step k.bit_width e.map.now new (p.path e.key) v None w step);
     }
@@ -26,33 +26,33 @@ module _ {P T A R : Type 0} {p : prefix.Ghosts P R} {shows : debug.Ghosts P} {k 
     -- the same, where the key was handed on, and its path to the call that lends
     pub Fills-lent : (key : P) (q : List Bool) (v w : T) → key ≡ e.key → q ≡ p.path e.key
         → new.entries ≡ with_entry e.map.now.entries (p.path key) v → new.nodes ≡ with_needed e.map.now.nodes (p.path key)
-        → StepByPath k.bit_width (stored e.map.now) (Insert (p.path key) v) (Value None) (stored new)
+        → StepByPath k.bit_width (stored_state e.map.now) (Insert (p.path key) v) (Value None) (stored_state new)
         → Fills (Vacant e) (with_value_at new q w) w
     Fills-lent key q v w is at entries nodes step =
         subst (λ s. Fills (Vacant e) (with_value_at new s w) w) (sym at)
         (Fills-placed v w
         (subst (λ y. new.entries ≡ with_entry e.map.now.entries (p.path y) v) is entries)
         (subst (λ y. new.nodes ≡ with_needed e.map.now.nodes (p.path y)) is nodes)
-        (subst (λ y. StepByPath k.bit_width (stored e.map.now) (Insert (p.path y) v) (Value None) (stored new)) is step))
+        (subst (λ y. StepByPath k.bit_width (stored_state e.map.now) (Insert (p.path y) v) (Value None) (stored_state new)) is step))
 
     -- the same with the value that it was placed with
     pub Fills-handed : (key : P) (v : T) → key ≡ e.key → new.entries ≡ with_entry e.map.now.entries (p.path key) v → new.nodes ≡ with_needed e.map.now.nodes (p.path key)
-        → StepByPath k.bit_width (stored e.map.now) (Insert (p.path key) v) (Value None) (stored new) → Fills (Vacant e) new v
+        → StepByPath k.bit_width (stored_state e.map.now) (Insert (p.path key) v) (Value None) (stored_state new) → Fills (Vacant e) new v
     Fills-handed key v is entries nodes step = record {
       entries = subst (λ y. new.entries ≡ with_entry e.map.now.entries (p.path y) v) is entries;
       nodes = subst (λ y. new.nodes ≡ with_needed e.map.now.nodes (p.path y)) is nodes;
-      step = subst (λ x. StepByPath k.bit_width (stored e.map.now) (Insert (p.path e.key) v) (Value x) (stored new)) (sym (is_none-None (get e.map.now.entries (p.path e.key)) e.absent))
-          (subst (λ y. StepByPath k.bit_width (stored e.map.now) (Insert (p.path y) v) (Value None) (stored new)) is step);
+      step = subst (λ x. StepByPath k.bit_width (stored_state e.map.now) (Insert (p.path e.key) v) (Value x) (stored_state new)) (sym (is_none-None (get e.map.now.entries (p.path e.key)) e.absent))
+          (subst (λ y. StepByPath k.bit_width (stored_state e.map.now) (Insert (p.path y) v) (Value None) (stored_state new)) is step);
     }
 
     -- and where it was refused
     pub Refuses-handed : (key : P) (cause : Refusal) → key ≡ e.key → new.entries ≡ e.map.now.entries → new.nodes ≡ e.map.now.nodes
-        → ((v : T) → StepByPath k.bit_width (stored e.map.now) (Insert (p.path key) v) (Refused cause) (stored new))
+        → ((v : T) → StepByPath k.bit_width (stored_state e.map.now) (Insert (p.path key) v) (Refused cause) (stored_state new))
         → RefusesToFill (Vacant e) cause new
     Refuses-handed key cause is entries nodes step = record {
       entries = entries;
       nodes = nodes;
-      step = λ v. subst (λ y. StepByPath k.bit_width (stored e.map.now) (Insert (p.path y) v) (Refused cause) (stored new)) is (step v);
+      step = λ v. subst (λ y. StepByPath k.bit_width (stored_state e.map.now) (Insert (p.path y) v) (Refused cause) (stored_state new)) is (step v);
     }
 
   -- a stored key has the value last written there
@@ -66,7 +66,7 @@ module _ {P T A R : Type 0} {p : prefix.Ghosts P R} {shows : debug.Ghosts P} {k 
         nodes = sym (with_needed-stored k.bit_width m.entries m.nodes q whole.is_map.are_nodes o.stored);
         step = record {
           step = inl (refl, ap (λ b. record { entries = with_entry m.entries q w; nodes = cond b m.nodes (with_needed m.nodes q) }) (sym o.stored));
-          room = record {
+          space = record {
             same_limit = refl;
             nodes_within = whole.nodes_within;
             cells_within = whole.cells_within;

@@ -1,5 +1,5 @@
 -- The map without entries, and what an insertion answers and leaves where it is a step of the model.
-use Rattle.prefix_trie_map.proofs.Prelude.{◌≡◌, ℕ, ◌%◌, Bool, true, false, ◌&&◌, List, length, cond, Option, Result, is_some, Ok, Err, IfOk, OnOk, OnErr, refl, sym, ap, ◌∙◌, inl, inr, eqb-true, true≢false, get, contains_key, get-empty, Refusal, Refused, begins, listing_cmp, IsMap, Entries, no_entries, with_entry, Nodes, has_node, root_alone, is_node_depth, with_needed, AreNodes, State, Reply, Step, Insert, or-cases, or-left, and-first, and-second, needs, same_nodes, has-with_needed, AreNodes-no_entries, inserted}
+use Rattle.prefix_trie_map.proofs.Prelude.{◌≡◌, ℕ, ◌%◌, Bool, true, false, ◌&&◌, List, length, cond, Option, Result, is_some, Ok, Err, IfOk, OnOk, OnErr, refl, sym, ap, ◌∙◌, inl, inr, eqb-true, true≢false, get, contains_key, get-empty, Refusal, Refused, begins, listing_cmp, IsMap, Entries, no_entries, with_entry, Nodes, has_node, root_alone, is_node_depth, with_needed, AreNodes, State, Reply, Step, Insert, or-cases, or-left, and-first, and-second, needs, same_nodes, has-with_needed, AreNodes-no_entries, insert_reply}
 use Rattle.prefix_trie_map.proofs.Steps.{one_value}
 
 module _ {T : Type 0} where
@@ -36,7 +36,7 @@ module _ {T : Type 0} where
     needed_all false is = refl
 
     -- it is what the step says
-    pub inserts_are : (result : Result (Option T) (Refused T)) → Step (λ k. k) (λ k. k) width s (Insert q v) (inserted result) t → Inserts s t q v result
+    pub inserts_are : (result : Result (Option T) (Refused T)) → Step (λ k. k) (λ k. k) width s (Insert q v) (insert_reply result) t → Inserts s t q v result
     inserts_are (Ok before) (inl (e, left)) = record {
       before = one_value _ _ e;
       entries = ap (λ (x : State T). x.entries) left;

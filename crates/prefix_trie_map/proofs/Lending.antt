@@ -1,5 +1,5 @@
 -- A map stays one where a value of it is written over.
-use Rattle.prefix_trie_map.proofs.Prelude.{◌≡◌, ℕ, Bool, true, false, List, Option, None, Some, if◌then◌else◌, is_some, MatchOption, IfSome, refl, sym, ap, ◌∙◌, subst, inl, inr, get, contains_key, option_map, option_copied_mut, ghost_name_of, IsMap, longest_match, shown_match, match_laws, AreNodes-stored, key_cases, Contents, with_value_at, with_stored_at, with_match_at, with_longest_at, lent_beside, state, lent_item_mut}
+use Rattle.prefix_trie_map.proofs.Prelude.{◌≡◌, ℕ, Bool, true, false, List, Option, None, Some, if◌then◌else◌, is_some, MatchOption, IfSome, refl, sym, ap, ◌∙◌, subst, inl, inr, get, contains_key, option_map, option_copied_mut, ghost_name_of, IsMap, longest_match, prefix_pair, match_laws, AreNodes-stored, key_cases, Contents, with_value_at, with_stored_at, with_match_at, with_longest_at, lent_beside, state, lent_item_mut}
 use borrow.Follows.Closed.{read_of}
 use Rattle.std.specs.Borrow.{MutBor}
 
@@ -56,12 +56,12 @@ module _ {P T : Type 0} (back : List Bool → P) (found : Option (List Bool × T
   -- a value lent, and the same beside the prefix of its key
   shown_beside : (answer : Option (P × MutBor T)) → IfSome answer (λ f. f.0 ≡ back key) →
       MatchOption (lent_beside answer) (found ≡ None) (λ value. found ≡ Some (key, value.now)) →
-      option_map lent_item_mut answer ≡ shown_match back found
-  shown_beside None shown none = ap (shown_match back) (sym none)
-  shown_beside (Some f) shown is = ap (λ p. Some (p, f.1.now)) shown ∙ ap (shown_match back) (sym is)
+      option_map lent_item_mut answer ≡ prefix_pair back found
+  shown_beside None shown none = ap (prefix_pair back) (sym none)
+  shown_beside (Some f) shown is = ap (λ p. Some (p, f.1.now)) shown ∙ ap (prefix_pair back) (sym is)
 
   pub lent_shown : (o : Option (MutBor T)) (answer : Option (P × MutBor T)) → lent_beside answer ≡ o → IfSome answer (λ f. f.0 ≡ back key) →
       MatchOption o (found ≡ None) (λ value. found ≡ Some (key, value.now)) →
-      option_map lent_item_mut answer ≡ shown_match back found
+      option_map lent_item_mut answer ≡ prefix_pair back found
   lent_shown o answer lent shown is =
       shown_beside answer shown (subst (λ v. MatchOption v (found ≡ None) (λ value. found ≡ Some (key, value.now))) (sym lent) is)

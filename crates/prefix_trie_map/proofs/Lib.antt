@@ -8,7 +8,7 @@ pub mod Refusals
 pub mod Runs
 pub mod Lending
 pub mod Steps
-pub mod Asking
+pub mod Calling
 pub mod Loans
 pub mod Clones
 pub mod Placing

@@ -1,5 +1,5 @@
 -- What a map lists: the prefixes fit, and a selection is no longer than the map.
-use Rattle.prefix_trie_map.proofs.Prelude.{◌≡◌, ℕ, Bool, true, List, [], ◌∷◌, is_some, ap, All, Contains, contains_key, All-head, All-tail, All-contains_itself, All-weaker, All-map, All-filter, begins, PrefixLaws, fits_back, path_back, MayAskInOrder, Entries, AreWithin, covers, listing, shown, listing_laws, ListedLaws, ◌≤◌, false, cond, length, filter, arith, length-map, length-filter, count_by-le-length, len, len-entries, listing_from, listing_after}
+use Rattle.prefix_trie_map.proofs.Prelude.{◌≡◌, ℕ, Bool, true, List, [], ◌∷◌, is_some, ap, All, Contains, contains_key, All-head, All-tail, All-contains_itself, All-weaker, All-map, All-filter, begins, PrefixLaws, fits_back, path_back, CallableOnEachEntry, Entries, AreWithin, covers, listing, prefix_pairs, listing_laws, ListedLaws, ◌≤◌, false, cond, length, filter, arith, length-map, length-filter, count_by-le-length, len, len-entries, listing_from, listing_after}
 
 module _ {T : Type 0} where
   -- what holds of each stored key holds of each listed pair's
@@ -8,11 +8,11 @@ module _ {T : Type 0} where
 
 module _ {K P : Type 0} {w : ℕ} {IsKey : K → Type 0} {bits : K → List Bool} {key_of : List Bool → K} {repr_of : P → K} {len_of : P → ℕ} {path : P → List Bool} {IsFitting : P → Type 0} {from_parts : K → ℕ → P} {back : List Bool → P} (laws : PrefixLaws w IsKey bits key_of repr_of len_of path IsFitting from_parts back) {T : Type 0} (m : Entries T) (within : AreWithin w m) where
   -- each listed prefix fits
-  pub listed_fit : All (λ e. IsFitting e.0) (shown back (listing m))
+  pub listed_fit : All (λ e. IsFitting e.0) (prefix_pairs back (listing m))
   listed_fit = All-map (λ e. IsFitting e.0) (λ e. (back e.0, e.1)) (listing m) (each_listed (λ k. IsFitting (back k)) m (λ k has. fits_back laws k (within k has)))
 
   -- and each that covers a question
-  pub covers_fit : (q : List Bool) → All (λ e. IsFitting e.0) (shown back (covers m q))
+  pub covers_fit : (q : List Bool) → All (λ e. IsFitting e.0) (prefix_pairs back (covers m q))
   covers_fit q =
       All-map (λ e. IsFitting e.0) (λ e. (back e.0, e.1)) (covers m q)
       (All-filter (λ e. begins e.0 q) (λ e. IsFitting (back e.0)) (listing m) (each_listed (λ k. IsFitting (back k)) m (λ k has. fits_back laws k (within k has))))
@@ -32,21 +32,21 @@ module _ {K P : Type 0} {w : ℕ} {IsKey : K → Type 0} {bits : K → List Bool
 
 -- a test that may be asked at each stored key, whatever state it is in, may be asked at each in turn
 module _ {F T : Type 0} (asks : F → List Bool → T → Bool → F → Type 0) (accepts : F → List Bool → T → Type 0) where
-  may_ask_each : (f : F) (es : List (List Bool × T)) → All (λ e. (f' : F) → accepts f' e.0 e.1) es → MayAskInOrder asks accepts f es
+  may_ask_each : (f : F) (es : List (List Bool × T)) → All (λ e. (f' : F) → accepts f' e.0 e.1) es → CallableOnEachEntry asks accepts f es
   may_ask_each f [] all = tt
   may_ask_each f (e ∷ es) all =
       (All-head (λ e. (f' : F) → accepts f' e.0 e.1) e es all f, λ b f' called. may_ask_each f' es (All-tail (λ e. (f' : F) → accepts f' e.0 e.1) e es all))
 
-  pub may_ask_stored : (f : F) (m : Entries T) → ((f' : F) (k : List Bool) (v : T) → contains_key m k ≡ true → accepts f' k v) → MayAskInOrder asks accepts f (listing m)
+  pub may_ask_stored : (f : F) (m : Entries T) → ((f' : F) (k : List Bool) (v : T) → contains_key m k ≡ true → accepts f' k v) → CallableOnEachEntry asks accepts f (listing m)
   may_ask_stored f m always =
       may_ask_each f (listing m)
       (All-weaker (λ e. (v : T) (f' : F) → accepts f' e.0 v) (λ e. (f' : F) → accepts f' e.0 e.1) (λ e h. h e.1) (listing m)
       (each_listed (λ k. (v : T) (f' : F) → accepts f' k v) m (λ k has v f'. always f' k v has)))
 
 module _ {P T : Type 0} (back : List Bool → P) (m : Entries T) where
-  pub few_shown : (p : List Bool × T → Bool) → length (shown back (filter p (listing m))) ≤ len m
+  pub few_shown : (p : List Bool × T → Bool) → length (prefix_pairs back (filter p (listing m))) ≤ len m
   few_shown p = omega (arith, length-map {B = P × T} (filter p (listing m)) (λ e. (back e.0, e.1)), length-filter p (listing m), count_by-le-length p (listing m), len-entries m)
 
-  pub few_from : (inclusive : Bool) (q : List Bool) → length (shown back (cond inclusive (listing_from m q) (listing_after m q))) ≤ len m
+  pub few_from : (inclusive : Bool) (q : List Bool) → length (prefix_pairs back (cond inclusive (listing_from m q) (listing_after m q))) ≤ len m
   few_from true q = few_shown _
   few_from false q = few_shown _

@@ -1,5 +1,5 @@
 -- That a new key is placed, or refused its blocks, is a step of the model.
-use Rattle.prefix_trie_map.proofs.Prelude.{◌≡◌, ℕ, ◌+◌, ◌*◌, ◌≤◌, Bool, true, false, cond, List, Option, None, Some, inl, inr, refl, sym, ap, ◌∙◌, true≢false, subst, Result, Ok, Err, IfErr, OnOk, MatchResult, get, contains_key, len, Refusal, Refused, IndexRange, with_entry, with_needed, AreNodes, MayPassLimit, LeavesRoom, Reply, Step, Insert, Value, ReadiesInStorage, InsertsInStorage, RefusesInStorage, StepByPath, get-with_entry, is-same_string, same_entries, same_string, Entries, Contents, with_value_at, is_none-None, state, storage, stored, placed, readied_inserts}
+use Rattle.prefix_trie_map.proofs.Prelude.{◌≡◌, ℕ, ◌+◌, ◌*◌, ◌≤◌, Bool, true, false, cond, List, Option, None, Some, inl, inr, refl, sym, ap, ◌∙◌, true≢false, subst, Result, Ok, Err, IfErr, OnOk, MatchResult, get, contains_key, len, Refusal, Refused, IndexRange, with_entry, with_needed, AreNodes, MayPassLimit, LeavesSpace, Reply, Step, Insert, Value, PreparesInStorage, InsertsInStorage, RefusesInStorage, StepByPath, get-with_entry, is-same_string, same_entries, same_string, Entries, Contents, with_value_at, is_none-None, state, storage, stored_state, insert_new_reply, readied_inserts}
 use Rattle.prefix_trie_map.proofs.Insertions.{inserts_are}
 
 module _ {T : Type 0} where
@@ -9,15 +9,15 @@ module _ {T : Type 0} where
   same_cause : (c d : Refusal) → ◌≡◌ {A = Reply (List Bool) T} (Reply.Refused c) (Reply.Refused d) → c ≡ d
   same_cause c d e = cc
 
-module _ {T : Type 0} (width : ℕ) (old new : Contents T) (q : List Bool) (absent : contains_key old.entries q ≡ false) (room : LeavesRoom (len old.nodes) old.room new.room) where
+module _ {T : Type 0} (width : ℕ) (old new : Contents T) (q : List Bool) (absent : contains_key old.entries q ≡ false) (space : LeavesSpace (len old.nodes) old.space new.space) where
   -- it was placed
   pub placed_step : (v : T) → new.entries ≡ with_entry old.entries q v → new.nodes ≡ with_needed old.nodes q
-      → InsertsInStorage (state old) q (storage old) (storage new) → StepByPath width (stored old) (Insert q v) (Value None) (stored new)
+      → InsertsInStorage (state old) q (storage old) (storage new) → StepByPath width (stored_state old) (Insert q v) (Value None) (stored_state new)
   placed_step v entries nodes inserts =
       let left = nodes ∙ sym (ap (λ b. cond b old.nodes (with_needed old.nodes q)) absent) in
       record {
         step = inl (ap Value (sym (is_none-None (get old.entries q) absent)), λ i. record { entries = entries i; nodes = left i });
-        room = room;
+        space = space;
         index_range = λ e. absurd (value_not_refused None IndexRange e);
         storage = (
           λ there. absurd (true≢false (sym there ∙ absent)),
@@ -28,11 +28,11 @@ module _ {T : Type 0} (width : ℕ) (old new : Contents T) (q : List Bool) (abse
 
   -- it was refused, whatever its value
   pub refused_step : (cause : Refusal) → new.entries ≡ old.entries → new.nodes ≡ old.nodes
-      → RefusesInStorage (state old) q cause (storage old) (storage new) → (cause ≡ IndexRange → MayPassLimit old.room)
-      → (v : T) → StepByPath width (stored old) (Insert q v) (Reply.Refused cause) (stored new)
+      → RefusesInStorage (state old) q cause (storage old) (storage new) → (cause ≡ IndexRange → MayPassLimit old.space)
+      → (v : T) → StepByPath width (stored_state old) (Insert q v) (Reply.Refused cause) (stored_state new)
   refused_step cause entries nodes refuses range v = record {
     step = inr (absent, cause, refl, λ i. record { entries = entries i; nodes = nodes i });
-    room = room;
+    space = space;
     index_range = λ e. range (same_cause {T = T} cause IndexRange e);
     storage = (
       λ there. absurd (true≢false (sym there ∙ absent)),
@@ -49,10 +49,10 @@ module _ {T : Type 0} (width : ℕ) (old new : Contents T) (q : List Bool) (v : 
     pub entries : OnOk r (new.entries ≡ with_entry old.entries q v)
     pub nodes : OnOk r (new.nodes ≡ with_needed old.nodes q)
     pub unchanged : IfErr r (λ e. (e.value ≡ v) × (new.entries ≡ old.entries) × (new.nodes ≡ old.nodes))
-    pub step : OnOk r (StepByPath width (stored old) (Insert q v) (Value None) (stored new))
-    pub refuses : IfErr r (λ e. (other : T) → StepByPath width (stored old) (Insert q other) (Reply.Refused e.cause) (stored new))
+    pub step : OnOk r (StepByPath width (stored_state old) (Insert q v) (Value None) (stored_state new))
+    pub refuses : IfErr r (λ e. (other : T) → StepByPath width (stored_state old) (Insert q other) (Reply.Refused e.cause) (stored_state new))
 
-  pub places : {X : Type 0} (r : Result X (Refused T)) → contains_key old.entries q ≡ false → AreNodes width old.entries old.nodes → StepByPath width (stored old) (Insert q v) (placed r) (stored new) → IfErr r (λ e. e.value ≡ v) → Places r
+  pub places : {X : Type 0} (r : Result X (Refused T)) → contains_key old.entries q ≡ false → AreNodes width old.entries old.nodes → StepByPath width (stored_state old) (Insert q v) (insert_new_reply r) (stored_state new) → IfErr r (λ e. e.value ≡ v) → Places r
   places (Ok x) absent good h back =
       let left = inserts_are (state old) (state new) q v good (Ok None) h.step in
       record { entries = left.entries; nodes = left.nodes; unchanged = tt; step = h; refuses = tt }
@@ -63,26 +63,26 @@ module _ {T : Type 0} (width : ℕ) (old new : Contents T) (q : List Bool) (v : 
         nodes = tt;
         unchanged = (back, same.0, same.1);
         step = tt;
-        refuses = refused_step width old new q absent h.room e.cause same.0 same.1 (h.storage.2 e.cause refl) (λ i. h.index_range (ap Reply.Refused i));
+        refuses = refused_step width old new q absent h.space e.cause same.0 same.1 (h.storage.2 e.cause refl) (λ i. h.index_range (ap Reply.Refused i));
       }
 
 -- the same of making its blocks alone
 
 module _ {T S E : Type 0} (width : ℕ) (cause : E → Refusal) (old new : Contents T) (q : List Bool) where
   -- where its blocks are made, or refused
-  pub room_refused : (result : Result S E) → contains_key old.entries q ≡ false → LeavesRoom (len old.nodes) old.room new.room
+  pub space_refused : (result : Result S E) → contains_key old.entries q ≡ false → LeavesSpace (len old.nodes) old.space new.space
       → (new.entries ≡ old.entries) × (new.nodes ≡ old.nodes)
-      → MatchResult result (λ _. ReadiesInStorage (state old) q (storage old) (storage new)) (λ e. RefusesInStorage (state old) q (cause e) (storage old) (storage new))
-      → IfErr result (λ e. cause e ≡ IndexRange → MayPassLimit old.room)
-      → IfErr result (λ e. (other : T) → StepByPath width (stored old) (Insert q other) (Reply.Refused (cause e)) (stored new))
-  room_refused (Ok x) absent room same leaves range = tt
-  room_refused (Err e) absent room same leaves range = refused_step width old new q absent room (cause e) same.0 same.1 leaves range
+      → MatchResult result (λ _. PreparesInStorage (state old) q (storage old) (storage new)) (λ e. RefusesInStorage (state old) q (cause e) (storage old) (storage new))
+      → IfErr result (λ e. cause e ≡ IndexRange → MayPassLimit old.space)
+      → IfErr result (λ e. (other : T) → StepByPath width (stored_state old) (Insert q other) (Reply.Refused (cause e)) (stored_state new))
+  space_refused (Ok x) absent space same leaves range = tt
+  space_refused (Err e) absent space same leaves range = refused_step width old new q absent space (cause e) same.0 same.1 leaves range
 
-  pub room_readied : (result : Result S E)
-      → MatchResult result (λ _. ReadiesInStorage (state old) q (storage old) (storage new)) (λ e. RefusesInStorage (state old) q (cause e) (storage old) (storage new))
-      → OnOk result (ReadiesInStorage (state old) q (storage old) (storage new))
-  room_readied (Ok x) leaves = leaves
-  room_readied (Err e) leaves = tt
+  pub space_prepared : (result : Result S E)
+      → MatchResult result (λ _. PreparesInStorage (state old) q (storage old) (storage new)) (λ e. RefusesInStorage (state old) q (cause e) (storage old) (storage new))
+      → OnOk result (PreparesInStorage (state old) q (storage old) (storage new))
+  space_prepared (Ok x) leaves = leaves
+  space_prepared (Err e) leaves = tt
 
 -- ---- once its blocks were made
 
@@ -91,25 +91,25 @@ module _ {T : Type 0} (width : ℕ) (old middle new : Contents T) (q : List Bool
   middle_is : state middle ≡ state old
   middle_is = λ i. record { entries = entries i; nodes = nodes i }
 
-  inserted_then : StepByPath width (stored middle) (Insert q v) (Value None) (stored new) → InsertsInStorage (state old) q (storage middle) (storage new)
+  inserted_then : StepByPath width (stored_state middle) (Insert q v) (Value None) (stored_state new) → InsertsInStorage (state old) q (storage middle) (storage new)
   inserted_then step =
       subst (λ s. InsertsInStorage s q (storage middle) (storage new)) middle_is (step.storage.1 None (ap (λ m. contains_key m q) entries ∙ absent) refl)
 
   -- placing it is the step that it would have been before
-  pub readied_step : LeavesRoom (len old.nodes) old.room middle.room → ReadiesInStorage (state old) q (storage old) (storage middle)
+  pub readied_step : LeavesSpace (len old.nodes) old.space middle.space → PreparesInStorage (state old) q (storage old) (storage middle)
       → new.entries ≡ with_entry middle.entries q v → new.nodes ≡ with_needed middle.nodes q
-      → StepByPath width (stored middle) (Insert q v) (Value None) (stored new) → StepByPath width (stored old) (Insert q v) (Value None) (stored new)
-  readied_step room readies entries2 nodes2 step =
+      → StepByPath width (stored_state middle) (Insert q v) (Value None) (stored_state new) → StepByPath width (stored_state old) (Insert q v) (Value None) (stored_state new)
+  readied_step space readies entries2 nodes2 step =
       let made = readied_inserts (state old) q (storage old) (storage middle) readies (storage new) (inserted_then step) in
-      let node_slots : new.room.node_slots ≡ middle.room.node_slots = made.node_slots ∙ sym readies.node_slots in
-      let cell_slots : new.room.cell_slots ≡ middle.room.cell_slots = made.cell_slots ∙ sym readies.cell_slots in
-      let after = step.room in
-      let grown : LeavesRoom (len old.nodes) old.room new.room = record {
-        same_limit = after.same_limit ∙ room.same_limit;
+      let node_slots : new.space.node_slots ≡ middle.space.node_slots = made.node_slots ∙ sym readies.node_slots in
+      let cell_slots : new.space.cell_slots ≡ middle.space.cell_slots = made.cell_slots ∙ sym readies.cell_slots in
+      let after = step.space in
+      let grown : LeavesSpace (len old.nodes) old.space new.space = record {
+        same_limit = after.same_limit ∙ space.same_limit;
         nodes_within = after.nodes_within;
         cells_within = after.cells_within;
-        nodes_grow = subst (λ n. n ≤ old.room.node_slots + 56 * len old.nodes) (sym node_slots) room.nodes_grow;
-        cells_grow = subst (λ n. n ≤ old.room.cell_slots + 56 * len old.nodes) (sym cell_slots) room.cells_grow;
+        nodes_grow = subst (λ n. n ≤ old.space.node_slots + 56 * len old.nodes) (sym node_slots) space.nodes_grow;
+        cells_grow = subst (λ n. n ≤ old.space.cell_slots + 56 * len old.nodes) (sym cell_slots) space.cells_grow;
       } in
       placed_step width old new q absent grown
       v (entries2 ∙ ap (λ m. with_entry m q v) entries) (nodes2 ∙ ap (λ n. with_needed n q) nodes) made
@@ -141,11 +141,11 @@ module _ {T : Type 0} (width : ℕ) (old new : Contents T) (q : List Bool) (v : 
   rewritten w (inr e) = absurd (value_not_refused x e.1 e.2)
 
   -- it is the insertion of that value
-  pub written_step : (w : T) → StepByPath width (stored old) (Insert q v) (Value x) (stored new)
-      → StepByPath width (stored old) (Insert q w) (Value x) (stored (with_value_at new q w))
+  pub written_step : (w : T) → StepByPath width (stored_state old) (Insert q v) (Value x) (stored_state new)
+      → StepByPath width (stored_state old) (Insert q w) (Value x) (stored_state (with_value_at new q w))
   written_step w h = record {
     step = rewritten w h.step;
-    room = h.room;
+    space = h.space;
     index_range = h.index_range;
     storage = h.storage;
   }

@@ -19,7 +19,7 @@ pub use Rattle.std.specs.Iterator.{ComparesItemsByEq, YieldsThen}
 pub use Rattle.std.specs.List.{All, AllZip, Contains}
 pub use Rattle.std.specs.Map.Iter.{GivesInOrder, ShowsInOrder, TakesFirst, deref}
 pub use Rattle.std.specs.Option.{UnwrapsOrElse, ghost_name_of, option_copied_mut, option_map, unwrap_or}
-pub use Rattle.prefix_trie_bits.proofs.Model.HandsOut.{handing_laws}
+pub use Rattle.prefix_trie_bits.proofs.Model.SplitsOff.{handing_laws}
 pub use Rattle.prefix_trie_bits.proofs.Model.Listings.{listing_laws}
 pub use Rattle.prefix_trie_bits.proofs.Model.Matches.{match_laws}
 pub use Rattle.prefix_trie_bits.proofs.Model.Members.{and-first, and-second, get-with_entry, is-same_string, needs, or-cases, or-left, same_entries, same_nodes}
@@ -37,17 +37,17 @@ pub use Rattle.prefix_trie_bits.specs.Bits.{begins, number, zeros}
 pub use Rattle.prefix_trie_bits.specs.Keys.{KeyLaws, PrefixLaws, back_from_bits, fits_back, path_back, path_within}
 pub use Rattle.prefix_trie_bits.specs.Laws.Steps.{IsMap}
 pub use Rattle.prefix_trie_bits.specs.Model.Addresses.{address_answer}
-pub use Rattle.prefix_trie_bits.specs.Model.Asking.{MayAskInOrder}
+pub use Rattle.prefix_trie_bits.specs.Model.Retaining.{CallableOnEachEntry}
 pub use Rattle.prefix_trie_bits.specs.Model.Entries.{AreWithin, Entries, no_entries, put_all, with_entry}
-pub use Rattle.prefix_trie_bits.specs.Model.HandsOut.{HandsOutInStorage}
-pub use Rattle.prefix_trie_bits.specs.Model.Insertion.{cell_slots_lacking, node_slots_lacking}
-pub use Rattle.prefix_trie_bits.specs.Model.Matches.{covers, first_item, last_item, longest_match, shortest_match, shown_match}
+pub use Rattle.prefix_trie_bits.specs.Model.SplitsOff.{SplitsOffInStorage}
+pub use Rattle.prefix_trie_bits.specs.Model.Insertion.{missing_cell_slots, missing_node_slots}
+pub use Rattle.prefix_trie_bits.specs.Model.Matches.{covers, first_item, last_item, longest_match, shortest_match, prefix_pair}
 pub use Rattle.prefix_trie_bits.specs.Model.Nodes.{AreNodes, IsTidy, Nodes, has_node, is_node_depth, needed, root_alone, with_needed}
-pub use Rattle.prefix_trie_bits.specs.Model.Room.{LeavesRoom, MayPassLimit}
-pub use Rattle.prefix_trie_bits.specs.Model.Selections.{listing, listing_after, listing_below, listing_from, shown}
+pub use Rattle.prefix_trie_bits.specs.Model.Space.{LeavesSpace, MayPassLimit}
+pub use Rattle.prefix_trie_bits.specs.Model.Selections.{listing, listing_after, listing_below, listing_from, prefix_pairs}
 pub use Rattle.prefix_trie_bits.specs.Model.Step.{Call, CallFits, Clear, Done, Insert, Remove, RemoveChildren, RemoveKeepTree, Reply, State, Step, Value}
-pub use Rattle.prefix_trie_bits.specs.Model.Storage.{InsertsInStorage, ReadiesInStorage, RefusesInStorage, RetainsInStorage, StepByPath, Storage}
-pub use Rattle.prefix_trie_bits.specs.Model.Visits.{ReadsToMatch, ReadsWay, visits, visits_to_match}
+pub use Rattle.prefix_trie_bits.specs.Model.Storage.{InsertsInStorage, PreparesInStorage, RefusesInStorage, RetainsInStorage, StepByPath, Storage}
+pub use Rattle.prefix_trie_bits.specs.Model.Visits.{ReadsToMatch, ReadsPath, visits, visits_to_match}
 pub use Rattle.prefix_trie_bits.specs.Order.{listing_cmp, listing_same, listing_total, same_string}
 pub use Rattle.prefix_trie_bits.specs.declared.prefix.Refusal.{Refusal}
 pub use Rattle.prefix_trie_bits.specs.declared.prefix.Refusal.TheVariants.{IndexRange, Memory}
@@ -58,16 +58,16 @@ pub use Rattle.prefix_trie_table.proofs.Tree.Trees.{is_none-None}
 pub use Rattle.prefix_trie_table.proofs.Walk.KeySets.{pending_again}
 pub use Rattle.prefix_trie_table.specs.Bulk.{AreAnswers, IsAnswer, asks, questions_of}
 pub use Rattle.prefix_trie_table.specs.Copies.{AreCloned, IsCloned, IsPairCloned}
-pub use Rattle.prefix_trie_table.specs.Locations.{IsWayEnd, is_seat-prop, seat_of}
-pub use Rattle.prefix_trie_table.specs.Steps.{SettlesInStorage}
+pub use Rattle.prefix_trie_table.specs.Locations.{IsSearchEnd, is_seat-prop, seat_of}
+pub use Rattle.prefix_trie_table.specs.Steps.{BoundsStorageGrowth}
 pub use Rattle.prefix_trie_table.specs.Shape.{Contents, with_longest_at, with_match_at, with_stored_at, with_value_at}
-pub use Rattle.prefix_trie_table.specs.Walking.Cursors.{selected}
+pub use Rattle.prefix_trie_table.specs.Walking.Starts.{selected}
 pub use Rattle.prefix_trie_table.specs.Walking.Items.{GivesOutermost}
-pub use Rattle.prefix_trie_table.specs.Walking.Trails.{GivesKey, IsTrailIn, IsTrailIn-prop, keys_to_come}
+pub use Rattle.prefix_trie_table.specs.Walking.Cursors.{GivesKey, IsCursorIn, IsCursorIn-prop, keys_to_come}
 pub use Rattle.prefix_trie_table.specs.declared.allocator.node.Node.{Node}
 pub use Rattle.prefix_trie_table.specs.declared.table.bulk.Found.{Found}
-pub use Rattle.prefix_trie_table.specs.declared.table.trail.Trail.{Trail}
-pub use Rattle.prefix_trie_map.specs.Asking.{AsksAt, TakesAt}
+pub use Rattle.prefix_trie_table.specs.declared.table.cursor.Cursor.{Cursor}
+pub use Rattle.prefix_trie_map.specs.Calling.{CalledAtEntry, TakesEntry}
 pub use Rattle.prefix_trie_map.specs.Bulk.{AreAnswered, AreFound, ReadsMore, right_for, visits_of_all}
 pub use Rattle.prefix_trie_map.specs.Collected.{ManyMayPassLimit, Puts}
 pub use Rattle.prefix_trie_map.specs.Copied.{CopyLaws}
@@ -76,12 +76,12 @@ pub use Rattle.prefix_trie_map.specs.Entry.{Fills, ModifiesEntry, Occupied, Refu
 pub use Rattle.prefix_trie_map.specs.Lending.{lends_entry_if, lends_longest_if, lent_beside}
 pub use Rattle.prefix_trie_map.specs.Listed.{ListedLaws}
 pub use Rattle.prefix_trie_map.specs.Resumed.{ResumeLaws}
-pub use Rattle.prefix_trie_map.specs.Steps.{inserted, placed, state, storage, stored}
+pub use Rattle.prefix_trie_map.specs.Steps.{insert_reply, insert_new_reply, state, storage, stored_state}
 pub use Rattle.prefix_trie_map.specs.Walks.{lent_item, lent_item_mut}
 pub use Rattle.prefix_trie_map.specs.Whole.{IsWhole}
-pub use Rattle.prefix_trie_map.specs.Writing.{ComesToEnd, GoesOver, HasValueAt, IsFirst, StartsIn, StartsOver, StopsAt, as_walk, key_at, keys_left, with_written}
+pub use Rattle.prefix_trie_map.specs.Writing.{ComesToEnd, GoesOver, HasValueAt, IsFirst, StartsIn, StartsOver, IsItemAt, as_walk, key_at, keys_left, with_written}
 pub use Rattle.prefix_trie_map.specs.WritingWalks.{EndsIn, FirstIn, IsOverIn, StepsIn, lends_next}
 pub use Rattle.prefix_trie_map.specs.declared.map.entry.OccupiedEntry.{OccupiedEntry}
 pub use Rattle.prefix_trie_map.specs.declared.map.entry.VacantEntry.{VacantEntry}
-pub use Rattle.prefix_trie_map.specs.declared.map.writing.course.Course.{Course}
-pub use Rattle.prefix_trie_map.specs.declared.map.writing.course.Stop.{Stop}
+pub use Rattle.prefix_trie_map.specs.declared.map.writing.cursor.MapCursor.{MapCursor}
+pub use Rattle.prefix_trie_map.specs.declared.map.writing.cursor.CursorItem.{CursorItem}

@@ -1,5 +1,5 @@
 -- A walk of a map is resumed behind the last item that was read.
-use Rattle.prefix_trie_map.proofs.Prelude.{◌≡◌, ℕ, Bool, true, false, cond, List, [], ◌∷◌, ◌++◌, filter, is_lt, is_le, Less, Equal, Greater, refl, sym, ap, ◌∙◌, subst, false≢true, All, All-head, All-tail, All-filter, filter_passes, retain_keys, PrefixLaws, listing_cmp, listing_total, listing_same, Entries, AreWithin, listing, listing_from, listing_after, shown, listing_laws, entries-retained, lt-less, ResumeLaws}
+use Rattle.prefix_trie_map.proofs.Prelude.{◌≡◌, ℕ, Bool, true, false, cond, List, [], ◌∷◌, ◌++◌, filter, is_lt, is_le, Less, Equal, Greater, refl, sym, ap, ◌∙◌, subst, false≢true, All, All-head, All-tail, All-filter, filter_passes, retain_keys, PrefixLaws, listing_cmp, listing_total, listing_same, Entries, AreWithin, listing, listing_from, listing_after, prefix_pairs, listing_laws, entries-retained, lt-less, ResumeLaws}
 use Rattle.prefix_trie_map.proofs.Listed.{listed_paths}
 
 module _ {X : Type 0} where
@@ -52,16 +52,16 @@ record Behind {P T : Type 0} (back : List Bool → P) (es : List (List Bool × T
   others : List (List Bool × T)
   are : es ≡ front ++ item ∷ others
   shows : back item.0 ≡ last.0
-  rest_is : shown back others ≡ rest
+  rest_is : prefix_pairs back others ≡ rest
 
-behind : {P T : Type 0} (back : List Bool → P) (es : List (List Bool × T)) (read : List (P × T)) (last : P × T) (rest : List (P × T)) → shown back es ≡ read ++ last ∷ rest → Behind back es last rest
+behind : {P T : Type 0} (back : List Bool → P) (es : List (List Bool × T)) (read : List (P × T)) (last : P × T) (rest : List (P × T)) → prefix_pairs back es ≡ read ++ last ∷ rest → Behind back es last rest
 behind back [] [] last rest e = absurd (cc)
 behind back [] (x ∷ read) last rest e = absurd (cc)
 behind back (d ∷ es) [] last rest e =
     let head : (back d.0, d.1) ≡ last = cc in
     record { front = []; item = d; others = es; are = refl; shows = ap (λ x. x.0) head; rest_is = cc }
 behind back (d ∷ es) (x ∷ read) last rest e =
-    let tail : shown back es ≡ read ++ last ∷ rest = cc in
+    let tail : prefix_pairs back es ≡ read ++ last ∷ rest = cc in
     let b = behind back es read last rest tail in
     record { front = d ∷ b.front; item = b.item; others = b.others; are = ap (λ xs. d ∷ xs) b.are; shows = b.shows; rest_is = b.rest_is }
 
@@ -69,12 +69,12 @@ module _ {K P : Type 0} {w : ℕ} {IsKey : K → Type 0} {bits : K → List Bool
   module _ {T : Type 0} (m : Entries T) (within : AreWithin w m) where
     shown-resumes : (es : List (List Bool × T)) → All (λ e. path (back e.0) ≡ e.0) es
         → ((front : List (List Bool × T)) (item : List Bool × T) (others : List (List Bool × T)) → es ≡ front ++ item ∷ others → listing_after m item.0 ≡ others)
-        → (read : List (P × T)) (last : P × T) (rest : List (P × T)) → shown back es ≡ read ++ last ∷ rest → shown back (listing_after m (path last.0)) ≡ rest
+        → (read : List (P × T)) (last : P × T) (rest : List (P × T)) → prefix_pairs back es ≡ read ++ last ∷ rest → prefix_pairs back (listing_after m (path last.0)) ≡ rest
     shown-resumes es paths resumes read last rest e =
         let b = behind back es read last rest e in
         let here = middle (λ d. path (back d.0) ≡ d.0) b.front b.item b.others (subst (All (λ d. path (back d.0) ≡ d.0)) b.are paths) in
-        ap (λ p. shown back (listing_after m (path p))) (sym b.shows) ∙ ap (λ k. shown back (listing_after m k)) here
-        ∙ ap (shown back) (resumes b.front b.item b.others b.are) ∙ b.rest_is
+        ap (λ p. prefix_pairs back (listing_after m (path p))) (sym b.shows) ∙ ap (λ k. prefix_pairs back (listing_after m k)) here
+        ∙ ap (prefix_pairs back) (resumes b.front b.item b.others b.are) ∙ b.rest_is
 
     selected-paths : (inclusive : Bool) (q : List Bool) → All (λ e. path (back e.0) ≡ e.0) (cond inclusive (listing_from m q) (listing_after m q))
     selected-paths true q = All-filter (λ e. is_le (listing_cmp q e.0)) (λ e. path (back e.0) ≡ e.0) (listing m) (listed_paths laws m within)

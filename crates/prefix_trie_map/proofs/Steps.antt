@@ -1,5 +1,5 @@
 -- What holds of the table by a key's bits holds of the map by the prefix's path, and steps leave maps.
-use Rattle.prefix_trie_map.proofs.Prelude.{◌≡◌, ◌<◌, ◌≤◌, ℕ, zero, suc, take, arith, sym, SettlesInStorage, storage, Bool, List, length, Option, subst, IsMap, State, Call, CallFits, Reply, Value, Storage, StepByPath, stays_map, Contents, state, stored}
+use Rattle.prefix_trie_map.proofs.Prelude.{◌≡◌, ◌<◌, ◌≤◌, ℕ, zero, suc, take, arith, sym, BoundsStorageGrowth, storage, Bool, List, length, Option, subst, IsMap, State, Call, CallFits, Reply, Value, Storage, StepByPath, stays_map, Contents, state, stored_state}
 
 module _ {T : Type 0} where
   -- what holds of the table, by the key's bits, holds of the map, by the prefix's path
@@ -7,10 +7,10 @@ module _ {T : Type 0} where
   by_key F {inside} {old} {key} {path} same is fact = subst (λ m. F m path) same (subst (F inside) is fact)
 
   -- the bound on how far the arrays may grow holds at the prefix's path too
-  pub settles_from : {inside old : Contents T} {path : List Bool} (new : Contents T) (len : ℕ) (key : List Bool) → inside ≡ old → take len key ≡ path
-      → (0 < len → SettlesInStorage (storage inside) (storage new)) → 0 < length path → SettlesInStorage (storage old) (storage new)
-  settles_from {inside} {old} {path} new len key same is settles some =
-      subst (λ m. SettlesInStorage (storage m) (storage new)) same (settles (taken len key (subst (λ q. 0 < length q) (sym is) some)))
+  pub bounds_growth_from : {inside old : Contents T} {path : List Bool} (new : Contents T) (len : ℕ) (key : List Bool) → inside ≡ old → take len key ≡ path
+      → (0 < len → BoundsStorageGrowth (storage inside) (storage new)) → 0 < length path → BoundsStorageGrowth (storage old) (storage new)
+  bounds_growth_from {inside} {old} {path} new len key same is bounds_growth some =
+      subst (λ m. BoundsStorageGrowth (storage m) (storage new)) same (bounds_growth (taken len key (subst (λ q. 0 < length q) (sym is) some)))
     where
       taken : (n : ℕ) (q : List Bool) → 0 < length (take n q) → 0 < n
       taken zero q h = h
@@ -26,5 +26,5 @@ module _ {T : Type 0} where
 
   -- a step of a map leaves a map
   pub stays : {width : ℕ} {inside old : Contents T} {call : Call (List Bool) T} {r : Reply (List Bool) T} {t : State T × Storage} →
-      inside ≡ old → IsMap width (state inside) → CallFits (λ q. length q ≤ width) call → StepByPath width (stored old) call r t → IsMap width t.0
+      inside ≡ old → IsMap width (state inside) → CallFits (λ q. length q ≤ width) call → StepByPath width (stored_state old) call r t → IsMap width t.0
   stays {width} {inside} {old} {call} {r} {t} same good fits h = stays_map (λ q. q) (λ q. q) width (state old) call r t.0 fits h.step (is_map same good)

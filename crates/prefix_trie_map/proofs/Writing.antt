@@ -1,6 +1,6 @@
 -- What a step of a writing walk says of its first entry, that a walk that may have no map steps as what it goes over does, and which keys
 -- are to come of a walk.
-use Rattle.prefix_trie_map.proofs.Prelude.{◌≡◌, Bool, true, List, [], ◌∷◌, map, Option, None, Some, MatchOption, IfSome, IfNone, refl, sym, ap, ◌∙◌, subst, contains_key, Contents, with_value_at, IsTrailIn, IsTrailIn-prop, GivesKey, keys_to_come, Trail, pending_again, Course, Stop, keys_left, as_walk, key_at, StopsAt, HasValueAt, with_written, IsFirst, GoesOver, ComesToEnd, StartsOver, lent_beside, EndsIn, StepsIn}
+use Rattle.prefix_trie_map.proofs.Prelude.{◌≡◌, Bool, true, List, [], ◌∷◌, map, Option, None, Some, MatchOption, IfSome, IfNone, refl, sym, ap, ◌∙◌, subst, contains_key, Contents, with_value_at, IsCursorIn, IsCursorIn-prop, GivesKey, keys_to_come, Cursor, pending_again, MapCursor, CursorItem, keys_left, as_walk, key_at, IsItemAt, HasValueAt, with_written, IsFirst, GoesOver, ComesToEnd, StartsOver, lent_beside, EndsIn, StepsIn}
 use Rattle.std.specs.Borrow.{MutBor}
 use Rattle.std.specs.declared.cmp.PartialEq as partial
 use Rattle.std.specs.declared.fmt.Debug as debug
@@ -8,25 +8,25 @@ use Rattle.prefix_trie_bits.specs.declared.prefix.Prefix as prefix
 use Rattle.prefix_trie_bits.specs.declared.prefix.Key as key
 
 module _ {P T A R : Type 0} {p : prefix.Ghosts P R} {shows : debug.Ghosts P} {k : key.Ghosts R} {same : partial.Ghosts R} {writes : debug.Ghosts R}
-    (c : Course P T A R p shows k same writes) (trail : Trail R) (stands : IsTrailIn k.bits k.bit_width c.map.now.build trail) (stop : Stop R)
-    (gives : GivesKey k.IsKey k.bits k.bit_width c.map.now.build stop.key stop.len stop.seat (keys_left c) (keys_to_come k.bits c.map.now.entries trail)) where
+    (c : MapCursor P T A R p shows k same writes) (cursor : Cursor R) (stands : IsCursorIn k.bits k.bit_width c.map.now.build cursor) (item : CursorItem R)
+    (gives : GivesKey k.IsKey k.bits k.bit_width c.map.now.build item.key item.len item.seat (keys_left c) (keys_to_come k.bits c.map.now.entries cursor)) where
   -- the course, gone on along this trail
-  abbrev gone : Course P T A R p shows k same writes
-  gone = record { map = c.map; trail = trail; stands = stands }
+  abbrev gone : MapCursor P T A R p shows k same writes
+  gone = record { map = c.map; cursor = cursor; stands = stands }
 
-  pub stops_there : StopsAt gone stop
+  pub stops_there : IsItemAt gone item
   stops_there = record { is_key = gives.is_key; short = gives.short; seated = gives.seated }
 
-  pub first_there : (q : P) → q ≡ p.back (key_at gone stop) → (value : T) → HasValueAt gone stop value → IsFirst c q value
-  first_there q is value holds = (key_at gone stop, record (as_walk c None) { to_come = keys_left gone; lent = Some (key_at gone stop) }, (gives.first, refl), is, holds)
+  pub first_there : (q : P) → q ≡ p.back (key_at gone item) → (value : T) → HasValueAt gone item value → IsFirst c q value
+  first_there q is value holds = (key_at gone item, record (as_walk c None) { to_come = keys_left gone; lent = Some (key_at gone item) }, (gives.first, refl), is, holds)
 
-  pub goes_over : contains_key c.map.now.entries (key_at gone stop) ≡ true → (value : T) → GoesOver c value (with_written gone stop value)
+  pub goes_over : contains_key c.map.now.entries (key_at gone item) ≡ true → (value : T) → GoesOver c value (with_written gone item value)
   goes_over stored value = record {
-    key = key_at gone stop;
+    key = key_at gone item;
     passes = λ lent. (
-      record (as_walk c lent) { to_come = keys_left (with_written gone stop value); lent = Some (key_at gone stop) },
-      (gives.first ∙ ap (λ ks. key_at gone stop ∷ ks) (sym (pending_again c.map.now.entries (key_at gone stop) value stored k.bits trail.key trail.stack.items)), refl),
-      (key_at gone stop, refl, refl),
+      record (as_walk c lent) { to_come = keys_left (with_written gone item value); lent = Some (key_at gone item) },
+      (gives.first ∙ ap (λ ks. key_at gone item ∷ ks) (sym (pending_again c.map.now.entries (key_at gone item) value stored k.bits cursor.key cursor.stack.items)), refl),
+      (key_at gone item, refl, refl),
     );
     stored = stored;
     map = refl;
@@ -34,28 +34,28 @@ module _ {P T A R : Type 0} {p : prefix.Ghosts P R} {shows : debug.Ghosts P} {k 
 
 module _ {P T A R : Type 0} {p : prefix.Ghosts P R} {shows : debug.Ghosts P} {k : key.Ghosts R} {same : partial.Ghosts R} {writes : debug.Ghosts R} where
   -- of a walk that starts, those of its selection
-  pub left_at_start : (m : MutBor (Contents T)) (selection : List (List Bool × T)) (c : Course P T A R p shows k same writes) → StartsOver m selection c →
+  pub left_at_start : (m : MutBor (Contents T)) (selection : List (List Bool × T)) (c : MapCursor P T A R p shows k same writes) → StartsOver m selection c →
       keys_left c ≡ map (λ e. e.0) selection
   left_at_start m selection c starts = ap (λ w. w.to_come) starts.starts
 
   -- of a walk that has gone on over one, those behind it
-  pub left_behind : (c n : Course P T A R p shows k same writes) (value : T) (goes : GoesOver c value n) → keys_left c ≡ goes.key ∷ keys_left n
+  pub left_behind : (c n : MapCursor P T A R p shows k same writes) (value : T) (goes : GoesOver c value n) → keys_left c ≡ goes.key ∷ keys_left n
   left_behind c n value goes =
       let passes = goes.passes None in
       passes.1.0 ∙ ap (λ w. goes.key ∷ w.to_come) (sym passes.2.2)
 
   -- of a walk that has come to its end, none
-  pub none_left : (c n : Course P T A R p shows k same writes) (ends : ComesToEnd c n) → keys_left n ≡ []
+  pub none_left : (c n : MapCursor P T A R p shows k same writes) (ends : ComesToEnd c n) → keys_left n ≡ []
   none_left c n ends = ap (λ w. w.to_come) (ends.ends None).1 ∙ (ends.ends None).0
 
 -- a value written at a stop leaves the course as it was, but for the map
 pub written_there : {P T A R : Type 0} {p : prefix.Ghosts P R} {shows : debug.Ghosts P} {k : key.Ghosts R} {same : partial.Ghosts R} {writes : debug.Ghosts R}
-    (c : Course P T A R p shows k same writes) (stop : Stop R) (w : T) (stands : IsTrailIn k.bits k.bit_width c.map.now.build c.trail) →
-    record { map = record c.map { now = with_value_at c.map.now (key_at c stop) w }; trail = c.trail; stands = stands } ≡ with_written c stop w
-written_there {k = k} c stop w stands = λ i. record {
-  map = record c.map { now = with_value_at c.map.now (key_at c stop) w };
-  trail = c.trail;
-  stands = IsTrailIn-prop k.bits k.bit_width c.map.now.build c.trail stands c.stands i;
+    (c : MapCursor P T A R p shows k same writes) (item : CursorItem R) (w : T) (stands : IsCursorIn k.bits k.bit_width c.map.now.build c.cursor) →
+    record { map = record c.map { now = with_value_at c.map.now (key_at c item) w }; cursor = c.cursor; stands = stands } ≡ with_written c item w
+written_there {k = k} c item w stands = λ i. record {
+  map = record c.map { now = with_value_at c.map.now (key_at c item) w };
+  cursor = c.cursor;
+  stands = IsCursorIn-prop k.bits k.bit_width c.map.now.build c.cursor stands c.stands i;
 }
 
 -- a step of what it goes over is one of the walk

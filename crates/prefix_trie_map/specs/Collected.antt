@@ -2,7 +2,7 @@
 use Rattle.std.specs.Prelude.{◌≡◌, ◌⊎◌, ℕ, ◌+◌, ◌*◌, ◌<◌, ◌≤◌, Bool, List, length}
 use Rattle.prefix_trie_bits.specs.Model.Entries.{put_all}
 use Rattle.prefix_trie_bits.specs.Model.Nodes.{IsTidy}
-use Rattle.prefix_trie_bits.specs.Model.Room.{Room}
+use Rattle.prefix_trie_bits.specs.Model.Space.{Space}
 use Rattle.prefix_trie_table.specs.Shape.{Contents}
 
 -- what the insertions leave, each under its item's path: a tidy map stays tidy, and each makes at most 56 slots for nodes and 31 for
@@ -10,10 +10,10 @@ use Rattle.prefix_trie_table.specs.Shape.{Contents}
 pub record Puts {P T : Type 0} (path : P → List Bool) (before : Contents T) (items : List (P × T)) (after : Contents T) : Type 0 where
   pub entries : after.entries ≡ put_all path items before.entries
   pub tidy : IsTidy before.entries before.nodes → IsTidy after.entries after.nodes
-  pub limit : after.room.limit ≡ before.room.limit
-  pub node_slots : after.room.node_slots ≤ before.room.node_slots + 56 * length items
-  pub cell_slots : after.room.cell_slots ≤ before.room.cell_slots + 31 * length items
+  pub limit : after.space.limit ≡ before.space.limit
+  pub node_slots : after.space.node_slots ≤ before.space.node_slots + 56 * length items
+  pub cell_slots : after.space.cell_slots ≤ before.space.cell_slots + 31 * length items
 
 -- the blocks that so many insertions may need would pass the limit
-abbrev pub ManyMayPassLimit : Room → ℕ → Type 0
-ManyMayPassLimit room count = (room.limit < room.node_slots + 56 * count) ⊎ (room.limit < room.cell_slots + 31 * count)
+abbrev pub ManyMayPassLimit : Space → ℕ → Type 0
+ManyMayPassLimit space count = (space.limit < space.node_slots + 56 * count) ⊎ (space.limit < space.cell_slots + 31 * count)

@@ -1,13 +1,13 @@
 -- The matches by the covering list as users see it. This project's own.
 use Rattle.std.specs.Prelude.{◌≡◌, ◌≢◌, ◌↔◌, Bool, true, List, [], is_some}
 use Rattle.prefix_trie_bits.specs.Model.Entries.{Entries}
-use Rattle.prefix_trie_bits.specs.Model.Matches.{covers, first_item, last_item, longest_match, shortest_match, shown_match}
-use Rattle.prefix_trie_bits.specs.Model.Selections.{shown}
+use Rattle.prefix_trie_bits.specs.Model.Matches.{covers, first_item, last_item, longest_match, shortest_match, prefix_pair}
+use Rattle.prefix_trie_bits.specs.Model.Selections.{prefix_pairs}
 
 pub record CoverLaws (P T : Type 0) : Type 0 where
   -- `get_lpm` answers the last of the items that `cover` lists
-  pub longest_is_last : (back : List Bool → P) (m : Entries T) (q : List Bool) → shown_match back (longest_match m q) ≡ last_item (shown back (covers m q))
+  pub longest_is_last : (back : List Bool → P) (m : Entries T) (q : List Bool) → prefix_pair back (longest_match m q) ≡ last_item (prefix_pairs back (covers m q))
   -- `get_spm` answers the first of them
-  pub shortest_is_first : (back : List Bool → P) (m : Entries T) (q : List Bool) → shown_match back (shortest_match m q) ≡ first_item (shown back (covers m q))
+  pub shortest_is_first : (back : List Bool → P) (m : Entries T) (q : List Bool) → prefix_pair back (shortest_match m q) ≡ first_item (prefix_pairs back (covers m q))
   -- `is_covered` answers whether there are any
-  pub some_covers : (back : List Bool → P) (m : Entries T) (q : List Bool) → (is_some (shortest_match m q) ≡ true) ↔ (shown back (covers m q) ≢ [])
+  pub some_covers : (back : List Bool → P) (m : Entries T) (q : List Bool) → (is_some (shortest_match m q) ≡ true) ↔ (prefix_pairs back (covers m q) ≢ [])

@@ -17,7 +17,7 @@ use Rattle.prefix_trie_bits.specs.Model.Nodes.{with_needed}
 use Rattle.prefix_trie_bits.specs.Model.Step.{Insert, Value, Refused}
 use Rattle.prefix_trie_bits.specs.Model.Storage.{StepByPath}
 use Rattle.prefix_trie_table.specs.Shape.{Contents, with_value_at}
-use Rattle.prefix_trie_map.specs.Steps.{stored}
+use Rattle.prefix_trie_map.specs.Steps.{stored_state}
 use Rattle.prefix_trie_map.specs.contracts.map.PrefixMap as map
 use Rattle.prefix_trie_map.specs.contracts.map.entry.OccupiedEntry as occupied
 use mir.Syntax.{named}
@@ -73,13 +73,13 @@ module _ {P T A R : Type 0} {p : prefix.Ghosts P R} {shows : debug.Ghosts P} {k 
     pub entries : new.entries ≡ with_entry (entry_map e).entries (entry_path e) value
     pub nodes : new.nodes ≡ with_needed (entry_map e).nodes (entry_path e)
     -- it is a step of the model, of the storage too
-    pub step : StepByPath k.bit_width (stored (entry_map e)) (Insert (entry_path e) value) (Value (entry_value e)) (stored new)
+    pub step : StepByPath k.bit_width (stored_state (entry_map e)) (Insert (entry_path e) value) (Value (entry_value e)) (stored_state new)
 
   -- the new map is what such an insertion leaves that is refused, whatever the value
   pub record RefusesToFill (e : Entry P T A R p shows k same writes) (cause : Refusal) (new : Contents T) : Type 0 where
     pub entries : new.entries ≡ (entry_map e).entries
     pub nodes : new.nodes ≡ (entry_map e).nodes
-    pub step : (value : T) → StepByPath k.bit_width (stored (entry_map e)) (Insert (entry_path e) value) (Refused cause) (stored new)
+    pub step : (value : T) → StepByPath k.bit_width (stored_state (entry_map e)) (Insert (entry_path e) value) (Refused cause) (stored_state new)
 
 module _ {P T A R : Type 0} {p : prefix.Ghosts P R} {shows : debug.Ghosts P} {k : key.Ghosts R} {same : partial.Ghosts R} {writes : debug.Ghosts R} where
   -- its key is stored then too

@@ -1,4 +1,4 @@
-pub mod Asking
+pub mod Calling
 pub mod Bulk
 pub mod Collected
 pub mod Copied
@@ -12,7 +12,7 @@ pub mod Walks
 pub mod Lending
 pub mod Entry
 pub mod Filled
-pub mod Settled
+pub mod GrowthLaws
 pub mod Resumed
 pub mod Writing
 pub mod WritingWalks

@@ -3,7 +3,7 @@ use Rattle.std.specs.Prelude.{◌≡◌, ℕ, Bool, true, List, All}
 use Rattle.std.specs.FinMap.{contains_key}
 use Rattle.prefix_trie_bits.specs.Model.Entries.{Entries, AreWithin}
 use Rattle.prefix_trie_bits.specs.Model.Matches.{covers}
-use Rattle.prefix_trie_bits.specs.Model.Selections.{listing, shown}
+use Rattle.prefix_trie_bits.specs.Model.Selections.{listing, prefix_pairs}
 
 -- where no key is longer than the width, as in every map
 pub record ListedLaws {P : Type 0} (T : Type 0) (width : ℕ) (path : P → List Bool) (IsFitting : P → Type 0) (back : List Bool → P) : Type 0 where
@@ -11,6 +11,6 @@ pub record ListedLaws {P : Type 0} (T : Type 0) (width : ℕ) (path : P → List
   pub key_fits : (m : Entries T) → AreWithin width m → (k : List Bool) → contains_key m k ≡ true → IsFitting (back k)
   pub key_is : (m : Entries T) → AreWithin width m → (k : List Bool) → contains_key m k ≡ true → path (back k) ≡ k
   -- each prefix that `iter` gives fits
-  pub listed_fit : (m : Entries T) → AreWithin width m → All (λ e. IsFitting e.0) (shown back (listing m))
+  pub listed_fit : (m : Entries T) → AreWithin width m → All (λ e. IsFitting e.0) (prefix_pairs back (listing m))
   -- and each that `cover` gives
-  pub covers_fit : (m : Entries T) → AreWithin width m → (q : List Bool) → All (λ e. IsFitting e.0) (shown back (covers m q))
+  pub covers_fit : (m : Entries T) → AreWithin width m → (q : List Bool) → All (λ e. IsFitting e.0) (prefix_pairs back (covers m q))

@@ -1,13 +1,13 @@
 -- A walk of a map is resumed behind the last item that was read. From the crate's documentation of `iter_from`.
 use Rattle.std.specs.Prelude.{◌≡◌, ℕ, Bool, List, ◌∷◌, ◌++◌, cond}
 use Rattle.prefix_trie_bits.specs.Model.Entries.{Entries, AreWithin}
-use Rattle.prefix_trie_bits.specs.Model.Selections.{listing, listing_from, listing_after, shown}
+use Rattle.prefix_trie_bits.specs.Model.Selections.{listing, listing_from, listing_after, prefix_pairs}
 
 -- where no key is longer than the width, as in every map
 pub record ResumeLaws {P : Type 0} (T : Type 0) (width : ℕ) (path : P → List Bool) (back : List Bool → P) : Type 0 where
   -- behind the last item read of `iter` comes the rest of it
   pub after_iter : (m : Entries T) → AreWithin width m → (read : List (P × T)) (last : P × T) (rest : List (P × T))
-      → shown back (listing m) ≡ read ++ last ∷ rest → shown back (listing_after m (path last.0)) ≡ rest
+      → prefix_pairs back (listing m) ≡ read ++ last ∷ rest → prefix_pairs back (listing_after m (path last.0)) ≡ rest
   -- and behind that of `iter_from` the rest of that
   pub after_iter_from : (m : Entries T) → AreWithin width m → (inclusive : Bool) (q : List Bool) (read : List (P × T)) (last : P × T) (rest : List (P × T))
-      → shown back (cond inclusive (listing_from m q) (listing_after m q)) ≡ read ++ last ∷ rest → shown back (listing_after m (path last.0)) ≡ rest
+      → prefix_pairs back (cond inclusive (listing_from m q) (listing_after m q)) ≡ read ++ last ∷ rest → prefix_pairs back (listing_after m (path last.0)) ≡ rest

@@ -1,3 +1,3 @@
 -- A map as a state of the model, beside how it is stored, and an insertion as a step of the model. This project's own.
 pub use Rattle.prefix_trie_table.specs.Shape.{state, storage}
-pub use Rattle.prefix_trie_table.specs.Steps.{stored, inserted, placed}
+pub use Rattle.prefix_trie_table.specs.Steps.{stored_state, insert_reply, insert_new_reply}

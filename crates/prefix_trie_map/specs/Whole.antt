@@ -4,20 +4,20 @@ use Rattle.prefix_trie_bits.specs.Laws.Steps.{IsMap}
 use Rattle.prefix_trie_bits.specs.Laws.Total.{IsStoredMap}
 use Rattle.prefix_trie_bits.specs.Model.Storage.{HaveBlocks}
 use Rattle.prefix_trie_table.specs.Shape.{Contents}
-use Rattle.prefix_trie_map.specs.Steps.{state, stored}
+use Rattle.prefix_trie_map.specs.Steps.{state, stored_state}
 
 -- a map of prefixes of so many bits: no key is longer, the nodes are such as the keys need, each has its blocks, and neither array
 -- passes the limit, which is below 2^32
 pub record IsWhole {T : Type 0} (width : ℕ) (map : Contents T) : Type 0 where
   pub is_map : IsMap width (state map)
   pub have_blocks : HaveBlocks (state map) map.layout
-  pub limit_below : map.room.limit < 2 ^ 32
-  pub nodes_within : map.room.node_slots ≤ map.room.limit
-  pub cells_within : map.room.cell_slots ≤ map.room.limit
+  pub limit_below : map.space.limit < 2 ^ 32
+  pub nodes_within : map.space.node_slots ≤ map.space.limit
+  pub cells_within : map.space.cell_slots ≤ map.space.limit
 
 -- what follows of how such a map is stored
 pub record WholeLaws (T : Type 0) (width : ℕ) : Type 0 where
   -- each array has fewer than 2^32 slots
-  pub slots_below : (m : Contents T) → IsWhole width m → (m.room.node_slots < 2 ^ 32) × (m.room.cell_slots < 2 ^ 32)
+  pub slots_below : (m : Contents T) → IsWhole width m → (m.space.node_slots < 2 ^ 32) × (m.space.cell_slots < 2 ^ 32)
   -- the map is stored as `total_laws` requires, if the root has a slot under the limit
-  pub is_stored : (m : Contents T) → IsWhole width m → 0 < m.room.limit → IsStoredMap width (stored m)
+  pub is_stored : (m : Contents T) → IsWhole width m → 0 < m.space.limit → IsStoredMap width (stored_state m)

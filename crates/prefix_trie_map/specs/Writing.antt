@@ -10,69 +10,69 @@ use Rattle.prefix_trie_bits.specs.declared.prefix.Key as key
 use Rattle.prefix_trie_bits.specs.Model.WritingWalk.{WritingWalk, walk_over, Next, Passes, Leaves}
 use Rattle.prefix_trie_table.specs.Locations.{seat_of}
 use Rattle.prefix_trie_table.specs.Shape.{Contents, with_value_at}
-use Rattle.prefix_trie_table.specs.Walking.Trails.{keys_to_come}
-use Rattle.prefix_trie_map.specs.declared.map.writing.course.Course.{Course}
-use Rattle.prefix_trie_map.specs.declared.map.writing.course.Stop.{Stop}
+use Rattle.prefix_trie_table.specs.Walking.Cursors.{keys_to_come}
+use Rattle.prefix_trie_map.specs.declared.map.writing.cursor.MapCursor.{MapCursor}
+use Rattle.prefix_trie_map.specs.declared.map.writing.cursor.CursorItem.{CursorItem}
 
 module _ {P T A R : Type 0} {p : prefix.Ghosts P R} {shows : debug.Ghosts P} {k : key.Ghosts R} {same : partial.Ghosts R} {writes : debug.Ghosts R} where
   -- the keys still to come
-  abbrev pub keys_left : Course P T A R p shows k same writes → List (List Bool)
-  keys_left c = keys_to_come k.bits c.map.now.entries c.trail
+  abbrev pub keys_left : MapCursor P T A R p shows k same writes → List (List Bool)
+  keys_left c = keys_to_come k.bits c.map.now.entries c.cursor
 
   -- the key of a stop
-  abbrev pub key_at : Course P T A R p shows k same writes → Stop R → List Bool
-  key_at c stop = take stop.len (k.bits stop.key)
+  abbrev pub key_at : MapCursor P T A R p shows k same writes → CursorItem R → List Bool
+  key_at c item = take item.len (k.bits item.key)
 
   -- its value stands there
-  pub record StopsAt (c : Course P T A R p shows k same writes) (stop : Stop R) : Type 0 where
-    pub is_key : k.IsKey stop.key
-    pub short : stop.len ≤ k.bit_width
-    pub seated : seat_of c.map.now.build (key_at c stop) ≡ Some stop.seat
+  pub record IsItemAt (c : MapCursor P T A R p shows k same writes) (item : CursorItem R) : Type 0 where
+    pub is_key : k.IsKey item.key
+    pub short : item.len ≤ k.bit_width
+    pub seated : seat_of c.map.now.build (key_at c item) ≡ Some item.seat
 
   -- the value at a stop
-  abbrev pub HasValueAt : Course P T A R p shows k same writes → Stop R → T → Type 0
-  HasValueAt c stop value = get c.map.now.entries (key_at c stop) ≡ Some value
+  abbrev pub HasValueAt : MapCursor P T A R p shows k same writes → CursorItem R → T → Type 0
+  HasValueAt c item value = get c.map.now.entries (key_at c item) ≡ Some value
 
   -- the walk, once a value is written at a stop
-  abbrev pub with_written : Course P T A R p shows k same writes → Stop R → T → Course P T A R p shows k same writes
-  with_written c stop value = record c { map = record c.map { now = with_value_at c.map.now (key_at c stop) value } }
+  abbrev pub with_written : MapCursor P T A R p shows k same writes → CursorItem R → T → MapCursor P T A R p shows k same writes
+  with_written c item value = record c { map = record c.map { now = with_value_at c.map.now (key_at c item) value } }
 
   -- the walk as the model has it, while the value of this key is lent
-  abbrev pub as_walk : Course P T A R p shows k same writes → Option (List Bool) → WritingWalk T
+  abbrev pub as_walk : MapCursor P T A R p shows k same writes → Option (List Bool) → WritingWalk T
   as_walk c lent = record { entries = c.map.now.entries; nodes = c.map.now.nodes; to_come = keys_left c; lent = lent }
 
   -- what the model lends next is of this prefix, and has this value
-  abbrev pub IsFirst : Course P T A R p shows k same writes → P → T → Type 0
+  abbrev pub IsFirst : MapCursor P T A R p shows k same writes → P → T → Type 0
   IsFirst c q value =
       (s : List Bool) × (after : WritingWalk T) × Next (as_walk c None) (Some s) after × (q ≡ p.back s) × (get c.map.now.entries s ≡ Some value)
 
   -- the walk has gone on over its first entry, at which this value was left, whatever was lent before: the map has it there, and is else
   -- as it was
-  pub record GoesOver (c : Course P T A R p shows k same writes) (value : T) (n : Course P T A R p shows k same writes) : Type 0 where
+  pub record GoesOver (c : MapCursor P T A R p shows k same writes) (value : T) (n : MapCursor P T A R p shows k same writes) : Type 0 where
     pub key : List Bool
     pub passes : (lent : Option (List Bool)) → Passes (as_walk c lent) key value (as_walk n (Some key))
     pub stored : contains_key c.map.now.entries key ≡ true
     pub map : n.map ≡ record c.map { now = with_value_at c.map.now key value }
 
   -- nothing was to come and nothing is, and the map is as it was
-  pub record ComesToEnd (c n : Course P T A R p shows k same writes) : Type 0 where
+  pub record ComesToEnd (c n : MapCursor P T A R p shows k same writes) : Type 0 where
     pub ends : (lent : Option (List Bool)) → Next (as_walk c lent) None (as_walk n None)
     pub map : n.map ≡ c.map
 
   -- a walk over this map, at its start, with this selection to come
-  pub record StartsOver (m : MutBor (Contents T)) (selection : List (List Bool × T)) (c : Course P T A R p shows k same writes) : Type 0 where
+  pub record StartsOver (m : MutBor (Contents T)) (selection : List (List Bool × T)) (c : MapCursor P T A R p shows k same writes) : Type 0 where
     pub same_map : c.map.ghost_name ≡ m.ghost_name
     pub map : c.map.now ≡ m.now
     pub starts : as_walk c None ≡ walk_over m.now.entries m.now.nodes selection
 
   -- the same of a walk that may have no map
-  abbrev pub StartsIn : MutBor (Contents T) → List (List Bool × T) → Option (Course P T A R p shows k same writes) → Type 0
+  abbrev pub StartsIn : MutBor (Contents T) → List (List Bool × T) → Option (MapCursor P T A R p shows k same writes) → Type 0
   StartsIn m selection None = ⊥
   StartsIn m selection (Some c) = StartsOver m selection c
 
   -- a walk hands back the map that it has, as it left it, which is what the model's leaves
-  abbrev pub HandsBack : Option (Course P T A R p shows k same writes) → Option (MutBor (Contents T)) → Type 0
-  HandsBack None None = ⊤
-  HandsBack None (Some m) = ⊥
-  HandsBack (Some c) None = ⊥
-  HandsBack (Some c) (Some m) = (m.ghost_name ≡ c.map.ghost_name) × (m.now ≡ c.map.now) × Leaves (as_walk c None) m.now.entries m.now.nodes
+  abbrev pub ReturnsMap : Option (MapCursor P T A R p shows k same writes) → Option (MutBor (Contents T)) → Type 0
+  ReturnsMap None None = ⊤
+  ReturnsMap None (Some m) = ⊥
+  ReturnsMap (Some c) None = ⊥
+  ReturnsMap (Some c) (Some m) = (m.ghost_name ≡ c.map.ghost_name) × (m.now ≡ c.map.now) × Leaves (as_walk c None) m.now.entries m.now.nodes

@@ -21,19 +21,19 @@ module _ {C : Type 0} where
 module _ {C S : Type 0} where
   -- the walk stands at this stop
   abbrev pub AtIn : (C → S → Type 0) → Option C → S → Type 0
-  AtIn IsAt None stop = ⊥
-  AtIn IsAt (Some c) stop = IsAt c stop
+  AtIn IsAt None item = ⊥
+  AtIn IsAt (Some c) item = IsAt c item
 
   module _ {V : Type 0} where
     -- the value at a stop
     abbrev pub HoldsIn : (C → S → V → Type 0) → Option C → S → V → Type 0
-    HoldsIn Holds None stop value = ⊥
-    HoldsIn Holds (Some c) stop value = Holds c stop value
+    HoldsIn Holds None item value = ⊥
+    HoldsIn Holds (Some c) item value = Holds c item value
 
     -- what it goes over, with a value written at a stop
     abbrev pub written_in : (C → S → V → C) → Option C → S → V → Option C
-    written_in with None stop value = None
-    written_in with (Some c) stop value = Some (with c stop value)
+    written_in with None item value = None
+    written_in with (Some c) item value = Some (with c item value)
 
 module _ {C V : Type 0} where
   -- the walk has gone on over its first entry, at which this value was left
@@ -50,22 +50,22 @@ module _ {C Q V : Type 0} where
 
   -- a step came to this stop: its prefix and its value are those of the first entry, and a write there passes it
   pub record StepsIn {S : Type 0} (IsAt : C → S → Type 0) (Holds : C → S → V → Type 0) (with : C → S → V → C) (First : C → Q → V → Type 0) (Passes : C → V → C → Type 0)
-      (o : Option C) (q : Q) (stop : S) (n : Option C) : Type 0 where
-    pub is_at : AtIn IsAt n stop
-    pub first : (value : V) → HoldsIn Holds n stop value → FirstIn First o q value
-    pub passes : (value : V) → PassesIn Passes o value (written_in with n stop value)
+      (o : Option C) (q : Q) (item : S) (n : Option C) : Type 0 where
+    pub is_at : AtIn IsAt n item
+    pub first : (value : V) → HoldsIn Holds n item value → FirstIn First o q value
+    pub passes : (value : V) → PassesIn Passes o value (written_in with n item value)
 
 module _ (C V : RattleType) (s : MutBor (WalkOf C.Denot)) where
   -- once the borrow r ends, the last value written through it is at the stop
-  abbrev pub lends_stop : {S : Type 0} → (C.Denot → S → V.Denot → C.Denot) → S → MutBor V.Denot → Fml
-  lends_stop with stop r = Lends (walk.the_row C) V s r (λ value. record { course = written_in with s.now.course stop value })
+  abbrev pub lends_item : {S : Type 0} → (C.Denot → S → V.Denot → C.Denot) → S → MutBor V.Denot → Fml
+  lends_item with item r = Lends (walk.the_row C) V s r (λ value. record { source = written_in with s.now.source item value })
 
   -- once the borrow r ends, the walk has gone on over its first entry, at which the last value written through r was left; without r
   -- nothing was to come
   abbrev pub lends_next : (C.Denot → V.Denot → C.Denot → Type 0) → (C.Denot → C.Denot → Type 0) → Option (MutBor V.Denot) → Fml
-  lends_next Passes Ends r = LendsSo (walk.the_row C) V s r (λ n value. OnSome r (PassesIn Passes s.now.course value n.course)) (λ n. IfNone r (EndsIn Ends s.now.course n.course))
+  lends_next Passes Ends r = LendsSo (walk.the_row C) V s r (λ n value. OnSome r (PassesIn Passes s.now.source value n.source)) (λ n. IfNone r (EndsIn Ends s.now.source n.source))
 
 -- the same of a walk that lends the values alone
 abbrev pub lends_next_value : (C V : RattleType) → MutBor (ValuesOf C.Denot) → (C.Denot → V.Denot → C.Denot → Type 0) → (C.Denot → C.Denot → Type 0) → Option (MutBor V.Denot) → Fml
 lends_next_value C V s Passes Ends r =
-    LendsSo (values.the_row C) V s r (λ n value. OnSome r (PassesIn Passes s.now.walk.course value n.walk.course)) (λ n. IfNone r (EndsIn Ends s.now.walk.course n.walk.course))
+    LendsSo (values.the_row C) V s r (λ n value. OnSome r (PassesIn Passes s.now.walk.source value n.walk.source)) (λ n. IfNone r (EndsIn Ends s.now.walk.source n.walk.source))

@@ -6,7 +6,7 @@ ghost use Rattle.prefix_trie_map.specs.Covers.{CoverLaws};
 ghost use Rattle.prefix_trie_map.specs.Filled.{FillLaws};
 ghost use Rattle.prefix_trie_map.specs.Listed.{ListedLaws};
 ghost use Rattle.prefix_trie_map.specs.Resumed.{ResumeLaws};
-ghost use Rattle.prefix_trie_map.specs.Settled.{SettlingLaws};
+ghost use Rattle.prefix_trie_map.specs.GrowthLaws.{SettlingLaws};
 ghost use Rattle.prefix_trie_map.specs.Whole.{WholeLaws};
 
 use prefix_trie_bits::prefix::Prefix;

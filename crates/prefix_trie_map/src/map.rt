@@ -11,7 +11,7 @@ ghost use Rattle.prefix_trie_bits.specs.Model.Entries.{no_entries, with_entry};
 ghost use Rattle.prefix_trie_bits.specs.Model.Nodes.{root_alone, with_needed};
 ghost use Rattle.prefix_trie_bits.specs.Model.Step.{Insert};
 ghost use Rattle.prefix_trie_bits.specs.Model.Storage.{StepByPath};
-ghost use Rattle.prefix_trie_map.specs.Steps.{stored, inserted};
+ghost use Rattle.prefix_trie_map.specs.Steps.{stored_state, insert_reply};
 ghost use Rattle.prefix_trie_map.specs.Whole.{IsWhole};
 
 mod bulk;
@@ -19,17 +19,17 @@ mod clone;
 mod collecting;
 mod counting;
 mod cover;
-mod cursor;
+mod iter_from;
 pub mod entry;
 mod equality;
-mod handing;
+mod splitting;
 mod into_iter;
 mod iter;
 mod lending;
 mod lookup;
 mod memory;
 mod parts;
-mod places;
+mod located;
 mod projection;
 mod removal;
 mod retain;
@@ -92,7 +92,7 @@ impl<P: Prefix, T: Drop, A: Allocator + Clone> PrefixMap<P, T, A> {
     pub fn new(alloc: A) -> Result<Self, Refusal>
         ensures entries { IfOk result (λ map. map.entries ≡ no_entries) }
         ensures nodes { IfOk result (λ map. map.nodes ≡ root_alone) }
-        ensures room { IfOk result (λ map. map.room ≡ record { limit = 2 ^ 32 - 1; node_slots = 1; cell_slots = 0 }) }
+        ensures space { IfOk result (λ map. map.space ≡ record { limit = 2 ^ 32 - 1; node_slots = 1; cell_slots = 0 }) }
         ensures layout { IfOk result (λ map. map.layout ≡ no_layout) }
         ensures only_memory { IfErr result (λ refusal. refusal ≡ Memory) }
     {
@@ -138,7 +138,7 @@ impl<P: Prefix, T: Drop, A: Allocator> PrefixMap<P, T, A> {
         // It is a step of the model, of the storage too. A stored key is never refused, and needs no block. A new one takes free blocks,
         // and of each size exactly the lacking ones are made. It is refused only where a block lacks: with `IndexRange` only where
         // the lacking ones pass the limit, and with `Memory` only where one that lacks still would not.
-        ensures step { StepByPath P.R.bit_width (stored self.old) (Insert (P.path prefix) value) (inserted result) (stored self.new) }
+        ensures step { StepByPath P.R.bit_width (stored_state self.old) (Insert (P.path prefix) value) (insert_reply result) (stored_state self.new) }
     {
         let (key, len) = parts(&prefix);
         self.table.insert(key, len, value, &mut Visits::new())

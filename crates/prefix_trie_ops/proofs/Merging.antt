@@ -5,7 +5,7 @@ use Rattle.std.specs.Ordering.{is_eq, is_lt, ordering_reverse}
 use Rattle.std.specs.FinMap.{entries_sorted, entries-from_sorted, get, get-entries, get-from_sorted}
 use Rattle.std.specs.FinMap.Entries.{below_all, find, is_sorted}
 use Rattle.prefix_trie_bits.specs.Order.{listing_cmp, listing_same, listing_total, same_string}
-use Rattle.prefix_trie.specs.Words.{Entries, listing, shown}
+use Rattle.prefix_trie.specs.Words.{Entries, listing, prefix_pairs}
 use Rattle.prefix_trie_ops.specs.Merging.{merged, sides, union_of}
 use Rattle.prefix_trie_ops.specs.declared.map.sides.Side.{Side}
 use Rattle.prefix_trie_ops.specs.declared.map.sides.Side.TheVariants.{Left, Right, Both}
@@ -118,13 +118,13 @@ module _ {X Y : Type 0} where
   module _ {P : Type 0} (path : P → List Bool) (back : List Bool → P) where
     both_shown : (xs : List (List Bool × X)) (ys : List (List Bool × Y))
         → ((e : List Bool × X) → Contains xs e → path (back e.0) ≡ e.0) → ((e : List Bool × Y) → Contains ys e → path (back e.0) ≡ e.0)
-        → merged path (shown back xs) (shown back ys) ≡ shown back (both xs ys)
+        → merged path (prefix_pairs back xs) (prefix_pairs back ys) ≡ prefix_pairs back (both xs ys)
     both_shown [] [] hx hy = refl
     both_shown [] (y ∷ ys) hx hy = ap (λ zs. (back y.0, Right y.1) ∷ zs) (both_shown [] ys hx (λ e at. hy e (contains_later y e ys at)))
     both_shown (x ∷ xs) [] hx hy = ap (λ zs. (back x.0, Left x.1) ∷ zs) (both_shown xs [] (λ e at. hx e (contains_later x e xs at)) hy)
     both_shown (x ∷ xs) (y ∷ ys) hx hy =
         ap (λ s. by_shown (listing_cmp s (path (back y.0)))) (hx x (contains_here x xs)) ∙ ap (λ s. by_shown (listing_cmp x.0 s)) (hy y (contains_here y ys))
-        ∙ (elim (listing_cmp x.0 y.0) as (λ o. by_shown o ≡ shown back (by_heads o x xs y ys)) [
+        ∙ (elim (listing_cmp x.0 y.0) as (λ o. by_shown o ≡ prefix_pairs back (by_heads o x xs y ys)) [
           | Less ↦ ap (λ zs. (back x.0, Left x.1) ∷ zs) (both_shown xs (y ∷ ys) (λ e at. hx e (contains_later x e xs at)) hy)
           | Equal ↦ ap (λ zs. (back x.0, Both x.1 y.1) ∷ zs) (both_shown xs ys (λ e at. hx e (contains_later x e xs at)) (λ e at. hy e (contains_later y e ys at)))
           | Greater ↦ ap (λ zs. (back y.0, Right y.1) ∷ zs) (both_shown (x ∷ xs) ys hx (λ e at. hy e (contains_later y e ys at)))
@@ -132,16 +132,16 @@ module _ {X Y : Type 0} where
       where
         by_shown : Ordering → List (P × Side X Y)
         by_shown o = elim o [
-          | Less ↦ (back x.0, Left x.1) ∷ merged path (shown back xs) (shown back (y ∷ ys))
-          | Equal ↦ (back x.0, Both x.1 y.1) ∷ merged path (shown back xs) (shown back ys)
-          | Greater ↦ (back y.0, Right y.1) ∷ merged path (shown back (x ∷ xs)) (shown back ys)
+          | Less ↦ (back x.0, Left x.1) ∷ merged path (prefix_pairs back xs) (prefix_pairs back (y ∷ ys))
+          | Equal ↦ (back x.0, Both x.1 y.1) ∷ merged path (prefix_pairs back xs) (prefix_pairs back ys)
+          | Greater ↦ (back y.0, Right y.1) ∷ merged path (prefix_pairs back (x ∷ xs)) (prefix_pairs back ys)
         ]
 
     -- two walks merged are the listing of the union
     pub union_shown : (m : Entries X) (n : Entries Y)
         → ((e : List Bool × X) → Contains (listing m) e → path (back e.0) ≡ e.0) → ((e : List Bool × Y) → Contains (listing n) e → path (back e.0) ≡ e.0)
-        → merged path (shown back (listing m)) (shown back (listing n)) ≡ shown back (listing (union_of m n))
+        → merged path (prefix_pairs back (listing m)) (prefix_pairs back (listing n)) ≡ prefix_pairs back (listing (union_of m n))
     unfolding union_of
     union_shown m n hx hy =
         both_shown (listing m) (listing n) hx hy
-        ∙ sym (ap (shown back) (entries-from_sorted listing_cmp (both (listing m) (listing n)) (sorted_both (listing m) (listing n) (entries_sorted m) (entries_sorted n))))
+        ∙ sym (ap (prefix_pairs back) (entries-from_sorted listing_cmp (both (listing m) (listing n)) (sorted_both (listing m) (listing n) (entries_sorted m) (entries_sorted n))))

@@ -6,7 +6,7 @@ use Rattle.std.specs.Ordering.{is_lt}
 use Rattle.std.specs.FinMap.{entries_sorted, entries-from_sorted, get, get-entries, get-from_sorted}
 use Rattle.std.specs.FinMap.Entries.{below_all, find, is_sorted}
 use Rattle.prefix_trie_bits.specs.Order.{listing_cmp, same_string}
-use Rattle.prefix_trie.specs.Words.{Entries, listing, shown}
+use Rattle.prefix_trie.specs.Words.{Entries, listing, prefix_pairs}
 use Rattle.prefix_trie_ops.specs.Combining.{both_values, common, with_partner}
 use Rattle.prefix_trie_ops.proofs.Lists.{contains_here, contains_later}
 use Rattle.prefix_trie_ops.proofs.Sorted.{same_is, t_both, t_first, t_second}
@@ -64,21 +64,21 @@ module _ {X Y : Type 0} (n : Entries Y) where
 
   module _ {P : Type 0} (path : P → List Bool) (back : List Bool → P) where
     pairs_shown : (es : List (List Bool × X)) → ((e : List Bool × X) → Contains es e → path (back e.0) ≡ e.0)
-        → filter_map (with_partner path n) (shown back es) ≡ shown back (pairs es)
+        → filter_map (with_partner path n) (prefix_pairs back es) ≡ prefix_pairs back (pairs es)
     pairs_shown [] known = refl
     pairs_shown (e ∷ es) known =
-        ap (λ s. cons_option (option_map (λ w. (back e.0, (e.1, w))) (get n s)) (filter_map (with_partner path n) (shown back es))) (known e (contains_here e es))
+        ap (λ s. cons_option (option_map (λ w. (back e.0, (e.1, w))) (get n s)) (filter_map (with_partner path n) (prefix_pairs back es))) (known e (contains_here e es))
         ∙ ap (cons_option (option_map (λ w. (back e.0, (e.1, w))) (get n e.0))) (pairs_shown es (λ d at. known d (contains_later e d es at)))
-        ∙ elim (get n e.0) as (λ o. cons_option (option_map (λ w. (back e.0, (e.1, w))) o) (shown back (pairs es)) ≡ shown back (cons_option (option_map (λ w. (e.0, (e.1, w))) o) (pairs es))) [
+        ∙ elim (get n e.0) as (λ o. cons_option (option_map (λ w. (back e.0, (e.1, w))) o) (prefix_pairs back (pairs es)) ≡ prefix_pairs back (cons_option (option_map (λ w. (e.0, (e.1, w))) o) (pairs es))) [
           | None ↦ refl
           | Some w ↦ refl
         ]
 
     -- the items of a walk that have a partner are the listing of the common keys
     pub common_shown : (m : Entries X) → ((e : List Bool × X) → Contains (listing m) e → path (back e.0) ≡ e.0)
-        → filter_map (with_partner path n) (shown back (listing m)) ≡ shown back (listing (common m n))
+        → filter_map (with_partner path n) (prefix_pairs back (listing m)) ≡ prefix_pairs back (listing (common m n))
     unfolding common
-    common_shown m known = pairs_shown (listing m) known ∙ sym (ap (shown back) (entries-from_sorted listing_cmp (pairs (listing m)) (sorted_pairs (listing m) (entries_sorted m))))
+    common_shown m known = pairs_shown (listing m) known ∙ sym (ap (prefix_pairs back) (entries-from_sorted listing_cmp (pairs (listing m)) (sorted_pairs (listing m) (entries_sorted m))))
 
 -- an item without a partner is skipped
 pub pairs_skip : {P X Y : Type 0} (path : P → List Bool) (n : Entries Y) (xs rest : List (P × X)) (x : P × X) → xs ≡ x ∷ rest → None ≡ get n (path x.0)

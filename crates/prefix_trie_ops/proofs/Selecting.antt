@@ -4,17 +4,17 @@ use Rattle.std.proofs.lemmas.List.Elements.{All-cons, All-head, All-nil, All-tai
 use Rattle.std.specs.List.{Contains}
 use Rattle.std.specs.FinMap.{retain_keys}
 use Rattle.prefix_trie_bits.proofs.Model.Ordered.{entries-retained}
-use Rattle.prefix_trie.specs.Words.{Entries, listing, shown}
+use Rattle.prefix_trie.specs.Words.{Entries, listing, prefix_pairs}
 use Rattle.prefix_trie_ops.proofs.Lists.{contains_here, contains_later}
 
 module _ {P T' : Type 0} (path : P → List Bool) (back : List Bool → P) (p : List Bool → Bool) where
   filter_shown : (es : List (List Bool × T')) → ((e : List Bool × T') → Contains es e → path (back e.0) ≡ e.0)
-      → filter (λ e. p (path e.0)) (shown back es) ≡ shown back (filter (λ e. p e.0) es)
+      → filter (λ e. p (path e.0)) (prefix_pairs back es) ≡ prefix_pairs back (filter (λ e. p e.0) es)
   filter_shown [] known = refl
   filter_shown (x ∷ es) known =
-      ap (λ s. cond (p s) ((back x.0, x.1) ∷ filter (λ e. p (path e.0)) (shown back es)) (filter (λ e. p (path e.0)) (shown back es))) (known x (contains_here x es))
+      ap (λ s. cond (p s) ((back x.0, x.1) ∷ filter (λ e. p (path e.0)) (prefix_pairs back es)) (filter (λ e. p (path e.0)) (prefix_pairs back es))) (known x (contains_here x es))
       ∙ ap (λ ys. cond (p x.0) ((back x.0, x.1) ∷ ys) ys) (filter_shown es (λ e at. known e (contains_later x e es at)))
-      ∙ (elim (p x.0) as (λ b. cond b ((back x.0, x.1) ∷ shown back (filter (λ e. p e.0) es)) (shown back (filter (λ e. p e.0) es)) ≡ shown back (cond b (x ∷ filter (λ e. p e.0) es) (filter (λ e. p e.0) es))) [
+      ∙ (elim (p x.0) as (λ b. cond b ((back x.0, x.1) ∷ prefix_pairs back (filter (λ e. p e.0) es)) (prefix_pairs back (filter (λ e. p e.0) es)) ≡ prefix_pairs back (cond b (x ∷ filter (λ e. p e.0) es) (filter (λ e. p e.0) es))) [
         | true ↦ refl
         | false ↦ refl
       ])
@@ -31,15 +31,15 @@ module _ {P T' : Type 0} (path : P → List Bool) (back : List Bool → P) (p : 
       ])
 
   pub selected : (m : Entries T') → ((e : List Bool × T') → Contains (listing m) e → path (back e.0) ≡ e.0)
-      → filter (λ e. p (path e.0)) (shown back (listing m)) ≡ shown back (listing (retain_keys m p))
-  selected m known = filter_shown (listing m) known ∙ sym (ap (shown back) (entries-retained m p))
+      → filter (λ e. p (path e.0)) (prefix_pairs back (listing m)) ≡ prefix_pairs back (listing (retain_keys m p))
+  selected m known = filter_shown (listing m) known ∙ sym (ap (prefix_pairs back) (entries-retained m p))
 
   pub selected_keys : (m : Entries T') → ((e : List Bool × T') → Contains (listing m) e → path (back e.0) ≡ e.0)
       → filter (λ q. p (path q)) (map (λ e. back e.0) (listing m)) ≡ map (λ e. back e.0) (listing (retain_keys m p))
   selected_keys m known = filter_keys (listing m) known ∙ sym (ap (map (λ e. back e.0)) (entries-retained m p))
 
 -- the keys of a listing fit where its items do
-pub keys_fit : {P X : Type 0} (F : P → Type 0) (back : List Bool → P) (es : List (List Bool × X)) → All (λ e. F e.0) (shown back es) → All F (map (λ e. back e.0) es)
+pub keys_fit : {P X : Type 0} (F : P → Type 0) (back : List Bool → P) (es : List (List Bool × X)) → All (λ e. F e.0) (prefix_pairs back es) → All F (map (λ e. back e.0) es)
 keys_fit F back [] h = All-nil F
 keys_fit F back (x ∷ es) h =
-    All-cons F (back x.0) (map (λ e. back e.0) es) (All-head (λ e. F e.0) (back x.0, x.1) (shown back es) h) (keys_fit F back es (All-tail (λ e. F e.0) (back x.0, x.1) (shown back es) h))
+    All-cons F (back x.0) (map (λ e. back e.0) es) (All-head (λ e. F e.0) (back x.0, x.1) (prefix_pairs back es) h) (keys_fit F back es (All-tail (λ e. F e.0) (back x.0, x.1) (prefix_pairs back es) h))

@@ -1,7 +1,7 @@
 //! Walks over a map with one entry read ahead.
 ghost use Rattle.std.specs.Prelude.{◌≡◌, IfSome};
 ghost use Rattle.std.specs.Map.Iter.{TakesFirst};
-ghost use Rattle.prefix_trie.specs.Words.{lent_item, listing, shown};
+ghost use Rattle.prefix_trie.specs.Words.{lent_item, listing, prefix_pairs};
 
 use prefix_trie::laws::listed_laws;
 use prefix_trie::map::Iter;
@@ -31,7 +31,7 @@ impl<'a, P: Prefix, T: Drop, A: Allocator> Model for Ahead<'a, P, T, A> {
 impl<'a, P: Prefix, T: Drop, A: Allocator> Ahead<'a, P, T, A> {
     /// Returns a walk over all entries of a map, and reads the first one.
     pub(crate) fn of(map: &'a PrefixMap<P, T, A>) -> Self
-        ensures { result ≡ shown P.back (listing map.now.entries) }
+        ensures { result ≡ prefix_pairs P.back (listing map.now.entries) }
     {
         listed_laws::<P, T>();
         let mut walk = map.iter();

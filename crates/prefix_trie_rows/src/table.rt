@@ -180,7 +180,7 @@ fn holds<P: Written>(alloc: Global, map: &mut Map<P>, line: &Line) -> bool {
         Line::Remove(pair, answer) => removes(map, *pair, *answer),
         Line::RemoveKeepTree(pair, answer) => removes_keeping_tree(map, *pair, *answer),
         Line::DropChildren(pair) => drops_children(map, *pair),
-        Line::RemoveChildren(pair, lines) => handing::hands_out(map, *pair, lines),
+        Line::RemoveChildren(pair, lines) => handing::splits_off(map, *pair, lines),
         Line::Retain(asked) => retains(map, asked),
         Line::Clear => clears(map),
         Line::IterFromMut(pair, inclusive, more) => writing::adds(map, *pair, *inclusive, *more),

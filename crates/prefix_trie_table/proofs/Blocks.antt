@@ -9,7 +9,7 @@ pub mod Moving
 pub mod Tiers
 pub mod Capacity
 pub mod Turnovers
-pub mod Told
+pub mod ResultCases
 pub mod Laying
 pub mod Losing
 pub mod Preparing

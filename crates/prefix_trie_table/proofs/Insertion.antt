@@ -1,10 +1,10 @@
 -- What an insertion needs, asks for and leaves.
 pub mod Adding
-pub mod Ways
+pub mod Paths
 pub mod Inserted
 pub mod Inserting
-pub mod Rooms
+pub mod Spaces
 pub mod Placements
 pub mod Asks
-pub mod Foreseen
+pub mod PredictedNeeds
 pub mod Resized

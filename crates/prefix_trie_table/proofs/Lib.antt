@@ -9,4 +9,4 @@ pub mod Removal
 pub mod Retain
 pub mod Counts
 pub mod Moving
-pub mod HandingOut
+pub mod Splitting

@@ -6,4 +6,4 @@ pub mod Counting
 pub mod Second
 pub mod Moved
 pub mod Packed
-pub mod HandedOut
+pub mod SplitOff

@@ -5,8 +5,8 @@ pub mod GivingBack
 pub mod OneEntry
 pub mod Pruning
 pub mod NodesLeft
-pub mod Lessening
-pub mod Settling
+pub mod ShrinkingLists
+pub mod GrowthBounds
 pub mod AllBelow
 pub mod Listed
 pub mod PartTaken

@@ -5,8 +5,8 @@ pub mod Children
 pub mod Values
 pub mod Shapes
 pub mod Growing
-pub mod WayEnds
-pub mod Ways
+pub mod SearchEnds
+pub mod Ancestors
 pub mod Subtrees
 pub mod Kept
 pub mod Copying

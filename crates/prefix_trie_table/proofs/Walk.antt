@@ -3,7 +3,7 @@ pub mod Stacks
 pub mod Spots
 pub mod Walking
 pub mod Selected
-pub mod Cursors
+pub mod Starts
 pub mod Skipping
 pub mod KeySets
 pub mod Seats

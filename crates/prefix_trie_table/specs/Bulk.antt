@@ -2,12 +2,12 @@
 use Rattle.std.specs.Prelude.{◌≡◌, ℕ, ◌+◌, ◌*◌, ◌<◌, ◌≤◌, ◌⊎◌, Bool, List, Option, None, All, Contains, ◌++◌, length, map, option_map, slice_index_or, sum_by, take}
 use Rattle.prefix_trie_table.specs.declared.allocator.node.Node.{Node}
 use Rattle.prefix_trie_table.specs.declared.table.bulk.Found.{Found}
-use Rattle.prefix_trie_table.specs.declared.table.bulk.Way.{Way}
+use Rattle.prefix_trie_table.specs.declared.table.bulk.Descent.{Descent}
 use Rattle.prefix_trie_table.specs.declared.table.matching.Match.{Match}
 use Rattle.prefix_trie_table.specs.Cells.{node_at, node_sizes}
-use Rattle.prefix_trie_table.specs.Digits.{path_of}
+use Rattle.prefix_trie_table.specs.Digits.{chunks_of}
 use Rattle.prefix_trie_table.specs.Forest.{NodesHold, IsEnd, SomeNodes, read}
-use Rattle.prefix_trie_table.specs.Matching.{IsOnWay, LackLastBit, LongestHeld, match_seat}
+use Rattle.prefix_trie_table.specs.Matching.{IsOnPath, LackLastBit, LongestHeld, match_seat}
 use Rattle.prefix_trie_table.specs.Store.{Store}
 
 -- P says it of each of the first n items and of its place
@@ -27,27 +27,27 @@ abbrev pub HasFound : Store Node → List Bool → ℕ → Option Found → Type
 HasFound v s n found = (reading : List ℕ → Option Node) (paths : List (List ℕ)) → NodesHold node_sizes reading paths v → IsLongestFound reading s n found
 
 -- a way at the root, where nothing was found yet
-abbrev pub new_way : ℕ → Way
-new_way i = record { question = i; at = record { start = 0; place = 0 }; best = None }
+abbrev pub new_descent : ℕ → Descent
+new_descent i = record { question = i; at = record { start = 0; offset = 0 }; best = None }
 
 -- the number of the question whose way it is
-abbrev pub question_of : Way → ℕ
+abbrev pub question_of : Descent → ℕ
 question_of w = w.question
 
 -- the slot of the node ahead
-abbrev pub slot_of : Way → ℕ
-slot_of w = w.at.start + w.at.place
+abbrev pub slot_of : Descent → ℕ
+slot_of w = w.at.start + w.at.offset
 
 -- a node is the one to which the way at a place has come
-abbrev pub IsAhead : List Node → List Way → ℕ → Node → Type 0
-IsAhead slots ways i n = (w : Way) → w ≡ slice_index_or ways i w → n ≡ node_at slots (slot_of w)
+abbrev pub IsAhead : List Node → List Descent → ℕ → Node → Type 0
+IsAhead slots descents i n = (w : Descent) → w ≡ slice_index_or descents i w → n ≡ node_at slots (slot_of w)
 
 -- a way is that of the question at its place, and at the root
-abbrev pub IsNew : ℕ → Way → Type 0
-IsNew i w = w ≡ new_way i
+abbrev pub IsNew : ℕ → Descent → Type 0
+IsNew i w = w ≡ new_descent i
 
 -- what the way of a question costs, where each question has its cost
-abbrev pub cost_of : List ℕ → Way → ℕ
+abbrev pub cost_of : List ℕ → Descent → ℕ
 cost_of costs w = slice_index_or costs w.question 0
 
 -- a node array as lookups ask it to be
@@ -81,11 +81,11 @@ module _ {K : Type 0} (bits : K → List Bool) where
 
   module _ (v : Store Node) (questions : List (K × ℕ)) where
     -- the way of a question has come to the node ahead, and the longest match above it is known
-    pub record IsWay (level : ℕ) (w : Way) : Type 0 where
+    pub record IsDescent (level : ℕ) (w : Descent) : Type 0 where
       pub question : K × ℕ
       pub is : question ≡ slice_index_or questions w.question question
       pub inside : w.question < length questions
-      pub on_way : IsOnWay (bits question.0) question.1 level (node_at v.slots (slot_of w)) (slot_of w) v
+      pub on_path : IsOnPath (bits question.0) question.1 level (node_at v.slots (slot_of w)) (slot_of w) v
       pub best : HasFound v (asked question) (5 * level) w.best
 
     -- a question that is no longer on its way has its answer
@@ -98,17 +98,17 @@ module _ {K : Type 0} (bits : K → List Bool) where
     abbrev pub AreCosts : List ℕ → Type 0
     AreCosts costs =
         (i : ℕ) (q : K × ℕ) → i < length questions → q ≡ slice_index_or questions i q
-        → (reading : List ℕ → Option Node) (paths : List (List ℕ)) (level : ℕ) → NodesHold node_sizes reading paths v → IsEnd reading (path_of (asked q)) level
+        → (reading : List ℕ → Option Node) (paths : List (List ℕ)) (level : ℕ) → NodesHold node_sizes reading paths v → IsEnd reading (chunks_of (asked q)) level
         → slice_index_or costs i 0 ≡ level + 1
 
     -- the nodes that these ways have come to were read
-    pub record AreRead (level : ℕ) (ways : List Way) (nodes : List Node) : Type 0 where
+    pub record AreRead (level : ℕ) (descents : List Descent) (nodes : List Node) : Type 0 where
       pub sound : SomeNodes v
-      pub ways_are : All (IsWay level) ways
-      pub nodes_are : EachOf (IsAhead v.slots ways) (length ways) nodes
+      pub descents_are : All (IsDescent level) descents
+      pub nodes_are : EachOf (IsAhead v.slots descents) (length descents) nodes
 
     -- of these ways some go on, and the questions of the others are answered
-    pub record GoOn (level : ℕ) (ways next : List Way) (before after : List (Option Found)) : Type 0 where
-      pub ways_are : All (IsWay (level + 1)) next
-      pub answered : (others : List ℕ) → AreAnswered (map question_of ways ++ others) before → AreAnswered (map question_of next ++ others) after
-      pub counted : (costs : List ℕ) → AreCosts costs → sum_by (cost_of costs) ways + length next * (level + 1) ≡ sum_by (cost_of costs) next + length ways * (level + 1)
+    pub record GoOn (level : ℕ) (descents next : List Descent) (before after : List (Option Found)) : Type 0 where
+      pub descents_are : All (IsDescent (level + 1)) next
+      pub answered : (others : List ℕ) → AreAnswered (map question_of descents ++ others) before → AreAnswered (map question_of next ++ others) after
+      pub counted : (costs : List ℕ) → AreCosts costs → sum_by (cost_of costs) descents + length next * (level + 1) ≡ sum_by (cost_of costs) next + length descents * (level + 1)

@@ -5,9 +5,9 @@ use Rattle.prefix_trie_bits.specs.Bits.{number}
 use Rattle.prefix_trie_bits.specs.Places.{value_bit}
 
 -- the steps to the string's own node: each five bits as a number
-abbrev pub path_of : List Bool → List ℕ
-path_of (a ∷ b ∷ c ∷ d ∷ e ∷ s) = number (a ∷ b ∷ c ∷ d ∷ e ∷ []) ∷ path_of s
-path_of s = []
+abbrev pub chunks_of : List Bool → List ℕ
+chunks_of (a ∷ b ∷ c ∷ d ∷ e ∷ s) = number (a ∷ b ∷ c ∷ d ∷ e ∷ []) ∷ chunks_of s
+chunks_of s = []
 
 -- the bits behind the last whole step
 abbrev pub rest_of : List Bool → List Bool

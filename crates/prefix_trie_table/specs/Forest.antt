@@ -125,8 +125,8 @@ with_child nodes p m c q =
     cond (same_path q (p ++ c ∷ [])) (Some blank_node) (cond (same_path q p) (Some m) (nodes q))
 
 -- the nodes where p has become m, with the child c less
-abbrev pub lacking_child : (List ℕ → Option Node) → List ℕ → Node → ℕ → List ℕ → Option Node
-lacking_child nodes p m c q =
+abbrev pub with_child_removed : (List ℕ → Option Node) → List ℕ → Node → ℕ → List ℕ → Option Node
+with_child_removed nodes p m c q =
     cond (same_path q (p ++ c ∷ [])) None (cond (same_path q p) (Some m) (nodes q))
 
 -- the nodes where p has become m

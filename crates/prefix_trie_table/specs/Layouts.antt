@@ -9,7 +9,7 @@ use Rattle.prefix_trie_bits.specs.Model.Nodes.{is_node_depth}
 use Rattle.prefix_trie_bits.proofs.Model.Members.{same_entries}
 use Rattle.prefix_trie_table.specs.declared.allocator.node.Node.{Node}
 use Rattle.prefix_trie_table.specs.Bitmaps.{rank}
-use Rattle.prefix_trie_table.specs.Digits.{path_of}
+use Rattle.prefix_trie_table.specs.Digits.{chunks_of}
 use Rattle.prefix_trie_table.specs.Forest.{read}
 pub use Rattle.prefix_trie_table.specs.OwnBlocks.{child_block_size, value_block_size}
 
@@ -20,7 +20,7 @@ own_children (Some n) = rank n.child_bitmap 32
 
 -- these are the sizes that a function gives for the nodes in an array, by the strings at which the nodes stand
 abbrev pub AreSizesBy : (Option Node → Option ℕ) → List Node → Sizes → Type 0
-AreSizesBy size nodes sizes = (s : List Bool) → get sizes s ≡ cond (is_node_depth s) (size (read nodes (path_of s))) None
+AreSizesBy size nodes sizes = (s : List Bool) → get sizes s ≡ cond (is_node_depth s) (size (read nodes (chunks_of s))) None
 
 -- the one pair of sizes that the nodes have, of child blocks and of value blocks
 abbrev pub Sized : List Node → Type 0

@@ -15,12 +15,12 @@ pub mod Layouts
 pub mod Shape
 pub mod Tables
 pub mod Locations
-pub mod Asked
+pub mod Needs
 pub mod Matching
-pub mod Settling
+pub mod GrowthBounds
 pub mod Steps
 pub mod Removals
-pub mod HandingOut
+pub mod Splitting
 pub mod Retaining
 pub mod Copies
 pub mod Walking

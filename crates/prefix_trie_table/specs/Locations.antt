@@ -9,12 +9,12 @@ use mathlib.Core.HLevel.{Π_prop}
 use Rattle.prefix_trie_table.specs.declared.allocator.node.Node.{Node}
 use Rattle.prefix_trie_table.specs.declared.table.lookup.Reached.{Reached}
 use Rattle.prefix_trie_table.specs.declared.table.seat.Seat.{Seat}
-use Rattle.prefix_trie_table.specs.declared.table.seat.WayEnd.{WayEnd}
+use Rattle.prefix_trie_table.specs.declared.table.seat.SearchEnd.{SearchEnd}
 use Rattle.prefix_trie_table.specs.declared.table.seat.Location.{Location}
 use Rattle.prefix_trie_table.specs.declared.table.seat.Location.TheVariants.{Stored, Missing}
 use Rattle.prefix_trie_table.specs.Bitmaps.{has_bit, rank}
 use Rattle.prefix_trie_table.specs.Cells.{node_at}
-use Rattle.prefix_trie_table.specs.Digits.{path_of, bit_of}
+use Rattle.prefix_trie_table.specs.Digits.{chunks_of, bit_of}
 use Rattle.prefix_trie_table.specs.Forest.{child_slot, read}
 use Rattle.prefix_trie_table.specs.Shape.{Contents, coded_node}
 use Rattle.prefix_trie_table.specs.Store.{Store}
@@ -22,7 +22,7 @@ use Rattle.prefix_trie_table.specs.Tables.{IsReached}
 
 -- where the value at bit b of a node stands
 abbrev pub value_seat : Node → ℕ → Seat
-value_seat n b = record { start = n.value_block; place = rank n.value_bitmap b }
+value_seat n b = record { start = n.value_block; offset = rank n.value_bitmap b }
 
 -- the same, if there is such a value
 abbrev pub seat_in : Option Node → ℕ → Option Seat
@@ -31,7 +31,7 @@ seat_in (Some n) b = cond (has_bit n.value_bitmap b) (Some (value_seat n b)) Non
 
 -- the seat of the value at a bit string, if it is there
 unfoldable pub seat_of : List Node → List Bool → Option Seat
-seat_of nodes q = seat_in (read nodes (path_of q)) (bit_of q)
+seat_of nodes q = seat_in (read nodes (chunks_of q)) (bit_of q)
 
 -- the slot that the steps lead to from another
 abbrev pub slot_from : List Node → ℕ → List ℕ → ℕ
@@ -39,18 +39,18 @@ slot_from nodes at [] = at
 slot_from nodes at (c ∷ cs) = slot_from nodes (child_slot (node_at nodes at) c) cs
 
 -- the way of a bit string ends so: at this level no next node is there or needed, and its node stands in this slot
-pub record IsWayEnd (nodes : List Node) (q : List Bool) (end : WayEnd) : Type 0 where
-  pub within : end.reached.level ≤ length (path_of q)
-  pub stands : is_some (read nodes (take end.reached.level (path_of q))) ≡ true
-  pub stops : end.reached.level < length (path_of q) → is_some (read nodes (take (end.reached.level + 1) (path_of q))) ≡ false
-  pub slot_is : end.reached.at.start + end.reached.at.place ≡ slot_from nodes 0 (take end.reached.level (path_of q))
-  pub node_is : end.reached.node ≡ node_at nodes (end.reached.at.start + end.reached.at.place)
+pub record IsSearchEnd (nodes : List Node) (q : List Bool) (end : SearchEnd) : Type 0 where
+  pub within : end.reached.level ≤ length (chunks_of q)
+  pub stands : is_some (read nodes (take end.reached.level (chunks_of q))) ≡ true
+  pub stops : end.reached.level < length (chunks_of q) → is_some (read nodes (take (end.reached.level + 1) (chunks_of q))) ≡ false
+  pub slot_is : end.reached.at.start + end.reached.at.offset ≡ slot_from nodes 0 (take end.reached.level (chunks_of q))
+  pub node_is : end.reached.node ≡ node_at nodes (end.reached.at.start + end.reached.at.offset)
 
 -- the first len bits of b have no value, and their way ends at the node that was reached
 abbrev pub EndsAt : Store Node → List Bool → ℕ → Reached → Type 0
 EndsAt v b len reached =
     (seat_of v.slots (take len b) ≡ None)
-    × IsReached b len reached.level reached.node (reached.at.start + reached.at.place) v
+    × IsReached b len reached.level reached.node (reached.at.start + reached.at.offset) v
 
 -- what an array of nodes says of the first len bits of b: the seat of their value, or the end of their way where they have none
 abbrev pub Locates : Store Node → List Bool → ℕ → Location → Type 0
@@ -60,18 +60,18 @@ Locates v b len (Missing end) = EndsAt v b len end.reached
 -- what a table says of a bit string: the seat of its value, or the end of its way where it has none
 abbrev pub IsLocation : {T : Type 0} → Contents T → List Bool → Location → Type 0
 IsLocation s q (Stored seat) = (contains_key s.entries q ≡ true) × (seat_of s.build q ≡ Some seat)
-IsLocation s q (Missing end) = (contains_key s.entries q ≡ false) × IsWayEnd s.build q end
+IsLocation s q (Missing end) = (contains_key s.entries q ≡ false) × IsSearchEnd s.build q end
 
 coded_seat : Coded Seat
-coded_seat = code_by (ℕ × ℕ) (coded× coded_ℕ coded_ℕ) (λ s. (s.start, s.place)) (λ p. record { start = p.0; place = p.1 }) (λ _. refl)
+coded_seat = code_by (ℕ × ℕ) (coded× coded_ℕ coded_ℕ) (λ s. (s.start, s.offset)) (λ p. record { start = p.0; offset = p.1 }) (λ _. refl)
 
 -- that a seat is that of a bit string has one proof at most
 pub is_seat-prop : (nodes : List Node) (q : List Bool) (seat : Seat) → IsProp (seat_of nodes q ≡ Some seat)
 is_seat-prop nodes q seat = Coded-set (coded_option coded_seat) _ _
 
 -- and so has that a way ends
-pub IsWayEnd-prop : (nodes : List Node) (q : List Bool) (end : WayEnd) → IsProp (IsWayEnd nodes q end)
-IsWayEnd-prop nodes q end = λ x y i. record {
+pub IsSearchEnd-prop : (nodes : List Node) (q : List Bool) (end : SearchEnd) → IsProp (IsSearchEnd nodes q end)
+IsSearchEnd-prop nodes q end = λ x y i. record {
   within = le_prop x.within y.within i;
   stands = Coded-set coded_bool _ _ x.stands y.stands i;
   stops = Π_prop (λ _. Coded-set coded_bool _ _) x.stops y.stops i;

@@ -5,13 +5,13 @@ use Rattle.prefix_trie_table.specs.declared.table.matching.Match.{Match}
 use Rattle.prefix_trie_table.specs.declared.table.seat.Seat.{Seat}
 use Rattle.prefix_trie_table.specs.Bitmaps.{has_bit, rank}
 use Rattle.prefix_trie_table.specs.Cells.{node_at, node_sizes}
-use Rattle.prefix_trie_table.specs.Digits.{path_of, bit_of}
+use Rattle.prefix_trie_table.specs.Digits.{chunks_of, bit_of}
 use Rattle.prefix_trie_table.specs.Store.{Store}
 use Rattle.prefix_trie_table.specs.Forest.{NodesHold, Deepest, has_value}
 
 -- whether the first i bits of q have a value
 abbrev pub holds_value : (List ℕ → Option Node) → List Bool → ℕ → Bool
-holds_value reading q i = has_value (reading (path_of (take i q))) (bit_of (take i q))
+holds_value reading q i = has_value (reading (chunks_of (take i q))) (bit_of (take i q))
 
 -- no beginning of q has a value whose length is `first` or more and below `end`
 abbrev pub NoneHeld : (List ℕ → Option Node) → List Bool → ℕ → ℕ → Type 0
@@ -20,7 +20,7 @@ NoneHeld reading q first end = (i : ℕ) → first ≤ i → i < end → i ≤ l
 -- the first n bits of q have a value, at this bit of this node
 pub record IsHeld (reading : List ℕ → Option Node) (q : List Bool) (n bit : ℕ) (node : Node) : Type 0 where
   pub within : n ≤ length q
-  pub is : reading (path_of (take n q)) ≡ Some node
+  pub is : reading (chunks_of (take n q)) ≡ Some node
   pub bit_is : bit_of (take n q) ≡ bit
   pub small : bit < 31
   pub set : has_bit node.value_bitmap bit ≡ true
@@ -31,7 +31,7 @@ cell_slot m = m.node.value_block + rank m.node.value_bitmap m.bit
 
 -- where the value of a match stands
 abbrev pub match_seat : Match → Seat
-match_seat m = record { start = m.node.value_block; place = rank m.node.value_bitmap m.bit }
+match_seat m = record { start = m.node.value_block; offset = rank m.node.value_bitmap m.bit }
 
 -- the seat of a match and the length of its string, if there is one
 abbrev pub SeatAt : Option Match → Option Seat → ℕ → Type 0
@@ -52,8 +52,8 @@ abbrev pub LackLastBit : (List ℕ → Option Node) → Type 0
 LackLastBit nodes = (p : List ℕ) (n : Node) → nodes p ≡ Some n → has_bit n.value_bitmap 31 ≡ false
 
 -- the way of the first len bits of b leads to this node in this slot
-pub record IsOnWay (b : List Bool) (len level : ℕ) (node : Node) (slot : ℕ) (v : Store Node) : Type 0 where
+pub record IsOnPath (b : List Bool) (len level : ℕ) (node : Node) (slot : ℕ) (v : Store Node) : Type 0 where
   pub long : len ≤ length b
   pub whole : 5 * level ≤ len
   pub node_is : node ≡ node_at v.slots slot
-  pub deepest : (reading : List ℕ → Option Node) (paths : List (List ℕ)) → NodesHold node_sizes reading paths v → Deepest reading (path_of (take len b)) level slot v
+  pub deepest : (reading : List ℕ → Option Node) (paths : List (List ℕ)) → NodesHold node_sizes reading paths v → Deepest reading (chunks_of (take len b)) level slot v

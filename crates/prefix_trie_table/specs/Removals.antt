@@ -4,11 +4,11 @@ use Rattle.prefix_trie_table.specs.declared.allocator.node.Node.{Node}
 use Rattle.prefix_trie_table.specs.declared.allocator.node.NodeSlot.{NodeSlot}
 use Rattle.prefix_trie_table.specs.Bitmaps.{rank}
 use Rattle.prefix_trie_table.specs.Cells.{node_sizes, cell_sizes}
-use Rattle.prefix_trie_table.specs.Store.{Store, SameRoom, MakesNone, tier_sizes, free_in, made_in, free_counts}
+use Rattle.prefix_trie_table.specs.Store.{Store, SameSpace, MakesNone, tier_sizes, free_in, made_in, free_counts}
 use Rattle.prefix_trie_bits.specs.Model.Blocks.{HasBlock, StepsDown, LongerByOne, MakesBlocks, MakesAtMost, made_of}
 use Rattle.prefix_trie_table.specs.Layouts.{own_children, child_block_size, value_block_size}
-use Rattle.prefix_trie_table.specs.Settling.{NodesSettle}
-use Rattle.prefix_trie_table.specs.Forest.{NodesHold, CellsHold, Holds, IsSlot, lacking_child, without, is_start, with_node, with_value, own_count, entry_count, one_if}
+use Rattle.prefix_trie_table.specs.GrowthBounds.{BoundsNodeGrowth}
+use Rattle.prefix_trie_table.specs.Forest.{NodesHold, CellsHold, Holds, IsSlot, with_child_removed, without, is_start, with_node, with_value, own_count, entry_count, one_if}
 
 -- the block that a list entered in place of its old one was made, if it was to be
 abbrev pub MakesEntered : {S : Type 0} → List ℕ → Store S → Store S → Option ℕ → Option ℕ → Type 0
@@ -25,7 +25,7 @@ pub record GrowsBy {S : Type 0} (Makes : List ℕ → Store S → Store S → Op
 
 -- a list that had `before` items in a block of the size `old` has `after` in one of the size `new`: it steps down, and the array
 -- grows by that block
-pub record Lessens {S : Type 0} (Makes : List ℕ → Store S → Store S → Option ℕ → Option ℕ → Type 0) (sizes : List ℕ) (v w : Store S) (before after : ℕ) (old new : Option ℕ) : Type 0 where
+pub record ShrinksList {S : Type 0} (Makes : List ℕ → Store S → Store S → Option ℕ → Option ℕ → Type 0) (sizes : List ℕ) (v w : Store S) (before after : ℕ) (old new : Option ℕ) : Type 0 where
   pub has : after < before → HasBlock sizes before old
   pub steps : StepsDown sizes (free_counts v.tiers) before after old new
   pub grows : GrowsBy Makes sizes v w old new
@@ -54,7 +54,7 @@ module _ {T : Type 0} where
     pub cells : CellsHold cell_sizes (with_node reading p m) (with_value values p b None) paths after
     pub fewer : own_count (Some m) + 1 ≡ own_count (Some n)
     pub children : SameChildren n m
-    pub lessens : Lessens MakesEntered cell_sizes before after (own_count (Some n)) (own_count (Some m)) (value_block_size (Some n)) (value_block_size (Some m))
+    pub shrinks : ShrinksList MakesEntered cell_sizes before after (own_count (Some n)) (own_count (Some m)) (value_block_size (Some n)) (value_block_size (Some m))
 
   -- the value at bit b of the node with a path was taken, where there was one, and this node has the children that it had.
   -- The other nodes are as they were, and each node stands where it stood
@@ -68,7 +68,7 @@ module _ {T : Type 0} where
     pub counted : entry_count later paths + one_if (is_some (values path b)) ≡ entry_count reading paths
     pub kept : is_some (values path b) ≡ false → later path ≡ reading path
     pub children : SameBlock own_children child_block_size (reading path) (later path)
-    pub lessens : Lessens MakesEntered cell_sizes before after (own_count (reading path)) (own_count (later path)) (value_block_size (reading path)) (value_block_size (later path))
+    pub shrinks : ShrinksList MakesEntered cell_sizes before after (own_count (reading path)) (own_count (later path)) (value_block_size (reading path)) (value_block_size (later path))
 
 -- a node without values and children
 pub record IsBare (n : Node) : Type 0 where
@@ -81,7 +81,7 @@ IsStocked n = (0 < rank n.value_bitmap 32) ⊎ (0 < rank n.child_bitmap 32)
 
 -- an array is as long as it was, and has the limit and the blocks that it had
 pub record SameBlocks {S : Type 0} (v w : Store S) : Type 0 where
-  pub room : SameRoom v w
+  pub space : SameSpace v w
   pub tiers : w.tiers ≡ v.tiers
 
 -- no block was made, taken or lost, so those free before are free
@@ -92,26 +92,26 @@ pub record GivesBack {S : Type 0} (v w : Store S) : Type 0 where
 
 -- the slot of the k-th node on a way
 abbrev pub slot_in : List NodeSlot → ℕ → ℕ
-slot_in way k = let s = slice_index_or way k (record { start = 0; place = 0 }) in s.start + s.place
+slot_in ancestors k = let s = slice_index_or ancestors k (record { start = 0; offset = 0 }) in s.start + s.offset
 
 -- these are the slots of the nodes on the way to a path, above this level
-abbrev pub IsWay : (List ℕ → Option Node) → List ℕ → List NodeSlot → ℕ → Type 0
-IsWay reading path way level = (k : ℕ) → k < level → IsSlot reading (take k path) (slot_in way k)
+abbrev pub AreAncestors : (List ℕ → Option Node) → List ℕ → List NodeSlot → ℕ → Type 0
+AreAncestors reading path ancestors level = (k : ℕ) → k < level → IsSlot reading (take k path) (slot_in ancestors k)
 
 -- the child c of the node n at p, which has no children, is gone, and the node is m then
 pub record ChildDropped (reading : List ℕ → Option Node) (paths : List (List ℕ)) (p : List ℕ) (c : ℕ) (n m : Node) (before after : Store Node) : Type 0 where
-  pub hold : NodesHold node_sizes (lacking_child reading p m c) (without (p ++ c ∷ []) paths) after
+  pub hold : NodesHold node_sizes (with_child_removed reading p m c) (without (p ++ c ∷ []) paths) after
   pub values : SameValues n m
   pub fewer : rank m.child_bitmap 32 + 1 ≡ rank n.child_bitmap 32
-  pub lessens : Lessens MakesEntered node_sizes before after (own_children (Some n)) (own_children (Some m)) (child_block_size (Some n)) (child_block_size (Some m))
-  pub settles : NodesSettle before after
+  pub shrinks : ShrinksList MakesEntered node_sizes before after (own_children (Some n)) (own_children (Some m)) (child_block_size (Some n)) (child_block_size (Some m))
+  pub bounds_growth : BoundsNodeGrowth before after
 
 -- nodes were taken out one after another, each of them bare when it went
 pub data Drops (reading : List ℕ → Option Node) (paths : List (List ℕ)) : (List ℕ → Option Node) → List (List ℕ) → Type 0 where
   none : Drops reading paths reading paths
   more : (later : List ℕ → Option Node) (left : List (List ℕ)) (v : Store Node) (p : List ℕ) (c : ℕ) (n m leaf : Node) → Drops reading paths later left →
       NodesHold node_sizes later left v → later p ≡ Some n → later (p ++ c ∷ []) ≡ Some leaf → IsBare leaf → SameValues n m →
-      Drops reading paths (lacking_child later p m c) (without (p ++ c ∷ []) left)
+      Drops reading paths (with_child_removed later p m c) (without (p ++ c ∷ []) left)
 
 -- the way to a path was pruned up to its node at this level, which is `node` then: the nodes below it on the way are gone, and
 -- those above it and off the way are as they were. The node itself has lost a child, or is the last of the way
@@ -126,9 +126,9 @@ pub record PrunedTo (reading : List ℕ → Option Node) (paths : List (List ℕ
   pub above : (k : ℕ) → k < level → later (take k path) ≡ reading (take k path)
   pub off : (q : List ℕ) → is_start q path ≡ false → later q ≡ reading q
   pub whole : level ≡ length path → later path ≡ reading path
-  pub lessens : Lessens MakesFew node_sizes before after (own_children (reading (take level path))) (own_children (Some node))
+  pub shrinks : ShrinksList MakesFew node_sizes before after (own_children (reading (take level path))) (own_children (Some node))
       (child_block_size (reading (take level path))) (child_block_size (Some node))
-  pub settles : NodesSettle before after
+  pub bounds_growth : BoundsNodeGrowth before after
 
 -- the way to a path was pruned as far up as nodes are bare
 pub record Pruned (reading : List ℕ → Option Node) (paths : List (List ℕ)) (path : List ℕ) (before after : Store Node) : Type 0 where
@@ -138,11 +138,11 @@ pub record Pruned (reading : List ℕ → Option Node) (paths : List (List ℕ))
   pub stops : (level ≡ 0) ⊎ IsStocked node
 
 -- a node stands at the end of the way to a path, and these are the slots of the nodes above it, which are so many
-pub record StandsAtEnd (path : List ℕ) (way : List NodeSlot) (level : ℕ) (node : Node) (v : Store Node) : Type 0 where
+pub record StandsAtEnd (path : List ℕ) (ancestors : List NodeSlot) (level : ℕ) (node : Node) (v : Store Node) : Type 0 where
   pub reading : List ℕ → Option Node
   pub paths : List (List ℕ)
   pub hold : NodesHold node_sizes reading paths v
-  pub slots : IsWay reading path way level
+  pub slots : AreAncestors reading path ancestors level
   pub is : reading path ≡ Some node
 
 -- the value at bit b of the node with a path was taken, where there was one, and the way to that node was pruned; where the

@@ -6,7 +6,7 @@ use Rattle.prefix_trie_bits.specs.Bits.{begins}
 use Rattle.prefix_trie_bits.specs.Order.{same_string}
 use Rattle.prefix_trie_bits.specs.Places.{is_in, place_of}
 use Rattle.prefix_trie_bits.specs.declared.node.Place.{Place}
-use Rattle.prefix_trie_bits.specs.Model.Asking.{AsksInOrder, MayAskInOrder}
+use Rattle.prefix_trie_bits.specs.Model.Retaining.{RetainsEntries, CallableOnEachEntry}
 use Rattle.prefix_trie_bits.specs.Model.Entries.{Entries, without_below}
 use Rattle.prefix_trie_bits.specs.Model.NodeListings.{listing_at_places}
 use Rattle.prefix_trie_bits.specs.Model.Nodes.{Nodes, has_node, needed}
@@ -16,10 +16,10 @@ use Rattle.prefix_trie_table.specs.declared.allocator.node.Node.{Node}
 use Rattle.prefix_trie_table.specs.declared.table.retain.Site.{Site}
 use Rattle.prefix_trie_bits.specs.Model.Blocks.{StepsBetween}
 use Rattle.prefix_trie_table.specs.Cells.{node_sizes, cell_sizes}
-use Rattle.prefix_trie_table.specs.Digits.{path_of}
+use Rattle.prefix_trie_table.specs.Digits.{chunks_of}
 use Rattle.prefix_trie_table.specs.Forest.{IsSlot, own_count, read}
 use Rattle.prefix_trie_table.specs.Layouts.{own_children, child_block_size, value_block_size}
-use Rattle.prefix_trie_table.specs.Settling.{Settles}
+use Rattle.prefix_trie_table.specs.GrowthBounds.{BoundsGrowth}
 use Rattle.prefix_trie_table.specs.Store.{Store, KeepsMade}
 use Rattle.prefix_trie_table.specs.Tables.{IsTrie}
 
@@ -65,11 +65,11 @@ module _ {T : Type 0} where
     pub goes_on : begins q key ≡ true
 
   -- both arrays stay, neither may become longer than it could, and the nodes above this level are the same
-  pub record Lasts (level : ℕ) (v v2 : Store Node) (w w2 : Store (Option T)) : Type 0 where
+  pub record PreservesBelow (level : ℕ) (v v2 : Store Node) (w w2 : Store (Option T)) : Type 0 where
     pub above : (p : List ℕ) → length p < level → read v2.slots p ≡ read v.slots p
     pub nodes : Stays v v2
     pub cells : Stays w w2
-    pub settles : Settles v v2 w w2
+    pub bounds_growth : BoundsGrowth v v2 w w2
     pub blocks : (x : List ℕ) → BlocksBetween (read v.slots x) (read v2.slots x)
 
 -- a node stands in the slot of the site and at its path, which is no longer than the width
@@ -78,8 +78,8 @@ pub record IsSite {K : Type 0} (IsKey : K → Type 0) (bits : K → List Bool) (
   pub level : ℕ
   pub depth_is : p.depth ≡ 5 * level
   pub within : p.depth ≤ width
-  pub stands : read v.slots (path_of (take p.depth (bits p.key))) ≡ Some n
-  pub slot_is : IsSlot (read v.slots) (path_of (take p.depth (bits p.key))) (p.slot.start + p.slot.place)
+  pub stands : read v.slots (chunks_of (take p.depth (bits p.key))) ≡ Some n
+  pub slot_is : IsSlot (read v.slots) (chunks_of (take p.depth (bits p.key))) (p.slot.start + p.slot.offset)
 
 module _ {F T : Type 0} (asks : F → List Bool → T → Bool → F → Type 0) where
   -- asked once at each entry in turn, from the state f on, the test may be left as g
@@ -96,11 +96,11 @@ module _ {F T : Type 0} (asks : F → List Bool → T → Bool → F → Type 0)
   -- Of the nodes below them those are left that a key left needs. All else is as it was
   pub record Retains (s : List Bool) (ts : List (List Bool)) (f : F) (before : State T) (f' : F) (after : State T) : Type 0 where
     pub kept : List (List Bool × T)
-    pub asked : (rest later : List (List Bool × T)) → AsksInOrder asks f' rest later →
-        AsksInOrder asks f (listing_at_places before.entries s ts ++ rest) (kept ++ later)
+    pub asked : (rest later : List (List Bool × T)) → RetainsEntries asks f' rest later →
+        RetainsEntries asks f (listing_at_places before.entries s ts ++ rest) (kept ++ later)
     pub up_to : AsksUpTo asks f (listing_at_places before.entries s ts) f'
-    pub may_ask : (rest : List (List Bool × T)) → MayAskInOrder asks accepts f (listing_at_places before.entries s ts ++ rest) →
-        MayAskInOrder asks accepts f' rest
+    pub may_ask : (rest : List (List Bool × T)) → CallableOnEachEntry asks accepts f (listing_at_places before.entries s ts ++ rest) →
+        CallableOnEachEntry asks accepts f' rest
     pub stays : listing_at_places after.entries s ts ≡ kept
     pub others : (q : List Bool) → is_at_some s ts q ≡ false → get after.entries q ≡ get before.entries q
     pub fewer : (q : List Bool) → has_node after.nodes q ≡ true → has_node before.nodes q ≡ true
@@ -120,11 +120,11 @@ module _ {F T : Type 0} (asks : F → List Bool → T → Bool → F → Type 0)
   -- the test may be asked at each entry of these places
   abbrev pub MayAskAt : ℕ → List Bool → List (List Bool) → F → ℕ → Store Node → Store (Option T) → Type 0
   MayAskAt width s ts f count v w =
-      (before : State T) → IsTrie width count v w before → MayAskInOrder asks accepts f (listing_at_places before.entries s ts)
+      (before : State T) → IsTrie width count v w before → CallableOnEachEntry asks accepts f (listing_at_places before.entries s ts)
 
   -- the test may be asked at each entry below q
   abbrev pub MayAskBelow : ℕ → List Bool → F → ℕ → Store Node → Store (Option T) → Type 0
-  MayAskBelow width q f count v w = (before : State T) → IsTrie width count v w before → MayAskInOrder asks accepts f (listing_below before.entries q)
+  MayAskBelow width q f count v w = (before : State T) → IsTrie width count v w before → CallableOnEachEntry asks accepts f (listing_below before.entries q)
 
   -- the test was asked once at each entry below q, and these are gone. Of the nodes these are left
   pub record TakesBelow (width : ℕ) (q : List Bool) (f : F) (before : State T) (f' : F) (left : Nodes) (count : ℕ) (v : Store Node) (w : Store (Option T)) : Type 0 where
@@ -136,5 +136,5 @@ module _ {F T : Type 0} (asks : F → List Bool → T → Bool → F → Type 0)
   pub record RetainsAll (width : ℕ) (f : F) (before : State T) (count : ℕ) (v : Store Node) (w : Store (Option T)) : Type 0 where
     pub after : State T
     pub trie : IsTrie width count v w after
-    pub asked : AsksInOrder asks f (listing before.entries) (listing after.entries)
+    pub asked : RetainsEntries asks f (listing before.entries) (listing after.entries)
     pub tidy : after.nodes ≡ needed after.entries

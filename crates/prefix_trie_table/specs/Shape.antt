@@ -10,11 +10,11 @@ use Rattle.prefix_trie_bits.specs.Model.Matches.{longest_match}
 use Rattle.prefix_trie_bits.specs.Model.Nodes.{Nodes, has_node, is_node_depth}
 use Rattle.prefix_trie_bits.specs.Model.Step.{State}
 use Rattle.prefix_trie_bits.specs.Model.Storage.{Storage}
-use Rattle.prefix_trie_bits.specs.Model.Room.{Room}
+use Rattle.prefix_trie_bits.specs.Model.Space.{Space}
 use Rattle.prefix_trie_bits.specs.Model.Blocks.{Layout}
 use Rattle.prefix_trie_bits.proofs.Model.Members.{same_entries, same_members}
 use Rattle.prefix_trie_table.specs.declared.allocator.node.Node.{Node}
-use Rattle.prefix_trie_table.specs.Digits.{path_of, bit_of}
+use Rattle.prefix_trie_table.specs.Digits.{chunks_of, bit_of}
 use Rattle.prefix_trie_table.specs.Forest.{read, value_of}
 use Rattle.prefix_trie_table.specs.Layouts.{coded_layout}
 
@@ -23,7 +23,7 @@ use Rattle.prefix_trie_table.specs.Layouts.{coded_layout}
 pub record Contents (T : Type 0) : Type 0 where
   pub entries : Entries T
   pub nodes : Nodes
-  pub room : Room
+  pub space : Space
   pub layout : Layout
   pub build : List Node
 
@@ -33,7 +33,7 @@ state contents = record { entries = contents.entries; nodes = contents.nodes }
 
 -- how they are stored
 abbrev pub storage : {T : Type 0} → Contents T → Storage
-storage contents = record { room = contents.room; layout = contents.layout }
+storage contents = record { space = contents.space; layout = contents.layout }
 
 -- the contents with x at a bit string, and else as they are
 abbrev pub with_value_at : {T : Type 0} → Contents T → List Bool → T → Contents T
@@ -73,11 +73,11 @@ contents_code {T} c =
     code_by (Entries T × (Nodes × ((ℕ × (ℕ × ℕ)) × (Layout × List Node))))
     (coded× (code (coded_list coded_bool) c) (coded× (code (coded_list coded_bool) coded_unit)
     (coded× (coded× coded_ℕ (coded× coded_ℕ coded_ℕ)) (coded× coded_layout (coded_list coded_node)))))
-    (λ s. (s.entries, (s.nodes, ((s.room.limit, (s.room.node_slots, s.room.cell_slots)), (s.layout, s.build)))))
+    (λ s. (s.entries, (s.nodes, ((s.space.limit, (s.space.node_slots, s.space.cell_slots)), (s.layout, s.build)))))
     (λ p. record {
       entries = p.0;
       nodes = p.1.0;
-      room = record { limit = p.1.1.0.0; node_slots = p.1.1.0.1.0; cell_slots = p.1.1.0.1.1 };
+      space = record { limit = p.1.1.0.0; node_slots = p.1.1.0.1.0; cell_slots = p.1.1.0.1.1 };
       layout = p.1.1.1.0;
       build = p.1.1.1.1;
     }) (λ _. refl)
@@ -86,8 +86,8 @@ module _ {T : Type 0} where
   -- the entries and the nodes are those of these arrays: each string is looked up at its own node
   abbrev pub IsShapeOf : List Node → List (Option T) → State T → Type 0
   IsShapeOf nodes cells shape =
-      ((s : List Bool) → has_node shape.nodes s ≡ (is_node_depth s && is_some (read nodes (path_of s))))
-      × ((s : List Bool) → get shape.entries s ≡ value_of cells (read nodes (path_of s)) (bit_of s))
+      ((s : List Bool) → has_node shape.nodes s ≡ (is_node_depth s && is_some (read nodes (chunks_of s))))
+      × ((s : List Bool) → get shape.entries s ≡ value_of cells (read nodes (chunks_of s)) (bit_of s))
 
   -- that they are has one proof at most
   pub IsShapeOf-prop : Coded T → (nodes : List Node) (cells : List (Option T)) (shape : State T) → IsProp (IsShapeOf nodes cells shape)

@@ -3,7 +3,7 @@ use Rattle.std.specs.Prelude.{◌≡◌, ℕ, ◌+◌, ◌<◌, true, false, Boo
 use Rattle.prefix_trie_table.specs.declared.allocator.node.Node.{Node}
 use Rattle.prefix_trie_table.specs.declared.table.seat.Seat.{Seat}
 use Rattle.prefix_trie_table.specs.Bitmaps.{has_bit, rank}
-use Rattle.prefix_trie_table.specs.Digits.{path_of, bit_of}
+use Rattle.prefix_trie_table.specs.Digits.{chunks_of, bit_of}
 use Rattle.prefix_trie_table.specs.Store.{Store}
 use Rattle.prefix_trie_table.specs.Forest.{has_value}
 
@@ -14,21 +14,21 @@ with_slot v i x = record v { slots = slice_set v.slots i x }
 -- the array with the value x at a seat, if there is one
 abbrev pub with_cell : {T : Type 0} → Store (Option T) → Option Seat → T → Store (Option T)
 with_cell w None x = w
-with_cell w (Some seat) x = with_slot w (seat.start + seat.place) (Some x)
+with_cell w (Some seat) x = with_slot w (seat.start + seat.offset) (Some x)
 
 -- a value stands at this seat
 pub record HasValue {T : Type 0} (w : Store (Option T)) (seat : Seat) : Type 0 where
-  pub stands : seat.start + seat.place < length w.slots
-  pub stored : IsSome (slice_index_or w.slots (seat.start + seat.place) None)
+  pub stands : seat.start + seat.offset < length w.slots
+  pub stored : IsSome (slice_index_or w.slots (seat.start + seat.offset) None)
 
 -- the value at bit b of the node with a path stands at this seat
 pub record IsSeat (reading : List ℕ → Option Node) (path : List ℕ) (b : ℕ) (seat : Seat) : Type 0 where
   pub node : Node
   pub is : reading path ≡ Some node
   pub set : has_bit node.value_bitmap b ≡ true
-  pub slot_is : seat.start + seat.place ≡ node.value_block + rank node.value_bitmap b
+  pub slot_is : seat.start + seat.offset ≡ node.value_block + rank node.value_bitmap b
 
 -- the seat of the value at a bit string, if there is one
 abbrev pub SeatOf : (List ℕ → Option Node) → List Bool → Option Seat → Type 0
 SeatOf reading q o =
-    MatchOption o (has_value (reading (path_of q)) (bit_of q) ≡ false) (λ seat. IsSeat reading (path_of q) (bit_of q) seat)
+    MatchOption o (has_value (reading (chunks_of q)) (bit_of q) ≡ false) (λ seat. IsSeat reading (chunks_of q) (bit_of q) seat)

@@ -3,25 +3,25 @@ use Rattle.std.specs.Prelude.{◌+◌, ◌≤◌, Option, None, Result, Ok, Err}
 use Rattle.prefix_trie_bits.specs.declared.prefix.Refused.{Refused}
 use Rattle.prefix_trie_bits.specs.Model.Step.{State, Reply}
 use Rattle.prefix_trie_bits.specs.Model.Storage.{Storage}
-use Rattle.prefix_trie_table.specs.Settling.{headroom_of}
+use Rattle.prefix_trie_table.specs.GrowthBounds.{headroom_of}
 use Rattle.prefix_trie_table.specs.Shape.{Contents, state, storage}
 
 module _ {T : Type 0} where
   -- the entries and nodes, and how they are stored
-  abbrev pub stored : Contents T → State T × Storage
-  stored contents = (state contents, storage contents)
+  abbrev pub stored_state : Contents T → State T × Storage
+  stored_state contents = (state contents, storage contents)
 
   -- what an insertion answers, as a reply of the model
-  abbrev pub inserted : {P : Type 0} → Result (Option T) (Refused T) → Reply P T
-  inserted (Ok before) = Reply.Value before
-  inserted (Err refused) = Reply.Refused refused.cause
+  abbrev pub insert_reply : {P : Type 0} → Result (Option T) (Refused T) → Reply P T
+  insert_reply (Ok before) = Reply.Value before
+  insert_reply (Err refused) = Reply.Refused refused.cause
 
   -- what the insertion of a missing key answers that says more than its value
-  abbrev pub placed : {P X : Type 0} → Result X (Refused T) → Reply P T
-  placed (Ok x) = Reply.Value None
-  placed (Err refused) = Reply.Refused refused.cause
+  abbrev pub insert_new_reply : {P X : Type 0} → Result X (Refused T) → Reply P T
+  insert_new_reply (Ok x) = Reply.Value None
+  insert_new_reply (Err refused) = Reply.Refused refused.cause
 
 -- neither array may become longer than it could before, as more items are taken out
-pub record SettlesInStorage (before after : Storage) : Type 0 where
-  pub nodes : after.room.node_slots + headroom_of after.layout.child_blocks ≤ before.room.node_slots + headroom_of before.layout.child_blocks
-  pub cells : after.room.cell_slots + headroom_of after.layout.value_blocks ≤ before.room.cell_slots + headroom_of before.layout.value_blocks
+pub record BoundsStorageGrowth (before after : Storage) : Type 0 where
+  pub nodes : after.space.node_slots + headroom_of after.layout.child_blocks ≤ before.space.node_slots + headroom_of before.layout.child_blocks
+  pub cells : after.space.cell_slots + headroom_of after.layout.value_blocks ≤ before.space.cell_slots + headroom_of before.layout.value_blocks

@@ -1,7 +1,7 @@
 -- What contracts see of an array that is cut into blocks: this project's own, for the block allocator of the crate's node tables.
 use Rattle.std.specs.Prelude.{◌≡◌, ℕ, zero, suc, ◌+◌, ◌-◌, ◌*◌, ◌≤◌, ◌<◌, ◌==◌, cond, List, [], ◌∷◌, ◌++◌, Option, length, map, filter, count_by, sum_by, replicate, slice_index_or, slice_set, All, option_to_list, None, Some, IsSome, Result, MatchResult, IfErr, OnErr}
 use Rattle.prefix_trie_bits.specs.Model.Blocks.{AreBlocksOf, Block as Extent, smallest_size, free_of, one_of}
-use Rattle.prefix_trie_bits.specs.Model.Insertion.{block_needed, lacking_of, lacking_slots}
+use Rattle.prefix_trie_bits.specs.Model.Insertion.{block_needed, missing_of, slots_of_missing}
 use Rattle.prefix_trie_table.specs.Growth.{Reserves}
 use Rattle.prefix_trie_table.specs.Runs.{run}
 
@@ -159,12 +159,12 @@ abbrev pub IsReady : List Tier → ℕ → ℕ → Type 0
 IsReady ts k count = IsSome (smallest_size (tier_sizes ts) (count + 1)) × AreFree ts (needs (list_need ts k count) 0)
 
 -- how many of the needed blocks have a size and lack
-abbrev pub lacking_in : {S : Type 0} → Store S → List ℕ → ℕ → ℕ
-lacking_in v needed = lacking_of (tier_sizes v.tiers) (free_counts v.tiers) needed
+abbrev pub missing_in : {S : Type 0} → Store S → List ℕ → ℕ → ℕ
+missing_in v needed = missing_of (tier_sizes v.tiers) (free_counts v.tiers) needed
 
 -- the slots of those that lack
-abbrev pub slots_lacking : {S : Type 0} → Store S → List ℕ → ℕ
-slots_lacking v needed = lacking_slots (tier_sizes v.tiers) (free_counts v.tiers) needed
+abbrev pub missing_slots : {S : Type 0} → Store S → List ℕ → ℕ
+missing_slots v needed = slots_of_missing (tier_sizes v.tiers) (free_counts v.tiers) needed
 
 -- m of one size, and none of another
 abbrev pub many_of : ℕ → ℕ → ℕ → ℕ
@@ -186,8 +186,8 @@ abbrev pub SameSlots : {S : Type 0} → Store S → Store S → Type 0
 SameSlots {S} v w = (i : ℕ) (d : S) → i < length v.slots → slice_index_or w.slots i d ≡ slice_index_or v.slots i d
 
 -- the array, its first block's place and its limit are as long and as high as before
-abbrev pub SameRoom : {S : Type 0} → Store S → Store S → Type 0
-SameRoom v w = (length w.slots ≡ length v.slots) × (w.first ≡ v.first) × (w.limit ≡ v.limit)
+abbrev pub SameSpace : {S : Type 0} → Store S → Store S → Type 0
+SameSpace v w = (length w.slots ≡ length v.slots) × (w.first ≡ v.first) × (w.limit ≡ v.limit)
 
 -- of each size no fewer blocks stand in the array than before
 abbrev pub KeepsMade : {S : Type 0} → Store S → Store S → Type 0
@@ -199,7 +199,7 @@ SameMade v w = (size : ℕ) → made_in w.tiers size ≡ made_in v.tiers size
 
 -- no block was made
 pub record MakesNone {S : Type 0} (v w : Store S) : Type 0 where
-  pub room : SameRoom v w
+  pub space : SameSpace v w
   pub made : SameMade v w
 
 -- the first block starts where it did, the sizes are the same, nothing before the first block was written, and where the limit
@@ -225,8 +225,8 @@ pub record Turnover {S : Type 0} (v w : Store S) (made : ℕ → ℕ) (old new :
 -- what a call leaves of an array in which blocks of these sizes must be free: it makes those that lack, or, refused, no more. It is
 -- refused only where some lack, for the limit only where they pass it, and for memory only where one that lacks still would not
 pub record Obtains {X E S : Type 0} (for_limit for_memory : E → Type 0) (r : Result X E) (v w : Store S) (needed : List ℕ) : Type 0 where
-  pub made : MatchResult r (λ _. Turnover v w (lacking_in v needed) None None)
-      (λ _. (m : ℕ → ℕ) × ((size : ℕ) → m size ≤ lacking_in v needed size) × Turnover v w m None None)
-  pub range : IfErr r (λ e. for_limit e → v.limit < length v.slots + slots_lacking v needed)
-  pub memory : IfErr r (λ e. for_memory e → (size : ℕ) × (0 < lacking_in w needed size) × (length w.slots + size ≤ w.limit))
-  pub lacks : OnErr r (0 < slots_lacking v needed)
+  pub made : MatchResult r (λ _. Turnover v w (missing_in v needed) None None)
+      (λ _. (m : ℕ → ℕ) × ((size : ℕ) → m size ≤ missing_in v needed size) × Turnover v w m None None)
+  pub range : IfErr r (λ e. for_limit e → v.limit < length v.slots + missing_slots v needed)
+  pub memory : IfErr r (λ e. for_memory e → (size : ℕ) × (0 < missing_in w needed size) × (length w.slots + size ≤ w.limit))
+  pub lacks : OnErr r (0 < missing_slots v needed)

@@ -7,7 +7,7 @@ use Rattle.prefix_trie_bits.specs.Model.Step.{State}
 use Rattle.prefix_trie_table.specs.declared.allocator.node.Node.{Node}
 use Rattle.prefix_trie_table.specs.Bitmaps.{has_bit}
 use Rattle.prefix_trie_table.specs.Cells.{node_at, node_sizes, cell_sizes}
-use Rattle.prefix_trie_table.specs.Digits.{path_of, bit_of}
+use Rattle.prefix_trie_table.specs.Digits.{chunks_of, bit_of}
 use Rattle.prefix_trie_table.specs.Store.{Store, KeepsMade}
 use Rattle.prefix_trie_table.specs.Forest.{NodesHold, CellsHold, Holds, Deepest, EntryAdded, entry_count}
 use Rattle.prefix_trie_table.specs.Shape.{IsShapeOf}
@@ -47,8 +47,8 @@ pub record IsReached (b : List Bool) (len level : ℕ) (node : Node) (slot : ℕ
   pub whole : 5 * level ≤ len
   pub node_is : node ≡ node_at v.slots slot
   pub deepest : (reading : List ℕ → Option Node) (paths : List (List ℕ)) → NodesHold node_sizes reading paths v →
-      Deepest reading (path_of (take len b)) level slot v
-  pub missing : 5 * level + 5 ≤ len → has_bit node.child_bitmap (slice_index_or (path_of (take len b)) level 0) ≡ false
+      Deepest reading (chunks_of (take len b)) level slot v
+  pub missing : 5 * level + 5 ≤ len → has_bit node.child_bitmap (slice_index_or (chunks_of (take len b)) level 0) ≡ false
 
 -- an array is as long as it was or longer by so many slots at most, its first block starts where it did, its limit is the
 -- same, where that held it holds, and no block is lost
@@ -78,9 +78,9 @@ module _ {T : Type 0} where
 
   -- the value at the first len bits of b
   abbrev pub own_value : (List ℕ → ℕ → Option T) → List Bool → ℕ → Option T
-  own_value values b len = values (path_of (take len b)) (bit_of (take len b))
+  own_value values b len = values (chunks_of (take len b)) (bit_of (take len b))
 
   -- the value at the first len bits of b was set to x, and the nodes on the way were added
   abbrev pub EntrySet : (List ℕ → Option Node) → List (List ℕ) → (List ℕ → ℕ → Option T) → List Bool → ℕ → T → Store Node → Store (Option T) → Type 0
   EntrySet reading paths values b len x v w =
-      EntryAdded reading values paths (path_of (take len b)) (bit_of (take len b)) (Some x) v w
+      EntryAdded reading values paths (chunks_of (take len b)) (bit_of (take len b)) (Some x) v w

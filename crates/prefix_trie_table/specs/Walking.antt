@@ -2,6 +2,6 @@
 pub mod Walks
 pub mod Items
 pub mod Covers
-pub mod Cursors
+pub mod Starts
 pub mod Taking
-pub mod Trails
+pub mod Cursors

@@ -10,29 +10,29 @@ mod children;
 mod copying;
 mod counting;
 mod cover;
-pub mod cursor;
-mod handing;
+pub mod walk_start;
+mod splitting;
 mod insertion;
 mod lending;
 mod lookup;
 mod matching;
 mod memory;
-mod moving;
-mod places;
+mod split_move;
+mod located;
 mod removal;
 pub mod retain;
 pub mod seat;
 pub mod spot;
 mod taking;
-pub mod trail;
+pub mod cursor;
 pub mod walk;
 
 ghost use Rattle.std.specs.Prelude.{◌≡◌, ◌+◌, ◌^◌, ◌<◌, ◌≤◌, ℕ, cond, take, IfOk, IfErr, IsErr, ◌↔◌, MatchOption, None, Some};
 ghost use Rattle.std.specs.Option.{option_copied};
 ghost use Rattle.std.specs.FinMap.{get, len};
-ghost use Rattle.prefix_trie_bits.specs.Model.Asking.{MayAskInOrder};
+ghost use Rattle.prefix_trie_bits.specs.Model.Retaining.{CallableOnEachEntry};
 ghost use Rattle.prefix_trie_bits.specs.Model.Entries.{no_entries, AreWithin};
-ghost use Rattle.prefix_trie_bits.specs.Model.HandsOut.{HandsOutInStorage};
+ghost use Rattle.prefix_trie_bits.specs.Model.SplitsOff.{SplitsOffInStorage};
 ghost use Rattle.prefix_trie_bits.specs.Model.Matches.{longest_match, shortest_match};
 ghost use Rattle.prefix_trie_bits.specs.Model.Nodes.{root_alone, AreNodes};
 ghost use Rattle.prefix_trie_bits.specs.Model.Selections.{listing, listing_from, listing_after, listing_below};
@@ -43,15 +43,15 @@ ghost use Rattle.prefix_trie_bits.specs.Model.Storage.{HaveBlocks, StepByPath, R
 ghost use Rattle.prefix_trie_bits.specs.declared.prefix.Refusal.TheVariants.{IndexRange, Memory};
 ghost use Rattle.prefix_trie_table.specs.Layouts.{Sized, Sized-prop};
 ghost use Rattle.prefix_trie_table.specs.Shape.{Shaped, Shaped-prop, state, storage};
-ghost use Rattle.prefix_trie_table.specs.Steps.{stored, inserted, SettlesInStorage};
+ghost use Rattle.prefix_trie_table.specs.Steps.{stored_state, insert_reply, BoundsStorageGrowth};
 
 use crate::allocator::blocks::{Cells, cells};
 use crate::allocator::nodes::{NodeAllocator, Tick};
 use crate::table::children::{KeepNothing, remove_part};
-use crate::table::cursor::{Start, walk_at};
-use crate::table::handing::lay_part;
-use crate::table::matching::{longest_on_way, shortest_on_way, value_of_match};
-use crate::table::moving::move_part;
+use crate::table::walk_start::{Start, walk_at};
+use crate::table::splitting::lay_part;
+use crate::table::matching::{longest_on_path, shortest_on_path, value_of_match};
+use crate::table::split_move::move_part;
 use crate::table::removal::{clear_entries, remove_entry, remove_value};
 use crate::table::retain::{Keep, retain_entries};
 use crate::table::seat::Location;
@@ -89,7 +89,7 @@ impl<T: Drop, A: Allocator, V: Tick> Model for Table<T, A, V> {
     ghost view = { λ t. record {
       entries = t.shape.0.entries;
       nodes = t.shape.0.nodes;
-      room = record {
+      space = record {
         limit = t.nodes.limit;
         node_slots = length t.nodes.slots;
         cell_slots = length t.cells.slots;
@@ -112,8 +112,8 @@ impl<T: Drop, A: Allocator + Clone, V: Tick> Table<T, A, V> {
     pub fn new(alloc: A, limit: u32) -> Result<Self, Refusal>
         ensures entries { IfOk result (λ t. t.entries ≡ no_entries) }
         ensures nodes { IfOk result (λ t. t.nodes ≡ root_alone) }
-        ensures room { IfOk result
-            (λ t. t.room ≡ record { limit = limit; node_slots = 1; cell_slots = 0 }) }
+        ensures space { IfOk result
+            (λ t. t.space ≡ record { limit = limit; node_slots = 1; cell_slots = 0 }) }
         ensures layout { IfOk result (λ t. t.layout ≡ no_layout) }
         ensures range { IfErr result (λ cause. (cause ≡ IndexRange) ↔ (limit ≡ 0)) }
         ensures none { limit ≡ 0 → IsErr result }
@@ -147,10 +147,10 @@ impl<T: Drop, A: Allocator + Clone, V: Tick> Table<T, A, V> {
         requires long { len ≤ K.bit_width }
         requires within { AreWithin K.bit_width self.old.entries }
         requires nodes { AreNodes K.bit_width self.old.entries self.old.nodes }
-        ensures handed { IfOk result (λ second. HandsOutInStorage (stored self.old) (take len (K.bits key))
-            (stored second) (stored self.new)) }
-        ensures settles { 0 < len → IfOk result (λ _. SettlesInStorage (storage self.old) (storage self.new)) }
-        ensures kept { IfErr result (λ _. stored self.new ≡ stored self.old) }
+        ensures split_off { IfOk result (λ second. SplitsOffInStorage (stored_state self.old) (take len (K.bits key))
+            (stored_state second) (stored_state self.new)) }
+        ensures bounds_growth { 0 < len → IfOk result (λ _. BoundsStorageGrowth (storage self.old) (storage self.new)) }
+        ensures kept { IfErr result (λ _. stored_state self.new ≡ stored_state self.old) }
         ensures memory { IfErr result (λ cause. cause ≡ Memory) }
     {
         let (laid, vacant) = lay_part(&self.nodes, &self.cells, key, len, counter)?;
@@ -182,9 +182,9 @@ impl<T: Drop, A: Allocator, V: Tick> Table<T, A, V> {
     #[inline]
     pub fn len(&self) -> usize
         ensures count { result ≡ len self.now.entries }
-        ensures limit { (self.now.room.limit < 2 ^ 32)
-            × (self.now.room.node_slots ≤ self.now.room.limit)
-            × (self.now.room.cell_slots ≤ self.now.room.limit) }
+        ensures limit { (self.now.space.limit < 2 ^ 32)
+            × (self.now.space.node_slots ≤ self.now.space.limit)
+            × (self.now.space.cell_slots ≤ self.now.space.limit) }
         ensures blocks { HaveBlocks (state self.now) self.now.layout }
     {
         // Read for the proof alone: the limit is below 2^32.
@@ -221,7 +221,7 @@ impl<T: Drop, A: Allocator, V: Tick> Table<T, A, V> {
         ensures visits { V.count counter.new
             ≡ V.count counter.old + visits self.now.nodes (take len (K.bits key)) }
     {
-        let Some(found) = longest_on_way(&self.nodes, key, len, counter) else {
+        let Some(found) = longest_on_path(&self.nodes, key, len, counter) else {
             return None;
         };
         value_of_match(&self.cells, found)
@@ -241,7 +241,7 @@ impl<T: Drop, A: Allocator, V: Tick> Table<T, A, V> {
         ensures visits { V.count counter.new ≡ V.count counter.old
             + visits_to_match self.now.entries self.now.nodes (take len (K.bits key)) }
     {
-        let Some(found) = shortest_on_way(&self.nodes, key, len, counter) else {
+        let Some(found) = shortest_on_path(&self.nodes, key, len, counter) else {
             return None;
         };
         value_of_match(&self.cells, found)
@@ -304,14 +304,14 @@ impl<T: Drop, A: Allocator, V: Tick> Table<T, A, V> {
         requires key { K.IsKey key }
         requires within { len ≤ K.bit_width }
         ensures returned { IfErr result (λ refused. refused.value ≡ value) }
-        ensures step { (width : ℕ) → StepByPath width (stored self.old) (Insert (take len (K.bits key)) value) (inserted result)
-            (stored self.new) }
+        ensures step { (width : ℕ) → StepByPath width (stored_state self.old) (Insert (take len (K.bits key)) value) (insert_reply result)
+            (stored_state self.new) }
     {
         // Read for the proof alone: neither array passes the limit.
         let _entries = self.len();
         match self.locate(key, len, counter) {
             Location::Stored(seat) => Ok(Some(mem::replace(self.at_mut(key, len, seat), value))),
-            Location::Missing(end) => match self.place(key, len, end, value) {
+            Location::Missing(end) => match self.insert_located(key, len, end, value) {
                 Ok(_) => Ok(None),
                 Err(refused) => Err(refused),
             },
@@ -325,8 +325,8 @@ impl<T: Drop, A: Allocator, V: Tick> Table<T, A, V> {
     pub fn remove<K: Key>(&mut self, key: K, len: u32, counter: &mut V) -> Option<T>
         requires key { K.IsKey key }
         requires within { len ≤ K.bit_width }
-        ensures step { (width : ℕ) → StepByPath width (stored self.old) (Remove (take len (K.bits key))) (Value result)
-            (stored self.new) }
+        ensures step { (width : ℕ) → StepByPath width (stored_state self.old) (Remove (take len (K.bits key))) (Value result)
+            (stored_state self.new) }
     {
         remove_entry(
             &mut self.nodes,
@@ -344,8 +344,8 @@ impl<T: Drop, A: Allocator, V: Tick> Table<T, A, V> {
     pub fn remove_keep_tree<K: Key>(&mut self, key: K, len: u32, counter: &mut V) -> Option<T>
         requires key { K.IsKey key }
         requires within { len ≤ K.bit_width }
-        ensures step { (width : ℕ) → StepByPath width (stored self.old) (RemoveKeepTree (take len (K.bits key))) (Value result)
-            (stored self.new) }
+        ensures step { (width : ℕ) → StepByPath width (stored_state self.old) (RemoveKeepTree (take len (K.bits key))) (Value result)
+            (stored_state self.new) }
     {
         remove_value(
             &mut self.nodes,
@@ -366,9 +366,9 @@ impl<T: Drop, A: Allocator, V: Tick> Table<T, A, V> {
         requires long { len ≤ K.bit_width }
         requires within { AreWithin K.bit_width self.old.entries }
         requires nodes { AreNodes K.bit_width self.old.entries self.old.nodes }
-        ensures step { (width : ℕ) → StepByPath width (stored self.old) (RemoveChildren (take len (K.bits key))) Done
-            (stored self.new) }
-        ensures settles { 0 < len → SettlesInStorage (storage self.old) (storage self.new) }
+        ensures step { (width : ℕ) → StepByPath width (stored_state self.old) (RemoveChildren (take len (K.bits key))) Done
+            (stored_state self.new) }
+        ensures bounds_growth { 0 < len → BoundsStorageGrowth (storage self.old) (storage self.new) }
     {
         if len == 0 {
             self.clear();
@@ -396,10 +396,10 @@ impl<T: Drop, A: Allocator, V: Tick> Table<T, A, V> {
     pub fn retain<K: Key, F: Keep<K, T, V>>(&mut self, keep: F, counter: &mut V)
         requires within { AreWithin K.bit_width self.old.entries }
         requires nodes { AreNodes K.bit_width self.old.entries self.old.nodes }
-        requires may_ask { MayAskInOrder F.asks F.accepts keep (listing self.old.entries) }
-        ensures step { RetainsInStorage F.asks keep (stored self.old) (stored self.new) }
+        requires may_ask { CallableOnEachEntry F.asks F.accepts keep (listing self.old.entries) }
+        ensures step { RetainsInStorage F.asks keep (stored_state self.old) (stored_state self.new) }
         ensures fits { AreWithin K.bit_width self.new.entries }
-        ensures settles { SettlesInStorage (storage self.old) (storage self.new) }
+        ensures bounds_growth { BoundsStorageGrowth (storage self.old) (storage self.new) }
     {
         retain_entries::<K, T, A, V, F>(
             &mut self.nodes,
@@ -413,7 +413,7 @@ impl<T: Drop, A: Allocator, V: Tick> Table<T, A, V> {
     /// Takes all entries out, and all nodes but the root. It asks for no memory.
     #[inline]
     pub fn clear(&mut self)
-        ensures step { (width : ℕ) → StepByPath width (stored self.old) Clear Done (stored self.new) }
+        ensures step { (width : ℕ) → StepByPath width (stored_state self.old) Clear Done (stored_state self.new) }
     {
         clear_entries(&mut self.nodes, &mut self.cells, &mut self.count);
     }

@@ -14,7 +14,7 @@ pub use Rattle.std.specs.List.{list_all, sum}
 pub use Rattle.std.specs.Map.Iter.{TakesFirst}
 pub use Rattle.std.specs.Option.{IfSome, option_map}
 pub use Rattle.std.specs.Vec.Iter.{into_iter_items, into_iter_steps}
-pub use Rattle.prefix_trie_bits.proofs.Model.Askings.{keeps_filter}
+pub use Rattle.prefix_trie_bits.proofs.Model.RetainCalls.{keeps_filter}
 pub use Rattle.prefix_trie_bits.proofs.Model.Members.{is-same_string}
 pub use Rattle.prefix_trie_bits.proofs.Model.NodeSets.{tidy-no_entries}
 pub use Rattle.prefix_trie_bits.proofs.Model.Ordered.{found_first}
@@ -26,10 +26,10 @@ pub use Rattle.prefix_trie_bits.specs.Keys.{fits_back, path_within}
 pub use Rattle.prefix_trie_bits.specs.Laws.Steps.{IsMap}
 pub use Rattle.prefix_trie_bits.specs.Model.Counted.{CountedFrom, CountedRun}
 pub use Rattle.prefix_trie_bits.specs.Model.Entries.{Entries, no_entries, put_all, with_entry, without_entry}
-pub use Rattle.prefix_trie_bits.specs.Model.Matches.{shown_match}
+pub use Rattle.prefix_trie_bits.specs.Model.Matches.{prefix_pair}
 pub use Rattle.prefix_trie_bits.specs.Model.Nodes.{IsTidy, needed, nodes_without, with_needed}
-pub use Rattle.prefix_trie_bits.specs.Model.Room.{LeavesRoom}
-pub use Rattle.prefix_trie_bits.specs.Model.Selections.{listing, shown}
+pub use Rattle.prefix_trie_bits.specs.Model.Space.{LeavesSpace}
+pub use Rattle.prefix_trie_bits.specs.Model.Selections.{listing, prefix_pairs}
 pub use Rattle.prefix_trie_bits.specs.Model.Step.{Clear, Count, Done, Insert, Lpm, Match, NodeCount, Remove, Reply, State, Step, Value}
 pub use Rattle.prefix_trie_bits.specs.Model.Storage.{Storage}
 pub use Rattle.prefix_trie_bits.specs.Model.Visits.{ReadsExactly, visits}
@@ -43,11 +43,11 @@ pub use Rattle.prefix_trie_map.proofs.Listed.{listed_fit, listed_paths, may_ask_
 pub use Rattle.prefix_trie_map.proofs.Writing.{left_at_start, left_behind}
 pub use Rattle.prefix_trie_map.specs.Copied.{CopyLaws}
 pub use Rattle.prefix_trie_map.specs.Entry.{Fills, RefusesToFill, entry_map, entry_value}
-pub use Rattle.prefix_trie_map.specs.Steps.{inserted, state, stored}
-pub use Rattle.prefix_trie_map.specs.Writing.{ComesToEnd, GoesOver, HandsBack, IsFirst, StartsIn}
+pub use Rattle.prefix_trie_map.specs.Steps.{insert_reply, state, stored_state}
+pub use Rattle.prefix_trie_map.specs.Writing.{ComesToEnd, GoesOver, ReturnsMap, IsFirst, StartsIn}
 pub use Rattle.prefix_trie_map.specs.WritingWalks.{EndsIn, FirstIn, IsOverIn, PassesIn}
 pub use Rattle.prefix_trie_map.specs.declared.map.entry.Entry.{Entry}
-pub use Rattle.prefix_trie_map.specs.declared.map.writing.course.Course.{Course}
+pub use Rattle.prefix_trie_map.specs.declared.map.writing.cursor.MapCursor.{MapCursor}
 pub use Rattle.prefix_trie.specs.Laws.Putting.{Leads}
 pub use Rattle.prefix_trie.specs.Replay.{IsFittingCall}
 pub use Rattle.prefix_trie.specs.Words.{Joins, covers, ipv4_address, ipv4_back, longest_match}

@@ -1,5 +1,5 @@
 -- What the counts of a short run say.
-use Rattle.prefix_trie_tests.proofs.Prelude.{◌≡◌, ℕ, ◌+◌, ◌/◌, ◌≤◌, true, false, Bool, List, [], ◌∷◌, length, Option, None, Some, MatchOption, refl, sym, ap, ◌∙◌, subst, true≢false, len, CountedFrom, CountedRun, shown_match, IsTidy, needed, State, Reply, Lpm, Clear, Insert, NodeCount, Match, Done, Count, Storage, visits, ReadsExactly}
+use Rattle.prefix_trie_tests.proofs.Prelude.{◌≡◌, ℕ, ◌+◌, ◌/◌, ◌≤◌, true, false, Bool, List, [], ◌∷◌, length, Option, None, Some, MatchOption, refl, sym, ap, ◌∙◌, subst, true≢false, len, CountedFrom, CountedRun, prefix_pair, IsTidy, needed, State, Reply, Lpm, Clear, Insert, NodeCount, Match, Done, Count, Storage, visits, ReadsExactly}
 use Rattle.prefix_trie_bits.specs.Model.Matches.{longest_match}
 
 not_known : {X : Type 0} → false ≡ true → X
@@ -13,10 +13,10 @@ counted q n (Some count) reads = (ap Some reads.exact, subst (λ k. k ≤ length
 module _ {P T : Type 0} (path : P → List Bool) (back : List Bool → P) (width : ℕ) where
   -- a longest match alone
   pub matched : (s t : State T × Storage) (q : P) (replies : List (Reply P T)) (reads : List (Option ℕ)) → CountedRun path back width s (Lpm q ∷ []) replies reads t
-      → (replies ≡ Match (shown_match back (longest_match s.0.entries (path q))) ∷ []) × ((n : ℕ) × (reads ≡ Some n ∷ []) × (n ≤ length (path q) / 5 + 1)) × (t.0 ≡ s.0)
+      → (replies ≡ Match (prefix_pair back (longest_match s.0.entries (path q))) ∷ []) × ((n : ℕ) × (reads ≡ Some n ∷ []) × (n ≤ length (path q) / 5 + 1)) × (t.0 ≡ s.0)
   matched s t q replies reads ran =
       let (reply, later, read, more, u, e, f, _, step, (none, no_more, same, _)) = ran false not_known in (
-        e ∙ ap (λ r. r ∷ later) step.step.step.0 ∙ ap (λ rs. Match (shown_match back (longest_match s.0.entries (path q))) ∷ rs) none,
+        e ∙ ap (λ r. r ∷ later) step.step.step.0 ∙ ap (λ rs. Match (prefix_pair back (longest_match s.0.entries (path q))) ∷ rs) none,
         (visits s.0.nodes (path q), f ∙ ap (λ r. r ∷ more) (counted _ _ read step.reads).0 ∙ ap (λ ns. Some (visits s.0.nodes (path q)) ∷ ns) no_more, (counted _ _ read step.reads).1),
         ap (λ x. x.0) same ∙ step.step.step.1,
       )

@@ -3,7 +3,7 @@
 ghost use Rattle.std.specs.Prelude.{◌≡◌, ◌^◌, ◌<◌, ◌≤◌, All, length};
 
 use crate::cases::changes::put_in;
-use crate::cases::questions::{shown, value_in};
+use crate::cases::questions::{prefix_pairs, value_in};
 use crate::cases::{Entry, Pair};
 use crate::examples::batch::next_hops;
 use crate::examples::forwarding::add;
@@ -55,7 +55,7 @@ fn ask_in_turn(asked: &mut [Pair<u128>])
 /// Whether entries are the answers of the cases in turn.
 fn are_entries(found: &[Option<(Pair<u128>, &u64)>]) -> bool {
     for (place, entry) in found.iter().enumerate() {
-        if shown(*entry) != CASES[place % 5].1 {
+        if prefix_pairs(*entry) != CASES[place % 5].1 {
             return false;
         }
     }

@@ -1,7 +1,7 @@
 //! Maps of the items of an iterator: what a caller knows of them, and what is dropped where a request for memory is refused. And what
 //! a caller knows of equal maps.
 ghost use Rattle.std.specs.Prelude.{◌≡◌, All, IfOk, IsTrue};
-ghost use Rattle.prefix_trie.specs.Words.{listing, no_entries, put_all, shown, IsTidy};
+ghost use Rattle.prefix_trie.specs.Words.{listing, no_entries, put_all, prefix_pairs, IsTidy};
 
 use crate::drops::Counted;
 use crate::refusing::Refusing;
@@ -25,7 +25,7 @@ fn rebuilt<P: Prefix, T: Drop, A: Allocator, B: Allocator + Clone>(
     map: PrefixMap<P, T, A>,
     alloc: B,
 ) -> Result<PrefixMap<P, T, B>, Refusal>
-    ensures entries { IfOk result (λ built. built.entries ≡ put_all P.path (shown P.back (listing map.entries)) no_entries) }
+    ensures entries { IfOk result (λ built. built.entries ≡ put_all P.path (prefix_pairs P.back (listing map.entries)) no_entries) }
     ensures tidy { IfOk result (λ built. IsTidy built.entries built.nodes) }
 {
     PrefixMap::from_iter(alloc, map)

@@ -1,8 +1,8 @@
 //! Callers of entries, and what they know of the map afterwards.
 ghost use Rattle.std.specs.Prelude.{◌≡◌, true, ℕ, ◌+◌, ◌-◌, ◌<◌, ◌^◌, IfOk, OnOk, OnErr, None, Some, IsTrue, IsFalse, is_some};
 ghost use Rattle.std.specs.FinMap.{get, contains_key, len};
-ghost use Rattle.prefix_trie.specs.Words.{listing, put_all, shown, with_entry, with_needed, with_value_at, without_entry};
-ghost use Rattle.prefix_trie_bits.specs.Model.Room.{LeavesRoom};
+ghost use Rattle.prefix_trie.specs.Words.{listing, put_all, prefix_pairs, with_entry, with_needed, with_value_at, without_entry};
+ghost use Rattle.prefix_trie_bits.specs.Model.Space.{LeavesSpace};
 
 use crate::examples::counter::count;
 use crate::on_new::{on_new, on_two_new};
@@ -127,7 +127,7 @@ fn set<P: Prefix, T: Drop, A: Allocator>(
     ensures before { IfOk result (λ before. before ≡ get map.old.entries (P.path prefix)) }
     ensures entries { OnOk result (map.new.entries ≡ with_entry map.old.entries (P.path prefix) value) }
     ensures unchanged { OnErr result ((map.new.entries ≡ map.old.entries) × (map.new.nodes ≡ map.old.nodes)) }
-    ensures room { LeavesRoom (len map.old.nodes) map.old.room map.new.room }
+    ensures space { LeavesSpace (len map.old.nodes) map.old.space map.new.space }
 {
     map.entry(prefix).put(value).answer()
 }
@@ -137,7 +137,7 @@ fn fill_from<P: Prefix, A: Allocator>(
     to: &mut PrefixMap<P, u64, A>,
     from: &PrefixMap<P, u64, A>,
 ) -> Result<(), Refused<u64>>
-    ensures { OnOk result (to.new.entries ≡ put_all P.path (shown P.back (listing from.now.entries)) to.old.entries) }
+    ensures { OnOk result (to.new.entries ≡ put_all P.path (prefix_pairs P.back (listing from.now.entries)) to.old.entries) }
 {
     for (prefix, value) in from {
         to.entry(prefix).put(*value).answer()?;

@@ -2,7 +2,7 @@
 use Rattle.std.specs.Prelude.{◌≡◌, ℕ, Bool, List, [], ◌∷◌, Option, None, Some, All}
 use Rattle.std.specs.FinMap.{get}
 use Rattle.prefix_trie_bits.specs.Model.Entries.{Entries, AreWithin, with_entry}
-use Rattle.prefix_trie_bits.specs.Model.Selections.{listing, shown}
+use Rattle.prefix_trie_bits.specs.Model.Selections.{listing, prefix_pairs}
 
 module _ {T : Type 0} (join : T → T → T) where
   -- a value that may be there, joined to one that comes
@@ -28,12 +28,12 @@ module _ {T : Type 0} (join : T → T → T) where
 -- where no key is longer than the width, as in every map
 pub record JoinLaws {P : Type 0} (T : Type 0) (width : ℕ) (path : P → List Bool) (IsFitting : P → Type 0) (back : List Bool → P) : Type 0 where
   -- a walk over a whole map leads to all its entries joined
-  pub starts : (join : T → T → T) (from to : Entries T) → AreWithin width from → (walk : List (P × T)) → walk ≡ shown back (listing from)
-      → Joins join path IsFitting walk to (join_all join path (shown back (listing from)) to)
+  pub starts : (join : T → T → T) (from to : Entries T) → AreWithin width from → (walk : List (P × T)) → walk ≡ prefix_pairs back (listing from)
+      → Joins join path IsFitting walk to (join_all join path (prefix_pairs back (listing from)) to)
   -- so the next prefix fits, and once its value is joined, the rest leads there still
   pub next_fits : (join : T → T → T) (now whole : Entries T) (item : P × T) (rest left : List (P × T)) → left ≡ item ∷ rest → Joins join path IsFitting left now whole → IsFitting item.0
   pub goes_on : (join : T → T → T) (now next whole : Entries T) (item : P × T) (rest left : List (P × T)) → left ≡ item ∷ rest
       → next ≡ with_entry now (path item.0) (with_value join (get now (path item.0)) item.1) → Joins join path IsFitting left now whole → Joins join path IsFitting rest next whole
   -- each key has its two values joined, or the one that there is
   pub joined : (join : T → T → T) (from to : Entries T) → AreWithin width from → (s : List Bool)
-      → get (join_all join path (shown back (listing from)) to) s ≡ joined_by join (get to s) (get from s)
+      → get (join_all join path (prefix_pairs back (listing from)) to) s ≡ joined_by join (get to s) (get from s)

@@ -4,7 +4,7 @@ use Rattle.std.specs.Option.{option_map}
 use Rattle.std.specs.FinMap.{contains_key}
 use Rattle.prefix_trie_bits.specs.Bits.{begins}
 use Rattle.prefix_trie_bits.specs.Model.Entries.{Entries, no_entries, with_entry, without_entry}
-use Rattle.prefix_trie_bits.specs.Model.Matches.{IsLongestMatch, longest_match, shortest_match, shown_match}
+use Rattle.prefix_trie_bits.specs.Model.Matches.{IsLongestMatch, longest_match, shortest_match, prefix_pair}
 
 -- no stored key begins the question
 abbrev pub IsUncovered : {T : Type 0} → Entries T → List Bool → Type 0
@@ -33,4 +33,4 @@ pub record LookupLaws (P T : Type 0) : Type 0 where
       → longest_match (without_entry m s) q ≡ longest_match m (take n q)
   pub taken_last : (m : Entries T) (q : List Bool) (v : T) → longest_match m q ≡ Some ([], v) → longest_match (without_entry m []) q ≡ None
   -- a match as users see it has the value of the match
-  pub shown_value : (back : List Bool → P) (found : Option (List Bool × T)) → option_map (λ e. e.1) (shown_match back found) ≡ option_map (λ e. e.1) found
+  pub shown_value : (back : List Bool → P) (found : Option (List Bool × T)) → option_map (λ e. e.1) (prefix_pair back found) ≡ option_map (λ e. e.1) found

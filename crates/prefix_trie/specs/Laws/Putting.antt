@@ -3,7 +3,7 @@ use Rattle.std.specs.Prelude.{◌≡◌, ℕ, Bool, List, ◌∷◌, All}
 use Rattle.std.specs.Option.{option_or}
 use Rattle.std.specs.FinMap.{get}
 use Rattle.prefix_trie_bits.specs.Model.Entries.{Entries, AreWithin, no_entries, put_all, with_entry}
-use Rattle.prefix_trie_bits.specs.Model.Selections.{listing, shown}
+use Rattle.prefix_trie_bits.specs.Model.Selections.{listing, prefix_pairs}
 
 module _ {P T : Type 0} (path : P → List Bool) (IsFitting : P → Type 0) where
   -- the invariant: each prefix still to come fits, and with all of them put the map is whole
@@ -13,17 +13,17 @@ module _ {P T : Type 0} (path : P → List Bool) (IsFitting : P → Type 0) wher
 -- where no key is longer than the width, as in every map
 pub record PutLaws {P : Type 0} (T : Type 0) (width : ℕ) (path : P → List Bool) (IsFitting : P → Type 0) (back : List Bool → P) : Type 0 where
   -- a walk over a whole map leads to all its entries put
-  pub starts : (from to : Entries T) → AreWithin width from → (walk : List (P × T)) → walk ≡ shown back (listing from)
-      → Leads path IsFitting walk to (put_all path (shown back (listing from)) to)
+  pub starts : (from to : Entries T) → AreWithin width from → (walk : List (P × T)) → walk ≡ prefix_pairs back (listing from)
+      → Leads path IsFitting walk to (put_all path (prefix_pairs back (listing from)) to)
   -- and into an empty map to itself
-  pub starts_empty : (from to : Entries T) → AreWithin width from → to ≡ no_entries → (walk : List (P × T)) → walk ≡ shown back (listing from) → Leads path IsFitting walk to from
+  pub starts_empty : (from to : Entries T) → AreWithin width from → to ≡ no_entries → (walk : List (P × T)) → walk ≡ prefix_pairs back (listing from) → Leads path IsFitting walk to from
   -- so the next prefix fits, and once it is put, the rest leads there still
   pub next_fits : (now whole : Entries T) (item : P × T) (rest left : List (P × T)) → left ≡ item ∷ rest → Leads path IsFitting left now whole → IsFitting item.0
   pub goes_on : (now next whole : Entries T) (item : P × T) (rest left : List (P × T)) → left ≡ item ∷ rest → next ≡ with_entry now (path item.0) item.1
       → Leads path IsFitting left now whole → Leads path IsFitting rest next whole
   -- each key has its value of the map that was put, or else what it had
-  pub put : (from to : Entries T) → AreWithin width from → (s : List Bool) → get (put_all path (shown back (listing from)) to) s ≡ option_or (get from s) (get to s)
+  pub put : (from to : Entries T) → AreWithin width from → (s : List Bool) → get (put_all path (prefix_pairs back (listing from)) to) s ≡ option_or (get from s) (get to s)
   -- which is the same as its listed strings put as they are
-  pub listed : (from to : Entries T) → AreWithin width from → put_all path (shown back (listing from)) to ≡ put_all (λ s. s) (listing from) to
+  pub listed : (from to : Entries T) → AreWithin width from → put_all path (prefix_pairs back (listing from)) to ≡ put_all (λ s. s) (listing from) to
   -- so put into an empty map it is itself
-  pub copied : (from : Entries T) → AreWithin width from → put_all path (shown back (listing from)) no_entries ≡ from
+  pub copied : (from : Entries T) → AreWithin width from → put_all path (prefix_pairs back (listing from)) no_entries ≡ from

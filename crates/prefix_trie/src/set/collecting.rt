@@ -28,7 +28,7 @@ impl<P: Prefix, A: Allocator + Clone> PrefixSet<P, A> {
         requires fit { (it : I.IntoIter) → I.into_iter_gives items it → HoldsAlong I.IntoIter.next_gives it (All P.IsFitting) }
         ensures entries { IfOk result (λ set. (it : I.IntoIter) × (xs : List P) × I.into_iter_gives items it × Drains I.IntoIter.next_gives it xs × (set.entries ≡ put_all P.path (map as_item xs) no_entries)) }
         ensures tidy { IfOk result (λ set. IsTidy set.entries set.nodes) }
-        ensures limit { IfOk result (λ set. set.room.limit ≡ 2 ^ 32 - 1) }
+        ensures limit { IfOk result (λ set. set.space.limit ≡ 2 ^ 32 - 1) }
 
         // For want of slots only where so many prefixes came that 56 slots for each pass the limit.
         ensures range { IfErr result (λ cause. cause ≡ IndexRange → (it : I.IntoIter) × (xs : List P) × (rest : I.IntoIter) × I.into_iter_gives items it × Yields I.IntoIter.next_gives it xs rest × (2 ^ 32 - 1 < 1 + 56 * length xs)) }

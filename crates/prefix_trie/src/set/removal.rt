@@ -1,13 +1,13 @@
 //! Taking keys out.
 ghost use Rattle.std.specs.Prelude.{◌≡◌};
 ghost use Rattle.std.specs.FinMap.{contains_key};
-ghost use Rattle.prefix_trie_bits.specs.Model.Asking.{AsksInOrder, MayAskInOrder};
+ghost use Rattle.prefix_trie_bits.specs.Model.Retaining.{RetainsEntries, CallableOnEachEntry};
 ghost use Rattle.prefix_trie_bits.specs.Model.Entries.{no_entries, without_entry, without_below};
 ghost use Rattle.prefix_trie_bits.specs.Model.Nodes.{root_alone, needed, nodes_without, nodes_without_below};
 ghost use Rattle.prefix_trie_bits.specs.Model.Selections.{listing};
 ghost use Rattle.prefix_trie_bits.specs.Model.Step.{Remove, RemoveKeepTree, RemoveChildren, Clear, Done};
 ghost use Rattle.prefix_trie_bits.specs.Model.Storage.{StepByPath, RetainsInStorage};
-ghost use Rattle.prefix_trie_map.specs.Steps.{stored};
+ghost use Rattle.prefix_trie_map.specs.Steps.{stored_state};
 ghost use Rattle.prefix_trie_map.specs.Whole.{IsWhole};
 ghost use Rattle.prefix_trie.specs.Sets.{taken_out, AsksKeyAt, TakesKeyAt};
 
@@ -33,7 +33,7 @@ impl<P: Prefix, A: Allocator> PrefixSet<P, A> {
         ensures nodes { self.new.nodes ≡ nodes_without self.old.nodes self.old.entries (P.path prefix.now) }
 
         // It is a step of the model, of the storage too: that of a map of units.
-        ensures step { StepByPath P.R.bit_width (stored self.old) (Remove (P.path prefix.now)) (taken_out result) (stored self.new) }
+        ensures step { StepByPath P.R.bit_width (stored_state self.old) (Remove (P.path prefix.now)) (taken_out result) (stored_state self.new) }
     {
         self.map.remove(prefix).is_some()
     }
@@ -54,7 +54,7 @@ impl<P: Prefix, A: Allocator> PrefixSet<P, A> {
         ensures nodes { self.new.nodes ≡ self.old.nodes }
 
         // It is a step of the model, of the storage too. The array of nodes is as it was.
-        ensures step { StepByPath P.R.bit_width (stored self.old) (RemoveKeepTree (P.path prefix.now)) (taken_out result) (stored self.new) }
+        ensures step { StepByPath P.R.bit_width (stored_state self.old) (RemoveKeepTree (P.path prefix.now)) (taken_out result) (stored_state self.new) }
     {
         self.map.remove_keep_tree(prefix).is_some()
     }
@@ -75,7 +75,7 @@ impl<P: Prefix, A: Allocator> PrefixSet<P, A> {
         ensures nodes { self.new.nodes ≡ nodes_without_below self.old.nodes self.old.entries (P.path prefix.now) }
 
         // It is a step of the model, of the storage too. No slots go, but at length 0.
-        ensures step { StepByPath P.R.bit_width (stored self.old) (RemoveChildren (P.path prefix.now)) Done (stored self.new) }
+        ensures step { StepByPath P.R.bit_width (stored_state self.old) (RemoveChildren (P.path prefix.now)) Done (stored_state self.new) }
     {
         self.map.drop_children(prefix);
     }
@@ -92,7 +92,7 @@ impl<P: Prefix, A: Allocator> PrefixSet<P, A> {
         ensures nodes { self.new.nodes ≡ root_alone }
 
         // It is a step of the model, of the storage too: the root has its slot, and no block is left.
-        ensures step { StepByPath P.R.bit_width (stored self.old) Clear Done (stored self.new) }
+        ensures step { StepByPath P.R.bit_width (stored_state self.old) Clear Done (stored_state self.new) }
     {
         self.map.clear();
     }
@@ -110,13 +110,13 @@ impl<P: Prefix, A: Allocator> PrefixSet<P, A> {
     /// set.iter()                                       gives 10.0.0.0/8 and 10.1.0.0/16
     /// ```
     pub fn retain<F: FnMut(&P) -> bool>(&mut self, mut test: F)
-        requires { MayAskInOrder (AsksKeyAt F.FnMut P.back) (TakesKeyAt F.FnMut P.back) test (listing self.old.entries) }
+        requires { CallableOnEachEntry (AsksKeyAt F.FnMut P.back) (TakesKeyAt F.FnMut P.back) test (listing self.old.entries) }
         ensures whole { IsWhole P.R.bit_width self.old }
-        ensures kept { AsksInOrder (AsksKeyAt F.FnMut P.back) test (listing self.old.entries) (listing self.new.entries) }
+        ensures kept { RetainsEntries (AsksKeyAt F.FnMut P.back) test (listing self.old.entries) (listing self.new.entries) }
         ensures nodes { self.new.nodes ≡ needed self.new.entries }
 
         // It is a step of the model, of the storage too: that of a map of units.
-        ensures step { RetainsInStorage (AsksKeyAt F.FnMut P.back) test (stored self.old) (stored self.new) }
+        ensures step { RetainsInStorage (AsksKeyAt F.FnMut P.back) test (stored_state self.old) (stored_state self.new) }
     {
         self.map.retain(
             move |prefix: &P, _value: &()|

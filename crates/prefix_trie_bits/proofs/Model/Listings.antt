@@ -145,6 +145,6 @@ listing_laws T = record {
   in_order = in_order;
   resumes = λ m read last rest e. record { behind = resumes m read last rest e; at = resumes_at m read last rest e };
   removed = λ m q. entries-retained m (λ s. not (begins q s));
-  handed = λ m q. entries-retained m (λ s. begins q s);
+  split_off = λ m q. entries-retained m (λ s. begins q s);
   by_places = listing_by_places;
 }

@@ -17,11 +17,11 @@ in_old n s q e = has-with_needed n s q ∙ or-left (has_node n q) (begins q s &&
 in_new : (n : Nodes) (s q : List Bool) → length q % 5 ≡ 0 → begins q s ≡ true → has_node (with_needed n s) q ≡ true
 in_new n s q five b = has-with_needed n s q ∙ or-right (has_node n q) (begins q s && is_node_depth q) (and-join (begins q s) (is_node_depth q) b (eq-eqb (length q % 5) 0 five))
 
-record OnWay (s q : List Bool) : Type 0 where
+record OnPath (s q : List Bool) : Type 0 where
   five : length q % 5 ≡ 0
   begins_it : begins q s ≡ true
 
-which : (n : Nodes) (s q : List Bool) → has_node (with_needed n s) q ≡ true → (OnWay s q) ⊎ (has_node n q ≡ true)
+which : (n : Nodes) (s q : List Bool) → has_node (with_needed n s) q ≡ true → (OnPath s q) ⊎ (has_node n q ≡ true)
 which n s q e =
     elim (or-cases (has_node n q) (begins q s && is_node_depth q) (sym (has-with_needed n s q) ∙ e)) [
       | inl h ↦ inr h
@@ -44,7 +44,7 @@ module _ {T : Type 0} where
   new_key m s v = has-inserted m s v s ∙ or-left (same_string s s) (contains_key m s) (is-same_string s s refl)
 
   -- what the map with s needs
-  needed_with : (m : Entries T) (s q : List Bool) (v : T) → has_node (needed (with_entry m s v)) q ≡ true → (OnWay s q) ⊎ (has_node (needed m) q ≡ true)
+  needed_with : (m : Entries T) (s q : List Bool) (v : T) → has_node (needed (with_entry m s v)) q ≡ true → (OnPath s q) ⊎ (has_node (needed m) q ≡ true)
   needed_with m s q v e =
       elim (needed_for (with_entry m s v) q e) [
         | inl root ↦ inr (subst (λ x. has_node (needed m) x ≡ true) (sym root) (needs_root m))

@@ -32,7 +32,7 @@ module _ {T : Type 0} where
   -- the parts of the test
   record Goes (n : Nodes) (m : Entries T) (h t : List Bool) : Type 0 where
     no_key : list_any (λ s. begins t s) (keys m) ≡ false
-    on_way : begins t h ≡ true
+    on_path : begins t h ≡ true
     not_root : not (is_root t) ≡ true
     alone : list_all (λ u. not (begins t u) || begins u h) (keys n) ≡ true
 
@@ -44,7 +44,7 @@ module _ {T : Type 0} where
       let d = list_all (λ u. not (begins t u) || begins u h) (keys n) in
       let r = and-second a (b && (c && d)) e in
       let q = and-second b (c && d) r in
-      record { no_key = from-not (list_any (λ s. begins t s) (keys m)) (and-first a (b && (c && d)) e); on_way = and-first b (c && d) r; not_root = and-first c d q; alone = and-second c d q }
+      record { no_key = from-not (list_any (λ s. begins t s) (keys m)) (and-first a (b && (c && d)) e); on_path = and-first b (c && d) r; not_root = and-first c d q; alone = and-second c d q }
 
   goes_from : (n : Nodes) (m : Entries T) (h t : List Bool) → Goes n m h t → is_pruned n m h t ≡ true
   goes_from n m h t g =
@@ -52,7 +52,7 @@ module _ {T : Type 0} where
       let b = begins t h in
       let c = not (is_root t) in
       let d = list_all (λ u. not (begins t u) || begins u h) (keys n) in
-      and-join a (b && (c && d)) (not-true (list_any (λ s. begins t s) (keys m)) g.no_key) (and-join b (c && d) g.on_way (and-join c d g.not_root g.alone))
+      and-join a (b && (c && d)) (not-true (list_any (λ s. begins t s) (keys m)) g.no_key) (and-join b (c && d) g.on_path (and-join c d g.not_root g.alone))
 
   -- a node is left exactly if it stood, and was not pruned
   stays : (n : Nodes) (m : Entries T) (q s : List Bool) → has_node n s ≡ true → (has_node n (home q) ≡ true → is_pruned n m (home q) s ≡ true → ⊥) → has_node (pruned n m q) s ≡ true
@@ -104,7 +104,7 @@ module _ {T : Type 0} where
           no_key = not-so (list_any (λ k. begins t k) (keys m)) (λ some.
               let k = some-key m (λ k. begins t k) some in
               clash (list_any (λ k. begins s k) (keys m)) (of-key m (λ k. begins s k) k.0 k.1 (begins-trans s t k.0 b k.2)) g.no_key);
-          on_way = at_home t (stood n m q t e) b;
+          on_path = at_home t (stood n m q t e) b;
           not_root = longer s t (begins-length s t b) g.not_root;
           alone = all-keys n (λ u. not (begins t u) || begins u (home q)) (λ u at. implied (begins t u) (begins u (home q)) (λ tu. at_home u at (begins-trans s t u b tu)));
         })));
@@ -146,7 +146,7 @@ module _ {T : Type 0} where
               r.home_stays (subst (λ x. has_node x (home q) ≡ true) (sym tidy) (needs m (home q) why.key (home-depth q) why.stored (begins-trans (home q) q why.key (home-begins q) above))) in
               absurd (spared near_nodes left q (b ∷ s) e at_home (goes_from near_nodes left (home q) (b ∷ s) (record {
                 no_key = none;
-                on_way = r.near at_home (b ∷ s) why.key here why.five why.stored gone why.begins_it;
+                on_path = r.near at_home (b ∷ s) why.key here why.five why.stored gone why.begins_it;
                 not_root = refl;
                 alone = all-keys near_nodes (λ u. not (begins (b ∷ s) u) || begins u (home q)) (λ u at. implied (begins (b ∷ s) u) (begins u (home q)) (λ below.
                     elim (needed_for m u (subst (λ x. has_node x u ≡ true) tidy (r.sub u at))) [
@@ -285,7 +285,7 @@ module _ {T : Type 0} where
   taken-out : (n : Nodes) (m : Entries T) (q t : List Bool) → has_node n (home q) ≡ true → Goes n m (home q) t → IsTakenOut n m q t
   taken-out n m q t at g = record {
     home_there = at;
-    on_way = g.on_way;
+    on_path = g.on_path;
     not_root = λ root. is_empty t root g.not_root;
     no_key = λ k has. not-so (begins t k) (λ e. clash (list_any (λ s. begins t s) (keys m)) (of-key m (λ s. begins t s) k has e) g.no_key);
     alone = λ u has. follows (begins t u) (begins u (home q)) (each-key n (λ x. not (begins t x) || begins x (home q)) u g.alone has);
@@ -296,7 +296,7 @@ module _ {T : Type 0} where
     no_key = not-so (list_any (λ s. begins t s) (keys m)) (λ some.
         let k = some-key m (λ s. begins t s) some in
         clash (begins t k.0) k.2 (out.no_key k.0 k.1));
-    on_way = out.on_way;
+    on_path = out.on_path;
     not_root = not_empty t out.not_root;
     alone = all-keys n (λ u. not (begins t u) || begins u (home q)) (λ u at. implied (begins t u) (begins u (home q)) (out.alone u at));
   }

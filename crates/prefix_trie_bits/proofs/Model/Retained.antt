@@ -1,7 +1,7 @@
 -- What a test of lengths keeps of a map's entries: asking it is keeping by length.
 use Rattle.prefix_trie_bits.proofs.Prelude.{◌≡◌, ◌≤◌, ℕ, Bool, true, false, List, length, filter, cond, nat_le, is_some, Option, Some, None, ap, sym, ◌∙◌, refl, subst, get, find, retain_keys, get-entries, get-retain_keys, listing_cmp, listing_same, Entries, AreWithin, part_at_least, needed, listing, State, RetainAtLeast, Reply, Done, Refused, Storage, StepInStorage, RetainsInStorage}
 use Rattle.prefix_trie_bits.specs.declared.prefix.Refusal.{Refusal}
-use Rattle.prefix_trie_bits.proofs.Model.Askings.{keeps_filter}
+use Rattle.prefix_trie_bits.proofs.Model.RetainCalls.{keeps_filter}
 use Rattle.prefix_trie_bits.proofs.Model.Members.{get-part_at_least, same_entries}
 use Rattle.prefix_trie_bits.proofs.Model.Ordered.{entries-retained}
 
@@ -41,7 +41,7 @@ module _ {P T : Type 0} (path : P → List Bool) (back : List Bool → P) (width
       (keeps_filter asks (λ e. nat_le n (shown e.0)) f (listing s.0.entries) (listing t.0.entries) answers h.kept) in
       record {
         step = (refl, λ i. record { entries = kept i; nodes = (h.nodes ∙ ap needed kept) i });
-        room = h.room;
+        space = h.space;
         index_range = λ e. absurd (not_refused _ e);
         storage = h.storage;
       }

@@ -1,5 +1,5 @@
 -- What the calls of the model may leave of blocks and slots.
-pub mod Ways
+pub mod Paths
 pub mod Readied
 pub mod Stored
 pub mod Slots

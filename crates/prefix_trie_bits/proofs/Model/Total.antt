@@ -1,5 +1,5 @@
 -- From every map, however it is stored, each fitting call has a step.
-use Rattle.prefix_trie_bits.proofs.Prelude.{◌≡◌, ℕ, ◌+◌, ◌<◌, ◌≤◌, ◌⊎◌, inl, inr, Bool, true, false, cond, List, [], ◌∷◌, length, All, refl, sym, ap, ◌∙◌, subst, arith, true≢false, cases_Bool, cases_eq, cases_lt, All-head, All-tail, get, contains_key, len, empty_of_len, no_layout, with_entry, without_entry, without_below, part_at_least, no_entries, node_slots_lacking, cell_slots_lacking, has_node, with_needed, needed, root_alone, nodes_without, nodes_without_below, LeavesRoom, MayPassLimit, State, Call, Insert, Remove, RemoveKeepTree, RemoveChildren, RetainAtLeast, Clear, ListAll, ListFrom, Children, Cover, CallFits, Reply, Value, Done, Refused, Refusal, IndexRange, Step, Storage, cleared, HaveBlocks, LeavesStorage, InsertsInStorage, RefusesInStorage, StepInStorage, RunInStorage, is_memory, is_refusal, may_refuse, IsMap, IsStoredMap, GivesCause, TotalLaws, nil_from_length}
+use Rattle.prefix_trie_bits.proofs.Prelude.{◌≡◌, ℕ, ◌+◌, ◌<◌, ◌≤◌, ◌⊎◌, inl, inr, Bool, true, false, cond, List, [], ◌∷◌, length, All, refl, sym, ap, ◌∙◌, subst, arith, true≢false, cases_Bool, cases_eq, cases_lt, All-head, All-tail, get, contains_key, len, empty_of_len, no_layout, with_entry, without_entry, without_below, part_at_least, no_entries, missing_node_slots, missing_cell_slots, has_node, with_needed, needed, root_alone, nodes_without, nodes_without_below, LeavesSpace, MayPassLimit, State, Call, Insert, Remove, RemoveKeepTree, RemoveChildren, RetainAtLeast, Clear, ListAll, ListFrom, Children, Cover, CallFits, Reply, Value, Done, Refused, Refusal, IndexRange, Step, Storage, empty_storage, HaveBlocks, LeavesStorage, InsertsInStorage, RefusesInStorage, StepInStorage, RunInStorage, is_memory, is_refusal, may_refuse, IsMap, IsStoredMap, GivesCause, TotalLaws, nil_from_length}
 use Rattle.prefix_trie_bits.proofs.Model.Determined.{cause_of, no_refusal, refused, set}
 use Rattle.prefix_trie_bits.proofs.Model.Storage.Gained.{gained, gained_inserts}
 use Rattle.prefix_trie_bits.proofs.Model.Storage.Lessened.{new_have, many_left, value_left, one_left}
@@ -27,8 +27,8 @@ module _ {P T : Type 0} (path : P → List Bool) (back : List Bool → P) (width
   abbrev IsFull : Call P T → Type 0
   IsFull call = (q : P) × (v : T) × (call ≡ Insert q v) × (contains_key s.0.entries (path q) ≡ false) × GivesCause s (path q) IndexRange
 
-  same_room : LeavesRoom (len s.0.nodes) s.1.room s.1.room
-  same_room = record {
+  same_space : LeavesSpace (len s.0.nodes) s.1.space s.1.space
+  same_space = record {
     same_limit = refl;
     nodes_within = whole.nodes_within;
     cells_within = whole.cells_within;
@@ -37,22 +37,22 @@ module _ {P T : Type 0} (path : P → List Bool) (back : List Bool → P) (width
   }
 
   -- a call that leaves all as it was
-  still : (call : Call P T) (reply : Reply P T) → Step path back width s.0 call reply s.0 → (reply ≡ Refused IndexRange → MayPassLimit s.1.room)
+  still : (call : Call P T) (reply : Reply P T) → Step path back width s.0 call reply s.0 → (reply ≡ Refused IndexRange → MayPassLimit s.1.space)
       → LeavesStorage path s.0 call reply s.0 s.1 s.1 → StepInStorage path back width s call reply s
-  still call reply step range storage = record { step = step; room = same_room; index_range = range; storage = storage }
+  still call reply step range storage = record { step = step; space = same_space; index_range = range; storage = storage }
 
   asks : (call : Call P T) (reply : Reply P T) → is_refusal reply ≡ false → Step path back width s.0 call reply s.0 → LeavesStorage path s.0 call reply s.0 s.1 s.1 → Answers call
   asks call reply answers step storage = (reply, s, still call reply step (λ is. no_refusal (Refused IndexRange) reply refl answers (sym is)) storage, answers, whole)
 
   -- a call that changes the map, and leaves the room as it was
   changes : (call : Call P T) (reply : Reply P T) (t : State T) (after : Storage) → CallFits (λ q. length (path q) ≤ width) call → is_refusal reply ≡ false
-      → Step path back width s.0 call reply t → after.room ≡ s.1.room → LeavesStorage path s.0 call reply t s.1 after → HaveBlocks t after.layout → Answers call
+      → Step path back width s.0 call reply t → after.space ≡ s.1.space → LeavesStorage path s.0 call reply t s.1 after → HaveBlocks t after.layout → Answers call
   changes call reply t after fits answers step same storage have = (
     reply,
     (t, after),
     record {
       step = step;
-      room = subst (LeavesRoom (len s.0.nodes) s.1.room) (sym same) same_room;
+      space = subst (LeavesSpace (len s.0.nodes) s.1.space) (sym same) same_space;
       index_range = λ is. no_refusal (Refused IndexRange) reply refl answers (sym is);
       storage = storage;
     },
@@ -68,13 +68,13 @@ module _ {P T : Type 0} (path : P → List Bool) (back : List Bool → P) (width
 
   -- one that empties it
   empties : (call : Call P T) (t : State T) → CallFits (λ q. length (path q) ≤ width) call → Step path back width s.0 call Done t
-      → LeavesStorage path s.0 call Done t s.1 (cleared s.1) → HaveBlocks t no_layout → Answers call
+      → LeavesStorage path s.0 call Done t s.1 (empty_storage s.1) → HaveBlocks t no_layout → Answers call
   empties call t fits step storage have = (
     Done,
-    (t, cleared s.1),
+    (t, empty_storage s.1),
     record {
       step = step;
-      room = record {
+      space = record {
         same_limit = refl;
         nodes_within = (let h = whole.root_fits in omega (arith, h));
         cells_within = omega arith;
@@ -159,14 +159,14 @@ module _ {P T : Type 0} (path : P → List Bool) (back : List Bool → P) (width
       (stored_have width s.0 (path q) v s.1 whole.is_map stored whole.have_blocks)
 
   module _ (q : P) (v : T) (short : width ≤ 128) (fits : length (path q) ≤ width) where
-    few_nodes : node_slots_lacking s.0.nodes s.1.layout (path q) ≤ 56
+    few_nodes : missing_node_slots s.0.nodes s.1.layout (path q) ≤ 56
     few_nodes = nodes_most width s.0 s.1.layout whole.is_map.are_nodes whole.have_blocks (path q) (omega (arith, short, fits))
 
-    few_cells : cell_slots_lacking s.0.entries s.1.layout (path q) ≤ 31
+    few_cells : missing_cell_slots s.0.entries s.1.layout (path q) ≤ 31
     few_cells = cells_most width s.0 s.1.layout whole.is_map.are_nodes whole.have_blocks (path q)
 
-    inserts_new : contains_key s.0.entries (path q) ≡ false → s.1.room.node_slots + node_slots_lacking s.0.nodes s.1.layout (path q) ≤ s.1.room.limit
-        → s.1.room.cell_slots + cell_slots_lacking s.0.entries s.1.layout (path q) ≤ s.1.room.limit → Answers (Insert q v)
+    inserts_new : contains_key s.0.entries (path q) ≡ false → s.1.space.node_slots + missing_node_slots s.0.nodes s.1.layout (path q) ≤ s.1.space.limit
+        → s.1.space.cell_slots + missing_cell_slots s.0.entries s.1.layout (path q) ≤ s.1.space.limit → Answers (Insert q v)
     inserts_new new nodes cells =
         let is = stays_map path back width s.0 (Insert q v) (Value (get s.0.entries (path q))) (set_new q v) fits (new_step q v new) whole.is_map in
         let some = some_node width s.0 whole.is_map in (
@@ -174,7 +174,7 @@ module _ {P T : Type 0} (path : P → List Bool) (back : List Bool → P) (width
           (set_new q v, gained s.0 (path q) s.1),
           record {
             step = new_step q v new;
-            room = record {
+            space = record {
               same_limit = refl;
               nodes_within = nodes;
               cells_within = cells;
@@ -201,9 +201,9 @@ module _ {P T : Type 0} (path : P → List Bool) (back : List Bool → P) (width
     inserts : Answers (Insert q v) ⊎ IsFull (Insert q v)
     inserts = elim (cases_Bool (contains_key s.0.entries (path q))) as (λ _. Answers (Insert q v) ⊎ IsFull (Insert q v)) [
       | inl stored ↦ inl (inserts_again q v fits stored)
-      | inr new ↦ elim (cases_lt s.1.room.limit (s.1.room.node_slots + node_slots_lacking s.0.nodes s.1.layout (path q))) as (λ _. Answers (Insert q v) ⊎ IsFull (Insert q v)) [
+      | inr new ↦ elim (cases_lt s.1.space.limit (s.1.space.node_slots + missing_node_slots s.0.nodes s.1.layout (path q))) as (λ _. Answers (Insert q v) ⊎ IsFull (Insert q v)) [
         | inl past ↦ inr (q, v, refl, new, inl past)
-        | inr nodes ↦ elim (cases_lt s.1.room.limit (s.1.room.cell_slots + cell_slots_lacking s.0.entries s.1.layout (path q))) as (λ _. Answers (Insert q v) ⊎ IsFull (Insert q v)) [
+        | inr nodes ↦ elim (cases_lt s.1.space.limit (s.1.space.cell_slots + missing_cell_slots s.0.entries s.1.layout (path q))) as (λ _. Answers (Insert q v) ⊎ IsFull (Insert q v)) [
           | inl past ↦ inr (q, v, refl, new, inr past)
           | inr cells ↦ inl (inserts_new new (omega (arith, nodes)) (omega (arith, cells)))
         ]
@@ -241,7 +241,7 @@ module _ {P T : Type 0} (path : P → List Bool) (back : List Bool → P) (width
         λ c is. subst (λ x. RefusesInStorage s.0 (path q) x s.1 s.1) (cause_is cause c is) (refuses s (path q) whole.nodes_within whole.cells_within cause given),
       )
     where
-      passes : GivesCause s (path q) IndexRange → MayPassLimit s.1.room
+      passes : GivesCause s (path q) IndexRange → MayPassLimit s.1.space
       passes (inl past) = inl (let few = few_nodes q v short fits in omega (arith, past, few))
       passes (inr past) = inr (let few = few_cells q v short fits in omega (arith, past, few))
 
@@ -260,9 +260,9 @@ module _ {P T : Type 0} (path : P → List Bool) (back : List Bool → P) (width
 
   answered : (call : Call P T) → width ≤ 128 → CallFits (λ q. length (path q) ≤ width) call
       → ((q : P) (v : T) → call ≡ Insert q v → contains_key s.0.entries (path q) ≡ false → GivesCause s (path q) IndexRange → ⊥) → Answers call
-  answered call short fits room = elim (decided call short fits) as (λ _. Answers call) [
+  answered call short fits space = elim (decided call short fits) as (λ _. Answers call) [
     | inl answers ↦ answers
-    | inr full ↦ absurd (room full.0 full.1 full.2 full.3 full.4)
+    | inr full ↦ absurd (space full.0 full.1 full.2 full.3 full.4)
   ]
 
   -- so each call has a step
@@ -297,8 +297,8 @@ module _ {P T : Type 0} (path : P → List Bool) (back : List Bool → P) (width
   ]
     where
       past : GivesCause s (path q) IndexRange → InsertsInStorage s.0 (path q) s.1 t.1 → ⊥
-      past (inl nodes) left = (let made = left.node_slots in let within = h.room.nodes_within in let limit = h.room.same_limit in omega (arith, nodes, made, within, limit))
-      past (inr cells) left = (let made = left.cell_slots in let within = h.room.cells_within in let limit = h.room.same_limit in omega (arith, cells, made, within, limit))
+      past (inl nodes) left = (let made = left.node_slots in let within = h.space.nodes_within in let limit = h.space.same_limit in omega (arith, nodes, made, within, limit))
+      past (inr cells) left = (let made = left.cell_slots in let within = h.space.cells_within in let limit = h.space.same_limit in omega (arith, cells, made, within, limit))
 
 pub total_laws : (P T : Type 0) → TotalLaws P T
 total_laws P T = record {

@@ -1,8 +1,8 @@
 -- Worked facts on blocks, growth and room, and for each what the definition refuses. They are this project's own.
 use Rattle.std.specs.Prelude.{◌≡◌, ℕ, List, [], ◌∷◌, map, Option, Some, None}
 use Rattle.prefix_trie_bits.specs.Model.Blocks.{value_block_sizes, child_block_sizes, free_of, HasBlock, StepsDown, StepsBetween, LongerByOne, Tiles, AreBlocksOf, Block}
-use Rattle.prefix_trie_bits.specs.Model.Insertion.{block_needed, lacking_slots}
-use Rattle.prefix_trie_bits.specs.Model.Room.{Room, MayPassLimit, LeavesRoom}
+use Rattle.prefix_trie_bits.specs.Model.Insertion.{block_needed, slots_of_missing}
+use Rattle.prefix_trie_bits.specs.Model.Space.{Space, MayPassLimit, LeavesSpace}
 
 -- no block is free, and one of each size but the largest
 abbrev pub none_free : List ℕ
@@ -27,10 +27,10 @@ pub record BlockNeededFacts : Type 0 where
   pub in_turn : map (λ (e : Option ℕ × ℕ). block_needed value_block_sizes e.0 e.1)
       ((None, 0) ∷ (Some 1, 1) ∷ (Some 2, 2) ∷ (Some 4, 4) ∷ (Some 8, 8) ∷ (Some 16, 16) ∷ (Some 24, 24) ∷ [])
       ≡ Some 1 ∷ Some 2 ∷ Some 4 ∷ Some 8 ∷ Some 16 ∷ Some 24 ∷ Some 31 ∷ []
-  pub with_room : block_needed value_block_sizes (Some 4) 3 ≡ None
+  pub with_space : block_needed value_block_sizes (Some 4) 3 ≡ None
   pub children : block_needed child_block_sizes (Some 24) 24 ≡ Some 32
   -- two blocks of one and one of two, where none is free, one of one is, and more are than are needed
-  pub lacking : map (λ free. lacking_slots child_block_sizes free (1 ∷ 2 ∷ 1 ∷ []))
+  pub lacking : map (λ free. slots_of_missing child_block_sizes free (1 ∷ 2 ∷ 1 ∷ []))
       (none_free ∷ (1 ∷ 0 ∷ 0 ∷ 0 ∷ 0 ∷ 0 ∷ 0 ∷ []) ∷ (3 ∷ 2 ∷ 0 ∷ 0 ∷ 0 ∷ 0 ∷ 0 ∷ []) ∷ []) ≡ 4 ∷ 3 ∷ 0 ∷ []
   pub free : map (free_of child_block_sizes (3 ∷ 1 ∷ 4 ∷ 1 ∷ 5 ∷ 9 ∷ 2 ∷ [])) (1 ∷ 8 ∷ 24 ∷ 32 ∷ 31 ∷ []) ≡ 3 ∷ 1 ∷ 9 ∷ 2 ∷ 0 ∷ []
 
@@ -69,22 +69,22 @@ pub record LongerByOneFacts : Type 0 where
   pub not_by_two : ¬ (LongerByOne value_block_sizes none_free (Some 31) (Some 24) 86 134)
   pub not_shorter : ¬ (LongerByOne value_block_sizes none_free (Some 31) (Some 24) 86 55)
 
-abbrev pub room_of : ℕ → ℕ → ℕ → Room
-room_of limit nodes cells = record { limit = limit; node_slots = nodes; cell_slots = cells }
+abbrev pub space_of : ℕ → ℕ → ℕ → Space
+space_of limit nodes cells = record { limit = limit; node_slots = nodes; cell_slots = cells }
 
 -- a call may lengthen the arrays of a map with one node by 56 slots each, up to a limit of 100
-pub record RoomFacts : Type 0 where
-  pub longest : LeavesRoom 1 (room_of 100 1 0) (room_of 100 57 56)
-  pub up_to_limit : LeavesRoom 1 (room_of 100 60 60) (room_of 100 100 100)
-  pub not_another_limit : ¬ (LeavesRoom 1 (room_of 100 1 0) (room_of 101 1 0))
-  pub not_nodes_past_limit : ¬ (LeavesRoom 1 (room_of 100 60 0) (room_of 100 101 0))
-  pub not_cells_past_limit : ¬ (LeavesRoom 1 (room_of 100 1 60) (room_of 100 1 101))
-  pub not_57_for_nodes : ¬ (LeavesRoom 1 (room_of 100 1 0) (room_of 100 58 0))
-  pub not_57_for_cells : ¬ (LeavesRoom 1 (room_of 100 1 0) (room_of 100 1 57))
+pub record SpaceFacts : Type 0 where
+  pub longest : LeavesSpace 1 (space_of 100 1 0) (space_of 100 57 56)
+  pub up_to_limit : LeavesSpace 1 (space_of 100 60 60) (space_of 100 100 100)
+  pub not_another_limit : ¬ (LeavesSpace 1 (space_of 100 1 0) (space_of 101 1 0))
+  pub not_nodes_past_limit : ¬ (LeavesSpace 1 (space_of 100 60 0) (space_of 100 101 0))
+  pub not_cells_past_limit : ¬ (LeavesSpace 1 (space_of 100 1 60) (space_of 100 1 101))
+  pub not_57_for_nodes : ¬ (LeavesSpace 1 (space_of 100 1 0) (space_of 100 58 0))
+  pub not_57_for_cells : ¬ (LeavesSpace 1 (space_of 100 1 0) (space_of 100 1 57))
   -- the most that an insertion may need passes the limit by nodes, by cells, and by neither
-  pub by_nodes : MayPassLimit (room_of 100 45 0)
-  pub by_cells : MayPassLimit (room_of 100 1 70)
-  pub by_neither : ¬ (MayPassLimit (room_of 100 44 69))
+  pub by_nodes : MayPassLimit (space_of 100 45 0)
+  pub by_cells : MayPassLimit (space_of 100 1 70)
+  pub by_neither : ¬ (MayPassLimit (space_of 100 44 69))
 
 -- the block of a size that starts at a slot
 abbrev pub at_slot : ℕ → ℕ → Block
@@ -106,5 +106,5 @@ pub record BlocksHold : Type 0 where
   pub down : StepsDownFacts
   pub between : StepsBetweenFacts
   pub longer : LongerByOneFacts
-  pub room : RoomFacts
+  pub space : SpaceFacts
   pub tiles : TilesFacts

@@ -2,10 +2,10 @@
 use Rattle.std.specs.Prelude.{◌≡◌, ℕ, ◌++◌, true, false, Bool, List, [], ◌∷◌, map, take, Some, None}
 use Rattle.std.specs.FinMap.{from_sorted}
 use Rattle.prefix_trie_bits.specs.Model.Blocks.{Sizes, Layout, own_entries, child_count, no_layout}
-use Rattle.prefix_trie_bits.specs.Model.Insertion.{gains_child, child_block_needed, value_block_needed, node_slots_lacking, cell_slots_lacking, PassesLimit, LacksWithinLimit}
+use Rattle.prefix_trie_bits.specs.Model.Insertion.{gains_child, child_block_needed, value_block_needed, missing_node_slots, missing_cell_slots, PassesLimit, MissingFitsLimit}
 use Rattle.prefix_trie_bits.specs.Model.Nodes.{holders, parents}
 use Rattle.prefix_trie_bits.specs.Model.Step.{State, Insert, Remove, Value}
-use Rattle.prefix_trie_bits.specs.Facts.Blocks.{none_free, room_of}
+use Rattle.prefix_trie_bits.specs.Facts.Blocks.{none_free, space_of}
 use Rattle.prefix_trie_bits.specs.Rows.Examples.{path_at, Row, LeadsTo, counted, full_pairs, sets}
 use Rattle.prefix_trie_bits.specs.Rows.Limits.{short_pairs}
 
@@ -31,7 +31,7 @@ layout_at width children vals free_children free_values = record {
 
 -- the slots for nodes and those for values that the insertion of a key lacks in a map so laid out
 abbrev pub lacking : ℕ → State ℕ → Layout → ℕ × ℕ → ℕ × ℕ
-lacking width t layout q = (node_slots_lacking t.nodes layout (path_at width q), cell_slots_lacking t.entries layout (path_at width q))
+lacking width t layout q = (missing_node_slots t.nodes layout (path_at width q), missing_cell_slots t.entries layout (path_at width q))
 
 -- a block of one slot for each of these nodes
 abbrev pub with_one : ℕ × ℕ → (ℕ × ℕ) × ℕ
@@ -70,15 +70,15 @@ pub record InsertionsHold : Type 0 where
   pub first_key : LeadsTo 32 [] (λ t.
       (lacking 32 t no_layout (0, 32) ≡ (6, 1))
       × (lacking 32 t no_layout (0, 4) ≡ (0, 1))
-      × PassesLimit t.entries t.nodes (room_of 4 1 0) no_layout (path_at 32 (0, 32))
-      × (¬ (PassesLimit t.entries t.nodes (room_of 4 1 0) no_layout (path_at 32 (0, 4)))))
+      × PassesLimit t.entries t.nodes (space_of 4 1 0) no_layout (path_at 32 (0, 32))
+      × (¬ (PassesLimit t.entries t.nodes (space_of 4 1 0) no_layout (path_at 32 (0, 4)))))
   -- a key of five bits lacks one block for the root's child and one for its value. Where the limit leaves room for either, it has cause to be
   -- refused for want of memory, and where for neither, it has none
   pub first_child : LeadsTo 8 [] (λ t.
       (lacking 8 t no_layout (0, 5) ≡ (1, 1))
-      × LacksWithinLimit t.entries t.nodes (room_of 10 9 10) no_layout (path_at 8 (0, 5))
-      × LacksWithinLimit t.entries t.nodes (room_of 10 10 9) no_layout (path_at 8 (0, 5))
-      × (¬ (LacksWithinLimit t.entries t.nodes (room_of 10 10 10) no_layout (path_at 8 (0, 5)))))
+      × MissingFitsLimit t.entries t.nodes (space_of 10 9 10) no_layout (path_at 8 (0, 5))
+      × MissingFitsLimit t.entries t.nodes (space_of 10 10 9) no_layout (path_at 8 (0, 5))
+      × (¬ (MissingFitsLimit t.entries t.nodes (space_of 10 10 10) no_layout (path_at 8 (0, 5)))))
   -- row 37: after its first key is removed all its blocks are free, and serve the other one
   pub freed : LeadsTo 32 ((Insert (0, 32) 1, Value None) ∷ (Remove (0, 32), Value (Some 1)) ∷ []) (λ t.
       lacking 32 t (layout_at 32 [] [] (ones_free 6) (ones_free 1)) (0xffffffff, 32) ≡ (0, 0))
@@ -98,7 +98,7 @@ pub record InsertionsHold : Type 0 where
   -- row 14: with 24 entries the root's block of 24 is full and one of 31 lacks; with 23 none does
   pub full : LeadsTo 8 (sets (counted (take 24 short_pairs))) (λ t.
       lacking 8 t (layout_at 8 [] (((0, 0), 24) ∷ []) none_free (1 ∷ 1 ∷ 1 ∷ 1 ∷ 1 ∷ 0 ∷ 0 ∷ [])) (192, 2) ≡ (0, 31))
-  pub with_room : LeadsTo 8 (sets (counted (take 23 short_pairs))) (λ t.
+  pub with_space : LeadsTo 8 (sets (counted (take 23 short_pairs))) (λ t.
       lacking 8 t (layout_at 8 [] (((0, 0), 24) ∷ []) none_free (1 ∷ 1 ∷ 1 ∷ 1 ∷ 1 ∷ 0 ∷ 0 ∷ [])) (176, 4) ≡ (0, 0))
   -- row 17: the block of 24 is full again, and the free one of 31 serves
   pub free_serves : LeadsTo 8 seven_removed (λ t.
@@ -111,9 +111,9 @@ pub record InsertionsHold : Type 0 where
   -- row 38: the root's two entries fill its block of two; the third lacks one of four, which passes a limit of 3 and not one of 7
   pub three : LeadsTo 8 (sets (((0, 1), 1) ∷ ((128, 1), 2) ∷ ((0, 5), 3) ∷ [])) (λ t.
       (lacking 8 t three_slots (64, 2) ≡ (0, 4))
-      × PassesLimit t.entries t.nodes (room_of 3 2 3) three_slots (path_at 8 (64, 2))
-      × (¬ (LacksWithinLimit t.entries t.nodes (room_of 3 2 3) three_slots (path_at 8 (64, 2))))
-      × (¬ (PassesLimit t.entries t.nodes (room_of 7 2 3) three_slots (path_at 8 (64, 2)))))
+      × PassesLimit t.entries t.nodes (space_of 3 2 3) three_slots (path_at 8 (64, 2))
+      × (¬ (MissingFitsLimit t.entries t.nodes (space_of 3 2 3) three_slots (path_at 8 (64, 2))))
+      × (¬ (PassesLimit t.entries t.nodes (space_of 7 2 3) three_slots (path_at 8 (64, 2)))))
   -- a key that is just five bits longer than a node is not its own
   pub five_bits : LeadsTo 8 (sets (((0, 5), 1) ∷ [])) (λ t.
       (holders t.entries t.nodes ≡ path_at 8 (0, 5) ∷ [])

@@ -4,18 +4,18 @@ use Rattle.std.specs.FinMap.{empty}
 use Rattle.prefix_trie_bits.specs.Model.Blocks.{Layout, KeepsBlocks, NodesHaveBlocks, value_block_sizes, own_entries}
 use Rattle.prefix_trie_bits.specs.Model.Insertion.{value_block_needed, TakesBlocks}
 use Rattle.prefix_trie_bits.specs.Model.Step.{State, Call, Insert, Remove, RemoveKeepTree, RemoveChildren, RetainAtLeast, Reply, Refused, Refusal, Memory, IndexRange}
-use Rattle.prefix_trie_bits.specs.Model.Storage.{Storage, cleared, StepInStorage}
+use Rattle.prefix_trie_bits.specs.Model.Storage.{Storage, empty_storage, StepInStorage}
 use Rattle.prefix_trie_bits.specs.Rows.Examples.{path_at, back_at, LeadsTo, sets}
-use Rattle.prefix_trie_bits.specs.Facts.Blocks.{none_free, room_of}
+use Rattle.prefix_trie_bits.specs.Facts.Blocks.{none_free, space_of}
 use Rattle.prefix_trie_bits.specs.Facts.Insertions.{Blocks, sizes_at, layout_at, ones_free, three_slots}
 
 -- a storage of a map of eight bits under a limit of 10, with so many slots for nodes and for values
-abbrev pub stored : ℕ → ℕ → Layout → Storage
-stored nodes cells layout = record { room = room_of 10 nodes cells; layout = layout }
+abbrev pub storage_with : ℕ → ℕ → Layout → Storage
+storage_with nodes cells layout = record { space = space_of 10 nodes cells; layout = layout }
 
 -- the storage of row 38's map as first filled: a child block of one; value blocks of two and of one
 abbrev pub filled : Storage
-filled = stored 2 3 three_slots
+filled = storage_with 2 3 three_slots
 
 -- no step of the call leads from the map t, stored in the first way, to the second storage
 abbrev pub CannotLead : State ℕ → Storage → Call (ℕ × ℕ) ℕ → Storage → Type 0
@@ -56,73 +56,73 @@ child_value = ((0, 5), 1) ∷ []
 -- The root's value block may step down from two to one, for which a block of one is made. The old block is not lost, no second block is
 -- made, and no other block, no slot for nodes and no limit changes
 pub record RemoveFacts (t : State ℕ) : Type 0 where
-  pub not_lost : CannotLeave t (Remove (0, 1)) (stored 2 4 (layout_at 8 root_child (root_value 1) none_free none_free))
-  pub not_by_two : CannotLeave t (Remove (0, 1)) (stored 2 5 (layout_at 8 root_child (root_value 1) none_free two_free))
-  pub not_another : CannotLeave t (Remove (0, 1)) (stored 2 3 (layout_at 8 root_child (((0, 0), 2) ∷ ((0, 5), 2) ∷ []) none_free (ones_free 1)))
-  pub not_elsewhere : CannotLeave t (Remove (0, 1)) (stored 2 3 (layout_at 8 root_child (((0, 0), 2) ∷ ((0, 5), 1) ∷ ((128, 5), 1) ∷ []) none_free none_free))
-  pub not_nodes_longer : CannotLeave t (Remove (0, 1)) (stored 3 3 three_slots)
-  pub not_made : CannotLeave t (Remove (0, 1)) (stored 2 3 (layout_at 8 root_child (root_value 2) none_free (ones_free 1)))
-  pub not_child_made : CannotLeave t (Remove (0, 1)) (stored 2 3 (layout_at 8 root_child (root_value 2) (ones_free 1) none_free))
-  pub not_children : CannotLeave t (Remove (0, 1)) (stored 4 3 (layout_at 8 (((0, 0), 2) ∷ []) (root_value 2) (ones_free 1) none_free))
-  pub not_limit : CannotLeave t (Remove (0, 1)) (record { room = room_of 11 2 3; layout = three_slots })
+  pub not_lost : CannotLeave t (Remove (0, 1)) (storage_with 2 4 (layout_at 8 root_child (root_value 1) none_free none_free))
+  pub not_by_two : CannotLeave t (Remove (0, 1)) (storage_with 2 5 (layout_at 8 root_child (root_value 1) none_free two_free))
+  pub not_another : CannotLeave t (Remove (0, 1)) (storage_with 2 3 (layout_at 8 root_child (((0, 0), 2) ∷ ((0, 5), 2) ∷ []) none_free (ones_free 1)))
+  pub not_elsewhere : CannotLeave t (Remove (0, 1)) (storage_with 2 3 (layout_at 8 root_child (((0, 0), 2) ∷ ((0, 5), 1) ∷ ((128, 5), 1) ∷ []) none_free none_free))
+  pub not_nodes_longer : CannotLeave t (Remove (0, 1)) (storage_with 3 3 three_slots)
+  pub not_made : CannotLeave t (Remove (0, 1)) (storage_with 2 3 (layout_at 8 root_child (root_value 2) none_free (ones_free 1)))
+  pub not_child_made : CannotLeave t (Remove (0, 1)) (storage_with 2 3 (layout_at 8 root_child (root_value 2) (ones_free 1) none_free))
+  pub not_children : CannotLeave t (Remove (0, 1)) (storage_with 4 3 (layout_at 8 (((0, 0), 2) ∷ []) (root_value 2) (ones_free 1) none_free))
+  pub not_limit : CannotLeave t (Remove (0, 1)) (record { space = space_of 11 2 3; layout = three_slots })
 
 -- a node that goes leaves its value block and its parent's child block free
 pub record PruneFacts (t : State ℕ) : Type 0 where
-  pub not_with_values : CannotLeave t (Remove (0, 5)) (stored 2 3 (layout_at 8 [] (root_value 2) (ones_free 1) none_free))
-  pub not_with_children : CannotLeave t (Remove (0, 5)) (stored 2 3 (layout_at 8 root_child (((0, 0), 2) ∷ []) none_free (ones_free 1)))
-  pub not_lost : CannotLeave t (Remove (0, 5)) (stored 2 3 (layout_at 8 [] (((0, 0), 2) ∷ []) none_free (ones_free 1)))
+  pub not_with_values : CannotLeave t (Remove (0, 5)) (storage_with 2 3 (layout_at 8 [] (root_value 2) (ones_free 1) none_free))
+  pub not_with_children : CannotLeave t (Remove (0, 5)) (storage_with 2 3 (layout_at 8 root_child (((0, 0), 2) ∷ []) none_free (ones_free 1)))
+  pub not_lost : CannotLeave t (Remove (0, 5)) (storage_with 2 3 (layout_at 8 [] (((0, 0), 2) ∷ []) none_free (ones_free 1)))
 
 -- `remove_keep_tree` leaves the array of nodes alone
 pub record KeepTreeFacts (t : State ℕ) : Type 0 where
-  pub not_children : CannotLeave t (RemoveKeepTree (0, 5)) (stored 2 3 (layout_at 8 (((0, 0), 1) ∷ ((0, 5), 1) ∷ []) (((0, 0), 2) ∷ []) none_free (ones_free 1)))
-  pub not_freed : CannotLeave t (RemoveKeepTree (0, 5)) (stored 2 3 (layout_at 8 root_child (((0, 0), 2) ∷ []) (ones_free 1) (ones_free 1)))
-  pub not_nodes_longer : CannotLeave t (RemoveKeepTree (0, 5)) (stored 3 3 (layout_at 8 root_child (((0, 0), 2) ∷ []) none_free (ones_free 1)))
+  pub not_children : CannotLeave t (RemoveKeepTree (0, 5)) (storage_with 2 3 (layout_at 8 (((0, 0), 1) ∷ ((0, 5), 1) ∷ []) (((0, 0), 2) ∷ []) none_free (ones_free 1)))
+  pub not_freed : CannotLeave t (RemoveKeepTree (0, 5)) (storage_with 2 3 (layout_at 8 root_child (((0, 0), 2) ∷ []) (ones_free 1) (ones_free 1)))
+  pub not_nodes_longer : CannotLeave t (RemoveKeepTree (0, 5)) (storage_with 3 3 (layout_at 8 root_child (((0, 0), 2) ∷ []) none_free (ones_free 1)))
   pub not_with_values : CannotLeave t (RemoveKeepTree (0, 5)) filled
-  pub not_lost : CannotLeave t (RemoveKeepTree (0, 5)) (stored 2 3 (layout_at 8 root_child (((0, 0), 2) ∷ []) none_free none_free))
+  pub not_lost : CannotLeave t (RemoveKeepTree (0, 5)) (storage_with 2 3 (layout_at 8 root_child (((0, 0), 2) ∷ []) none_free none_free))
 
 -- `retain`, of the keys of five bits or more: the root's value block goes and is free, and no array is shorter, or longer where none
 -- of its blocks changes
 pub record RetainFacts (t : State ℕ) : Type 0 where
   pub not_with_values : CannotLeave t (RetainAtLeast 5) filled
-  pub not_lost : CannotLeave t (RetainAtLeast 5) (stored 2 3 (layout_at 8 root_child child_value none_free none_free))
-  pub not_children : CannotLeave t (RetainAtLeast 5) (stored 2 3 (layout_at 8 [] child_value (ones_free 1) two_free))
-  pub not_elsewhere : CannotLeave t (RetainAtLeast 5) (stored 2 3 (layout_at 8 root_child (((0, 5), 1) ∷ ((128, 5), 1) ∷ []) none_free two_free))
-  pub not_nodes_longer : CannotLeave t (RetainAtLeast 5) (stored 3 3 (layout_at 8 root_child child_value (ones_free 1) two_free))
-  pub not_cells_shorter : CannotLeave t (RetainAtLeast 5) (stored 2 2 (layout_at 8 root_child child_value none_free two_free))
-  pub not_nodes_shorter : CannotLeave t (RetainAtLeast 6) (stored 1 3 (layout_at 8 [] [] (ones_free 1) both_free))
-  pub not_cells_longer : CannotLeave t (RetainAtLeast 0) (stored 2 4 (layout_at 8 root_child (root_value 2) none_free (ones_free 1)))
+  pub not_lost : CannotLeave t (RetainAtLeast 5) (storage_with 2 3 (layout_at 8 root_child child_value none_free none_free))
+  pub not_children : CannotLeave t (RetainAtLeast 5) (storage_with 2 3 (layout_at 8 [] child_value (ones_free 1) two_free))
+  pub not_elsewhere : CannotLeave t (RetainAtLeast 5) (storage_with 2 3 (layout_at 8 root_child (((0, 5), 1) ∷ ((128, 5), 1) ∷ []) none_free two_free))
+  pub not_nodes_longer : CannotLeave t (RetainAtLeast 5) (storage_with 3 3 (layout_at 8 root_child child_value (ones_free 1) two_free))
+  pub not_cells_shorter : CannotLeave t (RetainAtLeast 5) (storage_with 2 2 (layout_at 8 root_child child_value none_free two_free))
+  pub not_nodes_shorter : CannotLeave t (RetainAtLeast 6) (storage_with 1 3 (layout_at 8 [] [] (ones_free 1) both_free))
+  pub not_cells_longer : CannotLeave t (RetainAtLeast 0) (storage_with 2 4 (layout_at 8 root_child (root_value 2) none_free (ones_free 1)))
 
 -- `drop_children` of (0, 5) removes its node, which frees that node's value block and the root's child block, and it shortens no array.
 -- (128, 5) has no node, and then no array gets longer
 pub record DropChildrenFacts (t : State ℕ) : Type 0 where
-  pub not_lost : CannotLeave t (RemoveChildren (0, 5)) (stored 2 3 (layout_at 8 [] (((0, 0), 2) ∷ []) none_free (ones_free 1)))
-  pub not_nodes_shorter : CannotLeave t (RemoveChildren (0, 5)) (stored 1 3 (layout_at 8 [] (((0, 0), 2) ∷ []) (ones_free 1) (ones_free 1)))
-  pub not_cells_shorter : CannotLeave t (RemoveChildren (0, 5)) (stored 2 2 (layout_at 8 [] (((0, 0), 2) ∷ []) (ones_free 1) (ones_free 1)))
-  pub not_nodes_longer : CannotLeave t (RemoveChildren (128, 5)) (stored 3 3 (layout_at 8 root_child (root_value 2) (ones_free 1) none_free))
-  pub not_cells_longer : CannotLeave t (RemoveChildren (128, 5)) (stored 2 4 (layout_at 8 root_child (root_value 2) none_free (ones_free 1)))
+  pub not_lost : CannotLeave t (RemoveChildren (0, 5)) (storage_with 2 3 (layout_at 8 [] (((0, 0), 2) ∷ []) none_free (ones_free 1)))
+  pub not_nodes_shorter : CannotLeave t (RemoveChildren (0, 5)) (storage_with 1 3 (layout_at 8 [] (((0, 0), 2) ∷ []) (ones_free 1) (ones_free 1)))
+  pub not_cells_shorter : CannotLeave t (RemoveChildren (0, 5)) (storage_with 2 2 (layout_at 8 [] (((0, 0), 2) ∷ []) (ones_free 1) (ones_free 1)))
+  pub not_nodes_longer : CannotLeave t (RemoveChildren (128, 5)) (storage_with 3 3 (layout_at 8 root_child (root_value 2) (ones_free 1) none_free))
+  pub not_cells_longer : CannotLeave t (RemoveChildren (128, 5)) (storage_with 2 4 (layout_at 8 root_child (root_value 2) none_free (ones_free 1)))
 
 -- The root's third entry, (64, 2), lacks a block of four for its value, and (0, 6) a block of two. Each fact names what no insertion does:
 -- it loses no block, and makes no child block if it needs none. It is not refused for want of slots if the limit leaves space for them,
 -- and not refused for memory once the block is there. A refusal neither loses blocks nor makes others than those that lacked
 pub record InsertFacts (t : State ℕ) : Type 0 where
-  pub not_lost : CannotLeave t (Insert (64, 2) 5) (stored 2 7 (layout_at 8 root_child (root_value 4) none_free none_free))
-  pub not_made : CannotLeave t (Insert (64, 2) 5) (stored 2 7 (layout_at 8 root_child (root_value 4) none_free both_free))
-  pub not_child_made : CannotLeave t (Insert (64, 2) 5) (stored 2 7 (layout_at 8 root_child (root_value 4) (ones_free 1) two_free))
-  pub not_child_lost : CannotLead t (stored 3 3 (layout_at 8 root_child (root_value 2) (ones_free 1) none_free)) (Insert (64, 2) 5)
-      (stored 3 7 (layout_at 8 root_child (root_value 4) none_free two_free))
+  pub not_lost : CannotLeave t (Insert (64, 2) 5) (storage_with 2 7 (layout_at 8 root_child (root_value 4) none_free none_free))
+  pub not_made : CannotLeave t (Insert (64, 2) 5) (storage_with 2 7 (layout_at 8 root_child (root_value 4) none_free both_free))
+  pub not_child_made : CannotLeave t (Insert (64, 2) 5) (storage_with 2 7 (layout_at 8 root_child (root_value 4) (ones_free 1) two_free))
+  pub not_child_lost : CannotLead t (storage_with 3 3 (layout_at 8 root_child (root_value 2) (ones_free 1) none_free)) (Insert (64, 2) 5)
+      (storage_with 3 7 (layout_at 8 root_child (root_value 4) none_free two_free))
   pub not_refused_for_slots : CannotRefuse t filled (64, 2) IndexRange filled
-  pub not_refused_cells_more : CannotRefuse t filled (0, 6) Memory (stored 2 6 three_slots)
-  pub not_refused_once_made : CannotRefuse t filled (64, 2) Memory (stored 2 7 (layout_at 8 root_child (root_value 2) none_free four_free))
-  pub not_refused_made : CannotRefuse t filled (64, 2) Memory (stored 2 3 (layout_at 8 root_child (root_value 2) none_free (ones_free 1)))
-  pub not_refused_child_made : CannotRefuse t filled (64, 2) Memory (stored 2 3 (layout_at 8 root_child (root_value 2) (ones_free 1) none_free))
-  pub not_refused_cells_fewer : CannotRefuse t filled (64, 2) Memory (stored 2 2 three_slots)
-  pub not_refused_nodes_more : CannotRefuse t filled (64, 2) Memory (stored 3 3 three_slots)
-  pub not_refused_nodes_fewer : CannotRefuse t filled (64, 2) Memory (stored 1 3 three_slots)
-  pub not_refused_lost : CannotRefuse t (stored 2 5 (layout_at 8 root_child (root_value 2) none_free two_free)) (64, 2) Memory
-      (stored 2 5 three_slots)
-  pub not_refused_child_lost : CannotRefuse t (stored 3 3 (layout_at 8 root_child (root_value 2) (ones_free 1) none_free)) (64, 2) Memory (stored 3 3 three_slots)
-  pub not_refused_beside_free : CannotRefuse t (stored 2 7 (layout_at 8 root_child (root_value 2) none_free four_free)) (64, 2) Memory
-      (stored 2 7 (layout_at 8 root_child (root_value 2) none_free four_free))
+  pub not_refused_cells_more : CannotRefuse t filled (0, 6) Memory (storage_with 2 6 three_slots)
+  pub not_refused_once_made : CannotRefuse t filled (64, 2) Memory (storage_with 2 7 (layout_at 8 root_child (root_value 2) none_free four_free))
+  pub not_refused_made : CannotRefuse t filled (64, 2) Memory (storage_with 2 3 (layout_at 8 root_child (root_value 2) none_free (ones_free 1)))
+  pub not_refused_child_made : CannotRefuse t filled (64, 2) Memory (storage_with 2 3 (layout_at 8 root_child (root_value 2) (ones_free 1) none_free))
+  pub not_refused_cells_fewer : CannotRefuse t filled (64, 2) Memory (storage_with 2 2 three_slots)
+  pub not_refused_nodes_more : CannotRefuse t filled (64, 2) Memory (storage_with 3 3 three_slots)
+  pub not_refused_nodes_fewer : CannotRefuse t filled (64, 2) Memory (storage_with 1 3 three_slots)
+  pub not_refused_lost : CannotRefuse t (storage_with 2 5 (layout_at 8 root_child (root_value 2) none_free two_free)) (64, 2) Memory
+      (storage_with 2 5 three_slots)
+  pub not_refused_child_lost : CannotRefuse t (storage_with 3 3 (layout_at 8 root_child (root_value 2) (ones_free 1) none_free)) (64, 2) Memory (storage_with 3 3 three_slots)
+  pub not_refused_beside_free : CannotRefuse t (storage_with 2 7 (layout_at 8 root_child (root_value 2) none_free four_free)) (64, 2) Memory
+      (storage_with 2 7 (layout_at 8 root_child (root_value 2) none_free four_free))
 
 -- the sizes of value blocks once the root has taken what its third entry needs: its block changes, and no other does
 pub record TakenFacts (t : State ℕ) : Type 0 where
@@ -152,8 +152,8 @@ pub record FilledFacts (t : State ℕ) : Type 0 where
 
 pub record StepsHold : Type 0 where
   -- what is left of a storage when all goes
-  pub all_gone : cleared filled ≡ record {
-    room = room_of 10 1 0;
+  pub all_gone : empty_storage filled ≡ record {
+    space = space_of 10 1 0;
     layout = record { child_blocks = empty; value_blocks = empty; free_child_blocks = none_free; free_value_blocks = none_free };
   }
   pub keeps : KeepsFacts

@@ -51,6 +51,6 @@ pub record ListingLaws (T : Type 0) : Type 0 where
       → listing m ≡ read ++ last ∷ rest → Resumes m last rest
   -- `remove_children` removes exactly what `children` lists, which is what is handed out
   pub removed : (m : Entries T) (q : List Bool) → listing (without_below m q) ≡ filter (λ e. not (begins q e.0)) (listing m)
-  pub handed : (m : Entries T) (q : List Bool) → listing (part_below m q) ≡ listing_below m q
+  pub split_off : (m : Entries T) (q : List Bool) → listing (part_below m q) ≡ listing_below m q
   -- the pairs below a string are those at the places of a node there, in the order of the places
   pub by_places : (m : Entries T) (s : List Bool) → listing_below m s ≡ listing_at_places m s (strings 5)

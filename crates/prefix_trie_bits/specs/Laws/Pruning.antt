@@ -10,7 +10,7 @@ module _ {T : Type 0} where
   -- not the root, begins no key that is left, and has only such nodes below it as are on the way too
   pub record IsTakenOut (n : Nodes) (m : Entries T) (q t : List Bool) : Type 0 where
     pub home_there : has_node n (home q) ≡ true
-    pub on_way : begins t (home q) ≡ true
+    pub on_path : begins t (home q) ≡ true
     pub not_root : t ≢ []
     pub no_key : (k : List Bool) → contains_key m k ≡ true → begins t k ≡ false
     pub alone : (u : List Bool) → has_node n u ≡ true → begins t u ≡ true → begins u (home q) ≡ true

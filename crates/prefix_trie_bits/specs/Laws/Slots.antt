@@ -6,8 +6,8 @@ use Rattle.prefix_trie_bits.specs.Model.Storage.{Storage, HaveBlocks, StepInStor
 
 -- so many slots for nodes and for values
 pub record MakesSlots (nodes cells : ℕ) (before after : Storage) : Type 0 where
-  pub node_slots : after.room.node_slots ≤ before.room.node_slots + nodes
-  pub cell_slots : after.room.cell_slots ≤ before.room.cell_slots + cells
+  pub node_slots : after.space.node_slots ≤ before.space.node_slots + nodes
+  pub cell_slots : after.space.cell_slots ≤ before.space.cell_slots + cells
 
 pub record SlotLaws (P T : Type 0) : Type 0 where
   -- an insertion of a key of 128 bits at most makes up to 56 slots for nodes, a block of 32 and 24 of one, and up to 31 for values

@@ -3,7 +3,7 @@ use Rattle.std.specs.Prelude.{◌≡◌, ℕ, Bool, true, false, List, length, n
 use Rattle.std.specs.FinMap.{contains_key}
 use Rattle.prefix_trie_bits.specs.Model.Nodes.{is_root}
 use Rattle.prefix_trie_bits.specs.Model.Step.{State, Call, Insert, Remove, RemoveKeepTree, RemoveChildren, RetainAtLeast, Clear, Reply, Done, Refused, Refusal}
-use Rattle.prefix_trie_bits.specs.Model.Storage.{Storage, ReadiesInStorage, InsertsInStorage, RefusesInStorage, StepInStorage, RetainsInStorage, cleared}
+use Rattle.prefix_trie_bits.specs.Model.Storage.{Storage, PreparesInStorage, InsertsInStorage, RefusesInStorage, StepInStorage, RetainsInStorage, empty_storage}
 use Rattle.prefix_trie_bits.specs.Laws.Determined.{is_refusal}
 use Rattle.prefix_trie_bits.specs.Laws.Steps.{IsMap}
 
@@ -20,7 +20,7 @@ module _ {P T : Type 0} where
 
 -- two storages have the same slots, and the same blocks in use
 pub record UseAlike (a b : Storage) : Type 0 where
-  pub room : a.room ≡ b.room
+  pub space : a.space ≡ b.space
   pub child_blocks : a.layout.child_blocks ≡ b.layout.child_blocks
   pub value_blocks : a.layout.value_blocks ≡ b.layout.value_blocks
 
@@ -30,8 +30,8 @@ module _ {P T : Type 0} (path : P → List Bool) (back : List Bool → P) (width
   pub record LeavesFixed (s : State T × Storage) (call : Call P T) (reply : Reply P T) (t : State T × Storage) : Type 0 where
     pub unchanged : may_change call ≡ false → t ≡ s
     pub set_again : (q : P) (v : T) → call ≡ Insert q v → contains_key s.0.entries (path q) ≡ true → t.1 ≡ s.1
-    pub cleared_all : call ≡ Clear → t.1 ≡ cleared s.1
-    pub removed_all : (q : P) → call ≡ RemoveChildren q → is_root (path q) ≡ true → t.1 ≡ cleared s.1
+    pub cleared_all : call ≡ Clear → t.1 ≡ empty_storage s.1
+    pub removed_all : (q : P) → call ≡ RemoveChildren q → is_root (path q) ≡ true → t.1 ≡ empty_storage s.1
     pub refused : (cause : Refusal) → reply ≡ Refused cause →
         (t.1.layout.child_blocks ≡ s.1.layout.child_blocks) × (t.1.layout.value_blocks ≡ s.1.layout.value_blocks)
 
@@ -50,6 +50,6 @@ pub record StorageLaws (P T : Type 0) : Type 0 where
       (t u : State T × Storage) → is_refusal reply ≡ false → is_refusal other ≡ false
       → StepInStorage path back width s (Insert q v) reply t → StepInStorage path back width s (Insert q v) other u → UseAlike t.1 u.1
   -- where the blocks that an insertion lacks were made before it, it is not refused
-  pub granted : (s : State T) (q : List Bool) (before mid after : Storage) (cause : Refusal) → ReadiesInStorage s q before mid → RefusesInStorage s q cause mid after → ⊥
+  pub granted : (s : State T) (q : List Bool) (before mid after : Storage) (cause : Refusal) → PreparesInStorage s q before mid → RefusesInStorage s q cause mid after → ⊥
   -- and both are as one insertion
-  pub readied : (s : State T) (q : List Bool) (before mid after : Storage) → ReadiesInStorage s q before mid → InsertsInStorage s q mid after → InsertsInStorage s q before after
+  pub readied : (s : State T) (q : List Bool) (before mid after : Storage) → PreparesInStorage s q before mid → InsertsInStorage s q mid after → InsertsInStorage s q before after

@@ -1,7 +1,7 @@
 -- From every map, however it is stored, each fitting call has a step; and so each list of fitting calls has a run.
 use Rattle.std.specs.Prelude.{◌≡◌, ℕ, ◌≤◌, ◌<◌, Bool, true, false, List, length, All}
 use Rattle.std.specs.FinMap.{contains_key}
-use Rattle.prefix_trie_bits.specs.Model.Insertion.{PassesLimit, LacksWithinLimit}
+use Rattle.prefix_trie_bits.specs.Model.Insertion.{PassesLimit, MissingFitsLimit}
 use Rattle.prefix_trie_bits.specs.Model.Step.{State, Call, Insert, CallFits, Reply, Refused, Refusal, Memory, IndexRange}
 use Rattle.prefix_trie_bits.specs.Model.Storage.{Storage, HaveBlocks, StepInStorage, RunInStorage}
 use Rattle.prefix_trie_bits.specs.Laws.Determined.{is_refusal, may_refuse}
@@ -12,16 +12,16 @@ use Rattle.prefix_trie_bits.specs.Laws.Steps.{IsMap}
 pub record IsStoredMap {T : Type 0} (width : ℕ) (s : State T × Storage) : Type 0 where
   pub is_map : IsMap width s.0
   pub have_blocks : HaveBlocks s.0 s.1.layout
-  pub root_fits : 0 < s.1.room.limit
-  pub nodes_within : s.1.room.node_slots ≤ s.1.room.limit
-  pub cells_within : s.1.room.cell_slots ≤ s.1.room.limit
+  pub root_fits : 0 < s.1.space.limit
+  pub nodes_within : s.1.space.node_slots ≤ s.1.space.limit
+  pub cells_within : s.1.space.cell_slots ≤ s.1.space.limit
 
 module _ {T : Type 0} where
   -- the storage gives cause to refuse the insertion of q: the blocks that it lacks would pass the limit, or, for want of memory, some block that it
   -- lacks would not
   abbrev pub GivesCause : State T × Storage → List Bool → Refusal → Type 0
-  GivesCause s q IndexRange = PassesLimit s.0.entries s.0.nodes s.1.room s.1.layout q
-  GivesCause s q Memory = LacksWithinLimit s.0.entries s.0.nodes s.1.room s.1.layout q
+  GivesCause s q IndexRange = PassesLimit s.0.entries s.0.nodes s.1.space s.1.layout q
+  GivesCause s q Memory = MissingFitsLimit s.0.entries s.0.nodes s.1.space s.1.layout q
 
 -- the widths of keys are 128 bits at most
 pub record TotalLaws (P T : Type 0) : Type 0 where

@@ -4,7 +4,7 @@ use Rattle.std.specs.Prelude.{◌≡◌, ℕ, Bool, true, false, List, [], ◌�
 use Rattle.prefix_trie_bits.specs.Model.Nodes.{IsTidy}
 use Rattle.prefix_trie_bits.specs.Model.Step.{State, Call, Get, Lpm, Spm, RemoveKeepTree, RetainAtLeast, Clear, Reply}
 use Rattle.prefix_trie_bits.specs.Model.Storage.{Storage, StepInStorage}
-use Rattle.prefix_trie_bits.specs.Model.Visits.{ReadsWay, ReadsToMatch}
+use Rattle.prefix_trie_bits.specs.Model.Visits.{ReadsPath, ReadsToMatch}
 
 module _ {P T : Type 0} where
   -- whether a map is known to be tidy behind a call, where `tidy` says it before: not behind a removal that leaves all nodes, and always
@@ -28,8 +28,8 @@ module _ {T : Type 0} where
 module _ {P T : Type 0} (path : P → List Bool) where
   -- how many nodes a lookup reads; no other call is counted
   abbrev pub CountsReads : State T → Call P T → Option ℕ → Type 0
-  CountsReads s (Get q) read = MatchOption read ⊥ (ReadsWay s.nodes (path q))
-  CountsReads s (Lpm q) read = MatchOption read ⊥ (ReadsWay s.nodes (path q))
+  CountsReads s (Get q) read = MatchOption read ⊥ (ReadsPath s.nodes (path q))
+  CountsReads s (Lpm q) read = MatchOption read ⊥ (ReadsPath s.nodes (path q))
   CountsReads s (Spm q) read = MatchOption read ⊥ (ReadsToMatch s.entries s.nodes (path q))
   CountsReads s call read = read ≡ None
 

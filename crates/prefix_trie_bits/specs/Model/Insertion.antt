@@ -6,7 +6,7 @@ use Rattle.prefix_trie_bits.specs.Bits.{begins}
 use Rattle.prefix_trie_bits.specs.Order.{same_string}
 use Rattle.prefix_trie_bits.specs.Model.Entries.{Entries}
 use Rattle.prefix_trie_bits.specs.Model.Nodes.{Nodes, has_node, is_node_depth, nodes_above, home}
-use Rattle.prefix_trie_bits.specs.Model.Room.{Room}
+use Rattle.prefix_trie_bits.specs.Model.Space.{Space}
 use Rattle.prefix_trie_bits.specs.Model.Blocks.{Sizes, Layout, free_of, smallest_size, child_block_sizes, value_block_sizes, child_count, own_entries}
 
 -- the size of the block that a list of so many items needs before it takes one more, where its own block has the size that is
@@ -31,18 +31,18 @@ module _ {T : Type 0} where
   value_block_needed m blocks q p = cond (same_string p (home q)) (block_needed value_block_sizes (get blocks p) (own_entries m p)) None
 
 -- the slots of the needed blocks beyond those that are free: `free` has a number for each size
-abbrev pub lacking_slots : List ℕ → List ℕ → List ℕ → ℕ
-lacking_slots [] free needed = 0
-lacking_slots (size ∷ sizes) [] needed = size * length (filter (λ s. s == size) needed) + lacking_slots sizes [] needed
-lacking_slots (size ∷ sizes) (f ∷ free) needed = size * (length (filter (λ s. s == size) needed) - f) + lacking_slots sizes free needed
+abbrev pub slots_of_missing : List ℕ → List ℕ → List ℕ → ℕ
+slots_of_missing [] free needed = 0
+slots_of_missing (size ∷ sizes) [] needed = size * length (filter (λ s. s == size) needed) + slots_of_missing sizes [] needed
+slots_of_missing (size ∷ sizes) (f ∷ free) needed = size * (length (filter (λ s. s == size) needed) - f) + slots_of_missing sizes free needed
 
 -- the sizes of the child blocks that the insertion of q needs
 abbrev pub child_blocks_needed : Nodes → Layout → List Bool → List ℕ
 child_blocks_needed n layout q = filter_map (child_block_needed n layout.child_blocks q) (nodes_above q)
 
 -- the slots for nodes that it lacks
-abbrev pub node_slots_lacking : Nodes → Layout → List Bool → ℕ
-node_slots_lacking n layout q = lacking_slots child_block_sizes layout.free_child_blocks (child_blocks_needed n layout q)
+abbrev pub missing_node_slots : Nodes → Layout → List Bool → ℕ
+missing_node_slots n layout q = slots_of_missing child_block_sizes layout.free_child_blocks (child_blocks_needed n layout q)
 
 module _ {T : Type 0} where
   -- the size of the value block that it needs, if any
@@ -50,21 +50,21 @@ module _ {T : Type 0} where
   value_blocks_needed m layout q = option_to_list (value_block_needed m layout.value_blocks q (home q))
 
   -- the slots for values that it lacks
-  abbrev pub cell_slots_lacking : Entries T → Layout → List Bool → ℕ
-  cell_slots_lacking m layout q = lacking_slots value_block_sizes layout.free_value_blocks (value_blocks_needed m layout q)
+  abbrev pub missing_cell_slots : Entries T → Layout → List Bool → ℕ
+  missing_cell_slots m layout q = slots_of_missing value_block_sizes layout.free_value_blocks (value_blocks_needed m layout q)
 
 -- how many of the needed blocks are of one size and lack: those beyond the free ones
-abbrev pub lacking_of : List ℕ → List ℕ → List ℕ → ℕ → ℕ
-lacking_of sizes free needed size = length (filter (λ s. s == size) needed) - free_of sizes free size
+abbrev pub missing_of : List ℕ → List ℕ → List ℕ → ℕ → ℕ
+missing_of sizes free needed size = length (filter (λ s. s == size) needed) - free_of sizes free size
 
 -- how many child blocks of a size the insertion of q lacks
-abbrev pub child_blocks_lacking : Nodes → Layout → List Bool → ℕ → ℕ
-child_blocks_lacking n layout q = lacking_of child_block_sizes layout.free_child_blocks (child_blocks_needed n layout q)
+abbrev pub missing_child_blocks : Nodes → Layout → List Bool → ℕ → ℕ
+missing_child_blocks n layout q = missing_of child_block_sizes layout.free_child_blocks (child_blocks_needed n layout q)
 
 module _ {T : Type 0} where
   -- how many value blocks of a size
-  abbrev pub value_blocks_lacking : Entries T → Layout → List Bool → ℕ → ℕ
-  value_blocks_lacking m layout q = lacking_of value_block_sizes layout.free_value_blocks (value_blocks_needed m layout q)
+  abbrev pub missing_value_blocks : Entries T → Layout → List Bool → ℕ → ℕ
+  missing_value_blocks m layout q = missing_of value_block_sizes layout.free_value_blocks (value_blocks_needed m layout q)
 
 -- the sizes as they were, but where a block was needed the size of that one
 abbrev pub TakesBlocks : (List Bool → Option ℕ) → Sizes → Sizes → Type 0
@@ -72,12 +72,12 @@ TakesBlocks needed before after = (p : List Bool) → get after p ≡ option_or 
 
 module _ {T : Type 0} where
   -- the blocks that the insertion of q lacks would pass the limit
-  abbrev pub PassesLimit : Entries T → Nodes → Room → Layout → List Bool → Type 0
-  PassesLimit m n room layout q =
-      (room.limit < room.node_slots + node_slots_lacking n layout q) ⊎ (room.limit < room.cell_slots + cell_slots_lacking m layout q)
+  abbrev pub PassesLimit : Entries T → Nodes → Space → Layout → List Bool → Type 0
+  PassesLimit m n space layout q =
+      (space.limit < space.node_slots + missing_node_slots n layout q) ⊎ (space.limit < space.cell_slots + missing_cell_slots m layout q)
 
   -- some block that it lacks would not: the array that it is for has room for it under the limit
-  abbrev pub LacksWithinLimit : Entries T → Nodes → Room → Layout → List Bool → Type 0
-  LacksWithinLimit m n room layout q =
-      ((size : ℕ) × (0 < child_blocks_lacking n layout q size) × (room.node_slots + size ≤ room.limit))
-      ⊎ ((size : ℕ) × (0 < value_blocks_lacking m layout q size) × (room.cell_slots + size ≤ room.limit))
+  abbrev pub MissingFitsLimit : Entries T → Nodes → Space → Layout → List Bool → Type 0
+  MissingFitsLimit m n space layout q =
+      ((size : ℕ) × (0 < missing_child_blocks n layout q size) × (space.node_slots + size ≤ space.limit))
+      ⊎ ((size : ℕ) × (0 < missing_value_blocks m layout q size) × (space.cell_slots + size ≤ space.limit))

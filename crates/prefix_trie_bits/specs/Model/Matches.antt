@@ -47,6 +47,6 @@ module _ {T : Type 0} where
   shortest_match m q = first_item (covers m q)
 
   -- a match as users see it: in place of the key the prefix rebuilt from it
-  abbrev pub shown_match : {P : Type 0} → (List Bool → P) → Option (List Bool × T) → Option (P × T)
-  shown_match back None = None
-  shown_match back (Some e) = Some (back e.0, e.1)
+  abbrev pub prefix_pair : {P : Type 0} → (List Bool → P) → Option (List Bool × T) → Option (P × T)
+  prefix_pair back None = None
+  prefix_pair back (Some e) = Some (back e.0, e.1)

@@ -25,5 +25,5 @@ module _ {T : Type 0} where
   listing_below m q = filter (λ e. begins q e.0) (listing m)
 
   -- pairs as users see them: in place of each key the prefix rebuilt from it
-  abbrev pub shown : {P : Type 0} → (List Bool → P) → List (List Bool × T) → List (P × T)
-  shown back es = map (λ e. (back e.0, e.1)) es
+  abbrev pub prefix_pairs : {P : Type 0} → (List Bool → P) → List (List Bool × T) → List (P × T)
+  prefix_pairs back es = map (λ e. (back e.0, e.1)) es

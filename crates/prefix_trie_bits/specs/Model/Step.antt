@@ -5,8 +5,8 @@ use Rattle.std.specs.FinMap.{get, contains_key, len}
 pub use Rattle.prefix_trie_bits.specs.declared.prefix.Refusal.{Refusal}
 pub use Rattle.prefix_trie_bits.specs.declared.prefix.Refusal.TheVariants.{Memory, IndexRange}
 use Rattle.prefix_trie_bits.specs.Model.Entries.{Entries, no_entries, with_entry, without_entry, without_below, part_at_least}
-use Rattle.prefix_trie_bits.specs.Model.Selections.{listing, listing_from, listing_after, listing_below, shown}
-use Rattle.prefix_trie_bits.specs.Model.Matches.{covers, longest_match, shortest_match, shown_match}
+use Rattle.prefix_trie_bits.specs.Model.Selections.{listing, listing_from, listing_after, listing_below, prefix_pairs}
+use Rattle.prefix_trie_bits.specs.Model.Matches.{covers, longest_match, shortest_match, prefix_pair}
 use Rattle.prefix_trie_bits.specs.Model.Nodes.{Nodes, root_alone, with_needed, needed, nodes_without, nodes_without_below}
 use Rattle.prefix_trie_bits.specs.Model.Addresses.{address_answer}
 
@@ -81,8 +81,8 @@ module _ {P T : Type 0} (path : P → List Bool) (back : List Bool → P) (width
         nodes = cond stored s.nodes (with_needed s.nodes (path q));
       })) ⊎ ((stored ≡ false) × (cause : Refusal) × (reply ≡ Refused cause) × (t ≡ s))
   Step s (Get q) reply t = (reply ≡ Value (get s.entries (path q))) × (t ≡ s)
-  Step s (Lpm q) reply t = (reply ≡ Match (shown_match back (longest_match s.entries (path q)))) × (t ≡ s)
-  Step s (Spm q) reply t = (reply ≡ Match (shown_match back (shortest_match s.entries (path q)))) × (t ≡ s)
+  Step s (Lpm q) reply t = (reply ≡ Match (prefix_pair back (longest_match s.entries (path q)))) × (t ≡ s)
+  Step s (Spm q) reply t = (reply ≡ Match (prefix_pair back (shortest_match s.entries (path q)))) × (t ≡ s)
   Step s (Remove q) reply t =
       (reply ≡ Value (get s.entries (path q))) × (t ≡ record {
         entries = without_entry s.entries (path q);
@@ -102,11 +102,11 @@ module _ {P T : Type 0} (path : P → List Bool) (back : List Bool → P) (width
   Step s Len reply t = (reply ≡ Count (len s.entries)) × (t ≡ s)
   Step s NodeCount reply t = (reply ≡ Count (len s.nodes)) × (t ≡ s)
   Step s AddressCount reply t = (reply ≡ Addresses (address_answer width s.entries)) × (t ≡ s)
-  Step s ListAll reply t = Lists s (shown back (listing s.entries)) reply t
+  Step s ListAll reply t = Lists s (prefix_pairs back (listing s.entries)) reply t
   Step s (ListFrom q inclusive) reply t =
-      Lists s (shown back (cond inclusive (listing_from s.entries (path q)) (listing_after s.entries (path q)))) reply t
-  Step s (Children q) reply t = Lists s (shown back (listing_below s.entries (path q))) reply t
-  Step s (Cover q) reply t = Lists s (shown back (covers s.entries (path q))) reply t
+      Lists s (prefix_pairs back (cond inclusive (listing_from s.entries (path q)) (listing_after s.entries (path q)))) reply t
+  Step s (Children q) reply t = Lists s (prefix_pairs back (listing_below s.entries (path q))) reply t
+  Step s (Cover q) reply t = Lists s (prefix_pairs back (covers s.entries (path q))) reply t
 
   -- a run of the model: the calls, answered by the replies, take the map from s to t
   abbrev pub Run : State T → List (Call P T) → List (Reply P T) → State T → Type 0

@@ -1,22 +1,22 @@
 -- How a map is stored, a step that sees it, and runs of such steps. This project's own.
 use Rattle.std.specs.Prelude.{◌≡◌, ℕ, ◌+◌, ◌≤◌, ◌<◌, Bool, true, false, Option, List, length}
 use Rattle.std.specs.FinMap.{get, contains_key, len}
-use Rattle.prefix_trie_bits.specs.Model.Asking.{AsksInOrder}
+use Rattle.prefix_trie_bits.specs.Model.Retaining.{RetainsEntries}
 use Rattle.prefix_trie_bits.specs.Model.Blocks.{Layout, no_layout, NodesHaveBlocks, KeepsBlocks, MakesBlocks, MakesAtMost, made_of, child_block_count, value_block_count, SizesStepDown, SizesStepBetween, LongerByOne, value_block_sizes, child_block_sizes, own_entries, child_count}
-use Rattle.prefix_trie_bits.specs.Model.Insertion.{PassesLimit, LacksWithinLimit, TakesBlocks, node_slots_lacking, cell_slots_lacking, child_blocks_lacking, value_blocks_lacking, child_block_needed, value_block_needed}
+use Rattle.prefix_trie_bits.specs.Model.Insertion.{PassesLimit, MissingFitsLimit, TakesBlocks, missing_node_slots, missing_cell_slots, missing_child_blocks, missing_value_blocks, child_block_needed, value_block_needed}
 use Rattle.prefix_trie_bits.specs.Model.Nodes.{home, needed}
-use Rattle.prefix_trie_bits.specs.Model.Room.{Room, MayPassLimit, LeavesRoom}
+use Rattle.prefix_trie_bits.specs.Model.Space.{Space, MayPassLimit, LeavesSpace}
 use Rattle.prefix_trie_bits.specs.Model.Selections.{listing}
 use Rattle.prefix_trie_bits.specs.Model.Step.{State, Call, Insert, Remove, RemoveKeepTree, RemoveChildren, RetainAtLeast, Clear, Reply, Value, Refused, Refusal, Memory, IndexRange, Step, Runs}
 
 -- how a map is stored: the room of its two arrays, and how they are cut into blocks
 pub record Storage : Type 0 where
-  pub room : Room
+  pub space : Space
   pub layout : Layout
 
 -- the storage of a map without entries, under the same limit: the root's slot, and no block
-abbrev pub cleared : Storage → Storage
-cleared s = record { room = record { limit = s.room.limit; node_slots = 1; cell_slots = 0 }; layout = no_layout }
+abbrev pub empty_storage : Storage → Storage
+empty_storage s = record { space = record { limit = s.space.limit; node_slots = 1; cell_slots = 0 }; layout = no_layout }
 
 module _ {T : Type 0} where
   -- each node has the block of its children and that of its values, and no other string has one
@@ -27,37 +27,37 @@ module _ {T : Type 0} where
   -- what the insertion of the new key q leaves: each node that needed a block has it, the others have theirs. Of each size exactly the
   -- lacking blocks were made, and the arrays are longer by these. No block is lost: one that was left is free
   pub record InsertsInStorage (s : State T) (q : List Bool) (before after : Storage) : Type 0 where
-    pub node_slots : after.room.node_slots ≡ before.room.node_slots + node_slots_lacking s.nodes before.layout q
-    pub cell_slots : after.room.cell_slots ≡ before.room.cell_slots + cell_slots_lacking s.entries before.layout q
+    pub node_slots : after.space.node_slots ≡ before.space.node_slots + missing_node_slots s.nodes before.layout q
+    pub cell_slots : after.space.cell_slots ≡ before.space.cell_slots + missing_cell_slots s.entries before.layout q
     pub child_blocks : TakesBlocks (child_block_needed s.nodes before.layout.child_blocks q) before.layout.child_blocks after.layout.child_blocks
     pub value_blocks : TakesBlocks (value_block_needed s.entries before.layout.value_blocks q) before.layout.value_blocks after.layout.value_blocks
-    pub child_blocks_made : MakesBlocks child_block_sizes (child_blocks_lacking s.nodes before.layout q) (child_block_count before.layout) (child_block_count after.layout)
-    pub value_blocks_made : MakesBlocks value_block_sizes (value_blocks_lacking s.entries before.layout q) (value_block_count before.layout) (value_block_count after.layout)
+    pub child_blocks_made : MakesBlocks child_block_sizes (missing_child_blocks s.nodes before.layout q) (child_block_count before.layout) (child_block_count after.layout)
+    pub value_blocks_made : MakesBlocks value_block_sizes (missing_value_blocks s.entries before.layout q) (value_block_count before.layout) (value_block_count after.layout)
 
   -- what a call leaves that makes the blocks that the insertion of the new key q lacks, and does not insert it: those in use stay
-  pub record ReadiesInStorage (s : State T) (q : List Bool) (before after : Storage) : Type 0 where
-    pub node_slots : after.room.node_slots ≡ before.room.node_slots + node_slots_lacking s.nodes before.layout q
-    pub cell_slots : after.room.cell_slots ≡ before.room.cell_slots + cell_slots_lacking s.entries before.layout q
+  pub record PreparesInStorage (s : State T) (q : List Bool) (before after : Storage) : Type 0 where
+    pub node_slots : after.space.node_slots ≡ before.space.node_slots + missing_node_slots s.nodes before.layout q
+    pub cell_slots : after.space.cell_slots ≡ before.space.cell_slots + missing_cell_slots s.entries before.layout q
     pub child_blocks : after.layout.child_blocks ≡ before.layout.child_blocks
     pub value_blocks : after.layout.value_blocks ≡ before.layout.value_blocks
-    pub child_blocks_made : MakesBlocks child_block_sizes (child_blocks_lacking s.nodes before.layout q) (child_block_count before.layout) (child_block_count after.layout)
-    pub value_blocks_made : MakesBlocks value_block_sizes (value_blocks_lacking s.entries before.layout q) (value_block_count before.layout) (value_block_count after.layout)
+    pub child_blocks_made : MakesBlocks child_block_sizes (missing_child_blocks s.nodes before.layout q) (child_block_count before.layout) (child_block_count after.layout)
+    pub value_blocks_made : MakesBlocks value_block_sizes (missing_value_blocks s.entries before.layout q) (value_block_count before.layout) (value_block_count after.layout)
 
   -- when the refusal of an insertion comes, and what it leaves: it comes only where a block lacks, for want of slots only where the lacking ones pass
   -- the limit, and for want of memory only where one that lacks still would not. The blocks in use stay, and of each size no more
   -- than the lacking blocks were made, which are free
   pub record RefusesInStorage (s : State T) (q : List Bool) (cause : Refusal) (before after : Storage) : Type 0 where
-    pub lacks : 0 < node_slots_lacking s.nodes before.layout q + cell_slots_lacking s.entries before.layout q
-    pub range : cause ≡ IndexRange → PassesLimit s.entries s.nodes before.room before.layout q
-    pub memory : cause ≡ Memory → LacksWithinLimit s.entries s.nodes after.room after.layout q
-    pub node_slots : (before.room.node_slots ≤ after.room.node_slots)
-        × (after.room.node_slots ≤ before.room.node_slots + node_slots_lacking s.nodes before.layout q)
-    pub cell_slots : (before.room.cell_slots ≤ after.room.cell_slots)
-        × (after.room.cell_slots ≤ before.room.cell_slots + cell_slots_lacking s.entries before.layout q)
+    pub lacks : 0 < missing_node_slots s.nodes before.layout q + missing_cell_slots s.entries before.layout q
+    pub range : cause ≡ IndexRange → PassesLimit s.entries s.nodes before.space before.layout q
+    pub memory : cause ≡ Memory → MissingFitsLimit s.entries s.nodes after.space after.layout q
+    pub node_slots : (before.space.node_slots ≤ after.space.node_slots)
+        × (after.space.node_slots ≤ before.space.node_slots + missing_node_slots s.nodes before.layout q)
+    pub cell_slots : (before.space.cell_slots ≤ after.space.cell_slots)
+        × (after.space.cell_slots ≤ before.space.cell_slots + missing_cell_slots s.entries before.layout q)
     pub child_blocks : after.layout.child_blocks ≡ before.layout.child_blocks
     pub value_blocks : after.layout.value_blocks ≡ before.layout.value_blocks
-    pub child_blocks_made : MakesAtMost child_block_sizes (child_blocks_lacking s.nodes before.layout q) (child_block_count before.layout) (child_block_count after.layout)
-    pub value_blocks_made : MakesAtMost value_block_sizes (value_blocks_lacking s.entries before.layout q) (value_block_count before.layout) (value_block_count after.layout)
+    pub child_blocks_made : MakesAtMost child_block_sizes (missing_child_blocks s.nodes before.layout q) (child_block_count before.layout) (child_block_count after.layout)
+    pub value_blocks_made : MakesAtMost value_block_sizes (missing_value_blocks s.entries before.layout q) (value_block_count before.layout) (value_block_count after.layout)
 
   -- what taking out the value at q leaves of the array of values: the block that lost it steps down, and the array is longer by that
   -- one block at most, which was made only where none of its size was free
@@ -65,7 +65,7 @@ module _ {T : Type 0} where
     pub value_blocks : SizesStepDown value_block_sizes before.layout.free_value_blocks s.nodes (own_entries s.entries) (own_entries t.entries)
         before.layout.value_blocks after.layout.value_blocks
     pub cells_longer : LongerByOne value_block_sizes before.layout.free_value_blocks
-        (get before.layout.value_blocks (home q)) (get after.layout.value_blocks (home q)) before.room.cell_slots after.room.cell_slots
+        (get before.layout.value_blocks (home q)) (get after.layout.value_blocks (home q)) before.space.cell_slots after.space.cell_slots
     pub value_blocks_made : MakesBlocks value_block_sizes (made_of value_block_sizes before.layout.free_value_blocks
         (get before.layout.value_blocks (home q)) (get after.layout.value_blocks (home q))) (value_block_count before.layout) (value_block_count after.layout)
 
@@ -75,7 +75,7 @@ module _ {T : Type 0} where
     pub child_blocks : SizesStepDown child_block_sizes before.layout.free_child_blocks s.nodes (child_count s.nodes) (child_count t.nodes)
         before.layout.child_blocks after.layout.child_blocks
     pub nodes_longer : (p : List Bool) × LongerByOne child_block_sizes before.layout.free_child_blocks
-        (get before.layout.child_blocks p) (get after.layout.child_blocks p) before.room.node_slots after.room.node_slots
+        (get before.layout.child_blocks p) (get after.layout.child_blocks p) before.space.node_slots after.space.node_slots
         × MakesAtMost child_block_sizes (made_of child_block_sizes before.layout.free_child_blocks
         (get before.layout.child_blocks p) (get after.layout.child_blocks p)) (child_block_count before.layout) (child_block_count after.layout)
 
@@ -86,10 +86,10 @@ module _ {T : Type 0} where
         before.layout.value_blocks after.layout.value_blocks
     pub child_blocks : SizesStepBetween child_block_sizes s.nodes (child_count s.nodes) (child_count t.nodes)
         before.layout.child_blocks after.layout.child_blocks
-    pub node_slots : before.room.node_slots ≤ after.room.node_slots
-    pub cell_slots : before.room.cell_slots ≤ after.room.cell_slots
-    pub nodes_still : after.layout.child_blocks ≡ before.layout.child_blocks → after.room.node_slots ≡ before.room.node_slots
-    pub cells_still : after.layout.value_blocks ≡ before.layout.value_blocks → after.room.cell_slots ≡ before.room.cell_slots
+    pub node_slots : before.space.node_slots ≤ after.space.node_slots
+    pub cell_slots : before.space.cell_slots ≤ after.space.cell_slots
+    pub nodes_still : after.layout.child_blocks ≡ before.layout.child_blocks → after.space.node_slots ≡ before.space.node_slots
+    pub cells_still : after.layout.value_blocks ≡ before.layout.value_blocks → after.space.cell_slots ≡ before.space.cell_slots
     pub keeps : KeepsBlocks before.layout after.layout
 
 module _ {P T : Type 0} (path : P → List Bool) where
@@ -102,20 +102,20 @@ module _ {P T : Type 0} (path : P → List Bool) where
   LeavesStorage s (Remove q) reply t before after =
       RemovesValueInStorage s t (path q) before after × PrunesInStorage s t before after
   LeavesStorage s (RemoveKeepTree q) reply t before after =
-      RemovesValueInStorage s t (path q) before after × (after.room.node_slots ≡ before.room.node_slots)
+      RemovesValueInStorage s t (path q) before after × (after.space.node_slots ≡ before.space.node_slots)
       × (after.layout.child_blocks ≡ before.layout.child_blocks) × (after.layout.free_child_blocks ≡ before.layout.free_child_blocks)
   LeavesStorage s (RemoveChildren q) reply t before after =
-      (length (path q) ≡ 0 → after ≡ cleared before) × (0 < length (path q) → RemovesManyInStorage s t before after)
+      (length (path q) ≡ 0 → after ≡ empty_storage before) × (0 < length (path q) → RemovesManyInStorage s t before after)
   LeavesStorage s (RetainAtLeast n) reply t before after = RemovesManyInStorage s t before after
-  LeavesStorage s Clear reply t before after = after ≡ cleared before
+  LeavesStorage s Clear reply t before after = after ≡ empty_storage before
   LeavesStorage s call reply t before after = after ≡ before
 
 module _ {P T : Type 0} (path : P → List Bool) (back : List Bool → P) (width : ℕ) where
   -- a step of the map and of its storage
   pub record StepInStorage (s : State T × Storage) (call : Call P T) (reply : Reply P T) (t : State T × Storage) : Type 0 where
     pub step : Step path back width s.0 call reply t.0
-    pub room : LeavesRoom (len s.0.nodes) s.1.room t.1.room
-    pub index_range : reply ≡ Refused IndexRange → MayPassLimit s.1.room
+    pub space : LeavesSpace (len s.0.nodes) s.1.space t.1.space
+    pub index_range : reply ≡ Refused IndexRange → MayPassLimit s.1.space
     pub storage : LeavesStorage path s.0 call reply t.0 s.1 t.1
 
   -- a run of such steps
@@ -130,7 +130,7 @@ module _ {T : Type 0} where
   -- a step that asks the test f at each entry, in listing order, and keeps those at which it answers true, with the nodes that these
   -- need
   pub record RetainsInStorage {F : Type 0} (asks : F → List Bool → T → Bool → F → Type 0) (f : F) (s t : State T × Storage) : Type 0 where
-    pub kept : AsksInOrder asks f (listing s.0.entries) (listing t.0.entries)
+    pub kept : RetainsEntries asks f (listing s.0.entries) (listing t.0.entries)
     pub nodes : t.0.nodes ≡ needed t.0.entries
-    pub room : LeavesRoom (len s.0.nodes) s.1.room t.1.room
+    pub space : LeavesSpace (len s.0.nodes) s.1.space t.1.space
     pub storage : RemovesManyInStorage s.0 t.0 s.1 t.1

@@ -31,8 +31,8 @@ pub record ReadsExactly (q : List Bool) (n count : ℕ) : Type 0 where
   pub bound : count ≤ length q / 5 + 1
 
 -- each node on the way to q once
-abbrev pub ReadsWay : Nodes → List Bool → ℕ → Type 0
-ReadsWay n q count = ReadsExactly q (visits n q) count
+abbrev pub ReadsPath : Nodes → List Bool → ℕ → Type 0
+ReadsPath n q count = ReadsExactly q (visits n q) count
 
 -- each of those down to that of the shortest match
 abbrev pub ReadsToMatch : {T : Type 0} → Entries T → Nodes → List Bool → ℕ → Type 0

@@ -2,7 +2,7 @@
 //! its caches, this takes less time than as many lookups. No memory is asked for.
 ghost use Rattle.std.specs.Prelude.{◌≡◌, ℕ, ◌+◌, ◌<◌, ◌≤◌, All, Bool, IfSome, List, Option, length, map, take};
 ghost use Rattle.std.specs.Option.{option_copied, option_map};
-ghost use Rattle.prefix_trie_bits.specs.Model.Matches.{longest_match, shown_match};
+ghost use Rattle.prefix_trie_bits.specs.Model.Matches.{longest_match, prefix_pair};
 ghost use Rattle.prefix_trie_map.specs.Bulk.{AreAnswered, AreFound, ReadsMore, right_for, visits_of_all};
 ghost use Rattle.prefix_trie_map.specs.Walks.{lent_item};
 
@@ -28,7 +28,7 @@ impl<P: Prefix, T: Drop, A: Allocator> PrefixMap<P, T, A> {
         requires fit { All P.IsFitting prefixes.now }
         requires same_length { length out.old ≡ length prefixes.now }
         ensures { map (option_map lent_item) out.new
-            ≡ map (λ p. shown_match P.back (longest_match self.now.entries (P.path p))) prefixes.now }
+            ≡ map (λ p. prefix_pair P.back (longest_match self.now.entries (P.path p))) prefixes.now }
     {
         self.get_lpm_bulk_counted(prefixes, out);
     }
@@ -43,7 +43,7 @@ impl<P: Prefix, T: Drop, A: Allocator> PrefixMap<P, T, A> {
         requires fit { All P.IsFitting prefixes.now }
         requires same_length { length out.old ≡ length prefixes.now }
         ensures values { map (option_map lent_item) out.new
-            ≡ map (λ p. shown_match P.back (longest_match self.now.entries (P.path p))) prefixes.now }
+            ≡ map (λ p. prefix_pair P.back (longest_match self.now.entries (P.path p))) prefixes.now }
         ensures reads { result ≡ visits_of_all P.path self.now.nodes prefixes.now }
     {
         let mut visits = Visits::new();
@@ -109,7 +109,7 @@ impl<'a, P: Prefix, T> Answer<'a, P, T> for Option<(P, &'a T)> {
 
     ghost shows = { option_map lent_item };
 
-    ghost right = { shown_match P.back };
+    ghost right = { prefix_pair P.back };
 
     #[inline(always)]
     fn of_match(key: P::R, found: Option<(u32, &'a T)>) -> Self {
@@ -197,7 +197,7 @@ fn find_group<P: Prefix, T: Drop, A: Allocator>(
 ) -> usize
     requires fit { All P.IsFitting prefixes.now }
     requires some { from < length prefixes.now }
-    requires room { length found.old ≡ 32 }
+    requires space { length found.old ≡ 32 }
     ensures group { (0 < result) × (result ≤ 32) × (from + result ≤ length prefixes.now) }
     ensures found { AreFound P.R.bits P.repr_of P.len_of table.now.build prefixes.now from result found.new }
     ensures visits { ReadsMore P.path table.now.nodes prefixes.now from (from + result) visits.old visits.new }

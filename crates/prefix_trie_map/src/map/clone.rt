@@ -24,7 +24,7 @@ impl<P: Prefix, T: Clone, A: Allocator + Clone> PrefixMap<P, T, A> {
     pub fn clone(&self) -> Result<Self, AllocError>
         ensures entries { IfOk result (λ copy. AreCloned T.is_clone self.now.entries copy.entries) }
         ensures nodes { IfOk result (λ copy. copy.nodes ≡ self.now.nodes) }
-        ensures room { IfOk result (λ copy. copy.room ≡ self.now.room) }
+        ensures space { IfOk result (λ copy. copy.space ≡ self.now.space) }
         ensures layout { IfOk result (λ copy. copy.layout ≡ self.now.layout) }
 
         // Where a clone of a value equals it, contracts see the same map.

@@ -3,9 +3,9 @@ ghost use Rattle.std.specs.Prelude.{◌≡◌, List, [], ◌∷◌, ◌++◌, �
 ghost use Rattle.std.specs.Iterator.{IsFinite, HoldsAlong, Yields, Drains};
 ghost use Rattle.prefix_trie_bits.specs.declared.prefix.Refusal.TheVariants.{Memory, IndexRange};
 ghost use Rattle.prefix_trie_bits.specs.Model.Entries.{no_entries, put_all};
-ghost use Rattle.prefix_trie_bits.specs.Model.Insertion.{LacksWithinLimit};
+ghost use Rattle.prefix_trie_bits.specs.Model.Insertion.{MissingFitsLimit};
 ghost use Rattle.prefix_trie_bits.specs.Model.Nodes.{IsTidy};
-ghost use Rattle.prefix_trie_bits.specs.Model.Room.{MayPassLimit};
+ghost use Rattle.prefix_trie_bits.specs.Model.Space.{MayPassLimit};
 ghost use Rattle.prefix_trie_map.specs.Collected.{Puts, ManyMayPassLimit};
 
 use crate::map::PrefixMap;
@@ -32,7 +32,7 @@ impl<P: Prefix, T: Drop, A: Allocator + Clone> PrefixMap<P, T, A> {
         requires fit { (it : I.IntoIter) → I.into_iter_gives items it → HoldsAlong I.IntoIter.next_gives it (All (λ item. P.IsFitting item.0)) }
         ensures entries { IfOk result (λ map. (it : I.IntoIter) × (xs : List (P × T)) × I.into_iter_gives items it × Drains I.IntoIter.next_gives it xs × (map.entries ≡ put_all P.path xs no_entries)) }
         ensures tidy { IfOk result (λ map. IsTidy map.entries map.nodes) }
-        ensures limit { IfOk result (λ map. map.room.limit ≡ 2 ^ 32 - 1) }
+        ensures limit { IfOk result (λ map. map.space.limit ≡ 2 ^ 32 - 1) }
 
         // For want of slots only where so many items came that 56 slots for each pass the limit.
         ensures range { IfErr result (λ cause. cause ≡ IndexRange → (it : I.IntoIter) × (xs : List (P × T)) × (rest : I.IntoIter) × I.into_iter_gives items it × Yields I.IntoIter.next_gives it xs rest × (2 ^ 32 - 1 < 1 + 56 * length xs)) }
@@ -51,11 +51,11 @@ fn fill<P: Prefix, T: Drop, A: Allocator, I: IntoIterator<Item = (P, T)> + Drop>
     requires ends { (it : I.IntoIter) → I.into_iter_gives items it → I.IntoIter.can_next it × IsFinite (I.IntoIter.remaining it) }
     requires fit { (it : I.IntoIter) → I.into_iter_gives items it → HoldsAlong I.IntoIter.next_gives it (All (λ item. P.IsFitting item.0)) }
     ensures ok { OnOk result ((it : I.IntoIter) × (xs : List (P × T)) × I.into_iter_gives items it × Drains I.IntoIter.next_gives it xs × Puts P.path map.old xs map.new) }
-    ensures range { IfErr result (λ cause. cause ≡ IndexRange → (it : I.IntoIter) × (xs : List (P × T)) × (rest : I.IntoIter) × I.into_iter_gives items it × Yields I.IntoIter.next_gives it xs rest × ManyMayPassLimit map.old.room (length xs)) }
+    ensures range { IfErr result (λ cause. cause ≡ IndexRange → (it : I.IntoIter) × (xs : List (P × T)) × (rest : I.IntoIter) × I.into_iter_gives items it × Yields I.IntoIter.next_gives it xs rest × ManyMayPassLimit map.old.space (length xs)) }
 
     // For want of memory only where some block lacks still for the last item taken, and the limit leaves room for it.
     ensures memory { IfErr result (λ cause. cause ≡ Memory → (it : I.IntoIter) × (xs : List (P × T)) × (last : P × T) × (rest : I.IntoIter) × I.into_iter_gives items it
-        × Yields I.IntoIter.next_gives it (xs ++ last ∷ []) rest × LacksWithinLimit map.new.entries map.new.nodes map.new.room map.new.layout (P.path last.0)) }
+        × Yields I.IntoIter.next_gives it (xs ++ last ∷ []) rest × MissingFitsLimit map.new.entries map.new.nodes map.new.space map.new.layout (P.path last.0)) }
 {
     for (prefix, value) in items {
         put(map, prefix, value)?;
@@ -71,8 +71,8 @@ fn put<P: Prefix, T: Drop, A: Allocator>(
 ) -> Result<(), Refusal>
     requires { P.IsFitting prefix }
     ensures ok { OnOk result (Puts P.path map.old ((prefix, value) ∷ []) map.new) }
-    ensures range { IfErr result (λ cause. cause ≡ IndexRange → MayPassLimit map.old.room) }
-    ensures memory { IfErr result (λ cause. cause ≡ Memory → LacksWithinLimit map.new.entries map.new.nodes map.new.room map.new.layout (P.path prefix)) }
+    ensures range { IfErr result (λ cause. cause ≡ IndexRange → MayPassLimit map.old.space) }
+    ensures memory { IfErr result (λ cause. cause ≡ Memory → MissingFitsLimit map.new.entries map.new.nodes map.new.space map.new.layout (P.path prefix)) }
 {
     // The proof learns from it that the map is whole.
     let _ = map.len();

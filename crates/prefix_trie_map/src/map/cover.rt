@@ -4,7 +4,7 @@ ghost use Rattle.std.specs.Prelude.{◌≡◌, ◌≤◌, map, length};
 ghost use Rattle.std.specs.Iterator.{at_most};
 ghost use Rattle.std.specs.Map.Iter.{TakesFirst, ShowsInOrder, GivesInOrder, deref};
 ghost use Rattle.prefix_trie_bits.specs.Model.Matches.{covers};
-ghost use Rattle.prefix_trie_bits.specs.Model.Selections.{shown};
+ghost use Rattle.prefix_trie_bits.specs.Model.Selections.{prefix_pairs};
 ghost use Rattle.prefix_trie_map.specs.Walks.{lent_item};
 ghost use Rattle.prefix_trie_map.specs.Whole.{IsWhole};
 
@@ -28,7 +28,7 @@ impl<P: Prefix, T: Drop, A: Allocator> PrefixMap<P, T, A> {
     #[inline]
     pub fn cover(&self, prefix: &P) -> Cover<'_, P, T, A>
         requires { P.IsFitting prefix.now }
-        ensures items { result ≡ shown P.back (covers self.now.entries (P.path prefix.now)) }
+        ensures items { result ≡ prefix_pairs P.back (covers self.now.entries (P.path prefix.now)) }
         ensures counted { length result ≡ length (covers self.now.entries (P.path prefix.now)) }
         ensures fits { length (covers self.now.entries (P.path prefix.now)) ≤ 129 }
         ensures runs { ShowsInOrder (lent_item {P = P} {T = T}) }
@@ -79,18 +79,18 @@ pub struct Cover<'a, P: Prefix, T: Drop, A: Allocator> {
 
 impl<'a, P: Prefix, T: Drop, A: Allocator> Model for Cover<'a, P, T, A> {
     ghost use Rattle.std.specs.Prelude.{List};
-    ghost use Rattle.prefix_trie_bits.specs.Model.Selections.{shown};
+    ghost use Rattle.prefix_trie_bits.specs.Model.Selections.{prefix_pairs};
 
     ghost Value = { List (P × T) };
 
-    ghost view = { λ c. shown P.back c.walk };
+    ghost view = { λ c. prefix_pairs P.back c.walk };
 }
 
 impl<'a, P: Prefix, T: Drop, A: Allocator> Cover<'a, P, T, A> {
     /// The walk of a table, by prefixes.
     #[inline]
     fn over(walk: TableCover<'a, P::R, T, A, Visits>) -> Self
-        ensures { result ≡ shown P.back walk.entry }
+        ensures { result ≡ prefix_pairs P.back walk.entry }
     {
         Cover {
             walk,

@@ -3,7 +3,7 @@ ghost use Rattle.std.specs.Prelude.{◌≡◌, ◌≤◌, length, take, ⊤, IfO
 ghost use Rattle.std.specs.Borrow.{sem, MutBor};
 ghost use Rattle.std.specs.FinMap.{get, contains_key};
 ghost use Rattle.std.specs.Option.{option_copied, option_copied_mut, unwrap_or, UnwrapsOrElse};
-ghost use Rattle.prefix_trie_table.specs.Locations.{seat_of, is_seat-prop, IsWayEnd, IsWayEnd-prop};
+ghost use Rattle.prefix_trie_table.specs.Locations.{seat_of, is_seat-prop, IsSearchEnd, IsSearchEnd-prop};
 
 mod insertion;
 mod occupied;
@@ -14,7 +14,7 @@ use crate::map::lookup::rebuilt;
 use crate::map::parts::parts;
 pub use insertion::Put;
 use prefix_trie_bits::prefix::{Prefix, Refusal, Refused};
-use prefix_trie_table::table::seat::{Location, Seat, WayEnd};
+use prefix_trie_table::table::seat::{Location, Seat, SearchEnd};
 use std::alloc::Allocator;
 use std::marker::Model;
 
@@ -76,9 +76,9 @@ impl<P: Prefix> Fitting<P> {
 pub struct VacantEntry<'a, P: Prefix, T: Drop, A: Allocator> {
     map: &'a mut PrefixMap<P, T, A>,
     key: Fitting<P>,
-    end: WayEnd,
+    end: SearchEnd,
     ghost absent: { contains_key map.now.entries (P.path key) ≡ false },
-    ghost ends: { IsWayEnd map.now.build (P.path key) end } by { IsWayEnd-prop map.now.build (P.path key) end },
+    ghost ends: { IsSearchEnd map.now.build (P.path key) end } by { IsSearchEnd-prop map.now.build (P.path key) end },
 }
 
 /// Let go unfilled, it leaves the map as it was.

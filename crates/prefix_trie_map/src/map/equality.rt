@@ -2,7 +2,7 @@
 ghost use Rattle.std.specs.Prelude.{◌≡◌, ◌&&◌};
 ghost use Rattle.std.specs.Cmp.Lexicographic.{pointwise, lists_per, lists_equiv};
 ghost use Rattle.std.specs.Cmp.{on_per, and_per, on_equiv, and_equiv};
-ghost use Rattle.prefix_trie_bits.specs.Model.Selections.{listing, shown};
+ghost use Rattle.prefix_trie_bits.specs.Model.Selections.{listing, prefix_pairs};
 
 use crate::map::PrefixMap;
 use prefix_trie_bits::prefix::Prefix;
@@ -18,9 +18,9 @@ use std::alloc::Allocator;
 /// a == b      false
 /// ```
 impl<P: Prefix + PartialEq, T: PartialEq + Drop, A: Allocator> PartialEq for PrefixMap<P, T, A> {
-    ghost eq = { λ a b. pointwise (λ x y. P.PartialEq.eq x.0 y.0 && T.PartialEq.eq x.1 y.1) (shown P.back (listing a.entries)) (shown P.back (listing b.entries)) };
+    ghost eq = { λ a b. pointwise (λ x y. P.PartialEq.eq x.0 y.0 && T.PartialEq.eq x.1 y.1) (prefix_pairs P.back (listing a.entries)) (prefix_pairs P.back (listing b.entries)) };
 
-    ghost laws = { on_per (λ m. shown P.back (listing m.entries)) (lists_per (and_per (on_per (λ e. e.0) P.PartialEq.laws) (on_per (λ e. e.1) T.PartialEq.laws))) };
+    ghost laws = { on_per (λ m. prefix_pairs P.back (listing m.entries)) (lists_per (and_per (on_per (λ e. e.0) P.PartialEq.laws) (on_per (λ e. e.1) T.PartialEq.laws))) };
 
     fn eq(&self, other: &Self) -> bool {
         self.iter().eq(other.iter())
@@ -28,5 +28,5 @@ impl<P: Prefix + PartialEq, T: PartialEq + Drop, A: Allocator> PartialEq for Pre
 }
 
 impl<P: Prefix + Eq, T: Eq + Drop, A: Allocator> Eq for PrefixMap<P, T, A> {
-    ghost laws = { on_equiv (λ m. shown P.back (listing m.entries)) (lists_equiv (and_equiv (on_equiv (λ e. e.0) P.Eq.laws) (on_equiv (λ e. e.1) T.Eq.laws))) };
+    ghost laws = { on_equiv (λ m. prefix_pairs P.back (listing m.entries)) (lists_equiv (and_equiv (on_equiv (λ e. e.0) P.Eq.laws) (on_equiv (λ e. e.1) T.Eq.laws))) };
 }

@@ -5,7 +5,7 @@ ghost use Rattle.std.specs.FinMap.{len};
 ghost use Rattle.std.specs.Iterator.{at_most};
 ghost use Rattle.std.specs.List.{AllZip};
 ghost use Rattle.std.specs.Map.Iter.{TakesFirst, GivesInOrder};
-ghost use Rattle.prefix_trie_bits.specs.Model.Selections.{listing, listing_below, shown};
+ghost use Rattle.prefix_trie_bits.specs.Model.Selections.{listing, listing_below, prefix_pairs};
 ghost use Rattle.prefix_trie_table.specs.Copies.{IsPairCloned};
 ghost use Rattle.prefix_trie_map.specs.Whole.{IsWhole};
 
@@ -30,7 +30,7 @@ impl<P: Prefix, T: Drop, A: Allocator> PrefixMap<P, T, A> {
     #[inline]
     pub fn into_children(self, prefix: &P) -> IntoIter<P, T, A>
         requires { P.IsFitting prefix.now }
-        ensures items { result ≡ shown P.back (listing_below self.entries (P.path prefix.now)) }
+        ensures items { result ≡ prefix_pairs P.back (listing_below self.entries (P.path prefix.now)) }
         ensures fits { length result < 2 ^ 64 }
         ensures runs { GivesInOrder (P × T) }
         ensures whole { IsWhole P.R.bit_width self }
@@ -79,7 +79,7 @@ impl<P: Prefix, T: Drop, A: Allocator> IntoIterator for PrefixMap<P, T, A> {
 
     type IntoIter = IntoIter<P, T, A>;
 
-    ghost into_iter_gives = { λ s it. (it ≡ shown P.back (listing s.entries)) × (length it ≡ len s.entries) × (len s.entries < 2 ^ 64) × GivesInOrder (P × T) × IsWhole P.R.bit_width s };
+    ghost into_iter_gives = { λ s it. (it ≡ prefix_pairs P.back (listing s.entries)) × (length it ≡ len s.entries) × (len s.entries < 2 ^ 64) × GivesInOrder (P × T) × IsWhole P.R.bit_width s };
 
     #[inline]
     fn into_iter(self) -> IntoIter<P, T, A> {
@@ -107,18 +107,18 @@ pub struct IntoIter<P: Prefix, T: Drop, A: Allocator> {
 
 impl<P: Prefix, T: Drop, A: Allocator> Model for IntoIter<P, T, A> {
     ghost use Rattle.std.specs.Prelude.{List};
-    ghost use Rattle.prefix_trie_bits.specs.Model.Selections.{shown};
+    ghost use Rattle.prefix_trie_bits.specs.Model.Selections.{prefix_pairs};
 
     ghost Value = { List (P × T) };
 
-    ghost view = { λ it. shown P.back it.walk };
+    ghost view = { λ it. prefix_pairs P.back it.walk };
 }
 
 impl<P: Prefix, T: Drop, A: Allocator> IntoIter<P, T, A> {
     /// The walk of a table, by prefixes.
     #[inline]
     fn over(walk: IntoWalk<P::R, T, A, Visits>) -> Self
-        ensures { result ≡ shown P.back walk }
+        ensures { result ≡ prefix_pairs P.back walk }
     {
         IntoIter {
             walk,

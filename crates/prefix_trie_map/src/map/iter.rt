@@ -4,7 +4,7 @@ ghost use Rattle.std.specs.FinMap.{len};
 ghost use Rattle.std.specs.Iterator.{at_most};
 ghost use Rattle.std.specs.Map.Iter.{TakesFirst, ShowsInOrder, GivesInOrder, deref};
 ghost use Rattle.prefix_trie_bits.specs.Bits.{zeros};
-ghost use Rattle.prefix_trie_bits.specs.Model.Selections.{listing, shown};
+ghost use Rattle.prefix_trie_bits.specs.Model.Selections.{listing, prefix_pairs};
 ghost use Rattle.prefix_trie_map.specs.Walks.{lent_item};
 ghost use Rattle.prefix_trie_map.specs.Whole.{IsWhole};
 
@@ -28,7 +28,7 @@ impl<P: Prefix, T: Drop, A: Allocator> PrefixMap<P, T, A> {
     /// ```
     #[inline]
     pub fn iter(&self) -> Iter<'_, P, T, A>
-        ensures items { result ≡ shown P.back (listing self.now.entries) }
+        ensures items { result ≡ prefix_pairs P.back (listing self.now.entries) }
         ensures counted { length result ≡ len self.now.entries }
         ensures fits { len self.now.entries < 2 ^ 64 }
         ensures runs { ShowsInOrder (lent_item {P = P} {T = T}) }
@@ -70,7 +70,7 @@ impl<'a, P: Prefix, T: Drop, A: Allocator> IntoIterator for &'a PrefixMap<P, T, 
 
     type IntoIter = Iter<'a, P, T, A>;
 
-    ghost into_iter_gives = { λ s it. (it ≡ shown P.back (listing s.now.entries)) × (length it ≡ len s.now.entries) × (len s.now.entries < 2 ^ 64) × ShowsInOrder (lent_item {P = P} {T = T}) × IsWhole P.R.bit_width s.now };
+    ghost into_iter_gives = { λ s it. (it ≡ prefix_pairs P.back (listing s.now.entries)) × (length it ≡ len s.now.entries) × (len s.now.entries < 2 ^ 64) × ShowsInOrder (lent_item {P = P} {T = T}) × IsWhole P.R.bit_width s.now };
 
     #[inline]
     fn into_iter(self) -> Iter<'a, P, T, A> {
@@ -90,18 +90,18 @@ pub struct Iter<'a, P: Prefix, T: Drop, A: Allocator> {
 
 impl<'a, P: Prefix, T: Drop, A: Allocator> Model for Iter<'a, P, T, A> {
     ghost use Rattle.std.specs.Prelude.{List};
-    ghost use Rattle.prefix_trie_bits.specs.Model.Selections.{shown};
+    ghost use Rattle.prefix_trie_bits.specs.Model.Selections.{prefix_pairs};
 
     ghost Value = { List (P × T) };
 
-    ghost view = { λ it. shown P.back it.walk };
+    ghost view = { λ it. prefix_pairs P.back it.walk };
 }
 
 impl<'a, P: Prefix, T: Drop, A: Allocator> Iter<'a, P, T, A> {
     /// The walk of a table, by prefixes.
     #[inline]
     pub(super) fn over(walk: Walk<'a, P::R, T, A, Visits>) -> Self
-        ensures { result ≡ shown P.back walk.entry }
+        ensures { result ≡ prefix_pairs P.back walk.entry }
     {
         Iter {
             walk,

@@ -3,10 +3,10 @@ ghost use Rattle.std.specs.Prelude.{◌≡◌, ◌+◌, ◌/◌, ◌≤◌, leng
 ghost use Rattle.std.specs.Option.{option_copied_mut, option_map};
 ghost use Rattle.std.specs.Borrow.{sem};
 ghost use Rattle.std.specs.FinMap.{get};
-ghost use Rattle.prefix_trie_bits.specs.Model.Matches.{longest_match, shown_match};
+ghost use Rattle.prefix_trie_bits.specs.Model.Matches.{longest_match, prefix_pair};
 ghost use Rattle.prefix_trie_bits.specs.Model.Visits.{visits};
 ghost use Rattle.prefix_trie_map.specs.Lending.{lends_entry_if, lends_longest_if, lent_beside};
-ghost use Rattle.prefix_trie_bits.specs.Model.Visits.{ReadsWay};
+ghost use Rattle.prefix_trie_bits.specs.Model.Visits.{ReadsPath};
 ghost use Rattle.prefix_trie_map.specs.Walks.{lent_item_mut};
 
 use crate::map::PrefixMap;
@@ -41,7 +41,7 @@ impl<P: Prefix, T: Drop, A: Allocator> PrefixMap<P, T, A> {
         requires { P.IsFitting prefix.now }
         ensures* writes_back { sem 𝓛 (lends_entry_if P.row T.row A.row P.R.row P.Prefix.own P.Debug P.R.Key.own P.R.PartialEq P.R.Debug A.Allocator self.entry (P.path prefix.now) result.0) }
         ensures value { option_copied_mut result.0 ≡ get self.old.entries (P.path prefix.now) }
-        ensures reads { ReadsWay self.old.nodes (P.path prefix.now) result.1 }
+        ensures reads { ReadsPath self.old.nodes (P.path prefix.now) result.1 }
     {
         let mut visits = Visits::new();
         let answer = self.lend_entry(prefix, &mut visits);
@@ -90,7 +90,7 @@ impl<P: Prefix, T: Drop, A: Allocator> PrefixMap<P, T, A> {
     pub fn get_lpm_mut(&mut self, prefix: &P) -> Option<(P, &mut T)>
         requires { P.IsFitting prefix.now }
         ensures* writes_back { sem 𝓛 (lends_longest_if P.row T.row A.row P.R.row P.Prefix.own P.Debug P.R.Key.own P.R.PartialEq P.R.Debug A.Allocator self.entry (P.path prefix.now) (lent_beside result)) }
-        ensures value { option_map lent_item_mut result ≡ shown_match P.back (longest_match self.old.entries (P.path prefix.now)) }
+        ensures value { option_map lent_item_mut result ≡ prefix_pair P.back (longest_match self.old.entries (P.path prefix.now)) }
     {
         not_counted(self.get_lpm_mut_counted(prefix))
     }
@@ -101,8 +101,8 @@ impl<P: Prefix, T: Drop, A: Allocator> PrefixMap<P, T, A> {
     pub fn get_lpm_mut_counted(&mut self, prefix: &P) -> (Option<(P, &mut T)>, Visits)
         requires { P.IsFitting prefix.now }
         ensures* writes_back { sem 𝓛 (lends_longest_if P.row T.row A.row P.R.row P.Prefix.own P.Debug P.R.Key.own P.R.PartialEq P.R.Debug A.Allocator self.entry (P.path prefix.now) (lent_beside result.0)) }
-        ensures value { option_map lent_item_mut result.0 ≡ shown_match P.back (longest_match self.old.entries (P.path prefix.now)) }
-        ensures reads { ReadsWay self.old.nodes (P.path prefix.now) result.1 }
+        ensures value { option_map lent_item_mut result.0 ≡ prefix_pair P.back (longest_match self.old.entries (P.path prefix.now)) }
+        ensures reads { ReadsPath self.old.nodes (P.path prefix.now) result.1 }
     {
         let mut visits = Visits::new();
         let mut found = 0;

@@ -6,8 +6,8 @@
 ghost use Rattle.std.specs.Prelude.{◌≡◌, ◌≤◌, take, IfSome};
 ghost use Rattle.std.specs.Option.{option_copied, option_map, is_some};
 ghost use Rattle.std.specs.FinMap.{get, contains_key};
-ghost use Rattle.prefix_trie_bits.specs.Model.Matches.{longest_match, shortest_match, shown_match};
-ghost use Rattle.prefix_trie_bits.specs.Model.Visits.{ReadsWay, ReadsToMatch};
+ghost use Rattle.prefix_trie_bits.specs.Model.Matches.{longest_match, shortest_match, prefix_pair};
+ghost use Rattle.prefix_trie_bits.specs.Model.Visits.{ReadsPath, ReadsToMatch};
 ghost use Rattle.prefix_trie_map.specs.Walks.{lent_item};
 
 use crate::map::PrefixMap;
@@ -39,7 +39,7 @@ impl<P: Prefix, T: Drop, A: Allocator> PrefixMap<P, T, A> {
     pub fn get_counted(&self, prefix: &P) -> (Option<&T>, Visits)
         requires { P.IsFitting prefix.now }
         ensures value { option_copied result.0 ≡ get self.now.entries (P.path prefix.now) }
-        ensures reads { ReadsWay self.now.nodes (P.path prefix.now) result.1 }
+        ensures reads { ReadsPath self.now.nodes (P.path prefix.now) result.1 }
     {
         let mut visits = Visits::new();
         let (key, len) = parts(prefix);
@@ -61,7 +61,7 @@ impl<P: Prefix, T: Drop, A: Allocator> PrefixMap<P, T, A> {
     pub fn contains_key_counted(&self, prefix: &P) -> (bool, Visits)
         requires { P.IsFitting prefix.now }
         ensures value { result.0 ≡ contains_key self.now.entries (P.path prefix.now) }
-        ensures reads { ReadsWay self.now.nodes (P.path prefix.now) result.1 }
+        ensures reads { ReadsPath self.now.nodes (P.path prefix.now) result.1 }
     {
         let (value, visits) = self.get_counted(prefix);
         (value.is_some(), visits)
@@ -88,7 +88,7 @@ impl<P: Prefix, T: Drop, A: Allocator> PrefixMap<P, T, A> {
         requires { P.IsFitting prefix.now }
         ensures value { option_map lent_item result.0
             ≡ option_map (λ value. (P.back (P.path prefix.now), value)) (get self.now.entries (P.path prefix.now)) }
-        ensures reads { ReadsWay self.now.nodes (P.path prefix.now) result.1 }
+        ensures reads { ReadsPath self.now.nodes (P.path prefix.now) result.1 }
     {
         let (value, visits) = self.get_counted(prefix);
         let (key, len) = parts(prefix);
@@ -111,7 +111,7 @@ impl<P: Prefix, T: Drop, A: Allocator> PrefixMap<P, T, A> {
     #[inline]
     pub fn get_lpm(&self, prefix: &P) -> Option<(P, &T)>
         requires { P.IsFitting prefix.now }
-        ensures { option_map lent_item result ≡ shown_match P.back (longest_match self.now.entries (P.path prefix.now)) }
+        ensures { option_map lent_item result ≡ prefix_pair P.back (longest_match self.now.entries (P.path prefix.now)) }
     {
         self.get_lpm_counted(prefix).0
     }
@@ -120,8 +120,8 @@ impl<P: Prefix, T: Drop, A: Allocator> PrefixMap<P, T, A> {
     #[inline]
     pub fn get_lpm_counted(&self, prefix: &P) -> (Option<(P, &T)>, Visits)
         requires { P.IsFitting prefix.now }
-        ensures value { option_map lent_item result.0 ≡ shown_match P.back (longest_match self.now.entries (P.path prefix.now)) }
-        ensures reads { ReadsWay self.now.nodes (P.path prefix.now) result.1 }
+        ensures value { option_map lent_item result.0 ≡ prefix_pair P.back (longest_match self.now.entries (P.path prefix.now)) }
+        ensures reads { ReadsPath self.now.nodes (P.path prefix.now) result.1 }
     {
         let mut visits = Visits::new();
         let (key, len) = parts(prefix);
@@ -160,7 +160,7 @@ impl<P: Prefix, T: Drop, A: Allocator> PrefixMap<P, T, A> {
     pub fn get_lpm_prefix_counted(&self, prefix: &P) -> (Option<P>, Visits)
         requires { P.IsFitting prefix.now }
         ensures value { result.0 ≡ option_map (λ found. P.back found.0) (longest_match self.now.entries (P.path prefix.now)) }
-        ensures reads { ReadsWay self.now.nodes (P.path prefix.now) result.1 }
+        ensures reads { ReadsPath self.now.nodes (P.path prefix.now) result.1 }
     {
         let (longest, visits) = self.get_lpm_counted(prefix);
         (prefix_of(longest), visits)
@@ -171,7 +171,7 @@ impl<P: Prefix, T: Drop, A: Allocator> PrefixMap<P, T, A> {
     #[inline]
     pub fn get_spm(&self, prefix: &P) -> Option<(P, &T)>
         requires { P.IsFitting prefix.now }
-        ensures { option_map lent_item result ≡ shown_match P.back (shortest_match self.now.entries (P.path prefix.now)) }
+        ensures { option_map lent_item result ≡ prefix_pair P.back (shortest_match self.now.entries (P.path prefix.now)) }
     {
         self.get_spm_counted(prefix).0
     }
@@ -181,7 +181,7 @@ impl<P: Prefix, T: Drop, A: Allocator> PrefixMap<P, T, A> {
     #[inline]
     pub fn get_spm_counted(&self, prefix: &P) -> (Option<(P, &T)>, Visits)
         requires { P.IsFitting prefix.now }
-        ensures value { option_map lent_item result.0 ≡ shown_match P.back (shortest_match self.now.entries (P.path prefix.now)) }
+        ensures value { option_map lent_item result.0 ≡ prefix_pair P.back (shortest_match self.now.entries (P.path prefix.now)) }
         ensures reads { ReadsToMatch self.now.entries self.now.nodes (P.path prefix.now) result.1 }
     {
         let mut visits = Visits::new();

@@ -1,9 +1,9 @@
 //! Giving memory back.
 ghost use Rattle.std.specs.Prelude.{◌≡◌, OnOk, OnErr, IfErr};
 ghost use Rattle.prefix_trie_bits.specs.declared.prefix.Refusal.TheVariants.{Memory};
-ghost use Rattle.prefix_trie_bits.specs.Model.HandsOut.{IsPacked};
+ghost use Rattle.prefix_trie_bits.specs.Model.SplitsOff.{IsPacked};
 ghost use Rattle.prefix_trie_bits.specs.Model.Nodes.{needed};
-ghost use Rattle.prefix_trie_map.specs.Steps.{state, stored};
+ghost use Rattle.prefix_trie_map.specs.Steps.{state, stored_state};
 ghost use Rattle.prefix_trie_table.specs.Shape.{storage};
 
 use crate::map::{PrefixMap, Visits};
@@ -55,8 +55,8 @@ impl<P: Prefix, T: Drop, A: Allocator + Clone> PrefixMap<P, T, A> {
         ensures entries { OnOk result (self.new.entries ≡ self.old.entries) }
         ensures nodes { OnOk result (self.new.nodes ≡ needed self.old.entries) }
         ensures packed { OnOk result (IsPacked (state self.new) (storage self.new)) }
-        ensures limit { OnOk result (self.new.room.limit ≡ self.old.room.limit) }
-        ensures unchanged { OnErr result (stored self.new ≡ stored self.old) }
+        ensures limit { OnOk result (self.new.space.limit ≡ self.old.space.limit) }
+        ensures unchanged { OnErr result (stored_state self.new ≡ stored_state self.old) }
         ensures only_memory { IfErr result (λ cause. cause ≡ Memory) }
     {
         self.table.compact::<P::R>(&mut Visits::new())

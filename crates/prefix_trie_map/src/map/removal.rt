@@ -5,8 +5,8 @@ ghost use Rattle.prefix_trie_bits.specs.Model.Entries.{no_entries, without_entry
 ghost use Rattle.prefix_trie_bits.specs.Model.Nodes.{root_alone, nodes_without, nodes_without_below};
 ghost use Rattle.prefix_trie_bits.specs.Model.Step.{Remove, RemoveKeepTree, RemoveChildren, Clear, Done, Value};
 ghost use Rattle.prefix_trie_bits.specs.Model.Storage.{StepByPath};
-ghost use Rattle.prefix_trie_table.specs.Steps.{SettlesInStorage};
-ghost use Rattle.prefix_trie_map.specs.Steps.{storage, stored};
+ghost use Rattle.prefix_trie_table.specs.Steps.{BoundsStorageGrowth};
+ghost use Rattle.prefix_trie_map.specs.Steps.{storage, stored_state};
 
 use crate::map::parts::parts;
 use crate::map::{PrefixMap, Visits};
@@ -32,7 +32,7 @@ impl<P: Prefix, T: Drop, A: Allocator> PrefixMap<P, T, A> {
 
         // It is a step of the model, of the storage too: the block that lost a value, and the one that lost a child, step down, and one is
         // made only where none of its size was free.
-        ensures step { StepByPath P.R.bit_width (stored self.old) (Remove (P.path prefix.now)) (Value result) (stored self.new) }
+        ensures step { StepByPath P.R.bit_width (stored_state self.old) (Remove (P.path prefix.now)) (Value result) (stored_state self.new) }
     {
         let (key, len) = parts(prefix);
         self.table.remove(key, len, &mut Visits::new())
@@ -54,7 +54,7 @@ impl<P: Prefix, T: Drop, A: Allocator> PrefixMap<P, T, A> {
         ensures nodes { self.new.nodes ≡ self.old.nodes }
 
         // It is a step of the model, of the storage too. The array of nodes is as it was.
-        ensures step { StepByPath P.R.bit_width (stored self.old) (RemoveKeepTree (P.path prefix.now)) (Value result) (stored self.new) }
+        ensures step { StepByPath P.R.bit_width (stored_state self.old) (RemoveKeepTree (P.path prefix.now)) (Value result) (stored_state self.new) }
     {
         let (key, len) = parts(prefix);
         self.table.remove_keep_tree(key, len, &mut Visits::new())
@@ -80,8 +80,8 @@ impl<P: Prefix, T: Drop, A: Allocator> PrefixMap<P, T, A> {
         ensures nodes { self.new.nodes ≡ nodes_without_below self.old.nodes self.old.entries (P.path prefix.now) }
 
         // It is a step of the model, of the storage too. No slots go, but at length 0.
-        ensures step { StepByPath P.R.bit_width (stored self.old) (RemoveChildren (P.path prefix.now)) Done (stored self.new) }
-        ensures settles { 0 < length (P.path prefix.now) → SettlesInStorage (storage self.old) (storage self.new) }
+        ensures step { StepByPath P.R.bit_width (stored_state self.old) (RemoveChildren (P.path prefix.now)) Done (stored_state self.new) }
+        ensures bounds_growth { 0 < length (P.path prefix.now) → BoundsStorageGrowth (storage self.old) (storage self.new) }
     {
         let (key, len) = parts(prefix);
         self.table.drop_children(key, len, &mut Visits::new());
@@ -99,7 +99,7 @@ impl<P: Prefix, T: Drop, A: Allocator> PrefixMap<P, T, A> {
         ensures nodes { self.new.nodes ≡ root_alone }
 
         // It is a step of the model, of the storage too: the root has its slot, and no block is left.
-        ensures step { StepByPath P.R.bit_width (stored self.old) Clear Done (stored self.new) }
+        ensures step { StepByPath P.R.bit_width (stored_state self.old) Clear Done (stored_state self.new) }
     {
         self.table.clear();
     }

@@ -1,12 +1,12 @@
 //! Keeping the entries at which a test says yes.
 ghost use Rattle.std.specs.Prelude.{◌≡◌, false};
-ghost use Rattle.prefix_trie_bits.specs.Model.Asking.{AsksInOrder, MayAskInOrder};
+ghost use Rattle.prefix_trie_bits.specs.Model.Retaining.{RetainsEntries, CallableOnEachEntry};
 ghost use Rattle.prefix_trie_bits.specs.Model.Nodes.{needed};
 ghost use Rattle.prefix_trie_bits.specs.Model.Selections.{listing};
 ghost use Rattle.prefix_trie_bits.specs.Model.Storage.{RetainsInStorage};
-ghost use Rattle.prefix_trie_map.specs.Asking.{AsksAt, TakesAt};
-ghost use Rattle.prefix_trie_table.specs.Steps.{SettlesInStorage};
-ghost use Rattle.prefix_trie_map.specs.Steps.{storage, stored};
+ghost use Rattle.prefix_trie_map.specs.Calling.{CalledAtEntry, TakesEntry};
+ghost use Rattle.prefix_trie_table.specs.Steps.{BoundsStorageGrowth};
+ghost use Rattle.prefix_trie_map.specs.Steps.{storage, stored_state};
 ghost use Rattle.prefix_trie_map.specs.Whole.{IsWhole};
 
 use crate::map::PrefixMap;
@@ -35,11 +35,11 @@ impl<P, F> Model for ByPrefix<P, F> {
 // A value that does not stay is dropped.
 impl<P: Prefix, T: Drop, V: Tick, F: FnMut(&P, &T) -> bool + Drop> Keep<P::R, T, V>
     for ByPrefix<P, F> {
-    ghost accepts = { TakesAt F.FnMut P.back };
+    ghost accepts = { TakesEntry F.FnMut P.back };
 
-    ghost asks = { AsksAt F.FnMut P.back };
+    ghost asks = { CalledAtEntry F.FnMut P.back };
 
-    ghost refuses = { λ f k v f'. AsksAt F.FnMut P.back f k v false f' };
+    ghost refuses = { λ f k v f'. CalledAtEntry F.FnMut P.back f k v false f' };
 
     fn keeps(&mut self, key: P::R, len: u32, value: &T) -> bool {
         let prefix = rebuilt::<P>(key, len);
@@ -63,17 +63,17 @@ impl<P: Prefix, T: Drop, A: Allocator> PrefixMap<P, T, A> {
     /// map.keys()                                                            gives 10.1.0.0/16
     /// ```
     pub fn retain<F: FnMut(&P, &T) -> bool>(&mut self, test: F)
-        requires { MayAskInOrder (AsksAt F.FnMut P.back) (TakesAt F.FnMut P.back) test (listing self.old.entries) }
+        requires { CallableOnEachEntry (CalledAtEntry F.FnMut P.back) (TakesEntry F.FnMut P.back) test (listing self.old.entries) }
         ensures whole { IsWhole P.R.bit_width self.old }
-        ensures kept { AsksInOrder (AsksAt F.FnMut P.back) test (listing self.old.entries) (listing self.new.entries) }
+        ensures kept { RetainsEntries (CalledAtEntry F.FnMut P.back) test (listing self.old.entries) (listing self.new.entries) }
         ensures nodes { self.new.nodes ≡ needed self.new.entries }
 
         // It is a step of the model, of the storage too: each block that lost items is between its old size and the smallest that holds the
         // rest, and no slot and no block goes.
-        ensures step { RetainsInStorage (AsksAt F.FnMut P.back) test (stored self.old) (stored self.new) }
+        ensures step { RetainsInStorage (CalledAtEntry F.FnMut P.back) test (stored_state self.old) (stored_state self.new) }
 
         // The arrays get longer by at most the headroom that their blocks had, over any number of calls (`settling_laws`).
-        ensures settles { SettlesInStorage (storage self.old) (storage self.new) }
+        ensures bounds_growth { BoundsStorageGrowth (storage self.old) (storage self.new) }
     {
         // The proof learns from it that the map is whole.
         let _ = self.len();

@@ -28,7 +28,7 @@ impl<P: Prefix, T: Drop, A: Allocator + Clone> PrefixMap<P, T, A> {
     pub fn with_slot_limit(alloc: A, limit: u32) -> Result<Self, Refusal>
         ensures entries { IfOk result (λ map. map.entries ≡ no_entries) }
         ensures nodes { IfOk result (λ map. map.nodes ≡ root_alone) }
-        ensures room { IfOk result (λ map. map.room ≡ record { limit = limit; node_slots = 1; cell_slots = 0 }) }
+        ensures space { IfOk result (λ map. map.space ≡ record { limit = limit; node_slots = 1; cell_slots = 0 }) }
         ensures layout { IfOk result (λ map. map.layout ≡ no_layout) }
         ensures range { IfErr result (λ cause. (cause ≡ IndexRange) ↔ (limit ≡ 0)) }
         ensures none { limit ≡ 0 → IsErr result }
@@ -45,7 +45,7 @@ impl<P: Prefix, T: Drop, A: Allocator> PrefixMap<P, T, A> {
     /// slots; only `clear` takes them away, and `drop_children` and `remove_children` of a prefix of length 0.
     #[inline]
     pub fn node_slots(&self) -> usize
-        ensures slots { result ≡ self.now.room.node_slots }
+        ensures slots { result ≡ self.now.space.node_slots }
         ensures whole { IsWhole P.R.bit_width self.now }
     {
         // The proof learns from it that the map is whole.
@@ -56,7 +56,7 @@ impl<P: Prefix, T: Drop, A: Allocator> PrefixMap<P, T, A> {
     /// How many slots the array of values has, used or free: a new map has none. Never more than the limit.
     #[inline]
     pub fn cell_slots(&self) -> usize
-        ensures slots { result ≡ self.now.room.cell_slots }
+        ensures slots { result ≡ self.now.space.cell_slots }
         ensures whole { IsWhole P.R.bit_width self.now }
     {
         // The proof learns from it that the map is whole.
@@ -75,7 +75,7 @@ impl<P: Prefix, T: Drop, A: Allocator> PrefixMap<P, T, A> {
     #[inline]
     pub fn node_blocks(&self) -> [BlockCount; 7]
         ensures counts { result ≡ block_counts child_block_sizes self.now.layout.child_blocks self.now.layout.free_child_blocks }
-        ensures slots { self.now.room.node_slots ≡ 1 + slots_counted result }
+        ensures slots { self.now.space.node_slots ≡ 1 + slots_counted result }
         ensures blocks { NodesHaveBlocks child_block_sizes self.now.nodes (child_count self.now.nodes) self.now.layout.child_blocks }
         ensures used { used_blocks result ≡ length (parents self.now.nodes) }
     {
@@ -87,7 +87,7 @@ impl<P: Prefix, T: Drop, A: Allocator> PrefixMap<P, T, A> {
     #[inline]
     pub fn cell_blocks(&self) -> [BlockCount; 7]
         ensures counts { result ≡ block_counts value_block_sizes self.now.layout.value_blocks self.now.layout.free_value_blocks }
-        ensures slots { self.now.room.cell_slots ≡ slots_counted result }
+        ensures slots { self.now.space.cell_slots ≡ slots_counted result }
         ensures blocks { NodesHaveBlocks value_block_sizes self.now.nodes (own_entries self.now.entries) self.now.layout.value_blocks }
         ensures used { used_blocks result ≡ length (holders self.now.entries self.now.nodes) }
     {

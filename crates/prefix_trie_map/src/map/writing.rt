@@ -7,9 +7,9 @@ ghost use Rattle.std.specs.Borrow.{sem, Lends};
 ghost use Rattle.prefix_trie_map.specs.Lending.{lent_beside};
 
 mod calls;
-mod course;
+mod cursor;
 
-pub use course::Course;
+pub use cursor::MapCursor;
 
 /// What a walk goes over, and lends the values of.
 pub trait Source: Sized {
@@ -17,16 +17,16 @@ pub trait Source: Sized {
 
     type Value;
 
-    type Stop: Drop;
+    type CursorItem: Drop;
 
     // the source stands at this stop
-    ghost IsAt: { Self → Self.Stop → Type 0 };
+    ghost IsAt: { Self → Self.CursorItem → Type 0 };
 
     // the source with a value written at a stop
-    ghost with: { Self → Self.Stop → Self.Value → Self };
+    ghost with: { Self → Self.CursorItem → Self.Value → Self };
 
     // the value at a stop
-    ghost Holds: { Self → Self.Stop → Self.Value → Type 0 };
+    ghost Holds: { Self → Self.CursorItem → Self.Value → Type 0 };
 
     // the first entry still to come
     ghost First: { Self → Self.Prefix → Self.Value → Type 0 };
@@ -37,34 +37,34 @@ pub trait Source: Sized {
     // nothing was to come, nothing is, and nothing was written
     ghost Ends: { Self → Self → Type 0 };
 
-    fn step(&mut self) -> Option<(Self::Prefix, Self::Stop)>
+    fn step(&mut self) -> Option<(Self::Prefix, Self::CursorItem)>
         ensures { MatchOption result (Ends self.old self.new) (λ r. IsAt self.new r.1
             × ((value : Self.Value) → Holds self.new r.1 value → First self.old r.0 value)
             × ((value : Self.Value) → Passes self.old value (with self.new r.1 value))) };
 
-    fn lend(&mut self, stop: Self::Stop) -> &mut Self::Value
-        requires { IsAt self.old stop }
-        ensures* writes_back { sem 𝓛 (Lends Self.row Self.Value.row self.entry result (with self.old stop)) }
-        ensures value { Holds self.old stop result.now };
+    fn lend(&mut self, item: Self::CursorItem) -> &mut Self::Value
+        requires { IsAt self.old item }
+        ensures* writes_back { sem 𝓛 (Lends Self.row Self.Value.row self.entry result (with self.old item)) }
+        ensures value { Holds self.old item result.now };
 }
 
 /// A walk that lends values for writing. Its default is the empty one, which has no map.
 #[derive(Drop)]
 pub struct WalkOf<C> {
-    course: Option<C>,
+    source: Option<C>,
 }
 
 impl<C> Default for WalkOf<C> {
-    ghost is_default = { λ w. w.course ≡ None };
+    ghost is_default = { λ w. w.source ≡ None };
 
     #[inline]
     fn default() -> Self {
-        WalkOf { course: None }
+        WalkOf { source: None }
     }
 }
 
 impl<C: Source> WalkOf<C> {
-    ghost use Rattle.prefix_trie_map.specs.WritingWalks.{AtIn, HoldsIn, FirstIn, EndsIn, IsOverIn, StepsIn, lends_stop, lends_next};
+    ghost use Rattle.prefix_trie_map.specs.WritingWalks.{AtIn, HoldsIn, FirstIn, EndsIn, IsOverIn, StepsIn, lends_item, lends_next};
 
     /// Goes on to the next entry, and answers its prefix and where its value stands: `value` lends it.
     ///
@@ -74,25 +74,25 @@ impl<C: Source> WalkOf<C> {
     /// if let Some((prefix, stop)) = walk.step() { *walk.value(stop) = 3; }    sets the value of 10.0.0.0/8
     /// ```
     #[inline]
-    pub fn step(&mut self) -> Option<(C::Prefix, C::Stop)>
-        ensures { MatchOption result (EndsIn C.Ends self.old.course self.new.course)
-            (λ r. StepsIn C.IsAt C.Holds C.with C.First C.Passes self.old.course r.0 r.1 self.new.course) }
+    pub fn step(&mut self) -> Option<(C::Prefix, C::CursorItem)>
+        ensures { MatchOption result (EndsIn C.Ends self.old.source self.new.source)
+            (λ r. StepsIn C.IsAt C.Holds C.with C.First C.Passes self.old.source r.0 r.1 self.new.source) }
     {
-        match &mut self.course {
-            Some(course) => course.step(),
+        match &mut self.source {
+            Some(source) => source.step(),
             None => None,
         }
     }
 
     /// The value at a stop of this walk, for writing.
     #[inline]
-    pub fn value(&mut self, stop: C::Stop) -> &mut C::Value
-        requires { AtIn C.IsAt self.old.course stop }
-        ensures* writes_back { sem 𝓛 (lends_stop C.row C.Value.row self.entry C.with stop result) }
-        ensures value { HoldsIn C.Holds self.old.course stop result.now }
+    pub fn value(&mut self, item: C::CursorItem) -> &mut C::Value
+        requires { AtIn C.IsAt self.old.source item }
+        ensures* writes_back { sem 𝓛 (lends_item C.row C.Value.row self.entry C.with item result) }
+        ensures value { HoldsIn C.Holds self.old.source item result.now }
     {
-        match &mut self.course {
-            Some(course) => course.lend(stop),
+        match &mut self.source {
+            Some(source) => source.lend(item),
             None => unreachable!(),
         }
     }
@@ -109,10 +109,10 @@ impl<C: Source> WalkOf<C> {
     #[inline]
     pub fn next_value(&mut self) -> Option<&mut C::Value>
         ensures* writes_back { sem 𝓛 (lends_next C.row C.Value.row self.entry C.Passes C.Ends result) }
-        ensures value { IfSome result (λ x. (q : C.Prefix) × FirstIn C.First self.old.course q x.now) }
+        ensures value { IfSome result (λ x. (q : C.Prefix) × FirstIn C.First self.old.source q x.now) }
     {
-        let (_, stop) = self.step()?;
-        Some(self.value(stop))
+        let (_, item) = self.step()?;
+        Some(self.value(item))
     }
 
     /// The next entry: its prefix, without host bits, and its value, lent until the next call. What was written a caller's proof learns
@@ -120,8 +120,8 @@ impl<C: Source> WalkOf<C> {
     #[inline]
     pub fn next(&mut self) -> Option<(C::Prefix, &mut C::Value)>
         ensures* writes_back { sem 𝓛 (lends_next C.row C.Value.row self.entry C.Passes C.Ends (lent_beside result)) }
-        ensures first { IfSome result (λ r. FirstIn C.First self.old.course r.0 r.1.now) }
-        ensures none { IfNone result (IsOverIn C.Ends self.old.course) }
+        ensures first { IfSome result (λ r. FirstIn C.First self.old.source r.0 r.1.now) }
+        ensures none { IfNone result (IsOverIn C.Ends self.old.source) }
     {
         let mut prefix = None;
         let value = self.lend_next(&mut prefix);
@@ -132,12 +132,12 @@ impl<C: Source> WalkOf<C> {
     #[inline]
     fn lend_next(&mut self, prefix: &mut Option<C::Prefix>) -> Option<&mut C::Value>
         ensures* writes_back { sem 𝓛 (lends_next C.row C.Value.row self.entry C.Passes C.Ends result) }
-        ensures first { MatchOption result (IsOverIn C.Ends self.old.course)
-            (λ x. (q : C.Prefix) × (prefix.new ≡ Some q) × FirstIn C.First self.old.course q x.now) }
+        ensures first { MatchOption result (IsOverIn C.Ends self.old.source)
+            (λ x. (q : C.Prefix) × (prefix.new ≡ Some q) × FirstIn C.First self.old.source q x.now) }
     {
-        let (found, stop) = self.step()?;
+        let (found, item) = self.step()?;
         *prefix = Some(found);
-        Some(self.value(stop))
+        Some(self.value(item))
     }
 }
 
@@ -164,7 +164,7 @@ pub struct ValuesOf<C> {
 }
 
 impl<C> Default for ValuesOf<C> {
-    ghost is_default = { λ w. w.walk.course ≡ None };
+    ghost is_default = { λ w. w.walk.source ≡ None };
 
     #[inline]
     fn default() -> Self {
@@ -181,14 +181,14 @@ impl<C: Source> ValuesOf<C> {
     #[inline]
     pub fn next(&mut self) -> Option<&mut C::Value>
         ensures* writes_back { sem 𝓛 (lends_next_value C.row C.Value.row self.entry C.Passes C.Ends result) }
-        ensures value { IfSome result (λ x. (q : C.Prefix) × FirstIn C.First self.old.walk.course q x.now) }
+        ensures value { IfSome result (λ x. (q : C.Prefix) × FirstIn C.First self.old.walk.source q x.now) }
     {
         self.walk.next_value()
     }
 }
 
 /// The entries of a map in listing order: each prefix, without host bits, with its value lent for writing until the next call.
-pub type IterMut<'a, P, T, A> = WalkOf<Course<'a, P, T, A>>;
+pub type IterMut<'a, P, T, A> = WalkOf<MapCursor<'a, P, T, A>>;
 
 /// The values of a map, in the listing order of their prefixes, lent for writing, each until the next call.
-pub type ValuesMut<'a, P, T, A> = ValuesOf<Course<'a, P, T, A>>;
+pub type ValuesMut<'a, P, T, A> = ValuesOf<MapCursor<'a, P, T, A>>;

@@ -1,7 +1,7 @@
 //! The entries of one map that nothing in another one covers.
 ghost use Rattle.std.specs.Prelude.{◌≡◌, not};
 ghost use Rattle.std.specs.Map.Iter.{ShowsInOrder};
-ghost use Rattle.prefix_trie.specs.Words.{lent_item, listing, shown};
+ghost use Rattle.prefix_trie.specs.Words.{lent_item, listing, prefix_pairs};
 ghost use Rattle.prefix_trie_ops.specs.Combining.{not_covered};
 
 use crate::select::{PathTest, Selected};
@@ -44,7 +44,7 @@ pub fn covering_difference<'a, P: Prefix, T: Drop, U: Drop, A: Allocator, B: All
     left: &'a PrefixMap<P, T, A>,
     right: &'a PrefixMap<P, U, B>,
 ) -> CoveringDifferenceWalk<'a, P, T, U, A, B>
-    ensures items { result ≡ shown P.back (listing (not_covered left.now.entries right.now.entries)) }
+    ensures items { result ≡ prefix_pairs P.back (listing (not_covered left.now.entries right.now.entries)) }
     ensures runs { ShowsInOrder (lent_item {P = P} {T = T}) }
 {
     listing_laws::<T>();

@@ -2,7 +2,7 @@
 ghost use Rattle.std.specs.Prelude.{◌≡◌, List, length};
 ghost use Rattle.std.specs.Iterator.{at_most};
 ghost use Rattle.std.specs.Map.Iter.{ShowsInOrder, TakesFirst};
-ghost use Rattle.prefix_trie.specs.Words.{listing, shown};
+ghost use Rattle.prefix_trie.specs.Words.{listing, prefix_pairs};
 ghost use Rattle.prefix_trie_ops.specs.Merging.{first_side_of, lent_side, merged, union_of};
 
 use crate::ahead::Ahead;
@@ -46,7 +46,7 @@ pub fn union<'a, P: Prefix, T: Drop, U: Drop, A: Allocator, B: Allocator>(
     left: &'a PrefixMap<P, T, A>,
     right: &'a PrefixMap<P, U, B>,
 ) -> UnionWalk<'a, P, T, U, A, B>
-    ensures items { result ≡ shown P.back (listing (union_of left.now.entries right.now.entries)) }
+    ensures items { result ≡ prefix_pairs P.back (listing (union_of left.now.entries right.now.entries)) }
     ensures runs { ShowsInOrder (lent_side {P = P} {T = T} {U = U}) }
 {
     listing_laws::<T>();

@@ -3,7 +3,7 @@ ghost use Rattle.std.specs.Prelude.{◌≡◌, All, List, length};
 ghost use Rattle.std.specs.Iterator.{at_most};
 ghost use Rattle.std.specs.List.{filter_map};
 ghost use Rattle.std.specs.Map.Iter.{ShowsInOrder, TakesFirst};
-ghost use Rattle.prefix_trie.specs.Words.{listing, shown};
+ghost use Rattle.prefix_trie.specs.Words.{listing, prefix_pairs};
 ghost use Rattle.prefix_trie_ops.specs.Combining.{common, with_partner};
 ghost use Rattle.prefix_trie_ops.specs.Lending.{lent_pair};
 
@@ -49,7 +49,7 @@ pub fn intersection<'a, P: Prefix, T: Drop, U: Drop, A: Allocator, B: Allocator>
     left: &'a PrefixMap<P, T, A>,
     right: &'a PrefixMap<P, U, B>,
 ) -> IntersectionWalk<'a, P, T, U, A, B>
-    ensures items { result ≡ shown P.back (listing (common left.now.entries right.now.entries)) }
+    ensures items { result ≡ prefix_pairs P.back (listing (common left.now.entries right.now.entries)) }
     ensures runs { ShowsInOrder (lent_pair {P = P} {T = T} {U = U}) }
 {
     listing_laws::<T>();

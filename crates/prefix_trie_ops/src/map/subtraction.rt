@@ -2,7 +2,7 @@
 ghost use Rattle.std.specs.Prelude.{◌≡◌, not};
 ghost use Rattle.std.specs.FinMap.{contains_key};
 ghost use Rattle.std.specs.Map.Iter.{ShowsInOrder};
-ghost use Rattle.prefix_trie.specs.Words.{lent_item, listing, shown};
+ghost use Rattle.prefix_trie.specs.Words.{lent_item, listing, prefix_pairs};
 ghost use Rattle.prefix_trie_ops.specs.Combining.{minus};
 
 use crate::select::{PathTest, Selected};
@@ -44,7 +44,7 @@ pub fn difference<'a, P: Prefix, T: Drop, U: Drop, A: Allocator, B: Allocator>(
     left: &'a PrefixMap<P, T, A>,
     right: &'a PrefixMap<P, U, B>,
 ) -> DifferenceWalk<'a, P, T, U, A, B>
-    ensures items { result ≡ shown P.back (listing (minus left.now.entries right.now.entries)) }
+    ensures items { result ≡ prefix_pairs P.back (listing (minus left.now.entries right.now.entries)) }
     ensures runs { ShowsInOrder (lent_item {P = P} {T = T}) }
 {
     listing_laws::<T>();

@@ -3,7 +3,7 @@ use crate::table::{Line, Map, Pair, Written, answers, fitting};
 use prefix_trie::Refusal;
 
 /// Whether the entries that a prefix contains are handed out as a map that answers these lines.
-pub fn hands_out<P: Written>(map: &mut Map<P>, pair: Pair, lines: &[Line]) -> bool {
+pub fn splits_off<P: Written>(map: &mut Map<P>, pair: Pair, lines: &[Line]) -> bool {
     match fitting::<P>(pair) {
         Some(prefix) => is_handed_out(map.remove_children(&prefix), lines),
         None => false,

@@ -55,7 +55,7 @@ fn holds<P: Written>(alloc: Global, set: &mut Set<P>, line: &SetLine) -> bool {
         SetLine::FromIter(pairs) => renews(set, set_of(alloc, pairs)),
         SetLine::Insert(pair, answer) => inserts(set, *pair, *answer),
         SetLine::Remove(pair, answer) => removes(set, *pair, *answer),
-        SetLine::RemoveChildren(pair, count) => hands_out(set, *pair, *count),
+        SetLine::RemoveChildren(pair, count) => splits_off(set, *pair, *count),
         SetLine::Equals(pairs, answer) => equals(set, set_of(alloc, pairs), *answer),
         SetLine::AddressCount(answer) => is_number(set.address_count(), *answer),
         SetLine::Len(count) => set.len() == *count && set.is_empty() == (*count == 0),
@@ -119,7 +119,7 @@ fn removes<P: Written>(set: &mut Set<P>, pair: Pair, answer: bool) -> bool {
 }
 
 /// Whether the keys that a prefix contains are handed out as a set of so many.
-fn hands_out<P: Written>(set: &mut Set<P>, pair: Pair, count: usize) -> bool {
+fn splits_off<P: Written>(set: &mut Set<P>, pair: Pair, count: usize) -> bool {
     match fitting::<P>(pair) {
         Some(prefix) => set.remove_children(&prefix).map(|second| second.len()) == Ok(count),
         None => false,

@@ -1,5 +1,5 @@
 -- Numbers of blocks by size, where the sizes of the tiers go up.
-use Rattle.prefix_trie_table.proofs.Prelude.{◌≡◌, ◌≢◌, ℕ, zero, suc, ◌+◌, ◌-◌, ◌*◌, ◌<◌, ◌≤◌, ◌==◌, inl, inr, true, false, cond, nat_lt, nat_le, List, [], ◌∷◌, length, set, map, Option, None, Some, refl, sym, ap, ap₂, ◌∙◌, subst, arith, eqb-true, eq-eqb, mul-add, mul-le-mul_left, cases_eq, cases_lt, false_from_ne_true, le-ltb, nat_tests, same_Some, length-map, get_or_default, Contains, free_of, smallest_size, lacking_of, lacking_slots, goes_up, above, free_here, free_later, in_cases, first_in, later_in, IsSmallest, smallest_of, how_many, HasSizes, node_sizes, cell_sizes, Tier, tier_at, tier_sizes, size_in, free_in, made_in, size_if_any, list_need, many_of, slots_of}
+use Rattle.prefix_trie_table.proofs.Prelude.{◌≡◌, ◌≢◌, ℕ, zero, suc, ◌+◌, ◌-◌, ◌*◌, ◌<◌, ◌≤◌, ◌==◌, inl, inr, true, false, cond, nat_lt, nat_le, List, [], ◌∷◌, length, set, map, Option, None, Some, refl, sym, ap, ap₂, ◌∙◌, subst, arith, eqb-true, eq-eqb, mul-add, mul-le-mul_left, cases_eq, cases_lt, false_from_ne_true, le-ltb, nat_tests, same_Some, length-map, get_or_default, Contains, free_of, smallest_size, missing_of, slots_of_missing, goes_up, above, free_here, free_later, in_cases, first_in, later_in, IsSmallest, smallest_of, how_many, HasSizes, node_sizes, cell_sizes, Tier, tier_at, tier_sizes, size_in, free_in, made_in, size_if_any, list_need, many_of, slots_of}
 use Rattle.std.proofs.lemmas.Bool.{lt-ltb}
 use Rattle.std.proofs.lemmas.List.{length-set, get_or-set_same}
 use Rattle.std.specs.Prelude.{find}
@@ -137,14 +137,14 @@ slots_of-many below (size ∷ sizes) up s m at =
 
 -- the slots of the lacking blocks, size by size
 pub slots_lack : (below : ℕ) (sizes free needed : List ℕ) → goes_up below sizes ≡ true → length free ≡ length sizes →
-    lacking_slots sizes free needed ≡ slots_of sizes (lacking_of sizes free needed)
+    slots_of_missing sizes free needed ≡ slots_of sizes (missing_of sizes free needed)
 slots_lack below [] free needed up long = refl
 slots_lack below (size ∷ sizes) [] needed up long = absurd (omega (arith, long))
 slots_lack below (size ∷ sizes) (f ∷ free) needed up long =
     let later = (both (nat_lt below size) (goes_up size sizes) up).1 in
     ap₂ (λ a b. size * a + b) (ap (λ n. how_many size needed - n) (sym (free_here size sizes f free)))
     (slots_lack size sizes free needed later (omega (arith, long))
-    ∙ slots_of-same sizes (lacking_of sizes free needed) (lacking_of (size ∷ sizes) (f ∷ free) needed)
+    ∙ slots_of-same sizes (missing_of sizes free needed) (missing_of (size ∷ sizes) (f ∷ free) needed)
     (λ s there. ap (λ n. how_many s needed - n) (sym (free_later size sizes f free s (above size sizes later s there)))))
 
 -- ---- the smallest size for so many
@@ -189,8 +189,8 @@ need_first ts k zero e = refl
 need_first ts k (suc n) e = absurd (omega (arith, e))
 
 pub need_none : (ts : List Tier) (k count : ℕ) → 0 < count → count < size_in (tier_sizes ts) k → list_need ts k count ≡ None
-need_none ts k zero some room = absurd (omega (arith, some))
-need_none ts k (suc n) some room = ap (λ b. cond b None (smallest_size (tier_sizes ts) (suc n + 1))) (lt-ltb (suc n) (size_in (tier_sizes ts) k) room)
+need_none ts k zero some space = absurd (omega (arith, some))
+need_none ts k (suc n) some space = ap (λ b. cond b None (smallest_size (tier_sizes ts) (suc n + 1))) (lt-ltb (suc n) (size_in (tier_sizes ts) k) space)
 
 pub need_full : (ts : List Tier) (k count : ℕ) → 0 < count → size_in (tier_sizes ts) k ≤ count → list_need ts k count ≡ smallest_size (tier_sizes ts) (count + 1)
 need_full ts k zero some full = absurd (omega (arith, some))

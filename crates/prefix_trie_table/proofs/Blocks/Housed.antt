@@ -1,5 +1,5 @@
 -- Each node's children, and each node's values, stand in a block of one of the sizes that holds them.
-use Rattle.prefix_trie_table.proofs.Prelude.{◌≡◌, ℕ, zero, suc, ◌<◌, inl, inr, Bool, true, cond, ◌&&◌, List, length, map, flat_map, Option, None, Some, is_some, refl, sym, ap, ◌∙◌, subst, arith, cases_Bool, get_or_default, get, Sizes, HasBlock, NodesHaveBlocks, child_block_sizes, value_block_sizes, child_count, own_entries, Nodes, has_node, is_node_depth, State, and-first, Node, rank, bits, blank_node, node_sizes, cell_sizes, path_of, Holds, read, own_count, without, value_blocks, AreSizesBy, Sized, own_children, child_block_size, value_block_size, IsShapeOf, Store, HasList, size_in, tier_sizes, size_if_any}
+use Rattle.prefix_trie_table.proofs.Prelude.{◌≡◌, ℕ, zero, suc, ◌<◌, inl, inr, Bool, true, cond, ◌&&◌, List, length, map, flat_map, Option, None, Some, is_some, refl, sym, ap, ◌∙◌, subst, arith, cases_Bool, get_or_default, get, Sizes, HasBlock, NodesHaveBlocks, child_block_sizes, value_block_sizes, child_count, own_entries, Nodes, has_node, is_node_depth, State, and-first, Node, rank, bits, blank_node, node_sizes, cell_sizes, chunks_of, Holds, read, own_count, without, value_blocks, AreSizesBy, Sized, own_children, child_block_size, value_block_size, IsShapeOf, Store, HasList, size_in, tier_sizes, size_if_any}
 use Rattle.prefix_trie_table.proofs.Insertion.Adding.{children_list}
 use Rattle.prefix_trie_table.proofs.Strings.BitLists.{rank-all}
 use Rattle.prefix_trie_table.proofs.Removal.Items.{held_fits}
@@ -21,22 +21,22 @@ list_housed vacant v k start sizes are seven (suc n) list =
 module _ (size : Option Node → Option ℕ) (count : Option Node → ℕ) (sizes : List ℕ) (reading : List ℕ → Option Node)
     (housed : (x : List ℕ) → HasBlock sizes (count (reading x)) (size (reading x))) (none : size None ≡ None) (nodes : List Node)
     (reads : (x : List ℕ) → read nodes x ≡ reading x) (n : Nodes)
-    (are : (p : List Bool) → has_node n p ≡ (is_node_depth p && is_some (reading (path_of p))))
-    (number : List Bool → ℕ) (has : (p : List Bool) → is_node_depth p ≡ true → number p ≡ count (reading (path_of p)))
+    (are : (p : List Bool) → has_node n p ≡ (is_node_depth p && is_some (reading (chunks_of p))))
+    (number : List Bool → ℕ) (has : (p : List Bool) → is_node_depth p ≡ true → number p ≡ count (reading (chunks_of p)))
     (blocks : Sizes) (blocks_are : AreSizesBy size nodes blocks) where
   nodes_housed : NodesHaveBlocks sizes n number blocks
   nodes_housed = record {
     at_nodes = λ p there.
-        let depth = and-first (is_node_depth p) (is_some (reading (path_of p))) (sym (are p) ∙ there) in
+        let depth = and-first (is_node_depth p) (is_some (reading (chunks_of p))) (sym (are p) ∙ there) in
         subst (λ c. HasBlock sizes c (get blocks p)) (sym (has p depth))
-        (subst (λ o. HasBlock sizes (count (reading (path_of p))) o) (sym (size_read size nodes reading blocks blocks_are reads p depth))
-        (housed (path_of p)));
+        (subst (λ o. HasBlock sizes (count (reading (chunks_of p))) o) (sym (size_read size nodes reading blocks blocks_are reads p depth))
+        (housed (chunks_of p)));
     elsewhere = λ p lacks. elim (cases_Bool (is_node_depth p)) as (λ _. get blocks p ≡ None) [
       | inl depth ↦
           size_read size nodes reading blocks blocks_are reads p depth
-          ∙ ap size (is_none-None (reading (path_of p)) (sym (ap (λ b. b && is_some (reading (path_of p))) depth) ∙ sym (are p) ∙ lacks))
+          ∙ ap size (is_none-None (reading (chunks_of p)) (sym (ap (λ b. b && is_some (reading (chunks_of p))) depth) ∙ sym (are p) ∙ lacks))
           ∙ none
-      | inr other ↦ blocks_are p ∙ ap (λ b. cond b (size (read nodes (path_of p))) None) other
+      | inr other ↦ blocks_are p ∙ ap (λ b. cond b (size (read nodes (chunks_of p))) None) other
     ];
   }
 

@@ -18,12 +18,12 @@ module _ {S : Type 0} (vacant : S) (a b : UsedBlock S) (live : List (UsedBlock S
       sym (take-take c a.size (drop a.start v.slots) (let f = fits_block vacant a (b ∷ live) v s in omega arith)) ∙ ap (λ xs. take c xs) (block_slots vacant a (b ∷ live) v s) ∙ take_at a.items (replicate (a.size - length a.items) vacant) c is_count
 
   pub run_none : (c : ℕ) → c ≤ b.size → run v.slots b.start c ≡ replicate c vacant
-  run_none c room = sym (take-take c b.size (drop b.start v.slots) room) ∙ ap (λ xs. take c xs) slots_none ∙ take-replicate c b.size vacant room
+  run_none c space = sym (take-take c b.size (drop b.start v.slots) space) ∙ ap (λ xs. take c xs) slots_none ∙ take-replicate c b.size vacant space
 
   -- the first is left empty, and the second holds these
   pub Sound-put_over : (c : ℕ) (items zs : List S) → length a.items ≡ c → length items ≤ b.size → zs ≡ put_run (put_run v.slots a.start (replicate c vacant)) b.start items →
       Sound vacant (record a { items = [] } ∷ record b { items = items } ∷ live) (record v { slots = zs })
-  Sound-put_over c items zs is_count room is =
+  Sound-put_over c items zs is_count space is =
       let wa = block_inside vacant a (b ∷ live) v s in
       let fits : c ≤ a.size = (let f = fits_block vacant a (b ∷ live) v s in omega arith) in
       let rc : length (replicate c vacant) ≡ c = length-replicate c vacant in
@@ -43,22 +43,22 @@ module _ {S : Type 0} (vacant : S) (a b : UsedBlock S) (live : List (UsedBlock S
 
   -- its items move to the front of the other
   pub Sound-moved : (count : ℕ) → length a.items ≡ count → count ≤ b.size → Sound vacant (record a { items = [] } ∷ record b { items = a.items } ∷ live) (record v { slots = swap_runs v.slots a.start b.start count })
-  Sound-moved c is_count room =
+  Sound-moved c is_count space =
       let wa = block_inside vacant a (b ∷ live) v s in
       let wb = block_inside vacant b (a ∷ live) v (Sound-exchanged vacant a b live v s) in
       let fits : c ≤ a.size = (let f = fits_block vacant a (b ∷ live) v s in omega arith) in
       let narrow : Apart a.start c b.start c = λ h. (let q = two_apart (omega arith) in omega arith) in
       Sound-put_over c a.items (swap_runs v.slots a.start b.start c) is_count (omega arith)
-      (swap_runs_is v.slots a.start b.start c vacant (omega (arith, wa.before)) (omega (arith, wb.before)) narrow ∙ ap (λ xs. put_run (put_run v.slots a.start xs) b.start (run v.slots a.start c)) (run_none c room) ∙ ap (λ xs. put_run (put_run v.slots a.start (replicate c vacant)) b.start xs) (run_items c is_count))
+      (swap_runs_is v.slots a.start b.start c vacant (omega (arith, wa.before)) (omega (arith, wb.before)) narrow ∙ ap (λ xs. put_run (put_run v.slots a.start xs) b.start (run v.slots a.start c)) (run_none c space) ∙ ap (λ xs. put_run (put_run v.slots a.start (replicate c vacant)) b.start xs) (run_items c is_count))
 
 module _ {S : Type 0} (vacant : S) (a b : UsedBlock S) (live : List (UsedBlock S)) (v : Store S) (count : ℕ) (sound : Sound vacant (b ∷ a ∷ live) v)
-    (is_count : length a.items ≡ count) (room : count ≤ b.size) where
+    (is_count : length a.items ≡ count) (space : count ≤ b.size) where
   -- both runs are within the array
   pub runs_within : (a.start + count ≤ length v.slots) × (b.start + count ≤ length v.slots)
   runs_within =
       let s = Sound-exchanged vacant b a live v sound in (
         omega (arith, is_count, (block_inside vacant a (b ∷ live) v s).before, fits_block vacant a (b ∷ live) v s),
-        omega (arith, (block_inside vacant b (a ∷ live) v sound).before, room),
+        omega (arith, (block_inside vacant b (a ∷ live) v sound).before, space),
       )
 
   -- and no block is taken, where the second then holds these
@@ -80,5 +80,5 @@ module _ {S : Type 0} (vacant : S) (a b : UsedBlock S) (live : List (UsedBlock S
       let apart = All-head (Disjoint (extent a)) (extent b) (map extent live ++ free_extents v.tiers) (others vacant a (b ∷ live) v s) in
       Turnover-written v w (swap_runs v.slots a.start b.start count) e (length-swap_runs v.slots a.start b.start count)
       (λ i d h. (exchanged v.slots a.start b.start count d runs_within.0 runs_within.1
-      (λ q. let p = apart (omega (arith, q, fits_block vacant a (b ∷ live) v s, is_count)) in omega (arith, p, room))).elsewhere i
+      (λ q. let p = apart (omega (arith, q, fits_block vacant a (b ∷ live) v s, is_count)) in omega (arith, p, space))).elsewhere i
       (λ _. omega (arith, h, (block_inside vacant a (b ∷ live) v s).after)) (λ _. omega (arith, h, (block_inside vacant b (a ∷ live) v sound).after)))

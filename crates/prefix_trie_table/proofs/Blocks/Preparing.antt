@@ -1,5 +1,5 @@
 -- Which blocks `prepare` makes.
-use Rattle.prefix_trie_table.proofs.Prelude.{◌≡◌, ◌≢◌, ℕ, zero, suc, ◌+◌, ◌-◌, ◌<◌, ◌≤◌, ◌↔◌, inl, inr, true, List, length, replicate, Option, None, Some, Result, Ok, Err, OnOk, OnErr, IfErr, refl, sym, ap, ◌∙◌, arith, cases_eq, cases_lt, length-map, Contains, Refusal, Memory, IndexRange, one_of, goes_up, above, how_many, how_many-more, Store, Turnover, Obtains, tier_sizes, free_in, free_counts, many_of, none_of, slots_of, needs, lacking_in, slots_lacking}
+use Rattle.prefix_trie_table.proofs.Prelude.{◌≡◌, ◌≢◌, ℕ, zero, suc, ◌+◌, ◌-◌, ◌<◌, ◌≤◌, ◌↔◌, inl, inr, true, List, length, replicate, Option, None, Some, Result, Ok, Err, OnOk, OnErr, IfErr, refl, sym, ap, ◌∙◌, arith, cases_eq, cases_lt, length-map, Contains, Refusal, Memory, IndexRange, one_of, goes_up, above, how_many, how_many-more, Store, Turnover, Obtains, tier_sizes, free_in, free_counts, many_of, none_of, slots_of, needs, missing_in, missing_slots}
 use Rattle.prefix_trie_table.proofs.Blocks.BySize.{many_here, many_other, many-none, many-sub, many-add, many-le, slots_lack, slots_of-le, slots_of-add, slots_of-many}
 use Rattle.prefix_trie_table.proofs.Blocks.Turnovers.{Turnover-same, Turnover-as, Turnover-then}
 
@@ -16,76 +16,76 @@ how_many-needs (Some n) lists size = omega (arith, how_many-more size n (replica
 
 module _ {S : Type 0} where
   -- the lacking slots, size by size
-  pub slots_lacking-are : (v : Store S) (needed : List ℕ) → goes_up 0 (tier_sizes v.tiers) ≡ true → slots_lacking v needed ≡ slots_of (tier_sizes v.tiers) (lacking_in v needed)
-  slots_lacking-are v needed up = slots_lack 0 (tier_sizes v.tiers) (free_counts v.tiers) needed up (length-map v.tiers (λ t. length t.starts) ∙ sym (length-map v.tiers (λ t. t.size)))
+  pub missing_slots-are : (v : Store S) (needed : List ℕ) → goes_up 0 (tier_sizes v.tiers) ≡ true → missing_slots v needed ≡ slots_of (tier_sizes v.tiers) (missing_in v needed)
+  missing_slots-are v needed up = slots_lack 0 (tier_sizes v.tiers) (free_counts v.tiers) needed up (length-map v.tiers (λ t. length t.starts) ∙ sym (length-map v.tiers (λ t. t.size)))
 
   -- of the lacking blocks some were made, and n of the size s must be free yet
-  pub record Way (v w : Store S) (needed : List ℕ) (s n : ℕ) : Type 0 where
+  pub record PartlyMade (v w : Store S) (needed : List ℕ) (s n : ℕ) : Type 0 where
     pub made : ℕ → ℕ
     pub turnover : Turnover v w made None None
-    pub rest : (size : ℕ) → made size + many_of s (n - free_in w.tiers s) size ≤ lacking_in v needed size
+    pub rest : (size : ℕ) → made size + many_of s (n - free_in w.tiers s) size ≤ missing_in v needed size
 
   -- and no others lack
-  pub record LastWay (v w : Store S) (needed : List ℕ) (s n : ℕ) : Type 0 where
-    pub way : Way v w needed s n
-    pub all : (size : ℕ) → lacking_in v needed size ≤ way.made size + many_of s (n - free_in w.tiers s) size
+  pub record LastMade (v w : Store S) (needed : List ℕ) (s n : ℕ) : Type 0 where
+    pub partly_made : PartlyMade v w needed s n
+    pub all : (size : ℕ) → missing_in v needed size ≤ partly_made.made size + many_of s (n - free_in w.tiers s) size
 
-  pub way_same : (v : Store S) (o : Option ℕ) (lists singles : ℕ) → ((size : ℕ) → one_of o size + many_of 1 lists size ≡ many_of 1 singles size) → LastWay v v (needs o lists) 1 singles
-  way_same v o lists singles need = record {
-    way = record { made = none_of; turnover = Turnover-same v v refl None; rest = λ size. (let e = same size in omega (arith, e)) };
+  pub partly_made_same : (v : Store S) (o : Option ℕ) (lists singles : ℕ) → ((size : ℕ) → one_of o size + many_of 1 lists size ≡ many_of 1 singles size) → LastMade v v (needs o lists) 1 singles
+  partly_made_same v o lists singles need = record {
+    partly_made = record { made = none_of; turnover = Turnover-same v v refl None; rest = λ size. (let e = same size in omega (arith, e)) };
     all = λ size. (let e = same size in omega (arith, e));
   }
     where
-      same : (size : ℕ) → many_of 1 (singles - free_in v.tiers 1) size ≡ lacking_in v (needs o lists) size
+      same : (size : ℕ) → many_of 1 (singles - free_in v.tiers 1) size ≡ missing_in v (needs o lists) size
       same size = many-sub 1 singles (free_in v.tiers) size ∙ ap (λ n. n - free_in v.tiers size) (sym (how_many-needs o lists size ∙ need size))
 
-  pub way_own : (v : Store S) (lists singles : ℕ) → singles ≡ lists + 1 → LastWay v v (needs (Some 1) lists) 1 singles
-  way_own v lists singles e = way_same v (Some 1) lists singles (λ size.
+  pub partly_made_own : (v : Store S) (lists singles : ℕ) → singles ≡ lists + 1 → LastMade v v (needs (Some 1) lists) 1 singles
+  partly_made_own v lists singles e = partly_made_same v (Some 1) lists singles (λ size.
       sym (many-add 1 1 lists size) ∙ ap (λ n. many_of 1 n size) (let f : 1 + lists ≡ singles = omega (arith, e) in f))
 
-  pub way_first : (v : Store S) (s lists : ℕ) → Way v v (needs (Some s) lists) s 1
-  way_first v s lists = record {
+  pub partly_made_first : (v : Store S) (s lists : ℕ) → PartlyMade v v (needs (Some s) lists) s 1
+  partly_made_first v s lists = record {
     made = none_of;
     turnover = Turnover-same v v refl None;
     rest = λ size. (let a = many-sub s 1 (free_in v.tiers) size in let h = how_many-needs (Some s) lists size in omega (arith, a, h));
   }
 
-  pub way_second : (v w : Store S) (s lists : ℕ) → s ≢ 1 → Turnover v w (many_of s (1 - free_in v.tiers s)) None None → LastWay v w (needs (Some s) lists) 1 lists
-  way_second v w s lists other t = record {
-    way = record { made = many_of s (1 - free_in v.tiers s); turnover = t; rest = λ size. (let e = sum size in omega (arith, e)) };
+  pub partly_made_second : (v w : Store S) (s lists : ℕ) → s ≢ 1 → Turnover v w (many_of s (1 - free_in v.tiers s)) None None → LastMade v w (needs (Some s) lists) 1 lists
+  partly_made_second v w s lists other t = record {
+    partly_made = record { made = many_of s (1 - free_in v.tiers s); turnover = t; rest = λ size. (let e = sum size in omega (arith, e)) };
     all = λ size. (let e = sum size in omega (arith, e));
   }
     where
-      sum : (size : ℕ) → many_of s (1 - free_in v.tiers s) size + many_of 1 (lists - free_in w.tiers 1) size ≡ lacking_in v (needs (Some s) lists) size
+      sum : (size : ℕ) → many_of s (1 - free_in v.tiers s) size + many_of 1 (lists - free_in w.tiers 1) size ≡ missing_in v (needs (Some s) lists) size
       sum size =
           let free : free_in w.tiers 1 ≡ free_in v.tiers 1 = (let f = t.free_is 1 in let none = many_other s (1 - free_in v.tiers s) 1 other in omega (arith, f, none)) in
           let later : many_of 1 (lists - free_in w.tiers 1) size ≡ many_of 1 (lists - free_in v.tiers 1) size = ap (λ n. many_of 1 (lists - n) size) free in
           let a = many-sub 1 lists (free_in v.tiers) size in
           let b = many-sub s 1 (free_in v.tiers) size in
           let h = how_many-needs (Some s) lists size in
-          elim (cases_eq 1 size) as (λ _. many_of s (1 - free_in v.tiers s) size + many_of 1 (lists - free_in w.tiers 1) size ≡ lacking_in v (needs (Some s) lists) size) [
+          elim (cases_eq 1 size) as (λ _. many_of s (1 - free_in v.tiers s) size + many_of 1 (lists - free_in w.tiers 1) size ≡ missing_in v (needs (Some s) lists) size) [
             | inl e ↦ (let d = many_other s 1 size (λ z. other (z ∙ sym e)) in omega (arith, later, a, b, h, d))
             | inr ne ↦ (let d = many_other 1 lists size ne in omega (arith, later, a, b, h, d))
           ]
 
-  module _ (v w x : Store S) (needed : List ℕ) (s n : ℕ) (up : goes_up 0 (tier_sizes v.tiers) ≡ true) (among : Contains (tier_sizes v.tiers) s) (way : Way v w needed s n) where
+  module _ (v w x : Store S) (needed : List ℕ) (s n : ℕ) (up : goes_up 0 (tier_sizes v.tiers) ≡ true) (among : Contains (tier_sizes v.tiers) s) (partly_made : PartlyMade v w needed s n) where
     -- they were made, and no others lack
-    obtained_all : ((size : ℕ) → lacking_in v needed size ≤ way.made size + many_of s (n - free_in w.tiers s) size) →
-        Turnover w x (many_of s (n - free_in w.tiers s)) None None → Turnover v x (lacking_in v needed) None None
+    obtained_all : ((size : ℕ) → missing_in v needed size ≤ partly_made.made size + many_of s (n - free_in w.tiers s) size) →
+        Turnover w x (many_of s (n - free_in w.tiers s)) None None → Turnover v x (missing_in v needed) None None
     obtained_all all t =
-        Turnover-as v x _ (lacking_in v needed) None None (λ size. (let a = way.rest size in let b = all size in omega (arith, a, b)))
-        (Turnover-then v w x way.made (many_of s (n - free_in w.tiers s)) None None None None None None (λ size. refl) way.turnover t)
+        Turnover-as v x _ (missing_in v needed) None None (λ size. (let a = partly_made.rest size in let b = all size in omega (arith, a, b)))
+        (Turnover-then v w x partly_made.made (many_of s (n - free_in w.tiers s)) None None None None None None (λ size. refl) partly_made.turnover t)
 
     -- some were made, and the next was refused
     pub obtained_part : {X : Type 0} (e : Refusal) (m : ℕ) → free_in w.tiers s + m < n → Turnover w x (many_of s m) None None → ((e ≡ IndexRange) ↔ (x.limit < length x.slots + s)) →
         Obtains {X = X} (λ e. e ≡ IndexRange) (λ e. e ≡ Memory) (Err e) v x needed
     obtained_part e m less t range =
-        let sum : ℕ → ℕ = λ size. way.made size + many_of s m size in
-        let turned = Turnover-then v w x way.made (many_of s m) None None None None None None (λ size. refl) way.turnover t in
-        let few : (size : ℕ) → way.made size + many_of s m size + many_of s 1 size ≤ lacking_in v needed size = λ size.
-        (let r = way.rest size in let a = many-add s m 1 size in let l = many-le s (m + 1) (n - free_in w.tiers s) size (omega (arith, less)) in omega (arith, r, a, l)) in
-        let slots = slots_lacking-are v needed up in
-        let most = slots_of-le (tier_sizes v.tiers) (λ size. sum size + many_of s 1 size) (lacking_in v needed) few in
+        let sum : ℕ → ℕ = λ size. partly_made.made size + many_of s m size in
+        let turned = Turnover-then v w x partly_made.made (many_of s m) None None None None None None (λ size. refl) partly_made.turnover t in
+        let few : (size : ℕ) → partly_made.made size + many_of s m size + many_of s 1 size ≤ missing_in v needed size = λ size.
+        (let r = partly_made.rest size in let a = many-add s m 1 size in let l = many-le s (m + 1) (n - free_in w.tiers s) size (omega (arith, less)) in omega (arith, r, a, l)) in
+        let slots = missing_slots-are v needed up in
+        let most = slots_of-le (tier_sizes v.tiers) (λ size. sum size + many_of s 1 size) (missing_in v needed) few in
         let parts = slots_of-add (tier_sizes v.tiers) sum (many_of s 1) in
         let one = slots_of-many 0 (tier_sizes v.tiers) up s 1 among in
         record {
@@ -96,7 +96,7 @@ module _ {S : Type 0} where
             (let f = few s in let h = many_here s 1 in let free = turned.free_is s in omega (arith, f, h, free)),
             elim (cases_lt x.limit (length x.slots + s)) as (λ _. length x.slots + s ≤ x.limit) [
               | inl full ↦ absurd (other e is (range.1 full))
-              | inr room ↦ room
+              | inr space ↦ space
             ],
           );
           lacks = omega (arith, slots, most, parts, one, above 0 (tier_sizes v.tiers) up s among);
@@ -107,7 +107,7 @@ module _ {S : Type 0} where
         other IndexRange a b = absurd cc
 
     -- what the last call leaves
-    pub obtained : {X : Type 0} (r : Result X Refusal) → ((size : ℕ) → lacking_in v needed size ≤ way.made size + many_of s (n - free_in w.tiers s) size) →
+    pub obtained : {X : Type 0} (r : Result X Refusal) → ((size : ℕ) → missing_in v needed size ≤ partly_made.made size + many_of s (n - free_in w.tiers s) size) →
         OnOk r (Turnover w x (many_of s (n - free_in w.tiers s)) None None) → OnErr r ((m : ℕ) × (free_in w.tiers s + m < n) × Turnover w x (many_of s m) None None) →
         IfErr r (λ e. (e ≡ IndexRange) ↔ (x.limit < length x.slots + s)) → Obtains (λ e. e ≡ IndexRange) (λ e. e ≡ Memory) r v x needed
     obtained (Ok y) all done some range = record { made = obtained_all all done; range = tt; memory = tt; lacks = tt }

@@ -1,5 +1,5 @@
 -- The sizes of the blocks of the nodes in an array, by the strings of the nodes.
-use Rattle.prefix_trie_table.proofs.Prelude.{◌≡◌, ℕ, ◌+◌, Bool, true, false, cond, sum_by, arith, ◌&&◌, ◌||◌, List, [], ◌∷◌, map, length, Option, None, Some, is_some, refl, sym, ap, ◌∙◌, subst, ap₂, option_or, list_any, get, empty, get-insert, get-empty, entries, values, contains_key, sum_by-cons, entries-empty, listing_total, same_string, Sizes, Layout, no_layout, is_node_depth, Storage, same_string-is, Node, path_of, node_sizes, cell_sizes, Store, Tier, no_blocks, size_in, size_if_any, free_counts, NodesHold, Holds, SomeTable, of_any, AreSizesBy, Sized, Sized-prop, child_block_size, value_block_size}
+use Rattle.prefix_trie_table.proofs.Prelude.{◌≡◌, ℕ, ◌+◌, Bool, true, false, cond, sum_by, arith, ◌&&◌, ◌||◌, List, [], ◌∷◌, map, length, Option, None, Some, is_some, refl, sym, ap, ◌∙◌, subst, ap₂, option_or, list_any, get, empty, get-insert, get-empty, entries, values, contains_key, sum_by-cons, entries-empty, listing_total, same_string, Sizes, Layout, no_layout, is_node_depth, Storage, same_string-is, Node, chunks_of, node_sizes, cell_sizes, Store, Tier, no_blocks, size_in, size_if_any, free_counts, NodesHold, Holds, SomeTable, of_any, AreSizesBy, Sized, Sized-prop, child_block_size, value_block_size}
 use Rattle.std.specs.FinMap.{insert}
 use Rattle.prefix_trie_table.proofs.Strings.Filling.{sum-fresh}
 use Rattle.prefix_trie_table.proofs.Blocks.SlotSums.{sum_by-mapped}
@@ -30,17 +30,17 @@ here_or b (Some n) = refl
 module _ (size : List ℕ → Option ℕ) where
   -- each string of a listed path has the size of this path
   pub get-sizes_at : (paths : List (List ℕ)) → AreSteps paths → (s : List Bool) →
-      get (sizes_at size paths) s ≡ cond (list_any (same_string s) (map string_at paths)) (size (path_of s)) None
+      get (sizes_at size paths) s ≡ cond (list_any (same_string s) (map string_at paths)) (size (chunks_of s)) None
   get-sizes_at [] steps s = get-empty _ s
   get-sizes_at (x ∷ paths) steps s =
       get-with_size (sizes_at size paths) s (string_at x) (size x) ∙ by (same_string s (string_at x)) refl (get-sizes_at paths (other_steps x paths steps) s)
     where
-      by : (b : Bool) → same_string s (string_at x) ≡ b → get (sizes_at size paths) s ≡ cond (list_any (same_string s) (map string_at paths)) (size (path_of s)) None →
+      by : (b : Bool) → same_string s (string_at x) ≡ b → get (sizes_at size paths) s ≡ cond (list_any (same_string s) (map string_at paths)) (size (chunks_of s)) None →
           cond b (option_or (size x) (get (sizes_at size paths) s)) (get (sizes_at size paths) s)
-          ≡ cond (b || list_any (same_string s) (map string_at paths)) (size (path_of s)) None
+          ≡ cond (b || list_any (same_string s) (map string_at paths)) (size (chunks_of s)) None
       by true hit rest =
-          let path : path_of s ≡ x = ap path_of (same_string-is s (string_at x) hit) ∙ string_path x (first_steps x paths steps) in
-          ap₂ option_or (ap size (sym path)) rest ∙ here_or (list_any (same_string s) (map string_at paths)) (size (path_of s))
+          let path : chunks_of s ≡ x = ap chunks_of (same_string-is s (string_at x) hit) ∙ string_path x (first_steps x paths steps) in
+          ap₂ option_or (ap size (sym path)) rest ∙ here_or (list_any (same_string s) (map string_at paths)) (size (chunks_of s))
       by false miss rest = rest
 
 -- what counts each size counts the paths, each of which stands once
@@ -56,7 +56,7 @@ module _ (f : ℕ → ℕ) (size : List ℕ → Option ℕ) where
   entries_sum (x ∷ paths) steps once =
       more_sized (sizes_at size paths) (string_at x) (size x)
       (ap is_some (get-sizes_at size paths (other_steps x paths steps) (string_at x))
-      ∙ ap (λ b. is_some (cond b (size (path_of (string_at x))) None)) (fresh_string x paths steps once))
+      ∙ ap (λ b. is_some (cond b (size (chunks_of (string_at x))) None)) (fresh_string x paths steps once))
       ∙ ap (λ n. of_any f (size x) + n) (entries_sum paths (other_steps x paths steps) (other_once x paths once))
       ∙ sym (sum_by-cons (λ p. of_any f (size p)) x paths)
 
@@ -68,9 +68,9 @@ module _ (sizes : List ℕ) (nodes : List ℕ → Option Node) (paths : List (Li
   pub sizes_are : (size : Option Node → Option ℕ) → size None ≡ None → AreSizesBy size v.slots (sizes_at (λ p. size (nodes p)) paths)
   sizes_are size none s =
       get-sizes_at (λ p. size (nodes p)) paths (paths_steps sizes nodes paths v hold) s
-      ∙ ap (λ b. cond b (size (nodes (path_of s))) None) (listed_at sizes nodes paths v hold s)
-      ∙ there (is_node_depth s) (nodes (path_of s))
-      ∙ ap (λ o. cond (is_node_depth s) (size o) None) (sym (reads sizes nodes paths v hold (path_of s)))
+      ∙ ap (λ b. cond b (size (nodes (chunks_of s))) None) (listed_at sizes nodes paths v hold s)
+      ∙ there (is_node_depth s) (nodes (chunks_of s))
+      ∙ ap (λ o. cond (is_node_depth s) (size o) None) (sym (reads sizes nodes paths v hold (chunks_of s)))
     where
       there : (d : Bool) (o : Option Node) → cond (d && is_some o) (size o) None ≡ cond d (size o) None
       there true None = sym none
@@ -103,7 +103,7 @@ layout_of nodes ts us sized = record { child_blocks = sized.0; value_blocks = si
 -- how arrays with such a layout are stored
 abbrev pub storage_of : {T : Type 0} (v : Store Node) → Store (Option T) → Sized v.slots → Storage
 storage_of v w sized = record {
-  room = record { limit = v.limit; node_slots = length v.slots; cell_slots = length w.slots };
+  space = record { limit = v.limit; node_slots = length v.slots; cell_slots = length w.slots };
   layout = layout_of v.slots v.tiers w.tiers sized;
 }
 

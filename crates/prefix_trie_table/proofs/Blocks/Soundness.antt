@@ -212,7 +212,7 @@ module _ {S : Type 0} where
 
   -- a list in a block gains an item
   filled_insert : (vacant : S) (n : ℕ) (xs : List S) (i : ℕ) (x : S) → length xs < n → i ≤ length xs → insert (remove (filled vacant n xs) (length xs)) i x ≡ filled vacant n (insert xs i x)
-  filled_insert vacant n xs i x room within =
+  filled_insert vacant n xs i x space within =
       let rest : List S = replicate (n - length xs) vacant in
       let one : remove (xs ++ replicate (n - length xs) vacant) (length xs) ≡ xs ++ remove rest (length xs - length xs) = remove-append_right xs rest (length xs) (length xs) refl (omega arith) in
       let e : length xs - length xs ≡ 0 = omega arith in
@@ -227,9 +227,9 @@ module _ {S : Type 0} where
       let less : length (remove xs i) + 1 ≡ length xs = length-remove xs i within in
       let rest : List S = replicate (n - length xs) vacant in
       let out : remove (filled vacant n xs) i ≡ remove xs i ++ rest = remove-append_left xs rest i within in
-      let place : length xs - 1 - length (remove xs i) ≡ 0 = omega arith in
+      let offset : length xs - 1 - length (remove xs i) ≡ 0 = omega arith in
       let more : suc (n - length xs) ≡ n - length (remove xs i) = omega arith in
-      ap (λ ys. insert ys (length xs - 1) vacant) out ∙ insert-append_right (remove xs i) rest (length (remove xs i)) (length xs - 1) vacant refl (omega arith) ∙ ap (λ k. remove xs i ++ insert rest k vacant) place ∙ ap (λ k. remove xs i ++ replicate k vacant) more
+      ap (λ ys. insert ys (length xs - 1) vacant) out ∙ insert-append_right (remove xs i) rest (length (remove xs i)) (length xs - 1) vacant refl (omega arith) ∙ ap (λ k. remove xs i ++ insert rest k vacant) offset ∙ ap (λ k. remove xs i ++ replicate k vacant) more
 
   -- a list that a block holds has no more items than the block has slots
   pub fits_block : (vacant : S) (b : UsedBlock S) (live : List (UsedBlock S)) (v : Store S) → Sound vacant (b ∷ live) v → length b.items ≤ b.size
@@ -239,27 +239,27 @@ module _ {S : Type 0} where
       let h : length (filled vacant b.size b.items) ≡ b.size = ap (λ ys. length ys) (sym (block_slots vacant b live v s)) ∙ n in
       omega (arith, length-append b.items (replicate (b.size - length b.items) vacant))
 
-  pub Sound-inserted : (vacant : S) (b : UsedBlock S) (live : List (UsedBlock S)) (v : Store S) (count place : ℕ) (x : S) → length b.items ≡ count → count < b.size → place ≤ count → Sound vacant (b ∷ live) v → Sound vacant (record b { items = insert b.items place x } ∷ live) (record v { slots = insert (remove v.slots (b.start + count)) (b.start + place) x })
-  Sound-inserted vacant b live v count place x is_count room within s =
+  pub Sound-inserted : (vacant : S) (b : UsedBlock S) (live : List (UsedBlock S)) (v : Store S) (count offset : ℕ) (x : S) → length b.items ≡ count → count < b.size → offset ≤ count → Sound vacant (b ∷ live) v → Sound vacant (record b { items = insert b.items offset x } ∷ live) (record v { slots = insert (remove v.slots (b.start + count)) (b.start + offset) x })
+  Sound-inserted vacant b live v count offset x is_count space within s =
       let w = block_inside vacant b live v s in
-      let slots : insert (remove v.slots (b.start + count)) (b.start + place) x ≡ put_run v.slots b.start (filled vacant b.size (insert b.items place x)) = moved_in_run v.slots b.start b.size count place x w.before room (omega arith) ∙ ap (λ ys. put_run v.slots b.start (insert (remove ys count) place x)) (block_slots vacant b live v s) ∙ ap (λ k. put_run v.slots b.start (insert (remove (filled vacant b.size b.items) k) place x)) (sym is_count) ∙ ap (λ ys. put_run v.slots b.start ys) (filled_insert vacant b.size b.items place x (omega arith) (omega arith)) in
-      let longer = length-insert b.items place x (omega arith) in
-      subst (λ ys. Sound vacant (record b { items = insert b.items place x } ∷ live) (record v { slots = ys })) (sym slots) (Sound-written vacant b live v (insert b.items place x) (omega arith) s)
+      let slots : insert (remove v.slots (b.start + count)) (b.start + offset) x ≡ put_run v.slots b.start (filled vacant b.size (insert b.items offset x)) = moved_in_run v.slots b.start b.size count offset x w.before space (omega arith) ∙ ap (λ ys. put_run v.slots b.start (insert (remove ys count) offset x)) (block_slots vacant b live v s) ∙ ap (λ k. put_run v.slots b.start (insert (remove (filled vacant b.size b.items) k) offset x)) (sym is_count) ∙ ap (λ ys. put_run v.slots b.start ys) (filled_insert vacant b.size b.items offset x (omega arith) (omega arith)) in
+      let longer = length-insert b.items offset x (omega arith) in
+      subst (λ ys. Sound vacant (record b { items = insert b.items offset x } ∷ live) (record v { slots = ys })) (sym slots) (Sound-written vacant b live v (insert b.items offset x) (omega arith) s)
 
-  pub Sound-removed : (vacant : S) (b : UsedBlock S) (live : List (UsedBlock S)) (v : Store S) (count place : ℕ) → length b.items ≡ count → place < count → Sound vacant (b ∷ live) v → Sound vacant (record b { items = remove b.items place } ∷ live) (record v { slots = insert (remove v.slots (b.start + place)) (b.start + count - 1) vacant })
-  Sound-removed vacant b live v count place is_count within s =
+  pub Sound-removed : (vacant : S) (b : UsedBlock S) (live : List (UsedBlock S)) (v : Store S) (count offset : ℕ) → length b.items ≡ count → offset < count → Sound vacant (b ∷ live) v → Sound vacant (record b { items = remove b.items offset } ∷ live) (record v { slots = insert (remove v.slots (b.start + offset)) (b.start + count - 1) vacant })
+  Sound-removed vacant b live v count offset is_count within s =
       let w = block_inside vacant b live v s in
       let fits = fits_block vacant b live v s in
       let last : b.start + count - 1 ≡ b.start + (length b.items - 1) = omega arith in
-      let slots : insert (remove v.slots (b.start + place)) (b.start + count - 1) vacant ≡ put_run v.slots b.start (filled vacant b.size (remove b.items place)) = ap (λ k. insert (remove v.slots (b.start + place)) k vacant) last ∙ moved_in_run v.slots b.start b.size place (length b.items - 1) vacant w.before (omega arith) (omega arith) ∙ ap (λ ys. put_run v.slots b.start (insert (remove ys place) (length b.items - 1) vacant)) (block_slots vacant b live v s) ∙ ap (λ ys. put_run v.slots b.start ys) (filled_remove vacant b.size b.items place fits (omega arith)) in
-      let less = length-remove b.items place (omega arith) in
-      subst (λ ys. Sound vacant (record b { items = remove b.items place } ∷ live) (record v { slots = ys })) (sym slots) (Sound-written vacant b live v (remove b.items place) (omega arith) s)
+      let slots : insert (remove v.slots (b.start + offset)) (b.start + count - 1) vacant ≡ put_run v.slots b.start (filled vacant b.size (remove b.items offset)) = ap (λ k. insert (remove v.slots (b.start + offset)) k vacant) last ∙ moved_in_run v.slots b.start b.size offset (length b.items - 1) vacant w.before (omega arith) (omega arith) ∙ ap (λ ys. put_run v.slots b.start (insert (remove ys offset) (length b.items - 1) vacant)) (block_slots vacant b live v s) ∙ ap (λ ys. put_run v.slots b.start ys) (filled_remove vacant b.size b.items offset fits (omega arith)) in
+      let less = length-remove b.items offset (omega arith) in
+      subst (λ ys. Sound vacant (record b { items = remove b.items offset } ∷ live) (record v { slots = ys })) (sym slots) (Sound-written vacant b live v (remove b.items offset) (omega arith) s)
 
   -- a slot of a block is an item of its list
-  pub slot_of_block : (vacant : S) (b : UsedBlock S) (live : List (UsedBlock S)) (v : Store S) (place : ℕ) (d : S) → place < length b.items → Sound vacant (b ∷ live) v → get_or v.slots (b.start + place) d ≡ get_or b.items place d
-  slot_of_block vacant b live v place d within s =
+  pub slot_of_block : (vacant : S) (b : UsedBlock S) (live : List (UsedBlock S)) (v : Store S) (offset : ℕ) (d : S) → offset < length b.items → Sound vacant (b ∷ live) v → get_or v.slots (b.start + offset) d ≡ get_or b.items offset d
+  slot_of_block vacant b live v offset d within s =
       let fits = fits_block vacant b live v s in
-      sym (get_or-drop b.start v.slots place d) ∙ sym (get_or-take b.size (drop b.start v.slots) place d (omega arith)) ∙ ap (λ ys. get_or ys place d) (block_slots vacant b live v s) ∙ get_or_append_left b.items (replicate (b.size - length b.items) vacant) d place within
+      sym (get_or-drop b.start v.slots offset d) ∙ sym (get_or-take b.size (drop b.start v.slots) offset d (omega arith)) ∙ ap (λ ys. get_or ys offset d) (block_slots vacant b live v s) ∙ get_or_append_left b.items (replicate (b.size - length b.items) vacant) d offset within
 
   -- the first two blocks change places
   pub Sound-exchanged : (vacant : S) (a b : UsedBlock S) (live : List (UsedBlock S)) (v : Store S) → Sound vacant (a ∷ b ∷ live) v → Sound vacant (b ∷ a ∷ live) v

@@ -1,5 +1,5 @@
 -- What calls on blocks make, take and give back, and what they leave of the rest.
-use Rattle.prefix_trie_table.proofs.Prelude.{◌≡◌, ◌≢◌, ℕ, ◌+◌, ◌*◌, ◌<◌, ◌≤◌, true, List, ◌++◌, length, get_or, set, insert, remove, replicate, Option, None, Some, refl, sym, ap, ◌∙◌, subst, arith, length-append, length-replicate, get_or_append_left, get_or-insert_below, get_or-remove_below, length-insert, length-remove, Contains, option_or, one_of, goes_up, Tier, Store, Turnover, Keeps, KeepsMade, MakesNone, SameMade, SameRoom, AreFree, tier_at, with_tier, tier_sizes, size_in, free_in, made_in, many_of, none_of, slots_of, lacking_in}
+use Rattle.prefix_trie_table.proofs.Prelude.{◌≡◌, ◌≢◌, ℕ, ◌+◌, ◌*◌, ◌<◌, ◌≤◌, true, List, ◌++◌, length, get_or, set, insert, remove, replicate, Option, None, Some, refl, sym, ap, ◌∙◌, subst, arith, length-append, length-replicate, get_or_append_left, get_or-insert_below, get_or-remove_below, length-insert, length-remove, Contains, option_or, one_of, goes_up, Tier, Store, Turnover, Keeps, KeepsMade, MakesNone, SameMade, SameSpace, AreFree, tier_at, with_tier, tier_sizes, size_in, free_in, made_in, many_of, none_of, slots_of, missing_in}
 use Rattle.std.proofs.lemmas.List.{length-set}
 use Rattle.prefix_trie_table.specs.Growth.{Reserves}
 use Rattle.prefix_trie_table.proofs.Blocks.Capacity.{Reserves-same, Reserves-more, Reserves-then}
@@ -27,12 +27,12 @@ module _ {S : Type 0} where
   made_turned v w m o p t = λ size. (let e = t.made_is size in omega (arith, e))
 
   -- where none is made the array is as long
-  pub room_turned : (v w : Store S) (m : ℕ → ℕ) (o p : Option ℕ) → ((size : ℕ) → m size ≡ 0) → Turnover v w m o p → SameRoom v w
-  room_turned v w m o p none t = ((let l = t.longer in let n = slots_of-none (tier_sizes v.tiers) m none in omega (arith, l, n)), t.keeps.first_is, t.keeps.limit_is)
+  pub space_kept : (v w : Store S) (m : ℕ → ℕ) (o p : Option ℕ) → ((size : ℕ) → m size ≡ 0) → Turnover v w m o p → SameSpace v w
+  space_kept v w m o p none t = ((let l = t.longer in let n = slots_of-none (tier_sizes v.tiers) m none in omega (arith, l, n)), t.keeps.first_is, t.keeps.limit_is)
 
   -- and has as many
   pub none_turned : (v w : Store S) (o p : Option ℕ) → Turnover v w none_of o p → MakesNone v w
-  none_turned v w o p t = record { room = room_turned v w none_of o p (λ size. refl) t; made = λ size. (let e = t.made_is size in omega (arith, e)) }
+  none_turned v w o p t = record { space = space_kept v w none_of o p (λ size. refl) t; made = λ size. (let e = t.made_is size in omega (arith, e)) }
 
   pub made_kept : (v w : Store S) → SameMade v w → KeepsMade v w
   made_kept v w same = λ size. (let e = same size in omega (arith, e))
@@ -90,8 +90,8 @@ module _ {S : Type 0} where
   Turnover-same v w e o = Turnover-written v w v.slots e refl (λ i d h. refl) o
 
   -- no block is made, and memory for one may have been reserved
-  pub Turnover-reserved : (v w : Store S) (room n : ℕ) → w ≡ record v { capacity = room } → Reserves v.capacity (length v.slots + n) room → n ≤ 32 → Turnover v w none_of None None
-  Turnover-reserved v w room n e reserves few = subst (λ x. Turnover v x none_of None None) (sym e) (record {
+  pub Turnover-reserved : (v w : Store S) (space n : ℕ) → w ≡ record v { capacity = space } → Reserves v.capacity (length v.slots + n) space → n ≤ 32 → Turnover v w none_of None None
+  Turnover-reserved v w space n e reserves few = subst (λ x. Turnover v x none_of None None) (sym e) (record {
     keeps = record {
       first_is = refl;
       limit_is = refl;
@@ -99,7 +99,7 @@ module _ {S : Type 0} where
       before = λ i d h. refl;
       longer = omega arith;
       within = λ h. h;
-      grown = Reserves-more v.capacity (length v.slots + n) (length v.slots + 32) room reserves (omega (arith, few));
+      grown = Reserves-more v.capacity (length v.slots + n) (length v.slots + 32) space reserves (omega (arith, few));
     };
     made_is = λ size. omega arith;
     free_is = λ size. omega arith;
@@ -119,11 +119,11 @@ module _ {S : Type 0} where
 
   module _ (v : Store S) (k : ℕ) (t : Tier) (up : goes_up 0 (tier_sizes v.tiers) ≡ true) (inside : k < length v.tiers) (same : t.size ≡ (tier_at v.tiers k).size) where
     -- m blocks of its size were made, by whose slots the array is longer, and one of its free ones is used by a list, or was
-    turned : (slots : List S) (room m : ℕ) (old new : Option ℕ) → t.made ≡ (tier_at v.tiers k).made + m →
+    turned : (slots : List S) (space m : ℕ) (old new : Option ℕ) → t.made ≡ (tier_at v.tiers k).made + m →
         length t.starts + one_of new t.size ≡ length (tier_at v.tiers k).starts + m + one_of old t.size → ((size : ℕ) → t.size ≢ size → one_of new size ≡ one_of old size) →
-        Keeps v (record v { slots = slots; tiers = set v.tiers k t; capacity = room }) → length slots ≡ length v.slots + t.size * m →
-        Turnover v (record v { slots = slots; tiers = set v.tiers k t; capacity = room }) (many_of t.size m) old new
-    turned slots room m old new made starts others keeps long = record {
+        Keeps v (record v { slots = slots; tiers = set v.tiers k t; capacity = space }) → length slots ≡ length v.slots + t.size * m →
+        Turnover v (record v { slots = slots; tiers = set v.tiers k t; capacity = space }) (many_of t.size m) old new
+    turned slots space m old new made starts others keeps long = record {
       keeps = keeps;
       made_is = number_set (λ (u : Tier). u.made) (λ size a b. b ≡ a + many_of t.size m size) v.tiers k t up inside same
           (let h = many_here t.size m in omega (arith, made, h)) (λ size n ne. (let h = many_other t.size m size ne in omega (arith, h)));
@@ -152,23 +152,23 @@ module _ {S : Type 0} where
           (turned v.slots v.capacity 0 (Some t.size) None (omega (arith, made)) (let h = many_here t.size 1 in omega (arith, starts, h)) (λ size ne. sym (many_other t.size 1 size ne)) keeps_slots (omega arith)))
 
       -- a block is made at the array's end
-      pub Turnover-grown : (vacant : S) (slots : List S) (room : ℕ) → slots ≡ v.slots ++ replicate s vacant → Reserves v.capacity (length v.slots + s) room → v.first ≤ length v.slots → length v.slots + s ≤ v.limit → t.made ≡ (tier_at v.tiers k).made + 1 →
-          length t.starts ≡ length (tier_at v.tiers k).starts + 1 → Turnover v (record v { slots = slots; tiers = set v.tiers k t; capacity = room }) (many_of s 1) None None
-      Turnover-grown vacant slots room slots_are reserves low fits made starts =
+      pub Turnover-grown : (vacant : S) (slots : List S) (space : ℕ) → slots ≡ v.slots ++ replicate s vacant → Reserves v.capacity (length v.slots + s) space → v.first ≤ length v.slots → length v.slots + s ≤ v.limit → t.made ≡ (tier_at v.tiers k).made + 1 →
+          length t.starts ≡ length (tier_at v.tiers k).starts + 1 → Turnover v (record v { slots = slots; tiers = set v.tiers k t; capacity = space }) (many_of s 1) None None
+      Turnover-grown vacant slots space slots_are reserves low fits made starts =
           let long : length slots ≡ length v.slots + s = ap length slots_are ∙ length-append v.slots (replicate s vacant) ∙ ap (λ n. length v.slots + n) (length-replicate s vacant) in
           let size : t.size ≡ s = same ∙ is in
-          subst (λ n. Turnover v (record v { slots = slots; tiers = set v.tiers k t; capacity = room }) (many_of n 1) None None) size (turned slots room 1 None None made (omega (arith, starts)) (λ n ne. refl) (record {
+          subst (λ n. Turnover v (record v { slots = slots; tiers = set v.tiers k t; capacity = space }) (many_of n 1) None None) size (turned slots space 1 None None made (omega (arith, starts)) (λ n ne. refl) (record {
             first_is = refl;
             limit_is = refl;
             sizes = sizes_set v.tiers k t same;
             before = λ i d h. ap (λ xs. get_or xs i d) slots_are ∙ get_or_append_left v.slots (replicate s vacant) d i (omega (arith, low, h));
             longer = omega (arith, long);
             within = λ h. omega (arith, long, fits);
-            grown = Reserves-more v.capacity (length v.slots + s) (length slots + 32) room reserves (omega (arith, long));
+            grown = Reserves-more v.capacity (length v.slots + s) (length slots + 32) space reserves (omega (arith, long));
           }) (omega (arith, long, size)))
 
   -- where the lacking blocks were made, all that are needed are free
-  pub free_obtained : (v w : Store S) (needed : List ℕ) → Turnover v w (lacking_in v needed) None None → AreFree w.tiers needed
+  pub free_obtained : (v w : Store S) (needed : List ℕ) → Turnover v w (missing_in v needed) None None → AreFree w.tiers needed
   free_obtained v w needed t = λ size. (let e = t.free_is size in omega (arith, e))
 
   -- a list that took its block left the others free
@@ -184,7 +184,7 @@ module _ {S : Type 0} where
 
   -- nor does writing a slot make one
   pub none_written : (v w u : Store S) (i : ℕ) (x : S) → MakesNone v w → u ≡ record w { slots = set w.slots i x } → MakesNone v u
-  none_written v w u i x none e = subst (λ y. MakesNone v y) (sym e) (record { room = (length-set w.slots i x ∙ none.room.0, none.room.1, none.room.2); made = none.made })
+  none_written v w u i x none e = subst (λ y. MakesNone v y) (sym e) (record { space = (length-set w.slots i x ∙ none.space.0, none.space.1, none.space.2); made = none.made })
 
   pub none_same : (v : Store S) → MakesNone v v
-  none_same v = record { room = (refl, refl, refl); made = λ size. refl }
+  none_same v = record { space = (refl, refl, refl); made = λ size. refl }

@@ -1,5 +1,5 @@
 -- The blocks in use are as many as the nodes with children, and as those with values of their own.
-use Rattle.prefix_trie_table.proofs.Prelude.{◌≡◌, ◌≢◌, ℕ, zero, suc, ◌+◌, ◌-◌, ◌%◌, ◌<◌, Bool, true, false, cond, ◌==◌, ◌&&◌, ◌||◌, List, [], ◌∷◌, length, map, filter, flat_map, count_by, sum_by, nat_lt, All, Option, None, Some, is_some, refl, sym, ap, ap₂, ◌∙◌, arith, eq-eqb, lt-ltb, list_any, nat_tests, All-head, All-tail, length-flat_map, sum_by-cons, length-filter, entries, keys, get, Entries, Nodes, has_node, is_node_depth, is_parent, is_holder, parents, holders, entries-empty, Node, tier_count, used_blocks, bits, blank_node, node_sizes, cell_sizes, path_of, bit_of, Tier, UsedBlock, Sound, Store, IsOfTier, tier_at, held, NodesHold, CellsHold, times, has_child, has_value, child_items, child_blocks, child_blocks_of, value_blocks, value_blocks_of, node_or_blank}
+use Rattle.prefix_trie_table.proofs.Prelude.{◌≡◌, ◌≢◌, ℕ, zero, suc, ◌+◌, ◌-◌, ◌%◌, ◌<◌, Bool, true, false, cond, ◌==◌, ◌&&◌, ◌||◌, List, [], ◌∷◌, length, map, filter, flat_map, count_by, sum_by, nat_lt, All, Option, None, Some, is_some, refl, sym, ap, ap₂, ◌∙◌, arith, eq-eqb, lt-ltb, list_any, nat_tests, All-head, All-tail, length-flat_map, sum_by-cons, length-filter, entries, keys, get, Entries, Nodes, has_node, is_node_depth, is_parent, is_holder, parents, holders, entries-empty, Node, tier_count, used_blocks, bits, blank_node, node_sizes, cell_sizes, chunks_of, bit_of, Tier, UsedBlock, Sound, Store, IsOfTier, tier_at, held, NodesHold, CellsHold, times, has_child, has_value, child_items, child_blocks, child_blocks_of, value_blocks, value_blocks_of, node_or_blank}
 use Rattle.prefix_trie_table.specs.Forest.{size_in}
 use Rattle.prefix_trie_table.proofs.Counts.OwnCounts.{children_counted, values_counted}
 use Rattle.prefix_trie_table.proofs.Strings.PathSums.{sum_same}
@@ -85,7 +85,7 @@ nodes_sum h (x ∷ paths) steps once =
     ∙ sym (sum_by-cons (λ p. h (string_at p, tt)) x paths)
 
 module _ (reading : List ℕ → Option Node) (paths : List (List ℕ)) (v : Store Node) (hold : NodesHold node_sizes reading paths v) (n : Nodes)
-    (are : (s : List Bool) → has_node n s ≡ (is_node_depth s && is_some (reading (path_of s)))) where
+    (are : (s : List Bool) → has_node n s ≡ (is_node_depth s && is_some (reading (chunks_of s)))) where
   -- how many nodes pass a test, by the blocks of each
   counted_by_blocks : {S : Type 0} (test : List Bool → Bool) (f : List ℕ → List (UsedBlock S)) →
       ((p : List ℕ) → 0 < times p paths → cond (test (string_at p)) 1 0 ≡ length (f p)) → length (filter test (keys n)) ≡ length (flat_map f paths)
@@ -98,7 +98,7 @@ module _ (reading : List ℕ → Option Node) (paths : List (List ℕ)) (v : Sto
       ∙ sym (length-flat_map f paths)
 
   module _ (p : List ℕ) (listed : 0 < times p paths) where
-    own_path : path_of (string_at p) ≡ p
+    own_path : chunks_of (string_at p) ≡ p
     own_path = string_path p (paths_steps node_sizes reading paths v hold p listed)
 
     own_node : reading p ≡ Some (node_or_blank (reading p))
@@ -121,7 +121,7 @@ module _ (reading : List ℕ → Option Node) (paths : List (List ℕ)) (v : Sto
       ∙ sym (used_live blank_node (flat_map (child_blocks node_sizes reading) paths) v hold.sound)
 
   module _ {T : Type 0} (values : List ℕ → ℕ → Option T) (w : Store (Option T)) (cells : CellsHold cell_sizes reading values paths w) (m : Entries T)
-      (stored : (s : List Bool) → get m s ≡ values (path_of s) (bit_of s)) where
+      (stored : (s : List Bool) → get m s ≡ values (chunks_of s) (bit_of s)) where
     holder_counted : (p : List ℕ) → 0 < times p paths → (x : Node) → reading p ≡ Some x →
         cond (is_holder m (string_at p)) 1 0 ≡ length (value_blocks cell_sizes reading values p)
     holder_counted p listed x e =

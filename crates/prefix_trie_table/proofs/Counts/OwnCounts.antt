@@ -1,5 +1,5 @@
 -- A node has as many children, and as many values of its own, as bits are set in its bitmaps.
-use Rattle.prefix_trie_table.proofs.Prelude.{◌≡◌, ℕ, zero, suc, ◌+◌, ◌-◌, ◌*◌, ◌/◌, ◌%◌, ◌<◌, ◌≤◌, inl, inr, Bool, true, false, cond, ◌&&◌, nat_lt, ◌==◌, T, List, [], ◌∷◌, ◌++◌, length, length-append, length-drop, drop, map, filter, Option, None, Some, is_some, refl, sym, ap, ap₂, ◌∙◌, subst, arith, eqb-true, eq-eqb, ltb-true, ◌^◌, drop_at, false≢true, cases_Bool, cases_lt, cases_eq, false_from_ne_true, FinMap, empty, get, contains_key, keys, len, entries, entries_sorted, retain_keys, find, is_sorted, get-entries, len-empty, len-insert, len-remove, get-retain_keys, empty_of_len, begins, number, digits, digits-number, length-digits, number-lt, number-bits, same_bool, begins-append, begins-rest, listing_cmp, listing_total, listing_same, same_string, value_bit, child_count, own_entries, Entries, Nodes, has_node, is_node_depth, same_members, same_string-is, is-same_string, has-empty, has-inserted, get-without_entry, and-first, and-second, and-join, or-cases, or-left, or-right, entries-retained, sorted-tail, sorted-head, each-behind, not_itself, value_bit-injective, Node, has_bit, rank, path_of, bit_of, Store, NodesHold, CellsHold, has_child, has_value}
+use Rattle.prefix_trie_table.proofs.Prelude.{◌≡◌, ℕ, zero, suc, ◌+◌, ◌-◌, ◌*◌, ◌/◌, ◌%◌, ◌<◌, ◌≤◌, inl, inr, Bool, true, false, cond, ◌&&◌, nat_lt, ◌==◌, T, List, [], ◌∷◌, ◌++◌, length, length-append, length-drop, drop, map, filter, Option, None, Some, is_some, refl, sym, ap, ap₂, ◌∙◌, subst, arith, eqb-true, eq-eqb, ltb-true, ◌^◌, drop_at, false≢true, cases_Bool, cases_lt, cases_eq, false_from_ne_true, FinMap, empty, get, contains_key, keys, len, entries, entries_sorted, retain_keys, find, is_sorted, get-entries, len-empty, len-insert, len-remove, get-retain_keys, empty_of_len, begins, number, digits, digits-number, length-digits, number-lt, number-bits, same_bool, begins-append, begins-rest, listing_cmp, listing_total, listing_same, same_string, value_bit, child_count, own_entries, Entries, Nodes, has_node, is_node_depth, same_members, same_string-is, is-same_string, has-empty, has-inserted, get-without_entry, and-first, and-second, and-join, or-cases, or-left, or-right, entries-retained, sorted-tail, sorted-head, each-behind, not_itself, value_bit-injective, Node, has_bit, rank, chunks_of, bit_of, Store, NodesHold, CellsHold, has_child, has_value}
 use Rattle.std.proofs.lemmas.Bool.{lt-ltb}
 use Rattle.std.specs.FinMap.{insert, remove}
 use Rattle.prefix_trie_table.proofs.Strings.Plain.{five_times}
@@ -145,9 +145,9 @@ module _ (sizes : List ℕ) (nodes : List ℕ → Option Node) (paths : List (Li
   long : length p ≡ 5 * (length p / 5)
   long = five_times (length p) (length p / 5) (eqb-true (length p % 5) 0 depth) refl
 
-  module _ (n : Nodes) (are : (s : List Bool) → has_node n s ≡ (is_node_depth s && is_some (nodes (path_of s)))) where
+  module _ (n : Nodes) (are : (s : List Bool) → has_node n s ≡ (is_node_depth s && is_some (nodes (chunks_of s)))) where
     -- its children are as many as bits are set, where the bits are those of its node
-    pub children_counted : (bitmap : ℕ) → ((c : ℕ) → has_child (nodes (path_of p)) c ≡ has_bit bitmap c) → child_count n p ≡ rank bitmap 32
+    pub children_counted : (bitmap : ℕ) → ((c : ℕ) → has_child (nodes (chunks_of p)) c ≡ has_bit bitmap c) → child_count n p ≡ rank bitmap 32
     children_counted bitmap bits_are =
         counted (λ c. p ++ digits 5 c) bitmap apart n (λ s. begins p s && (length s == length p + 5)) into from
       where
@@ -160,10 +160,10 @@ module _ (sizes : List ℕ) (nodes : List ℕ → Option Node) (paths : List (Li
             (has_node n (p ++ digits 5 c) ≡ true) × ((begins p (p ++ digits 5 c) && (length (p ++ digits 5 c) == length p + 5)) ≡ true)
         into c set =
             let length_is : length (p ++ digits 5 c) ≡ length p + 5 = length-append p (digits 5 c) ∙ ap (λ k. length p + k) (length-digits 5 c) in
-            let path : path_of (p ++ digits 5 c) ≡ path_of p ++ c ∷ [] = step_below (length p / 5) p c long (has_bit-below bitmap c set) in (
-              are (p ++ digits 5 c) ∙ and-join (is_node_depth (p ++ digits 5 c)) (is_some (nodes (path_of (p ++ digits 5 c))))
+            let path : chunks_of (p ++ digits 5 c) ≡ chunks_of p ++ c ∷ [] = step_below (length p / 5) p c long (has_bit-below bitmap c set) in (
+              are (p ++ digits 5 c) ∙ and-join (is_node_depth (p ++ digits 5 c)) (is_some (nodes (chunks_of (p ++ digits 5 c))))
                   (eq-eqb (length (p ++ digits 5 c) % 5) 0 (ap (λ k. k % 5) length_is ∙ five_more (length p) (5 * (length p / 5)) refl long))
-                  (ap (λ q. is_some (nodes q)) path ∙ hold.linked (path_of p) c ∙ bits_are c ∙ set),
+                  (ap (λ q. is_some (nodes q)) path ∙ hold.linked (chunks_of p) c ∙ bits_are c ∙ set),
               and-join (begins p (p ++ digits 5 c)) (length (p ++ digits 5 c) == length p + 5) (begins-append p (digits 5 c))
                   (eq-eqb (length (p ++ digits 5 c)) (length p + 5) length_is),
             )
@@ -175,22 +175,22 @@ module _ (sizes : List ℕ) (nodes : List ℕ → Option Node) (paths : List (Li
             let c : ℕ = number (drop (length p) s) in
             let small : number (drop (length p) s) < 32 = subst (λ k. number (drop (length p) s) < 2 ^ k) r.1 (number-lt (drop (length p) s)) in
             let same : s ≡ p ++ digits 5 (number (drop (length p) s)) = r.0 ∙ ap (λ t. p ++ t) (sym (digits-number (drop (length p) s)) ∙ ap (λ k. digits k (number (drop (length p) s))) r.1) in
-            let path : path_of s ≡ path_of p ++ number (drop (length p) s) ∷ [] = ap path_of same ∙ step_below (length p / 5) p c long small in (
+            let path : chunks_of s ≡ chunks_of p ++ number (drop (length p) s) ∷ [] = ap chunks_of same ∙ step_below (length p / 5) p c long small in (
               c,
-              sym (bits_are c) ∙ sym (hold.linked (path_of p) c) ∙ ap (λ q. is_some (nodes q)) (sym path)
-                  ∙ and-second (is_node_depth s) (is_some (nodes (path_of s))) (sym (are s) ∙ has),
+              sym (bits_are c) ∙ sym (hold.linked (chunks_of p) c) ∙ ap (λ q. is_some (nodes q)) (sym path)
+                  ∙ and-second (is_node_depth s) (is_some (nodes (chunks_of s))) (sym (are s) ∙ has),
               same,
             )
 
   module _ {T : Type 0} (values : List ℕ → ℕ → Option T) (w : Store (Option T)) (of : List ℕ) (cells : CellsHold of nodes values paths w) (m : Entries T)
-      (are : (s : List Bool) → get m s ≡ values (path_of s) (bit_of s)) where
+      (are : (s : List Bool) → get m s ≡ values (chunks_of s) (bit_of s)) where
     -- its values are as many as bits are set, where the bits are those of its node
-    pub values_counted : (bitmap : ℕ) → ((b : ℕ) → has_value (nodes (path_of p)) b ≡ has_bit bitmap b) → own_entries m p ≡ rank bitmap 32
+    pub values_counted : (bitmap : ℕ) → ((b : ℕ) → has_value (nodes (chunks_of p)) b ≡ has_bit bitmap b) → own_entries m p ≡ rank bitmap 32
     values_counted bitmap bits_are =
         counted (λ b. p ++ (named b).0) bitmap apart m (λ s. begins p s && nat_lt (length s) (length p + 5)) into from
       where
         small : (b : ℕ) → has_bit bitmap b ≡ true → b < 31
-        small b set = cells.within (path_of p) b (cells.set_where (path_of p) b ∙ bits_are b ∙ set)
+        small b set = cells.within (chunks_of p) b (cells.set_where (chunks_of p) b ∙ bits_are b ∙ set)
 
         apart : (i j : ℕ) → has_bit bitmap i ≡ true → has_bit bitmap j ≡ true → p ++ (named i).0 ≡ p ++ (named j).0 → i ≡ j
         apart i j a b e =
@@ -202,7 +202,7 @@ module _ (sizes : List ℕ) (nodes : List ℕ → Option Node) (paths : List (Li
             let r = (named b).1 (small b set) in
             let at = below_node (length p / 5) p (named b).0 long r.0 in (
               ap is_some (are (p ++ (named b).0)) ∙ ap₂ (λ q i. is_some (values q i)) at.0 (ap value_bit at.1 ∙ r.1)
-                  ∙ cells.set_where (path_of p) b ∙ bits_are b ∙ set,
+                  ∙ cells.set_where (chunks_of p) b ∙ bits_are b ∙ set,
               and-join (begins p (p ++ (named b).0)) (nat_lt (length (p ++ (named b).0)) (length p + 5)) (begins-append p (named b).0)
                   (lt-ltb (length (p ++ (named b).0)) (length p + 5) (let l = r.0 in omega (arith, length-append p (named b).0))),
             )
@@ -215,8 +215,8 @@ module _ (sizes : List ℕ) (nodes : List ℕ → Option Node) (paths : List (Li
             let few : length (drop (length p) s) ≤ 4 = omega (arith, length-drop (length p) s) in
             let at = below_node (length p / 5) p (drop (length p) s) long few in
             let b : ℕ = value_bit (drop (length p) s) in
-            let set : has_bit bitmap (value_bit (drop (length p) s)) ≡ true = sym (bits_are (value_bit (drop (length p) s))) ∙ sym (cells.set_where (path_of p) (value_bit (drop (length p) s)))
-            ∙ ap₂ (λ q i. is_some (values q i)) (sym (ap path_of rest ∙ at.0)) (sym (ap bit_of rest ∙ ap value_bit at.1))
+            let set : has_bit bitmap (value_bit (drop (length p) s)) ≡ true = sym (bits_are (value_bit (drop (length p) s))) ∙ sym (cells.set_where (chunks_of p) (value_bit (drop (length p) s)))
+            ∙ ap₂ (λ q i. is_some (values q i)) (sym (ap chunks_of rest ∙ at.0)) (sym (ap bit_of rest ∙ ap value_bit at.1))
             ∙ ap is_some (sym (are s)) ∙ has in (
               b,
               set,

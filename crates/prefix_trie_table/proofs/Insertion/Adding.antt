@@ -55,19 +55,19 @@ block_after ts sizes are k tier count more e stands =
     ∙ subst (λ ns. size_if_any (count + 1) (size_in ns tier) ≡ option_or (block_needed ns (size_if_any count (size_in ns k)) count) (size_if_any count (size_in ns k))) are stands
 
 -- a blank child put into the list of children, and the node written with it, add the child
-pub added : (v u w : Store Node) (slot place c tier start bitmap : ℕ) (k m : Node)
+pub added : (v u w : Store Node) (slot offset c tier start bitmap : ℕ) (k m : Node)
     → k ≡ node_at v.slots slot
     → Sets k.child_bitmap c bitmap
     → m ≡ record { value_bitmap = k.value_bitmap; child_bitmap = bitmap; value_block = k.value_block; child_block = start; value_tier = k.value_tier; child_tier = tier }
     → Keeps v u
     → ((n : ℕ) (xs : List Node) (live : List (UsedBlock Node)) → Sound blank_node (held k.child_tier k.child_block n xs ++ live) v →
-    length xs ≡ rank k.child_bitmap 32 → Sound blank_node (block tier start (tier_at v.tiers tier).size (insert xs place blank_node) ∷ live) u)
+    length xs ≡ rank k.child_bitmap 32 → Sound blank_node (block tier start (tier_at v.tiers tier).size (insert xs offset blank_node) ∷ live) u)
     → list_size v.tiers tier (rank k.child_bitmap 32 + 1) ≡ option_or (list_need v.tiers k.child_tier (rank k.child_bitmap 32)) (list_size v.tiers k.child_tier (rank k.child_bitmap 32))
-    → place ≡ rank k.child_bitmap c → c < 32 → has_bit k.child_bitmap c ≡ false → w ≡ record u { slots = set u.slots slot m }
+    → offset ≡ rank k.child_bitmap c → c < 32 → has_bit k.child_bitmap c ≡ false → w ≡ record u { slots = set u.slots slot m }
     → (reading : List ℕ → Option Node) (paths : List (List ℕ)) (p : List ℕ) (n : Node) → NodesHold node_sizes reading paths v →
     IsSlot reading p slot → reading p ≡ Some n
-    → ChildAdded reading paths p n c w (start + place)
-added v u w slot place c tier start bitmap k m read sets m_is keeps put entered place_is digit missing w_is reading paths p n hold stands is =
+    → ChildAdded reading paths p n c w (start + offset)
+added v u w slot offset c tier start bitmap k m read sets m_is keeps put entered place_is digit missing w_is reading paths p n hold stands is =
     let at = slot_holds node_sizes reading paths v hold p slot n stands is in
     let same : k ≡ n = read ∙ at.0 in
     let here : reading p ≡ Some k = is ∙ ap Some (sym same) in
@@ -77,7 +77,7 @@ added v u w slot place c tier start bitmap k m read sets m_is keeps put entered 
     let items : List Node = child_items reading p k.child_bitmap in
     let live : List (UsedBlock Node) = flat_map (child_blocks node_sizes reading) (without p paths) in
     let written : Sound blank_node (block tier start (tier_at v.tiers tier).size
-    (insert (child_items reading p k.child_bitmap) place blank_node) ∷ live) u =
+    (insert (child_items reading p k.child_bitmap) offset blank_node) ∷ live) u =
     put (size_in node_sizes k.child_tier) (child_items reading p k.child_bitmap) live (own_first node_sizes reading paths v hold p k here)
     (rank-all (λ d. elim (reading (p ++ d ∷ [])) as (λ _. Node) [ None ↦ blank_node | Some x ↦ x ]) k.child_bitmap) in
     let tier_is : m.child_tier ≡ tier = ap (λ (x : Node). x.child_tier) m_is in
@@ -95,7 +95,7 @@ added v u w slot place c tier start bitmap k m read sets m_is keeps put entered 
       node = m;
       hold = subst (λ x. NodesHold node_sizes (with_child reading p m c) ((p ++ c ∷ []) ∷ paths) x) (sym w_is) grown;
       stands = subst (λ s. IsSlot (with_child reading p m c) (p ++ c ∷ []) s)
-          (let e : m.child_block + rank m.child_bitmap c ≡ start + place = omega arith in e)
+          (let e : m.child_block + rank m.child_bitmap c ≡ start + offset = omega arith in e)
           (at_child p c m (changed_here reading p m c (Some blank_node) p refl) bit);
       value_bitmap = ap (λ (x : Node). x.value_bitmap) m_is ∙ ap (λ (x : Node). x.value_bitmap) same;
       value_block = ap (λ (x : Node). x.value_block) m_is ∙ ap (λ (x : Node). x.value_block) same;
@@ -136,7 +136,7 @@ module _ {T : Type 0} where
       }
 
   -- a value put into the list of values, and the node written with it, set the value
-  pub values_added : (v v2 : Store Node) (w u : Store (Option T)) (slot place b tier start bitmap : ℕ) (k m : Node) (x : T)
+  pub values_added : (v v2 : Store Node) (w u : Store (Option T)) (slot offset b tier start bitmap : ℕ) (k m : Node) (x : T)
       → k ≡ node_at v.slots slot
       → Sets k.value_bitmap b bitmap
       → m ≡ record {
@@ -149,13 +149,13 @@ module _ {T : Type 0} where
       }
       → Keeps w u
       → ((n : ℕ) (xs : List (Option T)) (live : List (UsedBlock (Option T))) → Sound None (held k.value_tier k.value_block n xs ++ live) w →
-      length xs ≡ rank k.value_bitmap 32 → Sound None (block tier start (tier_at w.tiers tier).size (insert xs place (Some x)) ∷ live) u)
+      length xs ≡ rank k.value_bitmap 32 → Sound None (block tier start (tier_at w.tiers tier).size (insert xs offset (Some x)) ∷ live) u)
       → list_size w.tiers tier (rank k.value_bitmap 32 + 1) ≡ option_or (list_need w.tiers k.value_tier (rank k.value_bitmap 32)) (list_size w.tiers k.value_tier (rank k.value_bitmap 32))
-      → place ≡ rank k.value_bitmap b → b < 32 → has_bit k.value_bitmap b ≡ false → b < 31 → v2 ≡ record v { slots = set v.slots slot m }
+      → offset ≡ rank k.value_bitmap b → b < 32 → has_bit k.value_bitmap b ≡ false → b < 31 → v2 ≡ record v { slots = set v.slots slot m }
       → (reading : List ℕ → Option Node) (paths : List (List ℕ)) (values : List ℕ → ℕ → Option T) (p : List ℕ) (n : Node) →
       NodesHold node_sizes reading paths v → CellsHold cell_sizes reading values paths w → IsSlot reading p slot → reading p ≡ Some n
       → ValueSet reading paths values p b (Some x) v2 u
-  values_added v v2 w u slot place b tier start bitmap k m x read sets m_is keeps put entered place_is digit missing small v2_is reading paths values p n
+  values_added v v2 w u slot offset b tier start bitmap k m x read sets m_is keeps put entered place_is digit missing small v2_is reading paths values p n
       hold cells stands is =
       let at = slot_holds node_sizes reading paths v hold p slot n stands is in
       let same : k ≡ n = read ∙ at.0 in
@@ -167,7 +167,7 @@ module _ {T : Type 0} where
       let stay : (i : ℕ) → i ≢ b → has_bit m.value_bitmap i ≡ has_bit k.value_bitmap i = λ i ne. more i
       ∙ ap (λ t. t || has_bit k.value_bitmap i) (other_number i b ne) in
       let live : List (UsedBlock (Option T)) = flat_map (value_blocks cell_sizes reading values) (without p paths) in
-      let written : Sound None (block tier start (tier_at w.tiers tier).size (insert (map (values p) (bits k.value_bitmap)) place (Some x)) ∷ live)
+      let written : Sound None (block tier start (tier_at w.tiers tier).size (insert (map (values p) (bits k.value_bitmap)) offset (Some x)) ∷ live)
       u = put (size_in cell_sizes k.value_tier) (map (values p) (bits k.value_bitmap)) live
       (values_first cell_sizes node_sizes reading paths v hold values w cells p k here) (rank-all (values p) k.value_bitmap) in
       let tier_is : m.value_tier ≡ tier = ap (λ (y : Node). y.value_tier) m_is in
@@ -199,12 +199,12 @@ module _ {T : Type 0} where
       added_one now was own had e f none = ap (λ h. now + one_if h) none ∙ omega (arith, e, f)
 
   -- a value that is there stands in its cell
-  pub value_at : (v : Store Node) (w : Store (Option T)) (slot place b : ℕ) (k : Node) → k ≡ node_at v.slots slot → place ≡ rank k.value_bitmap b →
+  pub value_at : (v : Store Node) (w : Store (Option T)) (slot offset b : ℕ) (k : Node) → k ≡ node_at v.slots slot → offset ≡ rank k.value_bitmap b →
       has_bit k.value_bitmap b ≡ true
       → (reading : List ℕ → Option Node) (paths : List (List ℕ)) (values : List ℕ → ℕ → Option T) (p : List ℕ) (n : Node) →
       NodesHold node_sizes reading paths v → CellsHold cell_sizes reading values paths w → IsSlot reading p slot → reading p ≡ Some n
-      → (k.value_block + place < length w.slots) × (get_or w.slots (k.value_block + place) None ≡ values p b)
-  value_at v w slot place b k read place_is bit reading paths values p n hold cells stands is =
+      → (k.value_block + offset < length w.slots) × (get_or w.slots (k.value_block + offset) None ≡ values p b)
+  value_at v w slot offset b k read place_is bit reading paths values p n hold cells stands is =
       let at = slot_holds node_sizes reading paths v hold p slot n stands is in
       let same : k ≡ n = read ∙ at.0 in
       let there = value_stands cell_sizes node_sizes reading paths v hold values w cells p k b (is ∙ ap Some (sym same)) bit in

@@ -1,10 +1,10 @@
 -- What an insertion asks of the two arrays, and which blocks it makes.
-use Rattle.prefix_trie_table.proofs.Prelude.{◌≡◌, ℕ, ◌+◌, ◌-◌, ◌*◌, ◌/◌, ◌<◌, ◌≤◌, inl, inr, nat_lt, if◌then◌else◌, List, [], Bool, take, Option, None, Some, Result, Ok, Err, OnOk, ap, ◌∙◌, arith, le-ltb, Node, node_sizes, cell_sizes, HasSizes, child_need, value_need, Store, Keeps, MakesNone, Obtains, AreFree, tier_sizes, size_in, size_if_any, list_need, needs, lacking_in, slots_lacking, block_needed, rank, nodes_needed, cells_needed, Made, Makes, ObtainsBoth, AtDeepest, path_of, NodesHold, IsReached}
+use Rattle.prefix_trie_table.proofs.Prelude.{◌≡◌, ℕ, ◌+◌, ◌-◌, ◌*◌, ◌/◌, ◌<◌, ◌≤◌, inl, inr, nat_lt, if◌then◌else◌, List, [], Bool, take, Option, None, Some, Result, Ok, Err, OnOk, ap, ◌∙◌, arith, le-ltb, Node, node_sizes, cell_sizes, HasSizes, child_need, value_need, Store, Keeps, MakesNone, Obtains, AreFree, tier_sizes, size_in, size_if_any, list_need, needs, missing_in, missing_slots, block_needed, rank, nodes_needed, cells_needed, Made, Makes, ObtainsBoth, AtDeepest, chunks_of, NodesHold, IsReached}
 use Rattle.std.proofs.lemmas.Bool.{lt-ltb}
 use Rattle.prefix_trie_table.proofs.Lookup.Going.{deepest_is}
 use Rattle.prefix_trie_table.proofs.Lookup.Finding.{reached_end}
 use Rattle.prefix_trie_table.proofs.Blocks.BySize.{sizes_up, slots_of-le, slots_of-none}
-use Rattle.prefix_trie_table.proofs.Blocks.Preparing.{slots_lacking-are}
+use Rattle.prefix_trie_table.proofs.Blocks.Preparing.{missing_slots-are}
 use Rattle.prefix_trie_table.proofs.Blocks.Turnovers.{free_obtained}
 
 -- ---- which of the two cases it is
@@ -44,14 +44,14 @@ first_list_need w are = ap (λ ns. block_needed ns None 0) are
 
 module _ {S : Type 0} where
   -- where nothing is needed nothing lacks
-  none_lacks : (v : Store S) → HasSizes v.tiers → slots_lacking v [] ≡ 0
-  none_lacks v has = slots_lacking-are v [] (sizes_up v.tiers has) ∙ slots_of-none (tier_sizes v.tiers) (lacking_in v []) (λ size. omega arith)
+  none_lacks : (v : Store S) → HasSizes v.tiers → missing_slots v [] ≡ 0
+  none_lacks v has = missing_slots-are v [] (sizes_up v.tiers has) ∙ slots_of-none (tier_sizes v.tiers) (missing_in v []) (λ size. omega arith)
 
   -- where no block is made after, as many were made
   pub Made-then : (v w x : Store S) (needed : List ℕ) → Made v w needed → MakesNone w x → Made v x needed
   Made-then v w x needed made none = record {
     made_is = λ size. (let a = made.made_is size in let b = none.made size in omega (arith, a, b));
-    longer = (let a = made.longer in let b = none.room.0 in omega (arith, a, b));
+    longer = (let a = made.longer in let b = none.space.0 in omega (arith, a, b));
   }
 
   module _ {X E : Type 0} (L M : E → Type 0) (v w : Store S) (needed : List ℕ) (has : HasSizes v.tiers) where
@@ -67,12 +67,12 @@ module _ {S : Type 0} where
     pub made_by : (r : Result X E) → Obtains L M r v w needed → Makes r v w needed
     made_by (Ok x) o = record {
       made_is = o.made.made_is;
-      longer = (let l = o.made.longer in let s = slots_lacking-are v needed (sizes_up v.tiers has) in omega (arith, l, s));
+      longer = (let l = o.made.longer in let s = missing_slots-are v needed (sizes_up v.tiers has) in omega (arith, l, s));
     }
     made_by (Err e) o =
         let t = o.made.2 in
-        let few = slots_of-le (tier_sizes v.tiers) o.made.0 (lacking_in v needed) o.made.1 in
-        let s = slots_lacking-are v needed (sizes_up v.tiers has) in
+        let few = slots_of-le (tier_sizes v.tiers) o.made.0 (missing_in v needed) o.made.1 in
+        let s = missing_slots-are v needed (sizes_up v.tiers has) in
         let l = t.longer in
         record {
           made_is = λ size. (let m = t.made_is size in let f = o.made.1 size in (omega (arith, m), omega (arith, m, f)));
@@ -127,6 +127,6 @@ at_end b len level slot node v at reading paths hold fact = record {
   node = node;
   level = level;
   end = reached_end b len level slot node v at reading paths hold;
-  is = deepest_is reading paths v (path_of (take len b)) level slot hold (at.deepest reading paths hold) node at.node_is;
+  is = deepest_is reading paths v (chunks_of (take len b)) level slot hold (at.deepest reading paths hold) node at.node_is;
   fact = fact;
 }

@@ -1,36 +1,36 @@
 -- What an insertion leaves of how a table is stored, in the model's words.
-use Rattle.prefix_trie_table.proofs.Prelude.{◌≡◌, ℕ, ◌+◌, ◌<◌, ◌≤◌, inl, inr, List, Bool, length, Option, Result, Ok, Err, MatchResult, sym, ap, subst, arith, filter_map, option_to_list, Refusal, Memory, IndexRange, Sizes, used_of, free_of, child_block_sizes, value_block_sizes, MakesBlocks, MakesAtMost, child_block_count, value_block_count, lacking_of, lacking_slots, node_slots_lacking, cell_slots_lacking, child_blocks_needed, value_blocks_needed, child_blocks_lacking, value_blocks_lacking, TakesBlocks, child_block_needed, value_block_needed, nodes_above, home, State, Storage, ReadiesInStorage, InsertsInStorage, RefusesInStorage, Node, Made, MadeAtMost, ObtainsBoth, node_sizes, cell_sizes, Sized, Store, tier_sizes, free_counts, lacking_in, slots_lacking, IsTable}
+use Rattle.prefix_trie_table.proofs.Prelude.{◌≡◌, ℕ, ◌+◌, ◌<◌, ◌≤◌, inl, inr, List, Bool, length, Option, Result, Ok, Err, MatchResult, sym, ap, subst, arith, filter_map, option_to_list, Refusal, Memory, IndexRange, Sizes, used_of, free_of, child_block_sizes, value_block_sizes, MakesBlocks, MakesAtMost, child_block_count, value_block_count, missing_of, slots_of_missing, missing_node_slots, missing_cell_slots, child_blocks_needed, value_blocks_needed, missing_child_blocks, missing_value_blocks, TakesBlocks, child_block_needed, value_block_needed, nodes_above, home, State, Storage, PreparesInStorage, InsertsInStorage, RefusesInStorage, Node, Made, MadeAtMost, ObtainsBoth, node_sizes, cell_sizes, Sized, Store, tier_sizes, free_counts, missing_in, missing_slots, IsTable}
 use Rattle.prefix_trie_table.proofs.Tree.Invariant.{some_table}
 use Rattle.prefix_trie_table.proofs.Blocks.KeptBlocks.{IsCut, blocks_made, blocks_at_most, nodes_cut, cells_cut}
 use Rattle.prefix_trie_table.proofs.Blocks.Sizing.{layout_of, storage_of}
 
 module _ {S : Type 0} (sizes : List ℕ) (v v2 : Store S) (used later : Sizes) (are : tier_sizes v.tiers ≡ sizes) (cut : IsCut sizes v used) (cut2 : IsCut sizes v2 later) (needed : List ℕ) where
-  lack : (size : ℕ) → lacking_in v needed size ≡ lacking_of sizes (free_counts v.tiers) needed size
-  lack size = ap (λ ns. lacking_of ns (free_counts v.tiers) needed size) are
+  lack : (size : ℕ) → missing_in v needed size ≡ missing_of sizes (free_counts v.tiers) needed size
+  lack size = ap (λ ns. missing_of ns (free_counts v.tiers) needed size) are
 
-  slots : slots_lacking v needed ≡ lacking_slots sizes (free_counts v.tiers) needed
-  slots = ap (λ ns. lacking_slots ns (free_counts v.tiers) needed) are
+  slots : missing_slots v needed ≡ slots_of_missing sizes (free_counts v.tiers) needed
+  slots = ap (λ ns. slots_of_missing ns (free_counts v.tiers) needed) are
 
-  longer : Made v v2 needed → length v2.slots ≡ length v.slots + lacking_slots sizes (free_counts v.tiers) needed
+  longer : Made v v2 needed → length v2.slots ≡ length v.slots + slots_of_missing sizes (free_counts v.tiers) needed
   longer made = (let l = made.longer in let s = slots in omega (arith, l, s))
 
-  longer_at_most : MadeAtMost v v2 needed → (length v.slots ≤ length v2.slots) × (length v2.slots ≤ length v.slots + lacking_slots sizes (free_counts v.tiers) needed)
+  longer_at_most : MadeAtMost v v2 needed → (length v.slots ≤ length v2.slots) × (length v2.slots ≤ length v.slots + slots_of_missing sizes (free_counts v.tiers) needed)
   longer_at_most made = (let l = made.longer in let s = slots in (l.0, omega (arith, l.1, s)))
 
   needed_made : Made v v2 needed →
-      MakesBlocks sizes (lacking_of sizes (free_counts v.tiers) needed) (λ size. used_of used size + free_of sizes (free_counts v.tiers) size) (λ size. used_of later size + free_of sizes (free_counts v2.tiers) size)
+      MakesBlocks sizes (missing_of sizes (free_counts v.tiers) needed) (λ size. used_of used size + free_of sizes (free_counts v.tiers) size) (λ size. used_of later size + free_of sizes (free_counts v2.tiers) size)
   needed_made made = blocks_made sizes v v2 used later cut cut2 _ (λ size there. (let m = made.made_is size in let l = lack size in omega (arith, m, l)))
 
   needed_at_most : MadeAtMost v v2 needed →
-      MakesAtMost sizes (lacking_of sizes (free_counts v.tiers) needed) (λ size. used_of used size + free_of sizes (free_counts v.tiers) size) (λ size. used_of later size + free_of sizes (free_counts v2.tiers) size)
+      MakesAtMost sizes (missing_of sizes (free_counts v.tiers) needed) (λ size. used_of used size + free_of sizes (free_counts v.tiers) size) (λ size. used_of later size + free_of sizes (free_counts v2.tiers) size)
   needed_at_most made = blocks_at_most sizes v v2 used later cut cut2 _ (λ size there. (let m = made.made_is size in let l = lack size in (m.0, omega (arith, m.1, l))))
 
 -- of each size exactly the blocks were made that the insertion of q lacks, and the arrays are longer by these
-record MakesLacking {T : Type 0} (s : State T) (q : List Bool) (before after : Storage) : Type 0 where
-  node_slots : after.room.node_slots ≡ before.room.node_slots + node_slots_lacking s.nodes before.layout q
-  cell_slots : after.room.cell_slots ≡ before.room.cell_slots + cell_slots_lacking s.entries before.layout q
-  child_blocks : MakesBlocks child_block_sizes (child_blocks_lacking s.nodes before.layout q) (child_block_count before.layout) (child_block_count after.layout)
-  value_blocks : MakesBlocks value_block_sizes (value_blocks_lacking s.entries before.layout q) (value_block_count before.layout) (value_block_count after.layout)
+record MakesMissing {T : Type 0} (s : State T) (q : List Bool) (before after : Storage) : Type 0 where
+  node_slots : after.space.node_slots ≡ before.space.node_slots + missing_node_slots s.nodes before.layout q
+  cell_slots : after.space.cell_slots ≡ before.space.cell_slots + missing_cell_slots s.entries before.layout q
+  child_blocks : MakesBlocks child_block_sizes (missing_child_blocks s.nodes before.layout q) (child_block_count before.layout) (child_block_count after.layout)
+  value_blocks : MakesBlocks value_block_sizes (missing_value_blocks s.entries before.layout q) (value_block_count before.layout) (value_block_count after.layout)
 
 module _ {T : Type 0} (v v2 : Store Node) (w w2 : Store (Option T)) (count count2 : ℕ) (s s2 : State T) (is : IsTable v w count s) (left : IsTable v2 w2 count2 s2)
     (sized : Sized v.slots) (later : Sized v2.slots) (q : List Bool) where
@@ -47,7 +47,7 @@ module _ {T : Type 0} (v v2 : Store Node) (w w2 : Store (Option T)) (count count
         (child_blocks_needed s.nodes (layout_of v.slots v.tiers w.tiers sized) q) (value_blocks_needed s.entries (layout_of v.slots v.tiers w.tiers sized) q)
 
     -- it makes exactly the blocks that lack
-    made_in : (x : X) → Foresees (Ok x) → MakesLacking s q (storage_of v w sized) (storage_of v2 w2 later)
+    made_in : (x : X) → Foresees (Ok x) → MakesMissing s q (storage_of v w sized) (storage_of v2 w2 later)
     made_in x o =
         let a = nodes_cut v w (some_table is) sized in
         let b = nodes_cut v2 w2 (some_table left) later in
@@ -68,8 +68,8 @@ module _ {T : Type 0} (v v2 : Store Node) (w w2 : Store (Option T)) (count count
         let b = nodes_cut v2 w2 (some_table left) later in
         let c = cells_cut v w (some_table is) sized in
         let d = cells_cut v2 w2 (some_table left) later in
-        let nodes_slots : slots_lacking v (child_blocks_needed s.nodes (layout_of v.slots v.tiers w.tiers sized) q) ≡ node_slots_lacking s.nodes (layout_of v.slots v.tiers w.tiers sized) q = slots node_sizes v v2 sized.0 later.0 node_are a b _ in
-        let cells_slots : slots_lacking w (value_blocks_needed s.entries (layout_of v.slots v.tiers w.tiers sized) q) ≡ cell_slots_lacking s.entries (layout_of v.slots v.tiers w.tiers sized) q = slots cell_sizes w w2 sized.1.0 later.1.0 cell_are c d _ in
+        let nodes_slots : missing_slots v (child_blocks_needed s.nodes (layout_of v.slots v.tiers w.tiers sized) q) ≡ missing_node_slots s.nodes (layout_of v.slots v.tiers w.tiers sized) q = slots node_sizes v v2 sized.0 later.0 node_are a b _ in
+        let cells_slots : missing_slots w (value_blocks_needed s.entries (layout_of v.slots v.tiers w.tiers sized) q) ≡ missing_cell_slots s.entries (layout_of v.slots v.tiers w.tiers sized) q = slots cell_sizes w w2 sized.1.0 later.1.0 cell_are c d _ in
         record {
           lacks = (let l = o.lacks in omega (arith, l, nodes_slots, cells_slots));
           range = λ for_limit. elim (o.range for_limit) [
@@ -79,15 +79,15 @@ module _ {T : Type 0} (v v2 : Store Node) (w w2 : Store (Option T)) (count count
           memory = λ for_memory. elim (o.memory for_memory) [
             | inl nodes ↦ inl (
               nodes.0,
-              subst (λ m. 0 < lacking_of child_block_sizes (free_counts v2.tiers) (filter_map (child_block_needed s.nodes m q) (nodes_above q)) nodes.0) (sym children)
+              subst (λ m. 0 < missing_of child_block_sizes (free_counts v2.tiers) (filter_map (child_block_needed s.nodes m q) (nodes_above q)) nodes.0) (sym children)
                   (let some = nodes.1 in let l = lack node_sizes v2 v2 later.0 later.0 (some_table left).holds.hold.sizes_are b b (child_blocks_needed s.nodes (layout_of v.slots v.tiers w.tiers sized) q) nodes.0 in omega (arith, some, l)),
               nodes.2,
             )
             | inr cells ↦ inr (
               cells.0,
-              subst (λ m. 0 < lacking_of value_block_sizes (free_counts w2.tiers) (option_to_list (value_block_needed s.entries m q (home q))) cells.0) (sym values)
+              subst (λ m. 0 < missing_of value_block_sizes (free_counts w2.tiers) (option_to_list (value_block_needed s.entries m q (home q))) cells.0) (sym values)
                   (let some = cells.1 in let l = lack cell_sizes w2 w2 later.1.0 later.1.0 (some_table left).holds.cells.sizes_are d d (value_blocks_needed s.entries (layout_of v.slots v.tiers w.tiers sized) q) cells.0 in omega (arith, some, l)),
-              (let room = cells.2 in let same = left.one_limit in omega (arith, room, same)),
+              (let space = cells.2 in let same = left.one_limit in omega (arith, space, same)),
             )
           ];
           node_slots = longer_at_most node_sizes v v2 sized.0 later.0 node_are a b _ o.nodes_made;
@@ -100,7 +100,7 @@ module _ {T : Type 0} (v v2 : Store Node) (w w2 : Store (Option T)) (count count
 
     -- what it leaves where it does not insert
     pub readied_in : (r : Result X E) → Foresees r → (later.0 ≡ sized.0) × (later.1.0 ≡ sized.1.0) →
-        MatchResult r (λ _. ReadiesInStorage s q (storage_of v w sized) (storage_of v2 w2 later))
+        MatchResult r (λ _. PreparesInStorage s q (storage_of v w sized) (storage_of v2 w2 later))
         (λ e. RefusesInStorage s q (cause e) (storage_of v w sized) (storage_of v2 w2 later))
     readied_in (Ok x) f sizes =
         let made = made_in x f in

@@ -1,5 +1,5 @@
 -- What an insertion asks for and leaves.
-use Rattle.prefix_trie_table.proofs.Prelude.{◌*◌, ◌≡◌, ℕ, ◌+◌, ◌<◌, ◌≤◌, inl, inr, Bool, false, cond, List, ◌∷◌, ◌++◌, length, get_or, take, Option, None, Some, IsSome, is_some, sym, ap, ◌∙◌, subst, arith, cases_Bool, smallest_size, Node, has_bit, rank, Tier, Store, Sound, UsedBlock, block, HasList, Keeps, SameSlots, tier_sizes, size_in, NodesHold, CellsHold, Deepest, has_value, blank_node, node_sizes, cell_sizes, path_of, IsReached}
+use Rattle.prefix_trie_table.proofs.Prelude.{◌*◌, ◌≡◌, ℕ, ◌+◌, ◌<◌, ◌≤◌, inl, inr, Bool, false, cond, List, ◌∷◌, ◌++◌, length, get_or, take, Option, None, Some, IsSome, is_some, sym, ap, ◌∙◌, subst, arith, cases_Bool, smallest_size, Node, has_bit, rank, Tier, Store, Sound, UsedBlock, block, HasList, Keeps, SameSlots, tier_sizes, size_in, NodesHold, CellsHold, Deepest, has_value, blank_node, node_sizes, cell_sizes, chunks_of, IsReached}
 use Rattle.prefix_trie_table.proofs.Blocks.Soundness.{tier_of_block, first_place}
 use Rattle.prefix_trie_table.proofs.Blocks.BySize.{smallest_there, node_sized, cell_sized, tiers_long}
 use Rattle.prefix_trie_table.proofs.Strings.BitLists.{rank-more, rank-lacks}
@@ -76,7 +76,7 @@ reached_still b len level slot node v x reading paths at hold later =
           ∙ sym (slot_holds node_sizes reading paths x later _ slot deep.node deep.stands deep.is).0;
       deepest = λ other ps h.
           let same : reading ≡ other = (λ i q. (sym (reads node_sizes reading paths x later q) ∙ reads node_sizes other ps x h q) i) in
-          subst (λ f. Deepest f (path_of (take len b)) level slot x) same (record { node = deep.node; stands = deep.stands; is = deep.is });
+          subst (λ f. Deepest f (chunks_of (take len b)) level slot x) same (record { node = deep.node; stands = deep.stands; is = deep.is });
       missing = at.missing;
     }
 
@@ -84,5 +84,5 @@ module _ (b : List Bool) (len level slot : ℕ) (node : Node) (v : Store Node) (
   -- a node that lacks a child has room for one more
   pub few_children : 5 * level + 5 ≤ len → rank node.child_bitmap 32 < 32
   few_children more =
-      rank-lacks node.child_bitmap 32 (get_or (path_of (take len b)) level 0) (step-small (take len b) level (step-inside b len level at.long more))
+      rank-lacks node.child_bitmap 32 (get_or (chunks_of (take len b)) level 0) (step-small (take len b) level (step-inside b len level at.long more))
       (at.missing more)

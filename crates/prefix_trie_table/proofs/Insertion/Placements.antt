@@ -1,7 +1,7 @@
 -- What a call leaves that adds a missing value where its way ends, in the words for an insertion.
-use Rattle.prefix_trie_table.proofs.Prelude.{◌≡◌, ℕ, ◌+◌, false, Bool, List, take, Option, None, Some, Result, Ok, Err, MatchResult, IfErr, sym, ◌∙◌, arith, get, contains_key, Refused, Memory, IndexRange, Insert, InsertsInStorage, RefusesInStorage, StepByPath, Node, Seat, WayEnd, ObtainsBoth, nodes_needed, cells_needed, path_of, bit_of, Holds, EntryAdded, Sized, Shaped, inserted, placed, Store, IsReached, IsTable, ForHeld, GrowsBoth, MayPass}
+use Rattle.prefix_trie_table.proofs.Prelude.{◌≡◌, ℕ, ◌+◌, false, Bool, List, take, Option, None, Some, Result, Ok, Err, MatchResult, IfErr, sym, ◌∙◌, arith, get, contains_key, Refused, Memory, IndexRange, Insert, InsertsInStorage, RefusesInStorage, StepByPath, Node, Seat, SearchEnd, ObtainsBoth, nodes_needed, cells_needed, chunks_of, bit_of, Holds, EntryAdded, Sized, Shaped, insert_reply, insert_new_reply, Store, IsReached, IsTable, ForHeld, GrowsBoth, MayPass}
 use Rattle.prefix_trie_table.proofs.Insertion.Asks.{at_end}
-use Rattle.prefix_trie_table.proofs.Insertion.Foreseen.{obtained}
+use Rattle.prefix_trie_table.proofs.Insertion.PredictedNeeds.{obtained}
 use Rattle.prefix_trie_table.proofs.Insertion.Inserted.{inserted_in}
 use Rattle.prefix_trie_table.proofs.Insertion.Resized.{sizes_left}
 use Rattle.prefix_trie_table.proofs.Tree.Shapes.{shape_entries, Leaves, Counts}
@@ -25,7 +25,7 @@ module _ {T E : Type 0} (q : List Bool) (x : T) (v v2 : Store Node) (w w2 : Stor
     (is : IsTable v w count s.0) where
   -- what the call says of the arrays, where no value is there
   pub placed_leaves : contains_key s.0.entries q ≡ false → (r : Result Seat E) → ForHeld v w (λ reading paths values. MatchResult r
-      (λ _. EntryAdded reading values paths (path_of q) (bit_of q) (Some x) v2 w2) (λ _. Holds reading values paths v2 w2)) →
+      (λ _. EntryAdded reading values paths (chunks_of q) (bit_of q) (Some x) v2 w2) (λ _. Holds reading values paths v2 w2)) →
       Leaves q x v v2 w w2 count count2 s is (inserting r)
   placed_leaves absent (Ok seat) left = λ reading paths values holds. (
     sym (is_none-None (get s.0.entries q) absent) ∙ shape_entries reading values paths v w holds s.0 s.1 q,
@@ -40,8 +40,8 @@ module _ {T E : Type 0} (q : List Bool) (x : T) (v v2 : Store Node) (w w2 : Stor
 
 -- so it is a step of the model
 module _ {T : Type 0} (b : List Bool) (len : ℕ) (x : T) (v v2 : Store Node) (w w2 : Store (Option T)) (count count2 : ℕ) (s : Shaped v.slots w.slots)
-    (is : IsTable v w count s.0) (t : Shaped v2.slots w2.slots) (left : IsTable v2 w2 count2 t.0) (sized : Sized v.slots) (later : Sized v2.slots) (end : WayEnd)
-    (at : IsReached b len end.reached.level end.reached.node (end.reached.at.start + end.reached.at.place) v) (absent : contains_key s.0.entries (take len b) ≡ false) where
+    (is : IsTable v w count s.0) (t : Shaped v2.slots w2.slots) (left : IsTable v2 w2 count2 t.0) (sized : Sized v.slots) (later : Sized v2.slots) (end : SearchEnd)
+    (at : IsReached b len end.reached.level end.reached.node (end.reached.at.start + end.reached.at.offset) v) (absent : contains_key s.0.entries (take len b) ≡ false) where
   taken : (r : Result Seat (Refused T)) → Leaves (take len b) x v v2 w w2 count count2 s is (inserting r) →
       ObtainsBoth (λ (e : Refused T). e.cause ≡ IndexRange) (λ (e : Refused T). e.cause ≡ Memory) r v v2 w w2 (nodes_needed end.reached.node end.reached.level len)
       (cells_needed end.reached.node end.reached.level len) →
@@ -51,7 +51,7 @@ module _ {T : Type 0} (b : List Bool) (len : ℕ) (x : T) (v v2 : Store Node) (w
       inserted_in v v2 w w2 count count2 s.0 t.0 is left sized later (take len b) (λ e. e.cause) (inserting r)
       (obtained (λ e. e.cause ≡ IndexRange) (λ e. e.cause ≡ Memory) b len v v2 w w2 count s is sized (inserting r)
       (λ reading paths values holds none.
-      at_end b len end.reached.level (end.reached.at.start + end.reached.at.place) end.reached.node v at reading paths holds.hold
+      at_end b len end.reached.level (end.reached.at.start + end.reached.at.offset) end.reached.node v at reading paths holds.hold
       (obtaining _ _ v v2 w w2 _ _ r obtains)) absent)
       (sizes_left (take len b) x v v2 w w2 count s is sized later absent (inserting r) leaves)
 
@@ -59,15 +59,15 @@ module _ {T : Type 0} (b : List Bool) (len : ℕ) (x : T) (v v2 : Store Node) (w
   range_given (Ok seat) h = tt
   range_given (Err e) h = h
 
-  answered : (width : ℕ) (r : Result Seat (Refused T)) → StepByPath width (s.0, storage_of v w sized) (Insert (take len b) x) (inserted (inserting r)) (t.0, storage_of v2 w2 later) →
-      StepByPath width (s.0, storage_of v w sized) (Insert (take len b) x) (placed r) (t.0, storage_of v2 w2 later)
+  answered : (width : ℕ) (r : Result Seat (Refused T)) → StepByPath width (s.0, storage_of v w sized) (Insert (take len b) x) (insert_reply (inserting r)) (t.0, storage_of v2 w2 later) →
+      StepByPath width (s.0, storage_of v w sized) (Insert (take len b) x) (insert_new_reply r) (t.0, storage_of v2 w2 later)
   answered width (Ok seat) h = h
   answered width (Err e) h = h
 
   pub placed_step : (r : Result Seat (Refused T)) → Leaves (take len b) x v v2 w w2 count count2 s is (inserting r) →
       ObtainsBoth (λ (e : Refused T). e.cause ≡ IndexRange) (λ (e : Refused T). e.cause ≡ Memory) r v v2 w w2 (nodes_needed end.reached.node end.reached.level len)
       (cells_needed end.reached.node end.reached.level len) → GrowsBoth (λ (e : Refused T). e.cause ≡ IndexRange) r v v2 w w2 →
-      (width : ℕ) → StepByPath width (s.0, storage_of v w sized) (Insert (take len b) x) (placed r) (t.0, storage_of v2 w2 later)
+      (width : ℕ) → StepByPath width (s.0, storage_of v w sized) (Insert (take len b) x) (insert_new_reply r) (t.0, storage_of v2 w2 later)
   placed_step r leaves obtains grows width = answered width r (inserts_step v v2 w w2 count count2 s is sized t left later (take len b) x (inserting r) (record {
     leaves = leaves;
     absent = absent;

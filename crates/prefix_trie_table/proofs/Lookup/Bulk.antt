@@ -1,7 +1,7 @@
 -- Questions that go down side by side.
-use Rattle.prefix_trie_table.proofs.Prelude.{◌≡◌, ℕ, ◌+◌, ◌*◌, ◌<◌, ◌≤◌, ◌⊎◌, inl, inr, Bool, List, [], ◌∷◌, ◌++◌, Option, None, Some, IfSome, MatchOption, Contains, option_map, map, take, drop, length, length-drop, get_or, set, sum_by, refl, sym, ap, ◌∙◌, subst, arith, option_or, add-mul, one-mul, cases_eq, length-map, map-append, length_push, take_more, take_more_set, get_or_default, get_or-map, get_or-drop, get_or-take, get_or-set_other, All-nil, All-push, Contains-append_cases, Contains-append_left, Contains-append_right, Contains-push_cases, sum_by_push, Node, NodeSlot, Found, Way, Match, AreAnswered, AreRead, GoOn, HasFound, asked, asks, cost_of, found_of, question_of, questions_of, slot_of, node_at, path_of, IsEnd, SomeNodes, IsOnWay, LongestHeld, Store, IsReached}
+use Rattle.prefix_trie_table.proofs.Prelude.{◌≡◌, ℕ, ◌+◌, ◌*◌, ◌<◌, ◌≤◌, ◌⊎◌, inl, inr, Bool, List, [], ◌∷◌, ◌++◌, Option, None, Some, IfSome, MatchOption, Contains, option_map, map, take, drop, length, length-drop, get_or, set, sum_by, refl, sym, ap, ◌∙◌, subst, arith, option_or, add-mul, one-mul, cases_eq, length-map, map-append, length_push, take_more, take_more_set, get_or_default, get_or-map, get_or-drop, get_or-take, get_or-set_other, All-nil, All-push, Contains-append_cases, Contains-append_left, Contains-append_right, Contains-push_cases, sum_by_push, Node, NodeSlot, Found, Descent, Match, AreAnswered, AreRead, GoOn, HasFound, asked, asks, cost_of, found_of, question_of, questions_of, slot_of, node_at, chunks_of, IsEnd, SomeNodes, IsOnPath, LongestHeld, Store, IsReached}
 use Rattle.std.proofs.lemmas.List.{append_assoc, length-take-le, drop-drop, get_or-set_same}
-use Rattle.prefix_trie_table.specs.Bulk.{IsWay}
+use Rattle.prefix_trie_table.specs.Bulk.{IsDescent}
 use Rattle.prefix_trie_table.proofs.Lookup.Finding.{reached_end}
 use Rattle.prefix_trie_table.proofs.Lookup.Matching.{none_past, longest_none, longest_now}
 
@@ -17,8 +17,8 @@ longer_is None m above result is found = found ∙ is
 longer_is (Some n) m above result is found = found
 
 module _ (b : List Bool) (len level slot : ℕ) (node : Node) (v : Store Node) where
-  pub found_now : IsOnWay b len level node slot v → (above result : Option Found) (here : Option Match) → HasFound v (take len b) (5 * level) above
-      → ((nodes : List ℕ → Option Node) → nodes (take level (path_of (take len b))) ≡ Some node → LongestHeld nodes (take len b) (5 * level) (5 * level + 5) here)
+  pub found_now : IsOnPath b len level node slot v → (above result : Option Found) (here : Option Match) → HasFound v (take len b) (5 * level) above
+      → ((nodes : List ℕ → Option Node) → nodes (take level (chunks_of (take len b))) ≡ Some node → LongestHeld nodes (take len b) (5 * level) (5 * level + 5) here)
       → MatchOption here (result ≡ above) (λ m. result ≡ Some (found_of m)) → HasFound v (take len b) (5 * level + 5) result
   found_now at above result here so_far found is reading paths hold =
       let was = so_far reading paths hold in
@@ -62,7 +62,7 @@ without xs ys k i other has = elim (Contains-append_cases xs (k ∷ ys) i has) a
 ]
 
 -- the numbers of the questions whose ways these are, where one is the last or the first of the others
-numbers_push : (ws : List Way) (w : Way) (others : List ℕ) → map question_of (ws ++ w ∷ []) ++ others ≡ map question_of ws ++ (w.question ∷ others)
+numbers_push : (ws : List Descent) (w : Descent) (others : List ℕ) → map question_of (ws ++ w ∷ []) ++ others ≡ map question_of ws ++ (w.question ∷ others)
 numbers_push ws w others = ap (λ l. l ++ others) (map-append question_of ws (w ∷ [])) ∙ append_assoc (map question_of ws) (w.question ∷ []) others
 
 module _ {K : Type 0} (bits : K → List Bool) (v : Store Node) (questions : List (K × ℕ)) where
@@ -71,28 +71,28 @@ module _ {K : Type 0} (bits : K → List Bool) (v : Store Node) (questions : Lis
   same_question i q r inside q_is r_is = r_is ∙ get_or_default questions i r q inside ∙ sym q_is
 
   module _ (level : ℕ) where
-    pub way_on : (w : Way) (is : IsWay bits v questions level w) (q : K × ℕ) → q ≡ get_or questions w.question q
-        → IsOnWay (bits q.0) q.1 level (node_at v.slots (slot_of w)) (slot_of w) v
-    way_on w is q q_is =
-        subst (λ x. IsOnWay (bits x.0) x.1 level (node_at v.slots (slot_of w)) (slot_of w) v) (sym (same_question w.question is.question q is.inside is.is q_is)) is.on_way
+    pub descent_on : (w : Descent) (is : IsDescent bits v questions level w) (q : K × ℕ) → q ≡ get_or questions w.question q
+        → IsOnPath (bits q.0) q.1 level (node_at v.slots (slot_of w)) (slot_of w) v
+    descent_on w is q q_is =
+        subst (λ x. IsOnPath (bits x.0) x.1 level (node_at v.slots (slot_of w)) (slot_of w) v) (sym (same_question w.question is.question q is.inside is.is q_is)) is.on_path
 
-    pub way_best : (w : Way) (is : IsWay bits v questions level w) (q : K × ℕ) → q ≡ get_or questions w.question q → HasFound v (asked bits q) (5 * level) w.best
-    way_best w is q q_is =
+    pub descent_best : (w : Descent) (is : IsDescent bits v questions level w) (q : K × ℕ) → q ≡ get_or questions w.question q → HasFound v (asked bits q) (5 * level) w.best
+    descent_best w is q q_is =
         subst (λ x. HasFound v (asked bits x) (5 * level) w.best) (sym (same_question w.question is.question q is.inside is.is q_is)) is.best
 
     module _ (before : List (Option Found)) where
       pub go_on_none : GoOn bits v questions level [] [] before before
-      go_on_none = record { ways_are = All-nil (IsWay bits v questions (level + 1)); answered = λ others h. h; counted = λ costs are. refl }
+      go_on_none = record { descents_are = All-nil (IsDescent bits v questions (level + 1)); answered = λ others h. h; counted = λ costs are. refl }
 
-      module _ (ws next : List Way) (after : List (Option Found)) (go : GoOn bits v questions level ws next before after) (w : Way) where
+      module _ (ws next : List Descent) (after : List (Option Found)) (go : GoOn bits v questions level ws next before after) (w : Descent) where
         answered_push : (others : List ℕ) → AreAnswered bits v questions (map question_of (ws ++ w ∷ []) ++ others) before
             → AreAnswered bits v questions (map question_of next ++ (w.question ∷ others)) after
         answered_push others h = go.answered (w.question ∷ others) (subst (λ l. AreAnswered bits v questions l before) (numbers_push ws w others) h)
 
         -- one more way goes on
-        pub go_on_more : (y : Way) → y.question ≡ w.question → IsWay bits v questions (level + 1) y → GoOn bits v questions level (ws ++ w ∷ []) (next ++ y ∷ []) before after
+        pub go_on_more : (y : Descent) → y.question ≡ w.question → IsDescent bits v questions (level + 1) y → GoOn bits v questions level (ws ++ w ∷ []) (next ++ y ∷ []) before after
         go_on_more y same is = record {
-          ways_are = All-push (IsWay bits v questions (level + 1)) next y go.ways_are is;
+          descents_are = All-push (IsDescent bits v questions (level + 1)) next y go.descents_are is;
           answered = λ others h.
               subst (λ l. AreAnswered bits v questions l after) (ap (λ n. map question_of next ++ (n ∷ others)) (sym same) ∙ sym (numbers_push next y others)) (answered_push others h);
           counted = λ costs are.
@@ -102,10 +102,10 @@ module _ {K : Type 0} (bits : K → List Bool) (v : Store Node) (questions : Lis
 
         -- one more is at its end, and its question answered
         pub go_on_end : (q : K × ℕ) (best : Option Found) → w.question < length questions → length after ≡ length questions → q ≡ get_or questions w.question q
-            → HasFound v (asked bits q) (q.1 + 1) best → (n : SomeNodes v) → IsEnd n.reading (path_of (asked bits q)) level
+            → HasFound v (asked bits q) (q.1 + 1) best → (n : SomeNodes v) → IsEnd n.reading (chunks_of (asked bits q)) level
             → GoOn bits v questions level (ws ++ w ∷ []) next before (set after w.question best)
         go_on_end q best inside long is found n end = record {
-          ways_are = go.ways_are;
+          descents_are = go.descents_are;
           answered = λ others h i r a within r_is a_is.
               elim (cases_eq i w.question) as (λ _. Contains (map question_of next ++ others) i ⊎ HasFound v (asked bits r) (r.1 + 1) a) [
                 | inl e ↦
@@ -124,81 +124,81 @@ module _ {K : Type 0} (bits : K → List Bool) (v : Store Node) (questions : Lis
         }
 
     -- a way of this round, while those before it were looked at
-    module _ (ways : List Way) (count : ℕ) (read : List Node) (long : count ≤ length ways) (given : AreRead bits v questions level (take count ways) read)
-        (now : List Way) (j : ℕ) (same : drop j now ≡ drop j ways) (inside : j < count) where
-      now_at : (d : Way) → get_or now j d ≡ get_or ways j d
+    module _ (descents : List Descent) (count : ℕ) (read : List Node) (long : count ≤ length descents) (given : AreRead bits v questions level (take count descents) read)
+        (now : List Descent) (j : ℕ) (same : drop j now ≡ drop j descents) (inside : j < count) where
+      now_at : (d : Descent) → get_or now j d ≡ get_or descents j d
       now_at d =
           let at : j + 0 ≡ j = omega arith in
-          ap (λ i. get_or now i d) (sym at) ∙ sym (get_or-drop j now 0 d) ∙ ap (λ l. get_or l 0 d) same ∙ get_or-drop j ways 0 d ∙ ap (λ i. get_or ways i d) at
+          ap (λ i. get_or now i d) (sym at) ∙ sym (get_or-drop j now 0 d) ∙ ap (λ l. get_or l 0 d) same ∙ get_or-drop j descents 0 d ∙ ap (λ i. get_or descents i d) at
 
-      inside_taken : j < length (take count ways)
-      inside_taken = omega (arith, inside, length-take-le count ways long)
+      inside_taken : j < length (take count descents)
+      inside_taken = omega (arith, inside, length-take-le count descents long)
 
-      pub way_is : (d : Way) → IsWay bits v questions level (get_or now j d)
-      way_is d = subst (IsWay bits v questions level) (get_or-take count ways j d inside ∙ sym (now_at d)) (given.ways_are j d inside_taken)
+      pub descent_is : (d : Descent) → IsDescent bits v questions level (get_or now j d)
+      descent_is d = subst (IsDescent bits v questions level) (get_or-take count descents j d inside ∙ sym (now_at d)) (given.descents_are j d inside_taken)
 
-      node_is : (d : Way) (n : Node) → n ≡ get_or read j n → n ≡ node_at v.slots (slot_of (get_or now j d))
+      node_is : (d : Descent) (n : Node) → n ≡ get_or read j n → n ≡ node_at v.slots (slot_of (get_or now j d))
       node_is d n is =
-          let w : Way = get_or now j d in
-          given.nodes_are j n inside_taken is w (sym (get_or-take count ways j w inside ∙ sym (now_at w) ∙ get_or_default now j w d (omega (arith, inside, now_long))))
+          let w : Descent = get_or now j d in
+          given.nodes_are j n inside_taken is w (sym (get_or-take count descents j w inside ∙ sym (now_at w) ∙ get_or_default now j w d (omega (arith, inside, now_long))))
         where
           now_long : j < length now
           now_long =
               let a = length-drop j now in
-              let b = length-drop j ways in
+              let b = length-drop j descents in
               let c = ap length same in
               omega (arith, a, b, c, inside, long)
 
       -- the node that was read for it is on the way
-      pub read_on : (d : Way) (e : Node) → j < length read → (q : K × ℕ) → q ≡ get_or questions (get_or now j d).question q
-          → IsOnWay (bits q.0) q.1 level (get_or read j e) (slot_of (get_or now j d)) v
+      pub read_on : (d : Descent) (e : Node) → j < length read → (q : K × ℕ) → q ≡ get_or questions (get_or now j d).question q
+          → IsOnPath (bits q.0) q.1 level (get_or read j e) (slot_of (get_or now j d)) v
       read_on d e long_read q q_is =
-          subst (λ n. IsOnWay (bits q.0) q.1 level n (slot_of (get_or now j d)) v) (sym (node_is d (get_or read j e) (get_or_default read j e (get_or read j e) long_read)))
-          (way_on (get_or now j d) (way_is d) q q_is)
+          subst (λ n. IsOnPath (bits q.0) q.1 level n (slot_of (get_or now j d)) v) (sym (node_is d (get_or read j e) (get_or_default read j e (get_or read j e) long_read)))
+          (descent_on (get_or now j d) (descent_is d) q q_is)
 
-      one_more : (d : Way) → take (j + 1) ways ≡ take j ways ++ get_or now j d ∷ []
-      one_more d = take_more ways j d (omega (arith, inside, long)) ∙ ap (λ w. take j ways ++ w ∷ []) (sym (now_at d))
+      one_more : (d : Descent) → take (j + 1) descents ≡ take j descents ++ get_or now j d ∷ []
+      one_more d = take_more descents j d (omega (arith, inside, long)) ∙ ap (λ w. take j descents ++ w ∷ []) (sym (now_at d))
 
       -- the way one node further
-      pub way_next : (d : Way) (q : K × ℕ) → q ≡ get_or questions (get_or now j d).question q → (at : NodeSlot) (best : Option Found)
-          → IsOnWay (bits q.0) q.1 (level + 1) (node_at v.slots (at.start + at.place)) (at.start + at.place) v → HasFound v (asked bits q) (5 * level + 5) best
-          → IsWay bits v questions (level + 1) (record { question = (get_or now j d).question; at = at; best = best })
-      way_next d q is at best on_way has = record {
+      pub descent_next : (d : Descent) (q : K × ℕ) → q ≡ get_or questions (get_or now j d).question q → (at : NodeSlot) (best : Option Found)
+          → IsOnPath (bits q.0) q.1 (level + 1) (node_at v.slots (at.start + at.offset)) (at.start + at.offset) v → HasFound v (asked bits q) (5 * level + 5) best
+          → IsDescent bits v questions (level + 1) (record { question = (get_or now j d).question; at = at; best = best })
+      descent_next d q is at best on_path has = record {
         question = q;
         is = is;
-        inside = (way_is d).inside;
-        on_way = on_way;
+        inside = (descent_is d).inside;
+        on_path = on_path;
         best = let deeper : 5 * level + 5 ≡ 5 * (level + 1) = omega arith in subst (λ n. HasFound v (asked bits q) n best) deeper has;
       }
 
-      pub rest_more : drop (j + 1) now ≡ drop (j + 1) ways
-      rest_more = sym (drop-drop 1 j now) ∙ ap (λ l. drop 1 l) same ∙ drop-drop 1 j ways
+      pub rest_more : drop (j + 1) now ≡ drop (j + 1) descents
+      rest_more = sym (drop-drop 1 j now) ∙ ap (λ l. drop 1 l) same ∙ drop-drop 1 j descents
 
-      module _ (kept : ℕ) (before after : List (Option Found)) (go : GoOn bits v questions level (take j ways) (take kept now) before after) (d : Way) where
+      module _ (kept : ℕ) (before after : List (Option Found)) (go : GoOn bits v questions level (take j descents) (take kept now) before after) (d : Descent) where
         -- it goes on
-        pub round_on : (later : List Way) (kept_later : ℕ) (found : List (Option Found)) → kept < length now → kept_later ≡ kept + 1 → (y : Way) → later ≡ set now kept y
-            → found ≡ after → y.question ≡ (get_or now j d).question → IsWay bits v questions (level + 1) y
-            → GoOn bits v questions level (take (j + 1) ways) (take kept_later later) before found
-        round_on later kept_later found room more y put same_found same_question is =
+        pub round_on : (later : List Descent) (kept_later : ℕ) (found : List (Option Found)) → kept < length now → kept_later ≡ kept + 1 → (y : Descent) → later ≡ set now kept y
+            → found ≡ after → y.question ≡ (get_or now j d).question → IsDescent bits v questions (level + 1) y
+            → GoOn bits v questions level (take (j + 1) descents) (take kept_later later) before found
+        round_on later kept_later found space more y put same_found same_question is =
             subst (λ l. GoOn bits v questions level l (take kept_later later) before found) (sym (one_more d))
-            (subst (λ l. GoOn bits v questions level (take j ways ++ get_or now j d ∷ []) l before found) (sym (ap (λ n. take n later) more ∙ ap (take (kept + 1)) put ∙ take_more_set now kept y room))
-            (subst (λ f. GoOn bits v questions level (take j ways ++ get_or now j d ∷ []) (take kept now ++ y ∷ []) before f) (sym same_found)
-            (go_on_more before (take j ways) (take kept now) after go (get_or now j d) y same_question is)))
+            (subst (λ l. GoOn bits v questions level (take j descents ++ get_or now j d ∷ []) l before found) (sym (ap (λ n. take n later) more ∙ ap (take (kept + 1)) put ∙ take_more_set now kept y space))
+            (subst (λ f. GoOn bits v questions level (take j descents ++ get_or now j d ∷ []) (take kept now ++ y ∷ []) before f) (sym same_found)
+            (go_on_more before (take j descents) (take kept now) after go (get_or now j d) y same_question is)))
 
         -- it is at its end
-        pub round_end : (later : List Way) (kept_later : ℕ) (found : List (Option Found)) → kept_later ≡ kept → later ≡ now → (best : Option Found)
+        pub round_end : (later : List Descent) (kept_later : ℕ) (found : List (Option Found)) → kept_later ≡ kept → later ≡ now → (best : Option Found)
             → found ≡ set after (get_or now j d).question best → length after ≡ length questions → (q : K × ℕ) → q ≡ get_or questions (get_or now j d).question q
-            → HasFound v (asked bits q) (q.1 + 1) best → ((n : SomeNodes v) → IsEnd n.reading (path_of (asked bits q)) level)
-            → GoOn bits v questions level (take (j + 1) ways) (take kept_later later) before found
-        round_end later kept_later found same_kept same_ways best put long q is has end =
+            → HasFound v (asked bits q) (q.1 + 1) best → ((n : SomeNodes v) → IsEnd n.reading (chunks_of (asked bits q)) level)
+            → GoOn bits v questions level (take (j + 1) descents) (take kept_later later) before found
+        round_end later kept_later found same_kept same_descents best put long q is has end =
             subst (λ l. GoOn bits v questions level l (take kept_later later) before found) (sym (one_more d))
-            (subst (λ l. GoOn bits v questions level (take j ways ++ get_or now j d ∷ []) l before found) (sym (ap (λ n. take n later) same_kept ∙ ap (take kept) same_ways))
-            (subst (λ f. GoOn bits v questions level (take j ways ++ get_or now j d ∷ []) (take kept now) before f) (sym put)
-            (go_on_end before (take j ways) (take kept now) after go (get_or now j d) q best (way_is d).inside long is has given.sound (end given.sound))))
+            (subst (λ l. GoOn bits v questions level (take j descents ++ get_or now j d ∷ []) l before found) (sym (ap (λ n. take n later) same_kept ∙ ap (take kept) same_descents))
+            (subst (λ f. GoOn bits v questions level (take j descents ++ get_or now j d ∷ []) (take kept now) before f) (sym put)
+            (go_on_end before (take j descents) (take kept now) after go (get_or now j d) q best (descent_is d).inside long is has given.sound (end given.sound))))
 
 -- the question of a way of a round is one of those asked for prefixes
-pub way_inside : {P K : Type 0} (bits : K → List Bool) (v : Store Node) (number : P → K) (len : P → ℕ) (prefixes : List P) (level : ℕ) (ways : List Way) (count : ℕ) (read : List Node) (long : count ≤ length ways)
-    → AreRead bits v (questions_of number len prefixes) level (take count ways) read → (now : List Way) (j : ℕ) → drop j now ≡ drop j ways → j < count → (d : Way) → (get_or now j d).question < length prefixes
-way_inside bits v number len prefixes level ways count read long given now j same inside d =
-    let is = (way_is bits v (questions_of number len prefixes) level ways count read long given now j same inside d).inside in
+pub descent_inside : {P K : Type 0} (bits : K → List Bool) (v : Store Node) (number : P → K) (len : P → ℕ) (prefixes : List P) (level : ℕ) (descents : List Descent) (count : ℕ) (read : List Node) (long : count ≤ length descents)
+    → AreRead bits v (questions_of number len prefixes) level (take count descents) read → (now : List Descent) (j : ℕ) → drop j now ≡ drop j descents → j < count → (d : Descent) → (get_or now j d).question < length prefixes
+descent_inside bits v number len prefixes level descents count read long given now j same inside d =
+    let is = (descent_is bits v (questions_of number len prefixes) level descents count read long given now j same inside d).inside in
     omega (arith, is, length-map prefixes (asks number len))

@@ -3,7 +3,7 @@ use Rattle.prefix_trie_table.proofs.Prelude.{◌≡◌, ◌⊎◌, ℕ, ◌+◌,
 use lib.Dec.{T as IsT}
 use Rattle.std.proofs.lemmas.List.{length-take-le}
 use Rattle.std.specs.List.{Contains}
-use Rattle.prefix_trie_table.proofs.Lookup.Matching.{held_is, on_way_is}
+use Rattle.prefix_trie_table.proofs.Lookup.Matching.{held_is, on_path_is}
 use Rattle.prefix_trie_table.proofs.Lookup.Matched.{match_held, cell_of, cell_inside, is_match, cell_some}
 
 -- ---- filters of lists
@@ -149,7 +149,7 @@ module _ {T : Type 0} where
           let below_long : length (drop (5 * level) e.0) ≡ i - 5 * level = length-drop (5 * level) e.0 in
           let whole : 5 * level + length (drop (5 * level) e.0) ≡ i = omega (arith, below_long, from) in
           let stored : has node.value_bitmap (value_bit (drop (5 * level) e.0)) ≡ true = ap (λ k. has node.value_bitmap (value_bit k)) below_is
-          ∙ sym (held_is asked level i from (cover_within e there) last t.reading node (on_way_is b len level slot node v at.on_way t.reading t.paths t.holds.hold)) ∙ cover_holds e there in
+          ∙ sym (held_is asked level i from (cover_within e there) last t.reading node (on_path_is b len level slot node v at.on_path t.reading t.paths t.holds.hold)) ∙ cover_holds e there in
           at.left.bits below (omega (arith, below_long, last))
           ∙ middle (begins below rest) (nat_le first (5 * level + length below)) (has node.value_bitmap (value_bit below)) (ap (λ k. begins k rest) below_is ∙ take-begins (i - 5 * level) rest) stored
           ∙ ap (λ n. nat_le first n) whole
@@ -185,19 +185,19 @@ module _ {T : Type 0} where
   -- ---- one step of a walk
 
   module _ (v : Store Node) (w : Store (Option T)) (t : SomeTable v w) (s later : State T) (is : IsShapeOf v.slots w.slots s) (later_is : IsShapeOf v.slots w.slots later)
-      (b : List Bool) (len : ℕ) (long : len ≤ length b) (level deeper : ℕ) (node below : Node) (slot place matches rest first : ℕ)
+      (b : List Bool) (len : ℕ) (long : len ≤ length b) (level deeper : ℕ) (node below : Node) (slot offset matches rest first : ℕ)
       (at : IsCovering b len level node slot matches first v) where
     -- there is no further entry, now and afterwards
-    pub gives_none : GoesOn b len deeper below place rest first None v
+    pub gives_none : GoesOn b len deeper below offset rest first None v
         → (still_covering s.entries (take len b) level matches ≡ []) × (still_covering later.entries (take len b) deeper rest ≡ [])
     gives_none gone =
         let next = gone.next t.reading t.paths t.holds.hold in (
           none_ahead v w t s is b len long level node slot matches first at next.0,
-          none_ahead v w t later later_is b len long deeper below place rest gone.later gone.stands next.1,
+          none_ahead v w t later later_is b len long deeper below offset rest gone.later gone.stands next.1,
         )
 
     -- the next entry is that of the match
-    pub gives_next : (m : Match) → GoesOn b len deeper below place rest first (Some m) v → (x : T) → cell_of w m ≡ Some x
+    pub gives_next : (m : Match) → GoesOn b len deeper below offset rest first (Some m) v → (x : T) → cell_of w m ≡ Some x
         → still_covering s.entries (take len b) level matches ≡ (take m.len b, x) ∷ still_covering later.entries (take len b) deeper rest
     gives_next m gone x read =
         let next = gone.next t.reading t.paths t.holds.hold in
@@ -208,16 +208,16 @@ module _ {T : Type 0} where
         ∙ ap (λ k. (k, x) ∷ from_length (m.len + 1) (covers s.entries (take len b))) (take-take m.len len b (let h = held.within in omega (arith, h, length-take-le len b long)))
         ∙ ap (λ (z : State T). d ∷ from_length (m.len + 1) (covers z.entries (take len b))) (same_shape v.slots w.slots s later is later_is)
         ∙ ap (λ n. d ∷ from_length n (covers later.entries (take len b))) (sym next.1)
-        ∙ ap (λ es. d ∷ es) (sym (still_is v w t later later_is b len long deeper below place rest gone.later gone.stands))
+        ∙ ap (λ es. d ∷ es) (sym (still_is v w t later later_is b len long deeper below offset rest gone.later gone.stands))
 
     -- the match has its value
-    pub match_there : (m : Match) → GoesOn b len deeper below place rest first (Some m) v → (m.bit < 31) × (cell_slot m < length w.slots) × (is_some (cell_of w m) ≡ true)
+    pub match_there : (m : Match) → GoesOn b len deeper below offset rest first (Some m) v → (m.bit < 31) × (cell_slot m < length w.slots) × (is_some (cell_of w m) ≡ true)
     match_there m gone =
         let held : IsHeld t.reading (take len b) m.len m.bit m.node = (gone.next t.reading t.paths t.holds.hold).2 in
         (held.small, cell_inside v w t s is b len long m held, cell_some v w t s is b len long m held)
 
     -- a match is no longer than the string
-    pub match_short : (m : Match) → GoesOn b len deeper below place rest first (Some m) v → m.len ≤ len
+    pub match_short : (m : Match) → GoesOn b len deeper below offset rest first (Some m) v → m.len ≤ len
     match_short m gone =
         let held : IsHeld t.reading (take len b) m.len m.bit m.node = (gone.next t.reading t.paths t.holds.hold).2 in
         let within = held.within in

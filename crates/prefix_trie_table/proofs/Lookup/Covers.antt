@@ -1,9 +1,9 @@
 -- What a walk over the beginnings of a bit string has still to give.
-use Rattle.prefix_trie_table.proofs.Prelude.{◌≡◌, ℕ, ◌+◌, ◌-◌, ◌*◌, ◌^◌, ◌<◌, ◌≤◌, Bool, true, false, ◌&&◌, nat_le, List, length, take, drop, Option, None, Some, refl, sym, ap, ◌∙◌, subst, arith, inl, inr, leb-true, length-drop, bit_and, bit_at, le-leb, lt-leb, cases_lt, false≢true, and_le_r, bit_at_above, begins, digits, length-digits, same_bool, begins-take, begins-length, take-begins, has, value_bit, stands, Sets, HoldsValues, both, bit-set, has-zero, has-and, value_bit-longer, one_of_length, Node, Match, Store, node_sizes, NodesHold, IsReached, NoneHeld, IsOnWay, AreLeft, TakesMatch, TakesShortest, NextHeld, IsCovering, GoesOn, IsCover}
+use Rattle.prefix_trie_table.proofs.Prelude.{◌≡◌, ℕ, ◌+◌, ◌-◌, ◌*◌, ◌^◌, ◌<◌, ◌≤◌, Bool, true, false, ◌&&◌, nat_le, List, length, take, drop, Option, None, Some, refl, sym, ap, ◌∙◌, subst, arith, inl, inr, leb-true, length-drop, bit_and, bit_at, le-leb, lt-leb, cases_lt, false≢true, and_le_r, bit_at_above, begins, digits, length-digits, same_bool, begins-take, begins-length, take-begins, has, value_bit, stands, Sets, HoldsValues, both, bit-set, has-zero, has-and, value_bit-longer, one_of_length, Node, Match, Store, node_sizes, NodesHold, IsReached, NoneHeld, IsOnPath, AreLeft, TakesMatch, TakesShortest, NextHeld, IsCovering, GoesOn, IsCover}
 use Rattle.std.proofs.lemmas.List.{length-take-le}
 use Rattle.prefix_trie_table.proofs.Strings.Plain.{no_or_yes}
 use Rattle.prefix_trie_table.proofs.Lookup.Finding.{reached_end}
-use Rattle.prefix_trie_table.proofs.Lookup.Matching.{held_is, held_here, none_join, none_past, on_way_is, steps-within}
+use Rattle.prefix_trie_table.proofs.Lookup.Matching.{held_is, held_here, none_join, none_past, on_path_is, steps-within}
 
 -- three that hold at once
 all-three : (a b c : Bool) → a ≡ true → b ≡ true → c ≡ true → (a && (b && c)) ≡ true
@@ -146,14 +146,14 @@ gone_nowhere b len first level node slot matches v at = record { to = first; sta
 module _ (b : List Bool) (len first level : ℕ) (node : Node) (slot matches : ℕ) (v : Store Node) (gone : GoneTo b len first level node slot matches v)
     (new : ℕ) (o : Option Match) (takes : TakesShortest level node matches new o) where
   taken : TakesMatch level node new gone.to (take len b) o
-  taken = takes (take len b) gone.to (steps-within b len level gone.stands.on_way.long gone.stands.on_way.whole) gone.stands.low gone.stands.high gone.stands.left
+  taken = takes (take len b) gone.to (steps-within b len level gone.stands.on_path.long gone.stands.on_path.whole) gone.stands.low gone.stands.high gone.stands.left
 
   -- the walk stands where it stood, with the matches that are left
   stays : IsCovering b len level node slot new taken.later v
-  stays = record { on_way = gone.stands.on_way; low = (let l = gone.stands.low in let m = taken.low in omega (arith, l, m)); high = taken.high; left = taken.left }
+  stays = record { on_path = gone.stands.on_path; low = (let l = gone.stands.low in let m = taken.low in omega (arith, l, m)); high = taken.high; left = taken.left }
 
   taken_next : (reading : List ℕ → Option Node) (paths : List (List ℕ)) → NodesHold node_sizes reading paths v → NextHeld reading (take len b) (5 * level + 5) gone.to taken.later o
-  taken_next reading paths hold = taken.next reading (on_way_is b len level slot node v gone.stands.on_way reading paths hold)
+  taken_next reading paths hold = taken.next reading (on_path_is b len level slot node v gone.stands.on_path reading paths hold)
 
 -- a match was taken
 pub gone_on : (b : List Bool) (len first level : ℕ) (node : Node) (slot matches : ℕ) (v : Store Node) (gone : GoneTo b len first level node slot matches v)
@@ -184,11 +184,11 @@ gone_past b len first level node slot matches v gone new takes end = record {
 
 -- there is none here, and the walk goes down
 pub gone_down : (b : List Bool) (len first level : ℕ) (node : Node) (slot matches : ℕ) (v : Store Node) (gone : GoneTo b len first level node slot matches v)
-    (new : ℕ) → TakesShortest level node matches new None → (deeper : ℕ) (below : Node) (place rest : ℕ) → deeper ≡ level + 1
-    → IsOnWay b len deeper below place v → AreLeft rest below.value_bitmap (5 * deeper) (5 * deeper) (take len b) → GoneTo b len first deeper below place rest v
-gone_down b len first level node slot matches v gone new takes deeper below place rest down on_way left = record {
+    (new : ℕ) → TakesShortest level node matches new None → (deeper : ℕ) (below : Node) (offset rest : ℕ) → deeper ≡ level + 1
+    → IsOnPath b len deeper below offset v → AreLeft rest below.value_bitmap (5 * deeper) (5 * deeper) (take len b) → GoneTo b len first deeper below offset rest v
+gone_down b len first level node slot matches v gone new takes deeper below offset rest down on_path left = record {
   to = 5 * deeper;
-  stands = record { on_way = on_way; low = omega arith; high = omega arith; left = left };
+  stands = record { on_path = on_path; low = omega arith; high = omega arith; left = left };
   low = (let l = gone.low in let h = gone.stands.high in omega (arith, l, h));
   none = λ reading paths hold.
       let here = taken_next b len first level node slot matches v gone new None takes reading paths hold in
@@ -198,12 +198,12 @@ gone_down b len first level node slot matches v gone new takes deeper below plac
 
 -- a walk begins at the root
 pub at_root : (b : List Bool) (len level : ℕ) (node : Node) (slot matches : ℕ) (v : Store Node) → len ≤ length b
-    → ((k : List Bool) (n : ℕ) → n ≤ length k → IsOnWay k n level node slot v) → AreLeft matches node.value_bitmap (5 * level) (5 * level) (take len b)
+    → ((k : List Bool) (n : ℕ) → n ≤ length k → IsOnPath k n level node slot v) → AreLeft matches node.value_bitmap (5 * level) (5 * level) (take len b)
     → IsCovering b len level node slot matches (5 * level) v
-at_root b len level node slot matches v long on_way left = record { on_way = on_way b len long; low = omega arith; high = omega arith; left = left }
+at_root b len level node slot matches v long on_path left = record { on_path = on_path b len long; low = omega arith; high = omega arith; left = left }
 
 -- what holds of a walk's fields holds after a step
-pub cover_on : {K T : Type 0} {IsKey : K → Type 0} {bits : K → List Bool} (width : ℕ) (key : K) (len level deeper : ℕ) (node below : Node) (slot place matches rest : ℕ)
+pub cover_on : {K T : Type 0} {IsKey : K → Type 0} {bits : K → List Bool} (width : ℕ) (key : K) (len level deeper : ℕ) (node below : Node) (slot offset matches rest : ℕ)
     (o : Option Match) (v : Store Node) (w : Store (Option T)) (at : IsCover IsKey bits width key len level node slot matches v w)
-    → GoesOn (bits key) len deeper below place rest at.first o v → IsCover IsKey bits width key len deeper below place rest v w
-cover_on width key len level deeper node below slot place matches rest o v w at gone = record { is_key = at.is_key; short = at.short; table = at.table; first = gone.later; stands = gone.stands }
+    → GoesOn (bits key) len deeper below offset rest at.first o v → IsCover IsKey bits width key len deeper below offset rest v w
+cover_on width key len level deeper node below slot offset matches rest o v w at gone = record { is_key = at.is_key; short = at.short; table = at.table; first = gone.later; stands = gone.stands }

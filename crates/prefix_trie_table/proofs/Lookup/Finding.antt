@@ -1,5 +1,5 @@
 -- What stands, or does not, at the end of the way down.
-use Rattle.prefix_trie_table.proofs.Prelude.{◌≡◌, ◌≢◌, ℕ, ◌+◌, ◌*◌, ◌<◌, ◌≤◌, inl, inr, ⊎_elim, Bool, true, false, ◌||◌, List, [], ◌∷◌, ◌++◌, length, take, drop, Option, None, Some, is_some, refl, sym, ap, ◌∙◌, arith, nat_le, leb-true, nat_tests, false≢true, cases_Bool, has, value_bit, Node, has_bit, node_sizes, path_of, bit_of, Store, same_path, is_start, NodesHold, Holds, IsEnd, has_value, IsReached}
+use Rattle.prefix_trie_table.proofs.Prelude.{◌≡◌, ◌≢◌, ℕ, ◌+◌, ◌*◌, ◌<◌, ◌≤◌, inl, inr, ⊎_elim, Bool, true, false, ◌||◌, List, [], ◌∷◌, ◌++◌, length, take, drop, Option, None, Some, is_some, refl, sym, ap, ◌∙◌, arith, nat_le, leb-true, nat_tests, false≢true, cases_Bool, has, value_bit, Node, has_bit, node_sizes, chunks_of, bit_of, Store, same_path, is_start, NodesHold, Holds, IsEnd, has_value, IsReached}
 use Rattle.std.proofs.lemmas.List.{take_all}
 use Rattle.prefix_trie_table.proofs.Strings.Plain.{needs_node}
 use Rattle.prefix_trie_table.proofs.Strings.Bits.{has_bit-is}
@@ -44,41 +44,41 @@ bit_set b len level slot node v at less x small read = ap (has_bit node.value_bi
 module _ (b : List Bool) (len level slot : ℕ) (node : Node) (v : Store Node) (at : IsReached b len level node slot v) (reading : List ℕ → Option Node)
     (paths : List (List ℕ)) (hold : NodesHold node_sizes reading paths v) where
   -- the way has been followed to its end
-  pub reached_end : IsEnd reading (path_of (take len b)) level
-  reached_end = elim (cases_Bool (nat_le (5 * level + 5) len)) as (λ _. IsEnd reading (path_of (take len b)) level) [
+  pub reached_end : IsEnd reading (chunks_of (take len b)) level
+  reached_end = elim (cases_Bool (nat_le (5 * level + 5) len)) as (λ _. IsEnd reading (chunks_of (take len b)) level) [
     | inl e ↦
         let more : 5 * level + 5 ≤ len = leb-true (5 * level + 5) len e in
         let inside = step-inside b len level at.long more in
-        deepest_end reading paths v (path_of (take len b)) level slot hold (at.deepest reading paths hold) node (omega arith) at.node_is
+        deepest_end reading paths v (chunks_of (take len b)) level slot hold (at.deepest reading paths hold) node (omega arith) at.node_is
         (λ _. at.missing more)
     | inr e ↦
         let less : len < 5 * level + 5 = grind (arith, nat_tests) in
         let last = steps-end b len level at.long at.whole less in
-        deepest_end reading paths v (path_of (take len b)) level slot hold (at.deepest reading paths hold) node (omega arith) at.node_is
+        deepest_end reading paths v (chunks_of (take len b)) level slot hold (at.deepest reading paths hold) node (omega arith) at.node_is
         (λ h. absurd (omega arith))
   ]
 
   -- the node reached is the string's own
-  pub reached_own : len < 5 * level + 5 → reading (path_of (take len b)) ≡ Some node
+  pub reached_own : len < 5 * level + 5 → reading (chunks_of (take len b)) ≡ Some node
   reached_own less =
-      ap reading (sym (take_all level (path_of (take len b)) (omega (arith, steps-end b len level at.long at.whole less))))
-      ∙ deepest_is reading paths v (path_of (take len b)) level slot hold (at.deepest reading paths hold) node at.node_is
+      ap reading (sym (take_all level (chunks_of (take len b)) (omega (arith, steps-end b len level at.long at.whole less))))
+      ∙ deepest_is reading paths v (chunks_of (take len b)) level slot hold (at.deepest reading paths hold) node at.node_is
 
   -- the node of the string is not there
-  pub reached_none : 5 * level + 5 ≤ len → reading (path_of (take len b)) ≡ None
-  reached_none more = none_below reading paths v (path_of (take len b)) level hold reached_end (step-inside b len level at.long more)
+  pub reached_none : 5 * level + 5 ≤ len → reading (chunks_of (take len b)) ≡ None
+  reached_none more = none_below reading paths v (chunks_of (take len b)) level hold reached_end (step-inside b len level at.long more)
 
 module _ {T : Type 0} (b : List Bool) (len level slot : ℕ) (node : Node) (v : Store Node) (at : IsReached b len level node slot v)
     (reading : List ℕ → Option Node) (values : List ℕ → ℕ → Option T) (paths : List (List ℕ)) (w : Store (Option T))
     (holds : Holds reading values paths v w) where
   -- no value where the node is missing
-  pub no_value_below : 5 * level + 5 ≤ len → values (path_of (take len b)) (bit_of (take len b)) ≡ None
+  pub no_value_below : 5 * level + 5 ≤ len → values (chunks_of (take len b)) (bit_of (take len b)) ≡ None
   no_value_below more =
-      is_none-None (values (path_of (take len b)) (bit_of (take len b)))
-      (holds.cells.set_where (path_of (take len b)) (bit_of (take len b))
+      is_none-None (values (chunks_of (take len b)) (bit_of (take len b)))
+      (holds.cells.set_where (chunks_of (take len b)) (bit_of (take len b))
       ∙ ap (λ o. has_value o (bit_of (take len b))) (reached_none b len level slot node v at reading paths holds.hold more))
 
 -- and as many nodes were met as levels were passed
 pub met_end : (b : List Bool) (len level slot : ℕ) (node : Node) (v : Store Node) → IsReached b len level node slot v → (before after : ℕ) → after ≡ before + (level + 1) →
-    (reading : List ℕ → Option Node) (paths : List (List ℕ)) → NodesHold node_sizes reading paths v → (last : ℕ) × IsEnd reading (path_of (take len b)) last × (after ≡ before + (last + 1))
+    (reading : List ℕ → Option Node) (paths : List (List ℕ)) → NodesHold node_sizes reading paths v → (last : ℕ) × IsEnd reading (chunks_of (take len b)) last × (after ≡ before + (last + 1))
 met_end b len level slot node v at before after visits reading paths hold = (level, reached_end b len level slot node v at reading paths hold, visits)

@@ -1,5 +1,5 @@
 -- What a table is after a value of it was written over where it stands.
-use Rattle.prefix_trie_table.proofs.Prelude.{◌≡◌, ℕ, ◌+◌, ◌<◌, ◌≤◌, Bool, true, cond, List, length, take, get_or, Option, None, Some, IfSome, MatchOption, is_some, refl, sym, ap, ap₂, ◌∙◌, subst, arith, inr, false≢true, MutBor, option_copied_mut, ghost_name_of, get, get-insert, len-insert, len, listing_total, with_entry, longest_match, State, Node, Seat, Match, has_bit, rank, node_sizes, cell_sizes, path_of, bit_of, Store, Holds, SomeTable, CellsHold, with_node, with_value, has_value, IsHeld, NoneHeld, LongestHeld, SeatAt, match_seat, cell_slot, with_slot, with_cell, HasValue, IsSeat, Sized, Sized-prop, Contents, with_value_at, with_match_at, with_longest_at, IsShapeOf, Shaped, same_shape, IsTable}
+use Rattle.prefix_trie_table.proofs.Prelude.{◌≡◌, ℕ, ◌+◌, ◌<◌, ◌≤◌, Bool, true, cond, List, length, take, get_or, Option, None, Some, IfSome, MatchOption, is_some, refl, sym, ap, ap₂, ◌∙◌, subst, arith, inr, false≢true, MutBor, option_copied_mut, ghost_name_of, get, get-insert, len-insert, len, listing_total, with_entry, longest_match, State, Node, Seat, Match, has_bit, rank, node_sizes, cell_sizes, chunks_of, bit_of, Store, Holds, SomeTable, CellsHold, with_node, with_value, has_value, IsHeld, NoneHeld, LongestHeld, SeatAt, match_seat, cell_slot, with_slot, with_cell, HasValue, IsSeat, Sized, Sized-prop, Contents, with_value_at, with_match_at, with_longest_at, IsShapeOf, Shaped, same_shape, IsTable}
 use Rattle.std.proofs.lemmas.List.{length-set, length-take-le}
 use borrow.Follows.Closed.{read_of}
 use Rattle.prefix_trie_table.proofs.Tree.Invariant.{some_table}
@@ -12,26 +12,26 @@ use Rattle.prefix_trie_table.proofs.Tree.Values.{value_stands, value_replaced}
 
 module _ {T : Type 0} (v : Store Node) (w : Store (Option T)) (t : SomeTable v w) (q : List Bool) where
   -- the cell of a seat
-  module _ (seat : Seat) (at : IsSeat t.reading (path_of q) (bit_of q) seat) where
-    pub cell_there : (seat.start + seat.place < length w.slots) × (get_or w.slots (seat.start + seat.place) None ≡ t.values (path_of q) (bit_of q))
+  module _ (seat : Seat) (at : IsSeat t.reading (chunks_of q) (bit_of q) seat) where
+    pub cell_there : (seat.start + seat.offset < length w.slots) × (get_or w.slots (seat.start + seat.offset) None ≡ t.values (chunks_of q) (bit_of q))
     cell_there =
-        let there = value_stands cell_sizes node_sizes t.reading t.paths v t.holds.hold t.values w t.holds.cells (path_of q) at.node (bit_of q) at.is at.set in
+        let there = value_stands cell_sizes node_sizes t.reading t.paths v t.holds.hold t.values w t.holds.cells (chunks_of q) at.node (bit_of q) at.is at.set in
         (let x = there.2 in let e = at.slot_is in omega arith, ap (λ i. get_or w.slots i None) at.slot_is ∙ there.1)
 
-    pub value_there : is_some (t.values (path_of q) (bit_of q)) ≡ true
-    value_there = t.holds.cells.set_where (path_of q) (bit_of q) ∙ ap (λ o. has_value o (bit_of q)) at.is ∙ at.set
+    pub value_there : is_some (t.values (chunks_of q) (bit_of q)) ≡ true
+    value_there = t.holds.cells.set_where (chunks_of q) (bit_of q) ∙ ap (λ o. has_value o (bit_of q)) at.is ∙ at.set
 
     pub seat_has : HasValue w seat
     seat_has = record { stands = cell_there.0; stored = ap is_some cell_there.1 ∙ value_there }
 
     -- the arrays with another value there
-    pub written : (x : T) → Holds t.reading (with_value t.values (path_of q) (bit_of q) (Some x)) t.paths v (with_cell w (Some seat) x)
+    pub written : (x : T) → Holds t.reading (with_value t.values (chunks_of q) (bit_of q) (Some x)) t.paths v (with_cell w (Some seat) x)
     written x =
-        let put = value_replaced cell_sizes node_sizes t.reading t.paths v t.holds.hold t.values w t.holds.cells (path_of q) at.node (bit_of q) (Some x) at.is at.set refl in
+        let put = value_replaced cell_sizes node_sizes t.reading t.paths v t.holds.hold t.values w t.holds.cells (chunks_of q) at.node (bit_of q) (Some x) at.is at.set refl in
         record {
           hold = t.holds.hold;
-          cells = subst (λ f. CellsHold cell_sizes f (with_value t.values (path_of q) (bit_of q) (Some x)) t.paths (with_cell w (Some seat) x)) (with_same t.reading (path_of q) at.node at.is)
-              (subst (λ i. CellsHold cell_sizes (with_node t.reading (path_of q) at.node) (with_value t.values (path_of q) (bit_of q) (Some x)) t.paths (with_slot w i (Some x))) (sym at.slot_is) put);
+          cells = subst (λ f. CellsHold cell_sizes f (with_value t.values (chunks_of q) (bit_of q) (Some x)) t.paths (with_cell w (Some seat) x)) (with_same t.reading (chunks_of q) at.node at.is)
+              (subst (λ i. CellsHold cell_sizes (with_node t.reading (chunks_of q) at.node) (with_value t.values (chunks_of q) (bit_of q) (Some x)) t.paths (with_slot w i (Some x))) (sym at.slot_is) put);
         }
 
 -- the state with x at q
@@ -43,7 +43,7 @@ abbrev pub seen_of : {T : Type 0} (v : Store Node) → Store (Option T) → Stat
 seen_of v w s z = record {
   entries = s.entries;
   nodes = s.nodes;
-  room = record { limit = v.limit; node_slots = length v.slots; cell_slots = length w.slots };
+  space = record { limit = v.limit; node_slots = length v.slots; cell_slots = length w.slots };
   layout = layout_of v.slots v.tiers w.tiers z;
   build = v.slots;
 }
@@ -53,7 +53,7 @@ module _ {T : Type 0} (v : Store Node) (w : Store (Option T)) (count : ℕ) (s :
   abbrev table : SomeTable v w
   table = some_table is
 
-  pub stored_is : get s.0.entries q ≡ table.values (path_of q) (bit_of q)
+  pub stored_is : get s.0.entries q ≡ table.values (chunks_of q) (bit_of q)
   stored_is = shape_entries table.reading table.values table.paths v w table.holds s.0 s.1 q
 
   -- the state that is left, where the seat is that of q
@@ -61,26 +61,26 @@ module _ {T : Type 0} (v : Store Node) (w : Store (Option T)) (count : ℕ) (s :
   state_left None x = s.0
   state_left (Some seat) x = state_with s.0 q x
 
-  pub left_is : (o : Option Seat) → IfSome o (λ seat. IsSeat table.reading (path_of q) (bit_of q) seat) → (x : T) → IsShapeOf v.slots (with_cell w o x).slots (state_left o x)
+  pub left_is : (o : Option Seat) → IfSome o (λ seat. IsSeat table.reading (chunks_of q) (bit_of q) seat) → (x : T) → IsShapeOf v.slots (with_cell w o x).slots (state_left o x)
   left_is None at x = s.1
   left_is (Some seat) at x =
-      shape_of table.reading (with_value table.values (path_of q) (bit_of q) (Some x)) table.paths v (with_cell w (Some seat) x) (written v w table q seat at x) (state_with s.0 q x)
+      shape_of table.reading (with_value table.values (chunks_of q) (bit_of q) (Some x)) table.paths v (with_cell w (Some seat) x) (written v w table q seat at x) (state_with s.0 q x)
       (shape_nodes table.reading table.values table.paths v w table.holds s.0 s.1)
       (λ k. get-insert listing_total s.0.entries q x k ∙ ap₂ (λ t o. cond t (Some x) o) (same_key k q) (shape_entries table.reading table.values table.paths v w table.holds s.0 s.1 k))
 
   -- so the arrays that are left have a shape
-  pub left_shape : (o : Option Seat) → IfSome o (λ seat. IsSeat table.reading (path_of q) (bit_of q) seat) → (x : T) → Shaped v.slots (with_cell w o x).slots
+  pub left_shape : (o : Option Seat) → IfSome o (λ seat. IsSeat table.reading (chunks_of q) (bit_of q) seat) → (x : T) → Shaped v.slots (with_cell w o x).slots
   left_shape o at x = (state_left o x, left_is o at x)
 
   -- and no other
-  pub left_only : (o : Option Seat) → IfSome o (λ seat. IsSeat table.reading (path_of q) (bit_of q) seat) → (x : T) → (t : Shaped v.slots (with_cell w o x).slots) → t.0 ≡ state_left o x
+  pub left_only : (o : Option Seat) → IfSome o (λ seat. IsSeat table.reading (chunks_of q) (bit_of q) seat) → (x : T) → (t : Shaped v.slots (with_cell w o x).slots) → t.0 ≡ state_left o x
   left_only o at x t = same_shape v.slots (with_cell w o x).slots t.0 (state_left o x) t.1 (left_is o at x)
 
-  left_table : (o : Option Seat) → IfSome o (λ seat. IsSeat table.reading (path_of q) (bit_of q) seat) → (x : T) → IsTable v (with_cell w o x) count (state_left o x)
+  left_table : (o : Option Seat) → IfSome o (λ seat. IsSeat table.reading (chunks_of q) (bit_of q) seat) → (x : T) → IsTable v (with_cell w o x) count (state_left o x)
   left_table None at x = is
   left_table (Some seat) at x = record {
     reading = table.reading;
-    values = with_value table.values (path_of q) (bit_of q) (Some x);
+    values = with_value table.values (chunks_of q) (bit_of q) (Some x);
     paths = table.paths;
     nodes = (written v w table q seat at x).hold;
     cells = (written v w table q seat at x).cells;
@@ -89,16 +89,16 @@ module _ {T : Type 0} (v : Store Node) (w : Store (Option T)) (count : ℕ) (s :
         ∙ sym (len-insert listing_total s.0.entries q x);
     one_limit = is.one_limit;
     nodes_within = is.nodes_within;
-    cells_within = (let l = length-set w.slots (seat.start + seat.place) (Some x) in let h = is.cells_within in omega (arith, l, h));
+    cells_within = (let l = length-set w.slots (seat.start + seat.offset) (Some x) in let h = is.cells_within in omega (arith, l, h));
     cells_first = is.cells_first;
   }
 
   -- and are a table
-  pub table_left : (o : Option Seat) → IfSome o (λ seat. IsSeat table.reading (path_of q) (bit_of q) seat) → (x : T) → (t : Shaped v.slots (with_cell w o x).slots) → IsTable v (with_cell w o x) count t.0
+  pub table_left : (o : Option Seat) → IfSome o (λ seat. IsSeat table.reading (chunks_of q) (bit_of q) seat) → (x : T) → (t : Shaped v.slots (with_cell w o x).slots) → IsTable v (with_cell w o x) count t.0
   table_left o at x t = subst (λ (y : State T). IsTable v (with_cell w o x) count y) (sym (left_only o at x t)) (left_table o at x)
 
   -- the seat's value can be lent
-  pub can_lend : (o : Option Seat) → IfSome o (λ seat. IsSeat table.reading (path_of q) (bit_of q) seat) → IfSome o (λ seat. HasValue w seat)
+  pub can_lend : (o : Option Seat) → IfSome o (λ seat. IsSeat table.reading (chunks_of q) (bit_of q) seat) → IfSome o (λ seat. HasValue w seat)
   can_lend None at = tt
   can_lend (Some seat) at = seat_has v w table q seat at
 
@@ -106,7 +106,7 @@ module _ {T : Type 0} (v : Store Node) (w : Store (Option T)) (count : ℕ) (s :
   pub table_kept : (u : Shaped v.slots w.slots) → IsTable v w count u.0
   table_kept u = subst (λ (y : State T). IsTable v w count y) (same_shape v.slots w.slots s.0 u.0 s.1 u.1) is
 
-  pub written_seen : (z : Sized v.slots) (o : Option Seat) → IfSome o (λ seat. IsSeat table.reading (path_of q) (bit_of q) seat) → (seat : Seat) (x : T) → o ≡ Some seat → (t : Shaped v.slots (with_cell w o x).slots) (y : Sized v.slots) →
+  pub written_seen : (z : Sized v.slots) (o : Option Seat) → IfSome o (λ seat. IsSeat table.reading (chunks_of q) (bit_of q) seat) → (seat : Seat) (x : T) → o ≡ Some seat → (t : Shaped v.slots (with_cell w o x).slots) (y : Sized v.slots) →
       seen_of v (with_cell w o x) t.0 y ≡ with_value_at (seen_of v w s.0 z) q x
   written_seen z None at seat x e t y = absurd (false≢true (ap is_some e))
   written_seen z (Some there) at seat x e t y =
@@ -114,14 +114,14 @@ module _ {T : Type 0} (v : Store Node) (w : Store (Option T)) (count : ℕ) (s :
       λ i. record {
         entries = (left i).entries;
         nodes = (left i).nodes;
-        room = record { limit = v.limit; node_slots = length v.slots; cell_slots = length-set w.slots (there.start + there.place) (Some x) i };
+        space = record { limit = v.limit; node_slots = length v.slots; cell_slots = length-set w.slots (there.start + there.offset) (Some x) i };
         layout = layout_of v.slots v.tiers w.tiers (Sized-prop v.slots y z i);
         build = v.slots;
       }
 
   -- where a value is lent only at a seat, the table ends with another value at q, or as it is
-  pub lender_left : (z : Sized v.slots) (o : Option Seat) → IfSome o (λ seat. IsSeat table.reading (path_of q) (bit_of q) seat) → (r : Option (MutBor T)) (G : T → Contents T) →
-      MatchOption o (r ≡ None) (λ seat. option_copied_mut r ≡ get_or w.slots (seat.start + seat.place) None) →
+  pub lender_left : (z : Sized v.slots) (o : Option Seat) → IfSome o (λ seat. IsSeat table.reading (chunks_of q) (bit_of q) seat) → (r : Option (MutBor T)) (G : T → Contents T) →
+      MatchOption o (r ≡ None) (λ seat. option_copied_mut r ≡ get_or w.slots (seat.start + seat.offset) None) →
       ((seat : Seat) (x : T) → o ≡ Some seat → with_value_at (seen_of v w s.0 z) q x ≡ G x) →
       (t : (x : T) → Shaped v.slots (with_cell w o x).slots) (y : T → Sized v.slots) (u : Shaped v.slots w.slots) (k : Sized v.slots) →
       read_of (ghost_name_of r) (λ x. seen_of v (with_cell w o x) (t x).0 (y x)) (seen_of v w u.0 k) ≡ read_of (ghost_name_of r) G (seen_of v w s.0 z)
@@ -140,7 +140,7 @@ module _ {T : Type 0} (v : Store Node) (w : Store (Option T)) (t : SomeTable v w
   asked = take len b
 
   module _ (m : Match) (held : IsHeld t.reading (take len b) m.len m.bit m.node) where
-    own_seat : IsSeat t.reading (path_of (take m.len (take len b))) (bit_of (take m.len (take len b))) (match_seat m)
+    own_seat : IsSeat t.reading (chunks_of (take m.len (take len b))) (bit_of (take m.len (take len b))) (match_seat m)
     own_seat = record {
       node = m.node;
       is = held.is;
@@ -148,24 +148,24 @@ module _ {T : Type 0} (v : Store Node) (w : Store (Option T)) (t : SomeTable v w
       slot_is = ap (λ i. m.node.value_block + rank m.node.value_bitmap i) (sym held.bit_is);
     }
 
-    seat_there : (o : Option Seat) → o ≡ Some (match_seat m) → n ≡ m.len → IfSome o (λ seat. IsSeat t.reading (path_of (take n (take len b))) (bit_of (take n (take len b))) seat)
+    seat_there : (o : Option Seat) → o ≡ Some (match_seat m) → n ≡ m.len → IfSome o (λ seat. IsSeat t.reading (chunks_of (take n (take len b))) (bit_of (take n (take len b))) seat)
     seat_there o e f =
-        subst (λ y. IfSome y (λ seat. IsSeat t.reading (path_of (take n asked)) (bit_of (take n asked)) seat)) (sym e)
-        (subst (λ k. IsSeat t.reading (path_of (take k asked)) (bit_of (take k asked)) (match_seat m)) (sym f) own_seat)
+        subst (λ y. IfSome y (λ seat. IsSeat t.reading (chunks_of (take n asked)) (bit_of (take n asked)) seat)) (sym e)
+        (subst (λ k. IsSeat t.reading (chunks_of (take k asked)) (bit_of (take k asked)) (match_seat m)) (sym f) own_seat)
 
-    handed_out : NoneHeld t.reading (take len b) (m.len + 1) (len + 1) → n ≡ m.len → (r : Option (MutBor T)) →
+    split_off_map : NoneHeld t.reading (take len b) (m.len + 1) (len + 1) → n ≡ m.len → (r : Option (MutBor T)) →
         option_copied_mut r ≡ get_or w.slots (cell_slot m) None →
         MatchOption r (longest_match s.entries (take len b) ≡ None) (λ x. (n ≤ len) × (longest_match s.entries (take len b) ≡ Some (take n (take len b), x.now)))
-    handed_out none f None e = absurd (false≢true (ap is_some e ∙ cell_some v w t s is b len long m held))
-    handed_out none f (Some x) e = (
+    split_off_map none f None e = absurd (false≢true (ap is_some e ∙ cell_some v w t s is b len long m held))
+    split_off_map none f (Some x) e = (
       omega (arith, f, held.within, length-take-le len b long),
       longest_at v w t s is b len long m held none x.now (sym e) ∙ ap (λ k. Some (take k asked, x.now)) (sym f),
     )
 
   -- the seat is that of a beginning
   pub longest_seat : (longest : Option Match) (o : Option Seat) → SeatAt longest o n → LongestHeld t.reading (take len b) 0 (len + 1) longest →
-      IfSome o (λ seat. IsSeat t.reading (path_of (take n (take len b))) (bit_of (take n (take len b))) seat)
-  longest_seat None o at held = subst (λ y. IfSome y (λ seat. IsSeat t.reading (path_of (take n asked)) (bit_of (take n asked)) seat)) (sym at) tt
+      IfSome o (λ seat. IsSeat t.reading (chunks_of (take n (take len b))) (bit_of (take n (take len b))) seat)
+  longest_seat None o at held = subst (λ y. IfSome y (λ seat. IsSeat t.reading (chunks_of (take n asked)) (bit_of (take n asked)) seat)) (sym at) tt
   longest_seat (Some m) o at held = seat_there m held.0 o at.0 at.1
 
   -- a value written there is written at the longest match
@@ -178,13 +178,13 @@ module _ {T : Type 0} (v : Store Node) (w : Store (Option T)) (t : SomeTable v w
 
   -- the value lent is that of the longest match
   pub longest_lent : (longest : Option Match) (o : Option Seat) → SeatAt longest o n → LongestHeld t.reading (take len b) 0 (len + 1) longest →
-      (r : Option (MutBor T)) → MatchOption o (r ≡ None) (λ seat. option_copied_mut r ≡ get_or w.slots (seat.start + seat.place) None) →
+      (r : Option (MutBor T)) → MatchOption o (r ≡ None) (λ seat. option_copied_mut r ≡ get_or w.slots (seat.start + seat.offset) None) →
       MatchOption r (longest_match s.entries (take len b) ≡ None) (λ x. (n ≤ len) × (longest_match s.entries (take len b) ≡ Some (take n (take len b), x.now)))
   longest_lent None o at held r e =
-      let none : r ≡ None = subst (λ y. MatchOption y (r ≡ None) (λ seat. option_copied_mut r ≡ get_or w.slots (seat.start + seat.place) None)) at e in
+      let none : r ≡ None = subst (λ y. MatchOption y (r ≡ None) (λ seat. option_copied_mut r ≡ get_or w.slots (seat.start + seat.offset) None)) at e in
       subst (λ y. MatchOption y (longest_match s.entries asked ≡ None) (λ x. (n ≤ len) × (longest_match s.entries asked ≡ Some (take n asked, x.now)))) (sym none)
       (longest_none v w t s is b len long held)
-  longest_lent (Some m) o at held r e = handed_out m held.0 held.1 at.1 r (subst (λ y. MatchOption y (r ≡ None) (λ seat. option_copied_mut r ≡ get_or w.slots (seat.start + seat.place) None)) at.0 e)
+  longest_lent (Some m) o at held r e = split_off_map m held.0 held.1 at.1 r (subst (λ y. MatchOption y (r ≡ None) (λ seat. option_copied_mut r ≡ get_or w.slots (seat.start + seat.offset) None)) at.0 e)
 
 -- the bit of a match is one of a node's
 pub longest_small : (reading : List ℕ → Option Node) (q : List Bool) (end : ℕ) (longest : Option Match) → LongestHeld reading q 0 end longest → IfSome longest (λ m. m.bit < 31)

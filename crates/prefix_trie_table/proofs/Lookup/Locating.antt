@@ -1,5 +1,5 @@
 -- Where the value of a bit string stands, by the nodes in their array.
-use Rattle.prefix_trie_table.proofs.Prelude.{◌≡◌, ℕ, ◌+◌, ◌*◌, ◌<◌, ◌≤◌, Bool, true, false, cond, ◌||◌, nat_eq, List, ◌++◌, length, set, take, drop, Option, None, Some, is_some, refl, sym, ap, ap₂, ◌∙◌, arith, false≢true, has, value_bit, Sets, value_bit-small, Node, Reached, Seat, has_bit, rank, blank_node, node_at, node_sizes, cell_sizes, path_of, bit_of, read, SomeTable, IsNodeAt, IsSlot, at_root, at_child, NodesHold, CellsHold, ValueSet, with_node, has_value, EndsAt, value_seat, seat_in, seat_of, IsSeat, Store, IsReached}
+use Rattle.prefix_trie_table.proofs.Prelude.{◌≡◌, ℕ, ◌+◌, ◌*◌, ◌<◌, ◌≤◌, Bool, true, false, cond, ◌||◌, nat_eq, List, ◌++◌, length, set, take, drop, Option, None, Some, is_some, refl, sym, ap, ap₂, ◌∙◌, arith, false≢true, has, value_bit, Sets, value_bit-small, Node, Reached, Seat, has_bit, rank, blank_node, node_at, node_sizes, cell_sizes, chunks_of, bit_of, read, SomeTable, IsNodeAt, IsSlot, at_root, at_child, NodesHold, CellsHold, ValueSet, with_node, has_value, EndsAt, value_seat, seat_in, seat_of, IsSeat, Store, IsReached}
 use Rattle.std.proofs.lemmas.List.{get_or-set_same}
 use Rattle.prefix_trie_table.proofs.Strings.Bits.{has_bit-is, has_bit-sets}
 use Rattle.prefix_trie_table.proofs.Strings.BitLists.{rank-same}
@@ -27,16 +27,16 @@ pub seat_there : (n : Node) (b : ℕ) → has_bit n.value_bitmap b ≡ true → 
 seat_there n b e = ap (λ t. cond t (Some (value_seat n b)) None) e
 
 pub seat_slot : (n : Node) (b : ℕ) (t : Bool) (seat : Seat) → cond t (Some (value_seat n b)) None ≡ Some seat →
-    (t ≡ true) × (seat.start + seat.place ≡ n.value_block + rank n.value_bitmap b)
+    (t ≡ true) × (seat.start + seat.offset ≡ n.value_block + rank n.value_bitmap b)
 seat_slot n b true seat e = (refl, sym (ap slot_of e))
   where
     slot_of : Option Seat → ℕ
     slot_of None = 0
-    slot_of (Some s) = s.start + s.place
+    slot_of (Some s) = s.start + s.offset
 seat_slot n b false seat e = absurd (false≢true (ap is_some e))
 
 -- the seat of a string of less than five bits below a node's
-pub seat_below : (nodes : List Node) (level : ℕ) (u s : List Bool) (n : Node) → length u ≡ 5 * level → length s ≤ 4 → read nodes (path_of u) ≡ Some n →
+pub seat_below : (nodes : List Node) (level : ℕ) (u s : List Bool) (n : Node) → length u ≡ 5 * level → length s ≤ 4 → read nodes (chunks_of u) ≡ Some n →
     has n.value_bitmap (value_bit s) ≡ true → seat_of nodes (u ++ s) ≡ Some (value_seat n (value_bit s))
 unfolding seat_of
 seat_below nodes level u s n long short stands set =
@@ -47,32 +47,32 @@ seat_below nodes level u s n long short stands set =
 
 module _ (v : Store Node) (reading : List ℕ → Option Node) (paths : List (List ℕ)) (hold : NodesHold node_sizes reading paths v) (q : List Bool) where
   -- the seat of a string is that at its own node
-  pub seat_reads : seat_of v.slots q ≡ seat_in (reading (path_of q)) (bit_of q)
+  pub seat_reads : seat_of v.slots q ≡ seat_in (reading (chunks_of q)) (bit_of q)
   unfolding seat_of
-  seat_reads = ap (λ o. seat_in o (bit_of q)) (reads node_sizes reading paths v hold (path_of q))
+  seat_reads = ap (λ o. seat_in o (bit_of q)) (reads node_sizes reading paths v hold (chunks_of q))
 
   -- there is one where there is a value
-  pub seat_if : is_some (seat_of v.slots q) ≡ has_value (reading (path_of q)) (bit_of q)
-  seat_if = ap is_some seat_reads ∙ seat_some (reading (path_of q)) (bit_of q)
+  pub seat_if : is_some (seat_of v.slots q) ≡ has_value (reading (chunks_of q)) (bit_of q)
+  seat_if = ap is_some seat_reads ∙ seat_some (reading (chunks_of q)) (bit_of q)
 
   -- no value where there is none
-  pub no_value_seat : seat_of v.slots q ≡ None → has_value (reading (path_of q)) (bit_of q) ≡ false
+  pub no_value_seat : seat_of v.slots q ≡ None → has_value (reading (chunks_of q)) (bit_of q) ≡ false
   no_value_seat e = sym seat_if ∙ ap is_some e
 
   -- and none where there is no value
-  pub no_seat : has_value (reading (path_of q)) (bit_of q) ≡ false → seat_of v.slots q ≡ None
-  no_seat e = seat_reads ∙ is_none-None (seat_in (reading (path_of q)) (bit_of q)) (seat_some (reading (path_of q)) (bit_of q) ∙ e)
+  pub no_seat : has_value (reading (chunks_of q)) (bit_of q) ≡ false → seat_of v.slots q ≡ None
+  no_seat e = seat_reads ∙ is_none-None (seat_in (reading (chunks_of q)) (bit_of q)) (seat_some (reading (chunks_of q)) (bit_of q) ∙ e)
 
   -- so no value stands there
   pub missing_value : {T : Type 0} (values : List ℕ → ℕ → Option T) (w : Store (Option T)) → CellsHold cell_sizes reading values paths w →
-      seat_of v.slots q ≡ None → values (path_of q) (bit_of q) ≡ None
-  missing_value values w cells e = is_none-None (values (path_of q) (bit_of q)) (cells.set_where (path_of q) (bit_of q) ∙ no_value_seat e)
+      seat_of v.slots q ≡ None → values (chunks_of q) (bit_of q) ≡ None
+  missing_value values w cells e = is_none-None (values (chunks_of q) (bit_of q)) (cells.set_where (chunks_of q) (bit_of q) ∙ no_value_seat e)
 
   -- and the value stands there
-  pub is_seat : (seat : Seat) → seat_of v.slots q ≡ Some seat → IsSeat reading (path_of q) (bit_of q) seat
-  is_seat seat e = at (reading (path_of q)) refl (sym seat_reads ∙ e)
+  pub is_seat : (seat : Seat) → seat_of v.slots q ≡ Some seat → IsSeat reading (chunks_of q) (bit_of q) seat
+  is_seat seat e = at (reading (chunks_of q)) refl (sym seat_reads ∙ e)
     where
-      at : (o : Option Node) → reading (path_of q) ≡ o → seat_in o (bit_of q) ≡ Some seat → IsSeat reading (path_of q) (bit_of q) seat
+      at : (o : Option Node) → reading (chunks_of q) ≡ o → seat_in o (bit_of q) ≡ Some seat → IsSeat reading (chunks_of q) (bit_of q) seat
       at None is e = absurd (false≢true (ap is_some e))
       at (Some n) is e =
           let there = seat_slot n (bit_of q) (has_bit n.value_bitmap (bit_of q)) seat e in
@@ -94,7 +94,7 @@ module _ (b : List Bool) (len level slot : ℕ) (node : Node) (v : Store Node) (
   pub missing_few : {T : Type 0} (values : List ℕ → ℕ → Option T) (w : Store (Option T)) → CellsHold cell_sizes reading values paths w →
       seat_of v.slots (take len b) ≡ None → len < 5 * level + 5 → rank node.value_bitmap 32 < 31
   missing_few values w cells e less =
-      few_values reading values paths w (path_of (take len b)) node (bit_of (take len b)) cells
+      few_values reading values paths w (chunks_of (take len b)) node (bit_of (take len b)) cells
       (reached_own b len level slot node v at reading paths hold less) (bit_of-small (take len b)) (missing_bit e less)
 
   module _ (less : len < 5 * level + 5) (x : ℕ) (small : x < 31) (read : x ≡ value_bit (drop (5 * level) (take len b))) where
@@ -113,19 +113,19 @@ module _ (b : List Bool) (len level slot : ℕ) (node : Node) (v : Store Node) (
         ∙ ap (λ i. Some (value_seat node i)) (bit-read b len level at.long x at.whole less read) ∙ ap Some (sym is)
 
 -- where a value stands that was added to a node
-module _ (v v2 : Store Node) (slot place b bitmap : ℕ) (k m : Node) (sets : Sets k.value_bitmap b bitmap) (bits_are : m.value_bitmap ≡ bitmap) (small : b < 32) where
+module _ (v v2 : Store Node) (slot offset b bitmap : ℕ) (k m : Node) (sets : Sets k.value_bitmap b bitmap) (bits_are : m.value_bitmap ≡ bitmap) (small : b < 32) where
   more : (i : ℕ) → has_bit m.value_bitmap i ≡ (nat_eq i b || has_bit k.value_bitmap i)
   more i = ap (λ n. has_bit n i) bits_are ∙ has_bit-sets k.value_bitmap b bitmap i sets small
 
   added_rank : rank m.value_bitmap b ≡ rank k.value_bitmap b
   added_rank = rank-same k.value_bitmap m.value_bitmap b (λ i h. more i ∙ ap (λ t. t || has_bit k.value_bitmap i) (other_number i b (λ e. omega arith)))
 
-  pub added_seat : place ≡ rank k.value_bitmap b → slot < length v.slots → v2 ≡ record v { slots = set v.slots slot m } →
-      seat_in (Some (node_at v2.slots slot)) b ≡ Some (record { start = m.value_block; place = place })
+  pub added_seat : offset ≡ rank k.value_bitmap b → slot < length v.slots → v2 ≡ record v { slots = set v.slots slot m } →
+      seat_in (Some (node_at v2.slots slot)) b ≡ Some (record { start = m.value_block; offset = offset })
   added_seat place_is inside v2_is =
       let here : node_at v2.slots slot ≡ m = ap (λ (x : Store Node). node_at x.slots slot) v2_is ∙ get_or-set_same v.slots slot m blank_node inside in
       ap (λ n. seat_in (Some n) b) here ∙ seat_there m b (more b ∙ ap (λ t. t || has_bit k.value_bitmap b) (same_number b))
-      ∙ ap (λ i. Some (record { start = m.value_block; place = i })) (added_rank ∙ sym place_is)
+      ∙ ap (λ i. Some (record { start = m.value_block; offset = i })) (added_rank ∙ sym place_is)
 
 -- the node stands where it stood
 own_slot : (reading : List ℕ → Option Node) (p : List ℕ) (m : Node) (q : List ℕ) (s : ℕ) → IsSlot reading q s → q ≡ p → IsSlot (with_node reading p m) q s
@@ -134,12 +134,12 @@ own_slot reading p m q s (at_child r d k parent bit) e = at_child r d k (with_ot
 
 -- so its value is the string's
 pub entered_seat : {T : Type 0} (reading : List ℕ → Option Node) (values : List ℕ → ℕ → Option T) (paths : List (List ℕ)) (q : List Bool) (slot b : ℕ) (x : Option T) (seat : Seat)
-    (v2 : Store Node) (w2 : Store (Option T)) → IsSlot reading (path_of q) slot → bit_of q ≡ b → (one : ValueSet reading paths values (path_of q) b x v2 w2) →
+    (v2 : Store Node) (w2 : Store (Option T)) → IsSlot reading (chunks_of q) slot → bit_of q ≡ b → (one : ValueSet reading paths values (chunks_of q) b x v2 w2) →
     seat_in (Some (node_at v2.slots slot)) b ≡ Some seat → seat_of v2.slots q ≡ Some seat
 entered_seat reading values paths q slot b x seat v2 w2 stands bit one found =
-    let later : List ℕ → Option Node = with_node reading (path_of q) one.node in
-    let is : later (path_of q) ≡ Some one.node = with_here reading (path_of q) one.node (path_of q) refl in
-    let at = slot_holds node_sizes later paths v2 one.hold (path_of q) slot one.node (own_slot reading (path_of q) one.node (path_of q) slot stands refl) is in
+    let later : List ℕ → Option Node = with_node reading (chunks_of q) one.node in
+    let is : later (chunks_of q) ≡ Some one.node = with_here reading (chunks_of q) one.node (chunks_of q) refl in
+    let at = slot_holds node_sizes later paths v2 one.hold (chunks_of q) slot one.node (own_slot reading (chunks_of q) one.node (chunks_of q) slot stands refl) is in
     seat_reads v2 later paths one.hold q ∙ ap₂ (λ o i. seat_in o i) (is ∙ ap Some (sym at.0)) bit ∙ found
 
 -- a way ends where it ended where the nodes are the same
@@ -147,10 +147,10 @@ pub ends_still : (b : List Bool) (len : ℕ) (reached : Reached) (v x : Store No
     EndsAt v b len reached → NodesHold node_sizes reading paths v → NodesHold node_sizes reading paths x → EndsAt x b len reached
 ends_still b len reached v x reading paths ends hold later = (
   seat_reads x reading paths later (take len b) ∙ sym (seat_reads v reading paths hold (take len b)) ∙ ends.0,
-  reached_still b len reached.level (reached.at.start + reached.at.place) reached.node v x reading paths ends.1 hold later,
+  reached_still b len reached.level (reached.at.start + reached.at.offset) reached.node v x reading paths ends.1 hold later,
 )
 
 -- it stands in its table
 abbrev pub end_there : (b : List Bool) (len : ℕ) (reached : Reached) {T : Type 0} {v : Store Node} {w : Store (Option T)} (t : SomeTable v w) → EndsAt v b len reached →
-    (t : SomeTable v w) × IsNodeAt t.reading (reached.at.start + reached.at.place)
+    (t : SomeTable v w) × IsNodeAt t.reading (reached.at.start + reached.at.offset)
 end_there b len reached t ends = (t, deepest_there (ends.1.deepest t.reading t.paths t.holds.hold))

@@ -1,5 +1,5 @@
 -- The longest and the shortest match of a table's entries, from the beginnings of a bit string that have values.
-use Rattle.prefix_trie_table.proofs.Prelude.{◌≡◌, ℕ, ◌+◌, ◌/◌, ◌<◌, ◌≤◌, Bool, true, ◌&&◌, nat_le, List, length, get_or, take, Option, None, Some, is_some, MatchOption, refl, sym, ap, ◌∙◌, arith, inl, inr, true≢false, false≢true, cases_lt, filter_agree, get, contains_key, keys, begins, begins-take, begins-length, take-begins, IsMatch, longest_match, shortest_match, State, visits, visits_of_match, visits_to_match, match_laws, some-value, begins-within, Node, Match, has_bit, node_sizes, cell_sizes, path_of, bit_of, Store, SomeTable, SomeNodes, IsEnd, has_value, holds_value, LackLastBit, IsHeld, NoneHeld, cell_slot, IsShapeOf}
+use Rattle.prefix_trie_table.proofs.Prelude.{◌≡◌, ℕ, ◌+◌, ◌/◌, ◌<◌, ◌≤◌, Bool, true, ◌&&◌, nat_le, List, length, get_or, take, Option, None, Some, is_some, MatchOption, refl, sym, ap, ◌∙◌, arith, inl, inr, true≢false, false≢true, cases_lt, filter_agree, get, contains_key, keys, begins, begins-take, begins-length, take-begins, IsMatch, longest_match, shortest_match, State, visits, visits_of_match, visits_to_match, match_laws, some-value, begins-within, Node, Match, has_bit, node_sizes, cell_sizes, chunks_of, bit_of, Store, SomeTable, SomeNodes, IsEnd, has_value, holds_value, LackLastBit, IsHeld, NoneHeld, cell_slot, IsShapeOf}
 use Rattle.std.proofs.lemmas.List.{length-take-le, take_all}
 use Rattle.prefix_trie_table.proofs.Strings.Plain.{no_or_yes}
 use Rattle.prefix_trie_table.proofs.Tree.Invariant.{some_nodes}
@@ -17,9 +17,9 @@ module _ {T : Type 0} where
   )
 
   -- as many nodes are met on the way of a string as the model counts
-  pub met_on_way : (v : Store Node) (w : Store (Option T)) (t : SomeTable v w) (s : State T) → IsShapeOf v.slots w.slots s → (q : List Bool) (before after : ℕ) →
-      (level : ℕ) × IsEnd t.reading (path_of q) level × (after ≡ before + (level + 1)) → after ≡ before + visits s.nodes q
-  met_on_way v w t s is q before after met =
+  pub met_on_path : (v : Store Node) (w : Store (Option T)) (t : SomeTable v w) (s : State T) → IsShapeOf v.slots w.slots s → (q : List Bool) (before after : ℕ) →
+      (level : ℕ) × IsEnd t.reading (chunks_of q) level × (after ≡ before + (level + 1)) → after ≡ before + visits s.nodes q
+  met_on_path v w t s is q before after met =
       met.2 ∙ ap (λ n. before + n) (sym (visits_counted t.reading t.paths v t.holds.hold s.nodes (shape_nodes t.reading t.values t.paths v w t.holds s is) q met.0 met.1))
 
   -- the cell of a match
@@ -37,7 +37,7 @@ module _ {T : Type 0} where
     -- a beginning is stored where it has a value
     stored-is : (i : ℕ) → contains_key s.entries (take i (take len b)) ≡ holds_value t.reading (take len b) i
     stored-is i =
-        ap is_some (shape_entries t.reading t.values t.paths v w t.holds s is (take i asked)) ∙ t.holds.cells.set_where (path_of (take i asked)) (bit_of (take i asked))
+        ap is_some (shape_entries t.reading t.values t.paths v w t.holds s is (take i asked)) ∙ t.holds.cells.set_where (chunks_of (take i asked)) (bit_of (take i asked))
 
     -- a stored string that begins it is such a beginning
     pub match_held : (k : List Bool) → contains_key s.entries k ≡ true → begins k (take len b) ≡ true → holds_value t.reading (take len b) (length k) ≡ true
@@ -57,25 +57,25 @@ module _ {T : Type 0} where
     shortest_none none = no_match none (shortest_match s.entries asked) (λ e h. (((match_laws T).shortest_is s.entries asked e).0 h).matches)
 
     -- the nodes met
-    pub met_is : (before after : ℕ) → (level : ℕ) × IsEnd t.reading (path_of (take len b)) level × (after ≡ before + (level + 1)) → after ≡ before + visits s.nodes (take len b)
-    met_is before after met = met_on_way v w t s is asked before after met
+    pub met_is : (before after : ℕ) → (level : ℕ) × IsEnd t.reading (chunks_of (take len b)) level × (after ≡ before + (level + 1)) → after ≡ before + visits s.nodes (take len b)
+    met_is before after met = met_on_path v w t s is asked before after met
 
-    pub met_none : (before after : ℕ) → NoneHeld t.reading (take len b) 0 (len + 1) → (level : ℕ) × IsEnd t.reading (path_of (take len b)) level × (after ≡ before + (level + 1)) → after ≡ before + visits_to_match s.entries s.nodes (take len b)
+    pub met_none : (before after : ℕ) → NoneHeld t.reading (take len b) 0 (len + 1) → (level : ℕ) × IsEnd t.reading (chunks_of (take len b)) level × (after ≡ before + (level + 1)) → after ≡ before + visits_to_match s.entries s.nodes (take len b)
     met_none before after none met =
         met_is before after met ∙ ap (λ o. before + visits_of_match s.nodes asked o) (sym (shortest_none none))
 
     -- a match, and its cell
     module _ (m : Match) (held : IsHeld t.reading (take len b) m.len m.bit m.node) where
-      stands_at : (get_or w.slots (cell_slot m) None ≡ t.values (path_of (take m.len (take len b))) m.bit) × (cell_slot m < length w.slots)
+      stands_at : (get_or w.slots (cell_slot m) None ≡ t.values (chunks_of (take m.len (take len b))) m.bit) × (cell_slot m < length w.slots)
       stands_at =
-          let h = value_stands cell_sizes node_sizes t.reading t.paths v t.holds.hold t.values w t.holds.cells (path_of (take m.len asked)) m.node m.bit held.is held.set in (h.1, h.2)
+          let h = value_stands cell_sizes node_sizes t.reading t.paths v t.holds.hold t.values w t.holds.cells (chunks_of (take m.len asked)) m.node m.bit held.is held.set in (h.1, h.2)
 
       pub cell_inside : cell_slot m < length w.slots
       cell_inside = stands_at.1
 
       value_at : get s.entries (take m.len (take len b)) ≡ cell_of w m
       value_at =
-          shape_entries t.reading t.values t.paths v w t.holds s is (take m.len asked) ∙ ap (t.values (path_of (take m.len asked))) held.bit_is ∙ sym stands_at.0
+          shape_entries t.reading t.values t.paths v w t.holds s is (take m.len asked) ∙ ap (t.values (chunks_of (take m.len asked))) held.bit_is ∙ sym stands_at.0
 
       -- the value is there
       pub cell_some : is_some (cell_of w m) ≡ true
@@ -114,12 +114,12 @@ module _ {T : Type 0} where
       })
 
       -- the nodes met down to its own
-      own_end : IsEnd t.reading (path_of (take m.len (take len b))) (m.len / 5)
+      own_end : IsEnd t.reading (chunks_of (take m.len (take len b))) (m.len / 5)
       own_end =
-          let steps : length (path_of (take m.len asked)) ≡ m.len / 5 = path-length (take m.len asked) ∙ ap (λ n. n / 5) match_length in
+          let steps : length (chunks_of (take m.len asked)) ≡ m.len / 5 = path-length (take m.len asked) ∙ ap (λ n. n / 5) match_length in
           record {
             within = omega (arith, steps);
-            stands = ap (λ p. is_some (t.reading p)) (take_all (m.len / 5) (path_of (take m.len asked)) (omega (arith, steps))) ∙ ap is_some held.is;
+            stands = ap (λ p. is_some (t.reading p)) (take_all (m.len / 5) (chunks_of (take m.len asked)) (omega (arith, steps))) ∙ ap is_some held.is;
             stops = λ more. absurd (omega (arith, steps));
           }
 

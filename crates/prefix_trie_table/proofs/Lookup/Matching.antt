@@ -1,5 +1,5 @@
 -- Which beginnings of a bit string have values, node by node on its way.
-use Rattle.prefix_trie_table.proofs.Prelude.{◌≡◌, ℕ, ◌+◌, ◌-◌, ◌*◌, ◌/◌, ◌^◌, ◌<◌, ◌≤◌, Bool, true, false, List, length, length-drop, take, drop, Option, None, Some, is_some, refl, sym, ap, ap₂, ◌∙◌, subst, arith, inl, inr, add-sub_of_le, bit_at, option_or, false≢true, cases_Bool, cases_lt, take-take, drop-take, digits, length-digits, has, value_bit, stands, IsLongest, IsShortest, NoneBegins, bit-clear, value_bit-small, Node, Match, has_bit, node_sizes, path_of, bit_of, Store, NodesHold, IsEnd, has_value, holds_value, NoneHeld, IsHeld, IsOnWay, LongestHeld, ShortestHeld}
+use Rattle.prefix_trie_table.proofs.Prelude.{◌≡◌, ℕ, ◌+◌, ◌-◌, ◌*◌, ◌/◌, ◌^◌, ◌<◌, ◌≤◌, Bool, true, false, List, length, length-drop, take, drop, Option, None, Some, is_some, refl, sym, ap, ap₂, ◌∙◌, subst, arith, inl, inr, add-sub_of_le, bit_at, option_or, false≢true, cases_Bool, cases_lt, take-take, drop-take, digits, length-digits, has, value_bit, stands, IsLongest, IsShortest, NoneBegins, bit-clear, value_bit-small, Node, Match, has_bit, node_sizes, chunks_of, bit_of, Store, NodesHold, IsEnd, has_value, holds_value, NoneHeld, IsHeld, IsOnPath, LongestHeld, ShortestHeld}
 use Rattle.std.proofs.lemmas.List.{take_all, length-take-le}
 use Rattle.prefix_trie_table.proofs.Strings.Bits.{has_bit-is}
 use Rattle.prefix_trie_table.proofs.Strings.Digits.{path-length, path-take, rest-is}
@@ -21,16 +21,16 @@ bit-small n bit rest short within is = subst (λ x. x < 31) (sym is) (value_bit-
 
 module _ (q : List Bool) (level i : ℕ) (from : 5 * level ≤ i) (within : i ≤ length q) where
   -- it goes the same way to that node
-  pub take_way : take level (path_of (take i q)) ≡ take level (path_of q)
-  take_way = sym (path-take level (take i q) (omega (arith, length-take-le i q within))) ∙ ap path_of (take-take (5 * level) i q from) ∙ path-take level q (omega arith)
+  pub take_way : take level (chunks_of (take i q)) ≡ take level (chunks_of q)
+  take_way = sym (path-take level (take i q) (omega (arith, length-take-le i q within))) ∙ ap chunks_of (take-take (5 * level) i q from) ∙ path-take level q (omega arith)
 
   module _ (last : i < 5 * level + 5) where
-    own_steps : length (path_of (take i q)) ≡ level
+    own_steps : length (chunks_of (take i q)) ≡ level
     own_steps = path-length (take i q) ∙ ap (λ n. n / 5) (length-take-le i q within) ∙ sym (level_past level i last from)
 
     -- the node is its own
-    pub own_way : path_of (take i q) ≡ take level (path_of q)
-    own_way = sym (take_all level (path_of (take i q)) (omega (arith, own_steps))) ∙ take_way
+    pub own_way : chunks_of (take i q) ≡ take level (chunks_of q)
+    own_way = sym (take_all level (chunks_of (take i q)) (omega (arith, own_steps))) ∙ take_way
 
     -- and its value bit there
     pub own_bit : bit_of (take i q) ≡ value_bit (take (i - 5 * level) (drop (5 * level) q))
@@ -38,7 +38,7 @@ module _ (q : List Bool) (level i : ℕ) (from : 5 * level ≤ i) (within : i �
         ap value_bit (rest-is (take i q) ∙ ap (λ n. drop (5 * n) (take i q)) own_steps ∙ ap (λ n. drop (5 * level) (take n q)) (sym (add-sub_of_le from)) ∙ drop-take (5 * level) (i - 5 * level) q)
 
     -- whether it has a value
-    pub held_is : (reading : List ℕ → Option Node) (node : Node) → reading (take level (path_of q)) ≡ Some node → holds_value reading q i ≡ stands node.value_bitmap (drop (5 * level) q) (i - 5 * level)
+    pub held_is : (reading : List ℕ → Option Node) (node : Node) → reading (take level (chunks_of q)) ≡ Some node → holds_value reading q i ≡ stands node.value_bitmap (drop (5 * level) q) (i - 5 * level)
     held_is reading node e =
         ap₂ (λ o b. has_value o b) (ap reading own_way ∙ e) own_bit ∙ has_bit-is node.value_bitmap (value_bit (take (i - 5 * level) (drop (5 * level) q))) (omega (arith, bit-small (i - 5 * level) _ (drop (5 * level) q) (omega arith) (omega (arith, length-drop (5 * level) q)) refl))
 
@@ -50,7 +50,7 @@ none_join reading q a b c low high i from to within = elim (cases_lt i b) [
 
 -- ---- what the node on the way has
 
-module _ (q : List Bool) (level : ℕ) (whole : 5 * level ≤ length q) (reading : List ℕ → Option Node) (node : Node) (is : reading (take level (path_of q)) ≡ Some node) where
+module _ (q : List Bool) (level : ℕ) (whole : 5 * level ≤ length q) (reading : List ℕ → Option Node) (node : Node) (is : reading (take level (chunks_of q)) ≡ Some node) where
   rest-length : length (drop (5 * level) q) ≡ length q - 5 * level
   rest-length = length-drop (5 * level) q
 
@@ -107,21 +107,21 @@ pub steps-within : (b : List Bool) (len level : ℕ) → len ≤ length b → 5 
 steps-within b len level long whole = omega (arith, length-take-le len b long, whole)
 
 -- past the end of the way nothing has a value
-pub none_past : (reading : List ℕ → Option Node) (paths : List (List ℕ)) (v : Store Node) (q : List Bool) (level end : ℕ) → NodesHold node_sizes reading paths v → IsEnd reading (path_of q) level → NoneHeld reading q (5 * level + 5) end
+pub none_past : (reading : List ℕ → Option Node) (paths : List (List ℕ)) (v : Store Node) (q : List Bool) (level end : ℕ) → NodesHold node_sizes reading paths v → IsEnd reading (chunks_of q) level → NoneHeld reading q (5 * level + 5) end
 none_past reading paths v q level end hold at i from last within =
-    let inside : level < length (path_of q) = further level i (length q) (length (path_of q)) from within (path-length q) in
-    let way : take (level + 1) (path_of (take i q)) ≡ take (level + 1) (path_of q) = take_way q (level + 1) i (omega arith) within in
-    elim (cases_Bool (is_some (reading (path_of (take i q))))) as (λ _. holds_value reading q i ≡ false) [
-      | inl e ↦ absurd (false≢true (sym (at.stops inside) ∙ ap (λ p. is_some (reading p)) (sym way) ∙ prefix_some node_sizes reading paths v hold (take (level + 1) (path_of (take i q))) (path_of (take i q)) e (is_start_take (level + 1) (path_of (take i q)))))
-      | inr e ↦ ap (λ o. has_value o (bit_of (take i q))) (is_none-None (reading (path_of (take i q))) e)
+    let inside : level < length (chunks_of q) = further level i (length q) (length (chunks_of q)) from within (path-length q) in
+    let way : take (level + 1) (chunks_of (take i q)) ≡ take (level + 1) (chunks_of q) = take_way q (level + 1) i (omega arith) within in
+    elim (cases_Bool (is_some (reading (chunks_of (take i q))))) as (λ _. holds_value reading q i ≡ false) [
+      | inl e ↦ absurd (false≢true (sym (at.stops inside) ∙ ap (λ p. is_some (reading p)) (sym way) ∙ prefix_some node_sizes reading paths v hold (take (level + 1) (chunks_of (take i q))) (chunks_of (take i q)) e (is_start_take (level + 1) (chunks_of (take i q)))))
+      | inr e ↦ ap (λ o. has_value o (bit_of (take i q))) (is_none-None (reading (chunks_of (take i q))) e)
     ]
   where
     further : (k i l n : ℕ) → 5 * k + 5 ≤ i → i ≤ l → n ≡ l / 5 → k < n
     further k i l n a b c = omega (arith, a, b, c)
 
 -- the node on the way is the one at its path
-pub on_way_is : (b : List Bool) (len level slot : ℕ) (node : Node) (v : Store Node) → IsOnWay b len level node slot v → (reading : List ℕ → Option Node) (paths : List (List ℕ)) → NodesHold node_sizes reading paths v → reading (take level (path_of (take len b))) ≡ Some node
-on_way_is b len level slot node v at reading paths hold = deepest_is reading paths v (path_of (take len b)) level slot hold (at.deepest reading paths hold) node at.node_is
+pub on_path_is : (b : List Bool) (len level slot : ℕ) (node : Node) (v : Store Node) → IsOnPath b len level node slot v → (reading : List ℕ → Option Node) (paths : List (List ℕ)) → NodesHold node_sizes reading paths v → reading (take level (chunks_of (take len b))) ≡ Some node
+on_path_is b len level slot node v at reading paths hold = deepest_is reading paths v (chunks_of (take len b)) level slot hold (at.deepest reading paths hold) node at.node_is
 
 -- ---- the longest of two parts
 
@@ -142,11 +142,11 @@ module _ (reading : List ℕ → Option Node) (q : List Bool) (a b c : ℕ) wher
   shortest_behind low (Some m) high = (high.0, none_join reading q a b m.len low high.1)
 
 -- the best so far, after the node on the way was searched
-pub longest_now : (b : List Bool) (len level slot : ℕ) (node : Node) (v : Store Node) → IsOnWay b len level node slot v
+pub longest_now : (b : List Bool) (len level slot : ℕ) (node : Node) (v : Store Node) → IsOnPath b len level node slot v
     → (reading : List ℕ → Option Node) (paths : List (List ℕ)) → NodesHold node_sizes reading paths v → (best here result : Option Match)
     → LongestHeld reading (take len b) 0 (5 * level) best
-    → ((nodes : List ℕ → Option Node) → nodes (take level (path_of (take len b))) ≡ Some node → LongestHeld nodes (take len b) (5 * level) (5 * level + 5) here)
+    → ((nodes : List ℕ → Option Node) → nodes (take level (chunks_of (take len b))) ≡ Some node → LongestHeld nodes (take len b) (5 * level) (5 * level + 5) here)
     → result ≡ option_or here best → LongestHeld reading (take len b) 0 (5 * level + 5) result
 longest_now b len level slot node v at reading paths hold best here result so_far found is =
     subst (LongestHeld reading (take len b) 0 (5 * level + 5)) (sym is)
-    (longest_or reading (take len b) 0 (5 * level) (5 * level + 5) best here so_far (found reading (on_way_is b len level slot node v at reading paths hold)))
+    (longest_or reading (take len b) 0 (5 * level) (5 * level + 5) best here so_far (found reading (on_path_is b len level slot node v at reading paths hold)))

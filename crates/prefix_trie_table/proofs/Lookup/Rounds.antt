@@ -1,7 +1,7 @@
 -- Questions that go down side by side: before the first round, from one to the next, and after the last.
-use Rattle.prefix_trie_table.proofs.Prelude.{◌≡◌, ℕ, zero, suc, ◌+◌, ◌*◌, ◌<◌, ◌≤◌, inl, inr, Bool, List, [], ◌∷◌, Option, None, Some, is_some, Contains, All, map, take, length, get_or, sum, sum_by, refl, sym, ap, ap₂, ◌∙◌, subst, arith, mul-zero, mul-add, mul-one, zero-mul, false≢true, length-map, take_more, get_or_default, get_or-map, get_or-take, All-map, map-map, sum_by_push, sum-map, Node, Found, Way, Match, AreAnswered, AreAnswers, AreCosts, AreRead, CanAsk, EachOf, GoOn, IsAhead, IsAnswer, IsLongestFound, IsNew, asked, asks, cost_of, found_of, new_way, question_of, questions_of, slot_of, node_sizes, path_of, IsEnd, NodesHold, SomeNodes, SomeTable, read, IsHeld, NoneHeld, IsShapeOf, Store, Nodes, State, visits}
+use Rattle.prefix_trie_table.proofs.Prelude.{◌≡◌, ℕ, zero, suc, ◌+◌, ◌*◌, ◌<◌, ◌≤◌, inl, inr, Bool, List, [], ◌∷◌, Option, None, Some, is_some, Contains, All, map, take, length, get_or, sum, sum_by, refl, sym, ap, ap₂, ◌∙◌, subst, arith, mul-zero, mul-add, mul-one, zero-mul, false≢true, length-map, take_more, get_or_default, get_or-map, get_or-take, All-map, map-map, sum_by_push, sum-map, Node, Found, Descent, Match, AreAnswered, AreAnswers, AreCosts, AreRead, CanAsk, EachOf, GoOn, IsAhead, IsAnswer, IsLongestFound, IsNew, asked, asks, cost_of, found_of, new_descent, question_of, questions_of, slot_of, node_sizes, chunks_of, IsEnd, NodesHold, SomeNodes, SomeTable, read, IsHeld, NoneHeld, IsShapeOf, Store, Nodes, State, visits}
 use Rattle.std.proofs.lemmas.List.{append-nil, length-take-le}
-use Rattle.prefix_trie_table.specs.Bulk.{IsWay}
+use Rattle.prefix_trie_table.specs.Bulk.{IsDescent}
 use Rattle.prefix_trie_table.proofs.Counts.Counted.{visits_counted}
 use Rattle.prefix_trie_table.proofs.Tree.Shapes.{shape_nodes}
 use Rattle.prefix_trie_table.proofs.Tree.Trees.{reads}
@@ -14,27 +14,27 @@ some_at (x ∷ xs) i inside = (get_or (x ∷ xs) i x, get_or_default (x ∷ xs) 
 
 -- ---- before the first round
 
-module _ (ways : List Way) where
-  new_at : (n : ℕ) → n ≤ length ways → EachOf IsNew n ways → (i : ℕ) → i < n → (d : Way) → get_or ways i d ≡ new_way i
-  new_at n long new i inside d = new i (get_or ways i d) inside (get_or_default ways i d (get_or ways i d) (omega (arith, inside, long)))
+module _ (descents : List Descent) where
+  new_at : (n : ℕ) → n ≤ length descents → EachOf IsNew n descents → (i : ℕ) → i < n → (d : Descent) → get_or descents i d ≡ new_descent i
+  new_at n long new i inside d = new i (get_or descents i d) inside (get_or_default descents i d (get_or descents i d) (omega (arith, inside, long)))
 
   -- each of these questions is under way
-  pub new_under_way : (n : ℕ) → n ≤ length ways → EachOf IsNew n ways → (i : ℕ) → i < n → Contains (map question_of (take n ways)) i
+  pub new_under_way : (n : ℕ) → n ≤ length descents → EachOf IsNew n descents → (i : ℕ) → i < n → Contains (map question_of (take n descents)) i
   new_under_way n long new i inside =
-      let fits : i < length (take n ways) = omega (arith, inside, length-take-le n ways long) in (
+      let fits : i < length (take n descents) = omega (arith, inside, length-take-le n descents long) in (
         i,
-        omega (arith, fits, length-map (take n ways) question_of),
-        get_or-map question_of (take n ways) i (new_way i) i fits ∙ ap question_of (get_or-take n ways i (new_way i) inside ∙ new_at n long new i inside (new_way i)),
+        omega (arith, fits, length-map (take n descents) question_of),
+        get_or-map question_of (take n descents) i (new_descent i) i fits ∙ ap question_of (get_or-take n descents i (new_descent i) inside ∙ new_at n long new i inside (new_descent i)),
       )
 
   -- they cost what they cost
-  pub new_costs : (costs : List ℕ) (n : ℕ) → n ≤ length ways → n ≤ length costs → EachOf IsNew n ways → sum_by (cost_of costs) (take n ways) ≡ sum (take n costs)
+  pub new_costs : (costs : List ℕ) (n : ℕ) → n ≤ length descents → n ≤ length costs → EachOf IsNew n descents → sum_by (cost_of costs) (take n descents) ≡ sum (take n costs)
   new_costs costs zero long costed new = refl
   new_costs costs (suc n) long costed new =
       let more : suc n ≡ n + 1 = omega arith in
       let earlier = new_costs costs n (omega (arith, long)) (omega (arith, costed)) (λ i x inside is. new i x (omega (arith, inside)) is) in
-      ap (λ k. sum_by (cost_of costs) (take k ways)) more ∙ ap (sum_by (cost_of costs)) (take_more ways n (new_way n) (omega (arith, long))) ∙ sum_by_push (cost_of costs) (take n ways) (get_or ways n (new_way n))
-      ∙ ap₂ (λ a w. a + cost_of costs w) earlier (new_at (suc n) long new n (omega arith) (new_way n))
+      ap (λ k. sum_by (cost_of costs) (take k descents)) more ∙ ap (sum_by (cost_of costs)) (take_more descents n (new_descent n) (omega (arith, long))) ∙ sum_by_push (cost_of costs) (take n descents) (get_or descents n (new_descent n))
+      ∙ ap₂ (λ a w. a + cost_of costs w) earlier (new_at (suc n) long new n (omega arith) (new_descent n))
       ∙ sym (ap (λ k. sum (take k costs)) more ∙ ap sum (take_more costs n 0 (omega (arith, costed))) ∙ sum_by_push (λ x. x) (take n costs) (get_or costs n 0))
 
 module _ {P K : Type 0} (number : P → K) (len : P → ℕ) (IsFitting : P → Type 0) (IsKey : K → Type 0) (width : ℕ) (can : (p : P) → IsFitting p → CanAsk IsKey width (asks number len p))
@@ -46,8 +46,8 @@ module _ {P K : Type 0} (number : P → K) (len : P → ℕ) (IsFitting : P → 
   can_ask : (i : ℕ) (q : K × ℕ) → i < length questions → q ≡ get_or questions i q → CanAsk IsKey width q
   can_ask i q inside is = subst (CanAsk IsKey width) (sym is) (All-map (CanAsk IsKey width) (asks number len) prefixes (λ k d inside. can (get_or prefixes k d) (fit k d inside)) i q inside)
 
-  new_is_way : (i : ℕ) → i < length (questions_of number len prefixes) → IsWay bits v (questions_of number len prefixes) 0 (new_way i)
-  new_is_way i inside =
+  new_is_descent : (i : ℕ) → i < length (questions_of number len prefixes) → IsDescent bits v (questions_of number len prefixes) 0 (new_descent i)
+  new_is_descent i inside =
       let q = some_at questions i inside in
       let can = can_ask i q.0 inside q.1 in
       let long = key_long (length (bits q.0.0)) q.0.1 width (laws q.0.0 can.0) can.1 in
@@ -55,47 +55,47 @@ module _ {P K : Type 0} (number : P → K) (len : P → ℕ) (IsFitting : P → 
         question = q.0;
         is = q.1;
         inside = inside;
-        on_way = record {
+        on_path = record {
           long = long;
           whole = omega arith;
           node_is = refl;
-          deepest = λ reading paths hold. deepest_root reading paths v (path_of (take q.0.1 (bits q.0.0))) hold;
+          deepest = λ reading paths hold. deepest_root reading paths v (chunks_of (take q.0.1 (bits q.0.0))) hold;
         };
         best = λ reading paths hold. (None, λ i from last within. absurd (omega (arith, last)), refl);
       }
 
-  pub new_ways : (ways : List Way) (n : ℕ) → n ≤ length ways → n ≤ length prefixes → EachOf IsNew n ways → All (IsWay bits v (questions_of number len prefixes) 0) (take n ways)
-  new_ways ways n long asked new i d inside =
-      let within : i < n = omega (arith, inside, length-take-le n ways long) in
-      subst (IsWay bits v (questions_of number len prefixes) 0) (sym (get_or-take n ways i d within ∙ new_at ways n long new i within d)) (new_is_way i (omega (arith, within, asked, length-map prefixes (asks number len))))
+  pub new_descents : (descents : List Descent) (n : ℕ) → n ≤ length descents → n ≤ length prefixes → EachOf IsNew n descents → All (IsDescent bits v (questions_of number len prefixes) 0) (take n descents)
+  new_descents descents n long asked new i d inside =
+      let within : i < n = omega (arith, inside, length-take-le n descents long) in
+      subst (IsDescent bits v (questions_of number len prefixes) 0) (sym (get_or-take n descents i d within ∙ new_at descents n long new i within d)) (new_is_descent i (omega (arith, within, asked, length-map prefixes (asks number len))))
 
   -- a way is no deeper than its question is long
-  pub level_fits : (level : ℕ) (ways : List Way) (n : ℕ) → n ≤ length ways → All (IsWay bits v (questions_of number len prefixes) level) (take n ways) → 0 < n → 5 * level ≤ width
-  level_fits level ways n long all some =
-      let is = all 0 (new_way 0) (omega (arith, some, length-take-le n ways long)) in
+  pub level_fits : (level : ℕ) (descents : List Descent) (n : ℕ) → n ≤ length descents → All (IsDescent bits v (questions_of number len prefixes) level) (take n descents) → 0 < n → 5 * level ≤ width
+  level_fits level descents n long all some =
+      let is = all 0 (new_descent 0) (omega (arith, some, length-take-le n descents long)) in
       let can = can_ask _ is.question is.inside is.is in
-      let whole = is.on_way.whole in
+      let whole = is.on_path.whole in
       let short = can.1 in
       omega (arith, whole, short)
 
 -- ---- from one round to the next
 
-module _ {K : Type 0} (bits : K → List Bool) (v : Store Node) (questions : List (K × ℕ)) (level : ℕ) (ways : List Way) (n : ℕ) (long : n ≤ length ways)
-    (all : All (IsWay bits v questions level) (take n ways)) where
+module _ {K : Type 0} (bits : K → List Bool) (v : Store Node) (questions : List (K × ℕ)) (level : ℕ) (descents : List Descent) (n : ℕ) (long : n ≤ length descents)
+    (all : All (IsDescent bits v questions level) (take n descents)) where
   -- the nodes ahead stand in the array
-  pub ahead_inside : SomeNodes v → All (λ w. slot_of w < length v.slots) (take n ways)
+  pub ahead_inside : SomeNodes v → All (λ w. slot_of w < length v.slots) (take n descents)
   ahead_inside s i d inside =
-      let w : Way = get_or (take n ways) i d in
+      let w : Descent = get_or (take n descents) i d in
       let is = all i d inside in
-      deepest_in s.reading s.paths v (path_of (take is.question.1 (bits is.question.0))) level (slot_of w) s.hold (is.on_way.deepest s.reading s.paths s.hold)
+      deepest_in s.reading s.paths v (chunks_of (take is.question.1 (bits is.question.0))) level (slot_of w) s.hold (is.on_path.deepest s.reading s.paths s.hold)
 
-  pub are_read : SomeNodes v → (read : List Node) → EachOf (IsAhead v.slots ways) n read → AreRead bits v questions level (take n ways) read
+  pub are_read : SomeNodes v → (read : List Node) → EachOf (IsAhead v.slots descents) n read → AreRead bits v questions level (take n descents) read
   are_read s read each = record {
     sound = s;
-    ways_are = all;
+    descents_are = all;
     nodes_are = λ i x inside is w w_is.
-        let within : i < n = omega (arith, inside, length-take-le n ways long) in
-        each i x within is w (w_is ∙ get_or-take n ways i w within);
+        let within : i < n = omega (arith, inside, length-take-le n descents long) in
+        each i x within is w (w_is ∙ get_or-take n descents i w within);
   }
 
 -- the sums before the first round, from one to the next, and after the last
@@ -108,19 +108,19 @@ sums_last C Z level e = let none = zero-mul level in omega (arith, e, none)
 sums_next : (C C' S S' Z L l A B : ℕ) → C + S ≡ Z + L → C' ≡ C + l → S + A ≡ S' + B → B ≡ L + l → C' + S' ≡ Z + A
 sums_next C C' S S' Z L l A B e c s b = omega (arith, e, c, s, b)
 
-module _ {K : Type 0} (bits : K → List Bool) (v : Store Node) (questions : List (K × ℕ)) (level : ℕ) (ways next : List Way) (before after : List (Option Found))
-    (go : GoOn bits v questions level ways next before after) where
-  pub answered_next : AreAnswered bits v questions (map question_of ways) before → AreAnswered bits v questions (map question_of next) after
+module _ {K : Type 0} (bits : K → List Bool) (v : Store Node) (questions : List (K × ℕ)) (level : ℕ) (descents next : List Descent) (before after : List (Option Found))
+    (go : GoOn bits v questions level descents next before after) where
+  pub answered_next : AreAnswered bits v questions (map question_of descents) before → AreAnswered bits v questions (map question_of next) after
   answered_next h =
       subst (λ l. AreAnswered bits v questions l after) (append-nil (map question_of next))
-      (go.answered [] (subst (λ l. AreAnswered bits v questions l before) (sym (append-nil (map question_of ways))) h))
+      (go.answered [] (subst (λ l. AreAnswered bits v questions l before) (sym (append-nil (map question_of descents))) h))
 
-  pub counted_next : (costs : List ℕ) → AreCosts bits v questions costs → (l k count later start : ℕ) → length ways ≡ l → length next ≡ k
-      → count + sum_by (cost_of costs) ways ≡ start + l * level → later ≡ count + l → later + sum_by (cost_of costs) next ≡ start + k * (level + 1)
-  counted_next costs are l k count later start ways_long next_long so_far read =
-      sums_next count later (sum_by (cost_of costs) ways) (sum_by (cost_of costs) next) start (l * level) l (k * (level + 1)) (l * (level + 1)) so_far read
-      (subst (λ n. sum_by (cost_of costs) ways + n * (level + 1) ≡ sum_by (cost_of costs) next + l * (level + 1)) next_long
-      (subst (λ n. sum_by (cost_of costs) ways + length next * (level + 1) ≡ sum_by (cost_of costs) next + n * (level + 1)) ways_long (go.counted costs are)))
+  pub counted_next : (costs : List ℕ) → AreCosts bits v questions costs → (l k count later start : ℕ) → length descents ≡ l → length next ≡ k
+      → count + sum_by (cost_of costs) descents ≡ start + l * level → later ≡ count + l → later + sum_by (cost_of costs) next ≡ start + k * (level + 1)
+  counted_next costs are l k count later start descents_long next_long so_far read =
+      sums_next count later (sum_by (cost_of costs) descents) (sum_by (cost_of costs) next) start (l * level) l (k * (level + 1)) (l * (level + 1)) so_far read
+      (subst (λ n. sum_by (cost_of costs) descents + n * (level + 1) ≡ sum_by (cost_of costs) next + l * (level + 1)) next_long
+      (subst (λ n. sum_by (cost_of costs) descents + length next * (level + 1) ≡ sum_by (cost_of costs) next + n * (level + 1)) descents_long (go.counted costs are)))
       (mul-add l level 1 ∙ ap (λ n. l * level + n) (mul-one l))
 
 -- ---- after the last
@@ -148,7 +148,7 @@ module _ {T : Type 0} (v : Store Node) (w : Store (Option T)) (t : SomeTable v w
       let same : reading ≡ t.reading = sym (reading_is v reading paths hold) ∙ reading_is v t.reading t.paths t.holds.hold in
       get_or-map (λ x. visits s.nodes (asked bits x)) questions i q 0 inside ∙ ap (λ x. visits s.nodes (asked bits x)) (sym is)
       ∙ visits_counted t.reading t.paths v t.holds.hold s.nodes (shape_nodes t.reading t.values t.paths v w t.holds s shaped) (asked bits q) level
-      (subst (λ r. IsEnd r (path_of (asked bits q)) level) same end)
+      (subst (λ r. IsEnd r (chunks_of (asked bits q)) level) same end)
 
 -- the sum of what is asked for prefixes is that of their paths
 pub costs_sum : {P K : Type 0} (nodes : Nodes) (bits : K → List Bool) (number : P → K) (len : P → ℕ) (path : P → List Bool) → ((p : P) → path p ≡ take (len p) (bits (number p))) → (prefixes : List P)

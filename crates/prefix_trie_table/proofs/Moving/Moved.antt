@@ -1,5 +1,5 @@
 -- All values that a bit string begins, moved into a second table one after another.
-use Rattle.prefix_trie_table.proofs.Prelude.{◌≡◌, ℕ, Bool, true, false, cond, List, [], ◌∷◌, Option, None, refl, sym, ap, ◌∙◌, subst, get, len, entries, begins, MayAskInOrder, Entries, part_below, listing, listing_below, State, same_entries, get-part_below, entries-retained, Node, Spot, filled_with, handed, Awaits, AwaitsNext, HasCome, AsksUpTo, IsSecond, Store, IsTrie, Tree, IsStack, pending}
+use Rattle.prefix_trie_table.proofs.Prelude.{◌≡◌, ℕ, Bool, true, false, cond, List, [], ◌∷◌, Option, None, refl, sym, ap, ◌∙◌, subst, get, len, entries, begins, CallableOnEachEntry, Entries, part_below, listing, listing_below, State, same_entries, get-part_below, entries-retained, Node, Spot, filled_with, split_off, Awaits, AwaitsNext, HasCome, AsksUpTo, IsSecond, Store, IsTrie, Tree, IsStack, pending}
 use Rattle.prefix_trie_table.proofs.Moving.Second.{second_trie}
 
 module _ {T : Type 0} (m : Entries T) (q : List Bool) where
@@ -42,19 +42,19 @@ module _ {K T : Type 0} (IsKey : K → Type 0) (bits : K → List Bool) (width :
   fills_start : (count : ℕ) (v : Store Node) (w : Store (Option T)) (s : State T) → IsTrie width count v w s → (q : List Bool) (laid : Store Node) (vacant : Store (Option T)) →
       IsSecond q v laid vacant → (key : K) (ps : List Spot) → IsStack IsKey bits width laid key ps →
       ((t : Tree T) → IsTrie width t.count laid t.cells t.shape → pending bits t.shape.entries key ps ≡ listing_below t.shape.entries q) →
-      Fills (handed s q) laid vacant laid vacant key ps (listing_below s.entries q)
+      Fills (split_off s q) laid vacant laid vacant key ps (listing_below s.entries q)
   fills_start count v w s trie q laid vacant second key ps stack rest =
       let whole = second_trie width count v w s trie q laid vacant second in
       record {
         nodes = refl;
         cells = refl;
         awaits = record {
-          trie = subst (λ es. IsTrie width (len (part_below s.entries q)) laid (filled_with laid.slots es vacant) (handed s q)) (part_listed s.entries q) whole;
+          trie = subst (λ es. IsTrie width (len (part_below s.entries q)) laid (filled_with laid.slots es vacant) (split_off s q)) (part_listed s.entries q) whole;
           stack = stack;
           come = rest (record {
             count = len (part_below s.entries q);
             cells = filled_with laid.slots (entries (part_below s.entries q)) vacant;
-            shape = handed s q;
+            shape = split_off s q;
           }) whole ∙ all_below s.entries q;
         };
       }
@@ -73,7 +73,7 @@ module _ {K T : Type 0} (IsKey : K → Type 0) (bits : K → List Bool) (width :
       FillsFrom f rest = Fills shape laid vacant (nodes f) (cells f) (key f) (spots f) rest
 
       -- it may be asked at each
-      may_fill : (f : F) (es : List (List Bool × T)) → FillsFrom f es → MayAskInOrder Takes Waits f es
+      may_fill : (f : F) (es : List (List Bool × T)) → FillsFrom f es → CallableOnEachEntry Takes Waits f es
       may_fill f [] h = tt
       may_fill f (e ∷ es) h = (
         record { shape = shape; later = es; awaits = h.awaits },
@@ -92,11 +92,11 @@ module _ {K T : Type 0} (IsKey : K → Type 0) (bits : K → List Bool) (width :
     module _ (count : ℕ) (v : Store Node) (w : Store (Option T)) (s : State T) (trie : IsTrie width count v w s) (q : List Bool) (f : F)
         (second : IsSecond q v (nodes f) (cells f)) (stack : IsStack IsKey bits width (nodes f) (key f) (spots f))
         (rest : (t : Tree T) → IsTrie width t.count (nodes f) t.cells t.shape → pending bits t.shape.entries (key f) (spots f) ≡ listing_below t.shape.entries q) where
-      start : Fills (handed s q) (nodes f) (cells f) (nodes f) (cells f) (key f) (spots f) (listing_below s.entries q)
+      start : Fills (split_off s q) (nodes f) (cells f) (nodes f) (cells f) (key f) (spots f) (listing_below s.entries q)
       start = fills_start count v w s trie q (nodes f) (cells f) second (key f) (spots f) stack rest
 
-      pub may_move : MayAskInOrder Takes Waits f (listing_below s.entries q)
-      may_move = may_fill (handed s q) (nodes f) (cells f) f (listing_below s.entries q) start
+      pub may_move : CallableOnEachEntry Takes Waits f (listing_below s.entries q)
+      may_move = may_fill (split_off s q) (nodes f) (cells f) f (listing_below s.entries q) start
 
-      pub all_moved : (g : F) → AsksUpTo Takes f (listing_below s.entries q) g → Fills (handed s q) (nodes f) (cells f) (nodes g) (cells g) (key g) (spots g) []
-      all_moved g = all_filled (handed s q) (nodes f) (cells f) f g (listing_below s.entries q) start
+      pub all_moved : (g : F) → AsksUpTo Takes f (listing_below s.entries q) g → Fills (split_off s q) (nodes f) (cells f) (nodes g) (cells g) (key g) (spots g) []
+      all_moved g = all_filled (split_off s q) (nodes f) (cells f) f g (listing_below s.entries q) start

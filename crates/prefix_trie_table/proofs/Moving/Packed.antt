@@ -1,5 +1,5 @@
 -- Where each block is the smallest that holds its list and none is free, slots are numbers of the entries and the nodes.
-use Rattle.prefix_trie_table.proofs.Prelude.{◌≡◌, ℕ, zero, suc, ◌+◌, ◌<◌, Bool, true, ◌&&◌, List, [], ◌∷◌, ◌++◌, length, map, flat_map, replicate, sum_by, Option, None, Some, is_some, refl, sym, ap, ap₂, ◌∙◌, arith, eq-eqb, ◌%◌, length-map, nil_from_length, get, entries, keys, Sizes, child_block_sizes, value_block_sizes, child_count, own_entries, packed_block, packed_slots, packed_cell_slots, IsPacked, Nodes, has_node, is_node_depth, State, and-first, Node, rank, bits, blank_node, node_sizes, cell_sizes, HasSizes, path_of, read, own_count, child_items, child_blocks, child_blocks_of, value_blocks, value_blocks_of, Holds, NodesHold, IsPackedNode, NoneFree, AreSizesBy, Sized, own_children, child_block_size, value_block_size, IsShapeOf, Store, Tier, UsedBlock, Sound, of_size, free_extents, tier_at, tier_sizes, size_in, size_if_any, free_counts}
+use Rattle.prefix_trie_table.proofs.Prelude.{◌≡◌, ℕ, zero, suc, ◌+◌, ◌<◌, Bool, true, ◌&&◌, List, [], ◌∷◌, ◌++◌, length, map, flat_map, replicate, sum_by, Option, None, Some, is_some, refl, sym, ap, ap₂, ◌∙◌, arith, eq-eqb, ◌%◌, length-map, nil_from_length, get, entries, keys, Sizes, child_block_sizes, value_block_sizes, child_count, own_entries, packed_block, packed_slots, packed_cell_slots, IsPacked, Nodes, has_node, is_node_depth, State, and-first, Node, rank, bits, blank_node, node_sizes, cell_sizes, HasSizes, chunks_of, read, own_count, child_items, child_blocks, child_blocks_of, value_blocks, value_blocks_of, Holds, NodesHold, IsPackedNode, NoneFree, AreSizesBy, Sized, own_children, child_block_size, value_block_size, IsShapeOf, Store, Tier, UsedBlock, Sound, of_size, free_extents, tier_at, tier_sizes, size_in, size_if_any, free_counts}
 use Rattle.prefix_trie_table.proofs.Blocks.BySize.{free_at, node_sized, cell_sized}
 use Rattle.prefix_trie_table.specs.Forest.{held, size_in}
 use Rattle.prefix_trie_table.proofs.Blocks.Housed.{child_blocks_housed, value_blocks_housed}
@@ -7,7 +7,7 @@ use Rattle.prefix_trie_table.proofs.Blocks.Sizing.{storage_of}
 use Rattle.prefix_trie_table.proofs.Blocks.SlotSums.{sum_by-mapped}
 use Rattle.prefix_trie_table.proofs.Counts.BlockUsers.{nodes_sum}
 use Rattle.prefix_trie_table.proofs.Counts.EntryCounts.{size_of_extent}
-use Rattle.prefix_trie_table.proofs.HandingOut.RootSpace.{slots_told}
+use Rattle.prefix_trie_table.proofs.Splitting.RootSpace.{slots_told}
 use Rattle.prefix_trie_table.proofs.Removal.Stepped.{size_read, own_is, children_is}
 use Rattle.prefix_trie_table.proofs.Strings.BitLists.{rank-all}
 use Rattle.prefix_trie_table.proofs.Strings.PathStrings.{string_at, string_depth, string_path, paths_steps, paths_once, same_nodes}
@@ -49,7 +49,7 @@ module _ {S : Type 0} where
 
 -- a sum over the nodes is one over their paths
 by_paths : (reading : List ℕ → Option Node) (paths : List (List ℕ)) (v : Store Node) → NodesHold node_sizes reading paths v → (n : Nodes) →
-    ((s : List Bool) → has_node n s ≡ (is_node_depth s && is_some (reading (path_of s)))) → (f : List Bool → ℕ) →
+    ((s : List Bool) → has_node n s ≡ (is_node_depth s && is_some (reading (chunks_of s)))) → (f : List Bool → ℕ) →
     sum_by f (keys n) ≡ sum_by (λ p. f (string_at p)) paths
 by_paths reading paths v hold n are f =
     sum_by-mapped f (λ (e : List Bool × Unit {0}). e.0) (entries n)
@@ -60,18 +60,18 @@ by_paths reading paths v hold n are f =
 
 module _ (size : Option Node → Option ℕ) (count : Option Node → ℕ) (sizes : List ℕ) (reading : List ℕ → Option Node)
     (packed : (x : List ℕ) → size (reading x) ≡ packed_block sizes (count (reading x))) (nodes : List Node) (reads : (x : List ℕ) → read nodes x ≡ reading x)
-    (n : Nodes) (are : (p : List Bool) → has_node n p ≡ (is_node_depth p && is_some (reading (path_of p))))
-    (number : List Bool → ℕ) (has : (p : List Bool) → is_node_depth p ≡ true → number p ≡ count (reading (path_of p)))
+    (n : Nodes) (are : (p : List Bool) → has_node n p ≡ (is_node_depth p && is_some (reading (chunks_of p))))
+    (number : List Bool → ℕ) (has : (p : List Bool) → is_node_depth p ≡ true → number p ≡ count (reading (chunks_of p)))
     (blocks : Sizes) (blocks_are : AreSizesBy size nodes blocks) where
   at_each : (p : List Bool) → has_node n p ≡ true → get blocks p ≡ packed_block sizes (number p)
   at_each p there =
-      let depth = and-first (is_node_depth p) (is_some (reading (path_of p))) (sym (are p) ∙ there) in
-      size_read size nodes reading blocks blocks_are reads p depth ∙ packed (path_of p) ∙ ap (packed_block sizes) (sym (has p depth))
+      let depth = and-first (is_node_depth p) (is_some (reading (chunks_of p))) (sym (are p) ∙ there) in
+      size_read size nodes reading blocks blocks_are reads p depth ∙ packed (chunks_of p) ∙ ap (packed_block sizes) (sym (has p depth))
 
 module _ {T : Type 0} (reading : List ℕ → Option Node) (values : List ℕ → ℕ → Option T) (paths : List (List ℕ)) (v : Store Node) (w : Store (Option T))
     (holds : Holds reading values paths v w) (packed : (p : List ℕ) (n : Node) → reading p ≡ Some n → IsPackedNode n) (no_node : NoneFree v) (no_cell : NoneFree w)
     (first : w.first ≡ 0) (s : State T) (is : IsShapeOf v.slots w.slots s) where
-  are : (p : List Bool) → has_node s.nodes p ≡ (is_node_depth p && is_some (reading (path_of p)))
+  are : (p : List Bool) → has_node s.nodes p ≡ (is_node_depth p && is_some (reading (chunks_of p)))
   are = shape_nodes reading values paths v w holds s is
 
   packed_sizes : (o : Option Node) → ((n : Node) → o ≡ Some n → IsPackedNode n) →
@@ -100,7 +100,7 @@ module _ {T : Type 0} (reading : List ℕ → Option Node) (values : List ℕ �
 
   -- and of those of all
   all_long : {S : Type 0} (vacant : S) (f : List ℕ → List (UsedBlock S)) (u : Store S) → Sound vacant (flat_map f paths) u → HasSizes u.tiers → NoneFree u →
-      (sizes : List ℕ) (count : Option Node → ℕ) (number : List Bool → ℕ) → ((p : List Bool) → is_node_depth p ≡ true → number p ≡ count (reading (path_of p))) →
+      (sizes : List ℕ) (count : Option Node → ℕ) (number : List Bool → ℕ) → ((p : List Bool) → is_node_depth p ≡ true → number p ≡ count (reading (chunks_of p))) →
       ((p : List ℕ) → sum_by block_size (f p) ≡ packed_slots sizes (count (reading p))) → length u.slots ≡ u.first + sum_by (λ p. packed_slots sizes (number p)) (keys s.nodes)
   all_long vacant f u sound has none sizes count number is_count each =
       all_slots vacant f paths u sound has none

@@ -1,5 +1,5 @@
 -- A second table whose blocks are laid is a table once all values have come.
-use Rattle.prefix_trie_table.proofs.Prelude.{◌≡◌, ℕ, ◌/◌, ◌%◌, ◌<◌, inl, inr, Bool, true, false, cond, ◌&&◌, List, [], ◌∷◌, ◌++◌, length, Option, None, is_some, refl, sym, ap, ap₂, ◌∙◌, subst, arith, eqb-true, eq-eqb, false≢true, cases_Bool, take_at, All-weaker, All-contains_itself, get, contains_key, len, entries, entries_sorted, get-entries, begins, same_bool, value_bit, AreWithin, part_below, has_node, is_node_depth, needed, State, and-first, and-second, and-join, get-part_below, needed_for, needs_root, AreNodes-needed, find-from_Contains, Node, node_sizes, path_of, bit_of, read, one_if, is_start, has_value, NodesHold, Holds, no_value, filled_with, handed, IsShapeOf, IsSkeleton, IsSecond, Store, tier_sizes, IsTrie}
+use Rattle.prefix_trie_table.proofs.Prelude.{◌≡◌, ℕ, ◌/◌, ◌%◌, ◌<◌, inl, inr, Bool, true, false, cond, ◌&&◌, List, [], ◌∷◌, ◌++◌, length, Option, None, is_some, refl, sym, ap, ap₂, ◌∙◌, subst, arith, eqb-true, eq-eqb, false≢true, cases_Bool, take_at, All-weaker, All-contains_itself, get, contains_key, len, entries, entries_sorted, get-entries, begins, same_bool, value_bit, AreWithin, part_below, has_node, is_node_depth, needed, State, and-first, and-second, and-join, get-part_below, needed_for, needs_root, AreNodes-needed, find-from_Contains, Node, node_sizes, chunks_of, bit_of, read, one_if, is_start, has_value, NodesHold, Holds, no_value, filled_with, split_off, IsShapeOf, IsSkeleton, IsSecond, Store, tier_sizes, IsTrie}
 use Rattle.std.specs.List.{All, Contains}
 use Rattle.prefix_trie_bits.proofs.Model.Members.{needs}
 use Rattle.prefix_trie_table.proofs.Lookup.Finding.{prefix_some}
@@ -7,7 +7,7 @@ use Rattle.prefix_trie_table.proofs.Moving.Coming.{long_cells}
 use Rattle.prefix_trie_table.proofs.Moving.Counting.{values_all}
 use Rattle.prefix_trie_table.proofs.Moving.Putting.{HasPlace, put_all, filled_same}
 use Rattle.prefix_trie_table.proofs.Moving.Valued.{entry_values, entry_there, none_there}
-use Rattle.prefix_trie_table.proofs.Strings.Keys.{same_way, begins-way}
+use Rattle.prefix_trie_table.proofs.Strings.Keys.{same_above, begins-way}
 use Rattle.prefix_trie_table.proofs.Strings.PathStrings.{string_at, string_depth, string_path, paths_steps}
 use Rattle.prefix_trie_table.proofs.Strings.Placing.{below_node, string_at as string_of}
 use Rattle.prefix_trie_table.proofs.Strings.Plain.{five_times, some_node}
@@ -19,7 +19,7 @@ use Rattle.prefix_trie_table.proofs.Tree.Shapes.{reads_node, shape_entries, shap
 
 -- a value's place is that of a string
 pub string_placed : (reading : List ℕ → Option Node) (paths : List (List ℕ)) (v : Store Node) → NodesHold node_sizes reading paths v → (p : List ℕ) (b : ℕ) → b < 31 →
-    has_value (reading p) b ≡ true → (s : List Bool) × (path_of s ≡ p) × (bit_of s ≡ b)
+    has_value (reading p) b ≡ true → (s : List Bool) × (chunks_of s ≡ p) × (bit_of s ≡ b)
 string_placed reading paths v hold p b small set =
     let steps = paths_steps node_sizes reading paths v hold p (let e = hold.listed p ∙ ap one_if (some_node (reading p) b set) in omega (arith, e)) in
     let r = string_of b small in
@@ -31,15 +31,15 @@ string_placed reading paths v hold p b small set =
 module _ {T : Type 0} (width count : ℕ) (v : Store Node) (w : Store (Option T)) (s : State T) (trie : IsTrie width count v w s) (q : List Bool)
     (v2 : Store Node) (w2 : Store (Option T)) (k : IsSkeleton q v v2 w2) where
   -- where a value is to stand an entry is handed out
-  placed : (t : List Bool) → contains_key (part_below s.entries q) t ≡ has_value (k.reading (path_of t)) (bit_of t)
+  placed : (t : List Bool) → contains_key (part_below s.entries q) t ≡ has_value (k.reading (chunks_of t)) (bit_of t)
   unfolding read
   placed t =
       let u = some_table trie.table in
       ap is_some (get-part_below s.entries q t)
       ∙ both (begins q t) (get s.entries t)
       ∙ ap (λ b. begins q t && b)
-      (ap is_some (shape_entries u.reading u.values u.paths v w u.holds s trie.shaped t) ∙ u.holds.cells.set_where (path_of t) (bit_of t)
-      ∙ ap (λ o. has_value o (bit_of t)) (sym (reads_node u.reading u.values u.paths v w u.holds (path_of t))))
+      (ap is_some (shape_entries u.reading u.values u.paths v w u.holds s trie.shaped t) ∙ u.holds.cells.set_where (chunks_of t) (bit_of t)
+      ∙ ap (λ o. has_value o (bit_of t)) (sym (reads_node u.reading u.values u.paths v w u.holds (chunks_of t))))
       ∙ sym (k.part.values t)
     where
       both : (b : Bool) (o : Option T) → is_some (cond b o None) ≡ (b && is_some o)
@@ -85,22 +85,22 @@ module _ {T : Type 0} (width count : ℕ) (v : Store Node) (w : Store (Option T)
   }
 
   -- the nodes are those that the entries need
-  node_there : (t : List Bool) → has_node (needed (part_below s.entries q)) t ≡ (is_node_depth t && is_some (k.reading (path_of t)))
-  node_there t = same_bool _ _ into (λ h. from (path_of t) refl (and-first (is_node_depth t) (is_some (k.reading (path_of t))) h) (and-second (is_node_depth t) (is_some (k.reading (path_of t))) h))
+  node_there : (t : List Bool) → has_node (needed (part_below s.entries q)) t ≡ (is_node_depth t && is_some (k.reading (chunks_of t)))
+  node_there t = same_bool _ _ into (λ h. from (chunks_of t) refl (and-first (is_node_depth t) (is_some (k.reading (chunks_of t))) h) (and-second (is_node_depth t) (is_some (k.reading (chunks_of t))) h))
     where
-      into : has_node (needed (part_below s.entries q)) t ≡ true → (is_node_depth t && is_some (k.reading (path_of t))) ≡ true
-      into h = elim (needed_for (part_below s.entries q) t h) as (λ _. (is_node_depth t && is_some (k.reading (path_of t))) ≡ true) [
-        | inl root ↦ subst (λ x. (is_node_depth x && is_some (k.reading (path_of x))) ≡ true) (sym root) (ap is_some k.nodes.rooted)
+      into : has_node (needed (part_below s.entries q)) t ≡ true → (is_node_depth t && is_some (k.reading (chunks_of t))) ≡ true
+      into h = elim (needed_for (part_below s.entries q) t h) as (λ _. (is_node_depth t && is_some (k.reading (chunks_of t))) ≡ true) [
+        | inl root ↦ subst (λ x. (is_node_depth x && is_some (k.reading (chunks_of x))) ≡ true) (sym root) (ap is_some k.nodes.rooted)
         | inr why ↦
-            and-join (is_node_depth t) (is_some (k.reading (path_of t))) (eq-eqb (length t % 5) 0 why.five)
-            (prefix_some node_sizes k.reading k.paths v2 k.nodes (path_of t) (path_of why.key)
-            (some_node (k.reading (path_of why.key)) (bit_of why.key) (sym (placed why.key) ∙ why.stored)) (begins-way t why.key why.five ∙ why.begins_it))
+            and-join (is_node_depth t) (is_some (k.reading (chunks_of t))) (eq-eqb (length t % 5) 0 why.five)
+            (prefix_some node_sizes k.reading k.paths v2 k.nodes (chunks_of t) (chunks_of why.key)
+            (some_node (k.reading (chunks_of why.key)) (bit_of why.key) (sym (placed why.key) ∙ why.stored)) (begins-way t why.key why.five ∙ why.begins_it))
       ]
 
-      from : (x : List ℕ) → path_of t ≡ x → is_node_depth t ≡ true → is_some (k.reading (path_of t)) ≡ true → has_node (needed (part_below s.entries q)) t ≡ true
+      from : (x : List ℕ) → chunks_of t ≡ x → is_node_depth t ≡ true → is_some (k.reading (chunks_of t)) ≡ true → has_node (needed (part_below s.entries q)) t ≡ true
       from [] e depth some =
           subst (λ u. has_node (needed (part_below s.entries q)) u ≡ true)
-          (same_way [] t refl (eqb-true (length t % 5) 0 depth) (sym e)) (needs_root (part_below s.entries q))
+          (same_above [] t refl (eqb-true (length t % 5) 0 depth) (sym e)) (needs_root (part_below s.entries q))
       from (c ∷ p) e depth some =
           let why = k.needed c p (ap (λ x. is_some (k.reading x)) (sym e) ∙ some) in
           let key = string_placed k.reading k.paths v2 k.nodes ((c ∷ p) ++ why.below) why.bit (k.part.within ((c ∷ p) ++ why.below) why.bit why.is) why.is in
@@ -111,13 +111,13 @@ module _ {T : Type 0} (width count : ℕ) (v : Store Node) (w : Store (Option T)
           ∙ ap₂ is_start (e ∙ sym (take_at (c ∷ p) why.below (length (c ∷ p)) refl)) key.1
           ∙ is_start_take (length (c ∷ p)) ((c ∷ p) ++ why.below))
 
-  pub second_shape : IsShapeOf v2.slots full.slots (handed s q)
+  pub second_shape : IsShapeOf v2.slots full.slots (split_off s q)
   second_shape =
-      shape_of k.reading values k.paths v2 full second_holds (handed s q) node_there
+      shape_of k.reading values k.paths v2 full second_holds (split_off s q) node_there
       (entry_there v2 k.reading k.paths k.nodes (part_below s.entries q))
 
-  handed_within : AreWithin width (part_below s.entries q)
-  handed_within t has = trie.within t (by (begins q t) (get s.entries t) (sym (ap is_some (get-part_below s.entries q t)) ∙ has))
+  split_within : AreWithin width (part_below s.entries q)
+  split_within t has = trie.within t (by (begins q t) (get s.entries t) (sym (ap is_some (get-part_below s.entries q t)) ∙ has))
     where
       by : (b : Bool) (o : Option T) → is_some (cond b o None) ≡ true → is_some o ≡ true
       by true o h = h
@@ -127,12 +127,12 @@ module _ {T : Type 0} where
   -- under the limit it is a table
   pub second_trie : (width count : ℕ) (v : Store Node) (w : Store (Option T)) (s : State T) (trie : IsTrie width count v w s) (q : List Bool)
       (v2 : Store Node) (w2 : Store (Option T)) → IsSecond q v v2 w2 →
-      IsTrie width (len (part_below s.entries q)) v2 (filled_with v2.slots (entries (part_below s.entries q)) w2) (handed s q)
+      IsTrie width (len (part_below s.entries q)) v2 (filled_with v2.slots (entries (part_below s.entries q)) w2) (split_off s q)
   second_trie width count v w s trie q v2 w2 second =
       let k = second.skeleton in
       let holds = second_holds width count v w s trie q v2 w2 k in
       let same = filled_same v2.slots (entries (part_below s.entries q)) w2 in
-      let within = handed_within width count v w s trie q v2 w2 k in
+      let within = split_within width count v w s trie q v2 w2 k in
       record {
         table = record {
           reading = k.reading;

@@ -1,5 +1,5 @@
 -- What is left of a table where a test said no at each entry below a bit string.
-use Rattle.prefix_trie_table.proofs.Prelude.{◌≡◌, ◌↔◌, ℕ, ◌+◌, ◌*◌, ◌/◌, ◌<◌, ◌≤◌, Bool, true, false, cond, not, ◌&&◌, ◌||◌, ◌==◌, nat_lt, List, [], ◌∷◌, ◌++◌, length, take, drop, Option, None, Some, is_some, refl, sym, ap, ap₂, ◌∙◌, subst, arith, inl, inr, bit_and, append-nil, append_assoc, length-append, length-drop, false≢true, cases_Bool, cases_lt, le-ltb, append_cancel_left, All-weaker, All-contains_itself, list_any_at, get, find, get-entries, begins, number, digits, digits-number, begins-refl, begins-length, begins-linear, begins-longer, begins-rest, begins-from-rest, begins-same-length, begins-trans, listing_cmp, same_string, HoldsValues, HoldsChildren, is_in, AsksInOrder, Entries, part_below, without_entry, without_below, Nodes, has_node, home, is_node_depth, pruned, nodes_not_below, nodes_without, nodes_without_below, pair_of, listing_at_place, listing_at_places, listing_below, State, is_in-and, home-begins, home-depth, home-length, or-cases, and-join, and-second, same_string-is, is-same_string, has-retained, get-part_below, get-without_entry, get-without_below, same_entries, same_members, entries-retained, Node, path_of, read, below, Store, is_at, is_at_some, is_under, is_under_some, Retains, IsTrie}
+use Rattle.prefix_trie_table.proofs.Prelude.{◌≡◌, ◌↔◌, ℕ, ◌+◌, ◌*◌, ◌/◌, ◌<◌, ◌≤◌, Bool, true, false, cond, not, ◌&&◌, ◌||◌, ◌==◌, nat_lt, List, [], ◌∷◌, ◌++◌, length, take, drop, Option, None, Some, is_some, refl, sym, ap, ap₂, ◌∙◌, subst, arith, inl, inr, bit_and, append-nil, append_assoc, length-append, length-drop, false≢true, cases_Bool, cases_lt, le-ltb, append_cancel_left, All-weaker, All-contains_itself, list_any_at, get, find, get-entries, begins, number, digits, digits-number, begins-refl, begins-length, begins-linear, begins-longer, begins-rest, begins-from-rest, begins-same-length, begins-trans, listing_cmp, same_string, HoldsValues, HoldsChildren, is_in, RetainsEntries, Entries, part_below, without_entry, without_below, Nodes, has_node, home, is_node_depth, pruned, nodes_not_below, nodes_without, nodes_without_below, pair_of, listing_at_place, listing_at_places, listing_below, State, is_in-and, home-begins, home-depth, home-length, or-cases, and-join, and-second, same_string-is, is-same_string, has-retained, get-part_below, get-without_entry, get-without_below, same_entries, same_members, entries-retained, Node, chunks_of, read, below, Store, is_at, is_at_some, is_under, is_under_some, Retains, IsTrie}
 use Rattle.std.specs.List.{All, Contains}
 use Rattle.std.proofs.lemmas.Bool.{lt-ltb}
 use Rattle.prefix_trie_table.proofs.Strings.Plain.{fifth_more, no_or_yes, whole_more}
@@ -77,7 +77,7 @@ module _ {T : Type 0} where
     pub nodes : after.nodes ≡ nodes_not_below before.nodes q
 
 module _ {F T : Type 0} (asks : F → List Bool → T → Bool → F → Type 0) (no : (f : F) (k : List Bool) (x : T) (b : Bool) (g : F) → asks f k x b g → b ≡ false) where
-  none_kept : (f : F) (es kept : List (List Bool × T)) → AsksInOrder asks f es kept → kept ≡ []
+  none_kept : (f : F) (es kept : List (List Bool × T)) → RetainsEntries asks f es kept → kept ≡ []
   none_kept f [] kept h = h
   none_kept f (e ∷ es) kept h = h.5 ∙ ap (λ b. cond b (e ∷ h.2) h.2) (no f e.0 e.1 h.0 h.1 h.3) ∙ none_kept h.1 es h.2 h.4
 
@@ -168,7 +168,7 @@ module _ (q : List Bool) where
 -- ---- the places that two masks leave
 
 module _ {T : Type 0} (width count : ℕ) (v : Store Node) (w : Store (Option T)) (before : State T) (trie : IsTrie width count v w before) (q rest : List Bool)
-    (is : q ≡ home q ++ rest) (n : Node) (stands : read v.slots (path_of (home q)) ≡ Some n) (values children : ℕ) (holds_values : HoldsValues values (begins rest))
+    (is : q ≡ home q ++ rest) (n : Node) (stands : read v.slots (chunks_of (home q)) ≡ Some n) (values children : ℕ) (holds_values : HoldsValues values (begins rest))
     (holds_children : HoldsChildren children (begins rest)) (ts : List (List Bool))
     (each : (u : List Bool) → Contains ts u ↔ ((length u ≤ 5) × (is_in (bit_and n.value_bitmap values) (bit_and n.child_bitmap children) u ≡ true))) where
   in_masks : (u : List Bool) → length u ≤ 5 → is_in values children u ≡ begins rest u
@@ -228,11 +228,11 @@ module _ {T : Type 0} (width count : ℕ) (v : Store Node) (w : Store (Option T)
       small : number u < 32
       small = number-small u five
 
-      missing : read v.slots (path_of (home q ++ u)) ≡ None
+      missing : read v.slots (chunks_of (home q ++ u)) ≡ None
       missing =
-          ap (λ x. read v.slots (path_of (home q ++ x))) (sym (digits-number u) ∙ ap (λ k. digits k (number u)) five)
+          ap (λ x. read v.slots (chunks_of (home q ++ x))) (sym (digits-number u) ∙ ap (λ k. digits k (number u)) five)
           ∙ ap (read v.slots) (step_below (length q / 5) (home q) (number u) (home-length q) small)
-          ∙ read-snoc v.slots (path_of (home q)) (number u) ∙ ap (λ o. below v.slots o (number u)) stands
+          ∙ read-snoc v.slots (chunks_of (home q)) (number u) ∙ ap (λ o. below v.slots o (number u)) stands
           ∙ child-missing v.slots n (number u) (has_bit-is n.child_bitmap (number u) small ∙ sym (is_in-child n.value_bitmap n.child_bitmap u five) ∙ clear)
 
   nodes_among : (t : List Bool) → begins q t ≡ true → same_string t (home q) ≡ false → is_under_some (home q) ts t ≡ false → has_node before.nodes t ≡ true → ⊥
@@ -270,7 +270,7 @@ module _ {T : Type 0} (width count : ℕ) (v : Store Node) (w : Store (Option T)
 
 module _ {T : Type 0} where
   -- below a missing node is nothing
-  pub no_node_there : (width count : ℕ) (v : Store Node) (w : Store (Option T)) (s : State T) (q : List Bool) → IsTrie width count v w s → read v.slots (path_of (home q)) ≡ None →
+  pub no_node_there : (width count : ℕ) (v : Store Node) (w : Store (Option T)) (s : State T) (q : List Bool) → IsTrie width count v w s → read v.slots (chunks_of (home q)) ≡ None →
       (without_below s.entries q ≡ s.entries) × (nodes_without_below s.nodes s.entries q ≡ s.nodes)
   no_node_there width count v w s q trie missing = (
     same_entries (without_below s.entries q) s.entries (λ k. get-without_below s.entries q k ∙ by k (begins q k) refl),
@@ -288,7 +288,7 @@ module _ {T : Type 0} where
       away = trie.shaped.0 (home q) ∙ ap (λ o. is_node_depth (home q) && is_some o) missing ∙ and-false (is_node_depth (home q))
 
   -- and a node that stands is one of the set
-  pub home_stands : (width count : ℕ) (v : Store Node) (w : Store (Option T)) (s : State T) (q : List Bool) (n : Node) → IsTrie width count v w s → read v.slots (path_of (home q)) ≡ Some n →
+  pub home_stands : (width count : ℕ) (v : Store Node) (w : Store (Option T)) (s : State T) (q : List Bool) (n : Node) → IsTrie width count v w s → read v.slots (chunks_of (home q)) ≡ Some n →
       has_node s.nodes (home q) ≡ true
   home_stands width count v w s q n trie stands = trie.shaped.0 (home q) ∙ ap₂ (λ d o. d && is_some o) (ap (λ k. k == 0) (home-depth q)) stands
 

@@ -1,10 +1,10 @@
 -- What several removals do to the size of a block.
-use Rattle.prefix_trie_table.proofs.Prelude.{◌≡◌, ◌≢◌, ℕ, ◌<◌, ◌≤◌, ◌⊎◌, inl, inr, List, [], ◌∷◌, ◌++◌, Option, None, Some, refl, sym, ap, ◌∙◌, subst, arith, cases_lt, StepsBetween, smallest_size, Node, node_sizes, cell_sizes, with_node, lacking_child, own_count, own_children, child_block_size, value_block_size, ValueTaken, ChildDropped, IsBare, PrunedTo, BlocksBetween, Stays, Store, free_counts, Grows}
+use Rattle.prefix_trie_table.proofs.Prelude.{◌≡◌, ◌≢◌, ℕ, ◌<◌, ◌≤◌, ◌⊎◌, inl, inr, List, [], ◌∷◌, ◌++◌, Option, None, Some, refl, sym, ap, ◌∙◌, subst, arith, cases_lt, StepsBetween, smallest_size, Node, node_sizes, cell_sizes, with_node, with_child_removed, own_count, own_children, child_block_size, value_block_size, ValueTaken, ChildDropped, IsBare, PrunedTo, BlocksBetween, Stays, Store, free_counts, Grows}
 use Rattle.std.specs.List.{Contains}
 use Rattle.prefix_trie_table.proofs.Blocks.Turnovers.{made_then}
 use Rattle.prefix_trie_table.proofs.Strings.Plain.{some_same}
 use Rattle.prefix_trie_table.proofs.Tree.Children.{same_or, with_here, with_other, changed_below, changed_here, changed_other}
-use Rattle.prefix_trie_table.proofs.Removal.Lessening.{steps_between, lessens_between, values_none, children_none, same_children}
+use Rattle.prefix_trie_table.proofs.Removal.ShrinkingLists.{steps_between, shrinks_between, values_none, children_none, same_children}
 use Rattle.prefix_trie_table.proofs.Removal.Stepping.{same_values, drops_values, pruned_children}
 
 -- ---- by numbers
@@ -66,29 +66,29 @@ pub taken_between : {T : Type 0} (reading : List ℕ → Option Node) (paths : L
 taken_between reading paths values p b n m v w w2 t is x = elim (same_or x p) as (λ _. BlocksBetween (reading x) (with_node reading p m x)) [
   | inl e ↦ subst (λ o. BlocksBetween o (with_node reading p m x)) (sym (ap reading e ∙ is)) (subst (BlocksBetween (Some n)) (sym (with_here reading p m x e)) (
       let s = same_children n m t.children in
-      record { values = lessens_between cell_sizes w w2 _ _ _ _ refl t.lessens; children = children_between (Some n) (Some m) s.0 s.1 }))
+      record { values = shrinks_between cell_sizes w w2 _ _ _ _ refl t.shrinks; children = children_between (Some n) (Some m) s.0 s.1 }))
   | inr ne ↦ blocks_still (reading x) (with_node reading p m x) (with_other reading p m x ne)
 ]
 
 -- where a child was dropped
 pub dropped_between : (reading : List ℕ → Option Node) (paths : List (List ℕ)) (p : List ℕ) (c : ℕ) (n m leaf : Node) (v v2 : Store Node) →
     ChildDropped reading paths p c n m v v2 → reading p ≡ Some n → reading (p ++ c ∷ []) ≡ Some leaf → IsBare leaf →
-    (x : List ℕ) → BlocksBetween (reading x) (lacking_child reading p m c x)
+    (x : List ℕ) → BlocksBetween (reading x) (with_child_removed reading p m c x)
 dropped_between reading paths p c n m leaf v v2 t is under bare x = by (same_or x (p ++ c ∷ [])) (same_or x p)
   where
-    by : (x ≡ p ++ c ∷ []) ⊎ (x ≢ p ++ c ∷ []) → (x ≡ p) ⊎ (x ≢ p) → BlocksBetween (reading x) (lacking_child reading p m c x)
+    by : (x ≡ p ++ c ∷ []) ⊎ (x ≢ p ++ c ∷ []) → (x ≡ p) ⊎ (x ≢ p) → BlocksBetween (reading x) (with_child_removed reading p m c x)
     by (inl at) other =
-        subst (λ o. BlocksBetween o (lacking_child reading p m c x)) (sym (ap reading at ∙ under)) (subst (BlocksBetween (Some leaf)) (sym (changed_below reading p m c None x at)) (record {
+        subst (λ o. BlocksBetween o (with_child_removed reading p m c x)) (sym (ap reading at ∙ under)) (subst (BlocksBetween (Some leaf)) (sym (changed_below reading p m c None x at)) (record {
           values = values_between (Some leaf) None (sym bare.no_values) (sym (values_none (Some leaf) bare.no_values));
           children = children_between (Some leaf) None (sym bare.no_children) (sym (children_none (Some leaf) bare.no_children));
         }))
     by (inr ne) (inl at) =
         let s = same_values n m t.values in
-        subst (λ o. BlocksBetween o (lacking_child reading p m c x)) (sym (ap reading at ∙ is)) (subst (BlocksBetween (Some n)) (sym (changed_here reading p m c None x at)) (record {
+        subst (λ o. BlocksBetween o (with_child_removed reading p m c x)) (sym (ap reading at ∙ is)) (subst (BlocksBetween (Some n)) (sym (changed_here reading p m c None x at)) (record {
           values = values_between (Some n) (Some m) s.0 s.1;
-          children = lessens_between node_sizes v v2 _ _ _ _ refl t.lessens;
+          children = shrinks_between node_sizes v v2 _ _ _ _ refl t.shrinks;
         }))
-    by (inr ne) (inr other) = blocks_still (reading x) (lacking_child reading p m c x) (changed_other reading p m c None x other ne)
+    by (inr ne) (inr other) = blocks_still (reading x) (with_child_removed reading p m c x) (changed_other reading p m c None x other ne)
 
 -- pruning leaves each node's values where they were, and the children of the node where it stopped in a smaller block at most
 pub pruned_between : (reading : List ℕ → Option Node) (paths : List (List ℕ)) (path : List ℕ) (level : ℕ) (node : Node) (v v2 : Store Node)

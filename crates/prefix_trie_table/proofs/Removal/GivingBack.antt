@@ -2,7 +2,7 @@
 use Rattle.prefix_trie_table.proofs.Prelude.{◌≡◌, ℕ, set, refl, sym, ◌∙◌, subst, arith, Store, GivesBack, Grows}
 use Rattle.std.proofs.lemmas.List.{length-set}
 use Rattle.prefix_trie_table.proofs.Blocks.Turnovers.{none_written, none_same}
-use Rattle.prefix_trie_table.proofs.Insertion.Rooms.{none_then}
+use Rattle.prefix_trie_table.proofs.Insertion.Spaces.{none_then}
 
 -- a node written leaves the room and the free blocks
 pub gives_written : {S : Type 0} (v w x : Store S) (slot : ℕ) (m : S) → GivesBack v w → x ≡ record w { slots = set w.slots slot m } → GivesBack v x

@@ -1,13 +1,13 @@
 -- What the calls that take a value or a child out leave of the arrays.
-use Rattle.prefix_trie_table.proofs.Prelude.{◌≡◌, ℕ, zero, suc, ◌+◌, ◌-◌, ◌<◌, ◌≤◌, true, List, [], ◌∷◌, ◌++◌, length, set, remove, map, flat_map, Option, None, Some, refl, sym, ap, ◌∙◌, subst, arith, Contains, same_Some, none-some, Sets, StepsDown, LongerByOne, made_of, goes_up, has_some, sizes_to, Node, BlockRef, has_bit, bits, rank, blank_node, node_at, node_sizes, cell_sizes, Store, UsedBlock, Sound, block, held, HasList, Keeps, Turnover, tier_at, tier_sizes, size_in, size_if_any, list_size, free_counts, made_in, without, child_items, child_blocks, IsSlot, NodesHold, CellsHold, value_blocks, with_node, lacking_child, node_or_blank, LosesOne, SameChildren, SameValues, Lessens, MakesEntered, ValueTaken, ChildDropped, GivesBack, headroom_if_any, child_headroom, Grows}
+use Rattle.prefix_trie_table.proofs.Prelude.{◌≡◌, ℕ, zero, suc, ◌+◌, ◌-◌, ◌<◌, ◌≤◌, true, List, [], ◌∷◌, ◌++◌, length, set, remove, map, flat_map, Option, None, Some, refl, sym, ap, ◌∙◌, subst, arith, Contains, same_Some, none-some, Sets, StepsDown, LongerByOne, made_of, goes_up, has_some, sizes_to, Node, BlockRef, has_bit, bits, rank, blank_node, node_at, node_sizes, cell_sizes, Store, UsedBlock, Sound, block, held, HasList, Keeps, Turnover, tier_at, tier_sizes, size_in, size_if_any, list_size, free_counts, made_in, without, child_items, child_blocks, IsSlot, NodesHold, CellsHold, value_blocks, with_node, with_child_removed, node_or_blank, LosesOne, SameChildren, SameValues, ShrinksList, MakesEntered, ValueTaken, ChildDropped, GivesBack, headroom_if_any, child_headroom, Grows}
 use Rattle.std.proofs.lemmas.List.{length-set}
 use Rattle.prefix_trie_table.specs.OwnBlocks.{child_block_size, value_block_size}
 use Rattle.prefix_trie_table.proofs.Strings.Bare.{no_bit, cleared, others_stay, one_fewer}
 use Rattle.prefix_trie_table.proofs.Strings.BitLists.{rank-all}
 use Rattle.prefix_trie_table.proofs.Tree.Children.{child_removed, node_changed}
 use Rattle.prefix_trie_table.proofs.Blocks.Soundness.{fits_block, tier_of_block}
-use Rattle.prefix_trie_table.proofs.Removal.Lessening.{all_rooms, lessens_few, lessens_down, longer_by_one, gives_back}
-use Rattle.prefix_trie_table.proofs.Removal.Settling.{child_settles}
+use Rattle.prefix_trie_table.proofs.Removal.ShrinkingLists.{all_spaces, shrinks_list_few, shrinks_down, longer_by_one, gives_back}
+use Rattle.prefix_trie_table.proofs.Removal.GrowthBounds.{child_bounds_growth}
 use Rattle.prefix_trie_table.proofs.Blocks.BySize.{size_at, size_among, size_some, tiers_long}
 use Rattle.prefix_trie_table.proofs.Tree.Trees.{own_first, slot_holds, held_some}
 use Rattle.prefix_trie_table.proofs.Blocks.Turnovers.{made_turned}
@@ -28,19 +28,19 @@ held_fits vacant v k start count sizes sizes_are seven list some =
 
 -- what is left of an array once a list of so many items, at `start` in a block of tier k, has lost the one at a place and
 -- stands at `next` in a block of tier `to`
-pub record Lost {S : Type 0} (vacant : S) (sizes : List ℕ) (v w : Store S) (k start count place to next : ℕ) : Type 0 where
+pub record Lost {S : Type 0} (vacant : S) (sizes : List ℕ) (v w : Store S) (k start count offset to next : ℕ) : Type 0 where
   pub keeps : Keeps v w
   pub grows : Grows v w 24
   pub back : count ≤ 1 → GivesBack v w
-  pub lessens : (left : ℕ) → left + 1 ≡ count → Lessens MakesEntered sizes v w count left (size_if_any count (size_in sizes k)) (size_if_any left (size_in sizes to))
+  pub shrinks : (left : ℕ) → left + 1 ≡ count → ShrinksList MakesEntered sizes v w count left (size_if_any count (size_in sizes k)) (size_if_any left (size_in sizes to))
   pub down : (left : ℕ) → left + 1 ≡ count → length w.slots + headroom_if_any (size_if_any left (size_in sizes to)) ≤
       length v.slots + headroom_if_any (size_if_any count (size_in sizes k))
   pub sound : (n : ℕ) (xs : List S) (live : List (UsedBlock S)) → Sound vacant (held k start n xs ++ live) v → length xs ≡ count →
-      Sound vacant (held to next (tier_at v.tiers to).size (remove xs place) ++ live) w
+      Sound vacant (held to next (tier_at v.tiers to).size (remove xs offset) ++ live) w
 
 -- a call that takes an item out of a list, and answers where the list stands then
-module _ {S : Type 0} (vacant : S) (v w : Store S) (k start count place : ℕ) (next : BlockRef) (top : ℕ) (are : tier_sizes v.tiers ≡ sizes_to top)
-    (up : goes_up 0 (sizes_to top) ≡ true) (rooms : all_rooms (sizes_to top) ≡ true) (list : HasList vacant v k start count) (some : 0 < count) (within : next.tier < length v.tiers)
+module _ {S : Type 0} (vacant : S) (v w : Store S) (k start count offset : ℕ) (next : BlockRef) (top : ℕ) (are : tier_sizes v.tiers ≡ sizes_to top)
+    (up : goes_up 0 (sizes_to top) ≡ true) (rooms : all_spaces (sizes_to top) ≡ true) (list : HasList vacant v k start count) (some : 0 < count) (within : next.tier < length v.tiers)
     (loses : LosesOne v w count (list_size v.tiers k count) (list_size v.tiers next.tier (count - 1))) where
   -- its block, and what became of the array then
   from_block : Turnover v w (made_of (tier_sizes v.tiers) (free_counts v.tiers) (Some (size_in (tier_sizes v.tiers) k)) (list_size v.tiers next.tier (count - 1)))
@@ -49,8 +49,8 @@ module _ {S : Type 0} (vacant : S) (v w : Store S) (k start count place : ℕ) (
       subst (λ o. Turnover v w (made_of (tier_sizes v.tiers) (free_counts v.tiers) o (list_size v.tiers next.tier (count - 1))) o (list_size v.tiers next.tier (count - 1)))
       (size_some count (size_in (tier_sizes v.tiers) k) some) loses.turnover
 
-  lessens_one : Lessens MakesEntered (sizes_to top) v w count (count - 1) (size_if_any count (size_in (sizes_to top) k)) (size_if_any (count - 1) (size_in (sizes_to top) next.tier))
-  lessens_one = record {
+  shrinks_one : ShrinksList MakesEntered (sizes_to top) v w count (count - 1) (size_if_any count (size_in (sizes_to top) k)) (size_if_any (count - 1) (size_in (sizes_to top) next.tier))
+  shrinks_one = record {
     has = λ less.
         let fits = held_fits vacant v k start count (sizes_to top) are refl list some in
         has_some (sizes_to top) count (size_if_any count (size_in (sizes_to top) k)) (size_in (sizes_to top) k) some (size_some count (size_in (sizes_to top) k) some)
@@ -79,14 +79,14 @@ module _ {S : Type 0} (vacant : S) (v w : Store S) (k start count place : ℕ) (
     first_is = loses.turnover.keeps.first_is;
     limit_is = loses.turnover.keeps.limit_is;
     longer = loses.turnover.keeps.longer;
-    at_most = lessens_few top v w count (count - 1) _ _ lessens_one (omega (arith, some));
+    at_most = shrinks_list_few top v w count (count - 1) _ _ shrinks_one (omega (arith, some));
     within = loses.turnover.keeps.within;
     made = made_turned v w _ _ _ loses.turnover;
   }
 
   pub lost_one : ((n : ℕ) (xs : List S) (live : List (UsedBlock S)) → Sound vacant (held k start n xs ++ live) v → length xs ≡ count →
-      Sound vacant (held next.tier next.start (tier_at v.tiers next.tier).size (remove xs place) ++ live) w)
-      → (n at : ℕ) → count ≡ n → place ≡ at → Lost vacant (sizes_to top) v w k start n at next.tier next.start
+      Sound vacant (held next.tier next.start (tier_at v.tiers next.tier).size (remove xs offset) ++ live) w)
+      → (n at : ℕ) → count ≡ n → offset ≡ at → Lost vacant (sizes_to top) v w k start n at next.tier next.start
   lost_one sound n at same is =
       subst (λ x. Lost vacant (sizes_to top) v w k start x at next.tier next.start) same
       (subst (λ x. Lost vacant (sizes_to top) v w k start count x next.tier next.start) is (record {
@@ -94,10 +94,10 @@ module _ {S : Type 0} (vacant : S) (v w : Store S) (k start count place : ℕ) (
         grows = few_more;
         back = λ few. gives_back v w (size_in (tier_sizes v.tiers) k) (list_size v.tiers next.tier (count - 1))
             (ap (λ c. size_if_any c (size_in (tier_sizes v.tiers) next.tier)) (let e : count - 1 ≡ 0 = omega (arith, few) in e)) from_block;
-        lessens = λ left one. subst (λ l. Lessens MakesEntered (sizes_to top) v w count l (size_if_any count (size_in (sizes_to top) k)) (size_if_any l (size_in (sizes_to top) next.tier)))
-            (let e : count - 1 ≡ left = omega (arith, one) in e) lessens_one;
+        shrinks = λ left one. subst (λ l. ShrinksList MakesEntered (sizes_to top) v w count l (size_if_any count (size_in (sizes_to top) k)) (size_if_any l (size_in (sizes_to top) next.tier)))
+            (let e : count - 1 ≡ left = omega (arith, one) in e) shrinks_one;
         down = λ left one. subst (λ l. length w.slots + headroom_if_any (size_if_any l (size_in (sizes_to top) next.tier)) ≤ length v.slots + headroom_if_any (size_if_any count (size_in (sizes_to top) k)))
-            (let e : count - 1 ≡ left = omega (arith, one) in e) (lessens_down (sizes_to top) v w count (count - 1) _ _ up lessens_one rooms refl (omega (arith, some)));
+            (let e : count - 1 ≡ left = omega (arith, one) in e) (shrinks_down (sizes_to top) v w count (count - 1) _ _ up shrinks_one rooms refl (omega (arith, some)));
         sound = sound;
       }))
 
@@ -135,8 +135,8 @@ values_taken {T} v v2 w u slot b tier start bitmap k read sets lost small there 
           (subst (λ size. Sound None (held tier start size (remove (map (values p) (bits k.value_bitmap)) (rank k.value_bitmap b)) ++ live) u) size left);
       fewer = fewer_here ∙ ap (λ (y : Node). rank y.value_bitmap 32) same;
       children = subst (λ (y : Node). SameChildren y (with_values k bitmap start tier)) same (record { bitmap = refl; block = refl; tier = refl });
-      lessens = subst (λ (y : Node). Lessens MakesEntered cell_sizes w u (rank y.value_bitmap 32) (rank bitmap 32) (value_block_size (Some y)) (size_if_any (rank bitmap 32) (size_in cell_sizes tier))) same
-          (lost.lessens (rank bitmap 32) fewer_here);
+      shrinks = subst (λ (y : Node). ShrinksList MakesEntered cell_sizes w u (rank y.value_bitmap 32) (rank bitmap 32) (value_block_size (Some y)) (size_if_any (rank bitmap 32) (size_in cell_sizes tier))) same
+          (lost.shrinks (rank bitmap 32) fewer_here);
     }
 
 -- ---- the reading of the arrays where a child is gone
@@ -159,7 +159,7 @@ children_dropped v u v2 slot c tier start bitmap k read sets lost digit v2_is re
     (own_first node_sizes reading paths v hold p k here) (rank-all (λ d. node_or_blank (reading (p ++ d ∷ []))) k.child_bitmap) in
     let fewer_here : rank bitmap 32 + 1 ≡ rank k.child_bitmap 32 = one_fewer bitmap k.child_bitmap c sets digit in
     let long : length v2.slots ≡ length u.slots = ap (λ (y : Store Node). length y.slots) v2_is ∙ length-set u.slots slot (with_children k bitmap start tier) in
-    let later = subst (λ y. NodesHold node_sizes (lacking_child reading p (with_children k bitmap start tier) c) (without (p ++ c ∷ []) paths) y) (sym v2_is)
+    let later = subst (λ y. NodesHold node_sizes (with_child_removed reading p (with_children k bitmap start tier) c) (without (p ++ c ∷ []) paths) y) (sym v2_is)
     (child_removed node_sizes reading paths v hold p slot k (with_children k bitmap start tier) leaf c u stands here digit below (λ i. no_bit leaf.child_bitmap i bare)
     (cleared bitmap k.child_bitmap c sets digit) (others_stay bitmap k.child_bitmap c sets digit)
     (lost.keeps.first_is ∙ hold.first_is) (lost.keeps.sizes ∙ hold.sizes_are) (lost.keeps.before 0 blank_node (let f = hold.first_is in omega arith))
@@ -168,8 +168,8 @@ children_dropped v u v2 slot c tier start bitmap k read sets lost digit v2_is re
       hold = later;
       values = subst (λ (y : Node). SameValues y (with_children k bitmap start tier)) same (record { bitmap = refl; block = refl; tier = refl });
       fewer = fewer_here ∙ ap (λ (y : Node). rank y.child_bitmap 32) same;
-      lessens = subst (λ (y : Node). Lessens MakesEntered node_sizes v v2 (rank y.child_bitmap 32) (rank bitmap 32) (child_block_size (Some y)) (size_if_any (rank bitmap 32) (size_in node_sizes tier))) same
-          (let l = lost.lessens (rank bitmap 32) fewer_here in record {
+      shrinks = subst (λ (y : Node). ShrinksList MakesEntered node_sizes v v2 (rank y.child_bitmap 32) (rank bitmap 32) (child_block_size (Some y)) (size_if_any (rank bitmap 32) (size_in node_sizes tier))) same
+          (let l = lost.shrinks (rank bitmap 32) fewer_here in record {
             has = l.has;
             steps = l.steps;
             grows = record {
@@ -177,6 +177,6 @@ children_dropped v u v2 slot c tier start bitmap k read sets lost digit v2_is re
               made = subst (λ (y : Store Node). MakesEntered node_sizes v y (child_block_size (Some k)) (size_if_any (rank bitmap 32) (size_in node_sizes tier))) (sym v2_is) l.grows.made;
             };
           });
-      settles = child_settles reading paths v v2 p c n (with_children k bitmap start tier) leaf hold is below later (ap (λ (y : Node). value_block_size (Some y)) same)
+      bounds_growth = child_bounds_growth reading paths v v2 p c n (with_children k bitmap start tier) leaf hold is below later (ap (λ (y : Node). value_block_size (Some y)) same)
           (let down = lost.down (rank bitmap 32) fewer_here in let was : child_headroom k ≡ child_headroom n = ap child_headroom same in omega (arith, down, long, was));
     }

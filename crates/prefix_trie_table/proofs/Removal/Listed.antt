@@ -1,5 +1,5 @@
 -- The places of a node that two masks leave list what is below a bit string.
-use Rattle.prefix_trie_table.proofs.Prelude.{◌≡◌, ◌↔◌, ℕ, ◌+◌, ◌<◌, ◌≤◌, Bool, true, false, ◌&&◌, List, [], ◌++◌, length, filter, Option, Some, None, is_some, refl, sym, ap, ◌∙◌, arith, bit_and, length-append, false≢true, begins, HoldsValues, HoldsChildren, is_in, places, home, listing_at_places, listing, listing_below, State, home-depth, home-length, listing_below_none, Node, Below, path_of, read, Store, IsTrie}
+use Rattle.prefix_trie_table.proofs.Prelude.{◌≡◌, ◌↔◌, ℕ, ◌+◌, ◌<◌, ◌≤◌, Bool, true, false, ◌&&◌, List, [], ◌++◌, length, filter, Option, Some, None, is_some, refl, sym, ap, ◌∙◌, arith, bit_and, length-append, false≢true, begins, HoldsValues, HoldsChildren, is_in, places, home, listing_at_places, listing, listing_below, State, home-depth, home-length, listing_below_none, Node, Below, chunks_of, read, Store, IsTrie}
 use Rattle.std.specs.List.{Contains}
 use Rattle.prefix_trie_table.proofs.Strings.Plain.{no_or_yes}
 use Rattle.prefix_trie_table.proofs.Removal.AllBelow.{below_none, home_near, home_goes_on, in_both}
@@ -16,7 +16,7 @@ both_tests false true h = absurd (false≢true (h refl))
 both_tests false false h = refl
 
 module _ {T : Type 0} (width count : ℕ) (v : Store Node) (w : Store (Option T)) (before : State T) (trie : IsTrie width count v w before) (q rest : List Bool)
-    (is : q ≡ home q ++ rest) (n : Node) (stands : read v.slots (path_of (home q)) ≡ Some n) (values children : ℕ) (holds_values : HoldsValues values (begins rest))
+    (is : q ≡ home q ++ rest) (n : Node) (stands : read v.slots (chunks_of (home q)) ≡ Some n) (values children : ℕ) (holds_values : HoldsValues values (begins rest))
     (holds_children : HoldsChildren children (begins rest)) (ts : List (List Bool))
     (each : (u : List Bool) → Contains ts u ↔ ((length u ≤ 5) × (is_in (bit_and n.value_bitmap values) (bit_and n.child_bitmap children) u ≡ true)))
     (all : ts ≡ places (bit_and n.value_bitmap values) (bit_and n.child_bitmap children)) where
@@ -38,7 +38,7 @@ module _ {T : Type 0} (width count : ℕ) (v : Store Node) (w : Store (Option T)
 
 -- below a string whose node is missing nothing is listed
 pub none_listed : {T : Type 0} (width count : ℕ) (v : Store Node) (w : Store (Option T)) (s : State T) (q : List Bool) → IsTrie width count v w s →
-    read v.slots (path_of (home q)) ≡ None → listing_below s.entries q ≡ []
+    read v.slots (chunks_of (home q)) ≡ None → listing_below s.entries q ≡ []
 none_listed width count v w s q trie missing =
     let none : listing_below s.entries (home q) ≡ [] = nothing_below width v (record { count = count; cells = w; shape = s }) trie (home q) (home-depth q) missing in
     listing_below_none s.entries q (λ k has. no_or_yes (begins q k) (λ e.

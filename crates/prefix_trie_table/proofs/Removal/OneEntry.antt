@@ -1,8 +1,8 @@
 -- An entry taken out, and what contracts see of it.
-use Rattle.prefix_trie_table.proofs.Prelude.{◌≡◌, ◌≢◌, ℕ, ◌+◌, ◌-◌, ◌*◌, ◌/◌, ◌<◌, ◌⊎◌, inl, inr, Bool, true, false, cond, ◌&&◌, List, [], ◌∷◌, ◌++◌, take, drop, Option, None, Some, is_some, refl, sym, ap, ap₂, ◌∙◌, subst, arith, false≢true, get, len, len-remove, listing_total, without_entry, is_node_depth, State, get-without_entry, value_bit, Node, has_bit, rank, cell_sizes, path_of, bit_of, Store, one_if, Holds, IsSlot, at_root, at_child, child_slot, node_or_blank, own_count, has_value, with_node, with_value, SomeTable, entry_count, Lessens, ValueTaken, EntryTaken, MakesEntered, IsShapeOf, Shaped, same_shape, IsReached, IsTable, Grows, ForHeld, own_children, child_block_size}
+use Rattle.prefix_trie_table.proofs.Prelude.{◌≡◌, ◌≢◌, ℕ, ◌+◌, ◌-◌, ◌*◌, ◌/◌, ◌<◌, ◌⊎◌, inl, inr, Bool, true, false, cond, ◌&&◌, List, [], ◌∷◌, ◌++◌, take, drop, Option, None, Some, is_some, refl, sym, ap, ap₂, ◌∙◌, subst, arith, false≢true, get, len, len-remove, listing_total, without_entry, is_node_depth, State, get-without_entry, value_bit, Node, has_bit, rank, cell_sizes, chunks_of, bit_of, Store, one_if, Holds, IsSlot, at_root, at_child, child_slot, node_or_blank, own_count, has_value, with_node, with_value, SomeTable, entry_count, ShrinksList, ValueTaken, EntryTaken, MakesEntered, IsShapeOf, Shaped, same_shape, IsReached, IsTable, Grows, ForHeld, own_children, child_block_size}
 use Rattle.std.proofs.lemmas.List.{take_all}
 use Rattle.prefix_trie_table.specs.OwnBlocks.{value_block_size}
-use Rattle.prefix_trie_table.proofs.Removal.Lessening.{lessens_none, values_none, same_children}
+use Rattle.prefix_trie_table.proofs.Removal.ShrinkingLists.{shrinks_none, values_none, same_children}
 use Rattle.prefix_trie_table.proofs.Tree.Invariant.{some_table}
 use Rattle.prefix_trie_table.proofs.Tree.Children.{same_or, with_here, with_other}
 use Rattle.prefix_trie_table.proofs.Counts.EntryCounts.{count_with_node}
@@ -42,7 +42,7 @@ module _ {T : Type 0} (reading : List ℕ → Option Node) (values : List ℕ �
     counted = (let z : one_if (is_some (values path b)) ≡ 0 = ap (λ o. one_if (is_some o)) none in omega arith);
     kept = λ none. refl;
     children = (refl, refl);
-    lessens = lessens_none MakesEntered cell_sizes w w (own_count (reading path)) (value_block_size (reading path)) (values_none (reading path)) refl
+    shrinks = shrinks_none MakesEntered cell_sizes w w (own_count (reading path)) (value_block_size (reading path)) (values_none (reading path)) refl
         (λ size there. omega arith);
   }
     where
@@ -77,8 +77,8 @@ module _ {T : Type 0} (reading : List ℕ → Option Node) (values : List ℕ �
           (let s = same_children n m a.children in
           let now = with_here reading path m path refl in
           (ap own_children now ∙ s.0 ∙ sym (ap own_children is), ap child_block_size now ∙ s.1 ∙ sym (ap child_block_size is)));
-      lessens = subst (λ o. Lessens MakesEntered cell_sizes w w2 (own_count o) (own_count (with_node reading path m path)) (value_block_size o) (value_block_size (with_node reading path m path))) (sym is)
-          (subst (λ o. Lessens MakesEntered cell_sizes w w2 (own_count (Some n)) (own_count o) (value_block_size (Some n)) (value_block_size o)) (sym (with_here reading path m path refl)) a.lessens);
+      shrinks = subst (λ o. ShrinksList MakesEntered cell_sizes w w2 (own_count o) (own_count (with_node reading path m path)) (value_block_size o) (value_block_size (with_node reading path m path))) (sym is)
+          (subst (λ o. ShrinksList MakesEntered cell_sizes w w2 (own_count (Some n)) (own_count o) (value_block_size (Some n)) (value_block_size o)) (sym (with_here reading path m path refl)) a.shrinks);
     },
     with_here reading path m path refl,
   )
@@ -89,18 +89,18 @@ module _ {T : Type 0} (reading : List ℕ → Option Node) (values : List ℕ �
 
   -- the values without that of a key are the entries without it
   pub entries_without : (key : List Bool) (s : State T) → IsShapeOf v.slots w.slots s → (q : List Bool) →
-      get (without_entry s.entries key) q ≡ with_value values (path_of key) (bit_of key) None (path_of q) (bit_of q)
+      get (without_entry s.entries key) q ≡ with_value values (chunks_of key) (bit_of key) None (chunks_of q) (bit_of q)
   entries_without key s is q =
       get-without_entry s.entries key q
       ∙ ap₂ (λ t o. cond t None o) (same_key q key) (shape_entries reading values paths v w holds s is q)
 
   -- the shape once an entry is taken
   pub shape_taken : (key : List Bool) (v2 : Store Node) (w2 : Store (Option T)) (s : State T) → IsShapeOf v.slots w.slots s →
-      EntryTaken reading paths values (path_of key) (bit_of key) v2 w w2 →
+      EntryTaken reading paths values (chunks_of key) (bit_of key) v2 w w2 →
       IsShapeOf v2.slots w2.slots (record { entries = without_entry s.entries key; nodes = s.nodes })
   shape_taken key v2 w2 s is a =
-      shape_of a.later (with_value values (path_of key) (bit_of key) None) paths v2 w2 a.holds (record { entries = without_entry s.entries key; nodes = s.nodes })
-      (λ q. shape_nodes reading values paths v w holds s is q ∙ ap (λ b. is_node_depth q && b) (sym (a.same (path_of q))))
+      shape_of a.later (with_value values (chunks_of key) (bit_of key) None) paths v2 w2 a.holds (record { entries = without_entry s.entries key; nodes = s.nodes })
+      (λ q. shape_nodes reading values paths v w holds s is q ∙ ap (λ b. is_node_depth q && b) (sym (a.same (chunks_of q))))
       (entries_without key s is)
 
 -- one entry less, or as many
@@ -118,14 +118,14 @@ pub record TakenOut {T : Type 0} (key : List Bool) (v v2 : Store Node) (w w2 : S
 
 module _ {T : Type 0} (key : List Bool) (v v2 : Store Node) (w w2 : Store (Option T)) (count count2 : ℕ) (s : Shaped v.slots w.slots)
     (is : IsTable v w count s.0) (removed : Option T)
-    (before : ForHeld v w (λ reading paths values. removed ≡ values (path_of key) (bit_of key))) (fewer : count2 + one_if (is_some removed) ≡ count) where
+    (before : ForHeld v w (λ reading paths values. removed ≡ values (chunks_of key) (bit_of key))) (fewer : count2 + one_if (is_some removed) ≡ count) where
   -- arrays that have a shape with the other entries are a table
   pub left_without : (left : State T) → IsShapeOf v2.slots w2.slots left → left.entries ≡ without_entry s.0.entries key →
-      (t : SomeTable v2 w2) × (entry_count t.reading t.paths + one_if (is_some (is.values (path_of key) (bit_of key))) ≡ entry_count is.reading is.paths) →
+      (t : SomeTable v2 w2) × (entry_count t.reading t.paths + one_if (is_some (is.values (chunks_of key) (bit_of key))) ≡ entry_count is.reading is.paths) →
       TakenOut key v v2 w w2 count2 s.0 left removed
   left_without left shape entries counted =
       let t = some_table is in
-      let was : removed ≡ is.values (path_of key) (bit_of key) = before t.reading t.paths t.values t.holds in
+      let was : removed ≡ is.values (chunks_of key) (bit_of key) = before t.reading t.paths t.values t.holds in
       let stored : removed ≡ get s.0.entries key = was ∙ sym (shape_entries t.reading t.values t.paths v w t.holds s.0 s.1 key) in
       record {
         was = stored;
@@ -151,13 +151,13 @@ module _ {T : Type 0} (key : List Bool) (v v2 : Store Node) (w w2 : Store (Optio
       }
 
   -- where the nodes stay
-  pub kept_without : ForHeld v w (λ reading paths values. EntryTaken reading paths values (path_of key) (bit_of key) v2 w w2) →
+  pub kept_without : ForHeld v w (λ reading paths values. EntryTaken reading paths values (chunks_of key) (bit_of key) v2 w w2) →
       TakenOut key v v2 w w2 count2 s.0 (record { entries = without_entry s.0.entries key; nodes = s.0.nodes }) removed
   kept_without taken =
       let t = some_table is in
       let a = taken t.reading t.paths t.values t.holds in
       left_without _ (shape_taken t.reading t.values t.paths v w t.holds key v2 w2 s.0 s.1 a) refl
-      (record { reading = a.later; values = with_value t.values (path_of key) (bit_of key) None; paths = t.paths; holds = a.holds }, a.counted)
+      (record { reading = a.later; values = with_value t.values (chunks_of key) (bit_of key) None; paths = t.paths; holds = a.holds }, a.counted)
 
 -- a string's own node was reached, and x is the string's value bit
 module _ {T : Type 0} (b : List Bool) (len slot : ℕ) (node : Node) (v : Store Node) (at : IsReached b len (len / 5) node slot v) (x : ℕ)
@@ -166,42 +166,42 @@ module _ {T : Type 0} (b : List Bool) (len slot : ℕ) (node : Node) (v : Store 
   last : len < 5 * (len / 5) + 5
   last = level_last (len / 5) len refl
 
-  own_node : reading (path_of (take len b)) ≡ Some node
+  own_node : reading (chunks_of (take len b)) ≡ Some node
   own_node = reached_own b len (len / 5) slot node v at reading paths holds.hold last
 
-  own_slot : IsSlot reading (path_of (take len b)) slot
-  own_slot = subst (λ p. IsSlot reading p slot) (take_all (len / 5) (path_of (take len b)) (omega (arith, steps-all b len at.long)))
+  own_slot : IsSlot reading (chunks_of (take len b)) slot
+  own_slot = subst (λ p. IsSlot reading p slot) (take_all (len / 5) (chunks_of (take len b)) (omega (arith, steps-all b len at.long)))
       (at.deepest reading paths holds.hold).stands
 
   own_bit : bit_of (take len b) ≡ x
   own_bit = bit-read-last b len at.long x read
 
-  own_is : is_some (values (path_of (take len b)) (bit_of (take len b))) ≡ has_bit node.value_bitmap x
+  own_is : is_some (values (chunks_of (take len b)) (bit_of (take len b))) ≡ has_bit node.value_bitmap x
   own_is =
-      holds.cells.set_where (path_of (take len b)) (bit_of (take len b)) ∙ ap (λ o. has_value o (bit_of (take len b))) own_node
+      holds.cells.set_where (chunks_of (take len b)) (bit_of (take len b)) ∙ ap (λ o. has_value o (bit_of (take len b))) own_node
       ∙ ap (has_bit node.value_bitmap) own_bit
 
   -- where the bit is clear there is no value, and nothing is taken
-  pub none_there : has_bit node.value_bitmap x ≡ false → values (path_of (take len b)) (bit_of (take len b)) ≡ None
-  none_there clear = is_none-None (values (path_of (take len b)) (bit_of (take len b))) (own_is ∙ clear)
+  pub none_there : has_bit node.value_bitmap x ≡ false → values (chunks_of (take len b)) (bit_of (take len b)) ≡ None
+  none_there clear = is_none-None (values (chunks_of (take len b)) (bit_of (take len b))) (own_is ∙ clear)
 
   pub none_taken : has_bit node.value_bitmap x ≡ false →
-      (t : EntryTaken reading paths values (path_of (take len b)) (bit_of (take len b)) v w w) × (t.later (path_of (take len b)) ≡ Some node)
+      (t : EntryTaken reading paths values (chunks_of (take len b)) (bit_of (take len b)) v w w) × (t.later (chunks_of (take len b)) ≡ Some node)
   unfolding nothing_taken
-  none_taken clear = (nothing_taken reading values paths v w holds (path_of (take len b)) (bit_of (take len b)) (none_there clear), own_node)
+  none_taken clear = (nothing_taken reading values paths v w holds (chunks_of (take len b)) (bit_of (take len b)) (none_there clear), own_node)
 
   -- where it is set, what the node loses is the string's value
   module _ (removed : Option T) (m : Node) (v2 : Store Node) (w2 : Store (Option T)) (there : has_bit node.value_bitmap x ≡ true) where
-    pub some_there : is_some (values (path_of (take len b)) (bit_of (take len b))) ≡ true
+    pub some_there : is_some (values (chunks_of (take len b)) (bit_of (take len b))) ≡ true
     some_there = own_is ∙ there
 
-    pub value_there : ((n : Node) → IsSlot reading (path_of (take len b)) slot → reading (path_of (take len b)) ≡ Some n →
-        removed ≡ values (path_of (take len b)) x) → removed ≡ values (path_of (take len b)) (bit_of (take len b))
-    value_there e = e node own_slot own_node ∙ ap (values (path_of (take len b))) (sym own_bit)
+    pub value_there : ((n : Node) → IsSlot reading (chunks_of (take len b)) slot → reading (chunks_of (take len b)) ≡ Some n →
+        removed ≡ values (chunks_of (take len b)) x) → removed ≡ values (chunks_of (take len b)) (bit_of (take len b))
+    value_there e = e node own_slot own_node ∙ ap (values (chunks_of (take len b))) (sym own_bit)
 
-    pub entry_taken : ((n : Node) → IsSlot reading (path_of (take len b)) slot → reading (path_of (take len b)) ≡ Some n →
-        ValueTaken reading paths values (path_of (take len b)) x n m v2 w w2) →
-        (t : EntryTaken reading paths values (path_of (take len b)) (bit_of (take len b)) v2 w w2) × (t.later (path_of (take len b)) ≡ Some m)
+    pub entry_taken : ((n : Node) → IsSlot reading (chunks_of (take len b)) slot → reading (chunks_of (take len b)) ≡ Some n →
+        ValueTaken reading paths values (chunks_of (take len b)) x n m v2 w w2) →
+        (t : EntryTaken reading paths values (chunks_of (take len b)) (bit_of (take len b)) v2 w w2) × (t.later (chunks_of (take len b)) ≡ Some m)
     entry_taken taken =
-        value_taken reading values paths v w holds (path_of (take len b)) (bit_of (take len b)) node m v2 w2 own_node some_there
-        (subst (λ i. ValueTaken reading paths values (path_of (take len b)) i node m v2 w w2) (sym own_bit) (taken node own_slot own_node))
+        value_taken reading values paths v w holds (chunks_of (take len b)) (bit_of (take len b)) node m v2 w2 own_node some_there
+        (subst (λ i. ValueTaken reading paths values (chunks_of (take len b)) i node m v2 w w2) (sym own_bit) (taken node own_slot own_node))

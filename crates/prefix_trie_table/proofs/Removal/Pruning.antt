@@ -1,12 +1,12 @@
 -- A way pruned from its end upward.
-use Rattle.prefix_trie_table.proofs.Prelude.{◌≡◌, ◌≢◌, ℕ, ◌+◌, ◌<◌, ◌≤◌, inl, inr, true, List, [], ◌∷◌, ◌++◌, length, get_or, take, Option, None, Some, is_some, refl, sym, ap, ◌∙◌, subst, arith, length-append, false≢true, cases_lt, take_more, Node, NodeSlot, has_bit, rank, node_at, node_sizes, cell_sizes, Store, tier_sizes, free_counts, NodesHold, CellsHold, IsSlot, at_root, at_child, has_child, is_start, without, own_count, entry_count, lacking_child, node_or_blank, Lessens, MakesEntered, MakesFew, SameValues, IsBare, IsWay, GivesBack, ChildDropped, Drops, none, more, PrunedTo, slot_in, LongerByOne, free_of, own_children, child_block_size}
+use Rattle.prefix_trie_table.proofs.Prelude.{◌≡◌, ◌≢◌, ℕ, ◌+◌, ◌<◌, ◌≤◌, inl, inr, true, List, [], ◌∷◌, ◌++◌, length, get_or, take, Option, None, Some, is_some, refl, sym, ap, ◌∙◌, subst, arith, length-append, false≢true, cases_lt, take_more, Node, NodeSlot, has_bit, rank, node_at, node_sizes, cell_sizes, Store, tier_sizes, free_counts, NodesHold, CellsHold, IsSlot, at_root, at_child, has_child, is_start, without, own_count, entry_count, with_child_removed, node_or_blank, ShrinksList, MakesEntered, MakesFew, SameValues, IsBare, AreAncestors, GivesBack, ChildDropped, Drops, none, more, PrunedTo, slot_in, LongerByOne, free_of, own_children, child_block_size}
 use Rattle.std.proofs.lemmas.List.{take_all, length-take-le}
-use Rattle.prefix_trie_table.proofs.Removal.Lessening.{lessens_none, children_none}
+use Rattle.prefix_trie_table.proofs.Removal.ShrinkingLists.{shrinks_none, children_none}
 use Rattle.prefix_trie_table.proofs.Strings.Bare.{no_bit}
 use Rattle.prefix_trie_table.proofs.Tree.Children.{changed, changed_below, changed_here, changed_other}
 use Rattle.prefix_trie_table.proofs.Counts.EntryCounts.{count_sum}
 use Rattle.prefix_trie_table.proofs.Strings.PathSums.{sum_lacking}
-use Rattle.prefix_trie_table.proofs.Removal.Settling.{settles_none, settles_then}
+use Rattle.prefix_trie_table.proofs.Removal.GrowthBounds.{bounds_growth_none, bounds_growth_then}
 use Rattle.prefix_trie_table.proofs.Strings.Starts.{is_start_take}
 use Rattle.prefix_trie_table.proofs.Tree.Trees.{listed_once, slot_holds}
 use Rattle.prefix_trie_table.proofs.Tree.Values.{cells_lacking_child}
@@ -24,16 +24,16 @@ slots_still reading p m c o q s at short = slot_stays reading (changed reading p
     (λ e. let l : length r ≡ length p + 1 = ap (λ (xs : List ℕ). length xs) e ∙ length-append p (c ∷ []) in omega arith)) at
 
 -- what holds as the way is pruned
-pub record Pruning (reading : List ℕ → Option Node) (paths : List (List ℕ)) (path : List ℕ) (way : List NodeSlot) (level : ℕ) (node : Node)
+pub record Pruning (reading : List ℕ → Option Node) (paths : List (List ℕ)) (path : List ℕ) (ancestors : List NodeSlot) (level : ℕ) (node : Node)
     (before after : Store Node) : Type 0 where
   pub to : PrunedTo reading paths path level node before after
-  pub slots : IsWay to.later path way level
+  pub slots : AreAncestors to.later path ancestors level
 
 -- at first nothing is pruned
-pub pruning_first : (reading : List ℕ → Option Node) (paths : List (List ℕ)) (path : List ℕ) (way : List NodeSlot) (level : ℕ) (node : Node)
-    (v : Store Node) → NodesHold node_sizes reading paths v → IsWay reading path way level → reading path ≡ Some node → level ≡ length path →
-    Pruning reading paths path way level node v v
-pruning_first reading paths path way level node v hold slots is all = record {
+pub pruning_first : (reading : List ℕ → Option Node) (paths : List (List ℕ)) (path : List ℕ) (ancestors : List NodeSlot) (level : ℕ) (node : Node)
+    (v : Store Node) → NodesHold node_sizes reading paths v → AreAncestors reading path ancestors level → reading path ≡ Some node → level ≡ length path →
+    Pruning reading paths path ancestors level node v v
+pruning_first reading paths path ancestors level node v hold slots is all = record {
   to = record {
     later = reading;
     left = paths;
@@ -45,10 +45,10 @@ pruning_first reading paths path way level node v hold slots is all = record {
     above = λ k less. refl;
     off = λ q no. refl;
     whole = λ end. refl;
-    lessens = subst (λ o. Lessens MakesFew node_sizes v v (own_children o) (own_children (Some node)) (child_block_size o) (child_block_size (Some node))) (sym (ap reading (take_all level path (omega arith)) ∙ is))
-        (lessens_none MakesFew node_sizes v v (own_children (Some node)) (child_block_size (Some node)) (children_none (Some node)) refl
+    shrinks = subst (λ o. ShrinksList MakesFew node_sizes v v (own_children o) (own_children (Some node)) (child_block_size o) (child_block_size (Some node))) (sym (ap reading (take_all level path (omega arith)) ∙ is))
+        (shrinks_none MakesFew node_sizes v v (own_children (Some node)) (child_block_size (Some node)) (children_none (Some node)) refl
         (λ size there. (omega arith, omega arith)));
-    settles = settles_none v 0;
+    bounds_growth = bounds_growth_none v 0;
   };
   slots = slots;
 }
@@ -62,8 +62,8 @@ module _ (u v w : Store Node) (are : tier_sizes v.tiers ≡ node_sizes) (back : 
       let b = ap (λ ns. free_of ns (free_counts u.tiers) size) (sym back.sizes ∙ are) in
       omega (arith, f, a, b)
 
-  lessens_from : (c d : ℕ) (old new : Option ℕ) → Lessens MakesEntered node_sizes v w c d old new → Lessens MakesFew node_sizes u w c d old new
-  lessens_from c d old new l = record {
+  shrinks_from : (c d : ℕ) (old new : Option ℕ) → ShrinksList MakesEntered node_sizes v w c d old new → ShrinksList MakesFew node_sizes u w c d old new
+  shrinks_from c d old new l = record {
     has = l.has;
     steps = record {
       fewer = l.steps.fewer;
@@ -74,8 +74,8 @@ module _ (u v w : Store Node) (are : tier_sizes v.tiers ≡ node_sizes) (back : 
     };
     grows = record {
       longer = elim l.grows.longer as (λ _. LongerByOne node_sizes (free_counts u.tiers) old new (length u.slots) (length w.slots)) [
-        | inl same ↦ inl (same ∙ back.none.room.0)
-        | inr (size, is, other, empty, long) ↦ inr (size, is, other, (let f = more_free size in omega (arith, f, empty)), long ∙ ap (λ n. n + size) back.none.room.0)
+        | inl same ↦ inl (same ∙ back.none.space.0)
+        | inr (size, is, other, empty, long) ↦ inr (size, is, other, (let f = more_free size in omega (arith, f, empty)), long ∙ ap (λ n. n + size) back.none.space.0)
       ];
       made = λ size there.
           let m = l.grows.made size there in
@@ -85,8 +85,8 @@ module _ (u v w : Store Node) (are : tier_sizes v.tiers ≡ node_sizes) (back : 
     };
   }
 
-module _ (reading : List ℕ → Option Node) (paths : List (List ℕ)) (path : List ℕ) (way : List NodeSlot) (level : ℕ) (node : Node)
-    (before v : Store Node) (p : Pruning reading paths path way (level + 1) node before v) where
+module _ (reading : List ℕ → Option Node) (paths : List (List ℕ)) (path : List ℕ) (ancestors : List NodeSlot) (level : ℕ) (node : Node)
+    (before v : Store Node) (p : Pruning reading paths path ancestors (level + 1) node before v) where
   -- the parent's path, the step from there, and the slot
   abbrev up : List ℕ
   up = take level path
@@ -117,13 +117,13 @@ module _ (reading : List ℕ → Option Node) (paths : List (List ℕ)) (path : 
   pub parent_is : p.to.later (take level path) ≡ Some (node_or_blank (p.to.later (take level path)))
   parent_is = parent_some (p.to.later (take level path)) (get_or path level 0) parent_has
 
-  pub parent_slot : IsSlot p.to.later (take level path) (slot_in way level)
+  pub parent_slot : IsSlot p.to.later (take level path) (slot_in ancestors level)
   parent_slot = p.slots level (omega arith)
 
   -- its node in the array has the child's bit
-  pub parent_bit : has_bit (node_at v.slots (slot_in way level)).child_bitmap (get_or path level 0) ≡ true
+  pub parent_bit : has_bit (node_at v.slots (slot_in ancestors level)).child_bitmap (get_or path level 0) ≡ true
   parent_bit =
-      let at = slot_holds node_sizes p.to.later p.to.left v p.to.hold (take level path) (slot_in way level) _ parent_slot parent_is in
+      let at = slot_holds node_sizes p.to.later p.to.left v p.to.hold (take level path) (slot_in ancestors level) _ parent_slot parent_is in
       ap (λ (n : Node). has_bit n.child_bitmap (get_or path level 0)) at.0 ∙ ap (λ o. has_child o (get_or path level 0)) (sym parent_is) ∙ parent_has
 
   long : (k : ℕ) → k ≤ length path → length (take k path) ≡ k
@@ -131,9 +131,9 @@ module _ (reading : List ℕ → Option Node) (paths : List (List ℕ)) (path : 
 
   -- one more is pruned
   pub pruning_more : (c : ℕ) (m : Node) (w : Store Node) → c ≡ get_or path level 0 → IsBare node → GivesBack before v →
-      ((f : List ℕ → Option Node) (ps : List (List ℕ)) (q : List ℕ) (n leaf : Node) → NodesHold node_sizes f ps v → IsSlot f q (slot_in way level) →
+      ((f : List ℕ → Option Node) (ps : List (List ℕ)) (q : List ℕ) (n leaf : Node) → NodesHold node_sizes f ps v → IsSlot f q (slot_in ancestors level) →
       f q ≡ Some n → f (q ++ c ∷ []) ≡ Some leaf → rank leaf.child_bitmap 32 ≡ 0 → ChildDropped f ps q c n m v w) →
-      Pruning reading paths path way level m before w
+      Pruning reading paths path ancestors level m before w
   pruning_more c m w digit bare back dropped =
       let there : p.to.later (take level path ++ c ∷ []) ≡ Some node = ap (λ d. p.to.later (take level path ++ d ∷ [])) digit ∙ below_is in
       let one : ChildDropped p.to.later p.to.left (take level path) c (node_or_blank (p.to.later (take level path))) m v w =
@@ -147,7 +147,7 @@ module _ (reading : List ℕ → Option Node) (paths : List (List ℕ)) (path : 
       let l : length (take k path) ≡ length (take (level + 1) path) = ap (λ (xs : List ℕ). length xs) (e ∙ sym end) in omega arith) in
       record {
         to = record {
-          later = lacking_child p.to.later (take level path) m c;
+          later = with_child_removed p.to.later (take level path) m c;
           left = without (take level path ++ c ∷ []) p.to.left;
           hold = one.hold;
           drops = more p.to.later p.to.left v (take level path) c (node_or_blank (p.to.later (take level path))) m node p.to.drops p.to.hold parent_is there bare one.values;
@@ -164,19 +164,19 @@ module _ (reading : List ℕ → Option Node) (paths : List (List ℕ)) (path : 
               (λ e. false≢true (sym no ∙ ap (λ x. is_start x path) (e ∙ sym end) ∙ is_start_take (level + 1) path))
               ∙ p.to.off q no;
           whole = λ end. absurd (let i = inside in omega arith);
-          lessens = subst (λ o. Lessens MakesFew node_sizes before w (own_children o) (own_children (Some m)) (child_block_size o) (child_block_size (Some m))) (sym was)
-              (lessens_from before v w p.to.hold.sizes_are back _ _ _ _ one.lessens);
-          settles = settles_then before v w 0 0 0 p.to.settles one.settles;
+          shrinks = subst (λ o. ShrinksList MakesFew node_sizes before w (own_children o) (own_children (Some m)) (child_block_size o) (child_block_size (Some m))) (sym was)
+              (shrinks_from before v w p.to.hold.sizes_are back _ _ _ _ one.shrinks);
+          bounds_growth = bounds_growth_then before v w 0 0 0 p.to.bounds_growth one.bounds_growth;
         };
         slots = λ k h.
-            slots_still p.to.later (take level path) m c None (take k path) (slot_in way k) (p.slots k (omega arith))
+            slots_still p.to.later (take level path) m c None (take k path) (slot_in ancestors k) (p.slots k (omega arith))
             (let a = long k (let i = inside in omega arith) in let b = long level (let i = inside in omega arith) in omega arith);
       }
     where
       fall : (k : ℕ) → level < k → k ≤ length path → (m : Node) (c : ℕ) → take (level + 1) path ≡ take level path ++ c ∷ [] →
           take k path ≢ take level path → (k ≢ level + 1 → take k path ≢ take level path ++ c ∷ []) →
-          lacking_child p.to.later (take level path) m c (take k path) ≡ None
-      fall k deeper h m c end not_up not_end = elim (cases_lt (level + 1) k) as (λ _. lacking_child p.to.later (take level path) m c (take k path) ≡ None) [
+          with_child_removed p.to.later (take level path) m c (take k path) ≡ None
+      fall k deeper h m c end not_up not_end = elim (cases_lt (level + 1) k) as (λ _. with_child_removed p.to.later (take level path) m c (take k path) ≡ None) [
         | inl more_deep ↦ changed_other p.to.later (take level path) m c None (take k path) not_up (not_end (λ e. omega arith)) ∙ p.to.gone k more_deep h
         | inr last ↦
             let e : k ≡ level + 1 = omega arith in
@@ -196,13 +196,13 @@ module _ {T : Type 0} (values : List ℕ → ℕ → Option T) (w : Store (Optio
 
 count_lacking : (f : List ℕ → Option Node) (ps : List (List ℕ)) (v : Store Node) (p : List ℕ) (c : ℕ) (n m leaf : Node) → NodesHold node_sizes f ps v →
     f p ≡ Some n → f (p ++ c ∷ []) ≡ Some leaf → IsBare leaf → SameValues n m →
-    entry_count (lacking_child f p m c) (without (p ++ c ∷ []) ps) ≡ entry_count f ps
+    entry_count (with_child_removed f p m c) (without (p ++ c ∷ []) ps) ≡ entry_count f ps
 count_lacking f ps v p c n m leaf hold is below bare same =
     let change = sum_lacking own_count f ps p c n m leaf is below (listed_once node_sizes f ps v hold p n is)
     (listed_once node_sizes f ps v hold (p ++ c ∷ []) leaf below) in
     let nothing = bare.no_values in
     let as_many : rank m.value_bitmap 32 ≡ rank n.value_bitmap 32 = ap (λ b. rank b 32) same.bitmap in
-    omega (arith, count_sum (lacking_child f p m c) (without (p ++ c ∷ []) ps), count_sum f ps, change, nothing, as_many)
+    omega (arith, count_sum (with_child_removed f p m c) (without (p ++ c ∷ []) ps), count_sum f ps, change, nothing, as_many)
 
 -- the nodes left have as many entries
 pub drops_count : (reading : List ℕ → Option Node) (paths : List (List ℕ)) (later : List ℕ → Option Node) (left : List (List ℕ)) → Drops reading paths later left →

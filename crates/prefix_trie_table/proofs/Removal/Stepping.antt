@@ -1,8 +1,8 @@
 -- What a removal does to the size of a block, by the tiers and counts of nodes.
-use Rattle.prefix_trie_table.proofs.Prelude.{◌≡◌, ◌≢◌, ℕ, ◌<◌, ◌≤◌, ◌⊎◌, inl, inr, List, [], ◌∷◌, ◌++◌, length, take, Option, None, Some, is_some, refl, sym, ap, ◌∙◌, subst, arith, cases_Bool, cases_lt, HasBlock, StepsDown, LongerByOne, MakesAtMost, made_of, Node, rank, node_sizes, cell_sizes, lacking_child, own_count, is_start, own_children, child_block_size, value_block_size, GrowsBy, MakesFew, SameValues, EntryTaken, Drops, none, more, PrunedTo, Store, size_in, size_if_any, free_counts, made_in, SameBlock}
+use Rattle.prefix_trie_table.proofs.Prelude.{◌≡◌, ◌≢◌, ℕ, ◌<◌, ◌≤◌, ◌⊎◌, inl, inr, List, [], ◌∷◌, ◌++◌, length, take, Option, None, Some, is_some, refl, sym, ap, ◌∙◌, subst, arith, cases_Bool, cases_lt, HasBlock, StepsDown, LongerByOne, MakesAtMost, made_of, Node, rank, node_sizes, cell_sizes, with_child_removed, own_count, is_start, own_children, child_block_size, value_block_size, GrowsBy, MakesFew, SameValues, EntryTaken, Drops, none, more, PrunedTo, Store, size_in, size_if_any, free_counts, made_in, SameBlock}
 use Rattle.std.proofs.lemmas.Bool.{true≢false}
 use Rattle.prefix_trie_table.proofs.Tree.Children.{same_or, changed_below, changed_here, changed_other}
-use Rattle.prefix_trie_table.proofs.Removal.Lessening.{steps_same, steps_gone, values_none, children_none}
+use Rattle.prefix_trie_table.proofs.Removal.ShrinkingLists.{steps_same, steps_gone, values_none, children_none}
 use Rattle.prefix_trie_table.proofs.Removal.NodesLeft.{start_is}
 use Rattle.prefix_trie_table.proofs.Tree.Trees.{is_none-None}
 
@@ -58,7 +58,7 @@ module _ {T : Type 0} (reading : List ℕ → Option Node) (paths : List (List �
   -- the block of its node's values steps down, and each other is as it was
   pub taken_values : (x : List ℕ) → ValuesStep (free_counts w.tiers) (reading x) (t.later x)
   taken_values x = elim (same_or x path) as (λ _. ValuesStep (free_counts w.tiers) (reading x) (t.later x)) [
-    | inl e ↦ subst (λ y. ValuesStep (free_counts w.tiers) (reading y) (t.later y)) (sym e) t.lessens.steps
+    | inl e ↦ subst (λ y. ValuesStep (free_counts w.tiers) (reading y) (t.later y)) (sym e) t.shrinks.steps
     | inr ne ↦ values_kept (free_counts w.tiers) (reading x) (t.later x) (same_node own_count value_block_size (reading x) (t.later x) (t.others x ne))
   ]
 
@@ -77,7 +77,7 @@ pub drops_gone : (reading : List ℕ → Option Node) (paths : List (List ℕ)) 
 drops_gone reading paths later left (none) x e = e
 drops_gone reading paths later left (more f ps v p c n m leaf drops hold is below bare same) x e =
     let gone : f x ≡ None = drops_gone reading paths f ps drops x e in
-    elim (same_or x (p ++ c ∷ [])) as (λ _. lacking_child f p m c x ≡ None) [
+    elim (same_or x (p ++ c ∷ [])) as (λ _. with_child_removed f p m c x ≡ None) [
       | inl at ↦ changed_below f p m c None x at
       | inr ne ↦ changed_other f p m c None x (λ at. true≢false (ap is_some (sym is ∙ ap f (sym at) ∙ gone))) ne ∙ gone
     ]
@@ -91,19 +91,19 @@ drops_values reading paths later left (more f ps v p c n m leaf drops hold is be
     let one = by (same_or x (p ++ c ∷ [])) (same_or x p) in
     (one.0 ∙ before.0, one.1 ∙ before.1)
   where
-    by : (x ≡ p ++ c ∷ []) ⊎ (x ≢ p ++ c ∷ []) → (x ≡ p) ⊎ (x ≢ p) → SameBlock own_count value_block_size (f x) (lacking_child f p m c x)
+    by : (x ≡ p ++ c ∷ []) ⊎ (x ≢ p ++ c ∷ []) → (x ≡ p) ⊎ (x ≢ p) → SameBlock own_count value_block_size (f x) (with_child_removed f p m c x)
     by (inl at) other =
-        let gone : lacking_child f p m c x ≡ None = changed_below f p m c None x at in
+        let gone : with_child_removed f p m c x ≡ None = changed_below f p m c None x at in
         let was : f x ≡ Some leaf = ap f at ∙ below in (
           ap own_count gone ∙ sym (ap own_count was ∙ bare.no_values),
           ap value_block_size gone ∙ sym (ap value_block_size was ∙ values_none (Some leaf) bare.no_values),
         )
     by (inr ne) (inl at) =
-        let now : lacking_child f p m c x ≡ Some m = changed_here f p m c None x at in
+        let now : with_child_removed f p m c x ≡ Some m = changed_here f p m c None x at in
         let was : f x ≡ Some n = ap f at ∙ is in
         let s = same_values n m same in
         (ap own_count now ∙ s.0 ∙ sym (ap own_count was), ap value_block_size now ∙ s.1 ∙ sym (ap value_block_size was))
-    by (inr ne) (inr other) = same_node own_count value_block_size (f x) (lacking_child f p m c x) (changed_other f p m c None x other ne)
+    by (inr ne) (inr other) = same_node own_count value_block_size (f x) (with_child_removed f p m c x) (changed_other f p m c None x other ne)
 
 module _ (reading : List ℕ → Option Node) (paths : List (List ℕ)) (path : List ℕ) (level : ℕ) (node : Node) (v v2 : Store Node)
     (p : PrunedTo reading paths path level node v v2) where
@@ -129,7 +129,7 @@ module _ (reading : List ℕ → Option Node) (paths : List (List ℕ)) (path : 
         λ less some. absurd (omega (arith, some)),
       )
       | inr up ↦ subst (λ l. Steps (take l path) (p.later (take l path))) (let e : level ≡ k = omega arith in e)
-          (subst (Steps (take level path)) (sym p.is) (p.lessens.steps, λ less some. p.lessens.has less))
+          (subst (Steps (take level path)) (sym p.is) (p.shrinks.steps, λ less some. p.shrinks.has less))
     ]
   ]
 
@@ -143,4 +143,4 @@ module _ (reading : List ℕ → Option Node) (paths : List (List ℕ)) (path : 
 
   -- the array of nodes grew by the block of that node at most
   pub pruned_grows : GrowsBy MakesFew node_sizes v v2 (child_block_size (reading (take level path))) (child_block_size (p.later (take level path)))
-  pruned_grows = subst (λ o. GrowsBy MakesFew node_sizes v v2 (child_block_size (reading (take level path))) (child_block_size o)) (sym p.is) p.lessens.grows
+  pruned_grows = subst (λ o. GrowsBy MakesFew node_sizes v v2 (child_block_size (reading (take level path))) (child_block_size o)) (sym p.is) p.shrinks.grows

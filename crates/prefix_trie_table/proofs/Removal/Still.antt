@@ -1,8 +1,8 @@
 -- That the sizes of blocks by string say how far the arrays may grow as items are taken out.
-use Rattle.prefix_trie_table.proofs.Prelude.{◌≡◌, ℕ, ◌+◌, ◌≤◌, List, length, sum_by, Option, None, Some, refl, sym, ap, ◌∙◌, arith, Sizes, Node, blank_node, node_sizes, Store, node_or_blank, NodesHold, SomeTable, Sized, child_block_size, value_block_size, headroom, headroom_if_any, headroom_of, child_headroom, value_headroom, Settles}
+use Rattle.prefix_trie_table.proofs.Prelude.{◌≡◌, ℕ, ◌+◌, ◌≤◌, List, length, sum_by, Option, None, Some, refl, sym, ap, ◌∙◌, arith, Sizes, Node, blank_node, node_sizes, Store, node_or_blank, NodesHold, SomeTable, Sized, child_block_size, value_block_size, headroom, headroom_if_any, headroom_of, child_headroom, value_headroom, BoundsGrowth}
 use Rattle.prefix_trie_table.proofs.Counts.NodeCounts.{slots_by_path}
 use Rattle.prefix_trie_table.proofs.Strings.PathStrings.{paths_steps, paths_once}
-use Rattle.prefix_trie_table.proofs.Removal.Settling.{no_children, no_own_values}
+use Rattle.prefix_trie_table.proofs.Removal.GrowthBounds.{no_children, no_own_values}
 use Rattle.prefix_trie_table.proofs.Blocks.Sizing.{sizes_at, sizes_sum, sizes_only}
 use Rattle.prefix_trie_table.proofs.Blocks.SlotSums.{sum_by-same}
 
@@ -33,15 +33,15 @@ module _ {T : Type 0} (v : Store Node) (w : Store (Option T)) (t : SomeTable v w
 
 -- arrays that settle grow by no more than the headroom that is lost
 module _ {T : Type 0} (v v2 : Store Node) (w w2 : Store (Option T)) (t : SomeTable v w) (t2 : SomeTable v2 w2)
-    (z : Sized v.slots) (z2 : Sized v2.slots) (settles : Settles v v2 w w2) where
-  pub nodes_settled : length v2.slots + headroom_of z2.0 ≤ length v.slots + headroom_of z.0
-  nodes_settled =
-      let s = settles.nodes in
+    (z : Sized v.slots) (z2 : Sized v2.slots) (bounds_growth : BoundsGrowth v v2 w w2) where
+  pub nodes_bounded : length v2.slots + headroom_of z2.0 ≤ length v.slots + headroom_of z.0
+  nodes_bounded =
+      let s = bounds_growth.nodes in
       omega (arith, s, children_headroom v w t z, children_headroom v2 w2 t2 z2)
 
-  pub cells_settled : length w2.slots + headroom_of z2.1.0 ≤ length w.slots + headroom_of z.1.0
-  cells_settled =
-      let s = settles.cells in
+  pub cells_bounded : length w2.slots + headroom_of z2.1.0 ≤ length w.slots + headroom_of z.1.0
+  cells_bounded =
+      let s = bounds_growth.cells in
       omega (arith, s, values_headroom v w t z, values_headroom v2 w2 t2 z2)
 
 -- where no size changed nothing is lost, and an array is no shorter

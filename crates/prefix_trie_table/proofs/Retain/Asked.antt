@@ -1,5 +1,5 @@
 -- Asking at some places of a node and then at others is asking at all of them.
-use Rattle.prefix_trie_table.proofs.Prelude.{◌≡◌, ◌+◌, ◌≤◌, take, drop, length-drop, take-append-drop, Bool, true, false, cond, ◌||◌, nat_lt, List, [], ◌∷◌, ◌++◌, length, None, is_some, refl, sym, ap, ap₂, ◌∙◌, subst, arith, inl, inr, append_assoc, length-append, Less, AllByRecursion, All-head, All-tail, IsStrictlySortedBy, false≢true, cases_lt, le-ltb, append_cancel_left, list_any-append, get, entries, begins, begins-append, begins-refl, begins-rest, begins-from-rest, begins-length, begins-trans, begins-linear, begins-same-length, listing_cmp, same_string, AsksInOrder, MayAskInOrder, Entries, part_below, listing_below, pair_of, listing_at_place, listing_at_places, State, or-cases, or-left, or-right, same_string-is, is-same_string, get-part_below, same_entries, entries-retained, not_itself, is_at, is_at_some, is_under, is_under_some, Needs, AsksUpTo, Retains, or_parts}
+use Rattle.prefix_trie_table.proofs.Prelude.{◌≡◌, ◌+◌, ◌≤◌, take, drop, length-drop, take-append-drop, Bool, true, false, cond, ◌||◌, nat_lt, List, [], ◌∷◌, ◌++◌, length, None, is_some, refl, sym, ap, ap₂, ◌∙◌, subst, arith, inl, inr, append_assoc, length-append, Less, AllByRecursion, All-head, All-tail, IsStrictlySortedBy, false≢true, cases_lt, le-ltb, append_cancel_left, list_any-append, get, entries, begins, begins-append, begins-refl, begins-rest, begins-from-rest, begins-length, begins-trans, begins-linear, begins-same-length, listing_cmp, same_string, RetainsEntries, CallableOnEachEntry, Entries, part_below, listing_below, pair_of, listing_at_place, listing_at_places, State, or-cases, or-left, or-right, same_string-is, is-same_string, get-part_below, same_entries, entries-retained, not_itself, is_at, is_at_some, is_under, is_under_some, Needs, AsksUpTo, Retains, or_parts}
 use Rattle.std.specs.List.{All}
 use Rattle.std.proofs.lemmas.Bool.{lt-ltb}
 use Rattle.std.proofs.lemmas.Grind.{flat_map-append}
@@ -169,7 +169,7 @@ module _ {F T : Type 0} (asks : F → List Bool → T → Bool → F → Type 0)
   up_to_both f g h (e ∷ es) rest first second = (first.0, first.1, first.2, up_to_both first.1 g h es rest first.3 second)
 
   -- what may be asked at some and then at others may be asked at the first
-  pub may_ask_first : (f : F) (es rest : List (List Bool × T)) → MayAskInOrder asks accepts f (es ++ rest) → MayAskInOrder asks accepts f es
+  pub may_ask_first : (f : F) (es rest : List (List Bool × T)) → CallableOnEachEntry asks accepts f (es ++ rest) → CallableOnEachEntry asks accepts f es
   may_ask_first f [] rest h = tt
   may_ask_first f (e ∷ es) rest h = (h.0, λ b g called. may_ask_first g es rest (h.1 b g called))
 
@@ -214,14 +214,14 @@ module _ {F T : Type 0} (asks : F → List Bool → T → Bool → F → Type 0)
     asked_both = record {
       kept = first.kept ++ second.kept;
       asked = λ rest later after.
-          subst (λ es. AsksInOrder asks f es ((first.kept ++ second.kept) ++ later)) (sym (spread rest))
-          (subst (AsksInOrder asks f (listing_at_places x.entries s ts ++ (listing_at_places y.entries s us ++ rest))) (sym (append_assoc first.kept second.kept later))
+          subst (λ es. RetainsEntries asks f es ((first.kept ++ second.kept) ++ later)) (sym (spread rest))
+          (subst (RetainsEntries asks f (listing_at_places x.entries s ts ++ (listing_at_places y.entries s us ++ rest))) (sym (append_assoc first.kept second.kept later))
           (first.asked (listing_at_places y.entries s us ++ rest) (second.kept ++ later) (second.asked rest later after)));
       up_to =
           subst (λ es. AsksUpTo asks f es h) (ap (λ es. listing_at_places x.entries s ts ++ es) later_same ∙ sym (both_places x.entries))
           (up_to_both f g h (listing_at_places x.entries s ts) (listing_at_places y.entries s us) first.up_to second.up_to);
       may_ask = λ rest may.
-          second.may_ask rest (first.may_ask (listing_at_places y.entries s us ++ rest) (subst (MayAskInOrder asks accepts f) (spread rest) may));
+          second.may_ask rest (first.may_ask (listing_at_places y.entries s us ++ rest) (subst (CallableOnEachEntry asks accepts f) (spread rest) may));
       stays = both_places z.entries ∙ ap₂ (λ a b. a ++ b) (first_same ∙ first.stays) second.stays;
       others = λ q off.
           let none : (is_at_some s ts q || is_at_some s us q) ≡ false = sym (either q) ∙ off in
@@ -240,8 +240,8 @@ module _ {F T : Type 0} (asks : F → List Bool → T → Bool → F → Type 0)
   -- what may be asked at all may be asked at the others once it was at the first
   pub may_ask_then : (s : List Bool) (ts us : List (List Bool)) (f g : F) (x y : State T) → Retains asks accepts s ts f x g y →
       ((q : List Bool) → is_at_some s ts q ≡ true → is_at_some s us q ≡ true → ⊥) →
-      MayAskInOrder asks accepts f (listing_at_places x.entries s (ts ++ us)) → MayAskInOrder asks accepts g (listing_at_places y.entries s us)
+      CallableOnEachEntry asks accepts f (listing_at_places x.entries s (ts ++ us)) → CallableOnEachEntry asks accepts g (listing_at_places y.entries s us)
   may_ask_then s ts us f g x y first apart may =
       let same : listing_at_places y.entries s us ≡ listing_at_places x.entries s us = places_same y.entries x.entries s us (λ k at. first.others k (no_or_yes (is_at_some s ts k) (λ before. apart k before at))) in
       first.may_ask (listing_at_places y.entries s us)
-      (subst (MayAskInOrder asks accepts f) (flat_map-append (listing_at_place x.entries s) ts us ∙ ap (λ es. listing_at_places x.entries s ts ++ es) (sym same)) may)
+      (subst (CallableOnEachEntry asks accepts f) (flat_map-append (listing_at_place x.entries s) ts us ∙ ap (λ es. listing_at_places x.entries s ts ++ es) (sym same)) may)

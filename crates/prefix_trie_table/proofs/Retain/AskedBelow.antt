@@ -1,5 +1,5 @@
 -- Asking at one value, at all places of a node, and below a child.
-use Rattle.prefix_trie_table.proofs.Prelude.{◌≡◌, ℕ, ◌+◌, ◌%◌, ◌≤◌, Bool, true, false, cond, ◌||◌, List, [], ◌∷◌, ◌++◌, length, take, drop, get_or, None, Some, refl, sym, ap, ◌∙◌, subst, arith, inl, inr, append-nil, false≢true, cases_Bool, true_from_ne_false, Contains-get_or, list_any_at, get, begins, begins-refl, begins-append, begins-length, begins-same-length, same_string, is_in, places, AsksInOrder, MayAskInOrder, Entries, without_entry, listing, listing_below, listing_at_place, listing_at_places, Nodes, AreNodes, has_node, needed, State, get-without_entry, same_string-is, is-same_string, same_nodes, needs_root, listing_by_node_places, listing_at_value, listing_at_no_value, listing_at_child, listing_of_root, is_at, is_at_some, is_under, is_under_some, Needs, AsksUpTo, Retains, or_parts}
+use Rattle.prefix_trie_table.proofs.Prelude.{◌≡◌, ℕ, ◌+◌, ◌%◌, ◌≤◌, Bool, true, false, cond, ◌||◌, List, [], ◌∷◌, ◌++◌, length, take, drop, get_or, None, Some, refl, sym, ap, ◌∙◌, subst, arith, inl, inr, append-nil, false≢true, cases_Bool, true_from_ne_false, Contains-get_or, list_any_at, get, begins, begins-refl, begins-append, begins-length, begins-same-length, same_string, is_in, places, RetainsEntries, CallableOnEachEntry, Entries, without_entry, listing, listing_below, listing_at_place, listing_at_places, Nodes, AreNodes, has_node, needed, State, get-without_entry, same_string-is, is-same_string, same_nodes, needs_root, listing_by_node_places, listing_at_value, listing_at_no_value, listing_at_child, listing_of_root, is_at, is_at_some, is_under, is_under_some, Needs, AsksUpTo, Retains, or_parts}
 use Rattle.std.specs.List.{All, Contains}
 use Rattle.prefix_trie_bits.proofs.Model.Members.{needs}
 use Rattle.prefix_trie_table.proofs.Strings.Plain.{fifth_more, no_or_yes}
@@ -13,16 +13,16 @@ module _ {F T : Type 0} (asks : F → List Bool → T → Bool → F → Type 0)
   value_here = append-nil (listing_at_place x.entries s t) ∙ listing_at_value x.entries s t v short stored
 
   -- it may be asked at the value
-  pub may_ask_value : (f : F) → MayAskInOrder asks accepts f (listing_at_places x.entries s (t ∷ [])) → accepts f (s ++ t) v
-  may_ask_value f may = (subst (MayAskInOrder asks accepts f) value_here may).0
+  pub may_ask_value : (f : F) → CallableOnEachEntry asks accepts f (listing_at_places x.entries s (t ∷ [])) → accepts f (s ++ t) v
+  may_ask_value f may = (subst (CallableOnEachEntry asks accepts f) value_here may).0
 
   -- the value stays
   pub value_stays : (f g : F) → asks f (s ++ t) v true g → Retains asks accepts s (t ∷ []) f x g x
   value_stays f g called = record {
     kept = (s ++ t, v) ∷ [];
-    asked = λ rest later after. subst (λ es. AsksInOrder asks f (es ++ rest) ((s ++ t, v) ∷ later)) (sym value_here) (true, g, later, called, after, refl);
+    asked = λ rest later after. subst (λ es. RetainsEntries asks f (es ++ rest) ((s ++ t, v) ∷ later)) (sym value_here) (true, g, later, called, after, refl);
     up_to = subst (λ es. AsksUpTo asks f es g) (sym value_here) (true, g, called, refl);
-    may_ask = λ rest may. (subst (λ es. MayAskInOrder asks accepts f (es ++ rest)) value_here may).1 true g called;
+    may_ask = λ rest may. (subst (λ es. CallableOnEachEntry asks accepts f (es ++ rest)) value_here may).1 true g called;
     stays = value_here;
     others = λ q off. refl;
     fewer = λ q there. there;
@@ -34,9 +34,9 @@ module _ {F T : Type 0} (asks : F → List Bool → T → Bool → F → Type 0)
   pub value_goes : (f g : F) → asks f (s ++ t) v false g → Retains asks accepts s (t ∷ []) f x g (record { entries = without_entry x.entries (s ++ t); nodes = x.nodes })
   value_goes f g called = record {
     kept = [];
-    asked = λ rest later after. subst (λ es. AsksInOrder asks f (es ++ rest) later) (sym value_here) (false, g, later, called, after, refl);
+    asked = λ rest later after. subst (λ es. RetainsEntries asks f (es ++ rest) later) (sym value_here) (false, g, later, called, after, refl);
     up_to = subst (λ es. AsksUpTo asks f es g) (sym value_here) (false, g, called, refl);
-    may_ask = λ rest may. (subst (λ es. MayAskInOrder asks accepts f (es ++ rest)) value_here may).1 false g called;
+    may_ask = λ rest may. (subst (λ es. CallableOnEachEntry asks accepts f (es ++ rest)) value_here may).1 false g called;
     stays =
         append-nil (listing_at_place (without_entry x.entries (s ++ t)) s t)
         ∙ listing_at_no_value (without_entry x.entries (s ++ t)) s t short
@@ -123,9 +123,9 @@ module _ {F T : Type 0} (asks : F → List Bool → T → Bool → F → Type 0)
     child_asked = record {
       kept = retains.kept;
       asked = λ rest after h.
-          subst (λ es. AsksInOrder asks f (es ++ rest) (retains.kept ++ after)) (below_before ∙ sym (place_is x.entries)) (retains.asked rest after h);
+          subst (λ es. RetainsEntries asks f (es ++ rest) (retains.kept ++ after)) (below_before ∙ sym (place_is x.entries)) (retains.asked rest after h);
       up_to = subst (λ es. AsksUpTo asks f es g) (below_before ∙ sym (place_is x.entries)) retains.up_to;
-      may_ask = λ rest may. retains.may_ask rest (subst (λ es. MayAskInOrder asks accepts f (es ++ rest)) (place_is x.entries ∙ sym below_before) may);
+      may_ask = λ rest may. retains.may_ask rest (subst (λ es. CallableOnEachEntry asks accepts f (es ++ rest)) (place_is x.entries ∙ sym below_before) may);
       stays = place_is y.entries ∙ sym below_after ∙ retains.stays;
       others = λ q off. off_entries q (begins_is q ∙ sym (at_child s t q five) ∙ (or_parts (is_at s t q) false off).0);
       fewer = λ q there. retains.fewer q (fewer q there);
@@ -147,12 +147,12 @@ module _ {F T : Type 0} (asks : F → List Bool → T → Bool → F → Type 0)
     listing_is : (m : Entries T) → listing_below m c ≡ listing m
     listing_is m = ap (listing_below m) root ∙ listing_of_root m
 
-    pub asked_all : AsksInOrder asks f (listing x.entries) (listing y.entries)
+    pub asked_all : RetainsEntries asks f (listing x.entries) (listing y.entries)
     asked_all =
         let kept : retains.kept ≡ listing y.entries = sym retains.stays ∙ below_after ∙ listing_is y.entries in
         let items : listing_at_places x.entries c ts ++ [] ≡ listing x.entries = append-nil (listing_at_places x.entries c ts) ∙ below_before ∙ listing_is x.entries in
-        subst (λ es. AsksInOrder asks f es (listing y.entries)) items
-        (subst (AsksInOrder asks f (listing_at_places x.entries c ts ++ [])) (append-nil retains.kept ∙ kept) (retains.asked [] [] refl))
+        subst (λ es. RetainsEntries asks f es (listing y.entries)) items
+        (subst (RetainsEntries asks f (listing_at_places x.entries c ts ++ [])) (append-nil retains.kept ∙ kept) (retains.asked [] [] refl))
 
     pub nodes_tidy : (width : ℕ) → AreNodes width y.entries y.nodes → y.nodes ≡ needed y.entries
     nodes_tidy width are = same_nodes y.nodes (needed y.entries) (λ q there. elim (cases_Bool (same_string q c)) as (λ _. has_node (needed y.entries) q ≡ true) [

@@ -1,5 +1,5 @@
 -- Asking below a child of a node that is at hand, and the child taken out where nothing is left.
-use Rattle.prefix_trie_table.proofs.Prelude.{◌≡◌, ◌↔◌, ℕ, ◌+◌, ◌-◌, ◌/◌, ◌%◌, ◌<◌, ◌≤◌, Bool, true, false, not, ◌&&◌, List, [], ◌∷◌, ◌++◌, length, take, Option, None, Some, is_some, refl, sym, ap, ◌∙◌, subst, arith, inl, inr, length-append, append-nil, eqb-true, false≢true, begins, number, digits, zeros, begins-append, begins-trans, digits-number, length-digits, number-bits, take-extend, same_string, has, ones_below, is_in, places, Place, MayAskInOrder, listing_at_place, listing_at_places, listing_below, has_node, is_node_depth, State, and-second, same_string-is, is-same_string, has-removed, listing_at_child, Node, Site, has_bit, rank, node_at, node_sizes, path_of, Store, read, child_slot, Holds, SomeTable, IsSlot, at_child, NodesHold, entry_count, without, lacking_child, IsBare, IsStocked, ChildDropped, Drops, none, more, IsPlaceOf, HasPlace, IsSite, Needs, RetainsTo, Lasts, BlocksBetween, IsTrie, Grows, IsShapeOf}
+use Rattle.prefix_trie_table.proofs.Prelude.{◌≡◌, ◌↔◌, ℕ, ◌+◌, ◌-◌, ◌/◌, ◌%◌, ◌<◌, ◌≤◌, Bool, true, false, not, ◌&&◌, List, [], ◌∷◌, ◌++◌, length, take, Option, None, Some, is_some, refl, sym, ap, ◌∙◌, subst, arith, inl, inr, length-append, append-nil, eqb-true, false≢true, begins, number, digits, zeros, begins-append, begins-trans, digits-number, length-digits, number-bits, take-extend, same_string, has, ones_below, is_in, places, Place, CallableOnEachEntry, listing_at_place, listing_at_places, listing_below, has_node, is_node_depth, State, and-second, same_string-is, is-same_string, has-removed, listing_at_child, Node, Site, has_bit, rank, node_at, node_sizes, chunks_of, Store, read, child_slot, Holds, SomeTable, IsSlot, at_child, NodesHold, entry_count, without, with_child_removed, IsBare, IsStocked, ChildDropped, Drops, none, more, IsPlaceOf, HasPlace, IsSite, Needs, RetainsTo, PreservesBelow, BlocksBetween, IsTrie, Grows, IsShapeOf}
 use Rattle.std.specs.List.{Contains}
 use Rattle.std.specs.FinMap.{remove}
 use Rattle.prefix_trie_bits.specs.declared.node.Place.TheVariants.{Child as ChildPlace}
@@ -10,11 +10,11 @@ use Rattle.prefix_trie_table.proofs.Retain.AskedBelow.{child_asked, needed_below
 use Rattle.prefix_trie_table.proofs.Strings.Bare.{some_bit}
 use Rattle.prefix_trie_table.proofs.Strings.Bits.{has_bit-is, has_bit-below, rank-ones}
 use Rattle.prefix_trie_table.proofs.Tree.Children.{changed_below, changed_here, changed_other, some_stays}
-use Rattle.prefix_trie_table.proofs.Strings.Keys.{same_way}
+use Rattle.prefix_trie_table.proofs.Strings.Keys.{same_above}
 use Rattle.prefix_trie_table.proofs.Strings.Placing.{step_below, string_at}
 use Rattle.prefix_trie_table.proofs.Retain.Placed.{value_iff, child_iff, nothing_at, none_below_it}
 use Rattle.prefix_trie_table.proofs.Removal.Pruning.{drops_cells, drops_count}
-use Rattle.prefix_trie_table.proofs.Removal.Settling.{settles_nodes, settles_then}
+use Rattle.prefix_trie_table.proofs.Removal.GrowthBounds.{bounds_growth_nodes, bounds_growth_then}
 use Rattle.prefix_trie_table.proofs.Retain.Retained.{are_nodes, read_held, here_length, here_whole, here_levels, path_levels, site_stays}
 use Rattle.prefix_trie_table.proofs.Tree.Shapes.{reads_node, shape_of, shape_entries}
 use Rattle.prefix_trie_table.proofs.Tree.Subtrees.{child_is, child_inside, child_few, child_fits, few_at, all_places, is_in-child, number-small}
@@ -27,7 +27,7 @@ longer_not s u five e = absurd (omega (arith, ap length e, length-append s u, fi
 
 module _ {K T : Type 0} (IsKey : K → Type 0) (bits : K → List Bool) (width : ℕ) (bits_length : (k : K) → IsKey k → length (bits k) ≡ width) (v : Store Node) (p : Site K) (n : Node)
     (at : IsSite IsKey bits width v p n) (count : ℕ) (w : Store (Option T)) (s : State T) (trie : IsTrie width count v w s) {seat : Place} (held : HasPlace n seat)
-    (c : ℕ) (child : seat ≡ ChildPlace c) (place : ℕ) (place_is : place ≡ ones_below c n.child_bitmap) where
+    (c : ℕ) (child : seat ≡ ChildPlace c) (offset : ℕ) (place_is : offset ≡ ones_below c n.child_bitmap) where
   long : length (bits p.key) ≡ width
   long = bits_length p.key at.key
 
@@ -53,13 +53,13 @@ module _ {K T : Type 0} (IsKey : K → Type 0) (bits : K → List Bool) (width :
   pub child_small : c < 32
   child_small = let h = number-small t five in omega (arith, h, c_is)
 
-  slot_same : child_slot n (number t) ≡ n.child_block + place
+  slot_same : child_slot n (number t) ≡ n.child_block + offset
   slot_same = ap (λ k. n.child_block + k) (ap (rank n.child_bitmap) (sym c_is) ∙ rank-ones n.child_bitmap c (let h = child_small in omega (arith, h)) ∙ sym place_is)
 
-  pub lower_inside : n.child_block + place < length v.slots
+  pub lower_inside : n.child_block + offset < length v.slots
   lower_inside = subst (λ k. k < length v.slots) slot_same (child_inside width v (record { count = count; cells = w; shape = s }) trie (take p.depth (bits p.key)) n whole at.stands t five set_there)
 
-  pub lower_few : has_bit (node_at v.slots (n.child_block + place)).value_bitmap 31 ≡ false
+  pub lower_few : has_bit (node_at v.slots (n.child_block + offset)).value_bitmap 31 ≡ false
   lower_few =
       subst (λ k. has_bit (node_at v.slots k).value_bitmap 31 ≡ false) slot_same
       (child_few width v (record { count = count; cells = w; shape = s }) trie (take p.depth (bits p.key)) n whole at.stands t five set_there)
@@ -69,9 +69,9 @@ module _ {K T : Type 0} (IsKey : K → Type 0) (bits : K → List Bool) (width :
       let h = child_fits width v (record { count = count; cells = w; shape = s }) trie (take p.depth (bits p.key)) n whole at.stands t five set_there in
       omega (arith, h, here_length IsKey bits width v p n at long)
 
-  way : path_of (take p.depth (bits p.key) ++ t) ≡ path_of (take p.depth (bits p.key)) ++ c ∷ []
+  way : chunks_of (take p.depth (bits p.key) ++ t) ≡ chunks_of (take p.depth (bits p.key)) ++ c ∷ []
   way =
-      ap (λ u. path_of (take p.depth (bits p.key) ++ u)) (sym (digits-number t) ∙ (λ i. digits (five i) (sym c_is i)))
+      ap (λ u. chunks_of (take p.depth (bits p.key) ++ u)) (sym (digits-number t) ∙ (λ i. digits (five i) (sym c_is i)))
       ∙ step_below (p.depth / 5) (take p.depth (bits p.key)) c (here_levels IsKey bits width v p n at long) child_small
 
   -- the child's bit
@@ -80,9 +80,9 @@ module _ {K T : Type 0} (IsKey : K → Type 0) (bits : K → List Bool) (width :
 
   -- the child, with its key
   module _ (key : K) (is_key : IsKey key) (extended : bits key ≡ take p.depth (bits p.key) ++ digits 5 c ++ zeros (width - (p.depth + 5)))
-      (lower : Node) (lower_is : lower ≡ node_at v.slots (n.child_block + place)) where
+      (lower : Node) (lower_is : lower ≡ node_at v.slots (n.child_block + offset)) where
     abbrev b : Site K
-    b = record { slot = record { start = n.child_block; place = place }; key = key; depth = p.depth + 5 }
+    b = record { slot = record { start = n.child_block; offset = offset }; key = key; depth = p.depth + 5 }
 
     long_b : length (bits b.key) ≡ width
     long_b = bits_length key is_key
@@ -99,22 +99,22 @@ module _ {K T : Type 0} (IsKey : K → Type 0) (bits : K → List Bool) (width :
       depth_is = (let d = at.depth_is in omega (arith, d));
       within = lower_fits;
       stands =
-          ap (λ u. read v.slots (path_of u)) lower_string
+          ap (λ u. read v.slots (chunks_of u)) lower_string
           ∙ child_is width v (record { count = count; cells = w; shape = s }) trie (take p.depth (bits p.key)) n whole at.stands t five set_there
           ∙ ap (λ k. Some (node_at v.slots k)) slot_same ∙ ap Some (sym lower_is);
       slot_is =
-          subst (λ k. IsSlot (read v.slots) (path_of (take b.depth (bits b.key))) k)
+          subst (λ k. IsSlot (read v.slots) (chunks_of (take b.depth (bits b.key))) k)
           (ap (λ k. n.child_block + k) (rank-ones n.child_bitmap c (let h = child_small in omega (arith, h)) ∙ sym place_is))
-          (subst (λ q. IsSlot (read v.slots) q (child_slot n c)) (sym (ap path_of lower_string ∙ way))
-          (at_child (path_of (take p.depth (bits p.key))) c n at.stands child_there));
+          (subst (λ q. IsSlot (read v.slots) q (child_slot n c)) (sym (ap chunks_of lower_string ∙ way))
+          (at_child (chunks_of (take p.depth (bits p.key))) c n at.stands child_there));
     }
 
     -- all that is at the place is below the child
     pub may_ask_lower : {F : Type 0} (asks : F → List Bool → T → Bool → F → Type 0) (accepts : F → List Bool → T → Type 0) (f : F) (ts : List (List Bool)) →
-        ts ≡ places lower.value_bitmap lower.child_bitmap → MayAskInOrder asks accepts f (listing_at_places s.entries (take p.depth (bits p.key)) (t ∷ [])) →
-        MayAskInOrder asks accepts f (listing_at_places s.entries (take b.depth (bits b.key)) ts)
+        ts ≡ places lower.value_bitmap lower.child_bitmap → CallableOnEachEntry asks accepts f (listing_at_places s.entries (take p.depth (bits p.key)) (t ∷ [])) →
+        CallableOnEachEntry asks accepts f (listing_at_places s.entries (take b.depth (bits b.key)) ts)
     may_ask_lower asks accepts f ts all may =
-        subst (MayAskInOrder asks accepts f)
+        subst (CallableOnEachEntry asks accepts f)
         (append-nil (listing_at_place s.entries (take p.depth (bits p.key)) t) ∙ listing_at_child s.entries (take p.depth (bits p.key)) t five
         ∙ ap (listing_below s.entries) (sym lower_string)
         ∙ sym (all_places width v (record { count = count; cells = w; shape = s }) trie (take b.depth (bits b.key)) lower (here_whole IsKey bits width v b lower lower_site long_b) lower_site.stands)
@@ -124,24 +124,24 @@ module _ {K T : Type 0} (IsKey : K → Type 0) (bits : K → List Bool) (width :
     module _ {F : Type 0} (asks : F → List Bool → T → Bool → F → Type 0) (accepts : F → List Bool → T → Type 0) (ts : List (List Bool))
         (all : ts ≡ places lower.value_bitmap lower.child_bitmap) (each : (u : List Bool) → Contains ts u ↔ IsPlaceOf lower u)
         (f g : F) (count2 : ℕ) (v2 : Store Node) (w2 : Store (Option T)) (to : RetainsTo asks accepts width (take b.depth (bits b.key)) ts f s g count2 v2 w2)
-        (left : Node) (later : IsSite IsKey bits width v2 b left) (lasts : Lasts (b.depth / 5) v v2 w w2) where
+        (left : Node) (later : IsSite IsKey bits width v2 b left) (preserves : PreservesBelow (b.depth / 5) v v2 w w2) where
       deeper : p.depth / 5 < b.depth / 5
       deeper = let d = at.depth_is in omega (arith, d)
 
       -- the node at hand did not change
       pub still_site : IsSite IsKey bits width v2 p n
       still_site =
-          site_stays IsKey bits width v p n at long v2 n (λ q less. lasts.above q (omega (arith, less, deeper)))
-          (lasts.above (path_of (take p.depth (bits p.key))) (omega (arith, path_levels IsKey bits width v p n at long, deeper)) ∙ at.stands)
+          site_stays IsKey bits width v p n at long v2 n (λ q less. preserves.above q (omega (arith, less, deeper)))
+          (preserves.above (chunks_of (take p.depth (bits p.key))) (omega (arith, path_levels IsKey bits width v p n at long, deeper)) ∙ at.stands)
 
       -- no array is shorter, and the nodes above are as they were
-      pub still_lasts : Lasts (p.depth / 5) v v2 w w2
-      still_lasts = record {
-        above = λ q less. lasts.above q (omega (arith, less, deeper));
-        nodes = lasts.nodes;
-        cells = lasts.cells;
-        settles = lasts.settles;
-        blocks = lasts.blocks;
+      pub still_preserved : PreservesBelow (p.depth / 5) v v2 w w2
+      still_preserved = record {
+        above = λ q less. preserves.above q (omega (arith, less, deeper));
+        nodes = preserves.nodes;
+        cells = preserves.cells;
+        bounds_growth = preserves.bounds_growth;
+        blocks = preserves.blocks;
       }
 
       whole_b : length (take b.depth (bits b.key)) % 5 ≡ 0
@@ -162,7 +162,7 @@ module _ {K T : Type 0} (IsKey : K → Type 0) (bits : K → List Bool) (width :
       stocked_needed (inl some) =
           let bit = some_bit left.value_bitmap some in
           let within = has_bit-below left.value_bitmap bit.0 bit.1 in
-          let last = few_at width v2 (record { count = count2; cells = w2; shape = to.after }) to.trie (path_of (take b.depth (bits b.key))) left later.stands in
+          let last = few_at width v2 (record { count = count2; cells = w2; shape = to.after }) to.trie (chunks_of (take b.depth (bits b.key))) left later.stands in
           let small : bit.0 < 31 = low bit.0 within (λ e. false≢true (sym last ∙ ap (has_bit left.value_bitmap) (sym e) ∙ bit.1)) in
           let r = string_at bit.0 small in
           record {
@@ -201,20 +201,20 @@ module _ {K T : Type 0} (IsKey : K → Type 0) (bits : K → List Bool) (width :
       -- where it is bare it goes
       module _ (bare : IsBare left) (m : Node) (v3 : Store Node)
           (dropped : (reading : List ℕ → Option Node) (paths : List (List ℕ)) (q : List ℕ) (k leaf : Node) → NodesHold node_sizes reading paths v2 →
-          IsSlot reading q (p.slot.start + p.slot.place) → reading q ≡ Some k → reading (q ++ c ∷ []) ≡ Some leaf → rank leaf.child_bitmap 32 ≡ 0 →
+          IsSlot reading q (p.slot.start + p.slot.offset) → reading q ≡ Some k → reading (q ++ c ∷ []) ≡ Some leaf → rank leaf.child_bitmap 32 ≡ 0 →
           ChildDropped reading paths q c k m v2 v3)
-          (room : Grows v2 v3 24) where
+          (space : Grows v2 v3 24) where
         abbrev table2 : SomeTable v2 w2
         table2 = some_table to.trie.table
 
         abbrev here : List ℕ
-        here = path_of (take p.depth (bits p.key))
+        here = chunks_of (take p.depth (bits p.key))
 
         read2 : Holds (read v2.slots) table2.values table2.paths v2 w2
         read2 = read_held table2.reading table2.values table2.paths v2 w2 table2.holds
 
-        way_b : path_of (take b.depth (bits b.key)) ≡ here ++ c ∷ []
-        way_b = ap path_of lower_string ∙ way
+        way_b : chunks_of (take b.depth (bits b.key)) ≡ here ++ c ∷ []
+        way_b = ap chunks_of lower_string ∙ way
 
         leaf_is : read v2.slots (here ++ c ∷ []) ≡ Some left
         leaf_is = ap (read v2.slots) (sym way_b) ∙ later.stands
@@ -222,17 +222,17 @@ module _ {K T : Type 0} (IsKey : K → Type 0) (bits : K → List Bool) (width :
         one : ChildDropped (read v2.slots) table2.paths here c n m v2 v3
         one = dropped (read v2.slots) table2.paths here n left read2.hold still_site.slot_is still_site.stands leaf_is bare.no_children
 
-        drops : Drops (read v2.slots) table2.paths (lacking_child (read v2.slots) here m c) (without (here ++ c ∷ []) table2.paths)
+        drops : Drops (read v2.slots) table2.paths (with_child_removed (read v2.slots) here m c) (without (here ++ c ∷ []) table2.paths)
         drops = more (read v2.slots) table2.paths v2 here c n m left none read2.hold still_site.stands leaf_is bare one.values
 
-        held3 : Holds (lacking_child (read v2.slots) here m c) table2.values (without (here ++ c ∷ []) table2.paths) v3 w2
-        held3 = record { hold = one.hold; cells = drops_cells table2.values w2 (read v2.slots) table2.paths (lacking_child (read v2.slots) here m c) (without (here ++ c ∷ []) table2.paths) drops read2.cells }
+        held3 : Holds (with_child_removed (read v2.slots) here m c) table2.values (without (here ++ c ∷ []) table2.paths) v3 w2
+        held3 = record { hold = one.hold; cells = drops_cells table2.values w2 (read v2.slots) table2.paths (with_child_removed (read v2.slots) here m c) (without (here ++ c ∷ []) table2.paths) drops read2.cells }
 
-        counted3 : count2 ≡ entry_count (lacking_child (read v2.slots) here m c) (without (here ++ c ∷ []) table2.paths)
+        counted3 : count2 ≡ entry_count (with_child_removed (read v2.slots) here m c) (without (here ++ c ∷ []) table2.paths)
         counted3 =
             to.trie.table.counted
             ∙ ap (λ (h : List ℕ → Option Node). entry_count h table2.paths) (λ i q. sym (reads_node table2.reading table2.values table2.paths v2 w2 table2.holds q) i)
-            ∙ sym (drops_count (read v2.slots) table2.paths (lacking_child (read v2.slots) here m c) (without (here ++ c ∷ []) table2.paths) drops)
+            ∙ sym (drops_count (read v2.slots) table2.paths (with_child_removed (read v2.slots) here m c) (without (here ++ c ∷ []) table2.paths) drops)
 
         abbrev state3 : State T
         state3 = record { entries = to.after.entries; nodes = remove to.after.nodes (take b.depth (bits b.key)) }
@@ -240,26 +240,26 @@ module _ {K T : Type 0} (IsKey : K → Type 0) (bits : K → List Bool) (width :
         removed_is : (q : List Bool) → has_node (remove to.after.nodes (take b.depth (bits b.key))) q ≡ (not (same_string q (take b.depth (bits b.key))) && has_node to.after.nodes q)
         removed_is q = has-removed to.after.nodes (take b.depth (bits b.key)) q
 
-        nodes3 : (q : List Bool) → has_node (remove to.after.nodes (take b.depth (bits b.key))) q ≡ (is_node_depth q && is_some (lacking_child (read v2.slots) here m c (path_of q)))
+        nodes3 : (q : List Bool) → has_node (remove to.after.nodes (take b.depth (bits b.key))) q ≡ (is_node_depth q && is_some (with_child_removed (read v2.slots) here m c (chunks_of q)))
         nodes3 q = removed_is q ∙ by (same_string q (take b.depth (bits b.key))) refl
           where
             other : (a : Bool) → is_node_depth q ≡ a → same_string q (take b.depth (bits b.key)) ≡ false →
-                (a && is_some (read v2.slots (path_of q))) ≡ (a && is_some (lacking_child (read v2.slots) here m c (path_of q)))
+                (a && is_some (read v2.slots (chunks_of q))) ≡ (a && is_some (with_child_removed (read v2.slots) here m c (chunks_of q)))
             other false deep e = refl
-            other true deep e = sym (some_stays (read v2.slots) here n m c None still_site.stands (path_of q)
-                (λ same. false≢true (sym e ∙ is-same_string q (take b.depth (bits b.key)) (same_way q (take b.depth (bits b.key)) (eqb-true (length q % 5) 0 deep) whole_b (same ∙ sym way_b)))))
+            other true deep e = sym (some_stays (read v2.slots) here n m c None still_site.stands (chunks_of q)
+                (λ same. false≢true (sym e ∙ is-same_string q (take b.depth (bits b.key)) (same_above q (take b.depth (bits b.key)) (eqb-true (length q % 5) 0 deep) whole_b (same ∙ sym way_b)))))
 
             by : (a : Bool) → same_string q (take b.depth (bits b.key)) ≡ a →
-                (not a && has_node to.after.nodes q) ≡ (is_node_depth q && is_some (lacking_child (read v2.slots) here m c (path_of q)))
+                (not a && has_node to.after.nodes q) ≡ (is_node_depth q && is_some (with_child_removed (read v2.slots) here m c (chunks_of q)))
             by true e =
                 sym (and-false (is_node_depth q))
                 ∙ ap (λ o. is_node_depth q && is_some o)
-                (sym (changed_below (read v2.slots) here m c None (path_of q) (ap path_of (same_string-is q (take b.depth (bits b.key)) e) ∙ way_b)))
+                (sym (changed_below (read v2.slots) here m c None (chunks_of q) (ap chunks_of (same_string-is q (take b.depth (bits b.key)) e) ∙ way_b)))
             by false e = to.trie.shaped.0 q ∙ other (is_node_depth q) refl e
 
         shape3 : IsShapeOf v3.slots w2.slots state3
         shape3 =
-            shape_of (lacking_child (read v2.slots) here m c) table2.values (without (here ++ c ∷ []) table2.paths) v3 w2 held3 state3 nodes3
+            shape_of (with_child_removed (read v2.slots) here m c) table2.values (without (here ++ c ∷ []) table2.paths) v3 w2 held3 state3 nodes3
             (shape_entries table2.reading table2.values table2.paths v2 w2 table2.holds to.after to.trie.shaped)
 
         still_there : (q : List Bool) → has_node (remove to.after.nodes (take b.depth (bits b.key))) q ≡ true → has_node to.after.nodes q ≡ true
@@ -268,7 +268,7 @@ module _ {K T : Type 0} (IsKey : K → Type 0) (bits : K → List Bool) (width :
         trie3 : IsTrie width count2 v3 w2 state3
         trie3 = record {
           table = record {
-            reading = lacking_child (read v2.slots) here m c;
+            reading = with_child_removed (read v2.slots) here m c;
             values = table2.values;
             paths = without (here ++ c ∷ []) table2.paths;
             nodes = held3.hold;
@@ -276,8 +276,8 @@ module _ {K T : Type 0} (IsKey : K → Type 0) (bits : K → List Bool) (width :
             counted = counted3;
             sized = to.trie.table.sized;
             cells_first = to.trie.table.cells_first;
-            one_limit = to.trie.table.one_limit ∙ sym room.limit_is;
-            nodes_within = room.within to.trie.table.nodes_within;
+            one_limit = to.trie.table.one_limit ∙ sym space.limit_is;
+            nodes_within = space.within to.trie.table.nodes_within;
             cells_within = to.trie.table.cells_within;
           };
           shaped = shape3;
@@ -300,8 +300,8 @@ module _ {K T : Type 0} (IsKey : K → Type 0) (bits : K → List Bool) (width :
             not_same : (q : List Bool) → (q ≡ take b.depth (bits b.key) → ⊥) → same_string q (take b.depth (bits b.key)) ≡ false
             not_same q ne = no_or_yes (same_string q (take b.depth (bits b.key))) (λ e. ne (same_string-is q (take b.depth (bits b.key)) e))
 
-        read3 : (q : List ℕ) → read v3.slots q ≡ lacking_child (read v2.slots) here m c q
-        read3 q = reads node_sizes (lacking_child (read v2.slots) here m c) (without (here ++ c ∷ []) table2.paths) v3 one.hold q
+        read3 : (q : List ℕ) → read v3.slots q ≡ with_child_removed (read v2.slots) here m c q
+        read3 q = reads node_sizes (with_child_removed (read v2.slots) here m c) (without (here ++ c ∷ []) table2.paths) v3 one.hold q
 
         above3 : (q : List ℕ) → length q < p.depth / 5 → read v3.slots q ≡ read v.slots q
         above3 q less =
@@ -309,18 +309,18 @@ module _ {K T : Type 0} (IsKey : K → Type 0) (bits : K → List Bool) (width :
             ∙ changed_other (read v2.slots) here m c None q
             (λ e. let l : length q ≡ length here = ap (λ (xs : List ℕ). length xs) e in let k = path_levels IsKey bits width v p n at long in omega (arith, l, k, less))
             (λ e. let l : length q ≡ length here + 1 = ap (λ (xs : List ℕ). length xs) e ∙ length-append here (c ∷ []) in let k = path_levels IsKey bits width v p n at long in omega (arith, l, k, less))
-            ∙ lasts.above q (omega (arith, less, deeper))
+            ∙ preserves.above q (omega (arith, less, deeper))
 
         pub site3 : IsSite IsKey bits width v3 p m
         site3 = site_stays IsKey bits width v p n at long v3 m above3 (read3 here ∙ changed_here (read v2.slots) here m c None here refl)
 
-        pub lasts3 : Lasts (p.depth / 5) v v3 w w2
+        pub lasts3 : PreservesBelow (p.depth / 5) v v3 w w2
         lasts3 = record {
           above = above3;
-          nodes = stays_then v v2 v3 lasts.nodes (stays_grown v2 v3 24 room);
-          cells = lasts.cells;
-          settles = settles_then v v2 v3 _ _ _ lasts.settles (settles_nodes v2 v3 (length w2.slots) one.settles);
-          blocks = λ x. blocks_then _ _ _ (lasts.blocks x)
+          nodes = stays_then v v2 v3 preserves.nodes (stays_grown v2 v3 24 space);
+          cells = preserves.cells;
+          bounds_growth = bounds_growth_then v v2 v3 _ _ _ preserves.bounds_growth (bounds_growth_nodes v2 v3 (length w2.slots) one.bounds_growth);
+          blocks = λ x. blocks_then _ _ _ (preserves.blocks x)
               (subst (BlocksBetween (read v2.slots x)) (sym (read3 x))
               (dropped_between (read v2.slots) table2.paths here c n m left v2 v3 one still_site.stands leaf_is bare x));
         }

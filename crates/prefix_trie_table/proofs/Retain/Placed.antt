@@ -1,5 +1,5 @@
 -- The places of a node that is at hand, as its table has them, and one turn of asking at them.
-use Rattle.prefix_trie_table.proofs.Prelude.{◌≡◌, ℕ, ◌/◌, ◌≤◌, Bool, true, false, cond, ◌&&◌, ◌==◌, List, [], ◌∷◌, ◌++◌, length, take, Option, is_some, refl, sym, ap, ap₂, ◌∙◌, subst, arith, inl, inr, append-nil, length-append, Less, IsStrictlySortedBy, false≢true, cases_lt, le-ltb, All-head, All-tail, All-weaker, All-from_recursion, list_any-append, get, begins, number, digits, digits-number, listing_cmp, has, value_bit, is_in, place_of, Child, MayAskInOrder, listing_at_place, listing_at_places, has_node, is_node_depth, State, value_bit-injective, value_bit-small, or-cases, or-left, or-right, is-same_string, not_itself, begins-refl, Node, Site, path_of, bit_of, Store, read, has_value, has_child, same_shape, IsPlaceOf, is_at, is_at_some, is_under_some, IsSite, Retains, RetainsIn, MayAskAt, Lasts, IsTrie, Value}
+use Rattle.prefix_trie_table.proofs.Prelude.{◌≡◌, ℕ, ◌/◌, ◌≤◌, Bool, true, false, cond, ◌&&◌, ◌==◌, List, [], ◌∷◌, ◌++◌, length, take, Option, is_some, refl, sym, ap, ap₂, ◌∙◌, subst, arith, inl, inr, append-nil, length-append, Less, IsStrictlySortedBy, false≢true, cases_lt, le-ltb, All-head, All-tail, All-weaker, All-from_recursion, list_any-append, get, begins, number, digits, digits-number, listing_cmp, has, value_bit, is_in, place_of, Child, CallableOnEachEntry, listing_at_place, listing_at_places, has_node, is_node_depth, State, value_bit-injective, value_bit-small, or-cases, or-left, or-right, is-same_string, not_itself, begins-refl, Node, Site, chunks_of, bit_of, Store, read, has_value, has_child, same_shape, IsPlaceOf, is_at, is_at_some, is_under_some, IsSite, Retains, RetainsIn, MayAskAt, PreservesBelow, IsTrie, Value}
 use Rattle.std.specs.List.{All}
 use Rattle.std.proofs.lemmas.Bool.{lt-ltb}
 use Rattle.prefix_trie_table.proofs.Strings.Plain.{no_or_yes, whole_more}
@@ -9,7 +9,7 @@ use Rattle.prefix_trie_table.proofs.Removal.Between.{blocks_still, blocks_then, 
 use Rattle.prefix_trie_table.proofs.Retain.Asked.{only_one, at_value, at_child, under_at_some, one_place, apart_first, asked_both, may_ask_first, may_ask_then}
 use Rattle.prefix_trie_table.proofs.Strings.Bits.{has_bit-is}
 use Rattle.prefix_trie_table.proofs.Strings.Placing.{below_node, step_below}
-use Rattle.prefix_trie_table.proofs.Removal.Settling.{settles_none, settles_then}
+use Rattle.prefix_trie_table.proofs.Removal.GrowthBounds.{bounds_growth_none, bounds_growth_then}
 use Rattle.prefix_trie_table.proofs.Retain.Retained.{here_levels, here_whole}
 use Rattle.prefix_trie_table.proofs.Tree.Shapes.{shape_entries, shape_nodes, reads_node}
 use Rattle.prefix_trie_table.proofs.Walk.Spots.{place-value, place-child}
@@ -37,9 +37,9 @@ module _ {K T : Type 0} (IsKey : K → Type 0) (bits : K → List Bool) (width :
       let where_is = below_node (p.depth / 5) (take p.depth (bits p.key)) t (here_levels IsKey bits width v p n at long) short in
       let small = value_bit-small t short in
       ap is_some (shape_entries h.reading h.values h.paths v w h.holds s trie.shaped (take p.depth (bits p.key) ++ t))
-      ∙ h.holds.cells.set_where (path_of (take p.depth (bits p.key) ++ t)) (bit_of (take p.depth (bits p.key) ++ t))
+      ∙ h.holds.cells.set_where (chunks_of (take p.depth (bits p.key) ++ t)) (bit_of (take p.depth (bits p.key) ++ t))
       ∙ ap₂ has_value
-      (ap h.reading where_is.0 ∙ sym (reads_node h.reading h.values h.paths v w h.holds (path_of (take p.depth (bits p.key)))) ∙ at.stands)
+      (ap h.reading where_is.0 ∙ sym (reads_node h.reading h.values h.paths v w h.holds (chunks_of (take p.depth (bits p.key)))) ∙ at.stands)
       (ap value_bit where_is.1)
       ∙ has_bit-is n.value_bitmap (value_bit t) (omega (arith, small))
 
@@ -48,15 +48,15 @@ module _ {K T : Type 0} (IsKey : K → Type 0) (bits : K → List Bool) (width :
   child_iff t five =
       let h = some_table trie.table in
       let small = number-small t five in
-      let way : path_of (take p.depth (bits p.key) ++ t) ≡ path_of (take p.depth (bits p.key)) ++ number t ∷ [] = ap (λ u. path_of (take p.depth (bits p.key) ++ u)) (sym (digits-number t) ∙ ap (λ k. digits k (number t)) five)
+      let way : chunks_of (take p.depth (bits p.key) ++ t) ≡ chunks_of (take p.depth (bits p.key)) ++ number t ∷ [] = ap (λ u. chunks_of (take p.depth (bits p.key) ++ u)) (sym (digits-number t) ∙ ap (λ k. digits k (number t)) five)
       ∙ step_below (p.depth / 5) (take p.depth (bits p.key)) (number t) (here_levels IsKey bits width v p n at long) small in
       let depth : is_node_depth (take p.depth (bits p.key) ++ t) ≡ true =
       ap (λ k. k == 0) (whole_more (length (take p.depth (bits p.key))) (length t) (length (take p.depth (bits p.key) ++ t)) (here_whole IsKey bits width v p n at long) five (length-append (take p.depth (bits p.key)) t)) in
       shape_nodes h.reading h.values h.paths v w h.holds s trie.shaped (take p.depth (bits p.key) ++ t)
-      ∙ ap (λ b. b && is_some (h.reading (path_of (take p.depth (bits p.key) ++ t)))) depth
+      ∙ ap (λ b. b && is_some (h.reading (chunks_of (take p.depth (bits p.key) ++ t)))) depth
       ∙ ap (λ q. is_some (h.reading q)) way
-      ∙ h.holds.hold.linked (path_of (take p.depth (bits p.key))) (number t)
-      ∙ ap (λ o. has_child o (number t)) (sym (reads_node h.reading h.values h.paths v w h.holds (path_of (take p.depth (bits p.key)))) ∙ at.stands)
+      ∙ h.holds.hold.linked (chunks_of (take p.depth (bits p.key))) (number t)
+      ∙ ap (λ o. has_child o (number t)) (sym (reads_node h.reading h.values h.paths v w h.holds (chunks_of (take p.depth (bits p.key)))) ∙ at.stands)
       ∙ has_bit-is n.child_bitmap (number t) small
 
   -- at a place that the node does not have is nothing
@@ -157,12 +157,12 @@ module _ {K T F : Type 0} (IsKey : K → Type 0) (bits : K → List Bool) (width
         let now = done s trie in
         let state : now.after ≡ x = same_shape v.slots w.slots now.after x now.trie.shaped is.shaped in
         let all = may_ask_then asks accepts (take p.depth (bits p.key)) before ts f0 f s now.after now.retains apart (may s trie) in
-        let one : MayAskInOrder asks accepts f (listing_at_place now.after.entries (take p.depth (bits p.key)) u) =
+        let one : CallableOnEachEntry asks accepts f (listing_at_place now.after.entries (take p.depth (bits p.key)) u) =
         may_ask_first asks accepts f (listing_at_place now.after.entries (take p.depth (bits p.key)) u) (listing_at_places now.after.entries (take p.depth (bits p.key)) rest)
-        (subst (λ us. MayAskInOrder asks accepts f (listing_at_places now.after.entries (take p.depth (bits p.key)) us)) first all) in
-        subst (λ (y : State T). MayAskInOrder asks accepts f (listing_at_places y.entries (take p.depth (bits p.key)) (t ∷ []))) state
-        (subst (λ r. MayAskInOrder asks accepts f (listing_at_places now.after.entries (take p.depth (bits p.key)) (r ∷ []))) (same_place u t short few same)
-        (subst (MayAskInOrder asks accepts f) (sym (append-nil (listing_at_place now.after.entries (take p.depth (bits p.key)) u))) one))
+        (subst (λ us. CallableOnEachEntry asks accepts f (listing_at_places now.after.entries (take p.depth (bits p.key)) us)) first all) in
+        subst (λ (y : State T). CallableOnEachEntry asks accepts f (listing_at_places y.entries (take p.depth (bits p.key)) (t ∷ []))) state
+        (subst (λ r. CallableOnEachEntry asks accepts f (listing_at_places now.after.entries (take p.depth (bits p.key)) (r ∷ []))) (same_place u t short few same)
+        (subst (CallableOnEachEntry asks accepts f) (sym (append-nil (listing_at_place now.after.entries (take p.depth (bits p.key)) u))) one))
 
     module _ (at : IsSite IsKey bits width v p n) (m : Node) (g : F) (count2 : ℕ) (v2 : Store Node) (w2 : Store (Option T)) (later : IsSite IsKey bits width v2 p m)
         (turn : RetainsIn asks accepts width (take p.depth (bits p.key)) (u ∷ []) f count v w g count2 v2 w2) where
@@ -189,20 +189,20 @@ module _ {K T F : Type 0} (IsKey : K → Type 0) (bits : K → List Bool) (width
       }
 
 -- arrays that last twice last
-pub lasts_both : {T : Type 0} (level : ℕ) (v v2 v3 : Store Node) (w w2 w3 : Store (Option T)) → Lasts level v v2 w w2 → Lasts level v2 v3 w2 w3 → Lasts level v v3 w w3
-lasts_both level v v2 v3 w w2 w3 a b = record {
+pub preserves_both : {T : Type 0} (level : ℕ) (v v2 v3 : Store Node) (w w2 w3 : Store (Option T)) → PreservesBelow level v v2 w w2 → PreservesBelow level v2 v3 w2 w3 → PreservesBelow level v v3 w w3
+preserves_both level v v2 v3 w w2 w3 a b = record {
   above = λ q less. b.above q less ∙ a.above q less;
   nodes = stays_then v v2 v3 a.nodes b.nodes;
   cells = stays_then w w2 w3 a.cells b.cells;
-  settles = settles_then v v2 v3 _ _ _ a.settles b.settles;
+  bounds_growth = bounds_growth_then v v2 v3 _ _ _ a.bounds_growth b.bounds_growth;
   blocks = λ x. blocks_then _ _ _ (a.blocks x) (b.blocks x);
 }
 
-pub lasts_none : {T : Type 0} (level : ℕ) (v : Store Node) (w : Store (Option T)) → Lasts level v v w w
-lasts_none level v w = record {
+pub preserves_none : {T : Type 0} (level : ℕ) (v : Store Node) (w : Store (Option T)) → PreservesBelow level v v w w
+preserves_none level v w = record {
   above = λ q less. refl;
   nodes = stays_none v;
   cells = stays_none w;
-  settles = settles_none v (length w.slots);
+  bounds_growth = bounds_growth_none v (length w.slots);
   blocks = λ x. blocks_still (read v.slots x) (read v.slots x) refl;
 }

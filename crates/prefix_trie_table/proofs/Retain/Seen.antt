@@ -1,5 +1,5 @@
 -- The value at a bit of a node that is at hand: its cell, its key, and what asking at it leaves.
-use Rattle.prefix_trie_table.proofs.Prelude.{◌≡◌, ℕ, ◌+◌, ◌-◌, ◌/◌, ◌<◌, ◌≤◌, Bool, true, false, cond, List, [], ◌∷◌, ◌++◌, length, take, get_or, Option, None, Some, is_some, sym, ap, ap₂, ◌∙◌, subst, arith, get_or_default, get, digits, zeros, length-digits, take-extend, has, ones_below, value_bit, MayAskInOrder, without_entry, listing_at_places, State, Node, Site, rank, Store, Grows, IsTrie, read, value_in, value_of, NodesHold, CellsHold, IsSlot, node_sizes, cell_sizes, ValueTaken, IsSite, RetainsTo, BlocksBetween}
+use Rattle.prefix_trie_table.proofs.Prelude.{◌≡◌, ℕ, ◌+◌, ◌-◌, ◌/◌, ◌<◌, ◌≤◌, Bool, true, false, cond, List, [], ◌∷◌, ◌++◌, length, take, get_or, Option, None, Some, is_some, sym, ap, ap₂, ◌∙◌, subst, arith, get_or_default, get, digits, zeros, length-digits, take-extend, has, ones_below, value_bit, CallableOnEachEntry, without_entry, listing_at_places, State, Node, Site, rank, Store, Grows, IsTrie, read, value_in, value_of, NodesHold, CellsHold, IsSlot, node_sizes, cell_sizes, ValueTaken, IsSite, RetainsTo, BlocksBetween}
 use Rattle.prefix_trie_table.proofs.Tree.Invariant.{some_table}
 use Rattle.prefix_trie_table.proofs.Retain.AskedBelow.{may_ask_value, value_stays, value_goes}
 use Rattle.prefix_trie_table.proofs.Strings.Bits.{rank-ones}
@@ -19,12 +19,12 @@ module _ {K T : Type 0} (IsKey : K → Type 0) (bits : K → List Bool) (width :
   set_there : has node.value_bitmap (value_bit (digits n x)) ≡ true
   set_there = ap (has node.value_bitmap) bit_is ∙ set
 
-  place_rank : (place : ℕ) → place ≡ ones_below bit node.value_bitmap → rank node.value_bitmap (value_bit (digits n x)) ≡ place
-  place_rank place is = ap (rank node.value_bitmap) bit_is ∙ rank-ones node.value_bitmap bit (omega (arith, small)) ∙ sym is
+  place_rank : (offset : ℕ) → offset ≡ ones_below bit node.value_bitmap → rank node.value_bitmap (value_bit (digits n x)) ≡ offset
+  place_rank offset is = ap (rank node.value_bitmap) bit_is ∙ rank-ones node.value_bitmap bit (omega (arith, small)) ∙ sym is
 
-  pub value_slot : (place : ℕ) → place ≡ ones_below bit node.value_bitmap → node.value_block + place < length w.slots
-  value_slot place is =
-      subst (λ k. node.value_block + k < length w.slots) (place_rank place is)
+  pub value_slot : (offset : ℕ) → offset ≡ ones_below bit node.value_bitmap → node.value_block + offset < length w.slots
+  value_slot offset is =
+      subst (λ k. node.value_block + k < length w.slots) (place_rank offset is)
       (value_inside width v (record { count = count; cells = w; shape = s }) trie (take p.depth (bits p.key)) node
       (here_whole IsKey bits width v p node at long) at.stands (digits n x) short set_there)
 
@@ -39,11 +39,11 @@ module _ {K T : Type 0} (IsKey : K → Type 0) (bits : K → List Bool) (width :
       (bit_set IsKey bits width v p node at long count w s trie (digits n x) short set_there)
 
   -- what the cell holds is stored
-  pub value_got : (place : ℕ) (o : Option T) → place ≡ ones_below bit node.value_bitmap → o ≡ get_or w.slots (node.value_block + place) o →
+  pub value_got : (offset : ℕ) (o : Option T) → offset ≡ ones_below bit node.value_bitmap → o ≡ get_or w.slots (node.value_block + offset) o →
       get s.entries (take p.depth (bits p.key) ++ digits n x) ≡ o
-  value_got place o is held =
-      cell_is ∙ ap (λ k. get_or w.slots (node.value_block + k) None) (place_rank place is)
-      ∙ get_or_default w.slots (node.value_block + place) None o (value_slot place is) ∙ sym held
+  value_got offset o is held =
+      cell_is ∙ ap (λ k. get_or w.slots (node.value_block + k) None) (place_rank offset is)
+      ∙ get_or_default w.slots (node.value_block + offset) None o (value_slot offset is) ∙ sym held
 
   -- and there is one
   pub value_some : is_some (get s.entries (take p.depth (bits p.key) ++ digits n x)) ≡ true
@@ -52,22 +52,22 @@ module _ {K T : Type 0} (IsKey : K → Type 0) (bits : K → List Bool) (width :
       ∙ some_there IsKey bits width v p node at long count w s trie (digits n x) short set_there
       trie.table.reading trie.table.paths trie.table.values (some_table trie.table).holds
 
-  pub value_room : p.depth + n ≤ width
-  value_room =
+  pub value_space : p.depth + n ≤ width
+  value_space =
       let h = value_fits width v (record { count = count; cells = w; shape = s }) trie (take p.depth (bits p.key)) node
       (here_whole IsKey bits width v p node at long) at.stands (digits n x) short set_there in
       omega (arith, h, here_length IsKey bits width v p node at long, length-digits n x)
 
   module _ (key : K) (extended : bits key ≡ take p.depth (bits p.key) ++ digits n x ++ zeros (width - (p.depth + n))) where
     pub key_taken : take (p.depth + n) (bits key) ≡ take p.depth (bits p.key) ++ digits n x
-    key_taken = take-extend (bits p.key) (bits key) width p.depth n x long value_room extended
+    key_taken = take-extend (bits p.key) (bits key) width p.depth n x long value_space extended
 
     pub key_filled : bits key ≡ take (p.depth + n) (bits key) ++ zeros (width - (p.depth + n))
     key_filled = extended ∙ ap (λ u. u ++ zeros (width - (p.depth + n))) (sym key_taken)
 
     module _ {F : Type 0} (asks : F → List Bool → T → Bool → F → Type 0) (accepts : F → List Bool → T → Type 0) (value : T)
         (got : get s.entries (take p.depth (bits p.key) ++ digits n x) ≡ Some value) (f : F) where
-      pub may_ask_here : MayAskInOrder asks accepts f (listing_at_places s.entries (take p.depth (bits p.key)) (digits n x ∷ [])) → accepts f (take (p.depth + n) (bits key)) value
+      pub may_ask_here : CallableOnEachEntry asks accepts f (listing_at_places s.entries (take p.depth (bits p.key)) (digits n x ∷ [])) → accepts f (take (p.depth + n) (bits key)) value
       may_ask_here may =
           subst (λ k. accepts f k value) (sym key_taken) (may_ask_value asks accepts (take p.depth (bits p.key)) (digits n x) short s value got f may)
 
@@ -97,16 +97,16 @@ module _ {K T : Type 0} (IsKey : K → Type 0) (bits : K → List Bool) (width :
   -- the entry that is taken
   module _ (removed : Option T) (m : Node) (v2 : Store Node) (w2 : Store (Option T))
       (gives : (reading : List ℕ → Option Node) (paths : List (List ℕ)) (values : List ℕ → ℕ → Option T) (q : List ℕ) (k : Node) → NodesHold node_sizes reading paths v →
-      CellsHold cell_sizes reading values paths w → IsSlot reading q (p.slot.start + p.slot.place) → reading q ≡ Some k → removed ≡ values q bit)
+      CellsHold cell_sizes reading values paths w → IsSlot reading q (p.slot.start + p.slot.offset) → reading q ≡ Some k → removed ≡ values q bit)
       (takes : (reading : List ℕ → Option Node) (paths : List (List ℕ)) (values : List ℕ → ℕ → Option T) (q : List ℕ) (k : Node) → NodesHold node_sizes reading paths v →
-      CellsHold cell_sizes reading values paths w → IsSlot reading q (p.slot.start + p.slot.place) → reading q ≡ Some k →
+      CellsHold cell_sizes reading values paths w → IsSlot reading q (p.slot.start + p.slot.offset) → reading q ≡ Some k →
       ValueTaken reading paths values q bit k m v2 w w2) where
     gives_here : (reading : List ℕ → Option Node) (paths : List (List ℕ)) (values : List ℕ → ℕ → Option T) (q : List ℕ) (k : Node) → NodesHold node_sizes reading paths v →
-        CellsHold cell_sizes reading values paths w → IsSlot reading q (p.slot.start + p.slot.place) → reading q ≡ Some k → removed ≡ values q (value_bit (digits n x))
+        CellsHold cell_sizes reading values paths w → IsSlot reading q (p.slot.start + p.slot.offset) → reading q ≡ Some k → removed ≡ values q (value_bit (digits n x))
     gives_here reading paths values q k hold cells slot is = gives reading paths values q k hold cells slot is ∙ ap (values q) (sym bit_is)
 
     takes_here : (reading : List ℕ → Option Node) (paths : List (List ℕ)) (values : List ℕ → ℕ → Option T) (q : List ℕ) (k : Node) → NodesHold node_sizes reading paths v →
-        CellsHold cell_sizes reading values paths w → IsSlot reading q (p.slot.start + p.slot.place) → reading q ≡ Some k →
+        CellsHold cell_sizes reading values paths w → IsSlot reading q (p.slot.start + p.slot.offset) → reading q ≡ Some k →
         ValueTaken reading paths values q (value_bit (digits n x)) k m v2 w w2
     takes_here reading paths values q k hold cells slot is =
         subst (λ b. ValueTaken reading paths values q b k m v2 w w2) (sym bit_is) (takes reading paths values q k hold cells slot is)

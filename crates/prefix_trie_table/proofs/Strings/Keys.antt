@@ -1,5 +1,5 @@
 -- Tests of bit strings as tests of the ways to their nodes.
-use Rattle.prefix_trie_table.proofs.Prelude.{◌≡◌, ℕ, ◌*◌, ◌%◌, ◌≤◌, Bool, true, List, [], ◌∷◌, ◌++◌, length, length-append, take, refl, sym, ap, ◌∙◌, subst, arith, take_at, drop_all, begins, same_bool, begins-take, begins-from-take, begins-length, same_string, value_bit, same_string-is, is-same_string, path_of, rest_of, bit_of, same_path, is_start}
+use Rattle.prefix_trie_table.proofs.Prelude.{◌≡◌, ℕ, ◌*◌, ◌%◌, ◌≤◌, Bool, true, List, [], ◌∷◌, ◌++◌, length, length-append, take, refl, sym, ap, ◌∙◌, subst, arith, take_at, drop_all, begins, same_bool, begins-take, begins-from-take, begins-length, same_string, value_bit, same_string-is, is-same_string, chunks_of, rest_of, bit_of, same_path, is_start}
 use Rattle.std.proofs.lemmas.List.{length-take-le}
 use Rattle.prefix_trie_table.proofs.Strings.Plain.{five_times, fifths}
 use Rattle.prefix_trie_table.proofs.Strings.Digits.{string_is, path-length, path-take, rest-is}
@@ -7,34 +7,34 @@ use Rattle.prefix_trie_table.proofs.Strings.Paths.{same_path-true, same_path-equ
 use Rattle.prefix_trie_table.proofs.Strings.Starts.{is_start-is, is_start_take}
 
 -- a string is another one where its way and its value bit are
-pub same_key : (s t : List Bool) → same_string s t ≡ same_path (path_of s ++ bit_of s ∷ []) (path_of t ++ bit_of t ∷ [])
+pub same_key : (s t : List Bool) → same_string s t ≡ same_path (chunks_of s ++ bit_of s ∷ []) (chunks_of t ++ bit_of t ∷ [])
 same_key s t = same_bool _ _
-    (λ h. same_path-equal _ _ (ap (λ x. path_of x ++ bit_of x ∷ []) (same_string-is s t h)))
-    (λ h. let e : (path_of s ≡ path_of t) × (bit_of s ≡ bit_of t) = snoc_inj _ _ _ _ (same_path-true _ _ h) in is-same_string s t (string_is s t e.0 e.1))
+    (λ h. same_path-equal _ _ (ap (λ x. chunks_of x ++ bit_of x ∷ []) (same_string-is s t h)))
+    (λ h. let e : (chunks_of s ≡ chunks_of t) × (bit_of s ≡ bit_of t) = snoc_inj _ _ _ _ (same_path-true _ _ h) in is-same_string s t (string_is s t e.0 e.1))
 
 -- a string at which a node can stand has no bits behind its last step
 pub no_rest : (s : List Bool) → length s % 5 ≡ 0 → rest_of s ≡ []
-no_rest s h = rest-is s ∙ drop_all (5 * length (path_of s)) s (omega (arith, five_times (length s) (length (path_of s)) h (path-length s)))
+no_rest s h = rest-is s ∙ drop_all (5 * length (chunks_of s)) s (omega (arith, five_times (length s) (length (chunks_of s)) h (path-length s)))
 
 -- such strings are told by their ways
-pub same_way : (s t : List Bool) → length s % 5 ≡ 0 → length t % 5 ≡ 0 → path_of s ≡ path_of t → s ≡ t
-same_way s t h k e = string_is s t e (ap value_bit (no_rest s h ∙ sym (no_rest t k)))
+pub same_above : (s t : List Bool) → length s % 5 ≡ 0 → length t % 5 ≡ 0 → chunks_of s ≡ chunks_of t → s ≡ t
+same_above s t h k e = string_is s t e (ap value_bit (no_rest s h ∙ sym (no_rest t k)))
 
 -- a node's string begins another where its way is the first steps
-pub begins-way : (t s : List Bool) → length t % 5 ≡ 0 → is_start (path_of t) (path_of s) ≡ begins t s
+pub begins-way : (t s : List Bool) → length t % 5 ≡ 0 → is_start (chunks_of t) (chunks_of s) ≡ begins t s
 begins-way t s h = same_bool _ _
     (λ e.
-    let r = is_start-is (path_of t) (path_of s) e in
-    let k : ℕ = length (path_of t) in
-    let first : take k (path_of s) ≡ path_of t = ap (take k) r.1 ∙ take_at (path_of t) r.0 k refl in
+    let r = is_start-is (chunks_of t) (chunks_of s) e in
+    let k : ℕ = length (chunks_of t) in
+    let first : take k (chunks_of s) ≡ chunks_of t = ap (take k) r.1 ∙ take_at (chunks_of t) r.0 k refl in
     let five : 5 * k ≡ length t = sym (five_times (length t) k h (path-length t)) in
-    let less : k ≤ length (path_of s) = omega (arith, ap length r.1, length-append (path_of t) r.0) in
-    let within : 5 * k ≤ length s = fifths (length s) k (length (path_of s)) less (path-length s) in
+    let less : k ≤ length (chunks_of s) = omega (arith, ap length r.1, length-append (chunks_of t) r.0) in
+    let within : 5 * k ≤ length s = fifths (length s) k (length (chunks_of s)) less (path-length s) in
     let long : length (take (5 * k) s) ≡ 5 * k = length-take-le (5 * k) s within in
-    begins-from-take t s (5 * k) (same_way (take (5 * k) s) t (ap (λ n. n % 5) (long ∙ five) ∙ h) h (path-take k s within ∙ first)))
+    begins-from-take t s (5 * k) (same_above (take (5 * k) s) t (ap (λ n. n % 5) (long ∙ five) ∙ h) h (path-take k s within ∙ first)))
     (λ e.
-    let k : ℕ = length (path_of t) in
+    let k : ℕ = length (chunks_of t) in
     let five : 5 * k ≡ length t = sym (five_times (length t) k h (path-length t)) in
     let within : 5 * k ≤ length s = omega (arith, begins-length t s e, five) in
-    let first : take k (path_of s) ≡ path_of t = sym (path-take k s within) ∙ ap (λ n. path_of (take n s)) five ∙ ap path_of (begins-take t s e) in
-    subst (λ p. is_start p (path_of s) ≡ true) first (is_start_take k (path_of s)))
+    let first : take k (chunks_of s) ≡ chunks_of t = sym (path-take k s within) ∙ ap (λ n. chunks_of (take n s)) five ∙ ap chunks_of (begins-take t s e) in
+    subst (λ p. is_start p (chunks_of s) ≡ true) first (is_start_take k (chunks_of s)))

@@ -1,8 +1,8 @@
 -- The string at which the node of a path stands, and that there are as many nodes as paths.
-use Rattle.prefix_trie_table.proofs.Prelude.{◌≡◌, ℕ, suc, ◌+◌, ◌%◌, ◌^◌, ◌<◌, ◌≤◌, inl, inr, Bool, true, false, cond, ◌&&◌, ◌||◌, List, [], ◌∷◌, ◌++◌, length, length-append, map, Option, None, Some, is_some, refl, sym, ap, ap₂, ◌∙◌, subst, arith, eqb-true, eq-eqb, false≢true, cases_Bool, false_from_ne_true, All-nil, All-push, All-head, All-tail, All, list_any, empty, len, contains_key, len-empty, len-insert, number, digits, length-digits, number-digits, same_bool, listing_cmp, listing_total, same_string, Nodes, has_node, with_nodes, is_node_depth, or-cases, or-left, or-right, and-first, and-second, and-join, same_string-is, is-same_string, has-empty, has-with_nodes, same_members, Node, path_of, Store, same_path, one_if, times, has_child, NodesHold, or-false}
+use Rattle.prefix_trie_table.proofs.Prelude.{◌≡◌, ℕ, suc, ◌+◌, ◌%◌, ◌^◌, ◌<◌, ◌≤◌, inl, inr, Bool, true, false, cond, ◌&&◌, ◌||◌, List, [], ◌∷◌, ◌++◌, length, length-append, map, Option, None, Some, is_some, refl, sym, ap, ap₂, ◌∙◌, subst, arith, eqb-true, eq-eqb, false≢true, cases_Bool, false_from_ne_true, All-nil, All-push, All-head, All-tail, All, list_any, empty, len, contains_key, len-empty, len-insert, number, digits, length-digits, number-digits, same_bool, listing_cmp, listing_total, same_string, Nodes, has_node, with_nodes, is_node_depth, or-cases, or-left, or-right, and-first, and-second, and-join, same_string-is, is-same_string, has-empty, has-with_nodes, same_members, Node, chunks_of, Store, same_path, one_if, times, has_child, NodesHold, or-false}
 use Rattle.prefix_trie_table.proofs.Strings.Plain.{needs_node}
 use Rattle.prefix_trie_table.proofs.Strings.Bits.{has_bit-below}
-use Rattle.prefix_trie_table.proofs.Strings.Keys.{same_way}
+use Rattle.prefix_trie_table.proofs.Strings.Keys.{same_above}
 use Rattle.prefix_trie_table.proofs.Strings.Paths.{same_path-true, same_path-itself, snoc_ind}
 
 -- the string to which a path leads: five bits for each step
@@ -15,7 +15,7 @@ pub string_depth : (path : List ℕ) → length (string_at path) % 5 ≡ 0
 string_depth [] = refl
 string_depth (c ∷ path) = omega (arith, string_depth path, length-append (digits 5 c) (string_at path), length-digits 5 c)
 
-path_more : (c : ℕ) (s : List Bool) → path_of (digits 5 c ++ s) ≡ number (digits 5 c) ∷ path_of s
+path_more : (c : ℕ) (s : List Bool) → chunks_of (digits 5 c ++ s) ≡ number (digits 5 c) ∷ chunks_of s
 unfolding digits
 path_more c s = refl
 
@@ -27,7 +27,7 @@ abbrev pub IsStep : ℕ → Type 0
 IsStep c = c < 32
 
 -- and it has that path
-pub string_path : (path : List ℕ) → All IsStep path → path_of (string_at path) ≡ path
+pub string_path : (path : List ℕ) → All IsStep path → chunks_of (string_at path) ≡ path
 string_path [] h = refl
 string_path (c ∷ path) h =
     path_more c (string_at path)
@@ -86,7 +86,7 @@ fresh_string x paths steps once =
     let gone : times x paths ≡ 0 = (let o = once x in omega arith) in
     false_from_ne_true (list_any (same_string (string_at x)) (map string_at paths)) (λ h.
     let r = string-listed (string_at x) paths h in
-    let same : x ≡ r.0 = sym (string_path x (first_steps x paths steps)) ∙ ap path_of r.2 ∙ string_path r.0 (other_steps x paths steps r.0 r.1) in
+    let same : x ≡ r.0 = sym (string_path x (first_steps x paths steps)) ∙ ap chunks_of r.2 ∙ string_path r.0 (other_steps x paths steps r.0 r.1) in
     let none : times r.0 paths ≡ 0 = ap (λ p. times p paths) (sym same) ∙ gone in
     let m = r.1 in absurd (omega arith))
 
@@ -126,23 +126,23 @@ module _ (sizes : List ℕ) (nodes : List ℕ → Option Node) (paths : List (Li
   listed_some p h = from-one (is_some (nodes p)) (times p paths) (hold.listed p) h
 
   -- the strings of the listed paths are those at which a node stands
-  pub listed_at : (s : List Bool) → list_any (same_string s) (map string_at paths) ≡ (is_node_depth s && is_some (nodes (path_of s)))
+  pub listed_at : (s : List Bool) → list_any (same_string s) (map string_at paths) ≡ (is_node_depth s && is_some (nodes (chunks_of s)))
   listed_at s = sym (same_bool _ _ (into s) (out s))
     where
-      into : (s : List Bool) → (is_node_depth s && is_some (nodes (path_of s))) ≡ true → list_any (same_string s) (map string_at paths) ≡ true
+      into : (s : List Bool) → (is_node_depth s && is_some (nodes (chunks_of s))) ≡ true → list_any (same_string s) (map string_at paths) ≡ true
       into s h =
-          let some : is_some (nodes (path_of s)) ≡ true = and-second (is_node_depth s) (is_some (nodes (path_of s))) h in
-          let there : times (path_of s) paths ≡ 1 = hold.listed (path_of s) ∙ ap one_if some in
-          let same : string_at (path_of s) ≡ s = same_way (string_at (path_of s)) s (string_depth (path_of s)) (eqb-true (length s % 5) 0 (and-first (is_node_depth s)
-          (is_some (nodes (path_of s))) h)) (string_path (path_of s) (steps_small (path_of s) some)) in
-          subst (λ t. list_any (same_string t) (map string_at paths) ≡ true) same (listed-string (path_of s) paths (omega arith))
+          let some : is_some (nodes (chunks_of s)) ≡ true = and-second (is_node_depth s) (is_some (nodes (chunks_of s))) h in
+          let there : times (chunks_of s) paths ≡ 1 = hold.listed (chunks_of s) ∙ ap one_if some in
+          let same : string_at (chunks_of s) ≡ s = same_above (string_at (chunks_of s)) s (string_depth (chunks_of s)) (eqb-true (length s % 5) 0 (and-first (is_node_depth s)
+          (is_some (nodes (chunks_of s))) h)) (string_path (chunks_of s) (steps_small (chunks_of s) some)) in
+          subst (λ t. list_any (same_string t) (map string_at paths) ≡ true) same (listed-string (chunks_of s) paths (omega arith))
 
-      out : (s : List Bool) → list_any (same_string s) (map string_at paths) ≡ true → (is_node_depth s && is_some (nodes (path_of s))) ≡ true
+      out : (s : List Bool) → list_any (same_string s) (map string_at paths) ≡ true → (is_node_depth s && is_some (nodes (chunks_of s))) ≡ true
       out s h =
           let r = string-listed s paths h in
           let some : is_some (nodes r.0) ≡ true = listed_some r.0 r.1 in
-          let path : path_of s ≡ r.0 = ap path_of r.2 ∙ string_path r.0 (steps_small r.0 some) in
-          and-join (is_node_depth s) (is_some (nodes (path_of s)))
+          let path : chunks_of s ≡ r.0 = ap chunks_of r.2 ∙ string_path r.0 (steps_small r.0 some) in
+          and-join (is_node_depth s) (is_some (nodes (chunks_of s)))
           (eq-eqb (length s % 5) 0 (ap (λ t. length t % 5) r.2 ∙ string_depth r.0)) (ap (λ p. is_some (nodes p)) path ∙ some)
 
   -- all paths lead to strings, and each is there once
@@ -152,7 +152,7 @@ module _ (sizes : List ℕ) (nodes : List ℕ → Option Node) (paths : List (Li
   pub paths_once : AreOnce paths
   paths_once = λ p. one-at-most (is_some (nodes p)) (times p paths) (hold.listed p)
 
-  module _ (n : Nodes) (are : (s : List Bool) → has_node n s ≡ (is_node_depth s && is_some (nodes (path_of s)))) where
+  module _ (n : Nodes) (are : (s : List Bool) → has_node n s ≡ (is_node_depth s && is_some (nodes (chunks_of s)))) where
     -- the nodes are those at the strings of the paths
     pub same_nodes : n ≡ nodes_at paths
     same_nodes = same_members n (nodes_at paths) (λ s. are s ∙ sym (listed_at s) ∙ sym (has-nodes_at paths s))

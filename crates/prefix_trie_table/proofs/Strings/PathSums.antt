@@ -1,5 +1,5 @@
 -- Sums over paths.
-use Rattle.prefix_trie_table.proofs.Prelude.{◌≡◌, ◌≢◌, ℕ, ◌+◌, ◌<◌, List, [], ◌∷◌, ◌++◌, length, sum_by, Option, None, Some, refl, sym, ap, ap₂, ◌∙◌, arith, length-append, sum_by-cons, sum_by-IsPermutation, Node, one_if, same_path, times, without, lacking_child}
+use Rattle.prefix_trie_table.proofs.Prelude.{◌≡◌, ◌≢◌, ℕ, ◌+◌, ◌<◌, List, [], ◌∷◌, ◌++◌, length, sum_by, Option, None, Some, refl, sym, ap, ap₂, ◌∙◌, arith, length-append, sum_by-cons, sum_by-IsPermutation, Node, one_if, same_path, times, without, with_child_removed}
 use Rattle.prefix_trie_table.proofs.Strings.Paths.{same_path-itself}
 use Rattle.prefix_trie_table.proofs.Tree.Trees.{times_out, times_out_same}
 use Rattle.prefix_trie_table.proofs.Tree.Children.{changed_here, changed_other}
@@ -20,19 +20,19 @@ sum_same f g (x ∷ paths) same =
 -- the node n at p becomes m, and loses its child c
 pub sum_lacking : (g : Option Node → ℕ) (nodes : List ℕ → Option Node) (paths : List (List ℕ)) (p : List ℕ) (c : ℕ) (n m leaf : Node) →
     nodes p ≡ Some n → nodes (p ++ c ∷ []) ≡ Some leaf → times p paths ≡ 1 → times (p ++ c ∷ []) paths ≡ 1 →
-    sum_by (λ q. g (lacking_child nodes p m c q)) (without (p ++ c ∷ []) paths) + g (Some n) + g (Some leaf) ≡ sum_by (λ q. g (nodes q)) paths + g (Some m)
+    sum_by (λ q. g (with_child_removed nodes p m c q)) (without (p ++ c ∷ []) paths) + g (Some n) + g (Some leaf) ≡ sum_by (λ q. g (nodes q)) paths + g (Some m)
 sum_lacking g nodes paths p c n m leaf is below once leaf_once =
     let apart : p ≢ p ++ c ∷ [] = λ e. let l : length p ≡ length p + 1 = ap (λ (xs : List ℕ). length xs) e ∙ length-append p (c ∷ []) in omega arith in
     let left : times p (without (p ++ c ∷ []) paths) ≡ 1 = times_out (p ++ c ∷ []) p paths (omega arith) apart ∙ once in
     let none : times (p ++ c ∷ []) (without p (without (p ++ c ∷ []) paths)) ≡ 0 = times_out p (p ++ c ∷ []) (without (p ++ c ∷ []) paths) (omega arith) (λ e. apart (sym e)) ∙ times_out_same (p ++ c ∷ []) paths leaf_once in
     let out_leaf = sum_out (λ q. g (nodes q)) (p ++ c ∷ []) paths (omega arith) in
     let out_before = sum_out (λ q. g (nodes q)) p (without (p ++ c ∷ []) paths) (omega arith) in
-    let out_after = sum_out (λ q. g (lacking_child nodes p m c q)) p (without (p ++ c ∷ []) paths) (omega arith) in
-    let rest = sum_same (λ q. g (nodes q)) (λ q. g (lacking_child nodes p m c q)) (without p (without (p ++ c ∷ []) paths))
+    let out_after = sum_out (λ q. g (with_child_removed nodes p m c q)) p (without (p ++ c ∷ []) paths) (omega arith) in
+    let rest = sum_same (λ q. g (nodes q)) (λ q. g (with_child_removed nodes p m c q)) (without p (without (p ++ c ∷ []) paths))
     (λ q some. ap g (changed_other nodes p m c None q
     (λ e. gone q p (without p (without (p ++ c ∷ []) paths)) e (times_out_same p (without (p ++ c ∷ []) paths) left) some)
     (λ e. gone q (p ++ c ∷ []) (without p (without (p ++ c ∷ []) paths)) e none some))) in
-    let now : g (lacking_child nodes p m c p) ≡ g (Some m) = ap g (changed_here nodes p m c None p refl) in
+    let now : g (with_child_removed nodes p m c p) ≡ g (Some m) = ap g (changed_here nodes p m c None p refl) in
     omega (arith, out_leaf, out_before, out_after, rest, ap g is, ap g below, now)
   where
     gone : (q r : List ℕ) (ps : List (List ℕ)) → q ≡ r → times r ps ≡ 0 → 0 < times q ps → ⊥

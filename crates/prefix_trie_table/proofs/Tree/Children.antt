@@ -1,5 +1,5 @@
 -- A node gains a child, loses one, or is another.
-use Rattle.prefix_trie_table.proofs.Prelude.{◌≡◌, ◌≢◌, ℕ, ◌+◌, ◌<◌, ◌⊎◌, inl, inr, ⊎_elim, true, false, cond, ◌||◌, nat_eq, List, [], ◌∷◌, ◌++◌, length, set, insert, remove, map, flat_map, Option, None, Some, is_some, IsPermutation, refl, sym, ap, ◌∙◌, subst, arith, length-append, false≢true, cases_Bool, eqb_tells, get_or-set_other, length-insert, Node, has_bit, bits, rank, Store, UsedBlock, Sound, block, child_slot, same_path, one_if, times, without, node_or_blank, has_child, child_items, child_blocks_of, child_blocks, IsSlot, at_root, at_child, NodesHold, with_child, lacking_child, with_node, blank_node, node_at, IsPermutation-append_right}
+use Rattle.prefix_trie_table.proofs.Prelude.{◌≡◌, ◌≢◌, ℕ, ◌+◌, ◌<◌, ◌⊎◌, inl, inr, ⊎_elim, true, false, cond, ◌||◌, nat_eq, List, [], ◌∷◌, ◌++◌, length, set, insert, remove, map, flat_map, Option, None, Some, is_some, IsPermutation, refl, sym, ap, ◌∙◌, subst, arith, length-append, false≢true, cases_Bool, eqb_tells, get_or-set_other, length-insert, Node, has_bit, bits, rank, Store, UsedBlock, Sound, block, child_slot, same_path, one_if, times, without, node_or_blank, has_child, child_items, child_blocks_of, child_blocks, IsSlot, at_root, at_child, NodesHold, with_child, with_child_removed, with_node, blank_node, node_at, IsPermutation-append_right}
 use Rattle.std.proofs.lemmas.List.{get_or-set_same}
 use Rattle.prefix_trie_table.specs.Forest.{held, size_in, tier_sizes}
 use Rattle.prefix_trie_table.proofs.Strings.Plain.{needs_node}
@@ -255,9 +255,9 @@ module _ (sizes : List ℕ) (nodes : List ℕ → Option Node) (paths : List (Li
       → u.first ≡ 1 → tier_sizes u.tiers ≡ sizes → node_at u.slots 0 ≡ node_at v.slots 0
       → Sound blank_node (held m.child_tier m.child_block (size_in sizes m.child_tier)
       (remove (child_items nodes p n.child_bitmap) (rank n.child_bitmap c)) ++ flat_map (child_blocks sizes nodes) (without p paths)) u
-      → NodesHold sizes (lacking_child nodes p m c) (without (p ++ c ∷ []) paths) (record u { slots = set u.slots s m })
+      → NodesHold sizes (with_child_removed nodes p m c) (without (p ++ c ∷ []) paths) (record u { slots = set u.slots s m })
   child_removed p s n m leaf c u stands is digit there bare cleared bit_i first sizes_are kept sound =
-      let later : List ℕ → Option Node = lacking_child nodes p m c in
+      let later : List ℕ → Option Node = with_child_removed nodes p m c in
       let rest : List (List ℕ) = without (p ++ c ∷ []) (without p paths) in
       let once : times p paths ≡ 1 = listed_once sizes nodes paths v hold p n is in
       let once_r : times (p ++ c ∷ []) paths ≡ 1 = listed_once sizes nodes paths v hold (p ++ c ∷ []) leaf there in
@@ -294,7 +294,7 @@ module _ (sizes : List ℕ) (nodes : List ℕ → Option Node) (paths : List (Li
           ∙ length-append p (c ∷ []) in omega arith)
 
       list : (q : List ℕ) → times (p ++ c ∷ []) paths ≡ 1 → (q ≡ p ++ c ∷ []) ⊎ (q ≢ p ++ c ∷ []) →
-          times q (without (p ++ c ∷ []) paths) ≡ one_if (is_some (lacking_child nodes p m c q))
+          times q (without (p ++ c ∷ []) paths) ≡ one_if (is_some (with_child_removed nodes p m c q))
       list q once (inl e) = ap (λ y. times y (without (p ++ c ∷ []) paths)) e ∙ times_out_same (p ++ c ∷ []) paths once
           ∙ sym (ap (λ o. one_if (is_some o)) (changed_below nodes p m c None q e))
       list q once (inr ne) = times_out (p ++ c ∷ []) q paths (omega arith) ne ∙ hold.listed q ∙ sym (ap one_if (some_stays nodes p n m c None is q ne))

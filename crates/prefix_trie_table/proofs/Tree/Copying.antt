@@ -1,5 +1,5 @@
 -- What contracts see of the copy of a table.
-use Rattle.prefix_trie_table.proofs.Prelude.{◌≡◌, ℕ, ◌+◌, Bool, true, false, cond, List, [], ◌∷◌, length, get_or, map, flat_map, Option, None, Some, is_some, ◌<◌, ◌≤◌, ◌⊎◌, inl, inr, refl, sym, ap, ap₂, ◌∙◌, subst, arith, eq_by_cmp, AllZip, get, len, entries, entries_sorted, from_sorted, entries-from_sorted, get-from_sorted, get-entries, len-entries, is_sorted, find, length-map, get_or_past, AllZip-get_or, length_all_zip, false≢true, cases_lt, listing_cmp, Layout, Entries, State, same_entries, same_string-is, Node, has_bit, rank, node_sizes, cell_sizes, IsCloned, AreCloned, path_of, bit_of, Sized, Sized-prop, Store, Tier, free_counts, Sound, SomeTable, CellsHold, read, value_in, value_of, value_blocks, IsShapeOf, Shaped, same_shape, IsTable}
+use Rattle.prefix_trie_table.proofs.Prelude.{◌≡◌, ℕ, ◌+◌, Bool, true, false, cond, List, [], ◌∷◌, length, get_or, map, flat_map, Option, None, Some, is_some, ◌<◌, ◌≤◌, ◌⊎◌, inl, inr, refl, sym, ap, ap₂, ◌∙◌, subst, arith, eq_by_cmp, AllZip, get, len, entries, entries_sorted, from_sorted, entries-from_sorted, get-from_sorted, get-entries, len-entries, is_sorted, find, length-map, get_or_past, AllZip-get_or, length_all_zip, false≢true, cases_lt, listing_cmp, Layout, Entries, State, same_entries, same_string-is, Node, has_bit, rank, node_sizes, cell_sizes, IsCloned, AreCloned, chunks_of, bit_of, Sized, Sized-prop, Store, Tier, free_counts, Sound, SomeTable, CellsHold, read, value_in, value_of, value_blocks, IsShapeOf, Shaped, same_shape, IsTable}
 use lib.Dec.{T as IsT}
 use Rattle.std.specs.Option.{unwrap_or}
 use Rattle.prefix_trie_table.proofs.Tree.Invariant.{some_table}
@@ -137,11 +137,11 @@ module _ {T : Type 0} (C : T → T → Type 0) (R : Option T → Option T → Ty
 
   -- the value at a bit string
   abbrev value_at : List Bool → Option T
-  value_at q = value_of w2.slots (read v.slots (path_of q)) (bit_of q)
+  value_at q = value_of w2.slots (read v.slots (chunks_of q)) (bit_of q)
 
   stored_there : (q : List Bool) → is_some (value_at q) ≡ is_some (get s.0.entries q)
   stored_there q =
-      cloned_there C (value_of w.slots (read v.slots (path_of q)) (bit_of q)) (value_at q) (of_cloned (read v.slots (path_of q)) (bit_of q))
+      cloned_there C (value_of w.slots (read v.slots (chunks_of q)) (bit_of q)) (value_at q) (of_cloned (read v.slots (chunks_of q)) (bit_of q))
       ∙ ap is_some (sym (s.1.1 q))
 
   abbrev state : State T
@@ -182,18 +182,18 @@ module _ {T : Type 0} (C : T → T → Type 0) (R : Option T → Option T → Ty
   -- each value is a clone
   pub copied_entries : (t : Shaped v2.slots w2.slots) → AreCloned C s.0.entries t.0.entries
   copied_entries t q =
-      let before : get s.0.entries q ≡ value_of w.slots (read v.slots (path_of q)) (bit_of q) = s.1.1 q in
+      let before : get s.0.entries q ≡ value_of w.slots (read v.slots (chunks_of q)) (bit_of q) = s.1.1 q in
       let after : get t.0.entries q ≡ value_at q = ap (λ (y : State T). get y.entries q) (copied_only t) ∙ get_put value_at s.0.entries stored_there q in
       subst (λ o. IsCloned C o (get t.0.entries q)) (sym before)
-      (subst (λ o. IsCloned C (value_of w.slots (read v.slots (path_of q)) (bit_of q)) o) (sym after) (of_cloned (read v.slots (path_of q)) (bit_of q)))
+      (subst (λ o. IsCloned C (value_of w.slots (read v.slots (chunks_of q)) (bit_of q)) o) (sym after) (of_cloned (read v.slots (chunks_of q)) (bit_of q)))
 
   -- the nodes are the same
   pub copied_nodes : (t : Shaped v2.slots w2.slots) → t.0.nodes ≡ s.0.nodes
   copied_nodes t = ap (λ (y : State T). y.nodes) (copied_only t)
 
   -- and so is the room
-  pub copied_room : (z : Sized v.slots) (t : Shaped v2.slots w2.slots) (k : Sized v2.slots) → (seen_of v2 w2 t.0 k).room ≡ (seen_of v w s.0 z).room
-  copied_room z t k = ap₂ (λ (y : Store Node) (n : ℕ). record { limit = y.limit; node_slots = length y.slots; cell_slots = n }) nodes long
+  pub copied_space : (z : Sized v.slots) (t : Shaped v2.slots w2.slots) (k : Sized v2.slots) → (seen_of v2 w2 t.0 k).space ≡ (seen_of v w s.0 z).space
+  copied_space z t k = ap₂ (λ (y : Store Node) (n : ℕ). record { limit = y.limit; node_slots = length y.slots; cell_slots = n }) nodes long
 
   -- the blocks have the same sizes
   pub copied_sizes : Sized v.slots → Sized v2.slots
@@ -213,4 +213,4 @@ module _ {T : Type 0} (C : T → T → Type 0) (R : Option T → Option T → Ty
       seen_of v2 w2 t.0 k ≡ seen_of v w s.0 z
   copied_same z law t k =
       let values : t.0.entries ≡ s.0.entries = same_entries t.0.entries s.0.entries (λ q. cloned_same C law (get s.0.entries q) (get t.0.entries q) (copied_entries t q)) in
-      λ i. record { entries = values i; nodes = copied_nodes t i; room = copied_room z t k i; layout = copied_layout z t k i; build = (nodes i).slots }
+      λ i. record { entries = values i; nodes = copied_nodes t i; space = copied_space z t k i; layout = copied_layout z t k i; build = (nodes i).slots }

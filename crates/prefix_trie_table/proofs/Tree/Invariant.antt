@@ -1,5 +1,5 @@
 -- The table's invariant, and the parts of it that calls on its fields ask for.
-use Rattle.prefix_trie_table.proofs.Prelude.{◌≡◌, ℕ, List, Option, sym, subst, len, AreWithin, AreNodes, Layout, Room, State, Node, Store, SomeTable, SomeNodes, IsNodeAt, Deepest, entry_count, Contents, Shaped, IsTable, IsTrie}
+use Rattle.prefix_trie_table.proofs.Prelude.{◌≡◌, ℕ, List, Option, sym, subst, len, AreWithin, AreNodes, Layout, Space, State, Node, Store, SomeTable, SomeNodes, IsNodeAt, Deepest, entry_count, Contents, Shaped, IsTable, IsTrie}
 
 -- the deepest node of a way stands at its slot
 abbrev pub deepest_there : {nodes : List ℕ → Option Node} {path : List ℕ} {depth slot : ℕ} {v : Store Node} → Deepest nodes path depth slot v → IsNodeAt nodes slot
@@ -19,8 +19,8 @@ module _ {T : Type 0} {v : Store Node} {w : Store (Option T)} where
   some_nodes t = record { reading = t.reading; paths = t.paths; hold = t.holds.hold }
 
 -- a table whose keys fit, and whose nodes are such as they need, seen from outside
-module _ {T : Type 0} {room : Room} {layout : Layout} {build : List Node} (width count : ℕ) (v : Store Node) (w : Store (Option T)) (shape : Shaped v.slots w.slots) (is : IsTable v w count shape.0)
-    (s : Contents T) (seen : record { entries = shape.0.entries; nodes = shape.0.nodes; room = room; layout = layout; build = build } ≡ s)
+module _ {T : Type 0} {space : Space} {layout : Layout} {build : List Node} (width count : ℕ) (v : Store Node) (w : Store (Option T)) (shape : Shaped v.slots w.slots) (is : IsTable v w count shape.0)
+    (s : Contents T) (seen : record { entries = shape.0.entries; nodes = shape.0.nodes; space = space; layout = layout; build = build } ≡ s)
     (within : AreWithin width s.entries) (nodes : AreNodes width s.entries s.nodes) where
   pub trie_of : IsTrie width count v w shape.0
   trie_of = record {

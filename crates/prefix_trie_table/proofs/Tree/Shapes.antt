@@ -1,11 +1,11 @@
 -- What contracts see of a table, before and after an insertion.
-use Rattle.prefix_trie_table.proofs.Prelude.{◌≡◌, ℕ, ◌+◌, ◌<◌, ◌%◌, Bool, true, false, cond, ◌&&◌, ◌||◌, List, [], ◌∷◌, ◌++◌, length, get_or, map, Option, None, Some, is_some, Result, Ok, Err, MatchResult, IfOk, refl, sym, ap, ap₂, ◌∙◌, subst, arith, inl, inr, eqb-true, false≢true, cases_Bool, cases_lt, and_parts, get, get-insert, get-empty, len-insert, len-empty, contains_key, len, begins, same_bool, listing_total, same_string, no_entries, with_entry, has_node, is_node_depth, nodes_above, root_alone, with_needed, State, has-with_nodes, any-node_above, has-root_alone, same_string-is, is-same_string, Node, has_bit, rank, blank_node, node_at, node_sizes, cell_sizes, path_of, bit_of, Store, Sound, no_blocks, tier_sizes, read, value_in, value_of, same_path, one_if, is_start, Holds, EntryAdded, value_blocks_of, has_child, has_value, with_value, entry_count, SomeTable, IsShapeOf, Shaped, same_shape, IsTable, Grows}
+use Rattle.prefix_trie_table.proofs.Prelude.{◌≡◌, ℕ, ◌+◌, ◌<◌, ◌%◌, Bool, true, false, cond, ◌&&◌, ◌||◌, List, [], ◌∷◌, ◌++◌, length, get_or, map, Option, None, Some, is_some, Result, Ok, Err, MatchResult, IfOk, refl, sym, ap, ap₂, ◌∙◌, subst, arith, inl, inr, eqb-true, false≢true, cases_Bool, cases_lt, and_parts, get, get-insert, get-empty, len-insert, len-empty, contains_key, len, begins, same_bool, listing_total, same_string, no_entries, with_entry, has_node, is_node_depth, nodes_above, root_alone, with_needed, State, has-with_nodes, any-node_above, has-root_alone, same_string-is, is-same_string, Node, has_bit, rank, blank_node, node_at, node_sizes, cell_sizes, chunks_of, bit_of, Store, Sound, no_blocks, tier_sizes, read, value_in, value_of, same_path, one_if, is_start, Holds, EntryAdded, value_blocks_of, has_child, has_value, with_value, entry_count, SomeTable, IsShapeOf, Shaped, same_shape, IsTable, Grows}
 use Rattle.prefix_trie_table.specs.Forest.{held, size_in}
 use Rattle.prefix_trie_table.proofs.Tree.Invariant.{some_table}
 use Rattle.prefix_trie_table.proofs.Strings.Bits.{has_bit-zero}
 use Rattle.prefix_trie_table.proofs.Strings.BitLists.{rank-zero-all}
 use Rattle.prefix_trie_table.proofs.Strings.Paths.{same_path-itself, same_path-not, same_path-true, snoc_not_nil}
-use Rattle.prefix_trie_table.proofs.Strings.Keys.{same_key, same_way, begins-way}
+use Rattle.prefix_trie_table.proofs.Strings.Keys.{same_key, same_above, begins-way}
 use Rattle.prefix_trie_table.proofs.Tree.Trees.{reads, is_none-None}
 use Rattle.prefix_trie_table.proofs.Tree.Children.{blank_blocks, bits-zero}
 use Rattle.prefix_trie_table.proofs.Tree.Values.{value_stands}
@@ -38,21 +38,21 @@ module _ {T : Type 0} where
     reads_value q b = ap (λ o. value_of w.slots o b) (reads_node q) ∙ value_at_node q b (reading q) refl
 
     -- what the readings give is the shape of the arrays
-    pub shape_of : (s : State T) → ((q : List Bool) → has_node s.nodes q ≡ (is_node_depth q && is_some (reading (path_of q)))) →
-        ((q : List Bool) → get s.entries q ≡ values (path_of q) (bit_of q)) → IsShapeOf v.slots w.slots s
+    pub shape_of : (s : State T) → ((q : List Bool) → has_node s.nodes q ≡ (is_node_depth q && is_some (reading (chunks_of q)))) →
+        ((q : List Bool) → get s.entries q ≡ values (chunks_of q) (bit_of q)) → IsShapeOf v.slots w.slots s
     shape_of s nodes entries = (
-      λ q. nodes q ∙ ap (λ o. is_node_depth q && is_some o) (sym (reads_node (path_of q))),
+      λ q. nodes q ∙ ap (λ o. is_node_depth q && is_some o) (sym (reads_node (chunks_of q))),
       λ q. entries q
-          ∙ sym (reads_value (path_of q) (bit_of q)),
+          ∙ sym (reads_value (chunks_of q) (bit_of q)),
     )
 
     -- and the shape has these nodes
-    pub shape_nodes : (s : State T) → IsShapeOf v.slots w.slots s → (q : List Bool) → has_node s.nodes q ≡ (is_node_depth q && is_some (reading (path_of q)))
-    shape_nodes s is q = is.0 q ∙ ap (λ o. is_node_depth q && is_some o) (reads_node (path_of q))
+    pub shape_nodes : (s : State T) → IsShapeOf v.slots w.slots s → (q : List Bool) → has_node s.nodes q ≡ (is_node_depth q && is_some (reading (chunks_of q)))
+    shape_nodes s is q = is.0 q ∙ ap (λ o. is_node_depth q && is_some o) (reads_node (chunks_of q))
 
     -- and these entries
-    pub shape_entries : (s : State T) → IsShapeOf v.slots w.slots s → (q : List Bool) → get s.entries q ≡ values (path_of q) (bit_of q)
-    shape_entries s is q = is.1 q ∙ reads_value (path_of q) (bit_of q)
+    pub shape_entries : (s : State T) → IsShapeOf v.slots w.slots s → (q : List Bool) → get s.entries q ≡ values (chunks_of q) (bit_of q)
+    shape_entries s is q = is.1 q ∙ reads_value (chunks_of q) (bit_of q)
 
   -- the shape after an insertion
   abbrev pub shape_with : State T → List Bool → T → State T
@@ -62,11 +62,11 @@ module _ {T : Type 0} where
       (holds : Holds reading values paths v w) where
     -- the shape after an entry was added
     pub shape_added : (key : List Bool) (x : T) (s : State T) → IsShapeOf v.slots w.slots s →
-        EntryAdded reading values paths (path_of key) (bit_of key) (Some x) v2 w2 → IsShapeOf v2.slots w2.slots (shape_with s key x)
-    shape_added key x s is a = shape_of a.later (with_value values (path_of key) (bit_of key) (Some x)) a.paths v2 w2 a.holds (shape_with s key x)
+        EntryAdded reading values paths (chunks_of key) (bit_of key) (Some x) v2 w2 → IsShapeOf v2.slots w2.slots (shape_with s key x)
+    shape_added key x s is a = shape_of a.later (with_value values (chunks_of key) (bit_of key) (Some x)) a.paths v2 w2 a.holds (shape_with s key x)
         (λ q. has-with_nodes s.nodes (nodes_above key) q
         ∙ ap₂ (λ a b. a || b) (any-node_above q key) (shape_nodes reading values paths v w holds s is q) ∙ at_depth q (is_node_depth q) refl
-        ∙ ap (λ t. is_node_depth q && t) (sym (a.grown (path_of q))))
+        ∙ ap (λ t. is_node_depth q && t) (sym (a.grown (chunks_of q))))
         (λ q. get-insert listing_total s.entries key x q ∙ ap₂ (λ t o. cond t (Some x) o) (same_key q key) (shape_entries reading values paths v w holds s is q))
       where
         both : (a b c : Bool) → a ≡ c → (a || b) ≡ (b || c)
@@ -76,10 +76,10 @@ module _ {T : Type 0} where
         both false false c e = e
 
         at_depth : (q : List Bool) (d : Bool) → is_node_depth q ≡ d →
-            ((d && begins q key) || (d && is_some (reading (path_of q)))) ≡ (d && (is_some (reading (path_of q)) || is_start (path_of q)
-            (path_of key)))
+            ((d && begins q key) || (d && is_some (reading (chunks_of q)))) ≡ (d && (is_some (reading (chunks_of q)) || is_start (chunks_of q)
+            (chunks_of key)))
         at_depth q false e = refl
-        at_depth q true e = both (begins q key) (is_some (reading (path_of q))) (is_start (path_of q) (path_of key))
+        at_depth q true e = both (begins q key) (is_some (reading (chunks_of q))) (is_start (chunks_of q) (chunks_of key))
             (sym (begins-way q key (eqb-true (length q % 5) 0 e)))
 
     -- and where nothing was
@@ -148,18 +148,18 @@ module _ {T : Type 0} where
   -- it is that of two new arrays
   pub shaped_root : (v : Store Node) (w : Store (Option T)) → Holds root_reading no_values ([] ∷ []) v w → IsShapeOf v.slots w.slots root_shape
   shaped_root v w holds = shape_of root_reading no_values ([] ∷ []) v w holds root_shape
-      (λ q. has-root_alone q ∙ at_root q ∙ ap (λ b. is_node_depth q && b) (either (same_path (path_of q) [])))
+      (λ q. has-root_alone q ∙ at_root q ∙ ap (λ b. is_node_depth q && b) (either (same_path (chunks_of q) [])))
       (λ q. get-empty _ q)
     where
       either : (b : Bool) → b ≡ is_some (cond b (Some blank_node) None)
       either true = refl
       either false = refl
 
-      at_root : (q : List Bool) → same_string q [] ≡ (is_node_depth q && same_path (path_of q) [])
+      at_root : (q : List Bool) → same_string q [] ≡ (is_node_depth q && same_path (chunks_of q) [])
       at_root q = same_bool _ _
-          (λ h. let e : q ≡ [] = same_string-is q [] h in subst (λ x. (is_node_depth x && same_path (path_of x) []) ≡ true) (sym e) refl)
-          (λ h. let w = and_parts (is_node_depth q) (same_path (path_of q) []) h in
-          is-same_string q [] (same_way q [] (eqb-true (length q % 5) 0 w.0) refl (same_path-true (path_of q) [] w.1)))
+          (λ h. let e : q ≡ [] = same_string-is q [] h in subst (λ x. (is_node_depth x && same_path (chunks_of x) []) ≡ true) (sym e) refl)
+          (λ h. let w = and_parts (is_node_depth q) (same_path (chunks_of q) []) h in
+          is-same_string q [] (same_above q [] (eqb-true (length q % 5) 0 w.0) refl (same_path-true (chunks_of q) [] w.1)))
 
 -- a limit that is not none is one slot at least
 pub some_limit : (limit : ℕ) → (limit ≡ 0 → ⊥) → 0 < limit
@@ -213,7 +213,7 @@ module _ {T : Type 0} (key : List Bool) (x : T) (v v2 : Store Node) (w w2 : Stor
   held_by : Holds is.reading is.values is.paths v w
   held_by = (some_table is).holds
 
-  entry_is : get s.0.entries key ≡ is.values (path_of key) (bit_of key)
+  entry_is : get s.0.entries key ≡ is.values (chunks_of key) (bit_of key)
   entry_is = shape_entries is.reading is.values is.paths v w held_by s.0 s.1 key
 
   module _ {E : Type 0} where
@@ -221,8 +221,8 @@ module _ {T : Type 0} (key : List Bool) (x : T) (v v2 : Store Node) (w w2 : Stor
     abbrev pub Leaves : Result (Option T) E → Type 0
     Leaves r =
         (reading : List ℕ → Option Node) (paths : List (List ℕ)) (values : List ℕ → ℕ → Option T) → Holds reading values paths v w
-        → MatchResult r (λ before. (before ≡ values (path_of key) (bit_of key)) ×
-        EntryAdded reading values paths (path_of key) (bit_of key) (Some x) v2 w2) (λ _. Holds reading values paths v2 w2)
+        → MatchResult r (λ before. (before ≡ values (chunks_of key) (bit_of key)) ×
+        EntryAdded reading values paths (chunks_of key) (bit_of key) (Some x) v2 w2) (λ _. Holds reading values paths v2 w2)
 
     -- what an insertion leaves of the count
     abbrev pub Counts : Result (Option T) E → Type 0
@@ -251,8 +251,8 @@ module _ {T : Type 0} (key : List Bool) (x : T) (v v2 : Store Node) (w w2 : Stor
     counted_left : (r : Result (Option T) E) → Leaves r → Counts r → (t : SomeTable v2 w2) × (count2 ≡ entry_count t.reading t.paths)
     counted_left (Ok before) left counts =
         let a = left is.reading is.paths is.values held_by in
-        let had : one_if (is_some before) ≡ one_if (is_some (is.values (path_of key) (bit_of key))) = ap (λ o. one_if (is_some o)) a.0 in (
-          record { reading = a.1.later; values = with_value is.values (path_of key) (bit_of key) (Some x); paths = a.1.paths; holds = a.1.holds },
+        let had : one_if (is_some before) ≡ one_if (is_some (is.values (chunks_of key) (bit_of key))) = ap (λ o. one_if (is_some o)) a.0 in (
+          record { reading = a.1.later; values = with_value is.values (chunks_of key) (bit_of key) (Some x); paths = a.1.paths; holds = a.1.holds },
           (let n = a.1.counted in let h = is.counted in omega (arith, n, h, had, counts)),
         )
     counted_left (Err e) left counts = (

@@ -1,5 +1,5 @@
 -- What a table has at the places of a node and below them.
-use Rattle.prefix_trie_table.proofs.Prelude.{◌≡◌, ℕ, ◌+◌, ◌%◌, ◌^◌, ◌<◌, ◌≤◌, Bool, true, false, cond, List, [], ◌∷◌, ◌++◌, length, drop, get_or, Option, None, Some, is_some, refl, sym, ap, ap₂, ◌∙◌, subst, arith, inl, inr, append-nil, length-append, ◌==◌, false≢true, cases_lt, le-ltb, get, number, begins, begins-rest, number-lt, has, value_bit, is_in, places, has_node, is_node_depth, listing_below, listing_at_place, listing_at_places, value_bit-small, listing_by_node_places, listing_at_value, listing_at_no_value, listing_at_child, listing_below_none, Node, has_bit, rank, node_at, node_sizes, cell_sizes, path_of, bit_of, Store, read, read_from, below, child, child_slot, has_value, value_of, at_root, Tree, IsTrie}
+use Rattle.prefix_trie_table.proofs.Prelude.{◌≡◌, ℕ, ◌+◌, ◌%◌, ◌^◌, ◌<◌, ◌≤◌, Bool, true, false, cond, List, [], ◌∷◌, ◌++◌, length, drop, get_or, Option, None, Some, is_some, refl, sym, ap, ap₂, ◌∙◌, subst, arith, inl, inr, append-nil, length-append, ◌==◌, false≢true, cases_lt, le-ltb, get, number, begins, begins-rest, number-lt, has, value_bit, is_in, places, has_node, is_node_depth, listing_below, listing_at_place, listing_at_places, value_bit-small, listing_by_node_places, listing_at_value, listing_at_no_value, listing_at_child, listing_below_none, Node, has_bit, rank, node_at, node_sizes, cell_sizes, chunks_of, bit_of, Store, read, read_from, below, child, child_slot, has_value, value_of, at_root, Tree, IsTrie}
 use Rattle.std.proofs.lemmas.Bool.{lt-ltb}
 use Rattle.prefix_trie_table.proofs.Strings.Plain.{both_true, no_or_yes}
 use Rattle.prefix_trie_table.proofs.Tree.Invariant.{some_table}
@@ -42,10 +42,10 @@ number-small s h = subst (λ n. number s < 2 ^ n) h (number-lt s)
 
 module _ {T : Type 0} (width : ℕ) (v : Store Node) (t : Tree T) (tree : IsTrie width t.count v t.cells t.shape) where
   -- below a string where no node stands, nothing is stored
-  pub nothing_below : (q : List Bool) → length q % 5 ≡ 0 → read v.slots (path_of q) ≡ None → listing_below t.shape.entries q ≡ []
+  pub nothing_below : (q : List Bool) → length q % 5 ≡ 0 → read v.slots (chunks_of q) ≡ None → listing_below t.shape.entries q ≡ []
   nothing_below q whole missing = listing_below_none t.shape.entries q (λ k has. no_or_yes (begins q k) (λ e.
-      let way : path_of k ≡ path_of q ++ path_of (drop (length q) k) = ap path_of (begins-rest q k e) ∙ path-append q (drop (length q) k) whole in
-      let none : read v.slots (path_of k) ≡ None = ap (read v.slots) way ∙ read-missing v.slots (path_of q) (path_of (drop (length q) k)) missing in
+      let way : chunks_of k ≡ chunks_of q ++ chunks_of (drop (length q) k) = ap chunks_of (begins-rest q k e) ∙ path-append q (drop (length q) k) whole in
+      let none : read v.slots (chunks_of k) ≡ None = ap (read v.slots) way ∙ read-missing v.slots (chunks_of q) (chunks_of (drop (length q) k)) missing in
       absurd (false≢true (sym (ap is_some (tree.shaped.1 k ∙ ap (λ o. value_of t.cells.slots o (bit_of k)) none)) ∙ has))))
 
   -- a node that stands has no value bit 31
@@ -59,9 +59,9 @@ module _ {T : Type 0} (width : ℕ) (v : Store Node) (t : Tree T) (tree : IsTrie
       let h = tree.table.nodes in
       (slot_holds node_sizes tree.table.reading tree.table.paths v h [] 0 (node_at v.slots 0) at_root h.rooted).1
 
-  module _ (q : List Bool) (n : Node) (whole : length q % 5 ≡ 0) (stands : read v.slots (path_of q) ≡ Some n) where
-    node_is : tree.table.reading (path_of q) ≡ Some n
-    node_is = sym (reads_node tree.table.reading tree.table.values tree.table.paths v t.cells (some_table tree.table).holds (path_of q)) ∙ stands
+  module _ (q : List Bool) (n : Node) (whole : length q % 5 ≡ 0) (stands : read v.slots (chunks_of q) ≡ Some n) where
+    node_is : tree.table.reading (chunks_of q) ≡ Some n
+    node_is = sym (reads_node tree.table.reading tree.table.values tree.table.paths v t.cells (some_table tree.table).holds (chunks_of q)) ∙ stands
 
     -- ---- a place of less than five bits
 
@@ -69,31 +69,31 @@ module _ {T : Type 0} (width : ℕ) (v : Store Node) (t : Tree T) (tree : IsTrie
       bit_small : value_bit s < 32
       bit_small = let h = value_bit-small s short in omega (arith, h)
 
-      value_is : get t.shape.entries (q ++ s) ≡ tree.table.values (path_of q) (value_bit s)
+      value_is : get t.shape.entries (q ++ s) ≡ tree.table.values (chunks_of q) (value_bit s)
       value_is =
           shape_entries tree.table.reading tree.table.values tree.table.paths v t.cells (some_table tree.table).holds t.shape tree.shaped (q ++ s)
           ∙ ap₂ tree.table.values
-          (path-append q s whole ∙ ap (λ p. path_of q ++ p) (short_path s short).0 ∙ append-nil (path_of q))
+          (path-append q s whole ∙ ap (λ p. chunks_of q ++ p) (short_path s short).0 ∙ append-nil (chunks_of q))
           (ap value_bit ((ways-append q s whole).1 ∙ (short_path s short).1))
 
-      has_value_is : is_some (tree.table.values (path_of q) (value_bit s)) ≡ has n.value_bitmap (value_bit s)
+      has_value_is : is_some (tree.table.values (chunks_of q) (value_bit s)) ≡ has n.value_bitmap (value_bit s)
       has_value_is =
-          tree.table.cells.set_where (path_of q) (value_bit s) ∙ ap (λ o. has_value o (value_bit s)) node_is
+          tree.table.cells.set_where (chunks_of q) (value_bit s) ∙ ap (λ o. has_value o (value_bit s)) node_is
           ∙ has_bit-is n.value_bitmap (value_bit s) bit_small
 
       -- where it is not set nothing is stored
       no_value_there : has n.value_bitmap (value_bit s) ≡ false → get t.shape.entries (q ++ s) ≡ None
-      no_value_there clear = value_is ∙ is_none-None (tree.table.values (path_of q) (value_bit s)) (has_value_is ∙ clear)
+      no_value_there clear = value_is ∙ is_none-None (tree.table.values (chunks_of q) (value_bit s)) (has_value_is ∙ clear)
 
       module _ (set : has n.value_bitmap (value_bit s) ≡ true) where
         -- where it is set a value is stored
         value_there : (x : T) × (get t.shape.entries (q ++ s) ≡ Some x)
         value_there = some-is (get t.shape.entries (q ++ s)) (ap is_some value_is ∙ has_value_is ∙ set)
 
-        cell_there : (get_or t.cells.slots (n.value_block + rank n.value_bitmap (value_bit s)) None ≡ tree.table.values (path_of q) (value_bit s))
+        cell_there : (get_or t.cells.slots (n.value_block + rank n.value_bitmap (value_bit s)) None ≡ tree.table.values (chunks_of q) (value_bit s))
             × (n.value_block + rank n.value_bitmap (value_bit s) < length t.cells.slots)
         cell_there =
-            let h = value_stands cell_sizes node_sizes tree.table.reading tree.table.paths v tree.table.nodes tree.table.values t.cells tree.table.cells (path_of q) n (value_bit s) node_is (has_bit-is n.value_bitmap (value_bit s) bit_small ∙ set) in
+            let h = value_stands cell_sizes node_sizes tree.table.reading tree.table.paths v tree.table.nodes tree.table.values t.cells tree.table.cells (chunks_of q) n (value_bit s) node_is (has_bit-is n.value_bitmap (value_bit s) bit_small ∙ set) in
             (h.1, h.2)
 
         -- the value that is stored
@@ -126,9 +126,9 @@ module _ {T : Type 0} (width : ℕ) (v : Store Node) (t : Tree T) (tree : IsTrie
       longer : length (q ++ s) % 5 ≡ 0
       longer = omega (arith, whole, length-append q s, five)
 
-      child_read : read v.slots (path_of (q ++ s)) ≡ child v.slots n (number s)
+      child_read : read v.slots (chunks_of (q ++ s)) ≡ child v.slots n (number s)
       child_read =
-          ap (read v.slots) (path-append q s whole ∙ ap (λ p. path_of q ++ p) (five_path s five)) ∙ read-snoc v.slots (path_of q) (number s)
+          ap (read v.slots) (path-append q s whole ∙ ap (λ p. chunks_of q ++ p) (five_path s five)) ∙ read-snoc v.slots (chunks_of q) (number s)
           ∙ ap (λ o. below v.slots o (number s)) stands
 
       no_child_there : has n.child_bitmap (number s) ≡ false → listing_below t.shape.entries (q ++ s) ≡ []
@@ -141,15 +141,15 @@ module _ {T : Type 0} (width : ℕ) (v : Store Node) (t : Tree T) (tree : IsTrie
         child_set = has_bit-is n.child_bitmap (number s) child_small ∙ set
 
         -- where it is set a node stands
-        pub child_is : read v.slots (path_of (q ++ s)) ≡ Some (node_at v.slots (child_slot n (number s)))
+        pub child_is : read v.slots (chunks_of (q ++ s)) ≡ Some (node_at v.slots (child_slot n (number s)))
         child_is = child_read ∙ child-there v.slots n (number s) child_set
 
         pub child_inside : child_slot n (number s) < length v.slots
-        child_inside = (child_stands node_sizes tree.table.reading tree.table.paths v tree.table.nodes (path_of q) n (number s) node_is child_set).2
+        child_inside = (child_stands node_sizes tree.table.reading tree.table.paths v tree.table.nodes (chunks_of q) n (number s) node_is child_set).2
 
         -- which has no value bit 31
         pub child_few : has_bit (node_at v.slots (child_slot n (number s))).value_bitmap 31 ≡ false
-        child_few = few_at (path_of (q ++ s)) (node_at v.slots (child_slot n (number s))) child_is
+        child_few = few_at (chunks_of (q ++ s)) (node_at v.slots (child_slot n (number s))) child_is
 
         -- and its string is no longer than the width
         pub child_fits : length q + 5 ≤ width

@@ -1,5 +1,5 @@
 -- The cells read by paths, and what changes of nodes and of values leave.
-use Rattle.prefix_trie_table.proofs.Prelude.{◌≡◌, ◌≢◌, ℕ, ◌+◌, ◌<◌, ◌≤◌, ◌⊎◌, inl, inr, true, false, cond, List, [], ◌∷◌, ◌++◌, length, get_or, set, insert, remove, map, flat_map, Option, None, Some, is_some, refl, sym, ap, ◌∙◌, subst, arith, length-insert, Node, has_bit, bits, rank, Store, UsedBlock, Sound, block, one_if, times, without, has_value, has_child, NodesHold, CellsHold, value_blocks, value_blocks_of, with_child, lacking_child, with_node, with_value, blank_node}
+use Rattle.prefix_trie_table.proofs.Prelude.{◌≡◌, ◌≢◌, ℕ, ◌+◌, ◌<◌, ◌≤◌, ◌⊎◌, inl, inr, true, false, cond, List, [], ◌∷◌, ◌++◌, length, get_or, set, insert, remove, map, flat_map, Option, None, Some, is_some, refl, sym, ap, ◌∙◌, subst, arith, length-insert, Node, has_bit, bits, rank, Store, UsedBlock, Sound, block, one_if, times, without, has_value, has_child, NodesHold, CellsHold, value_blocks, value_blocks_of, with_child, with_child_removed, with_node, with_value, blank_node}
 use Rattle.std.proofs.lemmas.List.{length-set}
 use Rattle.prefix_trie_table.specs.Forest.{held, size_in, tier_sizes}
 use Rattle.prefix_trie_table.proofs.Blocks.Soundness.{Sound-set, slot_of_block, block_inside, fits_block}
@@ -152,7 +152,7 @@ module _ {T : Type 0} (sizes node_sizes : List ℕ) (nodes : List ℕ → Option
 
       -- and so does a child less that had none
       pub cells_lacking_child : (c : ℕ) (leaf : Node) → nodes (p ++ c ∷ []) ≡ Some leaf → ((i : ℕ) → has_bit leaf.value_bitmap i ≡ false) →
-          CellsHold sizes (lacking_child nodes p m c) values (without (p ++ c ∷ []) paths) w
+          CellsHold sizes (with_child_removed nodes p m c) values (without (p ++ c ∷ []) paths) w
       cells_lacking_child c leaf there bare =
           let once : times (p ++ c ∷ []) paths ≡ 1 = listed_once node_sizes nodes paths v hold (p ++ c ∷ []) leaf there in
           let gone : (b : ℕ) → has_value None b ≡ has_value (nodes (p ++ c ∷ [])) b = λ b. sym (ap (λ x. has_value x b) there ∙ bare b) in

@@ -1,5 +1,5 @@
 -- The values of two strings stand in two cells.
-use Rattle.prefix_trie_table.proofs.Prelude.{◌≡◌, ◌≢◌, ℕ, ◌+◌, ◌<◌, ◌⊎◌, inl, inr, Bool, true, List, [], ◌∷◌, ◌++◌, length, get_or, map, flat_map, Option, None, Some, sym, ap, ◌∙◌, subst, arith, All-head, IsPermutation-cons, Node, Seat, has_bit, bits, rank, node_sizes, cell_sizes, path_of, bit_of, Store, UsedBlock, Sound, block, extent, free_extents, tier_sizes, SomeTable, times, without, value_blocks, value_blocks_of, IsSeat}
+use Rattle.prefix_trie_table.proofs.Prelude.{◌≡◌, ◌≢◌, ℕ, ◌+◌, ◌<◌, ◌⊎◌, inl, inr, Bool, true, List, [], ◌∷◌, ◌++◌, length, get_or, map, flat_map, Option, None, Some, sym, ap, ◌∙◌, subst, arith, All-head, IsPermutation-cons, Node, Seat, has_bit, bits, rank, node_sizes, cell_sizes, chunks_of, bit_of, Store, UsedBlock, Sound, block, extent, free_extents, tier_sizes, SomeTable, times, without, value_blocks, value_blocks_of, IsSeat}
 use Rattle.prefix_trie_table.specs.Forest.{size_in}
 use Rattle.prefix_trie_table.proofs.Strings.Bits.{has_bit-below}
 use Rattle.prefix_trie_table.proofs.Strings.BitLists.{map_get}
@@ -63,11 +63,11 @@ module _ {T : Type 0} (v : Store Node) (w : Store (Option T)) (t : SomeTable v w
       absurd (omega (arith, apart, same, small, small2))
 
   -- so two strings have two seats
-  pub seats_differ : (q s : List Bool) (x y : Seat) → IsSeat t.reading (path_of q) (bit_of q) x → IsSeat t.reading (path_of s) (bit_of s) y → q ≢ s →
-      x.start + x.place ≢ y.start + y.place
-  seats_differ q s x y a b ne same = at (same_or (path_of s) (path_of q))
+  pub seats_differ : (q s : List Bool) (x y : Seat) → IsSeat t.reading (chunks_of q) (bit_of q) x → IsSeat t.reading (chunks_of s) (bit_of s) y → q ≢ s →
+      x.start + x.offset ≢ y.start + y.offset
+  seats_differ q s x y a b ne same = at (same_or (chunks_of s) (chunks_of q))
     where
-      at : (path_of s ≡ path_of q) ⊎ (path_of s ≢ path_of q) → ⊥
+      at : (chunks_of s ≡ chunks_of q) ⊎ (chunks_of s ≢ chunks_of q) → ⊥
       at (inl way) =
           let both : Some b.node ≡ Some a.node = sym b.is ∙ ap t.reading way ∙ a.is in
           let node : b.node ≡ a.node = cc in
@@ -76,4 +76,4 @@ module _ {T : Type 0} (v : Store Node) (w : Store (Option T)) (t : SomeTable v w
           ranks_differ a.node.value_bitmap (bit_of q) (bit_of s) a.set (subst (λ (n : Node). has_bit n.value_bitmap (bit_of s) ≡ true) node b.set) bits_differ
           (omega (arith, slots))
       at (inr apart) =
-          blocks_differ (path_of q) (path_of s) a.node b.node (bit_of q) (bit_of s) a.is b.is a.set b.set apart (sym a.slot_is ∙ same ∙ b.slot_is)
+          blocks_differ (chunks_of q) (chunks_of s) a.node b.node (bit_of q) (bit_of s) a.is b.is a.set b.set apart (sym a.slot_is ∙ same ∙ b.slot_is)

@@ -1,11 +1,11 @@
 -- What a walk drops that skips what a key begins.
-use Rattle.prefix_trie_table.proofs.Prelude.{◌≡◌, ℕ, ◌+◌, ◌*◌, ◌≤◌, Bool, true, false, not, cond, ◌&&◌, nat_lt, List, [], ◌∷◌, ◌++◌, length, take, drop, filter, Some, refl, sym, ap, ap₂, ◌∙◌, subst, arith, length-append, length-drop, take-add, take-take, filter-append, All-head, All-tail, All-weaker, All-filter, begins, same_bool, begins-length, begins-linear, begins-trans, begins-same-length, begins-from-rest, take-begins, to_come, Entries, listing_at_places, each, Node, Spot, path_of, read, Store, IsSpot, IsPlaceOf, IsTrail, IsStack, IsOther, IsPassed, ArePassed, EndsLast, SkipsLast, start, still, pending}
+use Rattle.prefix_trie_table.proofs.Prelude.{◌≡◌, ℕ, ◌+◌, ◌*◌, ◌≤◌, Bool, true, false, not, cond, ◌&&◌, nat_lt, List, [], ◌∷◌, ◌++◌, length, take, drop, filter, Some, refl, sym, ap, ap₂, ◌∙◌, subst, arith, length-append, length-drop, take-add, take-take, filter-append, All-head, All-tail, All-weaker, All-filter, begins, same_bool, begins-length, begins-linear, begins-trans, begins-same-length, begins-from-rest, take-begins, to_come, Entries, listing_at_places, each, Node, Spot, chunks_of, read, Store, IsSpot, IsPlaceOf, IsStackFrom, IsStack, IsOther, IsPassed, ArePassed, EndsLast, SkipsLast, start, still, pending}
 use Rattle.std.specs.List.{All}
 use Rattle.std.proofs.lemmas.Bool.{lt-ltb}
 use Rattle.std.proofs.lemmas.List.{take-append-drop, length-take-le}
 use Rattle.prefix_trie_table.specs.Walking.Walks.{EndsAt}
-use Rattle.prefix_trie_table.proofs.Walk.Cursors.{short_rest}
-use Rattle.prefix_trie_table.proofs.Walk.Stacks.{passed-below, passed-above, spot_as, pending-popped, stack-room, stack-put, trail-at}
+use Rattle.prefix_trie_table.proofs.Walk.Starts.{short_rest}
+use Rattle.prefix_trie_table.proofs.Walk.Stacks.{passed-below, passed-above, spot_as, pending-popped, stack-space, stack-put, cursor-at}
 use Rattle.prefix_trie_table.proofs.Strings.Paths.{snoc_inj}
 use Rattle.prefix_trie_table.proofs.Walk.Selected.{begins-common, one-answer, some-places}
 
@@ -65,8 +65,8 @@ module _ {T : Type 0} (m : Entries T) (s : List Bool) where
 pub few_spots : {K : Type 0} (IsKey : K → Type 0) (bits : K → List Bool) (width : ℕ) (v : Store Node) (way : K) (ps : List Spot) → width ≤ 128 → IsStack IsKey bits width v way ps →
     (key : K) (len : ℕ) → EndsLast bits way ps key len → length ps ≤ 26
 few_spots IsKey bits width v way ps small stack key len ends =
-    let room = stack-room ps ends.below ends.spot ends.is IsKey bits width v way stack small in
-    omega (arith, room, ap length ends.is, length-append ends.below (ends.spot ∷ []))
+    let space = stack-space ps ends.below ends.spot ends.is IsKey bits width v way stack small in
+    omega (arith, space, ap length ends.is, length-append ends.below (ends.spot ∷ []))
 
 module _ {K : Type 0} (IsKey : K → Type 0) (bits : K → List Bool) (width : ℕ) (v : Store Node) (way : K) (long : length (bits way) ≡ width) where
   shorts : (p : Spot) → IsSpot IsKey bits width v way p → All IsShort (to_come p.places)
@@ -74,7 +74,7 @@ module _ {K : Type 0} (IsKey : K → Type 0) (bits : K → List Bool) (width : �
 
   -- a string that goes on deeper begins nothing of what is to come at spots that it has passed
   stay-below : {T : Type 0} (m : Entries T) (z : List Bool) (d : ℕ) → d ≤ width → begins (take d (bits way)) z ≡ true → (n : ℕ) (ps : List Spot) → n + 5 * length ps ≤ d →
-      IsTrail IsKey bits width v n way ps → All (IsPassed bits way) ps →
+      IsStackFrom IsKey bits width v n way ps → All (IsPassed bits way) ps →
       filter (λ e. not (begins z e.0)) (pending bits m way ps) ≡ pending bits m way ps
   stay-below m z d inside begun n [] h t o = refl
   stay-below m z d inside begun n (p ∷ ps) h t o =
@@ -97,7 +97,7 @@ module _ {K : Type 0} (IsKey : K → Type 0) (bits : K → List Bool) (width : �
 module _ {K : Type 0} (IsKey : K → Type 0) (bits : K → List Bool) (width : ℕ) (v : Store Node) (law : (k : K) → IsKey k → length (bits k) ≡ width) (way key : K) (is_key : IsKey key) (len : ℕ) (within : len ≤ width) (old new : List Spot)
     (stack : IsStack IsKey bits width v way old) (passed : ArePassed bits way old) (ends : EndsLast bits way old key len) (skips : SkipsLast (bits key) len old new) where
   spot : IsSpot IsKey bits width v way skips.was
-  spot = (trail-at old skips.below skips.was skips.before IsKey bits width v way stack).2
+  spot = (cursor-at old skips.below skips.was skips.before IsKey bits width v way stack).2
 
   long : length (bits way) ≡ width
   long = law way spot.is_key
@@ -108,7 +108,7 @@ module _ {K : Type 0} (IsKey : K → Type 0) (bits : K → List Bool) (width : �
   spot_left : IsSpot IsKey bits width v way skips.now
   spot_left =
       let s = skips.skips in
-      spot_as spot spot.is_key s.depth_is (ap (λ d. read v.slots (path_of (take d (bits way)))) s.depth_is ∙ spot.stands ∙ ap Some (sym s.node_is))
+      spot_as spot spot.is_key s.depth_is (ap (λ d. read v.slots (chunks_of (take d (bits way)))) s.depth_is ∙ spot.stands ∙ ap Some (sym s.node_is))
       (subst (λ n. All (IsPlaceOf n) (to_come skips.now.places)) (sym s.node_is)
       (subst (All (IsPlaceOf skips.was.node)) (sym s.left)
       (All-filter (λ u. not (begins (drop skips.was.depth (take len (bits key))) u)) (IsPlaceOf skips.was.node) (to_come skips.was.places) spot.each)))
@@ -123,7 +123,7 @@ module _ {K : Type 0} (IsKey : K → Type 0) (bits : K → List Bool) (width : �
 
   string_is : take skips.was.depth (bits way) ++ drop skips.was.depth (take len (bits key)) ≡ take len (bits key)
   string_is =
-      ap (λ s. s ++ drop skips.was.depth (take len (bits key))) (sym ended.same_way ∙ sym (take-take skips.was.depth len (bits key) ended.whole))
+      ap (λ s. s ++ drop skips.was.depth (take len (bits key))) (sym ended.same_above ∙ sym (take-take skips.was.depth len (bits key) ended.whole))
       ∙ take-append-drop skips.was.depth (take len (bits key))
 
   module _ {T : Type 0} (m : Entries T) where
@@ -137,7 +137,7 @@ module _ {K : Type 0} (IsKey : K → Type 0) (bits : K → List Bool) (width : �
 
     below_left : filter (λ e. not (begins (take len (bits key)) e.0)) (pending bits m way skips.below) ≡ pending bits m way skips.below
     below_left =
-        let at = trail-at old skips.below skips.was skips.before IsKey bits width v way stack in
+        let at = cursor-at old skips.below skips.was skips.before IsKey bits width v way stack in
         stay-below IsKey bits width v way long m (take len (bits key)) skips.was.depth spot.within
         (begins-from-rest (take skips.was.depth (bits way)) (take len (bits key)) (drop skips.was.depth (take len (bits key))) (sym string_is))
         (start old) skips.below (omega (arith, at.1)) at.0 (passed-below bits way old skips.below skips.was skips.before passed)

@@ -1,5 +1,5 @@
 -- What the next place of a spot gives.
-use Rattle.prefix_trie_table.proofs.Prelude.{◌≡◌, ℕ, suc, ◌+◌, ◌-◌, ◌*◌, ◌^◌, ◌%◌, ◌<◌, ◌≤◌, Bool, true, false, not, cond, List, ◌∷◌, ◌++◌, length, take, drop, get_or, None, Some, refl, sym, ap, ap₂, ◌∙◌, subst, arith, inl, inr, length-append, append_assoc, IsStrictlySortedBy, add-mul, one-mul, pow_pos, shl_below, length-filter_both, cases_lt, le-ltb, take-append-le, take-take, take_at, drop_at, All-head, All-tail, number, digits, zeros, length-digits, digits-number, listing_cmp, take-extend, has, value_bit, is_in, places, place_of, strings, to_come, Places, listing_below, listing_at_place, listing_at_places, count-strings, value_bit-small, listing_at_child, Node, Seat, Spot, has_bit, node_at, path_of, seat_of, value_seat, Store, read, child_slot, Tree, IsSpot, IsPlaceOf, IsOther, IsPassed, still, GivesSeat, weight, IsTrie, Value}
+use Rattle.prefix_trie_table.proofs.Prelude.{◌≡◌, ℕ, suc, ◌+◌, ◌-◌, ◌*◌, ◌^◌, ◌%◌, ◌<◌, ◌≤◌, Bool, true, false, not, cond, List, ◌∷◌, ◌++◌, length, take, drop, get_or, None, Some, refl, sym, ap, ap₂, ◌∙◌, subst, arith, inl, inr, length-append, append_assoc, IsStrictlySortedBy, add-mul, one-mul, pow_pos, shl_below, length-filter_both, cases_lt, le-ltb, take-append-le, take-take, take_at, drop_at, All-head, All-tail, number, digits, zeros, length-digits, digits-number, listing_cmp, take-extend, has, value_bit, is_in, places, place_of, strings, to_come, Places, listing_below, listing_at_place, listing_at_places, count-strings, value_bit-small, listing_at_child, Node, Seat, Spot, has_bit, node_at, chunks_of, seat_of, value_seat, Store, read, child_slot, Tree, IsSpot, IsPlaceOf, IsOther, IsPassed, still, GivesSeat, weight, IsTrie, Value}
 use Rattle.std.specs.List.{All}
 use Rattle.std.proofs.lemmas.Bool.{lt-ltb}
 use Rattle.std.proofs.lemmas.List.{length-take-le}
@@ -60,8 +60,8 @@ module _ {K : Type 0} (IsKey : K → Type 0) (bits : K → List Bool) (width : �
   whole = whole_levels (length (take p.depth (bits way))) at.level (string-length ∙ at.depth_is)
 
   -- a key that begins with the spot's path
-  pub same_way : (key : K) (s rest : List Bool) → bits key ≡ take p.depth (bits way) ++ s ++ rest → take p.depth (bits key) ≡ take p.depth (bits way)
-  same_way key s rest e =
+  pub same_above : (key : K) (s rest : List Bool) → bits key ≡ take p.depth (bits way) ++ s ++ rest → take p.depth (bits key) ≡ take p.depth (bits way)
+  same_above key s rest e =
       ap (take p.depth) (e ∙ append_assoc (take p.depth (bits way)) s rest)
       ∙ take-append-le p.depth (take p.depth (bits way)) (s ++ rest) (omega (arith, string-length)) ∙ take-take p.depth p.depth (bits way) (omega arith)
 
@@ -94,8 +94,8 @@ module _ {K : Type 0} (IsKey : K → Type 0) (bits : K → List Bool) (width : �
         set : has p.node.value_bitmap (value_bit s) ≡ true
         set = sym (is_in-value p.node.value_bitmap p.node.child_bitmap s (omega arith)) ∙ here.1
 
-        pub value_room : p.depth + length s ≤ width
-        value_room =
+        pub value_space : p.depth + length s ≤ width
+        value_space =
             let h = value_fits width v t tree (take p.depth (bits way)) p.node whole at.stands s short set in omega (arith, h, string-length)
 
         module _ (key : K) (is_key : IsKey key) (n x : ℕ) (is : s ≡ digits n x)
@@ -104,7 +104,7 @@ module _ {K : Type 0} (IsKey : K → Type 0) (bits : K → List Bool) (width : �
           n_is = ap length is ∙ length-digits n x
 
           fits : p.depth + n ≤ width
-          fits = let h = value_room in omega (arith, h, n_is)
+          fits = let h = value_space in omega (arith, h, n_is)
 
           taken : take (p.depth + n) (bits key) ≡ take p.depth (bits way) ++ s
           taken = take-extend (bits way) (bits key) width p.depth n x long fits extended ∙ ap (λ u. take p.depth (bits way) ++ u) (sym is)
@@ -144,8 +144,8 @@ module _ {K : Type 0} (IsKey : K → Type 0) (bits : K → List Bool) (width : �
         bit_set : has p.node.child_bitmap (number s) ≡ true
         bit_set = sym (is_in-child p.node.value_bitmap p.node.child_bitmap s five) ∙ here.1
 
-        pub child_room : p.depth + 5 ≤ width
-        child_room =
+        pub child_space : p.depth + 5 ≤ width
+        child_space =
             let h = child_fits width v t tree (take p.depth (bits way)) p.node whole at.stands s five bit_set in omega (arith, h, string-length)
 
         -- which is passed
@@ -178,12 +178,12 @@ module _ {K : Type 0} (IsKey : K → Type 0) (bits : K → List Bool) (width : �
 
             child_string : take c.depth (bits below) ≡ take p.depth (bits way) ++ s
             child_string =
-                ap (λ k. take k (bits below)) depth_is ∙ take-extend (bits way) (bits below) width p.depth 5 b long child_room extended
+                ap (λ k. take k (bits below)) depth_is ∙ take-extend (bits way) (bits below) width p.depth 5 b long child_space extended
                 ∙ ap (λ u. take p.depth (bits way) ++ u) digits_are
 
-            child_node : read v.slots (path_of (take c.depth (bits below))) ≡ Some c.node
+            child_node : read v.slots (chunks_of (take c.depth (bits below))) ≡ Some c.node
             child_node =
-                ap (λ u. read v.slots (path_of u)) child_string
+                ap (λ u. read v.slots (chunks_of u)) child_string
                 ∙ child_is width v t tree (take p.depth (bits way)) p.node whole at.stands s five bit_set
                 ∙ ap (λ k. Some (node_at v.slots k)) (sym own_slot) ∙ ap Some (sym node_is)
 
@@ -192,7 +192,7 @@ module _ {K : Type 0} (IsKey : K → Type 0) (bits : K → List Bool) (width : �
               is_key = is_key;
               level = at.level + 1;
               depth_is = depth_is ∙ (let e = at.depth_is in omega (arith, e));
-              within = (let h = child_room in omega (arith, h, depth_is));
+              within = (let h = child_space in omega (arith, h, depth_is));
               stands = child_node;
               each = each;
             }
@@ -209,6 +209,6 @@ module _ {K : Type 0} (IsKey : K → Type 0) (bits : K → List Bool) (width : �
 
             pub child_lighter : width ≤ 128 → weight c + weight after < weight p
             child_lighter small =
-                let room = child_room in
-                let h = weight-child p.depth c.depth c.node.value_bitmap c.node.child_bitmap (to_come c.places) depth_is (omega (arith, room, depth_is, small)) all in
+                let space = child_space in
+                let h = weight-child p.depth c.depth c.node.value_bitmap c.node.child_bitmap (to_come c.places) depth_is (omega (arith, space, depth_is, small)) all in
                 omega (arith, h, weight_is)

@@ -1,9 +1,9 @@
 -- A walk that takes values out of their cells.
-use Rattle.prefix_trie_table.proofs.Prelude.{◌≡◌, ◌≢◌, ℕ, ◌+◌, Bool, true, false, cond, ◌&&◌, List, [], ◌∷◌, ◌++◌, length, take, get_or, set, map, Option, None, Some, is_some, is_lt, refl, sym, ap, ◌∙◌, subst, arith, AllZip, get, len, entries, entries_sorted, get-entries, is_sorted, below_all, is_sorted-where_key, false≢true, get_or-set_other, get_or_default, All-head, All-tail, All-filter, All-weaker, All-contains_itself, length_all_zip, same_from_all_zip, begins, listing_cmp, pair_of, listing_below, State, and-first, and-second, t-true, true-t, lt-less, not_itself, sorted-head, sorted-tail, find-from_Contains, Node, Seat, Spot, has_bit, rank, path_of, bit_of, Store, read, value_in, value_of, GivesFilled, value_seat, seat_in, seat_of, IsShapeOf, same_shape, IsTrie, Seated, cell_of, pairs_in, AreHeld, IsApart, AreApart, IsTaking, Seated-prop, Tree, IsStack, pending, GivesSeat, IsCloned, IsPairCloned}
+use Rattle.prefix_trie_table.proofs.Prelude.{◌≡◌, ◌≢◌, ℕ, ◌+◌, Bool, true, false, cond, ◌&&◌, List, [], ◌∷◌, ◌++◌, length, take, get_or, set, map, Option, None, Some, is_some, is_lt, refl, sym, ap, ◌∙◌, subst, arith, AllZip, get, len, entries, entries_sorted, get-entries, is_sorted, below_all, is_sorted-where_key, false≢true, get_or-set_other, get_or_default, All-head, All-tail, All-filter, All-weaker, All-contains_itself, length_all_zip, same_from_all_zip, begins, listing_cmp, pair_of, listing_below, State, and-first, and-second, t-true, true-t, lt-less, not_itself, sorted-head, sorted-tail, find-from_Contains, Node, Seat, Spot, has_bit, rank, chunks_of, bit_of, Store, read, value_in, value_of, GivesFilled, value_seat, seat_in, seat_of, IsShapeOf, same_shape, IsTrie, Seated, cell_of, pairs_in, AreHeld, IsApart, AreApart, IsTaking, Seated-prop, Tree, IsStack, pending, GivesSeat, IsCloned, IsPairCloned}
 use lib.Dec.{T as IsT}
 use Rattle.std.specs.List.{All, Contains}
 use Rattle.std.proofs.lemmas.List.{length-set}
-use Rattle.prefix_trie_table.specs.Walking.Walks.{IsTrail, slot_of, start}
+use Rattle.prefix_trie_table.specs.Walking.Walks.{IsStackFrom, slot_of, start}
 use Rattle.prefix_trie_table.proofs.Tree.Invariant.{some_table}
 use Rattle.prefix_trie_table.proofs.Walk.KeySets.{bare, strings_of, has-strings_of, pending_bare}
 use Rattle.prefix_trie_table.proofs.Lookup.Located.{stored_if}
@@ -32,7 +32,7 @@ module _ {T : Type 0} where
   -- the cell of a string is that at its seat
   cell_at : (nodes : List Node) (cells : List (Option T)) (q : List Bool) → cell_of nodes cells q ≡ in_seat cells (seat_of nodes q)
   unfolding seat_of
-  cell_at nodes cells q = cell_in cells (read nodes (path_of q)) (bit_of q)
+  cell_at nodes cells q = cell_in cells (read nodes (chunks_of q)) (bit_of q)
 
 -- ---- sorted strings stand apart
 
@@ -228,7 +228,7 @@ module _ {T : Type 0} (C : T → T → Type 0) where
 
   module _ (nodes : List Node) (xs ys : List (Option T)) (cloned : (i : ℕ) → IsCloned C (get_or xs i None) (get_or ys i None)) where
     cell_cloned : (q : List Bool) → IsCloned C (cell_of nodes xs q) (cell_of nodes ys q)
-    cell_cloned q = cells_cloned C xs ys cloned (read nodes (path_of q)) (bit_of q)
+    cell_cloned q = cells_cloned C xs ys cloned (read nodes (chunks_of q)) (bit_of q)
 
     pairs_cloned : (ks : List (List Bool × Unit {0})) → AllZip (IsPairCloned C) (pairs_in nodes xs ks) (pairs_in nodes ys ks)
     pairs_cloned [] = tt
@@ -260,12 +260,12 @@ module _ {K T : Type 0} (IsKey : K → Type 0) (bits : K → List Bool) (width :
   abbrev moved : Store Node
   moved = record v { capacity = v2.capacity }
 
-  trail_moved : (n : ℕ) (rs : List Spot) → IsTrail IsKey bits width v n key rs → IsTrail IsKey bits width moved n key rs
-  trail_moved n [] h = tt
-  trail_moved n (r ∷ rs) h = (
+  cursor_moved : (n : ℕ) (rs : List Spot) → IsStackFrom IsKey bits width v n key rs → IsStackFrom IsKey bits width moved n key rs
+  cursor_moved n [] h = tt
+  cursor_moved n (r ∷ rs) h = (
     h.0,
     record { is_key = h.1.is_key; level = h.1.level; depth_is = h.1.depth_is; within = h.1.within; stands = h.1.stands; each = h.1.each },
-    trail_moved (n + 5) rs h.2,
+    cursor_moved (n + 5) rs h.2,
   )
 
   -- it is a walk, with clones of the same pairs
@@ -277,7 +277,7 @@ module _ {K T : Type 0} (IsKey : K → Type 0) (bits : K → List Bool) (width :
           tree = at.tree;
           trie = IsTrie-capacity v at.tree.cells v2.capacity at.tree.cells.capacity at.tree.count at.tree.shape width at.trie;
           long = sym (length_all_zip R w.slots w2.slots clones) ∙ at.long;
-          stack = trail_moved (start ps) ps at.stack;
+          stack = cursor_moved (start ps) ps at.stack;
           held = held_cloned C v.slots w.slots w2.slots cloned (pending bits s.0 key ps) at.held;
           apart = at.apart;
         },

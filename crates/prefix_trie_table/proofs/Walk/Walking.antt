@@ -1,5 +1,5 @@
 -- What the arrays and the spots of a walk say of what is still to come.
-use Rattle.prefix_trie_table.proofs.Prelude.{◌≡◌, ℕ, ◌%◌, Bool, List, [], ◌∷◌, length, take, arith, Option, None, Some, refl, sym, ap, ◌∙◌, subst, ◌+◌, map, is_some, true, MatchOption, IfSome, All-nil, slice_index_or, Bor, places, to_come, listing, listing_below, listing_at_places, State, listing_of_root, Node, Store, node_at, path_of, read, Shaped, IsShapeOf, same_shape, Seat, Spot, GivesFilled, Tree, IsSpot, IsPlaceOf, IsStack, IsPassed, ArePassed, still, pending, GivesSeat, ShapeOf, rest_of_walk, IsWalk, IsTrail, start, IsTrie, IsTable, len, contains_key, seat_of, GivesKey}
+use Rattle.prefix_trie_table.proofs.Prelude.{◌≡◌, ℕ, ◌%◌, Bool, List, [], ◌∷◌, length, take, arith, Option, None, Some, refl, sym, ap, ◌∙◌, subst, ◌+◌, map, is_some, true, MatchOption, IfSome, All-nil, slice_index_or, Bor, places, to_come, listing, listing_below, listing_at_places, State, listing_of_root, Node, Store, node_at, chunks_of, read, Shaped, IsShapeOf, same_shape, Seat, Spot, GivesFilled, Tree, IsSpot, IsPlaceOf, IsStack, IsPassed, ArePassed, still, pending, GivesSeat, ShapeOf, rest_of_walk, IsWalk, IsStackFrom, start, IsTrie, IsTable, len, contains_key, seat_of, GivesKey}
 use Rattle.std.specs.List.{All}
 use Rattle.prefix_trie_table.specs.Walking.Walks.{slot_of}
 use Rattle.prefix_trie_table.proofs.Walk.Stacks.{passed-above, spot_as}
@@ -87,8 +87,8 @@ module _ {K T : Type 0} (IsKey : K → Type 0) (bits : K → List Bool) (width :
       root_string : take c.depth (bits key) ≡ []
       root_string = ap (λ n. take n (bits key)) depth_is
 
-      root_stands : read v.slots (path_of (take c.depth (bits key))) ≡ Some c.node
-      root_stands = ap (λ u. read v.slots (path_of u)) root_string ∙ read-nil v.slots ∙ ap Some (sym node_is)
+      root_stands : read v.slots (chunks_of (take c.depth (bits key))) ≡ Some c.node
+      root_stands = ap (λ u. read v.slots (chunks_of u)) root_string ∙ read-nil v.slots ∙ ap Some (sym node_is)
 
       -- is a walk
       pub root_walk : IsTrie width (len u.0.entries) v w u.0 × IsStack IsKey bits width v key ps × ArePassed bits key ps
@@ -108,17 +108,17 @@ module _ {K T : Type 0} (IsKey : K → Type 0) (bits : K → List Bool) (width :
 -- ---- a trail stands in each array of the same nodes, and what a step along it gives
 
 module _ {K : Type 0} (bits : K → List Bool) (width : ℕ) (IsKey IsOther : K → Type 0) (v w : Store Node) (same : v.slots ≡ w.slots) (key : K) (is : IsOther key) where
-  trail_in : (n : ℕ) (ps : List Spot) → IsTrail IsKey bits width v n key ps → IsTrail IsOther bits width w n key ps
-  trail_in n [] h = tt
-  trail_in n (p ∷ ps) h = (
+  cursor_in : (n : ℕ) (ps : List Spot) → IsStackFrom IsKey bits width v n key ps → IsStackFrom IsOther bits width w n key ps
+  cursor_in n [] h = tt
+  cursor_in n (p ∷ ps) h = (
     h.0,
-    spot_as h.1 is refl (ap (λ nodes. read nodes (path_of (take p.depth (bits key)))) (sym same) ∙ h.1.stands) h.1.each,
-    trail_in (n + 5) ps h.2,
+    spot_as h.1 is refl (ap (λ nodes. read nodes (chunks_of (take p.depth (bits key)))) (sym same) ∙ h.1.stands) h.1.each,
+    cursor_in (n + 5) ps h.2,
   )
 
   -- spots stand in one array where they stand in another of the same nodes, and whatever a key is
   pub stack_in : (ps : List Spot) → IsStack IsKey bits width v key ps → IsStack IsOther bits width w key ps
-  stack_in ps h = trail_in (start ps) ps h
+  stack_in ps h = cursor_in (start ps) ps h
 
 -- what a step of a stack gives is the first key still to come
 pub step_gives : {K T : Type 0} (IsKey : K → Type 0) (bits : K → List Bool) (width : ℕ) (t : Tree T) (nodes : List Node) (old new : List (List Bool × T)) (o : Option (K × ℕ × Seat)) →

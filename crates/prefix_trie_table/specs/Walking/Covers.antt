@@ -7,10 +7,10 @@ use Rattle.prefix_trie_bits.specs.Places.{has, value_bit, HoldsValues}
 use Rattle.prefix_trie_table.specs.declared.allocator.node.Node.{Node}
 use Rattle.prefix_trie_table.specs.declared.table.matching.Match.{Match}
 use Rattle.prefix_trie_table.specs.Cells.{node_sizes}
-use Rattle.prefix_trie_table.specs.Digits.{path_of}
+use Rattle.prefix_trie_table.specs.Digits.{chunks_of}
 use Rattle.prefix_trie_table.specs.Store.{Store}
 use Rattle.prefix_trie_table.specs.Forest.{NodesHold, SomeTable}
-use Rattle.prefix_trie_table.specs.Matching.{NoneHeld, IsHeld, IsOnWay}
+use Rattle.prefix_trie_table.specs.Matching.{NoneHeld, IsHeld, IsOnPath}
 
 -- the matches are the value bits of a node, at so many bits of q, whose strings begin q and have `first` bits or more with the node's
 abbrev pub AreLeft : ℕ → ℕ → ℕ → ℕ → List Bool → Type 0
@@ -19,7 +19,7 @@ AreLeft matches bitmap depth first q =
 
 -- the walk over the first len bits of b stands at this node, and the beginnings of `first` bits or more are still to come
 pub record IsCovering (b : List Bool) (len level : ℕ) (node : Node) (slot matches first : ℕ) (v : Store Node) : Type 0 where
-  pub on_way : IsOnWay b len level node slot v
+  pub on_path : IsOnPath b len level node slot v
   pub low : 5 * level ≤ first
   pub high : first ≤ 5 * level + 5
   pub left : AreLeft matches node.value_bitmap (5 * level) first (take len b)
@@ -36,7 +36,7 @@ pub record TakesMatch (level : ℕ) (node : Node) (matches first : ℕ) (q : Lis
   pub high : later ≤ 5 * level + 5
   pub low : first ≤ later
   pub left : AreLeft matches node.value_bitmap (5 * level) later q
-  pub next : (reading : List ℕ → Option Node) → reading (take level (path_of q)) ≡ Some node → NextHeld reading q (5 * level + 5) first later o
+  pub next : (reading : List ℕ → Option Node) → reading (take level (chunks_of q)) ≡ Some node → NextHeld reading q (5 * level + 5) first later o
 
 -- the same for every q and `first` whose matches they were
 abbrev pub TakesShortest : ℕ → Node → ℕ → ℕ → Option Match → Type 0

@@ -1,31 +1,60 @@
--- What a walk that starts at a bit string gives, and which places of the nodes on its way hold it. This project's own.
-use Rattle.std.specs.Prelude.{ℕ, Bool, false, not, ◌&&◌, List, filter}
-use Rattle.prefix_trie_bits.specs.Bits.{begins}
-use Rattle.prefix_trie_bits.specs.Places.{strings, is_in, is_before}
+-- Where a walk stands in a table that it does not hold, and what is still to come of it. This project's own.
+use Rattle.std.specs.Prelude.{◌≡◌, ℕ, ◌+◌, ◌*◌, ◌-◌, ◌≤◌, Bool, List, [], ◌∷◌, ◌++◌, take, map, Some, ⊤}
+use Rattle.std.proofs.Common.{arith}
+use Rattle.std.specs.Coded.{Coded-set, coded_ℕ, coded_bool, coded_option}
+use Rattle.std.proofs.Math.Bridge.{le_prop}
+use mathlib.Core.HLevel.{Π_prop, is_prop→PathP}
+use Rattle.prefix_trie_bits.specs.Bits.{zeros}
 use Rattle.prefix_trie_bits.specs.Model.Entries.{Entries}
-use Rattle.prefix_trie_bits.specs.Model.Selections.{listing_from, listing_after, listing_below}
 use Rattle.prefix_trie_table.specs.declared.allocator.node.Node.{Node}
-use Rattle.prefix_trie_table.specs.declared.table.cursor.Start.{Start}
-use Rattle.prefix_trie_table.specs.declared.table.cursor.Start.TheVariants.{At, After, Below}
+use Rattle.prefix_trie_table.specs.declared.table.seat.Seat.{Seat}
+use Rattle.prefix_trie_table.specs.declared.table.spot.Spot.{Spot}
+use Rattle.prefix_trie_table.specs.declared.table.cursor.Cursor.{Cursor}
+use Rattle.prefix_trie_table.specs.Locations.{seat_of}
+use Rattle.prefix_trie_table.specs.Shape.{coded_node}
+use Rattle.prefix_trie_table.specs.Store.{Store}
+use Rattle.prefix_trie_table.specs.Walking.Walks.{IsSpot, IsStackFrom, IsStack, start, pending}
 
--- the entries that a walk from q gives
-abbrev pub selected : {T : Type 0} → Start → Entries T → List Bool → List (List Bool × T)
-selected At m q = listing_from m q
-selected After m q = listing_after m q
-selected Below m q = listing_below m q
+-- an array of these nodes
+abbrev pub array_of : List Node → Store Node
+array_of nodes = record { slots = nodes; first = 0; tiers = []; limit = 0; capacity = 0 }
 
--- whether all at the place s is selected at a node that is passed, where t is the child taken
-abbrev pub behind : Start → List Bool → List Bool → Bool
-behind At t s = is_before t s
-behind After t s = is_before t s
-behind Below t s = false
+same_level : (d l m : ℕ) → d ≡ 5 * l → d ≡ 5 * m → l ≡ m
+same_level d l m e f = omega (arith, e, f)
 
--- whether all at the place s is selected at the node where the string ends, of which r is the rest
-abbrev pub kept : Start → List Bool → List Bool → Bool
-kept At r s = not (is_before s r)
-kept After r s = is_before r s
-kept Below r s = begins r s
+module _ {K : Type 0} where
+  -- a trail stands in these nodes
+  abbrev pub IsCursorIn : (K → List Bool) → ℕ → List Node → Cursor K → Type 0
+  IsCursorIn bits width nodes cursor = IsStack (λ _. ⊤) bits width (array_of nodes) cursor.key cursor.stack.items
 
--- the places of a node that are in these masks
-abbrev pub places_in : Node → ℕ → ℕ → List (List Bool)
-places_in n values children = filter (λ s. is_in n.value_bitmap n.child_bitmap s && is_in values children s) (strings 5)
+  -- the keys still to come, in a table with these entries
+  abbrev pub keys_to_come : {T : Type 0} → (K → List Bool) → Entries T → Cursor K → List (List Bool)
+  keys_to_come bits m cursor = map (λ e. e.0) (pending bits m cursor.key cursor.stack.items)
+
+  -- a step gives the first key still to come, which is the first len bits of a number, with zeros behind them, and its value's seat
+  pub record GivesKey (IsKey : K → Type 0) (bits : K → List Bool) (width : ℕ) (nodes : List Node) (key : K) (len : ℕ) (seat : Seat) (old new : List (List Bool)) : Type 0 where
+    pub is_key : IsKey key
+    pub short : len ≤ width
+    pub filled : bits key ≡ take len (bits key) ++ zeros (width - len)
+    pub first : old ≡ take len (bits key) ∷ new
+    pub seated : seat_of nodes (take len (bits key)) ≡ Some seat
+
+  module _ (bits : K → List Bool) (width : ℕ) (v : Store Node) (key : K) where
+    spot-prop : (p : Spot) → IsProp (IsSpot (λ _. ⊤) bits width v key p)
+    spot-prop p x y =
+        let level : x.level ≡ y.level = same_level p.depth x.level y.level x.depth_is y.depth_is in λ i. record {
+          is_key = tt;
+          level = level i;
+          depth_is = is_prop→PathP (λ j. p.depth ≡ 5 * level j) (λ j. Coded-set coded_ℕ _ _) x.depth_is y.depth_is i;
+          within = le_prop x.within y.within i;
+          stands = Coded-set (coded_option coded_node) _ _ x.stands y.stands i;
+          each = Π_prop (λ k. Π_prop (λ d. Π_prop (λ h a b j. (le_prop a.0 b.0 j, Coded-set coded_bool _ _ a.1 b.1 j)))) x.each y.each i;
+        }
+
+    cursor-prop : (n : ℕ) (ps : List Spot) → IsProp (IsStackFrom (λ _. ⊤) bits width v n key ps)
+    cursor-prop n [] = λ x y i. tt
+    cursor-prop n (p ∷ ps) = λ x y i. (Coded-set coded_ℕ _ _ x.0 y.0 i, spot-prop p x.1 y.1 i, cursor-prop (n + 5) ps x.2 y.2 i)
+
+  -- that a trail stands in these nodes has one proof at most
+  pub IsCursorIn-prop : (bits : K → List Bool) (width : ℕ) (nodes : List Node) (cursor : Cursor K) → IsProp (IsCursorIn bits width nodes cursor)
+  IsCursorIn-prop bits width nodes cursor = cursor-prop bits width (array_of nodes) cursor.key (start cursor.stack.items) cursor.stack.items

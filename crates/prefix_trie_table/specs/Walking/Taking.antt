@@ -8,7 +8,7 @@ use Rattle.prefix_trie_bits.specs.Model.Nodes.{Nodes, has_node}
 use Rattle.prefix_trie_bits.proofs.Model.Members.{same_members}
 use Rattle.prefix_trie_table.specs.declared.allocator.node.Node.{Node}
 use Rattle.prefix_trie_table.specs.declared.table.spot.Spot.{Spot}
-use Rattle.prefix_trie_table.specs.Digits.{path_of, bit_of}
+use Rattle.prefix_trie_table.specs.Digits.{chunks_of, bit_of}
 use Rattle.prefix_trie_table.specs.Store.{Store}
 use Rattle.prefix_trie_table.specs.Forest.{read, value_of}
 use Rattle.prefix_trie_table.specs.Locations.{seat_of}
@@ -30,7 +30,7 @@ Seated-prop nodes = λ x y. Σ_prop_path (λ keys. Π_prop (λ _. Coded-set code
 module _ {T : Type 0} where
   -- what stands in the cell of a string
   abbrev pub cell_of : List Node → List (Option T) → List Bool → Option T
-  cell_of nodes cells q = value_of cells (read nodes (path_of q)) (bit_of q)
+  cell_of nodes cells q = value_of cells (read nodes (chunks_of q)) (bit_of q)
 
   -- these strings with the values that stand in their cells
   abbrev pub pairs_in : List Node → List (Option T) → List (List Bool × Unit {0}) → List (List Bool × T)

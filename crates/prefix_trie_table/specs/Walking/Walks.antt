@@ -15,7 +15,7 @@ use Rattle.prefix_trie_table.specs.declared.table.seat.Seat.{Seat}
 use Rattle.prefix_trie_table.specs.declared.table.spot.Step.{Step}
 use Rattle.prefix_trie_table.specs.declared.table.spot.Step.TheVariants.{Entry, Child, Done}
 use Rattle.prefix_trie_table.specs.declared.allocator.node.Node.{Node}
-use Rattle.prefix_trie_table.specs.Digits.{path_of}
+use Rattle.prefix_trie_table.specs.Digits.{chunks_of}
 use Rattle.prefix_trie_table.specs.Store.{Store}
 use Rattle.prefix_trie_table.specs.Forest.{read}
 use Rattle.prefix_trie_table.specs.Walking.Items.{GivesFilled}
@@ -31,7 +31,7 @@ pub record Tree (T : Type 0) : Type 0 where
 
 -- the slot of a seat
 abbrev pub slot_of : Seat → ℕ
-slot_of seat = seat.start + seat.place
+slot_of seat = seat.start + seat.offset
 
 -- the node has this place
 abbrev pub IsPlaceOf : Node → List Bool → Type 0
@@ -68,17 +68,17 @@ module _ {K : Type 0} where
     pub level : ℕ
     pub depth_is : p.depth ≡ 5 * level
     pub within : p.depth ≤ width
-    pub stands : read v.slots (path_of (take p.depth (bits key))) ≡ Some p.node
+    pub stands : read v.slots (chunks_of (take p.depth (bits key))) ≡ Some p.node
     pub each : All (IsPlaceOf p.node) (to_come p.places)
 
   -- each spot is a level below the one before, and the first is at this depth
-  abbrev pub IsTrail : (K → Type 0) → (K → List Bool) → ℕ → Store Node → ℕ → K → List Spot → Type 0
-  IsTrail IsKey bits width v n key [] = ⊤
-  IsTrail IsKey bits width v n key (p ∷ ps) = (p.depth ≡ n) × IsSpot IsKey bits width v key p × IsTrail IsKey bits width v (n + 5) key ps
+  abbrev pub IsStackFrom : (K → Type 0) → (K → List Bool) → ℕ → Store Node → ℕ → K → List Spot → Type 0
+  IsStackFrom IsKey bits width v n key [] = ⊤
+  IsStackFrom IsKey bits width v n key (p ∷ ps) = (p.depth ≡ n) × IsSpot IsKey bits width v key p × IsStackFrom IsKey bits width v (n + 5) key ps
 
   -- the spots stand one below the other, from any depth on
   abbrev pub IsStack : (K → Type 0) → (K → List Bool) → ℕ → Store Node → K → List Spot → Type 0
-  IsStack IsKey bits width v key ps = IsTrail IsKey bits width v (start ps) key ps
+  IsStack IsKey bits width v key ps = IsStackFrom IsKey bits width v (start ps) key ps
 
   -- the child on the key's way is not among the places still to come
   abbrev pub IsPassed : (K → List Bool) → K → Spot → Type 0
@@ -89,17 +89,17 @@ module _ {K : Type 0} where
   ArePassed bits key ps = AllWithin (IsPassed bits key) ps 0 (length ps - 1)
 
   -- the first len bits of a key end at the node of the spot
-  pub record EndsAt (bits : K → List Bool) (way : K) (p : Spot) (key : K) (len : ℕ) : Type 0 where
+  pub record EndsAt (bits : K → List Bool) (along : K) (p : Spot) (key : K) (len : ℕ) : Type 0 where
     pub whole : p.depth ≤ len
     pub last : len < p.depth + 5
-    pub same_way : take p.depth (bits key) ≡ take p.depth (bits way)
+    pub same_above : take p.depth (bits key) ≡ take p.depth (bits along)
 
   -- at that of the last of these spots
-  pub record EndsLast (bits : K → List Bool) (way : K) (ps : List Spot) (key : K) (len : ℕ) : Type 0 where
+  pub record EndsLast (bits : K → List Bool) (along : K) (ps : List Spot) (key : K) (len : ℕ) : Type 0 where
     pub below : List Spot
     pub spot : Spot
     pub is : ps ≡ below ++ spot ∷ []
-    pub ends : EndsAt bits way spot key len
+    pub ends : EndsAt bits along spot key len
 
   module _ {T : Type 0} where
     -- the pairs still to come at a spot
@@ -141,10 +141,10 @@ IsSeated bits nodes (Child c key) = ⊤
 IsSeated bits nodes Done = ⊤
 
 -- a key that a step gave ends at its spot, and the child that it gave is passed
-abbrev pub KeepsWay : {K : Type 0} → (K → List Bool) → K → Spot → Step K → Spot → Type 0
-KeepsWay bits way p (Entry key len seat) q = EndsAt bits way p key len
-KeepsWay bits way p (Child c key) q = IsPassed bits key q
-KeepsWay bits way p Done q = ⊤
+abbrev pub StaysOnPath : {K : Type 0} → (K → List Bool) → K → Spot → Step K → Spot → Type 0
+StaysOnPath bits along p (Entry key len seat) q = EndsAt bits along p key len
+StaysOnPath bits along p (Child c key) q = IsPassed bits key q
+StaysOnPath bits along p Done q = ⊤
 
 module _ {T : Type 0} where
   -- the one shape that the arrays have, where there are arrays

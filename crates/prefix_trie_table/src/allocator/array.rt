@@ -2,7 +2,7 @@
 ghost use Rattle.std.specs.Prelude.{◌≡◌, ℕ, ◌+◌, ◌<◌, ◌≤◌, ◌++◌, [], ◌∷◌, List, length, swap, take, insert, remove, slice_index_or, slice_set, OnOk, OnErr, IsOk};
 ghost use Rattle.prefix_trie_table.specs.Growth.{Reserves};
 
-use crate::allocator::slots::{Slot, make_room, shift_in, shift_out, shrink};
+use crate::allocator::slots::{Slot, reserve, shift_in, shift_out, shrink};
 use std::alloc::{AllocError, Allocator};
 use std::mem;
 
@@ -22,7 +22,7 @@ pub trait SlotArray<S: Slot>: Drop {
         ensures { result ≡ length (list self.now) };
 
     /// Reserves memory for `count` more slots.
-    fn make_room(&mut self, count: usize) -> Result<(), AllocError>
+    fn reserve(&mut self, count: usize) -> Result<(), AllocError>
         ensures list { list self.new ≡ list self.old }
         ensures ok { OnOk result (length (list self.new) + count ≤ capacity self.new) }
         ensures grown { Reserves (capacity self.old) (length (list self.old) + count) (capacity self.new) }
@@ -98,8 +98,8 @@ impl<S: Slot, A: Allocator> SlotArray<S> for Vec<S, A> {
     }
 
     #[inline]
-    fn make_room(&mut self, count: usize) -> Result<(), AllocError> {
-        make_room(self, count)
+    fn reserve(&mut self, count: usize) -> Result<(), AllocError> {
+        reserve(self, count)
     }
 
     #[inline]

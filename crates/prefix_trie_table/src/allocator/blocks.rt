@@ -124,18 +124,18 @@ impl<S: Slot, R: SlotArray<S>, A: Allocator> Blocks<S, R, A> {
 
     /// Writes over the value in a slot, of a block in use or before the first block, and hands out what stood there.
     #[inline]
-    pub fn put(&mut self, start: u32, place: u32, value: S) -> S
-        requires within { start + place < length self.old.slots }
+    pub fn put(&mut self, start: u32, offset: u32, value: S) -> S
+        requires within { start + offset < length self.old.slots }
         requires value { R.can_hold value }
-        ensures slots { self.new ≡ record self.old { slots = slice_set self.old.slots (start + place) value } }
-        ensures value { result ≡ slice_index_or self.old.slots (start + place) result }
+        ensures slots { self.new ≡ record self.old { slots = slice_set self.old.slots (start + offset) value } }
+        ensures value { result ≡ slice_index_or self.old.slots (start + offset) result }
         ensures sound { (b : UsedBlock S) (live : List (UsedBlock S)) → Sound S.vacant (b ∷ live) self.old
-            → b.start ≡ start → place < length b.items
-            → Sound S.vacant (record b { items = slice_set b.items place value } ∷ live) self.new }
-        ensures before { (live : List (UsedBlock S)) → start + place < self.old.first
+            → b.start ≡ start → offset < length b.items
+            → Sound S.vacant (record b { items = slice_set b.items offset value } ∷ live) self.new }
+        ensures before { (live : List (UsedBlock S)) → start + offset < self.old.first
             → Sound S.vacant live self.old → Sound S.vacant live self.new }
     {
-        self.slots.put(start as usize + place as usize, value)
+        self.slots.put(start as usize + offset as usize, value)
     }
 
     /// Takes all blocks out of the array, and lets the values in them go. What stands before the first block stays.
@@ -186,27 +186,27 @@ pub type Cells<T, A> = Blocks<Option<T>, Vec<Option<T>, A>, A>;
 impl<S: Slot, A: Allocator> Blocks<S, Vec<S, A>, A> {
     /// The value in a slot: of the block that starts at `start`, the one at `place`.
     #[inline]
-    pub fn at(&self, start: u32, place: u32) -> &S
-        requires { start + place < length self.now.slots }
-        ensures slot { result.now ≡ slice_index_or self.now.slots (start + place) result.now }
+    pub fn at(&self, start: u32, offset: u32) -> &S
+        requires { start + offset < length self.now.slots }
+        ensures slot { result.now ≡ slice_index_or self.now.slots (start + offset) result.now }
         ensures item { (b : UsedBlock S) (live : List (UsedBlock S)) → Sound S.vacant (b ∷ live) self.now
-            → b.start ≡ start → place < length b.items
-            → result.now ≡ slice_index_or b.items place result.now }
+            → b.start ≡ start → offset < length b.items
+            → result.now ≡ slice_index_or b.items offset result.now }
     {
-        &self.slots[start as usize + place as usize]
+        &self.slots[start as usize + offset as usize]
     }
 
     /// The value in a slot, for writing: of the block that starts at `start`, the one at `place`.
     #[inline]
-    pub fn at_mut(&mut self, start: u32, place: u32) -> &mut S
-        requires { start + place < length self.old.slots }
-        ensures* writes_back { sem 𝓛 (lends_slot S.row A.row S.Slot A.Allocator self.entry (start + place) result) }
-        ensures slot { result.now ≡ slice_index_or self.old.slots (start + place) result.now }
+    pub fn at_mut(&mut self, start: u32, offset: u32) -> &mut S
+        requires { start + offset < length self.old.slots }
+        ensures* writes_back { sem 𝓛 (lends_slot S.row A.row S.Slot A.Allocator self.entry (start + offset) result) }
+        ensures slot { result.now ≡ slice_index_or self.old.slots (start + offset) result.now }
         ensures sound { (value : S) (b : UsedBlock S) (live : List (UsedBlock S)) → Sound S.vacant (b ∷ live) self.old
-            → b.start ≡ start → place < length b.items
-            → Sound S.vacant (record b { items = slice_set b.items place value } ∷ live) (with_slot self.old (start + place) value) }
+            → b.start ≡ start → offset < length b.items
+            → Sound S.vacant (record b { items = slice_set b.items offset value } ∷ live) (with_slot self.old (start + offset) value) }
     {
-        &mut self.slots[start as usize + place as usize]
+        &mut self.slots[start as usize + offset as usize]
     }
 }
 
@@ -225,12 +225,12 @@ impl<A: Allocator> Blocks<Node, NodeArray<A>, A> {
 
     /// The node in a slot: of the block that starts at `start`, the one at `place`.
     #[inline]
-    pub(super) fn node(&self, start: u32, place: u32) -> Node
-        requires { start + place < length self.now.slots }
-        ensures node { result ≡ node_at self.now.slots (start + place) }
+    pub(super) fn node(&self, start: u32, offset: u32) -> Node
+        requires { start + offset < length self.now.slots }
+        ensures node { result ≡ node_at self.now.slots (start + offset) }
         ensures fits { FitsByte result }
     {
-        self.slots.get(start as usize + place as usize)
+        self.slots.get(start as usize + offset as usize)
     }
 }
 
@@ -294,7 +294,7 @@ pub(super) fn node_blocks<A: Allocator + Clone>(
         (λ b. b ≡ record { slots = blank_node ∷ []; first = 1; tiers = map no_blocks node_sizes; limit = limit; capacity = b.capacity }) }
     ensures sound { IfOk result (λ b. Sound blank_node [] b) }
     ensures range { IfErr result (λ e. (e ≡ IndexRange) ↔ (limit ≡ 0)) }
-    ensures room { limit ≡ 0 → IsErr result }
+    ensures space { limit ≡ 0 → IsErr result }
 {
     if limit == 0 {
         return Err(Refusal::IndexRange);
@@ -314,7 +314,7 @@ fn node_array<A: Allocator + Clone>(
 {
     let lists = empty_lists(alloc, &NODE_SIZES)?;
     let mut slots = NodeArray::new(alloc)?;
-    slots.make_room(1)?;
+    slots.reserve(1)?;
     slots.append(Node::blank());
     Ok(Blocks::new(slots, lists, limit))
 }

@@ -4,7 +4,7 @@ ghost use Rattle.prefix_trie_table.specs.Store.{no_blocks};
 ghost use Rattle.prefix_trie_table.specs.BlockCounts.{tier_count};
 
 use crate::allocator::block_count::BlockCount;
-use crate::allocator::slots::{make_room, shrink};
+use crate::allocator::slots::{reserve, shrink};
 use std::alloc::{AllocError, Allocator};
 use std::marker::Model;
 
@@ -74,7 +74,7 @@ impl<A: Allocator> FreeList<A> {
         ensures err { OnErr result (self.new ≡ self.old) }
     {
         let places = self.made as usize + 1 - self.starts.len();
-        make_room(&mut self.starts, places)?;
+        reserve(&mut self.starts, places)?;
         self.starts.push_reserved(start);
         self.made += 1;
         Ok(())

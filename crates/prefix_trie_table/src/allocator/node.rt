@@ -39,11 +39,11 @@ impl Node {
     #[inline]
     pub fn child_slot(self, child: u32) -> NodeSlot
         requires { child < 32 }
-        ensures { result.start + result.place ≡ slot_of_child self child }
+        ensures { result.start + result.offset ≡ slot_of_child self child }
     {
         NodeSlot {
             start: self.child_block,
-            place: rank(self.child_bitmap, child),
+            offset: rank(self.child_bitmap, child),
         }
     }
 }
@@ -62,10 +62,10 @@ impl Slot for Node {
 #[derive(Clone, Copy, Default)]
 pub struct NodeSlot {
     pub start: u32,
-    pub place: u32,
+    pub offset: u32,
 }
 
 impl NodeSlot {
     /// The slot of the root, which stands outside every block.
-    pub const ROOT: NodeSlot = NodeSlot { start: 0, place: 0 };
+    pub const ROOT: NodeSlot = NodeSlot { start: 0, offset: 0 };
 }

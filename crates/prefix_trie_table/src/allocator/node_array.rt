@@ -85,7 +85,7 @@ impl<A: Allocator> NodeArray<A> {
         are_bytes(&self.tiers);
     }
 
-    // The part of `make_room` that requests memory, apart so that the test is inlined. The second array is the one that may be shorter, so
+    // The part of `reserve` that requests memory, apart so that the test is inlined. The second array is the one that may be shorter, so
     // where it is refused the next call begins with the same capacity.
     #[cold]
     #[inline(never)]
@@ -158,7 +158,7 @@ impl<A: Allocator> SlotArray<Node> for NodeArray<A> {
     }
 
     #[inline]
-    fn make_room(&mut self, count: usize) -> Result<(), AllocError> {
+    fn reserve(&mut self, count: usize) -> Result<(), AllocError> {
         if count <= self.tiers.capacity() - self.tiers.len() {
             return Ok(());
         }

@@ -2,10 +2,10 @@
 ghost use Rattle.std.specs.Prelude.{◌≡◌, ℕ, ◌+◌, ◌-◌, ◌^◌, ◌<◌, ◌≤◌, ◌↔◌, [], ◌∷◌, ◌++◌, All, List, None, OnOk, IfOk, IfErr, IsErr, IsSome, length, map, insert, remove, slice_set};
 ghost use Rattle.std.specs.Option.{option_or};
 ghost use Rattle.prefix_trie_bits.specs.Model.Blocks.{StepsDown, smallest_size, made_of};
-ghost use Rattle.prefix_trie_bits.specs.Model.HandsOut.{packed_slots};
+ghost use Rattle.prefix_trie_bits.specs.Model.SplitsOff.{packed_slots};
 ghost use Rattle.prefix_trie_table.specs.BlockCounts.{tier_count};
 ghost use Rattle.prefix_trie_table.specs.Cells.{HasSizes, blank_node, node_at, node_sizes};
-ghost use Rattle.prefix_trie_table.specs.HandingOut.Laying.{LaysList};
+ghost use Rattle.prefix_trie_table.specs.Splitting.Laying.{LaysList};
 ghost use Rattle.prefix_trie_table.specs.Losing.{LosesOne};
 ghost use Rattle.prefix_trie_table.specs.NodeArrays.{FitsByte, FitsOver};
 ghost use Rattle.prefix_trie_table.specs.Store.{Store, UsedBlock, Sound, Turnover, Obtains, HasList, AreFree, IsReady, SameSlots, tier_at, tier_sizes, slots_made, free_counts, none_of, no_blocks, block, held, list_size, list_need, needs};
@@ -55,7 +55,7 @@ impl<A: Allocator + Clone, V: Drop> NodeAllocator<A, V> {
             (λ a. a ≡ record { slots = blank_node ∷ []; first = 1; tiers = map no_blocks node_sizes; limit = limit; capacity = a.capacity }) }
         ensures sound { IfOk result (λ a. Sound blank_node [] a) }
         ensures range { IfErr result (λ e. (e ≡ IndexRange) ↔ (limit ≡ 0)) }
-        ensures room { limit ≡ 0 → IsErr result }
+        ensures space { limit ≡ 0 → IsErr result }
     {
         let blocks = node_blocks(alloc, limit)?;
         Ok(NodeAllocator {
@@ -91,13 +91,13 @@ impl<A: Allocator, V: Tick> NodeAllocator<A, V> {
     /// The node in a slot. The counter goes up by one.
     #[inline]
     pub fn visit(&self, at: NodeSlot, counter: &mut V) -> Node
-        requires { at.start + at.place < length self.now.slots }
-        ensures node { result ≡ node_at self.now.slots (at.start + at.place) }
+        requires { at.start + at.offset < length self.now.slots }
+        ensures node { result ≡ node_at self.now.slots (at.start + at.offset) }
         ensures fits { FitsByte result }
         ensures one_more { V.count counter.new ≡ V.count counter.old + 1 }
     {
         counter.tick();
-        self.blocks.node(at.start, at.place)
+        self.blocks.node(at.start, at.offset)
     }
 }
 
@@ -107,19 +107,19 @@ impl<A: Allocator, V: Drop> NodeAllocator<A, V> {
     /// Writes a node over the one in a slot. The number of a size is one of the seven, or that of the node in the slot.
     #[inline]
     pub fn put(&mut self, at: NodeSlot, node: Node)
-        requires within { at.start + at.place < length self.old.slots }
-        requires tiers { FitsOver (node_at self.old.slots (at.start + at.place)) node }
-        ensures slots { self.new ≡ record self.old { slots = slice_set self.old.slots (at.start + at.place) node } }
+        requires within { at.start + at.offset < length self.old.slots }
+        requires tiers { FitsOver (node_at self.old.slots (at.start + at.offset)) node }
+        ensures slots { self.new ≡ record self.old { slots = slice_set self.old.slots (at.start + at.offset) node } }
         ensures sound { (b : UsedBlock Node) (live : List (UsedBlock Node))
             → Sound blank_node (b ∷ live) self.old
-            → b.start ≡ at.start → at.place < length b.items
-            → Sound blank_node (record b { items = slice_set b.items at.place node } ∷ live) self.new }
-        ensures before { (live : List (UsedBlock Node)) → at.start + at.place < self.old.first
+            → b.start ≡ at.start → at.offset < length b.items
+            → Sound blank_node (record b { items = slice_set b.items at.offset node } ∷ live) self.new }
+        ensures before { (live : List (UsedBlock Node)) → at.start + at.offset < self.old.first
             → Sound blank_node live self.old → Sound blank_node live self.new }
     {
         // Read for the proof alone: the sizes of the node in the slot fit.
-        let _old = self.blocks.node(at.start, at.place);
-        self.blocks.put(at.start, at.place, node);
+        let _old = self.blocks.node(at.start, at.offset);
+        self.blocks.put(at.start, at.offset, node);
     }
 
     /// The number of slots: 1, and of each size the blocks that were made, used or free. Never more than the limit,
@@ -162,11 +162,11 @@ impl<A: Allocator, V: Drop> NodeAllocator<A, V> {
 
     /// As `Blocks::insert_at`: puts a blank node into a list of `count` nodes, and says where the list stands then. The blank
     /// node is made here, since one that is handed in goes through memory.
-    pub fn insert_blank(&mut self, k: usize, start: u32, count: u32, place: u32) -> BlockRef
+    pub fn insert_blank(&mut self, k: usize, start: u32, count: u32, offset: u32) -> BlockRef
         requires holds { HasList blank_node self.old k start count }
         requires sizes { HasSizes self.old.tiers }
         requires ready { IsReady self.old.tiers k count }
-        requires place { place ≤ count }
+        requires offset { offset ≤ count }
         ensures stands { list_size self.old.tiers result.tier (count + 1)
             ≡ option_or (list_need self.old.tiers k count) (list_size self.old.tiers k count) }
         ensures stays { list_need self.old.tiers k count ≡ None → result ≡ record { tier = k; start = start } }
@@ -174,28 +174,28 @@ impl<A: Allocator, V: Drop> NodeAllocator<A, V> {
         ensures tiers { (slot : ℕ) → slot < length self.old.slots → FitsByte (node_at self.old.slots slot) }
         ensures sound { (n : ℕ) (xs : List Node) (live : List (UsedBlock Node))
             → Sound blank_node (held k start n xs ++ live) self.old → length xs ≡ count
-            → Sound blank_node (block result.tier result.start (tier_at self.old.tiers result.tier).size (insert xs place blank_node) ∷ live) self.new }
+            → Sound blank_node (block result.tier result.start (tier_at self.old.tiers result.tier).size (insert xs offset blank_node) ∷ live) self.new }
     {
         // Read for the proof alone.
         self.blocks.sizes_fit();
-        self.blocks.insert_at(k, start, count, place, Node::blank())
+        self.blocks.insert_at(k, start, count, offset, Node::blank())
     }
 
     /// As `Blocks::remove_at`: takes a node out of a list of `count` nodes, lets it go unread, and says where the rest
     /// stands.
-    pub fn remove_at(&mut self, k: usize, start: u32, count: u32, place: u32) -> BlockRef
+    pub fn remove_at(&mut self, k: usize, start: u32, count: u32, offset: u32) -> BlockRef
         requires holds { HasList blank_node self.old k start count }
         requires sizes { HasSizes self.old.tiers }
-        requires place { place < count }
+        requires offset { offset < count }
         ensures loses { LosesOne self.old self.new count (list_size self.old.tiers k count) (list_size self.old.tiers result.tier (count - 1)) }
         ensures tier { result.tier < length self.old.tiers }
         ensures gone { count ≡ 1 → result ≡ record { tier = 0; start = 0 } }
         ensures stays { 1 < count → result.tier ≡ k → result.start ≡ start }
         ensures sound { (n : ℕ) (xs : List Node) (live : List (UsedBlock Node))
             → Sound blank_node (held k start n xs ++ live) self.old → length xs ≡ count
-            → Sound blank_node (held result.tier result.start (tier_at self.old.tiers result.tier).size (remove xs place) ++ live) self.new }
+            → Sound blank_node (held result.tier result.start (tier_at self.old.tiers result.tier).size (remove xs offset) ++ live) self.new }
     {
-        let (_, rest) = self.blocks.remove_at(k, start, count, place);
+        let (_, rest) = self.blocks.remove_at(k, start, count, offset);
         rest
     }
 

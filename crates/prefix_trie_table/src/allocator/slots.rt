@@ -29,7 +29,7 @@ impl<T: Drop> Slot for Option<T> {
 
 /// Reserves memory for so many more items, by one request for memory at most.
 #[inline]
-pub(super) fn make_room<S, A: Allocator>(
+pub(super) fn reserve<S, A: Allocator>(
     items: &mut Vec<S, A>,
     count: usize,
 ) -> Result<(), AllocError>
@@ -46,7 +46,7 @@ pub(super) fn make_room<S, A: Allocator>(
     grow(items, count)
 }
 
-// The part of `make_room` that requests memory, apart so that the test is inlined.
+// The part of `reserve` that requests memory, apart so that the test is inlined.
 #[cold]
 #[inline(never)]
 fn grow<S, A: Allocator>(items: &mut Vec<S, A>, count: usize) -> Result<(), AllocError>
@@ -173,24 +173,24 @@ pub(super) fn move_in<S: Slot, R: SlotArray<S>>(
     from: usize,
     to: usize,
     count: usize,
-    place: usize,
+    offset: usize,
     value: S,
 )
     requires from_within { from + count ≤ length (R.list slots.old) }
     requires to_within { to + count < length (R.list slots.old) }
     requires apart { (from + count ≤ to) ⊎ (to + count < from) }
     requires unused { run (R.list slots.old) to (count + 1) ≡ replicate (count + 1) S.vacant }
-    requires place { place ≤ count }
+    requires offset { offset ≤ count }
     requires value { R.can_hold value }
-    ensures items { R.list slots.new ≡ put_run (put_run (R.list slots.old) from (replicate count S.vacant)) to (insert (run (R.list slots.old) from count) place value) }
+    ensures items { R.list slots.new ≡ put_run (put_run (R.list slots.old) from (replicate count S.vacant)) to (insert (run (R.list slots.old) from count) offset value) }
     ensures len { length (R.list slots.new) ≡ length (R.list slots.old) }
     ensures capacity { R.capacity slots.new ≡ R.capacity slots.old }
 {
     // Read for the proof alone.
     let _count = slots.count();
-    exchange(slots, from, to, place);
-    slots.put(to + place, value);
-    exchange(slots, from + place, to + place + 1, count - place);
+    exchange(slots, from, to, offset);
+    slots.put(to + offset, value);
+    exchange(slots, from + offset, to + offset + 1, count - offset);
 }
 
 /// Writes items over as many places from `from` on.

@@ -6,11 +6,11 @@ ghost use Rattle.prefix_trie_bits.specs.Model.Matches.{longest_match};
 ghost use Rattle.prefix_trie_bits.specs.Model.Visits.{visits};
 ghost use Rattle.prefix_trie_table.specs.declared.allocator.node.Node.{Node};
 ghost use Rattle.prefix_trie_table.specs.declared.table.bulk.Found.{Found};
-ghost use Rattle.prefix_trie_table.specs.declared.table.bulk.Way.{Way};
+ghost use Rattle.prefix_trie_table.specs.declared.table.bulk.Descent.{Descent};
 ghost use Rattle.prefix_trie_table.specs.Bitmaps.{has_bit as is_set};
-ghost use Rattle.prefix_trie_table.specs.Bulk.{AreAnswered, AreAnswers, AreCosts, AreRead, CanAsk, EachOf, GoOn, HasFound, IsAhead, IsAnswer, IsNew, IsSound, IsWay, asked, asks, found_of, new_way, questions_of, slot_of};
+ghost use Rattle.prefix_trie_table.specs.Bulk.{AreAnswered, AreAnswers, AreCosts, AreRead, CanAsk, EachOf, GoOn, HasFound, IsAhead, IsAnswer, IsNew, IsSound, IsDescent, asked, asks, found_of, new_descent, questions_of, slot_of};
 ghost use Rattle.prefix_trie_table.specs.Cells.{node_at};
-ghost use Rattle.prefix_trie_table.specs.Matching.{IsOnWay};
+ghost use Rattle.prefix_trie_table.specs.Matching.{IsOnPath};
 ghost use Rattle.prefix_trie_table.specs.Store.{Store};
 ghost use Rattle.prefix_trie_table.specs.Tables.{IsReached};
 
@@ -39,19 +39,19 @@ pub struct Found {
 
 /// One of the questions on its way down: which, the slot of the node ahead, and the longest match above that node.
 #[derive(Clone, Copy)]
-struct Way {
+struct Descent {
     question: usize,
     at: NodeSlot,
     best: Option<Found>,
 }
 
-impl Way {
+impl Descent {
     /// The way of a question, at the root.
     #[inline]
-    fn new(question: usize) -> Way
-        ensures { result ≡ new_way question }
+    fn new(question: usize) -> Descent
+        ensures { result ≡ new_descent question }
     {
-        Way {
+        Descent {
             question,
             at: NodeSlot::ROOT,
             best: None,
@@ -87,47 +87,47 @@ fn question<P: Prefix>(prefix: &P) -> (P::R, u32)
 #[inline(always)]
 fn look<K: Key>(
     question: (K, u32),
-    way: Way,
+    descent: Descent,
     level: u32,
     node: Node,
 ) -> (Option<Found>, Option<NodeSlot>)
     requires asks { CanAsk K.IsKey K.bit_width question }
-    requires on_way { (v : Store Node) × IsSound v × IsOnWay (K.bits question.0) question.1 level node (slot_of way) v }
-    ensures next { (v : Store Node) → IsOnWay (K.bits question.0) question.1 level node (slot_of way) v
+    requires on_path { (v : Store Node) × IsSound v × IsOnPath (K.bits question.0) question.1 level node (slot_of descent) v }
+    ensures next { (v : Store Node) → IsOnPath (K.bits question.0) question.1 level node (slot_of descent) v
         → MatchOption result.1
-        (IsReached (K.bits question.0) question.1 level node (slot_of way) v)
-        (λ at. IsOnWay (K.bits question.0) question.1 (level + 1) (node_at v.slots (at.start + at.place)) (at.start + at.place) v) }
-    ensures found { (v : Store Node) → IsOnWay (K.bits question.0) question.1 level node (slot_of way) v
-        → HasFound v (asked K.bits question) (5 * level) way.best
+        (IsReached (K.bits question.0) question.1 level node (slot_of descent) v)
+        (λ at. IsOnPath (K.bits question.0) question.1 (level + 1) (node_at v.slots (at.start + at.offset)) (at.start + at.offset) v) }
+    ensures found { (v : Store Node) → IsOnPath (K.bits question.0) question.1 level node (slot_of descent) v
+        → HasFound v (asked K.bits question) (5 * level) descent.best
         → HasFound v (asked K.bits question) (5 * level + 5) result.0 }
 {
     let (key, len) = question;
     let rest = key.behind(5 * level);
     let here = Reached {
-        at: way.at,
+        at: descent.at,
         node,
         level,
     };
-    let found = longer(longest_in(here, rest, len), way.best);
+    let found = longer(longest_in(here, rest, len), descent.best);
     (found, next_slot(here, rest, len))
 }
 
 /// Reads the nodes to which the first `count` ways have come.
 fn read_each<A: Allocator, V: Tick>(
     nodes: &NodeAllocator<A, V>,
-    ways: &[Way],
+    descents: &[Descent],
     count: usize,
     read: &mut [Node],
     counter: &mut V,
 )
-    requires count { (count ≤ length ways.now) × (count ≤ length read.old) }
-    requires inside { All (λ w. slot_of w < length nodes.now.slots) (take count ways.now) }
-    ensures read { EachOf (IsAhead nodes.now.slots ways.now) count read.new }
+    requires count { (count ≤ length descents.now) × (count ≤ length read.old) }
+    requires inside { All (λ w. slot_of w < length nodes.now.slots) (take count descents.now) }
+    ensures read { EachOf (IsAhead nodes.now.slots descents.now) count read.new }
     ensures visits { V.count counter.new ≡ V.count counter.old + count }
     ensures length { length read.new ≡ length read.old }
 {
     for j in 0..count {
-        read[j] = nodes.visit(ways[j].at, counter);
+        read[j] = nodes.visit(descents[j].at, counter);
     }
 }
 
@@ -135,7 +135,7 @@ fn read_each<A: Allocator, V: Tick>(
 /// are answered. Answers how many go on.
 fn look_at_each<P: Prefix>(
     prefixes: &[P],
-    ways: &mut [Way],
+    descents: &mut [Descent],
     count: usize,
     level: u32,
     read: &[Node],
@@ -143,31 +143,31 @@ fn look_at_each<P: Prefix>(
 ) -> usize
     requires fit { All P.IsFitting prefixes.now }
     requires same_length { length found.old ≡ length prefixes.now }
-    requires count { (count ≤ length ways.old) × (count ≤ length read.now) }
+    requires count { (count ≤ length descents.old) × (count ≤ length read.now) }
     requires read { (v : Store Node) × IsSound v
-        × AreRead P.R.bits v (questions_of P.repr_of P.len_of prefixes.now) level (take count ways.old) read.now }
+        × AreRead P.R.bits v (questions_of P.repr_of P.len_of prefixes.now) level (take count descents.old) read.now }
     ensures few { result ≤ count }
     ensures go_on { (v : Store Node)
-        → AreRead P.R.bits v (questions_of P.repr_of P.len_of prefixes.now) level (take count ways.old) read.now
-        → GoOn P.R.bits v (questions_of P.repr_of P.len_of prefixes.now) level (take count ways.old) (take result ways.new) found.old found.new }
-    ensures lengths { (length ways.new ≡ length ways.old) × (length found.new ≡ length found.old) }
+        → AreRead P.R.bits v (questions_of P.repr_of P.len_of prefixes.now) level (take count descents.old) read.now
+        → GoOn P.R.bits v (questions_of P.repr_of P.len_of prefixes.now) level (take count descents.old) (take result descents.new) found.old found.new }
+    ensures lengths { (length descents.new ≡ length descents.old) × (length found.new ≡ length found.old) }
 {
     let mut kept = 0;
     for j in 0..count {
-        let way = ways[j];
-        let asked = question(&prefixes[way.question]);
-        let (best, next) = look(asked, way, level, read[j]);
+        let descent = descents[j];
+        let asked = question(&prefixes[descent.question]);
+        let (best, next) = look(asked, descent, level, read[j]);
         match next {
             Some(at) => {
-                ways[kept] = Way {
-                    question: way.question,
+                descents[kept] = Descent {
+                    question: descent.question,
                     at,
                     best,
                 };
                 kept += 1;
             }
             None => {
-                found[way.question] = best;
+                found[descent.question] = best;
             }
         }
     }
@@ -175,13 +175,13 @@ fn look_at_each<P: Prefix>(
 }
 
 /// Puts the ways of the first `count` questions at the root.
-fn begin(ways: &mut [Way], count: usize)
-    requires count { count ≤ length ways.old }
-    ensures new { EachOf IsNew count ways.new }
-    ensures length { length ways.new ≡ length ways.old }
+fn begin(descents: &mut [Descent], count: usize)
+    requires count { count ≤ length descents.old }
+    ensures new { EachOf IsNew count descents.new }
+    ensures length { length descents.new ≡ length descents.old }
 {
     for j in 0..count {
-        ways[j] = Way::new(j);
+        descents[j] = Descent::new(j);
     }
 }
 
@@ -202,14 +202,14 @@ fn answer_each<P: Prefix, A: Allocator, V: Tick>(
         → V.count counter.new ≡ V.count counter.old + sum costs }
     ensures length { length found.new ≡ length found.old }
 {
-    let mut ways = [Way::new(0); GROUP];
+    let mut descents = [Descent::new(0); GROUP];
     let mut read = [Node::blank(); GROUP];
     let mut left = prefixes.len();
-    begin(&mut ways, left);
+    begin(&mut descents, left);
     let mut level = 0;
     'round: while left > 0 {
-        read_each(nodes, &ways, left, &mut read, counter);
-        left = look_at_each(prefixes, &mut ways, left, level, &read, found);
+        read_each(nodes, &descents, left, &mut read, counter);
+        left = look_at_each(prefixes, &mut descents, left, level, &read, found);
         level += 1;
     }
 }
@@ -217,13 +217,13 @@ fn answer_each<P: Prefix, A: Allocator, V: Tick>(
 /// The value of a match, behind the length of its string.
 #[inline(always)]
 fn value_at<'a, T: Drop, A: Allocator>(cells: &'a Cells<T, A>, found: Found) -> Option<(u32, &'a T)>
-    requires stands { found.seat.start + found.seat.place < length cells.now.slots }
+    requires stands { found.seat.start + found.seat.offset < length cells.now.slots }
     ensures { MatchOption result
-        (slice_index_or cells.now.slots (found.seat.start + found.seat.place) None ≡ None)
+        (slice_index_or cells.now.slots (found.seat.start + found.seat.offset) None ≡ None)
         (λ r. (r.0 ≡ found.len)
-        × (slice_index_or cells.now.slots (found.seat.start + found.seat.place) None ≡ Some r.1.now)) }
+        × (slice_index_or cells.now.slots (found.seat.start + found.seat.offset) None ≡ Some r.1.now)) }
 {
-    let Some(value) = cells.at(found.seat.start, found.seat.place).as_ref() else {
+    let Some(value) = cells.at(found.seat.start, found.seat.offset).as_ref() else {
         return None;
     };
     Some((found.len, value))

@@ -4,15 +4,15 @@ ghost use Rattle.prefix_trie_bits.specs.Model.Entries.{without_below};
 ghost use Rattle.prefix_trie_bits.specs.Model.Nodes.{nodes_not_below, nodes_without_below};
 ghost use Rattle.prefix_trie_bits.specs.Model.Selections.{listing_below};
 ghost use Rattle.prefix_trie_bits.specs.Model.Step.{State};
-ghost use Rattle.prefix_trie_table.specs.Digits.{path_of};
+ghost use Rattle.prefix_trie_table.specs.Digits.{chunks_of};
 ghost use Rattle.prefix_trie_table.specs.Forest.{read};
 ghost use Rattle.prefix_trie_table.specs.Tables.{IsReached, IsTrie};
-ghost use Rattle.prefix_trie_table.specs.Retaining.{AsksUpTo, SaysNo, MayAskBelow, TakesBelow, Lasts};
+ghost use Rattle.prefix_trie_table.specs.Retaining.{AsksUpTo, SaysNo, MayAskBelow, TakesBelow, PreservesBelow};
 
 use crate::allocator::blocks::Cells;
 use crate::allocator::node::{Node, NodeSlot};
 use crate::allocator::nodes::{NodeAllocator, Tick};
-use crate::table::removal::{descend_keeping_way, prune_up};
+use crate::table::removal::{descend_keeping_ancestors, prune_up};
 use crate::table::retain::{Keep, Site, retain_places};
 use arrayvec::ArrayVec;
 use prefix_trie_bits::node::{Places, child_cover_mask, value_cover_mask};
@@ -53,14 +53,14 @@ fn empty_part<K: Key, T: Drop, A: Allocator, V: Tick, F: Keep<K, T, V>>(
     requires key { K.IsKey key }
     requires within { len ≤ K.bit_width }
     requires trie { (s : State T) × IsTrie K.bit_width entries.old nodes.old cells.old s }
-    requires reached { IsReached (K.bits key) len (len / 5) node (at.start + at.place) nodes.old }
+    requires reached { IsReached (K.bits key) len (len / 5) node (at.start + at.offset) nodes.old }
     requires none { SaysNo F.asks }
     requires may_ask { MayAskBelow F.asks F.accepts K.bit_width (take len (K.bits key)) keep.old entries.old nodes.old cells.old }
     ensures emptied { (s : State T) → IsTrie K.bit_width entries.old nodes.old cells.old s
         → TakesBelow F.asks F.accepts K.bit_width (take len (K.bits key)) keep.old s keep.new
         (nodes_not_below s.nodes (take len (K.bits key))) entries.new nodes.new cells.new }
-    ensures node { read nodes.new.slots (path_of (take len (K.bits key))) ≡ Some result }
-    ensures lasts { Lasts (len / 5) nodes.old nodes.new cells.old cells.new }
+    ensures node { read nodes.new.slots (chunks_of (take len (K.bits key))) ≡ Some result }
+    ensures preserves { PreservesBelow (len / 5) nodes.old nodes.new cells.old cells.new }
 {
     let depth = len / 5 * 5;
     let places = Places::new(
@@ -99,10 +99,10 @@ pub fn remove_part<K: Key, T: Drop, A: Allocator, V: Tick, F: Keep<K, T, V>>(
         }) }
     ensures up_to { (s : State T) → IsTrie K.bit_width entries.old nodes.old cells.old s
         → AsksUpTo F.asks keep.old (listing_below s.entries (take len (K.bits key))) keep.new }
-    ensures lasts { Lasts 0 nodes.old nodes.new cells.old cells.new }
+    ensures preserves { PreservesBelow 0 nodes.old nodes.new cells.old cells.new }
 {
     let mut above = ArrayVec::new();
-    let Some((at, node)) = descend_keeping_way(nodes, key, len, &mut above, counter) else {
+    let Some((at, node)) = descend_keeping_ancestors(nodes, key, len, &mut above, counter) else {
         return;
     };
     let left = empty_part(nodes, cells, entries, keep, key, len, at, node, counter);

@@ -14,7 +14,7 @@ impl<T: Clone, A: Allocator + Clone, V: Tick> Table<T, A, V> {
     pub fn clone(&self) -> Result<Self, AllocError>
         ensures entries { IfOk result (λ copy. AreCloned T.is_clone self.now.entries copy.entries) }
         ensures nodes { IfOk result (λ copy. copy.nodes ≡ self.now.nodes) }
-        ensures room { IfOk result (λ copy. copy.room ≡ self.now.room) }
+        ensures space { IfOk result (λ copy. copy.space ≡ self.now.space) }
         ensures layout { IfOk result (λ copy. copy.layout ≡ self.now.layout) }
         ensures same { IfOk result (λ copy. ((x y : T) → T.is_clone x y → y ≡ x) → copy ≡ self.now) }
     {

@@ -17,7 +17,7 @@ impl<T: Drop, A: Allocator, V: Tick> Table<T, A, V> {
     #[inline]
     pub fn node_count(&self, counter: &mut V) -> usize
         ensures nodes { result ≡ len self.now.nodes }
-        ensures visits { V.count counter.new ≡ V.count counter.old + self.now.room.node_slots }
+        ensures visits { V.count counter.new ≡ V.count counter.old + self.now.space.node_slots }
     {
         nodes_in(&self.nodes, counter)
     }
@@ -25,7 +25,7 @@ impl<T: Drop, A: Allocator, V: Tick> Table<T, A, V> {
     /// How many slots the array of nodes has. Never more than the limit.
     #[inline]
     pub fn node_slots(&self) -> usize
-        ensures slots { result ≡ self.now.room.node_slots }
+        ensures slots { result ≡ self.now.space.node_slots }
     {
         self.nodes.len()
     }
@@ -33,7 +33,7 @@ impl<T: Drop, A: Allocator, V: Tick> Table<T, A, V> {
     /// How many slots the array of values has. Never more than the limit.
     #[inline]
     pub fn cell_slots(&self) -> usize
-        ensures slots { result ≡ self.now.room.cell_slots }
+        ensures slots { result ≡ self.now.space.cell_slots }
     {
         self.cells.len()
     }
@@ -51,7 +51,7 @@ fn nodes_in<A: Allocator, V: Tick>(nodes: &NodeAllocator<A, V>, counter: &mut V)
     for slot in 0..nodes.len() as u32 {
         let at = NodeSlot {
             start: slot,
-            place: 0,
+            offset: 0,
         };
         number += count(nodes.visit(at, counter).child_bitmap) as usize;
     }

@@ -40,7 +40,7 @@ impl<'a, K: Key, T: Drop, A: Allocator, V: Tick> Model for Cover<'a, K, T, A, V>
     ghost view = { λ c. still_covering c.shape.0.entries (take c.len (K.bits c.key)) c.here.level c.matches };
 
     ghost invariant = { λ c. IsCover K.IsKey K.bits K.bit_width c.key c.len c.here.level c.here.node
-        (c.here.at.start + c.here.at.place) c.matches c.nodes.now c.cells.now };
+        (c.here.at.start + c.here.at.offset) c.matches c.nodes.now c.cells.now };
 }
 
 impl<'a, K: Key, T: Drop, A: Allocator, V: Tick> Cover<'a, K, T, A, V> {
@@ -138,13 +138,13 @@ fn next_match<K: Key, A: Allocator, V: Tick>(
     requires within { len ≤ K.bit_width }
     requires sound { (n : SomeNodes nodes.now) × LackLastBit n.reading }
     requires stands { (first : ℕ) × IsCovering (K.bits key) len here.old.level here.old.node
-        (here.old.at.start + here.old.at.place) matches.old first nodes.now }
+        (here.old.at.start + here.old.at.offset) matches.old first nodes.now }
     ensures { (first : ℕ) → IsCovering (K.bits key) len here.old.level here.old.node
-        (here.old.at.start + here.old.at.place) matches.old first nodes.now
+        (here.old.at.start + here.old.at.offset) matches.old first nodes.now
         → GoesOn (K.bits key) len here.new.level here.new.node
-        (here.new.at.start + here.new.at.place) matches.new first result nodes.now }
+        (here.new.at.start + here.new.at.offset) matches.new first result nodes.now }
 {
-    'way: loop {
+    'descent: loop {
         if let Some(found) = take_match(*here, matches) {
             return Some(found);
         }

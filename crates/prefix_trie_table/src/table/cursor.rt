@@ -1,121 +1,69 @@
-//! Walks that start at a bit string: one way down, which lays the stack of each of them.
-ghost use Rattle.std.specs.Prelude.{◌≡◌, ◌+◌, ◌<◌, ◌≤◌, List, Bool, length, take, drop};
-ghost use Rattle.std.specs.FinMap.{len as size};
-ghost use Rattle.prefix_trie_bits.specs.Bits.{number};
-ghost use Rattle.prefix_trie_bits.specs.Places.{HoldsPlaces};
-ghost use Rattle.prefix_trie_bits.specs.Model.Step.{State};
-ghost use Rattle.prefix_trie_table.specs.Shape.{IsShapeOf};
-ghost use Rattle.prefix_trie_table.specs.Tables.{IsTrie};
-ghost use Rattle.prefix_trie_table.specs.Walking.Walks.{Tree, ArePassed, IsStack, pending};
-ghost use Rattle.prefix_trie_table.specs.Walking.Cursors.{selected, behind, kept};
+//! Walks that do not hold their table, so that its values may be written between their steps.
+ghost use Rattle.std.specs.Prelude.{◌≡◌, ◌≤◌, [], map, take, true, IfSome, MatchOption};
+ghost use Rattle.std.specs.FinMap.{contains_key};
+ghost use Rattle.prefix_trie_bits.specs.Model.Entries.{AreWithin};
+ghost use Rattle.prefix_trie_bits.specs.Model.Nodes.{AreNodes};
+ghost use Rattle.prefix_trie_table.specs.Walking.Starts.{selected};
 
-use crate::allocator::blocks::Cells;
-use crate::allocator::node::NodeSlot;
-use crate::allocator::nodes::{NodeAllocator, Tick};
-use crate::table::spot::{Spot, spot_in};
-use crate::table::walk::Walk;
+use crate::allocator::nodes::Tick;
+use crate::table::Table;
+use crate::table::walk_start::{Start, start_at};
+use crate::table::seat::Seat;
+use crate::table::spot::Spot;
+use crate::table::walk::advance;
 use arrayvec::ArrayVec;
-use prefix_trie_bits::node::{
-    behind_child, child_bit_of, child_cover_mask, from_value, has_bit, value_bit_of,
-    value_cover_mask, without_bit,
-};
 use prefix_trie_bits::prefix::Key;
 use std::alloc::Allocator;
 
-/// What a walk that starts at a bit string gives.
-#[derive(Clone, Copy)]
-pub enum Start {
-    /// The entry there and all entries behind it.
-    At,
-    /// All entries behind it, its extensions among them.
-    After,
-    /// The entries whose keys it begins.
-    Below,
-}
-
-/// The walk of a selection of the entries that the arrays hold. Each node on the way of the bit string is read once.
-pub fn walk_at<'a, K: Key, T: Drop, A: Allocator, V: Tick>(
-    nodes: &'a NodeAllocator<A, V>,
-    cells: &'a Cells<T, A>,
+/// Where a walk stands in a table. It is right until a node of the table changes: writing a value changes none.
+#[derive(Drop)]
+pub struct Cursor<K: Key> {
+    // The path of each spot begins it.
     key: K,
-    len: u32,
-    from: Start,
-    counter: &mut V,
-) -> Walk<'a, K, T, A, V>
-    requires key { K.IsKey key }
-    requires within { len ≤ K.bit_width }
-    requires tree { (s : State T) × IsTrie K.bit_width (size s.entries) nodes.now cells.now s }
-    ensures { (s : State T) → IsShapeOf nodes.now.slots cells.now.slots s
-        → result ≡ selected from s.entries (take len (K.bits key)) }
-{
-    let stack = start_at::<K, T, A, V>(nodes, key, len, from, counter);
-    Walk::over(nodes, cells, key, stack)
+    stack: ArrayVec<Spot, 26>,
 }
 
-/// Goes down the way of a bit string as far as nodes stand, and leaves at each node what is selected there but for what is
-/// below the next node of the way.
-pub(super) fn start_at<K: Key, T: Drop, A: Allocator, V: Tick>(
-    nodes: &NodeAllocator<A, V>,
-    key: K,
-    len: u32,
-    from: Start,
-    counter: &mut V,
-) -> ArrayVec<Spot, 26>
-    requires key { K.IsKey key }
-    requires within { len ≤ K.bit_width }
-    requires tree { (t : Tree T) × IsTrie K.bit_width t.count nodes.now t.cells t.shape }
-    ensures stack { IsStack K.IsKey K.bits K.bit_width nodes.now key result.items }
-    ensures passed { ArePassed K.bits key result.items }
-    ensures rest { (t : Tree T) → IsTrie K.bit_width t.count nodes.now t.cells t.shape
-        → pending K.bits t.shape.entries key result.items ≡ selected from t.shape.entries (take len (K.bits key)) }
-{
-    let mut stack = ArrayVec::new();
-    let mut node = nodes.visit(NodeSlot::ROOT, counter);
-    let mut depth = 0;
-    while depth + 5 <= len {
-        let child = child_bit_of(key, depth);
-        stack.push(spot_in(node, depth, places_behind(from, child)));
-        if !has_bit(node.child_bitmap, child) {
-            return stack;
-        }
-        node = nodes.visit(node.child_slot(child), counter);
-        depth += 5;
+impl<T: Drop, A: Allocator, V: Tick> Table<T, A, V> {
+    ghost use Rattle.prefix_trie_table.specs.Walking.Cursors.{IsCursorIn, keys_to_come, GivesKey};
+
+    /// The start of a walk of the entries that are selected from a bit string. Each node on its way is read once.
+    ///
+    /// ```text
+    /// let mut trail = table.trail(K::zero(), 0, Start::Below, &mut counter);
+    /// while let Some((key, len, seat)) = table.step(&mut trail, &mut counter) {
+    ///     *table.at_mut(key, len, seat) = 0;      // no node changes, so the trail is right still
+    /// }
+    /// ```
+    #[inline]
+    pub fn cursor<K: Key>(&self, key: K, len: u32, from: Start, counter: &mut V) -> Cursor<K>
+        requires key { K.IsKey key }
+        requires long { len ≤ K.bit_width }
+        requires within { AreWithin K.bit_width self.now.entries }
+        requires nodes { AreNodes K.bit_width self.now.entries self.now.nodes }
+        ensures stands { IsCursorIn K.bits K.bit_width self.now.build result }
+        ensures keys { keys_to_come K.bits self.now.entries result
+            ≡ map (λ e. e.0) (selected from self.now.entries (take len (K.bits key))) }
+    {
+        let stack = start_at::<K, T, A, V>(&self.nodes, key, len, from, counter);
+        Cursor { key, stack }
     }
-    stack.push(spot_in(node, depth, places_kept(from, key, depth, len)));
-    stack
-}
 
-/// Masks of what is selected at a node that is passed, but for what is below the child that is taken.
-#[inline]
-fn places_behind(from: Start, child: u32) -> (u32, u32)
-    requires { child < 32 }
-    ensures { (t : List Bool) → length t ≡ 5 → number t ≡ child → HoldsPlaces result.0 result.1 (behind from t) }
-{
-    match from {
-        Start::Below => (0, 0),
-        _ => behind_child(child),
-    }
-}
-
-/// Masks of what is selected at the node where a bit string ends.
-#[inline]
-fn places_kept<K: Key>(from: Start, key: K, depth: u32, len: u32) -> (u32, u32)
-    requires key { K.IsKey key }
-    requires whole { depth ≤ len }
-    requires last { len < depth + 5 }
-    requires within { len ≤ K.bit_width }
-    ensures { HoldsPlaces result.0 result.1 (kept from (drop depth (take len (K.bits key)))) }
-{
-    let bit = value_bit_of(key, depth, len);
-    match from {
-        Start::At => from_value(bit),
-        Start::After => {
-            let (values, children) = from_value(bit);
-            (without_bit(values, bit), children)
-        }
-        Start::Below => (
-            value_cover_mask(key, depth, len),
-            child_cover_mask(key, depth, len),
-        ),
+    /// Goes on to the next entry, and answers its key, the key's length in bits, and where its value stands. Each node that the
+    /// walk comes to is read once.
+    #[inline]
+    pub fn step<K: Key>(&self, cursor: &mut Cursor<K>, counter: &mut V) -> Option<(K, u32, Seat)>
+        requires stands { IsCursorIn K.bits K.bit_width self.now.build cursor.old }
+        requires within { AreWithin K.bit_width self.now.entries }
+        requires nodes { AreNodes K.bit_width self.now.entries self.now.nodes }
+        ensures stands { IsCursorIn K.bits K.bit_width self.now.build cursor.new }
+        ensures key { MatchOption result
+            ((keys_to_come K.bits self.now.entries cursor.old ≡ []) × (keys_to_come K.bits self.now.entries cursor.new ≡ []))
+            (λ r. GivesKey K.IsKey K.bits K.bit_width self.now.build r.0 r.1 r.2
+            (keys_to_come K.bits self.now.entries cursor.old) (keys_to_come K.bits self.now.entries cursor.new)) }
+        ensures stored { IfSome result (λ r. contains_key self.now.entries (take r.1 (K.bits r.0)) ≡ true) }
+    {
+        // The proof learns from it that the number in hand is a key.
+        let _ = cursor.key.is_key();
+        advance::<K, A, V, T>(&self.nodes, &mut cursor.stack, &mut cursor.key, counter)
     }
 }

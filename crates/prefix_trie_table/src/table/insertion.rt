@@ -5,18 +5,18 @@ ghost use Rattle.prefix_trie_table.specs.Bitmaps.{has_bit as is_set};
 ghost use Rattle.prefix_trie_table.specs.Cells.{node_at, node_sizes, cell_sizes};
 ghost use Rattle.prefix_trie_bits.specs.Model.Blocks.{one_of};
 ghost use Rattle.prefix_trie_table.specs.OwnBlocks.{child_need, value_need};
-ghost use Rattle.prefix_trie_table.specs.Store.{AreFree, MakesNone, SameRoom, free_in, needs};
+ghost use Rattle.prefix_trie_table.specs.Store.{AreFree, MakesNone, SameSpace, free_in, needs};
 ghost use Rattle.prefix_trie_table.specs.Forest.{IsSlot, NodesHold, CellsHold, Holds, SomeTable, SomeNodes, IsNodeAt, ChildAdded, ValueSet, entry_count, one_if};
 ghost use Rattle.prefix_trie_table.specs.Locations.{EndsAt, seat_in, seat_of};
 ghost use Rattle.prefix_trie_table.specs.Tables.{GrowsBoth, ForHeld, own_value, EntrySet};
-ghost use Rattle.prefix_trie_table.specs.Asked.{nodes_needed, cells_needed, HasRoom, AtDeepest, ObtainsBoth};
+ghost use Rattle.prefix_trie_table.specs.Needs.{nodes_needed, cells_needed, HasFreeBlocks, AtDeepest, ObtainsBoth};
 ghost use Rattle.prefix_trie_bits.specs.declared.prefix.Refusal.TheVariants.{Memory, IndexRange};
 
 use crate::allocator::blocks::Cells;
 use crate::allocator::node::{Node, NodeSlot};
 use crate::allocator::nodes::{NodeAllocator, Tick};
 use crate::table::lookup::{Reached, locate_in};
-use crate::table::seat::{Location, Seat, WayEnd};
+use crate::table::seat::{Location, Seat, SearchEnd};
 use prefix_trie_bits::node::{child_bit_of, count, rank, value_bit_of, with_bit};
 use prefix_trie_bits::prefix::{Key, Refusal, Refused};
 use std::alloc::Allocator;
@@ -30,23 +30,23 @@ fn add_child<A: Allocator, V: Tick>(
     child: u32,
 ) -> NodeSlot
     requires child { child < 32 }
-    requires stands { (n : SomeNodes nodes.old) × IsNodeAt n.reading (at.start + at.place) }
-    requires node { node.now ≡ node_at nodes.old.slots (at.start + at.place) }
+    requires stands { (n : SomeNodes nodes.old) × IsNodeAt n.reading (at.start + at.offset) }
+    requires node { node.now ≡ node_at nodes.old.slots (at.start + at.offset) }
     requires missing { is_set node.now.child_bitmap child ≡ false }
     requires ready { AreFree nodes.old.tiers (needs (child_need (Some node.now)) 0) }
     ensures stays { MakesNone nodes.old nodes.new }
     ensures free { (size : ℕ) → free_in nodes.old.tiers size ≤ free_in nodes.new.tiers size + one_of (child_need (Some node.now)) size }
     ensures added { (reading : List ℕ → Option Node) (paths : List (List ℕ)) (p : List ℕ) (n : Node)
         → NodesHold node_sizes reading paths nodes.old
-        → IsSlot reading p (at.start + at.place) → reading p ≡ Some n
-        → ChildAdded reading paths p n child nodes.new (result.start + result.place) }
+        → IsSlot reading p (at.start + at.offset) → reading p ≡ Some n
+        → ChildAdded reading paths p n child nodes.new (result.start + result.offset) }
 {
-    let place = rank(node.child_bitmap, child);
+    let offset = rank(node.child_bitmap, child);
     let block = nodes.insert_blank(
         node.child_tier as usize,
         node.child_block,
         count(node.child_bitmap),
-        place,
+        offset,
     );
     let child_bitmap = with_bit(node.child_bitmap, child);
     nodes.put(
@@ -62,7 +62,7 @@ fn add_child<A: Allocator, V: Tick>(
     );
     NodeSlot {
         start: block.start,
-        place,
+        offset,
     }
 }
 
@@ -77,8 +77,8 @@ fn add_value<T: Drop, A: Allocator, V: Tick>(
     value: T,
 ) -> Seat
     requires bit { bit < 31 }
-    requires stands { (t : SomeTable nodes.old cells.old) × IsNodeAt t.reading (at.start + at.place) }
-    requires node { node.now ≡ node_at nodes.old.slots (at.start + at.place) }
+    requires stands { (t : SomeTable nodes.old cells.old) × IsNodeAt t.reading (at.start + at.offset) }
+    requires node { node.now ≡ node_at nodes.old.slots (at.start + at.offset) }
     requires missing { is_set node.now.value_bitmap bit ≡ false }
     requires ready { AreFree cells.old.tiers (needs (value_need (Some node.now)) 0) }
     ensures nodes { MakesNone nodes.old nodes.new }
@@ -87,16 +87,16 @@ fn add_value<T: Drop, A: Allocator, V: Tick>(
         (values : List ℕ → ℕ → Option T) (p : List ℕ) (n : Node)
         → NodesHold node_sizes reading paths nodes.old
         → CellsHold cell_sizes reading values paths cells.old
-        → IsSlot reading p (at.start + at.place) → reading p ≡ Some n
+        → IsSlot reading p (at.start + at.offset) → reading p ≡ Some n
         → ValueSet reading paths values p bit (Some value) nodes.new cells.new }
-    ensures seat { seat_in (Some (node_at nodes.new.slots (at.start + at.place))) bit ≡ Some result }
+    ensures seat { seat_in (Some (node_at nodes.new.slots (at.start + at.offset))) bit ≡ Some result }
 {
-    let place = rank(node.value_bitmap, bit);
+    let offset = rank(node.value_bitmap, bit);
     let block = cells.insert_at(
         node.value_tier as usize,
         node.value_block,
         count(node.value_bitmap),
-        place,
+        offset,
         Some(value),
     );
     let value_bitmap = with_bit(node.value_bitmap, bit);
@@ -113,7 +113,7 @@ fn add_value<T: Drop, A: Allocator, V: Tick>(
     );
     Seat {
         start: block.start,
-        place,
+        offset,
     }
 }
 
@@ -129,8 +129,8 @@ pub fn prepare<T: Drop, A: Allocator, V: Tick>(
     requires table { SomeTable nodes.old cells.old }
     requires ends { (b : List Bool) × EndsAt nodes.old b len reached.now }
     requires short { len ≤ 128 }
-    ensures room { OnOk result
-        (HasRoom nodes.new cells.new reached.now.node reached.now.level len) }
+    ensures space { OnOk result
+        (HasFreeBlocks nodes.new cells.new reached.now.node reached.now.level len) }
     ensures grows { GrowsBoth (λ cause. cause ≡ IndexRange) result nodes.old nodes.new cells.old cells.new }
     ensures obtains { ObtainsBoth (λ cause. cause ≡ IndexRange) (λ cause. cause ≡ Memory)
         result nodes.old nodes.new cells.old cells.new
@@ -165,7 +165,7 @@ fn add_entry<K: Key, T: Drop, A: Allocator, V: Tick>(
     requires within { len ≤ K.bit_width }
     requires table { SomeTable nodes.old cells.old }
     requires ends { EndsAt nodes.old (K.bits key) len reached.now }
-    requires room { HasRoom nodes.old cells.old reached.now.node reached.now.level len }
+    requires space { HasFreeBlocks nodes.old cells.old reached.now.node reached.now.level len }
     ensures nodes { MakesNone nodes.old nodes.new }
     ensures cells { MakesNone cells.old cells.new }
     ensures added { ForHeld nodes.old cells.old (λ reading paths values.
@@ -190,11 +190,11 @@ fn add_entry<K: Key, T: Drop, A: Allocator, V: Tick>(
 /// Adds a missing value at a bit string whose way ends so, and the nodes of its way that are missing, and counts it. Answers where
 /// it stands. On a refusal nothing is added.
 #[inline(always)]
-pub fn place_entry<K: Key, T: Drop, A: Allocator, V: Tick>(
+pub fn insert_entry<K: Key, T: Drop, A: Allocator, V: Tick>(
     nodes: &mut NodeAllocator<A, V>,
     cells: &mut Cells<T, A>,
     entries: &mut usize,
-    end: WayEnd,
+    end: SearchEnd,
     key: K,
     len: u32,
     value: T,

@@ -12,7 +12,7 @@ ghost use Rattle.prefix_trie_table.specs.Lending.Blocks.{lends_held, lends_cell,
 use crate::allocator::blocks::Cells;
 use crate::allocator::nodes::Tick;
 use crate::table::Table;
-use crate::table::matching::{Match, longest_on_way};
+use crate::table::matching::{Match, longest_on_path};
 use crate::table::seat::{Location, Seat};
 use prefix_trie_bits::prefix::Key;
 use std::alloc::Allocator;
@@ -37,9 +37,9 @@ fn held<T>(cell: &mut Option<T>) -> &mut T
 pub fn lend<T: Drop, A: Allocator>(cells: &mut Cells<T, A>, seat: Seat) -> &mut T
     requires { HasValue cells.old seat }
     ensures* writes_back { sem 𝓛 (lends_cell T.row A.row A.Allocator cells.entry seat result) }
-    ensures value { slice_index_or cells.old.slots (seat.start + seat.place) None ≡ Some result.now }
+    ensures value { slice_index_or cells.old.slots (seat.start + seat.offset) None ≡ Some result.now }
 {
-    held(cells.at_mut(seat.start, seat.place))
+    held(cells.at_mut(seat.start, seat.offset))
 }
 
 /// The value at a seat that may be missing.
@@ -48,7 +48,7 @@ fn lend_if<T: Drop, A: Allocator>(cells: &mut Cells<T, A>, seat: Option<Seat>) -
     requires { IfSome seat (λ s. HasValue cells.old s) }
     ensures* writes_back { sem 𝓛 (lends_cell_if T.row A.row A.Allocator cells.entry seat result) }
     ensures value { MatchOption seat (result ≡ None)
-        (λ s. option_copied_mut result ≡ slice_index_or cells.old.slots (s.start + s.place) None) }
+        (λ s. option_copied_mut result ≡ slice_index_or cells.old.slots (s.start + s.offset) None) }
 {
     let seat = seat?;
     Some(lend(cells, seat))
@@ -114,7 +114,7 @@ impl<T: Drop, A: Allocator, V: Tick> Table<T, A, V> {
         ensures visits { V.count counter.new
             ≡ V.count counter.old + visits self.old.nodes (take len (K.bits key)) }
     {
-        let longest = longest_on_way(&self.nodes, key, len, counter);
+        let longest = longest_on_path(&self.nodes, key, len, counter);
         let seat = seat_of(longest, found);
         lend_if(&mut self.cells, seat)
     }

@@ -4,10 +4,10 @@ ghost use Rattle.std.specs.Option.{option_copied};
 ghost use Rattle.prefix_trie_bits.specs.Windows.{IsRest};
 ghost use Rattle.prefix_trie_table.specs.declared.allocator.node.Node.{Node};
 ghost use Rattle.prefix_trie_table.specs.Cells.{node_at, node_sizes};
-ghost use Rattle.prefix_trie_table.specs.Digits.{path_of};
+ghost use Rattle.prefix_trie_table.specs.Digits.{chunks_of};
 ghost use Rattle.prefix_trie_table.specs.Forest.{NodesHold, SomeTable, SomeNodes, IsEnd};
 ghost use Rattle.prefix_trie_table.specs.Locations.{Locates};
-ghost use Rattle.prefix_trie_table.specs.Matching.{IsOnWay};
+ghost use Rattle.prefix_trie_table.specs.Matching.{IsOnPath};
 ghost use Rattle.prefix_trie_table.specs.Tables.{IsReached, ForHeld, own_value};
 ghost use Rattle.prefix_trie_table.specs.Slots.{SeatOf};
 ghost use Rattle.prefix_trie_table.specs.Store.{Store};
@@ -15,7 +15,7 @@ ghost use Rattle.prefix_trie_table.specs.Store.{Store};
 use crate::allocator::blocks::Cells;
 use crate::allocator::node::{Node, NodeSlot};
 use crate::allocator::nodes::{NodeAllocator, Tick};
-use crate::table::seat::{Location, Seat, WayEnd};
+use crate::table::seat::{Location, Seat, SearchEnd};
 use prefix_trie_bits::node::{child_bit_of, has_bit, value_bit_of};
 use prefix_trie_bits::prefix::Key;
 use std::alloc::Allocator;
@@ -33,8 +33,8 @@ pub struct Reached {
 pub fn root<A: Allocator, V: Tick>(nodes: &NodeAllocator<A, V>, counter: &mut V) -> Reached
     requires sound { SomeNodes nodes.now }
     ensures level { result.level ≡ 0 }
-    ensures on_way { (b : List Bool) (len : ℕ) → len ≤ length b
-        → IsOnWay b len result.level result.node (result.at.start + result.at.place) nodes.now }
+    ensures on_path { (b : List Bool) (len : ℕ) → len ≤ length b
+        → IsOnPath b len result.level result.node (result.at.start + result.at.offset) nodes.now }
     ensures visits { V.count counter.new ≡ V.count counter.old + 1 }
 {
     let at = NodeSlot::ROOT;
@@ -49,11 +49,11 @@ pub fn next_slot<K: Key>(from: Reached, rest: K, len: u32) -> Option<NodeSlot>
     requires key { K.IsKey rest }
     requires within { len ≤ K.bit_width }
     ensures { (b : List Bool) (v : Store Node)
-        → IsOnWay b len from.level from.node (from.at.start + from.at.place) v
+        → IsOnPath b len from.level from.node (from.at.start + from.at.offset) v
         → IsRest b (5 * from.level) (K.bits rest)
         → MatchOption result
-        (IsReached b len from.level from.node (from.at.start + from.at.place) v)
-        (λ at. IsOnWay b len (from.level + 1) (node_at v.slots (at.start + at.place)) (at.start + at.place) v) }
+        (IsReached b len from.level from.node (from.at.start + from.at.offset) v)
+        (λ at. IsOnPath b len (from.level + 1) (node_at v.slots (at.start + at.offset)) (at.start + at.offset) v) }
 {
     if from.level >= len / 5 {
         return None;
@@ -77,14 +77,14 @@ pub fn step_down<K: Key, A: Allocator, V: Tick>(
     requires key { K.IsKey rest }
     requires within { len ≤ K.bit_width }
     requires sound { SomeNodes nodes.now }
-    requires on_way { (b : List Bool) × IsOnWay b len from.level from.node (from.at.start + from.at.place) nodes.now
+    requires on_path { (b : List Bool) × IsOnPath b len from.level from.node (from.at.start + from.at.offset) nodes.now
         × IsRest b (5 * from.level) (K.bits rest) }
-    ensures step { (b : List Bool) → IsOnWay b len from.level from.node (from.at.start + from.at.place) nodes.now
+    ensures step { (b : List Bool) → IsOnPath b len from.level from.node (from.at.start + from.at.offset) nodes.now
         → IsRest b (5 * from.level) (K.bits rest)
         → MatchOption result
-        (IsReached b len from.level from.node (from.at.start + from.at.place) nodes.now)
+        (IsReached b len from.level from.node (from.at.start + from.at.offset) nodes.now)
         (λ next. (next.level ≡ from.level + 1)
-        × IsOnWay b len next.level next.node (next.at.start + next.at.place) nodes.now) }
+        × IsOnPath b len next.level next.node (next.at.start + next.at.offset) nodes.now) }
     ensures visits { MatchOption result
         (V.count counter.new ≡ V.count counter.old)
         (λ _. V.count counter.new ≡ V.count counter.old + 1) }
@@ -113,14 +113,14 @@ pub fn descend<K: Key, A: Allocator, V: Tick>(
     requires within { len ≤ K.bit_width }
     requires sound { SomeNodes nodes.now }
     ensures reached { IsReached (K.bits key) len
-        result.0.level result.0.node (result.0.at.start + result.0.at.place) nodes.now }
+        result.0.level result.0.node (result.0.at.start + result.0.at.offset) nodes.now }
     ensures key { K.IsKey result.1 }
     ensures rest { IsRest (K.bits key) (5 * result.0.level) (K.bits result.1) }
     ensures visits { V.count counter.new ≡ V.count counter.old + (result.0.level + 1) }
 {
     let mut here = root(nodes, counter);
     let mut rest = key;
-    'way: loop {
+    'descent: loop {
         let Some(next) = step_down(nodes, here, rest, len, counter) else {
             return (here, rest);
         };
@@ -141,20 +141,20 @@ pub fn locate_in<K: Key, A: Allocator, V: Tick>(
     requires key { K.IsKey key }
     requires within { len ≤ K.bit_width }
     requires sound { SomeNodes nodes.now }
-    ensures place { Locates nodes.now (K.bits key) len result }
+    ensures located { Locates nodes.now (K.bits key) len result }
     ensures visits { (reading : List ℕ → Option Node) (paths : List (List ℕ))
         → NodesHold node_sizes reading paths nodes.now
-        → (level : ℕ) × IsEnd reading (path_of (take len (K.bits key))) level
+        → (level : ℕ) × IsEnd reading (chunks_of (take len (K.bits key))) level
         × (V.count counter.new ≡ V.count counter.old + (level + 1)) }
 {
     let (reached, rest) = descend(nodes, key, len, counter);
     let depth = 5 * reached.level;
     if reached.level < len / 5 {
-        return Location::Missing(WayEnd { reached });
+        return Location::Missing(SearchEnd { reached });
     }
     let bit = value_bit_of(rest, 0, len - depth);
     if !has_bit(reached.node.value_bitmap, bit) {
-        return Location::Missing(WayEnd { reached });
+        return Location::Missing(SearchEnd { reached });
     }
     Location::Stored(reached.node.value_seat(bit))
 }

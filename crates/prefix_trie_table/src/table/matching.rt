@@ -4,10 +4,10 @@ ghost use Rattle.prefix_trie_bits.specs.Windows.{IsRest};
 ghost use Rattle.prefix_trie_table.specs.declared.allocator.node.Node.{Node};
 ghost use Rattle.prefix_trie_table.specs.Bitmaps.{has_bit as is_set};
 ghost use Rattle.prefix_trie_table.specs.Cells.{node_sizes};
-ghost use Rattle.prefix_trie_table.specs.Digits.{path_of};
+ghost use Rattle.prefix_trie_table.specs.Digits.{chunks_of};
 ghost use Rattle.prefix_trie_table.specs.Forest.{NodesHold, SomeNodes, IsEnd};
 ghost use Rattle.prefix_trie_table.specs.Tables.{IsReached};
-ghost use Rattle.prefix_trie_table.specs.Matching.{LackLastBit, IsOnWay, LongestHeld, ShortestHeld, cell_slot, match_seat};
+ghost use Rattle.prefix_trie_table.specs.Matching.{LackLastBit, IsOnPath, LongestHeld, ShortestHeld, cell_slot, match_seat};
 
 use crate::allocator::blocks::Cells;
 use crate::allocator::node::Node;
@@ -46,7 +46,7 @@ pub fn longest_in<K: Key>(here: Reached, rest: K, len: u32) -> Option<Match>
     requires few { is_set here.node.value_bitmap 31 ≡ false }
     ensures { (b : List Bool) (reading : List ℕ → Option Node)
         → len ≤ length b → IsRest b (5 * here.level) (K.bits rest)
-        → reading (take here.level (path_of (take len b))) ≡ Some here.node
+        → reading (take here.level (chunks_of (take len b))) ≡ Some here.node
         → LongestHeld reading (take len b) (5 * here.level) (5 * here.level + 5) result }
 {
     let depth = 5 * here.level;
@@ -62,7 +62,7 @@ pub fn longest_in<K: Key>(here: Reached, rest: K, len: u32) -> Option<Match>
 
 /// The longest beginning of a bit string that has a value. Each node on the way is read once.
 #[inline(always)]
-pub fn longest_on_way<K: Key, A: Allocator, V: Tick>(
+pub fn longest_on_path<K: Key, A: Allocator, V: Tick>(
     nodes: &NodeAllocator<A, V>,
     key: K,
     len: u32,
@@ -76,13 +76,13 @@ pub fn longest_on_way<K: Key, A: Allocator, V: Tick>(
         → LongestHeld reading (take len (K.bits key)) 0 (len + 1) result }
     ensures visits { (reading : List ℕ → Option Node) (paths : List (List ℕ))
         → NodesHold node_sizes reading paths nodes.now
-        → (level : ℕ) × IsEnd reading (path_of (take len (K.bits key))) level
+        → (level : ℕ) × IsEnd reading (chunks_of (take len (K.bits key))) level
         × (V.count counter.new ≡ V.count counter.old + (level + 1)) }
 {
     let mut here = root(nodes, counter);
     let mut rest = key;
     let mut best = None;
-    'way: loop {
+    'descent: loop {
         best = longest_in(here, rest, len).or(best);
         let Some(next) = step_down(nodes, here, rest, len, counter) else {
             return best;
@@ -101,7 +101,7 @@ fn shortest_in<K: Key>(here: Reached, rest: K, len: u32) -> Option<Match>
     requires few { is_set here.node.value_bitmap 31 ≡ false }
     ensures found { (b : List Bool) (reading : List ℕ → Option Node)
         → len ≤ length b → IsRest b (5 * here.level) (K.bits rest)
-        → reading (take here.level (path_of (take len b))) ≡ Some here.node
+        → reading (take here.level (chunks_of (take len b))) ≡ Some here.node
         → ShortestHeld reading (take len b) (5 * here.level) (5 * here.level + 5) result }
     ensures own { IfSome result (λ m. (5 * here.level ≤ m.len) × (m.len < 5 * here.level + 5)) }
 {
@@ -119,7 +119,7 @@ fn shortest_in<K: Key>(here: Reached, rest: K, len: u32) -> Option<Match>
 /// The shortest beginning of a bit string that has a value. The nodes on the way are read once each, down to the one of
 /// that beginning.
 #[inline(always)]
-pub fn shortest_on_way<K: Key, A: Allocator, V: Tick>(
+pub fn shortest_on_path<K: Key, A: Allocator, V: Tick>(
     nodes: &NodeAllocator<A, V>,
     key: K,
     len: u32,
@@ -134,13 +134,13 @@ pub fn shortest_on_way<K: Key, A: Allocator, V: Tick>(
     ensures visits { (reading : List ℕ → Option Node) (paths : List (List ℕ))
         → NodesHold node_sizes reading paths nodes.now
         → MatchOption result
-        ((level : ℕ) × IsEnd reading (path_of (take len (K.bits key))) level
+        ((level : ℕ) × IsEnd reading (chunks_of (take len (K.bits key))) level
         × (V.count counter.new ≡ V.count counter.old + (level + 1)))
         (λ m. V.count counter.new ≡ V.count counter.old + (m.len / 5 + 1)) }
 {
     let mut here = root(nodes, counter);
     let mut rest = key;
-    'way: loop {
+    'descent: loop {
         if let Some(found) = shortest_in(here, rest, len) {
             return Some(found);
         }
@@ -166,7 +166,7 @@ pub fn value_of_match<'a, T: Drop, A: Allocator>(
         × (slice_index_or cells.now.slots (cell_slot found) None ≡ Some r.1.now)) }
 {
     let seat = found.seat();
-    let Some(value) = cells.at(seat.start, seat.place).as_ref() else {
+    let Some(value) = cells.at(seat.start, seat.offset).as_ref() else {
         return None;
     };
     Some((found.len, value))

@@ -2,10 +2,10 @@
 ghost use Rattle.std.specs.Prelude.{◌≡◌, OnOk, OnErr, IfErr};
 ghost use Rattle.prefix_trie_bits.specs.declared.prefix.Refusal.TheVariants.{Memory};
 ghost use Rattle.prefix_trie_bits.specs.Model.Entries.{AreWithin};
-ghost use Rattle.prefix_trie_bits.specs.Model.HandsOut.{IsPacked};
+ghost use Rattle.prefix_trie_bits.specs.Model.SplitsOff.{IsPacked};
 ghost use Rattle.prefix_trie_bits.specs.Model.Nodes.{AreNodes, needed};
 ghost use Rattle.prefix_trie_table.specs.Shape.{state, storage};
-ghost use Rattle.prefix_trie_table.specs.Steps.{stored};
+ghost use Rattle.prefix_trie_table.specs.Steps.{stored_state};
 
 use crate::allocator::nodes::Tick;
 use crate::table::Table;
@@ -39,8 +39,8 @@ impl<T: Drop, A: Allocator + Clone, V: Tick> Table<T, A, V> {
         ensures entries { OnOk result (self.new.entries ≡ self.old.entries) }
         ensures nodes { OnOk result (self.new.nodes ≡ needed self.old.entries) }
         ensures packed { OnOk result (IsPacked (state self.new) (storage self.new)) }
-        ensures limit { OnOk result (self.new.room.limit ≡ self.old.room.limit) }
-        ensures kept { OnErr result (stored self.new ≡ stored self.old) }
+        ensures limit { OnOk result (self.new.space.limit ≡ self.old.space.limit) }
+        ensures kept { OnErr result (stored_state self.new ≡ stored_state self.old) }
         ensures memory { IfErr result (λ cause. cause ≡ Memory) }
     {
         let compacted = self.remove_children(K::zero(), 0, counter)?;

@@ -3,11 +3,11 @@ ghost use Rattle.std.specs.Prelude.{◌≡◌, ℕ, ◌+◌, ◌*◌, ◌/◌, �
 ghost use Rattle.prefix_trie_table.specs.declared.allocator.node.Node.{Node};
 ghost use Rattle.prefix_trie_table.specs.Bitmaps.{has_bit as is_set, rank as rank_of};
 ghost use Rattle.prefix_trie_table.specs.Cells.{blank_node, node_at, node_sizes, cell_sizes};
-ghost use Rattle.prefix_trie_table.specs.Digits.{path_of, bit_of};
+ghost use Rattle.prefix_trie_table.specs.Digits.{chunks_of, bit_of};
 ghost use Rattle.prefix_trie_table.specs.Store.{Sound, no_blocks};
 ghost use Rattle.prefix_trie_table.specs.Forest.{IsSlot, NodesHold, CellsHold, SomeTable, SomeNodes, IsNodeAt, entry_count, one_if};
-ghost use Rattle.prefix_trie_table.specs.Removals.{ValueTaken, EntryTaken, SameBlocks, IsBare, IsStocked, GivesBack, ChildDropped, IsWay, StandsAtEnd, Pruned, EntryRemoved};
-ghost use Rattle.prefix_trie_table.specs.Settling.{Settles, NodesSettle};
+ghost use Rattle.prefix_trie_table.specs.Removals.{ValueTaken, EntryTaken, SameBlocks, IsBare, IsStocked, GivesBack, ChildDropped, AreAncestors, StandsAtEnd, Pruned, EntryRemoved};
+ghost use Rattle.prefix_trie_table.specs.GrowthBounds.{BoundsGrowth, BoundsNodeGrowth};
 ghost use Rattle.prefix_trie_table.specs.Tables.{IsReached, Grows, ForHeld, own_value};
 
 use crate::allocator::blocks::Cells;
@@ -60,23 +60,23 @@ pub fn take_value<T: Drop, A: Allocator, V: Tick>(
     bit: u32,
 ) -> (Option<T>, Node)
     requires bit { bit < 31 }
-    requires stands { (t : SomeTable nodes.old cells.old) × IsNodeAt t.reading (at.start + at.place) }
-    requires node { node ≡ node_at nodes.old.slots (at.start + at.place) }
+    requires stands { (t : SomeTable nodes.old cells.old) × IsNodeAt t.reading (at.start + at.offset) }
+    requires node { node ≡ node_at nodes.old.slots (at.start + at.offset) }
     requires there { is_set node.value_bitmap bit ≡ true }
     ensures node_blocks { SameBlocks nodes.old nodes.new }
-    ensures cell_room { Grows cells.old cells.new 24 }
-    ensures settles { Settles nodes.old nodes.new cells.old cells.new }
+    ensures cell_space { Grows cells.old cells.new 24 }
+    ensures bounds_growth { BoundsGrowth nodes.old nodes.new cells.old cells.new }
     ensures value { (reading : List ℕ → Option Node) (paths : List (List ℕ))
         (values : List ℕ → ℕ → Option T) (p : List ℕ) (n : Node)
         → NodesHold node_sizes reading paths nodes.old
         → CellsHold cell_sizes reading values paths cells.old
-        → IsSlot reading p (at.start + at.place) → reading p ≡ Some n
+        → IsSlot reading p (at.start + at.offset) → reading p ≡ Some n
         → result.0 ≡ values p bit }
     ensures taken { (reading : List ℕ → Option Node) (paths : List (List ℕ))
         (values : List ℕ → ℕ → Option T) (p : List ℕ) (n : Node)
         → NodesHold node_sizes reading paths nodes.old
         → CellsHold cell_sizes reading values paths cells.old
-        → IsSlot reading p (at.start + at.place) → reading p ≡ Some n
+        → IsSlot reading p (at.start + at.offset) → reading p ≡ Some n
         → ValueTaken reading paths values p bit n result.1 nodes.new cells.old cells.new }
 {
     let (value, rest) = cells.remove_at(
@@ -109,18 +109,18 @@ fn take_entry<K: Key, T: Drop, A: Allocator, V: Tick>(
 ) -> (Option<T>, Node)
     requires key { K.IsKey key }
     requires within { len ≤ K.bit_width }
-    requires reached { IsReached (K.bits key) len (len / 5) node (at.start + at.place) nodes.old }
+    requires reached { IsReached (K.bits key) len (len / 5) node (at.start + at.offset) nodes.old }
     requires table { (t : SomeTable nodes.old cells.old)
         × (entries.old ≡ entry_count t.reading t.paths) }
     ensures value { ForHeld nodes.old cells.old (λ reading paths values.
         result.0 ≡ own_value values (K.bits key) len) }
     ensures taken { ForHeld nodes.old cells.old (λ reading paths values.
-        (t : EntryTaken reading paths values (path_of (take len (K.bits key)))
+        (t : EntryTaken reading paths values (chunks_of (take len (K.bits key)))
         (bit_of (take len (K.bits key))) nodes.new cells.old cells.new)
-        × (t.later (path_of (take len (K.bits key))) ≡ Some result.1)) }
+        × (t.later (chunks_of (take len (K.bits key))) ≡ Some result.1)) }
     ensures counted { entries.new + one_if (is_some result.0) ≡ entries.old }
     ensures node_blocks { SameBlocks nodes.old nodes.new }
-    ensures cell_room { Grows cells.old cells.new 24 }
+    ensures cell_space { Grows cells.old cells.new 24 }
 {
     let bit = value_bit_of(key, len / 5 * 5, len);
     if !has_bit(node.value_bitmap, bit) {
@@ -147,11 +147,11 @@ pub fn remove_value<K: Key, T: Drop, A: Allocator, V: Tick>(
     ensures value { ForHeld nodes.old cells.old (λ reading paths values.
         result ≡ own_value values (K.bits key) len) }
     ensures taken { ForHeld nodes.old cells.old (λ reading paths values.
-        EntryTaken reading paths values (path_of (take len (K.bits key)))
+        EntryTaken reading paths values (chunks_of (take len (K.bits key)))
         (bit_of (take len (K.bits key))) nodes.new cells.old cells.new) }
     ensures counted { entries.new + one_if (is_some result) ≡ entries.old }
     ensures node_blocks { SameBlocks nodes.old nodes.new }
-    ensures cell_room { Grows cells.old cells.new 24 }
+    ensures cell_space { Grows cells.old cells.new 24 }
 {
     let (reached, _) = descend(nodes, key, len, counter);
     if 5 * reached.level + 5 <= len {
@@ -162,7 +162,7 @@ pub fn remove_value<K: Key, T: Drop, A: Allocator, V: Tick>(
 
 /// Goes down the way of a bit string to the string's own node, and puts the slots of the nodes above it into `above`, which is
 /// empty before. Answers where the node stands, and the node, or `None` where a node of the way is missing.
-pub fn descend_keeping_way<K: Key, A: Allocator, V: Tick>(
+pub fn descend_keeping_ancestors<K: Key, A: Allocator, V: Tick>(
     nodes: &NodeAllocator<A, V>,
     key: K,
     len: u32,
@@ -174,14 +174,14 @@ pub fn descend_keeping_way<K: Key, A: Allocator, V: Tick>(
     requires sound { SomeNodes nodes.now }
     requires empty { above.old.items ≡ [] }
     ensures found { IfSome result (λ end. IsReached (K.bits key) len (len / 5)
-        end.1 (end.0.start + end.0.place) nodes.now
+        end.1 (end.0.start + end.0.offset) nodes.now
         × (length above.new.items ≡ len / 5)
         × ((reading : List ℕ → Option Node) (paths : List (List ℕ))
         → NodesHold node_sizes reading paths nodes.now
-        → IsWay reading (path_of (take len (K.bits key))) above.new.items (len / 5))) }
+        → AreAncestors reading (chunks_of (take len (K.bits key))) above.new.items (len / 5))) }
     ensures missing { IfNone result ((reading : List ℕ → Option Node) (paths : List (List ℕ))
         → NodesHold node_sizes reading paths nodes.now
-        → reading (path_of (take len (K.bits key))) ≡ None) }
+        → reading (chunks_of (take len (K.bits key))) ≡ None) }
 {
     let mut at = NodeSlot::ROOT;
     let mut node = nodes.visit(at, counter);
@@ -194,7 +194,7 @@ pub fn descend_keeping_way<K: Key, A: Allocator, V: Tick>(
         above.push(at);
         at = NodeSlot {
             start: node.child_block,
-            place: rank(node.child_bitmap, child),
+            offset: rank(node.child_bitmap, child),
         };
         node = nodes.visit(at, counter);
         // Shifted by the same at each level: no shift here depends on the depth.
@@ -221,15 +221,15 @@ pub fn drop_child<A: Allocator, V: Tick>(
     counter: &mut V,
 ) -> Node
     requires child { child < 32 }
-    requires stands { (n : SomeNodes nodes.old) × IsNodeAt n.reading (at.start + at.place) }
-    requires there { is_set (node_at nodes.old.slots (at.start + at.place)).child_bitmap child
+    requires stands { (n : SomeNodes nodes.old) × IsNodeAt n.reading (at.start + at.offset) }
+    requires there { is_set (node_at nodes.old.slots (at.start + at.offset)).child_bitmap child
         ≡ true }
-    ensures room { Grows nodes.old nodes.new 24 }
+    ensures space { Grows nodes.old nodes.new 24 }
     ensures last { rank_of result.child_bitmap 32 ≡ 0 → GivesBack nodes.old nodes.new }
     ensures dropped { (reading : List ℕ → Option Node) (paths : List (List ℕ)) (p : List ℕ)
         (n leaf : Node)
         → NodesHold node_sizes reading paths nodes.old
-        → IsSlot reading p (at.start + at.place) → reading p ≡ Some n
+        → IsSlot reading p (at.start + at.offset) → reading p ≡ Some n
         → reading (p ++ child ∷ []) ≡ Some leaf → rank_of leaf.child_bitmap 32 ≡ 0
         → ChildDropped reading paths p child n result nodes.old nodes.new }
 {
@@ -256,7 +256,7 @@ pub fn drop_child<A: Allocator, V: Tick>(
 /// The root stays.
 pub fn prune_up<K: Key, A: Allocator, V: Tick>(
     nodes: &mut NodeAllocator<A, V>,
-    way: &[NodeSlot],
+    ancestors: &[NodeSlot],
     key: K,
     len: u32,
     node: Node,
@@ -264,22 +264,22 @@ pub fn prune_up<K: Key, A: Allocator, V: Tick>(
 )
     requires key { K.IsKey key }
     requires within { len ≤ K.bit_width }
-    requires long { length way.now ≡ len / 5 }
-    requires stands { StandsAtEnd (path_of (take len (K.bits key))) way.now (len / 5) node
+    requires long { length ancestors.now ≡ len / 5 }
+    requires stands { StandsAtEnd (chunks_of (take len (K.bits key))) ancestors.now (len / 5) node
         nodes.old }
-    ensures room { Grows nodes.old nodes.new 24 }
-    ensures settles { NodesSettle nodes.old nodes.new }
+    ensures space { Grows nodes.old nodes.new 24 }
+    ensures bounds_growth { BoundsNodeGrowth nodes.old nodes.new }
     ensures pruned { (reading : List ℕ → Option Node) (paths : List (List ℕ))
         → NodesHold node_sizes reading paths nodes.old
-        → IsWay reading (path_of (take len (K.bits key))) way.now (len / 5)
-        → reading (path_of (take len (K.bits key))) ≡ Some node
-        → Pruned reading paths (path_of (take len (K.bits key))) nodes.old nodes.new }
+        → AreAncestors reading (chunks_of (take len (K.bits key))) ancestors.now (len / 5)
+        → reading (chunks_of (take len (K.bits key))) ≡ Some node
+        → Pruned reading paths (chunks_of (take len (K.bits key))) nodes.old nodes.new }
 {
     let mut level = len / 5;
     let mut node = node;
     while level > 0 && is_bare(node) {
         level -= 1;
-        let at = way[level as usize];
+        let at = ancestors[level as usize];
         node = drop_child(nodes, at, child_bit_of(key, 5 * level), counter);
     }
 }
@@ -301,14 +301,14 @@ pub fn remove_entry<K: Key, T: Drop, A: Allocator, V: Tick>(
     ensures value { ForHeld nodes.old cells.old (λ reading paths values.
         result ≡ own_value values (K.bits key) len) }
     ensures removed { ForHeld nodes.old cells.old (λ reading paths values.
-        EntryRemoved reading paths values (path_of (take len (K.bits key)))
+        EntryRemoved reading paths values (chunks_of (take len (K.bits key)))
         (bit_of (take len (K.bits key))) nodes.old cells.old nodes.new cells.new) }
     ensures counted { entries.new + one_if (is_some result) ≡ entries.old }
-    ensures node_room { Grows nodes.old nodes.new 24 }
-    ensures cell_room { Grows cells.old cells.new 24 }
+    ensures node_space { Grows nodes.old nodes.new 24 }
+    ensures cell_space { Grows cells.old cells.new 24 }
 {
     let mut above = ArrayVec::new();
-    let Some((at, node)) = descend_keeping_way(nodes, key, len, &mut above, counter) else {
+    let Some((at, node)) = descend_keeping_ancestors(nodes, key, len, &mut above, counter) else {
         return None;
     };
     let (value, left) = take_entry(nodes, cells, entries, key, len, at, node);

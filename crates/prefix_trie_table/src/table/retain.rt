@@ -3,13 +3,13 @@ ghost use Rattle.std.specs.Prelude.{◌≡◌, ℕ, ◌+◌, ◌-◌, ◌*◌, �
 ghost use Rattle.prefix_trie_bits.specs.Bits.{zeros};
 ghost use Rattle.prefix_trie_bits.specs.Places.{place_of, value_bit, has};
 ghost use Rattle.prefix_trie_bits.specs.Walks.{to_come};
-ghost use Rattle.prefix_trie_bits.specs.Model.Asking.{AsksInOrder, MayAskInOrder};
+ghost use Rattle.prefix_trie_bits.specs.Model.Retaining.{RetainsEntries, CallableOnEachEntry};
 ghost use Rattle.prefix_trie_bits.specs.Model.Selections.{listing};
 ghost use Rattle.prefix_trie_bits.specs.Model.Step.{State};
-ghost use Rattle.prefix_trie_table.specs.Digits.{path_of};
+ghost use Rattle.prefix_trie_table.specs.Digits.{chunks_of};
 ghost use Rattle.prefix_trie_table.specs.Forest.{read};
 ghost use Rattle.prefix_trie_table.specs.Walking.Walks.{IsPlaceOf};
-ghost use Rattle.prefix_trie_table.specs.Retaining.{HasPlace, IsSite, Lasts, RetainsIn, RetainsAll, MayAskAt};
+ghost use Rattle.prefix_trie_table.specs.Retaining.{HasPlace, IsSite, PreservesBelow, RetainsIn, RetainsAll, MayAskAt};
 ghost use Rattle.prefix_trie_table.specs.Tables.{IsTrie};
 
 use crate::allocator::blocks::Cells;
@@ -92,7 +92,7 @@ fn retain_value<K: Key, T: Drop, A: Allocator, V: Tick, F: Keep<K, T, V>>(
         K.bit_width (take site.depth (K.bits site.key)) (t ∷ [])
         keep.old entries.old nodes.old cells.old keep.new entries.new nodes.new cells.new }
     ensures node { IsSite K.IsKey K.bits K.bit_width nodes.new site result }
-    ensures lasts { Lasts (site.depth / 5) nodes.old nodes.new cells.old cells.new }
+    ensures preserves { PreservesBelow (site.depth / 5) nodes.old nodes.new cells.old cells.new }
 {
     let (n, tail) = string_of(bit);
     let Some(value) = cells
@@ -136,14 +136,14 @@ fn retain_place<K: Key, T: Drop, A: Allocator, V: Tick, F: Keep<K, T, V>>(
         K.bit_width (take site.depth (K.bits site.key)) (t ∷ [])
         keep.old entries.old nodes.old cells.old keep.new entries.new nodes.new cells.new }
     ensures node { IsSite K.IsKey K.bits K.bit_width nodes.new site result }
-    ensures lasts { Lasts (site.depth / 5) nodes.old nodes.new cells.old cells.new }
+    ensures preserves { PreservesBelow (site.depth / 5) nodes.old nodes.new cells.old cells.new }
 {
     match place {
         Place::Value(bit) => retain_value(nodes, cells, entries, keep, site, node, bit, counter),
         Place::Child(child) => {
             let slot = NodeSlot {
                 start: node.child_block,
-                place: rank(node.child_bitmap, child),
+                offset: rank(node.child_bitmap, child),
             };
             let below = Site {
                 slot,
@@ -183,7 +183,7 @@ pub(super) fn retain_places<K: Key, T: Drop, A: Allocator, V: Tick, F: Keep<K, T
         K.bit_width (take site.depth (K.bits site.key)) (to_come places)
         keep.old entries.old nodes.old cells.old keep.new entries.new nodes.new cells.new }
     ensures node { IsSite K.IsKey K.bits K.bit_width nodes.new site result }
-    ensures lasts { Lasts (site.depth / 5) nodes.old nodes.new cells.old cells.new }
+    ensures preserves { PreservesBelow (site.depth / 5) nodes.old nodes.new cells.old cells.new }
 {
     let mut node = node;
     let mut places = places;
@@ -203,10 +203,10 @@ pub fn retain_entries<K: Key, T: Drop, A: Allocator, V: Tick, F: Keep<K, T, V>>(
 )
     requires trie { (s : State T) × IsTrie K.bit_width entries.old nodes.old cells.old s }
     requires may_ask { (s : State T) → IsTrie K.bit_width entries.old nodes.old cells.old s
-        → MayAskInOrder F.asks F.accepts keep (listing s.entries) }
+        → CallableOnEachEntry F.asks F.accepts keep (listing s.entries) }
     ensures kept { (s : State T) → IsTrie K.bit_width entries.old nodes.old cells.old s
         → RetainsAll F.asks F.accepts K.bit_width keep s entries.new nodes.new cells.new }
-    ensures lasts { Lasts 0 nodes.old nodes.new cells.old cells.new }
+    ensures preserves { PreservesBelow 0 nodes.old nodes.new cells.old cells.new }
 {
     let mut keep = keep;
     let site = Site {

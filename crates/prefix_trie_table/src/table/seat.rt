@@ -10,13 +10,13 @@ use prefix_trie_bits::node::rank;
 #[derive(Clone, Copy)]
 pub struct Seat {
     pub(super) start: u32,
-    pub(super) place: u32,
+    pub(super) offset: u32,
 }
 
 /// Where the way of a bit string ends that has no value: the deepest node on it, as it was read. It is right until the table
 /// changes.
 #[derive(Clone, Copy)]
-pub struct WayEnd {
+pub struct SearchEnd {
     pub(super) reached: Reached,
 }
 
@@ -26,7 +26,7 @@ pub enum Location {
     /// The value stands here.
     Stored(Seat),
     /// There is none.
-    Missing(WayEnd),
+    Missing(SearchEnd),
 }
 
 impl Node {
@@ -38,7 +38,7 @@ impl Node {
     {
         Seat {
             start: self.value_block,
-            place: rank(self.value_bitmap, bit),
+            offset: rank(self.value_bitmap, bit),
         }
     }
 }

@@ -5,8 +5,8 @@ ghost use Rattle.prefix_trie_bits.specs.Walks.{to_come};
 ghost use Rattle.prefix_trie_table.specs.Bitmaps.{has_bit as is_set};
 ghost use Rattle.prefix_trie_table.specs.Cells.{node_at};
 ghost use Rattle.prefix_trie_table.specs.Tables.{IsTrie};
-ghost use Rattle.prefix_trie_table.specs.Walking.Cursors.{places_in};
-ghost use Rattle.prefix_trie_table.specs.Walking.Walks.{Tree, IsSpot, IsPlaceOf, IsSeated, KeepsWay, Skips, Steps, slot_of};
+ghost use Rattle.prefix_trie_table.specs.Walking.Starts.{places_in};
+ghost use Rattle.prefix_trie_table.specs.Walking.Walks.{Tree, IsSpot, IsPlaceOf, IsSeated, StaysOnPath, Skips, Steps, slot_of};
 
 use crate::allocator::blocks::Cells;
 use crate::allocator::node::{Node, NodeSlot};
@@ -54,9 +54,9 @@ pub fn enter<A: Allocator, V: Tick>(
     depth: u32,
     counter: &mut V,
 ) -> Spot
-    requires stands { at.start + at.place < length nodes.now.slots }
-    requires few { is_set (node_at nodes.now.slots (at.start + at.place)).value_bitmap 31 ≡ false }
-    ensures node { result.node ≡ node_at nodes.now.slots (at.start + at.place) }
+    requires stands { at.start + at.offset < length nodes.now.slots }
+    requires few { is_set (node_at nodes.now.slots (at.start + at.offset)).value_bitmap 31 ≡ false }
+    ensures node { result.node ≡ node_at nodes.now.slots (at.start + at.offset) }
     ensures depth { result.depth ≡ depth }
     ensures places { to_come result.places ≡ places result.node.value_bitmap result.node.child_bitmap }
     ensures each { All (IsPlaceOf result.node) (to_come result.places) }
@@ -100,7 +100,7 @@ pub fn next_at<K: Key, A: Allocator, V: Tick, T: Drop>(
     ensures step { (t : Tree T) → IsTrie K.bit_width t.count nodes.now t.cells t.shape
         → Steps K.IsKey K.bits K.bit_width nodes.now t key spot.old result spot.new }
     ensures seat { IsSeated K.bits nodes.now.slots result }
-    ensures way { KeepsWay K.bits key spot.old result spot.new }
+    ensures way { StaysOnPath K.bits key spot.old result spot.new }
 {
     let Some(place) = spot.places.next_place() else {
         return Step::Done;
@@ -153,7 +153,7 @@ pub fn value_at<T: Drop, A: Allocator>(cells: &Cells<T, A>, seat: Seat) -> &T
     requires set { (v : T) × (slice_index_or cells.now.slots (slot_of seat) None ≡ Some v) }
     ensures { slice_index_or cells.now.slots (slot_of seat) None ≡ Some result.now }
 {
-    let Some(value) = cells.at(seat.start, seat.place).as_ref() else {
+    let Some(value) = cells.at(seat.start, seat.offset).as_ref() else {
         unreachable!();
     };
     value

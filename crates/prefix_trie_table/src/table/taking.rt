@@ -15,7 +15,7 @@ ghost use Rattle.prefix_trie_table.specs.Walking.Taking.{Seated, Seated-prop};
 use crate::allocator::blocks::Cells;
 use crate::allocator::nodes::{NodeAllocator, Tick};
 use crate::table::Table;
-use crate::table::cursor::{Start, start_at};
+use crate::table::walk_start::{Start, start_at};
 use crate::table::spot::Spot;
 use crate::table::walk::advance;
 use arrayvec::ArrayVec;
@@ -93,7 +93,7 @@ impl<K: Key, T: Drop, A: Allocator, V: Tick> IntoWalk<K, T, A, V> {
         ) else {
             return None;
         };
-        let Some(value) = self.cells.put(seat.start, seat.place, None) else {
+        let Some(value) = self.cells.put(seat.start, seat.offset, None) else {
             unreachable!();
         };
         Some((key, len, value))

@@ -204,7 +204,7 @@ fn skip_at_last<K: Key>(stack: &mut ArrayVec<Spot, 26>, key: K, len: u32)
     requires key { K.IsKey key }
     requires within { len ≤ K.bit_width }
     requires last { (way : K) × EndsLast K.bits way stack.old.items key len }
-    requires room { length stack.old.items ≤ 26 }
+    requires space { length stack.old.items ≤ 26 }
     ensures { SkipsLast (K.bits key) len stack.old.items stack.new.items }
 {
     if let Some(mut spot) = stack.pop() {

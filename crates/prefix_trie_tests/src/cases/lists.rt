@@ -1,5 +1,5 @@
 //! Cases that ask for all entries of a map, and for those around a prefix.
-use crate::cases::questions::{found_pair, pair_of, shown};
+use crate::cases::questions::{found_pair, pair_of, prefix_pairs};
 use crate::cases::{Entry, Pair, prefix_of};
 use prefix_trie::map::{Iter, IterMut, Keys, Values};
 use prefix_trie::{Key, Prefix, PrefixMap};
@@ -23,7 +23,7 @@ pub fn gives<P: Prefix + Copy, A: Allocator>(
     entries: &[Entry<P::R>],
 ) -> bool {
     for entry in entries {
-        if shown(walk.next()) != Some(*entry) {
+        if prefix_pairs(walk.next()) != Some(*entry) {
             return false;
         }
     }
@@ -36,7 +36,7 @@ pub fn gives_same<P: Prefix + Copy, A: Allocator>(
     mut other: Iter<'_, P, u64, A>,
 ) -> bool {
     for entry in walk {
-        if shown(other.next()) != shown(Some(entry)) {
+        if prefix_pairs(other.next()) != prefix_pairs(Some(entry)) {
             return false;
         }
     }
@@ -50,7 +50,7 @@ fn are_parts<P: Prefix + Copy>(
     value: Option<&u64>,
     entry: &Entry<P::R>,
 ) -> bool {
-    (shown(item) == Some(*entry))
+    (prefix_pairs(item) == Some(*entry))
         & (found_pair(key) == Some(entry.0))
         & (value.copied() == Some(entry.1))
 }

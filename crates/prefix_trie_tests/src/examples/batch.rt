@@ -29,7 +29,7 @@ pub fn next_hops<A: Allocator>(table: &Routes<A>, addresses: &[u32], hops: &mut 
 
 /// The addresses as prefixes, which `prefixes` then begins with.
 fn as_prefixes(addresses: &[u32], prefixes: &mut [Ipv4Prefix])
-    requires room { length addresses.now ≤ length prefixes.old }
+    requires space { length addresses.now ≤ length prefixes.old }
     requires fit { All (λ p. (p.0 < 2 ^ 32) × (p.1 ≤ 32)) prefixes.old }
     ensures hosts { take (length addresses.now) prefixes.new ≡ map (λ addr. (addr, 32)) addresses.now }
     ensures fit { All (λ p. (p.0 < 2 ^ 32) × (p.1 ≤ 32)) prefixes.new }

@@ -1,6 +1,6 @@
 //! An inventory: networks, each with the number of its owner.
 ghost use Rattle.std.specs.Prelude.{◌≡◌, length};
-ghost use Rattle.prefix_trie.specs.Words.{address_answer, first_item, ipv4_back, ipv4_path, listing_after, listing_below, shown};
+ghost use Rattle.prefix_trie.specs.Words.{address_answer, first_item, ipv4_back, ipv4_path, listing_after, listing_below, prefix_pairs};
 
 use prefix_trie::laws::network_laws;
 use prefix_trie::{Ipv4Prefix, PrefixMap};
@@ -11,7 +11,7 @@ type Inventory<A> = PrefixMap<Ipv4Prefix, u32, A>;
 
 /// The first network behind the one that was read last, and its owner.
 pub fn next<A: Allocator>(networks: &Inventory<A>, last: Ipv4Prefix) -> Option<(Ipv4Prefix, u32)>
-    ensures { result ≡ first_item (shown ipv4_back (listing_after networks.now.entries (ipv4_path last))) }
+    ensures { result ≡ first_item (prefix_pairs ipv4_back (listing_after networks.now.entries (ipv4_path last))) }
 {
     match networks.iter_from(&last, false).next() {
         Some((network, owner)) => Some((network, *owner)),

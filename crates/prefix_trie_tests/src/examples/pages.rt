@@ -1,6 +1,6 @@
 //! Entries that are read in pages: each begins behind the last entry of the one before.
 ghost use Rattle.std.specs.Prelude.{◌≡◌, ℕ, ◌+◌, ◌<◌, ◌++◌, List, IfOk, OnOk, length, take};
-ghost use Rattle.prefix_trie.specs.Words.{listing, shown};
+ghost use Rattle.prefix_trie.specs.Words.{listing, prefix_pairs};
 
 use prefix_trie::laws::page_laws;
 use prefix_trie::map::Iter;
@@ -12,8 +12,8 @@ fn behind<'m, P: Prefix, A: Allocator>(
     map: &'m PrefixMap<P, u64, A>,
     read: &[(P, u64)],
 ) -> Iter<'m, P, u64, A>
-    requires { (rest : List (P × ℕ)) × (shown P.back (listing map.now.entries) ≡ read.now ++ rest) }
-    ensures { shown P.back (listing map.now.entries) ≡ read.now ++ result }
+    requires { (rest : List (P × ℕ)) × (prefix_pairs P.back (listing map.now.entries) ≡ read.now ++ rest) }
+    ensures { prefix_pairs P.back (listing map.now.entries) ≡ read.now ++ result }
 {
     page_laws::<P, u64>();
     // The proof learns from it that no key is longer than the width.
@@ -30,8 +30,8 @@ pub fn read_page<P: Prefix, A: Allocator, B: Allocator>(
     size: usize,
     read: &mut Vec<(P, u64), B>,
 ) -> Result<(), AllocError>
-    requires { (rest : List (P × ℕ)) × (shown P.back (listing map.now.entries) ≡ read.old.items ++ rest) }
-    ensures { OnOk result (read.new.items ≡ take (length read.old.items + size) (shown P.back (listing map.now.entries))) }
+    requires { (rest : List (P × ℕ)) × (prefix_pairs P.back (listing map.now.entries) ≡ read.old.items ++ rest) }
+    ensures { OnOk result (read.new.items ≡ take (length read.old.items + size) (prefix_pairs P.back (listing map.now.entries))) }
 {
     let mut walk = behind(map, read);
     for _i in 0..size {
@@ -50,7 +50,7 @@ pub fn read_all<P: Prefix, A: Allocator, B: Allocator>(
     alloc: B,
 ) -> Result<Vec<(P, u64), B>, AllocError>
     requires { 0 < size }
-    ensures { IfOk result (λ read. read.items ≡ shown P.back (listing map.now.entries)) }
+    ensures { IfOk result (λ read. read.items ≡ prefix_pairs P.back (listing map.now.entries)) }
 {
     let mut read = Vec::new(alloc);
     while read.len() < map.len() {

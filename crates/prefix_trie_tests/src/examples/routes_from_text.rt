@@ -3,7 +3,7 @@ ghost use Rattle.std.specs.Prelude.{◌≡◌, ℕ, List, ◌++◌, IfOk, OnOk, 
 ghost use Rattle.std.specs.Option.{option_map};
 ghost use Rattle.std.specs.Net.Addr.{ipv4_bits};
 ghost use Rattle.std.specs.Str.Parse.{digits_value, without_leading_plus};
-ghost use Rattle.prefix_trie.specs.Words.{ipv4_address, ipv4_back, ipv4_network_text, ipv4_path, listing, longest_match, shown, with_entry, IsIpv4NetworkText};
+ghost use Rattle.prefix_trie.specs.Words.{ipv4_address, ipv4_back, ipv4_network_text, ipv4_path, listing, longest_match, prefix_pairs, with_entry, IsIpv4NetworkText};
 
 use prefix_trie::laws::network_laws;
 use prefix_trie::{Ipv4Prefix, ParseNetworkError, PrefixMap, Refusal};
@@ -72,7 +72,7 @@ pub fn print<A: Allocator, B: Allocator>(
     alloc: B,
 ) -> Result<String<B>, AllocError>
     ensures { IfOk result (λ text. string_bytes text
-        ≡ flat_map (λ route. ipv4_network_text route.0 ++ (codes " " ++ (decimal route.1 ++ codes "\n"))) (shown ipv4_back (listing table.now.entries))) }
+        ≡ flat_map (λ route. ipv4_network_text route.0 ++ (codes " " ++ (decimal route.1 ++ codes "\n"))) (prefix_pairs ipv4_back (listing table.now.entries))) }
 {
     let mut text = String::new(alloc);
     for (network, hop) in table {

@@ -10,8 +10,8 @@ use std::alloc::Allocator;
 
 // Doubles the values that are still to come.
 fn double_rest<'b, 'a, P: Prefix, A: Allocator>(walk: &'b mut ValuesMut<'a, P, u64, A>)
-    requires { OrderedIn walk.old.walk.course }
-    ensures { RewritesIn (λ v. (v * 2) % 2 ^ 64) walk.old.walk.course walk.new.walk.course }
+    requires { OrderedIn walk.old.walk.source }
+    ensures { RewritesIn (λ v. (v * 2) % 2 ^ 64) walk.old.walk.source walk.new.walk.source }
 {
     while let Some(place) = walk.next() {
         *place = place.wrapping_mul(2);
@@ -30,8 +30,8 @@ pub fn double_all<P: Prefix, A: Allocator>(map: &mut PrefixMap<P, u64, A>)
 
 // Doubles the values of the entries that are still to come.
 fn double_entries<'b, 'a, P: Prefix, A: Allocator>(walk: &'b mut IterMut<'a, P, u64, A>)
-    requires { OrderedIn walk.old.course }
-    ensures { RewritesIn (λ v. (v * 2) % 2 ^ 64) walk.old.course walk.new.course }
+    requires { OrderedIn walk.old.source }
+    ensures { RewritesIn (λ v. (v * 2) % 2 ^ 64) walk.old.source walk.new.source }
 {
     while let Some((_prefix, stop)) = walk.step() {
         let place = walk.value(stop);

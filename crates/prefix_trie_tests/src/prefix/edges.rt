@@ -82,7 +82,7 @@ fn is_part<K: Key, A: Allocator + Copy, M: Tried<K, A>>(
 }
 
 /// Whether that is so of what is handed out at a pair.
-fn hands_out<K: Key, A: Allocator + Copy, M: Tried<K, A>>(
+fn splits_off<K: Key, A: Allocator + Copy, M: Tried<K, A>>(
     heap: &Refusing<Global>,
     tried: &mut M,
     at: Pair<K>,
@@ -119,7 +119,7 @@ fn are_alike_alone<K: Key, A: Allocator + Copy, M: Tried<K, A>>(
     clean: Pair<K>,
 ) -> bool {
     are_changed::<K, A, M>(heap, tried, at, other, clean)
-        & hands_out::<K, A, M>(heap, tried, at, (clean, 1))
+        & splits_off::<K, A, M>(heap, tried, at, (clean, 1))
         & are_filled::<K, A, M>(heap, tried, at, other)
 }
 

@@ -1,7 +1,7 @@
 //! What a caller of a run learns of its replies, by its contract alone.
 ghost use Rattle.std.specs.Prelude.{◌≡◌, ◌≤◌, ◌+◌, ◌/◌, ℕ, [], ◌∷◌, Some, IfOk, OnOk, length};
 ghost use Rattle.std.specs.FinMap.{len};
-ghost use Rattle.prefix_trie.specs.Words.{longest_match, needed, replies_of, shown_match};
+ghost use Rattle.prefix_trie.specs.Words.{longest_match, needed, replies_of, prefix_pair};
 ghost use Rattle.prefix_trie_map.specs.Steps.{state};
 ghost use Rattle.prefix_trie_bits.specs.Model.Step.{Match, Done, Count, Reply as Answer};
 
@@ -22,7 +22,7 @@ fn longest_of<A: Allocator + Clone>(
 ) -> Result<(Vec<Reply<Pair, A>, A>, Reads), AllocError>
     requires { ⟦<Pair as Prefix>⟧.IsFitting prefix }
     ensures reply { IfOk result (λ ran. replies_of ⟦<u16 as Key>⟧.bits ran.0.items
-        ≡ Match (shown_match ⟦<Pair as Prefix>⟧.back (longest_match map.old.entries (⟦<Pair as Prefix>⟧.path prefix))) ∷ []) }
+        ≡ Match (prefix_pair ⟦<Pair as Prefix>⟧.back (longest_match map.old.entries (⟦<Pair as Prefix>⟧.path prefix))) ∷ []) }
     ensures reads { IfOk result (λ ran. (n : ℕ) × (ran.1 ≡ Some n ∷ []) × (n ≤ length (⟦<Pair as Prefix>⟧.path prefix) / 5 + 1)) }
     ensures unchanged { OnOk result (state map.new ≡ state map.old) }
 {

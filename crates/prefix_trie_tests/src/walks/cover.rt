@@ -1,7 +1,7 @@
 //! What callers of the covering walks learn from their contracts.
 ghost use Rattle.std.specs.Prelude.{◌≡◌, length, nat_le};
 ghost use Rattle.std.specs.List.{list_all};
-ghost use Rattle.prefix_trie.specs.Words.{covers, shown};
+ghost use Rattle.prefix_trie.specs.Words.{covers, prefix_pairs};
 
 use crate::on_new::on_new;
 use crate::stored::stores;
@@ -19,7 +19,7 @@ fn count<P: Prefix, T: Drop, A: Allocator>(m: &PrefixMap<P, T, A>, prefix: &P) -
 // Whether no value stored for those prefixes is below this one.
 fn none_below<P: Prefix, A: Allocator>(m: &PrefixMap<P, u32, A>, prefix: &P, least: u32) -> bool
     requires { P.IsFitting prefix.now }
-    ensures { result ≡ list_all (λ e. nat_le least e.1) (shown P.back (covers m.now.entries (P.path prefix.now))) }
+    ensures { result ≡ list_all (λ e. nat_le least e.1) (prefix_pairs P.back (covers m.now.entries (P.path prefix.now))) }
 {
     for (_, value) in m.cover(prefix) {
         if *value < least {

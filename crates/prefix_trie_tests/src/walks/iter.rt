@@ -2,7 +2,7 @@
 ghost use Rattle.std.specs.Prelude.{◌≡◌, ◌++◌, ◌∷◌, [], List, map, nat_le, IfOk, MatchOption};
 ghost use Rattle.std.specs.FinMap.{len};
 ghost use Rattle.std.specs.List.{list_all};
-ghost use Rattle.prefix_trie.specs.Words.{listing, shown};
+ghost use Rattle.prefix_trie.specs.Words.{listing, prefix_pairs};
 
 use crate::on_new::on_new;
 use crate::stored::stores;
@@ -33,7 +33,7 @@ fn all_keys<P: Prefix, T: Drop, A: Allocator>(
 
 // Whether no value is below this one.
 fn none_below<P: Prefix, A: Allocator>(m: &PrefixMap<P, u32, A>, least: u32) -> bool
-    ensures { result ≡ list_all (λ e. nat_le least e.1) (shown P.back (listing m.now.entries)) }
+    ensures { result ≡ list_all (λ e. nat_le least e.1) (prefix_pairs P.back (listing m.now.entries)) }
 {
     for (_, value) in m {
         if *value < least {
@@ -48,7 +48,7 @@ fn resumed<'m, P: Prefix, T: Drop, A: Allocator>(
     m: &'m PrefixMap<P, T, A>,
     mut walk: Iter<'m, P, T, A>,
 ) -> Option<Iter<'m, P, T, A>>
-    requires { (read : List (P × T)) × (shown P.back (listing m.now.entries) ≡ read ++ walk) }
+    requires { (read : List (P × T)) × (prefix_pairs P.back (listing m.now.entries) ≡ read ++ walk) }
     ensures { MatchOption result (walk.entry ≡ []) (λ rest. (last : P × T) × (walk.entry ≡ last ∷ rest)) }
 {
     resume_laws::<P, T>();

@@ -1,7 +1,7 @@
 //! Callers that write through what a map lends, and what they know of the map afterwards.
 ghost use Rattle.std.specs.Prelude.{◌≡◌, List, Bool, false, IsTrue, IsFalse, None, Some};
 ghost use Rattle.std.specs.FinMap.{get};
-ghost use Rattle.prefix_trie.specs.Words.{longest_match, shown_match, with_longest_at, with_value_at};
+ghost use Rattle.prefix_trie.specs.Words.{longest_match, prefix_pair, with_longest_at, with_value_at};
 ghost use Rattle.prefix_trie_bits.specs.Begins.{same_bool};
 ghost use Rattle.prefix_trie_bits.specs.Order.{same_string};
 
@@ -55,7 +55,7 @@ fn rewrite<P: Prefix, A: Allocator>(
     value: u8,
 ) -> Option<(P, u8)>
     requires { P.IsFitting prefix.now }
-    ensures { shown_match P.back (longest_match map.old.entries (P.path prefix.now)) ≡ result }
+    ensures { prefix_pair P.back (longest_match map.old.entries (P.path prefix.now)) ≡ result }
 {
     let Some((found, stored)) = map.get_lpm_mut(prefix) else {
         return None;

@@ -1,6 +1,6 @@
 //! Walks that take a map apart: what a caller knows of them, and what is dropped when.
 ghost use Rattle.std.specs.Prelude.{◌≡◌, OnOk};
-ghost use Rattle.prefix_trie.specs.Words.{listing, put_all, shown};
+ghost use Rattle.prefix_trie.specs.Words.{listing, put_all, prefix_pairs};
 
 use crate::clones::Copied;
 use crate::drops::{Counted, let_go};
@@ -16,7 +16,7 @@ fn pour<P: Prefix, T: Drop, A: Allocator>(
     to: &mut PrefixMap<P, T, A>,
     from: PrefixMap<P, T, A>,
 ) -> Result<(), Refused<T>>
-    ensures { OnOk result (to.new.entries ≡ put_all P.path (shown P.back (listing from.entries)) to.old.entries) }
+    ensures { OnOk result (to.new.entries ≡ put_all P.path (prefix_pairs P.back (listing from.entries)) to.old.entries) }
 {
     for (prefix, value) in from {
         to.insert(prefix, value)?;

@@ -1,6 +1,6 @@
 //! Callers of walks that lend values for writing, and what they know of the map afterwards.
 ghost use Rattle.std.specs.Prelude.{◌≡◌, List, Bool, [], ◌∷◌, IsTrue, MatchOption, slice_get};
-ghost use Rattle.prefix_trie.specs.Words.{listing, shown, with_value_at};
+ghost use Rattle.prefix_trie.specs.Words.{listing, prefix_pairs, with_value_at};
 ghost use Rattle.prefix_trie_map.specs.Writing.{ComesToEnd, GoesOver, IsFirst};
 ghost use Rattle.prefix_trie_map.specs.WritingWalks.{EndsIn, FirstIn, PassesIn};
 
@@ -18,8 +18,8 @@ fn swap_next<'b, 'a, P: Prefix, T: Drop, A: Allocator>(
     walk: &'b mut IterMut<'a, P, T, A>,
     value: T,
 ) -> Option<(P, T)>
-    ensures { MatchOption result (EndsIn ComesToEnd walk.old.course walk.new.course)
-        (λ r. FirstIn IsFirst walk.old.course r.0 r.1 × PassesIn GoesOver walk.old.course value walk.new.course) }
+    ensures { MatchOption result (EndsIn ComesToEnd walk.old.source walk.new.source)
+        (λ r. FirstIn IsFirst walk.old.source r.0 r.1 × PassesIn GoesOver walk.old.source value walk.new.source) }
 {
     let (prefix, stop) = walk.step()?;
     let before = mem::replace(walk.value(stop), value);
@@ -31,7 +31,7 @@ fn swap_first<P: Prefix, T: Drop, A: Allocator>(
     map: &mut PrefixMap<P, T, A>,
     value: T,
 ) -> Option<(P, T)>
-    ensures before { result ≡ slice_get (shown P.back (listing map.old.entries)) 0 }
+    ensures before { result ≡ slice_get (prefix_pairs P.back (listing map.old.entries)) 0 }
     ensures unchanged { listing map.old.entries ≡ [] → map.new ≡ map.old }
     ensures swapped { (q : List Bool) → (v : T) → (rest : List (List Bool × T)) → listing map.old.entries ≡ (q, v) ∷ rest
         → map.new ≡ with_value_at map.old q value }

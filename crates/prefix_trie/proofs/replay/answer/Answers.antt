@@ -1,24 +1,24 @@
-use Rattle.prefix_trie.proofs.Prelude.{refl, ap, call_of, stored, reply_of}
+use Rattle.prefix_trie.proofs.Prelude.{refl, ap, call_of, stored_state, reply_of}
 use Rattle.prefix_trie.proofs.CountedSteps.{answered, carried_out, listed}
 use Rattle.prefix_trie.proofs.replay.answer.Goals as goal
 
 pub returns-in-Insert : goal.returns-in-Insert
-returns-in-Insert g c = carried_out g.P.Prefix.path g.P.Prefix.back g.P.R.Key.bit_width (ap call_of c.in-Insert.is) (stored c.args.map.now) (stored c.insert.new.map) (reply_of g.P.R.Key.bits c.insert.result) refl c.insert.ensures
+returns-in-Insert g c = carried_out g.P.Prefix.path g.P.Prefix.back g.P.R.Key.bit_width (ap call_of c.in-Insert.is) (stored_state c.args.map.now) (stored_state c.insert.new.map) (reply_of g.P.R.Key.bits c.insert.result) refl c.insert.ensures
 
 pub returns-in-Remove : goal.returns-in-Remove
-returns-in-Remove g c = carried_out g.P.Prefix.path g.P.Prefix.back g.P.R.Key.bit_width (ap call_of c.in-Remove.is) (stored c.args.map.now) (stored c.remove.new.map) (reply_of g.P.R.Key.bits c.remove.result) refl c.remove.ensures
+returns-in-Remove g c = carried_out g.P.Prefix.path g.P.Prefix.back g.P.R.Key.bit_width (ap call_of c.in-Remove.is) (stored_state c.args.map.now) (stored_state c.remove.new.map) (reply_of g.P.R.Key.bits c.remove.result) refl c.remove.ensures
 
 pub returns-in-RemoveKeepTree : goal.returns-in-RemoveKeepTree
-returns-in-RemoveKeepTree g c = carried_out g.P.Prefix.path g.P.Prefix.back g.P.R.Key.bit_width (ap call_of c.in-RemoveKeepTree.is) (stored c.args.map.now) (stored c.remove_keep_tree.new.map) (reply_of g.P.R.Key.bits c.remove_keep_tree.result) refl c.remove_keep_tree.ensures
+returns-in-RemoveKeepTree g c = carried_out g.P.Prefix.path g.P.Prefix.back g.P.R.Key.bit_width (ap call_of c.in-RemoveKeepTree.is) (stored_state c.args.map.now) (stored_state c.remove_keep_tree.new.map) (reply_of g.P.R.Key.bits c.remove_keep_tree.result) refl c.remove_keep_tree.ensures
 
 pub returns-in-RemoveChildren : goal.returns-in-RemoveChildren
-returns-in-RemoveChildren g c = carried_out g.P.Prefix.path g.P.Prefix.back g.P.R.Key.bit_width (ap call_of c.in-RemoveChildren.is) (stored c.args.map.now) (stored c.drop_children.new.map) (reply_of g.P.R.Key.bits c.drop_children.result) refl c.drop_children.ensures
+returns-in-RemoveChildren g c = carried_out g.P.Prefix.path g.P.Prefix.back g.P.R.Key.bit_width (ap call_of c.in-RemoveChildren.is) (stored_state c.args.map.now) (stored_state c.drop_children.new.map) (reply_of g.P.R.Key.bits c.drop_children.result) refl c.drop_children.ensures
 
 pub returns-in-RetainAtLeast : goal.returns-in-RetainAtLeast
-returns-in-RetainAtLeast g c = carried_out g.P.Prefix.path g.P.Prefix.back g.P.R.Key.bit_width (ap call_of c.in-RetainAtLeast.is) (stored c.args.map.now) (stored c.retain_at_least.new.map) (reply_of g.P.R.Key.bits c.retain_at_least.result) refl c.retain_at_least.ensures
+returns-in-RetainAtLeast g c = carried_out g.P.Prefix.path g.P.Prefix.back g.P.R.Key.bit_width (ap call_of c.in-RetainAtLeast.is) (stored_state c.args.map.now) (stored_state c.retain_at_least.new.map) (reply_of g.P.R.Key.bits c.retain_at_least.result) refl c.retain_at_least.ensures
 
 pub returns-in-Clear : goal.returns-in-Clear
-returns-in-Clear g c = carried_out g.P.Prefix.path g.P.Prefix.back g.P.R.Key.bit_width (ap call_of c.in-Clear.is) (stored c.args.map.now) (stored c.clear.new.map) (reply_of g.P.R.Key.bits c.clear.result) refl c.clear.ensures
+returns-in-Clear g c = carried_out g.P.Prefix.path g.P.Prefix.back g.P.R.Key.bit_width (ap call_of c.in-Clear.is) (stored_state c.args.map.now) (stored_state c.clear.new.map) (reply_of g.P.R.Key.bits c.clear.result) refl c.clear.ensures
 
 pub returns-in-Get : goal.returns-in-Get
 returns-in-Get g c =

@@ -1,4 +1,4 @@
-use Rattle.prefix_trie.proofs.Prelude.{List, [], refl, sym, ap, subst, err_from_is_err_and, arith, take_all, path_within, step_pushed, run_counted, StepsSoFar, all_fit_more, stored, call_of, reply_of, calls_of, replies_of}
+use Rattle.prefix_trie.proofs.Prelude.{List, [], refl, sym, ap, subst, err_from_is_err_and, arith, take_all, path_within, step_pushed, run_counted, StepsSoFar, all_fit_more, stored_state, call_of, reply_of, calls_of, replies_of}
 use Rattle.prefix_trie.specs.Replay.{IsFittingCall}
 use Rattle.prefix_trie.specs.declared.replay.Call.{Call}
 use Rattle.prefix_trie.proofs.replay.run_counted.Goals as goal
@@ -6,7 +6,7 @@ use Rattle.prefix_trie.proofs.replay.run_counted.Goals as goal
 pub loop-call-init : goal.loop-call-init
 loop-call-init g c = record {
   each = c.in_ok-replies.ensures.len;
-  room = c.in_ok-replies.ensures.capacity;
+  space = c.in_ok-replies.ensures.capacity;
   run = ([], sym (ap (replies_of g.P.R.Key.bits) c.in_ok-replies.ensures.items), sym c.new-reads.ensures, (refl, refl));
 }
 
@@ -14,15 +14,15 @@ pub answer-reply-requires : goal.answer-reply-requires
 answer-reply-requires g c = subst (IsFittingCall g.P.Prefix.IsFitting) (sym c.call-item.is) (c.requires c.loop-call.call-index c.call-item.result c.loop-call-test.true)
 
 pub push_reserved-requires : goal.push_reserved-requires
-push_reserved-requires g c = omega (arith, c.loop-call.invariant.each, c.loop-call.invariant.room, c.loop-call-test.true)
+push_reserved-requires g c = omega (arith, c.loop-call.invariant.each, c.loop-call.invariant.space, c.loop-call-test.true)
 
 pub loop-call-preserved : goal.loop-call-preserved
 loop-call-preserved g c =
     let before = c.loop-call.invariant in
     record {
       each = omega (arith, c.push_reserved.ensures.len, before.each);
-      room = omega (arith, c.push_reserved.ensures.capacity, before.room);
-      run = step_pushed g.P.Prefix.path g.P.Prefix.back g.P.R.Key.bit_width call_of (reply_of g.P.R.Key.bits) (stored c.args.map.now) (stored c.loop-call.map) (stored c.answer-reply.new.map)
+      space = omega (arith, c.push_reserved.ensures.capacity, before.space);
+      run = step_pushed g.P.Prefix.path g.P.Prefix.back g.P.R.Key.bit_width call_of (reply_of g.P.R.Key.bits) (stored_state c.args.map.now) (stored_state c.loop-call.map) (stored_state c.answer-reply.new.map)
           c.args.calls.now c.loop-call.replies.items c.push_reserved.new.self.items c.loop-call.reads c.push.new.self c.loop-call.call-index c.call-item.result c.answer-reply.result.0 c.answer-reply.result.1
           c.loop-call-test.true c.call-item.is c.push_reserved.ensures.items c.push.ensures before.run c.answer-reply.ensures;
     }
@@ -31,7 +31,7 @@ pub returns-clause-counted : goal.returns-clause-counted
 returns-clause-counted g c = λ tidy is_tidy.
     run_counted g.P.Prefix.path g.P.Prefix.back g.P.R.Key.bit_width tidy _ _ _ _ _
     (all_fit_more (path_within g.met.P.Prefix.prefix_laws) call_of c.args.calls.now c.requires) c.len.ensures.whole.is_map is_tidy
-    (subst (λ (cs : List (Call g.row.P.Denot)). StepsSoFar g.P.Prefix.path g.P.Prefix.back g.P.R.Key.bit_width (stored c.args.map.now) (calls_of cs) (replies_of g.P.R.Key.bits c.loop-call.replies.items) c.loop-call.reads (stored c.loop-call.map))
+    (subst (λ (cs : List (Call g.row.P.Denot)). StepsSoFar g.P.Prefix.path g.P.Prefix.back g.P.R.Key.bit_width (stored_state c.args.map.now) (calls_of cs) (replies_of g.P.R.Key.bits c.loop-call.replies.items) c.loop-call.reads (stored_state c.loop-call.map))
     (take_all c.loop-call.call-index c.args.calls.now (omega (arith, c.loop-call-test.false))) c.loop-call.invariant.run)
 
 pub returns-in_err-clone-clause-none_carried_out : goal.returns-in_err-clone-clause-none_carried_out

@@ -1,4 +1,4 @@
-use Rattle.prefix_trie.proofs.Prelude.{◌≡◌, ◌≤◌, length, take, vec_len, vec_capacity, StepsSoFar, stored, calls_of, replies_of}
+use Rattle.prefix_trie.proofs.Prelude.{◌≡◌, ◌≤◌, length, take, vec_len, vec_capacity, StepsSoFar, stored_state, calls_of, replies_of}
 use Rattle.prefix_trie.proofs.replay.run_counted.Given as goal
 
 -- the calls so far, each with its reply and the number of nodes that it read, are steps from the map as it was, and there is room
@@ -6,6 +6,6 @@ use Rattle.prefix_trie.proofs.replay.run_counted.Given as goal
 abbrev pub invariant-loop-call : goal.invariant-loop-call
 invariant-loop-call g l = record {
   each : vec_len l.replies ≡ l.call-index;
-  room : length l.calls ≤ vec_capacity l.replies;
-  run : StepsSoFar g.P.Prefix.path g.P.Prefix.back g.P.R.Key.bit_width (stored l.fn.map) (calls_of (take l.call-index l.calls)) (replies_of g.P.R.Key.bits l.replies.items) l.reads (stored l.map);
+  space : length l.calls ≤ vec_capacity l.replies;
+  run : StepsSoFar g.P.Prefix.path g.P.Prefix.back g.P.R.Key.bit_width (stored_state l.fn.map) (calls_of (take l.call-index l.calls)) (replies_of g.P.R.Key.bits l.replies.items) l.reads (stored_state l.map);
 }

@@ -1,5 +1,5 @@
 -- What the insertion of a new key may leave of the storage: each node that needs a block takes it, and those that lack are made.
-use Rattle.prefix_trie_bits.proofs.Prelude.{◌≡◌, ℕ, ◌+◌, ◌≤◌, Bool, true, false, cond, not, ◌&&◌, ◌||◌, nat_lt, List, [], ◌∷◌, length, take, Option, None, Some, refl, sym, ap, ◌∙◌, subst, arith, filter_map, option_to_list, option_or, list_any, cons_option, get, same_string, Sizes, child_block_sizes, value_block_sizes, free_of, used_of, one_of, gains_child, child_block_needed, value_block_needed, child_blocks_needed, value_blocks_needed, child_blocks_lacking, value_blocks_lacking, node_slots_lacking, cell_slots_lacking, lacking_of, TakesBlocks, has_node, home, nodes_above, State, Storage, InsertsInStorage}
+use Rattle.prefix_trie_bits.proofs.Prelude.{◌≡◌, ℕ, ◌+◌, ◌≤◌, Bool, true, false, cond, not, ◌&&◌, ◌||◌, nat_lt, List, [], ◌∷◌, length, take, Option, None, Some, refl, sym, ap, ◌∙◌, subst, arith, filter_map, option_to_list, option_or, list_any, cons_option, get, same_string, Sizes, child_block_sizes, value_block_sizes, free_of, used_of, one_of, gains_child, child_block_needed, value_block_needed, child_blocks_needed, value_blocks_needed, missing_child_blocks, missing_value_blocks, missing_node_slots, missing_cell_slots, missing_of, TakesBlocks, has_node, home, nodes_above, State, Storage, InsertsInStorage}
 use Rattle.prefix_trie_bits.proofs.Model.Members.{same_string-is, any-node_above}
 use Rattle.prefix_trie_bits.proofs.Model.Storage.Shrinking.{rest_free, as_many, with_taken, with_taken_at, with_taken_used}
 use Rattle.prefix_trie_bits.proofs.Model.Storage.Slots.{how_many, how_many-more}
@@ -53,7 +53,7 @@ takes_all needed ps blocks nowhere p = take_all-at needed ps blocks p ∙ elim (
 
 -- of each size those in use are no more than there were, and those that lack
 few_lack : (sizes free : List ℕ) (needed : List ℕ) (used old size : ℕ) → used ≤ old + how_many size needed →
-    used ≤ old + free_of sizes free size + lacking_of sizes free needed size
+    used ≤ old + free_of sizes free size + missing_of sizes free needed size
 few_lack sizes free needed used old size h = omega (arith, h)
 
 none_of : (b : Bool) (o : Option ℕ) → b ≡ false → cond b o None ≡ None
@@ -71,10 +71,10 @@ module _ {T : Type 0} (s : State T) (q : List Bool) (before : Storage) where
   values = take_all (value_block_needed s.entries before.layout.value_blocks q) (home q ∷ []) before.layout.value_blocks
 
   abbrev pub all_children : ℕ → ℕ
-  all_children size = used_of before.layout.child_blocks size + free_of child_block_sizes before.layout.free_child_blocks size + child_blocks_lacking s.nodes before.layout q size
+  all_children size = used_of before.layout.child_blocks size + free_of child_block_sizes before.layout.free_child_blocks size + missing_child_blocks s.nodes before.layout q size
 
   abbrev pub all_values : ℕ → ℕ
-  all_values size = used_of before.layout.value_blocks size + free_of value_block_sizes before.layout.free_value_blocks size + value_blocks_lacking s.entries before.layout q size
+  all_values size = used_of before.layout.value_blocks size + free_of value_block_sizes before.layout.free_value_blocks size + missing_value_blocks s.entries before.layout q size
 
   children_few : (size : ℕ) → used_of children size ≤ all_children size
   children_few size = few_lack child_block_sizes before.layout.free_child_blocks (child_blocks_needed s.nodes before.layout q) (used_of children size) (used_of before.layout.child_blocks size) size
@@ -88,10 +88,10 @@ module _ {T : Type 0} (s : State T) (q : List Bool) (before : Storage) where
   -- each block that lacks is made
   abbrev pub gained : Storage
   gained = record {
-    room = record {
-      limit = before.room.limit;
-      node_slots = before.room.node_slots + node_slots_lacking s.nodes before.layout q;
-      cell_slots = before.room.cell_slots + cell_slots_lacking s.entries before.layout q;
+    space = record {
+      limit = before.space.limit;
+      node_slots = before.space.node_slots + missing_node_slots s.nodes before.layout q;
+      cell_slots = before.space.cell_slots + missing_cell_slots s.entries before.layout q;
     };
     layout = record {
       child_blocks = children;

@@ -97,10 +97,10 @@ module _ {T : Type 0} (width : ℕ) (s t : State T) (left : IsLeft width s t) wh
     values_many = leaves_many value_block_sizes before.layout.free_value_blocks refl s.nodes t.nodes (own_entries s.entries) (own_entries t.entries) before.layout.value_blocks have.value_blocks
         entries_fewer left.stood entries_bare
 
-    pub many_left : (after : Storage) × (after.room ≡ before.room) × RemovesManyInStorage s t before after × HaveBlocks t after.layout
+    pub many_left : (after : Storage) × (after.space ≡ before.space) × RemovesManyInStorage s t before after × HaveBlocks t after.layout
     many_left = (
       record {
-        room = before.room;
+        space = before.space;
         layout = record {
           child_blocks = children_many.new;
           value_blocks = values_many.new;
@@ -149,8 +149,8 @@ new_have T = bare_have (record { entries = new_entries; nodes = root_alone }) (�
 -- ---- one entry
 
 -- on the way to a question a string is that of its level
-on_way : (p q : List Bool) → length p % 5 ≡ 0 → begins p q ≡ true → at_level q (length p / 5) ≡ p
-on_way p q depth b = ap (λ n. take n q) (fives (length p) depth) ∙ begins-take p q b
+on_path : (p q : List Bool) → length p % 5 ≡ 0 → begins p q ≡ true → at_level q (length p / 5) ≡ p
+on_path p q depth b = ap (λ n. take n q) (fives (length p) depth) ∙ begins-take p q b
 
 module _ {T : Type 0} where
   pub removed_is : (m : Entries T) (q : List Bool) → without_entry m q ≡ retain_keys m (λ k. not (same_string k q))
@@ -192,7 +192,7 @@ module _ {T : Type 0} (width : ℕ) (s t : State T) (left : IsLeft width s t) (q
       begins c (home q) ≡ true → p ≡ at
   lost_child at last p c depth there missing b long on =
       let in_q = begins-trans c (home q) q on (home-begins q) in
-      let p_is = on_way p q depth (begins-trans p c q b in_q) in
+      let p_is = on_path p q depth (begins-trans p c q b in_q) in
       let c_is : at_level q (length p / 5 + 1) ≡ c = ap (λ n. take n q) (let e : 5 * (length p / 5 + 1) ≡ length p + 5 = omega (arith, depth) in e ∙ sym long) ∙ begins-take c q in_q in
       let inside : length p / 5 + 1 ≤ length q / 5 = (let short = begins-length c (home q) on in let h = home-length q in omega (arith, short, h, long)) in
       sym p_is ∙ last (length p / 5) inside (ap (has_node t.nodes) p_is ∙ there) (ap (has_node t.nodes) c_is ∙ missing)
@@ -210,7 +210,7 @@ module _ {T : Type 0} (width : ℕ) (s t : State T) (left : IsLeft width s t) (q
               let out = ((pruning_laws T).in_words s.nodes (without_entry s.entries q) q c had).0 (sym (ap (λ n. has_node n c) nodes) ∙ gone) in
               let depth = left.was.are_nodes.depths p stood in
               absurd (true≢false (sym (is-same_string p at (lost_child at last p c depth there gone (and-first (begins p c) (length c == length p + 5) child)
-              (eqb-true (length c) (length p + 5) (and-second (begins p c) (length c == length p + 5) child)) out.on_way)) ∙ other))
+              (eqb-true (length c) (length p + 5) (and-second (begins p c) (length c == length p + 5) child)) out.on_path)) ∙ other))
         ]))
   ]
 
@@ -230,7 +230,7 @@ module _ {T : Type 0} (width : ℕ) (s t : State T) (left : IsLeft width s t) (q
         )
 
     -- the value alone goes, and no node
-    pub value_left : t.nodes ≡ s.nodes → (after : Storage) × (after.room ≡ before.room) × RemovesValueInStorage s t q before after
+    pub value_left : t.nodes ≡ s.nodes → (after : Storage) × (after.space ≡ before.space) × RemovesValueInStorage s t q before after
         × (after.layout.child_blocks ≡ before.layout.child_blocks) × (after.layout.free_child_blocks ≡ before.layout.free_child_blocks) × HaveBlocks t after.layout
     value_left same = let values = values_one in (
       record before { layout = record before.layout { value_blocks = values.new; free_value_blocks = values.others } },
@@ -242,10 +242,10 @@ module _ {T : Type 0} (width : ℕ) (s t : State T) (left : IsLeft width s t) (q
     )
 
     -- and nodes go with it
-    pub one_left : t.nodes ≡ nodes_without s.nodes s.entries q → (after : Storage) × (after.room ≡ before.room) × RemovesValueInStorage s t q before after
+    pub one_left : t.nodes ≡ nodes_without s.nodes s.entries q → (after : Storage) × (after.space ≡ before.space) × RemovesValueInStorage s t q before after
         × PrunesInStorage s t before after × HaveBlocks t after.layout
     one_left nodes = let values = values_one in let children = (children_one nodes).1 in (
-      record { room = before.room; layout = record { child_blocks = children.new; value_blocks = values.new; free_child_blocks = children.others; free_value_blocks = values.others } },
+      record { space = before.space; layout = record { child_blocks = children.new; value_blocks = values.new; free_child_blocks = children.others; free_value_blocks = values.others } },
       refl,
       record { value_blocks = values.steps; cells_longer = inl refl; value_blocks_made = λ size at. (let e = values.as_many size at in let n = values.none_made size in omega (arith, e, n)) },
       record {

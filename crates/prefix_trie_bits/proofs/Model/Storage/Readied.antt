@@ -1,5 +1,5 @@
 -- What an insertion finds and leaves where the blocks that it lacks were made before it.
-use Rattle.prefix_trie_bits.proofs.Prelude.{◌≡◌, ℕ, zero, suc, ◌+◌, ◌-◌, ◌*◌, ◌<◌, Bool, true, cond, ◌&&◌, ◌==◌, List, [], ◌∷◌, length, nat_lt, refl, sym, ap, ◌∙◌, subst, arith, eq-eqb, eqb-true, ltb-true, false_from_ne_true, Contains, filter, Sizes, free_of, used_of, child_block_sizes, value_block_sizes, child_block_count, value_block_count, lacking_of, lacking_slots, TakesBlocks, child_block_needed, value_block_needed, child_blocks_needed, value_blocks_needed, child_blocks_lacking, value_blocks_lacking, node_slots_lacking, cell_slots_lacking, State, Refusal, Storage, InsertsInStorage, ReadiesInStorage, RefusesInStorage}
+use Rattle.prefix_trie_bits.proofs.Prelude.{◌≡◌, ℕ, zero, suc, ◌+◌, ◌-◌, ◌*◌, ◌<◌, Bool, true, cond, ◌&&◌, ◌==◌, List, [], ◌∷◌, length, nat_lt, refl, sym, ap, ◌∙◌, subst, arith, eq-eqb, eqb-true, ltb-true, false_from_ne_true, Contains, filter, Sizes, free_of, used_of, child_block_sizes, value_block_sizes, child_block_count, value_block_count, missing_of, slots_of_missing, TakesBlocks, child_block_needed, value_block_needed, child_blocks_needed, value_blocks_needed, missing_child_blocks, missing_value_blocks, missing_node_slots, missing_cell_slots, State, Refusal, Storage, InsertsInStorage, PreparesInStorage, RefusesInStorage}
 pub use Rattle.std.proofs.lemmas.Bool.{and_parts as both}
 
 -- whether the numbers go up, from s on
@@ -28,47 +28,47 @@ free_later s sizes f free x less =
     ap (λ b. cond b f (free_of sizes free x)) (false_from_ne_true (s == x) (λ h. let e = eqb-true s x h in omega (arith, less, e)))
 
 -- where no block of any size lacks, no slots do
-none_lack : (s : ℕ) (sizes free needed : List ℕ) → goes_up s sizes ≡ true → ((x : ℕ) → Contains sizes x → lacking_of sizes free needed x ≡ 0) →
-    lacking_slots sizes free needed ≡ 0
+none_lack : (s : ℕ) (sizes free needed : List ℕ) → goes_up s sizes ≡ true → ((x : ℕ) → Contains sizes x → missing_of sizes free needed x ≡ 0) →
+    slots_of_missing sizes free needed ≡ 0
 none_lack s [] free needed up each = refl
 none_lack s (t ∷ sizes) [] needed up each =
     let here : length (filter (λ n. n == t) needed) ≡ 0 = (let e = each t (0, omega arith, refl) in omega (arith, e)) in
     let rest = none_lack t sizes [] needed (both (nat_lt s t) (goes_up t sizes) up).1 (λ x there.
     (let e = each x (suc there.0, (let i = there.1 in omega arith), there.2) in let z = free_none sizes x in omega (arith, e, z))) in
-    ap (λ n. t * n + lacking_slots sizes [] needed) here ∙ omega (arith, rest)
+    ap (λ n. t * n + slots_of_missing sizes [] needed) here ∙ omega (arith, rest)
 none_lack s (t ∷ sizes) (f ∷ free) needed up each =
     let here : length (filter (λ n. n == t) needed) - f ≡ 0 = (let e = each t (0, omega arith, refl) in let z = free_here t sizes f free in omega (arith, e, z)) in
     let go = (both (nat_lt s t) (goes_up t sizes) up).1 in
     let rest = none_lack t sizes free needed go (λ x there.
     (let e = each x (suc there.0, (let i = there.1 in omega arith), there.2) in let z = free_later t sizes f free x (above t sizes go x there) in omega (arith, e, z))) in
-    ap (λ n. t * n + lacking_slots sizes free needed) here ∙ omega (arith, rest)
+    ap (λ n. t * n + slots_of_missing sizes free needed) here ∙ omega (arith, rest)
 
 -- blocks that were made and not taken are free
 made_free : (sizes : List ℕ) (needed : List ℕ) (used : Sizes) (free free2 : List ℕ) (x : ℕ) →
-    used_of used x + free_of sizes free2 x ≡ used_of used x + free_of sizes free x + lacking_of sizes free needed x → lacking_of sizes free2 needed x ≡ 0
+    used_of used x + free_of sizes free2 x ≡ used_of used x + free_of sizes free x + missing_of sizes free needed x → missing_of sizes free2 needed x ≡ 0
 made_free sizes needed used free free2 x made = omega (arith, made)
 
-module _ {T : Type 0} (s : State T) (q : List Bool) (before mid : Storage) (readied : ReadiesInStorage s q before mid) where
+module _ {T : Type 0} (s : State T) (q : List Bool) (before mid : Storage) (readied : PreparesInStorage s q before mid) where
   -- no block lacks then
-  pub no_child_block_lacks : (size : ℕ) → Contains child_block_sizes size → child_blocks_lacking s.nodes mid.layout q size ≡ 0
+  pub no_child_block_lacks : (size : ℕ) → Contains child_block_sizes size → missing_child_blocks s.nodes mid.layout q size ≡ 0
   no_child_block_lacks size there =
-      subst (λ b. lacking_of child_block_sizes mid.layout.free_child_blocks (child_blocks_needed s.nodes (record mid.layout { child_blocks = b }) q) size ≡ 0) (sym readied.child_blocks)
+      subst (λ b. missing_of child_block_sizes mid.layout.free_child_blocks (child_blocks_needed s.nodes (record mid.layout { child_blocks = b }) q) size ≡ 0) (sym readied.child_blocks)
       (made_free child_block_sizes (child_blocks_needed s.nodes before.layout q) before.layout.child_blocks before.layout.free_child_blocks mid.layout.free_child_blocks size
       (subst (λ b. used_of b size + free_of child_block_sizes mid.layout.free_child_blocks size
-      ≡ child_block_count before.layout size + child_blocks_lacking s.nodes before.layout q size) readied.child_blocks (readied.child_blocks_made size there)))
+      ≡ child_block_count before.layout size + missing_child_blocks s.nodes before.layout q size) readied.child_blocks (readied.child_blocks_made size there)))
 
-  pub no_value_block_lacks : (size : ℕ) → Contains value_block_sizes size → value_blocks_lacking s.entries mid.layout q size ≡ 0
+  pub no_value_block_lacks : (size : ℕ) → Contains value_block_sizes size → missing_value_blocks s.entries mid.layout q size ≡ 0
   no_value_block_lacks size there =
-      subst (λ b. lacking_of value_block_sizes mid.layout.free_value_blocks (value_blocks_needed s.entries (record mid.layout { value_blocks = b }) q) size ≡ 0) (sym readied.value_blocks)
+      subst (λ b. missing_of value_block_sizes mid.layout.free_value_blocks (value_blocks_needed s.entries (record mid.layout { value_blocks = b }) q) size ≡ 0) (sym readied.value_blocks)
       (made_free value_block_sizes (value_blocks_needed s.entries before.layout q) before.layout.value_blocks before.layout.free_value_blocks mid.layout.free_value_blocks size
       (subst (λ b. used_of b size + free_of value_block_sizes mid.layout.free_value_blocks size
-      ≡ value_block_count before.layout size + value_blocks_lacking s.entries before.layout q size) readied.value_blocks (readied.value_blocks_made size there)))
+      ≡ value_block_count before.layout size + missing_value_blocks s.entries before.layout q size) readied.value_blocks (readied.value_blocks_made size there)))
 
   -- and so no slots
-  pub no_node_slots_lack : node_slots_lacking s.nodes mid.layout q ≡ 0
+  pub no_node_slots_lack : missing_node_slots s.nodes mid.layout q ≡ 0
   no_node_slots_lack = none_lack 0 child_block_sizes mid.layout.free_child_blocks (child_blocks_needed s.nodes mid.layout q) refl no_child_block_lacks
 
-  pub no_cell_slots_lack : cell_slots_lacking s.entries mid.layout q ≡ 0
+  pub no_cell_slots_lack : missing_cell_slots s.entries mid.layout q ≡ 0
   no_cell_slots_lack = none_lack 0 value_block_sizes mid.layout.free_value_blocks (value_blocks_needed s.entries mid.layout q) refl no_value_block_lacks
 
   -- so the insertion is not refused

@@ -1,5 +1,5 @@
 -- Where an insertion lacks a block, it may be refused and leave all as it was.
-use Rattle.prefix_trie_bits.proofs.Prelude.{◌≡◌, ℕ, ◌+◌, ◌-◌, ◌*◌, ◌<◌, ◌≤◌, ◌==◌, inl, inr, Bool, true, false, cond, nat_lt, nat_le, List, [], ◌∷◌, Option, None, Some, refl, sym, ap, subst, arith, ltb-true, eqb-true, cases_eq, false_from_ne_true, none-some, same_Some, mul-le-mul_left, Contains, filter_map, cons_option, get, same_string, free_of, smallest_size, child_block_sizes, value_block_sizes, child_count, own_entries, block_needed, gains_child, child_block_needed, value_block_needed, child_blocks_needed, value_blocks_needed, child_blocks_lacking, value_blocks_lacking, node_slots_lacking, cell_slots_lacking, lacking_of, lacking_slots, home, nodes_above, State, Refusal, Memory, IndexRange, Storage, RefusesInStorage, GivesCause}
+use Rattle.prefix_trie_bits.proofs.Prelude.{◌≡◌, ℕ, ◌+◌, ◌-◌, ◌*◌, ◌<◌, ◌≤◌, ◌==◌, inl, inr, Bool, true, false, cond, nat_lt, nat_le, List, [], ◌∷◌, Option, None, Some, refl, sym, ap, subst, arith, ltb-true, eqb-true, cases_eq, false_from_ne_true, none-some, same_Some, mul-le-mul_left, Contains, filter_map, cons_option, get, same_string, free_of, smallest_size, child_block_sizes, value_block_sizes, child_count, own_entries, block_needed, gains_child, child_block_needed, value_block_needed, child_blocks_needed, value_blocks_needed, missing_child_blocks, missing_value_blocks, missing_node_slots, missing_cell_slots, missing_of, slots_of_missing, home, nodes_above, State, Refusal, Memory, IndexRange, Storage, RefusesInStorage, GivesCause}
 use Rattle.std.specs.Prelude.{find}
 use Rattle.prefix_trie_bits.proofs.Model.Storage.Gained.{one_list}
 use Rattle.prefix_trie_bits.proofs.Model.Storage.Readied.{goes_up, both, above, free_none, free_here, free_later}
@@ -46,45 +46,45 @@ listed_among sizes needed each (p ∷ ps) x some = of_first (needed p) (each p x
 least_slots : (t h rest : ℕ) → 0 < t → 0 < h → 0 < t * h + rest
 least_slots t h rest a b = let m = mul-le-mul_left t (let one : 1 ≤ h = omega (arith, b) in one) in omega (arith, m, a)
 
-some_lack : (s : ℕ) (sizes free needed : List ℕ) → goes_up s sizes ≡ true → (x : ℕ) → Contains sizes x → 0 < lacking_of sizes free needed x → 0 < lacking_slots sizes free needed
+some_lack : (s : ℕ) (sizes free needed : List ℕ) → goes_up s sizes ≡ true → (x : ℕ) → Contains sizes x → 0 < missing_of sizes free needed x → 0 < slots_of_missing sizes free needed
 some_lack s [] free needed up x at some = absurd (let i = at.1 in omega arith)
 some_lack s (t ∷ sizes) [] needed up x at some =
     let less = ltb-true s t (both (nat_lt s t) (goes_up t sizes) up).0 in
-    elim (in_cases t sizes x at) as (λ _. 0 < lacking_slots (t ∷ sizes) [] needed) [
-      | inl here ↦ least_slots t (how_many t needed) (lacking_slots sizes [] needed) (omega (arith, less))
+    elim (in_cases t sizes x at) as (λ _. 0 < slots_of_missing (t ∷ sizes) [] needed) [
+      | inl here ↦ least_slots t (how_many t needed) (slots_of_missing sizes [] needed) (omega (arith, less))
           (let h = subst (λ y. 0 < how_many y needed) (sym here) (let more : 0 < how_many x needed = omega (arith, some) in more) in h)
       | inr there ↦ (let rest = some_lack t sizes [] needed (both (nat_lt s t) (goes_up t sizes) up).1 x there (let z = free_none sizes x in omega (arith, some, z)) in omega (arith, rest))
     ]
 some_lack s (t ∷ sizes) (f ∷ free) needed up x at some =
     let less = ltb-true s t (both (nat_lt s t) (goes_up t sizes) up).0 in
     let later = (both (nat_lt s t) (goes_up t sizes) up).1 in
-    elim (in_cases t sizes x at) as (λ _. 0 < lacking_slots (t ∷ sizes) (f ∷ free) needed) [
-      | inl here ↦ least_slots t (how_many t needed - f) (lacking_slots sizes free needed) (omega (arith, less))
-          (let h = subst (λ y. 0 < lacking_of (t ∷ sizes) (f ∷ free) needed y) (sym here) some in let z = free_here t sizes f free in omega (arith, h, z))
+    elim (in_cases t sizes x at) as (λ _. 0 < slots_of_missing (t ∷ sizes) (f ∷ free) needed) [
+      | inl here ↦ least_slots t (how_many t needed - f) (slots_of_missing sizes free needed) (omega (arith, less))
+          (let h = subst (λ y. 0 < missing_of (t ∷ sizes) (f ∷ free) needed y) (sym here) some in let z = free_here t sizes f free in omega (arith, h, z))
       | inr there ↦ (let z = free_later t sizes f free x (above t sizes later x there) in
           let rest = some_lack t sizes free needed later x there (omega (arith, some, z)) in omega (arith, rest))
     ]
 
 -- ---- the refusal
 
-module _ {T : Type 0} (s : State T × Storage) (q : List Bool) (within : s.1.room.node_slots ≤ s.1.room.limit) (cells_within : s.1.room.cell_slots ≤ s.1.room.limit) where
+module _ {T : Type 0} (s : State T × Storage) (q : List Bool) (within : s.1.space.node_slots ≤ s.1.space.limit) (cells_within : s.1.space.cell_slots ≤ s.1.space.limit) where
   some_needed : (needed free : ℕ) → 0 < needed - free → 0 < needed
   some_needed needed free h = omega (arith, h)
 
-  nodes_lack : (size : ℕ) → 0 < child_blocks_lacking s.0.nodes s.1.layout q size → 0 < node_slots_lacking s.0.nodes s.1.layout q
+  nodes_lack : (size : ℕ) → 0 < missing_child_blocks s.0.nodes s.1.layout q size → 0 < missing_node_slots s.0.nodes s.1.layout q
   nodes_lack size some = some_lack 0 child_block_sizes s.1.layout.free_child_blocks (child_blocks_needed s.0.nodes s.1.layout q) refl size
       (listed_among child_block_sizes (child_block_needed s.0.nodes s.1.layout.child_blocks q)
       (λ p x e. if_needed child_block_sizes (gains_child s.0.nodes q p) (get s.1.layout.child_blocks p) (child_count s.0.nodes p) x e) (nodes_above q) size
       (some_needed (how_many size (child_blocks_needed s.0.nodes s.1.layout q)) (free_of child_block_sizes s.1.layout.free_child_blocks size) some)) some
 
-  cells_lack : (size : ℕ) → 0 < value_blocks_lacking s.0.entries s.1.layout q size → 0 < cell_slots_lacking s.0.entries s.1.layout q
+  cells_lack : (size : ℕ) → 0 < missing_value_blocks s.0.entries s.1.layout q size → 0 < missing_cell_slots s.0.entries s.1.layout q
   cells_lack size some = some_lack 0 value_block_sizes s.1.layout.free_value_blocks (value_blocks_needed s.0.entries s.1.layout q) refl size
       (listed_among value_block_sizes (value_block_needed s.0.entries s.1.layout.value_blocks q)
       (λ p x e. if_needed value_block_sizes (same_string p (home q)) (get s.1.layout.value_blocks p) (own_entries s.0.entries p) x e) (home q ∷ []) size
       (subst (λ xs. 0 < how_many size xs) (sym (one_list (value_block_needed s.0.entries s.1.layout.value_blocks q (home q))))
       (some_needed (how_many size (value_blocks_needed s.0.entries s.1.layout q)) (free_of value_block_sizes s.1.layout.free_value_blocks size) some))) some
 
-  lacks : (cause : Refusal) → GivesCause s q cause → 0 < node_slots_lacking s.0.nodes s.1.layout q + cell_slots_lacking s.0.entries s.1.layout q
+  lacks : (cause : Refusal) → GivesCause s q cause → 0 < missing_node_slots s.0.nodes s.1.layout q + missing_cell_slots s.0.entries s.1.layout q
   lacks IndexRange (inl past) = omega (arith, past, within)
   lacks IndexRange (inr past) = omega (arith, past, cells_within)
   lacks Memory (inl one) = (let some = nodes_lack one.0 one.1 in omega (arith, some))

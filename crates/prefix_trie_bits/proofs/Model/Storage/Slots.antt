@@ -1,9 +1,9 @@
 -- How many slots the calls for one key make, at most.
-use Rattle.prefix_trie_bits.proofs.Prelude.{◌≡◌, ◌≢◌, ℕ, zero, suc, ◌+◌, ◌-◌, ◌/◌, ◌<◌, ◌≤◌, ◌==◌, ◌⊎◌, inl, inr, Bool, true, false, cond, ◌&&◌, nat_lt, nat_le, List, [], ◌∷◌, ◌++◌, length, filter, replicate, Option, None, Some, All, refl, sym, ap, ◌∙◌, subst, arith, lit≤, append-nil, eqb-true, eq-eqb, ltb-true, cases_eq, cases_Bool, cases_lt, nat_tests, All-nil, All-cons, All-head, All-tail, All-contains, mul-add, mul-le-mul_left, option_to_list, get, contains_key, same_string, MakesSlots, SlotLaws, IsMap, Layout, child_block_sizes, value_block_sizes, smallest_size, child_count, own_entries, Sizes, StepsDown, SizesStepDown, LongerByOne, HasBlock, NodesHaveBlocks, block_needed, lacking_slots, child_blocks_needed, value_block_needed, node_slots_lacking, cell_slots_lacking, Nodes, has_node, home, AreNodes, State, Insert, Remove, RemoveKeepTree, Reply, Storage, HaveBlocks, RemovesValueInStorage, StepInStorage, same_Some}
+use Rattle.prefix_trie_bits.proofs.Prelude.{◌≡◌, ◌≢◌, ℕ, zero, suc, ◌+◌, ◌-◌, ◌/◌, ◌<◌, ◌≤◌, ◌==◌, ◌⊎◌, inl, inr, Bool, true, false, cond, ◌&&◌, nat_lt, nat_le, List, [], ◌∷◌, ◌++◌, length, filter, replicate, Option, None, Some, All, refl, sym, ap, ◌∙◌, subst, arith, lit≤, append-nil, eqb-true, eq-eqb, ltb-true, cases_eq, cases_Bool, cases_lt, nat_tests, All-nil, All-cons, All-head, All-tail, All-contains, mul-add, mul-le-mul_left, option_to_list, get, contains_key, same_string, MakesSlots, SlotLaws, IsMap, Layout, child_block_sizes, value_block_sizes, smallest_size, child_count, own_entries, Sizes, StepsDown, SizesStepDown, LongerByOne, HasBlock, NodesHaveBlocks, block_needed, slots_of_missing, child_blocks_needed, value_block_needed, missing_node_slots, missing_cell_slots, Nodes, has_node, home, AreNodes, State, Insert, Remove, RemoveKeepTree, Reply, Storage, HaveBlocks, RemovesValueInStorage, StepInStorage, same_Some}
 use Rattle.std.specs.Prelude.{find}
 use Rattle.prefix_trie_bits.proofs.Model.Members.{and-first, and-second}
 use Rattle.prefix_trie_bits.proofs.Model.Levels.{at_level, closed, no_children_at, split_at}
-use Rattle.prefix_trie_bits.proofs.Model.Storage.Ways.{none_needed, blocks_needed}
+use Rattle.prefix_trie_bits.proofs.Model.Storage.Paths.{none_needed, blocks_needed}
 
 -- ---- the slots of needed blocks are no more than these have
 
@@ -25,7 +25,7 @@ how_many-more size x xs =
     elim (x == size) as (λ b. length (cond b (x ∷ filter (λ s. s == size) xs) (filter (λ s. s == size) xs)) ≡ cond b 1 0 + how_many size xs) [ true ↦ omega arith | false ↦ omega arith ]
 
 more_below : (least : ℕ) (sizes : List ℕ) → rising least sizes ≡ true → (x : ℕ) (xs : List ℕ) → x ≤ least →
-    lacking_slots sizes [] (x ∷ xs) ≤ lacking_slots sizes [] xs
+    slots_of_missing sizes [] (x ∷ xs) ≤ slots_of_missing sizes [] xs
 more_below least [] up x xs h = omega arith
 more_below least (size ∷ sizes) up x xs h =
     let above : least < size = ltb-true least size (and-first (nat_lt least size) (rising size sizes) up) in
@@ -37,11 +37,11 @@ more_below least (size ∷ sizes) up x xs h =
     let rest = more_below size sizes (and-second (nat_lt least size) (rising size sizes) up) x xs (omega (arith, above, h)) in
     omega (arith, mul-le-mul_left size fewer, rest)
 
-more_slots : (least : ℕ) (sizes : List ℕ) → rising least sizes ≡ true → (x : ℕ) (xs : List ℕ) → lacking_slots sizes [] (x ∷ xs) ≤ x + lacking_slots sizes [] xs
+more_slots : (least : ℕ) (sizes : List ℕ) → rising least sizes ≡ true → (x : ℕ) (xs : List ℕ) → slots_of_missing sizes [] (x ∷ xs) ≤ x + slots_of_missing sizes [] xs
 more_slots least [] up x xs = omega arith
 more_slots least (size ∷ sizes) up x xs =
     let later = and-second (nat_lt least size) (rising size sizes) up in
-    elim (cases_eq x size) as (λ _. lacking_slots (size ∷ sizes) [] (x ∷ xs) ≤ x + lacking_slots (size ∷ sizes) [] xs) [
+    elim (cases_eq x size) as (λ _. slots_of_missing (size ∷ sizes) [] (x ∷ xs) ≤ x + slots_of_missing (size ∷ sizes) [] xs) [
       | inl e ↦
           let one : ◌≡◌ {A = ℕ} (cond (x == size) 1 0) 1 = ap (λ b. cond b 1 0) (eq-eqb x size e) in
           let count : how_many size (x ∷ xs) ≤ 1 + how_many size xs = omega (arith, how_many-more size x xs, one) in
@@ -57,22 +57,22 @@ more_slots least (size ∷ sizes) up x xs =
           omega (arith, mul-le-mul_left size fewer, rest)
     ]
 
-none_slots : (sizes : List ℕ) → lacking_slots sizes [] [] ≤ 0
+none_slots : (sizes : List ℕ) → slots_of_missing sizes [] [] ≤ 0
 none_slots [] = omega arith
 none_slots (size ∷ sizes) = (let rest = none_slots sizes in omega (arith, rest))
 
-all_slots : (sizes : List ℕ) → rising 0 sizes ≡ true → (needed : List ℕ) → lacking_slots sizes [] needed ≤ total needed
+all_slots : (sizes : List ℕ) → rising 0 sizes ≡ true → (needed : List ℕ) → slots_of_missing sizes [] needed ≤ total needed
 all_slots sizes up [] = none_slots sizes
 all_slots sizes up (x ∷ xs) = (let more = more_slots 0 sizes up x xs in let rest = all_slots sizes up xs in omega (arith, more, rest))
 
-free_fewer : (sizes free needed : List ℕ) → lacking_slots sizes free needed ≤ lacking_slots sizes [] needed
+free_fewer : (sizes free needed : List ℕ) → slots_of_missing sizes free needed ≤ slots_of_missing sizes [] needed
 free_fewer (size ∷ sizes) (f ∷ free) needed =
     let less : how_many size needed - f ≤ how_many size needed = omega arith in
     let rest = free_fewer sizes free needed in
     omega (arith, mul-le-mul_left size less, rest)
 free_fewer sizes free needed = omega arith
 
-pub slots_most : (sizes free : List ℕ) → rising 0 sizes ≡ true → (needed : List ℕ) → lacking_slots sizes free needed ≤ total needed
+pub slots_most : (sizes free : List ℕ) → rising 0 sizes ≡ true → (needed : List ℕ) → slots_of_missing sizes free needed ≤ total needed
 slots_most sizes free up needed = (let a = free_fewer sizes free needed in let b = all_slots sizes up needed in omega (arith, a, b))
 
 -- ---- sizes
@@ -123,9 +123,9 @@ total_most most o m few = one o few
 -- ---- an insertion
 
 module _ {T : Type 0} (width : ℕ) (s : State T) (layout : Layout) (are : AreNodes width s.entries s.nodes) (have : HaveBlocks s layout) (q : List Bool) where
-  pub nodes_most : length q ≤ 128 → node_slots_lacking s.nodes layout q ≤ 56
+  pub nodes_most : length q ≤ 128 → missing_node_slots s.nodes layout q ≤ 56
   nodes_most short =
-      let most : (needed : List ℕ) → child_blocks_needed s.nodes layout q ≡ needed → total needed ≤ 56 → node_slots_lacking s.nodes layout q ≤ 56 = λ needed e few.
+      let most : (needed : List ℕ) → child_blocks_needed s.nodes layout q ≡ needed → total needed ≤ 56 → missing_node_slots s.nodes layout q ≤ 56 = λ needed e few.
       (let a = slots_most child_block_sizes layout.free_child_blocks refl (child_blocks_needed s.nodes layout q) in
       let same : total (child_blocks_needed s.nodes layout q) ≡ total needed = ap total e in omega (arith, a, same, few)) in
       elim (split_at (λ i. has_node s.nodes (at_level q i)) (length q / 5) (closed width s.entries s.nodes are q) are.rooted) [
@@ -138,7 +138,7 @@ module _ {T : Type 0} (width : ℕ) (s : State T) (layout : Layout) (are : AreNo
             (omega (arith, bound, short))
       ]
 
-  pub cells_most : cell_slots_lacking s.entries layout q ≤ 31
+  pub cells_most : missing_cell_slots s.entries layout q ≤ 31
   cells_most =
       let o = value_block_needed s.entries layout.value_blocks q (home q) in
       let all = slots_most value_block_sizes layout.free_value_blocks refl (option_to_list o ++ []) in
@@ -147,8 +147,8 @@ module _ {T : Type 0} (width : ℕ) (s : State T) (layout : Layout) (are : AreNo
         | true ↦ needed_most 31 (lit≤ tt) (get layout.value_blocks (home q)) (own_entries s.entries (home q)) x
         | false ↦ λ none. absurd (let h : ◌≡◌ {A = Option ℕ} None (Some x) = none in cc)
       ] e) in
-      let same : cell_slots_lacking s.entries layout q ≡ lacking_slots value_block_sizes layout.free_value_blocks (option_to_list o ++ []) =
-      ap (lacking_slots value_block_sizes layout.free_value_blocks) (sym (append-nil (option_to_list o))) in
+      let same : missing_cell_slots s.entries layout q ≡ slots_of_missing value_block_sizes layout.free_value_blocks (option_to_list o ++ []) =
+      ap (slots_of_missing value_block_sizes layout.free_value_blocks) (sym (append-nil (option_to_list o))) in
       omega (arith, all, bound, same)
 
 -- ---- a removal
@@ -228,7 +228,7 @@ module _ (top : ℕ) where
 
 module _ {P T : Type 0} (path : P → List Bool) (back : List Bool → P) (width : ℕ) where
   value_removed : (s t : State T) (q : List Bool) (before after : Storage) → HaveBlocks s before.layout → RemovesValueInStorage s t q before after →
-      after.room.cell_slots ≤ before.room.cell_slots + 24
+      after.space.cell_slots ≤ before.space.cell_slots + 24
   value_removed s t q before after have h = longer_few 31 _ _ _ _ _ _ h.value_blocks have.value_blocks (home q) _ _ h.cells_longer
 
   inserted : (s : State T × Storage) (q : P) (v : T) (reply : Reply P T) (t : State T × Storage) → IsMap width s.0 → HaveBlocks s.0 s.1.layout →
@@ -239,8 +239,8 @@ module _ {P T : Type 0} (path : P → List Bool) (back : List Bool → P) (width
       elim (cases_Bool (contains_key s.0.entries (path q))) as (λ _. MakesSlots 56 31 s.1 t.1) [
         | inl stored ↦
             let same = h.storage.0 stored in
-            let node_slots = ap (λ (x : Storage). x.room.node_slots) same in
-            let cell_slots = ap (λ (x : Storage). x.room.cell_slots) same in
+            let node_slots = ap (λ (x : Storage). x.space.node_slots) same in
+            let cell_slots = ap (λ (x : Storage). x.space.cell_slots) same in
             record { node_slots = omega (arith, node_slots); cell_slots = omega (arith, cell_slots) }
         | inr new ↦ elim h.step as (λ _. MakesSlots 56 31 s.1 t.1) [
           | inl set ↦

@@ -1,5 +1,5 @@
 -- A step leads from a map, however it is stored, to such a map again.
-use Rattle.prefix_trie_bits.proofs.Prelude.{◌≡◌, ℕ, ◌<◌, ◌≤◌, inl, inr, Bool, true, false, cond, not, ◌&&◌, nat_le, List, [], length, Option, None, refl, sym, ap, ◌∙◌, subst, arith, true≢false, cases_Bool, cases_eq, nil_from_length, get, contains_key, begins, same_string, Sizes, no_layout, StepsDown, SizesStepDown, StepsBetween, SizesStepBetween, HasBlock, NodesHaveBlocks, child_block_sizes, value_block_sizes, child_count, own_entries, Entries, with_entry, without_entry, without_below, part_at_least, no_entries, Nodes, has_node, root_alone, with_needed, pruned, nodes_not_below, nodes_without_below, State, Call, Insert, Remove, RemoveKeepTree, RemoveChildren, RetainAtLeast, Clear, CallFits, Reply, Step, Storage, cleared, HaveBlocks, RemovesManyInStorage, StepInStorage, IsMap, may_change, IsStoredMap}
+use Rattle.prefix_trie_bits.proofs.Prelude.{◌≡◌, ℕ, ◌<◌, ◌≤◌, inl, inr, Bool, true, false, cond, not, ◌&&◌, nat_le, List, [], length, Option, None, refl, sym, ap, ◌∙◌, subst, arith, true≢false, cases_Bool, cases_eq, nil_from_length, get, contains_key, begins, same_string, Sizes, no_layout, StepsDown, SizesStepDown, StepsBetween, SizesStepBetween, HasBlock, NodesHaveBlocks, child_block_sizes, value_block_sizes, child_count, own_entries, Entries, with_entry, without_entry, without_below, part_at_least, no_entries, Nodes, has_node, root_alone, with_needed, pruned, nodes_not_below, nodes_without_below, State, Call, Insert, Remove, RemoveKeepTree, RemoveChildren, RetainAtLeast, Clear, CallFits, Reply, Step, Storage, empty_storage, HaveBlocks, RemovesManyInStorage, StepInStorage, IsMap, may_change, IsStoredMap}
 use Rattle.prefix_trie_bits.proofs.Model.Storage.Lessened.{IsLeft, removed_is, bare_have, new_have, entries_bare, children_bare}
 use Rattle.prefix_trie_bits.proofs.Model.Members.{has-retained}
 use Rattle.prefix_trie_bits.proofs.Model.Pruning.{begins-nil, needed_fewer, near_is, pruning_laws, remove_law, remove_children_law}
@@ -175,7 +175,7 @@ module _ {P T : Type 0} (path : P → List Bool) (back : List Bool → P) (width
   removed_below q reply t fits h = elim (cases_eq (length (path q)) 0) as (λ _. HaveBlocks t.0 t.1.layout) [
     | inl none ↦
         let gone = h.storage.0 none in
-        have_same _ t.0 (cleared s.1) t.1 h.step.1 (ap (λ x. x.layout.child_blocks) gone) (ap (λ x. x.layout.value_blocks) gone)
+        have_same _ t.0 (empty_storage s.1) t.1 h.step.1 (ap (λ x. x.layout.child_blocks) gone) (ap (λ x. x.layout.value_blocks) gone)
         (emptied_have s.0 (path q) whole.is_map.are_nodes.rooted (nil_from_length (path q) none))
     | inr other ↦ many_gone t (outside_left q reply t.0 fits h.step) (h.storage.1 (grind (arith, other)))
   ]
@@ -204,7 +204,7 @@ module _ {P T : Type 0} (path : P → List Bool) (back : List Bool → P) (width
       }
 
   cleared_all : Stays Clear
-  cleared_all reply t fits h = have_same (record { entries = no_entries; nodes = root_alone }) t.0 (cleared s.1) t.1 h.step.1 (ap (λ x. x.layout.child_blocks) h.storage) (ap (λ x. x.layout.value_blocks) h.storage)
+  cleared_all reply t fits h = have_same (record { entries = no_entries; nodes = root_alone }) t.0 (empty_storage s.1) t.1 h.step.1 (ap (λ x. x.layout.child_blocks) h.storage) (ap (λ x. x.layout.value_blocks) h.storage)
       (new_have T)
 
   blocks : (call : Call P T) → Stays call
@@ -221,7 +221,7 @@ module _ {P T : Type 0} (path : P → List Bool) (back : List Bool → P) (width
   stays_stored call reply t fits h = record {
     is_map = stays_map path back width s.0 call reply t.0 fits h.step whole.is_map;
     have_blocks = blocks call reply t fits h;
-    root_fits = subst (λ limit. 0 < limit) (sym h.room.same_limit) whole.root_fits;
-    nodes_within = h.room.nodes_within;
-    cells_within = h.room.cells_within;
+    root_fits = subst (λ limit. 0 < limit) (sym h.space.same_limit) whole.root_fits;
+    nodes_within = h.space.nodes_within;
+    cells_within = h.space.cells_within;
   }

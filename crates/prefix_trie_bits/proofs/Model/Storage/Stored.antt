@@ -1,5 +1,5 @@
 -- What a step leaves of the storage, as far as one storage alone can be left.
-use Rattle.prefix_trie_bits.proofs.Prelude.{◌≡◌, ℕ, Bool, true, false, List, [], ◌∷◌, length, Option, refl, sym, ap, ◌∙◌, subst, true≢false, contains_key, Sizes, Room, TakesBlocks, is_root, State, Call, Insert, Remove, RemoveKeepTree, RemoveChildren, RetainAtLeast, Clear, Reply, Refused, Refusal, Storage, InsertsInStorage, StepInStorage, is_refusal, asks_length, may_change, UseAlike, LeavesFixed, StorageLaws}
+use Rattle.prefix_trie_bits.proofs.Prelude.{◌≡◌, ℕ, Bool, true, false, List, [], ◌∷◌, length, Option, refl, sym, ap, ◌∙◌, subst, true≢false, contains_key, Sizes, Space, TakesBlocks, is_root, State, Call, Insert, Remove, RemoveKeepTree, RemoveChildren, RetainAtLeast, Clear, Reply, Refused, Refusal, Storage, InsertsInStorage, StepInStorage, is_refusal, asks_length, may_change, UseAlike, LeavesFixed, StorageLaws}
 use Rattle.prefix_trie_bits.proofs.Model.Determined.{no_refusal, set}
 use Rattle.prefix_trie_bits.proofs.Model.Members.{same_entries}
 use Rattle.prefix_trie_bits.proofs.Model.Storage.Readied.{readied_not_refused, readied_inserts}
@@ -9,24 +9,24 @@ none-long : (s : List Bool) → is_root s ≡ true → length s ≡ 0
 none-long [] e = refl
 none-long (b ∷ s) e = absurd (true≢false (sym e))
 
-same_room : (a b : Room) → a.limit ≡ b.limit → a.node_slots ≡ b.node_slots → a.cell_slots ≡ b.cell_slots → a ≡ b
-same_room a b l n c = λ i. record { limit = l i; node_slots = n i; cell_slots = c i }
+same_space : (a b : Space) → a.limit ≡ b.limit → a.node_slots ≡ b.node_slots → a.cell_slots ≡ b.cell_slots → a ≡ b
+same_space a b l n c = λ i. record { limit = l i; node_slots = n i; cell_slots = c i }
 
 same_sizes : (needed : List Bool → Option ℕ) (before after other : Sizes) → TakesBlocks needed before after → TakesBlocks needed before other → after ≡ other
 same_sizes needed before after other a b = same_entries after other (λ p. a p ∙ sym (b p))
 
 alike : (a b : Storage) → a ≡ b → UseAlike a b
-alike a b e = record { room = ap (λ x. x.room) e; child_blocks = ap (λ x. x.layout.child_blocks) e; value_blocks = ap (λ x. x.layout.value_blocks) e }
+alike a b e = record { space = ap (λ x. x.space) e; child_blocks = ap (λ x. x.layout.child_blocks) e; value_blocks = ap (λ x. x.layout.value_blocks) e }
 
 module _ {T : Type 0} where
   -- both the state and the storage are as they were
   unchanged_pair : (s t : State T × Storage) → t.0 ≡ s.0 → t.1 ≡ s.1 → t ≡ s
   unchanged_pair s t e f = λ i. (e i, f i)
 
-  inserted_alike : (s : State T) (q : List Bool) (before after other : Storage) → after.room.limit ≡ before.room.limit → other.room.limit ≡ before.room.limit
+  inserted_alike : (s : State T) (q : List Bool) (before after other : Storage) → after.space.limit ≡ before.space.limit → other.space.limit ≡ before.space.limit
       → InsertsInStorage s q before after → InsertsInStorage s q before other → UseAlike after other
   inserted_alike s q before after other l k a b = record {
-    room = same_room after.room other.room (l ∙ sym k) (a.node_slots ∙ sym b.node_slots) (a.cell_slots ∙ sym b.cell_slots);
+    space = same_space after.space other.space (l ∙ sym k) (a.node_slots ∙ sym b.node_slots) (a.cell_slots ∙ sym b.cell_slots);
     child_blocks = same_sizes _ before.layout.child_blocks after.layout.child_blocks other.layout.child_blocks a.child_blocks b.child_blocks;
     value_blocks = same_sizes _ before.layout.value_blocks after.layout.value_blocks other.layout.value_blocks a.value_blocks b.value_blocks;
   }
@@ -73,7 +73,7 @@ module _ {P T : Type 0} (path : P → List Bool) (back : List Bool → P) (width
   inserted s q v reply other t u answers too a b =
       elim (contains_key s.0.entries (path q)) as (λ x. contains_key s.0.entries (path q) ≡ x → UseAlike t.1 u.1) [
         | true ↦ λ stored. alike t.1 u.1 (a.storage.0 stored ∙ sym (b.storage.0 stored))
-        | false ↦ λ new. inserted_alike s.0 (path q) s.1 t.1 u.1 a.room.same_limit b.room.same_limit
+        | false ↦ λ new. inserted_alike s.0 (path q) s.1 t.1 u.1 a.space.same_limit b.space.same_limit
             (a.storage.1 _ new (set path back width s.0 q v reply t.0 answers a.step).0) (b.storage.1 _ new (set path back width s.0 q v other u.0 too b.step).0)
       ] refl
 

@@ -18,9 +18,9 @@ needed_has sizes up top largest count block most has = let small = smallest_of 0
   | inl none ↦ has_some sizes (count + 1) (option_or (block_needed sizes block count) block) small.size (omega arith)
       (ap (λ o. option_or (block_needed sizes o count) o) none.1 ∙ ap (λ o. option_or o None) small.found) small.among small.holds
   | inr holds ↦ elim (cases_Bool (nat_lt count holds.size)) as (λ _. HasBlock sizes (count + 1) (option_or (block_needed sizes block count) block)) [
-    | inl room ↦ has_some sizes (count + 1) (option_or (block_needed sizes block count) block) holds.size (omega arith)
-        (ap (λ o. option_or (block_needed sizes o count) o) holds.is ∙ ap (λ b. option_or (cond b None (smallest_size sizes (count + 1))) (Some holds.size)) room) holds.among
-        (let less = ltb-true count holds.size room in omega (arith, less))
+    | inl space ↦ has_some sizes (count + 1) (option_or (block_needed sizes block count) block) holds.size (omega arith)
+        (ap (λ o. option_or (block_needed sizes o count) o) holds.is ∙ ap (λ b. option_or (cond b None (smallest_size sizes (count + 1))) (Some holds.size)) space) holds.among
+        (let less = ltb-true count holds.size space in omega (arith, less))
     | inr full ↦ has_some sizes (count + 1) (option_or (block_needed sizes block count) block) small.size (omega arith)
         (ap (λ o. option_or (block_needed sizes o count) o) holds.is ∙ ap (λ b. option_or (cond b None (smallest_size sizes (count + 1))) (Some holds.size)) full
         ∙ ap (λ o. option_or o (Some holds.size)) small.found) small.among small.holds
@@ -121,8 +121,8 @@ module _ (n : Nodes) (q p : List Bool) (depth : length p % 5 ≡ 0) where
   is_child k = begins p k && (length k == length p + 5)
 
   -- of the strings on the way p has one below it
-  child_on_way : (k : List Bool) → is_child k ≡ true → (begins k q && is_node_depth k) ≡ same_string k next
-  child_on_way k child =
+  child_on_path : (k : List Bool) → is_child k ≡ true → (begins k q && is_node_depth k) ≡ same_string k next
+  child_on_path k child =
       let long = eqb-true (length k) (length p + 5) (and-second (begins p k) (length k == length p + 5) child) in
       same_bool (begins k q && is_node_depth k) (same_string k next)
       (λ on. is-same_string k next (sym (begins-take k q (and-first (begins k q) (is_node_depth k) on)) ∙ ap (λ l. take l q) long))
@@ -137,7 +137,7 @@ module _ (n : Nodes) (q p : List Bool) (depth : length p % 5 ≡ 0) where
     where
       alike : (k : List Bool) (b : Bool) → is_child k ≡ b → (b && has_node (with_needed n q) k) ≡ (b && has_node (insert n next tt) k)
       alike k true e =
-          has-with_needed n q k ∙ ap (λ x. has_node n k || x) (child_on_way k e) ∙ or_comm (has_node n k) (same_string k next) ∙ sym (has-inserted n next tt k)
+          has-with_needed n q k ∙ ap (λ x. has_node n k || x) (child_on_path k e) ∙ or_comm (has_node n k) (same_string k next) ∙ sym (has-inserted n next tt k)
       alike k false e = refl
 
   next_child : is_child next ≡ (begins p q && nat_lt (length p) (length (home q)))
@@ -191,7 +191,7 @@ module _ {T : Type 0} (width : ℕ) (s : State T) (q : List Bool) (v : T) where
           most = λ p there. children_most set.nodes p;
           bare = λ p there missing. no_children width s.entries s.nodes map.are_nodes p (depths p there) missing;
           stay = stays;
-          inside = λ p gains. on_way p (and-first (is_node_depth p && begins p q) _ gains);
+          inside = λ p gains. on_path p (and-first (is_node_depth p && begins p q) _ gains);
         }) inserted.child_blocks;
     value_blocks = grows_have value_block_sizes refl 31 (6, omega arith, refl) s.nodes set.nodes (own_entries s.entries) (own_entries set.entries) (λ p. same_string p (home q))
         before.layout.value_blocks after.layout.value_blocks have.value_blocks (record {
@@ -199,7 +199,7 @@ module _ {T : Type 0} (width : ℕ) (s : State T) (q : List Bool) (v : T) where
           most = λ p there. entries_most set.entries p;
           bare = λ p there missing. no_entries width s.entries s.nodes map.are_nodes p (depths p there) missing;
           stay = stays;
-          inside = λ p same. on_way p (subst (λ x. (is_node_depth x && begins x q) ≡ true) (sym (same_string-is p (home q) same))
+          inside = λ p same. on_path p (subst (λ x. (is_node_depth x && begins x q) ≡ true) (sym (same_string-is p (home q) same))
               (and-join (is_node_depth (home q)) (begins (home q) q) (eq-eqb (length (home q) % 5) 0 (home-depth q)) (home-begins q)));
         }) inserted.value_blocks;
   }
@@ -210,8 +210,8 @@ module _ {T : Type 0} (width : ℕ) (s : State T) (q : List Bool) (v : T) where
       stays : (p : List Bool) → has_node s.nodes p ≡ true → has_node set.nodes p ≡ true
       stays p stood = has-with_needed s.nodes q p ∙ ap (λ b. b || (begins p q && is_node_depth p)) stood
 
-      on_way : (p : List Bool) → (is_node_depth p && begins p q) ≡ true → has_node set.nodes p ≡ true
-      on_way p h = has-with_needed s.nodes q p ∙ or-right (has_node s.nodes p) (begins p q && is_node_depth p)
+      on_path : (p : List Bool) → (is_node_depth p && begins p q) ≡ true → has_node set.nodes p ≡ true
+      on_path p h = has-with_needed s.nodes q p ∙ or-right (has_node s.nodes p) (begins p q && is_node_depth p)
           (and-join (begins p q) (is_node_depth p) (and-second (is_node_depth p) (begins p q) h) (and-first (is_node_depth p) (begins p q) h))
 
   -- a key that is set again changes no count

@@ -1,5 +1,5 @@
 -- The worked facts on blocks, growth and room.
-use Rattle.prefix_trie_bits.proofs.Prelude.{◌≡◌, ◌⊎◌, ℕ, zero, suc, ◌+◌, ◌<◌, ◌≤◌, ◌==◌, true, false, List, [], ◌∷◌, ◌++◌, length, Option, Some, None, is_some, refl, sym, ap, ◌∙◌, subst, inl, inr, true≢false, eq-eqb, arith, lit<, lit≤, slice_index_or, Contains, sum_by, list_any, sum_by-cons, sum_by-IsPermutation, Block, value_block_sizes, child_block_sizes, free_of, HasBlock, StepsBetween, LongerByOne, Tiles, AreBlocksOf, MayPassLimit, none_free, six_free, room_of, at_slot, BlocksHold}
+use Rattle.prefix_trie_bits.proofs.Prelude.{◌≡◌, ◌⊎◌, ℕ, zero, suc, ◌+◌, ◌<◌, ◌≤◌, ◌==◌, true, false, List, [], ◌∷◌, ◌++◌, length, Option, Some, None, is_some, refl, sym, ap, ◌∙◌, subst, inl, inr, true≢false, eq-eqb, arith, lit<, lit≤, slice_index_or, Contains, sum_by, list_any, sum_by-cons, sum_by-IsPermutation, Block, value_block_sizes, child_block_sizes, free_of, HasBlock, StepsBetween, LongerByOne, Tiles, AreBlocksOf, MayPassLimit, none_free, six_free, space_of, at_slot, BlocksHold}
 use Rattle.prefix_trie_bits.proofs.Model.Members.{or-left, or-right}
 pub use Rattle.std.proofs.lemmas.Option.{same_Some as some_is}
 
@@ -63,7 +63,7 @@ by_another : (after : ℕ) → (after == 86) ≡ false → (after == 110) ≡ fa
 by_another after p q (inl e) = differ after 86 p e
 by_another after p q (inr (size, n, o, f, e)) = differ after 110 q (let is = some_is 24 size n in omega arith)
 
-within_both : MayPassLimit (room_of 100 44 69) → ⊥
+within_both : MayPassLimit (space_of 100 44 69) → ⊥
 within_both (inl l) = let less : 100 < 100 = l in absurd (omega arith)
 within_both (inr l) = let less : 100 < 100 = l in absurd (omega arith)
 
@@ -89,7 +89,7 @@ blocks_hold = record {
     not_in_none = no_block value_block_sizes 2;
     not_none_in_one = λ e. not_some 1 (sym e);
   };
-  needed = record { in_turn = refl; with_room = refl; children = refl; lacking = refl; free = refl };
+  needed = record { in_turn = refl; with_space = refl; children = refl; lacking = refl; free = refl };
   down = record {
     onto_free = record { fewer = lit≤ tt; same = differ 24 25 refl; none = differ 24 0 refl; one_of = λ _ _. inr refl; smallest = λ size _ _ e f. e };
     onto_new = record { fewer = lit≤ tt; same = differ 24 25 refl; none = differ 24 0 refl; one_of = λ _ _. inr refl; smallest = λ size _ _ e f. e };
@@ -128,7 +128,7 @@ blocks_hold = record {
     not_by_two = by_another 134 refl refl;
     not_shorter = by_another 55 refl refl;
   };
-  room = record {
+  space = record {
     longest = record { same_limit = refl; nodes_within = lit≤ tt; cells_within = lit≤ tt; nodes_grow = lit≤ tt; cells_grow = lit≤ tt };
     up_to_limit = record { same_limit = refl; nodes_within = lit≤ tt; cells_within = lit≤ tt; nodes_grow = lit≤ tt; cells_grow = lit≤ tt };
     not_another_limit = λ h. differ 101 100 refl h.same_limit;

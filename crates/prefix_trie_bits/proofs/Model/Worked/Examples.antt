@@ -1,5 +1,5 @@
 -- The worked examples of what replies do not show.
-use Rattle.prefix_trie_bits.proofs.Prelude.{◌≡◌, ℕ, ◌+◌, ◌%◌, ◌==◌, ◌&&◌, Bool, true, false, not, cond, List, [], ◌∷◌, map, filter, length, nat_lt, nat_le, is_lt, is_some, sum_by, Option, Some, None, refl, ap, ap₂, ◌∙◌, lit<, list_any, entries, len-entries, entries-insert, find, put, digits, number, begins, listing_cmp, listing_total, Entries, with_entry, part_below, without_below, listing_after, shown, first_item, Nodes, home, needed, nodes_without_below, child_block_sizes, value_block_sizes, packed_slots, visits_of_match, visits_to_match, WritingWalk, walk_over, State, path_at, back_at, FactsHold, at_slot, AsksInOrder}
+use Rattle.prefix_trie_bits.proofs.Prelude.{◌≡◌, ℕ, ◌+◌, ◌%◌, ◌==◌, ◌&&◌, Bool, true, false, not, cond, List, [], ◌∷◌, map, filter, length, nat_lt, nat_le, is_lt, is_some, sum_by, Option, Some, None, refl, ap, ap₂, ◌∙◌, lit<, list_any, entries, len-entries, entries-insert, find, put, digits, number, begins, listing_cmp, listing_total, Entries, with_entry, part_below, without_below, listing_after, prefix_pairs, first_item, Nodes, home, needed, nodes_without_below, child_block_sizes, value_block_sizes, packed_slots, visits_of_match, visits_to_match, WritingWalk, walk_over, State, path_at, back_at, FactsHold, at_slot, RetainsEntries}
 use Rattle.prefix_trie_bits.proofs.Model.Worked.Plain.{keys_of, Shows, Marks, needed-is, needed_marks, pruned_marks, marks_not_below, nodes_without_below-is}
 use Rattle.prefix_trie_bits.proofs.Model.Ordered.{entries-retained}
 use Rattle.prefix_trie_bits.proofs.Model.Worked.Played.{leads}
@@ -57,7 +57,7 @@ abbrev left_marks : List Bool → List (List Bool × ℕ) → Marks → Marks
 left_marks q es ns = cond (is_some (find listing_cmp (home q) ns)) (pruned_marks (marks_not_below ns q) (keys_of (filter (λ e. not (begins q e.0)) es)) q) ns
 
 -- a test that is true at every other call is not true twice in a row
-not_twice : AsksInOrder (λ (f : ℕ) (_ : List Bool) (_ : ℕ) b (f' : ℕ). (b ≡ (f % 2 == 0)) × (f' ≡ f + 1)) 0
+not_twice : RetainsEntries (λ (f : ℕ) (_ : List Bool) (_ : ℕ) b (f' : ℕ). (b ≡ (f % 2 == 0)) × (f' ≡ f + 1)) 0
     ((false ∷ [], 1) ∷ (true ∷ [], 2) ∷ []) ((false ∷ [], 1) ∷ (true ∷ [], 2) ∷ []) → ⊥
 not_twice (b, f, later, asked, (c, g, last, again, ends, is), kept) =
     let second : c ≡ false = again.0 ∙ ap (λ n. n % 2 == 0) asked.1 in
@@ -136,15 +136,15 @@ facts_hold = record {
         λ early h. differ 1 0 refl (ap length h.0),
         ap (map (λ e. e.1)) (entries-insert listing_total m2 c 15 ∙ ap (put listing_cmp c 15) (entries-insert listing_total m1 b 14 ∙ ap (put listing_cmp b 14) (entries-insert listing_total t.entries a 13 ∙ ap (put listing_cmp a 13) s.of_entries))),
       ));
-  handed = leads refl (λ t s.
+  split_off = leads refl (λ t s.
       let q = path_at 32 (0xc0a80000, 22) in
       let m = part_below t.entries q in
       let listed = entries-retained t.entries (λ k. begins q k) ∙ ap (filter (λ e. begins q e.0)) s.of_entries in
       let left = entries-retained t.entries (λ k. not (begins q k)) ∙ ap (filter (λ e. not (begins q e.0))) s.of_entries in (
         record { entries = m; nodes = needed m },
         record { entries = without_below t.entries q; nodes = nodes_without_below t.nodes t.entries q },
-        record { handed = refl; handed_nodes = refl; left = refl; left_nodes = refl },
-        ap (shown (back_at 32)) listed,
+        record { split_off = refl; split_nodes = refl; left = refl; left_nodes = refl },
+        ap (prefix_pairs (back_at 32)) listed,
         len-entries (needed m) ∙ ap length (needed-is m ∙ ap (λ es. needed_marks (keys_of es)) listed),
         ap (own_in (path_at 32 (0xc0a80000, 20))) listed,
         ap (map (λ e. e.1)) left,

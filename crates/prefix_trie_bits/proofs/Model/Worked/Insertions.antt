@@ -1,5 +1,5 @@
 -- The worked facts on what an insertion needs and lacks.
-use Rattle.prefix_trie_bits.proofs.Prelude.{◌≡◌, ◌⊎◌, ℕ, ◌+◌, ◌-◌, ◌<◌, ◌≤◌, ◌==◌, ◌&&◌, Bool, not, cond, List, [], ◌∷◌, map, take, filter, filter_map, length, nat_lt, is_some, Option, None, refl, sym, ap, ap₂, ◌∙◌, inl, inr, arith, eqb-true, lit<, lit≤, cases_Bool, option_to_list, entries, entries-from_sorted, get-entries, find, is_sorted, digits, number, begins, listing_cmp, same_string, Entries, Nodes, is_node_depth, nodes_above, home, Sizes, Layout, value_block_sizes, child_block_sizes, free_of, no_layout, own_entries, child_count, block_needed, gains_child, child_block_needed, value_block_needed, child_blocks_needed, value_blocks_needed, lacking_of, lacking_slots, node_slots_lacking, cell_slots_lacking, LacksWithinLimit, Room, State, path_at, full_pairs, none_free, room_of, Blocks, by_path, sizes_at, layout_at, with_one, ones_free, lacking, far_children, far_layout, three_slots, InsertionsHold}
+use Rattle.prefix_trie_bits.proofs.Prelude.{◌≡◌, ◌⊎◌, ℕ, ◌+◌, ◌-◌, ◌<◌, ◌≤◌, ◌==◌, ◌&&◌, Bool, not, cond, List, [], ◌∷◌, map, take, filter, filter_map, length, nat_lt, is_some, Option, None, refl, sym, ap, ap₂, ◌∙◌, inl, inr, arith, eqb-true, lit<, lit≤, cases_Bool, option_to_list, entries, entries-from_sorted, get-entries, find, is_sorted, digits, number, begins, listing_cmp, same_string, Entries, Nodes, is_node_depth, nodes_above, home, Sizes, Layout, value_block_sizes, child_block_sizes, free_of, no_layout, own_entries, child_count, block_needed, gains_child, child_block_needed, value_block_needed, child_blocks_needed, value_blocks_needed, missing_of, slots_of_missing, missing_node_slots, missing_cell_slots, MissingFitsLimit, Space, State, path_at, full_pairs, none_free, space_of, Blocks, by_path, sizes_at, layout_at, with_one, ones_free, lacking, far_children, far_layout, three_slots, InsertionsHold}
 use lib.Dec.{T as IsT}
 use Rattle.prefix_trie_bits.proofs.Model.Worked.Plain.{Shows, Marks}
 use Rattle.prefix_trie_bits.proofs.Model.Ordered.{entries-empty}
@@ -20,11 +20,11 @@ child_needed_in ns bs q p = cond (gains_in ns q p) (block_needed child_block_siz
 abbrev pub value_needed_in : Sized → Sized → List Bool → List Bool → Option ℕ
 value_needed_in es bs q p = cond (same_string p (home q)) (block_needed value_block_sizes (find listing_cmp p bs) (own_in p es)) None
 
-abbrev pub nodes_lacking_in : Marks → Sized → List ℕ → List Bool → ℕ
-nodes_lacking_in ns bs free q = lacking_slots child_block_sizes free (filter_map (child_needed_in ns bs q) (nodes_above q))
+abbrev pub missing_nodes_in : Marks → Sized → List ℕ → List Bool → ℕ
+missing_nodes_in ns bs free q = slots_of_missing child_block_sizes free (filter_map (child_needed_in ns bs q) (nodes_above q))
 
-abbrev pub cells_lacking_in : Sized → Sized → List ℕ → List Bool → ℕ
-cells_lacking_in es bs free q = lacking_slots value_block_sizes free (option_to_list (value_needed_in es bs q (home q)))
+abbrev pub missing_cells_in : Sized → Sized → List ℕ → List Bool → ℕ
+missing_cells_in es bs free q = slots_of_missing value_block_sizes free (option_to_list (value_needed_in es bs q (home q)))
 
 gains-is : (n : Nodes) (q p : List Bool) → gains_child n q p ≡ gains_in (entries n) q p
 gains-is n q p = ap (λ o. (is_node_depth p && begins p q) && (nat_lt (length p) (length (home q)) && not (is_some o))) (get-entries n (take (length p + 5) q))
@@ -35,11 +35,11 @@ child-is n blocks q p = ap₂ (λ g o. cond g (block_needed child_block_sizes o 
 pub value-is : (m : Entries ℕ) (blocks : Sizes) (q p : List Bool) → value_block_needed m blocks q p ≡ value_needed_in (entries m) (entries blocks) q p
 value-is m blocks q p = ap (λ o. cond (same_string p (home q)) (block_needed value_block_sizes o (own_entries m p)) None) (get-entries blocks p)
 
-nodes_lacking-is : (n : Nodes) (layout : Layout) (q : List Bool) → node_slots_lacking n layout q ≡ nodes_lacking_in (entries n) (entries layout.child_blocks) layout.free_child_blocks q
-nodes_lacking-is n layout q = λ i. lacking_slots child_block_sizes layout.free_child_blocks (filter_map (λ p. child-is n layout.child_blocks q p i) (nodes_above q))
+missing_nodes-is : (n : Nodes) (layout : Layout) (q : List Bool) → missing_node_slots n layout q ≡ missing_nodes_in (entries n) (entries layout.child_blocks) layout.free_child_blocks q
+missing_nodes-is n layout q = λ i. slots_of_missing child_block_sizes layout.free_child_blocks (filter_map (λ p. child-is n layout.child_blocks q p i) (nodes_above q))
 
-cells_lacking-is : (m : Entries ℕ) (layout : Layout) (q : List Bool) → cell_slots_lacking m layout q ≡ cells_lacking_in (entries m) (entries layout.value_blocks) layout.free_value_blocks q
-cells_lacking-is m layout q = λ i. lacking_slots value_block_sizes layout.free_value_blocks (option_to_list (value-is m layout.value_blocks q (home q) i))
+missing_cells-is : (m : Entries ℕ) (layout : Layout) (q : List Bool) → missing_cell_slots m layout q ≡ missing_cells_in (entries m) (entries layout.value_blocks) layout.free_value_blocks q
+missing_cells-is m layout q = λ i. slots_of_missing value_block_sizes layout.free_value_blocks (option_to_list (value-is m layout.value_blocks q (home q) i))
 
 -- the same of several strings
 gains-all : (n : Nodes) (q : List Bool) (ps : List (ℕ × ℕ)) → map (λ p. gains_child n q (path_at 32 p)) ps ≡ map (λ p. gains_in (entries n) q (path_at 32 p)) ps
@@ -62,18 +62,18 @@ pub sizes-is : (width : ℕ) (blocks : Blocks) → InOrder width blocks → entr
 sizes-is width blocks h = entries-from_sorted listing_cmp (listed width blocks) h
 
 lacks_in : (width : ℕ) (t : State ℕ) (layout : Layout) (q : ℕ × ℕ) {es cs vs : Sized} {ns : Marks} → Shows t es ns → entries layout.child_blocks ≡ cs → entries layout.value_blocks ≡ vs
-    → lacking width t layout q ≡ (nodes_lacking_in ns cs layout.free_child_blocks (path_at width q), cells_lacking_in es vs layout.free_value_blocks (path_at width q))
+    → lacking width t layout q ≡ (missing_nodes_in ns cs layout.free_child_blocks (path_at width q), missing_cells_in es vs layout.free_value_blocks (path_at width q))
 lacks_in width t layout q s c v =
-    let a = nodes_lacking-is t.nodes layout (path_at width q) ∙ ap₂ (λ ns bs. nodes_lacking_in ns bs layout.free_child_blocks (path_at width q)) s.of_nodes c in
-    let b = cells_lacking-is t.entries layout (path_at width q) ∙ ap₂ (λ es bs. cells_lacking_in es bs layout.free_value_blocks (path_at width q)) s.of_entries v in
+    let a = missing_nodes-is t.nodes layout (path_at width q) ∙ ap₂ (λ ns bs. missing_nodes_in ns bs layout.free_child_blocks (path_at width q)) s.of_nodes c in
+    let b = missing_cells-is t.entries layout (path_at width q) ∙ ap₂ (λ es bs. missing_cells_in es bs layout.free_value_blocks (path_at width q)) s.of_entries v in
     λ i. (a i, b i)
 
 pub lacks : (width : ℕ) (t : State ℕ) (cs vs : Blocks) (fc fv : List ℕ) (q : ℕ × ℕ) {es : Sized} {ns : Marks} → Shows t es ns → InOrder width cs → InOrder width vs
-    → lacking width t (layout_at width cs vs fc fv) q ≡ (nodes_lacking_in ns (listed width cs) fc (path_at width q), cells_lacking_in es (listed width vs) fv (path_at width q))
+    → lacking width t (layout_at width cs vs fc fv) q ≡ (missing_nodes_in ns (listed width cs) fc (path_at width q), missing_cells_in es (listed width vs) fv (path_at width q))
 lacks width t cs vs fc fv q s c v = lacks_in width t (layout_at width cs vs fc fv) q s (sizes-is width cs c) (sizes-is width vs v)
 
 lacks_new : (width : ℕ) (t : State ℕ) (q : ℕ × ℕ) {es : Sized} {ns : Marks} → Shows t es ns
-    → lacking width t no_layout q ≡ (nodes_lacking_in ns [] none_free (path_at width q), cells_lacking_in es [] none_free (path_at width q))
+    → lacking width t no_layout q ≡ (missing_nodes_in ns [] none_free (path_at width q), missing_cells_in es [] none_free (path_at width q))
 lacks_new width t q s = lacks_in width t no_layout q s (entries-empty ℕ) (entries-empty ℕ)
 
 -- whether lacking slots pass a limit
@@ -96,7 +96,7 @@ values_needed t layout q s v =
     ap option_to_list (value-is t.entries layout.value_blocks q (home q) ∙ ap₂ (λ es bs. value_needed_in es bs q (home q)) s.of_entries v)
 
 -- where one block is needed, none lacks of another size
-pub lacks_one : (sizes free needed : List ℕ) (n size : ℕ) → needed ≡ n ∷ [] → 0 < lacking_of sizes free needed size → size ≡ n
+pub lacks_one : (sizes free needed : List ℕ) (n size : ℕ) → needed ≡ n ∷ [] → 0 < missing_of sizes free needed size → size ≡ n
 lacks_one sizes free needed n size e l = elim (cases_Bool (n == size)) as (λ _. size ≡ n) [
   | inl is ↦ sym (eqb-true n size is)
   | inr other ↦
@@ -105,29 +105,29 @@ lacks_one sizes free needed n size e l = elim (cases_Bool (n == size)) as (λ _.
       absurd (omega (arith, none, some))
 ]
 
-pub lacks_none : (sizes free needed : List ℕ) (size : ℕ) → needed ≡ [] → 0 < lacking_of sizes free needed size → ⊥
+pub lacks_none : (sizes free needed : List ℕ) (size : ℕ) → needed ≡ [] → 0 < missing_of sizes free needed size → ⊥
 lacks_none sizes free needed size e l =
     let none : length (filter (λ s. s == size) needed) ≡ 0 = ap (λ ns. length (filter (λ s. s == size) ns)) e in
     let some : 0 < length (filter (λ s. s == size) needed) - free_of sizes free size = l in
     absurd (omega (arith, none, some))
 
 -- and that one does, if none of its size is free
-lacks_that : (sizes free needed : List ℕ) (n : ℕ) → needed ≡ n ∷ [] → lacking_of sizes free (n ∷ []) n ≡ 1 → 0 < lacking_of sizes free needed n
-lacks_that sizes free needed n e one = let is : lacking_of sizes free needed n ≡ 1 = ap (λ ns. lacking_of sizes free ns n) e ∙ one in omega (arith, is)
+lacks_that : (sizes free needed : List ℕ) (n : ℕ) → needed ≡ n ∷ [] → missing_of sizes free (n ∷ []) n ≡ 1 → 0 < missing_of sizes free needed n
+lacks_that sizes free needed n e one = let is : missing_of sizes free needed n ≡ 1 = ap (λ ns. missing_of sizes free ns n) e ∙ one in omega (arith, is)
 
 -- neither the block of children nor that of values fits
-neither_within : (t : State ℕ) (room : Room) (layout : Layout) (q : List Bool) (n m : ℕ) → child_blocks_needed t.nodes layout q ≡ n ∷ [] → value_blocks_needed t.entries layout q ≡ m ∷ []
-    → room.limit < room.node_slots + n → room.limit < room.cell_slots + m → LacksWithinLimit t.entries t.nodes room layout q → ⊥
-neither_within t room layout q n m e f past_nodes past_cells (inl (size, lacks, fits)) =
+neither_within : (t : State ℕ) (space : Space) (layout : Layout) (q : List Bool) (n m : ℕ) → child_blocks_needed t.nodes layout q ≡ n ∷ [] → value_blocks_needed t.entries layout q ≡ m ∷ []
+    → space.limit < space.node_slots + n → space.limit < space.cell_slots + m → MissingFitsLimit t.entries t.nodes space layout q → ⊥
+neither_within t space layout q n m e f past_nodes past_cells (inl (size, lacks, fits)) =
     let is = lacks_one child_block_sizes layout.free_child_blocks _ n size e lacks in absurd (omega (arith, is, fits, past_nodes))
-neither_within t room layout q n m e f past_nodes past_cells (inr (size, lacks, fits)) =
+neither_within t space layout q n m e f past_nodes past_cells (inr (size, lacks, fits)) =
     let is = lacks_one value_block_sizes layout.free_value_blocks _ m size f lacks in absurd (omega (arith, is, fits, past_cells))
 
 -- where no block of children is needed, that of values does not
-not_within : (t : State ℕ) (room : Room) (layout : Layout) (q : List Bool) (m : ℕ) → child_blocks_needed t.nodes layout q ≡ [] → value_blocks_needed t.entries layout q ≡ m ∷ []
-    → room.limit < room.cell_slots + m → LacksWithinLimit t.entries t.nodes room layout q → ⊥
-not_within t room layout q m e f past (inl (size, lacks, fits)) = lacks_none child_block_sizes layout.free_child_blocks _ size e lacks
-not_within t room layout q m e f past (inr (size, lacks, fits)) =
+not_within : (t : State ℕ) (space : Space) (layout : Layout) (q : List Bool) (m : ℕ) → child_blocks_needed t.nodes layout q ≡ [] → value_blocks_needed t.entries layout q ≡ m ∷ []
+    → space.limit < space.cell_slots + m → MissingFitsLimit t.entries t.nodes space layout q → ⊥
+not_within t space layout q m e f past (inl (size, lacks, fits)) = lacks_none child_block_sizes layout.free_child_blocks _ size e lacks
+not_within t space layout q m e f past (inr (size, lacks, fits)) =
     let is = lacks_one value_block_sizes layout.free_value_blocks _ m size f lacks in absurd (omega (arith, is, fits, past))
 
 abbrev far_values : Blocks
@@ -153,7 +153,7 @@ insertions_hold = record {
         lacks_new 8 t (0, 5) s,
         inl (1, lacks_that child_block_sizes none_free _ 1 child refl, lit≤ tt),
         inr (1, lacks_that value_block_sizes none_free _ 1 value refl, lit≤ tt),
-        neither_within t (room_of 10 10 10) no_layout (path_at 8 (0, 5)) 1 1 child value (lit< tt) (lit< tt),
+        neither_within t (space_of 10 10 10) no_layout (path_at 8 (0, 5)) 1 1 child value (lit< tt) (lit< tt),
       ));
   freed = leads refl (λ t s. lacks 32 t [] [] (ones_free 6) (ones_free 1) (0xffffffff, 32) s tt tt);
   far_key = leads refl (λ t s.
@@ -172,7 +172,7 @@ insertions_hold = record {
         lacks 32 t far_children far_values none_free none_free (0xfffffffe, 32) s tt tt,
       ));
   full = leads refl (λ t s. lacks 8 t [] (((0, 0), 24) ∷ []) none_free five_free (192, 2) s tt tt);
-  with_room = leads refl (λ t s. lacks 8 t [] (((0, 0), 24) ∷ []) none_free five_free (176, 4) s tt tt);
+  with_space = leads refl (λ t s. lacks 8 t [] (((0, 0), 24) ∷ []) none_free five_free (176, 4) s tt tt);
   free_serves = leads refl (λ t s. (
     said (λ es ns. own_in [] es) t s,
     lacks 8 t [] (((0, 0), 24) ∷ []) none_free (1 ∷ 1 ∷ 1 ∷ 1 ∷ 1 ∷ 0 ∷ 1 ∷ []) (240, 4) s tt tt,
@@ -185,7 +185,7 @@ insertions_hold = record {
       let third = lacks 8 t (((0, 0), 1) ∷ []) (((0, 0), 2) ∷ ((0, 5), 1) ∷ []) none_free none_free (64, 2) s tt tt in (
         third,
         inr (more 3 3 _ 4 (ap (λ x. x.1) third) (lit< tt)),
-        not_within t (room_of 3 2 3) three_slots (path_at 8 (64, 2)) 4 (children_needed t three_slots (path_at 8 (64, 2)) s (sizes-is 8 (((0, 0), 1) ∷ []) tt))
+        not_within t (space_of 3 2 3) three_slots (path_at 8 (64, 2)) 4 (children_needed t three_slots (path_at 8 (64, 2)) s (sizes-is 8 (((0, 0), 1) ∷ []) tt))
             (values_needed t three_slots (path_at 8 (64, 2)) s (sizes-is 8 (((0, 0), 2) ∷ ((0, 5), 1) ∷ []) tt)) (lit< tt),
         neither_more 7 2 3 _ _ 0 4 (ap (λ x. x.0) third) (ap (λ x. x.1) third) (lit≤ tt) (lit≤ tt),
       ));

@@ -1,5 +1,5 @@
 -- A plain, slow model that computes: the entries and the nodes as sorted lists. Each of its steps is a step of the definitions.
-use Rattle.prefix_trie_bits.proofs.Prelude.{◌≡◌, true≢false, ℕ, ◌^◌, ◌==◌, Bool, true, false, cond, not, ◌&&◌, ◌||◌, List, [], ◌∷◌, length, map, filter, flat_map, nat_le, Option, Some, None, is_some, is_lt, is_le, refl, sym, ap, ap₂, ◌∙◌, subst, inl, inr, list_any, list_all, FinMap, entries, contains_key, retain_keys, keys, empty, get-entries, len-entries, entries-insert, find, put, begins, listing_cmp, listing_total, same_string, Entries, no_entries, with_entry, without_entry, without_below, part_at_least, shown, first_item, last_item, shown_match, Nodes, has_node, is_root, root_alone, with_nodes, nodes_above, home, needed, is_pruned, pruned, nodes_not_below, nodes_without, nodes_without_below, State, Call, Insert, Get, Lpm, Spm, Remove, RemoveKeepTree, RemoveChildren, RetainAtLeast, Clear, Len, NodeCount, AddressCount, ListAll, ListFrom, Children, Cover, Reply, Value, Match, Done, Count, Addresses, Items, Refused, Refusal, Step, Run}
+use Rattle.prefix_trie_bits.proofs.Prelude.{◌≡◌, true≢false, ℕ, ◌^◌, ◌==◌, Bool, true, false, cond, not, ◌&&◌, ◌||◌, List, [], ◌∷◌, length, map, filter, flat_map, nat_le, Option, Some, None, is_some, is_lt, is_le, refl, sym, ap, ap₂, ◌∙◌, subst, inl, inr, list_any, list_all, FinMap, entries, contains_key, retain_keys, keys, empty, get-entries, len-entries, entries-insert, find, put, begins, listing_cmp, listing_total, same_string, Entries, no_entries, with_entry, without_entry, without_below, part_at_least, prefix_pairs, first_item, last_item, prefix_pair, Nodes, has_node, is_root, root_alone, with_nodes, nodes_above, home, needed, is_pruned, pruned, nodes_not_below, nodes_without, nodes_without_below, State, Call, Insert, Get, Lpm, Spm, Remove, RemoveKeepTree, RemoveChildren, RetainAtLeast, Clear, Len, NodeCount, AddressCount, ListAll, ListFrom, Children, Cover, Reply, Value, Match, Done, Count, Addresses, Items, Refused, Refusal, Step, Run}
 use Rattle.prefix_trie_bits.proofs.Model.Ordered.{entries-retained, entries-removed, entries-empty}
 use Rattle.prefix_trie_bits.proofs.Model.Halves.{halves, covered-halves}
 
@@ -54,8 +54,8 @@ module _ {P T : Type 0} (path : P → List Bool) (back : List Bool → P) (width
         ]
       ]
   play es ns fate (Get q) = answered (Value (find listing_cmp (path q) es)) es ns
-  play es ns fate (Lpm q) = answered (Match (shown_match back (last_item (filter (λ e. begins e.0 (path q)) es)))) es ns
-  play es ns fate (Spm q) = answered (Match (shown_match back (first_item (filter (λ e. begins e.0 (path q)) es)))) es ns
+  play es ns fate (Lpm q) = answered (Match (prefix_pair back (last_item (filter (λ e. begins e.0 (path q)) es)))) es ns
+  play es ns fate (Spm q) = answered (Match (prefix_pair back (first_item (filter (λ e. begins e.0 (path q)) es)))) es ns
   play es ns fate (Remove q) =
       let left = filter (λ e. not (same_string e.0 (path q))) es in
       answered (Value (find listing_cmp (path q) es)) left (pruned_marks ns (keys_of left) (path q))
@@ -70,11 +70,11 @@ module _ {P T : Type 0} (path : P → List Bool) (back : List Bool → P) (width
   play es ns fate Len = answered (Count (length es)) es ns
   play es ns fate NodeCount = answered (Count (length ns)) es ns
   play es ns fate AddressCount = answered (Addresses (cond (halves width (keys_of es) == 2 ^ width) None (Some (halves width (keys_of es))))) es ns
-  play es ns fate ListAll = answered (Items (shown back es)) es ns
+  play es ns fate ListAll = answered (Items (prefix_pairs back es)) es ns
   play es ns fate (ListFrom q inclusive) =
-      answered (Items (shown back (cond inclusive (filter (λ e. is_le (listing_cmp (path q) e.0)) es) (filter (λ e. is_lt (listing_cmp (path q) e.0)) es)))) es ns
-  play es ns fate (Children q) = answered (Items (shown back (filter (λ e. begins (path q) e.0) es))) es ns
-  play es ns fate (Cover q) = answered (Items (shown back (filter (λ e. begins e.0 (path q)) es))) es ns
+      answered (Items (prefix_pairs back (cond inclusive (filter (λ e. is_le (listing_cmp (path q) e.0)) es) (filter (λ e. is_lt (listing_cmp (path q) e.0)) es)))) es ns
+  play es ns fate (Children q) = answered (Items (prefix_pairs back (filter (λ e. begins (path q) e.0) es))) es ns
+  play es ns fate (Cover q) = answered (Items (prefix_pairs back (filter (λ e. begins e.0 (path q)) es))) es ns
 
   -- what calls are answered, each with its fate, and where they lead
   abbrev pub play_all : List (List Bool × T) → Marks → List (Call P T × Option Refusal) → List (Reply P T) × List (List Bool × T) × Marks

@@ -1,5 +1,5 @@
 -- The worked facts on storages that no step leaves.
-use Rattle.prefix_trie_bits.proofs.Prelude.{◌≡◌, ℕ, zero, suc, ◌+◌, ◌-◌, ◌<◌, ◌≤◌, ◌==◌, Bool, false, List, [], ◌∷◌, map, length, get_or, is_some, Option, Some, None, refl, sym, ap, ap₂, ◌∙◌, subst, inl, inr, arith, le_of_eq, lit<, lit≤, slice_index_or, Contains, count_by, option_or, entries, get, contains_key, values, entries-from_sorted, get-from_sorted, find, digits, number, begins, listing_cmp, has_node, value_block_sizes, child_block_sizes, free_of, own_entries, used_of, HasBlock, LongerByOne, LosesNoBlock, value_block_needed, value_blocks_needed, child_blocks_lacking, lacking_of, value_blocks_lacking, made_of, one_of, home, State, Call, Remove, RemoveKeepTree, RetainAtLeast, Reply, Memory, IndexRange, Step, is_refusal, path_at, back_at, sets, none_free, both_free, Blocks, layout_at, ones_free, sizes_at, three_slots, two_free, four_free, root_child, root_value, child_value, Takes, KeepsFacts, FilledFacts, StepsHold}
+use Rattle.prefix_trie_bits.proofs.Prelude.{◌≡◌, ℕ, zero, suc, ◌+◌, ◌-◌, ◌<◌, ◌≤◌, ◌==◌, Bool, false, List, [], ◌∷◌, map, length, get_or, is_some, Option, Some, None, refl, sym, ap, ap₂, ◌∙◌, subst, inl, inr, arith, le_of_eq, lit<, lit≤, slice_index_or, Contains, count_by, option_or, entries, get, contains_key, values, entries-from_sorted, get-from_sorted, find, digits, number, begins, listing_cmp, has_node, value_block_sizes, child_block_sizes, free_of, own_entries, used_of, HasBlock, LongerByOne, LosesNoBlock, value_block_needed, value_blocks_needed, missing_child_blocks, missing_of, missing_value_blocks, made_of, one_of, home, State, Call, Remove, RemoveKeepTree, RetainAtLeast, Reply, Memory, IndexRange, Step, is_refusal, path_at, back_at, sets, none_free, both_free, Blocks, layout_at, ones_free, sizes_at, three_slots, two_free, four_free, root_child, root_value, child_value, Takes, KeepsFacts, FilledFacts, StepsHold}
 use Rattle.prefix_trie_bits.proofs.Model.Worked.Plain.{Shows, Marks, play, step_at, has-is}
 use Rattle.prefix_trie_bits.proofs.Model.Worked.Played.{last_entries, last_marks, leads}
 use Rattle.prefix_trie_bits.proofs.Model.Worked.Examples.{said, own_in, children_in}
@@ -188,7 +188,7 @@ filled_facts t s = record {
         let v = after t u (Remove (0, 1)) reply s (ap is_refusal h.step.0) refl h.step in
         other _ _ 2 1 (block_at (((0, 0), 2) ∷ []) [] tt) (block_at root_child [] tt) refl
         ((h.storage.1.child_blocks.at_nodes [] (has t [] s)).same (said (λ es ns. children_in [] ns) u v ∙ sym (said (λ es ns. children_in [] ns) t s)));
-    not_limit = λ reply u h. differ 11 10 refl h.room.same_limit;
+    not_limit = λ reply u h. differ 11 10 refl h.space.same_limit;
   };
   prune = record {
     not_with_values = λ reply u h.
@@ -239,10 +239,10 @@ filled_facts t s = record {
   insert =
       let q = path_at 8 (64, 2) in
       let lacking = lacks 8 t root_child (root_value 2) none_free none_free (64, 2) s tt tt in
-      let no_child : child_blocks_lacking t.nodes three_slots q 1 ≡ 0 =
-      ap (λ ns. lacking_of child_block_sizes none_free ns 1) (children_needed t three_slots q s (sizes-is 8 root_child tt)) in
-      let no_value : value_blocks_lacking t.entries three_slots q 1 ≡ 0 =
-      ap (λ ns. lacking_of value_block_sizes none_free ns 1) (values_needed t three_slots q s (sizes-is 8 (root_value 2) tt)) in
+      let no_child : missing_child_blocks t.nodes three_slots q 1 ≡ 0 =
+      ap (λ ns. missing_of child_block_sizes none_free ns 1) (children_needed t three_slots q s (sizes-is 8 root_child tt)) in
+      let no_value : missing_value_blocks t.entries three_slots q 1 ≡ 0 =
+      ap (λ ns. missing_of value_block_sizes none_free ns 1) (values_needed t three_slots q s (sizes-is 8 (root_value 2) tt)) in
       let moved : get (sizes_at 8 (root_value 4)) [] ≡ get (sizes_at 8 (root_value 2)) [] → ⊥ =
       other _ _ 4 2 (block_at (root_value 4) [] tt) (block_at (root_value 2) [] tt) refl in
       record {
@@ -271,10 +271,10 @@ filled_facts t s = record {
             let made = layout_at 8 root_child (root_value 2) none_free four_free in
             let v = values_needed t made q s (sizes-is 8 (root_value 2) tt) in
             elim ((h.storage.2 Memory refl).memory refl) [
-              | inl (size, l, room) ↦ lacks_none child_block_sizes none_free _ size (children_needed t made q s (sizes-is 8 root_child tt)) l
-              | inr (size, l, room) ↦
-                  let none : lacking_of value_block_sizes four_free (value_blocks_needed t.entries made q) size ≡ 0 =
-                  ap₂ (λ ns n. lacking_of value_block_sizes four_free ns n) v (lacks_one value_block_sizes four_free _ 4 size v l) in
+              | inl (size, l, space) ↦ lacks_none child_block_sizes none_free _ size (children_needed t made q s (sizes-is 8 root_child tt)) l
+              | inr (size, l, space) ↦
+                  let none : missing_of value_block_sizes four_free (value_blocks_needed t.entries made q) size ≡ 0 =
+                  ap₂ (λ ns n. missing_of value_block_sizes four_free ns n) v (lacks_one value_block_sizes four_free _ 4 size v l) in
                   absurd (omega (arith, none, l))
             ];
         not_refused_made = λ u h. made value_block_sizes (root_value 2) (root_value 2) none_free (ones_free 1) 1 _ tt tt no_value (lit< tt)

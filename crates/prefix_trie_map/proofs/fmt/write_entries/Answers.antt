@@ -1,11 +1,11 @@
-use Rattle.prefix_trie_map.proofs.Prelude.{◌∷◌, sym, All-head, All-tail, All-same, listing, shown}
+use Rattle.prefix_trie_map.proofs.Prelude.{◌∷◌, sym, All-head, All-tail, All-same, listing, prefix_pairs}
 use Rattle.prefix_trie_map.proofs.Listed.{listed_fit}
 use Rattle.prefix_trie_map.proofs.fmt.write_entries.Goals as goal
 
 pub loop-prefix-init : goal.loop-prefix-init
 loop-prefix-init g c =
     let gives = c.into_iter-prefix-iterator.ensures.into_iter_gives in
-    All-same (λ e. g.P.Prefix.IsFitting e.0) c.into_iter-prefix-iterator.result (shown g.P.Prefix.back (listing c.args.map.now.entries)) gives.0
+    All-same (λ e. g.P.Prefix.IsFitting e.0) c.into_iter-prefix-iterator.result (prefix_pairs g.P.Prefix.back (listing c.args.map.now.entries)) gives.0
     (listed_fit g.met.P.Prefix.prefix_laws c.args.map.now.entries gives.4.is_map.keys_within)
 
 pub cover_keys-requires : goal.cover_keys-requires

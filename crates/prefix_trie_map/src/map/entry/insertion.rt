@@ -65,7 +65,7 @@ impl<'a, P: Prefix, T: Drop, A: Allocator> VacantEntry<'a, P, T, A> {
         ensures refused { IfErr result.answer (λ refused. (refused.value ≡ value) × RefusesToFill (Vacant self.entry) refused.cause result.map.now) }
     {
         let VacantEntry { map, key, end } = self;
-        match map.place(key.prefix(), end, value) {
+        match map.insert_located(key.prefix(), end, value) {
             Ok(_) => Put {
                 map,
                 answer: Ok(None),

@@ -5,7 +5,7 @@ ghost use Rattle.prefix_trie_bits.specs.Model.Entries.{without_entry};
 ghost use Rattle.prefix_trie_bits.specs.Model.Step.{RemoveKeepTree, Value};
 ghost use Rattle.prefix_trie_bits.specs.Model.Storage.{StepByPath};
 ghost use Rattle.prefix_trie_table.specs.Shape.{with_value_at};
-ghost use Rattle.prefix_trie_map.specs.Steps.{stored};
+ghost use Rattle.prefix_trie_map.specs.Steps.{stored_state};
 ghost use Rattle.prefix_trie_map.specs.Whole.{IsWhole};
 
 use crate::map::PrefixMap;
@@ -92,7 +92,7 @@ impl<'a, P: Prefix, T: Drop, A: Allocator> OccupiedEntry<'a, P, T, A> {
         ensures value { entry_value (Occupied self.entry) ≡ Some result }
         ensures entries { self.exit.0.now.entries ≡ without_entry (entry_map (Occupied self.entry)).entries (entry_path (Occupied self.entry)) }
         ensures nodes { self.exit.0.now.nodes ≡ (entry_map (Occupied self.entry)).nodes }
-        ensures step { StepByPath P.R.bit_width (stored (entry_map (Occupied self.entry))) (RemoveKeepTree (entry_path (Occupied self.entry))) (Value (Some result)) (stored self.exit.0.now) }
+        ensures step { StepByPath P.R.bit_width (stored_state (entry_map (Occupied self.entry))) (RemoveKeepTree (entry_path (Occupied self.entry))) (Value (Some result)) (stored_state self.exit.0.now) }
     {
         let key = self.key;
         self.map.take(key.prefix())

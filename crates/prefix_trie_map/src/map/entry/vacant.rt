@@ -34,7 +34,7 @@ impl<'a, P: Prefix, T: Drop, A: Allocator> VacantEntry<'a, P, T, A> {
     {
         let VacantEntry { map, key, end } = self;
         let (number, len) = key.parts();
-        let seat = map.place(key.prefix(), end, value)?;
+        let seat = map.insert_located(key.prefix(), end, value)?;
         Ok(map.lend_at(number, len, seat))
     }
 
@@ -49,10 +49,10 @@ impl<'a, P: Prefix, T: Drop, A: Allocator> VacantEntry<'a, P, T, A> {
     {
         let VacantEntry { map, key, end } = self;
         let (number, len) = key.parts();
-        if let Err(cause) = map.make_room(key.prefix(), end) {
+        if let Err(cause) = map.reserve(key.prefix(), end) {
             return Err(cause);
         }
-        let seat = map.place_ready(key.prefix(), end, f());
+        let seat = map.insert_ready(key.prefix(), end, f());
         Ok(map.lend_at(number, len, seat))
     }
 

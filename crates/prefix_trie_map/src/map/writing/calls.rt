@@ -1,14 +1,14 @@
 //! The calls that make walks for writing.
 ghost use Rattle.std.specs.Prelude.{◌≤◌, cond, take};
 ghost use Rattle.prefix_trie_bits.specs.Model.Selections.{listing, listing_from, listing_after, listing_below};
-ghost use Rattle.prefix_trie_table.specs.Walking.Cursors.{selected};
+ghost use Rattle.prefix_trie_table.specs.Walking.Starts.{selected};
 ghost use Rattle.prefix_trie_map.specs.Whole.{IsWhole};
 
 use crate::map::parts::parts;
-use crate::map::writing::{Course, IterMut, ValuesMut, ValuesOf, WalkOf};
+use crate::map::writing::{MapCursor, IterMut, ValuesMut, ValuesOf, WalkOf};
 use crate::map::{PrefixMap, Visits};
 use prefix_trie_bits::prefix::{Key, Prefix};
-use prefix_trie_table::table::cursor::Start;
+use prefix_trie_table::table::walk_start::Start;
 use std::alloc::Allocator;
 
 impl<P: Prefix, T: Drop, A: Allocator> PrefixMap<P, T, A> {
@@ -25,7 +25,7 @@ impl<P: Prefix, T: Drop, A: Allocator> PrefixMap<P, T, A> {
     /// ```
     #[inline]
     pub fn iter_mut(&mut self) -> IterMut<'_, P, T, A>
-        ensures starts { StartsIn self.entry (listing self.old.entries) result.course }
+        ensures starts { StartsIn self.entry (listing self.old.entries) result.source }
         ensures whole { IsWhole P.R.bit_width self.old }
     {
         self.write_from(P::R::zero(), 0, Start::Below)
@@ -43,7 +43,7 @@ impl<P: Prefix, T: Drop, A: Allocator> PrefixMap<P, T, A> {
         requires { P.IsFitting prefix.now }
         ensures starts { StartsIn self.entry (cond inclusive
             (listing_from self.old.entries (P.path prefix.now))
-            (listing_after self.old.entries (P.path prefix.now))) result.course }
+            (listing_after self.old.entries (P.path prefix.now))) result.source }
         ensures whole { IsWhole P.R.bit_width self.old }
     {
         let from = if inclusive { Start::At } else { Start::After };
@@ -60,7 +60,7 @@ impl<P: Prefix, T: Drop, A: Allocator> PrefixMap<P, T, A> {
     #[inline]
     pub fn children_mut(&mut self, prefix: &P) -> IterMut<'_, P, T, A>
         requires { P.IsFitting prefix.now }
-        ensures starts { StartsIn self.entry (listing_below self.old.entries (P.path prefix.now)) result.course }
+        ensures starts { StartsIn self.entry (listing_below self.old.entries (P.path prefix.now)) result.source }
         ensures whole { IsWhole P.R.bit_width self.old }
     {
         let (key, len) = parts(prefix);
@@ -77,7 +77,7 @@ impl<P: Prefix, T: Drop, A: Allocator> PrefixMap<P, T, A> {
     /// ```
     #[inline]
     pub fn values_mut(&mut self) -> ValuesMut<'_, P, T, A>
-        ensures starts { StartsIn self.entry (listing self.old.entries) result.walk.course }
+        ensures starts { StartsIn self.entry (listing self.old.entries) result.walk.source }
         ensures whole { IsWhole P.R.bit_width self.old }
     {
         let walk = self.iter_mut();
@@ -89,15 +89,15 @@ impl<P: Prefix, T: Drop, A: Allocator> PrefixMap<P, T, A> {
     fn write_from(&mut self, key: P::R, len: u32, from: Start) -> IterMut<'_, P, T, A>
         requires key { P.R.IsKey key }
         requires within { len ≤ P.R.bit_width }
-        ensures starts { StartsIn self.entry (selected from self.old.entries (take len (P.R.bits key))) result.course }
+        ensures starts { StartsIn self.entry (selected from self.old.entries (take len (P.R.bits key))) result.source }
         ensures whole { IsWhole P.R.bit_width self.old }
     {
         // The proof learns from it that the map is whole.
         let _ = self.len();
-        let trail = self.table.trail(key, len, from, &mut Visits::new());
-        let course = Course { map: self, trail };
+        let cursor = self.table.cursor(key, len, from, &mut Visits::new());
+        let source = MapCursor { map: self, cursor };
         WalkOf {
-            course: Some(course),
+            source: Some(source),
         }
     }
 }

@@ -14,11 +14,11 @@ impl<S: Slot, R: SlotArray<S>, A: Allocator> Blocks<S, R, A> {
     /// Puts a value into the list of `count` values in a block of tier `k` that starts at `start` (none if `count` is 0), and says
     /// where the list stands then. A block with room keeps it. Else it moves to a free block of the smallest size that holds it,
     /// and its old block is free. It makes no block and asks for no memory: `prepare` does that before.
-    pub fn insert_at(&mut self, k: usize, start: u32, count: u32, place: u32, value: S) -> BlockRef
+    pub fn insert_at(&mut self, k: usize, start: u32, count: u32, offset: u32, value: S) -> BlockRef
         requires holds { HasList S.vacant self.old k start count }
         requires sizes { HasSizes self.old.tiers }
         requires ready { IsReady self.old.tiers k count }
-        requires place { place ≤ count }
+        requires offset { offset ≤ count }
         requires value { R.can_hold value }
         ensures stands { list_size self.old.tiers result.tier (count + 1)
             ≡ option_or (list_need self.old.tiers k count) (list_size self.old.tiers k count) }
@@ -26,7 +26,7 @@ impl<S: Slot, R: SlotArray<S>, A: Allocator> Blocks<S, R, A> {
         ensures turnover { Turnover self.old self.new none_of (list_size self.old.tiers k count) (list_size self.old.tiers result.tier (count + 1)) }
         ensures sound { (n : ℕ) (xs : List S) (live : List (UsedBlock S))
             → Sound S.vacant (held k start n xs ++ live) self.old → length xs ≡ count
-            → Sound S.vacant (block result.tier result.start (tier_at self.old.tiers result.tier).size (insert xs place value) ∷ live) self.new }
+            → Sound S.vacant (block result.tier result.start (tier_at self.old.tiers result.tier).size (insert xs offset value) ∷ live) self.new }
     {
         if count == 0 {
             let new = self.take(0);
@@ -36,16 +36,16 @@ impl<S: Slot, R: SlotArray<S>, A: Allocator> Blocks<S, R, A> {
                 start: new,
             };
         }
-        self.insert_into(k, start, count, place, value)
+        self.insert_into(k, start, count, offset, value)
     }
 
     /// Puts a value into the list of a block. A full one is left for a free block of the smallest size that holds the list.
-    fn insert_into(&mut self, k: usize, start: u32, count: u32, place: u32, value: S) -> BlockRef
+    fn insert_into(&mut self, k: usize, start: u32, count: u32, offset: u32, value: S) -> BlockRef
         requires in_use { InUse S.vacant self.old k start count }
         requires some { 0 < count }
         requires sizes { HasSizes self.old.tiers }
         requires ready { IsReady self.old.tiers k count }
-        requires place { place ≤ count }
+        requires offset { offset ≤ count }
         requires value { R.can_hold value }
         ensures stands { list_size self.old.tiers result.tier (count + 1)
             ≡ option_or (list_need self.old.tiers k count) (list_size self.old.tiers k count) }
@@ -53,14 +53,14 @@ impl<S: Slot, R: SlotArray<S>, A: Allocator> Blocks<S, R, A> {
         ensures turnover { Turnover self.old self.new none_of (list_size self.old.tiers k count) (list_size self.old.tiers result.tier (count + 1)) }
         ensures sound { (n : ℕ) (xs : List S) (live : List (UsedBlock S))
             → Sound S.vacant (block k start n xs ∷ live) self.old → length xs ≡ count
-            → Sound S.vacant (block result.tier result.start (tier_at self.old.tiers result.tier).size (insert xs place value) ∷ live) self.new }
+            → Sound S.vacant (block result.tier result.start (tier_at self.old.tiers result.tier).size (insert xs offset value) ∷ live) self.new }
     {
         if count < self.size_of(k) {
-            self.insert_within(start, count, place, value);
+            self.insert_within(start, count, offset, value);
             return BlockRef { tier: k, start };
         }
         let tier = self.tier_holding(count as usize + 1);
-        let start = self.insert_moving(k, start, tier, count, place, value);
+        let start = self.insert_moving(k, start, tier, count, offset, value);
         BlockRef { tier, start }
     }
 
@@ -73,63 +73,63 @@ impl<S: Slot, R: SlotArray<S>, A: Allocator> Blocks<S, R, A> {
         outgrown: u32,
         to: usize,
         count: u32,
-        place: u32,
+        offset: u32,
         value: S,
     ) -> u32
         requires in_use { InUse S.vacant self.old k outgrown count }
         requires within { to < length self.old.tiers }
         requires ready { 0 < free_in self.old.tiers (size_in (tier_sizes self.old.tiers) to) }
         requires holds { count < size_in (tier_sizes self.old.tiers) to }
-        requires place { place ≤ count }
+        requires offset { offset ≤ count }
         requires value { R.can_hold value }
         ensures turnover { Turnover self.old self.new none_of (Some (size_in (tier_sizes self.old.tiers) k)) (Some (size_in (tier_sizes self.old.tiers) to)) }
         ensures sound { (n : ℕ) (xs : List S) (live : List (UsedBlock S))
             → Sound S.vacant (block k outgrown n xs ∷ live) self.old → length xs ≡ count
-            → Sound S.vacant (block to result (tier_at self.old.tiers to).size (insert xs place value) ∷ live) self.new }
+            → Sound S.vacant (block to result (tier_at self.old.tiers to).size (insert xs offset value) ∷ live) self.new }
     {
         let new = self.take(to);
-        self.move_in(outgrown, new, count, place, value);
+        self.move_in(outgrown, new, count, offset, value);
         self.give_back(k, outgrown);
         new
     }
 
     /// Moves the values of a block to another, which holds none and has room for one more, and puts a value among them.
-    fn move_in(&mut self, from: u32, to: u32, count: u32, place: u32, value: S)
+    fn move_in(&mut self, from: u32, to: u32, count: u32, offset: u32, value: S)
         requires blocks { (a : UsedBlock S) × (b : UsedBlock S) × (live : List (UsedBlock S))
             × Sound S.vacant (a ∷ b ∷ live) self.old × (a.start ≡ from) × (b.start ≡ to)
             × (length a.items ≡ count) × (b.items ≡ []) × (count < b.size) }
-        requires place { place ≤ count }
+        requires offset { offset ≤ count }
         requires value { R.can_hold value }
-        ensures slots { self.new ≡ record self.old { slots = put_run (put_run self.old.slots from (replicate count S.vacant)) to (insert (run self.old.slots from count) place value) } }
+        ensures slots { self.new ≡ record self.old { slots = put_run (put_run self.old.slots from (replicate count S.vacant)) to (insert (run self.old.slots from count) offset value) } }
         ensures len { length self.new.slots ≡ length self.old.slots }
         ensures sound { (a b : UsedBlock S) (live : List (UsedBlock S))
             → Sound S.vacant (a ∷ b ∷ live) self.old → a.start ≡ from → b.start ≡ to
             → length a.items ≡ count → b.items ≡ [] → count < b.size
-            → Sound S.vacant (record a { items = [] } ∷ record b { items = insert a.items place value } ∷ live) self.new }
+            → Sound S.vacant (record a { items = [] } ∷ record b { items = insert a.items offset value } ∷ live) self.new }
     {
         move_in(
             &mut self.slots,
             from as usize,
             to as usize,
             count as usize,
-            place as usize,
+            offset as usize,
             value,
         );
     }
 
     /// Puts a value into a block that has room for it, whose list has `count` values.
-    fn insert_within(&mut self, start: u32, count: u32, place: u32, value: S)
-        requires room { start + count < length self.old.slots }
-        requires place { place ≤ count }
+    fn insert_within(&mut self, start: u32, count: u32, offset: u32, value: S)
+        requires space { start + count < length self.old.slots }
+        requires offset { offset ≤ count }
         requires value { R.can_hold value }
-        ensures slots { self.new ≡ record self.old { slots = insert (remove self.old.slots (start + count)) (start + place) value } }
+        ensures slots { self.new ≡ record self.old { slots = insert (remove self.old.slots (start + count)) (start + offset) value } }
         ensures len { length self.new.slots ≡ length self.old.slots }
         ensures sound { (b : UsedBlock S) (live : List (UsedBlock S)) → Sound S.vacant (b ∷ live) self.old
             → b.start ≡ start → length b.items ≡ count → count < b.size
-            → Sound S.vacant (record b { items = insert b.items place value } ∷ live) self.new }
+            → Sound S.vacant (record b { items = insert b.items offset value } ∷ live) self.new }
     {
         let start = start as usize;
         self.slots
-            .insert_shifting(start + place as usize, start + count as usize, value);
+            .insert_shifting(start + offset as usize, start + count as usize, value);
     }
 }

@@ -1,9 +1,9 @@
 //! Laying a whole list at once, in a block of its final size.
 ghost use Rattle.std.specs.Prelude.{◌≡◌, ◌+◌, ◌^◌, ◌<◌, ◌≤◌, All, List, length, replicate, IfOk, IfErr, IsSome};
-ghost use Rattle.prefix_trie_table.specs.HandingOut.Laying.{LaysList};
+ghost use Rattle.prefix_trie_table.specs.Splitting.Laying.{LaysList};
 ghost use Rattle.prefix_trie_table.specs.Store.{UsedBlock, Sound, tier_sizes};
 ghost use Rattle.prefix_trie_bits.specs.Model.Blocks.{smallest_size};
-ghost use Rattle.prefix_trie_bits.specs.Model.HandsOut.{packed_slots};
+ghost use Rattle.prefix_trie_bits.specs.Model.SplitsOff.{packed_slots};
 ghost use Rattle.prefix_trie_bits.specs.declared.prefix.Refusal.TheVariants.{IndexRange};
 
 use crate::allocator::array::SlotArray;

@@ -74,7 +74,7 @@ impl<S: Slot, R: SlotArray<S>, A: Allocator> Blocks<S, R, A> {
         if len + size as usize > self.limit as usize {
             return Err(Refusal::IndexRange);
         }
-        if self.slots.make_room(size as usize).is_err() {
+        if self.slots.reserve(size as usize).is_err() {
             return Err(Refusal::Memory);
         }
         let list = &mut self.lists[k];

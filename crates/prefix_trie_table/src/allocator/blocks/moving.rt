@@ -24,7 +24,7 @@ impl<S: Slot, R: SlotArray<S>, A: Allocator> Blocks<S, R, A> {
     /// Gives a block of tier `k` back, whose slots are vacant. Its place was reserved when it was made: this asks for no memory.
     pub(super) fn give_back(&mut self, k: usize, start: u32)
         requires within { k < length self.old.tiers }
-        requires place { length (tier_at self.old.tiers k).starts < (tier_at self.old.tiers k).made }
+        requires reserved { length (tier_at self.old.tiers k).starts < (tier_at self.old.tiers k).made }
         ensures turnover { Turnover self.old self.new none_of (Some (size_in (tier_sizes self.old.tiers) k)) None }
         ensures sound { (live : List (UsedBlock S)) (n : ℕ)
             → Sound S.vacant (block k start n [] ∷ live) self.old → Sound S.vacant live self.new }

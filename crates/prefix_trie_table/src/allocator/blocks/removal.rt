@@ -13,46 +13,46 @@ impl<S: Slot, R: SlotArray<S>, A: Allocator> Blocks<S, R, A> {
     /// Takes a value out of the list of `count` values in a block of tier `k` that starts at `start`, and says where the rest
     /// stands. Where a smaller size holds the rest it moves to a block of the smallest, if one is free or can be made, and else
     /// it stays. The block that it leaves is free. An empty rest stands nowhere (tier 0, start 0). Never refused.
-    pub fn remove_at(&mut self, k: usize, start: u32, count: u32, place: u32) -> (S, BlockRef)
+    pub fn remove_at(&mut self, k: usize, start: u32, count: u32, offset: u32) -> (S, BlockRef)
         requires holds { HasList S.vacant self.old k start count }
         requires sizes { HasSizes self.old.tiers }
-        requires place { place < count }
+        requires offset { offset < count }
         ensures loses { LosesOne self.old self.new count (list_size self.old.tiers k count) (list_size self.old.tiers result.1.tier (count - 1)) }
         ensures tier { result.1.tier < length self.old.tiers }
         ensures gone { count ≡ 1 → result.1 ≡ record { tier = 0; start = 0 } }
         ensures stays { 1 < count → result.1.tier ≡ k → result.1.start ≡ start }
         ensures value { (n : ℕ) (xs : List S) (live : List (UsedBlock S))
             → Sound S.vacant (held k start n xs ++ live) self.old → length xs ≡ count
-            → result.0 ≡ slice_index_or xs place result.0 }
+            → result.0 ≡ slice_index_or xs offset result.0 }
         ensures sound { (n : ℕ) (xs : List S) (live : List (UsedBlock S))
             → Sound S.vacant (held k start n xs ++ live) self.old → length xs ≡ count
-            → Sound S.vacant (held result.1.tier result.1.start (tier_at self.old.tiers result.1.tier).size (remove xs place) ++ live) self.new }
+            → Sound S.vacant (held result.1.tier result.1.start (tier_at self.old.tiers result.1.tier).size (remove xs offset) ++ live) self.new }
     {
-        let (value, left) = self.remove_from(k, start, count, place);
+        let (value, left) = self.remove_from(k, start, count, offset);
         match left {
-            Some(place) => (value, place),
+            Some(rest) => (value, rest),
             None => (value, BlockRef { tier: 0, start: 0 }),
         }
     }
 
     /// Takes a value out of the list of a block, and says where the rest stands, if any is left.
-    fn remove_from(&mut self, k: usize, start: u32, count: u32, place: u32) -> (S, Option<BlockRef>)
+    fn remove_from(&mut self, k: usize, start: u32, count: u32, offset: u32) -> (S, Option<BlockRef>)
         requires in_use { InUse S.vacant self.old k start count }
         requires sizes { HasSizes self.old.tiers }
-        requires place { place < count }
+        requires offset { offset < count }
         ensures none { IsSome result.1 ↔ (1 < count) }
         ensures loses { LosesOne self.old self.new count (Some (size_in (tier_sizes self.old.tiers) k))
             (option_map (λ p. size_in (tier_sizes self.old.tiers) p.tier) result.1) }
         ensures stays { IfSome result.1 (λ p. p.tier ≡ k → p.start ≡ start) }
         ensures value { (n : ℕ) (xs : List S) (live : List (UsedBlock S))
             → Sound S.vacant (block k start n xs ∷ live) self.old → length xs ≡ count
-            → result.0 ≡ slice_index_or xs place result.0 }
+            → result.0 ≡ slice_index_or xs offset result.0 }
         ensures sound { (n : ℕ) (xs : List S) (live : List (UsedBlock S))
             → Sound S.vacant (block k start n xs ∷ live) self.old → length xs ≡ count
             → MatchOption result.1 (Sound S.vacant live self.new)
-            (λ p. Sound S.vacant (block p.tier p.start (tier_at self.old.tiers p.tier).size (remove xs place) ∷ live) self.new) }
+            (λ p. Sound S.vacant (block p.tier p.start (tier_at self.old.tiers p.tier).size (remove xs offset) ∷ live) self.new) }
     {
-        let value = self.remove_within(start, count, place);
+        let value = self.remove_within(start, count, offset);
         let rest = count - 1;
         if rest == 0 {
             self.give_back(k, start);
@@ -91,20 +91,20 @@ impl<S: Slot, R: SlotArray<S>, A: Allocator> Blocks<S, R, A> {
     }
 
     /// Takes a value out of a block whose list has `count` values.
-    fn remove_within(&mut self, start: u32, count: u32, place: u32) -> S
+    fn remove_within(&mut self, start: u32, count: u32, offset: u32) -> S
         requires within { start + count ≤ length self.old.slots }
-        requires place { place < count }
-        ensures slots { self.new ≡ record self.old { slots = insert (remove self.old.slots (start + place)) (start + count - 1) S.vacant } }
+        requires offset { offset < count }
+        ensures slots { self.new ≡ record self.old { slots = insert (remove self.old.slots (start + offset)) (start + count - 1) S.vacant } }
         ensures value { (b : UsedBlock S) (live : List (UsedBlock S)) → Sound S.vacant (b ∷ live) self.old
             → b.start ≡ start → length b.items ≡ count
-            → result ≡ slice_index_or b.items place result }
+            → result ≡ slice_index_or b.items offset result }
         ensures len { length self.new.slots ≡ length self.old.slots }
         ensures sound { (b : UsedBlock S) (live : List (UsedBlock S)) → Sound S.vacant (b ∷ live) self.old
             → b.start ≡ start → length b.items ≡ count
-            → Sound S.vacant (record b { items = remove b.items place } ∷ live) self.new }
+            → Sound S.vacant (record b { items = remove b.items offset } ∷ live) self.new }
     {
         let start = start as usize;
         self.slots
-            .remove_shifting(start + place as usize, start + count as usize - 1)
+            .remove_shifting(start + offset as usize, start + count as usize - 1)
     }
 }

@@ -1,4 +1,4 @@
-use Rattle.prefix_trie_tests.proofs.Prelude.{ap, ◌∙◌, len, path_within, IsTidy, state, inserted}
+use Rattle.prefix_trie_tests.proofs.Prelude.{ap, ◌∙◌, len, path_within, IsTidy, state, insert_reply}
 use Rattle.prefix_trie_tests.proofs.AnyMap.{tidy_again}
 use Rattle.prefix_trie_tests.proofs.any_map.set_and_remove.Given as given
 use Rattle.prefix_trie_tests.proofs.any_map.set_and_remove.Goals as goal
@@ -7,7 +7,7 @@ tidy : (g : given.Over) (c : goal.After-node_count g) → IsTidy c.remove.new.se
 tidy g c =
     let width = g.P.R.Key.bit_width in
     tidy_again width (state c.args.map.now) (state c.insert.new.self) (state c.remove.new.self)
-    (g.P.Prefix.path c.args.prefix) c.args.value (inserted c.insert.result) (g.P.Prefix.path c.args.out.now) c.remove.result c.len.ensures.whole.is_map c.requires.tidy
+    (g.P.Prefix.path c.args.prefix) c.args.value (insert_reply c.insert.result) (g.P.Prefix.path c.args.out.now) c.remove.result c.len.ensures.whole.is_map c.requires.tidy
     (path_within g.met.P.Prefix.prefix_laws c.args.prefix c.requires.fits) c.insert.ensures.step.step c.remove.ensures.step.step
 
 pub returns-clause-tidy : goal.returns-clause-tidy

@@ -1,11 +1,11 @@
-use Rattle.prefix_trie_tests.proofs.Prelude.{ap, ◌∙◌, All-same, IfOk-weaker, TakesFirst, no_entries, put_all, listing, shown, listed_fit}
+use Rattle.prefix_trie_tests.proofs.Prelude.{ap, ◌∙◌, All-same, IfOk-weaker, TakesFirst, no_entries, put_all, listing, prefix_pairs, listed_fit}
 use Rattle.prefix_trie.proofs.Collecting.{all_along, all_given}
 use Rattle.prefix_trie_tests.proofs.collecting.rebuilt.Goals as goal
 
 pub from_iter-requires-clause-fit : goal.from_iter-requires-clause-fit
 from_iter-requires-clause-fit g c it gives =
     all_along (TakesFirst (λ x. x)) (λ s. s) (λ s t x h. h) (λ e. g.P.Prefix.IsFitting e.0) it
-    (All-same (λ e. g.P.Prefix.IsFitting e.0) it (shown g.P.Prefix.back (listing c.args.map.entries)) gives.0
+    (All-same (λ e. g.P.Prefix.IsFitting e.0) it (prefix_pairs g.P.Prefix.back (listing c.args.map.entries)) gives.0
     (listed_fit g.met.P.Prefix.prefix_laws c.args.map.entries gives.4.is_map.keys_within))
 
 pub returns-clause-entries : goal.returns-clause-entries

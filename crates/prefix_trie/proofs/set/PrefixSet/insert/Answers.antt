@@ -1,4 +1,4 @@
-use Rattle.prefix_trie.proofs.Prelude.{◌≡◌, Bool, false, true, false≢true, true≢false, List, Option, None, Some, Ok, is_some, not, refl, sym, ap, ◌∙◌, subst, Reply, Insert, Value, StepByPath, stored}
+use Rattle.prefix_trie.proofs.Prelude.{◌≡◌, Bool, false, true, false≢true, true≢false, List, Option, None, Some, Ok, is_some, not, refl, sym, ap, ◌∙◌, subst, Reply, Insert, Value, StepByPath, stored_state}
 use Rattle.prefix_trie.specs.Sets.{put_in}
 use Rattle.prefix_trie.proofs.set.PrefixSet.insert.Goals as goal
 use Rattle.prefix_trie.proofs.set.PrefixSet.insert.Goals.{in-Ok, in-Err}
@@ -23,7 +23,7 @@ returns-clause-is_new g c = elim c.match-insert.branch [
 pub returns-clause-step : goal.returns-clause-step
 returns-clause-step g c = elim c.match-insert.branch [
   | in-Ok w ↦ rw (w.result-is, ← c.self.view_is) (
-      subst (λ r. StepByPath g.P.R.Key.bit_width (stored c.self.inside.map) (Insert (g.P.Prefix.path c.args.prefix) tt) r (stored c.insert.new.self)) (was_there w.in-Ok.before w.is_none.result w.is_none.ensures)
+      subst (λ r. StepByPath g.P.R.Key.bit_width (stored_state c.self.inside.map) (Insert (g.P.Prefix.path c.args.prefix) tt) r (stored_state c.insert.new.self)) (was_there w.in-Ok.before w.is_none.result w.is_none.ensures)
       w.in-Ok.ensures.step
       )
   | in-Err w ↦ rw (w.result-is, ← c.self.view_is) w.in-Err.ensures.step

@@ -1,9 +1,9 @@
-use Rattle.prefix_trie_map.proofs.Prelude.{ap, subst, State, Clear, Done, StepByPath, Contents, stored}
+use Rattle.prefix_trie_map.proofs.Prelude.{ap, subst, State, Clear, Done, StepByPath, Contents, stored_state}
 use Rattle.prefix_trie_map.proofs.Steps.{stays}
 use Rattle.prefix_trie_map.proofs.map.PrefixMap.clear.Goals as goal
 
 pub returns-clause-step : goal.returns-clause-step
-returns-clause-step g c = subst (λ (old : Contents g.row.T.Denot). StepByPath g.P.R.Key.bit_width (stored old) Clear Done (stored c.clear.new.self)) c.self.view_is (c.clear.ensures.step g.P.R.Key.bit_width)
+returns-clause-step g c = subst (λ (old : Contents g.row.T.Denot). StepByPath g.P.R.Key.bit_width (stored_state old) Clear Done (stored_state c.clear.new.self)) c.self.view_is (c.clear.ensures.step g.P.R.Key.bit_width)
 
 pub invariant_of-self : goal.invariant_of-self
 invariant_of-self g c = stays c.self.view_is c.self.invariant tt (returns-clause-step g c)

@@ -13,8 +13,8 @@ returns-clause-entries g c = rw (← c.self.view_is) c.in_ok-table.ensures.entri
 pub returns-clause-nodes : goal.returns-clause-nodes
 returns-clause-nodes g c = rw (← c.self.view_is) c.in_ok-table.ensures.nodes
 
-pub returns-clause-room : goal.returns-clause-room
-returns-clause-room g c = rw (← c.self.view_is) c.in_ok-table.ensures.room
+pub returns-clause-space : goal.returns-clause-space
+returns-clause-space g c = rw (← c.self.view_is) c.in_ok-table.ensures.space
 
 pub returns-clause-layout : goal.returns-clause-layout
 returns-clause-layout g c = rw (← c.self.view_is) c.in_ok-table.ensures.layout

@@ -1,11 +1,11 @@
-use Rattle.prefix_trie_map.proofs.Prelude.{length, ap, ◌∙◌, arith, length-map, covers, covers_few, lent_item, ◌≡◌, shown}
+use Rattle.prefix_trie_map.proofs.Prelude.{length, ap, ◌∙◌, arith, length-map, covers, covers_few, lent_item, ◌≡◌, prefix_pairs}
 use Rattle.prefix_trie_map.proofs.Steps.{by_key}
 use Rattle.prefix_trie_map.proofs.Runs.{shows_in_order}
 use Rattle.prefix_trie_map.proofs.map.PrefixMap.cover.Goals as goal
 
 pub returns-clause-items : goal.returns-clause-items
 returns-clause-items g c =
-    by_key (λ m k. c.over.result ≡ shown g.P.Prefix.back (covers m.entries k)) c.self.view_is c.parts-key.ensures.path (c.over.ensures ∙ ap (shown g.P.Prefix.back) c.cover-walk.ensures)
+    by_key (λ m k. c.over.result ≡ prefix_pairs g.P.Prefix.back (covers m.entries k)) c.self.view_is c.parts-key.ensures.path (c.over.ensures ∙ ap (prefix_pairs g.P.Prefix.back) c.cover-walk.ensures)
 
 pub returns-clause-counted : goal.returns-clause-counted
 returns-clause-counted g c =

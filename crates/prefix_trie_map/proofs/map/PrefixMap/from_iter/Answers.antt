@@ -14,7 +14,7 @@ returns-clause-tidy g c =
     tidy_of g.P.Prefix.path c.in_ok-map.map c.fill.new.map puts.1 c.in_ok-map.ensures.entries c.in_ok-map.ensures.nodes puts.4
 
 pub returns-clause-limit : goal.returns-clause-limit
-returns-clause-limit g c = c.in_ok-fill.ensures.ok.4.limit ∙ ap (λ room. room.limit) c.in_ok-map.ensures.room
+returns-clause-limit g c = c.in_ok-fill.ensures.ok.4.limit ∙ ap (λ space. space.limit) c.in_ok-map.ensures.space
 
 pub returns-in_err-map : goal.returns-in_err-map
 returns-in_err-map g c =
@@ -28,5 +28,5 @@ returns-in_err-fill g c =
       entries = tt;
       tidy = tt;
       limit = tt;
-      range = λ range. let many = c.in_err-fill.ensures.range range in (many.0, many.1, many.2, many.3, many.4, many_pass _ _ c.in_ok-map.ensures.room many.5);
+      range = λ range. let many = c.in_err-fill.ensures.range range in (many.0, many.1, many.2, many.3, many.4, many_pass _ _ c.in_ok-map.ensures.space many.5);
     })

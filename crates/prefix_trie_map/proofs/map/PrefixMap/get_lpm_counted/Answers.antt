@@ -1,5 +1,5 @@
 use Rattle.prefix_trie_map.proofs.Prelude.{ap, longest_match, Contents}
-use Rattle.prefix_trie_map.proofs.Lookups.{shows_match, reads_way}
+use Rattle.prefix_trie_map.proofs.Lookups.{shows_match, reads_path}
 use Rattle.prefix_trie_map.proofs.map.PrefixMap.get_lpm_counted.Goals as goal
 
 pub returns-clause-value : goal.returns-clause-value
@@ -10,5 +10,5 @@ returns-clause-value g c =
 
 pub returns-clause-reads : goal.returns-clause-reads
 returns-clause-reads g c =
-    reads_way g.P.R.Key.bit_width c.self.inside.table c.args.self.now c.self.view_is c.self.invariant _ (g.P.Prefix.path c.args.prefix.now)
+    reads_path g.P.R.Key.bit_width c.self.inside.table c.args.self.now c.self.view_is c.self.invariant _ (g.P.Prefix.path c.args.prefix.now)
     c.parts-key.ensures.path _ _ c.new-visits.ensures c.find_longest-longest.ensures.visits

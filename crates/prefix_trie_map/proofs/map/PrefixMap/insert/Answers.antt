@@ -1,4 +1,4 @@
-use Rattle.prefix_trie_map.proofs.Prelude.{Insert, StepByPath, state, stored, inserted}
+use Rattle.prefix_trie_map.proofs.Prelude.{Insert, StepByPath, state, stored_state, insert_reply}
 use Rattle.prefix_trie_map.proofs.Insertions.{Inserts, inserts_are}
 use Rattle.prefix_trie_map.proofs.Steps.{by_key, is_map, stays}
 use Rattle.prefix_trie_map.proofs.map.PrefixMap.insert.Given as given
@@ -6,7 +6,7 @@ use Rattle.prefix_trie_map.proofs.map.PrefixMap.insert.Goals as goal
 
 pub returns-clause-step : goal.returns-clause-step
 returns-clause-step g c =
-    by_key (λ old k. StepByPath g.P.R.Key.bit_width (stored old) (Insert k c.args.value) (inserted c.insert.result) (stored c.insert.new.self)) c.self.view_is c.parts-key.ensures.path
+    by_key (λ old k. StepByPath g.P.R.Key.bit_width (stored_state old) (Insert k c.args.value) (insert_reply c.insert.result) (stored_state c.insert.new.self)) c.self.view_is c.parts-key.ensures.path
     (c.insert.ensures.step g.P.R.Key.bit_width)
 
 inserts : (g : given.Over) (c : goal.After-drop-prefix g) → Inserts (state c.args.self.now) (state c.insert.new.self) (g.P.Prefix.path c.args.prefix) c.args.value c.insert.result

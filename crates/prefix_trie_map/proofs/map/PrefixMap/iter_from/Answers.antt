@@ -1,4 +1,4 @@
-use Rattle.prefix_trie_map.proofs.Prelude.{rules, ◌<◌, ◌^◌, length, ap, arith, len, lent_item, ◌≡◌, ◌∙◌, shown, cond, listing_from, listing_after}
+use Rattle.prefix_trie_map.proofs.Prelude.{rules, ◌<◌, ◌^◌, length, ap, arith, len, lent_item, ◌≡◌, ◌∙◌, prefix_pairs, cond, listing_from, listing_after}
 use Rattle.prefix_trie_map.proofs.Steps.{by_key}
 use Rattle.prefix_trie_map.proofs.Runs.{shows_in_order}
 use Rattle.prefix_trie_map.proofs.Listed.{few_from}
@@ -6,7 +6,7 @@ use Rattle.prefix_trie_map.proofs.map.PrefixMap.iter_from.Goals as goal
 
 pub returns-clause-items : goal.returns-clause-items
 returns-clause-items g c =
-    by_key (λ m k. c.over.result ≡ shown g.P.Prefix.back (cond c.args.inclusive (listing_from m.entries k) (listing_after m.entries k))) c.self.view_is c.parts-key.ensures.path (c.over.ensures ∙ ap (shown g.P.Prefix.back) c.walk_from-walk.ensures)
+    by_key (λ m k. c.over.result ≡ prefix_pairs g.P.Prefix.back (cond c.args.inclusive (listing_from m.entries k) (listing_after m.entries k))) c.self.view_is c.parts-key.ensures.path (c.over.ensures ∙ ap (prefix_pairs g.P.Prefix.back) c.walk_from-walk.ensures)
 
 pub returns-clause-fits : goal.returns-clause-fits
 returns-clause-fits g c =

@@ -11,4 +11,4 @@ returns-clause-starts g c =
       | then-inclusive w ↦ ap (λ x. selected x m q) w.from-is ∙ sym (ap (λ b. cond b (listing_from m q) (listing_after m q)) w.if-inclusive.true)
       | else-inclusive w ↦ ap (λ x. selected x m q) w.from-is ∙ sym (ap (λ b. cond b (listing_from m q) (listing_after m q)) w.if-inclusive.false)
     ]) in
-    subst (λ es. StartsIn c.args.self es c.write_from.result.course) same (search rules)
+    subst (λ es. StartsIn c.args.self es c.write_from.result.source) same (search rules)

@@ -3,9 +3,9 @@ use Rattle.prefix_trie_map.proofs.map.PrefixMap.len.Goals as goal
 
 pub returns-clause-whole : goal.returns-clause-whole
 returns-clause-whole g c =
-    let room = c.len.ensures.limit in
+    let space = c.len.ensures.limit in
     subst (λ (m : Contents g.row.T.Denot). IsWhole g.P.R.Key.bit_width m) c.self.view_is
-    (record { is_map = c.self.invariant; have_blocks = c.len.ensures.blocks; limit_below = room.0; nodes_within = room.1; cells_within = room.2 })
+    (record { is_map = c.self.invariant; have_blocks = c.len.ensures.blocks; limit_below = space.0; nodes_within = space.1; cells_within = space.2 })
 
 pub returns-clause-count : goal.returns-clause-count
 returns-clause-count g c = search rules

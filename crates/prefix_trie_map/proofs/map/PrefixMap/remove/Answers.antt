@@ -1,10 +1,10 @@
-use Rattle.prefix_trie_map.proofs.Prelude.{ap, State, Remove, Value, StepByPath, stored}
+use Rattle.prefix_trie_map.proofs.Prelude.{ap, State, Remove, Value, StepByPath, stored_state}
 use Rattle.prefix_trie_map.proofs.Steps.{by_key, one_value, stays}
 use Rattle.prefix_trie_map.proofs.map.PrefixMap.remove.Goals as goal
 
 pub returns-clause-step : goal.returns-clause-step
 returns-clause-step g c =
-    by_key (λ old k. StepByPath g.P.R.Key.bit_width (stored old) (Remove k) (Value c.remove.result) (stored c.remove.new.self)) c.self.view_is c.parts-key.ensures.path (c.remove.ensures.step g.P.R.Key.bit_width)
+    by_key (λ old k. StepByPath g.P.R.Key.bit_width (stored_state old) (Remove k) (Value c.remove.result) (stored_state c.remove.new.self)) c.self.view_is c.parts-key.ensures.path (c.remove.ensures.step g.P.R.Key.bit_width)
 
 pub invariant_of-self : goal.invariant_of-self
 invariant_of-self g c = stays c.self.view_is c.self.invariant c.parts-key.ensures.short (returns-clause-step g c)

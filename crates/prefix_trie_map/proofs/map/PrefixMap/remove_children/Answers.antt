@@ -1,5 +1,5 @@
-use Rattle.prefix_trie_map.proofs.Prelude.{sym, subst, err_from_is_err_and, IsMap, State, Storage, HandsOutInStorage, handing_laws, state, stored}
-use Rattle.prefix_trie_map.proofs.Steps.{by_key, settles_from}
+use Rattle.prefix_trie_map.proofs.Prelude.{sym, subst, err_from_is_err_and, IsMap, State, Storage, SplitsOffInStorage, handing_laws, state, stored_state}
+use Rattle.prefix_trie_map.proofs.Steps.{by_key, bounds_growth_from}
 use Rattle.prefix_trie_map.proofs.map.PrefixMap.remove_children.Goals as goal
 
 pub parts-key-requires : goal.parts-key-requires
@@ -14,33 +14,33 @@ remove_children-requires-clause-nodes g c = c.self.invariant.are_nodes
 pub invariant_of-result : goal.invariant_of-result
 invariant_of-result g c =
     ((handing_laws _).are_maps g.P.R.Key.bit_width (state c.self.inside.table) _ (state c.in_ok-table.table) (state c.remove_children.new.self)
-    c.self.invariant c.in_ok-table.ensures.handed.hands_out).0
+    c.self.invariant c.in_ok-table.ensures.split_off.splits_off).0
 
 pub invariant_of-self-2 : goal.invariant_of-self-2
 invariant_of-self-2 g c =
     ((handing_laws _).are_maps g.P.R.Key.bit_width (state c.self.inside.table) _ (state c.in_ok-table.table) (state c.remove_children.new.self)
-    c.self.invariant c.in_ok-table.ensures.handed.hands_out).2
+    c.self.invariant c.in_ok-table.ensures.split_off.splits_off).2
 
 pub returns-clause-step : goal.returns-clause-step
 returns-clause-step g c =
-    by_key (λ old k. HandsOutInStorage (stored old) k (stored c.in_ok-table.table) (stored c.remove_children.new.self)) c.self.view_is c.parts-key.ensures.path
-    c.in_ok-table.ensures.handed
+    by_key (λ old k. SplitsOffInStorage (stored_state old) k (stored_state c.in_ok-table.table) (stored_state c.remove_children.new.self)) c.self.view_is c.parts-key.ensures.path
+    c.in_ok-table.ensures.split_off
 
-pub returns-clause-settles : goal.returns-clause-settles
-returns-clause-settles g c =
-    settles_from c.remove_children.new.self _ _ c.self.view_is c.parts-key.ensures.path c.in_ok-table.ensures.settles
+pub returns-clause-bounds_growth : goal.returns-clause-bounds_growth
+returns-clause-bounds_growth g c =
+    bounds_growth_from c.remove_children.new.self _ _ c.self.view_is c.parts-key.ensures.path c.in_ok-table.ensures.bounds_growth
 
-pub returns-clause-handed : goal.returns-clause-handed
-returns-clause-handed g c = (returns-clause-step g c).hands_out.handed
+pub returns-clause-split_off : goal.returns-clause-split_off
+returns-clause-split_off g c = (returns-clause-step g c).splits_off.split_off
 
-pub returns-clause-handed_nodes : goal.returns-clause-handed_nodes
-returns-clause-handed_nodes g c = (returns-clause-step g c).hands_out.handed_nodes
+pub returns-clause-split_nodes : goal.returns-clause-split_nodes
+returns-clause-split_nodes g c = (returns-clause-step g c).splits_off.split_nodes
 
 pub returns-clause-entries : goal.returns-clause-entries
-returns-clause-entries g c = (returns-clause-step g c).hands_out.left
+returns-clause-entries g c = (returns-clause-step g c).splits_off.left
 
 pub returns-clause-nodes : goal.returns-clause-nodes
-returns-clause-nodes g c = (returns-clause-step g c).hands_out.left_nodes
+returns-clause-nodes g c = (returns-clause-step g c).splits_off.left_nodes
 
 pub returns-in_err-table-clause-only_memory : goal.returns-in_err-table-clause-only_memory
 returns-in_err-table-clause-only_memory g c =

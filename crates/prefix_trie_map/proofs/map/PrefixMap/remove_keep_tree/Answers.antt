@@ -1,10 +1,10 @@
-use Rattle.prefix_trie_map.proofs.Prelude.{ap, State, RemoveKeepTree, Value, StepByPath, stored}
+use Rattle.prefix_trie_map.proofs.Prelude.{ap, State, RemoveKeepTree, Value, StepByPath, stored_state}
 use Rattle.prefix_trie_map.proofs.Steps.{by_key, one_value, stays}
 use Rattle.prefix_trie_map.proofs.map.PrefixMap.remove_keep_tree.Goals as goal
 
 pub returns-clause-step : goal.returns-clause-step
 returns-clause-step g c =
-    by_key (λ old k. StepByPath g.P.R.Key.bit_width (stored old) (RemoveKeepTree k) (Value c.remove_keep_tree.result) (stored c.remove_keep_tree.new.self)) c.self.view_is c.parts-key.ensures.path (c.remove_keep_tree.ensures.step g.P.R.Key.bit_width)
+    by_key (λ old k. StepByPath g.P.R.Key.bit_width (stored_state old) (RemoveKeepTree k) (Value c.remove_keep_tree.result) (stored_state c.remove_keep_tree.new.self)) c.self.view_is c.parts-key.ensures.path (c.remove_keep_tree.ensures.step g.P.R.Key.bit_width)
 
 pub invariant_of-self : goal.invariant_of-self
 invariant_of-self g c = stays c.self.view_is c.self.invariant c.parts-key.ensures.short (returns-clause-step g c)

@@ -12,9 +12,9 @@ invariant_of-result g c =
 pub returns : goal.returns
 returns g c =
     let made = c.in_ok-new.ensures in
-    record { entries = made.entries; nodes = made.nodes; room = made.room; layout = made.layout; range = tt; none = made.none }
+    record { entries = made.entries; nodes = made.nodes; space = made.space; layout = made.layout; range = tt; none = made.none }
 
 pub returns-in_err-new : goal.returns-in_err-new
 returns-in_err-new g c =
     let p = err_from_is_err_and c.from_residual.result c.from_residual.ensures.1 in
-    rw (p.1, p.2) (record { entries = tt; nodes = tt; room = tt; layout = tt; range = c.in_err-new.ensures.range; none = λ _. refl })
+    rw (p.1, p.2) (record { entries = tt; nodes = tt; space = tt; layout = tt; range = c.in_err-new.ensures.range; none = λ _. refl })

@@ -1,5 +1,5 @@
 use Rattle.std.proofs.Common.{◌∙◌, ap, is_some}
-use Rattle.prefix_trie.specs.Words.{listing, shown}
+use Rattle.prefix_trie.specs.Words.{listing, prefix_pairs}
 use Rattle.prefix_trie_map.proofs.Runs.{shows_in_order}
 use Rattle.prefix_trie_ops.specs.Merging.{lent_side, merged}
 use Rattle.prefix_trie_ops.proofs.Merging.{union_shown}
@@ -11,7 +11,7 @@ returns-clause-items g c =
     let n = c.args.right.now.entries in
     let path = g.P.Prefix.path in
     let back = g.P.Prefix.back in
-    ap (λ xs. merged path xs c.of-2.result) c.of.ensures ∙ ap (merged path (shown back (listing m))) c.of-2.ensures
+    ap (λ xs. merged path xs c.of-2.result) c.of.ensures ∙ ap (merged path (prefix_pairs back (listing m))) c.of-2.ensures
     ∙ union_shown path back m n
     (λ e at. c.listed_laws.ensures.key_is m c.len.ensures.whole.is_map.keys_within e.0 (ap is_some ((c.listing_laws.ensures.has_each m e.0 e.1).1 at)))
     (λ e at. c.listed_laws-2.ensures.key_is n c.len-2.ensures.whole.is_map.keys_within e.0 (ap is_some ((c.listing_laws-2.ensures.has_each n e.0 e.1).1 at)))

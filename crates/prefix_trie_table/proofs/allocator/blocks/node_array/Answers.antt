@@ -4,7 +4,7 @@ use Rattle.prefix_trie_table.proofs.allocator.blocks.node_array.Goals as goal
 
 pub new-requires-2 : goal.new-requires-2
 new-requires-2 g c =
-    let root : c.append.new.self.list ≡ blank_node ∷ [] = c.append.ensures.list ∙ (λ i. (c.make_room.ensures.list ∙ c.in_ok-slots.ensures) i ++ c.blank.ensures i ∷ []) in
+    let root : c.append.new.self.list ≡ blank_node ∷ [] = c.append.ensures.list ∙ (λ i. (c.reserve.ensures.list ∙ c.in_ok-slots.ensures) i ++ c.blank.ensures i ∷ []) in
     record {
       within = (let one : length c.append.new.self.list ≡ 1 = ap length root in omega (arith, one, c.requires));
       sizes = subst HasSizes (sym c.in_ok-lists.ensures) node_tiers;
@@ -13,7 +13,7 @@ new-requires-2 g c =
 
 pub returns : goal.returns
 returns g c =
-    let root : c.append.new.self.list ≡ blank_node ∷ [] = c.append.ensures.list ∙ (λ i. (c.make_room.ensures.list ∙ c.in_ok-slots.ensures) i ++ c.blank.ensures i ∷ []) in
+    let root : c.append.new.self.list ≡ blank_node ∷ [] = c.append.ensures.list ∙ (λ i. (c.reserve.ensures.list ∙ c.in_ok-slots.ensures) i ++ c.blank.ensures i ∷ []) in
     record {
       empty = c.new-2.ensures.value ∙ (λ i. record { slots = root i; first = length (root i); tiers = c.in_ok-lists.ensures i; limit = c.args.limit; capacity = (sym (ap (λ (x : Store Node). x.capacity) c.new-2.ensures.value)) i });
       sound = c.new-2.ensures.sound;

@@ -35,5 +35,5 @@ returns g c =
     rw (← c.self.view_is) (record {
       step = clears_step c.self.inside.nodes v2 c.self.inside.cells w2 _ _ c.self.inside.shape is c.self.inside.sizes s2 (invariant_of-self g c) z2
           (new_only v2 w2 _ e.nodes e.nodes_sound cells e.cells_sound s2)
-          (λ i. record { room = record { limit = (e.nodes i).limit; node_slots = length (e.nodes i).slots; cell_slots = length (e.cells i).slots }; layout = layout i });
+          (λ i. record { space = record { limit = (e.nodes i).limit; node_slots = length (e.nodes i).slots; cell_slots = length (e.cells i).slots }; layout = layout i });
     })

@@ -1,5 +1,5 @@
 use Rattle.prefix_trie_table.proofs.Prelude.{refl}
-use Rattle.prefix_trie_table.proofs.Tree.Copying.{option_pairs, copied_shape, copied_table, copied_entries, copied_nodes, copied_room, copied_sizes, copied_layout, copied_same}
+use Rattle.prefix_trie_table.proofs.Tree.Copying.{option_pairs, copied_shape, copied_table, copied_entries, copied_nodes, copied_space, copied_sizes, copied_layout, copied_same}
 use Rattle.prefix_trie_table.proofs.table.Table.clone.Goals as goal
 
 pub invariant_of-result : goal.invariant_of-result
@@ -22,7 +22,7 @@ returns g c =
     rw (← c.self.view_is) (record {
       entries = copied_entries g.T.Clone.is_clone _ means _ _ _ _ _ c.self.inside.shape c.self.invariant c.in_ok-nodes.ensures.same c.in_ok-cells.ensures.rest c.in_ok-cells.ensures.slots s2;
       nodes = copied_nodes g.T.Clone.is_clone _ means _ _ _ _ _ c.self.inside.shape c.self.invariant c.in_ok-nodes.ensures.same c.in_ok-cells.ensures.rest c.in_ok-cells.ensures.slots s2;
-      room = copied_room g.T.Clone.is_clone _ means _ _ _ _ _ c.self.inside.shape c.self.invariant c.in_ok-nodes.ensures.same c.in_ok-cells.ensures.rest c.in_ok-cells.ensures.slots z s2 z2;
+      space = copied_space g.T.Clone.is_clone _ means _ _ _ _ _ c.self.inside.shape c.self.invariant c.in_ok-nodes.ensures.same c.in_ok-cells.ensures.rest c.in_ok-cells.ensures.slots z s2 z2;
       layout = copied_layout g.T.Clone.is_clone _ means _ _ _ _ _ c.self.inside.shape c.self.invariant c.in_ok-nodes.ensures.same c.in_ok-cells.ensures.rest c.in_ok-cells.ensures.slots z s2 z2;
       same = λ law. copied_same g.T.Clone.is_clone _ means _ _ _ _ _ c.self.inside.shape c.self.invariant c.in_ok-nodes.ensures.same c.in_ok-cells.ensures.rest c.in_ok-cells.ensures.slots z law s2 z2;
     })

@@ -3,8 +3,8 @@ use Rattle.prefix_trie_table.proofs.Lookup.Going.{key_long}
 use Rattle.prefix_trie_table.proofs.Lookup.Matched.{has_nodes, cell_inside, longest_none, longest_handed, met_is}
 use Rattle.prefix_trie_table.proofs.table.Table.find_longest.Goals as goal
 
-pub longest_on_way-requires-clause-sound : goal.longest_on_way-requires-clause-sound
-longest_on_way-requires-clause-sound g c = has_nodes _ _ (some_table c.self.invariant)
+pub longest_on_path-requires-clause-sound : goal.longest_on_path-requires-clause-sound
+longest_on_path-requires-clause-sound g c = has_nodes _ _ (some_table c.self.invariant)
 
 pub returns-in_default : goal.returns-in_default
 returns-in_default g c =

@@ -4,8 +4,8 @@ use Rattle.prefix_trie_table.proofs.Lookup.Going.{key_long}
 use Rattle.prefix_trie_table.proofs.Lookup.Matched.{has_nodes, cell_inside, shortest_none, shortest_handed, met_none, met_shortest}
 use Rattle.prefix_trie_table.proofs.table.Table.find_shortest.Goals as goal
 
-pub shortest_on_way-requires-clause-sound : goal.shortest_on_way-requires-clause-sound
-shortest_on_way-requires-clause-sound g c = has_nodes _ _ (some_table c.self.invariant)
+pub shortest_on_path-requires-clause-sound : goal.shortest_on_path-requires-clause-sound
+shortest_on_path-requires-clause-sound g c = has_nodes _ _ (some_table c.self.invariant)
 
 pub returns-in_default : goal.returns-in_default
 returns-in_default g c =

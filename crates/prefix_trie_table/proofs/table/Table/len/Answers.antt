@@ -6,7 +6,7 @@ use Rattle.prefix_trie_table.proofs.table.Table.len.Goals as goal
 pub returns-clause-limit : goal.returns-clause-limit
 returns-clause-limit g c =
     let held = c.self.invariant in
-    subst (λ (m : Contents g.row.T.Denot). (m.room.limit < 2 ^ 32) × (m.room.node_slots ≤ m.room.limit) × (m.room.cell_slots ≤ m.room.limit)) c.self.view_is
+    subst (λ (m : Contents g.row.T.Denot). (m.space.limit < 2 ^ 32) × (m.space.node_slots ≤ m.space.limit) × (m.space.cell_slots ≤ m.space.limit)) c.self.view_is
     (c.len-slots.ensures.narrow, held.nodes_within, omega (arith, held.cells_within, held.one_limit))
 
 pub returns-clause-blocks : goal.returns-clause-blocks

@@ -1,6 +1,6 @@
 use Rattle.prefix_trie_table.proofs.Prelude.{take}
 use Rattle.prefix_trie_table.proofs.Tree.Invariant.{some_table}
-use Rattle.prefix_trie_table.proofs.Lookup.Matched.{met_on_way}
+use Rattle.prefix_trie_table.proofs.Lookup.Matched.{met_on_path}
 use Rattle.prefix_trie_table.proofs.Lookup.Located.{located}
 use Rattle.prefix_trie_table.proofs.table.Table.locate.Goals as goal
 
@@ -10,6 +10,6 @@ returns g c =
     let t = some_table c.self.invariant in
     let b = g.K.Key.bits c.args.key in
     rw (← c.self.view_is) (record {
-      place = located i.nodes i.cells i.count i.shape c.self.invariant i.sizes b c.args.len c.locate_in.result c.locate_in.ensures.place;
-      visits = met_on_way i.nodes i.cells t i.shape.0 i.shape.1 (take c.args.len b) _ _ (c.locate_in.ensures.visits t.reading t.paths t.holds.hold);
+      located = located i.nodes i.cells i.count i.shape c.self.invariant i.sizes b c.args.len c.locate_in.result c.locate_in.ensures.located;
+      visits = met_on_path i.nodes i.cells t i.shape.0 i.shape.1 (take c.args.len b) _ _ (c.locate_in.ensures.visits t.reading t.paths t.holds.hold);
     })

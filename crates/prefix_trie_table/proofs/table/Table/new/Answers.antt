@@ -14,7 +14,7 @@ invariant_of-result g c =
 pub invariant_of-result-2 : goal.invariant_of-result-2
 invariant_of-result-2 g c =
     let v = c.in_ok-nodes.ensures in
-    new_table _ _ _ v.empty v.sound c.in-Ok.ensures.empty c.in-Ok.ensures.sound (some_limit c.args.limit (λ zero. false≢true (v.room zero))) c.result-1.given.0
+    new_table _ _ _ v.empty v.sound c.in-Ok.ensures.empty c.in-Ok.ensures.sound (some_limit c.args.limit (λ zero. false≢true (v.space zero))) c.result-1.given.0
 
 pub returns : goal.returns
 returns g c =
@@ -24,7 +24,7 @@ returns g c =
     record {
       entries = ap (λ (s : State g.row.T.Denot). s.entries) only;
       nodes = ap (λ (s : State g.row.T.Denot). s.nodes) only;
-      room = search rules;
+      space = search rules;
       layout = root_layout _ _ (new_holds _ _ _ v.empty v.sound w.empty w.sound)
           (ap (λ (x : Store Node). x.tiers) v.empty) (ap (λ (x : Store (Option g.row.T.Denot)). x.tiers) w.empty) c.result-1.given.1.0;
       range = search rules;

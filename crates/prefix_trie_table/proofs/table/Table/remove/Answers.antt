@@ -18,7 +18,7 @@ invariant_of-self-inside g c =
 pub invariant_of-self : goal.invariant_of-self
 invariant_of-self g c =
     let e = c.remove_entry.ensures in
-    (removed_without _ _ _ _ _ _ _ c.self.inside.shape c.self.invariant c.remove_entry.result e.value e.counted e.removed).table e.node_room e.cell_room c.self-1.given.0
+    (removed_without _ _ _ _ _ _ _ c.self.inside.shape c.self.invariant c.remove_entry.result e.value e.counted e.removed).table e.node_space e.cell_space c.self-1.given.0
 
 pub returns : goal.returns
 returns g c =
@@ -34,5 +34,5 @@ returns g c =
     rw (← c.self.view_is) (record {
       step = removes_step i.nodes v2 i.cells w2 _ _ i.shape c.self.invariant i.sizes s2 left z2 q c.remove_entry.result out.was (out.only s2)
           (removed_in q i.nodes v2 i.cells w2 _ i.shape i.sizes c.self.invariant s2 z2 e.removed (some_table left))
-          (pruned_in q i.nodes v2 i.cells w2 _ i.shape i.sizes c.self.invariant s2 z2 e.removed (some_table left)) e.node_room e.cell_room;
+          (pruned_in q i.nodes v2 i.cells w2 _ i.shape i.sizes c.self.invariant s2 z2 e.removed (some_table left)) e.node_space e.cell_space;
     })

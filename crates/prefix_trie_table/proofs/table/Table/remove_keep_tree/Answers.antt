@@ -1,7 +1,7 @@
 use Rattle.prefix_trie_table.proofs.Prelude.{take}
 use Rattle.prefix_trie_table.proofs.Tree.Invariant.{some_table, some_counted}
 use Rattle.prefix_trie_table.proofs.Removal.OneEntry.{kept_without}
-use Rattle.prefix_trie_table.proofs.Insertion.Rooms.{Grows-none}
+use Rattle.prefix_trie_table.proofs.Insertion.Spaces.{Grows-none}
 use Rattle.prefix_trie_table.proofs.Blocks.Sizing.{table_sizes}
 use Rattle.prefix_trie_table.proofs.Tree.Stated.{takes_step}
 use Rattle.prefix_trie_table.proofs.Removal.Stepped.{kept_in, kept_children}
@@ -20,7 +20,7 @@ pub invariant_of-self : goal.invariant_of-self
 invariant_of-self g c =
     let e = c.remove_value.ensures in
     (kept_without _ _ _ _ _ _ _ c.self.inside.shape c.self.invariant c.remove_value.result e.value e.counted e.taken).table
-    (Grows-none _ _ 24 e.node_blocks.room e.node_blocks.tiers) e.cell_room c.self-1.given.0
+    (Grows-none _ _ 24 e.node_blocks.space e.node_blocks.tiers) e.cell_space c.self-1.given.0
 
 pub returns : goal.returns
 returns g c =
@@ -36,7 +36,7 @@ returns g c =
     let out = kept_without q i.nodes v2 i.cells w2 _ _ i.shape c.self.invariant c.remove_value.result e.value e.counted e.taken in
     rw (← c.self.view_is) (record {
       step = takes_step i.nodes v2 i.cells w2 _ _ i.shape c.self.invariant i.sizes s2 left z2 q c.remove_value.result out.was (out.only s2)
-          (kept_in q i.nodes v2 i.cells w2 _ i.shape i.sizes c.self.invariant s2 z2 e.taken same.room.0 same.tiers (some_table left))
-          (kept_children q i.nodes v2 i.cells w2 _ i.shape i.sizes c.self.invariant s2 z2 e.taken same.room.0 same.tiers) same.tiers
-          (Grows-none i.nodes v2 24 same.room same.tiers) same.room.0 e.cell_room;
+          (kept_in q i.nodes v2 i.cells w2 _ i.shape i.sizes c.self.invariant s2 z2 e.taken same.space.0 same.tiers (some_table left))
+          (kept_children q i.nodes v2 i.cells w2 _ i.shape i.sizes c.self.invariant s2 z2 e.taken same.space.0 same.tiers) same.tiers
+          (Grows-none i.nodes v2 24 same.space same.tiers) same.space.0 e.cell_space;
     })

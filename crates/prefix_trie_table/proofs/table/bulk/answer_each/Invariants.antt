@@ -1,15 +1,15 @@
 use Rattle.prefix_trie_table.proofs.Prelude.{◌≡◌, ◌+◌, ◌-◌, ◌*◌, ◌≤◌, All, List, ℕ, length, map, take, sum, sum_by, AreAnswered, AreCosts, cost_of, question_of, questions_of}
-use Rattle.prefix_trie_table.specs.Bulk.{IsWay}
+use Rattle.prefix_trie_table.specs.Bulk.{IsDescent}
 use Rattle.prefix_trie_table.proofs.table.bulk.answer_each.Given as goal
 
 abbrev pub invariant-round : goal.invariant-round
 invariant-round g l = record {
   few : l.left ≤ 32;
-  room : (length l.ways ≡ 32) × (length l.read ≡ 32);
-  ways : All (IsWay g.P.R.Key.bits l.nodes (questions_of g.P.Prefix.repr_of g.P.Prefix.len_of l.prefixes) l.level) (take l.left l.ways);
-  answered : AreAnswered g.P.R.Key.bits l.nodes (questions_of g.P.Prefix.repr_of g.P.Prefix.len_of l.prefixes) (map question_of (take l.left l.ways)) l.found;
+  space : (length l.descents ≡ 32) × (length l.read ≡ 32);
+  descents : All (IsDescent g.P.R.Key.bits l.nodes (questions_of g.P.Prefix.repr_of g.P.Prefix.len_of l.prefixes) l.level) (take l.left l.descents);
+  answered : AreAnswered g.P.R.Key.bits l.nodes (questions_of g.P.Prefix.repr_of g.P.Prefix.len_of l.prefixes) (map question_of (take l.left l.descents)) l.found;
   counted : (costs : List ℕ) → length costs ≡ length l.prefixes → AreCosts g.P.R.Key.bits l.nodes (questions_of g.P.Prefix.repr_of g.P.Prefix.len_of l.prefixes) costs
-      → g.V.Tick.count l.counter + sum_by (cost_of costs) (take l.left l.ways) ≡ g.V.Tick.count l.fn.counter + sum costs + l.left * l.level;
+      → g.V.Tick.count l.counter + sum_by (cost_of costs) (take l.left l.descents) ≡ g.V.Tick.count l.fn.counter + sum costs + l.left * l.level;
 }
 
 abbrev pub decreases-round : goal.decreases-round

@@ -2,4 +2,4 @@ use Rattle.prefix_trie_table.proofs.Prelude.{EachOf, IsNew}
 use Rattle.prefix_trie_table.proofs.table.bulk.begin.Given as goal
 
 abbrev pub invariant-loop-j : goal.invariant-loop-j
-invariant-loop-j l = EachOf IsNew l.j l.ways
+invariant-loop-j l = EachOf IsNew l.j l.descents

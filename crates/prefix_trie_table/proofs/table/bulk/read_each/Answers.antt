@@ -4,7 +4,7 @@ use Rattle.prefix_trie_table.proofs.table.bulk.read_each.Goals as goal
 
 pub visit-requires : goal.visit-requires
 visit-requires g c =
-    let ways = c.args.ways.now in
+    let descents = c.args.descents.now in
     let less = c.loop-j-test.true in
-    subst (λ w. slot_of w < length c.args.nodes.now.slots) (get_or-take c.args.count ways c.loop-j.j _ less)
-    (c.requires.inside c.loop-j.j _ (omega (arith, less, length-take-le c.args.count ways c.requires.count.0)))
+    subst (λ w. slot_of w < length c.args.nodes.now.slots) (get_or-take c.args.count descents c.loop-j.j _ less)
+    (c.requires.inside c.loop-j.j _ (omega (arith, less, length-take-le c.args.count descents c.requires.count.0)))

@@ -3,6 +3,6 @@ use Rattle.prefix_trie_table.proofs.table.bulk.read_each.Given as goal
 
 abbrev pub invariant-loop-j : goal.invariant-loop-j
 invariant-loop-j g l = record {
-  read : EachOf (IsAhead l.nodes.slots l.ways) l.j l.read;
+  read : EachOf (IsAhead l.nodes.slots l.descents) l.j l.read;
   counted : g.V.Tick.count l.counter ≡ g.V.Tick.count l.fn.counter + l.j;
 }

@@ -6,7 +6,7 @@ use Rattle.prefix_trie_table.proofs.Blocks.Turnovers.{free_obtained}
 use Rattle.prefix_trie_table.proofs.Insertion.Adding.{at_values, has_list, has_values}
 use Rattle.prefix_trie_table.proofs.Insertion.Asks.{nodes_here, nodes_below, cells_here, cells_below, child_list_need, value_list_need, first_list_need, keeps_by, free_by, cells_alone, cells_refused, nodes_then}
 use Rattle.prefix_trie_table.proofs.Insertion.Inserting.{list_tier, node_fits, cell_fits, few_children, nodes_prepared, cells_prepared}
-use Rattle.prefix_trie_table.proofs.Insertion.Rooms.{Grows-same, Grows-obtained, nodes_lacking, cells_lacking, few_steps}
+use Rattle.prefix_trie_table.proofs.Insertion.Spaces.{Grows-same, Grows-obtained, missing_nodes, missing_cells, few_steps}
 use Rattle.prefix_trie_table.proofs.Lookup.Locating.{missing_few, end_there}
 use Rattle.prefix_trie_table.proofs.Lookup.Going.{level_last, level_more}
 use Rattle.prefix_trie_table.proofs.table.insertion.prepare.Given as given
@@ -17,7 +17,7 @@ module _ {T : Type 0} (v : Store Node) (w x : Store (Option T)) (o : Option ℕ)
     (got : Obtains (λ e. e ≡ IndexRange) (λ e. e ≡ Memory) r w x (needs (block_needed value_block_sizes o count) 0)) where
   cells_only : GrowsBoth (λ e. e ≡ IndexRange) r v v w x
   cells_only =
-      let few = cells_lacking w o count are in record {
+      let few = missing_cells w o count are in record {
         nodes = Grows-same v v 56 refl;
         cells = Grows-obtained _ _ r w x _ 31 (cell_sized w.tiers are) got few;
         range = IfErr-weaker r _ (λ cause. cause ≡ IndexRange → MayPass v w) (λ cause h is. inr (let past = h is in omega (arith, past, few))) got.range;
@@ -51,8 +51,8 @@ here g c =
     subst (λ o. Obtains (λ e. e ≡ IndexRange) (λ e. e ≡ Memory) c.prepare.result c.args.cells.now c.prepare.new.self (needs o 0))
     (value_list_need c.args.cells.now n c.count.result c.requires.table.holds.cells.sizes_are same) c.prepare.ensures.obtains
 
-pub returns-then-reached-len-clause-room : goal.returns-then-reached-len-clause-room
-returns-then-reached-len-clause-room g c =
+pub returns-then-reached-len-clause-space : goal.returns-then-reached-len-clause-space
+returns-then-reached-len-clause-space g c =
     let n = c.args.reached.now.node in
     let short = level_last c.args.reached.now.level c.args.len c.if-reached-len.true in
     let none = nodes_here n c.args.reached.now.level c.args.len short in
@@ -149,8 +149,8 @@ below g c =
     subst (λ o. Obtains (λ e. e ≡ IndexRange) (λ e. e ≡ Memory) c.prepare-3.result c.args.nodes.now c.prepare-3.new.self (needs o (c.args.len / 5 - (c.args.reached.now.level + 1))))
     (child_list_need c.args.nodes.now n c.count-2.result c.requires.table.holds.hold.sizes_are same) c.prepare-3.ensures.obtains
 
-pub returns-clause-room : goal.returns-clause-room
-returns-clause-room g c =
+pub returns-clause-space : goal.returns-clause-space
+returns-clause-space g c =
     let n = c.args.reached.now.node in
     let w = c.args.cells.now in
     let t = c.requires.table in
@@ -168,7 +168,7 @@ returns-clause-grows g c =
     let v = c.args.nodes.now in
     let w = c.args.cells.now in
     let t = c.requires.table in
-    let few = nodes_lacking v (child_block_size (Some c.args.reached.now.node)) (rank c.args.reached.now.node.child_bitmap 32) (c.args.len / 5 - (c.args.reached.now.level + 1)) t.holds.hold.sizes_are (few_steps c.args.len c.args.reached.now.level c.requires.short) in
+    let few = missing_nodes v (child_block_size (Some c.args.reached.now.node)) (rank c.args.reached.now.node.child_bitmap 32) (c.args.len / 5 - (c.args.reached.now.level + 1)) t.holds.hold.sizes_are (few_steps c.args.len c.args.reached.now.level c.requires.short) in
     record {
       nodes = Grows-obtained _ _ c.prepare-3.result v c.prepare-3.new.self _ 56 (node_sized v.tiers t.holds.hold.sizes_are) (below g c) few;
       cells = (cells_only v w c.prepare-2.new.self None 0 c.prepare-2.result t.holds.cells.sizes_are

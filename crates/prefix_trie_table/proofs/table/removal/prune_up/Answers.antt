@@ -1,8 +1,8 @@
-use Rattle.prefix_trie_table.proofs.Prelude.{◌≡◌, ◌+◌, ◌-◌, ◌/◌, ◌<◌, ◌≤◌, inl, inr, length, take, true, sym, refl, subst, arith, has_bit, node_at, path_of, IsBare, GivesBack, slot_in}
+use Rattle.prefix_trie_table.proofs.Prelude.{◌≡◌, ◌+◌, ◌-◌, ◌/◌, ◌<◌, ◌≤◌, inl, inr, length, take, true, sym, refl, subst, arith, has_bit, node_at, chunks_of, IsBare, GivesBack, slot_in}
 use Rattle.prefix_trie_table.proofs.Lookup.Going.{steps-all, step-read, level_inside}
 use Rattle.prefix_trie_table.proofs.Removal.Pruning.{Pruning, pruning_first, pruning_more, parent_is, parent_slot, parent_bit}
 use Rattle.prefix_trie_table.proofs.Removal.GivingBack.{gives_same, gives_then}
-use Rattle.prefix_trie_table.proofs.Insertion.Rooms.{Grows-same, Grows-after}
+use Rattle.prefix_trie_table.proofs.Insertion.Spaces.{Grows-same, Grows-after}
 use Rattle.prefix_trie_table.proofs.Blocks.Turnovers.{made_kept}
 use Rattle.prefix_trie_table.proofs.table.removal.prune_up.Goals as goal
 
@@ -12,9 +12,9 @@ loop-level-init g c =
     let long : c.args.len ≤ length b = omega (arith, g.met.K.Key.key_laws.bits_length c.args.key c.requires.key, c.requires.within) in
     record {
       pruned = λ reading paths hold slots is.
-          pruning_first reading paths (path_of (take c.args.len b)) c.args.way.now (c.args.len / 5) c.args.node c.args.nodes.now hold slots is
+          pruning_first reading paths (chunks_of (take c.args.len b)) c.args.ancestors.now (c.args.len / 5) c.args.node c.args.nodes.now hold slots is
           (sym (steps-all b c.args.len long));
-      room = Grows-same _ _ 24 refl;
+      space = Grows-same _ _ 24 refl;
       last = λ _. gives_same _;
       within = omega arith;
     }
@@ -22,11 +22,11 @@ loop-level-init g c =
 pub drop_child-node-requires : goal.drop_child-node-requires
 drop_child-node-requires g c =
     let b = g.K.Key.bits c.args.key in
-    let path = path_of (take c.args.len b) in
+    let path = chunks_of (take c.args.len b) in
     let long : c.args.len ≤ length b = omega (arith, g.met.K.Key.key_laws.bits_length c.args.key c.requires.key, c.requires.within) in
     let s = c.requires.stands in
     let up : c.loop-level.level ≡ c.loop-level.level - 1 + 1 = omega (arith, c.loop-level-test.true) in
-    let p = subst (λ n. Pruning s.reading s.paths path c.args.way.now n c.loop-level.node c.args.nodes.now c.loop-level.nodes) up
+    let p = subst (λ n. Pruning s.reading s.paths path c.args.ancestors.now n c.loop-level.node c.args.nodes.now c.loop-level.nodes) up
     (c.loop-level.invariant.pruned s.reading s.paths s.hold s.slots s.is) in
     let below : c.loop-level.level - 1 < c.args.len / 5 = omega (arith, c.loop-level.invariant.within, c.loop-level-test.true) in
     let digit = step-read b c.args.len (c.loop-level.level - 1) long c.child_bit_of.result (level_inside (c.loop-level.level - 1) c.args.len below)
@@ -38,18 +38,18 @@ drop_child-node-requires g c =
         record {
           path = take (c.loop-level.level - 1) path;
           node = _;
-          stands = parent_slot s.reading s.paths path c.args.way.now (c.loop-level.level - 1) c.loop-level.node c.args.nodes.now c.loop-level.nodes p;
-          is = parent_is s.reading s.paths path c.args.way.now (c.loop-level.level - 1) c.loop-level.node c.args.nodes.now c.loop-level.nodes p;
+          stands = parent_slot s.reading s.paths path c.args.ancestors.now (c.loop-level.level - 1) c.loop-level.node c.args.nodes.now c.loop-level.nodes p;
+          is = parent_is s.reading s.paths path c.args.ancestors.now (c.loop-level.level - 1) c.loop-level.node c.args.nodes.now c.loop-level.nodes p;
         },
       );
-      there = subst (λ d. has_bit (node_at c.loop-level.nodes.slots (slot_in c.args.way.now (c.loop-level.level - 1))).child_bitmap d ≡ true) digit
-          (parent_bit s.reading s.paths path c.args.way.now (c.loop-level.level - 1) c.loop-level.node c.args.nodes.now c.loop-level.nodes p);
+      there = subst (λ d. has_bit (node_at c.loop-level.nodes.slots (slot_in c.args.ancestors.now (c.loop-level.level - 1))).child_bitmap d ≡ true) digit
+          (parent_bit s.reading s.paths path c.args.ancestors.now (c.loop-level.level - 1) c.loop-level.node c.args.nodes.now c.loop-level.nodes p);
     }
 
 pub loop-level-preserved : goal.loop-level-preserved
 loop-level-preserved g c =
     let b = g.K.Key.bits c.args.key in
-    let path = path_of (take c.args.len b) in
+    let path = chunks_of (take c.args.len b) in
     let long : c.args.len ≤ length b = omega (arith, g.met.K.Key.key_laws.bits_length c.args.key c.requires.key, c.requires.within) in
     let up : c.loop-level.level ≡ c.loop-level.level - 1 + 1 = omega (arith, c.loop-level-test.true) in
     let below : c.loop-level.level - 1 < c.args.len / 5 = omega (arith, c.loop-level.invariant.within, c.loop-level-test.true) in
@@ -59,20 +59,20 @@ loop-level-preserved g c =
     let back : GivesBack c.args.nodes.now c.loop-level.nodes = c.loop-level.invariant.last bare.no_children in
     record {
       pruned = λ reading paths hold slots is.
-          pruning_more reading paths path c.args.way.now (c.loop-level.level - 1) c.loop-level.node c.args.nodes.now c.loop-level.nodes
-          (subst (λ n. Pruning reading paths path c.args.way.now n c.loop-level.node c.args.nodes.now c.loop-level.nodes) up
+          pruning_more reading paths path c.args.ancestors.now (c.loop-level.level - 1) c.loop-level.node c.args.nodes.now c.loop-level.nodes
+          (subst (λ n. Pruning reading paths path c.args.ancestors.now n c.loop-level.node c.args.nodes.now c.loop-level.nodes) up
           (c.loop-level.invariant.pruned reading paths hold slots is)) c.child_bit_of.result c.drop_child-node.result c.drop_child-node.new.nodes
           (sym digit) bare back c.drop_child-node.ensures.dropped;
-      room = Grows-after _ _ _ 24 back.none.room (made_kept c.args.nodes.now c.loop-level.nodes back.none.made) c.drop_child-node.ensures.room;
+      space = Grows-after _ _ _ 24 back.none.space (made_kept c.args.nodes.now c.loop-level.nodes back.none.made) c.drop_child-node.ensures.space;
       last = λ none. gives_then _ _ _ back (c.drop_child-node.ensures.last none);
       within = omega (arith, below);
     }
 
-pub returns-else-is_bare-clause-room : goal.returns-else-is_bare-clause-room
-returns-else-is_bare-clause-room g c = c.loop-level.invariant.room
+pub returns-else-is_bare-clause-space : goal.returns-else-is_bare-clause-space
+returns-else-is_bare-clause-space g c = c.loop-level.invariant.space
 
-pub returns-after-loop-level-clause-room : goal.returns-after-loop-level-clause-room
-returns-after-loop-level-clause-room g c = c.loop-level.invariant.room
+pub returns-after-loop-level-clause-space : goal.returns-after-loop-level-clause-space
+returns-after-loop-level-clause-space g c = c.loop-level.invariant.space
 
 pub returns-else-is_bare-clause-pruned : goal.returns-else-is_bare-clause-pruned
 returns-else-is_bare-clause-pruned g c = λ reading paths hold slots is.
@@ -84,8 +84,8 @@ returns-after-loop-level-clause-pruned g c = λ reading paths hold slots is.
     let p = c.loop-level.invariant.pruned reading paths hold slots is in
     record { level = c.loop-level.level; node = c.loop-level.node; to = p.to; stops = inl (omega (arith, c.loop-level-test.false)) }
 
-pub returns-else-is_bare-clause-settles : goal.returns-else-is_bare-clause-settles
-returns-else-is_bare-clause-settles g c = (let s = c.requires.stands in (c.loop-level.invariant.pruned s.reading s.paths s.hold s.slots s.is).to.settles)
+pub returns-else-is_bare-clause-bounds_growth : goal.returns-else-is_bare-clause-bounds_growth
+returns-else-is_bare-clause-bounds_growth g c = (let s = c.requires.stands in (c.loop-level.invariant.pruned s.reading s.paths s.hold s.slots s.is).to.bounds_growth)
 
-pub returns-after-loop-level-clause-settles : goal.returns-after-loop-level-clause-settles
-returns-after-loop-level-clause-settles g c = (let s = c.requires.stands in (c.loop-level.invariant.pruned s.reading s.paths s.hold s.slots s.is).to.settles)
+pub returns-after-loop-level-clause-bounds_growth : goal.returns-after-loop-level-clause-bounds_growth
+returns-after-loop-level-clause-bounds_growth g c = (let s = c.requires.stands in (c.loop-level.invariant.pruned s.reading s.paths s.hold s.slots s.is).to.bounds_growth)

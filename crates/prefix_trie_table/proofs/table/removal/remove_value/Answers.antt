@@ -1,5 +1,5 @@
 use Rattle.prefix_trie_table.proofs.Prelude.{◌+◌, refl, sym, subst, arith, IsReached}
-use Rattle.prefix_trie_table.proofs.Insertion.Rooms.{Grows-same}
+use Rattle.prefix_trie_table.proofs.Insertion.Spaces.{Grows-same}
 use Rattle.prefix_trie_table.proofs.Lookup.Finding.{no_value_below}
 use Rattle.prefix_trie_table.proofs.Lookup.Going.{level_past}
 use Rattle.prefix_trie_table.proofs.Removal.OneEntry.{nothing_taken}
@@ -13,15 +13,15 @@ returns-then-reached-len g c =
       taken = λ reading paths values holds.
           nothing_taken reading values paths c.args.nodes.now c.args.cells.now holds _ _ (none reading values paths c.args.cells.now holds c.if-reached-len.true);
       counted = omega arith;
-      node_blocks = record { room = (refl, refl, refl); tiers = refl };
-      cell_room = Grows-same _ _ 24 refl;
+      node_blocks = record { space = (refl, refl, refl); tiers = refl };
+      cell_space = Grows-same _ _ 24 refl;
     }
 
 pub take_entry-requires-clause-reached : goal.take_entry-requires-clause-reached
 take_entry-requires-clause-reached g c =
     let at = c.descend.result.0 in
     let end = level_past at.level c.args.len c.if-reached-len.false c.descend.ensures.reached.whole in
-    subst (λ n. IsReached (g.K.Key.bits c.args.key) c.args.len n at.node (at.at.start + at.at.place) c.args.nodes.now) end c.descend.ensures.reached
+    subst (λ n. IsReached (g.K.Key.bits c.args.key) c.args.len n at.node (at.at.start + at.at.offset) c.args.nodes.now) end c.descend.ensures.reached
 
 pub take_entry-requires-clause-table : goal.take_entry-requires-clause-table
 take_entry-requires-clause-table g c = c.requires.table
@@ -29,4 +29,4 @@ take_entry-requires-clause-table g c = c.requires.table
 pub returns : goal.returns
 returns g c =
     let e = c.take_entry.ensures in
-    record { value = e.value; taken = λ reading paths values holds. (e.taken reading paths values holds).0; counted = e.counted; node_blocks = e.node_blocks; cell_room = e.cell_room }
+    record { value = e.value; taken = λ reading paths values holds. (e.taken reading paths values holds).0; counted = e.counted; node_blocks = e.node_blocks; cell_space = e.cell_space }

@@ -1,7 +1,7 @@
-use Rattle.prefix_trie_table.proofs.Prelude.{◌≡◌, true, is_some, take, refl, sym, ap, ◌∙◌, arith, path_of, bit_of, one_if}
+use Rattle.prefix_trie_table.proofs.Prelude.{◌≡◌, true, is_some, take, refl, sym, ap, ◌∙◌, arith, chunks_of, bit_of, one_if}
 use Rattle.prefix_trie_table.specs.Bitmaps.{has_bit as is_set}
 use Rattle.prefix_trie_table.proofs.Tree.Invariant.{deepest_there}
-use Rattle.prefix_trie_table.proofs.Insertion.Rooms.{Grows-same}
+use Rattle.prefix_trie_table.proofs.Insertion.Spaces.{Grows-same}
 use Rattle.prefix_trie_table.proofs.Strings.Bits.{has_bit-is}
 use Rattle.prefix_trie_table.proofs.Removal.OneEntry.{none_there, none_taken, some_there, value_there, entry_taken}
 use Rattle.prefix_trie_table.proofs.table.removal.take_entry.Given as given
@@ -18,8 +18,8 @@ returns-then-not-has_bit g c =
           none_taken (g.K.Key.bits c.args.key) c.args.len _ c.args.node c.args.nodes.now c.requires.reached c.value_bit_of-bit.result
           c.value_bit_of-bit.ensures.value reading paths values c.args.cells.now holds lacks;
       counted = omega arith;
-      node_blocks = record { room = (refl, refl, refl); tiers = refl };
-      cell_room = Grows-same _ _ 24 refl;
+      node_blocks = record { space = (refl, refl, refl); tiers = refl };
+      cell_space = Grows-same _ _ 24 refl;
     }
 
 pub take_value-taken-requires : goal.take_value-taken-requires
@@ -52,7 +52,7 @@ returns-clause-taken g c = λ reading paths values holds.
 
 -- there was one
 some : (g : given.Over) (c : goal.After-row_known-1 g) → (let t = c.requires.table.0 in
-    one_if (is_some (t.values (path_of (take c.args.len (g.K.Key.bits c.args.key))) (bit_of (take c.args.len (g.K.Key.bits c.args.key)))))) ≡ 1
+    one_if (is_some (t.values (chunks_of (take c.args.len (g.K.Key.bits c.args.key))) (bit_of (take c.args.len (g.K.Key.bits c.args.key)))))) ≡ 1
 some g c =
     let t = c.requires.table.0 in
     ap one_if (some_there (g.K.Key.bits c.args.key) c.args.len _ c.args.node c.args.nodes.now c.requires.reached c.value_bit_of-bit.result

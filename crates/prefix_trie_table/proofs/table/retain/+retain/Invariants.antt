@@ -1,4 +1,4 @@
-use Rattle.prefix_trie_table.proofs.Prelude.{◌≡◌, ◌+◌, ◌-◌, ◌*◌, ◌/◌, ◌++◌, List, Bool, true, All, take, length, to_come, IsPlaceOf, is_at_some, IsSite, Lasts, RetainsIn}
+use Rattle.prefix_trie_table.proofs.Prelude.{◌≡◌, ◌+◌, ◌-◌, ◌*◌, ◌/◌, ◌++◌, List, Bool, true, All, take, length, to_come, IsPlaceOf, is_at_some, IsSite, PreservesBelow, RetainsIn}
 use Rattle.prefix_trie_table.proofs.table.retain.+retain.Given as goal
 
 abbrev pub decreases-retain_place : goal.decreases-retain_place
@@ -18,7 +18,7 @@ invariant-retain_places-loop-place g l =
           is_at_some (take l.site.depth (g.K.Key.bits l.site.key)) (to_come l.places) q ≡ true → ⊥;
       done : RetainsIn g.F.Keep.asks g.F.Keep.accepts g.K.Key.bit_width (take l.site.depth (g.K.Key.bits l.site.key)) before
           l.fn.keep l.fn.entries l.fn.nodes l.fn.cells l.keep l.entries l.nodes l.cells;
-      lasts : Lasts (l.site.depth / 5) l.fn.nodes l.nodes l.fn.cells l.cells;
+      preserves : PreservesBelow (l.site.depth / 5) l.fn.nodes l.nodes l.fn.cells l.cells;
     }
 
 abbrev pub decreases-retain_places-loop-place : goal.decreases-retain_places-loop-place

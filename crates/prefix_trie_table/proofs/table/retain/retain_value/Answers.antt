@@ -1,10 +1,10 @@
 use Rattle.prefix_trie_table.proofs.Prelude.{◌≡◌, ◌-◌, ◌+◌, [], ◌∷◌, take, true, false, Some, unwrap_or, is_some, refl, sym, ap, ◌∙◌, subst, arith, option_copied, false≢true, digits, RetainsTo}
 use Rattle.prefix_trie_table.proofs.Strings.Bits.{has_bit-is}
 use Rattle.prefix_trie_table.proofs.Retain.Retained.{site_holds, site_values}
-use Rattle.prefix_trie_table.proofs.Insertion.Rooms.{Grows-none}
-use Rattle.prefix_trie_table.proofs.Retain.Placed.{lasts_none}
+use Rattle.prefix_trie_table.proofs.Insertion.Spaces.{Grows-none}
+use Rattle.prefix_trie_table.proofs.Retain.Placed.{preserves_none}
 use Rattle.prefix_trie_table.proofs.Removal.Between.{stays_grown}
-use Rattle.prefix_trie_table.proofs.Retain.Seen.{short, value_slot, value_got, value_some, value_room, key_filled, may_ask_here, stays_here, goes_here, taken_here, counted_here, above_here, blocks_here, site_here, trie_goes}
+use Rattle.prefix_trie_table.proofs.Retain.Seen.{short, value_slot, value_got, value_some, value_space, key_filled, may_ask_here, stays_here, goes_here, taken_here, counted_here, above_here, blocks_here, site_here, trie_goes}
 use Rattle.prefix_trie_table.proofs.table.retain.retain_value.Goals as goal
 
 pub at-requires : goal.at-requires
@@ -19,7 +19,7 @@ unreachable-requires g c =
 
 pub extend-key-requires-clause-within : goal.extend-key-requires-clause-within
 extend-key-requires-clause-within g c =
-    value_room g.K.Key.IsKey g.K.Key.bits g.K.Key.bit_width c.args.nodes.now c.args.site c.args.node c.requires.site g.met.K.Key.key_laws.bits_length c.args.entries.now c.args.cells.now c.requires.trie.0 c.requires.trie.1 c.args.bit c.string_of-n.result.0 c.string_of-n.result.1 c.requires.bit c.string_of-n.ensures.short c.string_of-n.ensures.bit c.requires.set
+    value_space g.K.Key.IsKey g.K.Key.bits g.K.Key.bit_width c.args.nodes.now c.args.site c.args.node c.requires.site g.met.K.Key.key_laws.bits_length c.args.entries.now c.args.cells.now c.requires.trie.0 c.requires.trie.1 c.args.bit c.string_of-n.result.0 c.string_of-n.result.1 c.requires.bit c.string_of-n.ensures.short c.string_of-n.ensures.bit c.requires.set
 
 pub keeps-requires-clause-key : goal.keeps-requires-clause-key
 keeps-requires-clause-key g c =
@@ -27,7 +27,7 @@ keeps-requires-clause-key g c =
 
 pub keeps-requires-clause-within : goal.keeps-requires-clause-within
 keeps-requires-clause-within g c =
-    value_room g.K.Key.IsKey g.K.Key.bits g.K.Key.bit_width c.args.nodes.now c.args.site c.args.node c.requires.site g.met.K.Key.key_laws.bits_length c.args.entries.now c.args.cells.now c.requires.trie.0 c.requires.trie.1 c.args.bit c.string_of-n.result.0 c.string_of-n.result.1 c.requires.bit c.string_of-n.ensures.short c.string_of-n.ensures.bit c.requires.set
+    value_space g.K.Key.IsKey g.K.Key.bits g.K.Key.bit_width c.args.nodes.now c.args.site c.args.node c.requires.site g.met.K.Key.key_laws.bits_length c.args.entries.now c.args.cells.now c.requires.trie.0 c.requires.trie.1 c.args.bit c.string_of-n.result.0 c.string_of-n.result.1 c.requires.bit c.string_of-n.ensures.short c.string_of-n.ensures.bit c.requires.set
 
 pub keeps-requires-clause-filled : goal.keeps-requires-clause-filled
 keeps-requires-clause-filled g c =
@@ -50,8 +50,8 @@ returns-then-keeps-clause-retains g c = λ t few is before trie.
 pub returns-then-keeps-clause-node : goal.returns-then-keeps-clause-node
 returns-then-keeps-clause-node g c = c.requires.site
 
-pub returns-then-keeps-clause-lasts : goal.returns-then-keeps-clause-lasts
-returns-then-keeps-clause-lasts g c = lasts_none _ c.args.nodes.now c.args.cells.now
+pub returns-then-keeps-clause-preserves : goal.returns-then-keeps-clause-preserves
+returns-then-keeps-clause-preserves g c = preserves_none _ c.args.nodes.now c.args.cells.now
 
 pub take_value-found-requires-clause-bit : goal.take_value-found-requires-clause-bit
 take_value-found-requires-clause-bit g c =
@@ -88,7 +88,7 @@ taken-requires-clause-key g c =
 
 pub taken-requires-clause-within : goal.taken-requires-clause-within
 taken-requires-clause-within g c =
-    value_room g.K.Key.IsKey g.K.Key.bits g.K.Key.bit_width c.args.nodes.now c.args.site c.args.node c.requires.site g.met.K.Key.key_laws.bits_length c.args.entries.now c.args.cells.now c.requires.trie.0 c.requires.trie.1 c.args.bit c.string_of-n.result.0 c.string_of-n.result.1 c.requires.bit c.string_of-n.ensures.short c.string_of-n.ensures.bit c.requires.set
+    value_space g.K.Key.IsKey g.K.Key.bits g.K.Key.bit_width c.args.nodes.now c.args.site c.args.node c.requires.site g.met.K.Key.key_laws.bits_length c.args.entries.now c.args.cells.now c.requires.trie.0 c.requires.trie.1 c.args.bit c.string_of-n.result.0 c.string_of-n.result.1 c.requires.bit c.string_of-n.ensures.short c.string_of-n.ensures.bit c.requires.set
 
 pub taken-requires-clause-filled : goal.taken-requires-clause-filled
 taken-requires-clause-filled g c =
@@ -111,7 +111,7 @@ returns-clause-retains g c = λ t few is before trie.
     let asked : Some c.in-Some.value.now ≡ Some c.in-Some-found.value = sym (got ∙ (sym c.as_ref.ensures.value ∙ ap option_copied c.in-Some.is)) ∙ there ∙ c.in-Some-found.is in
     let no = subst (λ v. g.F.Keep.refuses c.args.keep.now (take (c.args.site.depth + c.string_of-n.result.0) (g.K.Key.bits c.extend-key.result)) v c.keeps.new.self)
     (ap (λ o. unwrap_or o c.in-Some-found.value) asked) (c.keeps.ensures.no c.if-keeps.false) in
-    let later = trie_goes g.K.Key.IsKey g.K.Key.bits g.K.Key.bit_width c.args.nodes.now c.args.site c.args.node c.requires.site g.met.K.Key.key_laws.bits_length c.args.entries.now c.args.cells.now before trie c.args.bit c.string_of-n.result.0 c.string_of-n.result.1 c.requires.bit c.string_of-n.ensures.short c.string_of-n.ensures.bit c.requires.set c.take_value-found.result.0 c.take_value-found.result.1 c.take_value-found.new.nodes c.take_value-found.new.cells c.take_value-found.ensures.value c.take_value-found.ensures.taken (c.args.entries.now - 1) refl (Grows-none _ _ 24 c.take_value-found.ensures.node_blocks.room c.take_value-found.ensures.node_blocks.tiers) c.take_value-found.ensures.cell_room in
+    let later = trie_goes g.K.Key.IsKey g.K.Key.bits g.K.Key.bit_width c.args.nodes.now c.args.site c.args.node c.requires.site g.met.K.Key.key_laws.bits_length c.args.entries.now c.args.cells.now before trie c.args.bit c.string_of-n.result.0 c.string_of-n.result.1 c.requires.bit c.string_of-n.ensures.short c.string_of-n.ensures.bit c.requires.set c.take_value-found.result.0 c.take_value-found.result.1 c.take_value-found.new.nodes c.take_value-found.new.cells c.take_value-found.ensures.value c.take_value-found.ensures.taken (c.args.entries.now - 1) refl (Grows-none _ _ 24 c.take_value-found.ensures.node_blocks.space c.take_value-found.ensures.node_blocks.tiers) c.take_value-found.ensures.cell_space in
     subst (λ u. RetainsTo g.F.Keep.asks g.F.Keep.accepts g.K.Key.bit_width (take c.args.site.depth (g.K.Key.bits c.args.site.key)) (u ∷ []) c.args.keep.now before c.taken.new.self (c.args.entries.now - 1) c.take_value-found.new.nodes c.take_value-found.new.cells)
     (sym (c.string_of-n.ensures.only t is))
     (goes_here g.K.Key.IsKey g.K.Key.bits g.K.Key.bit_width c.args.nodes.now c.args.site c.args.node c.requires.site g.met.K.Key.key_laws.bits_length c.args.entries.now c.args.cells.now before trie c.args.bit c.string_of-n.result.0 c.string_of-n.result.1 c.requires.bit c.string_of-n.ensures.short c.string_of-n.ensures.bit c.requires.set c.extend-key.result c.extend-key.ensures.value g.F.Keep.asks g.F.Keep.accepts c.in-Some-found.value (there ∙ c.in-Some-found.is) c.args.keep.now c.taken.new.self false (c.args.entries.now - 1) c.take_value-found.new.nodes c.take_value-found.new.cells (c.taken.ensures c.args.keep.now no) refl later)
@@ -120,12 +120,12 @@ pub returns-clause-node : goal.returns-clause-node
 returns-clause-node g c =
     site_here g.K.Key.IsKey g.K.Key.bits g.K.Key.bit_width c.args.nodes.now c.args.site c.args.node c.requires.site g.met.K.Key.key_laws.bits_length c.args.entries.now c.args.cells.now c.requires.trie.0 c.requires.trie.1 c.args.bit c.string_of-n.result.0 c.string_of-n.result.1 c.requires.bit c.string_of-n.ensures.short c.string_of-n.ensures.bit c.requires.set c.take_value-found.result.0 c.take_value-found.result.1 c.take_value-found.new.nodes c.take_value-found.new.cells c.take_value-found.ensures.value c.take_value-found.ensures.taken
 
-pub returns-clause-lasts : goal.returns-clause-lasts
-returns-clause-lasts g c =
+pub returns-clause-preserves : goal.returns-clause-preserves
+returns-clause-preserves g c =
     record {
       above = above_here g.K.Key.IsKey g.K.Key.bits g.K.Key.bit_width c.args.nodes.now c.args.site c.args.node c.requires.site g.met.K.Key.key_laws.bits_length c.args.entries.now c.args.cells.now c.requires.trie.0 c.requires.trie.1 c.args.bit c.string_of-n.result.0 c.string_of-n.result.1 c.requires.bit c.string_of-n.ensures.short c.string_of-n.ensures.bit c.requires.set c.take_value-found.result.0 c.take_value-found.result.1 c.take_value-found.new.nodes c.take_value-found.new.cells c.take_value-found.ensures.value c.take_value-found.ensures.taken;
-      nodes = stays_grown _ _ 24 (Grows-none _ _ 24 c.take_value-found.ensures.node_blocks.room c.take_value-found.ensures.node_blocks.tiers);
-      cells = stays_grown _ _ 24 c.take_value-found.ensures.cell_room;
-      settles = c.take_value-found.ensures.settles;
+      nodes = stays_grown _ _ 24 (Grows-none _ _ 24 c.take_value-found.ensures.node_blocks.space c.take_value-found.ensures.node_blocks.tiers);
+      cells = stays_grown _ _ 24 c.take_value-found.ensures.cell_space;
+      bounds_growth = c.take_value-found.ensures.bounds_growth;
       blocks = blocks_here g.K.Key.IsKey g.K.Key.bits g.K.Key.bit_width c.args.nodes.now c.args.site c.args.node c.requires.site g.met.K.Key.key_laws.bits_length c.args.entries.now c.args.cells.now c.requires.trie.0 c.requires.trie.1 c.args.bit c.string_of-n.result.0 c.string_of-n.result.1 c.requires.bit c.string_of-n.ensures.short c.string_of-n.ensures.bit c.requires.set c.take_value-found.result.0 c.take_value-found.result.1 c.take_value-found.new.nodes c.take_value-found.new.cells c.take_value-found.ensures.value c.take_value-found.ensures.taken;
     }

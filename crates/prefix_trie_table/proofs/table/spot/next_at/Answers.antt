@@ -1,5 +1,5 @@
 use Rattle.prefix_trie_table.proofs.Prelude.{◌≡◌, ◌+◌, ◌-◌, length, refl, sym, ap, ◌∙◌, arith, digits, zeros, length-digits, value_seat}
-use Rattle.prefix_trie_table.proofs.Walk.Spots.{same_way, child_passed, place-value, place-child, place-small, place-child-small, goes_on, lighter, value_room, gives_value, value_seated, child_room, child_here, child_spot, child_still, child_lighter}
+use Rattle.prefix_trie_table.proofs.Walk.Spots.{same_above, child_passed, place-value, place-child, place-small, place-child-small, goes_on, lighter, value_space, gives_value, value_seated, child_space, child_here, child_spot, child_still, child_lighter}
 use Rattle.prefix_trie_table.proofs.table.spot.next_at.Goals as goal
 
 pub string_of-n-requires : goal.string_of-n-requires
@@ -16,9 +16,9 @@ pub extend-requires-clause-within : goal.extend-requires-clause-within
 extend-requires-clause-within g c =
     let taken = c.in-Some.ensures.place in
     let is = place-value taken.string c.in-Value.bit taken.short (sym c.in-Value.is ∙ taken.place) in
-    let room = value_room _ _ _ _ _ _ c.requires.spot (g.met.K.Key.key_laws.bits_length c.args.key c.requires.spot.is_key) taken.string c.next_place.new.self taken.first c.requires.tree.0 c.requires.tree.1 is.0 in
+    let space = value_space _ _ _ _ _ _ c.requires.spot (g.met.K.Key.key_laws.bits_length c.args.key c.requires.spot.is_key) taken.string c.next_place.new.self taken.first c.requires.tree.0 c.requires.tree.1 is.0 in
     let n_is : length taken.string ≡ c.string_of-n.result.0 = ap length (c.string_of-n.ensures.only taken.string (sym is.1)) ∙ length-digits c.string_of-n.result.0 c.string_of-n.result.1 in
-    omega (arith, room, n_is)
+    omega (arith, space, n_is)
 
 pub returns-in-Value : goal.returns-in-Value
 returns-in-Value g c =
@@ -36,7 +36,7 @@ returns-in-Value g c =
       way = record {
         whole = omega arith;
         last = omega (arith, short);
-        same_way = same_way _ _ _ _ _ _ c.requires.spot (g.met.K.Key.key_laws.bits_length c.args.key c.requires.spot.is_key) c.extend.result
+        same_above = same_above _ _ _ _ _ _ c.requires.spot (g.met.K.Key.key_laws.bits_length c.args.key c.requires.spot.is_key) c.extend.result
             (digits c.string_of-n.result.0 c.string_of-n.result.1) (zeros (g.K.Key.bit_width - (c.args.spot.now.depth + c.string_of-n.result.0))) c.extend.ensures.value;
       };
     }
@@ -50,7 +50,7 @@ pub extend-below-requires-clause-within : goal.extend-below-requires-clause-with
 extend-below-requires-clause-within g c =
     let taken = c.in-Some.ensures.place in
     let is = place-child taken.string c.in-Child.child taken.short (sym c.in-Child.is ∙ taken.place) in
-    child_room _ _ _ _ _ _ c.requires.spot (g.met.K.Key.key_laws.bits_length c.args.key c.requires.spot.is_key) taken.string c.next_place.new.self taken.first c.requires.tree.0 c.requires.tree.1 is.0
+    child_space _ _ _ _ _ _ c.requires.spot (g.met.K.Key.key_laws.bits_length c.args.key c.requires.spot.is_key) taken.string c.next_place.new.self taken.first c.requires.tree.0 c.requires.tree.1 is.0
 
 pub extend-below-requires-clause-fits : goal.extend-below-requires-clause-fits
 extend-below-requires-clause-fits g c =
@@ -78,7 +78,7 @@ returns-in-Child-clause-step g c =
       refl,
       child_spot _ _ _ _ _ _ c.requires.spot (g.met.K.Key.key_laws.bits_length c.args.key c.requires.spot.is_key) taken.string c.next_place.new.self taken.first t tree is.0 c.in-Child.child _ is.1 c.child_slot-at.ensures below child is_key extended c.enter.ensures.depth c.enter.ensures.node c.enter.ensures.places c.enter.ensures.each,
       c.enter.ensures.depth,
-      same_way _ _ _ _ _ _ c.requires.spot (g.met.K.Key.key_laws.bits_length c.args.key c.requires.spot.is_key) below (digits 5 c.in-Child.child) (zeros (g.K.Key.bit_width - (c.args.spot.now.depth + 5))) extended,
+      same_above _ _ _ _ _ _ c.requires.spot (g.met.K.Key.key_laws.bits_length c.args.key c.requires.spot.is_key) below (digits 5 c.in-Child.child) (zeros (g.K.Key.bit_width - (c.args.spot.now.depth + 5))) extended,
     )
 
 pub returns-in-Child-clause-way : goal.returns-in-Child-clause-way

@@ -1,9 +1,9 @@
 use Rattle.prefix_trie_table.proofs.Prelude.{◌≡◌, ◌-◌, ◌<◌, ◌∙◌, List, [], ◌∷◌, ◌++◌, length, sum_by, take, sym, ap, ap₂, subst, arith, length-append, take-append_seam, Spot, ArePassed, IsStack, pending, weight}
-use Rattle.prefix_trie_table.proofs.Walk.Stacks.{passed-below, passed-above, passed-popped, passed-child, trail-at, stack-popped, stack-put, stack-child_way, pending-entry, pending-child_way, pending-done, weight-deeper, weight-popped}
+use Rattle.prefix_trie_table.proofs.Walk.Stacks.{passed-below, passed-above, passed-popped, passed-child, cursor-at, stack-popped, stack-put, stack-child_way, pending-entry, pending-child_way, pending-done, weight-deeper, weight-popped}
 use Rattle.prefix_trie_table.proofs.table.walk.advance.Goals as goal
 
 pub next_at-requires-clause-spot : goal.next_at-requires-clause-spot
-next_at-requires-clause-spot g c = (trail-at _ _ _ c.in-Some.ensures.last.1 g.K.Key.IsKey g.K.Key.bits g.K.Key.bit_width c.args.nodes.now c.loop-spot.key c.loop-spot.invariant.stack).2
+next_at-requires-clause-spot g c = (cursor-at _ _ _ c.in-Some.ensures.last.1 g.K.Key.IsKey g.K.Key.bits g.K.Key.bit_width c.args.nodes.now c.loop-spot.key c.loop-spot.invariant.stack).2
 
 -- some spot is the last
 some_last : (all below : List Spot) (p : Spot) → all ≡ below ++ p ∷ [] → 0 < length all
@@ -68,7 +68,7 @@ returns-in-Entry-clause-last g c =
       ends = record {
         whole = (let w = ends.whole in omega (arith, w, depth));
         last = (let l = ends.last in omega (arith, l, depth));
-        same_way = subst (λ d. take d (g.K.Key.bits c.in-Entry.found) ≡ take d (g.K.Key.bits c.loop-spot.key)) (sym depth) ends.same_way;
+        same_above = subst (λ d. take d (g.K.Key.bits c.in-Entry.found) ≡ take d (g.K.Key.bits c.loop-spot.key)) (sym depth) ends.same_above;
       };
     }
 
@@ -81,7 +81,7 @@ push-requires g c =
     let below = c.in-Some.ensures.last.0 in
     let is = c.in-Some.ensures.last.1 in
     let put = put_is _ _ _ _ _ is h.3 c.put_places-in-Child.ensures.put in
-    let at = (trail-at _ _ _ is g.K.Key.IsKey g.K.Key.bits g.K.Key.bit_width c.args.nodes.now c.loop-spot.key c.loop-spot.invariant.stack).1 in
+    let at = (cursor-at _ _ _ is g.K.Key.IsKey g.K.Key.bits g.K.Key.bit_width c.args.nodes.now c.loop-spot.key c.loop-spot.invariant.stack).1 in
     (omega arith, let inside = h.4.within in omega (arith, at, inside, h.5, g.met.K.Key.key_laws.at_most_128, ap length put, length-append below (c.next_at.new.spot ∷ [])))
 
 -- the spots once the last has moved on and its child is pushed

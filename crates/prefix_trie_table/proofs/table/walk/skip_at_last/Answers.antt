@@ -13,7 +13,7 @@ skip_below-requires-clause-last g c =
     subst (λ (p : Spot). c.args.len < p.depth + 5) (snoc_inj at.below c.pop.new.self.items at.spot c.in-Some.spot (sym at.is ∙ c.in-Some.ensures.items)).1 at.ends.last
 
 pub push-requires : goal.push-requires
-push-requires g c = (omega arith, let room = c.requires.room in let less = c.in-Some.ensures.len in omega (arith, room, less))
+push-requires g c = (omega arith, let space = c.requires.space in let less = c.in-Some.ensures.len in omega (arith, space, less))
 
 pub returns-in-Some : goal.returns-in-Some
 returns-in-Some g c = record {

@@ -1,10 +1,10 @@
 use Rattle.prefix_trie_tests.proofs.Prelude.{rules, ◌++◌, sym, ap}
-use Rattle.prefix_trie.specs.Words.{listing, shown}
+use Rattle.prefix_trie.specs.Words.{listing, prefix_pairs}
 use Rattle.prefix_trie.proofs.Callers.{all_read, page_begins, page_goes_on}
 use Rattle.prefix_trie_tests.proofs.examples.pages.read_all.Goals as goal
 
 pub loop-read-init : goal.loop-read-init
-loop-read-init g c = (shown g.P.Prefix.back (listing c.args.map.now.entries), ap (λ xs. xs ++ shown g.P.Prefix.back (listing c.args.map.now.entries)) (sym c.new-read.ensures.items))
+loop-read-init g c = (prefix_pairs g.P.Prefix.back (listing c.args.map.now.entries), ap (λ xs. xs ++ prefix_pairs g.P.Prefix.back (listing c.args.map.now.entries)) (sym c.new-read.ensures.items))
 
 pub loop-read-smaller : goal.loop-read-smaller
 loop-read-smaller g c = page_goes_on g.P.Prefix.back c.args.map.now.entries c.loop-read.read.items _ c.args.size c.in_ok-read_page.ensures c.requires (search rules)

@@ -1,8 +1,8 @@
 use Rattle.prefix_trie_tests.proofs.Prelude.{◌≡◌, ◌+◌, ◌++◌, length}
-use Rattle.prefix_trie.specs.Words.{listing, shown}
+use Rattle.prefix_trie.specs.Words.{listing, prefix_pairs}
 use Rattle.prefix_trie_tests.proofs.examples.pages.read_page.Given as goal
 
 abbrev pub invariant-loop-i : goal.invariant-loop-i
 invariant-loop-i g l =
-    (shown g.P.Prefix.back (listing l.map.entries) ≡ l.read.items ++ l.walk)
+    (prefix_pairs g.P.Prefix.back (listing l.map.entries) ≡ l.read.items ++ l.walk)
     × (length l.read.items ≡ length l.initial.read.items + l._i)

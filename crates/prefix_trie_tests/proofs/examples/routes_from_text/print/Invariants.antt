@@ -1,5 +1,5 @@
 use Rattle.std.specs.Prelude.{◌≡◌, ◌++◌, ℕ, List, codes, decimal, flat_map, string_bytes}
-use Rattle.prefix_trie.specs.Words.{ipv4_back, ipv4_network_text, listing, shown}
+use Rattle.prefix_trie.specs.Words.{ipv4_back, ipv4_network_text, listing, prefix_pairs}
 use Rattle.prefix_trie_tests.proofs.examples.routes_from_text.print.Given as goal
 
 -- a line of a route
@@ -10,4 +10,4 @@ abbrev pub invariant-loop-network : goal.invariant-loop-network
 invariant-loop-network g l =
     (goal.iterator-loop-network g).can_next l.network-iterator
     × (goal.iterator-loop-network g).is_finite l.network-iterator
-    × (string_bytes l.text ++ flat_map line l.network-iterator ≡ flat_map line (shown ipv4_back (listing l.table.entries)))
+    × (string_bytes l.text ++ flat_map line l.network-iterator ≡ flat_map line (prefix_pairs ipv4_back (listing l.table.entries)))

@@ -3,7 +3,7 @@ use Rattle.prefix_trie.proofs.Callers.{HasRewrittenIn, left_in}
 use Rattle.prefix_trie_tests.proofs.examples.scaling.double_entries.Given as goal
 
 abbrev pub invariant-loop-prefix : goal.invariant-loop-prefix
-invariant-loop-prefix g l = HasRewrittenIn (λ v. (v * 2) % 2 ^ 64) l.initial.walk.course l.walk.course
+invariant-loop-prefix g l = HasRewrittenIn (λ v. (v * 2) % 2 ^ 64) l.initial.walk.source l.walk.source
 
 abbrev pub decreases-loop-prefix : goal.decreases-loop-prefix
-decreases-loop-prefix g l = left_in l.walk.course
+decreases-loop-prefix g l = left_in l.walk.source

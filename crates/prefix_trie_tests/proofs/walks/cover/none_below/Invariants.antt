@@ -1,4 +1,4 @@
-use Rattle.prefix_trie_tests.proofs.Prelude.{◌≡◌, nat_le, list_all, shown}
+use Rattle.prefix_trie_tests.proofs.Prelude.{◌≡◌, nat_le, list_all, prefix_pairs}
 use Rattle.prefix_trie_bits.specs.Model.Matches.{covers}
 use Rattle.prefix_trie_tests.proofs.walks.cover.none_below.Given as goal
 
@@ -7,4 +7,4 @@ invariant-loop-value g l =
     (goal.iterator-loop-value g).can_next l.value-iterator
     × (goal.iterator-loop-value g).is_finite l.value-iterator
     × (list_all (λ e. nat_le l.least e.1) l.value-iterator
-    ≡ list_all (λ e. nat_le l.least e.1) (shown g.P.Prefix.back (covers l.m.entries (g.P.Prefix.path l.prefix))))
+    ≡ list_all (λ e. nat_le l.least e.1) (prefix_pairs g.P.Prefix.back (covers l.m.entries (g.P.Prefix.path l.prefix))))

@@ -1,4 +1,4 @@
-use Rattle.prefix_trie_tests.proofs.Prelude.{◌≡◌, ◌++◌, ◌∷◌, sym, ap, ◌∙◌, All-head, All-same, listing, shown, All-append_right, listed_fit}
+use Rattle.prefix_trie_tests.proofs.Prelude.{◌≡◌, ◌++◌, ◌∷◌, sym, ap, ◌∙◌, All-head, All-same, listing, prefix_pairs, All-append_right, listed_fit}
 use Rattle.prefix_trie_tests.proofs.walks.iter.resumed.Goals as goal
 
 pub iter_from-requires : goal.iter_from-requires
@@ -9,10 +9,10 @@ iter_from-requires g c =
     let left = item ∷ c.next.new.self in
     let steps : c.args.walk ≡ left = c.in-Some.ensures.steps in
     let IsFit : g.row.P.Denot × g.row.T.Denot → Type 0 = λ e. g.P.Prefix.IsFitting e.0 in
-    let whole : shown g.P.Prefix.back (listing entries) ≡ read ++ left = c.requires.1 ∙ ap (λ xs. read ++ xs) steps in
+    let whole : prefix_pairs g.P.Prefix.back (listing entries) ≡ read ++ left = c.requires.1 ∙ ap (λ xs. read ++ xs) steps in
     All-head IsFit item c.next.new.self
     (All-append_right IsFit read left
-    (All-same IsFit (read ++ left) (shown g.P.Prefix.back (listing entries)) (sym whole) (listed_fit g.met.P.Prefix.prefix_laws entries c.len.ensures.whole.is_map.keys_within)))
+    (All-same IsFit (read ++ left) (prefix_pairs g.P.Prefix.back (listing entries)) (sym whole) (listed_fit g.met.P.Prefix.prefix_laws entries c.len.ensures.whole.is_map.keys_within)))
 
 pub returns : goal.returns
 returns g c =
@@ -21,6 +21,6 @@ returns g c =
     let read = c.requires.0 in
     let rest = c.next.new.self in
     let steps : c.args.walk ≡ item ∷ rest = c.in-Some.ensures.steps in
-    let whole : shown g.P.Prefix.back (listing entries) ≡ read ++ item ∷ rest = c.requires.1 ∙ ap (λ xs. read ++ xs) steps in
+    let whole : prefix_pairs g.P.Prefix.back (listing entries) ≡ read ++ item ∷ rest = c.requires.1 ∙ ap (λ xs. read ++ xs) steps in
     let law = c.resume_laws.ensures.after_iter entries c.len.ensures.whole.is_map.keys_within read item rest whole in
     (item, steps ∙ ap (λ xs. item ∷ xs) (sym (c.iter_from.ensures.items ∙ law)))

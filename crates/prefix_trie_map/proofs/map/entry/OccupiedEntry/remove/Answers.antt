@@ -1,4 +1,4 @@
-use Rattle.prefix_trie_map.proofs.Prelude.{Some, sym, ap, ◌∙◌, subst, get, contains_key, RemoveKeepTree, Value, StepByPath, stored}
+use Rattle.prefix_trie_map.proofs.Prelude.{Some, sym, ap, ◌∙◌, subst, get, contains_key, RemoveKeepTree, Value, StepByPath, stored_state}
 use Rattle.prefix_trie_bits.specs.Model.Entries.{without_entry}
 use Rattle.prefix_trie_map.proofs.map.entry.OccupiedEntry.remove.Goals as goal
 
@@ -17,5 +17,5 @@ returns g c =
       value = ap (λ k. get m.entries (g.P.Prefix.path k)) (sym is) ∙ taken.value;
       entries = taken.entries ∙ ap (λ k. without_entry m.entries (g.P.Prefix.path k)) is;
       nodes = taken.nodes;
-      step = subst (λ k. StepByPath g.P.R.Key.bit_width (stored m) (RemoveKeepTree (g.P.Prefix.path k)) (Value (Some c.take.result)) (stored c.take.new.self)) is taken.step;
+      step = subst (λ k. StepByPath g.P.R.Key.bit_width (stored_state m) (RemoveKeepTree (g.P.Prefix.path k)) (Value (Some c.take.result)) (stored_state c.take.new.self)) is taken.step;
     }

@@ -1,12 +1,12 @@
-use Rattle.prefix_trie_map.proofs.Prelude.{rules, ◌≡◌, ◌<◌, ◌^◌, ◌∙◌, length, sym, ap, length-map, len, len-entries, listing, shown, Contents, IsWhole}
+use Rattle.prefix_trie_map.proofs.Prelude.{rules, ◌≡◌, ◌<◌, ◌^◌, ◌∙◌, length, sym, ap, length-map, len, len-entries, listing, prefix_pairs, Contents, IsWhole}
 use Rattle.prefix_trie_map.proofs.Runs.{gives_in_order}
 use Rattle.prefix_trie_map.proofs.map.into_iter.PrefixMapIntoIterator.into_iter.Goals as goal
 
 pub returns : goal.returns
 returns g c =
-    let items : c.over.result ≡ shown g.P.Prefix.back (listing c.args.self.entries) =
+    let items : c.over.result ≡ prefix_pairs g.P.Prefix.back (listing c.args.self.entries) =
     c.over.ensures
-    ∙ ap (shown g.P.Prefix.back) (c.into_walk-walk.ensures ∙ ap (λ (s : Contents g.row.T.Denot). listing s.entries) c.self.view_is) in
+    ∙ ap (prefix_pairs g.P.Prefix.back) (c.into_walk-walk.ensures ∙ ap (λ (s : Contents g.row.T.Denot). listing s.entries) c.self.view_is) in
     let below : len c.args.self.entries < 2 ^ 64 = search rules in
     let whole : IsWhole g.P.R.Key.bit_width c.args.self = search rules in
     record {

@@ -10,7 +10,7 @@ returns g c =
         writes_back = tt;
         slot = rw (← c.self.view_is) c.index_mut.ensures.value;
         sound = λ value b live s starts within.
-            subst (λ n. Sound g.S.Slot.vacant (record b { items = set b.items c.args.place value } ∷ live) (with_slot v (n + c.args.place) value)) starts
-            (Sound-set g.S.Slot.vacant b live v c.args.place value within s);
+            subst (λ n. Sound g.S.Slot.vacant (record b { items = set b.items c.args.offset value } ∷ live) (with_slot v (n + c.args.offset) value)) starts
+            (Sound-set g.S.Slot.vacant b live v c.args.offset value within s);
       },
     )

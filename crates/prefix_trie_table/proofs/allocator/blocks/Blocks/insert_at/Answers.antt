@@ -19,8 +19,8 @@ take-new-requires-clause-ready g c =
 
 -- ---- a list that takes its first item
 
-pub insert_within-requires-clause-room : goal.insert_within-requires-clause-room
-insert_within-requires-clause-room g c =
+pub insert_within-requires-clause-space : goal.insert_within-requires-clause-space
+insert_within-requires-clause-space g c =
     let u = c.requires.holds in
     let w = block_inside g.S.Slot.vacant _ _ _ (c.take-new.ensures.sound (held c.args.k c.args.start u.size u.items ++ u.live) u.sound) in
     let first = first_size c.args.self.now.tiers c.requires.sizes in
@@ -58,7 +58,7 @@ returns-then-count-eq0-clause-turnover g c =
 pub returns-then-count-eq0-clause-sound : goal.returns-then-count-eq0-clause-sound
 returns-then-count-eq0-clause-sound g c = λ n xs live s count.
     let none : xs ≡ [] = nil_from_length xs (omega (arith, c.if-count-eq0.true)) in
-    let at : c.args.place ≡ 0 = omega (arith, c.if-count-eq0.true, c.requires.place) in
+    let at : c.args.offset ≡ 0 = omega (arith, c.if-count-eq0.true, c.requires.offset) in
     let s' : Sound g.S.Slot.vacant live c.args.self.now = subst (λ ys. Sound g.S.Slot.vacant (held c.args.k c.args.start n ys ++ live) c.args.self.now) none s in
     let taken = c.take-new.ensures.sound live s' in
     let first = first_size c.args.self.now.tiers c.requires.sizes in

@@ -13,8 +13,8 @@ size_of-requires g c =
 
 -- ---- a block with room
 
-pub insert_within-requires-clause-room : goal.insert_within-requires-clause-room
-insert_within-requires-clause-room g c =
+pub insert_within-requires-clause-space : goal.insert_within-requires-clause-space
+insert_within-requires-clause-space g c =
     let u = c.requires.in_use in
     let b = block c.args.k c.args.start u.size u.items in
     let size = (tier_of_block g.S.Slot.vacant b u.live _ u.sound).size_is in
@@ -40,14 +40,14 @@ returns-then-count-size_of-clause-turnover g c =
     let at = block_inside g.S.Slot.vacant b u.live _ u.sound in
     let small : c.args.count < u.size = omega (arith, c.if-count-size_of.true, c.size_of.ensures, size, size_at v.tiers c.args.k) in
     subst (λ o. Turnover v w none_of (list_size v.tiers c.args.k c.args.count) o) (sym (stays g c))
-    (Turnover-shifted v w (c.args.start + c.args.count) (c.args.start + c.args.place) c.args.value c.insert_within.ensures.slots (omega (arith, at.after)) (omega (arith, at.after))
-    (omega (arith, at.before, small)) (omega (arith, at.before, small, c.requires.place)) (list_size v.tiers c.args.k c.args.count))
+    (Turnover-shifted v w (c.args.start + c.args.count) (c.args.start + c.args.offset) c.args.value c.insert_within.ensures.slots (omega (arith, at.after)) (omega (arith, at.after))
+    (omega (arith, at.before, small)) (omega (arith, at.before, small, c.requires.offset)) (list_size v.tiers c.args.k c.args.count))
 
 pub returns-then-count-size_of-clause-sound : goal.returns-then-count-size_of-clause-sound
 returns-then-count-size_of-clause-sound g c = λ n xs live sound count.
     let b = block c.args.k c.args.start n xs in
     let size : n ≡ (tier_at c.args.self.now.tiers c.args.k).size = (tier_of_block g.S.Slot.vacant b live _ sound).size_is in
-    subst (λ m. Sound g.S.Slot.vacant (block c.args.k c.args.start m (insert xs c.args.place c.args.value) ∷ live) c.insert_within.new.self) size
+    subst (λ m. Sound g.S.Slot.vacant (block c.args.k c.args.start m (insert xs c.args.offset c.args.value) ∷ live) c.insert_within.new.self) size
     (c.insert_within.ensures.sound b live sound refl count (omega (arith, size, c.if-count-size_of.true, c.size_of.ensures, size_at c.args.self.now.tiers c.args.k)))
 
 -- ---- a full one

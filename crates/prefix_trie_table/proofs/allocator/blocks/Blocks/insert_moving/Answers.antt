@@ -20,17 +20,17 @@ give_back-requires g c =
     let a = block c.args.k c.args.outgrown u.size u.items in
     let b = block c.args.to c.take-new.result (tier_at c.args.self.now.tiers c.args.to).size [] in
     let s = Sound-exchanged g.S.Slot.vacant b a u.live _ (c.take-new.ensures.sound (a ∷ u.live) u.sound) in
-    let room : c.args.count < (tier_at c.args.self.now.tiers c.args.to).size = omega (arith, c.requires.holds, size_at c.args.self.now.tiers c.args.to) in
-    let place = has_place g.S.Slot.vacant _ _ _ (c.move_in.ensures.sound a b u.live s refl refl u.is_count refl room) in
-    record { within = place.0; place = place.1 }
+    let space : c.args.count < (tier_at c.args.self.now.tiers c.args.to).size = omega (arith, c.requires.holds, size_at c.args.self.now.tiers c.args.to) in
+    let reserved = has_place g.S.Slot.vacant _ _ _ (c.move_in.ensures.sound a b u.live s refl refl u.is_count refl space) in
+    record { within = reserved.0; reserved = reserved.1 }
 
 pub returns-clause-sound : goal.returns-clause-sound
 returns-clause-sound g c = λ n xs live sound count.
     let a = block c.args.k c.args.outgrown n xs in
     let b = block c.args.to c.take-new.result (tier_at c.args.self.now.tiers c.args.to).size [] in
-    let room : c.args.count < (tier_at c.args.self.now.tiers c.args.to).size = omega (arith, c.requires.holds, size_at c.args.self.now.tiers c.args.to) in
+    let space : c.args.count < (tier_at c.args.self.now.tiers c.args.to).size = omega (arith, c.requires.holds, size_at c.args.self.now.tiers c.args.to) in
     let s = Sound-exchanged g.S.Slot.vacant b a live _ (c.take-new.ensures.sound (a ∷ live) sound) in
-    c.give_back.ensures.sound _ n (c.move_in.ensures.sound a b live s refl refl count refl room)
+    c.give_back.ensures.sound _ n (c.move_in.ensures.sound a b live s refl refl count refl space)
 
 pub returns-clause-turnover : goal.returns-clause-turnover
 returns-clause-turnover g c =
@@ -40,13 +40,13 @@ returns-clause-turnover g c =
     let u = c.requires.in_use in
     let a = block c.args.k c.args.outgrown u.size u.items in
     let b = block c.args.to c.take-new.result (tier_at c.args.self.now.tiers c.args.to).size [] in
-    let room : c.args.count < (tier_at c.args.self.now.tiers c.args.to).size = omega (arith, c.requires.holds, size_at c.args.self.now.tiers c.args.to) in
+    let space : c.args.count < (tier_at c.args.self.now.tiers c.args.to).size = omega (arith, c.requires.holds, size_at c.args.self.now.tiers c.args.to) in
     let s0 = c.take-new.ensures.sound (a ∷ u.live) u.sound in
     let xs = run c.take-new.new.self.slots c.args.outgrown c.args.count in
-    let within = runs_within g.S.Slot.vacant a b u.live _ c.args.count s0 u.is_count (omega (arith, room)) in
+    let within = runs_within g.S.Slot.vacant a b u.live _ c.args.count s0 u.is_count (omega (arith, space)) in
     let short = length-run c.take-new.new.self.slots c.args.outgrown c.args.count within.0 in
-    let long = length-insert (run c.take-new.new.self.slots c.args.outgrown c.args.count) c.args.place c.args.value (omega (arith, short, c.requires.place)) in
-    let moved = put_over_turned g.S.Slot.vacant a b u.live _ c.args.count s0 u.is_count (omega (arith, room)) w (insert xs c.args.place c.args.value) (omega (arith, short, long, room)) c.move_in.ensures.slots None in
+    let long = length-insert (run c.take-new.new.self.slots c.args.outgrown c.args.count) c.args.offset c.args.value (omega (arith, short, c.requires.offset)) in
+    let moved = put_over_turned g.S.Slot.vacant a b u.live _ c.args.count s0 u.is_count (omega (arith, space)) w (insert xs c.args.offset c.args.value) (omega (arith, short, long, space)) c.move_in.ensures.slots None in
     let size : size_in (tier_sizes w.tiers) c.args.k ≡ size_in (tier_sizes v.tiers) c.args.k = ap (λ ns. size_in ns c.args.k) (moved.keeps.sizes ∙ c.take-new.ensures.turnover.keeps.sizes) in
     Turnover-moved v t w c.give_back.new.self none_of (Some (size_in (tier_sizes v.tiers) c.args.k)) (Some (size_in (tier_sizes v.tiers) c.args.to)) c.take-new.ensures.turnover moved
     (subst (λ n. Turnover w c.give_back.new.self none_of (Some n) None) size c.give_back.ensures.turnover)

@@ -1,7 +1,7 @@
 use Rattle.prefix_trie_table.proofs.Prelude.{◌≡◌, ℕ, ◌+◌, ◌-◌, ◌<◌, ◌≤◌, ◌++◌, [], ◌∷◌, length, replicate, None, Some, refl, sym, ap, ◌∙◌, subst, arith, Contains, err_from_is_err_and, length-replicate, IndexRange, smallest_size, packed_slots, Sound, Turnover, block, tier_at, tier_sizes, size_in, free_in, many_of, none_of}
 use Rattle.prefix_trie_table.proofs.Blocks.BySize.{size_at, sizes_up, size_among, tiers_long, smallest_holds, many_here, many-none}
 use Rattle.prefix_trie_table.proofs.Blocks.Laying.{Sound-vacant, laid_none_free, laid_longer, packed_size}
-use Rattle.prefix_trie_table.proofs.Blocks.Turnovers.{Keeps-then, size_kept, room_turned}
+use Rattle.prefix_trie_table.proofs.Blocks.Turnovers.{Keeps-then, size_kept, space_kept}
 use Rattle.prefix_trie_table.proofs.Tree.Trees.{held_some}
 use Rattle.prefix_trie_table.proofs.allocator.blocks.Blocks.lay_vacant.Goals as goal
 
@@ -65,7 +65,7 @@ returns-in_err-obtain-clause-range g c =
     let made = c.in_err-obtain.ensures.err in
     let full : c.in_err-obtain.field-0.0 ≡ IndexRange → v.limit < length v.slots + packed_slots (tier_sizes v.tiers) c.args.count = λ is.
     let packed = packed_size v.tiers c.args.count size c.tier_holding-tier.ensures.size (let some = c.if-count-eq0.false in omega (arith, some)) in
-    let room = room_turned v c.obtain.new.self _ None None (λ n. many-none size made.0 n (let h = made.1 in omega (arith, h))) made.2 in
-    let l = room.0 in let m = room.2 in
+    let space = space_kept v c.obtain.new.self _ None None (λ n. many-none size made.0 n (let h = made.1 in omega (arith, h))) made.2 in
+    let l = space.0 in let m = space.2 in
     omega (arith, c.in_err-obtain.ensures.range.0 is, packed, l, m) in
     let p = err_from_is_err_and c.from_residual.result c.from_residual.ensures.1 in rw (p.1, p.2) full

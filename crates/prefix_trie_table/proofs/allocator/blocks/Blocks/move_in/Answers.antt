@@ -22,19 +22,19 @@ move_in-requires g c =
         | inr h ↦ inl h
       ];
       unused = ap (λ n. run (g.R.SlotArray.list v.slots) n (c.args.count + 1)) (sym q.5) ∙ (run_none g.S.Slot.vacant a b q.2 _ q.7 s (c.args.count + 1) (omega (arith, q.8)));
-      place = c.requires.place;
+      offset = c.requires.offset;
       value = c.requires.value;
     }
 
 pub returns-clause-sound : goal.returns-clause-sound
-returns-clause-sound g c = λ a b live s0 from to count none room.
+returns-clause-sound g c = λ a b live s0 from to count none space.
     let s = rw (← c.self.view_is) at s0 in
     let xs = (g.R.SlotArray.list c.self.inside.slots) in
     let n = c.args.count in
-    let written : (g.R.SlotArray.list c.move_in.new.slots) ≡ put_run (put_run xs a.start (replicate n g.S.Slot.vacant)) b.start (insert a.items c.args.place c.args.value) = c.move_in.ensures.items
-    ∙ ap (λ i. put_run (put_run xs i (replicate n g.S.Slot.vacant)) c.args.to (insert (run xs i n) c.args.place c.args.value)) (sym from)
-    ∙ ap (λ i. put_run (put_run xs a.start (replicate n g.S.Slot.vacant)) i (insert (run xs a.start n) c.args.place c.args.value)) (sym to)
-    ∙ ap (λ ys. put_run (put_run xs a.start (replicate n g.S.Slot.vacant)) b.start (insert ys c.args.place c.args.value)) (run_items g.S.Slot.vacant a b live _ none s n count) in
-    let long = length-insert a.items c.args.place c.args.value (omega (arith, count, c.requires.place)) in
+    let written : (g.R.SlotArray.list c.move_in.new.slots) ≡ put_run (put_run xs a.start (replicate n g.S.Slot.vacant)) b.start (insert a.items c.args.offset c.args.value) = c.move_in.ensures.items
+    ∙ ap (λ i. put_run (put_run xs i (replicate n g.S.Slot.vacant)) c.args.to (insert (run xs i n) c.args.offset c.args.value)) (sym from)
+    ∙ ap (λ i. put_run (put_run xs a.start (replicate n g.S.Slot.vacant)) i (insert (run xs a.start n) c.args.offset c.args.value)) (sym to)
+    ∙ ap (λ ys. put_run (put_run xs a.start (replicate n g.S.Slot.vacant)) b.start (insert ys c.args.offset c.args.value)) (run_items g.S.Slot.vacant a b live _ none s n count) in
+    let long = length-insert a.items c.args.offset c.args.value (omega (arith, count, c.requires.offset)) in
     Sound-capacity g.S.Slot.vacant _ _ (g.R.SlotArray.capacity c.move_in.new.slots)
-    (Sound-put_over g.S.Slot.vacant a b live _ none s n (insert a.items c.args.place c.args.value) (g.R.SlotArray.list c.move_in.new.slots) count (omega (arith, long, count, room)) written)
+    (Sound-put_over g.S.Slot.vacant a b live _ none s n (insert a.items c.args.offset c.args.value) (g.R.SlotArray.list c.move_in.new.slots) count (omega (arith, long, count, space)) written)

@@ -6,11 +6,11 @@ use Rattle.prefix_trie_table.proofs.allocator.blocks.Blocks.remove_within.Goals 
 pub returns-clause-value : goal.returns-clause-value
 returns-clause-value g c = λ b live s starts count.
     let out = c.remove_shifting in
-    out.ensures.value ∙ ap (λ n. get_or (g.R.SlotArray.list c.self.inside.slots) (n + c.args.place) out.result) (sym starts) ∙ slot_of_block g.S.Slot.vacant b live _ c.args.place out.result (omega (arith, c.requires.place)) (rw (← c.self.view_is) at s)
+    out.ensures.value ∙ ap (λ n. get_or (g.R.SlotArray.list c.self.inside.slots) (n + c.args.offset) out.result) (sym starts) ∙ slot_of_block g.S.Slot.vacant b live _ c.args.offset out.result (omega (arith, c.requires.offset)) (rw (← c.self.view_is) at s)
 
 pub returns-clause-sound : goal.returns-clause-sound
 returns-clause-sound g c = λ b live s starts count.
     let xs = (g.R.SlotArray.list c.self.inside.slots) in
     let new = c.remove_shifting.new.self in
-    let written : g.R.SlotArray.list new ≡ insert (remove xs (b.start + c.args.place)) (b.start + c.args.count - 1) g.S.Slot.vacant = c.remove_shifting.ensures.list ∙ ap (λ n. insert (remove xs (n + c.args.place)) (n + c.args.count - 1) g.S.Slot.vacant) (sym starts) in
-    rw written (Sound-capacity g.S.Slot.vacant _ _ (g.R.SlotArray.capacity new) (Sound-removed g.S.Slot.vacant b live _ c.args.count c.args.place count c.requires.place (rw (← c.self.view_is) at s)))
+    let written : g.R.SlotArray.list new ≡ insert (remove xs (b.start + c.args.offset)) (b.start + c.args.count - 1) g.S.Slot.vacant = c.remove_shifting.ensures.list ∙ ap (λ n. insert (remove xs (n + c.args.offset)) (n + c.args.count - 1) g.S.Slot.vacant) (sym starts) in
+    rw written (Sound-capacity g.S.Slot.vacant _ _ (g.R.SlotArray.capacity new) (Sound-removed g.S.Slot.vacant b live _ c.args.count c.args.offset count c.requires.offset (rw (← c.self.view_is) at s)))

@@ -2,7 +2,7 @@ use Rattle.prefix_trie_table.proofs.Prelude.{ℕ, ◌+◌, ◌-◌, ◌<◌, ◌
 use Rattle.prefix_trie_table.proofs.Blocks.BySize.{size_at, tiers_long, many_here, many-none}
 use Rattle.prefix_trie_table.proofs.Blocks.Soundness.{Sound-exchanged, has_place}
 use Rattle.prefix_trie_table.proofs.Blocks.Moving.{runs_within, moved_turned}
-use Rattle.prefix_trie_table.proofs.Blocks.Told.{told_ok, told_err}
+use Rattle.prefix_trie_table.proofs.Blocks.ResultCases.{told_ok, told_err}
 use Rattle.prefix_trie_table.proofs.Blocks.Turnovers.{size_kept, Turnover-as, Turnover-then, Turnover-moved}
 use Rattle.prefix_trie_table.proofs.allocator.blocks.Blocks.step_down.Given as given
 use Rattle.prefix_trie_table.proofs.allocator.blocks.Blocks.step_down.Goals as goal
@@ -52,8 +52,8 @@ move_items-requires g c =
     let b = block c.args.to c.take-new.result (tier_at c.obtain.new.self.tiers c.args.to).size [] in
     let size : ℕ = size_in (tier_sizes c.args.self.now.tiers) c.args.to in
     let made : Turnover v w (many_of size (1 - free_in v.tiers size)) None None = told_ok c.obtain.result c.if-is_err.ensures.value c.obtain.ensures.made in
-    let room : c.args.count ≤ (tier_at c.obtain.new.self.tiers c.args.to).size = omega (arith, c.requires.holds, size_kept v w c.args.to made.keeps.sizes, size_at v.tiers c.args.to) in
-    let within = runs_within g.S.Slot.vacant a b u.live _ c.args.count (c.take-new.ensures.sound (a ∷ u.live) (c.obtain.ensures.sound (a ∷ u.live) u.sound)) u.is_count room in
+    let space : c.args.count ≤ (tier_at c.obtain.new.self.tiers c.args.to).size = omega (arith, c.requires.holds, size_kept v w c.args.to made.keeps.sizes, size_at v.tiers c.args.to) in
+    let within = runs_within g.S.Slot.vacant a b u.live _ c.args.count (c.take-new.ensures.sound (a ∷ u.live) (c.obtain.ensures.sound (a ∷ u.live) u.sound)) u.is_count space in
     record { from_within = within.0; to_within = within.1 }
 
 pub give_back-requires : goal.give_back-requires
@@ -65,25 +65,25 @@ give_back-requires g c =
     let b = block c.args.to c.take-new.result (tier_at c.obtain.new.self.tiers c.args.to).size [] in
     let size : ℕ = size_in (tier_sizes c.args.self.now.tiers) c.args.to in
     let made : Turnover v w (many_of size (1 - free_in v.tiers size)) None None = told_ok c.obtain.result c.if-is_err.ensures.value c.obtain.ensures.made in
-    let room : c.args.count ≤ (tier_at c.obtain.new.self.tiers c.args.to).size = omega (arith, c.requires.holds, size_kept v w c.args.to made.keeps.sizes, size_at v.tiers c.args.to) in
+    let space : c.args.count ≤ (tier_at c.obtain.new.self.tiers c.args.to).size = omega (arith, c.requires.holds, size_kept v w c.args.to made.keeps.sizes, size_at v.tiers c.args.to) in
     let s = Sound-exchanged g.S.Slot.vacant b a u.live _ (c.take-new.ensures.sound (a ∷ u.live) (c.obtain.ensures.sound (a ∷ u.live) u.sound)) in
-    let place = has_place g.S.Slot.vacant _ _ _ (c.move_items.ensures.sound a b u.live s refl refl u.is_count refl room) in
-    record { within = place.0; place = place.1 }
+    let reserved = has_place g.S.Slot.vacant _ _ _ (c.move_items.ensures.sound a b u.live s refl refl u.is_count refl space) in
+    record { within = reserved.0; reserved = reserved.1 }
 
 -- the block was obtained, and has room
 obtained : (g : given.Over) (c : goal.After-give_back g) → Turnover c.args.self.now c.obtain.new.self (many_of (size_in (tier_sizes c.args.self.now.tiers) c.args.to)
     (1 - free_in c.args.self.now.tiers (size_in (tier_sizes c.args.self.now.tiers) c.args.to))) None None
 obtained g c = told_ok c.obtain.result c.if-is_err.ensures.value c.obtain.ensures.made
 
-room : (g : given.Over) (c : goal.After-give_back g) → c.args.count ≤ (tier_at c.obtain.new.self.tiers c.args.to).size
-room g c = omega (arith, c.requires.holds, size_kept c.args.self.now c.obtain.new.self c.args.to (obtained g c).keeps.sizes, size_at c.args.self.now.tiers c.args.to)
+space : (g : given.Over) (c : goal.After-give_back g) → c.args.count ≤ (tier_at c.obtain.new.self.tiers c.args.to).size
+space g c = omega (arith, c.requires.holds, size_kept c.args.self.now c.obtain.new.self c.args.to (obtained g c).keeps.sizes, size_at c.args.self.now.tiers c.args.to)
 
 pub returns-clause-sound : goal.returns-clause-sound
 returns-clause-sound g c = λ n xs live sound count.
     let a = block c.args.k c.args.start n xs in
     let b = block c.args.to c.take-new.result (tier_at c.obtain.new.self.tiers c.args.to).size [] in
     let s = Sound-exchanged g.S.Slot.vacant b a live _ (c.take-new.ensures.sound (a ∷ live) (c.obtain.ensures.sound (a ∷ live) sound)) in
-    let m = c.move_items.ensures.sound a b live s refl refl count refl (room g c) in
+    let m = c.move_items.ensures.sound a b live s refl refl count refl (space g c) in
     subst (λ size. Sound g.S.Slot.vacant (block c.args.to c.take-new.result size xs ∷ live) c.give_back.new.self)
     (size_kept c.args.self.now c.obtain.new.self c.args.to (obtained g c).keeps.sizes) (c.give_back.ensures.sound _ n m)
 
@@ -98,7 +98,7 @@ returns-clause-turnover g c =
     let a = block c.args.k c.args.start u.size u.items in
     let b = block c.args.to c.take-new.result (tier_at c.obtain.new.self.tiers c.args.to).size [] in
     let first = obtained g c in
-    let still = moved_turned g.S.Slot.vacant a b u.live t c.args.count (c.take-new.ensures.sound (a ∷ u.live) (c.obtain.ensures.sound (a ∷ u.live) u.sound)) u.is_count (room g c) y c.move_items.ensures.slots None in
+    let still = moved_turned g.S.Slot.vacant a b u.live t c.args.count (c.take-new.ensures.sound (a ∷ u.live) (c.obtain.ensures.sound (a ∷ u.live) u.sound)) u.is_count (space g c) y c.move_items.ensures.slots None in
     let entered = subst (λ ns. Turnover w t none_of None (Some (size_in ns c.args.to))) first.keeps.sizes c.take-new.ensures.turnover in
     let left = subst (λ ns. Turnover y x none_of (Some (size_in ns c.args.k)) None) (still.keeps.sizes ∙ entered.keeps.sizes ∙ first.keeps.sizes) c.give_back.ensures.turnover in
     let old = Some (size_in (tier_sizes v.tiers) c.args.k) in

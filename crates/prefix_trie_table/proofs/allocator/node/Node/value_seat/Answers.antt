@@ -5,4 +5,4 @@ use Rattle.prefix_trie_table.proofs.allocator.node.Node.value_seat.Goals as goal
 pub returns : goal.returns
 returns c =
     let n = c.args.self in
-    λ i. record { start = n.value_block; place = (c.rank.ensures ∙ sym (rank-ones n.value_bitmap c.args.bit (omega (arith, c.requires)))) i }
+    λ i. record { start = n.value_block; offset = (c.rank.ensures ∙ sym (rank-ones n.value_bitmap c.args.bit (omega (arith, c.requires)))) i }

@@ -18,18 +18,18 @@ returns-in_default g c =
     let at = c.self.invariant.stands in
     let later = c.self-1.given.0 in
     let gone = c.in_default.ensures c.self.invariant.first at in
-    let none = gives_none _ _ c.self.invariant.table _ _ c.self.inside.shape.1 later.1 _ _ at.on_way.long _ _ _ _ _ _ _ _ _ at gone in
+    let none = gives_none _ _ c.self.invariant.table _ _ c.self.inside.shape.1 later.1 _ _ at.on_path.long _ _ _ _ _ _ _ _ _ at gone in
     (sym c.self.view_is ∙ none.0, none.1)
 
 pub value_of_match-requires-clause-bit : goal.value_of_match-requires-clause-bit
 value_of_match-requires-clause-bit g c =
     let at = c.self.invariant.stands in
-    (match_there _ _ c.self.invariant.table _ _ c.self.inside.shape.1 c.self.inside.shape.1 _ _ at.on_way.long _ _ _ _ _ _ _ _ _ at c.in-Some.found (c.in-Some.ensures c.self.invariant.first at)).0
+    (match_there _ _ c.self.invariant.table _ _ c.self.inside.shape.1 c.self.inside.shape.1 _ _ at.on_path.long _ _ _ _ _ _ _ _ _ at c.in-Some.found (c.in-Some.ensures c.self.invariant.first at)).0
 
 pub value_of_match-requires-clause-stands : goal.value_of_match-requires-clause-stands
 value_of_match-requires-clause-stands g c =
     let at = c.self.invariant.stands in
-    (match_there _ _ c.self.invariant.table _ _ c.self.inside.shape.1 c.self.inside.shape.1 _ _ at.on_way.long _ _ _ _ _ _ _ _ _ at c.in-Some.found (c.in-Some.ensures c.self.invariant.first at)).1
+    (match_there _ _ c.self.invariant.table _ _ c.self.inside.shape.1 c.self.inside.shape.1 _ _ at.on_path.long _ _ _ _ _ _ _ _ _ at c.in-Some.found (c.in-Some.ensures c.self.invariant.first at)).1
 
 pub invariant_of-self-in_default-value_of_match : goal.invariant_of-self-in_default-value_of_match
 invariant_of-self-in_default-value_of_match g c = cover_on _ _ _ _ _ _ _ _ _ _ _ _ _ _ c.self.invariant (c.in-Some.ensures c.self.invariant.first c.self.invariant.stands)
@@ -37,7 +37,7 @@ invariant_of-self-in_default-value_of_match g c = cover_on _ _ _ _ _ _ _ _ _ _ _
 pub returns-in_default-value_of_match : goal.returns-in_default-value_of_match
 returns-in_default-value_of_match g c =
     let at = c.self.invariant.stands in
-    let there = match_there _ _ c.self.invariant.table _ _ c.self.inside.shape.1 c.self.inside.shape.1 _ _ at.on_way.long _ _ _ _ _ _ _ _ _ at c.in-Some.found (c.in-Some.ensures c.self.invariant.first at) in
+    let there = match_there _ _ c.self.invariant.table _ _ c.self.inside.shape.1 c.self.inside.shape.1 _ _ at.on_path.long _ _ _ _ _ _ _ _ _ at c.in-Some.found (c.in-Some.ensures c.self.invariant.first at) in
     absurd (false≢true (sym (ap is_some c.in_default-value_of_match.ensures) ∙ there.2))
 
 pub invariant_of-self-2 : goal.invariant_of-self-2
@@ -52,9 +52,9 @@ returns g c =
     let b = g.K.Key.bits c.self.inside.key in
     record {
       is_key = c.self.invariant.is_key;
-      short = (let m = match_short _ _ c.self.invariant.table _ _ c.self.inside.shape.1 later.1 _ _ at.on_way.long _ _ _ _ _ _ _ _ _ at c.in-Some.found gone in
+      short = (let m = match_short _ _ c.self.invariant.table _ _ c.self.inside.shape.1 later.1 _ _ at.on_path.long _ _ _ _ _ _ _ _ _ at c.in-Some.found gone in
           let w = c.self.invariant.short in omega (arith, m, w, read.0));
       first = sym c.self.view_is
-          ∙ gives_next _ _ c.self.invariant.table _ _ c.self.inside.shape.1 later.1 _ _ at.on_way.long _ _ _ _ _ _ _ _ _ at c.in-Some.found gone c.in-Some-value_of_match.value.now read.1
+          ∙ gives_next _ _ c.self.invariant.table _ _ c.self.inside.shape.1 later.1 _ _ at.on_path.long _ _ _ _ _ _ _ _ _ at c.in-Some.found gone c.in-Some-value_of_match.value.now read.1
           ∙ ap (λ n. (take n b, c.in-Some-value_of_match.value.now) ∷ still_covering later.0.entries (take c.self.inside.len b) c.next_match.new.here.level c.next_match.new.matches) (sym read.0);
     }

@@ -27,7 +27,7 @@ skip_at_last-requires g c =
       key = h.is_key;
       within = h.short;
       last = (_, c.in-Some-advance.ensures.last);
-      room = few_spots g.K.Key.IsKey g.K.Key.bits g.K.Key.bit_width c.in-Some.nodes.now c.advance.new.key c.advance.new.stack.items g.met.K.Key.key_laws.at_most_128 c.advance.ensures.stack _ _ c.in-Some-advance.ensures.last;
+      space = few_spots g.K.Key.IsKey g.K.Key.bits g.K.Key.bit_width c.in-Some.nodes.now c.advance.new.key c.advance.new.stack.items g.met.K.Key.key_laws.at_most_128 c.advance.ensures.stack _ _ c.in-Some-advance.ensures.last;
     }
 
 pub invariant_of-self-2 : goal.invariant_of-self-2

@@ -1,0 +1,44 @@
+//! Handing keys out as a second set.
+ghost use Rattle.std.specs.Prelude.{◌≡◌, IfOk, OnOk, IfErr, OnErr};
+ghost use Rattle.prefix_trie_bits.specs.declared.prefix.Refusal.TheVariants.{Memory};
+ghost use Rattle.prefix_trie_bits.specs.Model.Entries.{without_below, part_below};
+ghost use Rattle.prefix_trie_bits.specs.Model.SplitsOff.{SplitsOffInStorage};
+ghost use Rattle.prefix_trie_bits.specs.Model.Nodes.{needed, nodes_without_below};
+ghost use Rattle.prefix_trie_map.specs.Steps.{stored_state};
+
+use crate::set::PrefixSet;
+use prefix_trie_bits::prefix::{Prefix, Refusal};
+use std::alloc::Allocator;
+
+impl<P: Prefix, A: Allocator + Clone> PrefixSet<P, A> {
+    /// Takes out the keys that this prefix contains, its own among them, and hands them out as a second set. Where the prefix's own
+    /// node is missing the second set is empty, and at length 0 it has all. This set is left as `drop_children` leaves it.
+    ///
+    /// The second set has this set's limit and a clone of its allocator. It is tidy, and as small as a set of its keys can be: each of its
+    /// blocks is the smallest that holds its items, and none is free. All its room is asked for before a key moves.
+    ///
+    /// Errors: `Memory` where a request for memory is refused. Then this set is as it was, its slots and blocks too, and no second set
+    /// exists. `IndexRange` never: the second set has no more slots than this one.
+    ///
+    /// ```text
+    /// 10.1.0.0/16, 10.1.2.0/24 and 10.2.0.0/16 are stored
+    /// let part = set.remove_children(&10.1.0.0/16)?;
+    /// part.iter()    gives 10.1.0.0/16 and 10.1.2.0/24
+    /// set.iter()     gives 10.2.0.0/16
+    /// ```
+    pub fn remove_children(&mut self, prefix: &P) -> Result<Self, Refusal>
+        requires { P.IsFitting prefix.now }
+        ensures split_off { IfOk result (λ second. second.entries ≡ part_below self.old.entries (P.path prefix.now)) }
+        ensures split_nodes { IfOk result (λ second. second.nodes ≡ needed second.entries) }
+        ensures entries { OnOk result (self.new.entries ≡ without_below self.old.entries (P.path prefix.now)) }
+        ensures nodes { OnOk result (self.new.nodes ≡ nodes_without_below self.old.nodes self.old.entries (P.path prefix.now)) }
+
+        // It is a step of the model, of the storage of both sets too: that of a map of units.
+        ensures step { IfOk result (λ second. SplitsOffInStorage (stored_state self.old) (P.path prefix.now) (stored_state second) (stored_state self.new)) }
+        ensures unchanged { OnErr result (stored_state self.new ≡ stored_state self.old) }
+        ensures only_memory { IfErr result (λ cause. cause ≡ Memory) }
+    {
+        let map = self.map.remove_children(prefix)?;
+        Ok(PrefixSet { map })
+    }
+}

@@ -1,0 +1,9 @@
+use Rattle.prefix_trie_map.proofs.Writing.{stops_there, first_there, goes_over}
+use Rattle.prefix_trie_map.proofs.map.writing.cursor.MapCursorSource.step.Goals as goal
+
+pub returns : goal.returns
+returns g c = (
+  stops_there c.args.self.now c.step.new.cursor _ _ c.in-Some.ensures.key,
+  first_there c.args.self.now c.step.new.cursor c.step.ensures.stands _ c.in-Some.ensures.key _ c.without_host_bits.ensures,
+  goes_over c.args.self.now c.step.new.cursor _ _ c.in-Some.ensures.key c.in-Some.ensures.stored,
+)

@@ -1,0 +1,16 @@
+-- What `retain` asks of a user's test, by the prefixes that it shows. This project's own.
+use Rattle.std.specs.Prelude.{◌≡◌, Bool, List}
+use Rattle.std.specs.Borrow.{Bor}
+use Rattle.std.specs.Fn.{Mut, Takes, Called}
+
+module _ {F P T : Type 0} (g : Mut F (Bor P × (Bor T × Unit {0})) Bool) (back : List Bool → P) where
+  -- a call of f at the prefix with the path k and at the value v may answer b, and leave f as f'
+  pub record CalledAtEntry (f : F) (k : List Bool) (v : T) (b : Bool) (f' : F) : Type 0 where
+    pub prefix : Bor P
+    pub value : Bor T
+    pub shows : (prefix.now ≡ back k) × (value.now ≡ v)
+    pub called : Called g f (prefix, (value, tt)) b f'
+
+  -- f may be called at the prefix with the path k and at v
+  abbrev pub TakesEntry : F → List Bool → T → Type 0
+  TakesEntry f k v = (p : Bor P) (q : Bor T) → p.now ≡ back k → q.now ≡ v → Takes g f (p, (q, tt))

@@ -1,0 +1,67 @@
+//! Walks that start at a prefix, and those of what a prefix contains.
+ghost use Rattle.std.specs.Prelude.{◌≡◌, ◌<◌, ◌^◌, cond, length};
+ghost use Rattle.std.specs.Map.Iter.{ShowsInOrder};
+ghost use Rattle.prefix_trie_bits.specs.Model.Selections.{listing_from, listing_after, listing_below, prefix_pairs};
+ghost use Rattle.prefix_trie_map.specs.Walks.{lent_item};
+ghost use Rattle.prefix_trie_map.specs.Whole.{IsWhole};
+
+use crate::map::iter::Iter;
+use crate::map::parts::parts;
+use crate::map::{PrefixMap, Visits};
+use prefix_trie_bits::prefix::Prefix;
+use std::alloc::Allocator;
+
+impl<P: Prefix, T: Drop, A: Allocator> PrefixMap<P, T, A> {
+    /// The entries behind a prefix in the order of `iter`, and before them its own where `inclusive`, whether it is stored or
+    /// not. The prefixes that it contains are behind it, so an exclusive walk leaves out its own entry alone.
+    ///
+    /// After some items of `iter` or `iter_from`, `iter_from(&last, false)` gives the rest: see `resume_laws`.
+    ///
+    /// ```text
+    /// 10.0.0.0/8, 10.1.0.0/16, 10.1.1.0/24 and 10.2.0.0/16 are stored with 1, 2, 3 and 4
+    /// map.iter_from(&10.1.0.0/16, true)     gives those with 2, 3 and 4
+    /// map.iter_from(&10.1.0.0/16, false)    gives those with 3 and 4
+    /// map.iter_from(&10.1.128.0/17, true)   gives that with 4
+    /// ```
+    #[inline]
+    pub fn iter_from(&self, prefix: &P, inclusive: bool) -> Iter<'_, P, T, A>
+        requires { P.IsFitting prefix.now }
+        ensures items { result ≡ prefix_pairs P.back (cond inclusive
+            (listing_from self.now.entries (P.path prefix.now))
+            (listing_after self.now.entries (P.path prefix.now))) }
+        ensures fits { length result < 2 ^ 64 }
+        ensures runs { ShowsInOrder (lent_item {P = P} {T = T}) }
+        ensures whole { IsWhole P.R.bit_width self.now }
+    {
+        // The proof learns from it that the number of entries fits, and that the map is whole.
+        let _ = self.len();
+        let (key, len) = parts(prefix);
+        let walk = self
+            .table
+            .walk_from(key, len, inclusive, &mut Visits::new());
+        Iter::over(walk)
+    }
+
+    /// The entries whose prefixes this one contains, its own among them, in the order of `iter`. These are the entries that
+    /// `drop_children` and `remove_children` take out: the law `removed` of `listing_laws`.
+    ///
+    /// ```text
+    /// 10.0.0.0/8, 10.1.0.0/16, 10.1.1.0/24 and 10.2.0.0/16 are stored with 1, 2, 3 and 4
+    /// map.children(&10.1.0.0/16)    gives those with 2 and 3
+    /// map.children(&10.1.0.0/17)    gives that with 3
+    /// ```
+    #[inline]
+    pub fn children(&self, prefix: &P) -> Iter<'_, P, T, A>
+        requires { P.IsFitting prefix.now }
+        ensures items { result ≡ prefix_pairs P.back (listing_below self.now.entries (P.path prefix.now)) }
+        ensures fits { length result < 2 ^ 64 }
+        ensures runs { ShowsInOrder (lent_item {P = P} {T = T}) }
+        ensures whole { IsWhole P.R.bit_width self.now }
+    {
+        // The proof learns from it that the number of entries fits, and that the map is whole.
+        let _ = self.len();
+        let (key, len) = parts(prefix);
+        let walk = self.table.walk_below(key, len, &mut Visits::new());
+        Iter::over(walk)
+    }
+}

@@ -1,0 +1,144 @@
+//! What entries do where a key stands, or where its way ends, without going down again.
+ghost use Rattle.std.specs.Prelude.{◌≡◌, ◌≤◌, take, [], false, true, None, Some, IfSome, MatchOption, OnOk, IfOk, IfErr};
+ghost use Rattle.std.specs.Borrow.{sem};
+ghost use Rattle.std.specs.FinMap.{get, contains_key, len};
+ghost use Rattle.prefix_trie_bits.specs.Model.Entries.{with_entry, without_entry};
+ghost use Rattle.prefix_trie_bits.specs.Model.Insertion.{missing_node_slots, missing_cell_slots};
+ghost use Rattle.prefix_trie_bits.specs.Model.Nodes.{with_needed};
+ghost use Rattle.prefix_trie_bits.specs.Model.Space.{LeavesSpace};
+ghost use Rattle.prefix_trie_bits.specs.Model.Step.{Insert, RemoveKeepTree, Value, Refused as Refuses};
+ghost use Rattle.prefix_trie_bits.specs.Model.Storage.{PreparesInStorage, StepByPath};
+ghost use Rattle.prefix_trie_table.specs.Locations.{seat_of, IsSearchEnd, IsLocation};
+ghost use Rattle.prefix_trie_map.specs.Steps.{state, storage, stored_state};
+ghost use Rattle.prefix_trie_map.specs.Whole.{IsWhole};
+
+use crate::map::parts::parts;
+use crate::map::{PrefixMap, Visits};
+use prefix_trie_bits::prefix::{Prefix, Refusal, Refused};
+use prefix_trie_table::table::seat::{Location, Seat, SearchEnd};
+use prefix_trie_table::table::cursor::Cursor;
+use std::alloc::Allocator;
+
+impl<P: Prefix, T: Drop, A: Allocator> PrefixMap<P, T, A> {
+    ghost use Rattle.prefix_trie_table.specs.Walking.Cursors.{IsCursorIn, keys_to_come, GivesKey};
+    ghost use Rattle.prefix_trie_map.specs.Lending.{lends_value};
+
+    // Where the value of a prefix stands, or where its way ends.
+    #[inline]
+    pub(super) fn locate(&self, prefix: &P) -> Location
+        requires { P.IsFitting prefix.now }
+        ensures { IsLocation self.now (P.path prefix.now) result }
+    {
+        let (key, len) = parts(prefix);
+        self.table.locate(key, len, &mut Visits::new())
+    }
+
+    // The value of a prefix, where it stands.
+    #[inline]
+    pub(super) fn value_at(&self, prefix: &P, seat: Seat) -> &T
+        requires fits { P.IsFitting prefix.now }
+        requires seat { seat_of self.now.build (P.path prefix.now) ≡ Some seat }
+        ensures { get self.now.entries (P.path prefix.now) ≡ Some result.now }
+    {
+        let (key, len) = parts(prefix);
+        self.table.at(key, len, seat)
+    }
+
+    // The value at the first bits of a key, where it stands, for writing.
+    #[inline]
+    pub(super) fn lend_at(&mut self, key: P::R, len: u32, seat: Seat) -> &mut T
+        requires key { P.R.IsKey key }
+        requires within { len ≤ P.R.bit_width }
+        requires seat { seat_of self.old.build (take len (P.R.bits key)) ≡ Some seat }
+        ensures* writes_back { sem 𝓛 (lends_value P.row T.row A.row P.R.row P.Prefix.own P.Debug P.R.Key.own P.R.PartialEq P.R.Debug A.Allocator self.entry (take len (P.R.bits key)) result) }
+        ensures value { get self.old.entries (take len (P.R.bits key)) ≡ Some result.now }
+        ensures whole { IsWhole P.R.bit_width self.old }
+    {
+        // The proof learns from it that the map is whole.
+        let _ = self.len();
+        self.table.at_mut(key, len, seat)
+    }
+
+    // Goes on to the next entry of a walk: its key, the key's length, and where its value stands.
+    #[inline]
+    pub(super) fn step(&self, cursor: &mut Cursor<P::R>) -> Option<(P::R, u32, Seat)>
+        requires { IsCursorIn P.R.bits P.R.bit_width self.now.build cursor.old }
+        ensures stands { IsCursorIn P.R.bits P.R.bit_width self.now.build cursor.new }
+        ensures key { MatchOption result
+            ((keys_to_come P.R.bits self.now.entries cursor.old ≡ []) × (keys_to_come P.R.bits self.now.entries cursor.new ≡ []))
+            (λ r. GivesKey P.R.IsKey P.R.bits P.R.bit_width self.now.build r.0 r.1 r.2
+            (keys_to_come P.R.bits self.now.entries cursor.old) (keys_to_come P.R.bits self.now.entries cursor.new)) }
+        ensures stored { IfSome result (λ r. contains_key self.now.entries (take r.1 (P.R.bits r.0)) ≡ true) }
+    {
+        self.table.step(cursor, &mut Visits::new())
+    }
+
+    // Obtains all blocks that the insertion of a new prefix lacks, whose way ends here.
+    #[inline]
+    pub(super) fn reserve(&mut self, prefix: &P, end: SearchEnd) -> Result<(), Refusal>
+        requires fits { P.IsFitting prefix.now }
+        requires absent { contains_key self.old.entries (P.path prefix.now) ≡ false }
+        requires end { IsSearchEnd self.old.build (P.path prefix.now) end }
+        ensures entries { self.new.entries ≡ self.old.entries }
+        ensures nodes { self.new.nodes ≡ self.old.nodes }
+        ensures end { IsSearchEnd self.new.build (P.path prefix.now) end }
+        ensures space { LeavesSpace (len self.old.nodes) self.old.space self.new.space }
+        ensures readies { OnOk result (PreparesInStorage (state self.old) (P.path prefix.now) (storage self.old) (storage self.new)) }
+        ensures refuses { IfErr result (λ cause. (value : T) → StepByPath P.R.bit_width (stored_state self.old) (Insert (P.path prefix.now) value) (Refuses cause) (stored_state self.new)) }
+    {
+        let (key, len) = parts(prefix);
+        self.table.reserve(key, len, end)
+    }
+
+    // Inserts a new prefix, whose way ends here, and answers where its value stands.
+    #[inline]
+    pub(super) fn insert_located(&mut self, prefix: &P, end: SearchEnd, value: T) -> Result<Seat, Refused<T>>
+        requires fits { P.IsFitting prefix.now }
+        requires absent { contains_key self.old.entries (P.path prefix.now) ≡ false }
+        requires end { IsSearchEnd self.old.build (P.path prefix.now) end }
+        ensures seat { IfOk result (λ seat. seat_of self.new.build (P.path prefix.now) ≡ Some seat) }
+        ensures entries { OnOk result (self.new.entries ≡ with_entry self.old.entries (P.path prefix.now) value) }
+        ensures nodes { OnOk result (self.new.nodes ≡ with_needed self.old.nodes (P.path prefix.now)) }
+        ensures unchanged { IfErr result (λ refused. (refused.value ≡ value) × (self.new.entries ≡ self.old.entries) × (self.new.nodes ≡ self.old.nodes)) }
+        ensures step { OnOk result (StepByPath P.R.bit_width (stored_state self.old) (Insert (P.path prefix.now) value) (Value None) (stored_state self.new)) }
+        ensures refuses { IfErr result (λ refused. (other : T) → StepByPath P.R.bit_width (stored_state self.old) (Insert (P.path prefix.now) other) (Refuses refused.cause) (stored_state self.new)) }
+    {
+        let (key, len) = parts(prefix);
+        self.table.insert_located(key, len, end, value)
+    }
+
+    // The same where no block lacks, which is not refused.
+    #[inline]
+    pub(super) fn insert_ready(&mut self, prefix: &P, end: SearchEnd, value: T) -> Seat
+        requires fits { P.IsFitting prefix.now }
+        requires absent { contains_key self.old.entries (P.path prefix.now) ≡ false }
+        requires end { IsSearchEnd self.old.build (P.path prefix.now) end }
+        requires nodes { missing_node_slots self.old.nodes self.old.layout (P.path prefix.now) ≡ 0 }
+        requires cells { missing_cell_slots self.old.entries self.old.layout (P.path prefix.now) ≡ 0 }
+        ensures seat { seat_of self.new.build (P.path prefix.now) ≡ Some result }
+        ensures entries { self.new.entries ≡ with_entry self.old.entries (P.path prefix.now) value }
+        ensures nodes { self.new.nodes ≡ with_needed self.old.nodes (P.path prefix.now) }
+        ensures step { StepByPath P.R.bit_width (stored_state self.old) (Insert (P.path prefix.now) value) (Value None) (stored_state self.new) }
+    {
+        match self.insert_located(prefix, end, value) {
+            Ok(seat) => seat,
+            Err(_) => unreachable!(),
+        }
+    }
+
+    // Takes out the entry of a stored prefix, and keeps all nodes.
+    #[inline]
+    pub(super) fn take(&mut self, prefix: &P) -> T
+        requires fits { P.IsFitting prefix.now }
+        requires stored { contains_key self.old.entries (P.path prefix.now) ≡ true }
+        ensures value { get self.old.entries (P.path prefix.now) ≡ Some result }
+        ensures entries { self.new.entries ≡ without_entry self.old.entries (P.path prefix.now) }
+        ensures nodes { self.new.nodes ≡ self.old.nodes }
+        ensures step { StepByPath P.R.bit_width (stored_state self.old) (RemoveKeepTree (P.path prefix.now)) (Value (Some result)) (stored_state self.new) }
+    {
+        match self.remove_keep_tree(prefix) {
+            Some(value) => value,
+            None => unreachable!(),
+        }
+    }
+}

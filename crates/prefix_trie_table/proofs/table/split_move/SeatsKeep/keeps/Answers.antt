@@ -1,0 +1,5 @@
+use Rattle.prefix_trie_table.proofs.Prelude.{false≢true}
+use Rattle.prefix_trie_table.proofs.table.split_move.SeatsKeep.keeps.Goals as goal
+
+pub returns-clause-yes : goal.returns-clause-yes
+returns-clause-yes g c = λ yes. absurd (false≢true yes)

@@ -1,0 +1,9 @@
+use Rattle.prefix_trie_table.proofs.Prelude.{◌+◌, ◌-◌}
+use Rattle.prefix_trie_table.proofs.Walk.Starts.{IsLaid}
+use Rattle.prefix_trie_table.proofs.table.walk_start.start_at.Given as goal
+
+abbrev pub invariant-loop-depth : goal.invariant-loop-depth
+invariant-loop-depth g l = IsLaid g.K.Key.IsKey g.K.Key.bits g.K.Key.bit_width l.nodes l.key l.len l.from g.row.T.Denot l.depth l.node l.stack.items
+
+abbrev pub decreases-loop-depth : goal.decreases-loop-depth
+decreases-loop-depth g l = l.len + 5 - l.depth

@@ -1,0 +1,34 @@
+-- A second table before its values come: all its nodes and blocks are laid, and each cell is vacant. This project's own.
+use Rattle.std.specs.Prelude.{◌≡◌, ℕ, ◌≤◌, Bool, true, List, ◌∷◌, flat_map, Option, None, is_some, length}
+use Rattle.prefix_trie_table.specs.declared.allocator.node.Node.{Node}
+use Rattle.prefix_trie_table.specs.Cells.{node_at, node_sizes, cell_sizes}
+use Rattle.prefix_trie_table.specs.Forest.{NodesHold, value_blocks}
+use Rattle.prefix_trie_table.specs.Splitting.Laid.{IsPart, SomeValue, no_value}
+use Rattle.prefix_trie_table.specs.Splitting.Laying.{NoneFree}
+use Rattle.prefix_trie_table.specs.Store.{Store, Sound, tier_sizes}
+
+module _ {T : Type 0} where
+  -- two arrays have the nodes and the blocks, still vacant, that the values need whose strings q begins, of those that the nodes in v have
+  pub record IsSkeleton (q : List Bool) (v v2 : Store Node) (w2 : Store (Option T)) : Type 0 where
+    pub reading : List ℕ → Option Node
+    pub paths : List (List ℕ)
+    pub nodes : NodesHold node_sizes reading paths v2
+    -- the blocks of values in use are those of the holders, each without any value so far
+    pub cells : Sound None (flat_map (value_blocks cell_sizes reading no_value) paths) w2
+    pub cells_first : w2.first ≡ 0
+    pub cell_sizes_are : tier_sizes w2.tiers ≡ cell_sizes
+    -- a value is to stand where the first table has one whose string q begins, and each block is the smallest that holds its list
+    pub part : IsPart v.slots (node_at v.slots 0) q reading
+    -- each node but the root has such a value, or one below it
+    pub needed : (c : ℕ) (p : List ℕ) → is_some (reading (c ∷ p)) ≡ true → SomeValue reading (c ∷ p)
+    -- no block is free
+    pub no_node_free : NoneFree v2
+    pub no_cell_free : NoneFree w2
+
+  -- the same under the limit of v, which neither array passes
+  pub record IsSecond (q : List Bool) (v v2 : Store Node) (w2 : Store (Option T)) : Type 0 where
+    pub skeleton : IsSkeleton q v v2 w2
+    pub node_limit : v2.limit ≡ v.limit
+    pub cell_limit : w2.limit ≡ v.limit
+    pub nodes_within : length v2.slots ≤ v.limit
+    pub cells_within : length w2.slots ≤ v.limit

@@ -1,0 +1,126 @@
+//! Calls that go down once: one says where a value stands or would stand, and the others take that.
+ghost use Rattle.std.specs.Prelude.{◌≡◌, ◌+◌, ◌≤◌, ℕ, take, false, IfOk, IfErr, MatchResult, Some};
+ghost use Rattle.std.specs.Borrow.{sem};
+ghost use Rattle.std.specs.FinMap.{get, contains_key, len as number_of};
+ghost use Rattle.prefix_trie_bits.specs.Model.Space.{MayPassLimit, LeavesSpace};
+ghost use Rattle.prefix_trie_bits.specs.Model.Step.{Insert};
+ghost use Rattle.prefix_trie_bits.specs.Model.Storage.{PreparesInStorage, RefusesInStorage, StepByPath};
+ghost use Rattle.prefix_trie_bits.specs.Model.Visits.{visits};
+ghost use Rattle.prefix_trie_bits.specs.declared.prefix.Refusal.TheVariants.{IndexRange};
+ghost use Rattle.prefix_trie_table.specs.Locations.{seat_of, IsSearchEnd, IsLocation};
+ghost use Rattle.prefix_trie_table.specs.Shape.{state, storage};
+ghost use Rattle.prefix_trie_table.specs.Steps.{stored_state, insert_new_reply};
+
+use crate::allocator::nodes::Tick;
+use crate::table::Table;
+use crate::table::insertion::{insert_entry, prepare};
+use crate::table::lending::lend;
+use crate::table::lookup::locate_in;
+use crate::table::seat::{Location, Seat, SearchEnd};
+use prefix_trie_bits::prefix::{Key, Refusal, Refused};
+use std::alloc::Allocator;
+
+impl<T: Drop, A: Allocator, V: Tick> Table<T, A, V> {
+    ghost use Rattle.prefix_trie_table.specs.Lending.Tables.{lends_entry};
+
+    /// Where the value at a bit string stands, or where its way ends. Each node on the way is read once.
+    ///
+    /// ```text
+    /// match table.locate(key, len, &mut counter) {
+    ///     Location::Stored(seat) => *table.at_mut(key, len, seat) = 7,
+    ///     Location::Missing(end) => {
+    ///         table.place(key, len, end, 7)?;     // does not go down again
+    ///     }
+    /// }
+    /// ```
+    #[inline]
+    pub fn locate<K: Key>(&self, key: K, len: u32, counter: &mut V) -> Location
+        requires key { K.IsKey key }
+        requires within { len ≤ K.bit_width }
+        ensures located { IsLocation self.now (take len (K.bits key)) result }
+        ensures visits { V.count counter.new
+            ≡ V.count counter.old + visits self.now.nodes (take len (K.bits key)) }
+    {
+        locate_in(&self.nodes, key, len, counter)
+    }
+
+    /// The value at a bit string, which stands at this seat.
+    #[inline]
+    pub fn at<K: Key>(&self, key: K, len: u32, seat: Seat) -> &T
+        requires { seat_of self.now.build (take len (K.bits key)) ≡ Some seat }
+        ensures { get self.now.entries (take len (K.bits key)) ≡ Some result.now }
+    {
+        match self.cells.at(seat.start, seat.offset) {
+            Some(value) => value,
+            None => unreachable!(),
+        }
+    }
+
+    /// The same value, for writing. What is written through it becomes the value there, and nothing else changes: the seat is
+    /// right still.
+    #[inline]
+    pub fn at_mut<K: Key>(&mut self, key: K, len: u32, seat: Seat) -> &mut T
+        requires { seat_of self.old.build (take len (K.bits key)) ≡ Some seat }
+        ensures* writes_back { sem 𝓛 (lends_entry T.row A.row V.row A.Allocator V.Tick self.entry (take len (K.bits key)) result) }
+        ensures value { get self.old.entries (take len (K.bits key)) ≡ Some result.now }
+    {
+        lend(&mut self.cells, seat)
+    }
+
+    /// Obtains all blocks that the insertion of a missing bit string needs, whose way ends here: `place` is then not refused.
+    /// In each case entries and nodes stay as they are, and so does the end of the way. No node is read.
+    ///
+    /// Errors: as of `insert`, only where a block lacks: `Memory` where a request for memory is refused, and `IndexRange` where the
+    /// slots of the blocks that lack pass the limit.
+    #[inline]
+    pub fn reserve<K: Key>(&mut self, key: K, len: u32, end: SearchEnd) -> Result<(), Refusal>
+        requires key { K.IsKey key }
+        requires within { len ≤ K.bit_width }
+        requires absent { contains_key self.old.entries (take len (K.bits key)) ≡ false }
+        requires end { IsSearchEnd self.old.build (take len (K.bits key)) end }
+        ensures unchanged { (self.new.entries ≡ self.old.entries) × (self.new.nodes ≡ self.old.nodes) }
+        ensures end { IsSearchEnd self.new.build (take len (K.bits key)) end }
+        ensures readies { MatchResult result
+            (λ _. PreparesInStorage (state self.old) (take len (K.bits key)) (storage self.old) (storage self.new))
+            (λ cause. RefusesInStorage (state self.old) (take len (K.bits key)) cause
+            (storage self.old) (storage self.new)) }
+        ensures range { IfErr result (λ cause. cause ≡ IndexRange → MayPassLimit self.old.space) }
+        ensures space { LeavesSpace (number_of self.old.nodes) self.old.space self.new.space }
+    {
+        prepare(&mut self.nodes, &mut self.cells, &end.reached, len)
+    }
+
+    /// Sets the value at a missing bit string, whose way ends here, adds the nodes that are missing on it, and answers where
+    /// the value stands. No node is read.
+    ///
+    /// Errors: as of `insert`, and then it hands the value back. Never right behind a `reserve` of the same string that was not refused.
+    // It stands apart, so that what callers do with a stored key stays small.
+    #[inline(never)]
+    pub fn insert_located<K: Key>(
+        &mut self,
+        key: K,
+        len: u32,
+        end: SearchEnd,
+        value: T,
+    ) -> Result<Seat, Refused<T>>
+        requires key { K.IsKey key }
+        requires within { len ≤ K.bit_width }
+        requires absent { contains_key self.old.entries (take len (K.bits key)) ≡ false }
+        requires end { IsSearchEnd self.old.build (take len (K.bits key)) end }
+        ensures seat { IfOk result
+            (λ seat. seat_of self.new.build (take len (K.bits key)) ≡ Some seat) }
+        ensures returned { IfErr result (λ refused. refused.value ≡ value) }
+        ensures step { (width : ℕ) → StepByPath width (stored_state self.old) (Insert (take len (K.bits key)) value) (insert_new_reply result)
+            (stored_state self.new) }
+    {
+        insert_entry(
+            &mut self.nodes,
+            &mut self.cells,
+            &mut self.count,
+            end,
+            key,
+            len,
+            value,
+        )
+    }
+}

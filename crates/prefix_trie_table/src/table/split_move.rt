@@ -1,0 +1,96 @@
+//! Moving the entries that a bit string begins out of a table into one of their own.
+ghost use Rattle.std.specs.Prelude.{◌≡◌, ◌≤◌, false, take};
+ghost use Rattle.std.specs.FinMap.{len as size};
+ghost use Rattle.prefix_trie_bits.specs.Model.Entries.{part_below, without_below};
+ghost use Rattle.prefix_trie_bits.specs.Model.Nodes.{nodes_without_below};
+ghost use Rattle.prefix_trie_bits.specs.Model.Step.{State};
+ghost use Rattle.prefix_trie_table.specs.Splitting.Moving.{AwaitsNext, HasCome, split_off};
+ghost use Rattle.prefix_trie_table.specs.Retaining.{PreservesBelow};
+ghost use Rattle.prefix_trie_table.specs.Splitting.Skeleton.{IsSecond};
+ghost use Rattle.prefix_trie_table.specs.Tables.{IsTrie};
+
+use crate::allocator::blocks::Cells;
+use crate::allocator::nodes::{NodeAllocator, Tick};
+use crate::table::children::remove_part;
+use crate::table::walk_start::{Start, start_at};
+use crate::table::retain::Keep;
+use crate::table::spot::Spot;
+use crate::table::walk::advance;
+use arrayvec::ArrayVec;
+use prefix_trie_bits::prefix::Key;
+use std::alloc::Allocator;
+
+/// A table whose nodes and blocks are laid, and whose values are handed to it one after another, in listing order: the spots stand
+/// before the seat of the next. As a test it says no at each entry, so that all that it is asked at comes to it.
+#[derive(Drop)]
+struct Seats<K: Key, T: Drop, A: Allocator, V: Tick> {
+    nodes: NodeAllocator<A, V>,
+    cells: Cells<T, A>,
+    // The path of each spot begins it.
+    key: K,
+    stack: ArrayVec<Spot, 26>,
+}
+
+impl<K: Key, T: Drop, A: Allocator, V: Tick> Keep<K, T, V> for Seats<K, T, A, V> {
+    ghost accepts = { λ f q x. AwaitsNext K.IsKey K.bits K.bit_width f.nodes f.cells f.key f.stack.items q x };
+
+    ghost asks = { λ f q x answer g. (answer ≡ false) × HasCome K.IsKey K.bits K.bit_width f.nodes g.nodes f.cells g.cells
+        f.key f.stack.items g.key g.stack.items q x };
+
+    ghost refuses = { λ f q x g. (g ≡ f) × AwaitsNext K.IsKey K.bits K.bit_width f.nodes f.cells f.key f.stack.items q x };
+
+    fn keeps(&mut self, _key: K, _len: u32, _value: &T) -> bool {
+        false
+    }
+
+    fn taken(&mut self, _key: K, _len: u32, value: T, counter: &mut V) {
+        let Some((_, _, seat)) = advance::<K, A, V, T>(
+            &self.nodes,
+            &mut self.stack,
+            &mut self.key,
+            counter,
+        ) else {
+            unreachable!();
+        };
+        self.cells.put(seat.start, seat.offset, Some(value));
+    }
+}
+
+/// Takes all entries out that a bit string begins, as `remove_part`, and puts their values into a second table that is laid for them.
+/// It asks for no memory but what the first table's blocks may take there. Answers the arrays of the second.
+pub(super) fn move_part<K: Key, T: Drop, A: Allocator, V: Tick>(
+    nodes: &mut NodeAllocator<A, V>,
+    cells: &mut Cells<T, A>,
+    entries: &mut usize,
+    laid: NodeAllocator<A, V>,
+    vacant: Cells<T, A>,
+    key: K,
+    len: u32,
+    counter: &mut V,
+) -> (NodeAllocator<A, V>, Cells<T, A>)
+    requires key { K.IsKey key }
+    requires within { len ≤ K.bit_width }
+    requires trie { (s : State T) × IsTrie K.bit_width entries.old nodes.old cells.old s }
+    requires second { IsSecond (take len (K.bits key)) nodes.old laid vacant }
+    ensures removed { (s : State T) → IsTrie K.bit_width entries.old nodes.old cells.old s
+        → IsTrie K.bit_width entries.new nodes.new cells.new (record {
+          entries = without_below s.entries (take len (K.bits key));
+          nodes = nodes_without_below s.nodes s.entries (take len (K.bits key));
+        }) }
+    ensures preserves { PreservesBelow 0 nodes.old nodes.new cells.old cells.new }
+    ensures moved { (s : State T) → IsTrie K.bit_width entries.old nodes.old cells.old s
+        → IsTrie K.bit_width (size (part_below s.entries (take len (K.bits key)))) result.0 result.1
+        (split_off s (take len (K.bits key))) }
+    ensures nodes { result.0 ≡ laid }
+    ensures cells { result.1 ≡ record vacant { slots = result.1.slots } }
+{
+    let stack = start_at::<K, T, A, V>(&laid, key, len, Start::Below, counter);
+    let mut seats = Seats {
+        nodes: laid,
+        cells: vacant,
+        key,
+        stack,
+    };
+    remove_part(nodes, cells, entries, &mut seats, key, len, counter);
+    (seats.nodes, seats.cells)
+}

@@ -1,0 +1,138 @@
+//! Laying a part of a table anew, with all its blocks at their final sizes and without its values.
+ghost use Rattle.std.specs.Prelude.{◌≡◌, ℕ, ◌≤◌, None, drop, take, IfOk, IfErr, IfSome};
+ghost use Rattle.prefix_trie_bits.specs.declared.prefix.Refusal.TheVariants.{Memory};
+ghost use Rattle.prefix_trie_bits.specs.Model.Step.{State};
+ghost use Rattle.prefix_trie_bits.specs.Bits.{begins};
+ghost use Rattle.prefix_trie_bits.specs.Places.{HoldsValues, HoldsChildren};
+ghost use Rattle.prefix_trie_table.specs.Cells.{blank_node, node_sizes, cell_sizes};
+ghost use Rattle.prefix_trie_table.specs.Splitting.Laid.{IsSource, LaysNode, child_slots, value_slots, slots_below};
+ghost use Rattle.prefix_trie_table.specs.Splitting.Laying.{CanLay};
+ghost use Rattle.prefix_trie_table.specs.Splitting.Skeleton.{IsSecond};
+ghost use Rattle.prefix_trie_table.specs.NodeArrays.{FitsByte};
+ghost use Rattle.prefix_trie_table.specs.Tables.{IsTrie};
+
+use crate::allocator::blocks::{self, Cells};
+use crate::allocator::node::{Node, NodeSlot};
+use crate::allocator::nodes::{NodeAllocator, Tick};
+use crate::table::removal::is_bare;
+use arrayvec::ArrayVec;
+use prefix_trie_bits::node::{
+    child_bit_of, child_cover_mask, count, has_bit, value_cover_mask, with_bit,
+};
+use prefix_trie_bits::prefix::{Key, Refusal};
+use std::alloc::Allocator;
+
+/// The value bits of a node at which strings stand that a bit string begins, the child bits below which such strings stand, and how many
+/// bits lead to a child then, at most all. `depth` bits lead to the node.
+fn masks<K: Key>(key: K, depth: u32, len: u32) -> (u32, u32, u32)
+    requires key { K.IsKey key }
+    requires whole { depth ≤ len }
+    requires within { len ≤ K.bit_width }
+    ensures values { HoldsValues result.0 (begins (drop depth (take len (K.bits key)))) }
+    ensures children { HoldsChildren result.1 (begins (take 5 (drop depth (take len (K.bits key))))) }
+    ensures deeper { drop result.2 (take len (K.bits key)) ≡ drop 5 (drop depth (take len (K.bits key))) }
+    ensures most { result.2 ≤ len }
+{
+    if len < depth + 5 {
+        let values = value_cover_mask(key, depth, len);
+        let children = child_cover_mask(key, depth, len);
+        return (values, children, len);
+    }
+    (0, with_bit(0, child_bit_of(key, depth)), depth + 5)
+}
+
+/// Lays a node with those of its values that a bit string begins, and below it its children with theirs, where there are any. No value is
+/// moved: all cells are vacant. What it answers has its blocks, and its own slot is still to be found. `depth` bits lead to the node, at
+/// most all, and `levels` of nodes stand below it at most.
+fn lay_node<K: Key, T: Drop, A: Allocator, V: Tick>(
+    from: &NodeAllocator<A, V>,
+    node: Node,
+    key: K,
+    len: u32,
+    depth: u32,
+    levels: u32,
+    nodes: &mut NodeAllocator<A, V>,
+    cells: &mut Cells<T, A>,
+    counter: &mut V,
+) -> Result<Option<Node>, Refusal>
+    requires key { K.IsKey key }
+    requires within { len ≤ K.bit_width }
+    requires whole { depth ≤ len }
+    requires source { IsSource from.now node levels }
+    requires nodes { CanLay blank_node node_sizes (slots_below child_slots from.now.slots levels node) nodes.old }
+    requires cells { CanLay None cell_sizes (slots_below value_slots from.now.slots levels node) cells.old }
+    ensures laid { IfOk result (λ top. LaysNode from.now.slots levels node (drop depth (take len (K.bits key)))
+        nodes.old nodes.new cells.old cells.new top) }
+    ensures fits { IfOk result (λ top. IfSome top FitsByte) }
+    ensures memory { IfErr result (λ cause. cause ≡ Memory) }
+{
+    let (values, children, deeper) = masks(key, depth, len);
+    let own = cells.lay_vacant(count(node.value_bitmap & values))?;
+    let mut laid = Node {
+        value_bitmap: node.value_bitmap & values,
+        child_bitmap: 0,
+        value_block: own.start,
+        child_block: 0,
+        value_tier: own.tier as u8,
+        child_tier: 0,
+    };
+    let mut below: ArrayVec<Node, 32> = ArrayVec::new();
+    for child in 0..32 {
+        if !has_bit(node.child_bitmap & children, child) {
+            continue;
+        }
+        let lower = from.visit(node.child_slot(child), counter);
+        let fewer = levels - 1;
+        let branch = lay_node(from, lower, key, len, deeper, fewer, nodes, cells, counter)?;
+        let Some(branch) = branch else {
+            continue;
+        };
+        below.push(branch);
+        laid.child_bitmap = with_bit(laid.child_bitmap, child);
+    }
+    if is_bare(laid) {
+        return Ok(None);
+    }
+    let list = nodes.lay(&below)?;
+    laid.child_block = list.start;
+    laid.child_tier = list.tier as u8;
+    Ok(Some(laid))
+}
+
+/// Lays the nodes and the blocks that the entries need which a bit string begins, in arrays of their own under the same limit.
+/// No value is moved: all cells are vacant. Both arrays are only read. Refused only for memory, since these blocks are no larger than
+/// those that the same nodes have here.
+pub(super) fn lay_part<K: Key, T: Drop, A: Allocator + Clone, V: Tick>(
+    nodes: &NodeAllocator<A, V>,
+    cells: &Cells<T, A>,
+    key: K,
+    len: u32,
+    counter: &mut V,
+) -> Result<(NodeAllocator<A, V>, Cells<T, A>), Refusal>
+    requires key { K.IsKey key }
+    requires within { len ≤ K.bit_width }
+    requires trie { (s : State T) × (count : ℕ) × IsTrie K.bit_width count nodes.now cells.now s }
+    ensures laid { IfOk result (λ r. IsSecond (take len (K.bits key)) nodes.now r.0 r.1) }
+    ensures range { IfErr result (λ cause. cause ≡ Memory) }
+{
+    let mut second_nodes = nodes.another()?;
+    let Ok(mut second_cells) = blocks::cells(cells.allocator(), cells.limit()) else {
+        return Err(Refusal::Memory);
+    };
+    let root = nodes.visit(NodeSlot::ROOT, counter);
+    let top = lay_node(
+        nodes,
+        root,
+        key,
+        len,
+        0,
+        K::width() / 5,
+        &mut second_nodes,
+        &mut second_cells,
+        counter,
+    )?;
+    if let Some(top) = top {
+        second_nodes.put(NodeSlot::ROOT, top);
+    }
+    Ok((second_nodes, second_cells))
+}
