@@ -18,12 +18,12 @@ ghost use Rattle.prefix_trie_map.specs.Whole.{IsWhole};
 ghost use Rattle.prefix_trie.specs.Sets.{put_in};
 
 mod collecting;
-mod splitting;
+mod equality;
 mod iter;
 mod lookup;
 mod memory;
 mod removal;
-mod equality;
+mod splitting;
 
 pub use iter::{IntoIter, Iter};
 use prefix_trie_bits::prefix::{Prefix, Refusal};

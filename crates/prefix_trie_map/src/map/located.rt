@@ -15,8 +15,8 @@ ghost use Rattle.prefix_trie_map.specs.Whole.{IsWhole};
 use crate::map::parts::parts;
 use crate::map::{PrefixMap, Visits};
 use prefix_trie_bits::prefix::{Prefix, Refusal, Refused};
-use prefix_trie_table::table::seat::{Location, Seat, SearchEnd};
 use prefix_trie_table::table::cursor::Cursor;
+use prefix_trie_table::table::seat::{Location, SearchEnd, Seat};
 use std::alloc::Allocator;
 
 impl<P: Prefix, T: Drop, A: Allocator> PrefixMap<P, T, A> {
@@ -54,8 +54,7 @@ impl<P: Prefix, T: Drop, A: Allocator> PrefixMap<P, T, A> {
         ensures value { get self.old.entries (take len (P.R.bits key)) ≡ Some result.now }
         ensures whole { IsWhole P.R.bit_width self.old }
     {
-        // The proof learns from it that the map is whole.
-        let _ = self.len();
+        self.known_valid();
         self.table.at_mut(key, len, seat)
     }
 
@@ -92,7 +91,12 @@ impl<P: Prefix, T: Drop, A: Allocator> PrefixMap<P, T, A> {
 
     // Inserts a new prefix, whose way ends here, and answers where its value stands.
     #[inline]
-    pub(super) fn insert_located(&mut self, prefix: &P, end: SearchEnd, value: T) -> Result<Seat, Refused<T>>
+    pub(super) fn insert_located(
+        &mut self,
+        prefix: &P,
+        end: SearchEnd,
+        value: T,
+    ) -> Result<Seat, Refused<T>>
         requires fits { P.IsFitting prefix.now }
         requires absent { contains_key self.old.entries (P.path prefix.now) ≡ false }
         requires end { IsSearchEnd self.old.build (P.path prefix.now) end }

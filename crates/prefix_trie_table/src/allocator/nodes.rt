@@ -178,7 +178,8 @@ impl<A: Allocator, V: Drop> NodeAllocator<A, V> {
     {
         // Read for the proof alone.
         self.blocks.sizes_fit();
-        self.blocks.insert_at(k, start, count, offset, Node::blank())
+        self.blocks
+            .insert_at(k, start, count, offset, Node::blank())
     }
 
     /// As `Blocks::remove_at`: takes a node out of a list of `count` nodes, lets it go unread, and says where the rest

@@ -36,7 +36,13 @@ impl<S: Slot, R: SlotArray<S>, A: Allocator> Blocks<S, R, A> {
     }
 
     /// Takes a value out of the list of a block, and says where the rest stands, if any is left.
-    fn remove_from(&mut self, k: usize, start: u32, count: u32, offset: u32) -> (S, Option<BlockRef>)
+    fn remove_from(
+        &mut self,
+        k: usize,
+        start: u32,
+        count: u32,
+        offset: u32,
+    ) -> (S, Option<BlockRef>)
         requires in_use { InUse S.vacant self.old k start count }
         requires sizes { HasSizes self.old.tiers }
         requires offset { offset < count }
