@@ -1,4 +1,5 @@
--- A test that may always be called may be asked at each entry, or at each key, in turn.
+-- A test that may always be called may be called on each entry, or on each key, in order: for
+-- `retain`.
 use Rattle.prefix_trie.proofs.Prelude.{Bool, List, [], ◌∷◌, refl}
 use Rattle.std.specs.Borrow.{Bor}
 use Rattle.std.specs.Fn.{Mut, always_mut}

@@ -1,7 +1,7 @@
--- The steps by paths that the calls of a map say are steps by prefixes.
+-- A step by paths, which the calls of a map promise, is a step by prefixes.
 use Rattle.prefix_trie.proofs.Prelude.{◌≡◌, ℕ, Bool, List, Option, Result, Ok, Err, inl, inr, ap, subst, Refused, State, Reply, Step, Insert, Remove, RemoveKeepTree, RemoveChildren, Clear, Value, Done, Storage, StepInStorage, StepByPath, insert_reply}
 
--- a reply that shows no key, as one that shows others
+-- a reply without keys, with another type of keys
 abbrev carried : {P Q T : Type 0} → Reply P T → Reply Q T
 carried (Value o) = Value o
 carried (Reply.Refused cause) = Reply.Refused cause
@@ -26,7 +26,7 @@ module _ {P T : Type 0} (path : P → List Bool) (back : List Bool → P) (width
     storage = (h.storage.0, λ old new e. h.storage.1 old new (ap carried e), λ cause e. h.storage.2 cause (ap carried e));
   }
 
-  -- the same of another prefix with the path, once the answer is known
+  -- the same for another prefix with the same path, once the result is known
   pub insert_step_as : (q p : P) (v : T) (r answer : Result (Option T) (Refused T)) → path p ≡ path q → r ≡ answer
       → StepByPath width s (Insert (path p) v) (insert_reply r) t → StepInStorage path back width s (Insert q v) (insert_reply answer) t
   insert_step_as q p v r answer same is step =

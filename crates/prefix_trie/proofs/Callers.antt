@@ -1,4 +1,7 @@
--- What a caller's proof cites where a law cannot say it: of the test that `retain` asks, of the closure of `and_modify(..).or_insert(..)`, of a loop over a walk that writes, of `==` of numbers and of networks, of a list that is read in pages, of prefixes that a walk has still to give, of maps that stay tidy, and of steps by paths.
+-- Lemmas that a caller's proof cites where no law can be called: on the test of `retain`, the
+-- closure of `and_modify(..).or_insert(..)`, loops over a writing walk, `==` of numbers and
+-- networks, reading in pages, the prefixes to come of a walk, maps that stay tidy, and steps by
+-- paths.
 pub use Rattle.prefix_trie_bits.proofs.Model.RetainCalls.{may_ask_always, keeps_filter}
 pub use Rattle.prefix_trie.proofs.Modifying.{modified_or_put}
 pub use Rattle.prefix_trie.proofs.Rewriting.{HasRewrittenIn, left_in, starts_ordered, goes_on_rewriting, ends_rewriting, rewritten}

@@ -4,7 +4,7 @@ use Rattle.prefix_trie_bits.specs.Model.Step.{Items, Lists, Refused}
 use Rattle.prefix_trie_bits.specs.Model.Storage.{LeavesStorage}
 use Rattle.prefix_trie.proofs.Prelude.{◌≡◌, ℕ, Bool, true, false, List, Option, None, inl, inr, refl, sym, ap, ◌∙◌, subst, arith, true≢false, Result, Ok, Err, IfOk, MatchResult, IndexRange, Memory, State, Call, Reply, Step, Storage, StepInStorage, Contents, state, stored_state, storage, IsWhole}
 
--- the refusal for want of slots
+-- the refusal with `IndexRange`
 abbrev pub is_range : {P T : Type 0} → Reply P T → Bool
 is_range (Refused IndexRange) = true
 is_range r = false
@@ -28,7 +28,7 @@ module _ {P T : Type 0} (path : P → List Bool) (back : List Bool → P) (width
       reads = counts;
     })
 
-    -- one that lists entries, where there is memory for them
+    -- a step of a call that lists entries, if they can be allocated
     pub listed : {V E : Type 0} (items : V → List (P × T)) (made : Result V E) (all : List (P × T)) → MatchResult made (λ v. reply ≡ Items (items v)) (λ _. reply ≡ Refused Memory)
         → IfOk made (λ v. items v ≡ all) → (Lists (state m) all reply (state m) → Step path back width (state m) then reply (state m)) → CountedStep path back width (stored_state m) call (reply, read) (stored_state m)
     listed items (Ok v) all replied are step = answered (Items (items v)) replied refl (step (inl (replied ∙ ap Items are), refl))

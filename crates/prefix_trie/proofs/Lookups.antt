@@ -12,7 +12,7 @@ module _ {T : Type 0} where
     | Some e ↦ λ is. (e, refl, (((match_laws T).longest_is m q e).0 is).longest t (ap is_some stored) b)
   ] refl
 
-  -- where there is none, no stored string begins the question
+  -- if there is no match, q begins with no stored string
   uncovered : (m : Entries T) (q : List Bool) → longest_match m q ≡ None → IsUncovered m q
   uncovered m q none s stored = elim (begins s q) as (λ b. begins s q ≡ b → b ≡ false) [
     | true ↦ λ b.
@@ -39,14 +39,14 @@ module _ {T : Type 0} where
   value_in_words m q None is = uncovered m q is
   value_in_words m q (Some e) is = (e.0, ((match_laws T).longest_is m q e).0 is)
 
-  -- where no stored string begins the question, there is none
+  -- if q begins with no stored string, there is no match
   no_longest : (m : Entries T) (q : List Bool) → ((t : List Bool) (w : T) → get m t ≡ Some w → begins t q ≡ true → ⊥) → longest_match m q ≡ None
   no_longest m q none = elim (longest_match m q) as (λ o. longest_match m q ≡ o → o ≡ None) [
     | None ↦ λ _. refl
     | Some e ↦ λ is. let f = ((match_laws T).longest_is m q e).0 is in absurd (none e.0 e.1 f.matches.stored f.matches.begins_it)
   ] refl
 
-  -- where the same stored strings begin two questions, each of its map, the longest is the same
+  -- if q and r begin with the same stored strings, each of its map, the longest match is the same
   same_longest : (m n : Entries T) (q r : List Bool) →
       ((t : List Bool) (w : T) → get m t ≡ Some w → begins t q ≡ true → (get n t ≡ Some w) × (begins t r ≡ true)) →
       ((t : List Bool) (w : T) → get n t ≡ Some w → begins t r ≡ true → (get m t ≡ Some w) × (begins t q ≡ true)) →

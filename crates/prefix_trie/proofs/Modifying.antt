@@ -27,7 +27,8 @@ module _ {P T A R : Type 0} {p : prefix.Ghosts P R} {shows : debug.Ghosts P} {k 
         ∙ ap (with_entry m q) (sym left.after ∙ does left.lent left.left left.called ∙ ap f left.before)
         ∙ ap (λ o. with_entry m q (unwrap_or (option_map f o) v)) (sym stored)
 
-    -- what `and_modify(..).or_insert(v)` leaves of a map, whatever was stored: e is the entry, d what `and_modify` answers
+    -- what `and_modify(..).or_insert(v)` leaves of a map, whatever was stored: e is the entry, d
+    -- the result of `and_modify`
     pub modified_or_put : (e d : Entry P T A R p shows k same writes) (old : Contents T) (q : List Bool) (v w : T) (new : Entries T) → entry_map e ≡ old → entry_path e ≡ q →
         ModifiesEntry h test e (entry_map d) → entry_key d ≡ entry_key e → w ≡ unwrap_or (entry_value d) v → new ≡ with_entry (entry_map d).entries (entry_path d) w →
         new ≡ with_entry old.entries q (unwrap_or (option_map f (get old.entries q)) v)

@@ -1,4 +1,4 @@
--- A list that is read in pages, and what is behind the last item that was read of a listing.
+-- Reading a list in pages, and what comes after the last item read of a listing.
 use Rattle.prefix_trie.proofs.Prelude.{◌≡◌, ℕ, ◌+◌, ◌-◌, ◌<◌, ◌≤◌, Bool, List, [], ◌∷◌, ◌++◌, Some, length, take, drop, min, get_or, sym, ap, ◌∙◌, arith, suc, append_assoc, append-nil, length-append, len, len-entries, slice_get_within, slice_get-get_or, length-map, length-take, nil_from_length, take_all, take-append-drop, All-head, All-same, drop-cons, take-append_seam, drop_of_length-le, PrefixLaws, Entries, listing, prefix_pairs, All-append_right, listed_fit, resume_laws, PageLaws}
 use Rattle.std.specs.List.{slice_get}
 use Rattle.std.specs.Option.{unwrap_or}
@@ -19,7 +19,7 @@ module _ {X : Type 0} (xs : List X) (x : X) (found : slice_get xs (length xs - 1
   begins_so : (whole rest : List X) → whole ≡ xs ++ rest → whole ≡ take (length xs - 1) xs ++ x ∷ rest
   begins_so whole rest is = is ∙ ap (λ ys. ys ++ rest) ends_so ∙ append_assoc (take (length xs - 1) xs) (x ∷ []) rest
 
--- a list of which the first items are read, in pages
+-- a list whose first items are read, in pages
 module _ {X : Type 0} (whole read rest : List X) (begins : whole ≡ read ++ rest) where
   -- one item more
   pub read_more : (item : X) (left now : List X) → rest ≡ item ∷ left → now ≡ read ++ item ∷ [] → whole ≡ now ++ left
@@ -39,7 +39,7 @@ module _ {X : Type 0} (whole now : List X) (n : ℕ) (page : now ≡ take n whol
   pub page_begins : whole ≡ now ++ drop n whole
   page_begins = sym (take-append-drop n whole) ∙ ap (λ xs. xs ++ drop n whole) (sym page)
 
--- a map of which the first items are read, in pages
+-- a map whose first items are read, in pages
 module _ {P T : Type 0} (back : List Bool → P) (m : Entries T) where
   as_many : length (prefix_pairs back (listing m)) ≡ len m
   as_many = length-map (listing m) (λ (e : List Bool × T). (back e.0, e.1)) ∙ sym (len-entries m)
@@ -51,7 +51,7 @@ module _ {P T : Type 0} (back : List Bool → P) (m : Entries T) where
       let many : length now ≡ min (length read + size) (length (prefix_pairs back (listing m))) = ap length page ∙ length-take (length read + size) (prefix_pairs back (listing m)) in
       omega (arith, some, short, many, as_many)
 
-  -- where as many were read as there are entries, all were
+  -- if as many items were read as there are entries, all were read
   pub all_read : (read rest : List (P × T)) → prefix_pairs back (listing m) ≡ read ++ rest → len m ≤ length read → read ≡ prefix_pairs back (listing m)
   all_read read rest begins far =
       let none : rest ≡ [] = nil_from_length rest (omega (arith, far, as_many, ap length begins, length-append read rest)) in

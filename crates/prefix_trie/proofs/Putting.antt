@@ -4,7 +4,7 @@ use lib.Dec.{T as IsT}
 use Rattle.std.specs.List.{All}
 use Rattle.prefix_trie.proofs.Stored.{stored_laws}
 
--- of prefixes that fit the next one does, and so do those behind it
+-- if all prefixes of a list fit, so do the first one and the others
 pub fit_in_turn : {P T : Type 0} (IsFitting : P → Type 0) {item : P × T} {rest left : List (P × T)} → left ≡ item ∷ rest → All (λ e. IsFitting e.0) left → IsFitting item.0 × All (λ e. IsFitting e.0) rest
 fit_in_turn IsFitting {item = item} {rest = rest} {left = left} first fit =
     let both = All-same (λ e. IsFitting e.0) (item ∷ rest) left (sym first) fit in
@@ -21,14 +21,14 @@ module _ {P T : Type 0} (path : P → List Bool) (IsFitting : P → Type 0) wher
       ((fit_in_turn IsFitting first leads.0).1, ap (put_all path rest) put ∙ ap (λ xs. put_all path xs now) (sym first) ∙ leads.1)
 
 module _ {P T : Type 0} (path : P → List Bool) (back : List Bool → P) where
-  -- a string is not found behind its place in a sorted list
+  -- a string is not found after its position in a sorted list
   pub not_behind : (x : List Bool × T) (es : List (List Bool × T)) (s : List Bool) → IsT (is_sorted listing_cmp (x ∷ es)) → same_string s x.0 ≡ true → find listing_cmp s es ≡ None
   not_behind x es s sorted same = elim (find listing_cmp s es) as (λ o. find listing_cmp s es ≡ o → o ≡ None) [
     | None ↦ λ _. refl
     | Some v ↦ λ found. absurd (not_itself x.0 s (each-behind x.0 es s v (sorted-head x es sorted) found) (sym (same_string-is s x.0 same)))
   ] refl
 
-  -- pairs put in turn: of each key the value that stands among them, or else the one that was there
+  -- pairs inserted in order: each key has its value among them, or else the one it had
   pairs_put : (es : List (List Bool × T)) (to : Entries T) → IsT (is_sorted listing_cmp es) → All (λ e. path (back e.0) ≡ e.0) es → (s : List Bool) →
       get (put_all path (prefix_pairs back es) to) s ≡ option_or (find listing_cmp s es) (get to s)
   pairs_put [] to sorted paths s = refl

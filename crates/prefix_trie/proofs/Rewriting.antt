@@ -121,7 +121,7 @@ module _ {P T A R : Type 0} {p : prefix.Ghosts P R} {shows : debug.Ghosts P} {k 
     ended = none_left d e ends;
   }
 
-  -- the same of a walk that may have no map
+  -- the same for a walk that may have no map
   abbrev pub HasRewrittenIn : Option (MapCursor P T A R p shows k same writes) → Option (MapCursor P T A R p shows k same writes) → Type 0
   HasRewrittenIn None None = Unit {0}
   HasRewrittenIn None (Some d) = ⊥
@@ -147,7 +147,7 @@ module _ {P T A R : Type 0} {p : prefix.Ghosts P R} {shows : debug.Ghosts P} {k 
   ends_rewriting (Some c) (Some d) None so_far ends = absurd ends
   ends_rewriting (Some c) (Some d) (Some e) so_far ends = rewrites_all c d e so_far ends
 
-  -- the map that it hands back, once all was to come is changed
+  -- the map that the walk returns at its end, after each value to come was changed
   pub rewritten : (m : MutBor (Contents T)) (o d : Option (MapCursor P T A R p shows k same writes)) (n : MutBor (Contents T)) →
       StartsIn m (listing m.now.entries) o → RewritesIn f o d → ReturnsMap d (Some n) → RewritesMap f m n
   rewritten m None d n starts done back = absurd starts

@@ -32,7 +32,7 @@ module _ {T : Type 0} (m : Entries T) (s : List Bool) where
     | inr other ↦ inr (sym ((stored_laws T).beside_set m s v t other) ∙ stored)
   ]
 
-  -- what is stored once s was taken out is another string, and was stored before
+  -- what is stored after s is removed is another string, and was stored before
   pub taken_stored : (w : T) (t : List Bool) → get (without_entry m s) t ≡ Some w → (t ≢ s) × (get m t ≡ Some w)
   taken_stored w t stored = elim (same_or_other s t) [
     | inl same ↦ absurd (true≢false (sym (ap is_some stored) ∙ ap is_some (ap (get (without_entry m s)) same ∙ (stored_laws T).taken m s)))

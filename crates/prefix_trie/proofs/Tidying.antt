@@ -1,4 +1,4 @@
--- A tidy map stays tidy where a key is set and where one is taken out.
+-- A tidy map stays tidy when a key is set or removed.
 use Rattle.prefix_trie.proofs.Prelude.{◌≡◌, ℕ, List, Bool, sym, ap, ◌∙◌, Entries, with_entry, without_entry, Nodes, needed, with_needed, nodes_without, AreNodes, IsTidy, NodeLaws, PruningLaws}
 
 module _ {T : Type 0} (m now : Entries T) (n nodes : Nodes) (s : List Bool) where

@@ -10,7 +10,7 @@ module _ {S X A F : Type 0} (steps : S → Option A → S → Type 0) (shows : A
       let rest = come_copied ys next t later in
       (x ∷ rest.0, (map_source next, takes, rest.1), ap (λ z. z ∷ ys) (each _ x y _ called) ∙ ap (λ zs. shows x ∷ zs) rest.2)
 
-  -- and where all came they are of all items
+  -- if the walk came to its end, they are the copies of all items
   pub all_copied : (xs : List X) (s : Map S F) → Drains (map_steps steps g) s xs → (lent : List A) × Drains steps (map_source s) lent × (xs ≡ map shows lent)
   all_copied xs s (u, (t, yields, none)) =
       let come = come_copied xs s t yields in
@@ -22,7 +22,7 @@ module _ {S X A F : Type 0} (steps : S → Option A → S → Type 0) (shows : A
       let come = come_copied xs s t given in
       subst (All Fits) (sym come.2) (All-map Fits shows come.0 (h come.0 (map_source t) come.1))
 
-  -- an empty list that takes in all copies has those of all items of the walk
+  -- an empty list extended by all copies has those of all items of the walk
   pub takes_copies : {walk : S} {before after : List X} (xs : List X) (s : Map S F) → Drains (map_steps steps g) s xs → map_source s ≡ walk → before ≡ [] → after ≡ before ++ xs
       → (lent : List A) × Drains steps walk lent × (after ≡ map shows lent)
   takes_copies xs s drains source empty added =
@@ -34,7 +34,7 @@ module _ {X A : Type 0} (shows : A → X) where
   come_first [] s t same = same
   come_first (x ∷ xs) s t (next, takes, later) = takes ∙ ap (λ zs. shows x ∷ zs) (come_first xs next t later)
 
-  -- where there is memory for them, the copies of all items are those that the walk had left
+  -- if they can be allocated, the copies are those of all items that the walk had left
   pub has_walk : {V E : Type 0} (items : V → List X) {walk listed : List X} (made : Result V E)
       → IfOk made (λ v. (lent : List A) × Drains (TakesFirst shows) walk lent × (items v ≡ map shows lent)) → walk ≡ listed → IfOk made (λ v. items v ≡ listed)
   has_walk items (Ok v) (lent, (u, (t, yields, none)), are) is =

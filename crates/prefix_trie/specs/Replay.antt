@@ -1,4 +1,4 @@
--- The calls and the replies of a run as those of the model. This project's own.
+-- The calls and the replies of a run, as those of the model. This project's own.
 use Rattle.std.specs.Prelude.{ℕ, Bool, List, map}
 use Rattle.std.specs.Option.{option_map}
 use Rattle.prefix_trie_bits.specs.Bits.{number}
@@ -28,16 +28,17 @@ module _ {P : Type 0} where
   call_of (Children q) = model.Children q
   call_of (Cover q) = model.Cover q
 
-  -- the prefix that a call is handed, if there is one, fits
+  -- the prefix argument of a call, if it has one, fits
   abbrev pub IsFittingCall : (P → Type 0) → Call P → Type 0
   IsFittingCall Fits call = model.CallFits Fits (call_of call)
 
-  -- each call in turn
+  -- the calls in order
   abbrev pub calls_of : List (Call P) → List (model.Call P ℕ)
   calls_of calls = map call_of calls
 
 module _ {P A R : Type 0} (bits : R → List Bool) where
-  -- a reply of the model; a list of entries is that of its items, and a number of addresses that of its key
+  -- a reply of the model: a list of entries as the list of its items, a number of addresses as the
+  -- number of its key
   abbrev pub reply_of : Reply P A R → model.Reply P ℕ
   reply_of (Value value) = model.Value value
   reply_of (Match found) = model.Match found
@@ -47,6 +48,6 @@ module _ {P A R : Type 0} (bits : R → List Bool) where
   reply_of (Entries entries) = model.Items entries.items
   reply_of (Refused cause) = model.Refused cause
 
-  -- each reply in turn
+  -- the replies in order
   abbrev pub replies_of : List (Reply P A R) → List (model.Reply P ℕ)
   replies_of replies = map reply_of replies

@@ -1,4 +1,5 @@
--- What a loop over a walk for writing leaves of the map, where it changes each value by a function of the old one. This project's own.
+-- What a loop over a writing walk leaves of the map if it changes each value by a function of the
+-- old one. This project's own.
 use Rattle.std.specs.Prelude.{◌≡◌, Bool, List, [], Option, None, Some, ⊤}
 use Rattle.std.proofs.Common.{cond, map}
 use lib.Dec.{T as IsT}
@@ -33,7 +34,7 @@ module _ {P T A R : Type 0} {p : prefix.Ghosts P R} {shows : debug.Ghosts P} {k 
     pub others : d.map.now ≡ record c.map.now { entries = d.map.now.entries }
     pub ended : keys_left d ≡ []
 
-  -- the same of a walk that may have no map
+  -- the same for a walk that may have no map
   abbrev pub RewritesIn : (T → T) → Option (MapCursor P T A R p shows k same writes) → Option (MapCursor P T A R p shows k same writes) → Type 0
   RewritesIn f None None = ⊤
   RewritesIn f None (Some d) = ⊥

@@ -1,4 +1,5 @@
--- What sets answer as replies of the model, and what `retain` asks of a test of prefixes. This project's own.
+-- The results of sets as replies of the model, and what `retain` requires of a test of prefixes.
+-- This project's own.
 use Rattle.std.specs.Prelude.{◌≡◌, ◌&&◌, ℕ, Bool, not, List, Result, Ok, Err, nat_eq}
 use Rattle.std.specs.Bool.{then_some}
 use Rattle.std.specs.Borrow.{Bor}
@@ -12,17 +13,17 @@ use Rattle.prefix_trie_bits.specs.Model.Entries.{Entries}
 use Rattle.prefix_trie_bits.specs.Model.Selections.{listing}
 use Rattle.prefix_trie_bits.specs.Model.Step.{Reply, Value, Refused}
 
--- the reply to a removal: a unit, where the key was in the set
+-- the reply to a removal: a unit if the key was in the set
 abbrev pub taken_out : {P : Type 0} → Bool → Reply P (Unit {0})
 taken_out was_in = Value (then_some was_in tt)
 
--- the reply to an insertion, which answers whether the key is new
+-- the reply to an insertion, which returns whether the key is new
 abbrev pub put_in : {P : Type 0} → Result Bool Refusal → Reply P (Unit {0})
 put_in (Ok is_new) = Value (then_some (not is_new) tt)
 put_in (Err cause) = Refused cause
 
 module _ {F P : Type 0} (g : Mut F (Bor P × Unit {0}) Bool) (back : List Bool → P) where
-  -- a call of f at the prefix with the path k may answer b, and leave f as f'
+  -- a call of f on the prefix with the path k can return b and leave f as f'
   pub record AsksKeyAt (f : F) (k : List Bool) (v : Unit {0}) (b : Bool) (f' : F) : Type 0 where
     pub prefix : Bor P
     pub shows : prefix.now ≡ back k

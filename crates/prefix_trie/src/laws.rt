@@ -1,5 +1,5 @@
-//! What a caller's own contract says of maps, and what follows from it. Each function does nothing: its contract is a record of laws,
-//! so that the check proves it. A caller calls one, and its proof has the laws.
+//! Lemmas for a caller's own contracts about maps. Each function does nothing at run time; calling
+//! it brings a record of laws into the caller's proof.
 
 ghost use Rattle.prefix_trie.specs.Laws.Stored.{StoredLaws};
 ghost use Rattle.prefix_trie.specs.Laws.Lookups.{LookupLaws};
@@ -24,54 +24,79 @@ pub use prefix_trie_map::laws::{
 };
 use std::alloc::Allocator;
 
-/// What is stored once a key was set or taken out; and two maps that have the same value at each key are one.
+/// Brings the laws of stored entries into the proof.
+///
+/// They say what is stored after a key is set or removed, and that two maps with the same value at
+/// each key are equal.
 pub fn stored_laws<T>()
     ensures { StoredLaws T }
 {}
 
-/// What lookups find: the longest match, and whether there is one; and what the longest match is once a key was set or taken out.
+/// Brings the laws of lookups into the proof.
+///
+/// They say what the longest match is, whether there is one, and how it changes when a key is set
+/// or removed.
 pub fn lookup_laws<P, T>()
     ensures { LookupLaws P T }
 {}
 
-/// What a loop leaves that puts the entries of one map into another, and how its invariant goes on.
+/// Brings the laws of a loop that inserts the entries of one map into another.
+///
+/// They give its invariant, how the invariant goes on, and what the loop leaves.
 pub fn put_laws<P: Prefix, T>()
     ensures { PutLaws T P.R.bit_width P.path P.IsFitting P.back }
 {}
 
-/// What a loop leaves that joins the values of one map to those of another, as a sum does, and how its invariant goes on.
+/// Brings the laws of a loop that joins the values of one map to those of another, as a sum does.
+///
+/// They give its invariant, how the invariant goes on, and what the loop leaves.
 pub fn join_laws<P: Prefix, T>()
     ensures { JoinLaws T P.R.bit_width P.path P.IsFitting P.back }
 {}
 
-/// What is behind the last item that was read of a map, which is how a map is read in pages.
+/// Brings the laws of reading a map in pages into the proof.
+///
+/// They say what comes after the last item read.
 pub fn page_laws<P: Prefix, T>()
     ensures { PageLaws T P.R.bit_width P.path P.IsFitting P.back }
 {}
 
-/// Two maps are equal by `==` exactly if their entries are the same, where `==` of prefixes and of values says the same of those. Asks
-/// what `len` and the makers of walks say of every map.
+/// Brings the laws of `==` on maps into the proof.
+///
+/// Two maps are equal by `==` exactly if their entries are the same, provided that `==` of prefixes
+/// and of values decides whether those are the same. The laws require that the map is valid, which
+/// `len` and the calls that make walks promise.
 pub fn equal_laws<P: Prefix, T>()
     ensures { EqualLaws T P.R.bit_width P.back }
 {}
 
-/// A path is as long as its prefix says; of a prefix of full length it is the whole number; and the prefix with a path has that path.
+/// Brings the laws of paths into the proof.
+///
+/// A path is as long as its prefix says. The path of a prefix of full length is the whole number.
+/// The prefix made from a path has that path.
 pub fn path_laws<P: Prefix>()
     ensures { PathLaws P.R.bit_width P.R.bits P.repr_of P.len_of P.path P.IsFitting P.back }
 {}
 
-/// Of IPv4 and IPv6: the path of the network of one address is that address, which addresses a network contains, by numbers, and what
-/// `address_count` answers as a number.
+/// Brings the laws of IPv4 and IPv6 networks into the proof.
+///
+/// The path of the network of one address is that address. They also say by numbers which addresses
+/// a network contains, and what `address_count` returns.
 pub fn network_laws()
     ensures { NetworkLaws }
 {}
 
-/// Of `Narrow<W>`: the path of the pair of a number and the width is the number, and which numbers a pair contains, by numbers.
+/// Brings the laws of `Narrow<W>` into the proof.
+///
+/// The path of the pair of a number and the width is the number, and they say by numbers which
+/// numbers a pair contains.
 pub fn narrow_laws<const W: u32>()
     ensures { NumberLaws (narrow_width W) }
 {}
 
-/// What loops over one walk for writing leave: the first one goes to the end, so a second one changes nothing.
+/// Brings the laws of loops over one writing walk into the proof.
+///
+/// The first loop goes to the end, so a second one changes nothing.
 pub fn rewrite_laws<P: Prefix, T: Drop, A: Allocator>()
     ensures { RewriteLaws P T A P.R P.Prefix.own P.Debug P.R.Key.own P.R.PartialEq P.R.Debug }
 {}

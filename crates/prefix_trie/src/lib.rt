@@ -1,8 +1,9 @@
-//! Maps from fixed-width prefixes to values, such as routes by IP networks.
+//! Maps and sets of fixed-width prefixes, such as IP networks, with longest-prefix match.
 //!
-//! A prefix is a number and a length: the first bits of the number, its path, are what counts. The maps are tries whose nodes
-//! span five bits each. Memory comes from an allocator that is handed in, and a call that finds none is refused and leaves
-//! the map's entries as they were. What each call does is proved: its contract says what it answers and what it makes of the map.
+//! A prefix is a number and a length. Its first `length` bits are its path, and only the path
+//! counts. The maps are tries whose nodes span five bits each. Memory comes from an allocator that
+//! is passed in; if an allocation fails, the call returns an error and the map keeps its entries.
+//! What each call does is proved: its contract states what it returns and how it changes the map.
 #![tactic(auto)]
 
 pub mod laws;

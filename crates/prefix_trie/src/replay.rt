@@ -1,4 +1,4 @@
-//! A list of calls, run on a map.
+//! Runs of calls on a map: the headline of this crate.
 ghost use Rattle.std.specs.Prelude.{◌≡◌, ℕ, Bool, List, Option, All, IfOk, OnOk, OnErr, MatchResult, cond, length, map, vec_len};
 ghost use Rattle.std.specs.Borrow.{Bor};
 ghost use Rattle.std.specs.Iterator.{Drains, IsFinite};
@@ -23,26 +23,28 @@ use prefix_trie_map::map::{PrefixMap, Visits};
 pub use reads::Reads;
 use std::alloc::{AllocError, Allocator};
 
-/// A call of a map from prefixes to numbers, with what it is handed.
+/// A call of a map from prefixes to numbers, with its arguments.
 #[derive(Drop)]
 pub enum Call<P> {
-    /// `insert`: sets the value for this prefix.
+    /// `insert`: sets the value of this prefix.
     Insert(P, u64),
-    /// `get`: the value stored for exactly this prefix.
+    /// `get`: the value of exactly this prefix.
     Get(P),
     /// `get_lpm`: the longest stored prefix that contains this one, and its value.
     Lpm(P),
     /// `get_spm`: the shortest stored prefix that contains this one, and its value.
     Spm(P),
-    /// `remove`: takes the entry of this prefix out, and then the nodes on its way that have nothing left.
+    /// `remove`: removes the entry of this prefix, and then the empty nodes of its search path.
     Remove(P),
-    /// `remove_keep_tree`: takes the entry of this prefix out, and leaves all nodes.
+    /// `remove_keep_tree`: removes the entry of this prefix, and leaves all nodes.
     RemoveKeepTree(P),
-    /// `drop_children`: takes out the entries whose prefixes this one contains, and the nodes that have nothing left then.
+    /// `drop_children`: removes the entries whose prefixes this one contains, and the nodes left
+    /// empty.
     RemoveChildren(P),
-    /// `retain`: keeps the entries whose prefixes have this length or a greater one, and the nodes that these need.
+    /// `retain`: keeps the entries whose prefixes have at least this length, and the nodes that
+    /// they need.
     RetainAtLeast(u8),
-    /// `clear`: takes all entries out, and leaves the root alone.
+    /// `clear`: removes all entries, and leaves only the root.
     Clear,
     /// `len`: the number of entries.
     Len,
@@ -52,7 +54,7 @@ pub enum Call<P> {
     AddressCount,
     /// `iter`: all entries, in listing order.
     List,
-    /// `iter_from`: the entries behind this prefix, and before them its own where it is asked for.
+    /// `iter_from`: the entries after this prefix, and its own if the flag is true.
     ListFrom(P, bool),
     /// `children`: the entries whose prefixes this one contains.
     Children(P),
@@ -60,62 +62,72 @@ pub enum Call<P> {
     Cover(P),
 }
 
-/// What a call answered. Prefixes come without host bits.
+/// The result of a call. Prefixes have no host bits.
 #[derive(Drop)]
 pub enum Reply<P: Prefix, A: Allocator> {
-    /// To `Insert`, `Remove` and `RemoveKeepTree` the value that was there before, to `Get` the value.
+    /// For `Insert`, `Remove` and `RemoveKeepTree` the previous value, for `Get` the value.
     Value(Option<u64>),
-    /// To `Lpm` and `Spm`.
+    /// For `Lpm` and `Spm`.
     Match(Option<(P, u64)>),
-    /// To `RemoveChildren`, `RetainAtLeast` and `Clear`.
+    /// For `RemoveChildren`, `RetainAtLeast` and `Clear`.
     Done,
-    /// To `Len` and `NodeCount`.
+    /// For `Len` and `NodeCount`.
     Count(usize),
-    /// To `AddressCount`. None if they contain all.
+    /// For `AddressCount`. `None` if the entries contain all addresses.
     Addresses(Option<P::R>),
-    /// To `List`, `ListFrom`, `Children` and `Cover`.
+    /// For `List`, `ListFrom`, `Children` and `Cover`.
     Entries(Vec<(P, u64), A>),
-    /// To `Insert` and the calls that list, where they were refused. The map has the entries and the nodes that it had.
+    /// For `Insert` and the listings, if they were refused. The map keeps its entries and nodes.
     Refused(Refusal),
 }
 
-/// Carries out the calls in order, and gives one reply for each.
+/// Carries out the calls in order and returns one reply for each.
 ///
-/// After any list of calls, every call answers as a finite map from bit strings to values does: `Insert` sets the value at
-/// the path of its prefix and gives the one that was there, `Get` gives the value at the path of its prefix, `Lpm` the
-/// longest stored beginning of that path and its value, and `Spm` the shortest. `Remove` and `RemoveKeepTree` take the
-/// entry at that path out and give its value, `RemoveChildren` takes out those whose paths that of its prefix begins,
-/// `RetainAtLeast` those whose paths are shorter than the length that it is handed, and `Clear` all of them. `Len` gives the
-/// number of entries, `AddressCount` that of the bit strings of the full width that some of their paths begin, `List` all of
-/// them, each once and in listing order, `ListFrom` those of them that are behind the path of its prefix, with the one there if
-/// it is asked for, `Children` those whose paths that of its prefix begins, and `Cover` those whose paths begin it, the
-/// shortest first.
+/// After any list of calls, every call answers as a finite map from bit strings to values does:
+/// exact lookups and longest and shortest stored beginnings within floor(length / 5) + 1 node
+/// visits, each walk its selected entries once in order, and a tidy map's nodes are exactly those
+/// that its keys need.
 ///
-/// `NodeCount` gives the number of nodes. They too are those of the model: `Insert` adds those that lack on its path,
-/// `Remove` takes those away that have nothing left, from the node of its path upward, `RemoveChildren` all below the node of
-/// its path and then the same, `RetainAtLeast` leaves those that the entries left need, `Clear` leaves the root alone, and the
-/// other calls leave the nodes as they are.
+/// In detail, on the paths of the prefixes: `Insert` sets a value and returns the previous one.
+/// `Get` returns the value, `Lpm` and `Spm` the longest and the shortest stored beginning with its
+/// value. `Remove` and `RemoveKeepTree` remove the entry and return its value. `RemoveChildren`
+/// removes the entries that begin with the path, `RetainAtLeast` those that are shorter than the
+/// length, and `Clear` all. `Len` returns the number of entries, and `AddressCount` the number of
+/// bit strings of full width that begin with some entry. `List` returns all entries in listing
+/// order, `ListFrom` those after the path (and its own if asked), `Children` those that begin with
+/// the path, and `Cover` those that the path begins with, the shortest first.
 ///
-/// Asks that every prefix handed in fits. An insertion that is refused is answered by the cause, `IndexRange` only where the slots that
-/// one insertion may need would pass the limit, and a list for which no memory is found by `Refused(Memory)`. Each leaves the entries
-/// and the nodes of the map as they were, and the run goes on.
+/// `NodeCount` returns the number of nodes. `Insert` adds the missing nodes of its search path.
+/// `Remove` removes the empty nodes of its search path, from the bottom up. `RemoveChildren`
+/// removes the nodes under the path's own node and then does the same. `RetainAtLeast` leaves the
+/// needed nodes, and `Clear` the root. The other calls leave the nodes unchanged.
 ///
-/// Errors: where a request for memory is refused for the replies. Room for all of them is asked for first, so no call was carried out.
+/// Every prefix must fit. A refused `Insert` has the reply `Refused`, with `IndexRange` only if the
+/// slots that one insertion may need would exceed the limit. A listing for which no memory is found
+/// has the reply `Refused(Memory)`. Both leave entries and nodes unchanged, and the run goes on.
+///
+/// # Errors
+///
+/// Returns an error if the memory for the replies cannot be allocated. This comes first, so no call
+/// was carried out then.
+///
+/// # Examples
 ///
 /// ```text
+/// let wide = "10.1.0.0/16".parse::<Ipv4Prefix>()?;
+/// let host = "10.1.2.3/32".parse::<Ipv4Prefix>()?;
 /// let mut map = PrefixMap::new(alloc)?;
-/// run(alloc, &mut map, &[
-///     Call::Insert(10.1.0.0/16, 1),         Reply::Value(None)
-///     Call::Get(10.1.2.3/32),               Reply::Value(None)
-///     Call::Lpm(10.1.2.3/32),               Reply::Match(Some((10.1.0.0/16, 1)))
-///     Call::Len,                            Reply::Count(1)
-///     Call::ListFrom(10.1.0.0/16, false),   Reply::Entries([])
-///     Call::Children(10.0.0.0/8),           Reply::Entries([(10.1.0.0/16, 1)])
-///     Call::Cover(10.1.2.3/32),             Reply::Entries([(10.1.0.0/16, 1)])
-///     Call::Remove(10.1.2.3/16),            Reply::Value(Some(1))
-///     Call::NodeCount,                      Reply::Count(1)
-///     Call::List,                           Reply::Entries([])
-/// ])
+/// let calls = [
+///     Call::Insert(wide, 1),            // Reply::Value(None)
+///     Call::Get(host),                  // Reply::Value(None)
+///     Call::Lpm(host),                  // Reply::Match(Some((10.1.0.0/16, 1)))
+///     Call::Len,                        // Reply::Count(1)
+///     Call::ListFrom(wide, false),      // Reply::Entries([])
+///     Call::Cover(host),                // Reply::Entries([(10.1.0.0/16, 1)])
+///     Call::Remove(wide),               // Reply::Value(Some(1))
+///     Call::NodeCount,                  // Reply::Count(1)
+/// ];
+/// let replies = run(alloc, &mut map, &calls)?;
 /// ```
 pub fn run<P: Prefix, A: Allocator + Clone>(
     alloc: A,
@@ -124,17 +136,19 @@ pub fn run<P: Prefix, A: Allocator + Clone>(
 ) -> Result<Vec<Reply<P, A>, A>, AllocError>
     requires { All (IsFittingCall P.IsFitting) calls.now }
 
-    // The calls with their replies are a run of the model, from the entries and nodes that the map had to those it has.
+    // The calls with their replies are a run of the model on the map's entries and nodes.
     ensures run { IfOk result (λ replies. Run P.path P.back P.R.bit_width
         (state map.old) (calls_of calls.now) (replies_of P.R.bits replies.items) (state map.new)) }
 
-    // And one that sees how the map is stored: which blocks each call takes, how far the arrays grow, and when a new key is refused.
+    // They are a run that sees the storage too: which blocks each call takes, how far the arrays
+    // grow, and when a new key is refused.
     ensures run_in_storage { IfOk result (λ replies. RunInStorage P.path P.back P.R.bit_width
         (stored_state map.old) (calls_of calls.now) (replies_of P.R.bits replies.items) (stored_state map.new)) }
 
-    // And one that counts: each lookup reads exactly the nodes on its way, at most one for each five bits and one more. Where the
-    // map was tidy before, or is cleared or retained on the way, its nodes are exactly those that its keys need, until a
-    // `RemoveKeepTree`. `run_counted` says that these numbers are those of the map's counters.
+    // They are a run with counts too: each lookup reads exactly the nodes of its search path, at
+    // most one for each five bits plus one. If the map was tidy before the run, or is cleared or
+    // retained in it, its nodes are exactly the needed ones from then on, until a `RemoveKeepTree`.
+    // `run_counted` states that these numbers are those of the map's counters.
     ensures counted { IfOk result (λ replies. (reads : List (Option ℕ)) × CountedRun P.path P.back P.R.bit_width
         (stored_state map.old) (calls_of calls.now) (replies_of P.R.bits replies.items) reads (stored_state map.new)) }
     ensures tidy { OnOk result ((tidy : Bool) → TidyIf tidy (state map.old)
@@ -145,12 +159,15 @@ pub fn run<P: Prefix, A: Allocator + Clone>(
     Ok(run_counted(alloc, map, calls)?.0)
 }
 
-/// The replies of `run`, and for each call how many nodes it read if it is a lookup. The numbers are in the contract alone.
+/// Returns the replies of `run`, and for each call the number of nodes that it read, if it is a
+/// lookup.
 ///
-/// A lookup reads exactly the nodes on its way, or those down to the shortest match, and at most one for each five bits of its
-/// prefix and one more. `run` has the rest.
+/// The numbers exist only in the contract. A lookup reads exactly the nodes of its search path, or
+/// those down to the shortest match, and at most one for each five bits of its prefix plus one.
 ///
-/// Errors: as of `run`.
+/// # Errors
+///
+/// As for `run`.
 pub fn run_counted<P: Prefix, A: Allocator + Clone>(
     alloc: A,
     map: &mut PrefixMap<P, u64, A>,
@@ -162,7 +179,7 @@ pub fn run_counted<P: Prefix, A: Allocator + Clone>(
     ensures one_each { IfOk result (λ ran. vec_len ran.0 ≡ length calls.now) }
     ensures none_carried_out { OnErr result (map.new ≡ map.old) }
 {
-    // The proof learns from it that the nodes are those of a map.
+    // For the proof: the nodes are those of a map.
     let _ = map.len();
     let mut replies = Vec::with_capacity(alloc.clone()?, calls.len())?;
     let mut reads = Reads::new();
@@ -174,7 +191,7 @@ pub fn run_counted<P: Prefix, A: Allocator + Clone>(
     Ok((replies, reads))
 }
 
-/// Carries out one call. Its number is that of the nodes that it read, if it is a lookup.
+/// Carries out one call. Its number is that of the nodes it read, if it is a lookup.
 fn answer<P: Prefix, A: Allocator + Clone>(
     alloc: &A,
     map: &mut PrefixMap<P, u64, A>,
@@ -184,7 +201,7 @@ fn answer<P: Prefix, A: Allocator + Clone>(
     ensures { CountedStep P.path P.back P.R.bit_width
         (stored_state map.old) (call_of call.now) (reply_of P.R.bits result.0, result.1) (stored_state map.new) }
 {
-    // The proof learns from it that neither array passes the limit.
+    // For the proof: neither array exceeds the limit.
     let _ = map.len();
     match call {
         Call::Insert(prefix, value) => (insert(map, prefix, *value), None),
@@ -237,7 +254,7 @@ fn remove_keep_tree<P: Prefix, A: Allocator>(
     Reply::Value(map.remove_keep_tree(prefix))
 }
 
-/// Carries out a removal of all that a prefix contains.
+/// Carries out a removal of everything that a prefix contains.
 fn drop_children<P: Prefix, A: Allocator>(map: &mut PrefixMap<P, u64, A>, prefix: &P) -> Reply<P, A>
     requires { P.IsFitting prefix.now }
     ensures { StepInStorage P.path P.back P.R.bit_width
@@ -256,7 +273,7 @@ fn remove<P: Prefix, A: Allocator>(map: &mut PrefixMap<P, u64, A>, prefix: &P) -
     Reply::Value(map.remove(prefix))
 }
 
-/// Takes all entries out.
+/// Removes all entries.
 fn clear<P: Prefix, A: Allocator>(map: &mut PrefixMap<P, u64, A>) -> Reply<P, A>
     ensures { StepInStorage P.path P.back P.R.bit_width
         (stored_state map.old) Clear (reply_of P.R.bits result) (stored_state map.new) }
@@ -277,7 +294,7 @@ fn retain_at_least<P: Prefix, A: Allocator>(
     Reply::Done
 }
 
-// Keeps the entries at which a test says yes that may always be called.
+// Keeps the entries for which a test that may always be called returns true.
 #[tactic(auto, using(crate::proofs::Always::may_ask_of_map))]
 fn keep_where<P: Prefix, A: Allocator, F: FnMut(&P, &u64) -> bool + Drop>(
     map: &mut PrefixMap<P, u64, A>,
@@ -290,28 +307,28 @@ fn keep_where<P: Prefix, A: Allocator, F: FnMut(&P, &u64) -> bool + Drop>(
     map.retain(test);
 }
 
-/// The number of entries.
+/// Returns the number of entries.
 fn count_entries<P: Prefix, A: Allocator>(map: &PrefixMap<P, u64, A>) -> Reply<P, A>
     ensures { reply_of P.R.bits result ≡ Count (len map.now.entries) }
 {
     Reply::Count(map.len())
 }
 
-/// The number of nodes.
+/// Returns the number of nodes.
 fn count_nodes<P: Prefix, A: Allocator>(map: &PrefixMap<P, u64, A>) -> Reply<P, A>
     ensures { reply_of P.R.bits result ≡ Count (len map.now.nodes) }
 {
     Reply::Count(map.node_count())
 }
 
-/// The number of prefixes of the full width that the entries contain.
+/// Returns the number of addresses that the entries contain.
 fn count_addresses<P: Prefix, A: Allocator>(map: &PrefixMap<P, u64, A>) -> Reply<P, A>
     ensures { reply_of P.R.bits result ≡ Addresses (address_answer P.R.bit_width map.now.entries) }
 {
     Reply::Addresses(map.address_count())
 }
 
-/// The value stored for exactly this prefix, and how many nodes were read.
+/// Returns the value of exactly this prefix, and the number of nodes read.
 fn value_at<P: Prefix, A: Allocator>(
     map: &PrefixMap<P, u64, A>,
     prefix: &P,
@@ -324,7 +341,8 @@ fn value_at<P: Prefix, A: Allocator>(
     (Reply::Value(value.copied()), Some(visits))
 }
 
-/// The longest stored prefix that contains this one, its value, and how many nodes were read.
+/// Returns the longest stored prefix that contains this one, its value, and the number of nodes
+/// read.
 fn longest<P: Prefix, A: Allocator>(
     map: &PrefixMap<P, u64, A>,
     prefix: &P,
@@ -337,7 +355,8 @@ fn longest<P: Prefix, A: Allocator>(
     (Reply::Match(found.map(owned)), Some(visits))
 }
 
-/// The shortest stored prefix that contains this one, its value, and how many nodes were read.
+/// Returns the shortest stored prefix that contains this one, its value, and the number of nodes
+/// read.
 fn shortest<P: Prefix, A: Allocator>(
     map: &PrefixMap<P, u64, A>,
     prefix: &P,
@@ -350,7 +369,7 @@ fn shortest<P: Prefix, A: Allocator>(
     (Reply::Match(found.map(owned)), Some(visits))
 }
 
-/// A prefix with the same path, since one that is lent cannot be handed on.
+/// Returns a prefix with the same path, since a borrowed one cannot be passed on.
 fn same_path<P: Prefix>(prefix: &P) -> P
     requires { P.IsFitting prefix.now }
     ensures fits { P.IsFitting result }
@@ -359,7 +378,7 @@ fn same_path<P: Prefix>(prefix: &P) -> P
     P::from_repr_len(prefix.repr(), prefix.prefix_len())
 }
 
-/// An entry with its value copied.
+/// Returns an entry with its value copied.
 fn owned<P>(lent: (P, &u64)) -> (P, u64)
     ensures { result ≡ lent_item lent.entry }
 {
@@ -367,7 +386,7 @@ fn owned<P>(lent: (P, &u64)) -> (P, u64)
     (prefix, *value)
 }
 
-/// All entries in listing order. Room for them is asked for first.
+/// Returns all entries in listing order. Their memory is allocated first.
 fn listed<P: Prefix, A: Allocator + Clone>(
     alloc: &A,
     map: &PrefixMap<P, u64, A>,
@@ -377,7 +396,8 @@ fn listed<P: Prefix, A: Allocator + Clone>(
     copied(alloc, map.len(), map.iter())
 }
 
-/// The entries behind a prefix in listing order, and before them its own where `inclusive`. A first walk counts them.
+/// Returns the entries after a prefix in listing order, and its own if `inclusive`. A first walk
+/// counts them.
 fn listed_from<P: Prefix, A: Allocator + Clone>(
     alloc: &A,
     map: &PrefixMap<P, u64, A>,
@@ -393,7 +413,7 @@ fn listed_from<P: Prefix, A: Allocator + Clone>(
     copied(alloc, count, map.iter_from(prefix, inclusive))
 }
 
-/// The entries whose prefixes this one contains. A first walk counts them.
+/// Returns the entries whose prefixes this one contains. A first walk counts them.
 fn children<P: Prefix, A: Allocator + Clone>(
     alloc: &A,
     map: &PrefixMap<P, u64, A>,
@@ -406,7 +426,8 @@ fn children<P: Prefix, A: Allocator + Clone>(
     copied(alloc, count, map.children(prefix))
 }
 
-/// The entries whose prefixes contain this one, the shortest first. A first walk counts them.
+/// Returns the entries whose prefixes contain this one, the shortest first. A first walk counts
+/// them.
 fn covered<P: Prefix, A: Allocator + Clone>(
     alloc: &A,
     map: &PrefixMap<P, u64, A>,
@@ -419,7 +440,7 @@ fn covered<P: Prefix, A: Allocator + Clone>(
     copied(alloc, count, map.cover(prefix))
 }
 
-/// The items of a walk with their values copied. Room for so many is asked for before they are taken.
+/// Copies the items of a walk. Their memory is allocated first.
 fn copied<'a, P: Drop, A: Allocator + Clone, I: Iterator<Item = (P, &'a u64)> + Drop>(
     alloc: &A,
     count: usize,
@@ -434,7 +455,7 @@ fn copied<'a, P: Drop, A: Allocator + Clone, I: Iterator<Item = (P, &'a u64)> + 
     Ok(entries)
 }
 
-/// The entries, or the refusal where no memory was found for them.
+/// Returns the entries, or the refusal if they could not be allocated.
 fn list_reply<P: Prefix, A: Allocator>(listed: Result<Vec<(P, u64), A>, AllocError>) -> Reply<P, A>
     ensures { MatchResult listed (λ entries. reply_of P.R.bits result ≡ Items entries.items) (λ _. reply_of P.R.bits result ≡ Refused Memory) }
 {

@@ -1,7 +1,8 @@
 //! Sets of prefixes: maps without values.
 //!
-//! The path of a prefix, its first `prefix_len` bits, is its key: two prefixes with the same path are one key, whatever their
-//! host bits. Contracts see a set as they see a map whose values are units: its entries, its nodes, its room and its layout.
+//! The key of a prefix is its path, its first `prefix_len` bits: two prefixes with the same path
+//! are one key, whatever their host bits. Contracts see a set as a map whose values are units: its
+//! entries, its nodes, the slots of its arrays, and its layout.
 ghost use Rattle.std.specs.Prelude.{◌≡◌, ◌-◌, ◌^◌, ◌↔◌, IfOk, OnOk, IfErr, OnErr, IfSome, IsErr, IsTrue, not};
 ghost use Rattle.std.specs.Option.{option_map};
 ghost use Rattle.std.specs.FinMap.{contains_key, len};
@@ -18,12 +19,12 @@ ghost use Rattle.prefix_trie_map.specs.Whole.{IsWhole};
 ghost use Rattle.prefix_trie.specs.Sets.{put_in};
 
 mod collecting;
-mod splitting;
+mod equality;
 mod iter;
 mod lookup;
 mod memory;
 mod removal;
-mod equality;
+mod splitting;
 
 pub use iter::{IntoIter, Iter};
 use prefix_trie_bits::prefix::{Prefix, Refusal};
@@ -33,15 +34,18 @@ use std::marker::Model;
 
 /// A set of prefixes, in memory of the allocator `A`.
 ///
-/// Prefixes are not kept: of a key the set knows its path alone. Every call that takes a prefix asks that it fits.
+/// Prefixes are not stored, only their paths. Every call that takes a prefix requires that it fits.
+///
+/// # Examples
 ///
 /// ```text
+/// let network = "10.1.0.0/16".parse::<Ipv4Prefix>()?;
 /// let mut set = PrefixSet::new(alloc)?;
-/// set.insert(10.1.0.0/16)                  Ok(true)
-/// set.insert(10.1.255.255/16)              Ok(false), since both have one path
-/// set.contains(&10.1.0.0/16)               true
-/// set.contains(&10.1.0.0/17)               false
-/// set.get_lpm(&10.1.2.3/32)                Some(10.1.0.0/16)
+/// set.insert(network)?;                            // true
+/// set.insert("10.1.255.255/16".parse()?)?;         // false: both have one path
+/// set.contains(&network);                          // true
+/// set.contains(&"10.1.0.0/17".parse()?);           // false
+/// set.get_lpm(&"10.1.2.3/32".parse()?);            // Some(10.1.0.0/16)
 /// ```
 #[derive(Drop)]
 pub struct PrefixSet<P: Prefix, A: Allocator> {
@@ -61,9 +65,11 @@ impl<P: Prefix, A: Allocator> Model for PrefixSet<P, A> {
 }
 
 impl<P: Prefix, A: Allocator + Clone> PrefixSet<P, A> {
-    /// An empty set. Neither of its arrays will ever be longer than `u32::MAX` slots.
+    /// Makes an empty set with a slot limit of `u32::MAX`.
     ///
-    /// Errors: `Memory` where a request for memory is refused. Then no set exists.
+    /// # Errors
+    ///
+    /// Returns `Memory` if an allocation failed.
     #[inline]
     pub fn new(alloc: A) -> Result<Self, Refusal>
         ensures entries { IfOk result (λ set. set.entries ≡ no_entries) }
@@ -77,15 +83,20 @@ impl<P: Prefix, A: Allocator + Clone> PrefixSet<P, A> {
         })
     }
 
-    /// An empty set whose two arrays, of nodes and of keys, are never longer than `limit` slots.
+    /// Makes an empty set whose two arrays, of nodes and of keys, never have more than `limit`
+    /// slots.
     ///
-    /// Errors: `IndexRange` where `limit` is 0, since the root needs a slot, and else `Memory` where a request for memory is refused.
-    /// Then no set exists.
+    /// # Errors
+    ///
+    /// Returns `IndexRange` if `limit` is 0, since the root needs a slot, and `Memory` if an
+    /// allocation failed.
+    ///
+    /// # Examples
     ///
     /// ```text
     /// let mut set = PrefixSet::with_slot_limit(alloc, 4)?;
-    /// set.insert(0.0.0.0/32)    Err(IndexRange), since it needs six nodes more
-    /// set.insert(0.0.0.0/4)     Ok(true)
+    /// set.insert("0.0.0.0/32".parse::<Ipv4Prefix>()?);     // Err(IndexRange): it needs six more nodes
+    /// set.insert("0.0.0.0/4".parse()?);                    // Ok(true)
     /// ```
     #[inline]
     pub fn with_slot_limit(alloc: A, limit: u32) -> Result<Self, Refusal>
@@ -101,18 +112,23 @@ impl<P: Prefix, A: Allocator + Clone> PrefixSet<P, A> {
         })
     }
 
-    /// A set with the same keys and nodes, in memory of its own.
+    /// Makes a copy with the same keys and nodes, in memory of its own.
     ///
-    /// It copies slot by slot, free ones too: both arrays are as long as those of this set, with the same blocks and the same
+    /// It copies slot by slot, free ones too: the copy's arrays have the same lengths, blocks and
     /// limit.
     ///
-    /// Errors: only where a request for memory is refused. Then no copy exists.
+    /// # Errors
+    ///
+    /// Returns an error if an allocation failed.
+    ///
+    /// # Examples
     ///
     /// ```text
-    /// set.insert(10.1.0.0/16)         Ok(true)
+    /// let network = "10.1.0.0/16".parse::<Ipv4Prefix>()?;
+    /// set.insert(network)?;
     /// let mut copy = set.clone()?;
-    /// copy.remove(&10.1.0.0/16)       true
-    /// set.contains(&10.1.0.0/16)      true, since it shares nothing with its copy
+    /// copy.remove(&network);              // true
+    /// set.contains(&network);             // true: the two share nothing
     /// ```
     pub fn clone(&self) -> Result<Self, AllocError>
         ensures { IfOk result (λ copy. copy ≡ self.now) }
@@ -123,7 +139,7 @@ impl<P: Prefix, A: Allocator + Clone> PrefixSet<P, A> {
 }
 
 impl<P: Prefix, A: Allocator> PrefixSet<P, A> {
-    /// The number of keys.
+    /// Returns the number of keys.
     #[inline]
     pub fn len(&self) -> usize
         ensures count { result ≡ len self.now.entries }
@@ -132,7 +148,7 @@ impl<P: Prefix, A: Allocator> PrefixSet<P, A> {
         self.map.len()
     }
 
-    /// Whether there are no keys.
+    /// Returns whether there are no keys.
     #[inline]
     pub fn is_empty(&self) -> bool
         ensures none { IsTrue result ↔ (self.now.entries ≡ no_entries) }
@@ -141,8 +157,10 @@ impl<P: Prefix, A: Allocator> PrefixSet<P, A> {
         self.map.is_empty()
     }
 
-    /// The number of nodes, the root among them: a new set has 1. It is not kept: each call reads every slot of the array of
-    /// nodes once, free ones too.
+    /// Returns the number of nodes, including the root; a new set has 1.
+    ///
+    /// The number is not stored: each call reads every slot of the array of nodes once, free ones
+    /// too.
     #[inline]
     pub fn node_count(&self) -> usize
         ensures count { result ≡ len self.now.nodes }
@@ -151,12 +169,17 @@ impl<P: Prefix, A: Allocator> PrefixSet<P, A> {
         self.map.node_count()
     }
 
-    /// How many addresses, prefixes of the full width, the keys contain, each counted once; `None` exactly if that is all that
-    /// there are. A key within another one adds nothing, and what is below one is not read.
+    /// Returns the number of addresses, prefixes of full width, that the keys contain, each counted
+    /// once.
+    ///
+    /// Returns `None` exactly if they contain all addresses. A key within another one adds nothing,
+    /// and nodes under a key are not read.
+    ///
+    /// # Examples
     ///
     /// ```text
-    /// 192.0.2.0/24, 192.0.2.128/25 and 198.51.100.0/24 are stored
-    /// set.address_count()   Some(512)
+    /// // 192.0.2.0/24, 192.0.2.128/25 and 198.51.100.0/24 are stored
+    /// set.address_count();                // Some(512)
     /// ```
     #[inline]
     pub fn address_count(&self) -> Option<P::R>
@@ -167,8 +190,10 @@ impl<P: Prefix, A: Allocator> PrefixSet<P, A> {
         self.map.address_count()
     }
 
-    /// How many slots the array of nodes has, used or free: a new set has 1. Never more than the limit. A change may add
-    /// slots; only `clear` takes them away, and `drop_children` and `remove_children` of a prefix of length 0.
+    /// Returns the number of slots of the array of nodes, used or free; a new set has 1.
+    ///
+    /// It never exceeds the limit. Changes may add slots. Only `clear`, `compact`, and
+    /// `drop_children` and `remove_children` of a prefix of length 0 remove slots.
     #[inline]
     pub fn node_slots(&self) -> usize
         ensures slots { result ≡ self.now.space.node_slots }
@@ -177,7 +202,9 @@ impl<P: Prefix, A: Allocator> PrefixSet<P, A> {
         self.map.node_slots()
     }
 
-    /// How many slots the array of keys has, used or free: a new set has none. Never more than the limit.
+    /// Returns the number of slots of the array of keys, used or free; a new set has none.
+    ///
+    /// It never exceeds the limit.
     #[inline]
     pub fn cell_slots(&self) -> usize
         ensures slots { result ≡ self.now.space.cell_slots }
@@ -186,11 +213,15 @@ impl<P: Prefix, A: Allocator> PrefixSet<P, A> {
         self.map.cell_slots()
     }
 
-    /// Puts a prefix in, and answers whether it is new. A stored prefix is never refused.
+    /// Inserts a prefix and returns whether it is new.
     ///
-    /// Errors: of a new prefix `Memory` where a request for memory is refused, and `IndexRange` where the slots of the blocks that
-    /// lack pass the limit. The set has the keys that it had. One insertion makes at most 56 slots for nodes and 31 for keys
-    /// (`slot_laws`).
+    /// Inserting a stored prefix never fails. An insertion makes at most 56 slots for nodes and 31
+    /// for keys (`slot_laws`).
+    ///
+    /// # Errors
+    ///
+    /// For a new prefix, returns `Memory` if an allocation failed, and `IndexRange` if the missing
+    /// blocks would exceed the slot limit. The keys and nodes are unchanged then.
     #[inline]
     pub fn insert(&mut self, prefix: P) -> Result<bool, Refusal>
         requires { P.IsFitting prefix }
@@ -198,10 +229,10 @@ impl<P: Prefix, A: Allocator> PrefixSet<P, A> {
         ensures entries { OnOk result (self.new.entries ≡ with_entry self.old.entries (P.path prefix) tt) }
         ensures nodes { OnOk result (self.new.nodes ≡ with_needed self.old.nodes (P.path prefix)) }
 
-        // A refusal changes neither the keys nor the nodes.
+        // An error changes neither the keys nor the nodes.
         ensures unchanged { OnErr result ((self.new.entries ≡ self.old.entries) × (self.new.nodes ≡ self.old.nodes)) }
 
-        // It is a step of the model, of the storage too: that of a map of units (`PrefixMap::insert`).
+        // It is a step of the model and its storage, on a map of units (as `PrefixMap::insert`).
         ensures step { StepByPath P.R.bit_width (stored_state self.old) (Insert (P.path prefix) tt) (put_in result) (stored_state self.new) }
     {
         match self.map.insert(prefix, ()) {

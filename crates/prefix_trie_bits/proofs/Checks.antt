@@ -1,4 +1,4 @@
--- Tests over whole tables, and what they say of each entry.
+-- Tests over whole tables, and what they show of each entry.
 use Rattle.prefix_trie_bits.proofs.Prelude.{◌≡◌, ℕ, zero, suc, ◌<◌, ◌≤◌, Bool, true, false, ◌&&◌, List, [], ◌∷◌, ◌++◌, length, map, refl, arith, inl, inr, get_or, beq, cases_eq, strings}
 pub use Rattle.std.proofs.lemmas.Bool.{and_parts as both}
 

@@ -46,7 +46,7 @@ module _ (bitmap mask : ℕ) (rest : List Bool) (small : bitmap < 2 ^ 31) (holds
         absurd (omega (arith, bit-set bitmap b (in-each bitmap mask b h).0))
   ]
 
-  -- a bit of both bitmaps is that of a string that begins rest
+  -- a bit of both bitmaps is that of a string with which rest begins
   found : (b : ℕ) → has (bit_and bitmap mask) b ≡ true → (n : ℕ) × (n ≤ 4) × (n ≤ length rest) × (b ≡ value_bit (take n rest)) × (has bitmap b ≡ true)
   found b h =
       let l = bit-below b h in

@@ -1,4 +1,4 @@
--- The strings of a node's places stand in listing order, each once.
+-- The strings of a node's places are in listing order, each once.
 use Rattle.prefix_trie_bits.proofs.Prelude.{◌≡◌, ℕ, zero, suc, ◌%◌, ◌/◌, ◌<◌, ◌≤◌, ◌↔◌, ◌⊎◌, Bool, true, false, cond, nat_eq, nat_lt, ltb-true, ◌&&◌, List, [], ◌∷◌, length, map, filter, refl, sym, ap, ◌∙◌, subst, inl, inr, arith, Ordering, Less, Contains, AllByRecursion, IsStrictlySortedBy, Contains-append_left, Contains-append_right, listing_cmp, strings, pick, is_before, is_in, places}
 use Rattle.prefix_trie_bits.proofs.Checks.{both, each, at_index}
 use Rattle.prefix_trie_bits.proofs.Listing.{strings-short}

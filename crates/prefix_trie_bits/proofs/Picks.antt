@@ -15,7 +15,7 @@ module _ {X : Type 0} where
       ap₂ (λ t r. cond t (x ∷ r) r) (sym (has-low a) ∙ f 0 (omega arith) ∙ has-low b)
       (pick-same xs (a / 2) (b / 2) (λ i l. sym (has-suc a i) ∙ f (suc i) (omega arith) ∙ has-suc b i))
 
-  -- the elements that pass a test, where the bits are its answers
+  -- the elements that pass a test, if the bits are its results
   pub pick-filter : (xs : List X) (p : X → Bool) (m : ℕ) (d : X) → ((i : ℕ) → i < length xs → has m i ≡ p (get_or xs i d)) → pick m xs ≡ filter p xs
   unfolding pick
   pick-filter [] p m d f = refl
@@ -23,7 +23,7 @@ module _ {X : Type 0} where
       ap₂ (λ t r. cond t (x ∷ r) r) (sym (has-low m) ∙ f 0 (omega arith))
       (pick-filter xs p (m / 2) d (λ i l. sym (has-suc m i) ∙ f (suc i) (omega arith)))
 
-  -- the elements at the bits of another number that pass a test, where the bits are both
+  -- the elements at the bits of another number that pass a test, if the bits are set in both
   pub pick-both : (xs : List X) (p : X → Bool) (m a : ℕ) (d : X) → ((i : ℕ) → i < length xs → has m i ≡ (has a i && p (get_or xs i d))) → pick m xs ≡ filter p (pick a xs)
   unfolding pick
   pick-both [] p m a d f = refl

@@ -1,4 +1,4 @@
--- How many set bits stand below a bit.
+-- How many set bits are below a bit.
 use Rattle.prefix_trie_bits.proofs.Prelude.{◌≡◌, ℕ, zero, suc, ◌+◌, ◌-◌, ◌*◌, ◌/◌, ◌%◌, ◌^◌, ◌<◌, ◌≤◌, true, false, cond, eqb, refl, sym, ap, ap₂, ◌∙◌, subst, arith, inl, inr, one-add, pow_pos, eqb-true, bit_and, mod-eq_of_lt, bit_or, bit_at, bit_not, w32, count_ones, ones_cat, ones_le_self, zero_from_ones, and_le_l, mod-pow-add, mod_below, and_mask, one_shl, or_lt, pow_below, bit_at-lt, bit_at-suc, bit_at_set_same, bit_at_set_other, bit_at_clear_same, bit_at_clear_other, bit_at_above, cases_lt, has, ones_below, Sets}
 
 pub bit-set : (m k : ℕ) → has m k ≡ true → bit_at m k ≡ 1

@@ -8,7 +8,7 @@ pow-le a b l = elim (cases_eq a b) [
   | inr ne ↦ omega (arith, pow_below a b (omega arith))
 ]
 
--- a string's value bit is one less than the number of its bits behind a 1
+-- a string's value bit is one less than the number that is a 1 followed by its bits
 pub value_bit-suc : (s : List Bool) → value_bit s + 1 ≡ 2 ^ length s + number s
 value_bit-suc s = let p = pow_pos (length s) in omega arith
 
@@ -86,13 +86,13 @@ module _ (b n : ℕ) (small : b < 31) (above : 2 ^ n ≤ b + 1) (below : b + 1 <
       less : (x p m : ℕ) → x ≡ p → p + m ≡ b + 1 → m ≡ b + 1 - x
       less x p m e f = omega arith
 
--- ---- a key's string below a node, of which the code reads windows
+-- ---- a key's string under a node, of which the code reads windows
 
 length-below : (b : List Bool) (depth len : ℕ) → depth ≤ len → len ≤ length b → length (drop depth (take len b)) ≡ len - depth
 length-below b depth len h l =
     length-drop depth (take len b) ∙ ap (λ n. n - depth) (length-take-le len b l)
 
--- what a window within a key's length says
+-- the bits of a window within a key's length
 pub window-is : (b z : List Bool) (depth len n : ℕ) → depth + n ≤ len → len ≤ length b → take n (drop depth (b ++ z)) ≡ take n (drop depth (take len b))
 window-is b z depth len n h l =
     window-inside b z depth n (omega arith) ∙ sym (window-of-front b len depth n h)
@@ -110,7 +110,7 @@ pub pos-below : (b : List Bool) (depth x : ℕ) → depth ≤ length b → x ≡
 pos-below b depth x l e =
     subst (λ y. y < 16) (sym e) (number-below 4 (take 4 (drop depth (b ++ zeros 5))) (length-four b depth l))
 
--- the string that a level and four bits stand for
+-- the string of a level and four bits
 pub level-string : (b : List Bool) (depth len level pos : ℕ) → depth ≤ len → len ≤ length b → level ≡ min (len - depth) 4 → pos ≡ number (take 4 (drop depth (b ++ zeros 5))) → take level (digits 4 pos) ≡ take 4 (drop depth (take len b))
 level-string b depth len level pos h l level-is pos-is =
     ap (λ s. take level s) (ap (digits 4) pos-is ∙ bits-number 4 (take 4 (drop depth (b ++ zeros 5))) (length-four b depth (omega arith))) ∙

@@ -1,4 +1,5 @@
--- Each entry of the tables, by computing: a test over the whole table, and what it says of an entry.
+-- Each entry of the tables, by computing: a test over the whole table, and what it shows of an
+-- entry.
 use Rattle.prefix_trie_bits.proofs.Prelude.{◌≡◌, ℕ, zero, suc, ◌+◌, ◌*◌, ◌/◌, ◌%◌, ◌<◌, ◌≤◌, Bool, true, ◌||◌, ◌&&◌, not, nat_eq, nat_lt, ltb-true, List, [], ◌∷◌, length, take, refl, subst, ◌∙◌, arith, get_or, beq, number, digits, begins, has, value_bit, strings, is_in, is_before, HoldsValues, HoldsChildren, HoldsPlaces, HoldsPositions, MATCHES, VALUES_COVERED, CHILDREN_COVERED, FROM_VALUE, BEHIND_CHILD, NOT_BELOW}
 use Rattle.prefix_trie_bits.proofs.Checks.{below, each, at_below, at_string, both, same}
 use Rattle.prefix_trie_bits.proofs.Ranks.{has-low, has-suc}
@@ -75,7 +76,7 @@ unfolding rows below child_cover_test children_hold each strings begins digits n
 child-cover-entry level pos l p =
     children-held _ _ (at_row child_cover_test refl level pos l p)
 
--- ---- what comes from a value bit on, and behind a child bit
+-- ---- from a value bit on, and after a child bit
 
 unfoldable from_value_test : List Bool → Bool
 from_value_test t = places_hold (get_or FROM_VALUE (value_bit t) (0, 0)).0 (get_or FROM_VALUE (value_bit t) (0, 0)).1 (λ s. not (is_before s t))
@@ -97,7 +98,7 @@ behind-child-entry b t l e =
 
 -- ---- what a value bit's string does not begin
 
--- the bits of a mask, the lowest first, are a test's answers
+-- the bits of a mask, the lowest first, are the results of a test
 unfoldable bits_hold : ℕ → (List Bool → Bool) → List (List Bool) → Bool
 bits_hold mask test [] = true
 bits_hold mask test (s ∷ ss) = beq (nat_eq (mask % 2) 1) (test s) && bits_hold (mask / 2) test ss

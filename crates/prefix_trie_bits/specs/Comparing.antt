@@ -36,7 +36,7 @@ ranked (true ∷ s) (false ∷ t) e =
 pub order-numbers : (s t : List Bool) → length s ≡ length t → listing_cmp s t ≡ nat_cmp (number s) (number t)
 order-numbers s t e = nat_cmp_is (number s) (number t) (listing_cmp s t) (ranked s t e)
 
--- so keys that are numbers compare as numbers, by a name that `using(..)` takes
+-- keys that are numbers compare as numbers (a name that `using(..)` accepts)
 pub ordered_as_numbers : (w a b : ℕ) → a < 2 ^ w → b < 2 ^ w → nat_cmp a b ≡ listing_cmp (digits w a) (digits w b)
 ordered_as_numbers w a b l m =
     sym (order-numbers (digits w a) (digits w b) (length-digits w a ∙ sym (length-digits w b)) ∙ ap₂ nat_cmp (number_of_digits w a l) (number_of_digits w b m))

@@ -1,5 +1,6 @@
--- Worked facts that no reply shows: visits, holders and parents, block sizes, tilings, asking, a writing walk, handing out.
--- They are this project's own, and go with worked rows.
+-- Worked facts that no reply contains: visits, holders and parents, block sizes, tilings, calls of
+-- a test, a writing walk, a split.
+-- They are this project's own, and belong to worked rows.
 pub mod Blocks
 pub mod Insertions
 pub mod Steps
@@ -49,7 +50,8 @@ pub record FactsHold : Type 0 where
   -- row 6's map: twenty-six nodes are read for 128 bits
   pub visits128 : LeadsTo 128 (sets (((0, 125), 1) ∷ ((1, 128), 2) ∷ [])) (λ t.
       (visits t.nodes (path_at 128 (1, 128)) ≡ 26) × (visits_to_match t.entries t.nodes (path_at 128 (1, 128)) ≡ 26))
-  -- four of row 25's networks, asked for 10.1.1.0/24: a lookup that stops at the shortest match reads two nodes of five
+  -- four of row 25's networks and the lookup of 10.1.1.0/24: one that stops at the shortest match
+  -- reads two nodes of five
   pub visits_to_first : LeadsTo 32 (sets (((0x0a000000, 8), 0) ∷ ((0x0a010000, 16), 1) ∷ ((0x0a010100, 24), 2) ∷ ((0x0a010100, 25), 4) ∷ [])) (λ t.
       (visits t.nodes (path_at 32 (0x0a010100, 24)) ≡ 5) × (visits_to_match t.entries t.nodes (path_at 32 (0x0a010100, 24)) ≡ 2))
   -- row 37's map with its two far keys: eleven parents, two holders, and two children of the root
@@ -83,7 +85,8 @@ pub record FactsHold : Type 0 where
       (at_slot 1 1 ∷ at_slot 2 2 ∷ at_slot 4 4 ∷ at_slot 8 8 ∷ at_slot 16 16 ∷ at_slot 32 24 ∷ []) 88
   -- an array of nodes without blocks has the root's slot alone
   pub empty_array : AreBlocksOf child_block_sizes 1 [] [] 1
-  -- row 42: a test that is asked in listing order, and answers true at its first, third and fifth asking
+  -- row 42: a test that is called in listing order, and returns true on its first, third and fifth
+  -- call
   pub odd_askings :
       RetainsEntries (λ f _ (_ : ℕ) b f'. (b ≡ (f % 2 == 0)) × (f' ≡ f + 1)) 0
       ((false ∷ [], 1) ∷ (false ∷ false ∷ [], 2) ∷ (false ∷ false ∷ false ∷ [], 4) ∷ (false ∷ true ∷ [], 3) ∷ (false ∷ true ∷ false ∷ [], 5) ∷ [])
@@ -92,7 +95,8 @@ pub record FactsHold : Type 0 where
   pub not_from_one_state :
       ¬ (RetainsEntries (λ f _ (_ : ℕ) b f'. (b ≡ (f % 2 == 0)) × (f' ≡ f + 1)) 0
       ((false ∷ [], 1) ∷ (true ∷ [], 2) ∷ []) ((false ∷ [], 1) ∷ (true ∷ [], 2) ∷ []))
-  -- row 34: a writing walk that starts behind (5, 8) adds ten to each value that it lends, and no other value changes. It does not end with a key to come
+  -- row 34: a writing walk that starts after (5, 8) adds ten to each value that it lends, and no
+  -- other value changes. It does not end while a key is to come.
   pub written : LeadsTo 8 five_calls (λ t.
       (first : WritingWalk ℕ) × (second : WritingWalk ℕ) × (third : WritingWalk ℕ) × (last : WritingWalk ℕ)
       × Passes (walk_over t.entries t.nodes (listing_after t.entries (path_at 8 (5, 8)))) (path_at 8 (6, 8)) 13 first
@@ -101,7 +105,8 @@ pub record FactsHold : Type 0 where
       × Next third None last
       × ((early : WritingWalk ℕ) → ¬ (Next second None early))
       × (values last.entries ≡ 1 ∷ 2 ∷ 13 ∷ 14 ∷ 15 ∷ []))
-  -- row 47: handing out 192.168.0.0/22 gives a second map of three entries, and both maps have five nodes
+  -- row 47: splitting off 192.168.0.0/22 gives a second map of three entries, and both maps have
+  -- five nodes
   pub split_off : LeadsTo 32 six_calls (λ t.
       (second : State ℕ) × (after : State ℕ) × SplitsOff t (path_at 32 (0xc0a80000, 22)) second after
       × (prefix_pairs (back_at 32) (listing second.entries) ≡ ((0xc0a80000, 22), 2) ∷ ((0xc0a80000, 23), 3) ∷ ((0xc0a80000, 24), 4) ∷ [])

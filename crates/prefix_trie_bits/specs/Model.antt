@@ -1,4 +1,5 @@
--- What contracts compare a map with: its entries, its nodes, and what each call answers and leaves.
+-- The model that contracts compare a map with: its entries, its nodes, its storage, and what each
+-- call returns and changes.
 pub mod Entries
 pub mod Selections
 pub mod Matches

@@ -4,7 +4,7 @@ use Rattle.std.specs.declared.cmp.Ordering.{Ordering}
 use Rattle.std.specs.Ordering.{nat_cmp, on, then_cmp}
 use Rattle.prefix_trie_bits.specs.Bits.{number, digits, zeros, ones}
 
--- the path: the first bits of the address, as many as the length
+-- the path: as many of the address's first bits as the length says
 abbrev pub network_path : ℕ → ℕ × ℕ → List Bool
 network_path width network = take network.1 (digits width network.0)
 

@@ -1,5 +1,6 @@
--- The order of a listing: a string before its extensions, and 0 before 1 at the first difference.
--- From the crate's documentation of its iterators: lexicographic order.
+-- The order of a listing: a string comes before its extensions, and 0 before 1 at the first
+-- difference.
+-- From the Rust crate's documentation of its iterators: lexicographic order.
 use Rattle.std.proofs.Common.{◌≡◌, ◌≢◌, ◌⊎◌, is_eq, ◌<◌, Bool, true, false, List, [], ◌∷◌, ◌++◌, length, refl, arith, Ordering, Less, Equal}
 use Rattle.std.specs.Ordering.{bool_cmp}
 use Rattle.std.specs.Cmp.{IsTotalOrder, bool_cmp_total}
@@ -11,7 +12,7 @@ use Rattle.prefix_trie_bits.specs.Bits.{begins}
 abbrev pub listing_cmp : List Bool → List Bool → Ordering
 listing_cmp = slice_cmp bool_cmp
 
--- whether two strings are one
+-- whether two strings are equal
 abbrev pub same_string : List Bool → List Bool → Bool
 same_string s t = is_eq (listing_cmp s t)
 
@@ -30,7 +31,7 @@ bits-same true true e = refl
 bits-same false false e = refl
 bits-same a b e = cc
 
--- strings that tie are one
+-- strings that tie are equal
 pub listing_same : IsAntisymmetric listing_cmp
 listing_same = slice_cmp-IsAntisymmetric bits-same
 
@@ -40,7 +41,7 @@ listing-refl [] = refl
 listing-refl (true ∷ s) = listing-refl s
 listing-refl (false ∷ s) = listing-refl s
 
--- a common beginning counts for nothing
+-- a common beginning does not matter
 pub listing-common : (s t u : List Bool) → listing_cmp (s ++ t) (s ++ u) ≡ listing_cmp t u
 listing-common [] t u = refl
 listing-common (true ∷ s) t u = listing-common s t u
@@ -55,7 +56,7 @@ listing-extension (true ∷ s) (true ∷ t) e h = listing-extension s t e (omega
 listing-extension (false ∷ s) (false ∷ t) e h = listing-extension s t e (omega (arith, h))
 listing-extension s t e h = cc
 
--- strings that differ within both stay in order whatever follows
+-- strings that differ within both stay in order, whatever follows them
 pub listing-apart : (s t x y : List Bool) → listing_cmp s t ≡ Less → begins s t ≡ false → listing_cmp (s ++ x) (t ++ y) ≡ Less
 unfolding begins
 listing-apart (true ∷ s) (true ∷ t) x y l e = listing-apart s t x y l e

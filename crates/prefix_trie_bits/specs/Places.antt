@@ -1,5 +1,6 @@
--- The places of a node of a tree bitmap (Eatherton, Dittia and Varghese): strings of at most five bits below its path.
--- The numbers of the bits are those of the crate prefix-trie.
+-- The places of a node of a tree bitmap (Eatherton, Dittia and Varghese): strings of at most five
+-- bits under its own string.
+-- The numbers of the bits are those of the Rust crate.
 use Rattle.std.specs.Prelude.{◌≡◌, ◌≢◌, ℕ, zero, suc, ◌+◌, ◌-◌, ◌/◌, ◌%◌, ◌^◌, ◌<◌, ◌≤◌, Bool, true, false, cond, nat_lt, ◌==◌, List, [], ◌∷◌, ◌++◌, length, map, filter, take, slice_index_or}
 use Rattle.std.specs.Int.{bit_at}
 use Rattle.std.specs.Ordering.{is_lt}
@@ -35,12 +36,13 @@ unfoldable pub pick : {X : Type 0} → ℕ → List X → List X
 pick m [] = []
 pick m (x ∷ xs) = cond (m % 2 == 1) (x ∷ pick (m / 2) xs) (pick (m / 2) xs)
 
--- a mask of value bits holds exactly those of the strings that pass a test; there is no value bit 31
+-- the set bits of a mask of value bits are those of the strings that pass a test; there is no value
+-- bit 31
 pub record HoldsValues (mask : ℕ) (test : List Bool → Bool) : Type 0 where
   pub bits : (s : List Bool) → length s ≤ 4 → has mask (value_bit s) ≡ test s
   pub small : mask < 2 ^ 31
 
--- a mask of child bits holds exactly those of the strings that pass a test
+-- the set bits of a mask of child bits are those of the strings that pass a test
 abbrev pub HoldsChildren : ℕ → (List Bool → Bool) → Type 0
 HoldsChildren mask test = (s : List Bool) → length s ≡ 5 → has mask (number s) ≡ test s
 
@@ -48,7 +50,7 @@ HoldsChildren mask test = (s : List Bool) → length s ≡ 5 → has mask (numbe
 abbrev pub is_in : ℕ → ℕ → List Bool → Bool
 is_in values children s = cond (nat_lt (length s) 5) (has values (value_bit s)) (has children (number s))
 
--- a value mask and a child mask hold exactly the places that pass a test
+-- the set bits of a value mask and a child mask are those of the places that pass a test
 pub record HoldsPlaces (values children : ℕ) (test : List Bool → Bool) : Type 0 where
   pub bits : (s : List Bool) → length s ≤ 5 → is_in values children s ≡ test s
   pub small : values < 2 ^ 31
@@ -57,7 +59,8 @@ pub record HoldsPlaces (values children : ℕ) (test : List Bool → Bool) : Typ
 abbrev pub places : ℕ → ℕ → List (List Bool)
 places values children = filter (is_in values children) (strings 5)
 
--- a mask of positions in the listing of all strings holds exactly those of the strings that pass a test
+-- the set bits of a mask of positions, in the listing of all strings, are those of the strings that
+-- pass a test
 abbrev pub HoldsPositions : ℕ → (List Bool → Bool) → Type 0
 HoldsPositions mask test = (i : ℕ) → i < length (strings 5) → has mask i ≡ test (slice_index_or (strings 5) i [])
 
@@ -69,7 +72,7 @@ place_of s = cond (nat_lt (length s) 5) (Value (value_bit s)) (Child (number s))
 abbrev pub is_before : List Bool → List Bool → Bool
 is_before s t = is_lt (listing_cmp s t)
 
--- a value stands in the bitmap at the first j bits of a string
+-- the bitmap has a value at the first j bits of a string
 abbrev pub stands : ℕ → List Bool → ℕ → Bool
 stands bitmap rest j = has bitmap (value_bit (take j rest))
 

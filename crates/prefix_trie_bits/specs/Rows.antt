@@ -1,4 +1,4 @@
--- Worked rows: what lists of calls answer, by subject.
+-- Worked rows: what lists of calls return, by subject.
 pub mod Examples
 pub mod Lookups
 pub mod Walks

@@ -36,7 +36,8 @@ ipv6_full_text network = full_groups (segments_of (to_be_bytes w128 network.0)) 
 abbrev pub slash : ℕ
 slash = 47
 
--- Spells says which texts are those of an address, bits is the number of an address, and width its bits
+-- `Spells` relates a text to an address, `bits` is the number of an address, and `width` is its
+-- number of bits
 module _ {A : Type 0} (Spells : List ℕ → A → Type 0) (bits : A → ℕ) (width : ℕ) (text : List ℕ) where
   -- the text is an address, a slash, and a length up to the width in plain decimal, which has no sign and no leading zero
   pub record IsNetworkText (network : ℕ × ℕ) : Type 0 where
@@ -54,25 +55,25 @@ module _ {A : Type 0} (Spells : List ℕ → A → Type 0) (bits : A → ℕ) (w
   abbrev pub after_slash : List ℕ
   after_slash = after_first (λ c. c == slash) text
 
-  -- why the text is not that of a network
+  -- why a text denotes no network
   abbrev pub IsReason : ParseNetworkError → Type 0
   IsReason MissingSlash = ¬ (Contains text slash)
   IsReason Address = Contains text slash × ((a : A) → ¬ (Spells before_slash a))
   IsReason Length = Contains text slash × ((a : A) × Spells before_slash a) × ((n : ℕ) → n ≤ width → after_slash ≢ decimal n)
 
-  -- what `parse` returns: the network of the text, or why it is the text of none
+  -- the result of `parse`: the network of the text, or why it denotes none
   pub record ParsesNetwork (r : Result (ℕ × ℕ) ParseNetworkError) : Type 0 where
     pub network : Parses (λ _ found. IsNetworkText found) text r
     pub reason : IfErr r IsReason
 
--- the text is one of this network
+-- the text denotes this network
 abbrev pub IsIpv4NetworkText : List ℕ → ℕ × ℕ → Type 0
 IsIpv4NetworkText = IsNetworkText IsIpv4Text ipv4_bits 32
 
 abbrev pub IsIpv6NetworkText : List ℕ → ℕ × ℕ → Type 0
 IsIpv6NetworkText = IsNetworkText IsIpv6Text ipv6_bits 128
 
--- what `parse` returns for the text
+-- the result of `parse` for the text
 abbrev pub ParsesIpv4Network : List ℕ → Result (ℕ × ℕ) ParseNetworkError → Type 0
 ParsesIpv4Network = ParsesNetwork IsIpv4Text ipv4_bits 32
 
@@ -89,7 +90,7 @@ parse_network_error_text Length = codes "invalid length after the slash"
 abbrev pub IsNarrowText : ℕ → List ℕ → ℕ → Type 0
 IsNarrowText width text n = (n < 2 ^ width) × (text ≡ decimal n)
 
--- what `parse` returns: the number of the text, or an error if it is the text of none
+-- the result of `parse`: the number of the text, or an error if it denotes none
 abbrev pub ParsesNarrow : ℕ → List ℕ → Result ℕ ParseNarrowError → Type 0
 ParsesNarrow width = Parses (IsNarrowText width)
 

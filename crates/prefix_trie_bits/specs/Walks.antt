@@ -1,8 +1,8 @@
--- What a walk of one node has still to give. This project's own.
+-- What a walk has still to give of one node. This project's own.
 use Rattle.std.specs.Prelude.{List, Bool}
 use Rattle.prefix_trie_bits.specs.Places.{strings, pick}
 use Rattle.prefix_trie_bits.specs.declared.node.Places.{Places}
 
--- the strings still to come, in listing order
+-- the strings to come, in listing order
 abbrev pub to_come : Places → List (List Bool)
 to_come p = pick p.listing (strings 5)

@@ -1,5 +1,5 @@
-//! What follows from the definitions of the model, and worked rows of it. Each function does nothing: its contract is
-//! a law or a list of rows, so that the check proves it.
+//! Laws of the model and its worked rows, as lemmas for proofs. Each function does nothing at run
+//! time; calling it brings its contract into the proof.
 
 ghost use Rattle.std.specs.Prelude.{◌≡◌, ℕ};
 ghost use Rattle.prefix_trie_bits.specs.Networks.{network_cmp};
@@ -31,180 +31,226 @@ ghost use Rattle.prefix_trie_bits.specs.Rows.Widths.{WidthsHold};
 
 use crate::prefix::{Ipv4Prefix, Ipv6Prefix};
 
-/// The listing has each pair of the map once, in listing order: a string before its extensions, and 0 before 1. So strings of one
-/// length are in the order of their numbers. Of the keys that pass a test the listing is a filter. A walk that starts behind the last
-/// item read gives the rest of the listing. `remove_children` removes exactly what `children` lists, which is what is handed out.
-/// What is below a string is what stands at the places of a node there, one after another.
+/// Brings the laws of listings into the proof.
+///
+/// The listing has each entry once, in listing order: a string before its extensions, and 0 before
+/// 1. So strings of one length are in the order of their numbers, and the listing of the keys that
+/// pass a test is a filter of the whole listing. A walk that starts after the last item read gives
+/// the rest. `remove_children` removes exactly what `children` lists, and returns it. The entries
+/// under a string are those at the places of its node, one after another.
 #[tactic(auto, using(crate::proofs::Model::Listings::listing_laws))]
 pub fn listing_laws<T>()
     ensures { ListingLaws T }
 {}
 
-/// The covers of a question are the pairs whose keys begin it, each longer than the one before; the first is the
-/// shortest match and the last the longest. There is a match exactly if some key begins the question.
+/// Brings the laws of matches into the proof.
+///
+/// The covers of a bit string are the entries whose keys it begins with, each key longer than the
+/// one before. The first is the shortest match and the last the longest. There is a match exactly
+/// if the string begins with some key.
 #[tactic(auto, using(crate::proofs::Model::Matches::match_laws))]
 pub fn match_laws<T>()
     ensures { MatchLaws T }
 {}
 
-/// The nodes that keys need are the root and each beginning of a key whose length is a multiple of five. They are a set
-/// of nodes as each map has one. Setting a key adds its beginnings of such lengths, and setting a stored key or removing
-/// a key leaves such a set without any change.
+/// Brings the laws of the needed nodes into the proof.
+///
+/// Keys need the root and each beginning of a key whose length is a multiple of five. These are the
+/// nodes of a map. Setting a key adds its beginnings of such lengths; setting a stored key and
+/// removing a key leave the nodes of a map as they are.
 pub fn node_laws<T>()
     ensures { NodeLaws T }
 {}
 
-/// A removal takes out exactly the nodes on the way to its own that have no entry and no node off the way left below
-/// them. What it leaves lies between the nodes that the keys left need and those that stood before, is a set of nodes,
-/// and is tidy where it was tidy before.
+/// Brings the laws of pruning into the proof.
+///
+/// A removal removes exactly the nodes on the search path of its key, below the root, that are left
+/// without an entry and without a node off that path. What it leaves contains the needed nodes, is
+/// a set of nodes, and is tidy if it was tidy before.
 #[tactic(auto, using(crate::proofs::Model::Pruning::pruning_laws))]
 pub fn pruning_laws<T>()
     ensures { PruningLaws T }
 {}
 
-/// A lookup reads at least the root, and at most one node for each five bits of the question and one more. Where the
-/// node k levels down is its last one, it reads k + 1. A lookup that stops at the shortest match reads that match's own
-/// node last.
+/// Brings the laws of node visits into the proof.
+///
+/// A lookup reads at least the root, and at most one node for each five bits of its argument plus
+/// one. If the node k levels down is the last one on the search path, it reads k + 1. A lookup that
+/// stops at the shortest match reads that match's own node last.
 #[tactic(auto, using(crate::proofs::Model::Visits::visit_laws))]
 pub fn visit_laws<T>()
     ensures { VisitLaws T }
 {}
 
-/// A map covers at most all addresses, none without entries, and all with a stored prefix of length 0. A stored prefix that no
-/// other one contains has 2^(width - length) of them, and those of the prefixes outside of it are others.
+/// Brings the laws of the address count into the proof.
+///
+/// A map without entries covers no address, and one with a prefix of length 0 covers all. A stored
+/// prefix that no other one contains covers 2^(width - length), and the prefixes outside of it
+/// cover others.
 #[tactic(auto, using(crate::proofs::Model::Outermost::address_laws))]
 pub fn address_laws<T>()
     ensures { AddressLaws T }
 {}
 
-/// Of what there was, the second map has the entries whose keys the prefix begins and the first has the others, and those of the
-/// second set in the first again make what there was. Both are maps, and the second is tidy.
+/// Brings the laws of splitting into the proof.
+///
+/// The second map has the entries whose keys begin with the prefix's path, and the first has the
+/// others. Setting the entries of the second in the first again makes the map that there was. Both
+/// are maps, and the second is tidy.
 #[tactic(auto, using(crate::proofs::Model::SplitsOff::handing_laws))]
 pub fn handing_laws<T>()
     ensures { HandingLaws T }
 {}
 
-/// Every step leaves a map a map, and a tidy one tidy but for `remove_keep_tree`; `retain` and `clear` make any map tidy, and a
-/// tidy map has as many nodes as its keys need. A step leaves each entry that it neither sets nor removes as it was, and a
-/// refused one leaves all as it was. Runs keep maps and tidy maps too, and join. A new key set in a tidy map and removed
-/// again leaves its entries and its nodes as they were.
+/// Brings the laws of steps and runs into the proof.
+///
+/// Every step leaves a map a map, and a tidy map tidy, except `remove_keep_tree`; `retain` and
+/// `clear` make any map tidy. A tidy map has as many nodes as its keys need. A step changes no
+/// entry that it neither sets nor removes, and a refused step changes nothing. Runs keep maps and
+/// tidy maps too, and join. A new key set in a tidy map and removed again leaves entries and nodes
+/// as they were.
 #[tactic(auto, using(crate::proofs::Model::Steps::step_laws))]
 pub fn step_laws<P, T>()
     ensures { StepLaws P T }
 {}
 
-/// A step is determined up to refusal: two steps of one call from one state, neither refused, have the same reply and lead to
-/// the same state. A step is a refusal exactly where the call may be refused for that cause, as the insertion of a new key
-/// may, and a list for want of memory. From each state each call has a step that is no refusal.
+/// Brings into the proof that a step is determined up to refusal.
+///
+/// Two steps of one call from one state that are not refused have the same reply and lead to the
+/// same state. A step is a refusal exactly if the call may be refused for that cause: the insertion
+/// of a new key for either, a listing with `Memory`. From each state each call has a step that is
+/// not a refusal.
 #[tactic(auto, using(crate::proofs::Model::Determined::determined_laws))]
 pub fn determined_laws<P, T>()
     ensures { DeterminedLaws P T }
 {}
 
-/// A step that changes neither entries nor nodes leaves the storage as it was, and so does the insertion of a stored key. What
-/// `clear` and the removal of all leave is the root's slot alone. A refusal leaves the blocks in use as they were. The insertion
-/// of a new key, where it is not refused, fixes the slots and the blocks in use. Where the blocks that it lacks were made before, it
-/// is not refused, and leaves what it would have left at once. Asking a test of lengths at each entry is the call that keeps by length.
+/// Brings the laws of the storage into the proof.
+///
+/// A step that changes neither entries nor nodes leaves the storage unchanged, and so does the
+/// insertion of a stored key. `clear` and the removal of everything leave only the root's slot. A
+/// refusal leaves the used blocks unchanged. The insertion of a new key, if it is not refused,
+/// fixes the slots and the used blocks. If its missing blocks were made before, it is not refused,
+/// and leaves what it would have left at once. Calling a test of lengths on each entry is the call
+/// `RetainAtLeast`.
 #[tactic(auto, using(crate::proofs::Model::Storage::Stored::storage_laws))]
 pub fn storage_laws<P, T>()
     ensures { StorageLaws P T }
 {}
 
-/// An insertion makes at most 56 slots for nodes and 31 for values, a removal of one entry at most 24 of each, and one that keeps all
-/// nodes none for nodes. Each asks that every node has its blocks, as in every map.
+/// Brings the bounds on new slots into the proof.
+///
+/// An insertion makes at most 56 slots for nodes and 31 for values. A removal of one entry makes at
+/// most 24 of each, and none for nodes if it keeps all nodes. Each law requires that every node has
+/// its blocks, as in every map.
 #[tactic(auto, using(crate::proofs::Model::Storage::Slots::slot_laws))]
 pub fn slot_laws<P, T>()
     ensures { SlotLaws P T }
 {}
 
-/// From every map of keys of up to 128 bits, however it is stored, each call whose prefix fits has a step that is no refusal, and leads
-/// to such a map again; but the insertion of a new key whose lacking blocks would pass the limit has refusals alone, and one for want
-/// of slots. Where a block lacks that would not, there is one for want of memory too, as a list always has; a refusal may leave all
-/// as it was. So each list of such calls has a run. Each step leads to such a map.
+/// Brings into the proof that calls have steps.
+///
+/// From every map of keys of up to 128 bits, however it is stored, each call whose prefix fits has
+/// a step that is not a refusal, and leads to such a map. The exception is the insertion of a new
+/// key whose missing blocks would exceed the limit: it has only refusals. If one of the missing
+/// blocks would fit, `Memory` is possible too, as it always is for a listing; a refusal may leave
+/// everything unchanged. So each list of such calls has a run.
 #[tactic(auto, using(crate::proofs::Model::Total::total_laws))]
 pub fn total_laws<P, T>()
     ensures { TotalLaws P T }
 {}
 
-/// A run with its counts is a run. At its end the map is tidy where the calls leave it so. At each point of it there are two runs:
-/// of the calls before, and of those to come. The number of nodes that a call reads is one number; behind a call that leaves only
-/// needed nodes the map is known to be tidy.
+/// Brings the laws of runs with counts into the proof.
+///
+/// A run with its counts is a run. At its end the map is tidy if the calls leave it so. It can be
+/// cut at each point into two runs: of the calls before and of those to come. The number of nodes
+/// that a call reads is unique. After a call that leaves only needed nodes, the map is known to be
+/// tidy.
 #[tactic(auto, using(crate::proofs::Model::Counted::counted_laws))]
 pub fn counted_laws<P, T>()
     ensures { CountedLaws P T }
 {}
 
-/// Worked rows: exact lookups, and longest and shortest matches.
+/// Proves the worked rows on exact lookups and on longest and shortest matches.
 #[tactic(auto, using(crate::proofs::Model::Worked::Rows::lookups_hold))]
 pub fn worked_lookups()
     ensures { LookupsHold }
 {}
 
-/// Worked rows: listings, cursors and children.
+/// Proves the worked rows on listings, cursors and children.
 #[tactic(auto, using(crate::proofs::Model::Worked::Rows::walks_hold))]
 pub fn worked_walks()
     ensures { WalksHold }
 {}
 
-/// Worked rows: what removals leave of the entries and of the nodes.
+/// Proves the worked rows on what removals leave of the entries and the nodes.
 #[tactic(auto, using(crate::proofs::Model::Worked::Rows::removals_hold))]
 pub fn worked_removals()
     ensures { RemovalsHold }
 {}
 
-/// Worked rows: maps that are full, and new keys refused for want of slots.
+/// Proves the worked rows on full maps and on new keys refused with `IndexRange`.
 #[tactic(auto, using(crate::proofs::Model::Worked::Rows::limits_hold))]
 pub fn worked_limits()
     ensures { LimitsHold }
 {}
 
-/// Worked rows: each width, and the last node of each.
+/// Proves the worked rows on each width and its last node.
 #[tactic(auto, using(crate::proofs::Model::Worked::Rows::widths_hold))]
 pub fn worked_widths()
     ensures { WidthsHold }
 {}
 
-/// Worked rows: how many addresses a map covers.
+/// Proves the worked rows on the number of covered addresses.
 #[tactic(auto, using(crate::proofs::Model::Worked::Rows::addresses_hold))]
 pub fn worked_addresses()
     ensures { AddressesHold }
 {}
 
-/// Worked facts that no reply shows: visits, holders and parents, block sizes, tilings, the order of asking, a writing
-/// walk and handing out.
+/// Proves worked facts that no reply contains: visits, holders and parents, block sizes, tilings,
+/// calls of a test, a writing walk and a split.
 #[tactic(auto, using(crate::proofs::Model::Worked::Examples::facts_hold))]
 pub fn worked_facts()
     ensures { FactsHold }
 {}
 
-/// Worked facts on blocks by their numbers: which block holds a list, which it needs, how blocks step down, how arrays grow and
-/// how blocks tile them; each with what is refused.
+/// Proves worked facts on blocks: which block holds a list, which it needs, how blocks step down,
+/// how arrays grow and how blocks tile them.
+///
+/// Each has an example that the definition excludes.
 #[tactic(auto, using(crate::proofs::Model::Worked::Blocks::blocks_hold))]
 pub fn worked_blocks()
     ensures { BlocksHold }
 {}
 
-/// Worked facts on the blocks that an insertion needs, the slots that it lacks and when these pass a limit, on the maps of rows;
-/// and on which keys are a node's own.
+/// Proves worked facts on the blocks that an insertion needs, on the missing slots and the limit,
+/// and on which keys a node holds.
 #[tactic(auto, using(crate::proofs::Model::Worked::Insertions::insertions_hold))]
 pub fn worked_insertions()
     ensures { InsertionsHold }
 {}
 
-/// Worked facts on storages that no step leaves: blocks lost, moved unasked or left over, arrays too long or too short, and
-/// refusals without cause.
+/// Proves worked facts on storages that no step leaves.
+///
+/// Blocks are lost, moved without need or left over, arrays are too long or too short, or a refusal
+/// has no cause.
 #[tactic(auto, using(crate::proofs::Model::Worked::Steps::steps_hold))]
 pub fn worked_storages()
     ensures { StepsHold }
 {}
 
-/// What `Display` writes of a network or of a number is read back by `parse`, and a text is of one network at most.
+/// Brings the laws of texts into the proof.
+///
+/// `parse` reads back what `Display` writes of a network or a number, and a text denotes at most
+/// one network.
 #[tactic(auto, using(crate::proofs::Texts::Laws::text_laws))]
 pub fn text_laws()
     ensures { TextLaws }
 {}
 
-/// The order of networks: of networks without host bits, `Ord` is the order in which a map lists them.
+/// Brings the laws of the order of networks into the proof.
+///
+/// `Ord` puts networks without host bits in the order in which a map lists them.
 #[tactic(auto, using(crate::proofs::Networks::Order::network_order_laws))]
 pub fn network_order_laws()
     ensures listing { NetworkOrderLaws }

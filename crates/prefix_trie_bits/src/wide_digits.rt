@@ -1,4 +1,5 @@
-//! What a key of at most 128 bits computes on its number, as `digits` does for 64, where shifts are cheaper.
+//! What a key of at most 128 bits computes on its number, as `digits` does for 64 bits, where
+//! shifts cost less.
 ghost use Rattle.std.specs.Prelude.{◌≡◌, ℕ, ◌+◌, ◌-◌, ◌*◌, ◌/◌, ◌%◌, ◌^◌, ◌<◌, ◌≤◌, ◌++◌, List, Bool, take, drop};
 ghost use Rattle.prefix_trie_bits.specs.Bits.{number, digits, zeros};
 

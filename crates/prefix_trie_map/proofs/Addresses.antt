@@ -1,7 +1,7 @@
 -- What a walk over the outermost entries adds up to.
 use Rattle.prefix_trie_map.proofs.Prelude.{◌≡◌, ℕ, ◌+◌, ◌-◌, ◌^◌, ◌<◌, ◌≤◌, Bool, not, List, [], length, take, Some, None, refl, sym, ap, ◌∙◌, subst, arith, pow_pos, length-take-le, length-filter_both, option_map, number, zeros, begins, zero_bits, number_of_digits, number-lt, KeyLaws, address_answer, Entries, listing, IsCounted, counted-start, counted-next, counted-end, counted-all, answer-number, GivesOutermost}
 
--- a key's number, and the power that stands for an entry
+-- the sum of a key's number and the power of an entry's addresses
 pub sum-with-power : (n p w width len : ℕ) → p ≡ 2 ^ (width - len) → width ≡ w → n + p ≡ n + 2 ^ (w - len)
 sum-with-power n p w width len e is = ap (λ x. n + x) (e ∙ ap (λ k. 2 ^ (k - len)) is)
 
@@ -40,7 +40,7 @@ module _ {K T : Type 0} {w : ℕ} {IsKey : K → Type 0} {bits : K → List Bool
       let whole : w ≡ w - len = omega (arith, none) in
       adds-past m old new n key len g c (omega (arith, ap (λ k. 2 ^ k) whole))
 
-  -- after the last entry the sum is the answer
+  -- after the last entry the sum is the result
   pub adds-up : (m : Entries T) (es : List (List Bool × T)) (total : K) → IsKey total → es ≡ [] → IsCounted w m es (number (bits total)) → option_map (λ r. number (bits r)) (Some total) ≡ address_answer w m
   adds-up m es total is_key e c =
       answer-number w m (number (bits total)) (counted-end w m es (number (bits total)) e c)

@@ -1,4 +1,4 @@
--- Many lookups in one call: what a group of them reads and finds, and one answer more.
+-- Many lookups in one call: what a group of them reads and finds, and one more result.
 use Rattle.prefix_trie_map.proofs.Prelude.{◌≡◌, ℕ, ◌+◌, ◌-◌, ◌<◌, ◌≤◌, Bool, List, [], ◌∷◌, ◌++◌, Option, None, Some, Bor, refl, map, set, take, drop, length, get_or, sum_by, slice_range, sym, ap, ap₂, ◌∙◌, subst, arith, add-sub_of_le, length-drop, option_map, drop-take, get_or_append_left, get_or-drop, get_or-map, get_or-take, length-map, length-take-le, map-append, take_more, take_more_set, take-take, sum_by-take-drop, sum_by_push, Entries, longest_match, Nodes, visits, Node, Found, AreAnswers, asks, questions_of, AreAnswered, AreFound, ReadsMore, visits_of_all, take_all}
 use Rattle.prefix_trie_map.proofs.Lookups.{Finds, by_bits}
 
@@ -22,7 +22,7 @@ reads_one path nodes prefixes n inside p is asked same start before after so_far
     = ap (visits_of_all path nodes) (take_more prefixes n p inside) ∙ sum_by_push (λ x. visits nodes (path x)) (take n prefixes) (get_or prefixes n p) in
     omega (arith, so_far, read, here, more)
 
--- what was found for a group, in front of what stood behind
+-- what was found for a group, before what was found for those after it
 pub found_more : {P K : Type 0} (bits : K → List Bool) (number : P → K) (len : P → ℕ) (nodes : List Node) (prefixes : List P) (from n : ℕ) (found rest : List (Option Found))
     → from + n ≤ length prefixes → length found ≡ n → AreAnswers bits nodes (questions_of number len (slice_range prefixes from (from + n))) found
     → AreFound bits number len nodes prefixes from n (found ++ rest)
@@ -35,7 +35,7 @@ found_more bits number len nodes prefixes from n found rest space long answers i
     subst (λ l. AreAnswers bits nodes (questions_of number len l) found) group answers i q a (omega (arith, fits, length-map (take n (drop from prefixes)) (asks number len)))
     (sym (get_or-map (asks number len) (take n (drop from prefixes)) i p q fits ∙ ap (asks number len) read)) (a_is ∙ get_or_append_left found rest a i (omega (arith, inside, long)))
 
--- one answer more
+-- one more result
 pub answered_more : {P X Y : Type 0} (shows : X → Y) (answer : P → Y) (prefixes : List P) (out : List X) (n m : ℕ) → AreAnswered shows answer prefixes out n → m ≡ n + 1
     → n < length out → n < length prefixes → (p : P) → p ≡ get_or prefixes n p → (x : X) → shows x ≡ answer p → AreAnswered shows answer prefixes (set out n x) m
 answered_more shows answer prefixes out n m so_far more space inside p is x shown =
@@ -44,7 +44,7 @@ answered_more shows answer prefixes out n m so_far more space inside p is x show
     ∙ ap₂ (λ l y. l ++ y ∷ []) so_far (shown ∙ ap answer is)
     ∙ sym (ap (map answer) (take_more prefixes n p inside) ∙ map-append answer (take n prefixes) (get_or prefixes n p ∷ [])))
 
--- a match of the table, as what the answer is right for
+-- a match of the table, as what the result is right for
 pub right_match : {T Y : Type 0} (entries : Entries T) (right : Option (List Bool × T) → Y) (bits : List Bool) (len : ℕ) (path : List Bool) → take len bits ≡ path → (found : Option (ℕ × Bor T))
     → Finds bits len (longest_match entries (take len bits)) found → (shown : Y) → shown ≡ right (option_map (λ f. (take f.0 bits, f.1.now)) found)
     → shown ≡ right (longest_match entries path)
@@ -56,7 +56,7 @@ pub values_found : {X Y V : Type 0} (key : X → Y) (found : Option (X × Bor V)
 values_found key None = refl
 values_found key (Some f) = refl
 
--- the answers to all
+-- the results for all prefixes
 pub answered_all : {P X Y : Type 0} (shows : X → Y) (answer : P → Y) (prefixes : List P) (out : List X) (n : ℕ) → AreAnswered shows answer prefixes out n → length prefixes ≤ n → length out ≤ n
     → map shows out ≡ map answer prefixes
 answered_all shows answer prefixes out n so_far all space = sym (ap (map shows) (take_all n out space)) ∙ so_far ∙ ap (map answer) (take_all n prefixes all)

@@ -1,4 +1,4 @@
--- Items that are inserted in turn.
+-- Items that are inserted in order: for `from_iter`.
 use Rattle.prefix_trie_bits.specs.Model.Insertion.{MissingFitsLimit}
 use Rattle.prefix_trie_bits.specs.Model.Space.{Space}
 use Rattle.prefix_trie_map.proofs.Prelude.{◌≡◌, ℕ, ◌+◌, ◌-◌, ◌*◌, ◌^◌, ◌<◌, ◌≤◌, Bool, List, [], ◌∷◌, ◌++◌, length, refl, sym, ap, ◌∙◌, inl, inr, arith, subst, length-append, Refusal, Memory, Entries, no_entries, put_all, with_entry, IsTidy, needed, root_alone, with_needed, MayPassLimit, Insert, Reply, StepByPath, needed_insert, tidy-no_entries, slot_laws, Contents, Puts, ManyMayPassLimit, stored_state, IsWhole}
@@ -26,7 +26,7 @@ module _ {P T : Type 0} (path : P → List Bool) where
         cell_slots = slots.cell_slots;
       }
 
-  -- one that was refused for want of memory
+  -- an item that was refused with `Memory`
   pub refused_one : {width : ℕ} (before after : Contents T) (prefix : P) (value : T) (cause : Refusal) → (after.entries ≡ before.entries) × (after.nodes ≡ before.nodes)
       → StepByPath width (stored_state before) (Insert (path prefix) value) (Reply.Refused cause) (stored_state after)
       → cause ≡ Memory → MissingFitsLimit after.entries after.nodes after.space after.layout (path prefix)

@@ -1,4 +1,4 @@
--- What a map becomes where an entry is filled.
+-- What a map becomes when an entry is filled.
 use denote.Param.Members.{Once}
 use Rattle.prefix_trie_map.proofs.Prelude.{◌≡◌, Bool, cond, List, None, Some, MutBor, inl, refl, sym, ap, ◌∙◌, true≢false, subst, arith, get, Refusal, IndexRange, with_entry, with_needed, Insert, Value, StepByPath, Contents, with_value_at, is_none-None, stored_state, IsWhole, VacantEntry, OccupiedEntry, Vacant, Occupied, Fills, RefusesToFill, ModifiesEntry}
 use Rattle.std.specs.declared.cmp.PartialEq as partial
@@ -23,7 +23,7 @@ module _ {P T A R : Type 0} {p : prefix.Ghosts P R} {shows : debug.Ghosts P} {k 
           (written_step k.bit_width e.map.now new (p.path e.key) v None w step);
     }
 
-    -- the same, where the key was handed on, and its path to the call that lends
+    -- the same if the key was passed on, and its path to the call that lends
     pub Fills-lent : (key : P) (q : List Bool) (v w : T) → key ≡ e.key → q ≡ p.path e.key
         → new.entries ≡ with_entry e.map.now.entries (p.path key) v → new.nodes ≡ with_needed e.map.now.nodes (p.path key)
         → StepByPath k.bit_width (stored_state e.map.now) (Insert (p.path key) v) (Value None) (stored_state new)
@@ -45,7 +45,7 @@ module _ {P T A R : Type 0} {p : prefix.Ghosts P R} {shows : debug.Ghosts P} {k 
           (subst (λ y. StepByPath k.bit_width (stored_state e.map.now) (Insert (p.path y) v) (Value None) (stored_state new)) is step);
     }
 
-    -- and where it was refused
+    -- and if it was refused
     pub Refuses-handed : (key : P) (cause : Refusal) → key ≡ e.key → new.entries ≡ e.map.now.entries → new.nodes ≡ e.map.now.nodes
         → ((v : T) → StepByPath k.bit_width (stored_state e.map.now) (Insert (p.path key) v) (Refused cause) (stored_state new))
         → RefusesToFill (Vacant e) cause new

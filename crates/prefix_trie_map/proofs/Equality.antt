@@ -2,7 +2,7 @@
 use Rattle.prefix_trie_map.proofs.Prelude.{◌≡◌, Bool, true, false, ◌&&◌, List, [], ◌∷◌, Option, None, Some, MatchOption, IfSome, sym, ap, ◌∙◌, subst, pointwise, YieldsThen, ComparesItemsByEq, AllZip, TakesFirst}
 
 module _ {A X : Type 0} (shows : A → X) (equal : X → X → Bool) where
-  -- what is answered after two steps
+  -- the result after two steps
   abbrev Last : Bool → Option A → Option A → Type 0
   Last r o p = MatchOption o (MatchOption p (r ≡ true) (λ _. r ≡ false)) (λ x. (r ≡ false) × IfSome p (λ y. equal (shows x) (shows y) ≡ false))
 

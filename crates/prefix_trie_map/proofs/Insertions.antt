@@ -1,4 +1,4 @@
--- The map without entries, and what an insertion answers and leaves where it is a step of the model.
+-- The map without entries, and what an insertion returns and leaves if it is a step of the model.
 use Rattle.prefix_trie_map.proofs.Prelude.{◌≡◌, ℕ, ◌%◌, Bool, true, false, ◌&&◌, List, length, cond, Option, Result, is_some, Ok, Err, IfOk, OnOk, OnErr, refl, sym, ap, ◌∙◌, inl, inr, eqb-true, true≢false, get, contains_key, get-empty, Refusal, Refused, begins, listing_cmp, IsMap, Entries, no_entries, with_entry, Nodes, has_node, root_alone, is_node_depth, with_needed, AreNodes, State, Reply, Step, Insert, or-cases, or-left, and-first, and-second, needs, same_nodes, has-with_needed, AreNodes-no_entries, insert_reply}
 use Rattle.prefix_trie_map.proofs.Steps.{one_value}
 
@@ -20,7 +20,7 @@ module _ {T : Type 0} where
       same_nodes (with_needed n s) n (λ q. stands width m n s q good stored)
       (λ q e. has-with_needed n s q ∙ or-left (has_node n q) (begins q s && is_node_depth q) e)
 
-  -- what an insertion at q answers and leaves
+  -- what an insertion at q returns and leaves
   pub record Inserts (s t : State T) (q : List Bool) (v : T) (result : Result (Option T) (Refused T)) : Type 0 where
     pub before : IfOk result (λ before. before ≡ get s.entries q)
     pub entries : OnOk result (t.entries ≡ with_entry s.entries q v)
@@ -35,7 +35,7 @@ module _ {T : Type 0} where
     needed_all true is = sym (with_needed-stored width s.entries s.nodes q good is)
     needed_all false is = refl
 
-    -- it is what the step says
+    -- this is what the step says
     pub inserts_are : (result : Result (Option T) (Refused T)) → Step (λ k. k) (λ k. k) width s (Insert q v) (insert_reply result) t → Inserts s t q v result
     inserts_are (Ok before) (inl (e, left)) = record {
       before = one_value _ _ e;

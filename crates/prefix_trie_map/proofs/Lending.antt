@@ -1,4 +1,4 @@
--- A map stays one where a value of it is written over.
+-- A map stays a map when one of its values is overwritten.
 use Rattle.prefix_trie_map.proofs.Prelude.{◌≡◌, ℕ, Bool, true, false, List, Option, None, Some, if◌then◌else◌, is_some, MatchOption, IfSome, refl, sym, ap, ◌∙◌, subst, inl, inr, get, contains_key, option_map, option_copied_mut, ghost_name_of, IsMap, longest_match, prefix_pair, match_laws, AreNodes-stored, key_cases, Contents, with_value_at, with_stored_at, with_match_at, with_longest_at, lent_beside, state, lent_item_mut}
 use borrow.Follows.Closed.{read_of}
 use Rattle.std.specs.Borrow.{MutBor}
@@ -31,7 +31,7 @@ module _ {T : Type 0} (width : ℕ) (m : Contents T) (good : IsMap width (state 
     pub IsMap-with_longest_at : IsMap width (state (with_longest_at m q x))
     IsMap-with_longest_at = at_match (longest_match m.entries q) refl
 
--- where the value at a path is lent, a value is stored there
+-- if the value at a path is lent, a value is stored there
 pub stored_lent : {T : Type 0} (m : Contents T) (q : List Bool) (r : Option (MutBor T)) → option_copied_mut r ≡ get m.entries q →
     read_of (ghost_name_of r) (with_stored_at m q) m ≡ read_of (ghost_name_of r) (with_value_at m q) m
 stored_lent m q None e = refl

@@ -30,7 +30,7 @@ module _ {K P : Type 0} {w : ℕ} {IsKey : K → Type 0} {bits : K → List Bool
     covers_fit = λ m within q. covers_fit laws m within q;
   }
 
--- a test that may be asked at each stored key, whatever state it is in, may be asked at each in turn
+-- a test that may be called on each stored key, in any state, may be called on each in order
 module _ {F T : Type 0} (asks : F → List Bool → T → Bool → F → Type 0) (accepts : F → List Bool → T → Type 0) where
   may_ask_each : (f : F) (es : List (List Bool × T)) → All (λ e. (f' : F) → accepts f' e.0 e.1) es → CallableOnEachEntry asks accepts f es
   may_ask_each f [] all = tt

@@ -18,7 +18,7 @@ module _ {P T : Type 0} (back : List Bool → P) where
   shows bits len m None none = ap (prefix_pair back) (sym none)
   shows bits len m (Some f) some = ap (prefix_pair back) (by_bits bits len m (Some f) some)
 
-  -- so a match rebuilt is that of the map at the prefix's path
+  -- so a rebuilt match is the match of the map at the prefix's path
   pub shows_match : (best : Entries T → List Bool → Option (List Bool × T)) (inside now : Entries T) → inside ≡ now →
       (bits : List Bool) (len : ℕ) (path : List Bool) → take len bits ≡ path → (found : Option (ℕ × Bor T)) → Finds bits len (best inside (take len bits)) found →
       (result : Option (P × Bor T)) → option_map lent_item result ≡ option_map (λ f. (back (take f.0 bits), f.1.now)) found →

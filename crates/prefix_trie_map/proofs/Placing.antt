@@ -41,10 +41,10 @@ module _ {T : Type 0} (width : ℕ) (old new : Contents T) (q : List Bool) (abse
     );
   }
 
--- ---- by the answer
+-- ---- by the result
 
 module _ {T : Type 0} (width : ℕ) (old new : Contents T) (q : List Bool) (v : T) where
-  -- what placing a new key says of the map, by its answer
+  -- what inserting a new key says of the map, by its result
   pub record Places {X : Type 0} (r : Result X (Refused T)) : Type 0 where
     pub entries : OnOk r (new.entries ≡ with_entry old.entries q v)
     pub nodes : OnOk r (new.nodes ≡ with_needed old.nodes q)
@@ -66,10 +66,10 @@ module _ {T : Type 0} (width : ℕ) (old new : Contents T) (q : List Bool) (v : 
         refuses = refused_step width old new q absent h.space e.cause same.0 same.1 (h.storage.2 e.cause refl) (λ i. h.index_range (ap Reply.Refused i));
       }
 
--- the same of making its blocks alone
+-- the same for making only its blocks
 
 module _ {T S E : Type 0} (width : ℕ) (cause : E → Refusal) (old new : Contents T) (q : List Bool) where
-  -- where its blocks are made, or refused
+  -- whether its blocks are made or refused
   pub space_refused : (result : Result S E) → contains_key old.entries q ≡ false → LeavesSpace (len old.nodes) old.space new.space
       → (new.entries ≡ old.entries) × (new.nodes ≡ old.nodes)
       → MatchResult result (λ _. PreparesInStorage (state old) q (storage old) (storage new)) (λ e. RefusesInStorage (state old) q (cause e) (storage old) (storage new))

@@ -1,12 +1,12 @@
 -- Which refusals there are.
 use Rattle.prefix_trie_map.proofs.Prelude.{◌≡◌, ◌↔◌, ℕ, suc, Result, Ok, Err, IfErr, refl, arith, Refusal, Memory, IndexRange}
 
--- where a limit of some slots is no reason, memory is
+-- if a limit of some slots is no cause, memory is
 pub only_memory : (cause : Refusal) (limit : ℕ) → (cause ≡ IndexRange → suc limit ≡ 0) → cause ≡ Memory
 only_memory Memory limit h = refl
 only_memory IndexRange limit h = absurd (omega (arith, h refl))
 
--- so of an answer
+-- so for a result
 pub refused_for_memory : {X : Type 0} (answer : Result X Refusal) (limit : ℕ) → IfErr answer (λ cause. (cause ≡ IndexRange) ↔ (suc limit ≡ 0)) →
     IfErr answer (λ cause. cause ≡ Memory)
 refused_for_memory (Ok x) limit h = tt

@@ -1,5 +1,5 @@
--- What a step of a writing walk says of its first entry, that a walk that may have no map steps as what it goes over does, and which keys
--- are to come of a walk.
+-- What a step of a writing walk says of its first entry, that a walk that may have no map steps as
+-- what it goes over does, and which keys are to come of a walk.
 use Rattle.prefix_trie_map.proofs.Prelude.{◌≡◌, Bool, true, List, [], ◌∷◌, map, Option, None, Some, MatchOption, IfSome, IfNone, refl, sym, ap, ◌∙◌, subst, contains_key, Contents, with_value_at, IsCursorIn, IsCursorIn-prop, GivesKey, keys_to_come, Cursor, pending_again, MapCursor, CursorItem, keys_left, as_walk, key_at, IsItemAt, HasValueAt, with_written, IsFirst, GoesOver, ComesToEnd, StartsOver, lent_beside, EndsIn, StepsIn}
 use Rattle.std.specs.Borrow.{MutBor}
 use Rattle.std.specs.declared.cmp.PartialEq as partial
@@ -10,7 +10,7 @@ use Rattle.prefix_trie_bits.specs.declared.prefix.Key as key
 module _ {P T A R : Type 0} {p : prefix.Ghosts P R} {shows : debug.Ghosts P} {k : key.Ghosts R} {same : partial.Ghosts R} {writes : debug.Ghosts R}
     (c : MapCursor P T A R p shows k same writes) (cursor : Cursor R) (stands : IsCursorIn k.bits k.bit_width c.map.now.build cursor) (item : CursorItem R)
     (gives : GivesKey k.IsKey k.bits k.bit_width c.map.now.build item.key item.len item.seat (keys_left c) (keys_to_come k.bits c.map.now.entries cursor)) where
-  -- the course, gone on along this trail
+  -- the map's cursor, moved on to this cursor
   abbrev gone : MapCursor P T A R p shows k same writes
   gone = record { map = c.map; cursor = cursor; stands = stands }
 
@@ -33,12 +33,12 @@ module _ {P T A R : Type 0} {p : prefix.Ghosts P R} {shows : debug.Ghosts P} {k 
   }
 
 module _ {P T A R : Type 0} {p : prefix.Ghosts P R} {shows : debug.Ghosts P} {k : key.Ghosts R} {same : partial.Ghosts R} {writes : debug.Ghosts R} where
-  -- of a walk that starts, those of its selection
+  -- for a walk that starts, the keys of its selection
   pub left_at_start : (m : MutBor (Contents T)) (selection : List (List Bool × T)) (c : MapCursor P T A R p shows k same writes) → StartsOver m selection c →
       keys_left c ≡ map (λ e. e.0) selection
   left_at_start m selection c starts = ap (λ w. w.to_come) starts.starts
 
-  -- of a walk that has gone on over one, those behind it
+  -- for a walk that has gone on over one key, the keys after it
   pub left_behind : (c n : MapCursor P T A R p shows k same writes) (value : T) (goes : GoesOver c value n) → keys_left c ≡ goes.key ∷ keys_left n
   left_behind c n value goes =
       let passes = goes.passes None in
@@ -48,7 +48,7 @@ module _ {P T A R : Type 0} {p : prefix.Ghosts P R} {shows : debug.Ghosts P} {k 
   pub none_left : (c n : MapCursor P T A R p shows k same writes) (ends : ComesToEnd c n) → keys_left n ≡ []
   none_left c n ends = ap (λ w. w.to_come) (ends.ends None).1 ∙ (ends.ends None).0
 
--- a value written at a stop leaves the course as it was, but for the map
+-- a value written to an item leaves the cursor unchanged, except its map
 pub written_there : {P T A R : Type 0} {p : prefix.Ghosts P R} {shows : debug.Ghosts P} {k : key.Ghosts R} {same : partial.Ghosts R} {writes : debug.Ghosts R}
     (c : MapCursor P T A R p shows k same writes) (item : CursorItem R) (w : T) (stands : IsCursorIn k.bits k.bit_width c.map.now.build c.cursor) →
     record { map = record c.map { now = with_value_at c.map.now (key_at c item) w }; cursor = c.cursor; stands = stands } ≡ with_written c item w
@@ -67,7 +67,7 @@ stepped IsAt Holds with First Passes Ends o a b is None h = subst (λ p. EndsIn 
 stepped IsAt Holds with First Passes Ends o a b is (Some x) h =
     subst (λ p. StepsIn IsAt Holds with First Passes p x.0 x.1 (Some b)) (sym is) (record { is_at = h.0; first = h.1; passes = h.2 })
 
--- a value lent for an entry, whose prefix was handed out beside it
+-- a value lent for an entry whose prefix was returned beside it
 module _ {Q V : Type 0} (IsOver : Type 0) (First : Q → V → Type 0) (prefix : Option Q) where
   abbrev pub HasFirst : Option (MutBor V) → Type 0
   HasFirst o = MatchOption o IsOver (λ x. (q : Q) × (prefix ≡ Some q) × First q x.now)

@@ -8,15 +8,16 @@ use Rattle.prefix_trie_table.specs.declared.allocator.node.Node.{Node}
 use Rattle.prefix_trie_table.specs.declared.table.bulk.Found.{Found}
 use Rattle.prefix_trie_table.specs.Bulk.{IsAnswer, asks}
 
--- how many nodes there are on the ways to these prefixes, a node on several ways once for each
+-- the number of nodes on the search paths of these prefixes; a node on several paths counts once
+-- for each
 abbrev pub visits_of_all : {P : Type 0} → (P → List Bool) → Nodes → List P → ℕ
 visits_of_all path n prefixes = sum_by (λ p. visits n (path p)) prefixes
 
--- what an answer to a prefix has to show, by what it has to show of a match
+-- what the result for a prefix has to be, given what it has to be for a match
 abbrev pub right_for : {P T Y : Type 0} → (Option (List Bool × T) → Y) → (P → List Bool) → Entries T → P → Y
 right_for right path m p = right (longest_match m (path p))
 
--- the first n answers are those to the first n prefixes
+-- the first n results are those for the first n prefixes
 abbrev pub AreAnswered : {P X Y : Type 0} → (X → Y) → (P → Y) → List P → List X → ℕ → Type 0
 AreAnswered shows answer prefixes out n = map shows (take n out) ≡ map answer (take n prefixes)
 

@@ -1,10 +1,11 @@
--- What `retain` asks of a user's test, by the prefixes that it shows. This project's own.
+-- What `retain` requires of a user's test, stated for the prefixes that it gets. This project's
+-- own.
 use Rattle.std.specs.Prelude.{◌≡◌, Bool, List}
 use Rattle.std.specs.Borrow.{Bor}
 use Rattle.std.specs.Fn.{Mut, Takes, Called}
 
 module _ {F P T : Type 0} (g : Mut F (Bor P × (Bor T × Unit {0})) Bool) (back : List Bool → P) where
-  -- a call of f at the prefix with the path k and at the value v may answer b, and leave f as f'
+  -- a call of f on the prefix with the path k and on the value v can return b and leave f as f'
   pub record CalledAtEntry (f : F) (k : List Bool) (v : T) (b : Bool) (f' : F) : Type 0 where
     pub prefix : Bor P
     pub value : Bor T

@@ -1,4 +1,4 @@
--- Maps of items that were inserted in turn. This project's own.
+-- Maps of items that were inserted in order. This project's own.
 use Rattle.std.specs.Prelude.{◌≡◌, ◌⊎◌, ℕ, ◌+◌, ◌*◌, ◌<◌, ◌≤◌, Bool, List, length}
 use Rattle.prefix_trie_bits.specs.Model.Entries.{put_all}
 use Rattle.prefix_trie_bits.specs.Model.Nodes.{IsTidy}

@@ -5,9 +5,9 @@ use Rattle.prefix_trie_bits.specs.Model.Matches.{covers, first_item, last_item, 
 use Rattle.prefix_trie_bits.specs.Model.Selections.{prefix_pairs}
 
 pub record CoverLaws (P T : Type 0) : Type 0 where
-  -- `get_lpm` answers the last of the items that `cover` lists
+  -- `get_lpm` returns the last of the items that `cover` lists
   pub longest_is_last : (back : List Bool → P) (m : Entries T) (q : List Bool) → prefix_pair back (longest_match m q) ≡ last_item (prefix_pairs back (covers m q))
-  -- `get_spm` answers the first of them
+  -- `get_spm` returns the first of them
   pub shortest_is_first : (back : List Bool → P) (m : Entries T) (q : List Bool) → prefix_pair back (shortest_match m q) ≡ first_item (prefix_pairs back (covers m q))
-  -- `is_covered` answers whether there are any
+  -- `is_covered` returns whether there are any
   pub some_covers : (back : List Bool → P) (m : Entries T) (q : List Bool) → (is_some (shortest_match m q) ≡ true) ↔ (prefix_pairs back (covers m q) ≢ [])

@@ -1,5 +1,6 @@
--- What an entry shows: its map, its key and the value there; and what the map becomes. From the crate's documentation of
--- entries; that filling may be refused, and what it leaves then, is this project's own.
+-- What an entry is for contracts: its map, its key and the value there; and what the map becomes.
+-- From the Rust crate's documentation of entries. When filling fails, and what it leaves then, is
+-- this project's own.
 use Rattle.std.specs.Prelude.{◌≡◌, Bool, true, cond, List, [], Option, Some, is_some, Result, IfErr, refl}
 use Rattle.std.proofs.Common.{ap, ◌∙◌}
 use Rattle.std.specs.Borrow.{Lends, LendsSoOk, Fml, RattleType, MutBor}
@@ -26,7 +27,7 @@ use Rattle.prefix_trie_map.specs.declared.map.entry.OccupiedEntry.{OccupiedEntry
 pub use Rattle.prefix_trie_map.specs.declared.map.entry.Entry.TheVariants.{Occupied, Vacant}
 
 module _ {F T : Type 0} where
-  -- a call of f at a reference to v may leave w behind it
+  -- a call of f on a reference to v can leave w in it
   pub record MayLeave (g : Once F (MutBor T × Unit {0}) (Unit {0} × (MutBor T × Unit {0}))) (f : F) (v w : T) : Type 0 where
     pub lent : MutBor T
     pub left : MutBor T
@@ -99,7 +100,8 @@ module _ (P T A R : RattleType) {p : prefix.Ghosts P.Denot R.Denot} (shows : deb
   abbrev pub lends_written : Entry P.Denot T.Denot A.Denot R.Denot p shows k same writes → MutBor T.Denot → Fml
   lends_written e r = Lends (map.the_row P T A R p shows k same writes a) T (entry_map_ref e) r (with_value_at (entry_map e) (entry_path e))
 
-  -- once the borrow r ends, the entry behind o has the last value written through r, and is else as it was
+  -- when the borrow r ends, the entry of o has the last value written through r, and is unchanged
+  -- otherwise
   abbrev pub lends_occupied : MutBor (OccupiedEntry P.Denot T.Denot A.Denot R.Denot p shows k same writes) → MutBor T.Denot → Fml
   lends_occupied o r = Lends (occupied.the_row (record { mir = named 1; lft = [] }) P T A R p shows k same writes a) T o r (with_value_in o.now)
 

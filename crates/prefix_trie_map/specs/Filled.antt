@@ -19,6 +19,6 @@ pub record FillLaws (P T A R : Type 0) (p : prefix.Ghosts P R) (shows : debug.Gh
   -- a vacant one takes exactly the blocks that a new key needs
   pub inserted : (e : Entry P T A R p shows k same writes) (new : Contents T) (value : T) → Fills e new value
       → contains_key (entry_map e).entries (entry_path e) ≡ false → InsertsInStorage (state (entry_map e)) (entry_path e) (storage (entry_map e)) (storage new)
-  -- if filling is refused, the blocks in use stay, and no more blocks were made than the key lacks
+  -- if filling is refused, the used blocks stay, and at most the missing blocks were made
   pub refused : (e : Entry P T A R p shows k same writes) (cause : Refusal) (new : Contents T) (value : T) → RefusesToFill e cause new
       → RefusesInStorage (state (entry_map e)) (entry_path e) cause (storage (entry_map e)) (storage new)

@@ -5,7 +5,7 @@ use Rattle.prefix_trie_bits.specs.Model.Entries.{Entries, AreWithin}
 use Rattle.prefix_trie_bits.specs.Model.Matches.{covers}
 use Rattle.prefix_trie_bits.specs.Model.Selections.{listing, prefix_pairs}
 
--- where no key is longer than the width, as in every map
+-- no key is longer than the width, as in every map
 pub record ListedLaws {P : Type 0} (T : Type 0) (width : ℕ) (path : P → List Bool) (IsFitting : P → Type 0) (back : List Bool → P) : Type 0 where
   -- the prefix of a stored key fits, and the key is its path
   pub key_fits : (m : Entries T) → AreWithin width m → (k : List Bool) → contains_key m k ≡ true → IsFitting (back k)

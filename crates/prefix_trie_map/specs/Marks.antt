@@ -1,8 +1,8 @@
--- The number that a tally stands for. This project's own.
+-- The number that a tally denotes. This project's own.
 use Rattle.std.specs.Prelude.{ℕ, ◌+◌, Option, Some, None}
 use Rattle.std.specs.declared.snapshot.Snapshot.{Snapshot}
 
--- one more than the tally before it, and 0 where there is none
+-- one more than the tally before it, and 0 if there is none
 abbrev pub marks : Option (Snapshot ℕ) → ℕ
 marks None = 0
 marks (Some before) = before.value + 1

@@ -1,4 +1,4 @@
--- A tally stands for more than the one before it. This project's own.
+-- A tally denotes more than the one before it. This project's own.
 use Rattle.std.specs.Prelude.{ℕ, ◌≤◌, Option, Some, None}
 use Rattle.std.proofs.Common.{arith}
 use Rattle.std.specs.declared.snapshot.Snapshot.{Snapshot}

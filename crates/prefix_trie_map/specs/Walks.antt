@@ -5,6 +5,6 @@ use Rattle.std.specs.Borrow.{Bor, MutBor}
 abbrev pub lent_item : {P T : Type 0} → P × Bor T → P × T
 lent_item x = (x.0, x.1.now)
 
--- the same of a value that is lent for writing
+-- the same for a value that is lent for writing
 abbrev pub lent_item_mut : {P T : Type 0} → P × MutBor T → P × T
 lent_item_mut x = (x.0, x.1.now)

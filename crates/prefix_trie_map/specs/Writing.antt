@@ -1,5 +1,5 @@
--- What a writing walk has still to come, what a write through it leaves, and what it ends as: the model's walk, over a map that is lent.
--- This project's own.
+-- What a writing walk has to come, what a write through it leaves, and what it ends as: the model's
+-- walk, over a map that is lent. This project's own.
 use Rattle.std.specs.Prelude.{◌≡◌, ◌≤◌, Bool, true, List, take, Option, None, Some, ⊤}
 use Rattle.std.specs.Borrow.{MutBor}
 use Rattle.std.specs.FinMap.{get, contains_key}
@@ -19,21 +19,21 @@ module _ {P T A R : Type 0} {p : prefix.Ghosts P R} {shows : debug.Ghosts P} {k 
   abbrev pub keys_left : MapCursor P T A R p shows k same writes → List (List Bool)
   keys_left c = keys_to_come k.bits c.map.now.entries c.cursor
 
-  -- the key of a stop
+  -- the key of an item
   abbrev pub key_at : MapCursor P T A R p shows k same writes → CursorItem R → List Bool
   key_at c item = take item.len (k.bits item.key)
 
-  -- its value stands there
+  -- its value is stored at its seat
   pub record IsItemAt (c : MapCursor P T A R p shows k same writes) (item : CursorItem R) : Type 0 where
     pub is_key : k.IsKey item.key
     pub short : item.len ≤ k.bit_width
     pub seated : seat_of c.map.now.build (key_at c item) ≡ Some item.seat
 
-  -- the value at a stop
+  -- the value of an item
   abbrev pub HasValueAt : MapCursor P T A R p shows k same writes → CursorItem R → T → Type 0
   HasValueAt c item value = get c.map.now.entries (key_at c item) ≡ Some value
 
-  -- the walk, once a value is written at a stop
+  -- the walk after a value is written to an item
   abbrev pub with_written : MapCursor P T A R p shows k same writes → CursorItem R → T → MapCursor P T A R p shows k same writes
   with_written c item value = record c { map = record c.map { now = with_value_at c.map.now (key_at c item) value } }
 
@@ -41,20 +41,20 @@ module _ {P T A R : Type 0} {p : prefix.Ghosts P R} {shows : debug.Ghosts P} {k 
   abbrev pub as_walk : MapCursor P T A R p shows k same writes → Option (List Bool) → WritingWalk T
   as_walk c lent = record { entries = c.map.now.entries; nodes = c.map.now.nodes; to_come = keys_left c; lent = lent }
 
-  -- what the model lends next is of this prefix, and has this value
+  -- the model lends next the value of this prefix
   abbrev pub IsFirst : MapCursor P T A R p shows k same writes → P → T → Type 0
   IsFirst c q value =
       (s : List Bool) × (after : WritingWalk T) × Next (as_walk c None) (Some s) after × (q ≡ p.back s) × (get c.map.now.entries s ≡ Some value)
 
-  -- the walk has gone on over its first entry, at which this value was left, whatever was lent before: the map has it there, and is else
-  -- as it was
+  -- the walk has gone on over its first entry and left this value there, whatever was lent before;
+  -- the map is unchanged otherwise
   pub record GoesOver (c : MapCursor P T A R p shows k same writes) (value : T) (n : MapCursor P T A R p shows k same writes) : Type 0 where
     pub key : List Bool
     pub passes : (lent : Option (List Bool)) → Passes (as_walk c lent) key value (as_walk n (Some key))
     pub stored : contains_key c.map.now.entries key ≡ true
     pub map : n.map ≡ record c.map { now = with_value_at c.map.now key value }
 
-  -- nothing was to come and nothing is, and the map is as it was
+  -- nothing is to come before and after, and the map is unchanged
   pub record ComesToEnd (c n : MapCursor P T A R p shows k same writes) : Type 0 where
     pub ends : (lent : Option (List Bool)) → Next (as_walk c lent) None (as_walk n None)
     pub map : n.map ≡ c.map
@@ -65,12 +65,12 @@ module _ {P T A R : Type 0} {p : prefix.Ghosts P R} {shows : debug.Ghosts P} {k 
     pub map : c.map.now ≡ m.now
     pub starts : as_walk c None ≡ walk_over m.now.entries m.now.nodes selection
 
-  -- the same of a walk that may have no map
+  -- the same for a walk that may have no map
   abbrev pub StartsIn : MutBor (Contents T) → List (List Bool × T) → Option (MapCursor P T A R p shows k same writes) → Type 0
   StartsIn m selection None = ⊥
   StartsIn m selection (Some c) = StartsOver m selection c
 
-  -- a walk hands back the map that it has, as it left it, which is what the model's leaves
+  -- a walk returns its map as it left it, which is the map that the model's walk leaves
   abbrev pub ReturnsMap : Option (MapCursor P T A R p shows k same writes) → Option (MutBor (Contents T)) → Type 0
   ReturnsMap None None = ⊤
   ReturnsMap None (Some m) = ⊥

@@ -19,7 +19,7 @@ module _ {C : Type 0} where
   IsOverIn Ends o = (n : Option C) × EndsIn Ends o n
 
 module _ {C S : Type 0} where
-  -- the walk stands at this stop
+  -- the walk is at this item
   abbrev pub AtIn : (C → S → Type 0) → Option C → S → Type 0
   AtIn IsAt None item = ⊥
   AtIn IsAt (Some c) item = IsAt c item
@@ -48,7 +48,8 @@ module _ {C Q V : Type 0} where
   FirstIn First None q value = ⊥
   FirstIn First (Some c) q value = First c q value
 
-  -- a step came to this stop: its prefix and its value are those of the first entry, and a write there passes it
+  -- a step came to this item: its prefix and its value are those of the first entry, and a write
+  -- there passes it
   pub record StepsIn {S : Type 0} (IsAt : C → S → Type 0) (Holds : C → S → V → Type 0) (with : C → S → V → C) (First : C → Q → V → Type 0) (Passes : C → V → C → Type 0)
       (o : Option C) (q : Q) (item : S) (n : Option C) : Type 0 where
     pub is_at : AtIn IsAt n item
@@ -65,7 +66,7 @@ module _ (C V : RattleType) (s : MutBor (WalkOf C.Denot)) where
   abbrev pub lends_next : (C.Denot → V.Denot → C.Denot → Type 0) → (C.Denot → C.Denot → Type 0) → Option (MutBor V.Denot) → Fml
   lends_next Passes Ends r = LendsSo (walk.the_row C) V s r (λ n value. OnSome r (PassesIn Passes s.now.source value n.source)) (λ n. IfNone r (EndsIn Ends s.now.source n.source))
 
--- the same of a walk that lends the values alone
+-- the same for a walk that lends only values
 abbrev pub lends_next_value : (C V : RattleType) → MutBor (ValuesOf C.Denot) → (C.Denot → V.Denot → C.Denot → Type 0) → (C.Denot → C.Denot → Type 0) → Option (MutBor V.Denot) → Fml
 lends_next_value C V s Passes Ends r =
     LendsSo (values.the_row C) V s r (λ n value. OnSome r (PassesIn Passes s.now.walk.source value n.walk.source)) (λ n. IfNone r (EndsIn Ends s.now.walk.source n.walk.source))

@@ -3,7 +3,7 @@
 //! The path of a prefix, its first `prefix_len` bits, is its key: two prefixes with the same path are one key, whatever their
 //! host bits. Contracts see a map as its entries, a finite map from paths to values, its nodes, its room, which is its limit
 //! and the lengths of its two arrays, and its layout: how the arrays are cut into blocks.
-ghost use Rattle.std.specs.Prelude.{◌≡◌, ◌-◌, ◌^◌, ◌↔◌, IfOk, OnOk, IfErr, OnErr, IsTrue};
+ghost use Rattle.std.specs.Prelude.{◌≡◌, ◌<◌, ◌-◌, ◌^◌, ◌↔◌, IfOk, OnOk, IfErr, OnErr, IsTrue};
 ghost use Rattle.std.specs.FinMap.{get, len};
 ghost use Rattle.prefix_trie_bits.specs.declared.prefix.Refusal.TheVariants.{Memory, IndexRange};
 ghost use Rattle.prefix_trie_bits.specs.Model.Blocks.{no_layout};
@@ -19,21 +19,21 @@ mod clone;
 mod collecting;
 mod counting;
 mod cover;
-mod iter_from;
 pub mod entry;
 mod equality;
-mod splitting;
 mod into_iter;
 mod iter;
+mod iter_from;
 mod lending;
+mod located;
 mod lookup;
 mod memory;
 mod parts;
-mod located;
 mod projection;
 mod removal;
 mod retain;
 mod slots;
+mod splitting;
 mod visits;
 mod writing;
 
@@ -108,6 +108,15 @@ impl<P: Prefix, T: Drop, A: Allocator> PrefixMap<P, T, A> {
         ensures whole { IsWhole P.R.bit_width self.now }
     {
         self.table.len()
+    }
+
+    // Brings into the caller's proof what holds of every map. The compiler removes it.
+    #[inline]
+    fn known_valid(&self)
+        ensures whole { IsWhole P.R.bit_width self.now }
+        ensures few { len self.now.entries < 2 ^ 64 }
+    {
+        let _ = self.len();
     }
 
     /// Whether there are no entries.

@@ -1,4 +1,4 @@
--- What an insertion needs, asks for and leaves.
+-- What an insertion needs, allocates and leaves.
 pub mod Adding
 pub mod Paths
 pub mod Inserted

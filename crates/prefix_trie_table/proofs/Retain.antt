@@ -1,4 +1,4 @@
--- Asking a test at entries.
+-- Calling a test on entries, as `retain` does.
 pub mod Asked
 pub mod AskedBelow
 pub mod Retained

@@ -1,4 +1,4 @@
--- A table that is laid with all its blocks before its values come.
+-- A table that is built with all its blocks before its values come.
 pub mod Pushed
 pub mod Attaching
 pub mod Subtrees

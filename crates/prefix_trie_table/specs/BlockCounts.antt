@@ -5,11 +5,12 @@ use Rattle.prefix_trie_bits.specs.Model.Blocks.{Sizes}
 use Rattle.prefix_trie_table.specs.declared.allocator.block_count.BlockCount.{BlockCount}
 use Rattle.prefix_trie_table.specs.Store.{Tier}
 
--- those of a tier
+-- the counts of a tier
 abbrev pub tier_count : Tier → BlockCount
 tier_count t = record { size = t.size; used = t.made - length t.starts; free = length t.starts }
 
--- those of each of these sizes, where the blocks in use have the sizes that the map names, and so many of each size are free
+-- the counts for each of these sizes, where `used` has the sizes of the used blocks and so many of
+-- each size are free
 abbrev pub block_counts : List ℕ → Sizes → List ℕ → List BlockCount
 block_counts [] used free = []
 block_counts (n ∷ ns) used [] = []

@@ -10,11 +10,11 @@ use Rattle.prefix_trie_table.specs.Forest.{NodesHold, IsEnd, SomeNodes, read}
 use Rattle.prefix_trie_table.specs.Matching.{IsOnPath, LackLastBit, LongestHeld, match_seat}
 use Rattle.prefix_trie_table.specs.Store.{Store}
 
--- P says it of each of the first n items and of its place
+-- P holds of each of the first n items and its index
 abbrev pub EachOf : {X : Type 0} → (ℕ → X → Type 0) → ℕ → List X → Type 0
 EachOf {X} P n xs = (i : ℕ) (x : X) → i < n → x ≡ slice_index_or xs i x → P i x
 
--- what is kept of a match: how long its string is, and where its value stands
+-- what is kept of a match: the length of its string, and where its value is stored
 abbrev pub found_of : Match → Found
 found_of m = record { len = m.len; seat = match_seat m }
 
@@ -22,15 +22,15 @@ found_of m = record { len = m.len; seat = match_seat m }
 abbrev pub IsLongestFound : (List ℕ → Option Node) → List Bool → ℕ → Option Found → Type 0
 IsLongestFound reading s n found = (m : Option Match) × LongestHeld reading s 0 n m × (found ≡ option_map found_of m)
 
--- the same of the nodes in an array
+-- the same for the nodes in an array
 abbrev pub HasFound : Store Node → List Bool → ℕ → Option Found → Type 0
 HasFound v s n found = (reading : List ℕ → Option Node) (paths : List (List ℕ)) → NodesHold node_sizes reading paths v → IsLongestFound reading s n found
 
--- a way at the root, where nothing was found yet
+-- a descent at the root that has found nothing yet
 abbrev pub new_descent : ℕ → Descent
 new_descent i = record { question = i; at = record { start = 0; offset = 0 }; best = None }
 
--- the number of the question whose way it is
+-- the index of the question of a descent
 abbrev pub question_of : Descent → ℕ
 question_of w = w.question
 
@@ -38,23 +38,23 @@ question_of w = w.question
 abbrev pub slot_of : Descent → ℕ
 slot_of w = w.at.start + w.at.offset
 
--- a node is the one to which the way at a place has come
+-- a node is the one that the descent of this index has reached
 abbrev pub IsAhead : List Node → List Descent → ℕ → Node → Type 0
 IsAhead slots descents i n = (w : Descent) → w ≡ slice_index_or descents i w → n ≡ node_at slots (slot_of w)
 
--- a way is that of the question at its place, and at the root
+-- a descent is that of the question of its index, and is at the root
 abbrev pub IsNew : ℕ → Descent → Type 0
 IsNew i w = w ≡ new_descent i
 
--- what the way of a question costs, where each question has its cost
+-- the cost of the descent of a question, if each question has its cost
 abbrev pub cost_of : List ℕ → Descent → ℕ
 cost_of costs w = slice_index_or costs w.question 0
 
--- a node array as lookups ask it to be
+-- a node array as lookups require it
 abbrev pub IsSound : Store Node → Type 0
 IsSound v = (n : SomeNodes v) × LackLastBit n.reading
 
--- what is asked for a prefix: so many bits of its number
+-- the question for a prefix: so many bits of its number
 abbrev pub asks : {P K : Type 0} → (P → K) → (P → ℕ) → P → K × ℕ
 asks number len p = (number p, len p)
 
@@ -66,21 +66,21 @@ abbrev pub CanAsk : {K : Type 0} → (K → Type 0) → ℕ → K × ℕ → Typ
 CanAsk IsKey width q = IsKey q.0 × (q.1 ≤ width)
 
 module _ {K : Type 0} (bits : K → List Bool) where
-  -- the bit string that is asked for: so many bits of a key
+  -- the bit string of a question: so many bits of a key
   abbrev pub asked : K × ℕ → List Bool
   asked q = take q.1 (bits q.0)
 
-  -- what was found is the answer to a question, in these nodes
+  -- what was found is the result of a question, in these nodes
   abbrev pub IsAnswer : List Node → K × ℕ → Option Found → Type 0
   IsAnswer nodes q found = IsLongestFound (read nodes) (asked q) (q.1 + 1) found
 
-  -- each question has its answer
+  -- each question has its result
   abbrev pub AreAnswers : List Node → List (K × ℕ) → List (Option Found) → Type 0
   AreAnswers nodes questions found =
       (i : ℕ) (q : K × ℕ) (a : Option Found) → i < length questions → q ≡ slice_index_or questions i q → a ≡ slice_index_or found i a → IsAnswer nodes q a
 
   module _ (v : Store Node) (questions : List (K × ℕ)) where
-    -- the way of a question has come to the node ahead, and the longest match above it is known
+    -- the descent of a question has reached the node ahead, and the longest match above it is known
     pub record IsDescent (level : ℕ) (w : Descent) : Type 0 where
       pub question : K × ℕ
       pub is : question ≡ slice_index_or questions w.question question
@@ -88,26 +88,26 @@ module _ {K : Type 0} (bits : K → List Bool) where
       pub on_path : IsOnPath (bits question.0) question.1 level (node_at v.slots (slot_of w)) (slot_of w) v
       pub best : HasFound v (asked question) (5 * level) w.best
 
-    -- a question that is no longer on its way has its answer
+    -- each question without a descent has its result
     abbrev pub AreAnswered : List ℕ → List (Option Found) → Type 0
     AreAnswered under_way found =
         (i : ℕ) (q : K × ℕ) (a : Option Found) → i < length questions → q ≡ slice_index_or questions i q → a ≡ slice_index_or found i a
         → Contains under_way i ⊎ HasFound v (asked q) (q.1 + 1) a
 
-    -- how many nodes there are on the way of each question
+    -- the number of nodes on the search path of each question
     abbrev pub AreCosts : List ℕ → Type 0
     AreCosts costs =
         (i : ℕ) (q : K × ℕ) → i < length questions → q ≡ slice_index_or questions i q
         → (reading : List ℕ → Option Node) (paths : List (List ℕ)) (level : ℕ) → NodesHold node_sizes reading paths v → IsEnd reading (chunks_of (asked q)) level
         → slice_index_or costs i 0 ≡ level + 1
 
-    -- the nodes that these ways have come to were read
+    -- the nodes that these descents have reached were read
     pub record AreRead (level : ℕ) (descents : List Descent) (nodes : List Node) : Type 0 where
       pub sound : SomeNodes v
       pub descents_are : All (IsDescent level) descents
       pub nodes_are : EachOf (IsAhead v.slots descents) (length descents) nodes
 
-    -- of these ways some go on, and the questions of the others are answered
+    -- some of these descents go on, and the questions of the others have their results
     pub record GoOn (level : ℕ) (descents next : List Descent) (before after : List (Option Found)) : Type 0 where
       pub descents_are : All (IsDescent (level + 1)) next
       pub answered : (others : List ℕ) → AreAnswered (map question_of descents ++ others) before → AreAnswered (map question_of next ++ others) after

@@ -20,6 +20,6 @@ node_sizes = child_block_sizes
 abbrev pub cell_sizes : List ℕ
 cell_sizes = value_block_sizes
 
--- the tiers are those of the one or of the other
+-- the tiers are those of nodes or those of values
 unfoldable pub HasSizes : List Tier → Type 0
 HasSizes ts = (tier_sizes ts ≡ cell_sizes) ⊎ (tier_sizes ts ≡ node_sizes)

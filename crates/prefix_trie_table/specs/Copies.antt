@@ -4,7 +4,7 @@ use Rattle.std.specs.FinMap.{get}
 use Rattle.prefix_trie_bits.specs.Model.Entries.{Entries}
 
 module _ {T : Type 0} where
-  -- the second is a clone of the first, where there is one, and missing where there is none
+  -- the second is a clone of the first if there is one, and missing if there is none
   abbrev pub IsCloned : (T → T → Type 0) → Option T → Option T → Type 0
   IsCloned is_clone x y = MatchOption x (y ≡ None) (λ v. IsSomeAnd y (is_clone v))
 

@@ -1,15 +1,15 @@
--- A bit string as the way from the root to its own node, five bits a step, and its place in that node. The five levels are the
--- crate's.
+-- The chunks of a bit string: the search path from the root to its own node, five bits at a time;
+-- and its place in that node. The five levels are those of the Rust crate.
 use Rattle.std.specs.Prelude.{ℕ, Bool, List, [], ◌∷◌}
 use Rattle.prefix_trie_bits.specs.Bits.{number}
 use Rattle.prefix_trie_bits.specs.Places.{value_bit}
 
--- the steps to the string's own node: each five bits as a number
+-- the string's five-bit chunks as numbers: the path of its own node
 abbrev pub chunks_of : List Bool → List ℕ
 chunks_of (a ∷ b ∷ c ∷ d ∷ e ∷ s) = number (a ∷ b ∷ c ∷ d ∷ e ∷ []) ∷ chunks_of s
 chunks_of s = []
 
--- the bits behind the last whole step
+-- the bits after the last whole chunk
 abbrev pub rest_of : List Bool → List Bool
 rest_of (a ∷ b ∷ c ∷ d ∷ e ∷ s) = rest_of s
 rest_of s = s

@@ -1,4 +1,4 @@
--- Nodes and values by path, and the blocks in which they stand. This project's own.
+-- Nodes and values by path, and the blocks in which they are stored. This project's own.
 use Rattle.std.specs.Prelude.{◌≡◌, ℕ, ◌+◌, ◌<◌, ◌≤◌, Bool, true, false, cond, List, [], ◌∷◌, ◌++◌, map, flat_map, slice_index_or, Option, None, Some, is_some, take, length, not, nat_lt, ◌||◌, ◌&&◌}
 use Rattle.std.specs.Option.{option_or}
 use Rattle.prefix_trie_table.specs.OwnBlocks.{child_block_size, value_block_size, child_need, value_need}
@@ -19,7 +19,7 @@ child_slot n c = n.child_block + rank n.child_bitmap c
 unfoldable pub child : List Node → Node → ℕ → Option Node
 child nodes n c = cond (has_bit n.child_bitmap c) (Some (node_at nodes (child_slot n c))) None
 
--- the same of a node that may be missing
+-- the same for a node that may be missing
 abbrev pub below : List Node → Option Node → ℕ → Option Node
 below nodes None c = None
 below nodes (Some n) c = child nodes n c
@@ -37,12 +37,12 @@ read nodes path = read_from nodes (Some (node_at nodes 0)) path
 abbrev pub same_path : List ℕ → List ℕ → Bool
 same_path q k = eq_by_cmp (slice_cmp nat_cmp) q k
 
--- 1 where it holds, and else 0
+-- 1 if it holds, else 0
 abbrev pub one_if : Bool → ℕ
 one_if true = 1
 one_if false = 0
 
--- how often a path stands in a list
+-- the number of times that a path occurs in a list
 abbrev pub times : List ℕ → List (List ℕ) → ℕ
 times q [] = 0
 times q (p ∷ ps) = one_if (same_path q p) + times q ps
@@ -52,7 +52,7 @@ abbrev pub without : List ℕ → List (List ℕ) → List (List ℕ)
 without p [] = []
 without p (q ∷ qs) = cond (same_path p q) qs (q ∷ without p qs)
 
--- the node, or a blank one where there is none
+-- the node, or a blank one if there is none
 abbrev pub node_or_blank : Option Node → Node
 node_or_blank None = blank_node
 node_or_blank (Some n) = n
@@ -80,22 +80,22 @@ child_blocks_of sizes nodes p (Some n) = held n.child_tier n.child_block (size_i
 abbrev pub child_blocks : List ℕ → (List ℕ → Option Node) → List ℕ → List (UsedBlock Node)
 child_blocks sizes nodes p = child_blocks_of sizes nodes p (nodes p)
 
--- where the node at a path stands
+-- the slot of the node at a path
 pub data IsSlot (nodes : List ℕ → Option Node) : List ℕ → ℕ → Type 0 where
   at_root : IsSlot nodes [] 0
   at_child : (p : List ℕ) (c : ℕ) (n : Node) → nodes p ≡ Some n → has_bit n.child_bitmap c ≡ true → IsSlot nodes (p ++ c ∷ []) (child_slot n c)
 
 -- the array holds these nodes, whose paths are listed, and nothing else
 pub record NodesHold (sizes : List ℕ) (nodes : List ℕ → Option Node) (paths : List (List ℕ)) (v : Store Node) : Type 0 where
-  -- the root stands in slot 0
+  -- the root is in slot 0
   pub rooted : nodes [] ≡ Some (node_at v.slots 0)
-  -- below a node stand exactly the children that its bitmap names
+  -- the children of a node are exactly those that its bitmap names
   pub linked : (p : List ℕ) (c : ℕ) → is_some (nodes (p ++ c ∷ [])) ≡ has_child (nodes p) c
-  -- each path at which a node stands is listed once, and no other is
+  -- the list has the path of each node once, and no other path
   pub listed : (q : List ℕ) → times q paths ≡ one_if (is_some (nodes q))
-  -- the blocks in use are those of the parents, each with exactly its children
+  -- the used blocks are those of the parents, each with exactly its children
   pub sound : Sound blank_node (flat_map (child_blocks sizes nodes) paths) v
-  -- they stand behind the root's slot, and have these sizes
+  -- they come after the root's slot, and have these sizes
   pub first_is : v.first ≡ 1
   pub sizes_are : tier_sizes v.tiers ≡ sizes
 
@@ -115,21 +115,21 @@ module _ {T : Type 0} where
     -- a node has exactly the values that its bitmap names, at the 31 bits of strings
     pub set_where : (p : List ℕ) (b : ℕ) → is_some (values p b) ≡ has_value (nodes p) b
     pub within : (p : List ℕ) (b : ℕ) → is_some (values p b) ≡ true → b < 31
-    -- the blocks in use are those of the holders, each with exactly its values, and have these sizes
+    -- the used blocks are those of the holders, each with exactly its values, and have these sizes
     pub sound : Sound None (flat_map (value_blocks sizes nodes values) paths) w
     pub sizes_are : tier_sizes w.tiers ≡ sizes
 
--- the nodes where p has become m, with a blank child c more
+-- the nodes after p becomes m and gets the blank child c
 abbrev pub with_child : (List ℕ → Option Node) → List ℕ → Node → ℕ → List ℕ → Option Node
 with_child nodes p m c q =
     cond (same_path q (p ++ c ∷ [])) (Some blank_node) (cond (same_path q p) (Some m) (nodes q))
 
--- the nodes where p has become m, with the child c less
+-- the nodes after p becomes m and loses the child c
 abbrev pub with_child_removed : (List ℕ → Option Node) → List ℕ → Node → ℕ → List ℕ → Option Node
 with_child_removed nodes p m c q =
     cond (same_path q (p ++ c ∷ [])) None (cond (same_path q p) (Some m) (nodes q))
 
--- the nodes where p has become m
+-- the nodes after p becomes m
 abbrev pub with_node : (List ℕ → Option Node) → List ℕ → Node → List ℕ → Option Node
 with_node nodes p m q = cond (same_path q p) (Some m) (nodes q)
 
@@ -138,14 +138,14 @@ module _ {T : Type 0} where
   abbrev pub with_value : (List ℕ → ℕ → Option T) → List ℕ → ℕ → Option T → List ℕ → ℕ → Option T
   with_value values p b x q i = cond (same_path (q ++ i ∷ []) (p ++ b ∷ [])) x (values q i)
 
--- a node stands at this slot
+-- there is a node in this slot
 pub record IsNodeAt (nodes : List ℕ → Option Node) (slot : ℕ) : Type 0 where
   pub path : List ℕ
   pub node : Node
   pub stands : IsSlot nodes path slot
   pub is : nodes path ≡ Some node
 
--- the node n at p has a blank child c more, which stands at a slot
+-- the node n at p gets a blank child c, in this slot
 pub record ChildAdded (reading : List ℕ → Option Node) (paths : List (List ℕ)) (p : List ℕ) (n : Node) (c : ℕ) (w : Store Node) (slot : ℕ) : Type 0 where
   pub node : Node
   pub hold : NodesHold node_sizes (with_child reading p node c) ((p ++ c ∷ []) ∷ paths) w
@@ -175,13 +175,13 @@ pub record ValueSet {T : Type 0} (reading : List ℕ → Option Node) (paths : L
   pub children : child_block_size (Some node) ≡ child_block_size (reading p)
   pub sized : values p b ≡ None → value_block_size (Some node) ≡ option_or (value_need (reading p)) (value_block_size (reading p))
 
--- the way down a path ends at its node of this depth: there a node stands, and below it none does, or the path ends
+-- the search path ends at this depth: there is a node at it, and no next one, or the path is over
 pub record IsEnd (nodes : List ℕ → Option Node) (path : List ℕ) (depth : ℕ) : Type 0 where
   pub within : depth ≤ length path
   pub stands : is_some (nodes (take depth path)) ≡ true
   pub stops : depth < length path → is_some (nodes (take (depth + 1) path)) ≡ false
 
--- the deepest node on a path stands at a slot
+-- the deepest node on a path is in this slot
 pub record Deepest (reading : List ℕ → Option Node) (path : List ℕ) (depth slot : ℕ) (v : Store Node) : Type 0 where
   pub node : Node
   pub stands : IsSlot reading (take depth path) slot
@@ -223,7 +223,7 @@ pub record SomeNodes (v : Store Node) : Type 0 where
   pub paths : List (List ℕ)
   pub hold : NodesHold node_sizes reading paths v
 
--- the nodes on the beginning of a path of so many digits were added, and the last stands at a slot
+-- the nodes on the first chunks of a path were added, and the last is in this slot
 pub record Walked {T : Type 0} (reading : List ℕ → Option Node) (values : List ℕ → ℕ → Option T) (before : List (List ℕ)) (path : List ℕ)
     (depth slot : ℕ) (v : Store Node) (w : Store (Option T)) : Type 0 where
   pub later : List ℕ → Option Node
@@ -253,7 +253,7 @@ module _ {T : Type 0} where
   unfoldable pub value_in : List (Option T) → Node → ℕ → Option T
   value_in cells n b = cond (has_bit n.value_bitmap b) (slice_index_or cells (n.value_block + rank n.value_bitmap b) None) None
 
-  -- the same of a node that may be missing
+  -- the same for a node that may be missing
   abbrev pub value_of : List (Option T) → Option Node → ℕ → Option T
   value_of cells None b = None
   value_of cells (Some n) b = value_in cells n b

@@ -1,4 +1,5 @@
--- By how many slots the calls that take values and nodes out may lengthen the arrays. This project's own.
+-- By how many slots the calls that remove values and nodes may lengthen the arrays. This project's
+-- own.
 use Rattle.std.specs.Prelude.{ℕ, ◌+◌, ◌≤◌, List, [], ◌∷◌, Option, None, Some, length, filter, nat_lt, sum_by}
 use Rattle.std.specs.FinMap.{values}
 use Rattle.prefix_trie_bits.specs.Model.Blocks.{Sizes}
@@ -14,7 +15,7 @@ smaller_sizes = 1 ∷ 2 ∷ 4 ∷ 8 ∷ 16 ∷ 24 ∷ []
 unfoldable pub headroom : ℕ → ℕ
 headroom size = sum_by (λ n. n) (filter (λ n. nat_lt n size) smaller_sizes)
 
--- a number of a size, where there is one
+-- a function of a size, 0 if there is none
 abbrev pub of_any : (ℕ → ℕ) → Option ℕ → ℕ
 of_any f None = 0
 of_any f (Some size) = f size
@@ -23,22 +24,23 @@ of_any f (Some size) = f size
 abbrev pub headroom_if_any : Option ℕ → ℕ
 headroom_if_any = of_any headroom
 
--- the same of all blocks of these sizes
+-- the headroom of all blocks of these sizes
 abbrev pub headroom_of : Sizes → ℕ
 headroom_of sizes = sum_by headroom (values sizes)
 
--- the same of the block of a node's children, and of that of its values
+-- the headroom of the block of a node's children, and of the block of its values
 abbrev pub child_headroom : Node → ℕ
 child_headroom n = headroom_if_any (child_block_size (Some n))
 
 abbrev pub value_headroom : Node → ℕ
 value_headroom n = headroom_if_any (value_block_size (Some n))
 
--- how long the array of nodes may become as items are taken out
+-- the length that the array of nodes can reach while items are removed
 abbrev pub node_reach : Store Node → ℕ
 node_reach v = length v.slots + sum_by child_headroom v.slots
 
--- the array of nodes may not become longer than it could before, nor may that of values, which was so long and is so long now
+-- that bound does not rise for the array of nodes, nor for the array of values, which has the
+-- length `long` before and `long2` after
 pub record BoundsGrowthBy (v v2 : Store Node) (long long2 : ℕ) : Type 0 where
   pub nodes : node_reach v2 ≤ node_reach v
   pub cells : long2 + sum_by value_headroom v2.slots ≤ long + sum_by value_headroom v.slots
@@ -46,6 +48,6 @@ pub record BoundsGrowthBy (v v2 : Store Node) (long long2 : ℕ) : Type 0 where
 abbrev pub BoundsGrowth : {T : Type 0} → Store Node → Store Node → Store (Option T) → Store (Option T) → Type 0
 BoundsGrowth v v2 w w2 = BoundsGrowthBy v v2 (length w.slots) (length w2.slots)
 
--- the same where the array of values did not change
+-- the same if the array of values did not change
 abbrev pub BoundsNodeGrowth : Store Node → Store Node → Type 0
 BoundsNodeGrowth v v2 = BoundsGrowthBy v v2 0 0

@@ -18,7 +18,7 @@ abbrev pub own_children : Option Node → ℕ
 own_children None = 0
 own_children (Some n) = rank n.child_bitmap 32
 
--- these are the sizes that a function gives for the nodes in an array, by the strings at which the nodes stand
+-- these are the sizes that a function gives for the nodes in an array, by the strings of the nodes
 abbrev pub AreSizesBy : (Option Node → Option ℕ) → List Node → Sizes → Type 0
 AreSizesBy size nodes sizes = (s : List Bool) → get sizes s ≡ cond (is_node_depth s) (size (read nodes (chunks_of s))) None
 

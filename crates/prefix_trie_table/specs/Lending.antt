@@ -1,3 +1,3 @@
--- What is left where a `&mut` to a value is returned. This project's own.
+-- What is left after a `&mut` to a value was returned. This project's own.
 pub mod Blocks
 pub mod Tables

@@ -1,5 +1,5 @@
--- Where the value of a bit string stands, and where the way to a missing one ends, by the nodes as they stand in their array. This
--- project's own.
+-- Where the value of a bit string is stored, and where the search for a missing one ends, by the
+-- nodes in their array. This project's own.
 use Rattle.std.specs.Prelude.{◌≡◌, ℕ, ◌+◌, ◌<◌, ◌≤◌, Bool, true, false, cond, List, [], ◌∷◌, Option, None, Some, is_some, length, take}
 use Rattle.std.specs.Coded.{Coded, code_by, coded×, coded_ℕ, coded_bool, coded_option, Coded-set}
 use Rattle.std.specs.FinMap.{contains_key}
@@ -20,7 +20,7 @@ use Rattle.prefix_trie_table.specs.Shape.{Contents, coded_node}
 use Rattle.prefix_trie_table.specs.Store.{Store}
 use Rattle.prefix_trie_table.specs.Tables.{IsReached}
 
--- where the value at bit b of a node stands
+-- where the value at bit b of a node is stored
 abbrev pub value_seat : Node → ℕ → Seat
 value_seat n b = record { start = n.value_block; offset = rank n.value_bitmap b }
 
@@ -33,12 +33,13 @@ seat_in (Some n) b = cond (has_bit n.value_bitmap b) (Some (value_seat n b)) Non
 unfoldable pub seat_of : List Node → List Bool → Option Seat
 seat_of nodes q = seat_in (read nodes (chunks_of q)) (bit_of q)
 
--- the slot that the steps lead to from another
+-- the slot that a list of chunks leads to from another slot
 abbrev pub slot_from : List Node → ℕ → List ℕ → ℕ
 slot_from nodes at [] = at
 slot_from nodes at (c ∷ cs) = slot_from nodes (child_slot (node_at nodes at) c) cs
 
--- the way of a bit string ends so: at this level no next node is there or needed, and its node stands in this slot
+-- the search for a bit string ends so: at this level no next node is there or needed, and its node
+-- is in this slot
 pub record IsSearchEnd (nodes : List Node) (q : List Bool) (end : SearchEnd) : Type 0 where
   pub within : end.reached.level ≤ length (chunks_of q)
   pub stands : is_some (read nodes (take end.reached.level (chunks_of q))) ≡ true
@@ -46,18 +47,19 @@ pub record IsSearchEnd (nodes : List Node) (q : List Bool) (end : SearchEnd) : T
   pub slot_is : end.reached.at.start + end.reached.at.offset ≡ slot_from nodes 0 (take end.reached.level (chunks_of q))
   pub node_is : end.reached.node ≡ node_at nodes (end.reached.at.start + end.reached.at.offset)
 
--- the first len bits of b have no value, and their way ends at the node that was reached
+-- the first len bits of b have no value, and their search ends at the node that was reached
 abbrev pub EndsAt : Store Node → List Bool → ℕ → Reached → Type 0
 EndsAt v b len reached =
     (seat_of v.slots (take len b) ≡ None)
     × IsReached b len reached.level reached.node (reached.at.start + reached.at.offset) v
 
--- what an array of nodes says of the first len bits of b: the seat of their value, or the end of their way where they have none
+-- what an array of nodes has for the first len bits of b: the seat of their value, or the end of
+-- the search if they have none
 abbrev pub Locates : Store Node → List Bool → ℕ → Location → Type 0
 Locates v b len (Stored seat) = seat_of v.slots (take len b) ≡ Some seat
 Locates v b len (Missing end) = EndsAt v b len end.reached
 
--- what a table says of a bit string: the seat of its value, or the end of its way where it has none
+-- what a table has for a bit string: the seat of its value, or the end of the search if it has none
 abbrev pub IsLocation : {T : Type 0} → Contents T → List Bool → Location → Type 0
 IsLocation s q (Stored seat) = (contains_key s.entries q ≡ true) × (seat_of s.build q ≡ Some seat)
 IsLocation s q (Missing end) = (contains_key s.entries q ≡ false) × IsSearchEnd s.build q end
@@ -65,11 +67,11 @@ IsLocation s q (Missing end) = (contains_key s.entries q ≡ false) × IsSearchE
 coded_seat : Coded Seat
 coded_seat = code_by (ℕ × ℕ) (coded× coded_ℕ coded_ℕ) (λ s. (s.start, s.offset)) (λ p. record { start = p.0; offset = p.1 }) (λ _. refl)
 
--- that a seat is that of a bit string has one proof at most
+-- that a seat is that of a bit string has at most one proof
 pub is_seat-prop : (nodes : List Node) (q : List Bool) (seat : Seat) → IsProp (seat_of nodes q ≡ Some seat)
 is_seat-prop nodes q seat = Coded-set (coded_option coded_seat) _ _
 
--- and so has that a way ends
+-- that a search ends so has at most one proof
 pub IsSearchEnd-prop : (nodes : List Node) (q : List Bool) (end : SearchEnd) → IsProp (IsSearchEnd nodes q end)
 IsSearchEnd-prop nodes q end = λ x y i. record {
   within = le_prop x.within y.within i;

@@ -1,4 +1,5 @@
--- Which beginnings of a bit string have a value, and the way on which they stand. This project's own.
+-- Which beginnings of a bit string have a value, and the search path on which they are. This
+-- project's own.
 use Rattle.std.specs.Prelude.{◌≡◌, ℕ, ◌+◌, ◌*◌, ◌<◌, ◌≤◌, Bool, true, false, List, Option, None, Some, length, take, MatchOption}
 use Rattle.prefix_trie_table.specs.declared.allocator.node.Node.{Node}
 use Rattle.prefix_trie_table.specs.declared.table.matching.Match.{Match}
@@ -29,7 +30,7 @@ pub record IsHeld (reading : List ℕ → Option Node) (q : List Bool) (n bit : 
 abbrev pub cell_slot : Match → ℕ
 cell_slot m = m.node.value_block + rank m.node.value_bitmap m.bit
 
--- where the value of a match stands
+-- where the value of a match is stored
 abbrev pub match_seat : Match → Seat
 match_seat m = record { start = m.node.value_block; offset = rank m.node.value_bitmap m.bit }
 
@@ -51,7 +52,7 @@ ShortestHeld reading q first end o =
 abbrev pub LackLastBit : (List ℕ → Option Node) → Type 0
 LackLastBit nodes = (p : List ℕ) (n : Node) → nodes p ≡ Some n → has_bit n.value_bitmap 31 ≡ false
 
--- the way of the first len bits of b leads to this node in this slot
+-- the search path of the first len bits of b leads to this node in this slot
 pub record IsOnPath (b : List Bool) (len level : ℕ) (node : Node) (slot : ℕ) (v : Store Node) : Type 0 where
   pub long : len ≤ length b
   pub whole : 5 * level ≤ len

@@ -1,4 +1,4 @@
--- What an insertion asks of the two arrays. This project's own.
+-- The blocks that an insertion needs in the two arrays. This project's own.
 use Rattle.std.specs.Prelude.{◌≡◌, ◌⊎◌, ℕ, ◌+◌, ◌-◌, ◌*◌, ◌/◌, ◌<◌, ◌≤◌, Bool, List, [], Option, None, Some, length, take, nat_lt, if◌then◌else◌, Result, MatchResult, IfErr, OnErr}
 use Rattle.prefix_trie_table.specs.declared.allocator.node.Node.{Node}
 use Rattle.prefix_trie_table.specs.Digits.{chunks_of}
@@ -6,7 +6,8 @@ use Rattle.prefix_trie_table.specs.OwnBlocks.{child_need, value_need}
 use Rattle.prefix_trie_table.specs.Store.{Store, AreFree, made_in, needs, missing_in, missing_slots}
 use Rattle.prefix_trie_table.specs.Forest.{IsEnd}
 
--- the sizes of the blocks for nodes that a string of len bits needs, where this node at this level is the deepest on its way
+-- the sizes of the node blocks that a string of len bits needs, if this node at this level is the
+-- deepest on its search path
 abbrev pub nodes_needed : Node → ℕ → ℕ → List ℕ
 nodes_needed node level len = if nat_lt len (5 * level + 5) then [] else needs (child_need (Some node)) (len / 5 - (level + 1))
 
@@ -18,7 +19,7 @@ cells_needed node level len = needs (if nat_lt len (5 * level + 5) then value_ne
 abbrev pub HasFreeBlocks : {T : Type 0} → Store Node → Store (Option T) → Node → ℕ → ℕ → Type 0
 HasFreeBlocks v w node level len = AreFree v.tiers (nodes_needed node level len) × AreFree w.tiers (cells_needed node level len)
 
--- a fact about the deepest node that is there on the way to the first len bits of b, and its level
+-- a fact about the deepest node on the search path of the first len bits of b, and its level
 pub record AtDeepest (reading : List ℕ → Option Node) (b : List Bool) (len : ℕ) (P : Node → ℕ → Type 0) : Type 0 where
   pub long : len ≤ length b
   pub node : Node
@@ -27,29 +28,30 @@ pub record AtDeepest (reading : List ℕ → Option Node) (b : List Bool) (len :
   pub is : reading (take level (chunks_of (take len b))) ≡ Some node
   pub fact : P node level
 
--- of each size exactly the needed blocks that lack were made, and the array is longer by their slots
+-- of each size exactly the missing blocks were made, and the array is longer by their slots
 pub record Made {S : Type 0} (v w : Store S) (needed : List ℕ) : Type 0 where
   pub made_is : (size : ℕ) → made_in w.tiers size ≡ made_in v.tiers size + missing_in v needed size
   pub longer : length w.slots ≡ length v.slots + missing_slots v needed
 
--- or no more of them
+-- or at most these
 pub record MadeAtMost {S : Type 0} (v w : Store S) (needed : List ℕ) : Type 0 where
   pub made_is : (size : ℕ) → (made_in v.tiers size ≤ made_in w.tiers size) × (made_in w.tiers size ≤ made_in v.tiers size + missing_in v needed size)
   pub longer : (length v.slots ≤ length w.slots) × (length w.slots ≤ length v.slots + missing_slots v needed)
 
--- done, exactly those were made; refused, no more
+-- on success exactly the missing blocks were made, on refusal at most these
 abbrev pub Makes : {X E S : Type 0} → Result X E → Store S → Store S → List ℕ → Type 0
 Makes r v w needed = MatchResult r (λ _. Made v w needed) (λ _. MadeAtMost v w needed)
 
--- those that lack would pass the limit
+-- the missing blocks would exceed the limit
 abbrev pub Passes : {S : Type 0} → Store S → List ℕ → Type 0
 Passes v needed = v.limit < length v.slots + missing_slots v needed
 
--- one that lacks would not
+-- one of the missing blocks would fit
 abbrev pub MissingFits : {S : Type 0} → Store S → List ℕ → Type 0
 MissingFits v needed = (size : ℕ) × (0 < missing_in v needed size) × (length v.slots + size ≤ v.limit)
 
--- what a call leaves of two arrays in which blocks of these sizes must be free, and when it is refused
+-- what a call leaves of two arrays in which blocks of these sizes must be free, and when it is
+-- refused
 pub record ObtainsBoth {T X E : Type 0} (for_limit for_memory : E → Type 0) (r : Result X E) (v v2 : Store Node) (w w2 : Store (Option T))
     (nodes cells : List ℕ) : Type 0 where
   pub nodes_made : Makes r v v2 nodes

@@ -10,7 +10,8 @@ pub record NodeList : Type 0 where
   pub list : List Node
   pub capacity : ℕ
 
--- a node of its two parts: the second has the number of the size of its values' block, and 8 times that of its children's
+-- a node from its two parts: the second has the index of the size of its value block, plus 8 times
+-- that of its child block
 abbrev pub node_of : Head → ℕ → Node
 node_of h n = record { value_bitmap = h.value_bitmap; child_bitmap = h.child_bitmap; value_block = h.value_block; child_block = h.child_block; value_tier = n % 8; child_tier = n / 8 }
 
@@ -20,7 +21,7 @@ nodes_of [] ns = []
 nodes_of (h ∷ hs) [] = []
 nodes_of (h ∷ hs) (n ∷ ns) = node_of h n ∷ nodes_of hs ns
 
--- both numbers of the node's sizes fit one byte. There are seven sizes, so those of each node do
+-- both size indexes of the node fit one byte; there are seven sizes, so those of each node do
 pub record FitsByte (n : Node) : Type 0 where
   pub value_tier : n.value_tier < 8
   pub child_tier : n.child_tier < 32
@@ -28,7 +29,7 @@ pub record FitsByte (n : Node) : Type 0 where
 pub blank_fits : FitsByte blank_node
 blank_fits = record { value_tier = lit< tt; child_tier = lit< tt }
 
--- the same, or they are those of a node that stands there
+-- the same, or they are those of a node that is stored there
 pub record FitsOver (old new : Node) : Type 0 where
   pub value_tier : (new.value_tier < 8) ⊎ (new.value_tier ≡ old.value_tier)
   pub child_tier : (new.child_tier < 32) ⊎ (new.child_tier ≡ old.child_tier)

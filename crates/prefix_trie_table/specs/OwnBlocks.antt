@@ -8,12 +8,12 @@ use Rattle.prefix_trie_table.specs.Bitmaps.{rank}
 use Rattle.prefix_trie_table.specs.Cells.{node_sizes, cell_sizes}
 use Rattle.prefix_trie_table.specs.Store.{size_if_any, size_in}
 
--- the size of the block of a node's children, where it has children
+-- the size of the block of a node's children, if it has children
 abbrev pub child_block_size : Option Node → Option ℕ
 child_block_size None = None
 child_block_size (Some n) = size_if_any (rank n.child_bitmap 32) (size_in node_sizes n.child_tier)
 
--- the same of its values
+-- the size of the block of its values, if it has values
 abbrev pub value_block_size : Option Node → Option ℕ
 value_block_size None = None
 value_block_size (Some n) = size_if_any (rank n.value_bitmap 32) (size_in cell_sizes n.value_tier)
@@ -23,7 +23,7 @@ abbrev pub child_need : Option Node → Option ℕ
 child_need None = block_needed child_block_sizes None 0
 child_need (Some n) = block_needed child_block_sizes (child_block_size (Some n)) (rank n.child_bitmap 32)
 
--- the same of values
+-- the same for values
 abbrev pub value_need : Option Node → Option ℕ
 value_need None = block_needed value_block_sizes None 0
 value_need (Some n) = block_needed value_block_sizes (value_block_size (Some n)) (rank n.value_bitmap 32)

@@ -18,7 +18,7 @@ MakesEntered sizes v w old new = MakesBlocks sizes (made_of sizes (free_counts v
 abbrev pub MakesFew : {S : Type 0} → List ℕ → Store S → Store S → Option ℕ → Option ℕ → Type 0
 MakesFew sizes v w old new = MakesAtMost sizes (made_of sizes (free_counts v.tiers) old new) (made_in v.tiers) (made_in w.tiers)
 
--- an array is longer by that block at most, which was made as one of these two says
+-- an array grows by at most that block, which was made as one of these two says
 pub record GrowsBy {S : Type 0} (Makes : List ℕ → Store S → Store S → Option ℕ → Option ℕ → Type 0) (sizes : List ℕ) (v w : Store S) (old new : Option ℕ) : Type 0 where
   pub longer : LongerByOne sizes (free_counts v.tiers) old new (length v.slots) (length w.slots)
   pub made : Makes sizes v w old new
@@ -56,8 +56,8 @@ module _ {T : Type 0} where
     pub children : SameChildren n m
     pub shrinks : ShrinksList MakesEntered cell_sizes before after (own_count (Some n)) (own_count (Some m)) (value_block_size (Some n)) (value_block_size (Some m))
 
-  -- the value at bit b of the node with a path was taken, where there was one, and this node has the children that it had.
-  -- The other nodes are as they were, and each node stands where it stood
+  -- the value at bit b of the node with a path was removed, if there was one; this node keeps its
+  -- children, and each other node is unchanged and in its slot
   pub record EntryTaken (reading : List ℕ → Option Node) (paths : List (List ℕ)) (values : List ℕ → ℕ → Option T) (path : List ℕ) (b : ℕ)
       (v : Store Node) (before after : Store (Option T)) : Type 0 where
     pub later : List ℕ → Option Node
@@ -90,11 +90,11 @@ pub record GivesBack {S : Type 0} (v w : Store S) : Type 0 where
   pub sizes : tier_sizes w.tiers ≡ tier_sizes v.tiers
   pub free : (size : ℕ) → free_in v.tiers size ≤ free_in w.tiers size
 
--- the slot of the k-th node on a way
+-- the slot of the k-th node on a search path
 abbrev pub slot_in : List NodeSlot → ℕ → ℕ
 slot_in ancestors k = let s = slice_index_or ancestors k (record { start = 0; offset = 0 }) in s.start + s.offset
 
--- these are the slots of the nodes on the way to a path, above this level
+-- these are the slots of the nodes on the search path of a node, above this level
 abbrev pub AreAncestors : (List ℕ → Option Node) → List ℕ → List NodeSlot → ℕ → Type 0
 AreAncestors reading path ancestors level = (k : ℕ) → k < level → IsSlot reading (take k path) (slot_in ancestors k)
 
@@ -106,15 +106,16 @@ pub record ChildDropped (reading : List ℕ → Option Node) (paths : List (List
   pub shrinks : ShrinksList MakesEntered node_sizes before after (own_children (Some n)) (own_children (Some m)) (child_block_size (Some n)) (child_block_size (Some m))
   pub bounds_growth : BoundsNodeGrowth before after
 
--- nodes were taken out one after another, each of them bare when it went
+-- nodes were removed one after another, each of them without values and children then
 pub data Drops (reading : List ℕ → Option Node) (paths : List (List ℕ)) : (List ℕ → Option Node) → List (List ℕ) → Type 0 where
   none : Drops reading paths reading paths
   more : (later : List ℕ → Option Node) (left : List (List ℕ)) (v : Store Node) (p : List ℕ) (c : ℕ) (n m leaf : Node) → Drops reading paths later left →
       NodesHold node_sizes later left v → later p ≡ Some n → later (p ++ c ∷ []) ≡ Some leaf → IsBare leaf → SameValues n m →
       Drops reading paths (with_child_removed later p m c) (without (p ++ c ∷ []) left)
 
--- the way to a path was pruned up to its node at this level, which is `node` then: the nodes below it on the way are gone, and
--- those above it and off the way are as they were. The node itself has lost a child, or is the last of the way
+-- a search path was pruned up to its node at this level, which is `node` then
+-- The nodes under it on the path are gone, and those above it and off the path are unchanged. The
+-- node itself lost a child, or is the last of the path.
 pub record PrunedTo (reading : List ℕ → Option Node) (paths : List (List ℕ)) (path : List ℕ) (level : ℕ) (node : Node) (before after : Store Node) : Type 0 where
   pub later : List ℕ → Option Node
   pub left : List (List ℕ)
@@ -130,14 +131,14 @@ pub record PrunedTo (reading : List ℕ → Option Node) (paths : List (List ℕ
       (child_block_size (reading (take level path))) (child_block_size (Some node))
   pub bounds_growth : BoundsNodeGrowth before after
 
--- the way to a path was pruned as far up as nodes are bare
+-- a search path was pruned as far up as nodes are bare
 pub record Pruned (reading : List ℕ → Option Node) (paths : List (List ℕ)) (path : List ℕ) (before after : Store Node) : Type 0 where
   pub level : ℕ
   pub node : Node
   pub to : PrunedTo reading paths path level node before after
   pub stops : (level ≡ 0) ⊎ IsStocked node
 
--- a node stands at the end of the way to a path, and these are the slots of the nodes above it, which are so many
+-- there is a node at the end of a search path, and these are the slots of the nodes above it
 pub record StandsAtEnd (path : List ℕ) (ancestors : List NodeSlot) (level : ℕ) (node : Node) (v : Store Node) : Type 0 where
   pub reading : List ℕ → Option Node
   pub paths : List (List ℕ)
@@ -145,8 +146,8 @@ pub record StandsAtEnd (path : List ℕ) (ancestors : List NodeSlot) (level : �
   pub slots : AreAncestors reading path ancestors level
   pub is : reading path ≡ Some node
 
--- the value at bit b of the node with a path was taken, where there was one, and the way to that node was pruned; where the
--- node is missing, nothing changed
+-- the value at bit b of the node with a path was removed, if there was one, and the path was
+-- pruned; if the node is missing, nothing changed
 abbrev pub EntryRemoved : {T : Type 0} → (List ℕ → Option Node) → List (List ℕ) → (List ℕ → ℕ → Option T) → List ℕ → ℕ → Store Node → Store (Option T) →
     Store Node → Store (Option T) → Type 0
 EntryRemoved reading paths values path b v before w after =

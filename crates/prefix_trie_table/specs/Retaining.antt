@@ -1,4 +1,5 @@
--- What asking a test at the entries of some places of a node leaves of a table. This project's own.
+-- What calling a test on the entries of some places of a node leaves of a table. This project's
+-- own.
 use Rattle.std.specs.Prelude.{◌≡◌, ℕ, ◌+◌, ◌*◌, ◌<◌, ◌≤◌, Bool, true, false, cond, nat_lt, List, [], ◌∷◌, ◌++◌, length, take, Option, Some}
 use Rattle.std.specs.List.{list_any}
 use Rattle.std.specs.FinMap.{get, contains_key}
@@ -23,11 +24,11 @@ use Rattle.prefix_trie_table.specs.GrowthBounds.{BoundsGrowth}
 use Rattle.prefix_trie_table.specs.Store.{Store, KeepsMade}
 use Rattle.prefix_trie_table.specs.Tables.{IsTrie}
 
--- whether a string is that of the place t of the node at s, or goes on from it where a child is at that place
+-- whether a string is at the place t of the node at s, or under the child at that place
 abbrev pub is_at : List Bool → List Bool → List Bool → Bool
 is_at s t q = cond (nat_lt (length t) 5) (same_string q (s ++ t)) (begins (s ++ t) q)
 
--- the same of one of these places
+-- whether it is so for one of these places
 abbrev pub is_at_some : List Bool → List (List Bool) → List Bool → Bool
 is_at_some s ts q = list_any (λ t. is_at s t q) ts
 
@@ -35,11 +36,11 @@ is_at_some s ts q = list_any (λ t. is_at s t q) ts
 abbrev pub is_under : List Bool → List Bool → List Bool → Bool
 is_under s t q = cond (nat_lt (length t) 5) false (begins (s ++ t) q)
 
--- the same of one of these places
+-- whether it is so for one of these places
 abbrev pub is_under_some : List Bool → List (List Bool) → List Bool → Bool
 is_under_some s ts q = list_any (λ t. is_under s t q) ts
 
--- the place is that of a string, which the node has
+-- the node has this place, and it is the place of a string
 pub record HasPlace (n : Node) (p : Place) : Type 0 where
   pub string : List Bool
   pub short : length string ≤ 5
@@ -72,7 +73,7 @@ module _ {T : Type 0} where
     pub bounds_growth : BoundsGrowth v v2 w w2
     pub blocks : (x : List ℕ) → BlocksBetween (read v.slots x) (read v2.slots x)
 
--- a node stands in the slot of the site and at its path, which is no longer than the width
+-- there is a node in the slot of the site and at its path, which is no longer than the width
 pub record IsSite {K : Type 0} (IsKey : K → Type 0) (bits : K → List Bool) (width : ℕ) (v : Store Node) (p : Site K) (n : Node) : Type 0 where
   pub key : IsKey p.key
   pub level : ℕ
@@ -82,18 +83,20 @@ pub record IsSite {K : Type 0} (IsKey : K → Type 0) (bits : K → List Bool) (
   pub slot_is : IsSlot (read v.slots) (chunks_of (take p.depth (bits p.key))) (p.slot.start + p.slot.offset)
 
 module _ {F T : Type 0} (asks : F → List Bool → T → Bool → F → Type 0) where
-  -- asked once at each entry in turn, from the state f on, the test may be left as g
+  -- called once on each entry in order from the state f, the test can be left as g
   abbrev pub AsksUpTo : F → List (List Bool × T) → F → Type 0
   AsksUpTo f [] g = g ≡ f
   AsksUpTo f (e ∷ es) g = (b : Bool) × (f' : F) × asks f e.0 e.1 b f' × AsksUpTo f' es g
 
-  -- it answers no at each
+  -- it returns false each time
   abbrev pub SaysNo : Type 0
   SaysNo = (f : F) (k : List Bool) (x : T) (b : Bool) (g : F) → asks f k x b g → b ≡ false
 
 module _ {F T : Type 0} (asks : F → List Bool → T → Bool → F → Type 0) (accepts : F → List Bool → T → Type 0) where
-  -- the test was asked at each entry of these places of the node at s, in listing order, and those answered true are left there.
-  -- Of the nodes below them those are left that a key left needs. All else is as it was
+  -- the test was called on each entry of these places of the node at s, in listing order, and the
+  -- entries for which it returned true are left
+  -- Of the nodes under them those are left that a remaining key needs. Everything else is
+  -- unchanged.
   pub record Retains (s : List Bool) (ts : List (List Bool)) (f : F) (before : State T) (f' : F) (after : State T) : Type 0 where
     pub kept : List (List Bool × T)
     pub asked : (rest later : List (List Bool × T)) → RetainsEntries asks f' rest later →
@@ -107,7 +110,7 @@ module _ {F T : Type 0} (asks : F → List Bool → T → Bool → F → Type 0)
     pub off : (q : List Bool) → is_under_some s ts q ≡ false → has_node after.nodes q ≡ has_node before.nodes q
     pub needed : (q : List Bool) → is_under_some s ts q ≡ true → has_node after.nodes q ≡ true → Needs after.entries q
 
-  -- the same of the entries and nodes in arrays
+  -- the same for the entries and nodes in arrays
   pub record RetainsTo (width : ℕ) (s : List Bool) (ts : List (List Bool)) (f : F) (before : State T) (f' : F) (count : ℕ) (v : Store Node) (w : Store (Option T)) : Type 0 where
     pub after : State T
     pub trie : IsTrie width count v w after
@@ -117,22 +120,23 @@ module _ {F T : Type 0} (asks : F → List Bool → T → Bool → F → Type 0)
   RetainsIn width s ts f count v w f' count2 v2 w2 =
       (before : State T) → IsTrie width count v w before → RetainsTo width s ts f before f' count2 v2 w2
 
-  -- the test may be asked at each entry of these places
+  -- the test may be called on each entry of these places
   abbrev pub MayAskAt : ℕ → List Bool → List (List Bool) → F → ℕ → Store Node → Store (Option T) → Type 0
   MayAskAt width s ts f count v w =
       (before : State T) → IsTrie width count v w before → CallableOnEachEntry asks accepts f (listing_at_places before.entries s ts)
 
-  -- the test may be asked at each entry below q
+  -- the test may be called on each entry whose key begins with q
   abbrev pub MayAskBelow : ℕ → List Bool → F → ℕ → Store Node → Store (Option T) → Type 0
   MayAskBelow width q f count v w = (before : State T) → IsTrie width count v w before → CallableOnEachEntry asks accepts f (listing_below before.entries q)
 
-  -- the test was asked once at each entry below q, and these are gone. Of the nodes these are left
+  -- the test was called once on each entry whose key begins with q, and these are gone; these nodes
+  -- are left
   pub record TakesBelow (width : ℕ) (q : List Bool) (f : F) (before : State T) (f' : F) (left : Nodes) (count : ℕ) (v : Store Node) (w : Store (Option T)) : Type 0 where
     pub trie : IsTrie width count v w (record { entries = without_below before.entries q; nodes = left })
     pub up_to : AsksUpTo asks f (listing_below before.entries q) f'
 
-  -- the test was asked at each entry that these arrays held, in listing order. They hold those now at which it answered true, and
-  -- the nodes that these need
+  -- the test was called on each entry of these arrays in listing order; they now have the entries
+  -- for which it returned true, and the nodes that these need
   pub record RetainsAll (width : ℕ) (f : F) (before : State T) (count : ℕ) (v : Store Node) (w : Store (Option T)) : Type 0 where
     pub after : State T
     pub trie : IsTrie width count v w after

@@ -18,8 +18,8 @@ use Rattle.prefix_trie_table.specs.Digits.{chunks_of, bit_of}
 use Rattle.prefix_trie_table.specs.Forest.{read, value_of}
 use Rattle.prefix_trie_table.specs.Layouts.{coded_layout}
 
--- what contracts see of a table: its entries, its nodes, its room and its layout, and how the nodes stand in their array. Only
--- clauses on places speak of the last
+-- what contracts see of a table: its entries, its nodes, its slots, its layout, and the nodes in
+-- their slots; only clauses on seats mention the last
 pub record Contents (T : Type 0) : Type 0 where
   pub entries : Entries T
   pub nodes : Nodes
@@ -39,7 +39,7 @@ storage contents = record { space = contents.space; layout = contents.layout }
 abbrev pub with_value_at : {T : Type 0} → Contents T → List Bool → T → Contents T
 with_value_at s q x = record s { entries = with_entry s.entries q x }
 
--- the same where a value is stored there, and else the contents
+-- the same if a value is stored there, else the contents
 abbrev pub with_stored_at : {T : Type 0} → Contents T → List Bool → T → Contents T
 with_stored_at s q x = if contains_key s.entries q then with_value_at s q x else s
 
@@ -83,7 +83,7 @@ contents_code {T} c =
     }) (λ _. refl)
 
 module _ {T : Type 0} where
-  -- the entries and the nodes are those of these arrays: each string is looked up at its own node
+  -- the entries and the nodes are those of these arrays: each string is looked up in its own node
   abbrev pub IsShapeOf : List Node → List (Option T) → State T → Type 0
   IsShapeOf nodes cells shape =
       ((s : List Bool) → has_node shape.nodes s ≡ (is_node_depth s && is_some (read nodes (chunks_of s))))

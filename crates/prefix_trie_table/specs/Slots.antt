@@ -16,12 +16,12 @@ abbrev pub with_cell : {T : Type 0} → Store (Option T) → Option Seat → T �
 with_cell w None x = w
 with_cell w (Some seat) x = with_slot w (seat.start + seat.offset) (Some x)
 
--- a value stands at this seat
+-- there is a value at this seat
 pub record HasValue {T : Type 0} (w : Store (Option T)) (seat : Seat) : Type 0 where
   pub stands : seat.start + seat.offset < length w.slots
   pub stored : IsSome (slice_index_or w.slots (seat.start + seat.offset) None)
 
--- the value at bit b of the node with a path stands at this seat
+-- the value at bit b of the node with a path is at this seat
 pub record IsSeat (reading : List ℕ → Option Node) (path : List ℕ) (b : ℕ) (seat : Seat) : Type 0 where
   pub node : Node
   pub is : reading path ≡ Some node

@@ -1,4 +1,4 @@
--- What a second table is, from the lists that are laid for it to its last value.
+-- The second table of a split, from the lists that are built for it to its last value.
 pub mod Laying
 pub mod Laid
 pub mod Skeleton

@@ -1,4 +1,5 @@
--- A table as a state of the model beside how it is stored, and what its changing calls answer and leave. This project's own.
+-- A table as a state of the model with its storage, and the results of its changing calls as
+-- replies. This project's own.
 use Rattle.std.specs.Prelude.{◌+◌, ◌≤◌, Option, None, Result, Ok, Err}
 use Rattle.prefix_trie_bits.specs.declared.prefix.Refused.{Refused}
 use Rattle.prefix_trie_bits.specs.Model.Step.{State, Reply}
@@ -11,17 +12,17 @@ module _ {T : Type 0} where
   abbrev pub stored_state : Contents T → State T × Storage
   stored_state contents = (state contents, storage contents)
 
-  -- what an insertion answers, as a reply of the model
+  -- the result of an insertion, as a reply of the model
   abbrev pub insert_reply : {P : Type 0} → Result (Option T) (Refused T) → Reply P T
   insert_reply (Ok before) = Reply.Value before
   insert_reply (Err refused) = Reply.Refused refused.cause
 
-  -- what the insertion of a missing key answers that says more than its value
+  -- the result of the insertion of a missing key, which has more than a value, as a reply
   abbrev pub insert_new_reply : {P X : Type 0} → Result X (Refused T) → Reply P T
   insert_new_reply (Ok x) = Reply.Value None
   insert_new_reply (Err refused) = Reply.Refused refused.cause
 
--- neither array may become longer than it could before, as more items are taken out
+-- the length that each array can reach while items are removed does not rise
 pub record BoundsStorageGrowth (before after : Storage) : Type 0 where
   pub nodes : after.space.node_slots + headroom_of after.layout.child_blocks ≤ before.space.node_slots + headroom_of before.layout.child_blocks
   pub cells : after.space.cell_slots + headroom_of after.layout.value_blocks ≤ before.space.cell_slots + headroom_of before.layout.value_blocks

@@ -5,13 +5,13 @@ use Rattle.prefix_trie_bits.specs.Model.Insertion.{block_needed, missing_of, slo
 use Rattle.prefix_trie_table.specs.Growth.{Reserves}
 use Rattle.prefix_trie_table.specs.Runs.{run}
 
--- the blocks of one size: how many stand in the array, and where the free ones start
+-- the blocks of one size: how many there are, and where the free ones start
 pub record Tier : Type 0 where
   pub size : ℕ
   pub made : ℕ
   pub starts : List ℕ
 
--- the array, the place where its first block starts, its tiers, the length that it never passes, and how many slots it has memory for
+-- the array, the slot where its first block starts, its tiers, its limit, and its capacity in slots
 pub record Store (S : Type 0) : Type 0 where
   pub slots : List S
   pub first : ℕ
@@ -19,7 +19,7 @@ pub record Store (S : Type 0) : Type 0 where
   pub limit : ℕ
   pub capacity : ℕ
 
--- a block in use: its tier, where it starts, its size, and the list that it holds
+-- a used block: its tier, its first slot, its size, and its list
 pub record UsedBlock (S : Type 0) : Type 0 where
   pub tier : ℕ
   pub start : ℕ
@@ -38,7 +38,7 @@ slots_made ts = sum_by (λ t. t.size * t.made) ts
 abbrev pub tier_sizes : List Tier → List ℕ
 tier_sizes ts = map (λ t. t.size) ts
 
--- where a block in use stands
+-- the extent of a used block
 abbrev pub extent : {S : Type 0} → UsedBlock S → Extent
 extent b = record { start = b.start; size = b.size }
 
@@ -46,7 +46,7 @@ extent b = record { start = b.start; size = b.size }
 abbrev pub of_size : ℕ → ℕ → Extent
 of_size n s = record { start = s; size = n }
 
--- where the free blocks stand
+-- the extents of the free blocks
 abbrev pub free_extents : List Tier → List Extent
 free_extents [] = []
 free_extents (t ∷ ts) = map (of_size t.size) t.starts ++ free_extents ts
@@ -84,7 +84,7 @@ pub record Sound {S : Type 0} (vacant : S) (live : List (UsedBlock S)) (v : Stor
 abbrev pub with_tier : {S : Type 0} → Store S → ℕ → Tier → Store S
 with_tier v k t = record v { tiers = slice_set v.tiers k t }
 
--- the tier of this size of which no block is made
+-- the tier of this size with no block made
 abbrev pub no_blocks : ℕ → Tier
 no_blocks n = record { size = n; made = 0; starts = [] }
 
@@ -94,7 +94,7 @@ no_blocks n = record { size = n; made = 0; starts = [] }
 abbrev pub block : {S : Type 0} → ℕ → ℕ → ℕ → List S → UsedBlock S
 block k start size items = record { tier = k; start = start; size = size; items = items }
 
--- the block that holds these, where there are any
+-- the block of these items, if there are any
 abbrev pub held : {S : Type 0} → ℕ → ℕ → ℕ → List S → List (UsedBlock S)
 held k start size [] = []
 held k start size (x ∷ xs) = block k start size (x ∷ xs) ∷ []
@@ -107,7 +107,7 @@ pub record InUse {S : Type 0} (vacant : S) (v : Store S) (k start count : ℕ) :
   pub is_count : length items ≡ count
   pub sound : Sound vacant (block k start size items ∷ live) v
 
--- a list of so many values stands in a block of tier k from `start` on, or, if it has none, nowhere
+-- a list of so many values is in a block of tier k from `start` on; an empty list is nowhere
 pub record HasList {S : Type 0} (vacant : S) (v : Store S) (k start count : ℕ) : Type 0 where
   pub live : List (UsedBlock S)
   pub size : ℕ
@@ -129,11 +129,11 @@ free_counts ts = map (λ t. length t.starts) ts
 abbrev pub free_in : List Tier → ℕ → ℕ
 free_in ts size = free_of (tier_sizes ts) (free_counts ts) size
 
--- how many of a size stand in the array, in use and free
+-- how many blocks of a size there are, used and free
 abbrev pub made_in : List Tier → ℕ → ℕ
 made_in ts size = free_of (tier_sizes ts) (map (λ t. t.made) ts) size
 
--- the size, where there are any
+-- the size, if there are any
 abbrev pub size_if_any : ℕ → ℕ → Option ℕ
 size_if_any zero size = None
 size_if_any (suc n) size = Some size
@@ -158,11 +158,11 @@ AreFree ts needed = (size : ℕ) → length (filter (λ s. s == size) needed) �
 abbrev pub IsReady : List Tier → ℕ → ℕ → Type 0
 IsReady ts k count = IsSome (smallest_size (tier_sizes ts) (count + 1)) × AreFree ts (needs (list_need ts k count) 0)
 
--- how many of the needed blocks have a size and lack
+-- how many of the needed blocks have a size and are missing
 abbrev pub missing_in : {S : Type 0} → Store S → List ℕ → ℕ → ℕ
 missing_in v needed = missing_of (tier_sizes v.tiers) (free_counts v.tiers) needed
 
--- the slots of those that lack
+-- the slots of the missing blocks
 abbrev pub missing_slots : {S : Type 0} → Store S → List ℕ → ℕ
 missing_slots v needed = slots_of_missing (tier_sizes v.tiers) (free_counts v.tiers) needed
 
@@ -189,11 +189,11 @@ SameSlots {S} v w = (i : ℕ) (d : S) → i < length v.slots → slice_index_or 
 abbrev pub SameSpace : {S : Type 0} → Store S → Store S → Type 0
 SameSpace v w = (length w.slots ≡ length v.slots) × (w.first ≡ v.first) × (w.limit ≡ v.limit)
 
--- of each size no fewer blocks stand in the array than before
+-- of each size there are at least as many blocks as before
 abbrev pub KeepsMade : {S : Type 0} → Store S → Store S → Type 0
 KeepsMade v w = (size : ℕ) → made_in v.tiers size ≤ made_in w.tiers size
 
--- of each size as many blocks stand in the array as before
+-- of each size there are as many blocks as before
 abbrev pub SameMade : {S : Type 0} → Store S → Store S → Type 0
 SameMade v w = (size : ℕ) → made_in w.tiers size ≡ made_in v.tiers size
 
@@ -202,9 +202,10 @@ pub record MakesNone {S : Type 0} (v w : Store S) : Type 0 where
   pub space : SameSpace v w
   pub made : SameMade v w
 
--- the first block starts where it did, the sizes are the same, nothing before the first block was written, and where the limit
--- held it holds. The capacity grew as for the slots that there are now and one block more, which is one that was not made if memory for
--- its place in the list of free ones was refused
+-- the first block starts where it did, the sizes are the same, nothing before the first block was
+-- written, and the limit holds if it held
+-- The capacity grew as for the present slots plus one block, which is a block that was not made
+-- because memory for its entry in the free list was refused.
 pub record Keeps {S : Type 0} (v w : Store S) : Type 0 where
   pub first_is : w.first ≡ v.first
   pub limit_is : w.limit ≡ v.limit
@@ -214,16 +215,18 @@ pub record Keeps {S : Type 0} (v w : Store S) : Type 0 where
   pub within : length v.slots ≤ v.limit → length w.slots ≤ w.limit
   pub grown : Reserves v.capacity (length w.slots + 32) w.capacity
 
--- so many blocks of each size were made, by whose slots the array is longer, and a list that stood in a block of the size `old` stands in
--- one of the size `new`; each other block in use or free is so still
+-- so many blocks of each size were made, and the array is longer by their slots; a list in a block
+-- of the size `old` is in one of the size `new`; each other used or free block is unchanged
 pub record Turnover {S : Type 0} (v w : Store S) (made : ℕ → ℕ) (old new : Option ℕ) : Type 0 where
   pub keeps : Keeps v w
   pub made_is : (size : ℕ) → made_in w.tiers size ≡ made_in v.tiers size + made size
   pub free_is : (size : ℕ) → free_in w.tiers size + one_of new size ≡ free_in v.tiers size + made size + one_of old size
   pub longer : length w.slots ≡ length v.slots + slots_of (tier_sizes v.tiers) made
 
--- what a call leaves of an array in which blocks of these sizes must be free: it makes those that lack, or, refused, no more. It is
--- refused only where some lack, for the limit only where they pass it, and for memory only where one that lacks still would not
+-- what a call leaves of an array in which blocks of these sizes must be free: it makes the missing
+-- ones, or, if refused, at most these
+-- It is refused only if some are missing: for the limit only if they exceed it, and for memory only
+-- if one that is still missing would fit.
 pub record Obtains {X E S : Type 0} (for_limit for_memory : E → Type 0) (r : Result X E) (v w : Store S) (needed : List ℕ) : Type 0 where
   pub made : MatchResult r (λ _. Turnover v w (missing_in v needed) None None)
       (λ _. (m : ℕ → ℕ) × ((size : ℕ) → m size ≤ missing_in v needed size) × Turnover v w m None None)

@@ -1,4 +1,4 @@
--- What holds of the fields of every table, and of a way down. This project's own.
+-- What holds of the fields of every table, and of a descent. This project's own.
 use Rattle.std.specs.Prelude.{◌≡◌, ℕ, ◌+◌, ◌*◌, ◌<◌, ◌≤◌, ◌⊎◌, Bool, false, List, Option, Some, length, take, slice_index_or, Result, IfErr}
 use Rattle.std.specs.FinMap.{len}
 use Rattle.prefix_trie_bits.specs.Model.Entries.{AreWithin}
@@ -12,36 +12,39 @@ use Rattle.prefix_trie_table.specs.Store.{Store, KeepsMade}
 use Rattle.prefix_trie_table.specs.Forest.{NodesHold, CellsHold, Holds, Deepest, EntryAdded, entry_count}
 use Rattle.prefix_trie_table.specs.Shape.{IsShapeOf}
 
--- THE INVARIANT of every table, which is its storage promise: nodes and values stand in blocks, with exactly one owner each. That each
--- free list has room for all blocks of its size, so that no block that is given back asks for memory, is the invariant of `FreeList`
+-- THE INVARIANT of every table, which is its storage promise: nodes and values are in blocks, with
+-- exactly one owner each
+-- Each free list has capacity for all blocks of its size, so freeing a block never allocates; that
+-- is the invariant of `FreeList`.
 pub record IsTable {T : Type 0} (v : Store Node) (w : Store (Option T)) (count : ℕ) (shape : State T) : Type 0 where
-  -- the nodes by path, the values by path and bit, and the paths at which nodes stand
+  -- the nodes by path, the values by path and bit, and the paths of the nodes
   pub reading : List ℕ → Option Node
   pub values : List ℕ → ℕ → Option T
   pub paths : List (List ℕ)
-  -- the blocks of nodes in use are one for each parent, which holds exactly its children in order. They and the free ones tile the
-  -- array behind the root's slot, and every other slot is vacant
+  -- each parent has one used block of nodes, with exactly its children in order; the used and the
+  -- free blocks tile the array after the root's slot, and every other slot is vacant
   pub nodes : NodesHold node_sizes reading paths v
-  -- the same of values: one block for each holder, which holds exactly its values in order
+  -- the same for values: each holder has one used block, with exactly its values in order
   pub cells : CellsHold cell_sizes reading values paths w
-  -- and no slot stands before them
+  -- and no slot comes before them
   pub cells_first : w.first ≡ 0
   -- both arrays have one limit, which neither passes
   pub one_limit : w.limit ≡ v.limit
   pub nodes_within : length v.slots ≤ v.limit
   pub cells_within : length w.slots ≤ w.limit
-  -- the number of entries is that of values, and of the entries that contracts see
+  -- the number of entries is the number of values, and of the entries that contracts see
   pub counted : count ≡ entry_count reading paths
   pub sized : count ≡ len shape.entries
 
--- the same of arrays with just these entries and nodes, none longer than the width
+-- the same for arrays with exactly these entries and nodes, none longer than the width
 pub record IsTrie {T : Type 0} (width count : ℕ) (v : Store Node) (w : Store (Option T)) (shape : State T) : Type 0 where
   pub table : IsTable v w count shape
   pub shaped : IsShapeOf v.slots w.slots shape
   pub within : AreWithin width shape.entries
   pub nodes : AreNodes width shape.entries shape.nodes
 
--- the way of the first len bits of b was followed as far as nodes stand, to this node in this slot
+-- the search path of the first len bits of b was followed as far as there are nodes, to this node
+-- in this slot
 pub record IsReached (b : List Bool) (len level : ℕ) (node : Node) (slot : ℕ) (v : Store Node) : Type 0 where
   pub long : len ≤ length b
   pub whole : 5 * level ≤ len
@@ -50,8 +53,8 @@ pub record IsReached (b : List Bool) (len level : ℕ) (node : Node) (slot : ℕ
       Deepest reading (chunks_of (take len b)) level slot v
   pub missing : 5 * level + 5 ≤ len → has_bit node.child_bitmap (slice_index_or (chunks_of (take len b)) level 0) ≡ false
 
--- an array is as long as it was or longer by so many slots at most, its first block starts where it did, its limit is the
--- same, where that held it holds, and no block is lost
+-- an array keeps its length or grows by at most so many slots; its first block starts where it did,
+-- its limit is the same and holds if it held, and no block is lost
 pub record Grows {S : Type 0} (v w : Store S) (most : ℕ) : Type 0 where
   pub first_is : w.first ≡ v.first
   pub limit_is : w.limit ≡ v.limit
@@ -64,14 +67,15 @@ pub record Grows {S : Type 0} (v w : Store S) (most : ℕ) : Type 0 where
 abbrev pub MayPass : {T : Type 0} → Store Node → Store (Option T) → Type 0
 MayPass v w = (v.limit < length v.slots + 56) ⊎ (w.limit < length w.slots + 31)
 
--- both arrays grow by those blocks at most, and for the limit a call is refused only where they may pass it
+-- both arrays grow by at most those blocks, and a call is refused for the limit only if they may
+-- exceed it
 pub record GrowsBoth {T X E : Type 0} (for_limit : E → Type 0) (r : Result X E) (v v2 : Store Node) (w w2 : Store (Option T)) : Type 0 where
   pub nodes : Grows v v2 56
   pub cells : Grows w w2 31
   pub range : IfErr r (λ e. for_limit e → MayPass v w)
 
 module _ {T : Type 0} where
-  -- a fact about each way to read these arrays as a table: its nodes, their paths and its values
+  -- a fact about each reading of these arrays as a table: its nodes, their paths and its values
   abbrev pub ForHeld : Store Node → Store (Option T) → ((List ℕ → Option Node) → List (List ℕ) → (List ℕ → ℕ → Option T) → Type 0) → Type 0
   ForHeld v w P =
       (reading : List ℕ → Option Node) (paths : List (List ℕ)) (values : List ℕ → ℕ → Option T) → Holds reading values paths v w → P reading paths values
@@ -80,7 +84,7 @@ module _ {T : Type 0} where
   abbrev pub own_value : (List ℕ → ℕ → Option T) → List Bool → ℕ → Option T
   own_value values b len = values (chunks_of (take len b)) (bit_of (take len b))
 
-  -- the value at the first len bits of b was set to x, and the nodes on the way were added
+  -- the value at the first len bits of b was set to x, and the nodes on the search path were added
   abbrev pub EntrySet : (List ℕ → Option Node) → List (List ℕ) → (List ℕ → ℕ → Option T) → List Bool → ℕ → T → Store Node → Store (Option T) → Type 0
   EntrySet reading paths values b len x v w =
       EntryAdded reading values paths (chunks_of (take len b)) (bit_of (take len b)) (Some x) v w

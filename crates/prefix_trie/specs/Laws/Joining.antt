@@ -1,4 +1,5 @@
--- A loop that joins the values of one map to those of another: what it leaves, and an invariant for it. This project's own.
+-- A loop that joins the values of one map to those of another: its invariant and its result. This
+-- project's own.
 use Rattle.std.specs.Prelude.{◌≡◌, ℕ, Bool, List, [], ◌∷◌, Option, None, Some, All}
 use Rattle.std.specs.FinMap.{get}
 use Rattle.prefix_trie_bits.specs.Model.Entries.{Entries, AreWithin, with_entry}
@@ -16,7 +17,7 @@ module _ {T : Type 0} (join : T → T → T) where
   joined_by before (Some w) = Some (with_value before w)
 
   module _ {P : Type 0} (path : P → List Bool) where
-    -- pairs joined to the entries, in turn
+    -- pairs joined to the entries in order
     abbrev pub join_all : List (P × T) → Entries T → Entries T
     join_all [] now = now
     join_all (e ∷ es) now = join_all es (with_entry now (path e.0) (with_value (get now (path e.0)) e.1))
@@ -25,7 +26,7 @@ module _ {T : Type 0} (join : T → T → T) where
     abbrev pub Joins : (P → Type 0) → List (P × T) → Entries T → Entries T → Type 0
     Joins IsFitting left now whole = All (λ e. IsFitting e.0) left × (join_all left now ≡ whole)
 
--- where no key is longer than the width, as in every map
+-- no key is longer than the width, as in every map
 pub record JoinLaws {P : Type 0} (T : Type 0) (width : ℕ) (path : P → List Bool) (IsFitting : P → Type 0) (back : List Bool → P) : Type 0 where
   -- a walk over a whole map leads to all its entries joined
   pub starts : (join : T → T → T) (from to : Entries T) → AreWithin width from → (walk : List (P × T)) → walk ≡ prefix_pairs back (listing from)

@@ -14,21 +14,21 @@ pub record LookupLaws (P T : Type 0) : Type 0 where
   -- what the longest match is, and its value
   pub found : (m : Entries T) (q : List Bool) → MatchOption (longest_match m q) (IsUncovered m q) (IsLongestMatch m q)
   pub value : (m : Entries T) (q : List Bool) → MatchOption (option_map (λ e. e.1) (longest_match m q)) (IsUncovered m q) (λ v. (s : List Bool) × IsLongestMatch m q (s, v))
-  -- there is a match exactly where some stored key begins the question
+  -- there is a match exactly if q begins with some stored key
   pub covered : (m : Entries T) (q s : List Bool) → contains_key m s ≡ true → begins s q ≡ true → is_some (shortest_match m q) ≡ true
   pub uncovered : (m : Entries T) (q : List Bool) → is_some (shortest_match m q) ≡ false → IsUncovered m q
   -- a new map has no match
   pub nothing : (q : List Bool) → longest_match (no_entries {T = T}) q ≡ None
-  -- a key that was set counts only where it begins the question
+  -- setting a key matters only if q begins with it
   pub set_aside : (m : Entries T) (q s : List Bool) (v : T) → begins s q ≡ false → longest_match (with_entry m s v) q ≡ longest_match m q
   -- there it is the longest match, unless a longer one was there
   pub set : (m : Entries T) (q s : List Bool) (v : T) → begins s q ≡ true → IfSome (longest_match m q) (λ e. length e.0 ≤ length s)
       → longest_match (with_entry m s v) q ≡ Some (s, v)
   pub set_shorter : (m : Entries T) (q s : List Bool) (v : T) (e : List Bool × T) → longest_match m q ≡ Some e → length s < length e.0
       → longest_match (with_entry m s v) q ≡ Some e
-  -- a key that was taken out counts only where it was the longest match
+  -- removing a key matters only if it was the longest match
   pub taken_aside : (m : Entries T) (q s : List Bool) → IfSome (longest_match m q) (λ e. e.0 ≢ s) → longest_match (without_entry m s) q ≡ longest_match m q
-  -- there the longest match is that of the question without its bits from the last one of that key on
+  -- then the longest match is that of q cut off before the last bit of the removed key
   pub taken : (m : Entries T) (q s : List Bool) (v : T) (n : ℕ) → longest_match m q ≡ Some (s, v) → length s ≡ n + 1
       → longest_match (without_entry m s) q ≡ longest_match m (take n q)
   pub taken_last : (m : Entries T) (q : List Bool) (v : T) → longest_match m q ≡ Some ([], v) → longest_match (without_entry m []) q ≡ None

@@ -2,7 +2,7 @@
 use Rattle.std.specs.Prelude.{◌≡◌, ℕ, ◌≤◌, Bool, List, length}
 
 pub record PathLaws {K P : Type 0} (width : ℕ) (bits : K → List Bool) (repr_of : P → K) (len_of : P → ℕ) (path : P → List Bool) (IsFitting : P → Type 0) (back : List Bool → P) : Type 0 where
-  -- it is as long as the prefix says
+  -- a path is as long as its prefix says
   pub as_long : (p : P) → IsFitting p → length (path p) ≡ len_of p
   -- of a prefix of full length it is the whole number
   pub full : (p : P) → IsFitting p → len_of p ≡ width → path p ≡ bits (repr_of p)

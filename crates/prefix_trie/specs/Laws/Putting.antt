@@ -10,7 +10,7 @@ module _ {P T : Type 0} (path : P → List Bool) (IsFitting : P → Type 0) wher
   abbrev pub Leads : List (P × T) → Entries T → Entries T → Type 0
   Leads left now whole = All (λ e. IsFitting e.0) left × (put_all path left now ≡ whole)
 
--- where no key is longer than the width, as in every map
+-- no key is longer than the width, as in every map
 pub record PutLaws {P : Type 0} (T : Type 0) (width : ℕ) (path : P → List Bool) (IsFitting : P → Type 0) (back : List Bool → P) : Type 0 where
   -- a walk over a whole map leads to all its entries put
   pub starts : (from to : Entries T) → AreWithin width from → (walk : List (P × T)) → walk ≡ prefix_pairs back (listing from)

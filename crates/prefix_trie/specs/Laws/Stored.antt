@@ -9,7 +9,7 @@ pub record StoredLaws (T : Type 0) : Type 0 where
   -- the key that was set has its value, and each other key what it had
   pub set : (m : Entries T) (s : List Bool) (v : T) → get (with_entry m s v) s ≡ Some v
   pub beside_set : (m : Entries T) (s : List Bool) (v : T) (t : List Bool) → (t ≢ s) → get (with_entry m s v) t ≡ get m t
-  -- the key that was taken out has none, and each other key what it had
+  -- the removed key has no value, and each other key has the value that it had
   pub taken : (m : Entries T) (s : List Bool) → get (without_entry m s) s ≡ None
   pub beside_taken : (m : Entries T) (s t : List Bool) → (t ≢ s) → get (without_entry m s) t ≡ get m t
   -- two maps that have the same value at each key are one

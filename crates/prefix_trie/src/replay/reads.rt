@@ -1,4 +1,4 @@
-//! How many nodes the lookups of a run read.
+//! The numbers of nodes that the lookups of a run read, for contracts alone.
 ghost use Rattle.std.specs.Prelude.{◌≡◌, ◌++◌, ◌∷◌, []};
 
 use prefix_trie_map::map::Visits;
@@ -6,7 +6,7 @@ use std::marker::Model;
 use std::mem::replace;
 use std::snapshot::Snapshot;
 
-// One number more than the note before it, or no number. It is never kept: a snapshot of it is.
+// One number more than the note before it, or no number. Only snapshots of it are kept.
 #[derive(Drop)]
 struct Note {
     before: Option<Snapshot<Note>>,
@@ -28,22 +28,24 @@ impl Model for Note {
     ghost size_decreases = { λ n h. notes-fall n.before n.read };
 }
 
-/// For each call of a run how many nodes it read, if it is a lookup, and else None. It takes no bytes: the numbers exist in
-/// contracts alone, and are those of the `Visits` that the map's counted lookups hand out.
+/// The number of nodes that each call of a run read, `None` if the call is not a lookup.
+///
+/// It has no bytes: the numbers exist only in contracts, and are those of the `Visits` that the
+/// map's counted lookups return.
+///
+/// # Examples
 ///
 /// ```text
-/// run_counted(alloc, &mut map, &[
-///     Call::Insert(10.1.0.0/16, 1),   None
-///     Call::Get(10.1.0.0/16),         Some(4): the nodes of the lengths 0, 5, 10 and 15
-///     Call::Spm(11.0.0.0/8),          Some(2), the nodes that there are on the way
-/// ])
+/// Call::Insert(10.1.0.0/16, 1)     None
+/// Call::Get(10.1.0.0/16)           Some(4): the nodes of the lengths 0, 5, 10 and 15
+/// Call::Spm(11.0.0.0/8)            Some(2): the nodes of its search path
 /// ```
 #[derive(Drop)]
 pub struct Reads {
     last: Snapshot<Note>,
 }
 
-// A contract sees the numbers, in the order of the calls.
+// A contract sees the numbers in the order of the calls.
 impl Model for Reads {
     ghost use Rattle.std.specs.Prelude.{ℕ, List, Option};
 
@@ -53,7 +55,7 @@ impl Model for Reads {
 }
 
 impl Reads {
-    /// Of no call.
+    /// Returns the numbers of no calls.
     pub(super) fn new() -> Reads
         ensures { result ≡ [] }
     {
@@ -65,7 +67,7 @@ impl Reads {
         }
     }
 
-    /// With those of one call more.
+    /// Appends the number of one more call.
     pub(super) fn push(&mut self, read: Option<Visits>)
         ensures { self.new ≡ self.old ++ read ∷ [] }
     {

@@ -1,4 +1,4 @@
-//! Sets of the prefixes that an iterator gives.
+//! Collects the prefixes of an iterator into a set.
 ghost use Rattle.std.specs.Prelude.{◌≡◌, List, ◌+◌, ◌-◌, ◌*◌, ◌^◌, ◌<◌, length, map, All, IfOk, IfErr};
 ghost use Rattle.std.specs.Iterator.{IsFinite, HoldsAlong, Yields, Drains};
 ghost use Rattle.prefix_trie_bits.specs.declared.prefix.Refusal.TheVariants.{IndexRange};
@@ -13,15 +13,20 @@ use std::alloc::Allocator;
 use std::iter::IntoIterator;
 
 impl<P: Prefix, A: Allocator + Clone> PrefixSet<P, A> {
-    /// The set of the prefixes that an iterator gives, put in in turn. It has the limit of `new`. Asks that the iterator comes to
-    /// its end, and that each prefix that it gives fits.
+    /// Makes a set of the prefixes of an iterator, inserted in order, with the slot limit of `new`.
     ///
-    /// Errors: as of `insert`, `Memory`, or `IndexRange` where the prefixes are very many: each makes at most 56 slots of an array.
-    /// Then no set exists, and what was taken is dropped.
+    /// The iterator must end, and each prefix that it gives must fit.
+    ///
+    /// # Errors
+    ///
+    /// Returns the errors of `insert`. `IndexRange` takes very many prefixes: each makes at most 56
+    /// slots in an array. The prefixes read so far are dropped.
+    ///
+    /// # Examples
     ///
     /// ```text
-    /// PrefixSet::from_iter(alloc, vec![in alloc; 10.1.0.0/16, 10.1.255.255/16]?)?
-    ///     has one key, 10.1.0.0/16, since both have one path
+    /// let networks = vec![in alloc; "10.1.0.0/16".parse::<Ipv4Prefix>()?, "10.1.255.255/16".parse()?]?;
+    /// PrefixSet::from_iter(alloc, networks)?.len();        // 1: both have one path
     /// ```
     pub fn from_iter<I: IntoIterator<Item = P> + Drop>(alloc: A, items: I) -> Result<Self, Refusal>
         requires ends { (it : I.IntoIter) → I.into_iter_gives items it → I.IntoIter.can_next it × IsFinite (I.IntoIter.remaining it) }
@@ -30,7 +35,7 @@ impl<P: Prefix, A: Allocator + Clone> PrefixSet<P, A> {
         ensures tidy { IfOk result (λ set. IsTidy set.entries set.nodes) }
         ensures limit { IfOk result (λ set. set.space.limit ≡ 2 ^ 32 - 1) }
 
-        // For want of slots only where so many prefixes came that 56 slots for each pass the limit.
+        // `IndexRange` comes only after so many prefixes that 56 slots for each exceed the limit.
         ensures range { IfErr result (λ cause. cause ≡ IndexRange → (it : I.IntoIter) × (xs : List P) × (rest : I.IntoIter) × I.into_iter_gives items it × Yields I.IntoIter.next_gives it xs rest × (2 ^ 32 - 1 < 1 + 56 * length xs)) }
     {
         let units = items.into_iter().map(|prefix| (prefix, ()));

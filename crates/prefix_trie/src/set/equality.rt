@@ -27,7 +27,7 @@ impl<P: Prefix, A: Allocator> Eq for PrefixSet<P, A> {
     ghost laws = { on_equiv (λ s. s.entries) same_keys_equiv };
 }
 
-/// Whether two walks give the same prefixes in the same order.
+/// Returns whether two walks give the same prefixes in the same order.
 fn give_alike<P: Prefix, A: Allocator>(left: Iter<'_, P, A>, mut right: Iter<'_, P, A>) -> bool
     ensures { result ≡ pointwise (same_parts P.R.eq P.repr_of P.len_of) left.entry right.entry }
 {
@@ -40,7 +40,7 @@ fn give_alike<P: Prefix, A: Allocator>(left: Iter<'_, P, A>, mut right: Iter<'_,
     right.next().is_none()
 }
 
-/// Whether number and length are the same.
+/// Returns whether number and length are the same.
 fn is_same<P: Prefix>(prefix: &P, other: &P) -> bool
     ensures { result ≡ same_parts P.R.eq P.repr_of P.len_of prefix.now other.now }
 {
@@ -48,7 +48,7 @@ fn is_same<P: Prefix>(prefix: &P, other: &P) -> bool
 }
 
 impl<P: Prefix, A: Allocator> Debug for PrefixSet<P, A> {
-    /// The keys in listing order, joined by `, ` within braces.
+    /// Writes the keys in listing order, joined by `, ` within braces.
     fn fmt<W: Write>(&self, f: &mut Formatter<W>) -> fmt::Result {
         f.debug_set().entries(self).finish()
     }

@@ -1,4 +1,4 @@
-//! The walks of a set, in listing order. Contracts see each as the list of the prefixes still to come.
+//! The walks of a set, in listing order. Contracts see each as the list of the prefixes to come.
 ghost use Rattle.std.specs.Prelude.{◌≡◌, ◌<◌, ◌≤◌, ◌^◌, map, length, cond};
 ghost use Rattle.std.specs.FinMap.{len};
 ghost use Rattle.std.specs.Map.Iter.{GivesInOrder};
@@ -12,24 +12,30 @@ use prefix_trie_map::map::{CoverKeys, IntoKeys, Keys, KeysOf};
 use std::alloc::Allocator;
 use std::iter::IntoIterator;
 
-/// The keys of a set in listing order, each as a prefix without host bits.
+/// A walk of the keys in listing order, as prefixes without host bits.
 ///
-/// A prefix comes before those that it contains, and of two that differ in a bit the one with 0 first. The walk takes no
-/// memory, has a `clone` and a default, which is empty, and after its last item it answers `None` each time.
+/// A prefix comes before those that it contains, and of two that differ in a bit the one with 0
+/// comes first. The walk does not allocate. It can be cloned, its default is empty, and after the
+/// last item it returns `None` each time.
 pub type Iter<'a, P, A> = Keys<'a, P, (), A>;
 
-/// The keys of a set in listing order, each as a prefix without host bits. It owns the set's memory.
+/// A walk that owns the set's memory: the keys in listing order, as prefixes without host bits.
 ///
-/// Its `clone` has the same keys to come, in memory of its own. Errors: only where a request for memory is refused.
+/// Its `clone` has the same keys to come, in memory of its own, and returns an error if an
+/// allocation failed.
 pub type IntoIter<P, A> = IntoKeys<P, (), A>;
 
 impl<P: Prefix, A: Allocator> PrefixSet<P, A> {
-    /// The keys in listing order: a prefix comes before those that it contains, and of two that differ in a bit the one with 0
-    /// comes first. Prefixes come without host bits.
+    /// Walks the keys in listing order, as prefixes without host bits.
+    ///
+    /// A prefix comes before those that it contains, and of two that differ in a bit the one with 0
+    /// comes first.
+    ///
+    /// # Examples
     ///
     /// ```text
-    /// 10.0.0.0/8, 10.1.0.0/16 and 9.0.0.0/8 are stored
-    /// set.iter()    gives 9.0.0.0/8, 10.0.0.0/8 and 10.1.0.0/16
+    /// // 10.0.0.0/8, 10.1.0.0/16 and 9.0.0.0/8 are stored
+    /// set.iter();                         // 9.0.0.0/8, 10.0.0.0/8, 10.1.0.0/16
     /// ```
     #[inline]
     pub fn iter(&self) -> Iter<'_, P, A>
@@ -42,13 +48,19 @@ impl<P: Prefix, A: Allocator> PrefixSet<P, A> {
         self.map.keys()
     }
 
-    /// The keys behind a prefix in the order of `iter`, and before them its own where `inclusive`, whether it is stored or
-    /// not. The prefixes that it contains are behind it, so an exclusive walk leaves out its own key alone.
+    /// Walks the keys after a prefix in the order of `iter`, and its own if `inclusive`; the prefix
+    /// need not be stored.
+    ///
+    /// The prefixes that it contains come after it, so an exclusive walk leaves out only its own
+    /// key.
+    ///
+    /// # Examples
     ///
     /// ```text
-    /// 10.0.0.0/8, 10.1.0.0/16, 10.1.1.0/24 and 10.2.0.0/16 are stored
-    /// set.iter_from(&10.1.0.0/16, true)     gives 10.1.0.0/16, 10.1.1.0/24 and 10.2.0.0/16
-    /// set.iter_from(&10.1.0.0/16, false)    gives 10.1.1.0/24 and 10.2.0.0/16
+    /// // 10.0.0.0/8, 10.1.0.0/16, 10.1.1.0/24 and 10.2.0.0/16 are stored
+    /// let network = "10.1.0.0/16".parse()?;
+    /// set.iter_from(&network, true);      // 10.1.0.0/16, 10.1.1.0/24, 10.2.0.0/16
+    /// set.iter_from(&network, false);     // 10.1.1.0/24, 10.2.0.0/16
     /// ```
     #[inline]
     pub fn iter_from(&self, prefix: &P, inclusive: bool) -> Iter<'_, P, A>
@@ -63,12 +75,15 @@ impl<P: Prefix, A: Allocator> PrefixSet<P, A> {
         KeysOf::new(self.map.iter_from(prefix, inclusive))
     }
 
-    /// The keys that this prefix contains, its own among them, in the order of `iter`. These are the keys that
-    /// `drop_children` and `remove_children` take out.
+    /// Walks the keys that a prefix contains, its own included, in the order of `iter`.
+    ///
+    /// These are the keys that `drop_children` and `remove_children` remove.
+    ///
+    /// # Examples
     ///
     /// ```text
-    /// 10.0.0.0/8, 10.1.0.0/16, 10.1.1.0/24 and 10.2.0.0/16 are stored
-    /// set.children(&10.1.0.0/16)    gives 10.1.0.0/16 and 10.1.1.0/24
+    /// // 10.0.0.0/8, 10.1.0.0/16, 10.1.1.0/24 and 10.2.0.0/16 are stored
+    /// set.children(&"10.1.0.0/16".parse()?);       // 10.1.0.0/16, 10.1.1.0/24
     /// ```
     #[inline]
     pub fn children(&self, prefix: &P) -> Iter<'_, P, A>
@@ -81,11 +96,13 @@ impl<P: Prefix, A: Allocator> PrefixSet<P, A> {
         KeysOf::new(self.map.children(prefix))
     }
 
-    /// The keys that contain this prefix, the shortest first. A stored prefix contains itself.
+    /// Walks the keys that contain a prefix, the shortest first. A stored prefix contains itself.
+    ///
+    /// # Examples
     ///
     /// ```text
-    /// 10.0.0.0/8, 10.1.0.0/16 and 11.0.0.0/8 are stored
-    /// set.cover(&10.1.1.0/24)    gives 10.0.0.0/8 and 10.1.0.0/16
+    /// // 10.0.0.0/8, 10.1.0.0/16 and 11.0.0.0/8 are stored
+    /// set.cover(&"10.1.1.0/24".parse()?);          // 10.0.0.0/8, 10.1.0.0/16
     /// ```
     #[inline]
     pub fn cover(&self, prefix: &P) -> CoverKeys<'_, P, (), A>

@@ -1,4 +1,4 @@
-//! Lookups: of exactly a prefix, and of the longest and the shortest stored prefix that contains one.
+//! Lookups in a set by exact prefix, by longest match and by shortest match.
 ghost use Rattle.std.specs.Prelude.{◌≡◌};
 ghost use Rattle.std.specs.Option.{option_map, is_some};
 ghost use Rattle.std.specs.FinMap.{get, contains_key};
@@ -9,13 +9,15 @@ use prefix_trie_bits::prefix::Prefix;
 use std::alloc::Allocator;
 
 impl<P: Prefix, A: Allocator> PrefixSet<P, A> {
-    /// Whether exactly this prefix is in the set.
+    /// Returns whether exactly this prefix is in the set. Host bits are ignored.
+    ///
+    /// # Examples
     ///
     /// ```text
-    /// 10.1.0.0/16 is stored
-    /// set.contains(&10.1.0.0/16)    true
-    /// set.contains(&10.1.2.3/16)    true, since host bits do not count
-    /// set.contains(&10.1.0.0/17)    false
+    /// // 10.1.0.0/16 is stored
+    /// set.contains(&"10.1.0.0/16".parse()?);       // true
+    /// set.contains(&"10.1.2.3/16".parse()?);       // true: only the first 16 bits count
+    /// set.contains(&"10.1.0.0/17".parse()?);       // false
     /// ```
     #[inline]
     pub fn contains(&self, prefix: &P) -> bool
@@ -25,7 +27,8 @@ impl<P: Prefix, A: Allocator> PrefixSet<P, A> {
         self.map.contains_key(prefix)
     }
 
-    /// Whether a stored prefix contains this one. A stored prefix contains itself. So it is true where `get_lpm` gives one.
+    /// Returns whether a stored prefix contains this one, which is whether `get_lpm` finds one. A
+    /// stored prefix contains itself.
     #[inline]
     pub fn is_covered(&self, prefix: &P) -> bool
         requires { P.IsFitting prefix.now }
@@ -34,11 +37,13 @@ impl<P: Prefix, A: Allocator> PrefixSet<P, A> {
         self.map.is_covered(prefix)
     }
 
-    /// This prefix without its host bits, if exactly it is in the set.
+    /// Returns this prefix without its host bits, if exactly it is in the set.
+    ///
+    /// # Examples
     ///
     /// ```text
-    /// 10.1.0.0/16 is stored
-    /// set.get(&10.1.2.3/16)   Some(10.1.0.0/16)
+    /// // 10.1.0.0/16 is stored
+    /// set.get(&"10.1.2.3/16".parse()?);            // Some(10.1.0.0/16)
     /// ```
     #[inline]
     pub fn get(&self, prefix: &P) -> Option<P>
@@ -51,13 +56,16 @@ impl<P: Prefix, A: Allocator> PrefixSet<P, A> {
         }
     }
 
-    /// The longest stored prefix that contains this one, without its host bits. A stored prefix contains itself.
+    /// Returns the longest stored prefix that contains this one, without host bits. A stored prefix
+    /// contains itself.
+    ///
+    /// # Examples
     ///
     /// ```text
-    /// 10.0.0.0/8 and 10.1.0.0/16 are stored
-    /// set.get_lpm(&10.1.2.3/32)   Some(10.1.0.0/16), and get_spm gives Some(10.0.0.0/8)
-    /// set.get_lpm(&10.2.0.0/16)   Some(10.0.0.0/8), as get_spm
-    /// set.get_lpm(&11.0.0.0/8)    None, as get_spm
+    /// // 10.0.0.0/8 and 10.1.0.0/16 are stored
+    /// set.get_lpm(&"10.1.2.3/32".parse()?);        // Some(10.1.0.0/16); get_spm returns Some(10.0.0.0/8)
+    /// set.get_lpm(&"10.2.0.0/16".parse()?);        // Some(10.0.0.0/8), as get_spm does
+    /// set.get_lpm(&"11.0.0.0/8".parse()?);         // None, as get_spm does
     /// ```
     #[inline]
     pub fn get_lpm(&self, prefix: &P) -> Option<P>
@@ -67,8 +75,9 @@ impl<P: Prefix, A: Allocator> PrefixSet<P, A> {
         self.map.get_lpm_prefix(prefix)
     }
 
-    /// The shortest stored prefix that contains this one, without its host bits. A stored prefix contains itself. `get_lpm` has
-    /// an example of both.
+    /// Returns the shortest stored prefix that contains this one, without host bits.
+    ///
+    /// A stored prefix contains itself. `get_lpm` has an example of both.
     #[inline]
     pub fn get_spm(&self, prefix: &P) -> Option<P>
         requires { P.IsFitting prefix.now }

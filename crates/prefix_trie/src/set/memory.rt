@@ -1,4 +1,4 @@
-//! Giving memory back.
+//! Returns unused memory of a set.
 ghost use Rattle.std.specs.Prelude.{◌≡◌, OnOk, OnErr, IfErr};
 ghost use Rattle.prefix_trie_bits.specs.declared.prefix.Refusal.TheVariants.{Memory};
 ghost use Rattle.prefix_trie_bits.specs.Model.SplitsOff.{IsPacked};
@@ -15,7 +15,8 @@ impl<P: Prefix, A: Allocator> PrefixSet<P, A> {
     ///
     /// # Errors
     ///
-    /// Returns an error if memory of a smaller size could not be allocated. In both cases the set is the same.
+    /// Returns an error if memory of a smaller size could not be allocated. The set is unchanged in
+    /// both cases.
     pub fn shrink_to_fit(&mut self) -> Result<(), AllocError>
         ensures { self.new ≡ self.old }
     {
@@ -24,11 +25,13 @@ impl<P: Prefix, A: Allocator> PrefixSet<P, A> {
 }
 
 impl<P: Prefix, A: Allocator + Clone> PrefixSet<P, A> {
-    /// Moves all keys to new arrays that are as small as those of a set with these keys can be, as `PrefixMap::compact`.
+    /// Moves all keys to new arrays that are as small as those of a set with these keys can be, as
+    /// `PrefixMap::compact`.
     ///
     /// # Errors
     ///
-    /// Returns `Memory` if an allocation failed, and never `IndexRange`. The set is as it was then, its slots and blocks too.
+    /// Returns `Memory` if an allocation failed, and never `IndexRange`. The set is unchanged then,
+    /// its slots and blocks too.
     pub fn compact(&mut self) -> Result<(), Refusal>
         ensures entries { OnOk result (self.new.entries ≡ self.old.entries) }
         ensures nodes { OnOk result (self.new.nodes ≡ needed self.old.entries) }

@@ -1,4 +1,4 @@
-//! Handing keys out as a second set.
+//! Splits keys off as a second set.
 ghost use Rattle.std.specs.Prelude.{◌≡◌, IfOk, OnOk, IfErr, OnErr};
 ghost use Rattle.prefix_trie_bits.specs.declared.prefix.Refusal.TheVariants.{Memory};
 ghost use Rattle.prefix_trie_bits.specs.Model.Entries.{without_below, part_below};
@@ -11,20 +11,28 @@ use prefix_trie_bits::prefix::{Prefix, Refusal};
 use std::alloc::Allocator;
 
 impl<P: Prefix, A: Allocator + Clone> PrefixSet<P, A> {
-    /// Takes out the keys that this prefix contains, its own among them, and hands them out as a second set. Where the prefix's own
-    /// node is missing the second set is empty, and at length 0 it has all. This set is left as `drop_children` leaves it.
+    /// Removes the keys that this prefix contains, its own included, and returns them as a second
+    /// set.
     ///
-    /// The second set has this set's limit and a clone of its allocator. It is tidy, and as small as a set of its keys can be: each of its
-    /// blocks is the smallest that holds its items, and none is free. All its room is asked for before a key moves.
+    /// If the prefix's own node is missing, the second set is empty; at length 0 it has all keys.
+    /// This set is left as after `drop_children`.
     ///
-    /// Errors: `Memory` where a request for memory is refused. Then this set is as it was, its slots and blocks too, and no second set
-    /// exists. `IndexRange` never: the second set has no more slots than this one.
+    /// The second set has this set's slot limit and a clone of its allocator. It is tidy and as
+    /// small as a set of its keys can be: each of its blocks is the smallest that holds its items,
+    /// and none is free. All its memory is allocated before a key moves.
+    ///
+    /// # Errors
+    ///
+    /// Returns `Memory` if an allocation failed. This set is unchanged then, its slots and blocks
+    /// too. Never returns `IndexRange`: the second set has no more slots than this one.
+    ///
+    /// # Examples
     ///
     /// ```text
-    /// 10.1.0.0/16, 10.1.2.0/24 and 10.2.0.0/16 are stored
-    /// let part = set.remove_children(&10.1.0.0/16)?;
-    /// part.iter()    gives 10.1.0.0/16 and 10.1.2.0/24
-    /// set.iter()     gives 10.2.0.0/16
+    /// // 10.1.0.0/16, 10.1.2.0/24 and 10.2.0.0/16 are stored
+    /// let part = set.remove_children(&"10.1.0.0/16".parse()?)?;
+    /// part.iter();                                 // 10.1.0.0/16, 10.1.2.0/24
+    /// set.iter();                                  // 10.2.0.0/16
     /// ```
     pub fn remove_children(&mut self, prefix: &P) -> Result<Self, Refusal>
         requires { P.IsFitting prefix.now }
@@ -33,7 +41,7 @@ impl<P: Prefix, A: Allocator + Clone> PrefixSet<P, A> {
         ensures entries { OnOk result (self.new.entries ≡ without_below self.old.entries (P.path prefix.now)) }
         ensures nodes { OnOk result (self.new.nodes ≡ nodes_without_below self.old.nodes self.old.entries (P.path prefix.now)) }
 
-        // It is a step of the model, of the storage of both sets too: that of a map of units.
+        // It is a step of the model and the storage of both sets, on maps of units.
         ensures step { IfOk result (λ second. SplitsOffInStorage (stored_state self.old) (P.path prefix.now) (stored_state second) (stored_state self.new)) }
         ensures unchanged { OnErr result (stored_state self.new ≡ stored_state self.old) }
         ensures only_memory { IfErr result (λ cause. cause ≡ Memory) }

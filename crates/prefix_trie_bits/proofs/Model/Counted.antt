@@ -9,7 +9,7 @@ module _ {P T : Type 0} where
   keeps_tree (RemoveKeepTree q) = true
   keeps_tree call = false
 
-  -- a call whose prefix is as one fact says, where another follows from it
+  -- if one fact of its prefix implies another, a call that fits by the one fits by the other
   fits_more : {Fits More : P → Type 0} → ((q : P) → Fits q → More q) → (call : Call P T) → CallFits Fits call → CallFits More call
   fits_more more (Insert q v) fit = more q fit
   fits_more more (Get q) fit = more q fit
@@ -23,7 +23,7 @@ module _ {P T : Type 0} where
   fits_more more (Cover q) fit = more q fit
   fits_more more call fit = tt
 
-  -- the same of each call in a list
+  -- the same for each call in a list
   pub all_fit_more : {Fits More : P → Type 0} {C' : Type 0} → ((q : P) → Fits q → More q) → (call_of : C' → Call P T) (calls : List C') → All (λ c. CallFits Fits (call_of c)) calls → All (CallFits More) (map call_of calls)
   all_fit_more {Fits} {More} more call_of [] fit = All-nil (CallFits More)
   all_fit_more {Fits} {More} more call_of (c ∷ cs) fit =
@@ -54,19 +54,19 @@ module _ {P T : Type 0} (path : P → List Bool) where
   reads_alike s call read other a b = a ∙ sym b
 
 module _ {P T : Type 0} (path : P → List Bool) (back : List Bool → P) (width : ℕ) where
-  -- a call leaves a tidy map tidy where it is another
+  -- a call leaves a tidy map tidy if it is not `remove_keep_tree`
   stays : (tidy : Bool) (s : State T) (call : Call P T) (reply : Reply P T) (t : State T) → keeps_tree call ≡ false → Step path back width s call reply t → IsMap width s → TidyIf tidy s → TidyIf tidy t
   stays tidy s call reply t off step good is_tidy is =
       ((step_laws P T).of_step path back width s call reply t step).stays_tidy (another call off) good (is_tidy is)
 
-  -- what is known behind a step
+  -- what is known after a step
   tidy_step : (tidy : Bool) (s : State T) (call : Call P T) (reply : Reply P T) (t : State T) → Step path back width s call reply t → IsMap width s → TidyIf tidy s → TidyIf (tidy_after tidy call) t
   tidy_step tidy s (RemoveKeepTree q) reply t step good is_tidy = λ is. absurd (true≢false (sym is))
   tidy_step tidy s (RetainAtLeast n) reply t step good is_tidy = λ _. ((step_laws P T).of_step path back width s (RetainAtLeast n) reply t step).retained_tidy n refl
   tidy_step tidy s Clear reply t step good is_tidy = λ _. ((step_laws P T).of_step path back width s Clear reply t step).cleared_tidy refl
   tidy_step tidy s call reply t step good is_tidy = stays tidy s call reply t refl step good is_tidy
 
-  -- steps with their counts, as a loop makes them: nothing is said yet of the nodes
+  -- steps with their counts, as a loop makes them, without tidiness
   abbrev pub StepsSoFar : State T × Storage → List (Call P T) → List (Reply P T) → List (Option ℕ) → State T × Storage → Type 0
   StepsSoFar s calls replies reads t =
       (answers : List (Reply P T × Option ℕ)) × (map (λ a. a.0) answers ≡ replies) × (map (λ a. a.1) answers ≡ reads) × Runs (CountedStep path back width) s calls answers t

@@ -1,7 +1,7 @@
 -- Counting the strings that some string of a list begins, half by half.
 use Rattle.prefix_trie_bits.proofs.Prelude.{◌≡◌, ◌≤◌, subst, ℕ, suc, zero, ◌+◌, ◌^◌, Bool, true, false, cond, ◌&&◌, ◌||◌, List, [], ◌∷◌, length, map, filter, refl, sym, ap, ap₂, ◌∙◌, arith, true≢false, length-append, filter-append, list_any, begins, same_bit, is_root, full_strings, covered}
 
--- what is left of the strings after their first bit, where it is b; the empty string stays
+-- the rests of the strings that begin with the bit b, without it; the empty string stays
 abbrev pub tails : Bool → List (List Bool) → List (List Bool)
 tails b [] = []
 tails b ([] ∷ ks) = [] ∷ tails b ks

@@ -1,4 +1,4 @@
--- Where a question's own node stands.
+-- The string of a key's own node.
 use Rattle.prefix_trie_bits.proofs.Prelude.{◌≡◌, ◌+◌, ◌*◌, ◌/◌, ◌%◌, ◌<◌, ◌≤◌, Bool, true, List, length, sym, ◌∙◌, arith, length-take-le, begins, take-begins, begins-linear, begins-length, begins-same-length, home}
 
 pub home-begins : (q : List Bool) → begins (home q) q ≡ true

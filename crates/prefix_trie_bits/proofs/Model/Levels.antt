@@ -1,8 +1,8 @@
--- The nodes on the way to a question, by level, and a node that is missing.
+-- The nodes on a search path, by level, and the first missing one.
 use Rattle.prefix_trie_bits.proofs.Prelude.{◌≡◌, ℕ, zero, suc, ◌+◌, ◌*◌, ◌/◌, ◌%◌, ◌<◌, ◌≤◌, ◌==◌, ◌⊎◌, inl, inr, Bool, true, false, cond, ◌&&◌, List, [], ◌∷◌, length, take, filter, nat_lt, refl, sym, ap, ◌∙◌, subst, arith, true≢false, length-take-le, cases_Bool, cases_eq, list_any, contains_key-keys, keys, take-begins, begins-linear, begins, same_string, child_count, own_entries, Entries, Nodes, has_node, AreNodes}
 use Rattle.prefix_trie_bits.proofs.Model.Members.{or-left, or-right, is-same_string, needs}
 
--- of the nodes on a way all stand, or those down to a level and none below it
+-- all nodes of a path are there, or those down to a level and none below it
 module _ (there : ℕ → Bool) where
   pub split_at : (k : ℕ) → ((i j : ℕ) → i ≤ j → j ≤ k → there j ≡ true → there i ≡ true) → there 0 ≡ true →
       ((i : ℕ) → i ≤ k → there i ≡ true)
@@ -37,7 +37,7 @@ five_times i k l h e = omega (arith, h, e)
 pub depth_of : (i l : ℕ) → l ≡ 5 * i → l % 5 ≡ 0
 depth_of i l e = omega (arith, e)
 
--- where the node i levels down on the way to q stands
+-- the string of the node i levels down on the search path of q
 abbrev pub at_level : List Bool → ℕ → List Bool
 at_level q i = take (5 * i) q
 
@@ -60,7 +60,7 @@ module _ {T : Type 0} (width : ℕ) (m : Entries T) (n : Nodes) (are : AreNodes 
         | inr other ↦ ap (λ b. b && nat_lt (length t) (length p + 5)) other
       ])
 
-  -- the way to a question
+  -- the search path of q
   module _ (q : List Bool) where
     pub closed : (i j : ℕ) → i ≤ j → j ≤ length q / 5 → has_node n (at_level q j) ≡ true → has_node n (at_level q i) ≡ true
     closed i j h inside there =

@@ -51,7 +51,7 @@ module _ {X : Type 0} where
   heads-before x (r ∷ read) last rest h =
       heads-before x read last rest (true-t (below_all listing_cmp x.0 (read ++ last ∷ rest)) (and-second (is_lt (listing_cmp x.0 r.0)) (below_all listing_cmp x.0 (read ++ last ∷ rest)) (t-true (is_lt (listing_cmp x.0 r.0) && below_all listing_cmp x.0 (read ++ last ∷ rest)) h)))
 
--- what stands behind an item, with it or without it, by a test of the order
+-- what comes after an item, with or without it, by a test of the order
 module _ {X : Type 0} (test : Ordering → Bool) (less : test Less ≡ true) (greater : test Greater ≡ false) where
   abbrev those : List Bool → List (List Bool × X) → List (List Bool × X)
   those s es = filter (λ e. test (listing_cmp s e.0)) es

@@ -19,7 +19,7 @@ pub some-value : {A : Type 0} (o : Option A) → is_some o ≡ true → (v : A) 
 some-value None e = absurd (true≢false (sym e))
 some-value (Some v) e = (v, refl)
 
--- what stands at a member of a set
+-- the value at a member of a set
 marks : (o p : Option (Unit {0})) → is_some o ≡ is_some p → o ≡ p
 marks None None e = refl
 marks None (Some u) e = absurd (true≢false (sym e))

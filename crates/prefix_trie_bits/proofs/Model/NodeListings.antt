@@ -24,7 +24,7 @@ zero-before-one (true ∷ s) (true ∷ t) (true ∷ u) e f = zero-before-one s t
 zero-before-one (false ∷ s) (false ∷ t) (false ∷ u) e f = zero-before-one s t u e f
 zero-before-one s t u e f = cc
 
--- a string is before those that go on behind it
+-- a string is before those that extend it
 before-longer : (b : Bool) (s t : List Bool) → begins (s ++ b ∷ []) t ≡ true → listing_cmp s t ≡ Less
 before-longer b s t e =
     listing-extension s t (begins-trans s (s ++ b ∷ []) t (begins-append s (b ∷ [])) e)
@@ -61,7 +61,8 @@ module _ {X : Type 0} where
         | false ↦ λ _. rest
       ] refl
 
-  -- where what passes one test is before what passes another, a filter by both is one filter after the other
+  -- if what passes one test is before what passes another, a filter by either is the one filter
+  -- followed by the other
   pub two-tests : (p q : List Bool → Bool) → ((s t : List Bool) → p s ≡ true → q t ≡ true → listing_cmp s t ≡ Less) → (es : List (List Bool × X)) → IsT (is_sorted listing_cmp es) → those (λ s. p s || q s) es ≡ those p es ++ those q es
   two-tests p q apart [] h = refl
   two-tests p q apart (x ∷ es) h =
@@ -100,7 +101,8 @@ module _ {X : Type 0} where
       ∙ two-tests (same_string s) (λ t. begins (s ++ false ∷ []) t || begins (s ++ true ∷ []) t) (before-both s) es h
       ∙ ap₂ (λ xs ys. xs ++ ys) (of-one-key s es h) (two-tests (begins (s ++ false ∷ [])) (begins (s ++ true ∷ [])) (zero-before-one s) es h)
 
-  -- what there is at the string t below s: the pair there, and where t has n bits all below it
+  -- what there is at the string t under s: the entry there, and, if t has n bits, all entries under
+  -- it
   abbrev at-string : ℕ → List (List Bool × X) → List Bool → List Bool → List (List Bool × X)
   at-string n es s t =
       cond (nat_lt (length t) n) (pair_of (s ++ t) (find listing_cmp (s ++ t) es)) (those (begins (s ++ t)) es)
@@ -174,7 +176,7 @@ module _ {T : Type 0} where
   pub listing_of_root : (m : Entries T) → listing_below m [] ≡ listing m
   listing_of_root m = all-begin (listing m)
 
-  -- at a place of less than five bits stands the pair there
+  -- at a place of less than five bits there is the entry of that string
   pub listing_at_inner : (m : Entries T) (s t : List Bool) → length t ≤ 4 → listing_at_place m s t ≡ pair_of (s ++ t) (get m (s ++ t))
   listing_at_inner m s t short =
       ap (λ c. cond c (pair_of (s ++ t) (get m (s ++ t))) (listing_below m (s ++ t))) (lt-ltb (length t) 5 (omega arith))
@@ -185,7 +187,7 @@ module _ {T : Type 0} where
   pub listing_at_no_value : (m : Entries T) (s t : List Bool) → length t ≤ 4 → get m (s ++ t) ≡ None → listing_at_place m s t ≡ []
   listing_at_no_value m s t short e = listing_at_inner m s t short ∙ ap (pair_of (s ++ t)) e
 
-  -- at one of five bits stands all that is below the child there
+  -- at a place of five bits there are all entries of that child
   pub listing_at_child : (m : Entries T) (s t : List Bool) → length t ≡ 5 → listing_at_place m s t ≡ listing_below m (s ++ t)
   listing_at_child m s t five =
       ap (λ c. cond c (pair_of (s ++ t) (get m (s ++ t))) (listing_below m (s ++ t))) (le-ltb (length t) 5 (omega arith))

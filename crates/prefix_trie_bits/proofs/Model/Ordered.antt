@@ -36,7 +36,7 @@ shorter-first q s t e f l =
     ] refl
 
 module _ {X : Type 0} where
-  -- a list's keys all come behind s
+  -- a list's keys all come after s
   pub each-behind : (s : List Bool) (es : List (List Bool × X)) (k : List Bool) (v : X) → T (below_all listing_cmp s es) → find listing_cmp k es ≡ Some v → listing_cmp s k ≡ Less
   each-behind s [] k v h e = absurd (true≢false (sym (ap is_some e)))
   each-behind s (x ∷ es) k v h e =
@@ -65,14 +65,14 @@ module _ {X : Type 0} where
         | false ↦ λ _. e
       ] refl
 
-  -- of two items of a sorted list that stand side by side, the first comes first
+  -- of two neighbours in a sorted list the first comes first
   pub sorted-neighbours : (front back : List (List Bool × X)) (d e : List Bool × X) → T (is_sorted listing_cmp (front ++ d ∷ e ∷ back)) → listing_cmp d.0 e.0 ≡ Less
   sorted-neighbours [] back d e h =
       let all = t-true (is_lt (listing_cmp d.0 e.0) && below_all listing_cmp d.0 back) (sorted-head d (e ∷ back) h) in
       lt-less (listing_cmp d.0 e.0) (and-first (is_lt (listing_cmp d.0 e.0)) (below_all listing_cmp d.0 back) all)
   sorted-neighbours (x ∷ front) back d e h = sorted-neighbours front back d e (sorted-tail x (front ++ d ∷ e ∷ back) h)
 
-  -- what a look-up finds in a list stands in it, and of a sorted list a look-up finds each item
+  -- what a lookup finds in a list is in it, and a lookup in a sorted list finds each item
   pub Contains-from_find : (es : List (List Bool × X)) (k : List Bool) (v : X) → find listing_cmp k es ≡ Some v → Contains es (k, v)
   Contains-from_find [] k v e = absurd (true≢false (sym (ap is_some e)))
   Contains-from_find (x ∷ es) k v e =

@@ -42,7 +42,8 @@ covered-one (suc w) (false ∷ k) h =
 
 -- ---- an outermost key
 
--- of two beginnings of one string, one that the other does not begin, but where they are one, begins it
+-- of two different beginnings of one string, if the second does not begin the first, the first
+-- begins the second
 apart-beginnings : (k j f : List Bool) → begins k f ≡ true → begins j f ≡ true → (begins j k ≡ true → j ≡ k) → begins k j ≡ true
 apart-beginnings k j f e h outer =
     elim (nat_le (length k) (length j)) as (λ b. nat_le (length k) (length j) ≡ b → begins k j ≡ true) [
@@ -113,9 +114,9 @@ module _ {T : Type 0} where
       length-either (is_covered_in m) (λ f. begins k f || false) (is_covered_in (without_below m k)) (λ f. in-either m k f has) (λ f. not-both m k f outer) (full_strings width) ∙
       ap (λ n. n + addresses width (without_below m k)) (covered-one width k h)
 
-  -- ---- the answer
+  -- ---- the result
 
-  -- where all are covered, there is no number
+  -- if all are covered, there is no number
   pub answer-all : (width : ℕ) (m : Entries T) → 2 ^ width ≤ addresses width m → address_answer width m ≡ None
   answer-all width m h =
       let all : addresses width m ≡ 2 ^ width = omega (arith, covered-most width (keys m)) in
@@ -150,7 +151,7 @@ module _ {T : Type 0} where
                 begins-same-length s e.0 h (omega (arith, begins-length s e.0 h, longer))
           ] refl
 
-  -- the addresses of m are n, and those of the items still to come
+  -- the addresses of m are n, plus those of the items to come
   pub record IsCounted (width : ℕ) (m : Entries T) (es : List (List Bool × T)) (n : ℕ) : Type 0 where
     pub left : Entries T
     pub listed : listing left ≡ es

@@ -15,7 +15,7 @@ pub begins-nil : (s : List Bool) → begins [] s ≡ true
 unfolding begins
 begins-nil s = refl
 
--- what each string that goes on behind another is, and back
+-- an implication of two tests from its form as one test, and back
 follows : (a b : Bool) → (not a || b) ≡ true → a ≡ true → b ≡ true
 follows true b h e = h
 follows false b h e = absurd (true≢false (sym e))
@@ -54,7 +54,7 @@ module _ {T : Type 0} where
       let d = list_all (λ u. not (begins t u) || begins u h) (keys n) in
       and-join a (b && (c && d)) (not-true (list_any (λ s. begins t s) (keys m)) g.no_key) (and-join b (c && d) g.on_path (and-join c d g.not_root g.alone))
 
-  -- a node is left exactly if it stood, and was not pruned
+  -- a node is left exactly if it was there and was not pruned
   stays : (n : Nodes) (m : Entries T) (q s : List Bool) → has_node n s ≡ true → (has_node n (home q) ≡ true → is_pruned n m (home q) s ≡ true → ⊥) → has_node (pruned n m q) s ≡ true
   stays n m q s e not_pruned =
       has-cond (has_node n (home q)) (retain_keys n (λ t. not (is_pruned n m (home q) t))) n s
@@ -124,7 +124,7 @@ module _ {T : Type 0} where
         | inr why ↦ needs m s why.key why.five (fewer why.key why.stored) why.begins_it
       ]
 
-  -- what is asked of the entries and of the nodes that are left before the pruning
+  -- what pruning requires of the entries and of the nodes that are left before it
   record Removes (width : ℕ) (m left : Entries T) (n near_nodes : Nodes) (q : List Bool) : Type 0 where
     kept : (k : List Bool) → contains_key m k ≡ true → begins q k ≡ false → contains_key left k ≡ true
     sub : (s : List Bool) → has_node near_nodes s ≡ true → has_node n s ≡ true

@@ -23,7 +23,7 @@ module _ {P T : Type 0} (path : P → List Bool) (back : List Bool → P) (width
   abbrev Answers : Call P T → Type 0
   Answers call = (reply : Reply P T) × (t : State T × Storage) × StepInStorage path back width s call reply t × (is_refusal reply ≡ false) × IsStoredMap width t
 
-  -- an insertion of a new key whose lacking blocks would pass the limit
+  -- an insertion of a new key whose missing blocks would exceed the limit
   abbrev IsFull : Call P T → Type 0
   IsFull call = (q : P) × (v : T) × (call ≡ Insert q v) × (contains_key s.0.entries (path q) ≡ false) × GivesCause s (path q) IndexRange
 
@@ -44,7 +44,7 @@ module _ {P T : Type 0} (path : P → List Bool) (back : List Bool → P) (width
   asks : (call : Call P T) (reply : Reply P T) → is_refusal reply ≡ false → Step path back width s.0 call reply s.0 → LeavesStorage path s.0 call reply s.0 s.1 s.1 → Answers call
   asks call reply answers step storage = (reply, s, still call reply step (λ is. no_refusal (Refused IndexRange) reply refl answers (sym is)) storage, answers, whole)
 
-  -- a call that changes the map, and leaves the room as it was
+  -- a call that changes the map and keeps the number of slots
   changes : (call : Call P T) (reply : Reply P T) (t : State T) (after : Storage) → CallFits (λ q. length (path q) ≤ width) call → is_refusal reply ≡ false
       → Step path back width s.0 call reply t → after.space ≡ s.1.space → LeavesStorage path s.0 call reply t s.1 after → HaveBlocks t after.layout → Answers call
   changes call reply t after fits answers step same storage have = (
@@ -212,7 +212,7 @@ module _ {P T : Type 0} (path : P → List Bool) (back : List Bool → P) (width
 
   -- ---- all calls
 
-  -- a call is answered, or it is an insertion without room
+  -- a call has a step that is not a refusal, or it is an insertion without space
   decided : (call : Call P T) → width ≤ 128 → CallFits (λ q. length (path q) ≤ width) call → Answers call ⊎ IsFull call
   decided (Insert q v) short fits = inserts q v short fits
   decided (Remove q) short fits = inl (removes q fits)
@@ -288,7 +288,7 @@ module _ {P T : Type 0} (path : P → List Bool) (back : List Bool → P) (width
       let rest = runs one.1 calls short one.3 (All-tail (CallFits (λ q. length (path q) ≤ width)) call calls fit) in
       (one.0 ∷ rest.0, rest.1, (one.0, rest.0, one.1, refl, one.2, rest.2), rest.3)
 
-  -- without room an insertion has no other step than a refusal
+  -- without space an insertion has no step except a refusal
   full : (s : State T × Storage) (q : P) (v : T) (reply : Reply P T) (t : State T × Storage) → contains_key s.0.entries (path q) ≡ false → GivesCause s (path q) IndexRange →
       StepInStorage path back width s (Insert q v) reply t → is_refusal reply ≡ true
   full s q v reply t new cause h = elim (cases_Bool (is_refusal reply)) as (λ _. is_refusal reply ≡ true) [

@@ -10,7 +10,7 @@ use Rattle.prefix_trie_bits.proofs.Model.Storage.Counting.{passing-len, few_behi
 pub fives : (l : ℕ) → l % 5 ≡ 0 → 5 * (l / 5) ≡ l
 fives l e = omega (arith, e)
 
--- the beginnings of q of 5 * k bits and fewer at which a node can stand
+-- the beginnings of q of at most 5 * k bits at which a node can be
 abbrev levels : List Bool → ℕ → List (List Bool)
 levels q zero = at_level q zero ∷ []
 levels q (suc k) = at_level q (suc k) ∷ levels q k
@@ -55,7 +55,7 @@ len-levels q (suc k) short =
     absurd (omega (arith, same, long, other, within))))
     ∙ (let rest = len-levels q k (omega (arith, short)) in omega (arith, rest))
 
--- a node that begins q stands at one of them
+-- a node whose string begins q is one of them
 at_its_level : (n : Nodes) (q s : List Bool) → ((s : List Bool) → has_node n s ≡ true → length s % 5 ≡ 0) → contains_key (retain_keys n (λ t. begins t q)) s ≡ true
     → (begins s q ≡ true) × (has_node n s ≡ true) × (length s % 5 ≡ 0) × (at_level q (length s / 5) ≡ s)
 at_its_level n q s depths has =
@@ -98,7 +98,7 @@ module _ {T : Type 0} where
   by_match n q None = omega arith
   by_match n q (Some e) = fewer (λ s. begins s q) (λ s. nat_le (length s) (length e.0)) (keys n)
 
--- the number for a set of whole nodes that is closed: what a lookup's way down counts
+-- the number for a set of nodes that is closed: what the descent of a lookup counts
 pub visits-exact : (n : Nodes) (q : List Bool) (k : ℕ) → ((s : List Bool) → has_node n s ≡ true → length s % 5 ≡ 0) → ((s t : List Bool) → has_node n t ≡ true → begins s t ≡ true → length s % 5 ≡ 0 → has_node n s ≡ true)
     → 5 * k ≤ length q → has_node n (take (5 * k) q) ≡ true → (length q < 5 * (k + 1)) ⊎ (has_node n (take (5 * (k + 1)) q) ≡ false) → visits n q ≡ k + 1
 visits-exact n q k depths closed short there ends =

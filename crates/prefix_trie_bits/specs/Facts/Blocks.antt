@@ -1,4 +1,5 @@
--- Worked facts on blocks, growth and room, and for each what the definition refuses. They are this project's own.
+-- Worked facts on blocks, growth and space, and for each an example that the definition excludes.
+-- They are this project's own.
 use Rattle.std.specs.Prelude.{◌≡◌, ℕ, List, [], ◌∷◌, map, Option, Some, None}
 use Rattle.prefix_trie_bits.specs.Model.Blocks.{value_block_sizes, child_block_sizes, free_of, HasBlock, StepsDown, StepsBetween, LongerByOne, Tiles, AreBlocksOf, Block}
 use Rattle.prefix_trie_bits.specs.Model.Insertion.{block_needed, slots_of_missing}
@@ -21,20 +22,22 @@ pub record HasBlockFacts : Type 0 where
   pub not_in_none : ¬ (HasBlock value_block_sizes 3 None)
   pub not_none_in_one : ¬ (HasBlock value_block_sizes 0 (Some 1))
 
--- the block that a list asks for before it takes one more: row 14's root in turn, a block with room left, row 17's last insertion,
--- and row 15's root with 24 children
+-- the block that a list needs before it grows by one: row 14's root at each size, a block with a
+-- free slot, row 17's last insertion, and row 15's root with 24 children
 pub record BlockNeededFacts : Type 0 where
   pub in_turn : map (λ (e : Option ℕ × ℕ). block_needed value_block_sizes e.0 e.1)
       ((None, 0) ∷ (Some 1, 1) ∷ (Some 2, 2) ∷ (Some 4, 4) ∷ (Some 8, 8) ∷ (Some 16, 16) ∷ (Some 24, 24) ∷ [])
       ≡ Some 1 ∷ Some 2 ∷ Some 4 ∷ Some 8 ∷ Some 16 ∷ Some 24 ∷ Some 31 ∷ []
   pub with_space : block_needed value_block_sizes (Some 4) 3 ≡ None
   pub children : block_needed child_block_sizes (Some 24) 24 ≡ Some 32
-  -- two blocks of one and one of two, where none is free, one of one is, and more are than are needed
+  -- two blocks of one and one of two are needed; none is free, one of one is free, and more are
+  -- free than needed
   pub lacking : map (λ free. slots_of_missing child_block_sizes free (1 ∷ 2 ∷ 1 ∷ []))
       (none_free ∷ (1 ∷ 0 ∷ 0 ∷ 0 ∷ 0 ∷ 0 ∷ 0 ∷ []) ∷ (3 ∷ 2 ∷ 0 ∷ 0 ∷ 0 ∷ 0 ∷ 0 ∷ []) ∷ []) ≡ 4 ∷ 3 ∷ 0 ∷ []
   pub free : map (free_of child_block_sizes (3 ∷ 1 ∷ 4 ∷ 1 ∷ 5 ∷ 9 ∷ 2 ∷ [])) (1 ∷ 8 ∷ 24 ∷ 32 ∷ 31 ∷ []) ≡ 3 ∷ 1 ∷ 9 ∷ 2 ∷ 0 ∷ []
 
--- a block of 31 whose list falls from 25 to 24, as in row 17: it steps down where one of 24 is free, and else may stay
+-- a block of 31 whose list falls from 25 to 24, as in row 17: it must step down if one of 24 is
+-- free, and may stay otherwise
 pub record StepsDownFacts : Type 0 where
   pub onto_free : StepsDown value_block_sizes six_free 25 24 (Some 31) (Some 24)
   pub onto_new : StepsDown value_block_sizes none_free 25 24 (Some 31) (Some 24)
@@ -59,7 +62,7 @@ pub record StepsBetweenFacts : Type 0 where
   pub not_unasked : ¬ (StepsBetween value_block_sizes 9 9 (Some 31) (Some 16))
   pub not_more_items : ¬ (StepsBetween value_block_sizes 9 10 (Some 16) (Some 16))
 
--- an array of 86 slots, of which a block of 31 stepped down to one of 24
+-- an array of 86 slots in which a block of 31 stepped down to one of 24
 pub record LongerByOneFacts : Type 0 where
   pub as_long : LongerByOne value_block_sizes six_free (Some 31) (Some 24) 86 86
   pub longer : LongerByOne value_block_sizes none_free (Some 31) (Some 24) 86 110

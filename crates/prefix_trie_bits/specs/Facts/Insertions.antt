@@ -1,4 +1,5 @@
--- Worked facts on what an insertion needs and lacks, on the maps of rows; and on holders. They are this project's own.
+-- Worked facts on the blocks that an insertion needs and those that are missing, on the maps of
+-- rows; and on holders. They are this project's own.
 use Rattle.std.specs.Prelude.{◌≡◌, ℕ, ◌++◌, true, false, Bool, List, [], ◌∷◌, map, take, Some, None}
 use Rattle.std.specs.FinMap.{from_sorted}
 use Rattle.prefix_trie_bits.specs.Model.Blocks.{Sizes, Layout, own_entries, child_count, no_layout}
@@ -16,7 +17,7 @@ Blocks = List ((ℕ × ℕ) × ℕ)
 abbrev pub by_path : ℕ → (ℕ × ℕ) × ℕ → List Bool × ℕ
 by_path width b = (path_at width b.0, b.1)
 
--- their sizes by the strings of the nodes; the pairs stand in listing order
+-- their sizes by the strings of the nodes; the pairs are in listing order
 abbrev pub sizes_at : ℕ → Blocks → Sizes
 sizes_at width blocks = from_sorted (map (by_path width) blocks)
 
@@ -29,7 +30,8 @@ layout_at width children vals free_children free_values = record {
   free_value_blocks = free_values;
 }
 
--- the slots for nodes and those for values that the insertion of a key lacks in a map so laid out
+-- the slots for nodes and for values that are missing for the insertion of a key, in a map with
+-- this layout
 abbrev pub lacking : ℕ → State ℕ → Layout → ℕ × ℕ → ℕ × ℕ
 lacking width t layout q = (missing_node_slots t.nodes layout (path_at width q), missing_cell_slots t.entries layout (path_at width q))
 
@@ -72,8 +74,8 @@ pub record InsertionsHold : Type 0 where
       × (lacking 32 t no_layout (0, 4) ≡ (0, 1))
       × PassesLimit t.entries t.nodes (space_of 4 1 0) no_layout (path_at 32 (0, 32))
       × (¬ (PassesLimit t.entries t.nodes (space_of 4 1 0) no_layout (path_at 32 (0, 4)))))
-  -- a key of five bits lacks one block for the root's child and one for its value. Where the limit leaves room for either, it has cause to be
-  -- refused for want of memory, and where for neither, it has none
+  -- for a key of five bits, one block for the root's child and one for its value are missing.
+  -- `Memory` is possible if one of them would fit the limit, and impossible if neither would.
   pub first_child : LeadsTo 8 [] (λ t.
       (lacking 8 t no_layout (0, 5) ≡ (1, 1))
       × MissingFitsLimit t.entries t.nodes (space_of 10 9 10) no_layout (path_at 8 (0, 5))
@@ -82,8 +84,9 @@ pub record InsertionsHold : Type 0 where
   -- row 37: after its first key is removed all its blocks are free, and serve the other one
   pub freed : LeadsTo 32 ((Insert (0, 32) 1, Value None) ∷ (Remove (0, 32), Value (Some 1)) ∷ []) (λ t.
       lacking 32 t (layout_at 32 [] [] (ones_free 6) (ones_free 1)) (0xffffffff, 32) ≡ (0, 0))
-  -- row 37: the first key again needs a block of two at the root, and one for each of five new nodes; the last node gets no child.
-  -- A node off the way gets none, and no node stands at the string of three bits
+  -- row 37: inserting the first key again needs a block of two at the root, and one for each of
+  -- five new nodes; the last node gets no child. A node off the search path gets none, and no node
+  -- is at the string of three bits.
   pub far_key : LeadsTo 32 ((Insert (0xffffffff, 32) 2, Value None) ∷ []) (λ t.
       (lacking 32 t far_layout (0, 32) ≡ (7, 1))
       × (map (λ p. gains_child t.nodes (path_at 32 (0, 32)) (path_at 32 p)) ((0, 0) ∷ (0, 5) ∷ (0, 25) ∷ (0, 30) ∷ (0xf8000000, 5) ∷ (0, 3) ∷ [])
@@ -95,7 +98,8 @@ pub record InsertionsHold : Type 0 where
       -- its neighbour has its node already: no node gets a child, and that node needs a block of two
       × (gains_child t.nodes (path_at 32 (0xfffffffe, 32)) (path_at 32 (0xffffff80, 25)) ≡ false)
       × (lacking 32 t far_layout (0xfffffffe, 32) ≡ (0, 2)))
-  -- row 14: with 24 entries the root's block of 24 is full and one of 31 lacks; with 23 none does
+  -- row 14: with 24 entries the root's block of 24 is full and one of 31 is missing; with 23
+  -- entries none is missing
   pub full : LeadsTo 8 (sets (counted (take 24 short_pairs))) (λ t.
       lacking 8 t (layout_at 8 [] (((0, 0), 24) ∷ []) none_free (1 ∷ 1 ∷ 1 ∷ 1 ∷ 1 ∷ 0 ∷ 0 ∷ [])) (192, 2) ≡ (0, 31))
   pub with_space : LeadsTo 8 (sets (counted (take 23 short_pairs))) (λ t.
@@ -104,11 +108,13 @@ pub record InsertionsHold : Type 0 where
   pub free_serves : LeadsTo 8 seven_removed (λ t.
       (own_entries t.entries [] ≡ 24)
       × (lacking 8 t (layout_at 8 [] (((0, 0), 24) ∷ []) none_free (1 ∷ 1 ∷ 1 ∷ 1 ∷ 1 ∷ 0 ∷ 1 ∷ [])) (240, 4) ≡ (0, 0)))
-  -- as row 15, with nodes of one key each: the root has 24 children in a block of 24, and the next one lacks one of 32
+  -- row 15 with nodes of one key each: the root has 24 children in a block of 24, and for the next
+  -- one a block of 32 is missing
   pub children : LeadsTo 5 (sets (counted (take 24 (full_pairs 5)))) (λ t.
       (child_count t.nodes [] ≡ 24)
       × (lacking 5 t (layout_at 5 (((0, 0), 24) ∷ []) (map with_one (take 24 (full_pairs 5))) (1 ∷ 1 ∷ 1 ∷ 1 ∷ 1 ∷ 0 ∷ 0 ∷ []) none_free) (24, 5) ≡ (32, 1)))
-  -- row 38: the root's two entries fill its block of two; the third lacks one of four, which passes a limit of 3 and not one of 7
+  -- row 38: the root's two entries fill its block of two; for the third a block of four is missing,
+  -- which exceeds a limit of 3 and fits one of 7
   pub three : LeadsTo 8 (sets (((0, 1), 1) ∷ ((128, 1), 2) ∷ ((0, 5), 3) ∷ [])) (λ t.
       (lacking 8 t three_slots (64, 2) ≡ (0, 4))
       × PassesLimit t.entries t.nodes (space_of 3 2 3) three_slots (path_at 8 (64, 2))

@@ -17,7 +17,7 @@ storage_with nodes cells layout = record { space = space_of 10 nodes cells; layo
 abbrev pub filled : Storage
 filled = storage_with 2 3 three_slots
 
--- no step of the call leads from the map t, stored in the first way, to the second storage
+-- no step of the call leads from the map t, stored as the first storage, to the second storage
 abbrev pub CannotLead : State ℕ → Storage → Call (ℕ × ℕ) ℕ → Storage → Type 0
 CannotLead t before call after = (reply : Reply (ℕ × ℕ) ℕ) (u : State ℕ) → ¬ (StepInStorage (path_at 8) (back_at 8) 8 (t, before) call reply (u, after))
 
@@ -43,7 +43,7 @@ four_free = 0 ∷ 0 ∷ 1 ∷ 0 ∷ 0 ∷ 0 ∷ 0 ∷ []
 abbrev pub both_free : List ℕ
 both_free = 1 ∷ 1 ∷ 0 ∷ 0 ∷ 0 ∷ 0 ∷ 0 ∷ []
 
--- the root's child block, its value block by size beside that of (0, 5), and the latter alone
+-- the root's child block; its value block of this size beside that of (0, 5); the latter alone
 abbrev pub root_child : Blocks
 root_child = ((0, 0), 1) ∷ []
 
@@ -80,8 +80,8 @@ pub record KeepTreeFacts (t : State ℕ) : Type 0 where
   pub not_with_values : CannotLeave t (RemoveKeepTree (0, 5)) filled
   pub not_lost : CannotLeave t (RemoveKeepTree (0, 5)) (storage_with 2 3 (layout_at 8 root_child (((0, 0), 2) ∷ []) none_free none_free))
 
--- `retain`, of the keys of five bits or more: the root's value block goes and is free, and no array is shorter, or longer where none
--- of its blocks changes
+-- `retain` with the keys of five bits or more: the root's value block becomes free, and an array
+-- keeps its length if none of its blocks changes
 pub record RetainFacts (t : State ℕ) : Type 0 where
   pub not_with_values : CannotLeave t (RetainAtLeast 5) filled
   pub not_lost : CannotLeave t (RetainAtLeast 5) (storage_with 2 3 (layout_at 8 root_child child_value none_free none_free))
@@ -101,9 +101,11 @@ pub record DropChildrenFacts (t : State ℕ) : Type 0 where
   pub not_nodes_longer : CannotLeave t (RemoveChildren (128, 5)) (storage_with 3 3 (layout_at 8 root_child (root_value 2) (ones_free 1) none_free))
   pub not_cells_longer : CannotLeave t (RemoveChildren (128, 5)) (storage_with 2 4 (layout_at 8 root_child (root_value 2) none_free (ones_free 1)))
 
--- The root's third entry, (64, 2), lacks a block of four for its value, and (0, 6) a block of two. Each fact names what no insertion does:
--- it loses no block, and makes no child block if it needs none. It is not refused for want of slots if the limit leaves space for them,
--- and not refused for memory once the block is there. A refusal neither loses blocks nor makes others than those that lacked
+-- For the root's third entry, (64, 2), a value block of four is missing; for (0, 6), one of two.
+-- Each fact names what no insertion does.
+-- It loses no block, and makes no child block if it needs none. It is not refused with `IndexRange`
+-- if the limit leaves space, and not with `Memory` once the block is there. A refusal neither loses
+-- blocks nor makes others than the missing ones.
 pub record InsertFacts (t : State ℕ) : Type 0 where
   pub not_lost : CannotLeave t (Insert (64, 2) 5) (storage_with 2 7 (layout_at 8 root_child (root_value 4) none_free none_free))
   pub not_made : CannotLeave t (Insert (64, 2) 5) (storage_with 2 7 (layout_at 8 root_child (root_value 4) none_free both_free))

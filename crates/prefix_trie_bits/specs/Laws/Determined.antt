@@ -13,8 +13,8 @@ module _ {P T : Type 0} where
   is_refusal (Refused cause) = true
   is_refusal reply = false
 
-  -- whether a call may be refused for a cause: the insertion of a new key for either, a list for want of memory, and no other
-  -- call
+  -- whether a call may be refused for a cause: the insertion of a new key for either, a listing
+  -- with `Memory`, and no other call
   abbrev pub may_refuse : (P → List Bool) → State T → Call P T → Refusal → Bool
   may_refuse path s (Insert q v) cause = not (contains_key s.entries (path q))
   may_refuse path s ListAll cause = is_memory cause
@@ -28,7 +28,8 @@ pub record DeterminedLaws (P T : Type 0) : Type 0 where
   pub same : (path : P → List Bool) (back : List Bool → P) (width : ℕ) (s : State T) (call : Call P T) (reply other : Reply P T) (t u : State T)
       → is_refusal reply ≡ false → is_refusal other ≡ false
       → Step path back width s call reply t → Step path back width s call other u → (reply ≡ other) × (t ≡ u)
-  -- a step is a refusal exactly where the call may be refused for that cause, and then leaves the state as it was
+  -- a step is a refusal exactly if the call may be refused for that cause, and then leaves the
+  -- state unchanged
   pub refused : (path : P → List Bool) (back : List Bool → P) (width : ℕ) (s : State T) (call : Call P T) (cause : Refusal) (t : State T)
       → Step path back width s call (Refused cause) t ↔ ((may_refuse path s call cause ≡ true) × (t ≡ s))
   -- from each state each call has a step that is no refusal

@@ -13,12 +13,12 @@ use Rattle.prefix_trie_bits.specs.Model.NodeListings.{listing_at_places}
 module _ {T : Type 0} where
   -- a walk that has read `read` and then `last` has `rest` still to come
   pub record Resumes (m : Entries T) (last : List Bool × T) (rest : List (List Bool × T)) : Type 0 where
-    -- a walk that starts behind the last item read gives the rest
+    -- a walk that starts after the last item read gives the rest
     pub behind : listing_after m last.0 ≡ rest
     -- one that starts at it gives it once more
     pub at : listing_from m last.0 ≡ last ∷ rest
 
-  -- the key of one pair is before that of another in listing order
+  -- the key of one entry is before that of another in listing order
   abbrev pub IsListedBefore : List Bool × T → List Bool × T → Type 0
   IsListedBefore d e = listing_cmp d.0 e.0 ≡ Less
 
@@ -49,7 +49,7 @@ pub record ListingLaws (T : Type 0) : Type 0 where
   -- a walk can be resumed after the last item read
   pub resumes : (m : Entries T) (read : List (List Bool × T)) (last : List Bool × T) (rest : List (List Bool × T))
       → listing m ≡ read ++ last ∷ rest → Resumes m last rest
-  -- `remove_children` removes exactly what `children` lists, which is what is handed out
+  -- `remove_children` removes exactly what `children` lists, and returns it
   pub removed : (m : Entries T) (q : List Bool) → listing (without_below m q) ≡ filter (λ e. not (begins q e.0)) (listing m)
   pub split_off : (m : Entries T) (q : List Bool) → listing (part_below m q) ≡ listing_below m q
   -- the pairs below a string are those at the places of a node there, in the order of the places

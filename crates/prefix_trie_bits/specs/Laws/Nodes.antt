@@ -17,7 +17,7 @@ module _ {T : Type 0} where
   BeginsKey m s = (k : List Bool) × (contains_key m k ≡ true) × (begins s k ≡ true)
 
 pub record NodeLaws (T : Type 0) : Type 0 where
-  -- where a question's own node stands, in words
+  -- the string of q's own node, in words
   pub home_in_words : (q : List Bool) → IsHome q (home q)
   -- the needed nodes in words: the root, and each beginning of a key whose length is a multiple of five
   pub needed_in_words : (m : Entries T) (s : List Bool)

@@ -6,8 +6,9 @@ use Rattle.prefix_trie_bits.specs.Model.Entries.{Entries, without_entry, without
 use Rattle.prefix_trie_bits.specs.Model.Nodes.{Nodes, has_node, home, needed, pruned, AreNodes, IsTidy, nodes_without, nodes_without_below}
 
 module _ {T : Type 0} where
-  -- the node t is taken out by a removal at q that leaves the entries m: q's own node is there, and t is on the way to it, is
-  -- not the root, begins no key that is left, and has only such nodes below it as are on the way too
+  -- the node t is removed by a removal at q that leaves the entries m
+  -- The own node of q is there. The node t is on its search path but is not the root, begins no key
+  -- that is left, and has nodes under it only on that path.
   pub record IsTakenOut (n : Nodes) (m : Entries T) (q t : List Bool) : Type 0 where
     pub home_there : has_node n (home q) ≡ true
     pub on_path : begins t (home q) ≡ true
@@ -15,8 +16,8 @@ module _ {T : Type 0} where
     pub no_key : (k : List Bool) → contains_key m k ≡ true → begins t k ≡ false
     pub alone : (u : List Bool) → has_node n u ≡ true → begins t u ≡ true → begins u (home q) ≡ true
 
-  -- the nodes left lie between those that the entries left need and those that stood before, are the needed ones where they
-  -- were so before, and are a set of nodes
+  -- the nodes left lie between the needed ones and those before, are tidy if they were tidy before,
+  -- and are nodes of a map
   pub record IsPruning (width : ℕ) (m left : Entries T) (n nodes_left : Nodes) : Type 0 where
     pub none_new : (s : List Bool) → has_node nodes_left s ≡ true → has_node n s ≡ true
     pub needed_stay : (s : List Bool) → has_node (needed left) s ≡ true → has_node nodes_left s ≡ true
@@ -24,7 +25,7 @@ module _ {T : Type 0} where
     pub are_nodes : AreNodes width left nodes_left
 
 pub record PruningLaws (T : Type 0) : Type 0 where
-  -- pruning takes out exactly these nodes, and adds none
+  -- pruning removes exactly these nodes and adds none
   pub in_words : (n : Nodes) (m : Entries T) (q t : List Bool) → has_node n t ≡ true
       → (has_node (pruned n m q) t ≡ false) ↔ IsTakenOut n m q t
   pub none_added : (n : Nodes) (m : Entries T) (q t : List Bool) → has_node (pruned n m q) t ≡ true → has_node n t ≡ true

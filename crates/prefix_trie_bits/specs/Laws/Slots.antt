@@ -16,6 +16,6 @@ pub record SlotLaws (P T : Type 0) : Type 0 where
   -- a removal of one entry makes up to 24 of each, since it moves a list to a smaller block
   pub removed : (path : P → List Bool) (back : List Bool → P) (width : ℕ) (s : State T × Storage) (q : P) (reply : Reply P T) (t : State T × Storage)
       → HaveBlocks s.0 s.1.layout → StepInStorage path back width s (Remove q) reply t → MakesSlots 24 24 s.1 t.1
-  -- and none for nodes where all nodes stay
+  -- and no slots for nodes if all nodes stay
   pub removed_keeping : (path : P → List Bool) (back : List Bool → P) (width : ℕ) (s : State T × Storage) (q : P) (reply : Reply P T) (t : State T × Storage)
       → HaveBlocks s.0 s.1.layout → StepInStorage path back width s (RemoveKeepTree q) reply t → MakesSlots 0 24 s.1 t.1

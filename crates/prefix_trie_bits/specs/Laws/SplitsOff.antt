@@ -1,4 +1,4 @@
--- What is handed out and what is left are together what there was.
+-- The map that is split off and what is left of the first are together the map that there was.
 use Rattle.std.specs.Prelude.{◌≡◌, ℕ, ◌+◌, ◌≤◌, Bool, true, false, List, length, None}
 use Rattle.std.specs.FinMap.{get, len}
 use Rattle.prefix_trie_bits.specs.Bits.{begins}

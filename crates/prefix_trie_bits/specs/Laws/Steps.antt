@@ -25,7 +25,7 @@ touches path call k = false
 module _ {P T : Type 0} (path : P → List Bool) (back : List Bool → P) (width : ℕ) where
   -- what a step from s to t keeps
   pub record StepKeeps (s : State T) (call : Call P T) (reply : Reply P T) (t : State T) : Type 0 where
-    -- a map stays one, where the prefix that the call is handed fits
+    -- a map stays a map, if the prefix argument of the call fits
     pub stays_map : CallFits (λ q. length (path q) ≤ width) call → IsMap width s → IsMap width t
     -- a tidy map stays tidy, unless the call is `remove_keep_tree`
     pub stays_tidy : ((q : P) → call ≢ RemoveKeepTree q) → IsMap width s → IsTidy s.entries s.nodes → IsTidy t.entries t.nodes
@@ -34,7 +34,7 @@ module _ {P T : Type 0} (path : P → List Bool) (back : List Bool → P) (width
     pub cleared_tidy : call ≡ Clear → IsTidy t.entries t.nodes
     -- a tidy map has as many nodes as its keys need
     pub tidy_count : call ≡ NodeCount → IsTidy s.entries s.nodes → reply ≡ Count (len (needed s.entries))
-    -- an entry that the call neither writes nor removes is as it was
+    -- an entry that the call neither sets nor removes is unchanged
     pub untouched : (k : List Bool) → touches path call k ≡ false → get t.entries k ≡ get s.entries k
     -- a refusal leaves the map as it was
     pub refused_as_before : (cause : Refusal) → reply ≡ Refused cause → t ≡ s
@@ -45,11 +45,11 @@ pub record StepLaws (P T : Type 0) : Type 0 where
   -- a run from a map leads to a map
   pub run_stays_map : (path : P → List Bool) (back : List Bool → P) (width : ℕ) (s : State T) (calls : List (Call P T)) (replies : List (Reply P T)) (t : State T)
       → All (CallFits (λ q. length (path q) ≤ width)) calls → Run path back width s calls replies t → IsMap width s → IsMap width t
-  -- and a tidy one to a tidy one, where no call is `remove_keep_tree`
+  -- and from a tidy map to a tidy one, if no call is `remove_keep_tree`
   pub run_stays_tidy : (path : P → List Bool) (back : List Bool → P) (width : ℕ) (s : State T) (calls : List (Call P T)) (replies : List (Reply P T)) (t : State T)
       → All (CallFits (λ q. length (path q) ≤ width)) calls → All (λ call. (q : P) → call ≢ RemoveKeepTree q) calls
       → Run path back width s calls replies t → IsMap width s → IsTidy s.entries s.nodes → IsTidy t.entries t.nodes
-  -- two runs, the second from where the first one led, are one
+  -- two runs, the second from the end of the first, join to one
   pub runs_join : (path : P → List Bool) (back : List Bool → P) (width : ℕ) (s t u : State T) (calls more : List (Call P T)) (replies rest : List (Reply P T))
       → Run path back width s calls replies t → Run path back width t more rest u → Run path back width s (calls ++ more) (replies ++ rest) u
   -- a new key set in a tidy map and removed again leaves its entries and its nodes as they were

@@ -1,5 +1,5 @@
 -- The number of addresses that a map covers.
--- From the crate's documentation of `address_count`.
+-- From the Rust crate's documentation of `address_count`.
 use Rattle.std.specs.Prelude.{ℕ, zero, suc, ◌^◌, ◌==◌, cond, Bool, true, false, List, [], ◌∷◌, ◌++◌, map, length, filter, Option, Some, None}
 use Rattle.std.specs.List.{list_any}
 use Rattle.std.specs.FinMap.{keys}
@@ -11,15 +11,16 @@ unfoldable pub full_strings : ℕ → List (List Bool)
 full_strings zero = [] ∷ []
 full_strings (suc w) = map (λ s. false ∷ s) (full_strings w) ++ map (λ s. true ∷ s) (full_strings w)
 
--- how many of the strings that are as long as the width some string of the list begins; each is counted once
+-- the number of strings of length `width` that begin with at least one string of the list
 unfoldable pub covered : ℕ → List (List Bool) → ℕ
 covered width ks = length (filter (λ s. list_any (λ k. begins k s) ks) (full_strings width))
 
 module _ {T : Type 0} where
-  -- how many of the strings that are as long as the width some key begins
+  -- the number of addresses that are covered: strings of length `width` that begin with at least
+  -- one key
   abbrev pub addresses : ℕ → Entries T → ℕ
   addresses width m = covered width (keys m)
 
-  -- what `address_count` answers: None exactly if that is all of them
+  -- the result of `address_count`: the number of covered addresses, or None if all are covered
   abbrev pub address_answer : ℕ → Entries T → Option ℕ
   address_answer width m = cond (addresses width m == 2 ^ width) None (Some (addresses width m))

@@ -1,11 +1,12 @@
--- The entries of a map, and what the calls change in them.
--- From the crate's documentation of `PrefixMap`: a key is a prefix's path, so two prefixes with the same path are one key.
+-- The entries of a map, and how calls change them.
+-- From the Rust crate's documentation of `PrefixMap`. A key is the path of a prefix, so two
+-- prefixes with the same path are one key.
 use Rattle.std.specs.Prelude.{◌≡◌, ℕ, ◌≤◌, Bool, true, not, List, [], ◌∷◌, length, nat_le}
 use Rattle.std.specs.FinMap.{FinMap, empty, contains_key, insert, remove, retain_keys}
 use Rattle.prefix_trie_bits.specs.Bits.{begins}
 use Rattle.prefix_trie_bits.specs.Order.{listing_cmp}
 
--- a finite map from bit strings to values, its pairs in listing order
+-- a finite map from bit strings to values, in listing order
 abbrev pub Entries : Type 0 → Type 0
 Entries T = FinMap listing_cmp T
 
@@ -14,7 +15,7 @@ module _ {T : Type 0} where
   abbrev pub no_entries : Entries T
   no_entries = empty
 
-  -- the entries with s set to v, whether s was stored or not
+  -- the entries with the value of s set to v
   abbrev pub with_entry : Entries T → List Bool → T → Entries T
   with_entry m s v = insert m s v
 
@@ -22,19 +23,20 @@ module _ {T : Type 0} where
   abbrev pub without_entry : Entries T → List Bool → Entries T
   without_entry m s = remove m s
 
-  -- the entries without those whose keys q begins, q's own among them
+  -- the entries without the keys that begin with q
   abbrev pub without_below : Entries T → List Bool → Entries T
   without_below m q = retain_keys m (λ s. not (begins q s))
 
-  -- the entries whose keys q begins, q's own among them
+  -- the entries whose keys begin with q
   abbrev pub part_below : Entries T → List Bool → Entries T
   part_below m q = retain_keys m (λ s. begins q s)
 
-  -- the entries whose keys have n bits or more
+  -- the entries whose keys have at least n bits
   abbrev pub part_at_least : Entries T → ℕ → Entries T
   part_at_least m n = retain_keys m (λ s. nat_le n (length s))
 
-  -- the entries after the items are set in turn, each under its path: of two with the same path the later one stays
+  -- the entries after all items are set in order, each under its path; of two with the same path
+  -- the later one stays
   abbrev pub put_all : {P : Type 0} → (P → List Bool) → List (P × T) → Entries T → Entries T
   put_all path [] m = m
   put_all path (x ∷ xs) m = put_all path xs (with_entry m (path x.0) x.1)

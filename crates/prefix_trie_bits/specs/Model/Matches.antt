@@ -1,5 +1,5 @@
--- The stored keys that begin a question, and the longest and the shortest of them.
--- From the crate's documentation of `get_lpm`, `get_spm` and `cover`.
+-- The stored keys that a bit string begins with, and the longest and the shortest of them.
+-- From the Rust crate's documentation of `get_lpm`, `get_spm` and `cover`.
 use Rattle.std.specs.Prelude.{◌≡◌, ◌≤◌, Bool, true, List, [], ◌∷◌, length, filter, Option, Some, None}
 use Rattle.std.specs.FinMap.{get, contains_key}
 use Rattle.prefix_trie_bits.specs.Bits.{begins}
@@ -19,34 +19,34 @@ module _ {X : Type 0} where
   last_item (x ∷ y ∷ xs) = last_item (y ∷ xs)
 
 module _ {T : Type 0} where
-  -- the pairs whose keys begin the question q, q's own among them, in listing order; so the shorter keys first
+  -- the entries whose keys q begins with, in listing order, so the shortest key comes first
   abbrev pub covers : Entries T → List Bool → List (List Bool × T)
   covers m q = filter (λ e. begins e.0 q) (listing m)
 
-  -- e is a pair of the map, and its key begins the question
+  -- e is an entry of the map, and q begins with its key
   pub record IsMatch (m : Entries T) (q : List Bool) (e : List Bool × T) : Type 0 where
     pub stored : get m e.0 ≡ Some e.1
     pub begins_it : begins e.0 q ≡ true
 
-  -- e is such a pair, and no stored key that begins the question is longer
+  -- e is the match of q with the longest key
   pub record IsLongestMatch (m : Entries T) (q : List Bool) (e : List Bool × T) : Type 0 where
     pub matches : IsMatch m q e
     pub longest : (s : List Bool) → contains_key m s ≡ true → begins s q ≡ true → length s ≤ length e.0
 
-  -- e is such a pair, and no stored key that begins the question is shorter
+  -- e is the match of q with the shortest key
   pub record IsShortestMatch (m : Entries T) (q : List Bool) (e : List Bool × T) : Type 0 where
     pub matches : IsMatch m q e
     pub shortest : (s : List Bool) → contains_key m s ≡ true → begins s q ≡ true → length e.0 ≤ length s
 
-  -- the pair with the longest stored key that begins the question, if there is one
+  -- the entry with the longest key that q begins with, if there is one
   abbrev pub longest_match : Entries T → List Bool → Option (List Bool × T)
   longest_match m q = last_item (covers m q)
 
-  -- the pair with the shortest stored key that begins the question, if there is one
+  -- the entry with the shortest key that q begins with, if there is one
   abbrev pub shortest_match : Entries T → List Bool → Option (List Bool × T)
   shortest_match m q = first_item (covers m q)
 
-  -- a match as users see it: in place of the key the prefix rebuilt from it
+  -- a match with its key turned back into a prefix
   abbrev pub prefix_pair : {P : Type 0} → (List Bool → P) → Option (List Bool × T) → Option (P × T)
   prefix_pair back None = None
   prefix_pair back (Some e) = Some (back e.0, e.1)

@@ -1,18 +1,19 @@
--- The room of a map, and what a call leaves of it. This project's own.
+-- The number of slots of the two arrays, and their limit. This project's own.
 use Rattle.std.specs.Prelude.{◌≡◌, ◌⊎◌, ℕ, ◌+◌, ◌*◌, ◌≤◌, ◌<◌}
 
--- the most slots that an array may have, and how many slots the two arrays have
+-- the largest number of slots that an array may have, and the number that each array has
 pub record Space : Type 0 where
   pub limit : ℕ
   pub node_slots : ℕ
   pub cell_slots : ℕ
 
--- the blocks that one insertion may need would pass the limit: up to 56 slots for nodes, and up to 31 for values
+-- the blocks that one insertion can need could exceed the limit: up to 56 slots for nodes, and up
+-- to 31 for values
 abbrev pub MayPassLimit : Space → Type 0
 MayPassLimit space = (space.limit < space.node_slots + 56) ⊎ (space.limit < space.cell_slots + 31)
 
--- what a call leaves of the room of a map with so many nodes: the same limit, which neither array passes, and each array
--- longer by 56 slots a node at most
+-- what a call on a map with so many nodes changes
+-- The limit stays and is not exceeded, and each array grows by at most 56 slots for each node.
 pub record LeavesSpace (nodes : ℕ) (before after : Space) : Type 0 where
   pub same_limit : after.limit ≡ before.limit
   pub nodes_within : after.node_slots ≤ after.limit

@@ -1,4 +1,5 @@
--- Handing out the entries whose keys a prefix begins, as a second map. This project's own.
+-- Splitting off the entries whose keys begin with a bit string, as a second map. This project's
+-- own.
 use Rattle.std.specs.Prelude.{◌≡◌, ℕ, zero, suc, ◌+◌, ◌≤◌, Bool, true, false, List, Option, None, Some, sum_by}
 use Rattle.std.specs.FinMap.{get, keys}
 use Rattle.prefix_trie_bits.specs.Model.Blocks.{Sizes, no_layout, smallest_size, child_block_sizes, value_block_sizes, child_count, own_entries}
@@ -8,14 +9,15 @@ use Rattle.prefix_trie_bits.specs.Model.Step.{State, RemoveChildren, Done}
 use Rattle.prefix_trie_bits.specs.Model.Storage.{Storage, StepByPath}
 
 module _ {T : Type 0} where
-  -- the second map has the entries whose keys q begins, and the nodes that they need; the first is left as `remove_children` leaves it
+  -- the second map has the entries whose keys begin with q, and the nodes that they need; the first
+  -- is left as after `drop_children`
   pub record SplitsOff (before : State T) (q : List Bool) (second after : State T) : Type 0 where
     pub split_off : second.entries ≡ part_below before.entries q
     pub split_nodes : second.nodes ≡ needed second.entries
     pub left : after.entries ≡ without_below before.entries q
     pub left_nodes : after.nodes ≡ nodes_without_below before.nodes before.entries q
 
--- the size of the smallest block that holds a list of so many items: none where it is empty
+-- the smallest size that holds a list of `count` items; None if the list is empty
 abbrev pub packed_block : List ℕ → ℕ → Option ℕ
 packed_block sizes zero = None
 packed_block sizes (suc n) = smallest_size sizes (suc n)
@@ -27,25 +29,27 @@ packed_slots sizes count = elim (packed_block sizes count) as (λ _. ℕ) [
   | Some size ↦ size
 ]
 
--- the slots of such blocks of all nodes, where the node p has `count p` items
+-- the slots of such blocks for all nodes p, with `count p` items each
 abbrev pub all_packed_slots : List ℕ → Nodes → (List Bool → ℕ) → ℕ
 all_packed_slots sizes n count = sum_by (λ p. packed_slots sizes (count p)) (keys n)
 
--- each node has such a block of its items, and no other string has one
+-- each node p has a block of the smallest size that holds its `count p` items; only nodes have
+-- blocks
 pub record ArePacked (sizes : List ℕ) (n : Nodes) (count : List Bool → ℕ) (blocks : Sizes) : Type 0 where
   pub at_nodes : (p : List Bool) → has_node n p ≡ true → get blocks p ≡ packed_block sizes (count p)
   pub elsewhere : (p : List Bool) → has_node n p ≡ false → get blocks p ≡ None
 
--- the slots for nodes of a map with these nodes whose blocks are such: the root's, and those of the blocks of children
+-- the slots for nodes of a map whose blocks are all as small as they can be: one for the root, and
+-- those of the child blocks
 abbrev pub packed_node_slots : Nodes → ℕ
 packed_node_slots n = 1 + all_packed_slots child_block_sizes n (child_count n)
 
 module _ {T : Type 0} where
-  -- and its slots for values
+  -- the slots for values of such a map
   abbrev pub packed_cell_slots : Entries T → Nodes → ℕ
   packed_cell_slots m n = all_packed_slots value_block_sizes n (own_entries m)
 
-  -- each block is the smallest that holds its items, and none is free: so the slots are numbers of the entries and the nodes
+  -- each block is the smallest that holds its list, and no block is free
   pub record IsPacked (s : State T) (storage : Storage) : Type 0 where
     pub child_blocks : ArePacked child_block_sizes s.nodes (child_count s.nodes) storage.layout.child_blocks
     pub value_blocks : ArePacked value_block_sizes s.nodes (own_entries s.entries) storage.layout.value_blocks
@@ -54,8 +58,9 @@ module _ {T : Type 0} where
     pub node_slots : storage.space.node_slots ≡ packed_node_slots s.nodes
     pub cell_slots : storage.space.cell_slots ≡ packed_cell_slots s.entries s.nodes
 
-  -- handing out, with how both maps are stored: the second has the first's limit, which it does not pass, and is packed; the first is
-  -- left as `drop_children` leaves it
+  -- a split, with how both maps are stored
+  -- The second map is packed and has the first map's limit, which it does not exceed. The first is
+  -- left as after `drop_children`.
   pub record SplitsOffInStorage (before : State T × Storage) (q : List Bool) (second after : State T × Storage) : Type 0 where
     pub splits_off : SplitsOff before.0 q second.0 after.0
     pub packed : IsPacked second.0 second.1

@@ -1,5 +1,6 @@
--- What each call answers, and what it makes of the map; and runs of calls.
--- From the crate's documentation of the calls; that calls may be refused, and which nodes a removal leaves, is this project's own.
+-- What each call returns and how it changes the map; and runs of calls.
+-- From the Rust crate's documentation of the calls. When a call may fail and which nodes a removal
+-- leaves is this project's own.
 use Rattle.std.specs.Prelude.{◌≡◌, ◌⊎◌, ℕ, Bool, false, cond, List, [], ◌∷◌, Option, ⊤}
 use Rattle.std.specs.FinMap.{get, contains_key, len}
 pub use Rattle.prefix_trie_bits.specs.declared.prefix.Refusal.{Refusal}
@@ -15,7 +16,8 @@ pub record State (T : Type 0) : Type 0 where
   pub entries : Entries T
   pub nodes : Nodes
 
--- a call, with what it is handed. `ListFrom q inclusive` asks for the entries after q, and where `inclusive` is true for q's too
+-- a call with its arguments; `ListFrom q inclusive` lists the entries after q, and q's own if
+-- `inclusive` is true
 pub data Call (P T : Type 0) : Type 0 where
   Insert : P → T → Call P T
   Get : P → Call P T
@@ -34,7 +36,7 @@ pub data Call (P T : Type 0) : Type 0 where
   Children : P → Call P T
   Cover : P → Call P T
 
--- a reply
+-- the result of a call
 pub data Reply (P T : Type 0) : Type 0 where
   Value : Option T → Reply P T
   Match : Option (P × T) → Reply P T
@@ -45,7 +47,7 @@ pub data Reply (P T : Type 0) : Type 0 where
   Refused : Refusal → Reply P T
 
 module _ {P T : Type 0} where
-  -- the prefix that a call is handed, if there is one, fits
+  -- the prefix argument of a call, if it has one, fits
   abbrev pub CallFits : (P → Type 0) → Call P T → Type 0
   CallFits Fits (Insert q v) = Fits q
   CallFits Fits (Get q) = Fits q
@@ -59,20 +61,20 @@ module _ {P T : Type 0} where
   CallFits Fits (Cover q) = Fits q
   CallFits Fits call = ⊤
 
-  -- the reply is the list of these items, or a refusal for want of memory; the map is as it was
+  -- the call returns these items, or is refused for lack of memory; the map is unchanged
   abbrev pub Lists : State T → List (P × T) → Reply P T → State T → Type 0
   Lists s items reply t = ((reply ≡ Items items) ⊎ (reply ≡ Refused Memory)) × (t ≡ s)
 
 module _ {S C R : Type 0} (OneStep : S → C → R → S → Type 0) where
-  -- a run from s to t: one step and one reply for each call in turn
+  -- a run from s to t: one step and one reply for each call in order
   abbrev pub Runs : S → List C → List R → S → Type 0
   Runs s [] replies t = (replies ≡ []) × (t ≡ s)
   Runs s (call ∷ calls) replies t =
       (reply : R) × (later : List R) × (u : S) × (replies ≡ reply ∷ later) × OneStep s call reply u × Runs u calls later t
 
 module _ {P T : Type 0} (path : P → List Bool) (back : List Bool → P) (width : ℕ) where
-  -- a step: the call, answered by the reply, takes the map from s to t. The insertion of a new key may be refused, for
-  -- whichever cause; the map is then as it was
+  -- a step: the call returns the reply, and the map goes from s to t
+  -- Only the insertion of a new key and the listings may be refused. The map is unchanged then.
   abbrev pub Step : State T → Call P T → Reply P T → State T → Type 0
   Step s (Insert q v) reply t =
       let stored = contains_key s.entries (path q) in
@@ -108,6 +110,6 @@ module _ {P T : Type 0} (path : P → List Bool) (back : List Bool → P) (width
   Step s (Children q) reply t = Lists s (prefix_pairs back (listing_below s.entries (path q))) reply t
   Step s (Cover q) reply t = Lists s (prefix_pairs back (covers s.entries (path q))) reply t
 
-  -- a run of the model: the calls, answered by the replies, take the map from s to t
+  -- a run of the model: the calls return the replies in order, and the map goes from s to t
   abbrev pub Run : State T → List (Call P T) → List (Reply P T) → State T → Type 0
   Run = Runs Step

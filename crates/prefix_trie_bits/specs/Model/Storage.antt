@@ -1,4 +1,4 @@
--- How a map is stored, a step that sees it, and runs of such steps. This project's own.
+-- How a map is stored, steps that see the storage, and runs of such steps. This project's own.
 use Rattle.std.specs.Prelude.{◌≡◌, ℕ, ◌+◌, ◌≤◌, ◌<◌, Bool, true, false, Option, List, length}
 use Rattle.std.specs.FinMap.{get, contains_key, len}
 use Rattle.prefix_trie_bits.specs.Model.Retaining.{RetainsEntries}
@@ -9,23 +9,26 @@ use Rattle.prefix_trie_bits.specs.Model.Space.{Space, MayPassLimit, LeavesSpace}
 use Rattle.prefix_trie_bits.specs.Model.Selections.{listing}
 use Rattle.prefix_trie_bits.specs.Model.Step.{State, Call, Insert, Remove, RemoveKeepTree, RemoveChildren, RetainAtLeast, Clear, Reply, Value, Refused, Refusal, Memory, IndexRange, Step, Runs}
 
--- how a map is stored: the room of its two arrays, and how they are cut into blocks
+-- how a map is stored: the slots of its two arrays, and how they are cut into blocks
 pub record Storage : Type 0 where
   pub space : Space
   pub layout : Layout
 
--- the storage of a map without entries, under the same limit: the root's slot, and no block
+-- the storage of a cleared map: the same limit, a slot for the root, no blocks
 abbrev pub empty_storage : Storage → Storage
 empty_storage s = record { space = record { limit = s.space.limit; node_slots = 1; cell_slots = 0 }; layout = no_layout }
 
 module _ {T : Type 0} where
-  -- each node has the block of its children and that of its values, and no other string has one
+  -- each node has a block for its children and a block for its values, or none if there are none;
+  -- only nodes have blocks
   pub record HaveBlocks (s : State T) (layout : Layout) : Type 0 where
     pub child_blocks : NodesHaveBlocks child_block_sizes s.nodes (child_count s.nodes) layout.child_blocks
     pub value_blocks : NodesHaveBlocks value_block_sizes s.nodes (own_entries s.entries) layout.value_blocks
 
-  -- what the insertion of the new key q leaves: each node that needed a block has it, the others have theirs. Of each size exactly the
-  -- lacking blocks were made, and the arrays are longer by these. No block is lost: one that was left is free
+  -- how the insertion of the new key q changes the storage
+  -- Each list that needed a block has it, and the others keep theirs. Of each size exactly the
+  -- missing blocks were made, and the arrays grow by their slots. No block is lost: a block that a
+  -- list leaves becomes free.
   pub record InsertsInStorage (s : State T) (q : List Bool) (before after : Storage) : Type 0 where
     pub node_slots : after.space.node_slots ≡ before.space.node_slots + missing_node_slots s.nodes before.layout q
     pub cell_slots : after.space.cell_slots ≡ before.space.cell_slots + missing_cell_slots s.entries before.layout q
@@ -34,7 +37,8 @@ module _ {T : Type 0} where
     pub child_blocks_made : MakesBlocks child_block_sizes (missing_child_blocks s.nodes before.layout q) (child_block_count before.layout) (child_block_count after.layout)
     pub value_blocks_made : MakesBlocks value_block_sizes (missing_value_blocks s.entries before.layout q) (value_block_count before.layout) (value_block_count after.layout)
 
-  -- what a call leaves that makes the blocks that the insertion of the new key q lacks, and does not insert it: those in use stay
+  -- how making the missing blocks for the new key q changes the storage, if q is not inserted yet:
+  -- the used blocks stay
   pub record PreparesInStorage (s : State T) (q : List Bool) (before after : Storage) : Type 0 where
     pub node_slots : after.space.node_slots ≡ before.space.node_slots + missing_node_slots s.nodes before.layout q
     pub cell_slots : after.space.cell_slots ≡ before.space.cell_slots + missing_cell_slots s.entries before.layout q
@@ -43,9 +47,10 @@ module _ {T : Type 0} where
     pub child_blocks_made : MakesBlocks child_block_sizes (missing_child_blocks s.nodes before.layout q) (child_block_count before.layout) (child_block_count after.layout)
     pub value_blocks_made : MakesBlocks value_block_sizes (missing_value_blocks s.entries before.layout q) (value_block_count before.layout) (value_block_count after.layout)
 
-  -- when the refusal of an insertion comes, and what it leaves: it comes only where a block lacks, for want of slots only where the lacking ones pass
-  -- the limit, and for want of memory only where one that lacks still would not. The blocks in use stay, and of each size no more
-  -- than the lacking blocks were made, which are free
+  -- when the insertion of the new key q is refused, and how that changes the storage
+  -- It is refused only if a block is missing: with `IndexRange` only if the missing blocks would
+  -- exceed the limit, and with `Memory` only if one that is still missing would fit. The used
+  -- blocks stay. Of each size at most the missing blocks were made, and these are free.
   pub record RefusesInStorage (s : State T) (q : List Bool) (cause : Refusal) (before after : Storage) : Type 0 where
     pub lacks : 0 < missing_node_slots s.nodes before.layout q + missing_cell_slots s.entries before.layout q
     pub range : cause ≡ IndexRange → PassesLimit s.entries s.nodes before.space before.layout q
@@ -59,8 +64,9 @@ module _ {T : Type 0} where
     pub child_blocks_made : MakesAtMost child_block_sizes (missing_child_blocks s.nodes before.layout q) (child_block_count before.layout) (child_block_count after.layout)
     pub value_blocks_made : MakesAtMost value_block_sizes (missing_value_blocks s.entries before.layout q) (value_block_count before.layout) (value_block_count after.layout)
 
-  -- what taking out the value at q leaves of the array of values: the block that lost it steps down, and the array is longer by that
-  -- one block at most, which was made only where none of its size was free
+  -- how removing the value of q changes the array of values
+  -- The block that held it steps down. The array grows by at most the new block, and only if no
+  -- block of its size was free.
   pub record RemovesValueInStorage (s t : State T) (q : List Bool) (before after : Storage) : Type 0 where
     pub value_blocks : SizesStepDown value_block_sizes before.layout.free_value_blocks s.nodes (own_entries s.entries) (own_entries t.entries)
         before.layout.value_blocks after.layout.value_blocks
@@ -69,8 +75,9 @@ module _ {T : Type 0} where
     pub value_blocks_made : MakesBlocks value_block_sizes (made_of value_block_sizes before.layout.free_value_blocks
         (get before.layout.value_blocks (home q)) (get after.layout.value_blocks (home q))) (value_block_count before.layout) (value_block_count after.layout)
 
-  -- what pruning leaves of the array of nodes: the same, of the block that lost a child. It takes a block that a node on the way
-  -- below left, where that has its size
+  -- how pruning changes the array of nodes
+  -- The block that lost a child steps down. It may take a block that a node under it has just
+  -- freed.
   pub record PrunesInStorage (s t : State T) (before after : Storage) : Type 0 where
     pub child_blocks : SizesStepDown child_block_sizes before.layout.free_child_blocks s.nodes (child_count s.nodes) (child_count t.nodes)
         before.layout.child_blocks after.layout.child_blocks
@@ -79,8 +86,9 @@ module _ {T : Type 0} where
         × MakesAtMost child_block_sizes (made_of child_block_sizes before.layout.free_child_blocks
         (get before.layout.child_blocks p) (get after.layout.child_blocks p)) (child_block_count before.layout) (child_block_count after.layout)
 
-  -- what taking out many entries leaves: each block that lost items is between its old size and the smallest that holds the rest; no
-  -- slot and no block goes, and an array of which no block changed is as long as it was
+  -- how removing many entries changes the storage
+  -- Each block that lost items has a size between its old one and the smallest that holds the rest.
+  -- No slot and no block is lost, and an array of which no block changed keeps its length.
   pub record RemovesManyInStorage (s t : State T) (before after : Storage) : Type 0 where
     pub value_blocks : SizesStepBetween value_block_sizes s.nodes (own_entries s.entries) (own_entries t.entries)
         before.layout.value_blocks after.layout.value_blocks
@@ -93,7 +101,8 @@ module _ {T : Type 0} where
     pub keeps : KeepsBlocks before.layout after.layout
 
 module _ {P T : Type 0} (path : P → List Bool) where
-  -- what a call leaves of the storage, beside its step from s to t: a call that changes neither entries nor nodes leaves it as it is
+  -- how a call changes the storage, beside its step from s to t; a call that changes neither
+  -- entries nor nodes leaves it unchanged
   abbrev pub LeavesStorage : State T → Call P T → Reply P T → State T → Storage → Storage → Type 0
   LeavesStorage s (Insert q v) reply t before after =
       (contains_key s.entries (path q) ≡ true → after ≡ before)
@@ -111,7 +120,7 @@ module _ {P T : Type 0} (path : P → List Bool) where
   LeavesStorage s call reply t before after = after ≡ before
 
 module _ {P T : Type 0} (path : P → List Bool) (back : List Bool → P) (width : ℕ) where
-  -- a step of the map and of its storage
+  -- a step of a map and its storage
   pub record StepInStorage (s : State T × Storage) (call : Call P T) (reply : Reply P T) (t : State T × Storage) : Type 0 where
     pub step : Step path back width s.0 call reply t.0
     pub space : LeavesSpace (len s.0.nodes) s.1.space t.1.space
@@ -123,12 +132,12 @@ module _ {P T : Type 0} (path : P → List Bool) (back : List Bool → P) (width
   RunInStorage = Runs StepInStorage
 
 module _ {T : Type 0} where
-  -- a step by paths: calls are handed bit strings, and replies show them
+  -- a step by bit strings: the calls and replies have bit strings for prefixes
   abbrev pub StepByPath : ℕ → State T × Storage → Call (List Bool) T → Reply (List Bool) T → State T × Storage → Type 0
   StepByPath = StepInStorage (λ q. q) (λ q. q)
 
-  -- a step that asks the test f at each entry, in listing order, and keeps those at which it answers true, with the nodes that these
-  -- need
+  -- a step that calls the test f on each entry in listing order and keeps those for which it
+  -- returns true, with the nodes that they need
   pub record RetainsInStorage {F : Type 0} (asks : F → List Bool → T → Bool → F → Type 0) (f : F) (s t : State T × Storage) : Type 0 where
     pub kept : RetainsEntries asks f (listing s.0.entries) (listing t.0.entries)
     pub nodes : t.0.nodes ≡ needed t.0.entries

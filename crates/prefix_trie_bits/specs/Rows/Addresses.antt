@@ -12,7 +12,7 @@ pub record AddressesHold : Type 0 where
       (Insert (0xc6336400, 24) 3, Value None) ∷
       (AddressCount, Addresses (Some (512))) ∷
       [])
-  -- row 35, second part: 128 bits; all addresses together are answered by None
+  -- row 35, second part: 128 bits; the count of all addresses is None
   pub row35_wide : Gives 128 (
       (Insert (0, 128) 0, Value None) ∷
       (AddressCount, Addresses (Some (1))) ∷

@@ -49,6 +49,6 @@ counted pairs = map (λ e. (e.1, e.0)) (enumerate_from 0 pairs)
 abbrev pub full_pairs : ℕ → List (ℕ × ℕ)
 full_pairs width = enumerate_from 0 (replicate (2 ^ width) width)
 
--- items set in turn, each under a new key
+-- items set in order, each under a new key
 abbrev pub sets : List ((ℕ × ℕ) × ℕ) → Row
 sets items = map (λ e. (Insert e.0 e.1, Value None)) items

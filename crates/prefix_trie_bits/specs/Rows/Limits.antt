@@ -1,4 +1,5 @@
--- Worked rows: maps that are full, and new keys refused for want of slots. The model lets any new key be refused; these rows say what then stays.
+-- Worked rows: full maps, and new keys refused with `IndexRange`. The model lets any new key be
+-- refused; these rows say what is unchanged then.
 use Rattle.std.specs.Prelude.{ℕ, ◌++◌, List, [], ◌∷◌, Some, None}
 use Rattle.prefix_trie_bits.specs.Model.Step.{Insert, Remove, Clear, Len, NodeCount, AddressCount, ListAll, Value, Done, Count, Addresses, Items, Refused, IndexRange}
 use Rattle.prefix_trie_bits.specs.Rows.Examples.{Gives, counted, full_pairs, sets}
@@ -14,7 +15,8 @@ short_pairs =
 
 -- the rows of this file
 pub record LimitsHold : Type 0 where
-  -- row 13: a new key is refused for want of slots and leaves the map as it was; a shorter one still has room
+  -- row 13: a new key is refused with `IndexRange` and leaves the map unchanged; a shorter one
+  -- still fits
   pub row13 : Gives 32 (
       (Insert (0, 32) 1, Refused IndexRange) ∷
       (Len, Count 0) ∷

@@ -5,7 +5,7 @@ use Rattle.prefix_trie_bits.specs.Rows.Examples.{Gives}
 
 -- the rows of this file
 pub record LookupsHold : Type 0 where
-  -- row 1: a stored network is found and overwritten; neither a neighbour nor a longer prefix is found
+  -- row 1: a stored network is found and overwritten; a neighbour and a longer prefix are not found
   pub row1 : Gives 32 (
       (Insert (0xc0a80000, 23) 1, Value None) ∷
       (Insert (0xc0a80100, 24) 2, Value None) ∷
@@ -47,7 +47,7 @@ pub record LookupsHold : Type 0 where
       (Clear, Done) ∷
       (Len, Count 0) ∷
       [])
-  -- row 28: bits after a prefix's length count for nothing, and prefixes are shown without them
+  -- row 28: bits after a prefix's length do not matter, and returned prefixes have zeros there
   pub row28 : Gives 8 (
       (Insert (255, 0) 1, Value None) ∷
       (Insert (129, 1) 2, Value None) ∷

@@ -45,7 +45,8 @@ pub record RemovalsHold : Type 0 where
       (Clear, Done) ∷
       (NodeCount, Count 1) ∷
       [])
-  -- row 22: `remove` prunes on the way to an absent key whose node is there, and not off the way
+  -- row 22: `remove` prunes the search path of an absent key whose own node is there, and nothing
+  -- off that path
   pub row22 : Gives 32 (
       (Insert (0, 32) 1, Value None) ∷
       (RemoveKeepTree (0, 32), Value (Some 1)) ∷
@@ -84,7 +85,8 @@ pub record RemovalsHold : Type 0 where
       (RemoveChildren (0, 7), Done) ∷
       (NodeCount, Count 1) ∷
       [])
-  -- row 48, what it says of the first map: the prefix of length 0 takes all, and another call then changes nothing
+  -- row 48, for the first map: the prefix of length 0 removes everything, and another call then
+  -- changes nothing
   pub row48_first : Gives 32 (
       (Insert (0x01020300, 32) 1, Value None) ∷
       (Insert (0x01020301, 32) 2, Value None) ∷
@@ -96,7 +98,7 @@ pub record RemovalsHold : Type 0 where
       (RemoveChildren (0, 9), Done) ∷
       (NodeCount, Count 1) ∷
       [])
-  -- empty nodes that are not on the way to the removed key stay, until `retain` makes the map tidy
+  -- empty nodes off the search path of the removed key stay until `retain` makes the map tidy
   pub off_the_path : Gives 32 (
       (Insert (0, 32) 1, Value None) ∷
       (RemoveKeepTree (0, 32), Value (Some 1)) ∷
@@ -110,7 +112,8 @@ pub record RemovalsHold : Type 0 where
       (RetainAtLeast 0, Done) ∷
       (NodeCount, Count 1) ∷
       [])
-  -- entries whose keys have just the length that `retain` asks for stay, and the shorter ones go
+  -- entries whose keys have exactly the length given to `retain` stay, and those with shorter keys
+  -- go
   pub at_least : Gives 8 (
       (Insert (0, 4) 1, Value None) ∷
       (Insert (0, 5) 2, Value None) ∷

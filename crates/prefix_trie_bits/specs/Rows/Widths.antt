@@ -12,7 +12,7 @@ three_bits =
 
 -- the rows of this file
 pub record WidthsHold : Type 0 where
-  -- row 6: 128 bits, where the last node has three levels left
+  -- row 6: 128 bits, with three levels in the last node
   pub row6 : Gives 128 (
       (Insert (0, 125) 1, Value None) ∷
       (Insert (1, 128) 2, Value None) ∷
@@ -55,7 +55,7 @@ pub record WidthsHold : Type 0 where
       (Remove (1023, 10), Value (Some 2)) ∷
       (NodeCount, Count 1) ∷
       [])
-  -- row 46: five bits, where each key of full length has a node of its own
+  -- row 46: five bits, so each key of full length has a node of its own
   pub row46 : Gives 5 (sets (counted (full_pairs 5)) ++
       (Len, Count 32) ∷
       (NodeCount, Count 33) ∷
@@ -63,7 +63,7 @@ pub record WidthsHold : Type 0 where
       (Remove (31, 5), Value (Some 31)) ∷
       (AddressCount, Addresses (Some (31))) ∷
       [])
-  -- row 46, second part: three bits, where all prefixes stand in the root
+  -- row 46, second part: three bits, so all prefixes are in the root
   pub row46_three : Gives 3 (sets (counted three_bits) ++
       (Len, Count 15) ∷
       (NodeCount, Count 1) ∷

@@ -74,8 +74,7 @@ fn put<P: Prefix, T: Drop, A: Allocator>(
     ensures range { IfErr result (λ cause. cause ≡ IndexRange → MayPassLimit map.old.space) }
     ensures memory { IfErr result (λ cause. cause ≡ Memory → MissingFitsLimit map.new.entries map.new.nodes map.new.space map.new.layout (P.path prefix)) }
 {
-    // The proof learns from it that the map is whole.
-    let _ = map.len();
+    map.known_valid();
     map.insert(prefix, value)?;
     Ok(())
 }

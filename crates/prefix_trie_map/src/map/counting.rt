@@ -27,8 +27,7 @@ impl<P: Prefix, T: Drop, A: Allocator> PrefixMap<P, T, A> {
         ensures count { result ≡ len self.now.nodes }
         ensures whole { IsWhole P.R.bit_width self.now }
     {
-        // The proof learns from it that the map is whole.
-        let _ = self.len();
+        self.known_valid();
         self.table.node_count(&mut Visits::new())
     }
 
@@ -47,8 +46,7 @@ impl<P: Prefix, T: Drop, A: Allocator> PrefixMap<P, T, A> {
         ensures count { option_map (λ r. number (P.R.bits r)) result ≡ address_answer P.R.bit_width self.now.entries }
         ensures whole { IsWhole P.R.bit_width self.now }
     {
-        // The proof learns from it that the map is whole.
-        let _ = self.len();
+        self.known_valid();
         let mut visits = Visits::new();
         let mut walk = self.table.walk(&mut visits);
         addresses_of(&mut walk, &mut visits)

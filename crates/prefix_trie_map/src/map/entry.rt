@@ -14,7 +14,7 @@ use crate::map::lookup::rebuilt;
 use crate::map::parts::parts;
 pub use insertion::Put;
 use prefix_trie_bits::prefix::{Prefix, Refusal, Refused};
-use prefix_trie_table::table::seat::{Location, Seat, SearchEnd};
+use prefix_trie_table::table::seat::{Location, SearchEnd, Seat};
 use std::alloc::Allocator;
 use std::marker::Model;
 

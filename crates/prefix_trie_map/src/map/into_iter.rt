@@ -35,8 +35,7 @@ impl<P: Prefix, T: Drop, A: Allocator> PrefixMap<P, T, A> {
         ensures runs { GivesInOrder (P × T) }
         ensures whole { IsWhole P.R.bit_width self }
     {
-        // The proof learns from it that the number of entries fits, and that the map is whole.
-        let _ = self.len();
+        self.known_valid();
         let (key, len) = parts(prefix);
         let walk = self.table.into_walk_below(key, len, &mut Visits::new());
         IntoIter::over(walk)
@@ -83,8 +82,7 @@ impl<P: Prefix, T: Drop, A: Allocator> IntoIterator for PrefixMap<P, T, A> {
 
     #[inline]
     fn into_iter(self) -> IntoIter<P, T, A> {
-        // The proof learns from it that the number of entries fits, and that the map is whole.
-        let _ = self.len();
+        self.known_valid();
         let walk = self.table.into_walk(&mut Visits::new());
         IntoIter::over(walk)
     }

@@ -34,8 +34,7 @@ impl<P: Prefix, T: Drop, A: Allocator> PrefixMap<P, T, A> {
         ensures runs { ShowsInOrder (lent_item {P = P} {T = T}) }
         ensures whole { IsWhole P.R.bit_width self.now }
     {
-        // The proof learns from it that the number of entries fits, and that the map is whole.
-        let _ = self.len();
+        self.known_valid();
         let walk = self.table.walk(&mut Visits::new());
         Iter::over(walk)
     }

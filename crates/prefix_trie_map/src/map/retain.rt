@@ -75,8 +75,7 @@ impl<P: Prefix, T: Drop, A: Allocator> PrefixMap<P, T, A> {
         // The arrays get longer by at most the headroom that their blocks had, over any number of calls (`settling_laws`).
         ensures bounds_growth { BoundsStorageGrowth (storage self.old) (storage self.new) }
     {
-        // The proof learns from it that the map is whole.
-        let _ = self.len();
+        self.known_valid();
         let keep = ByPrefix::<P, F> {
             test,
             marker: PhantomData,

@@ -48,8 +48,7 @@ impl<P: Prefix, T: Drop, A: Allocator> PrefixMap<P, T, A> {
         ensures slots { result ≡ self.now.space.node_slots }
         ensures whole { IsWhole P.R.bit_width self.now }
     {
-        // The proof learns from it that the map is whole.
-        let _ = self.len();
+        self.known_valid();
         self.table.node_slots()
     }
 
@@ -59,8 +58,7 @@ impl<P: Prefix, T: Drop, A: Allocator> PrefixMap<P, T, A> {
         ensures slots { result ≡ self.now.space.cell_slots }
         ensures whole { IsWhole P.R.bit_width self.now }
     {
-        // The proof learns from it that the map is whole.
-        let _ = self.len();
+        self.known_valid();
         self.table.cell_slots()
     }
 

@@ -1,17 +1,17 @@
--- Numbers of blocks by size, where the sizes of the tiers go up.
+-- Numbers of blocks by size, if the sizes of the tiers ascend.
 use Rattle.prefix_trie_table.proofs.Prelude.{◌≡◌, ◌≢◌, ℕ, zero, suc, ◌+◌, ◌-◌, ◌*◌, ◌<◌, ◌≤◌, ◌==◌, inl, inr, true, false, cond, nat_lt, nat_le, List, [], ◌∷◌, length, set, map, Option, None, Some, refl, sym, ap, ap₂, ◌∙◌, subst, arith, eqb-true, eq-eqb, mul-add, mul-le-mul_left, cases_eq, cases_lt, false_from_ne_true, le-ltb, nat_tests, same_Some, length-map, get_or_default, Contains, free_of, smallest_size, missing_of, slots_of_missing, goes_up, above, free_here, free_later, in_cases, first_in, later_in, IsSmallest, smallest_of, how_many, HasSizes, node_sizes, cell_sizes, Tier, tier_at, tier_sizes, size_in, free_in, made_in, size_if_any, list_need, many_of, slots_of}
 use Rattle.std.proofs.lemmas.Bool.{lt-ltb}
 use Rattle.std.proofs.lemmas.List.{length-set, get_or-set_same}
 use Rattle.std.specs.Prelude.{find}
 use Rattle.prefix_trie_bits.proofs.Model.Storage.Readied.{both}
 
--- a tier's size is as the list of sizes says
+-- a tier's size is that of the list of sizes
 pub size_at : (ts : List Tier) (k : ℕ) → (tier_at ts k).size ≡ size_in (tier_sizes ts) k
 size_at [] k = refl
 size_at (t ∷ ts) zero = refl
 size_at (t ∷ ts) (suc k) = size_at ts k
 
--- the sizes stay where a tier of the same size is put
+-- the sizes stay if a tier is replaced by one of the same size
 pub sizes_set : (ts : List Tier) (k : ℕ) (t : Tier) → t.size ≡ (tier_at ts k).size → tier_sizes (set ts k t) ≡ tier_sizes ts
 sizes_set [] k t e = refl
 sizes_set (u ∷ ts) zero t e = ap (λ n. n ∷ tier_sizes ts) e
@@ -74,7 +74,7 @@ module _ (f : Tier → ℕ) where
 pub free_at : (ts : List Tier) (k : ℕ) → HasSizes ts → k < length ts → free_in ts (size_in (tier_sizes ts) k) ≡ length (tier_at ts k).starts
 free_at ts k has inside = ap (free_in ts) (sym (size_at ts k)) ∙ number_here (λ t. length t.starts) 0 ts k (sizes_up ts has) inside
 
--- and as many stand in the array
+-- and as many are in the array
 pub made_at : (ts : List Tier) (k : ℕ) → HasSizes ts → k < length ts → made_in ts (size_in (tier_sizes ts) k) ≡ (tier_at ts k).made
 made_at ts k has inside = ap (made_in ts) (sym (size_at ts k)) ∙ number_here (λ t. t.made) 0 ts k (sizes_up ts has) inside
 
@@ -135,7 +135,7 @@ slots_of-many below (size ∷ sizes) up s m at =
           omega (arith, none, slots_of-many size sizes later s m there)
     ]
 
--- the slots of the lacking blocks, size by size
+-- the slots of the missing blocks, size by size
 pub slots_lack : (below : ℕ) (sizes free needed : List ℕ) → goes_up below sizes ≡ true → length free ≡ length sizes →
     slots_of_missing sizes free needed ≡ slots_of sizes (missing_of sizes free needed)
 slots_lack below [] free needed up long = refl
@@ -162,7 +162,7 @@ smallest_holds (s ∷ sizes) n size e = elim (cases_lt s n) as (λ _. Contains (
       (subst (Contains (s ∷ sizes)) is (first_in s sizes), omega (arith, is, fits))
 ]
 
--- where one of them holds them, there is a smallest
+-- if one of them holds the items, there is a smallest one
 pub smallest_there : (ts : List Tier) (n k : ℕ) → HasSizes ts → k < length ts → n ≤ size_in (tier_sizes ts) k → IsSmallest (tier_sizes ts) n (size_in (tier_sizes ts) k)
 smallest_there ts n k has inside fits =
     smallest_of 0 (tier_sizes ts) (sizes_up ts has) n (size_in (tier_sizes ts) k)
@@ -183,7 +183,8 @@ pub size_some : (count size : ℕ) → 0 < count → size_if_any count size ≡ 
 size_some zero size h = absurd (omega (arith, h))
 size_some (suc n) size h = refl
 
--- the block that a list needs: the first item's, none where its own has room, and else the smallest that holds them all
+-- the block that a list needs: for its first item, none if its own has a free slot, else the
+-- smallest that holds them all
 pub need_first : (ts : List Tier) (k count : ℕ) → count ≡ 0 → list_need ts k count ≡ smallest_size (tier_sizes ts) 1
 need_first ts k zero e = refl
 need_first ts k (suc n) e = absurd (omega (arith, e))

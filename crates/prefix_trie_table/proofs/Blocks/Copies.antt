@@ -9,7 +9,7 @@ use Rattle.prefix_trie_table.proofs.Blocks.Tilings.{Within, All-append_left, All
 use Rattle.prefix_trie_table.proofs.Tree.Shapes.{value_in-there}
 use Rattle.prefix_trie_table.proofs.Tree.Trees.{is_none-None}
 
--- what stands for the set bits is what stands for their ranks, in order
+-- what is at the set bits is what is at their ranks, in order
 ranked : {Y : Type 0} (g f : ℕ → Y) (bitmap n : ℕ) → ((b : ℕ) → has_bit bitmap b ≡ true → g b ≡ f (rank bitmap b)) →
     map g (bits_below bitmap n) ≡ map f (range_with_len 0 (length (bits_below bitmap n)))
 unfolding rank
@@ -31,7 +31,7 @@ module _ {T : Type 0} (ys : List (Option T)) where
   abbrev read_items : ℕ → ℕ → List (Option T)
   read_items start n = map (λ i. get_or ys (start + i) None) (range_with_len 0 n)
 
-  -- a block, with what stands there
+  -- a block with the items at its slots
   abbrev pub read_block : UsedBlock (Option T) → UsedBlock (Option T)
   read_block b = record b { items = read_items b.start (length b.items) }
 
@@ -72,7 +72,7 @@ module _ {T : Type 0} (v : Store (Option T)) (ys : List (Option T)) (long : leng
       get_or-run ys e.start e.size i None small ∙ is_none-None (get_or ys (e.start + i) None) (kept (e.start + i) ∙ ap is_some none)
       ∙ sym (get_or-replicate e.size i None None small))
 
-  -- the block holds what stands in the copy
+  -- the block holds the items of the copy
   items_read : (first : ℕ) (b : UsedBlock (Option T)) → Within first (length v.slots) (extent b) → HoldsItems None v.slots b → HoldsItems None ys (read_block ys b)
   items_read first b inside h =
       let c : ℕ = length b.items in
@@ -86,7 +86,7 @@ module _ {T : Type 0} (v : Store (Option T)) (ys : List (Option T)) (long : leng
       ap (run ys b.start) (sym fits) ∙ take-add c m (drop b.start ys) ∙ (λ i. front i ++ (ap (take m) (drop-drop c b.start ys) ∙ back) i)
       ∙ ap (λ k. read_items ys b.start c ++ replicate (b.size - k) None) (sym (length-map-range_with_len (λ i. get_or ys (b.start + i) None) 0 c))
 
-  -- the copy is sound with blocks that hold what stands there
+  -- the copy is sound with blocks that hold its items
   pub Sound-read : (live : List (UsedBlock (Option T))) → Sound None live v → Sound None (map (read_block ys) live) (record v { slots = ys })
   Sound-read live s =
       let inside = all_inside None live v s in

@@ -1,14 +1,14 @@
--- Blocks in use and free are those that stand in the array, of each size, and none is lost.
+-- Of each size, the used and the free blocks are all that the array has, and none is lost.
 use Rattle.prefix_trie_table.proofs.Prelude.{◌≡◌, ℕ, ◌+◌, ◌<◌, List, Option, length, refl, sym, ap, ◌∙◌, subst, arith, Contains, get_or_default, Sizes, used_of, free_of, MakesBlocks, MakesAtMost, KeepsBlocks, Node, HasSizes, node_sizes, cell_sizes, SomeTable, Sized, Store, KeepsMade, tier_at, tier_sizes, size_in, free_counts, free_in, made_in}
 use Rattle.prefix_trie_table.proofs.Blocks.BySize.{tiers_long, free_at, made_at, node_sized, cell_sized}
 use Rattle.prefix_trie_table.proofs.Blocks.Sizing.{layout_of}
 use Rattle.prefix_trie_table.proofs.Counts.BlockCounts.{nodes_made, cells_made}
 
--- of each size those that stand in the array are the ones in use, and the free ones
+-- of each size the blocks of the array are the used and the free ones
 abbrev pub IsCut : {S : Type 0} → List ℕ → Store S → Sizes → Type 0
 IsCut sizes v used = (size : ℕ) → Contains sizes size → made_in v.tiers size ≡ used_of used size + free_of sizes (free_counts v.tiers) size
 
--- so it is where it is so of each tier
+-- it is so if it is so for each tier
 cut_by_tiers : {S : Type 0} (sizes : List ℕ) (v : Store S) (used : Sizes) → length sizes ≡ 7 → tier_sizes v.tiers ≡ sizes → HasSizes v.tiers →
     ((k : ℕ) → k < 7 → (tier_at v.tiers k).made ≡ length (tier_at v.tiers k).starts + used_of used (size_in sizes k)) → IsCut sizes v used
 cut_by_tiers sizes v used seven are has made size (k, inside, is) =
@@ -41,7 +41,7 @@ module _ {T : Type 0} (v : Store Node) (w : Store (Option T)) (t : SomeTable v w
       cut_by_tiers cell_sizes w sized.1.0 refl are (cell_sized w.tiers are) (cells_made t.reading t.paths v t.holds.hold t.values w t.holds.cells sized)
 
 module _ {T : Type 0} (v v2 : Store Node) (w w2 : Store (Option T)) (before : SomeTable v w) (after : SomeTable v2 w2) (x : Sized v.slots) (y : Sized v2.slots) where
-  -- where no fewer stand in the arrays no block is lost
+  -- if the arrays have at least as many blocks, no block is lost
   pub kept_blocks : KeepsMade v v2 → KeepsMade w w2 → KeepsBlocks (layout_of v.slots v.tiers w.tiers x) (layout_of v2.slots v2.tiers w2.tiers y)
   kept_blocks nodes cells = (
     λ size there. (let a = nodes_cut v w before x size there in let b = nodes_cut v2 w2 after y size there in let m = nodes size in omega (arith, a, b, m)),

@@ -1,4 +1,4 @@
--- A list laid whole in a block that held none.
+-- A list built whole in a block that held none.
 use Rattle.prefix_trie_table.proofs.Prelude.{◌≡◌, ℕ, zero, suc, ◌+◌, ◌-◌, ◌<◌, ◌≤◌, true, List, [], ◌∷◌, ◌++◌, length, take, drop, replicate, None, Some, take-append-drop, refl, sym, ap, ◌∙◌, subst, arith, Contains, smallest_size, packed_slots, goes_up, length-replicate, drop-replicate, replicate-append-replicate, BlockRef, run, put_run, Store, Tier, UsedBlock, Sound, Turnover, block, filled, tier_at, tier_sizes, free_in, many_of, none_of, NoneFree, LaysList}
 use Rattle.prefix_trie_table.proofs.Blocks.BySize.{size_at, smallest_holds, many-le, slots_of-le, slots_of-none, slots_of-many}
 use Rattle.prefix_trie_table.proofs.Blocks.RunLemmas.{length-put_run, get_or-put_run_out, put_run_part, put_run_self}
@@ -48,7 +48,7 @@ module _ {S : Type 0} (vacant : S) where
         let less = slots_of-le (tier_sizes v.tiers) (many_of size (1 - free_in v.tiers size)) (many_of size 1) (λ n. many-le size (1 - free_in v.tiers size) 1 n (omega arith)) in
         omega (arith, made.longer, took.longer, slots_of-none (tier_sizes u.tiers) none_of (λ n. refl), less, slots_of-many 0 (tier_sizes v.tiers) up size 1 among)
 
-  -- items written where so many vacant ones were laid
+  -- items written over so many vacant ones
   module _ (v u : Store S) (at : BlockRef) (live : List (UsedBlock S)) (s : Sound vacant live v) where
     block_laid : (items : List S) → 0 < length items → LaysList vacant v u (replicate (length items) vacant) at →
         (live2 : List (UsedBlock S)) → Sound vacant live2 v →

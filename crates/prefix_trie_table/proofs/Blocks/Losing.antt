@@ -1,15 +1,16 @@
--- A list that loses an item: its block steps down, and the one that it enters is made where none of it is free.
+-- A list that loses an item: its block steps down, and the new one is made if none of its size is
+-- free.
 use Rattle.prefix_trie_table.proofs.Prelude.{◌≡◌, ◌≢◌, ℕ, ◌-◌, ◌<◌, ◌≤◌, ◌↔◌, inl, inr, List, length, Option, None, Some, IsSome, is_some, refl, sym, ap, ◌∙◌, subst, arith, false≢true, cases_eq, cases_lt, same_Some, option_map, StepsDown, free_of, made_of, smallest_size, BlockRef, HasSizes, LosesOne, Tier, Store, tier_sizes, size_in, size_if_any, list_size, free_counts, free_in, many_of}
 use Rattle.prefix_trie_table.proofs.Blocks.BySize.{sizes_up, sizes_rise, tiers_long, smallest_there, size_some, many_here, many_other}
 
--- no block is made where none is left, or the list stays
+-- no block is made if no item is left or the list stays
 pub none_made : (sizes free : List ℕ) (old : Option ℕ) (size : ℕ) → made_of sizes free old None size ≡ 0
 none_made sizes free old size = omega arith
 
 pub same_made : (sizes free : List ℕ) (old : Option ℕ) (size : ℕ) → made_of sizes free old old size ≡ 0
 same_made sizes free old size = omega arith
 
--- one of another size is made where none is free
+-- one of another size is made if none is free
 pub one_made : (sizes free : List ℕ) (o n size : ℕ) → o ≢ n → many_of n (1 - free_of sizes free n) size ≡ made_of sizes free (Some o) (Some n) size
 one_made sizes free o n size differ = elim (cases_eq n size) as (λ _. many_of n (1 - free_of sizes free n) size ≡ made_of sizes free (Some o) (Some n) size) [
   | inl e ↦ subst (λ s. many_of n (1 - free_of sizes free n) s ≡ made_of sizes free (Some o) (Some n) s) e
@@ -39,7 +40,7 @@ module _ (ts : List Tier) (k count : ℕ) (some : 0 < count) where
     smallest = λ size less left is free. sym found ∙ is;
   }
 
-  -- it stayed, where it stands in the smallest, or none of that is free
+  -- the list stayed if its block is the smallest that holds it, or no block of that size is free
   pub steps_stayed : 1 < count → ((size : ℕ) → smallest_size (tier_sizes ts) (count - 1) ≡ Some size → 0 < free_in ts size → size_in (tier_sizes ts) k ≡ size) →
       StepsDown (tier_sizes ts) (free_counts ts) count (count - 1) (Some (size_in (tier_sizes ts) k)) (Some (size_in (tier_sizes ts) k))
   steps_stayed more stays = record {
@@ -64,7 +65,7 @@ module _ (ts : List Tier) (k count : ℕ) (some : 0 < count) where
 -- ---- the list afterwards
 
 module _ {S : Type 0} (v w : Store S) (k count : ℕ) where
-  -- where the rest stands, if any is left
+  -- where the other items are, if any are left
   module _ (o : Option BlockRef) (none : IsSome o ↔ (1 < count)) (left : LosesOne v w count (Some (size_in (tier_sizes v.tiers) k)) (option_map (λ (p : BlockRef). size_in (tier_sizes v.tiers) p.tier) o)) where
     pub left_some : (p : BlockRef) → o ≡ Some p → LosesOne v w count (list_size v.tiers k count) (list_size v.tiers p.tier (count - 1))
     left_some p is =

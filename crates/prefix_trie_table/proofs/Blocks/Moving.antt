@@ -61,7 +61,7 @@ module _ {S : Type 0} (vacant : S) (a b : UsedBlock S) (live : List (UsedBlock S
         omega (arith, (block_inside vacant b (a ∷ live) v sound).before, space),
       )
 
-  -- and no block is taken, where the second then holds these
+  -- and no block is taken if the second then holds these items
   pub put_over_turned : (w : Store S) (items : List S) → length items ≤ b.size → w ≡ record v { slots = put_run (put_run v.slots a.start (replicate count vacant)) b.start items } → (o : Option ℕ) → Turnover v w none_of o o
   put_over_turned w items fits e =
       let nb : length (replicate count vacant) ≡ count = length-replicate count vacant in
@@ -73,7 +73,7 @@ module _ {S : Type 0} (vacant : S) (a b : UsedBlock S) (live : List (UsedBlock S
       (λ i d h. get_or-put_run_out (put_run v.slots a.start (replicate count vacant)) b.start items i d (omega (arith, wb.before)) (λ _. omega (arith, wb.after))
       ∙ get_or-put_run_out v.slots a.start (replicate count vacant) i d (omega (arith, runs_within.0)) (λ _. omega (arith, wa.after)))
 
-  -- nor where its items are exchanged for those of the other
+  -- nor if its items are exchanged for those of the other
   pub moved_turned : (w : Store S) → w ≡ record v { slots = swap_runs v.slots a.start b.start count } → (o : Option ℕ) → Turnover v w none_of o o
   moved_turned w e =
       let s = Sound-exchanged vacant b a live v sound in

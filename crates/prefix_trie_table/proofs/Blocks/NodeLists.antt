@@ -1,4 +1,4 @@
--- The nodes of two arrays of their parts, where both are as long.
+-- The nodes of two arrays of node parts of one length.
 use Rattle.prefix_trie_table.proofs.Prelude.{◌≡◌, ℕ, zero, suc, ◌+◌, ◌*◌, ◌/◌, ◌%◌, ◌<◌, ⊎_elim, subst, List, [], ◌∷◌, ◌++◌, length, get_or, set, take, insert, remove, swap, refl, sym, ap, ap₂, ◌∙◌, arith, Node, length-set}
 use Rattle.std.proofs.lemmas.List.Edits.{swap_is}
 use Rattle.prefix_trie_table.specs.NodeArrays.{FitsByte, FitsOver, node_of, nodes_of}

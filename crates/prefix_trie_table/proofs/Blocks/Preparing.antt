@@ -15,17 +15,17 @@ how_many-needs None lists size = omega (arith, how_many-ones lists size)
 how_many-needs (Some n) lists size = omega (arith, how_many-more size n (replicate lists 1), how_many-ones lists size)
 
 module _ {S : Type 0} where
-  -- the lacking slots, size by size
+  -- the missing slots, size by size
   pub missing_slots-are : (v : Store S) (needed : List ℕ) → goes_up 0 (tier_sizes v.tiers) ≡ true → missing_slots v needed ≡ slots_of (tier_sizes v.tiers) (missing_in v needed)
   missing_slots-are v needed up = slots_lack 0 (tier_sizes v.tiers) (free_counts v.tiers) needed up (length-map v.tiers (λ t. length t.starts) ∙ sym (length-map v.tiers (λ t. t.size)))
 
-  -- of the lacking blocks some were made, and n of the size s must be free yet
+  -- some of the missing blocks were made, and n of the size s must still be free
   pub record PartlyMade (v w : Store S) (needed : List ℕ) (s n : ℕ) : Type 0 where
     pub made : ℕ → ℕ
     pub turnover : Turnover v w made None None
     pub rest : (size : ℕ) → made size + many_of s (n - free_in w.tiers s) size ≤ missing_in v needed size
 
-  -- and no others lack
+  -- and no others are missing
   pub record LastMade (v w : Store S) (needed : List ℕ) (s n : ℕ) : Type 0 where
     pub partly_made : PartlyMade v w needed s n
     pub all : (size : ℕ) → missing_in v needed size ≤ partly_made.made size + many_of s (n - free_in w.tiers s) size
@@ -69,7 +69,7 @@ module _ {S : Type 0} where
           ]
 
   module _ (v w x : Store S) (needed : List ℕ) (s n : ℕ) (up : goes_up 0 (tier_sizes v.tiers) ≡ true) (among : Contains (tier_sizes v.tiers) s) (partly_made : PartlyMade v w needed s n) where
-    -- they were made, and no others lack
+    -- they were made, and no others are missing
     obtained_all : ((size : ℕ) → missing_in v needed size ≤ partly_made.made size + many_of s (n - free_in w.tiers s) size) →
         Turnover w x (many_of s (n - free_in w.tiers s)) None None → Turnover v x (missing_in v needed) None None
     obtained_all all t =

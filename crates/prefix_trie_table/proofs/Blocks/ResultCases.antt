@@ -1,4 +1,4 @@
--- What a `Result` says that was tested with `is_err`.
+-- What is known of a `Result` after a test by `is_err`.
 use Rattle.prefix_trie_table.proofs.Prelude.{◌≡◌, true, false, Result, Ok, Err, OnOk, OnErr, sym, true≢false}
 use Rattle.std.specs.Prelude.{is_err}
 

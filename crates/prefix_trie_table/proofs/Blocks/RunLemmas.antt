@@ -20,7 +20,7 @@ module _ {X : Type 0} where
   pub length-put_run : (xs : List X) (a : ℕ) (ys : List X) → a + length ys ≤ length xs → length (put_run xs a ys) ≡ length xs
   length-put_run xs a ys inside = omega (arith, length-append (take a xs) (ys ++ drop (a + length ys) xs), length-append ys (drop (a + length ys) xs), length-take a xs, length-drop (a + length ys) xs)
 
-  -- what stands in a run of the front
+  -- a run of the first of two appended lists
   pub run-append_left : (xs ys : List X) (a n : ℕ) → a + n ≤ length xs → run (xs ++ ys) a n ≡ run xs a n
   run-append_left xs ys a n inside = rw (drop-append-le a xs ys (omega arith)) (take-append-le n (drop a xs) ys (omega (arith, length-drop a xs)))
 
@@ -53,7 +53,7 @@ module _ {X : Type 0} where
       let less : length (remove ys i) + 1 ≡ length ys = length-remove ys i hi in
       omega (arith, length-insert (remove ys i) j x (omega arith))
 
-  -- one place of a run taken out, and one put in: the rest of the list stays
+  -- one index of a run removed and another inserted: the rest of the list stays
   pub moved_in_run : (xs : List X) (a n i j : ℕ) (x : X) → a + n ≤ length xs → i < n → j < n → insert (remove xs (a + i)) (a + j) x ≡ put_run xs a (insert (remove (run xs a n) i) j x)
   moved_in_run xs a n i j x inside hi hj =
       let mid : length (run xs a n) ≡ n = length-run xs a n inside in
@@ -82,7 +82,7 @@ module _ {X : Type 0} where
       let one : (zs : List X) → get_or zs k d ≡ get_or (run zs k 1) 0 d = λ zs. ap (λ m. get_or zs m d) (let e : k ≡ k + 0 = omega arith in e) ∙ sym (get_or-run zs k 1 0 d (omega arith)) in
       one (put_run xs a ys) ∙ ap (λ zs. get_or zs 0 d) (run-put_run_other xs a ys k 1 inside (λ h. let q = out h in omega arith)) ∙ sym (one xs)
 
-  -- where each item stands after two runs were exchanged
+  -- where each item is after two runs were exchanged
   pub record Exchanged (xs zs : List X) (a b n : ℕ) (d : X) : Type 0 where
     pub at_a : (i : ℕ) → i < n → get_or zs (a + i) d ≡ get_or xs (b + i) d
     pub at_b : (i : ℕ) → i < n → get_or zs (b + i) d ≡ get_or xs (a + i) d
@@ -151,7 +151,8 @@ module _ {X : Type 0} where
   pub run-set_before : (xs : List X) (a n i : ℕ) (x : X) → i < a → run (set xs i x) a n ≡ run xs a n
   run-set_before xs a n i x h = ap (λ zs. take n zs) (drop-set-lt a xs i x h)
 
--- ---- the items of a run that are moved to an unused run, with one put among them: first those before it, then those behind it
+-- ---- the items of a run that are moved to an unused run, with one inserted among them: first
+-- those before it, then those after it
 
 module _ {X : Type 0} (vacant x : X) (xs : List X) (a b n i : ℕ) (from_within : a + n ≤ length xs) (to_within : b + n < length xs)
     (apart : b < a + n → b + n < a) (offset : i ≤ n) (empty : run xs b (n + 1) ≡ replicate (n + 1) vacant) where
@@ -184,7 +185,7 @@ module _ {X : Type 0} (vacant x : X) (xs : List X) (a b n i : ℕ) (from_within 
   wrote : (k : ℕ) → k ≢ b + i → get_or (set (swap_runs xs a b i) (b + i) x) k vacant ≡ get_or (swap_runs xs a b i) k vacant
   wrote k ne = get_or-set_other (swap_runs xs a b i) (b + i) k x vacant ne
 
-  -- where the items stood nothing is left
+  -- nothing is left where the items were
   left : (j : ℕ) → j < n → get_or both_parts (a + j) vacant ≡ vacant
   left j h = elim (cases_lt j i) as (λ _. get_or both_parts (a + j) vacant ≡ vacant) [
     | inl q ↦
@@ -196,7 +197,7 @@ module _ {X : Type 0} (vacant x : X) (xs : List X) (a b n i : ℕ) (from_within 
         ∙ ap (λ m. get_or xs m vacant) (let e : b + i + 1 + (j - i) ≡ b + (j + 1) = omega arith in e) ∙ none (j + 1) (omega arith))
   ]
 
-  -- and they stand round the item that was put among them
+  -- and they are around the inserted item
   moved : (j : ℕ) → j < n + 1 → get_or both_parts (b + j) vacant ≡ get_or (insert (run xs a n) i x) j vacant
   moved j h = elim (cases_lt j i) as (λ _. get_or both_parts (b + j) vacant ≡ get_or (insert (run xs a n) i x) j vacant) [
     | inl q ↦

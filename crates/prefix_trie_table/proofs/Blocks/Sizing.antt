@@ -43,7 +43,7 @@ module _ (size : List ℕ → Option ℕ) where
           ap₂ option_or (ap size (sym path)) rest ∙ here_or (list_any (same_string s) (map string_at paths)) (size (chunks_of s))
       by false miss rest = rest
 
--- what counts each size counts the paths, each of which stands once
+-- counting by size counts the paths, each of which occurs once
 module _ (f : ℕ → ℕ) (size : List ℕ → Option ℕ) where
   more_sized : (m : Sizes) (s : List Bool) (o : Option ℕ) → contains_key m s ≡ false →
       sum_by (λ (e : List Bool × ℕ). f e.1) (entries (with_size m s o)) ≡ of_any f o + sum_by (λ (e : List Bool × ℕ). f e.1) (entries m)
@@ -118,7 +118,7 @@ same_layout nodes later ts ts2 us us2 x y same tiers cells =
 root_sizes : (size : Option Node → Option ℕ) → size (root_reading []) ≡ None → sizes_at (λ p. size (root_reading p)) ([] ∷ []) ≡ empty
 root_sizes size none = ap (λ o. with_size empty [] o) none
 
--- nor has a table with it alone, and no block is made
+-- nor has a table with only the root, and no block is made
 pub root_layout : {T : Type 0} (v : Store Node) (w : Store (Option T)) → Holds root_reading no_values ([] ∷ []) v w → v.tiers ≡ map no_blocks node_sizes →
     w.tiers ≡ map no_blocks cell_sizes → (x : Sized v.slots) → layout_of v.slots v.tiers w.tiers x ≡ no_layout
 root_layout v w holds tiers cell_tiers x =

@@ -1,4 +1,5 @@
--- A sum over the slots of an array is one over what stands before its blocks and what the blocks in use hold.
+-- A sum over the slots of an array is the sum over the slots before its blocks and over the items
+-- of the used blocks.
 use Rattle.prefix_trie_table.proofs.Prelude.{◌≡◌, ℕ, ◌+◌, ◌-◌, ◌*◌, List, [], ◌∷◌, length, take, drop, map, flat_map, replicate, sum_by, All, refl, sym, ap, ap₂, ◌∙◌, arith, drop-drop, drop_all, All-head, All-tail, sum_by-replicate, sum_by-cons, sum_by-append, sum_by-take-drop, Tiles, run, Store, UsedBlock, Sound, HoldsItems, IsVacant, tier_sizes, extent, free_extents, filled}
 use Rattle.prefix_trie_bits.specs.Model.Blocks.{Block as Extent}
 use Rattle.prefix_trie_table.proofs.Blocks.Tilings.{blocks_sum}
@@ -52,7 +53,7 @@ module _ {S : Type 0} (f : S → ℕ) where
     live_sum slots (b ∷ bs) h =
         omega (arith, sum_by-cons (extent_sum slots) (extent b) (map extent bs), sum_by-cons items_sum b bs, block_sum slots b (All-head (HoldsItems vacant slots) b bs h), live_sum slots bs (All-tail (HoldsItems vacant slots) b bs h))
 
-    -- what counts 0 where nothing is
+    -- a function that is 0 at vacant slots
     pub slots_sum : (live : List (UsedBlock S)) (v : Store S) → Sound vacant live v →
         sum_by f v.slots ≡ sum_by f (take v.first v.slots) + sum_by items_sum live
     slots_sum live v s =

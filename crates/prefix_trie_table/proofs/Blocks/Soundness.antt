@@ -70,7 +70,7 @@ module _ {S : Type 0} where
       let r = length-replicate (n - length xs) vacant in
       omega (arith, length-append xs (replicate (n - length xs) vacant))
 
-  -- the blocks of an array that is as long, one tier of which has others free
+  -- the blocks of an array of the same length, one tier of which has other free blocks
   retiered : (live : List (UsedBlock S)) (v : Store S) (k : ℕ) (t : Tier) (live2 : List (UsedBlock S)) → t.size ≡ (tier_at v.tiers k).size →
       IsPermutation (map extent live2 ++ free_extents (set v.tiers k t)) (map extent live ++ free_extents v.tiers) →
       AreBlocksOf (tier_sizes v.tiers) v.first (map extent live) (free_extents v.tiers) (length v.slots) →
@@ -99,7 +99,7 @@ module _ {S : Type 0} where
   pub block_slots : (vacant : S) (b : UsedBlock S) (live : List (UsedBlock S)) (v : Store S) → Sound vacant (b ∷ live) v → run v.slots b.start b.size ≡ filled vacant b.size b.items
   block_slots vacant b live v s = All-head (HoldsItems vacant v.slots) b live s.held
 
-  -- nothing is held where all is vacant
+  -- a list of vacant items holds nothing
   pub filled_none : (vacant : S) (n : ℕ) → filled vacant n [] ≡ replicate n vacant
   filled_none vacant n = ap (λ m. replicate m vacant) (let e : n - 0 ≡ n = omega arith in e)
 
@@ -189,7 +189,7 @@ module _ {S : Type 0} where
         vacated = All-permutation (IsVacant vacant v.slots) (extent b ∷ free_extents v.tiers) (free_extents (set v.tiers b.tier t)) moved (All-cons (IsVacant vacant v.slots) (extent b) (free_extents v.tiers) (All-head (HoldsItems vacant v.slots) b live s.held ∙ ap (λ xs. filled vacant b.size xs) empty ∙ filled_none vacant b.size) s.vacated);
       }
 
-  -- a tier of which a block is in use has a place for it
+  -- a tier with a used block has capacity for it in its free list
   pub has_place : (vacant : S) (b : UsedBlock S) (live : List (UsedBlock S)) (v : Store S) → Sound vacant (b ∷ live) v → (b.tier < length v.tiers) × (length (tier_at v.tiers b.tier).starts < (tier_at v.tiers b.tier).made)
   has_place vacant b live v s =
       let of : IsOfTier v.tiers b = All-head (IsOfTier v.tiers) b live s.of_tier in
@@ -204,7 +204,7 @@ made_fits ts k old new starts first len inside read new_is total =
     omega (arith, sum_by-set f ts k new old inside, had, has)
 
 module _ {S : Type 0} where
-  -- `Sound-grown`, as the calls say what they wrote
+  -- `Sound-grown`, stated as the calls state what they wrote
   pub Sound-grown_as : (vacant : S) (live : List (UsedBlock S)) (v : Store S) (k n x : ℕ) (t : Tier) (items : List S) → k < length v.tiers → items ≡ v.slots ++ replicate n vacant → n ≡ (tier_at v.tiers k).size → x ≡ length v.slots → t ≡ record (tier_at v.tiers k) { made = (tier_at v.tiers k).made + 1; starts = (tier_at v.tiers k).starts ++ x ∷ [] } → Sound vacant live v → Sound vacant live (record v { slots = items; tiers = set v.tiers k t })
   Sound-grown_as vacant live v k n x t items inside items_is n_is x_is t_is s =
       let old = tier_at v.tiers k in
@@ -269,7 +269,7 @@ module _ {S : Type 0} where
   pub tier_of_block : (vacant : S) (b : UsedBlock S) (live : List (UsedBlock S)) (v : Store S) → Sound vacant (b ∷ live) v → IsOfTier v.tiers b
   tier_of_block vacant b live v s = All-head (IsOfTier v.tiers) b live s.of_tier
 
-  -- a list with items stands in a block
+  -- a list with items is in a block
   pub list_block : (vacant : S) (k start n : ℕ) (xs : List S) (live : List (UsedBlock S)) (v : Store S) → 0 < length xs → Sound vacant (held k start n xs ++ live) v → Sound vacant (block k start n xs ∷ live) v
   list_block vacant k start n [] live v h s = absurd (omega arith)
   list_block vacant k start n (x ∷ xs) live v h s = s
@@ -292,7 +292,7 @@ no_slots_made (t ∷ ts) none =
     let rest : sum_by f ts ≡ 0 = no_slots_made ts (All-tail (λ u. (u.made ≡ 0) × (u.starts ≡ [])) t ts none) in
     omega (arith, sum_by-cons f t ts, zero_here, rest)
 
--- no block is made where all are forgotten
+-- no block is made if all are dropped
 pub none_made : (ts : List Tier) → All (λ t. (t.made ≡ 0) × (t.starts ≡ [])) (map (λ t. no_blocks t.size) ts)
 none_made ts = All-map (λ t. (t.made ≡ 0) × (t.starts ≡ [])) (λ (t : Tier). no_blocks t.size) ts (λ k d h. (refl, refl))
 

@@ -1,4 +1,4 @@
--- The sizes of the two arrays: kept where a tier changes otherwise, and in one table by count.
+-- The sizes of the two arrays: kept when a tier changes otherwise, and in one table by count.
 use Rattle.prefix_trie_table.proofs.Prelude.{◌≡◌, ℕ, zero, suc, ◌+◌, ◌*◌, ◌<◌, ◌≤◌, inl, inr, ⊎_elim, Bool, true, ◌&&◌, nat_lt, List, [], ◌∷◌, length, Option, None, Some, IsSome, get_or, set, map, nat_eq, eqb-true, ltb-true, refl, sym, ap, ◌∙◌, subst, arith, length-map, get_or_default, sum_by-set, get_or-le-sum_by, and_parts, smallest_size, at_below, Tier, tier_at, tier_sizes, size_in, slots_made, no_blocks, cell_sizes, node_sizes, HasSizes, TIERS}
 use Rattle.prefix_trie_bits.proofs.Checks.{below}
 use Rattle.prefix_trie_table.proofs.Blocks.SevenTiers.{at_seven}
@@ -8,7 +8,7 @@ pub sizes_kept : (ts : List Tier) (k : ℕ) (t : Tier) → HasSizes ts → t.siz
 unfolding HasSizes
 sizes_kept ts k t has same = ⊎_elim (λ (e : tier_sizes ts ≡ cell_sizes). inl (sizes_set ts k t same ∙ e)) (λ (e : tier_sizes ts ≡ node_sizes). inr (sizes_set ts k t same ∙ e)) has
 
--- a tier of which a block is taken or given back: the slots that the tiers take, and their sizes
+-- a tier of which a block is taken or freed: the slots of the tiers, and their sizes
 pub tier_turned : (ts : List Tier) (k first len : ℕ) (t old : Tier) → k < length ts → old ≡ get_or ts k old → t.size ≡ old.size → t.made ≡ old.made →
     first + slots_made ts ≡ len → HasSizes ts → (first + slots_made (set ts k t) ≡ len) × HasSizes (set ts k t)
 tier_turned ts k first len t old inside read size made total has =
@@ -64,7 +64,7 @@ sizes_small =
     each_size (λ n. n < 33) (at_seven (λ k. size_in cell_sizes k < 33) (omega arith) (omega arith) (omega arith) (omega arith) (omega arith) (omega arith) (omega arith))
     (at_seven (λ k. size_in node_sizes k < 33) (omega arith) (omega arith) (omega arith) (omega arith) (omega arith) (omega arith) (omega arith))
 
--- the tier by the table, where one holds so many
+-- the tier by the table, if one holds so many
 abbrev is_size : Option ℕ → ℕ → Bool
 is_size None n = true
 is_size (Some k) n = nat_eq k n

@@ -35,7 +35,7 @@ all_apart sizes first end (x ∷ es) (suc i) d t inside =
     All-cons (Disjoint (get_or es i d)) x (remove es i) (λ _. omega (arith, t.1, later.after))
     (all_apart sizes (first + x.size) end es i d t.2 (omega arith))
 
--- 0 where two blocks are apart
+-- 0 if two blocks are apart
 abbrev overlap : Extent → Extent → ℕ
 overlap e f = cond (leb (e.start + e.size) f.start) 0 (cond (leb (f.start + f.size) e.start) 0 1)
 

@@ -26,7 +26,7 @@ module _ {S : Type 0} where
   pub made_turned : (v w : Store S) (m : ℕ → ℕ) (o p : Option ℕ) → Turnover v w m o p → KeepsMade v w
   made_turned v w m o p t = λ size. (let e = t.made_is size in omega (arith, e))
 
-  -- where none is made the array is as long
+  -- if none is made the array keeps its length
   pub space_kept : (v w : Store S) (m : ℕ → ℕ) (o p : Option ℕ) → ((size : ℕ) → m size ≡ 0) → Turnover v w m o p → SameSpace v w
   space_kept v w m o p none t = ((let l = t.longer in let n = slots_of-none (tier_sizes v.tiers) m none in omega (arith, l, n)), t.keeps.first_is, t.keeps.limit_is)
 
@@ -76,7 +76,7 @@ module _ {S : Type 0} where
       Turnover-as v x _ m old new (λ size. omega arith)
       (Turnover-then v w x _ none_of None new old None old new (λ size. omega arith) (Turnover-then v u w m none_of None new None None None new (λ size. omega arith) a b) c)
 
-  -- slots behind the first block's start are written
+  -- slots after the first block's start are written
   pub Turnover-written : (v w : Store S) (xs : List S) → w ≡ record v { slots = xs } → length xs ≡ length v.slots →
       ((i : ℕ) (d : S) → i < v.first → get_or xs i d ≡ get_or v.slots i d) → (o : Option ℕ) → Turnover v w none_of o o
   Turnover-written v w xs e len same o = subst (λ x. Turnover v x none_of o o) (sym e) (record {
@@ -106,7 +106,7 @@ module _ {S : Type 0} where
     longer = (let none = slots_of-none (tier_sizes v.tiers) none_of (λ j. refl) in omega (arith, none));
   })
 
-  -- a slot is taken out, and another put in
+  -- one item is removed and another inserted
   pub Turnover-shifted : (v w : Store S) (a b : ℕ) (x : S) → w ≡ record v { slots = insert (remove v.slots a) b x } → v.first ≤ a → v.first ≤ b → a < length v.slots →
       b < length v.slots → (o : Option ℕ) → Turnover v w none_of o o
   Turnover-shifted v w a b x e behind_a behind_b in_a in_b =
@@ -167,7 +167,7 @@ module _ {S : Type 0} where
             grown = Reserves-more v.capacity (length v.slots + s) (length slots + 32) space reserves (omega (arith, long));
           }) (omega (arith, long, size)))
 
-  -- where the lacking blocks were made, all that are needed are free
+  -- once the missing blocks were made, all that are needed are free
   pub free_obtained : (v w : Store S) (needed : List ℕ) → Turnover v w (missing_in v needed) None None → AreFree w.tiers needed
   free_obtained v w needed t = λ size. (let e = t.free_is size in omega (arith, e))
 

@@ -8,7 +8,7 @@ use Rattle.prefix_trie_table.proofs.Strings.PathStrings.{AreSteps, AreOnce, path
 use Rattle.prefix_trie_table.proofs.Blocks.Sizing.{sizes_at, sizes_sum, sizes_only}
 use Rattle.prefix_trie_table.proofs.Blocks.Tilings.{All-append_left, All-append_right}
 
--- a list of seven tiers is that of the tier at each number
+-- a list of seven tiers is the list of its tiers by index
 pub seven_tiers : (ts : List Tier) → length ts ≡ 7 →
     tier_at ts 0 ∷ tier_at ts 1 ∷ tier_at ts 2 ∷ tier_at ts 3 ∷ tier_at ts 4 ∷ tier_at ts 5 ∷ tier_at ts 6 ∷ [] ≡ ts
 seven_tiers [] e = absurd (omega (arith, e))
@@ -21,7 +21,7 @@ seven_tiers (a ∷ b ∷ c ∷ d ∷ m ∷ n ∷ []) e = absurd (omega (arith, e
 seven_tiers (a ∷ b ∷ c ∷ d ∷ m ∷ n ∷ o ∷ []) e = refl
 seven_tiers (a ∷ b ∷ c ∷ d ∷ m ∷ n ∷ o ∷ p ∷ ts) e = absurd (omega (arith, e))
 
--- how often a size stands there
+-- how often a size occurs
 abbrev has_size : ℕ → Option ℕ → ℕ
 has_size n = of_any (λ m. cond (m == n) 1 0)
 
@@ -57,7 +57,7 @@ module _ (sizes : List ℕ) (apart : AreApart sizes) where
       (λ e. eq-eqb _ _ (ap (size_in sizes) (eqb-true t k e)))
       (λ e. eq-eqb t k (some_same t k (sym (apart t h) ∙ ap (λ n. position (λ m. m == n) sizes) (eqb-true (size_in sizes t) (size_in sizes k) e) ∙ apart k j)))
 
-  -- a list has a block of its tier, where it has anything
+  -- a list has a block of its tier if it has items
   module _ {S : Type 0} (ts : List Tier) (seven : length ts ≡ 7) (k : ℕ) (inside : k < 7) where
     held_sized : (t start : ℕ) (xs : List S) → All (IsOfTier ts) (held t start (size_in sizes t) xs) →
         count_by (λ b. b.tier == k) (held t start (size_in sizes t) xs) ≡ has_size (size_in sizes k) (size_if_any (length xs) (size_in sizes t))
@@ -67,7 +67,7 @@ module _ (sizes : List ℕ) (apart : AreApart sizes) where
         let small : t < 7 = (let w = own.within in omega (arith, w, seven)) in
         ap (λ b. 0 + cond b 1 0) (same_tier t k small inside) ∙ (let e : 0 + cond (size_in sizes t == size_in sizes k) 1 0 ≡ cond (size_in sizes t == size_in sizes k) 1 0 = omega arith in e)
 
--- the counts of the tiers are those of the sizes in use and the free ones
+-- the counts of the tiers are those of the used sizes and the free ones
 counts_are : (ts : List Tier) (m : Sizes) →
     ((k : ℕ) → k < length ts → (tier_at ts k).made ≡ length (tier_at ts k).starts + count_by (λ x. x == size_in (tier_sizes ts) k) (values m)) →
     map tier_count ts ≡ block_counts (tier_sizes ts) m (free_counts ts)
@@ -106,7 +106,7 @@ module _ (reading : List ℕ → Option Node) (paths : List (List ℕ)) (v : Sto
           held_sized node_sizes node_sizes_apart v.tiers seven_nodes k inside n.child_tier n.child_block (child_items reading p n.child_bitmap) of
           ∙ ap (λ r. has_size (size_in node_sizes k) (size_if_any r (size_in node_sizes n.child_tier))) (rank-all _ n.child_bitmap)
 
-  -- the blocks of a tier are the free ones and those of its size in use
+  -- the blocks of a tier are the free ones and the used ones of its size
   pub nodes_made : (x : Sized v.slots) (k : ℕ) → k < 7 → (tier_at v.tiers k).made ≡ length (tier_at v.tiers k).starts + used_of x.0 (size_in node_sizes k)
   nodes_made x k inside =
       hold.sound.counted k (let s = seven_nodes in omega (arith, inside, s))
@@ -138,7 +138,7 @@ module _ (reading : List ℕ → Option Node) (paths : List (List ℕ)) (v : Sto
             held_sized cell_sizes cell_sizes_apart w.tiers seven_cells k inside n.value_tier n.value_block (map (values_at p) (bits n.value_bitmap)) of
             ∙ ap (λ r. has_size (size_in cell_sizes k) (size_if_any r (size_in cell_sizes n.value_tier))) (rank-all _ n.value_bitmap)
 
-    -- the same of a tier for values
+    -- the same for a tier of values
     pub cells_made : (x : Sized v.slots) (k : ℕ) → k < 7 → (tier_at w.tiers k).made ≡ length (tier_at w.tiers k).starts + used_of x.1.0 (size_in cell_sizes k)
     cells_made x k inside =
         cells.sound.counted k (let s = seven_cells in omega (arith, inside, s))

@@ -39,7 +39,7 @@ used_total (t ∷ ts) f h =
     sum_by-cons (λ b. b.used) (tier_count t) (map tier_count ts)
     ∙ ap₂ (λ a b. a + b) here (used_total ts (λ j. f (suc j)) (λ k inside. h (suc k) (omega arith)))
 
--- any passes where some are left
+-- some key passes if any are left
 any_filtered : (test : List Bool → Bool) (ks : List (List Bool)) → list_any test ks ≡ nat_lt 0 (length (filter test ks))
 any_filtered test [] = refl
 any_filtered test (k ∷ ks) = elim (test k) as (λ b. (b || list_any test ks) ≡ nat_lt 0 (length (cond b (k ∷ filter test ks) (filter test ks)))) [
@@ -69,7 +69,7 @@ module _ {S : Type 0} where
   used_live : (vacant : S) (live : List (UsedBlock S)) (v : Store S) → Sound vacant live v → used_blocks (map tier_count v.tiers) ≡ length live
   used_live vacant live v s = used_total v.tiers (λ k. count_by (λ b. b.tier == k) live) s.counted ∙ blocks_total v.tiers live s.of_tier
 
-  -- a list that has as many items as keys pass a test has one block, where any passes
+  -- a list with as many items as keys pass a test has one block, if any pass
   held_length : (k start size : ℕ) (xs : List S) (test : List Bool → Bool) (ks : List (List Bool)) → length (filter test ks) ≡ length xs →
       cond (list_any test ks) 1 0 ≡ length (held k start size xs)
   held_length k start size [] test ks e = ap (λ c. cond c 1 0) (any_filtered test ks ∙ ap (nat_lt 0) e)

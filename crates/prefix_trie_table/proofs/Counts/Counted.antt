@@ -1,4 +1,4 @@
--- How many nodes the way down meets, and how many entries a table can have.
+-- How many nodes a descent meets, and how many entries a table can have.
 use Rattle.prefix_trie_table.proofs.Prelude.{◌≡◌, ℕ, ◌+◌, ◌*◌, ◌/◌, ◌%◌, ◌<◌, ◌≤◌, ◌⊎◌, inl, inr, Bool, true, false, ◌&&◌, List, length, take, Option, is_some, sym, ap₂, ◌∙◌, arith, nat_lt, eqb-true, eq-eqb, ltb-true, cases_Bool, nat_tests, begins, Nodes, has_node, is_node_depth, visits, and-first, and-second, and-join, visits-exact, Node, node_sizes, chunks_of, Store, NodesHold, IsEnd}
 use Rattle.std.proofs.lemmas.List.{length-take-le}
 use Rattle.prefix_trie_table.proofs.Strings.Plain.{fifths, whole_levels}
@@ -9,17 +9,17 @@ use Rattle.prefix_trie_table.proofs.Lookup.Finding.{prefix_some}
 past-five : (k n l : ℕ) → n ≤ k → n ≡ l / 5 → l < 5 * (k + 1)
 past-five k n l h e = omega (arith, h, e)
 
--- the nodes are the strings whose ways lead to nodes
+-- the nodes are at the strings whose chunks lead to nodes
 module _ (reading : List ℕ → Option Node) (paths : List (List ℕ)) (v : Store Node) (hold : NodesHold node_sizes reading paths v) (n : Nodes)
     (are : (s : List Bool) → has_node n s ≡ (is_node_depth s && is_some (reading (chunks_of s)))) where
-  -- nodes stand at multiples of five bits
+  -- nodes are at multiples of five bits
   pub nodes_depths : (s : List Bool) → has_node n s ≡ true → length s % 5 ≡ 0
   nodes_depths s h = eqb-true (length s % 5) 0 (and-first (is_node_depth s) (is_some (reading (chunks_of s))) (sym (are s) ∙ h))
 
   nodes_some : (s : List Bool) → has_node n s ≡ true → is_some (reading (chunks_of s)) ≡ true
   nodes_some s h = and-second (is_node_depth s) (is_some (reading (chunks_of s))) (sym (are s) ∙ h)
 
-  -- above each node stand all that its path passes
+  -- above each node there are all nodes of its path
   pub nodes_closed : (s t : List Bool) → has_node n t ≡ true → begins s t ≡ true → length s % 5 ≡ 0 → has_node n s ≡ true
   nodes_closed s t h b five =
       are s ∙ and-join (is_node_depth s) (is_some (reading (chunks_of s))) (eq-eqb (length s % 5) 0 five)
@@ -32,7 +32,7 @@ module _ (reading : List ℕ → Option Node) (paths : List (List ℕ)) (v : Sto
       let five : length (take (5 * k) q) % 5 ≡ 0 = whole_levels (length (take (5 * k) q)) k (length-take-le (5 * k) q within) in
       are (take (5 * k) q) ∙ ap₂ (λ a p. a && is_some (reading p)) (eq-eqb (length (take (5 * k) q) % 5) 0 five) (path-take k q within)
 
-  -- the nodes met on the way to q
+  -- the nodes met on the search path of q
   pub visits_counted : (q : List Bool) (level : ℕ) → IsEnd reading (chunks_of q) level → visits n q ≡ level + 1
   visits_counted q level end =
       visits-exact n q level nodes_depths nodes_closed (fifths (length q) level (length (chunks_of q)) end.within (path-length q))

@@ -41,7 +41,7 @@ module _ (f : Node → ℕ) (none : f blank_node ≡ 0) (sizes : List ℕ) (node
         let one : sum_by f (take 1 v.slots) ≡ f (node_at v.slots 0) = (let e = sum_by_more f v.slots 0 blank_node some in omega (arith, e)) in
         ap (λ n. sum_by f (take n v.slots)) hold.first_is ∙ one ∙ ap (λ o. f (node_or_blank o)) (sym hold.rooted)
 
-    -- where a slot without a node counts 0, all slots count what the nodes do
+    -- if a slot without a node counts 0, the sum over all slots is the sum over the nodes
     pub slots_by_path : sum_by f v.slots ≡ sum_by weight paths
     slots_by_path =
         let slots = slots_sum f blank_node none (flat_map (child_blocks sizes nodes) paths) v hold.sound in

@@ -49,7 +49,7 @@ module _ {X : Type 0} where
         | false ↦ filter-keys test es
       ]
 
--- what stands at the set bits of a bitmap below n
+-- the items at the set bits of a bitmap below n
 module _ (f : ℕ → List Bool) (bitmap : ℕ) (apart : (i j : ℕ) → has_bit bitmap i ≡ true → has_bit bitmap j ≡ true → f i ≡ f j → i ≡ j) where
   abbrev at_bits : ℕ → Nodes
   at_bits zero = empty
@@ -98,7 +98,7 @@ module _ (f : ℕ → List Bool) (bitmap : ℕ) (apart : (i j : ℕ) → has_bit
           len-insert listing_total (at_bits n) (f n) tt ∙ ap (λ b. cond b (len (at_bits n)) (len (at_bits n) + 1)) new ∙ ap (λ k. k + 1) ih
       more false clear ih = omega (arith, ih)
 
-  -- the keys that pass a test are as many as set bits, where they are what stands at these
+  -- there are as many keys that pass a test as set bits, if they are the items at these bits
   counted : {X : Type 0} (m : FinMap listing_cmp X) (test : List Bool → Bool)
       → ((i : ℕ) → has_bit bitmap i ≡ true → (contains_key m (f i) ≡ true) × (test (f i) ≡ true))
       → ((s : List Bool) → contains_key m s ≡ true → test s ≡ true → (i : ℕ) × (has_bit bitmap i ≡ true) × (s ≡ f i))
@@ -128,7 +128,7 @@ five_more l k e f = omega (arith, e, f)
 cancel : (p s t : List Bool) → p ++ s ≡ p ++ t → s ≡ t
 cancel p s t e = sym (drop_at p s (length p) refl) ∙ ap (drop (length p)) e ∙ drop_at p t (length p) refl
 
--- what a string that p begins has behind p
+-- the rest after p of a string that begins with p
 behind : (p s : List Bool) (n : ℕ) → begins p s ≡ true → length s ≡ length p + n → (s ≡ p ++ drop (length p) s) × (length (drop (length p) s) ≡ n)
 behind p s n b l = (begins-rest p s b, (let e = length-drop (length p) s in omega arith))
 
@@ -139,14 +139,14 @@ named b = elim (cases_lt b 31) as (λ _. (r : List Bool) × (b < 31 → (length 
   | inr big ↦ ([], λ small. absurd (omega arith))
 ]
 
--- a string p at which a node can stand, in a tree
+-- a string p at which a node can be, in a tree
 module _ (sizes : List ℕ) (nodes : List ℕ → Option Node) (paths : List (List ℕ)) (v : Store Node) (hold : NodesHold sizes nodes paths v)
     (p : List Bool) (depth : is_node_depth p ≡ true) where
   long : length p ≡ 5 * (length p / 5)
   long = five_times (length p) (length p / 5) (eqb-true (length p % 5) 0 depth) refl
 
   module _ (n : Nodes) (are : (s : List Bool) → has_node n s ≡ (is_node_depth s && is_some (nodes (chunks_of s)))) where
-    -- its children are as many as bits are set, where the bits are those of its node
+    -- it has as many children as bits are set, if the bits are those of its node
     pub children_counted : (bitmap : ℕ) → ((c : ℕ) → has_child (nodes (chunks_of p)) c ≡ has_bit bitmap c) → child_count n p ≡ rank bitmap 32
     children_counted bitmap bits_are =
         counted (λ c. p ++ digits 5 c) bitmap apart n (λ s. begins p s && (length s == length p + 5)) into from
@@ -184,7 +184,7 @@ module _ (sizes : List ℕ) (nodes : List ℕ → Option Node) (paths : List (Li
 
   module _ {T : Type 0} (values : List ℕ → ℕ → Option T) (w : Store (Option T)) (of : List ℕ) (cells : CellsHold of nodes values paths w) (m : Entries T)
       (are : (s : List Bool) → get m s ≡ values (chunks_of s) (bit_of s)) where
-    -- its values are as many as bits are set, where the bits are those of its node
+    -- it has as many values as bits are set, if the bits are those of its node
     pub values_counted : (bitmap : ℕ) → ((b : ℕ) → has_value (nodes (chunks_of p)) b ≡ has_bit bitmap b) → own_entries m p ≡ rank bitmap 32
     values_counted bitmap bits_are =
         counted (λ b. p ++ (named b).0) bitmap apart m (λ s. begins p s && nat_lt (length s) (length p + 5)) into from

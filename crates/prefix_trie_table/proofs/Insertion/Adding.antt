@@ -46,7 +46,7 @@ tier_small vacant b live u sizes s e =
     let w = (tier_of_block vacant b live u s).within in
     let n : length sizes ≡ length u.tiers = ap (λ (xs : List ℕ). length xs) (sym e) ∙ length-map u.tiers (λ t. t.size) in omega arith
 
--- where a list stands that took one more
+-- where a list is after it gained an item
 block_after : (ts : List Tier) (sizes : List ℕ) → tier_sizes ts ≡ sizes → (k tier count more : ℕ) → more ≡ count + 1 →
     list_size ts tier (count + 1) ≡ option_or (list_need ts k count) (list_size ts k count) →
     size_if_any more (size_in sizes tier) ≡ option_or (block_needed sizes (size_if_any count (size_in sizes k)) count) (size_if_any count (size_in sizes k))
@@ -198,7 +198,7 @@ module _ {T : Type 0} where
       added_one : (now was own : ℕ) (had : Bool) → now ≡ was + 1 → own ≡ was → had ≡ false → now + one_if had ≡ own + 1
       added_one now was own had e f none = ap (λ h. now + one_if h) none ∙ omega (arith, e, f)
 
-  -- a value that is there stands in its cell
+  -- a value that is there is in its cell
   pub value_at : (v : Store Node) (w : Store (Option T)) (slot offset b : ℕ) (k : Node) → k ≡ node_at v.slots slot → offset ≡ rank k.value_bitmap b →
       has_bit k.value_bitmap b ≡ true
       → (reading : List ℕ → Option Node) (paths : List (List ℕ)) (values : List ℕ → ℕ → Option T) (p : List ℕ) (n : Node) →

@@ -1,4 +1,4 @@
--- What an insertion asks of the two arrays, and which blocks it makes.
+-- What an insertion needs of the two arrays, and which blocks it makes.
 use Rattle.prefix_trie_table.proofs.Prelude.{◌≡◌, ℕ, ◌+◌, ◌-◌, ◌*◌, ◌/◌, ◌<◌, ◌≤◌, inl, inr, nat_lt, if◌then◌else◌, List, [], Bool, take, Option, None, Some, Result, Ok, Err, OnOk, ap, ◌∙◌, arith, le-ltb, Node, node_sizes, cell_sizes, HasSizes, child_need, value_need, Store, Keeps, MakesNone, Obtains, AreFree, tier_sizes, size_in, size_if_any, list_need, needs, missing_in, missing_slots, block_needed, rank, nodes_needed, cells_needed, Made, Makes, ObtainsBoth, AtDeepest, chunks_of, NodesHold, IsReached}
 use Rattle.std.proofs.lemmas.Bool.{lt-ltb}
 use Rattle.prefix_trie_table.proofs.Lookup.Going.{deepest_is}
@@ -43,11 +43,11 @@ first_list_need w are = ap (λ ns. block_needed ns None 0) are
 -- ---- what `prepare` of an array leaves
 
 module _ {S : Type 0} where
-  -- where nothing is needed nothing lacks
+  -- if nothing is needed nothing is missing
   none_lacks : (v : Store S) → HasSizes v.tiers → missing_slots v [] ≡ 0
   none_lacks v has = missing_slots-are v [] (sizes_up v.tiers has) ∙ slots_of-none (tier_sizes v.tiers) (missing_in v []) (λ size. omega arith)
 
-  -- where no block is made after, as many were made
+  -- if no block is made after, as many were made
   pub Made-then : (v w x : Store S) (needed : List ℕ) → Made v w needed → MakesNone w x → Made v x needed
   Made-then v w x needed made none = record {
     made_is = λ size. (let a = made.made_is size in let b = none.made size in omega (arith, a, b));

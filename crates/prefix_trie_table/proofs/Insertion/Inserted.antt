@@ -25,7 +25,8 @@ module _ {S : Type 0} (sizes : List ℕ) (v v2 : Store S) (used later : Sizes) (
       MakesAtMost sizes (missing_of sizes (free_counts v.tiers) needed) (λ size. used_of used size + free_of sizes (free_counts v.tiers) size) (λ size. used_of later size + free_of sizes (free_counts v2.tiers) size)
   needed_at_most made = blocks_at_most sizes v v2 used later cut cut2 _ (λ size there. (let m = made.made_is size in let l = lack size in (m.0, omega (arith, m.1, l))))
 
--- of each size exactly the blocks were made that the insertion of q lacks, and the arrays are longer by these
+-- of each size exactly the missing blocks for the insertion of q were made, and the arrays are
+-- longer by these
 record MakesMissing {T : Type 0} (s : State T) (q : List Bool) (before after : Storage) : Type 0 where
   node_slots : after.space.node_slots ≡ before.space.node_slots + missing_node_slots s.nodes before.layout q
   cell_slots : after.space.cell_slots ≡ before.space.cell_slots + missing_cell_slots s.entries before.layout q
@@ -41,12 +42,12 @@ module _ {T : Type 0} (v v2 : Store Node) (w w2 : Store (Option T)) (count count
   cell_are = (some_table is).holds.cells.sizes_are
 
   module _ {X E : Type 0} (cause : E → Refusal) where
-    -- a call obtains the blocks that the model says
+    -- a call obtains the blocks that the model states
     abbrev Foresees : Result X E → Type 0
     Foresees r = ObtainsBoth (λ e. cause e ≡ IndexRange) (λ e. cause e ≡ Memory) r v v2 w w2
         (child_blocks_needed s.nodes (layout_of v.slots v.tiers w.tiers sized) q) (value_blocks_needed s.entries (layout_of v.slots v.tiers w.tiers sized) q)
 
-    -- it makes exactly the blocks that lack
+    -- it makes exactly the missing blocks
     made_in : (x : X) → Foresees (Ok x) → MakesMissing s q (storage_of v w sized) (storage_of v2 w2 later)
     made_in x o =
         let a = nodes_cut v w (some_table is) sized in
@@ -98,7 +99,7 @@ module _ {T : Type 0} (v v2 : Store Node) (w w2 : Store (Option T)) (count count
           value_blocks_made = needed_at_most cell_sizes w w2 sized.1.0 later.1.0 cell_are c d _ o.cells_made;
         }
 
-    -- what it leaves where it does not insert
+    -- what it leaves if it does not insert
     pub readied_in : (r : Result X E) → Foresees r → (later.0 ≡ sized.0) × (later.1.0 ≡ sized.1.0) →
         MatchResult r (λ _. PreparesInStorage s q (storage_of v w sized) (storage_of v2 w2 later))
         (λ e. RefusesInStorage s q (cause e) (storage_of v w sized) (storage_of v2 w2 later))

@@ -1,4 +1,4 @@
--- What an insertion asks for and leaves.
+-- What an insertion allocates and leaves.
 use Rattle.prefix_trie_table.proofs.Prelude.{◌*◌, ◌≡◌, ℕ, ◌+◌, ◌<◌, ◌≤◌, inl, inr, Bool, false, cond, List, ◌∷◌, ◌++◌, length, get_or, take, Option, None, Some, IsSome, is_some, sym, ap, ◌∙◌, subst, arith, cases_Bool, smallest_size, Node, has_bit, rank, Tier, Store, Sound, UsedBlock, block, HasList, Keeps, SameSlots, tier_sizes, size_in, NodesHold, CellsHold, Deepest, has_value, blank_node, node_sizes, cell_sizes, chunks_of, IsReached}
 use Rattle.prefix_trie_table.proofs.Blocks.Soundness.{tier_of_block, first_place}
 use Rattle.prefix_trie_table.proofs.Blocks.BySize.{smallest_there, node_sized, cell_sized, tiers_long}
@@ -49,7 +49,7 @@ cell_fits ts count e few =
     let top : size_in (tier_sizes ts) 6 ≡ 31 = ap (λ ns. size_in ns 6) e in
     ap is_some (smallest_there ts count 6 (cell_sized ts e) (let l = tiers_long ts cell_sizes e in omega (arith, l)) (omega (arith, top, few))).found
 
--- a node that lacks a value has room for one more
+-- a node without this value has a free bit for it
 pub few_values : {T : Type 0} (reading : List ℕ → Option Node) (values : List ℕ → ℕ → Option T) (paths : List (List ℕ)) (w : Store (Option T))
     (p : List ℕ) (n : Node) (b : ℕ) → CellsHold cell_sizes reading values paths w → reading p ≡ Some n → b < 31 → has_bit n.value_bitmap b ≡ false →
     rank n.value_bitmap 32 < 31
@@ -64,7 +64,7 @@ few_values reading values paths w p n b cells is small lacks =
     let none : ◌≡◌ {A = ℕ} (cond (has_bit m 31) 1 0) 0 = ap (λ s. cond s 1 0) last in
     omega (arith, less, up, none)
 
--- what `descend` reached is reached still where the nodes are the same
+-- what `descend` reached is still reached if the nodes are the same
 pub reached_still : (b : List Bool) (len level slot : ℕ) (node : Node) (v x : Store Node) (reading : List ℕ → Option Node) (paths : List (List ℕ)) →
     IsReached b len level node slot v → NodesHold node_sizes reading paths v → NodesHold node_sizes reading paths x → IsReached b len level node slot x
 reached_still b len level slot node v x reading paths at hold later =
@@ -81,7 +81,7 @@ reached_still b len level slot node v x reading paths at hold later =
     }
 
 module _ (b : List Bool) (len level slot : ℕ) (node : Node) (v : Store Node) (at : IsReached b len level node slot v) where
-  -- a node that lacks a child has room for one more
+  -- a node without this child has a free bit for it
   pub few_children : 5 * level + 5 ≤ len → rank node.child_bitmap 32 < 32
   few_children more =
       rank-lacks node.child_bitmap 32 (get_or (chunks_of (take len b)) level 0) (step-small (take len b) level (step-inside b len level at.long more))

@@ -1,4 +1,4 @@
--- The value at the end of a way that an insertion added.
+-- The value at the end of a search path that an insertion added.
 use Rattle.prefix_trie_table.proofs.Prelude.{◌≡◌, ◌*◌, ◌/◌, ◌≤◌, ℕ, Bool, List, length, take, drop, Option, Some, sym, ap, ◌∙◌, subst, arith, value_bit, Node, Seat, node_at, node_sizes, cell_sizes, chunks_of, bit_of, Store, IsSlot, NodesHold, CellsHold, Walked, EntryAdded, ValueSet, seat_in, seat_of}
 use Rattle.std.proofs.lemmas.List.{take_all}
 use Rattle.prefix_trie_table.proofs.Lookup.Going.{bit-read-last, steps-all}
@@ -17,7 +17,7 @@ module _ {T : Type 0} (b : List Bool) (len : ℕ) (long : len ≤ length b) {rea
       (entry_added reading values paths (chunks_of (take len b)) depth slot bit x v v2 w u a (last ∙ sym (steps-all b len long))
       (λ nodes ps q m h cells stands is. put nodes ps values q m h cells stands is))
 
-  -- it stands at the seat of its string
+  -- it is at the seat of its string
   pub end_seat : (seat : Seat) → seat_in (Some (node_at v2.slots slot)) bit ≡ Some seat → seat_of v2.slots (take len b) ≡ Some seat
   end_seat seat found =
       let path : List ℕ = chunks_of (take len b) in

@@ -1,4 +1,4 @@
--- What a call leaves that adds a missing value where its way ends, in the words for an insertion.
+-- What a call leaves that adds a missing value where its search ends, stated as for an insertion.
 use Rattle.prefix_trie_table.proofs.Prelude.{◌≡◌, ℕ, ◌+◌, false, Bool, List, take, Option, None, Some, Result, Ok, Err, MatchResult, IfErr, sym, ◌∙◌, arith, get, contains_key, Refused, Memory, IndexRange, Insert, InsertsInStorage, RefusesInStorage, StepByPath, Node, Seat, SearchEnd, ObtainsBoth, nodes_needed, cells_needed, chunks_of, bit_of, Holds, EntryAdded, Sized, Shaped, insert_reply, insert_new_reply, Store, IsReached, IsTable, ForHeld, GrowsBoth, MayPass}
 use Rattle.prefix_trie_table.proofs.Insertion.Asks.{at_end}
 use Rattle.prefix_trie_table.proofs.Insertion.PredictedNeeds.{obtained}
@@ -9,7 +9,7 @@ use Rattle.prefix_trie_table.proofs.Blocks.Sizing.{storage_of}
 use Rattle.prefix_trie_table.proofs.Tree.Stated.{inserts_step}
 use Rattle.prefix_trie_table.proofs.Tree.Trees.{is_none-None}
 
--- an answer as that of an insertion: no value stood there before
+-- a result as that of an insertion: there was no value before
 abbrev pub inserting : {T E : Type 0} → Result Seat E → Result (Option T) E
 inserting (Ok seat) = Ok None
 inserting (Err e) = Err e
@@ -23,7 +23,7 @@ obtaining for_limit for_memory v v2 w w2 nodes cells (Err e) o = record { nodes_
 
 module _ {T E : Type 0} (q : List Bool) (x : T) (v v2 : Store Node) (w w2 : Store (Option T)) (count count2 : ℕ) (s : Shaped v.slots w.slots)
     (is : IsTable v w count s.0) where
-  -- what the call says of the arrays, where no value is there
+  -- what the call leaves of the arrays, if there was no value
   pub placed_leaves : contains_key s.0.entries q ≡ false → (r : Result Seat E) → ForHeld v w (λ reading paths values. MatchResult r
       (λ _. EntryAdded reading values paths (chunks_of q) (bit_of q) (Some x) v2 w2) (λ _. Holds reading values paths v2 w2)) →
       Leaves q x v v2 w w2 count count2 s is (inserting r)

@@ -1,4 +1,5 @@
--- What an insertion asks for is what the model says of the table's entries, nodes and layout.
+-- The blocks that an insertion needs are those that the model states for the table's entries, nodes
+-- and layout.
 use Rattle.prefix_trie_table.proofs.Prelude.{◌≡◌, ℕ, ◌+◌, ◌-◌, ◌*◌, ◌/◌, ◌%◌, ◌<◌, ◌≤◌, inl, inr, Bool, true, false, cond, ◌&&◌, List, length, take, Option, None, Some, is_some, Result, refl, sym, ap, ap₂, ◌∙◌, subst, arith, eq-eqb, length-take-le, append-nil, false≢true, cases_Bool, cases_lt, take-take, option_to_list, get, contains_key, child_block_sizes, value_block_sizes, child_count, own_entries, block_needed, child_blocks_needed, value_blocks_needed, has_node, is_node_depth, home, State, is-same_string, none_needed, blocks_needed, Node, nodes_needed, cells_needed, AtDeepest, ObtainsBoth, IsTable, ForHeld, own_value, rank, node_sizes, cell_sizes, chunks_of, is_start, Holds, IsEnd, has_child, has_value, Sized, child_block_size, value_block_size, value_need, IsShapeOf, Shaped, Store, needs}
 use Rattle.prefix_trie_table.proofs.Strings.Plain.{whole_levels}
 use Rattle.prefix_trie_table.proofs.Tree.Invariant.{some_table}
@@ -54,7 +55,7 @@ module _ {T : Type 0} (reading : List ℕ → Option Node) (values : List ℕ �
         (shape_entries reading values paths v w holds s is) 0 (λ b. ap (λ o. has_value o b) e ∙ sym (has_bit-zero b)) ∙ rank-zero-all
 
   module _ (q : List Bool) where
-    -- the nodes on the way to q, by their levels
+    -- the nodes on the search path of q, by their levels
     pub way : (i : ℕ) → i ≤ length q / 5 → chunks_of (take (5 * i) q) ≡ take i (chunks_of q)
     way i h = path-take i q (whole i (length q) h)
 
@@ -126,7 +127,7 @@ module _ {T : Type 0} (reading : List ℕ → Option Node) (values : List ℕ �
             (values_are (home q) (depth_is (length q / 5) (omega arith)) node own)) ∙ sym (cells_here node level (length q) (last_level level (length q) last))
       ]
 
--- what an insertion of a new key obtains are the blocks that the model says
+-- what the insertion of a new key obtains are the blocks that the model states
 module _ {T X E : Type 0} (for_limit for_memory : E → Type 0) (b : List Bool) (len : ℕ) (v v2 : Store Node) (w w2 : Store (Option T)) (count : ℕ)
     (s : Shaped v.slots w.slots) (is : IsTable v w count s.0) (sized : Sized v.slots) (r : Result X E) where
   pub obtained : ForHeld v w (λ reading paths values. own_value values b len ≡ None →

@@ -5,7 +5,7 @@ use Rattle.prefix_trie_table.proofs.Blocks.Preparing.{missing_slots-are}
 use Rattle.prefix_trie_table.proofs.Blocks.Turnovers.{made_turned, made_kept, made_same, made_then}
 
 module _ {S : Type 0} where
-  -- the same room and the same tiers are no growth
+  -- the same slots and the same tiers are no growth
   pub Grows-none : (v w : Store S) (most : ℕ) → SameSpace v w → w.tiers ≡ v.tiers → Grows v w most
   Grows-none v w most space tiers = record {
     first_is = space.1;
@@ -65,7 +65,8 @@ module _ {S : Type 0} where
   Grows-obtained L M (Ok x) v w needed most has o bound = turned v w needed most has bound (missing_in v needed) (λ size. omega arith) o.made
   Grows-obtained L M (Err e) v w needed most has o bound = turned v w needed most has bound o.made.0 o.made.1 o.made.2
 
--- the slots that an insertion lacks: of nodes one block of 32 and 24 of one at most, of cells one of 31
+-- at most so many slots are missing for an insertion: for nodes one block of 32 and 24 of one, for
+-- values one of 31
 pub missing_nodes : {S : Type 0} (v : Store S) (o : Option ℕ) (count lists : ℕ) → tier_sizes v.tiers ≡ node_sizes → lists ≤ 24 →
     missing_slots v (needs (block_needed child_block_sizes o count) lists) ≤ 56
 missing_nodes v o count lists e few =
@@ -75,7 +76,7 @@ missing_nodes v o count lists e few =
     ap (λ ns. slots_of_missing ns (free_counts v.tiers) (needs (block_needed child_block_sizes o count) lists)) e in
     omega (arith, a, b, same, few)
 
--- the same of values
+-- the same for values
 pub missing_cells : {S : Type 0} (v : Store S) (o : Option ℕ) (count : ℕ) → tier_sizes v.tiers ≡ cell_sizes → missing_slots v (needs (block_needed value_block_sizes o count) 0) ≤ 31
 missing_cells v o count e =
     let a = slots_most value_block_sizes (free_counts v.tiers) refl (needs (block_needed value_block_sizes o count) 0) in

@@ -24,21 +24,21 @@ module _ (b : List Bool) (len level slot : ℕ) (node : Node) (v : Store Node) w
       let was = so_far reading paths hold in
       (option_or here was.0, longest_now b len level slot node v at reading paths hold was.0 here (option_or here was.0) was.1 found refl, longer_is here was.0 above result was.2 is)
 
-  -- where the way ends it is the answer
+  -- at the end of the descent it is the result
   pub found_end : IsReached b len level node slot v → (found : Option Found) → HasFound v (take len b) (5 * level + 5) found → HasFound v (take len b) (len + 1) found
   found_end at found has reading paths hold =
       let so_far = has reading paths hold in
       let end = reached_end b len level slot node v at reading paths hold in
       (so_far.0, longest_none reading (take len b) 0 (5 * level + 5) (len + 1) so_far.0 so_far.1 (none_past reading paths v (take len b) level (len + 1) hold end), so_far.2)
 
--- what is asked for a prefix stands among the questions in its place
+-- the question for a prefix is at its index among the questions
 pub question_at : {P K : Type 0} (number : P → K) (len : P → ℕ) (prefixes : List P) (i : ℕ) → i < length prefixes → (p : P) → p ≡ get_or prefixes i p → (q : K × ℕ) → q ≡ asks number len p
     → q ≡ get_or (questions_of number len prefixes) i q
 question_at number len prefixes i inside p p_is q is = is ∙ ap (asks number len) p_is ∙ sym (get_or-map (asks number len) prefixes i p q inside)
 
 -- ---- one round
 
--- the sums of a round, where one more way goes on, and where one more ends
+-- the sums of a round if one more descent goes on, and if one more ends
 sums_on : (S S' T T' A A' B B' c m : ℕ) → S + A ≡ T + B → S' ≡ S + c → T' ≡ T + c → A' ≡ A + m → B' ≡ B + m → S' + A' ≡ T' + B'
 sums_on S S' T T' A A' B B' c m e s t a b = omega (arith, e, s, t, a, b)
 
@@ -61,7 +61,7 @@ without xs ys k i other has = elim (Contains-append_cases xs (k ∷ ys) i has) a
   ]
 ]
 
--- the numbers of the questions whose ways these are, where one is the last or the first of the others
+-- the indexes of the questions of these descents, if one is the last or the first of the others
 numbers_push : (ws : List Descent) (w : Descent) (others : List ℕ) → map question_of (ws ++ w ∷ []) ++ others ≡ map question_of ws ++ (w.question ∷ others)
 numbers_push ws w others = ap (λ l. l ++ others) (map-append question_of ws (w ∷ [])) ∙ append_assoc (map question_of ws) (w.question ∷ []) others
 
@@ -89,7 +89,7 @@ module _ {K : Type 0} (bits : K → List Bool) (v : Store Node) (questions : Lis
             → AreAnswered bits v questions (map question_of next ++ (w.question ∷ others)) after
         answered_push others h = go.answered (w.question ∷ others) (subst (λ l. AreAnswered bits v questions l before) (numbers_push ws w others) h)
 
-        -- one more way goes on
+        -- one more descent goes on
         pub go_on_more : (y : Descent) → y.question ≡ w.question → IsDescent bits v questions (level + 1) y → GoOn bits v questions level (ws ++ w ∷ []) (next ++ y ∷ []) before after
         go_on_more y same is = record {
           descents_are = All-push (IsDescent bits v questions (level + 1)) next y go.descents_are is;
@@ -100,7 +100,7 @@ module _ {K : Type 0} (bits : K → List Bool) (v : Store Node) (questions : Lis
               (sum_by_push (cost_of costs) next y ∙ ap (λ n. sum_by (cost_of costs) next + get_or costs n 0) same) (pushed_times next y (level + 1)) (pushed_times ws w (level + 1));
         }
 
-        -- one more is at its end, and its question answered
+        -- one more is at its end, and its question has its result
         pub go_on_end : (q : K × ℕ) (best : Option Found) → w.question < length questions → length after ≡ length questions → q ≡ get_or questions w.question q
             → HasFound v (asked bits q) (q.1 + 1) best → (n : SomeNodes v) → IsEnd n.reading (chunks_of (asked bits q)) level
             → GoOn bits v questions level (ws ++ w ∷ []) next before (set after w.question best)
@@ -123,7 +123,7 @@ module _ {K : Type 0} (bits : K → List Bool) (v : Store Node) (questions : Lis
               (are w.question q inside is n.reading n.paths level n.hold end) (pushed_times ws w (level + 1));
         }
 
-    -- a way of this round, while those before it were looked at
+    -- a descent of this round, after those before it were looked at
     module _ (descents : List Descent) (count : ℕ) (read : List Node) (long : count ≤ length descents) (given : AreRead bits v questions level (take count descents) read)
         (now : List Descent) (j : ℕ) (same : drop j now ≡ drop j descents) (inside : j < count) where
       now_at : (d : Descent) → get_or now j d ≡ get_or descents j d
@@ -149,7 +149,7 @@ module _ {K : Type 0} (bits : K → List Bool) (v : Store Node) (questions : Lis
               let c = ap length same in
               omega (arith, a, b, c, inside, long)
 
-      -- the node that was read for it is on the way
+      -- the node that was read for it is on the search path
       pub read_on : (d : Descent) (e : Node) → j < length read → (q : K × ℕ) → q ≡ get_or questions (get_or now j d).question q
           → IsOnPath (bits q.0) q.1 level (get_or read j e) (slot_of (get_or now j d)) v
       read_on d e long_read q q_is =
@@ -159,7 +159,7 @@ module _ {K : Type 0} (bits : K → List Bool) (v : Store Node) (questions : Lis
       one_more : (d : Descent) → take (j + 1) descents ≡ take j descents ++ get_or now j d ∷ []
       one_more d = take_more descents j d (omega (arith, inside, long)) ∙ ap (λ w. take j descents ++ w ∷ []) (sym (now_at d))
 
-      -- the way one node further
+      -- the descent one node further
       pub descent_next : (d : Descent) (q : K × ℕ) → q ≡ get_or questions (get_or now j d).question q → (at : NodeSlot) (best : Option Found)
           → IsOnPath (bits q.0) q.1 (level + 1) (node_at v.slots (at.start + at.offset)) (at.start + at.offset) v → HasFound v (asked bits q) (5 * level + 5) best
           → IsDescent bits v questions (level + 1) (record { question = (get_or now j d).question; at = at; best = best })
@@ -196,7 +196,7 @@ module _ {K : Type 0} (bits : K → List Bool) (v : Store Node) (questions : Lis
             (subst (λ f. GoOn bits v questions level (take j descents ++ get_or now j d ∷ []) (take kept now) before f) (sym put)
             (go_on_end before (take j descents) (take kept now) after go (get_or now j d) q best (descent_is d).inside long is has given.sound (end given.sound))))
 
--- the question of a way of a round is one of those asked for prefixes
+-- the question of a descent of a round is one of those for the prefixes
 pub descent_inside : {P K : Type 0} (bits : K → List Bool) (v : Store Node) (number : P → K) (len : P → ℕ) (prefixes : List P) (level : ℕ) (descents : List Descent) (count : ℕ) (read : List Node) (long : count ≤ length descents)
     → AreRead bits v (questions_of number len prefixes) level (take count descents) read → (now : List Descent) (j : ℕ) → drop j now ≡ drop j descents → j < count → (d : Descent) → (get_or now j d).question < length prefixes
 descent_inside bits v number len prefixes level descents count read long given now j same inside d =

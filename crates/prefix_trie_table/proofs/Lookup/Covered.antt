@@ -36,7 +36,7 @@ module _ {X : Type 0} where
   all_pass p [] h = refl
   all_pass p (x ∷ es) h = ap (λ b. cond b (x ∷ filter p es) (filter p es)) (h x (first_in x es)) ∙ ap (λ ys. x ∷ ys) (all_pass p es (λ e has. h e (later_in x es e has)))
 
--- ---- of a list of beginnings, those of so many bits or more
+-- ---- of a list of beginnings, those of at least so many bits
 
 module _ {T : Type 0} where
   -- the entries whose keys have n bits or more
@@ -111,7 +111,7 @@ module _ {T : Type 0} where
       cover_holds : holds_value t.reading (take len b) (length e.0) ≡ true
       cover_holds = match_held v w t s is b len long e.0 (ap is_some cover_match.stored) cover_match.begins_it
 
-    -- none is left where none is held
+    -- none is left if none is held
     none_left : (first : ℕ) → NoneHeld t.reading (take len b) first (len + 1) → from_length first (covers s.entries (take len b)) ≡ []
     none_left first none = none_pass (λ e. nat_le first (length e.0)) (covers s.entries asked) (λ e has.
         elim (cases_lt (length e.0) first) as (λ _. nat_le first (length e.0) ≡ false) [
@@ -135,7 +135,7 @@ module _ {T : Type 0} where
         ])
         ∙ ap (λ n. d ∷ from_length (n + 1) (covers s.entries asked)) own
 
-    -- what is still to come by the matches where the walk stands
+    -- what is to come by the matches of the node where the walk is
     module _ (level : ℕ) (node : Node) (slot matches first : ℕ) (at : IsCovering b len level node slot matches first v) where
       -- in the node
       match_is : (e : List Bool × T) → Contains (covers s.entries (take len b)) e → 5 * level ≤ length e.0 → length e.0 < 5 * level + 5

@@ -32,7 +32,7 @@ module _ (level : ℕ) (node : Node) (matches first : ℕ) (q : List Bool) (deep
   rest-long : length (drop (5 * level) q) ≡ length q - 5 * level
   rest-long = length-drop (5 * level) q
 
-  -- what stands in the node and is still to come has its match
+  -- what is in the node and to come has its match
   match-of : (i : ℕ) → first ≤ i → i < 5 * level + 5 → i ≤ length q → stands node.value_bitmap (drop (5 * level) q) (i - 5 * level) ≡ true
       → has matches (value_bit (take (i - 5 * level) (drop (5 * level) q))) ≡ true
   match-of i from last within st =
@@ -116,7 +116,7 @@ module _ (level : ℕ) (node : Node) (matches first : ℕ) (q : List Bool) (deep
       );
     }
 
--- the matches of a node, none of which is given yet
+-- the matches of a node, none of which was given yet
 pub all_left : (level bitmap mask : ℕ) (q : List Bool) → HoldsValues mask (λ s. begins s (drop (5 * level) q)) → AreLeft (bit_and bitmap mask) bitmap (5 * level) (5 * level) q
 all_left level bitmap mask q holds = record {
   bits = λ s short. has-and bitmap mask (value_bit s) ∙ ap (λ b. has bitmap (value_bit s) && b) (holds.bits s short) ∙ turned (has bitmap (value_bit s)) (begins s (drop (5 * level) q)) _ (le-leb (5 * level) (5 * level + length s) (omega arith));
@@ -129,7 +129,7 @@ all_left level bitmap mask q holds = record {
     turned false true c e = sym (ap (λ x. x && false) e)
     turned false false c e = refl
 
--- ---- the way down
+-- ---- the descent
 
 -- a walk whose beginnings of `first` bits or more were still to come has gone on without one that has a value
 pub record GoneTo (b : List Bool) (len first level : ℕ) (node : Node) (slot matches : ℕ) (v : Store Node) : Type 0 where
@@ -148,7 +148,7 @@ module _ (b : List Bool) (len first level : ℕ) (node : Node) (slot matches : �
   taken : TakesMatch level node new gone.to (take len b) o
   taken = takes (take len b) gone.to (steps-within b len level gone.stands.on_path.long gone.stands.on_path.whole) gone.stands.low gone.stands.high gone.stands.left
 
-  -- the walk stands where it stood, with the matches that are left
+  -- the walk is where it was, with the matches that are left
   stays : IsCovering b len level node slot new taken.later v
   stays = record { on_path = gone.stands.on_path; low = (let l = gone.stands.low in let m = taken.low in omega (arith, l, m)); high = taken.high; left = taken.left }
 

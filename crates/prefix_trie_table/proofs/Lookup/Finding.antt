@@ -1,4 +1,4 @@
--- What stands, or does not, at the end of the way down.
+-- What there is, and is not, at the end of a descent.
 use Rattle.prefix_trie_table.proofs.Prelude.{◌≡◌, ◌≢◌, ℕ, ◌+◌, ◌*◌, ◌<◌, ◌≤◌, inl, inr, ⊎_elim, Bool, true, false, ◌||◌, List, [], ◌∷◌, ◌++◌, length, take, drop, Option, None, Some, is_some, refl, sym, ap, ◌∙◌, arith, nat_le, leb-true, nat_tests, false≢true, cases_Bool, has, value_bit, Node, has_bit, node_sizes, chunks_of, bit_of, Store, same_path, is_start, NodesHold, Holds, IsEnd, has_value, IsReached}
 use Rattle.std.proofs.lemmas.List.{take_all}
 use Rattle.prefix_trie_table.proofs.Strings.Plain.{needs_node}
@@ -26,7 +26,7 @@ prefix_some sizes nodes paths v hold q = snoc_ind (λ p. is_some (nodes p) ≡ t
     at_end p e some = ⊎_elim (λ (f : q ≡ p). ap (λ y. is_some (nodes y)) f ∙ some)
         (λ (n : q ≢ p). absurd (false≢true (sym (same_path-not q p n) ∙ e))) (same_or q p)
 
--- below the end of the way no node stands
+-- there is no node after the end of the search path
 pub none_below : (nodes : List ℕ → Option Node) (paths : List (List ℕ)) (v : Store Node) (path : List ℕ) (depth : ℕ) →
     NodesHold node_sizes nodes paths v → IsEnd nodes path depth → depth < length path → nodes path ≡ None
 none_below nodes paths v path depth hold end inside =
@@ -43,7 +43,7 @@ bit_set b len level slot node v at less x small read = ap (has_bit node.value_bi
 
 module _ (b : List Bool) (len level slot : ℕ) (node : Node) (v : Store Node) (at : IsReached b len level node slot v) (reading : List ℕ → Option Node)
     (paths : List (List ℕ)) (hold : NodesHold node_sizes reading paths v) where
-  -- the way has been followed to its end
+  -- the search path was followed to its end
   pub reached_end : IsEnd reading (chunks_of (take len b)) level
   reached_end = elim (cases_Bool (nat_le (5 * level + 5) len)) as (λ _. IsEnd reading (chunks_of (take len b)) level) [
     | inl e ↦
@@ -71,7 +71,7 @@ module _ (b : List Bool) (len level slot : ℕ) (node : Node) (v : Store Node) (
 module _ {T : Type 0} (b : List Bool) (len level slot : ℕ) (node : Node) (v : Store Node) (at : IsReached b len level node slot v)
     (reading : List ℕ → Option Node) (values : List ℕ → ℕ → Option T) (paths : List (List ℕ)) (w : Store (Option T))
     (holds : Holds reading values paths v w) where
-  -- no value where the node is missing
+  -- no value if the node is missing
   pub no_value_below : 5 * level + 5 ≤ len → values (chunks_of (take len b)) (bit_of (take len b)) ≡ None
   no_value_below more =
       is_none-None (values (chunks_of (take len b)) (bit_of (take len b)))

@@ -1,4 +1,4 @@
--- The way down a bit string, as the code follows it on a key.
+-- The descent along a bit string, as the code follows it on a key.
 use Rattle.prefix_trie_table.proofs.Prelude.{◌≡◌, ◌≢◌, ℕ, ◌+◌, ◌*◌, ◌/◌, ◌<◌, ◌≤◌, Bool, true, false, List, [], ◌∷◌, ◌++◌, length, get_or, take, drop, Option, Some, is_some, refl, sym, ap, ◌∙◌, subst, arith, take_more, number, zeros, window-of-front, IsRest, rest_whole, rest_behind, rest_front, has, ones_below, value_bit, Node, has_bit, rank, node_at, node_sizes, chunks_of, bit_of, IsOnPath, Store, Reached, IsSlot, at_root, at_child, child_slot, NodesHold, Deepest, IsEnd, has_child, node_or_blank}
 use Rattle.std.proofs.lemmas.List.{length-take-le}
 use Rattle.prefix_trie_table.proofs.Strings.Bits.{has_bit-is, rank-ones}
@@ -15,7 +15,7 @@ module _ (b : List Bool) (len level : ℕ) (within : len ≤ length b) where
   steps-length : length (chunks_of (take len b)) ≡ len / 5
   steps-length = path-length (take len b) ∙ ap (λ n. n / 5) (length-take-le len b within)
 
-  -- a whole step more is one of the way
+  -- one more whole chunk is on the path
   pub step-inside : 5 * level + 5 ≤ len → level < length (chunks_of (take len b))
   step-inside h = omega (arith, steps-length, h)
 
@@ -23,7 +23,7 @@ module _ (b : List Bool) (len level : ℕ) (within : len ≤ length b) where
   pub step-read : (x : ℕ) → 5 * level + 5 ≤ len → x ≡ number (take 5 (drop (5 * level) b)) → get_or (chunks_of (take len b)) level 0 ≡ x
   step-read x h e = step-is (take len b) level (step-inside h) ∙ ap number (window-of-front b len (5 * level) 5 h) ∙ sym e
 
-  -- where no whole step is left, the way is at its end
+  -- if no whole chunk is left, the path is at its end
   pub steps-end : 5 * level ≤ len → len < 5 * level + 5 → length (chunks_of (take len b)) ≡ level
   steps-end h k = omega (arith, steps-length, h, k)
 
@@ -31,9 +31,9 @@ module _ (b : List Bool) (len level : ℕ) (within : len ≤ length b) where
   pub bit-read : (x : ℕ) → 5 * level ≤ len → len < 5 * level + 5 → x ≡ value_bit (drop (5 * level) (take len b)) → bit_of (take len b) ≡ x
   bit-read x h k e = ap value_bit (rest-is (take len b) ∙ ap (λ n. drop (5 * n) (take len b)) (steps-end h k)) ∙ sym e
 
--- ---- the node where the way stands
+-- ---- the node that was reached
 
--- the root is on every way
+-- the root is on every path
 pub deepest_root : (reading : List ℕ → Option Node) (paths : List (List ℕ)) (v : Store Node) (path : List ℕ) → NodesHold node_sizes reading paths v →
     Deepest reading path 0 0 v
 deepest_root reading paths v path hold = record { node = node_at v.slots 0; stands = at_root; is = hold.rooted }
@@ -44,7 +44,7 @@ module _ (reading : List ℕ → Option Node) (paths : List (List ℕ)) (v : Sto
   pub deepest_in : slot < length v.slots
   deepest_in = (slot_holds node_sizes reading paths v hold (take depth path) slot deep.node deep.stands deep.is).1
 
-  -- the node in the slot is the one on the way
+  -- the node in the slot is the one on the path
   pub deepest_is : (k : Node) → k ≡ node_at v.slots slot → reading (take depth path) ≡ Some k
   deepest_is k read = deep.is ∙ ap Some (sym (slot_holds node_sizes reading paths v hold (take depth path) slot deep.node deep.stands deep.is).0 ∙ sym read)
 
@@ -63,7 +63,7 @@ module _ (reading : List ℕ → Option Node) (paths : List (List ℕ)) (v : Sto
         is = ap reading longer ∙ is_some-Some (reading (take depth path ++ d ∷ [])) some;
       }
 
-  -- where the next child is missing, or there is no next one, the way ends
+  -- if the next child is missing, or there is no next one, the search ends
   pub deepest_end : (k : Node) → depth ≤ length path → k ≡ node_at v.slots slot →
       (depth < length path → has_bit k.child_bitmap (get_or path depth 0) ≡ false) → IsEnd reading path depth
   deepest_end k within read missing = record {
@@ -75,7 +75,7 @@ module _ (reading : List ℕ → Option Node) (paths : List (List ℕ)) (v : Sto
         ∙ missing inside;
   }
 
--- what holds as the way goes down
+-- what holds during a descent
 pub record IsDown (path : List ℕ) (len level : ℕ) (node : Node) (slot : ℕ) (v : Store Node) : Type 0 where
   pub whole : 5 * level ≤ len
   pub node_is : node ≡ node_at v.slots slot
@@ -97,11 +97,12 @@ module _ (b : List Bool) (len level slot : ℕ) (node : Node) (v : Store Node) (
       (step-inside b len level within inside) down.node_is (down_bit ∙ bit)
       (place_is ∙ sym (rank-ones node.child_bitmap x (omega arith)) ∙ ap (rank node.child_bitmap) (sym (step-read b len level within x inside read)))
 
--- a node on the way is where it stands as the way goes down
+-- a node on the path is where it is during the descent
 pub on_path_down : (b : List Bool) (len level slot : ℕ) (node : Node) (v : Store Node) → IsOnPath b len level node slot v → IsDown (chunks_of (take len b)) len level node slot v
 on_path_down b len level slot node v at = record { whole = at.whole; node_is = at.node_is; deepest = at.deepest }
 
--- a way was followed to here: the bits behind it are those of a key in hand, and each node on it was met once
+-- a path was followed to here: the bits after it are those of a key in hand, and each node on it
+-- was met once
 pub record IsFollowed {K : Type 0} (IsKey : K → Type 0) (bits : K → List Bool) (key : K) (len : ℕ) (here : Reached) (v : Store Node) (rest : K) (before now : ℕ) : Type 0 where
   pub on_path : IsOnPath (bits key) len here.level here.node (here.at.start + here.at.offset) v
   pub is_key : IsKey rest
@@ -120,7 +121,7 @@ module _ {K : Type 0} (IsKey : K → Type 0) (bits : K → List Bool) (key : K) 
     counted = omega (arith, top, met);
   }
 
-  -- the bits behind the next five are those behind its child
+  -- the bits after the next five are those after its child
   pub followed_next : (rest : K) (before now : ℕ) → IsFollowed IsKey bits key len here v rest before now → (next : Reached)
       → (next.level ≡ here.level + 1) × IsOnPath (bits key) len next.level next.node (next.at.start + next.at.offset) v
       → (later : K) → IsKey later → bits later ≡ drop 5 (bits rest) ++ zeros 5 → (after : ℕ) → after ≡ now + 1 → IsFollowed IsKey bits key len next v later before after
@@ -135,7 +136,8 @@ module _ {K : Type 0} (IsKey : K → Type 0) (bits : K → List Bool) (key : K) 
         counted = omega (arith, met, step.0, at.counted);
       }
 
--- the bit that the code reads of them is that of the next step, and the child there the next node
+-- the bit that the code reads of them is that of the next chunk, and the child there is the next
+-- node
 module _ (b : List Bool) (len level slot : ℕ) (node : Node) (v : Store Node) (at : IsOnPath b len level node slot v) (r : List Bool) (rest : IsRest b (5 * level) r)
     (x : ℕ) (small : x < 32) (read : x ≡ number (take 5 (drop 0 r))) (inside : 5 * level + 5 ≤ len) where
   read_front : x ≡ number (take 5 (drop (5 * level) b))
@@ -175,6 +177,6 @@ bit-read-last b len within x e =
     turn : (n : ℕ) → n * 5 ≡ 5 * n
     turn n = omega arith
 
--- how many steps the way has
+-- how many chunks the path has
 pub steps-all : (b : List Bool) (len : ℕ) → len ≤ length b → length (chunks_of (take len b)) ≡ len / 5
 steps-all b len within = steps-length b len 0 within

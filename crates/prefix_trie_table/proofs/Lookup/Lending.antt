@@ -1,4 +1,4 @@
--- What a table is after a value of it was written over where it stands.
+-- A table after one of its values was overwritten in its cell.
 use Rattle.prefix_trie_table.proofs.Prelude.{◌≡◌, ℕ, ◌+◌, ◌<◌, ◌≤◌, Bool, true, cond, List, length, take, get_or, Option, None, Some, IfSome, MatchOption, is_some, refl, sym, ap, ap₂, ◌∙◌, subst, arith, inr, false≢true, MutBor, option_copied_mut, ghost_name_of, get, get-insert, len-insert, len, listing_total, with_entry, longest_match, State, Node, Seat, Match, has_bit, rank, node_sizes, cell_sizes, chunks_of, bit_of, Store, Holds, SomeTable, CellsHold, with_node, with_value, has_value, IsHeld, NoneHeld, LongestHeld, SeatAt, match_seat, cell_slot, with_slot, with_cell, HasValue, IsSeat, Sized, Sized-prop, Contents, with_value_at, with_match_at, with_longest_at, IsShapeOf, Shaped, same_shape, IsTable}
 use Rattle.std.proofs.lemmas.List.{length-set, length-take-le}
 use borrow.Follows.Closed.{read_of}
@@ -56,7 +56,7 @@ module _ {T : Type 0} (v : Store Node) (w : Store (Option T)) (count : ℕ) (s :
   pub stored_is : get s.0.entries q ≡ table.values (chunks_of q) (bit_of q)
   stored_is = shape_entries table.reading table.values table.paths v w table.holds s.0 s.1 q
 
-  -- the state that is left, where the seat is that of q
+  -- the state that is left if the seat is that of q
   abbrev pub state_left : Option Seat → T → State T
   state_left None x = s.0
   state_left (Some seat) x = state_with s.0 q x
@@ -119,7 +119,7 @@ module _ {T : Type 0} (v : Store Node) (w : Store (Option T)) (count : ℕ) (s :
         build = v.slots;
       }
 
-  -- where a value is lent only at a seat, the table ends with another value at q, or as it is
+  -- if a value is lent only at a seat, the table ends with another value at q, or unchanged
   pub lender_left : (z : Sized v.slots) (o : Option Seat) → IfSome o (λ seat. IsSeat table.reading (chunks_of q) (bit_of q) seat) → (r : Option (MutBor T)) (G : T → Contents T) →
       MatchOption o (r ≡ None) (λ seat. option_copied_mut r ≡ get_or w.slots (seat.start + seat.offset) None) →
       ((seat : Seat) (x : T) → o ≡ Some seat → with_value_at (seen_of v w s.0 z) q x ≡ G x) →

@@ -1,4 +1,4 @@
--- Where the value of a bit string stands, by the nodes in their array.
+-- Where the value of a bit string is stored, by the nodes in their array.
 use Rattle.prefix_trie_table.proofs.Prelude.{◌≡◌, ℕ, ◌+◌, ◌*◌, ◌<◌, ◌≤◌, Bool, true, false, cond, ◌||◌, nat_eq, List, ◌++◌, length, set, take, drop, Option, None, Some, is_some, refl, sym, ap, ap₂, ◌∙◌, arith, false≢true, has, value_bit, Sets, value_bit-small, Node, Reached, Seat, has_bit, rank, blank_node, node_at, node_sizes, cell_sizes, chunks_of, bit_of, read, SomeTable, IsNodeAt, IsSlot, at_root, at_child, NodesHold, CellsHold, ValueSet, with_node, has_value, EndsAt, value_seat, seat_in, seat_of, IsSeat, Store, IsReached}
 use Rattle.std.proofs.lemmas.List.{get_or-set_same}
 use Rattle.prefix_trie_table.proofs.Strings.Bits.{has_bit-is, has_bit-sets}
@@ -13,7 +13,7 @@ use Rattle.prefix_trie_table.proofs.Strings.Placing.{below_node}
 use Rattle.prefix_trie_table.proofs.Tree.Invariant.{deepest_there}
 use Rattle.prefix_trie_table.proofs.Tree.Trees.{reads, slot_holds, is_none-None}
 
--- a node has a seat where it has a value
+-- a node has a seat if it has a value
 seat_some : (o : Option Node) (b : ℕ) → is_some (seat_in o b) ≡ has_value o b
 seat_some None b = refl
 seat_some (Some n) b = either (has_bit n.value_bitmap b)
@@ -51,24 +51,24 @@ module _ (v : Store Node) (reading : List ℕ → Option Node) (paths : List (Li
   unfolding seat_of
   seat_reads = ap (λ o. seat_in o (bit_of q)) (reads node_sizes reading paths v hold (chunks_of q))
 
-  -- there is one where there is a value
+  -- there is a seat if there is a value
   pub seat_if : is_some (seat_of v.slots q) ≡ has_value (reading (chunks_of q)) (bit_of q)
   seat_if = ap is_some seat_reads ∙ seat_some (reading (chunks_of q)) (bit_of q)
 
-  -- no value where there is none
+  -- no value if there is no seat
   pub no_value_seat : seat_of v.slots q ≡ None → has_value (reading (chunks_of q)) (bit_of q) ≡ false
   no_value_seat e = sym seat_if ∙ ap is_some e
 
-  -- and none where there is no value
+  -- and no seat if there is no value
   pub no_seat : has_value (reading (chunks_of q)) (bit_of q) ≡ false → seat_of v.slots q ≡ None
   no_seat e = seat_reads ∙ is_none-None (seat_in (reading (chunks_of q)) (bit_of q)) (seat_some (reading (chunks_of q)) (bit_of q) ∙ e)
 
-  -- so no value stands there
+  -- so there is no value
   pub missing_value : {T : Type 0} (values : List ℕ → ℕ → Option T) (w : Store (Option T)) → CellsHold cell_sizes reading values paths w →
       seat_of v.slots q ≡ None → values (chunks_of q) (bit_of q) ≡ None
   missing_value values w cells e = is_none-None (values (chunks_of q) (bit_of q)) (cells.set_where (chunks_of q) (bit_of q) ∙ no_value_seat e)
 
-  -- and the value stands there
+  -- and the value is there
   pub is_seat : (seat : Seat) → seat_of v.slots q ≡ Some seat → IsSeat reading (chunks_of q) (bit_of q) seat
   is_seat seat e = at (reading (chunks_of q)) refl (sym seat_reads ∙ e)
     where
@@ -80,12 +80,12 @@ module _ (v : Store Node) (reading : List ℕ → Option Node) (paths : List (Li
 
 module _ (b : List Bool) (len level slot : ℕ) (node : Node) (v : Store Node) (at : IsReached b len level node slot v) (reading : List ℕ → Option Node)
     (paths : List (List ℕ)) (hold : NodesHold node_sizes reading paths v) where
-  -- no seat where the node is missing
+  -- no seat if the node is missing
   pub located_below : 5 * level + 5 ≤ len → seat_of v.slots (take len b) ≡ None
   located_below more = no_seat v reading paths hold (take len b)
       (ap (λ o. has_value o (bit_of (take len b))) (reached_none b len level slot node v at reading paths hold more))
 
-  -- where there is none the bit is clear
+  -- if there is no seat the bit is clear
   pub missing_bit : seat_of v.slots (take len b) ≡ None → len < 5 * level + 5 → has_bit node.value_bitmap (bit_of (take len b)) ≡ false
   missing_bit e less = ap (λ o. has_value o (bit_of (take len b))) (sym (reached_own b len level slot node v at reading paths hold less))
       ∙ no_value_seat v reading paths hold (take len b) e
@@ -98,13 +98,13 @@ module _ (b : List Bool) (len level slot : ℕ) (node : Node) (v : Store Node) (
       (reached_own b len level slot node v at reading paths hold less) (bit_of-small (take len b)) (missing_bit e less)
 
   module _ (less : len < 5 * level + 5) (x : ℕ) (small : x < 31) (read : x ≡ value_bit (drop (5 * level) (take len b))) where
-    -- none where the bit that the code reads is clear
+    -- no seat if the bit that the code reads is clear
     pub located_none : has node.value_bitmap x ≡ false → seat_of v.slots (take len b) ≡ None
     located_none clear = no_seat v reading paths hold (take len b)
         (ap (λ o. has_value o (bit_of (take len b))) (reached_own b len level slot node v at reading paths hold less)
         ∙ bit_set b len level slot node v at less x small read ∙ clear)
 
-    -- the seat where it is set
+    -- the seat if it is set
     pub located_here : has node.value_bitmap x ≡ true → (seat : Seat) → seat ≡ value_seat node x → seat_of v.slots (take len b) ≡ Some seat
     located_here set seat is =
         seat_reads v reading paths hold (take len b)
@@ -112,7 +112,7 @@ module _ (b : List Bool) (len level slot : ℕ) (node : Node) (v : Store Node) (
         ∙ seat_there node (bit_of (take len b)) (bit_set b len level slot node v at less x small read ∙ set)
         ∙ ap (λ i. Some (value_seat node i)) (bit-read b len level at.long x at.whole less read) ∙ ap Some (sym is)
 
--- where a value stands that was added to a node
+-- where a value is stored that was added to a node
 module _ (v v2 : Store Node) (slot offset b bitmap : ℕ) (k m : Node) (sets : Sets k.value_bitmap b bitmap) (bits_are : m.value_bitmap ≡ bitmap) (small : b < 32) where
   more : (i : ℕ) → has_bit m.value_bitmap i ≡ (nat_eq i b || has_bit k.value_bitmap i)
   more i = ap (λ n. has_bit n i) bits_are ∙ has_bit-sets k.value_bitmap b bitmap i sets small
@@ -127,7 +127,7 @@ module _ (v v2 : Store Node) (slot offset b bitmap : ℕ) (k m : Node) (sets : S
       ap (λ n. seat_in (Some n) b) here ∙ seat_there m b (more b ∙ ap (λ t. t || has_bit k.value_bitmap b) (same_number b))
       ∙ ap (λ i. Some (record { start = m.value_block; offset = i })) (added_rank ∙ sym place_is)
 
--- the node stands where it stood
+-- the node is in its slot
 own_slot : (reading : List ℕ → Option Node) (p : List ℕ) (m : Node) (q : List ℕ) (s : ℕ) → IsSlot reading q s → q ≡ p → IsSlot (with_node reading p m) q s
 own_slot reading p m q s (at_root) e = at_root
 own_slot reading p m q s (at_child r d k parent bit) e = at_child r d k (with_other reading p m r (λ f. snoc_not_same r d (e ∙ sym f)) ∙ parent) bit
@@ -142,7 +142,7 @@ entered_seat reading values paths q slot b x seat v2 w2 stands bit one found =
     let at = slot_holds node_sizes later paths v2 one.hold (chunks_of q) slot one.node (own_slot reading (chunks_of q) one.node (chunks_of q) slot stands refl) is in
     seat_reads v2 later paths one.hold q ∙ ap₂ (λ o i. seat_in o i) (is ∙ ap Some (sym at.0)) bit ∙ found
 
--- a way ends where it ended where the nodes are the same
+-- a search ends where it ended if the nodes are the same
 pub ends_still : (b : List Bool) (len : ℕ) (reached : Reached) (v x : Store Node) (reading : List ℕ → Option Node) (paths : List (List ℕ)) →
     EndsAt v b len reached → NodesHold node_sizes reading paths v → NodesHold node_sizes reading paths x → EndsAt x b len reached
 ends_still b len reached v x reading paths ends hold later = (
@@ -150,7 +150,7 @@ ends_still b len reached v x reading paths ends hold later = (
   reached_still b len reached.level (reached.at.start + reached.at.offset) reached.node v x reading paths ends.1 hold later,
 )
 
--- it stands in its table
+-- it is in its table
 abbrev pub end_there : (b : List Bool) (len : ℕ) (reached : Reached) {T : Type 0} {v : Store Node} {w : Store (Option T)} (t : SomeTable v w) → EndsAt v b len reached →
     (t : SomeTable v w) × IsNodeAt t.reading (reached.at.start + reached.at.offset)
 end_there b len reached t ends = (t, deepest_there (ends.1.deepest t.reading t.paths t.holds.hold))

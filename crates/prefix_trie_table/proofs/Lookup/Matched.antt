@@ -16,7 +16,7 @@ module _ {T : Type 0} where
     λ p n is. no_or_yes (has_bit n.value_bitmap 31) (λ e. let h : 31 < 31 = t.holds.cells.within p 31 (t.holds.cells.set_where p 31 ∙ ap (λ o. has_value o 31) is ∙ e) in omega arith),
   )
 
-  -- as many nodes are met on the way of a string as the model counts
+  -- as many nodes are met on the search path of a string as the model counts
   pub met_on_path : (v : Store Node) (w : Store (Option T)) (t : SomeTable v w) (s : State T) → IsShapeOf v.slots w.slots s → (q : List Bool) (before after : ℕ) →
       (level : ℕ) × IsEnd t.reading (chunks_of q) level × (after ≡ before + (level + 1)) → after ≡ before + visits s.nodes q
   met_on_path v w t s is q before after met =
@@ -34,7 +34,7 @@ module _ {T : Type 0} where
     asked_length : length (take len b) ≡ len
     asked_length = length-take-le len b long
 
-    -- a beginning is stored where it has a value
+    -- a beginning is stored if it has a value
     stored-is : (i : ℕ) → contains_key s.entries (take i (take len b)) ≡ holds_value t.reading (take len b) i
     stored-is i =
         ap is_some (shape_entries t.reading t.values t.paths v w t.holds s is (take i asked)) ∙ t.holds.cells.set_where (chunks_of (take i asked)) (bit_of (take i asked))
@@ -132,7 +132,7 @@ module _ {T : Type 0} where
       pub met_shortest : NoneHeld t.reading (take len b) 0 m.len → visits_to_match s.entries s.nodes (take len b) ≡ m.len / 5 + 1
       met_shortest none = let x = some-value (cell_of w m) cell_some in met_to_match x.0 (shortest_at none x.0 x.1)
 
-      -- what a call hands out that reads the cell
+      -- the result of a call that reads the cell
       module _ {R : Type 0} (now : R → T) where
         abbrev Hands : Option (ℕ × R) → Type 0
         Hands r = MatchOption r (cell_of w m ≡ None) (λ f. (f.0 ≡ m.len) × (cell_of w m ≡ Some (now f.1)))

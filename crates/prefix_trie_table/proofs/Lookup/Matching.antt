@@ -1,4 +1,4 @@
--- Which beginnings of a bit string have values, node by node on its way.
+-- Which beginnings of a bit string have values, node by node on its search path.
 use Rattle.prefix_trie_table.proofs.Prelude.{◌≡◌, ℕ, ◌+◌, ◌-◌, ◌*◌, ◌/◌, ◌^◌, ◌<◌, ◌≤◌, Bool, true, false, List, length, length-drop, take, drop, Option, None, Some, is_some, refl, sym, ap, ap₂, ◌∙◌, subst, arith, inl, inr, add-sub_of_le, bit_at, option_or, false≢true, cases_Bool, cases_lt, take-take, drop-take, digits, length-digits, has, value_bit, stands, IsLongest, IsShortest, NoneBegins, bit-clear, value_bit-small, Node, Match, has_bit, node_sizes, chunks_of, bit_of, Store, NodesHold, IsEnd, has_value, holds_value, NoneHeld, IsHeld, IsOnPath, LongestHeld, ShortestHeld}
 use Rattle.std.proofs.lemmas.List.{take_all, length-take-le}
 use Rattle.prefix_trie_table.proofs.Strings.Bits.{has_bit-is}
@@ -20,7 +20,7 @@ bit-small n bit rest short within is = subst (λ x. x < 31) (sym is) (value_bit-
 -- ---- a beginning of i bits, at least as many as lead to a node
 
 module _ (q : List Bool) (level i : ℕ) (from : 5 * level ≤ i) (within : i ≤ length q) where
-  -- it goes the same way to that node
+  -- it has the same path down to that node
   pub take_way : take level (chunks_of (take i q)) ≡ take level (chunks_of q)
   take_way = sym (path-take level (take i q) (omega (arith, length-take-le i q within))) ∙ ap chunks_of (take-take (5 * level) i q from) ∙ path-take level q (omega arith)
 
@@ -48,7 +48,7 @@ none_join reading q a b c low high i from to within = elim (cases_lt i b) [
   | inr g ↦ high i g to within
 ]
 
--- ---- what the node on the way has
+-- ---- what the node on the path has
 
 module _ (q : List Bool) (level : ℕ) (whole : 5 * level ≤ length q) (reading : List ℕ → Option Node) (node : Node) (is : reading (take level (chunks_of q)) ≡ Some node) where
   rest-length : length (drop (5 * level) q) ≡ length q - 5 * level
@@ -57,7 +57,7 @@ module _ (q : List Bool) (level : ℕ) (whole : 5 * level ≤ length q) (reading
   pub none_here : NoneBegins node.value_bitmap (drop (5 * level) q) → NoneHeld reading q (5 * level) (5 * level + 5)
   none_here none i from last within = held_is q level i from within last reading node is ∙ none (i - 5 * level) (omega arith) (omega (arith, rest-length))
 
-  -- a value behind the first n bits of the rest
+  -- a value after the first n bits of the rest
   pub held_here : (n bit : ℕ) → n ≤ 4 → n ≤ length (drop (5 * level) q) → bit ≡ value_bit (take n (drop (5 * level) q)) → has node.value_bitmap bit ≡ true → IsHeld reading q (5 * level + n) bit node
   held_here n bit short within bit_is set =
       let inside : 5 * level + n ≤ length q = omega (arith, rest-length) in
@@ -106,7 +106,7 @@ shortest-small bitmap bit rest l = bit-small l.len bit rest l.short l.within l.b
 pub steps-within : (b : List Bool) (len level : ℕ) → len ≤ length b → 5 * level ≤ len → 5 * level ≤ length (take len b)
 steps-within b len level long whole = omega (arith, length-take-le len b long, whole)
 
--- past the end of the way nothing has a value
+-- past the end of the path nothing has a value
 pub none_past : (reading : List ℕ → Option Node) (paths : List (List ℕ)) (v : Store Node) (q : List Bool) (level end : ℕ) → NodesHold node_sizes reading paths v → IsEnd reading (chunks_of q) level → NoneHeld reading q (5 * level + 5) end
 none_past reading paths v q level end hold at i from last within =
     let inside : level < length (chunks_of q) = further level i (length q) (length (chunks_of q)) from within (path-length q) in
@@ -119,29 +119,29 @@ none_past reading paths v q level end hold at i from last within =
     further : (k i l n : ℕ) → 5 * k + 5 ≤ i → i ≤ l → n ≡ l / 5 → k < n
     further k i l n a b c = omega (arith, a, b, c)
 
--- the node on the way is the one at its path
+-- the node on the path is the one at its chunks
 pub on_path_is : (b : List Bool) (len level slot : ℕ) (node : Node) (v : Store Node) → IsOnPath b len level node slot v → (reading : List ℕ → Option Node) (paths : List (List ℕ)) → NodesHold node_sizes reading paths v → reading (take level (chunks_of (take len b))) ≡ Some node
 on_path_is b len level slot node v at reading paths hold = deepest_is reading paths v (chunks_of (take len b)) level slot hold (at.deepest reading paths hold) node at.node_is
 
 -- ---- the longest of two parts
 
 module _ (reading : List ℕ → Option Node) (q : List Bool) (a b c : ℕ) where
-  -- nothing behind
+  -- nothing after
   pub longest_none : (o : Option Match) → LongestHeld reading q a b o → NoneHeld reading q b c → LongestHeld reading q a c o
   longest_none None low high = none_join reading q a b c low high
   longest_none (Some m) low high = (low.0, none_join reading q (m.len + 1) b c low.1 high)
 
-  -- what is found behind is longer
+  -- what is found after is longer
   longest_or : (o later : Option Match) → LongestHeld reading q a b o → LongestHeld reading q b c later → LongestHeld reading q a c (option_or later o)
   longest_or o None low high = longest_none o low high
   longest_or o (Some m) low high = high
 
-  -- nothing before, and what is found behind is the first
+  -- nothing before, and what is found after is the first
   pub shortest_behind : NoneHeld reading q a b → (o : Option Match) → ShortestHeld reading q b c o → ShortestHeld reading q a c o
   shortest_behind low None high = none_join reading q a b c low high
   shortest_behind low (Some m) high = (high.0, none_join reading q a b m.len low high.1)
 
--- the best so far, after the node on the way was searched
+-- the best so far, after the node on the path was searched
 pub longest_now : (b : List Bool) (len level slot : ℕ) (node : Node) (v : Store Node) → IsOnPath b len level node slot v
     → (reading : List ℕ → Option Node) (paths : List (List ℕ)) → NodesHold node_sizes reading paths v → (best here result : Option Match)
     → LongestHeld reading (take len b) 0 (5 * level) best

@@ -42,7 +42,7 @@ module _ {P K : Type 0} (number : P → K) (len : P → ℕ) (IsFitting : P → 
   abbrev questions : List (K × ℕ)
   questions = questions_of number len prefixes
 
-  -- what is asked for prefixes that fit can be asked
+  -- the questions for prefixes that fit are allowed
   can_ask : (i : ℕ) (q : K × ℕ) → i < length questions → q ≡ get_or questions i q → CanAsk IsKey width q
   can_ask i q inside is = subst (CanAsk IsKey width) (sym is) (All-map (CanAsk IsKey width) (asks number len) prefixes (λ k d inside. can (get_or prefixes k d) (fit k d inside)) i q inside)
 
@@ -69,7 +69,7 @@ module _ {P K : Type 0} (number : P → K) (len : P → ℕ) (IsFitting : P → 
       let within : i < n = omega (arith, inside, length-take-le n descents long) in
       subst (IsDescent bits v (questions_of number len prefixes) 0) (sym (get_or-take n descents i d within ∙ new_at descents n long new i within d)) (new_is_descent i (omega (arith, within, asked, length-map prefixes (asks number len))))
 
-  -- a way is no deeper than its question is long
+  -- a descent is no deeper than its question is long
   pub level_fits : (level : ℕ) (descents : List Descent) (n : ℕ) → n ≤ length descents → All (IsDescent bits v (questions_of number len prefixes) level) (take n descents) → 0 < n → 5 * level ≤ width
   level_fits level descents n long all some =
       let is = all 0 (new_descent 0) (omega (arith, some, length-take-le n descents long)) in
@@ -82,7 +82,7 @@ module _ {P K : Type 0} (number : P → K) (len : P → ℕ) (IsFitting : P → 
 
 module _ {K : Type 0} (bits : K → List Bool) (v : Store Node) (questions : List (K × ℕ)) (level : ℕ) (descents : List Descent) (n : ℕ) (long : n ≤ length descents)
     (all : All (IsDescent bits v questions level) (take n descents)) where
-  -- the nodes ahead stand in the array
+  -- the nodes ahead are in the array
   pub ahead_inside : SomeNodes v → All (λ w. slot_of w < length v.slots) (take n descents)
   ahead_inside s i d inside =
       let w : Descent = get_or (take n descents) i d in
@@ -126,12 +126,12 @@ module _ {K : Type 0} (bits : K → List Bool) (v : Store Node) (questions : Lis
 -- ---- after the last
 
 module _ (v : Store Node) (reading : List ℕ → Option Node) (paths : List (List ℕ)) (hold : NodesHold node_sizes reading paths v) where
-  -- what the array says at each path
+  -- the node of the array at each path
   reading_is : read v.slots ≡ reading
   reading_is = λ i p. reads node_sizes reading paths v hold p i
 
   module _ {K : Type 0} (bits : K → List Bool) where
-    -- a question that is on its way no more has its answer
+    -- a question without a descent has its result
     pub are_answers : (questions : List (K × ℕ)) (found : List (Option Found)) → AreAnswered bits v questions [] found → AreAnswers bits v.slots questions found
     are_answers questions found answered i q a inside q_is a_is = elim (answered i q a inside q_is a_is) as (λ _. IsAnswer bits v.slots q a) [
       | inl none ↦ absurd (omega (arith, none.1))
@@ -142,7 +142,7 @@ module _ (v : Store Node) (reading : List ℕ → Option Node) (paths : List (Li
     answer_is q a is = subst (λ r. IsLongestFound r (asked bits q) (q.1 + 1) a) reading_is is
 
 module _ {T : Type 0} (v : Store Node) (w : Store (Option T)) (t : SomeTable v w) (s : State T) (shaped : IsShapeOf v.slots w.slots s) where
-  -- a question costs the nodes on its way
+  -- a question costs the nodes on its search path
   pub costs_are : {K : Type 0} (bits : K → List Bool) (questions : List (K × ℕ)) → AreCosts bits v questions (map (λ q. visits s.nodes (asked bits q)) questions)
   costs_are bits questions i q inside is reading paths level hold end =
       let same : reading ≡ t.reading = sym (reading_is v reading paths hold) ∙ reading_is v t.reading t.paths t.holds.hold in
@@ -150,7 +150,7 @@ module _ {T : Type 0} (v : Store Node) (w : Store (Option T)) (t : SomeTable v w
       ∙ visits_counted t.reading t.paths v t.holds.hold s.nodes (shape_nodes t.reading t.values t.paths v w t.holds s shaped) (asked bits q) level
       (subst (λ r. IsEnd r (chunks_of (asked bits q)) level) same end)
 
--- the sum of what is asked for prefixes is that of their paths
+-- the sum over the questions for prefixes is that over their paths
 pub costs_sum : {P K : Type 0} (nodes : Nodes) (bits : K → List Bool) (number : P → K) (len : P → ℕ) (path : P → List Bool) → ((p : P) → path p ≡ take (len p) (bits (number p))) → (prefixes : List P)
     → sum (map (λ q. visits nodes (asked bits q)) (questions_of number len prefixes)) ≡ sum_by (λ p. visits nodes (path p)) prefixes
 costs_sum nodes bits number len path paths prefixes =
@@ -158,7 +158,7 @@ costs_sum nodes bits number len path paths prefixes =
     ∙ sum-map (λ p. visits nodes (asked bits (asks number len p))) prefixes
     ∙ (λ i. sum_by (λ p. visits nodes (sym (paths p) i)) prefixes)
 
--- a match that is kept, and what is where none is
+-- a match that is kept, and what there is if none is
 abbrev kept_or : Found → Option Found → Found
 kept_or f None = f
 kept_or f (Some found) = found

@@ -48,7 +48,7 @@ module _ {T : Type 0} where
             come = sym same.1;
           }
 
-      -- and there it stands then
+      -- and there it is then
       pub has_come : HasCome IsKey bits width v v w w2 way ps next qs q x
       has_come = record {
         nodes = refl;

@@ -26,7 +26,7 @@ one_more k ks (p ∷ paths) =
     passes true xs = omega arith
     passes false xs = omega arith
 
--- where the path of each is listed once, these are all keys
+-- if the path of each is listed once, these are all keys
 all_listed : (paths : List (List ℕ)) (ks : List (List Bool)) → All (λ k. times (chunks_of k) paths ≡ 1) ks → sum_by (at_path ks) paths ≡ length ks
 all_listed paths [] each = none paths
   where
@@ -38,7 +38,7 @@ all_listed paths (k ∷ ks) each = omega (arith, one_more k ks paths, All-head (
 home_path : (k : List Bool) → chunks_of (home k) ≡ chunks_of k
 home_path k = path-take (length k / 5) k (omega arith) ∙ take_all (length k / 5) (chunks_of k) (omega (arith, path-length k))
 
--- the strings of a node's own values are those whose way leads there
+-- the strings of a node's own values are those whose chunks lead there
 own_way : (p : List ℕ) → All IsStep p → (k : List Bool) → (begins (string_at p) k && nat_lt (length k) (length (string_at p) + 5)) ≡ same_path (chunks_of k) p
 own_way p steps k =
     let s = string_at p in

@@ -3,7 +3,7 @@ use Rattle.prefix_trie_table.proofs.Prelude.{◌≡◌, ℕ, Bool, true, false, 
 use Rattle.prefix_trie_table.proofs.Moving.Second.{second_trie}
 
 module _ {T : Type 0} (m : Entries T) (q : List Bool) where
-  -- what q begins is the listing of what is handed out
+  -- the entries that begin with q are the listing of what is split off
   pub part_listed : listing (part_below m q) ≡ listing_below m q
   part_listed = entries-retained m (λ s. begins q s)
 
@@ -21,7 +21,7 @@ module _ {T : Type 0} (m : Entries T) (q : List Bool) where
   all_below = sym (entries-retained (part_below m q) (λ s. begins q s)) ∙ ap (λ (n : Entries T). listing n) same_part ∙ part_listed
 
 module _ {K T : Type 0} (IsKey : K → Type 0) (bits : K → List Bool) (width : ℕ) where
-  -- the arrays are those that were laid but for the values that have come, and wait for the rest
+  -- the arrays are those that were built, with the values that have come, and wait for the rest
   pub record Fills (shape : State T) (laid : Store Node) (vacant : Store (Option T)) (v : Store Node) (w : Store (Option T)) (key : K) (ps : List Spot)
       (rest : List (List Bool × T)) : Type 0 where
     pub nodes : v ≡ laid
@@ -59,7 +59,7 @@ module _ {K T : Type 0} (IsKey : K → Type 0) (bits : K → List Bool) (width :
         };
       }
 
-  -- ---- a test that says no at each entry, and to which its value comes then
+  -- ---- a test that returns false for each entry, whose value comes then
 
   module _ {F : Type 0} (nodes : F → Store Node) (cells : F → Store (Option T)) (key : F → K) (spots : F → List Spot) where
     abbrev Waits : F → List Bool → T → Type 0
@@ -72,7 +72,7 @@ module _ {K T : Type 0} (IsKey : K → Type 0) (bits : K → List Bool) (width :
       abbrev FillsFrom : F → List (List Bool × T) → Type 0
       FillsFrom f rest = Fills shape laid vacant (nodes f) (cells f) (key f) (spots f) rest
 
-      -- it may be asked at each
+      -- it may be called on each
       may_fill : (f : F) (es : List (List Bool × T)) → FillsFrom f es → CallableOnEachEntry Takes Waits f es
       may_fill f [] h = tt
       may_fill f (e ∷ es) h = (
@@ -88,7 +88,7 @@ module _ {K T : Type 0} (IsKey : K → Type 0) (bits : K → List Bool) (width :
           all_filled asked.1 g es
           (fills_next shape laid vacant (nodes f) (nodes asked.1) (cells f) (cells asked.1) (key f) (spots f) (key asked.1) (spots asked.1) e es h asked.2.1) asked.3
 
-    -- from where nothing has come, with all that q begins to come
+    -- from the start, where nothing has come and everything that begins with q is to come
     module _ (count : ℕ) (v : Store Node) (w : Store (Option T)) (s : State T) (trie : IsTrie width count v w s) (q : List Bool) (f : F)
         (second : IsSecond q v (nodes f) (cells f)) (stack : IsStack IsKey bits width (nodes f) (key f) (spots f))
         (rest : (t : Tree T) → IsTrie width t.count (nodes f) t.cells t.shape → pending bits t.shape.entries (key f) (spots f) ≡ listing_below t.shape.entries q) where

@@ -1,4 +1,5 @@
--- Where each block is the smallest that holds its list and none is free, slots are numbers of the entries and the nodes.
+-- If each block is the smallest that holds its list and none is free, the entries and the nodes
+-- determine the number of slots.
 use Rattle.prefix_trie_table.proofs.Prelude.{◌≡◌, ℕ, zero, suc, ◌+◌, ◌<◌, Bool, true, ◌&&◌, List, [], ◌∷◌, ◌++◌, length, map, flat_map, replicate, sum_by, Option, None, Some, is_some, refl, sym, ap, ap₂, ◌∙◌, arith, eq-eqb, ◌%◌, length-map, nil_from_length, get, entries, keys, Sizes, child_block_sizes, value_block_sizes, child_count, own_entries, packed_block, packed_slots, packed_cell_slots, IsPacked, Nodes, has_node, is_node_depth, State, and-first, Node, rank, bits, blank_node, node_sizes, cell_sizes, HasSizes, chunks_of, read, own_count, child_items, child_blocks, child_blocks_of, value_blocks, value_blocks_of, Holds, NodesHold, IsPackedNode, NoneFree, AreSizesBy, Sized, own_children, child_block_size, value_block_size, IsShapeOf, Store, Tier, UsedBlock, Sound, of_size, free_extents, tier_at, tier_sizes, size_in, size_if_any, free_counts}
 use Rattle.prefix_trie_table.proofs.Blocks.BySize.{free_at, node_sized, cell_sized}
 use Rattle.prefix_trie_table.specs.Forest.{held, size_in}
@@ -42,7 +43,7 @@ module _ {S : Type 0} where
       (let one : 0 + size ≡ size = omega arith in one)
       ∙ ap (λ o. elim o as (λ _. ℕ) [ None ↦ 0 | Some m ↦ m ]) packed
 
-  -- all slots behind those that stand before the blocks are of blocks in use
+  -- all slots after those before the blocks belong to used blocks
   all_slots : (vacant : S) (f : List ℕ → List (UsedBlock S)) (paths : List (List ℕ)) (v : Store S) → Sound vacant (flat_map f paths) v → HasSizes v.tiers → NoneFree v →
       length v.slots ≡ v.first + sum_by (λ p. sum_by block_size (f p)) paths
   all_slots vacant f paths v sound has none = omega (arith, slots_told vacant f paths v sound, ap (λ es. sum_by size_of_extent es) (no_extents v.tiers (none_at v has none)))
@@ -98,7 +99,7 @@ module _ {T : Type 0} (reading : List ℕ → Option Node) (values : List ℕ �
           held_slots value_block_sizes n.value_tier n.value_block (size_in cell_sizes n.value_tier) (map (values p) (bits n.value_bitmap)) (rank n.value_bitmap 32)
           (rank-all (values p) n.value_bitmap) e
 
-  -- and of those of all
+  -- and to all of those
   all_long : {S : Type 0} (vacant : S) (f : List ℕ → List (UsedBlock S)) (u : Store S) → Sound vacant (flat_map f paths) u → HasSizes u.tiers → NoneFree u →
       (sizes : List ℕ) (count : Option Node → ℕ) (number : List Bool → ℕ) → ((p : List Bool) → is_node_depth p ≡ true → number p ≡ count (reading (chunks_of p))) →
       ((p : List ℕ) → sum_by block_size (f p) ≡ packed_slots sizes (count (reading p))) → length u.slots ≡ u.first + sum_by (λ p. packed_slots sizes (number p)) (keys s.nodes)

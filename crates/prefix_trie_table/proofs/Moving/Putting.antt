@@ -1,4 +1,4 @@
--- Values put into the vacant cells of blocks that are laid.
+-- Values written into the vacant cells of blocks that were built.
 use Rattle.prefix_trie_table.proofs.Prelude.{◌≡◌, ℕ, Bool, true, cond, List, [], ◌∷◌, set, flat_map, Option, None, Some, refl, sym, ap, ◌∙◌, subst, false≢true, All-head, All-tail, Node, Seat, node_sizes, cell_sizes, chunks_of, bit_of, has_value, with_value, NodesHold, value_blocks, value_seat, seat_in, seat_of, filled_with, with_cell, Store, Sound}
 use Rattle.std.specs.List.{All}
 use Rattle.prefix_trie_table.proofs.Lookup.Locating.{seat_reads}

@@ -1,4 +1,4 @@
--- A second table whose blocks are laid is a table once all values have come.
+-- A second table whose blocks were built is a table once all values have come.
 use Rattle.prefix_trie_table.proofs.Prelude.{◌≡◌, ℕ, ◌/◌, ◌%◌, ◌<◌, inl, inr, Bool, true, false, cond, ◌&&◌, List, [], ◌∷◌, ◌++◌, length, Option, None, is_some, refl, sym, ap, ap₂, ◌∙◌, subst, arith, eqb-true, eq-eqb, false≢true, cases_Bool, take_at, All-weaker, All-contains_itself, get, contains_key, len, entries, entries_sorted, get-entries, begins, same_bool, value_bit, AreWithin, part_below, has_node, is_node_depth, needed, State, and-first, and-second, and-join, get-part_below, needed_for, needs_root, AreNodes-needed, find-from_Contains, Node, node_sizes, chunks_of, bit_of, read, one_if, is_start, has_value, NodesHold, Holds, no_value, filled_with, split_off, IsShapeOf, IsSkeleton, IsSecond, Store, tier_sizes, IsTrie}
 use Rattle.std.specs.List.{All, Contains}
 use Rattle.prefix_trie_bits.proofs.Model.Members.{needs}
@@ -30,7 +30,7 @@ string_placed reading paths v hold p b small set =
 
 module _ {T : Type 0} (width count : ℕ) (v : Store Node) (w : Store (Option T)) (s : State T) (trie : IsTrie width count v w s) (q : List Bool)
     (v2 : Store Node) (w2 : Store (Option T)) (k : IsSkeleton q v v2 w2) where
-  -- where a value is to stand an entry is handed out
+  -- each cell for a value is one of an entry that is split off
   placed : (t : List Bool) → contains_key (part_below s.entries q) t ≡ has_value (k.reading (chunks_of t)) (bit_of t)
   unfolding read
   placed t =

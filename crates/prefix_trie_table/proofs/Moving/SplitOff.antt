@@ -14,7 +14,7 @@ module _ {T : Type 0} where
       (record { entries = without_below s.entries q; nodes = nodes_without_below s.nodes s.entries q })
       (record { split_off = refl; split_nodes = refl; left = refl; left_nodes = refl })).number
 
-  -- which says how many came to the second
+  -- which gives the number of those that came to the second
   pub rest_counted : (width n count : ℕ) (v2 : Store Node) (w2 : Store (Option T)) (s : State T) (q : List Bool) →
       IsTrie width n v2 w2 (record { entries = without_below s.entries q; nodes = nodes_without_below s.nodes s.entries q }) → count ≡ len s.entries →
       (n ≤ count) × (len (part_below s.entries q) ≡ count - n)

@@ -7,19 +7,19 @@ use Rattle.prefix_trie_table.proofs.Strings.Keys.{same_key}
 use Rattle.prefix_trie_table.proofs.Strings.Paths.{same_path-true, snoc_inj}
 
 module _ {T : Type 0} where
-  -- the first of two, where it is there
+  -- the first of two if it is there
   abbrev first_of : Option T → Option T → Option T
   first_of None y = y
   first_of (Some x) y = Some x
 
-  -- a pair is none of those behind it in a sorted list
+  -- an entry is none of those after it in a sorted list
   apart : (e : List Bool × T) (es : List (List Bool × T)) → IsT (is_sorted listing_cmp (e ∷ es)) → (s : List Bool) → same_string s e.0 ≡ true →
       (o : Option T) → find listing_cmp s es ≡ o → o ≡ None
   apart e es sorted s same None is = refl
   apart e es sorted s same (Some x) is = absurd (not_itself e.0 s (each-behind e.0 es s x (sorted-head e es sorted) is) (sym (same_string-is s e.0 same)))
 
   module _ (v : Store Node) (reading : List ℕ → Option Node) (paths : List (List ℕ)) (hold : NodesHold node_sizes reading paths v) where
-    -- at each string stands the value that is listed, and where none is the one that stood there
+    -- each string has the value that is listed, or, if none is, the one it had
     found_value : (es : List (List Bool × T)) → IsT (is_sorted listing_cmp es) → (values : List ℕ → ℕ → Option T) (s : List Bool) →
         with_values v reading paths hold es values (chunks_of s) (bit_of s) ≡ first_of (find listing_cmp s es) (values (chunks_of s) (bit_of s))
     found_value [] sorted values s = refl
@@ -38,7 +38,7 @@ module _ {T : Type 0} where
             ap (λ t. first_of (find listing_cmp s es) (cond t (Some e.1) (values (chunks_of s) (bit_of s)))) other
             ∙ sym (ap (λ t. first_of (cond t (Some e.1) (find listing_cmp s es)) (values (chunks_of s) (bit_of s))) other)
 
-    -- and where no node has the place, none came
+    -- and if no node has the place, none came
     pub none_there : (es : List (List Bool × T)) → All (HasPlace v reading paths hold) es → (values : List ℕ → ℕ → Option T) (p : List ℕ) (b : ℕ) →
         has_value (reading p) b ≡ false → with_values v reading paths hold es values p b ≡ values p b
     none_there [] each values p b none = refl

@@ -1,4 +1,4 @@
--- What is left of a table where a test said no at each entry below a bit string.
+-- What is left of a table after a test returned false for each entry under a bit string.
 use Rattle.prefix_trie_table.proofs.Prelude.{◌≡◌, ◌↔◌, ℕ, ◌+◌, ◌*◌, ◌/◌, ◌<◌, ◌≤◌, Bool, true, false, cond, not, ◌&&◌, ◌||◌, ◌==◌, nat_lt, List, [], ◌∷◌, ◌++◌, length, take, drop, Option, None, Some, is_some, refl, sym, ap, ap₂, ◌∙◌, subst, arith, inl, inr, bit_and, append-nil, append_assoc, length-append, length-drop, false≢true, cases_Bool, cases_lt, le-ltb, append_cancel_left, All-weaker, All-contains_itself, list_any_at, get, find, get-entries, begins, number, digits, digits-number, begins-refl, begins-length, begins-linear, begins-longer, begins-rest, begins-from-rest, begins-same-length, begins-trans, listing_cmp, same_string, HoldsValues, HoldsChildren, is_in, RetainsEntries, Entries, part_below, without_entry, without_below, Nodes, has_node, home, is_node_depth, pruned, nodes_not_below, nodes_without, nodes_without_below, pair_of, listing_at_place, listing_at_places, listing_below, State, is_in-and, home-begins, home-depth, home-length, or-cases, and-join, and-second, same_string-is, is-same_string, has-retained, get-part_below, get-without_entry, get-without_below, same_entries, same_members, entries-retained, Node, chunks_of, read, below, Store, is_at, is_at_some, is_under, is_under_some, Retains, IsTrie}
 use Rattle.std.specs.List.{All, Contains}
 use Rattle.std.proofs.lemmas.Bool.{lt-ltb}
@@ -13,7 +13,7 @@ pub and-false : (b : Bool) → (b && false) ≡ false
 and-false true = refl
 and-false false = refl
 
--- ---- where nothing is listed nothing is stored
+-- ---- if nothing is listed nothing is stored
 
 append_none : {X : Type 0} (xs ys : List X) → xs ++ ys ≡ [] → (xs ≡ []) × (ys ≡ [])
 append_none [] ys h = (refl, h)
@@ -61,7 +61,7 @@ not_under_itself s (t ∷ ts) = ap₂ (λ a b. a || b) not_here (not_under_itsel
           ∙ begins-longer (s ++ t) s (omega (arith, length-append s t, most))
     ]
 
--- ---- what is left where each answer is no
+-- ---- what is left if each result is false
 
 module _ {T : Type 0} where
   -- the places of the node of q are those at which it has what q begins
@@ -220,7 +220,7 @@ module _ {T : Type 0} (width count : ℕ) (v : Store Node) (w : Store (Option T)
         (at_child (home q) (take 5 (drop (length (home q)) k)) k five ∙ (further q k goes_on long).1) off
   ]
 
-  -- where a child is missing no node stands
+  -- if a child is missing there is no node
   no_child : (u : List Bool) → length u ≡ 5 → is_in n.value_bitmap n.child_bitmap u ≡ false → has_node before.nodes (home q ++ u) ≡ false
   no_child u five clear =
       trie.shaped.0 (home q ++ u) ∙ ap (λ o. is_node_depth (home q ++ u) && is_some o) missing ∙ and-false (is_node_depth (home q ++ u))
@@ -266,7 +266,7 @@ module _ {T : Type 0} (width count : ℕ) (v : Store Node) (w : Store (Option T)
     every_node = λ t goes_on other off. no_or_yes (has_node before.nodes t) (nodes_among t goes_on other off);
   }
 
--- ---- where the node of q is missing, and once all below q is gone
+-- ---- if the node of q is missing, and once everything under q is gone
 
 module _ {T : Type 0} where
   -- below a missing node is nothing
@@ -287,7 +287,7 @@ module _ {T : Type 0} where
       away : has_node s.nodes (home q) ≡ false
       away = trie.shaped.0 (home q) ∙ ap (λ o. is_node_depth (home q) && is_some o) missing ∙ and-false (is_node_depth (home q))
 
-  -- and a node that stands is one of the set
+  -- and a node that is there is one of the set
   pub home_stands : (width count : ℕ) (v : Store Node) (w : Store (Option T)) (s : State T) (q : List Bool) (n : Node) → IsTrie width count v w s → read v.slots (chunks_of (home q)) ≡ Some n →
       has_node s.nodes (home q) ≡ true
   home_stands width count v w s q n trie stands = trie.shaped.0 (home q) ∙ ap₂ (λ d o. d && is_some o) (ap (λ k. k == 0) (home-depth q)) stands

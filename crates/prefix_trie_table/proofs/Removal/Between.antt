@@ -9,7 +9,7 @@ use Rattle.prefix_trie_table.proofs.Removal.Stepping.{same_values, drops_values,
 
 -- ---- by numbers
 
--- where no item was taken
+-- if no item was removed
 pub between_same : (sizes : List ℕ) (before after : ℕ) (old new : Option ℕ) → after ≡ before → new ≡ old → (after ≡ 0 → new ≡ None) →
     StepsBetween sizes before after old new
 between_same sizes before after old new count same empty = record { fewer = omega arith; same = λ _. same; none = empty; between = λ less some. absurd (omega arith) }
@@ -59,7 +59,7 @@ blocks_still n m e = record {
 pub blocks_then : (a b c : Option Node) → BlocksBetween a b → BlocksBetween b c → BlocksBetween a c
 blocks_then a b c x y = record { values = between_then cell_sizes _ _ _ _ _ _ x.values y.values; children = between_then node_sizes _ _ _ _ _ _ x.children y.children }
 
--- where a value was taken
+-- if a value was removed
 pub taken_between : {T : Type 0} (reading : List ℕ → Option Node) (paths : List (List ℕ)) (values : List ℕ → ℕ → Option T) (p : List ℕ) (b : ℕ) (n m : Node)
     (v : Store Node) (w w2 : Store (Option T)) → ValueTaken reading paths values p b n m v w w2 → reading p ≡ Some n →
     (x : List ℕ) → BlocksBetween (reading x) (with_node reading p m x)
@@ -70,7 +70,7 @@ taken_between reading paths values p b n m v w w2 t is x = elim (same_or x p) as
   | inr ne ↦ blocks_still (reading x) (with_node reading p m x) (with_other reading p m x ne)
 ]
 
--- where a child was dropped
+-- if a child was removed
 pub dropped_between : (reading : List ℕ → Option Node) (paths : List (List ℕ)) (p : List ℕ) (c : ℕ) (n m leaf : Node) (v v2 : Store Node) →
     ChildDropped reading paths p c n m v v2 → reading p ≡ Some n → reading (p ++ c ∷ []) ≡ Some leaf → IsBare leaf →
     (x : List ℕ) → BlocksBetween (reading x) (with_child_removed reading p m c x)
@@ -90,7 +90,8 @@ dropped_between reading paths p c n m leaf v v2 t is under bare x = by (same_or 
         }))
     by (inr ne) (inr other) = blocks_still (reading x) (with_child_removed reading p m c x) (changed_other reading p m c None x other ne)
 
--- pruning leaves each node's values where they were, and the children of the node where it stopped in a smaller block at most
+-- pruning leaves each node's values unchanged, and the children of the node where it stopped in a
+-- block that is no larger
 pub pruned_between : (reading : List ℕ → Option Node) (paths : List (List ℕ)) (path : List ℕ) (level : ℕ) (node : Node) (v v2 : Store Node)
     (p : PrunedTo reading paths path level node v v2) (x : List ℕ) → BlocksBetween (reading x) (p.later x)
 pruned_between reading paths path level node v v2 p x =

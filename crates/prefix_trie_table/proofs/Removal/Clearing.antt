@@ -1,4 +1,4 @@
--- A table from which all was taken out.
+-- A table after everything was removed.
 use Rattle.prefix_trie_table.proofs.Prelude.{◌≡◌, ℕ, ◌<◌, List, [], ◌∷◌, length, map, Option, refl, ap, ◌∙◌, Node, node_sizes, cell_sizes, Store, Tier, no_blocks, tier_sizes, SomeTable, at_root}
 use Rattle.prefix_trie_table.proofs.Tree.Trees.{slot_holds}
 
@@ -6,7 +6,7 @@ all_sizes : (ts : List Tier) → map (λ t. no_blocks t.size) ts ≡ map no_bloc
 all_sizes [] = refl
 all_sizes (t ∷ ts) = ap (λ us. no_blocks t.size ∷ us) (all_sizes ts)
 
--- the tiers of these sizes, of which no block is made any more
+-- the tiers of these sizes, with no blocks made
 pub cleared_tiers : (ts : List Tier) (sizes : List ℕ) → tier_sizes ts ≡ sizes → map (λ t. no_blocks t.size) ts ≡ map no_blocks sizes
 cleared_tiers ts sizes e = all_sizes ts ∙ ap (λ ns. map no_blocks ns) e
 

@@ -4,7 +4,7 @@ use Rattle.std.proofs.lemmas.List.{length-set}
 use Rattle.prefix_trie_table.proofs.Blocks.Turnovers.{none_written, none_same}
 use Rattle.prefix_trie_table.proofs.Insertion.Spaces.{none_then}
 
--- a node written leaves the room and the free blocks
+-- writing a node leaves the slots and the free blocks
 pub gives_written : {S : Type 0} (v w x : Store S) (slot : ℕ) (m : S) → GivesBack v w → x ≡ record w { slots = set w.slots slot m } → GivesBack v x
 gives_written v w x slot m back e = subst (λ y. GivesBack v y) (sym e) (record { none = none_written v w _ slot m back.none refl; sizes = back.sizes; free = back.free })
 

@@ -95,14 +95,14 @@ headroom_bound f none few nodes paths v hold =
     each [] = All-nil (λ q. weight f none node_sizes nodes q ≤ 55)
     each (x ∷ xs) = All-cons (λ q. weight f none node_sizes nodes q ≤ 55) x xs (few (node_or_blank (nodes x))) (each xs)
 
--- there is a node where one is at a string
+-- there is a node if one is at a string
 pub some_nodes : (n : Nodes) (s : List Bool) → has_node n s ≡ true → 0 < len n
 some_nodes n s there = elim (cases_lt 0 (len n)) as (λ _. 0 < len n) [
   | inl more ↦ more
   | inr none ↦ absurd (false≢true (sym (ap (λ (m : Nodes). has_node m s) (empty_of_len n (omega (arith, none))) ∙ ap is_some (get-empty listing_cmp s)) ∙ there))
 ]
 
--- so arrays that settle grow by so many slots for each node that there was
+-- so such arrays grow by at most so many slots for each node that there was
 pub bounded_space : {T : Type 0} (v v2 : Store Node) (w w2 : Store (Option T)) (count : ℕ) (s : State T) → IsTable v w count s → IsShapeOf v.slots w.slots s →
     BoundsGrowth v v2 w w2 → (length v2.slots ≤ length v.slots + 56 * len s.nodes) × (length w2.slots ≤ length w.slots + 56 * len s.nodes)
 bounded_space v v2 w w2 count s is shaped bounds_growth =

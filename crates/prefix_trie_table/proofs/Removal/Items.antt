@@ -13,9 +13,9 @@ use Rattle.prefix_trie_table.proofs.Tree.Trees.{own_first, slot_holds, held_some
 use Rattle.prefix_trie_table.proofs.Blocks.Turnovers.{made_turned}
 use Rattle.prefix_trie_table.proofs.Tree.Values.{values_first, value_removed}
 
--- ---- by how much an array grows where a list loses an item
+-- ---- by how much an array grows when a list loses an item
 
--- a list stands in a block of one of the seven tiers, which holds it
+-- a list is in a block of one of the seven tiers, which holds it
 pub held_fits : {S : Type 0} (vacant : S) (v : Store S) (k start count : ℕ) (sizes : List ℕ) → tier_sizes v.tiers ≡ sizes → length sizes ≡ 7 → HasList vacant v k start count →
     0 < count → (k < 7) × (count ≤ size_in sizes k)
 held_fits vacant v k start count sizes sizes_are seven list some =
@@ -26,8 +26,8 @@ held_fits vacant v k start count sizes sizes_are seven list some =
     let size : list.size ≡ size_in sizes k = of.size_is ∙ size_at v.tiers k ∙ ap (λ ns. size_in ns k) sizes_are in
     ((let x = of.within in omega arith), (let e = list.is_count in omega arith))
 
--- what is left of an array once a list of so many items, at `start` in a block of tier k, has lost the one at a place and
--- stands at `next` in a block of tier `to`
+-- what is left of an array after a list of so many items, at `start` in a block of tier k, lost the
+-- one at an offset and moved to `next` in a block of tier `to`
 pub record Lost {S : Type 0} (vacant : S) (sizes : List ℕ) (v w : Store S) (k start count offset to next : ℕ) : Type 0 where
   pub keeps : Keeps v w
   pub grows : Grows v w 24
@@ -38,7 +38,7 @@ pub record Lost {S : Type 0} (vacant : S) (sizes : List ℕ) (v w : Store S) (k 
   pub sound : (n : ℕ) (xs : List S) (live : List (UsedBlock S)) → Sound vacant (held k start n xs ++ live) v → length xs ≡ count →
       Sound vacant (held to next (tier_at v.tiers to).size (remove xs offset) ++ live) w
 
--- a call that takes an item out of a list, and answers where the list stands then
+-- a call that removes an item of a list and returns where the list is then
 module _ {S : Type 0} (vacant : S) (v w : Store S) (k start count offset : ℕ) (next : BlockRef) (top : ℕ) (are : tier_sizes v.tiers ≡ sizes_to top)
     (up : goes_up 0 (sizes_to top) ≡ true) (rooms : all_spaces (sizes_to top) ≡ true) (list : HasList vacant v k start count) (some : 0 < count) (within : next.tier < length v.tiers)
     (loses : LosesOne v w count (list_size v.tiers k count) (list_size v.tiers next.tier (count - 1))) where
@@ -101,7 +101,7 @@ module _ {S : Type 0} (vacant : S) (v w : Store S) (k start count offset : ℕ) 
         sound = sound;
       }))
 
--- ---- the reading of the arrays where a value is gone
+-- ---- the reading of the arrays after a value is gone
 
 -- a node with another list of values, and with another of children
 abbrev pub with_values : Node → ℕ → ℕ → ℕ → Node
@@ -110,7 +110,7 @@ with_values k bitmap start tier = record k { value_bitmap = bitmap; value_block 
 abbrev pub with_children : Node → ℕ → ℕ → ℕ → Node
 with_children k bitmap start tier = record k { child_bitmap = bitmap; child_block = start; child_tier = tier }
 
--- the list without a value, and the node written with it, lack the value
+-- the value is missing in the list without it, and in the node written with it
 pub values_taken : {T : Type 0} (v v2 : Store Node) (w u : Store (Option T)) (slot b tier start bitmap : ℕ) (k : Node) → k ≡ node_at v.slots slot → Sets bitmap b k.value_bitmap
     → Lost None cell_sizes w u k.value_tier k.value_block (rank k.value_bitmap 32) (rank k.value_bitmap b) tier start
     → b < 31 → has_bit k.value_bitmap b ≡ true → v2 ≡ record v { slots = set v.slots slot (with_values k bitmap start tier) }
@@ -139,9 +139,9 @@ values_taken {T} v v2 w u slot b tier start bitmap k read sets lost small there 
           (lost.shrinks (rank bitmap 32) fewer_here);
     }
 
--- ---- the reading of the arrays where a child is gone
+-- ---- the reading of the arrays after a child is gone
 
--- the list without a child that has no children, and the node written with it, lack the child
+-- the child is missing in the list without it, and in the node written with it
 pub children_dropped : (v u v2 : Store Node) (slot c tier start bitmap : ℕ) (k : Node) → k ≡ node_at v.slots slot → Sets bitmap c k.child_bitmap
     → Lost blank_node node_sizes v u k.child_tier k.child_block (rank k.child_bitmap 32) (rank k.child_bitmap c) tier start
     → c < 32 → v2 ≡ record u { slots = set u.slots slot (with_children k bitmap start tier) }

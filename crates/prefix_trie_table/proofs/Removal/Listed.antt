@@ -9,7 +9,7 @@ use Rattle.prefix_trie_table.proofs.Walk.Selected.{at_some_places, wanted_ended}
 filter_alike : {X : Type 0} (f g : X → Bool) → ((x : X) → f x ≡ g x) → (xs : List X) → filter f xs ≡ filter g xs
 filter_alike f g same xs = λ i. filter (λ x. same x i) xs
 
--- of two tests of which the second implies the first, both are the second
+-- two tests of which the second implies the first are together the second
 both_tests : (a b : Bool) → (b ≡ true → a ≡ true) → (a && b) ≡ b
 both_tests true b h = refl
 both_tests false true h = absurd (false≢true (h refl))

@@ -53,7 +53,7 @@ module _ {T : Type 0} (q : List Bool) (reading : List ℕ → Option Node) (valu
   home_is = shape_nodes reading values paths v w holds s is (home q)
       ∙ ap₂ (λ a p. a && is_some (reading p)) (eq-eqb (length (home q) % 5) 0 (home-depth q)) (home_path q)
 
-  -- where the node of the string is missing, nothing is pruned
+  -- if the node of the string is missing, nothing is pruned
   pub none_pruned : reading (chunks_of q) ≡ None → nodes_without s.nodes s.entries q ≡ s.nodes
   none_pruned missing = ap (λ b. cond b (retain_keys s.nodes (λ t. not (is_pruned s.nodes (without_entry s.entries q) (home q) t))) s.nodes) (home_is ∙ ap is_some missing)
 
@@ -75,7 +75,7 @@ module _ {T : Type 0} (q : List Bool) (reading : List ℕ → Option Node) (valu
     stood : (u : List Bool) → has_node s.nodes u ≡ true → is_some (reading (chunks_of u)) ≡ true
     stood u h = and-second (is_node_depth u) (is_some (reading (chunks_of u))) (sym (shape_nodes reading values paths v w holds s is u) ∙ h)
 
-    -- off the way nodes are as they were
+    -- off the path nodes are unchanged
     off_path : (x : List ℕ) → is_start x (chunks_of q) ≡ false → is_some (p.to.later x) ≡ is_some (reading x)
     off_path x off = ap is_some (p.to.off x off) ∙ t.same x
 
@@ -90,14 +90,14 @@ module _ {T : Type 0} (q : List Bool) (reading : List ℕ → Option Node) (valu
     above_left : (x y : List ℕ) → is_some (p.to.later y) ≡ true → is_start x y ≡ true → is_some (p.to.later x) ≡ true
     above_left x y = prefix_some node_sizes p.to.later p.to.left v2 p.to.hold x y
 
-    -- a string on the way to the home begins it
+    -- q's own string begins with a string on the path
     begins_home : (u : List Bool) → length u % 5 ≡ 0 → is_start (chunks_of u) (chunks_of q) ≡ true → begins u (home q) ≡ true
     begins_home u five on = home-longest u q (sym (begins-way u q five) ∙ on) five
 
     on_path_of : (u : List Bool) → length u % 5 ≡ 0 → begins u (home q) ≡ true → is_start (chunks_of u) (chunks_of q) ≡ true
     on_path_of u five h = begins-way u q five ∙ begins-trans u (home q) q h (home-begins q)
 
-    -- a node that is not left was taken out as the model says
+    -- a node that is not left was removed as the model states
     pub gone_out : (u : List Bool) → has_node s.nodes u ≡ true → is_some (p.to.later (chunks_of u)) ≡ false →
         IsTakenOut s.nodes (without_entry s.entries q) q u
     gone_out u h gone =
@@ -128,7 +128,8 @@ module _ {T : Type 0} (q : List Bool) (reading : List ℕ → Option Node) (valu
     stop_path : chunks_of (take (5 * p.level) q) ≡ take p.level (chunks_of q)
     stop_path = path-take p.level q stop_within
 
-    -- a value at that node is that of a key that is left, which each string on the way above begins
+    -- a value at that node is that of a remaining key, which begins with each string on the path
+    -- above
     value_left : (u : List Bool) (b : ℕ) → length u % 5 ≡ 0 → is_start (chunks_of u) (take p.level (chunks_of q)) ≡ true → has_bit p.node.value_bitmap b ≡ true →
         ((k : List Bool) → contains_key (without_entry s.entries q) k ≡ true → begins u k ≡ false) → ⊥
     value_left u b five start set none =
@@ -143,7 +144,7 @@ module _ {T : Type 0} (q : List Bool) (reading : List ℕ → Option Node) (valu
         clash (begins u (take (5 * p.level) q ++ r.0)) (none (take (5 * p.level) q ++ r.0) stored)
         (sym (begins-way u (take (5 * p.level) q ++ r.0) five) ∙ ap (is_start (chunks_of u)) key_path ∙ start)
 
-    -- a child of that node is a node off the way, which each string on the way above begins
+    -- a child of that node is a node off the path, which begins with each string on the path above
     child_left : (u : List Bool) (c : ℕ) → length u % 5 ≡ 0 → is_start (chunks_of u) (take p.level (chunks_of q) ++ c ∷ []) ≡ true → has_bit p.node.child_bitmap c ≡ true →
         ((x : List Bool) → has_node s.nodes x ≡ true → begins u x ≡ true → begins x (home q) ≡ true) → ⊥
     child_left u c five start set alone =
@@ -163,7 +164,7 @@ module _ {T : Type 0} (q : List Bool) (reading : List ℕ → Option Node) (valu
         let none : p.to.later (take p.level (chunks_of q) ++ c ∷ []) ≡ None = ap p.to.later (sym at.0) ∙ p.to.gone (length (take p.level (chunks_of q) ++ c ∷ [])) (omega arith) at.1 in
         clash (is_some (p.to.later (take p.level (chunks_of q) ++ c ∷ []))) (ap is_some none) some
 
-    -- what the model takes out is gone
+    -- what the model removes is gone
     out_gone : (u : List Bool) → has_node s.nodes u ≡ true → IsTakenOut s.nodes (without_entry s.entries q) q u → is_some (p.to.later (chunks_of u)) ≡ true → ⊥
     out_gone u h out left =
         let five = five_of u h in

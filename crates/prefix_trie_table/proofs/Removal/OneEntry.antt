@@ -1,4 +1,4 @@
--- An entry taken out, and what contracts see of it.
+-- An entry removed, and what contracts see of it.
 use Rattle.prefix_trie_table.proofs.Prelude.{◌≡◌, ◌≢◌, ℕ, ◌+◌, ◌-◌, ◌*◌, ◌/◌, ◌<◌, ◌⊎◌, inl, inr, Bool, true, false, cond, ◌&&◌, List, [], ◌∷◌, ◌++◌, take, drop, Option, None, Some, is_some, refl, sym, ap, ap₂, ◌∙◌, subst, arith, false≢true, get, len, len-remove, listing_total, without_entry, is_node_depth, State, get-without_entry, value_bit, Node, has_bit, rank, cell_sizes, chunks_of, bit_of, Store, one_if, Holds, IsSlot, at_root, at_child, child_slot, node_or_blank, own_count, has_value, with_node, with_value, SomeTable, entry_count, ShrinksList, ValueTaken, EntryTaken, MakesEntered, IsShapeOf, Shaped, same_shape, IsReached, IsTable, Grows, ForHeld, own_children, child_block_size}
 use Rattle.std.proofs.lemmas.List.{take_all}
 use Rattle.prefix_trie_table.specs.OwnBlocks.{value_block_size}
@@ -13,7 +13,7 @@ use Rattle.prefix_trie_table.proofs.Strings.Keys.{same_key}
 use Rattle.prefix_trie_table.proofs.Strings.Paths.{same_path-equal, same_path-not, snoc_inj}
 use Rattle.prefix_trie_table.proofs.Tree.Shapes.{shape_of, shape_nodes, shape_entries}
 
--- each node stands where it stood where a node keeps its children
+-- each node is in its slot if a node keeps its children
 pub slots_same : (reading : List ℕ → Option Node) (p : List ℕ) (n m : Node) (q : List ℕ) (s : ℕ) → IsSlot reading q s → reading p ≡ Some n →
     m.child_bitmap ≡ n.child_bitmap → m.child_block ≡ n.child_block → IsSlot (with_node reading p m) q s
 slots_same reading p n m q s (at_root) is bits block = at_root
@@ -52,7 +52,7 @@ module _ {T : Type 0} (reading : List ℕ → Option Node) (values : List ℕ �
           ∙ sym (ap (λ t. cond t None (values q j)) (same_path-equal (q ++ j ∷ []) (path ++ b ∷ []) e))
       unchanged q j (inr ne) = sym (ap (λ t. cond t None (values q j)) (same_path-not (q ++ j ∷ []) (path ++ b ∷ []) ne))
 
-  -- where the node is missing, there is no value
+  -- if the node is missing, there is no value
   pub no_value : (path : List ℕ) (b : ℕ) → reading path ≡ None → values path b ≡ None
   no_value path b none = is_none-None (values path b) (holds.cells.set_where path b ∙ ap (λ o. has_value o b) none)
 
@@ -108,7 +108,8 @@ one_less : (c n l : ℕ) (b : Bool) → c ≡ l → n + one_if b ≡ c → n ≡
 one_less c n l true e f = omega (arith, e, f)
 one_less c n l false e f = omega (arith, e, f)
 
--- what a removal that answers this leaves of a table with these entries: arrays that are a table of this state and of no other
+-- what a removal with this result leaves of a table with these entries: arrays that are a table of
+-- this state and of no other
 pub record TakenOut {T : Type 0} (key : List Bool) (v v2 : Store Node) (w w2 : Store (Option T)) (count2 : ℕ) (s left : State T) (removed : Option T) : Type 0 where
   pub was : removed ≡ get s.entries key
   pub shape : IsShapeOf v2.slots w2.slots left
@@ -150,7 +151,7 @@ module _ {T : Type 0} (key : List Bool) (v v2 : Store Node) (w w2 : Store (Optio
         };
       }
 
-  -- where the nodes stay
+  -- if the nodes stay
   pub kept_without : ForHeld v w (λ reading paths values. EntryTaken reading paths values (chunks_of key) (bit_of key) v2 w w2) →
       TakenOut key v v2 w w2 count2 s.0 (record { entries = without_entry s.0.entries key; nodes = s.0.nodes }) removed
   kept_without taken =
@@ -181,7 +182,7 @@ module _ {T : Type 0} (b : List Bool) (len slot : ℕ) (node : Node) (v : Store 
       holds.cells.set_where (chunks_of (take len b)) (bit_of (take len b)) ∙ ap (λ o. has_value o (bit_of (take len b))) own_node
       ∙ ap (has_bit node.value_bitmap) own_bit
 
-  -- where the bit is clear there is no value, and nothing is taken
+  -- if the bit is clear there is no value, and nothing is removed
   pub none_there : has_bit node.value_bitmap x ≡ false → values (chunks_of (take len b)) (bit_of (take len b)) ≡ None
   none_there clear = is_none-None (values (chunks_of (take len b)) (bit_of (take len b))) (own_is ∙ clear)
 
@@ -190,7 +191,7 @@ module _ {T : Type 0} (b : List Bool) (len slot : ℕ) (node : Node) (v : Store 
   unfolding nothing_taken
   none_taken clear = (nothing_taken reading values paths v w holds (chunks_of (take len b)) (bit_of (take len b)) (none_there clear), own_node)
 
-  -- where it is set, what the node loses is the string's value
+  -- if it is set, the node loses the string's value
   module _ (removed : Option T) (m : Node) (v2 : Store Node) (w2 : Store (Option T)) (there : has_bit node.value_bitmap x ≡ true) where
     pub some_there : is_some (values (chunks_of (take len b)) (bit_of (take len b))) ≡ true
     some_there = own_is ∙ there

@@ -1,4 +1,4 @@
--- What is left of a table once all that a bit string begins is taken out.
+-- What is left of a table after everything under a bit string is removed.
 use Rattle.prefix_trie_table.proofs.Prelude.{◌≡◌, ◌↔◌, ℕ, ◌+◌, ◌*◌, ◌/◌, ◌≤◌, Bool, true, false, not, ◌||◌, List, [], ◌∷◌, ◌++◌, cond, length, take, drop, Option, None, Some, is_some, refl, sym, ap, ◌∙◌, subst, arith, inl, inr, bit_and, take-take, get, get-empty, begins, same_string, HoldsValues, HoldsChildren, is_in, places, PruningLaws, CallableOnEachEntry, Entries, AreWithin, no_entries, without_entry, without_below, Nodes, AreNodes, has_node, home, pruned, root_alone, nodes_not_below, nodes_without, nodes_without_below, listing_at_places, listing_below, State, and-first, and-second, get-without_below, has-retained, has-root_alone, same_entries, same_nodes, same_string-is, begins-nil, pruning_laws, removed_fewer, Node, NodeSlot, node_sizes, chunks_of, bit_of, Store, read, Holds, NodesHold, IsSlot, EntryTaken, EntryRemoved, Pruned, AreAncestors, StandsAtEnd, slot_in, BoundsNodeGrowth, Contents, state, Shaped, ForHeld, Grows, IsReached, IsTable, IsTrie, BlocksBetween, IsSite, PreservesBelow, Retains, RetainsTo}
 use Rattle.std.proofs.lemmas.List.{take_all, take-append-drop, length-take-le}
 use Rattle.std.specs.List.{Contains}
@@ -35,7 +35,7 @@ module _ (b : List Bool) (len : ℕ) (within : len ≤ length b) where
   pub home_is : home (take len b) ≡ take (len / 5 * 5) b
   home_is = home_take ∙ take-take (len / 5 * 5) len b (fifth_low len)
 
-  -- and the other bits are those behind
+  -- and the other bits are those after it
   pub home_rest : take len b ≡ home (take len b) ++ drop (len / 5 * 5) (take len b)
   home_rest = sym (ap (λ h. h ++ drop (len / 5 * 5) (take len b)) home_take ∙ take-append-drop (len / 5 * 5) (take len b))
 
@@ -50,7 +50,7 @@ module _ (b : List Bool) (len : ℕ) (within : len ≤ length b) where
   pub home_ancestors : chunks_of (home (take len b)) ≡ chunks_of (take len b)
   home_ancestors = ap chunks_of home_is ∙ home_steps
 
--- ---- the node where the way ends
+-- ---- the node where the search ends
 
 module _ {K T : Type 0} (IsKey : K → Type 0) (bits : K → List Bool) (width : ℕ) (key : K) (is_key : IsKey key) (long : length (bits key) ≡ width) (len : ℕ)
     (v : Store Node) (n : Node) (at : NodeSlot) (reached : IsReached (bits key) len (len / 5) n (at.start + at.offset) v)
@@ -90,7 +90,7 @@ module _ {K T : Type 0} (IsKey : K → Type 0) (bits : K → List Bool) (width :
         (ap (λ p. read v.slots (chunks_of p)) (home_is (bits key) len long_key) ∙ reached_site.stands)
         values children holds_values holds_children ts each all
 
--- ---- a test that may always be asked
+-- ---- a test that may always be called
 
 pub may_ask_all : {F T : Type 0} (asks : F → List Bool → T → Bool → F → Type 0) (accepts : F → List Bool → T → Type 0) →
     ((f : F) (k : List Bool) (x : T) → accepts f k x) → (f : F) (es : List (List Bool × T)) → CallableOnEachEntry asks accepts f es
@@ -109,9 +109,9 @@ module _ {F T : Type 0} (asks : F → List Bool → T → Bool → F → Type 0)
       (subst (λ p. Retains asks accepts p ts f s g to.after) (sym (home_is b len within)) to.retains) are in
       subst (λ (x : State T). IsTrie width count v w x) (λ i. record { entries = left.entries i; nodes = left.nodes i }) to.trie
 
--- ---- the way pruned where nothing is stored at its end
+-- ---- the path pruned if there is no value at its end
 
--- where there was no value, each node is as it was
+-- if there was no value, each node is unchanged
 later_same : {T : Type 0} (reading : List ℕ → Option Node) (values : List ℕ → ℕ → Option T) (paths : List (List ℕ)) (w : Store (Option T)) (v : Store Node) (path : List ℕ) (b : ℕ)
     (t : EntryTaken reading paths values path b v w w) → is_some (values path b) ≡ false → (p : List ℕ) → t.later p ≡ reading p
 later_same reading values paths w v path b t none p = elim (same_or p path) as (λ _. t.later p ≡ reading p) [
@@ -159,7 +159,7 @@ module _ {T : Type 0} (width : ℕ) (b : List Bool) (len : ℕ) (within : len �
     (preserves : PreservesBelow (len / 5) v v2 w w2) (ancestors : List NodeSlot)
     (found : (reading : List ℕ → Option Node) (paths : List (List ℕ)) → NodesHold node_sizes reading paths v → AreAncestors reading (chunks_of (take len b)) ancestors (len / 5))
     (n : Node) (is : read v2.slots (chunks_of (take len b)) ≡ Some n) where
-  -- the way is as it was
+  -- the nodes on the path are unchanged
   ancestors_left : AreAncestors (read v2.slots) (chunks_of (take len b)) ancestors (len / 5)
   ancestors_left k low =
       let t = some_table trie.table in
@@ -175,7 +175,7 @@ module _ {T : Type 0} (width : ℕ) (b : List Bool) (len : ℕ) (within : len �
       let t = some_table emptied.table in
       record { reading = read v2.slots; paths = t.paths; hold = (read_held t.reading t.values t.paths v2 w2 t.holds).hold; slots = ancestors_left; is = is }
 
-  -- the node of the string stood there
+  -- the node of the string was there
   home_stood : has_node s.nodes (home (take len b)) ≡ true
   home_stood =
       let q = take len b in
@@ -183,7 +183,7 @@ module _ {T : Type 0} (width : ℕ) (b : List Bool) (len : ℕ) (within : len �
       and-second (not (begins q (home q)) || same_string (home q) (home q)) (has_node s.nodes (home q))
       (sym (has-retained s.nodes (λ u. not (begins q u) || same_string u (home q)) (home q)) ∙ left)
 
-  -- once the way is pruned too
+  -- after the path is pruned too
   pub part_taken : (v3 : Store Node) → Grows v2 v3 24 →
       ((reading : List ℕ → Option Node) (paths : List (List ℕ)) → NodesHold node_sizes reading paths v2 → AreAncestors reading (chunks_of (take len b)) ancestors (len / 5) →
       reading (chunks_of (take len b)) ≡ Some n → Pruned reading paths (chunks_of (take len b)) v2 v3) →
@@ -215,7 +215,7 @@ module _ {T : Type 0} (width : ℕ) (b : List Bool) (len : ℕ) (within : len �
             (pruned_between (read v2.slots) t.paths (chunks_of (take len b)) pruned.level pruned.node v2 v3 pruned.to x));
       }
 
--- and where the node of the string is missing
+-- and if the node of the string is missing
 pub part_missing : {T : Type 0} (width : ℕ) (b : List Bool) (len : ℕ) → len ≤ length b → (v : Store Node) (w : Store (Option T)) (count : ℕ) (s : State T) → IsTrie width count v w s →
     ((reading : List ℕ → Option Node) (paths : List (List ℕ)) → NodesHold node_sizes reading paths v → reading (chunks_of (take len b)) ≡ None) →
     IsTrie width count v w (record { entries = without_below s.entries (take len b); nodes = nodes_without_below s.nodes s.entries (take len b) })

@@ -1,4 +1,4 @@
--- A way pruned from its end upward.
+-- A search path pruned from its end upward.
 use Rattle.prefix_trie_table.proofs.Prelude.{◌≡◌, ◌≢◌, ℕ, ◌+◌, ◌<◌, ◌≤◌, inl, inr, true, List, [], ◌∷◌, ◌++◌, length, get_or, take, Option, None, Some, is_some, refl, sym, ap, ◌∙◌, subst, arith, length-append, false≢true, cases_lt, take_more, Node, NodeSlot, has_bit, rank, node_at, node_sizes, cell_sizes, Store, tier_sizes, free_counts, NodesHold, CellsHold, IsSlot, at_root, at_child, has_child, is_start, without, own_count, entry_count, with_child_removed, node_or_blank, ShrinksList, MakesEntered, MakesFew, SameValues, IsBare, AreAncestors, GivesBack, ChildDropped, Drops, none, more, PrunedTo, slot_in, LongerByOne, free_of, own_children, child_block_size}
 use Rattle.std.proofs.lemmas.List.{take_all, length-take-le}
 use Rattle.prefix_trie_table.proofs.Removal.ShrinkingLists.{shrinks_none, children_none}
@@ -11,19 +11,19 @@ use Rattle.prefix_trie_table.proofs.Strings.Starts.{is_start_take}
 use Rattle.prefix_trie_table.proofs.Tree.Trees.{listed_once, slot_holds}
 use Rattle.prefix_trie_table.proofs.Tree.Values.{cells_lacking_child}
 
--- a node stands where it stood where the nodes above it are as they were
+-- a node is in its slot if the nodes above it are unchanged
 pub slot_stays : (f g : List ℕ → Option Node) (p : List ℕ) (slot : ℕ) → ((q : List ℕ) → length q < length p → g q ≡ f q) → IsSlot f p slot → IsSlot g p slot
 slot_stays f g p slot same (at_root) = at_root
 slot_stays f g p slot same (at_child r c n is bit) = at_child r c n (same r (omega (arith, length-append r (c ∷ []))) ∙ is) bit
 
--- so it does, where it is no deeper than p, when a child of p comes or goes
+-- a node no deeper than p is in its slot when p gains or loses a child
 slots_still : (reading : List ℕ → Option Node) (p : List ℕ) (m : Node) (c : ℕ) (o : Option Node) (q : List ℕ) (s : ℕ) → IsSlot reading q s →
     length q ≤ length p → IsSlot (changed reading p m c o) q s
 slots_still reading p m c o q s at short = slot_stays reading (changed reading p m c o) q s (λ r less. changed_other reading p m c o r
     (λ e. let l : length r ≡ length p = ap (λ (xs : List ℕ). length xs) e in omega arith)
     (λ e. let l : length r ≡ length p + 1 = ap (λ (xs : List ℕ). length xs) e ∙ length-append p (c ∷ []) in omega arith)) at
 
--- what holds as the way is pruned
+-- what holds while the path is pruned
 pub record Pruning (reading : List ℕ → Option Node) (paths : List (List ℕ)) (path : List ℕ) (ancestors : List NodeSlot) (level : ℕ) (node : Node)
     (before after : Store Node) : Type 0 where
   pub to : PrunedTo reading paths path level node before after
@@ -53,7 +53,7 @@ pruning_first reading paths path ancestors level node v hold slots is all = reco
   slots = slots;
 }
 
--- a list lost an item where more is free than was
+-- a list lost an item while more blocks are free than before
 module _ (u v w : Store Node) (are : tier_sizes v.tiers ≡ node_sizes) (back : GivesBack u v) where
   more_free : (size : ℕ) → free_of node_sizes (free_counts u.tiers) size ≤ free_of node_sizes (free_counts v.tiers) size
   more_free size =

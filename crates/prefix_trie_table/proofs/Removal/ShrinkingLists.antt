@@ -10,7 +10,7 @@ use Rattle.prefix_trie_table.proofs.Blocks.Turnovers.{space_kept}
 -- ---- by numbers
 
 module _ (sizes free : List ℕ) (before after : ℕ) (old new : Option ℕ) where
-  -- where no item was taken
+  -- if no item was removed
   pub steps_same : after ≡ before → new ≡ old → (after ≡ 0 → new ≡ None) → StepsDown sizes free before after old new
   steps_same count same empty = record {
     fewer = omega arith;
@@ -20,7 +20,7 @@ module _ (sizes free : List ℕ) (before after : ℕ) (old new : Option ℕ) whe
     smallest = λ size less some is one. absurd (omega arith);
   }
 
-  -- where none is left
+  -- if none is left
   pub steps_gone : after ≡ 0 → new ≡ None → (before ≡ 0 → old ≡ None) → StepsDown sizes free before after old new
   steps_gone count gone empty = record {
     fewer = omega arith;
@@ -160,7 +160,7 @@ shrinks_list_few top v w before after old new l less = elim l.grows.longer as (�
       omega (arith, few, long))
 ]
 
--- ---- what a call says that takes an item out
+-- ---- what a call promises that removes an item
 
 module _ {S : Type 0} (v w : Store S) (o : ℕ) where
   abbrev made : Option ℕ → ℕ → ℕ
@@ -185,7 +185,7 @@ module _ {S : Type 0} (v w : Store S) (o : ℕ) where
         ]
   ]
 
--- where the last item went, no block was made or taken
+-- if the last item was removed, no block was made or taken
 pub gives_back : {S : Type 0} (v w : Store S) (o : ℕ) (new : Option ℕ) → new ≡ None → Turnover v w (made_of (tier_sizes v.tiers) (free_counts v.tiers) (Some o) new) (Some o) new → GivesBack v w
 gives_back v w o new gone turned =
     let none = λ (size : ℕ). ap (λ n. made_of (tier_sizes v.tiers) (free_counts v.tiers) (Some o) n size) gone ∙ none_made (tier_sizes v.tiers) (free_counts v.tiers) (Some o) size in

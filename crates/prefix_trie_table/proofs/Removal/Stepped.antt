@@ -28,7 +28,7 @@ size_there size reading paths v hold m m_are p x depth path = size_read size v.s
 abbrev StepsAt : (ℕ → ℕ → Option ℕ → Option ℕ → Type 0) → Nodes → (List Bool → ℕ) → (List Bool → ℕ) → Sizes → Sizes → Type 0
 StepsAt R n before after old new = ((p : List Bool) → has_node n p ≡ true → R (before p) (after p) (get old p) (get new p)) × ((p : List Bool) → has_node n p ≡ false → get new p ≡ None)
 
--- it is so where those by paths are
+-- it is so if it is so for the sizes by paths
 sizes_step : (size : Option Node → Option ℕ) (count : Option Node → ℕ) (R : ℕ → ℕ → Option ℕ → Option ℕ → Type 0) (reading later : List ℕ → Option Node) →
     ((x : List ℕ) → R (count (reading x)) (count (later x)) (size (reading x)) (size (later x))) → ((x : List ℕ) → reading x ≡ None → size (later x) ≡ None) →
     (v v2 : List Node) → ((x : List ℕ) → read v x ≡ reading x) → ((x : List ℕ) → read v2 x ≡ later x) →
@@ -49,7 +49,7 @@ sizes_step size count R reading later step gone v v2 reads_old reads_new n are b
   ],
 )
 
--- a number that is the rank of each bitmap with the bits of a node is that of the node's own
+-- a number that is the rank of a bitmap with the bits of a node is the node's own number
 by_bits : (own : Node → ℕ) (has : Option Node → ℕ → Bool) (count : Option Node → ℕ) → ((b : ℕ) → has None b ≡ false) → count None ≡ 0 →
     ((n : Node) (b : ℕ) → has (Some n) b ≡ has_bit (own n) b) → ((n : Node) → count (Some n) ≡ rank (own n) 32) → (o : Option Node) (number : ℕ) →
     ((bitmap : ℕ) → ((b : ℕ) → has o b ≡ has_bit bitmap b) → number ≡ rank bitmap 32) → number ≡ count o
@@ -185,7 +185,7 @@ module _ {T : Type 0} (key : List Bool) (v v2 : Store Node) (w w2 : Store (Optio
       whole : (k n : ℕ) → n ≡ 5 * k → n % 5 ≡ 0
       whole k n e = omega (arith, e)
 
-  -- the array of values as the model says
+  -- the array of values as the model has it
   removes_in : SomeTable v2 w2 → Left is.reading (chunks_of key) v w v2 w2 → RemovesValueInStorage s.0 s2.0 key (storage_of v w z) (storage_of v2 w2 z2)
   removes_in later l =
       let grows = cells_grow l in
@@ -195,7 +195,7 @@ module _ {T : Type 0} (key : List Bool) (v v2 : Store Node) (w w2 : Store (Optio
         value_blocks_made = blocks_made cell_sizes w w2 z.1.0 z2.1.0 (cells_cut v w (some_table is) z) (cells_cut v2 w2 later z2) _ grows.made;
       }
 
-  -- and that of nodes
+  -- and the array of nodes
   prunes_in : SomeTable v2 w2 → Left is.reading (chunks_of key) v w v2 w2 → PrunesInStorage s.0 s2.0 (storage_of v w z) (storage_of v2 w2 z2)
   prunes_in later l =
       let grows = nodes_grow l in
@@ -208,7 +208,7 @@ module _ {T : Type 0} (key : List Bool) (v v2 : Store Node) (w w2 : Store (Optio
         );
       }
 
-  -- where the nodes stay
+  -- if the nodes stay
   module _ (taken : ForHeld v w (λ reading paths values. EntryTaken reading paths values (chunks_of key) (bit_of key) v2 w w2))
       (long : length v2.slots ≡ length v.slots) (tiers : v2.tiers ≡ v.tiers) where
     abbrev took : EntryTaken is.reading is.paths is.values (chunks_of key) (bit_of key) v2 w w2
@@ -228,7 +228,7 @@ module _ {T : Type 0} (key : List Bool) (v v2 : Store Node) (w w2 : Store (Optio
         ∙ ap child_block_size (sym (reads node_sizes t.reading t.paths v t.holds.hold (chunks_of p))))
         ∙ sym (z.1.1.0 p))
 
-  -- where the way is pruned
+  -- if the path is pruned
   module _ (done : ForHeld v w (λ reading paths values. EntryRemoved reading paths values (chunks_of key) (bit_of key) v w v2 w2)) where
     removed_left : Left is.reading (chunks_of key) v w v2 w2
     removed_left =
@@ -241,7 +241,7 @@ module _ {T : Type 0} (key : List Bool) (v v2 : Store Node) (w w2 : Store (Optio
     pub pruned_in : SomeTable v2 w2 → PrunesInStorage s.0 s2.0 (storage_of v w z) (storage_of v2 w2 z2)
     pruned_in later = prunes_in later removed_left
 
--- ---- where several values are taken
+-- ---- if several values are removed
 
 module _ {T : Type 0} (v v2 : Store Node) (w w2 : Store (Option T)) (s : Shaped v.slots w.slots) (z : Sized v.slots) (t : SomeTable v w)
     (s2 : Shaped v2.slots w2.slots) (z2 : Sized v2.slots) (t2 : SomeTable v2 w2) (steps : (x : List ℕ) → BlocksBetween (read v.slots x) (read v2.slots x)) where

@@ -31,7 +31,7 @@ children_kept free n m e = steps_same node_sizes free (own_children n) (own_chil
 pub steps_read : {c c2 d d2 : ℕ} {o o2 n n2 : Option ℕ} (R : ℕ → ℕ → Option ℕ → Option ℕ → Type 0) → c2 ≡ c → d2 ≡ d → o2 ≡ o → n2 ≡ n → R c d o n → R c2 d2 o2 n2
 steps_read R ec ed eo en r = subst (λ (x : ℕ × ℕ × Option ℕ × Option ℕ). R x.0 x.1 x.2 x.3) (λ i. (sym ec i, sym ed i, sym eo i, sym en i)) r
 
--- the same of an array that was as long, and cut in the same way
+-- the same for an array that kept its length and its blocks
 pub grows_same : {S : Type 0} (sizes : List ℕ) (u v w : Store S) (old new : Option ℕ) → u.tiers ≡ v.tiers → length u.slots ≡ length v.slots →
     GrowsBy MakesFew sizes u w old new → GrowsBy MakesFew sizes v w old new
 grows_same sizes u v w old new tiers long g = record {
@@ -40,14 +40,14 @@ grows_same sizes u v w old new tiers long g = record {
   made = subst (λ ts. MakesAtMost sizes (made_of sizes (free_counts ts) old new) (made_in ts) (made_in w.tiers)) tiers g.made;
 }
 
--- where no block changed
+-- if no block changed
 pub grows_not : {S : Type 0} (sizes : List ℕ) (v w : Store S) (old new : Option ℕ) → w.tiers ≡ v.tiers → length w.slots ≡ length v.slots → GrowsBy MakesFew sizes v w old new
 grows_not sizes v w old new tiers long = record {
   longer = inl long;
   made = λ size there. (let e : made_in w.tiers size ≡ made_in v.tiers size = ap (λ ts. made_in ts size) tiers in (omega (arith, e), omega (arith, e)));
 }
 
--- ---- by path, where a value was taken
+-- ---- by path, if a value was removed
 
 module _ {T : Type 0} (reading : List ℕ → Option Node) (paths : List (List ℕ)) (values : List ℕ → ℕ → Option T) (path : List ℕ) (b : ℕ)
     (v : Store Node) (w w2 : Store (Option T)) (t : EntryTaken reading paths values path b v w w2) where
@@ -69,7 +69,7 @@ module _ {T : Type 0} (reading : List ℕ → Option Node) (paths : List (List �
     | inr ne ↦ same_node own_children child_block_size (reading x) (t.later x) (t.others x ne)
   ]
 
--- ---- by path, where a way was pruned
+-- ---- by path, if a search path was pruned
 
 -- a node that is missing stays so
 pub drops_gone : (reading : List ℕ → Option Node) (paths : List (List ℕ)) (later : List ℕ → Option Node) (left : List (List ℕ)) →
@@ -107,7 +107,7 @@ drops_values reading paths later left (more f ps v p c n m leaf drops hold is be
 
 module _ (reading : List ℕ → Option Node) (paths : List (List ℕ)) (path : List ℕ) (level : ℕ) (node : Node) (v v2 : Store Node)
     (p : PrunedTo reading paths path level node v v2) where
-  -- the list of the children of a node steps down, and where some are left of more it stood in a block
+  -- the list of a node's children steps down, and was in a block if some of more are left
   abbrev Steps : List ℕ → Option Node → Type 0
   Steps x o =
       ChildrenStep (free_counts v.tiers) (reading x) o
@@ -133,8 +133,8 @@ module _ (reading : List ℕ → Option Node) (paths : List (List ℕ)) (path : 
     ]
   ]
 
-  -- the block of the children of the node where pruning stopped steps down, as do those of the nodes that are gone, and each other is
-  -- as it was
+  -- the block of the children of the node where pruning stopped steps down, as do those of the
+  -- removed nodes; each other is unchanged
   pub pruned_children : (x : List ℕ) → Steps x (p.later x)
   pruned_children x = elim (cases_Bool (is_start x path)) as (λ _. Steps x (p.later x)) [
     | inl on ↦ (let s = start_is x path on in subst (λ y. Steps y (p.later y)) s.0 (pruned_on (length x) s.1))

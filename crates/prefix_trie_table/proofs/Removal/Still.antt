@@ -1,4 +1,4 @@
--- That the sizes of blocks by string say how far the arrays may grow as items are taken out.
+-- The sizes of blocks by string bound how far the arrays may grow while items are removed.
 use Rattle.prefix_trie_table.proofs.Prelude.{◌≡◌, ℕ, ◌+◌, ◌≤◌, List, length, sum_by, Option, None, Some, refl, sym, ap, ◌∙◌, arith, Sizes, Node, blank_node, node_sizes, Store, node_or_blank, NodesHold, SomeTable, Sized, child_block_size, value_block_size, headroom, headroom_if_any, headroom_of, child_headroom, value_headroom, BoundsGrowth}
 use Rattle.prefix_trie_table.proofs.Counts.NodeCounts.{slots_by_path}
 use Rattle.prefix_trie_table.proofs.Strings.PathStrings.{paths_steps, paths_once}
@@ -31,7 +31,7 @@ module _ {T : Type 0} (v : Store Node) (w : Store (Option T)) (t : SomeTable v w
       slots_headroom t.reading t.paths v t.holds.hold value_block_size refl no_own_values
       ∙ ap headroom_of (sym (sizes_only node_sizes t.reading t.paths v t.holds.hold z).1)
 
--- arrays that settle grow by no more than the headroom that is lost
+-- such arrays grow by at most the headroom that is lost
 module _ {T : Type 0} (v v2 : Store Node) (w w2 : Store (Option T)) (t : SomeTable v w) (t2 : SomeTable v2 w2)
     (z : Sized v.slots) (z2 : Sized v2.slots) (bounds_growth : BoundsGrowth v v2 w w2) where
   pub nodes_bounded : length v2.slots + headroom_of z2.0 ≤ length v.slots + headroom_of z.0
@@ -44,7 +44,7 @@ module _ {T : Type 0} (v v2 : Store Node) (w w2 : Store (Option T)) (t : SomeTab
       let s = bounds_growth.cells in
       omega (arith, s, values_headroom v w t z, values_headroom v2 w2 t2 z2)
 
--- where no size changed nothing is lost, and an array is no shorter
+-- if no size changed, no headroom is lost, and an array keeps its length
 pub still : (before after : ℕ) (old new : Sizes) → after + headroom_of new ≤ before + headroom_of old → before ≤ after → new ≡ old → after ≡ before
 still before after old new settled longer same =
     let h : headroom_of new ≡ headroom_of old = ap headroom_of same in

@@ -1,4 +1,5 @@
--- Asking at some places of a node and then at others is asking at all of them.
+-- Calling a test on the entries of some places of a node and then of others is calling it on those
+-- of all of them.
 use Rattle.prefix_trie_table.proofs.Prelude.{◌≡◌, ◌+◌, ◌≤◌, take, drop, length-drop, take-append-drop, Bool, true, false, cond, ◌||◌, nat_lt, List, [], ◌∷◌, ◌++◌, length, None, is_some, refl, sym, ap, ap₂, ◌∙◌, subst, arith, inl, inr, append_assoc, length-append, Less, AllByRecursion, All-head, All-tail, IsStrictlySortedBy, false≢true, cases_lt, le-ltb, append_cancel_left, list_any-append, get, entries, begins, begins-append, begins-refl, begins-rest, begins-from-rest, begins-length, begins-trans, begins-linear, begins-same-length, listing_cmp, same_string, RetainsEntries, CallableOnEachEntry, Entries, part_below, listing_below, pair_of, listing_at_place, listing_at_places, State, or-cases, or-left, or-right, same_string-is, is-same_string, get-part_below, same_entries, entries-retained, not_itself, is_at, is_at_some, is_under, is_under_some, Needs, AsksUpTo, Retains, or_parts}
 use Rattle.std.specs.List.{All}
 use Rattle.std.proofs.lemmas.Bool.{lt-ltb}
@@ -146,10 +147,10 @@ module _ {T : Type 0} where
       ap₂ (λ a b. a ++ b) (place_same m n s t (λ k h. same k (or-left (is_at s t k) (is_at_some s ts k) h)))
       (places_same m n s ts (λ k h. same k (or-right (is_at s t k) (is_at_some s ts k) h)))
 
--- ---- asking
+-- ---- the calls
 
 module _ {F T : Type 0} (asks : F → List Bool → T → Bool → F → Type 0) (accepts : F → List Bool → T → Type 0) where
-  -- at no place nothing is asked
+  -- for no place there are no calls
   pub none_asked : (s : List Bool) (f : F) (x : State T) → Retains asks accepts s [] f x f x
   none_asked s f x = record {
     kept = [];
@@ -163,12 +164,12 @@ module _ {F T : Type 0} (asks : F → List Bool → T → Bool → F → Type 0)
     needed = λ q h. absurd (false≢true h);
   }
 
-  -- asking at some entries and then at others is asking at all
+  -- the calls on some entries and then on others are the calls on all
   up_to_both : (f g h : F) (es rest : List (List Bool × T)) → AsksUpTo asks f es g → AsksUpTo asks g rest h → AsksUpTo asks f (es ++ rest) h
   up_to_both f g h [] rest first second = subst (λ x. AsksUpTo asks x rest h) first second
   up_to_both f g h (e ∷ es) rest first second = (first.0, first.1, first.2, up_to_both first.1 g h es rest first.3 second)
 
-  -- what may be asked at some and then at others may be asked at the first
+  -- if it may be called on some and then on others, it may be called on the first
   pub may_ask_first : (f : F) (es rest : List (List Bool × T)) → CallableOnEachEntry asks accepts f (es ++ rest) → CallableOnEachEntry asks accepts f es
   may_ask_first f [] rest h = tt
   may_ask_first f (e ∷ es) rest h = (h.0, λ b g called. may_ask_first g es rest (h.1 b g called))
@@ -237,7 +238,7 @@ module _ {F T : Type 0} (asks : F → List Bool → T → Bool → F → Type 0)
           ];
     }
 
-  -- what may be asked at all may be asked at the others once it was at the first
+  -- if it may be called on all, it may be called on the others after the first
   pub may_ask_then : (s : List Bool) (ts us : List (List Bool)) (f g : F) (x y : State T) → Retains asks accepts s ts f x g y →
       ((q : List Bool) → is_at_some s ts q ≡ true → is_at_some s us q ≡ true → ⊥) →
       CallableOnEachEntry asks accepts f (listing_at_places x.entries s (ts ++ us)) → CallableOnEachEntry asks accepts g (listing_at_places y.entries s us)

@@ -1,4 +1,4 @@
--- Asking at one value, at all places of a node, and below a child.
+-- Calling a test on one value, on all places of a node, and under a child.
 use Rattle.prefix_trie_table.proofs.Prelude.{◌≡◌, ℕ, ◌+◌, ◌%◌, ◌≤◌, Bool, true, false, cond, ◌||◌, List, [], ◌∷◌, ◌++◌, length, take, drop, get_or, None, Some, refl, sym, ap, ◌∙◌, subst, arith, inl, inr, append-nil, false≢true, cases_Bool, true_from_ne_false, Contains-get_or, list_any_at, get, begins, begins-refl, begins-append, begins-length, begins-same-length, same_string, is_in, places, RetainsEntries, CallableOnEachEntry, Entries, without_entry, listing, listing_below, listing_at_place, listing_at_places, Nodes, AreNodes, has_node, needed, State, get-without_entry, same_string-is, is-same_string, same_nodes, needs_root, listing_by_node_places, listing_at_value, listing_at_no_value, listing_at_child, listing_of_root, is_at, is_at_some, is_under, is_under_some, Needs, AsksUpTo, Retains, or_parts}
 use Rattle.std.specs.List.{All, Contains}
 use Rattle.prefix_trie_bits.proofs.Model.Members.{needs}
@@ -12,7 +12,7 @@ module _ {F T : Type 0} (asks : F → List Bool → T → Bool → F → Type 0)
   value_here : listing_at_places x.entries s (t ∷ []) ≡ (s ++ t, v) ∷ []
   value_here = append-nil (listing_at_place x.entries s t) ∙ listing_at_value x.entries s t v short stored
 
-  -- it may be asked at the value
+  -- it may be called on the value
   pub may_ask_value : (f : F) → CallableOnEachEntry asks accepts f (listing_at_places x.entries s (t ∷ [])) → accepts f (s ++ t) v
   may_ask_value f may = (subst (CallableOnEachEntry asks accepts f) value_here may).0
 
@@ -110,7 +110,8 @@ module _ {F T : Type 0} (asks : F → List Bool → T → Bool → F → Type 0)
           list_any_at (λ t. is_under c t q) ts h.0 (take 5 (drop (length c) q)) h.1
           (ap (λ t. is_under c t q) h.2 ∙ under_child c (take 5 (drop (length c) q)) q further.0 ∙ further.1)
 
-  -- so asking at all of them is asking below the child at a place of the node above, where the child goes unless it is needed
+  -- so the calls on all of them are the calls under the child at a place of the node above; the
+  -- child goes unless it is needed
   module _ (s t : List Bool) (five : length t ≡ 5) (is : c ≡ s ++ t) (later : Nodes) (fewer : (q : List Bool) → has_node later q ≡ true → has_node y.nodes q ≡ true)
       (stays : (q : List Bool) → (q ≡ c → ⊥) → has_node later q ≡ has_node y.nodes q) (own : has_node later c ≡ true → Needs y.entries c) where
     place_is : (m : Entries T) → listing_at_places m s (t ∷ []) ≡ listing_below m c
@@ -142,7 +143,7 @@ module _ {F T : Type 0} (asks : F → List Bool → T → Bool → F → Type 0)
           ];
     }
 
-  -- where the node is the root, it is asking at the whole listing
+  -- if the node is the root, they are the calls on the whole listing
   module _ (root : c ≡ []) where
     listing_is : (m : Entries T) → listing_below m c ≡ listing m
     listing_is m = ap (listing_below m) root ∙ listing_of_root m

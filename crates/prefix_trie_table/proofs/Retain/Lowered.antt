@@ -1,4 +1,4 @@
--- Asking below a child of a node that is at hand, and the child taken out where nothing is left.
+-- Calling a test under a child of the current node, and removing the child if nothing is left.
 use Rattle.prefix_trie_table.proofs.Prelude.{◌≡◌, ◌↔◌, ℕ, ◌+◌, ◌-◌, ◌/◌, ◌%◌, ◌<◌, ◌≤◌, Bool, true, false, not, ◌&&◌, List, [], ◌∷◌, ◌++◌, length, take, Option, None, Some, is_some, refl, sym, ap, ◌∙◌, subst, arith, inl, inr, length-append, append-nil, eqb-true, false≢true, begins, number, digits, zeros, begins-append, begins-trans, digits-number, length-digits, number-bits, take-extend, same_string, has, ones_below, is_in, places, Place, CallableOnEachEntry, listing_at_place, listing_at_places, listing_below, has_node, is_node_depth, State, and-second, same_string-is, is-same_string, has-removed, listing_at_child, Node, Site, has_bit, rank, node_at, node_sizes, chunks_of, Store, read, child_slot, Holds, SomeTable, IsSlot, at_child, NodesHold, entry_count, without, with_child_removed, IsBare, IsStocked, ChildDropped, Drops, none, more, IsPlaceOf, HasPlace, IsSite, Needs, RetainsTo, PreservesBelow, BlocksBetween, IsTrie, Grows, IsShapeOf}
 use Rattle.std.specs.List.{Contains}
 use Rattle.std.specs.FinMap.{remove}
@@ -120,7 +120,7 @@ module _ {K T : Type 0} (IsKey : K → Type 0) (bits : K → List Bool) (width :
         ∙ sym (all_places width v (record { count = count; cells = w; shape = s }) trie (take b.depth (bits b.key)) lower (here_whole IsKey bits width v b lower lower_site long_b) lower_site.stands)
         ∙ ap (listing_at_places s.entries (take b.depth (bits b.key))) (sym all)) may
 
-    -- what the asking below left
+    -- what the calls under it left
     module _ {F : Type 0} (asks : F → List Bool → T → Bool → F → Type 0) (accepts : F → List Bool → T → Type 0) (ts : List (List Bool))
         (all : ts ≡ places lower.value_bitmap lower.child_bitmap) (each : (u : List Bool) → Contains ts u ↔ IsPlaceOf lower u)
         (f g : F) (count2 : ℕ) (v2 : Store Node) (w2 : Store (Option T)) (to : RetainsTo asks accepts width (take b.depth (bits b.key)) ts f s g count2 v2 w2)
@@ -128,7 +128,7 @@ module _ {K T : Type 0} (IsKey : K → Type 0) (bits : K → List Bool) (width :
       deeper : p.depth / 5 < b.depth / 5
       deeper = let d = at.depth_is in omega (arith, d)
 
-      -- the node at hand did not change
+      -- the current node did not change
       pub still_site : IsSite IsKey bits width v2 p n
       still_site =
           site_stays IsKey bits width v p n at long v2 n (λ q less. preserves.above q (omega (arith, less, deeper)))
@@ -188,7 +188,7 @@ module _ {K T : Type 0} (IsKey : K → Type 0) (bits : K → List Bool) (width :
             goes_on = begins-trans (take b.depth (bits b.key)) (take b.depth (bits b.key) ++ digits 5 bit.0) need.key (begins-append (take b.depth (bits b.key)) (digits 5 bit.0)) need.goes_on;
           }
 
-      -- where it is needed it stays
+      -- if it is needed it stays
       pub child_stays : IsStocked left → RetainsTo asks accepts width (take p.depth (bits p.key)) (t ∷ []) f s g count2 v2 w2
       child_stays some = record {
         after = to.after;
@@ -198,7 +198,7 @@ module _ {K T : Type 0} (IsKey : K → Type 0) (bits : K → List Bool) (width :
             (take p.depth (bits p.key)) t five lower_string to.after.nodes (λ q h. h) (λ q ne. refl) (λ there. stocked_needed some);
       }
 
-      -- where it is bare it goes
+      -- if it is bare it goes
       module _ (bare : IsBare left) (m : Node) (v3 : Store Node)
           (dropped : (reading : List ℕ → Option Node) (paths : List (List ℕ)) (q : List ℕ) (k leaf : Node) → NodesHold node_sizes reading paths v2 →
           IsSlot reading q (p.slot.start + p.slot.offset) → reading q ≡ Some k → reading (q ++ c ∷ []) ≡ Some leaf → rank leaf.child_bitmap 32 ≡ 0 →

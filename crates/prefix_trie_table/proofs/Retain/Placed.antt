@@ -1,4 +1,4 @@
--- The places of a node that is at hand, as its table has them, and one turn of asking at them.
+-- The places of the current node, as its table has them, and one turn of the calls on them.
 use Rattle.prefix_trie_table.proofs.Prelude.{◌≡◌, ℕ, ◌/◌, ◌≤◌, Bool, true, false, cond, ◌&&◌, ◌==◌, List, [], ◌∷◌, ◌++◌, length, take, Option, is_some, refl, sym, ap, ap₂, ◌∙◌, subst, arith, inl, inr, append-nil, length-append, Less, IsStrictlySortedBy, false≢true, cases_lt, le-ltb, All-head, All-tail, All-weaker, All-from_recursion, list_any-append, get, begins, number, digits, digits-number, listing_cmp, has, value_bit, is_in, place_of, Child, CallableOnEachEntry, listing_at_place, listing_at_places, has_node, is_node_depth, State, value_bit-injective, value_bit-small, or-cases, or-left, or-right, is-same_string, not_itself, begins-refl, Node, Site, chunks_of, bit_of, Store, read, has_value, has_child, same_shape, IsPlaceOf, is_at, is_at_some, is_under_some, IsSite, Retains, RetainsIn, MayAskAt, PreservesBelow, IsTrie, Value}
 use Rattle.std.specs.List.{All}
 use Rattle.std.proofs.lemmas.Bool.{lt-ltb}
@@ -30,7 +30,7 @@ same_place s t short_s short_t e = elim (cases_lt (length s) 5) as (λ _. s ≡ 
 
 module _ {K T : Type 0} (IsKey : K → Type 0) (bits : K → List Bool) (width : ℕ) (v : Store Node) (p : Site K) (n : Node) (at : IsSite IsKey bits width v p n)
     (long : length (bits p.key) ≡ width) (count : ℕ) (w : Store (Option T)) (s : State T) (trie : IsTrie width count v w s) where
-  -- a value bit is set where an entry is stored
+  -- a value bit is set exactly if an entry is stored
   pub value_iff : (t : List Bool) → length t ≤ 4 → is_some (get s.entries (take p.depth (bits p.key) ++ t)) ≡ has n.value_bitmap (value_bit t)
   value_iff t short =
       let h = some_table trie.table in
@@ -43,7 +43,7 @@ module _ {K T : Type 0} (IsKey : K → Type 0) (bits : K → List Bool) (width :
       (ap value_bit where_is.1)
       ∙ has_bit-is n.value_bitmap (value_bit t) (omega (arith, small))
 
-  -- a child bit where a node stands
+  -- a child bit is set exactly if there is a node
   pub child_iff : (t : List Bool) → length t ≡ 5 → has_node s.nodes (take p.depth (bits p.key) ++ t) ≡ has n.child_bitmap (number t)
   child_iff t five =
       let h = some_table trie.table in
@@ -63,7 +63,7 @@ module _ {K T : Type 0} (IsKey : K → Type 0) (bits : K → List Bool) (width :
   pub nothing_at : (u : List Bool) → length u ≤ 5 → is_in n.value_bitmap n.child_bitmap u ≡ false → listing_at_place s.entries (take p.depth (bits p.key)) u ≡ []
   nothing_at = unset width v (record { count = count; cells = w; shape = s }) trie (take p.depth (bits p.key)) n (here_whole IsKey bits width v p n at long) at.stands
 
-  -- and no node stands below it
+  -- and there is no node under it
   pub none_below_it : (u q : List Bool) → length u ≡ 5 → is_in n.value_bitmap n.child_bitmap u ≡ false → begins (take p.depth (bits p.key) ++ u) q ≡ true → has_node s.nodes q ≡ true → ⊥
   none_below_it u q five clear begun there =
       false≢true (sym clear ∙ is_in-child n.value_bitmap n.child_bitmap u five ∙ sym (child_iff u five)
@@ -82,7 +82,7 @@ module _ {K T F : Type 0} (IsKey : K → Type 0) (bits : K → List Bool) (width
   not_under t q short ne here = no_or_yes (is_under_some (take p.depth (bits p.key)) (u ∷ []) q) (λ e.
       false≢true (sym (not_there t q short ne here) ∙ under_at_some (take p.depth (bits p.key)) (u ∷ []) q q e (begins-refl q)))
 
-  -- the node has its other places still when it was asked at one of them
+  -- after the calls on one of its places the node still has its others
   pub place_kept : (t : List Bool) → (t ≡ u → ⊥) → IsPlaceOf n t → IsPlaceOf m t
   place_kept t ne is = (
     is.0,
@@ -109,7 +109,7 @@ module _ {K T F : Type 0} (IsKey : K → Type 0) (bits : K → List Bool) (width
 
 -- ---- one turn
 
--- where the places done and those to come were apart, they are so with one more done
+-- if the places done and those to come are apart, they are so with one more done
 pub apart_more : (s u : List Bool) (before rest : List (List Bool)) → length u ≤ 5 → All (λ t. length t ≤ 5) rest → IsStrictlySortedBy listing_cmp (u ∷ rest) →
     ((q : List Bool) → is_at_some s before q ≡ true → is_at_some s (u ∷ rest) q ≡ true → ⊥) →
     (q : List Bool) → is_at_some s (before ++ u ∷ []) q ≡ true → is_at_some s rest q ≡ true → ⊥
@@ -150,7 +150,7 @@ module _ {K T F : Type 0} (IsKey : K → Type 0) (bits : K → List Bool) (width
       (All-weaker (IsPlaceOf n) (λ t. length t ≤ 5) (λ t h. h.0) rest (All-tail (IsPlaceOf n) u rest each_now)) sorted_now apart_now
 
   module _ (s : State T) (trie : IsTrie width count0 v0 w0 s) where
-    -- the next place may be asked at
+    -- the test may be called on the next place
     pub may_ask_this : MayAskAt asks accepts width (take p.depth (bits p.key)) (before ++ ts) f0 count0 v0 w0 → (t : List Bool) → length t ≤ 5 → place_of u ≡ place_of t →
         MayAskAt asks accepts width (take p.depth (bits p.key)) (t ∷ []) f count v w
     may_ask_this may t few same x is =

@@ -1,4 +1,4 @@
--- What a table is once a test was asked at a place of a node.
+-- What a table is after a test was called on a place of a node.
 use Rattle.prefix_trie_table.proofs.Prelude.{◌≡◌, ℕ, ◌+◌, ◌-◌, ◌*◌, ◌/◌, ◌%◌, ◌<◌, ◌≤◌, Bool, true, ◌==◌, List, [], ◌++◌, length, take, drop, Option, None, Some, is_some, refl, sym, ap, ap₂, ◌∙◌, subst, arith, inl, inr, eqb-true, get, false≢true, true_from_ne_false, begins, begins-rest, has, value_bit, without_entry, AreNodes, has_node, is_node_depth, State, and-first, and-second, needed_for, AreNodes-without_entry, removed_fewer, value_bit-small, Node, Site, has_bit, node_at, node_sizes, cell_sizes, chunks_of, bit_of, Store, read, value_of, has_value, one_if, Holds, SomeTable, IsSlot, NodesHold, CellsHold, SomeNodes, IsNodeAt, with_node, ValueTaken, EntryTaken, IsShapeOf, ForHeld, Grows, IsSite, BlocksBetween, IsTrie}
 use Rattle.std.proofs.lemmas.List.{length-take-le}
 use Rattle.prefix_trie_table.proofs.Strings.Plain.{both_true}
@@ -16,7 +16,7 @@ use Rattle.prefix_trie_table.proofs.Tree.Trees.{is_none-None, read-nil, reads, s
 
 -- ---- nodes and their slots
 
--- with a node stand those above it
+-- if a node is there, so are those above it
 pub read_up : (nodes : List Node) (q k : List Bool) → length q % 5 ≡ 0 → begins q k ≡ true → is_some (read nodes (chunks_of k)) ≡ true → is_some (read nodes (chunks_of q)) ≡ true
 read_up nodes q k whole begun there = true_from_ne_false (is_some (read nodes (chunks_of q))) (λ miss.
     let way : chunks_of k ≡ chunks_of q ++ chunks_of (drop (length q) k) = ap chunks_of (begins-rest q k begun) ∙ path-append q (drop (length q) k) whole in
@@ -55,7 +55,7 @@ module _ {T : Type 0} where
       Holds reading values paths v w → Holds (read v.slots) values paths v w
   read_held reading values paths v w holds = subst (λ (f : List ℕ → Option Node). Holds f values paths v w) (λ i q. sym (reads_node reading values paths v w holds q) i) holds
 
--- ---- a node that is at hand
+-- ---- the current node
 
 module _ {K : Type 0} (IsKey : K → Type 0) (bits : K → List Bool) (width : ℕ) (v : Store Node) (p : Site K) (n : Node) (at : IsSite IsKey bits width v p n)
     (long : length (bits p.key) ≡ width) where
@@ -71,7 +71,7 @@ module _ {K : Type 0} (IsKey : K → Type 0) (bits : K → List Bool) (width : �
   pub path_levels : length (chunks_of (take p.depth (bits p.key))) ≡ p.depth / 5
   path_levels = let w = at.within in steps-all (bits p.key) p.depth (omega (arith, w, long))
 
-  -- it is at hand as long as the nodes above it stay
+  -- it stays the current node while the nodes above it stay
   pub site_stays : (v2 : Store Node) (m : Node) → ((q : List ℕ) → length q < p.depth / 5 → read v2.slots q ≡ read v.slots q) →
       read v2.slots (chunks_of (take p.depth (bits p.key))) ≡ Some m → IsSite IsKey bits width v2 p m
   site_stays v2 m above stands = record {
@@ -133,7 +133,7 @@ module _ {K : Type 0} (IsKey : K → Type 0) (bits : K → List Bool) (width : �
             holds.cells.set_where (chunks_of (take p.depth (bits p.key) ++ t)) (bit_of (take p.depth (bits p.key) ++ t))
             ∙ ap₂ has_value node_there key_bit ∙ bit_set
 
-      -- what it leaves where it is taken
+      -- what it leaves if it is removed
       module _ (removed : Option T) (m : Node) (v2 : Store Node) (w2 : Store (Option T)) (count2 : ℕ)
           (gives : (reading : List ℕ → Option Node) (paths : List (List ℕ)) (values : List ℕ → ℕ → Option T) (q : List ℕ) (k : Node) → NodesHold node_sizes reading paths v →
           CellsHold cell_sizes reading values paths w → IsSlot reading q (p.slot.start + p.slot.offset) → reading q ≡ Some k → removed ≡ values q (value_bit t))

@@ -1,4 +1,4 @@
--- Asking from the root on is asking at the whole listing.
+-- The calls from the root on are the calls on the whole listing.
 use Rattle.prefix_trie_table.proofs.Prelude.{◌≡◌, ℕ, Bool, List, [], length, Option, Some, refl, sym, ap, ◌∙◌, subst, arith, places, CallableOnEachEntry, listing_at_places, listing, State, listing_of_root, Node, node_at, Store, at_root, IsPlaceOf, IsSite, RetainsTo, RetainsAll, IsTrie}
 use Rattle.std.specs.List.{Contains}
 use Rattle.prefix_trie_table.proofs.Retain.AskedBelow.{asked_all, nodes_tidy}
@@ -7,7 +7,7 @@ use Rattle.prefix_trie_table.proofs.Tree.Subtrees.{all_places}
 use Rattle.prefix_trie_table.proofs.Tree.Trees.{read-nil}
 
 module _ {K : Type 0} (IsKey : K → Type 0) (bits : K → List Bool) (width : ℕ) (v : Store Node) (key : K) (is_key : IsKey key) (n : Node) (n_is : n ≡ node_at v.slots 0) where
-  -- the root stands in the first slot
+  -- the root is in the first slot
   pub root_site : IsSite IsKey bits width v (record { slot = record { start = 0; offset = 0 }; key = key; depth = 0 }) n
   root_site = record { key = is_key; level = 0; depth_is = refl; within = omega arith; stands = read-nil v.slots ∙ ap Some (sym n_is); slot_is = at_root }
 

@@ -1,4 +1,5 @@
--- The value at a bit of a node that is at hand: its cell, its key, and what asking at it leaves.
+-- The value at a bit of the current node: its cell, its key, and what calling the test on it
+-- leaves.
 use Rattle.prefix_trie_table.proofs.Prelude.{◌≡◌, ℕ, ◌+◌, ◌-◌, ◌/◌, ◌<◌, ◌≤◌, Bool, true, false, cond, List, [], ◌∷◌, ◌++◌, length, take, get_or, Option, None, Some, is_some, sym, ap, ap₂, ◌∙◌, subst, arith, get_or_default, get, digits, zeros, length-digits, take-extend, has, ones_below, value_bit, CallableOnEachEntry, without_entry, listing_at_places, State, Node, Site, rank, Store, Grows, IsTrie, read, value_in, value_of, NodesHold, CellsHold, IsSlot, node_sizes, cell_sizes, ValueTaken, IsSite, RetainsTo, BlocksBetween}
 use Rattle.prefix_trie_table.proofs.Tree.Invariant.{some_table}
 use Rattle.prefix_trie_table.proofs.Retain.AskedBelow.{may_ask_value, value_stays, value_goes}
@@ -71,7 +72,7 @@ module _ {K T : Type 0} (IsKey : K → Type 0) (bits : K → List Bool) (width :
       may_ask_here may =
           subst (λ k. accepts f k value) (sym key_taken) (may_ask_value asks accepts (take p.depth (bits p.key)) (digits n x) short s value got f may)
 
-      -- where the answer is yes all stays
+      -- if the result is true everything stays
       pub stays_here : (g : F) (b : Bool) → asks f (take (p.depth + n) (bits key)) value b g → b ≡ true →
           RetainsTo asks accepts width (take p.depth (bits p.key)) (digits n x ∷ []) f s g count v w
       stays_here g b called is = record {
@@ -82,7 +83,7 @@ module _ {K T : Type 0} (IsKey : K → Type 0) (bits : K → List Bool) (width :
             (subst (λ k. asks f k value true g) key_taken (subst (λ c. asks f (take (p.depth + n) (bits key)) value c g) is called));
       }
 
-      -- where it is no the entry goes
+      -- if it is false the entry goes
       pub goes_here : (g : F) (b : Bool) (count2 : ℕ) (v2 : Store Node) (w2 : Store (Option T)) → asks f (take (p.depth + n) (bits key)) value b g → b ≡ false →
           IsTrie width count2 v2 w2 (record { entries = without_entry s.entries (take p.depth (bits p.key) ++ digits n x); nodes = s.nodes }) →
           RetainsTo asks accepts width (take p.depth (bits p.key)) (digits n x ∷ []) f s g count2 v2 w2
@@ -114,7 +115,7 @@ module _ {K T : Type 0} (IsKey : K → Type 0) (bits : K → List Bool) (width :
     pub counted_here : 0 < count
     counted_here = some_counted IsKey bits width v p node at long count w s trie (digits n x) short set_there removed m v2 w2 0 gives_here takes_here
 
-    -- it is what stands there
+    -- it is the value there
     pub taken_here : get s.entries (take p.depth (bits p.key) ++ digits n x) ≡ removed
     taken_here = removed_is IsKey bits width v p node at long count w s trie (digits n x) short set_there removed m v2 w2 0 gives_here takes_here
 

@@ -125,7 +125,7 @@ module _ {T : Type 0} where
       (ap (value_blocks_of cell_sizes no_value (c ∷ p)) (attach_here m c sub branch c p refl) ∙ same_cells (c ∷ p) p (branch p))
       (branch_cells m c sub branch paths)
 
--- ---- the paths behind the first
+-- ---- the paths after the first
 
 module _ (n : Node) (sub : List ℕ → Option Node) (rest : List (List ℕ)) (h : Hangs n sub ([] ∷ rest)) where
   not_first : times [] rest ≡ 0
@@ -137,7 +137,7 @@ module _ (n : Node) (sub : List ℕ → Option Node) (rest : List (List ℕ)) (h
   stands_there : (c : ℕ) (p : List ℕ) → 0 < times (c ∷ p) rest → is_some (sub (c ∷ p)) ≡ true
   stands_there c p there = from-one (is_some (sub (c ∷ p))) (times (c ∷ p) ([] ∷ rest)) (h.listed (c ∷ p)) (omega (arith, there))
 
-  -- what is the same at each path behind the first
+  -- what is the same at each path after the first
   pub rest_same : {Y : Type 0} (f g : List ℕ → List Y) → ((c : ℕ) (p : List ℕ) → is_some (sub (c ∷ p)) ≡ true → g (c ∷ p) ≡ f (c ∷ p)) →
       flat_map g rest ≡ flat_map f rest
   rest_same f g same = flat_map_same f g rest by
@@ -153,7 +153,7 @@ module _ (n : Node) (sub : List ℕ → Option Node) (rest : List (List ℕ)) (h
       (is_none-None (sub (c ∷ [])) (h.linked [] c ∙ ap (λ o. has_child o c) h.top ∙ clear))
       (λ p e ih. is_none-None (sub (c ∷ (p ++ e ∷ []))) (h.linked (c ∷ p) e ∙ ap (λ o. has_child o e) ih))
 
-  -- where no child is, no path is behind the first
+  -- if there is no child, there is no path after the first
   pub no_rest : ((c : ℕ) → has_bit n.child_bitmap c ≡ false) → rest ≡ []
   no_rest bare = by rest (λ q. none q)
     where

@@ -1,4 +1,4 @@
--- Arrays in which lists are laid, one after another.
+-- New arrays in which lists are built, one after another.
 use Rattle.prefix_trie_table.proofs.Prelude.{◌≡◌, ℕ, ◌+◌, ◌≤◌, List, [], ◌++◌, length, refl, ap, ◌∙◌, subst, arith, BlockRef, LaysList, CanLay, Lays, Store, UsedBlock, Sound, held, size_in, tier_sizes}
 use Rattle.prefix_trie_table.proofs.Blocks.BySize.{size_at}
 use Rattle.prefix_trie_table.proofs.Blocks.Turnovers.{Keeps-same, Keeps-then}
@@ -7,7 +7,7 @@ module _ {S : Type 0} (vacant : S) where
   pub Lays-none : (v : Store S) (k : ℕ) → Lays vacant [] k v v
   Lays-none v k = record { sound = λ live s. s; longer = omega arith; keeps = Keeps-same v v refl; none_free = λ n. n }
 
-  -- what was laid first and then, in blocks that may be listed in another order
+  -- what was built first and then, in blocks that may be listed in another order
   pub Lays-then : (v w x : Store S) (bs cs ds : List (UsedBlock S)) (k l m : ℕ) → Lays vacant bs k v w → Lays vacant cs l w x →
       ((live : List (UsedBlock S)) → Sound vacant (cs ++ (bs ++ live)) x → Sound vacant (ds ++ live) x) → k + l ≤ m → Lays vacant ds m v x
   Lays-then v w x bs cs ds k l m a b same less = record {
@@ -28,7 +28,7 @@ module _ {S : Type 0} (vacant : S) where
     none_free = l.none_free;
   }
 
-  -- others can be laid in what is left
+  -- others can be built in what is left
   pub can_lay_then : (v w : Store S) (sizes : List ℕ) (bs : List (UsedBlock S)) (a b k : ℕ) → CanLay vacant sizes k v → Lays vacant bs a v w → a + b ≤ k →
       CanLay vacant sizes b w
   can_lay_then v w sizes bs a b k can laid less = record {

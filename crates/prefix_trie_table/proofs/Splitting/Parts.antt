@@ -80,7 +80,7 @@ masks_own t mask short holds = subst (λ x. HoldsChildren mask (begins x)) (sym 
 clear_has : (d : ℕ) → d < 32 → has 0 d ≡ false
 clear_has d small = sym (has_bit-is 0 d small) ∙ has_bit-zero d
 
--- on the way to it
+-- on the search path to it
 pub masks_way : (t : List Bool) → 5 ≤ length t → HoldsValues 0 (begins t)
 masks_way t long = record {
   bits = λ s few. clear_has (value_bit s) (let h = value_bit-small s few in omega (arith, h)) ∙ sym (begins-longer t s (omega (arith, long, few)));
@@ -97,7 +97,7 @@ masks_step t c mask long is sets u five = elim (number_or (number u) c) as (λ _
       ∙ sym (no_or_yes (begins t u) (λ b. ne (sym (ap number (begins-same-length t u b (long ∙ sym five))) ∙ sym is)))
 ]
 
--- the next five bits of a string, and all behind them
+-- the next five bits of a string, and all after them
 module _ (b : List Bool) (len depth : ℕ) (within : len ≤ length b) where
   pub five_next : depth + 5 ≤ len → take 5 (drop depth (take len b)) ≡ take 5 (drop depth b)
   five_next more =

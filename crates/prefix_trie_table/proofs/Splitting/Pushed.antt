@@ -1,8 +1,8 @@
--- Lists of bits with one more behind all others.
+-- Lists of bits with one more after all others.
 use Rattle.prefix_trie_table.proofs.Prelude.{◌≡◌, ◌≢◌, ℕ, zero, suc, ◌+◌, ◌-◌, ◌<◌, ◌≤◌, true, false, cond, List, [], ◌∷◌, ◌++◌, length, map, replicate, insert, Option, None, refl, sym, ap, ◌∙◌, arith, insert_end, has_bit, bits, rank}
 use Rattle.prefix_trie_table.proofs.Strings.BitLists.{map_insert, rank-all, rank-more}
 
--- no bit is set behind i
+-- no bit is set after i
 rank_past : (old i : ℕ) → ((c : ℕ) → i ≤ c → has_bit old c ≡ false) → (k : ℕ) → rank old (i + k) ≡ rank old i
 rank_past old i none zero = ap (rank old) (let e : i + 0 ≡ i = omega arith in e)
 rank_past old i none (suc k) =

@@ -10,7 +10,8 @@ use Rattle.prefix_trie_table.proofs.Splitting.WholeTree.{own_of, whole_tree}
 use Rattle.prefix_trie_table.proofs.Strings.BitLists.{rank-all}
 use Rattle.prefix_trie_table.proofs.Tree.Invariant.{some_table}
 
--- an array has the slots before its first block, those of the blocks in use and those of the free ones
+-- an array has the slots before its first block, those of the used blocks and those of the free
+-- ones
 pub slots_told : {S : Type 0} (vacant : S) {X : Type 0} (f : X → List (UsedBlock S)) (xs : List X) (v : Store S) → Sound vacant (flat_map f xs) v →
     length v.slots ≡ v.first + sum_by (λ x. sum_by (λ b. b.size) (f x)) xs + sum_by size_of_extent (free_extents v.tiers)
 slots_told vacant f xs v s =

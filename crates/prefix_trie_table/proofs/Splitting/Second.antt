@@ -1,4 +1,4 @@
--- The second table before its values come, from what was laid in new arrays.
+-- The second table before its values come, from what was built in new arrays.
 use Rattle.prefix_trie_table.proofs.Prelude.{◌≡◌, ℕ, ◌/◌, ◌<◌, ◌≤◌, ◌==◌, Bool, true, false, cond, List, [], ◌∷◌, length, map, flat_map, slice_set, Option, None, Some, is_some, refl, sym, ap, ◌∙◌, subst, arith, append-nil, eq-eqb, get_or-set_same, length-set, false≢true, packed_block, has_node, is_node_depth, State, Node, blank_node, node_at, node_sizes, cell_sizes, chunks_of, bit_of, one_if, Holds, NodesHold, node_or_blank, child_blocks, value_blocks, IsLaid, IsPackedNode, IsPart, IsSource, NothingLaid, SomeValue, no_value, Lays, IsSecond, Store, UsedBlock, Sound, free_in, no_blocks, size_in, tier_sizes, size_if_any, IsTrie}
 use Rattle.prefix_trie_table.proofs.Strings.BitLists.{rank-zero-all}
 use Rattle.prefix_trie_table.proofs.Strings.Digits.{path-length}
@@ -87,7 +87,7 @@ module _ {T : Type 0} (q : List Bool) (v v1 v2 : Store Node) (w1 w2 : Store (Opt
       cell_limit : w2.limit ≡ v.limit
       cell_limit = lays_cells.keeps.limit_is ∙ ap (λ (x : Store (Option T)). x.limit) w_is ∙ same
 
-  -- where something was laid, and its top put in the root's slot
+  -- if something was built, and its top put into the root's slot
   pub second_laid : (levels : ℕ) (top : Node) (v3 : Store Node) → IsLaid v.slots levels (node_at v.slots 0) q v1 v2 w1 w2 top → v3 ≡ record v2 { slots = slice_set v2.slots 0 top } →
       ((live : List (UsedBlock Node)) → 0 < v2.first → Sound blank_node live v2 → Sound blank_node live v3) → IsSecond q v v3 w2
   second_laid levels top v3 laid put sound =
@@ -107,7 +107,7 @@ module _ {T : Type 0} (q : List Bool) (v v1 v2 : Store Node) (w1 w2 : Store (Opt
       inside : 0 < length v2.slots
       inside = let l = lays_nodes.keeps.longer in let e = ap (λ (x : Store Node). length x.slots) v_is in omega (arith, l, e)
 
-  -- and where nothing was
+  -- and if nothing was
   pub second_bare : (levels : ℕ) → NothingLaid v.slots levels (node_at v.slots 0) q v1 v2 w1 w2 → IsSecond q v v2 w2
   second_bare levels none =
       second root_reading ([] ∷ []) v2

@@ -6,12 +6,12 @@ use Rattle.prefix_trie_table.proofs.Blocks.Laying.{slots_found}
 use Rattle.prefix_trie_table.proofs.Strings.BitLists.{rank-lacks, rank-le, rank-more, rank-zero}
 use Rattle.prefix_trie_table.proofs.Strings.Plain.{no_or_yes}
 
--- a refusal that is not for index room
+-- a refusal that is not for the slot limit
 pub for_memory : (cause : the_data) → cause ≢ IndexRange → cause ≡ Memory
 for_memory Memory other = refl
 for_memory IndexRange other = absurd (other refl)
 
--- the tier of a list that was laid
+-- the tier of a list that was built
 pub laid_tier : {S : Type 0} (vacant : S) (v w : Store S) (items : List S) (at : BlockRef) (sizes : List ℕ) → tier_sizes v.tiers ≡ sizes → 0 < length sizes →
     LaysList vacant v w items at → at.tier < length sizes
 laid_tier vacant v w [] at sizes are some laid = let e = ap (λ (r : BlockRef). r.tier) (laid.none refl) in omega (arith, e, some)

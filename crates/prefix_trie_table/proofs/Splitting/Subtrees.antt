@@ -1,4 +1,4 @@
--- A node that is laid with all below it: its beginning, each child in turn, and its end.
+-- A node that is built with everything under it: the start, each child in order, and the end.
 use Rattle.prefix_trie_table.proofs.Prelude.{◌≡◌, ◌≢◌, ℕ, zero, suc, ◌+◌, ◌<◌, ◌≤◌, inl, inr, ⊎_elim, Bool, true, false, ◌&&◌, List, [], ◌∷◌, drop, ◌++◌, length, map, flat_map, replicate, Option, None, Some, is_some, refl, sym, ap, ap₂, ◌∙◌, subst, arith, append_assoc, append-nil, false≢true, length-map, length-replicate, flat_map-append, packed_block, Node, BlockRef, has_bit, bits, rank, blank_node, node_sizes, cell_sizes, one_if, times, has_child, has_value, node_or_blank, child_items, child_blocks, value_blocks_of, in_part, in_child, SomeValue, child_slots, value_slots, sum_to, slots_below, slots_at_child, IsPackedNode, no_value, IsLaid, IsSubtree, NothingLaid, LaysList, Lays, chunks_of, bit_of, begins, number, number-lt, value_bit, IsBare, IsStocked, Store, UsedBlock, Sound, held, size_in, tier_sizes, size_if_any, smallest_size}
 use Rattle.prefix_trie_table.proofs.Splitting.FreshArrays.{Lays-none, Lays-then, Lays-list}
 use Rattle.prefix_trie_table.proofs.Splitting.Space.{sum_to_next, slots_split}
@@ -19,14 +19,14 @@ abbrev pub alone : Node → List ℕ → Option Node
 alone n [] = Some n
 alone n (c ∷ p) = None
 
--- the block of a list that was laid has the smallest size that holds it
+-- the block of a list that was built has the smallest size that holds it
 laid_packed : {S : Type 0} (vacant : S) (v w : Store S) (sizes : List ℕ) (items : List S) (at : BlockRef) → tier_sizes v.tiers ≡ sizes →
     LaysList vacant v w items at → (count : ℕ) → length items ≡ count → size_if_any count (size_in sizes at.tier) ≡ packed_block sizes count
 laid_packed vacant v w sizes items at are laid zero e = refl
 laid_packed vacant v w sizes items at are laid (suc n) e =
     sym (subst (λ ns. smallest_size ns (suc n) ≡ Some (size_in ns at.tier)) are (ap (smallest_size (tier_sizes v.tiers)) (sym e) ∙ laid.size (omega (arith, e))))
 
--- the nodes, where the first is another
+-- the nodes with another first one
 abbrev pub topped : Node → (List ℕ → Option Node) → List ℕ → Option Node
 topped m sub [] = Some m
 topped m sub (c ∷ p) = sub (c ∷ p)
@@ -92,11 +92,11 @@ module _ {T : Type 0} {array : List Node} {levels : ℕ} {n : Node} {t : List Bo
     cells_next : of_cells array levels n i + slots_at_child value_slots array levels n i ≤ of_cells array levels n (i + 1)
     cells_next = let e = sum_to_next (slots_at_child value_slots array levels n) i in omega (arith, e)
 
-    -- as many are laid as it has children
+    -- as many are built as it has children
     pub subtree_few : length below ≡ rank m.child_bitmap 32
     subtree_few = ap (λ (xs : List Node). length xs) b.children ∙ rank-all (λ c. node_or_blank (b.sub ([] ++ c ∷ []))) m.child_bitmap
 
-    -- those that are not yet laid it has not
+    -- it has none of those that are not built yet
     pub subtree_clear : (c : ℕ) → i ≤ c → has_bit m.child_bitmap c ≡ false
     subtree_clear c h = sym (b.hangs.linked [] c ∙ ap (λ o. has_child o c) b.hangs.top) ∙ ap is_some (b.later c [] h)
 
@@ -123,7 +123,7 @@ module _ {T : Type 0} {array : List Node} {levels : ℕ} {n : Node} {t : List Bo
       cells = Lays-then None w w2 w3 _ [] _ _ _ _ b.cells cells (λ live s. s) cells_next;
     }
 
-    -- what is laid below a child is attached
+    -- what is built under a child is attached
     module _ (top : Node) (bitmap fewer : ℕ) (lower : Node) (v3 : Store Node) (w3 : Store (Option T)) (l : IsLaid array fewer lower (drop 5 t) v2 v3 w2 w3 top)
         (small : i < 32) (there : has_bit n.child_bitmap i ≡ true)
         (same : (u s : List Bool) → length u ≡ 5 → number u ≡ i → in_child array n t u s ≡ in_part array lower (drop 5 t) s)
@@ -220,7 +220,7 @@ module _ {T : Type 0} {array : List Node} {levels : ℕ} {n : Node} {t : List Bo
         cells = Lays-then None w w2 w3 _ _ _ _ _ _ b.cells l.cells turned (omega (arith, cells_next, amount value_slots));
       }
 
-    -- all its children are laid
+    -- all its children are built
     module _ (all : i ≡ 32) where
       -- so it has its part
       value_is : (s : List Bool) → has_value (b.sub (chunks_of s)) (bit_of s) ≡ in_part array n t s
@@ -237,7 +237,7 @@ module _ {T : Type 0} {array : List Node} {levels : ℕ} {n : Node} {t : List Bo
       cells_all : of_cells array levels n i + 0 ≤ slots_below value_slots array levels n
       cells_all = let e = slots_split value_slots array levels n in let f = ap (of_cells array levels n) all in omega (arith, e, f)
 
-      -- its block is laid, and it is whole
+      -- its block is built, and it is whole
       module _ (v3 : Store Node) (at : BlockRef) (are : tier_sizes v2.tiers ≡ node_sizes) (laid : LaysList blank_node v2 v3 below at)
           (longer : length v3.slots ≤ length v2.slots + child_slots n) (stocked : IsStocked m) where
         abbrev whole : Node
@@ -309,7 +309,7 @@ module _ {T : Type 0} {array : List Node} {levels : ℕ} {n : Node} {t : List Bo
               (ap₂ (λ xs ys. xs ++ ys) (ap (value_blocks_of cell_sizes no_value []) b.hangs.top) (sym rest_cells)) s) cells_all;
         }
 
-      -- nothing was laid of it
+      -- nothing of it was built
       module _ (bare : IsBare m) where
         no_child : (c : ℕ) → has_bit m.child_bitmap c ≡ false
         no_child c = no_bit m.child_bitmap c bare.no_children

@@ -20,7 +20,7 @@ unfolding sum_to
 sum_to_both f g zero = refl
 sum_to_both f g (suc n) = omega (arith, sum_to_both f g n)
 
--- where one of them at most is not 0
+-- if at most one of them is not 0
 sum_to_one : (f : ℕ → ℕ) (d n : ℕ) → ((c : ℕ) → c ≢ d → f c ≡ 0) → sum_to f n ≤ f d
 unfolding sum_to
 sum_to_one f d zero others = omega arith

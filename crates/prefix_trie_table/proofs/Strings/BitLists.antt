@@ -1,4 +1,4 @@
--- What stands for each set bit, when one bit is set or cleared.
+-- The items for the set bits of a bitmap when one bit is set or cleared.
 use Rattle.prefix_trie_table.proofs.Prelude.{◌≡◌, ◌≢◌, ℕ, zero, suc, ◌+◌, ◌-◌, ◌<◌, ◌≤◌, ⊎_elim, Bool, true, false, cond, List, [], ◌∷◌, ◌++◌, length, get_or, set, map, insert, remove, refl, sym, ap, ◌∙◌, subst, arith, append_assoc, length-append, map-append, length-map, get_or_at, set_at, cases_eq, insert-append_right, remove-append_right, length-insert, has_bit, if_set, bits_below, bits, rank}
 use Rattle.std.proofs.lemmas.List.{append-nil}
 use Rattle.prefix_trie_table.proofs.Strings.Bits.{has_bit-zero, if_set-length}
@@ -56,7 +56,7 @@ module _ {Y : Type 0} where
       map-append g (bits_from new b n) (if_set (has_bit new (b + n)) (b + n)) ∙ (λ i. first i ++ last i)
       ∙ sym (map-append f (bits_from old b n) (if_set (has_bit old (b + n)) (b + n)))
 
-  -- what stands below b, at b and above
+  -- the items under b, at b and above
   abbrev under : (ℕ → Y) → ℕ → ℕ → List Y
   under f bitmap b = map f (bits_below bitmap b)
 
@@ -79,7 +79,7 @@ module _ {Y : Type 0} where
   unfolding rank
   rank_is f bitmap b = sym (length-map (bits_below bitmap b) f)
 
-  -- what stands for a bit
+  -- the item for a bit
   pub map_get : (f : ℕ → Y) (bitmap b : ℕ) (d : Y) → b < 32 → has_bit bitmap b ≡ true → (rank bitmap b < length (map f (bits bitmap))) ×
       (get_or (map f (bits bitmap)) (rank bitmap b) d ≡ f b)
   map_get f bitmap b d h s =
@@ -114,7 +114,7 @@ module _ {Y : Type 0} where
       ∙ sym (ap (λ xs. remove xs (rank old b)) (map_with f old b h was)
       ∙ remove_at (under f old b) (over f old b) (f b) (rank old b) (rank_is f old b))
 
-  -- what stands for one bit is another
+  -- one bit gets another item
   pub map_set : (f g : ℕ → Y) (bitmap b : ℕ) → b < 32 → has_bit bitmap b ≡ true → ((i : ℕ) → i ≢ b → g i ≡ f i) →
       map g (bits bitmap) ≡ set (map f (bits bitmap)) (rank bitmap b) (g b)
   map_set f g bitmap b h is eq =
@@ -163,7 +163,7 @@ rank-same old new b same = rank_is (λ x. x) new b ∙ ap (λ (xs : List ℕ). l
 pub rank-within : (bitmap b : ℕ) → b < 32 → rank bitmap b ≤ rank bitmap 32
 rank-within bitmap b h = let e : 32 ≡ b + (32 - b) = omega arith in subst (λ n. rank bitmap b ≤ rank bitmap n) (sym e) (rank-mono bitmap b (32 - b))
 
--- fewer than n bits are set below n where one is not
+-- fewer than n bits are set below n if one is not
 pub rank-lacks : (bitmap n b : ℕ) → b < n → has_bit bitmap b ≡ false → rank bitmap n < n
 rank-lacks bitmap zero b h lacks = absurd (omega arith)
 rank-lacks bitmap (suc n) b h lacks =

@@ -1,4 +1,4 @@
--- Bits of a bitmap of 32 bits, and what the calls of `node` say of them.
+-- Bits of a bitmap of 32 bits, and what the functions of `node` promise about them.
 use Rattle.prefix_trie_table.proofs.Prelude.{◌≡◌, ◌≢◌, ℕ, zero, suc, ◌+◌, ◌<◌, ◌≤◌, inl, inr, Bool, true, false, cond, ◌||◌, length, length-append, refl, sym, ap, ap₂, ◌∙◌, arith, nat_eq, ltb, eqb, bit_at, bit_at-zero, false≢true, eqb_tells, has, ones_below, Sets, has_bit, if_set, bits_below, rank}
 use Rattle.std.proofs.lemmas.Bool.{ltb-true, lt-ltb}
 

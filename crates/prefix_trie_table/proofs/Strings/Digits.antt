@@ -1,4 +1,4 @@
--- What the steps and the value bit say of a bit string.
+-- What the chunks and the value bit tell of a bit string.
 use Rattle.prefix_trie_table.proofs.Prelude.{◌≡◌, ℕ, zero, suc, ◌*◌, ◌/◌, ◌<◌, ◌≤◌, Bool, List, [], ◌∷◌, ◌++◌, length, take, drop, get_or, refl, sym, ap, ◌∙◌, subst, arith, ◌^◌, ◌%◌, length-drop, nil_from_length, value_bit, number, same-from-number, number-lt, value_bit-injective, value_bit-small, chunks_of, rest_of, bit_of}
 use Rattle.std.proofs.lemmas.List.{length-take-le}
 
@@ -19,7 +19,7 @@ short_path (a ∷ b ∷ []) h = (refl, refl)
 short_path (a ∷ []) h = (refl, refl)
 short_path [] h = (refl, refl)
 
--- a way has a step for each five bits
+-- there is a chunk for each five bits
 pub path-length : (s : List Bool) → length (chunks_of s) ≡ length s / 5
 path-length = by_steps (λ s. length (chunks_of s) ≡ length s / 5) (λ r h. let e = ap (λ p. length p) (short_path r h).0 in omega (arith, h, e)) (λ a b c d e s ih. omega (arith, ih))
 
@@ -52,7 +52,7 @@ pub step-small : (s : List Bool) (k : ℕ) → k < length (chunks_of s) → get_
 step-small s k h = subst (λ n. n < 32) (sym (step-is s k h)) (subst (λ n. number (take 5 (drop (5 * k) s)) < 2 ^ n)
     (length-take-le 5 (drop (5 * k) s) (omega (arith, h, path-length s, length-drop (5 * k) s))) (number-lt (take 5 (drop (5 * k) s))))
 
--- the first steps are those of a beginning
+-- the first chunks are those of a beginning
 pub path-take : (k : ℕ) (s : List Bool) → 5 * k ≤ length s → chunks_of (take (5 * k) s) ≡ take k (chunks_of s)
 path-take zero s h = refl
 path-take (suc k) (a ∷ b ∷ c ∷ d ∷ e ∷ s) h = ap chunks_of (take-five k a b c d e s) ∙ ap (λ p. number (a ∷ b ∷ c ∷ d ∷ e ∷ []) ∷ p) (path-take k s (omega arith))
@@ -83,7 +83,8 @@ pub five_path : (r : List Bool) → length r ≡ 5 → chunks_of r ≡ number r 
 five_path = by_steps (λ r. length r ≡ 5 → chunks_of r ≡ number r ∷ []) (λ r h five. absurd (omega (arith, h, five)))
     (λ a b c d e s ih five. subst (λ t. chunks_of (a ∷ b ∷ c ∷ d ∷ e ∷ t) ≡ number (a ∷ b ∷ c ∷ d ∷ e ∷ t) ∷ []) (sym (nil_from_length s (omega (arith, five)))) refl)
 
--- behind a node's string the way goes on, and the rest is that of what follows
+-- the chunks of a node's string followed by a string are those of the two, and the rest is that of
+-- the second
 pub ways-append : (s t : List Bool) → length s % 5 ≡ 0 → (chunks_of (s ++ t) ≡ chunks_of s ++ chunks_of t) × (rest_of (s ++ t) ≡ rest_of t)
 ways-append s t = by_steps (λ s. length s % 5 ≡ 0 → (chunks_of (s ++ t) ≡ chunks_of s ++ chunks_of t) × (rest_of (s ++ t) ≡ rest_of t))
     (λ r h whole. subst (λ x. (chunks_of (x ++ t) ≡ chunks_of x ++ chunks_of t) × (rest_of (x ++ t) ≡ rest_of t)) (sym (nil_from_length r (omega (arith, h, whole)))) (refl, refl))

@@ -1,4 +1,4 @@
--- What is counted over the entries of a finite map, where a key comes in.
+-- Counting the entries of a finite map when a key is added.
 use Rattle.prefix_trie_table.proofs.Prelude.{◌≡◌, ℕ, ◌+◌, Bool, false, cond, List, [], ◌∷◌, sum_by, None, Some, is_some, Ordering, Less, Equal, Greater, sym, ap, ◌∙◌, arith, false≢true, sum_by-cons, is_eq, FinMap, entries, get, get-entries, entries-insert, find, put, contains_key, by_order, listing_cmp, listing_total}
 use Rattle.std.specs.FinMap.{insert}
 use Rattle.prefix_trie_table.proofs.Tree.Trees.{is_none-None}

@@ -1,4 +1,4 @@
--- Lists with the same paths, and the paths of all nodes as the root's and those of all children.
+-- Lists with the same paths; the paths of all nodes are the root's and those of all children.
 use Rattle.prefix_trie_table.proofs.Prelude.{◌≡◌, ◌≢◌, ℕ, zero, suc, ◌+◌, ◌<◌, ◌≤◌, inl, inr, Bool, true, false, cond, List, [], ◌∷◌, ◌++◌, map, flat_map, Option, None, Some, is_some, IsPermutation, refl, sym, ap, ◌∙◌, subst, arith, false≢true, cases_lt, cases_eq, false_from_ne_true, map-append, IsPermutation-refl, IsPermutation-trans, IsPermutation-sym, IsPermutation-cons, Node, has_bit, if_set, bits_below, bits, Store, same_path, one_if, times, without, has_child, NodesHold}
 use Rattle.prefix_trie_table.proofs.Strings.Bits.{has_bit-below}
 use Rattle.prefix_trie_table.proofs.Strings.Paths.{same_path-itself, same_path-equal, same_path-not, snoc_ind, snoc_inj, snoc_not_nil, times_without, flat_map_out}
@@ -55,7 +55,8 @@ below_more p c bitmap n =
     ap (times (step p c)) (map-append (step p) (bits_below bitmap n) (if_set (has_bit bitmap n) n))
     ∙ times-append (step p c) (map (step p) (bits_below bitmap n)) (map (step p) (if_set (has_bit bitmap n) n))
 
--- the child c of p is not among those below c, and once among those of a higher bound if it is there
+-- the child c of p is not among those below c, and occurs once among those of a higher bound if it
+-- is there
 none_below : (p : List ℕ) (c bitmap n : ℕ) → n ≤ c → times (step p c) (map (step p) (bits_below bitmap n)) ≡ 0
 none_below p c bitmap zero h = refl
 none_below p c bitmap (suc n) h = omega (arith, below_more p c bitmap n, none_below p c bitmap n (omega arith), step_once p c (has_bit bitmap n) n (λ e. omega arith))
@@ -100,7 +101,7 @@ module _ (nodes : List ℕ → Option Node) where
   children_nil [] = refl
   children_nil (x ∷ paths) = omega (arith, times-append [] (children_of x (nodes x)) (children paths), nil_below x (child_bits (nodes x)), children_nil paths)
 
-  -- a child stands there as often as its parent is listed
+  -- a child occurs there as often as its parent is listed
   children_step : (p : List ℕ) (c : ℕ) (b : Bool) → has_child (nodes p) c ≡ b → (paths : List (List ℕ)) →
       times (step p c) (children paths) ≡ cond b (times p paths) 0
   children_step p c true e [] = refl

@@ -1,4 +1,4 @@
--- The string at which the node of a path stands, and that there are as many nodes as paths.
+-- The string of the node at a path; there are as many nodes as paths.
 use Rattle.prefix_trie_table.proofs.Prelude.{◌≡◌, ℕ, suc, ◌+◌, ◌%◌, ◌^◌, ◌<◌, ◌≤◌, inl, inr, Bool, true, false, cond, ◌&&◌, ◌||◌, List, [], ◌∷◌, ◌++◌, length, length-append, map, Option, None, Some, is_some, refl, sym, ap, ap₂, ◌∙◌, subst, arith, eqb-true, eq-eqb, false≢true, cases_Bool, false_from_ne_true, All-nil, All-push, All-head, All-tail, All, list_any, empty, len, contains_key, len-empty, len-insert, number, digits, length-digits, number-digits, same_bool, listing_cmp, listing_total, same_string, Nodes, has_node, with_nodes, is_node_depth, or-cases, or-left, or-right, and-first, and-second, and-join, same_string-is, is-same_string, has-empty, has-with_nodes, same_members, Node, chunks_of, Store, same_path, one_if, times, has_child, NodesHold, or-false}
 use Rattle.prefix_trie_table.proofs.Strings.Plain.{needs_node}
 use Rattle.prefix_trie_table.proofs.Strings.Bits.{has_bit-below}
@@ -94,7 +94,7 @@ fresh_string x paths steps once =
 pub new_string : (x : List ℕ) (paths : List (List ℕ)) → AreSteps (x ∷ paths) → AreOnce (x ∷ paths) → contains_key (nodes_at paths) (string_at x) ≡ false
 new_string x paths steps once = has-nodes_at paths (string_at x) ∙ fresh_string x paths steps once
 
--- it has as many as there are paths, where each stands once and leads to a string
+-- it has as many as there are paths, if each occurs once and leads to a string
 len-nodes_at : (paths : List (List ℕ)) → AreSteps paths → AreOnce paths → len (nodes_at paths) ≡ length paths
 len-nodes_at [] steps once = len-empty listing_cmp (Unit {0})
 len-nodes_at (x ∷ paths) steps once =
@@ -125,7 +125,7 @@ module _ (sizes : List ℕ) (nodes : List ℕ → Option Node) (paths : List (Li
   pub listed_some : (p : List ℕ) → 0 < times p paths → is_some (nodes p) ≡ true
   listed_some p h = from-one (is_some (nodes p)) (times p paths) (hold.listed p) h
 
-  -- the strings of the listed paths are those at which a node stands
+  -- the strings of the listed paths are those of the nodes
   pub listed_at : (s : List Bool) → list_any (same_string s) (map string_at paths) ≡ (is_node_depth s && is_some (nodes (chunks_of s)))
   listed_at s = sym (same_bool _ _ (into s) (out s))
     where

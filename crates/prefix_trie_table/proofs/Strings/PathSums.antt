@@ -9,7 +9,7 @@ use Rattle.prefix_trie_table.proofs.Strings.PathLists.{first_out}
 pub sum_out : (f : List ℕ → ℕ) (p : List ℕ) (paths : List (List ℕ)) → 0 < times p paths → sum_by f paths ≡ f p + sum_by f (without p paths)
 sum_out f p paths there = sym (sum_by-IsPermutation f paths (p ∷ without p paths) (first_out p paths there)) ∙ sum_by-cons f p (without p paths)
 
--- terms that are the same where the list has them
+-- terms that are the same for each item of the list
 pub sum_same : (f g : List ℕ → ℕ) (paths : List (List ℕ)) → ((q : List ℕ) → 0 < times q paths → g q ≡ f q) → sum_by g paths ≡ sum_by f paths
 sum_same f g [] same = refl
 sum_same f g (x ∷ paths) same =

@@ -1,4 +1,4 @@
--- The slots of the nodes on a way.
+-- The slots of the nodes on a search path.
 use Rattle.prefix_trie_table.proofs.Prelude.{◌≡◌, ℕ, ◌+◌, inl, inr, List, [], ◌∷◌, ◌++◌, length, get_or, take, Option, sym, ap, ◌∙◌, subst, arith, get_or-append_seam, get_or_append_left, cases_lt, Node, NodeSlot, IsSlot, slot_in, AreAncestors}
 
 -- no node is above the root

@@ -62,7 +62,7 @@ some_stays nodes p n m c o is q nr = ⊎_elim
     (λ (ne : q ≢ p). ap is_some (changed_other nodes p m c o q ne nr)) (same_or q p)
 
 module _ (sizes : List ℕ) (nodes : List ℕ → Option Node) (paths : List (List ℕ)) (v : Store Node) (hold : NodesHold sizes nodes paths v) where
-  -- each node still has exactly the children that its bitmap says
+  -- each node still has exactly the children of its bitmap
   linked_changed : (p : List ℕ) (n m : Node) (c : ℕ) (o : Option Node) → nodes p ≡ Some n → has_bit m.child_bitmap c ≡ is_some o →
       ((i : ℕ) → i ≢ c → has_bit m.child_bitmap i ≡ has_bit n.child_bitmap i) → ((d : ℕ) → is_some (nodes ((p ++ c ∷ []) ++ d ∷ [])) ≡ has_child o d)
       → (q : List ℕ) (d : ℕ) → is_some (changed nodes p m c o (q ++ d ∷ [])) ≡ has_child (changed nodes p m c o q) d
@@ -106,7 +106,8 @@ module _ (sizes : List ℕ) (nodes : List ℕ → Option Node) (paths : List (Li
       other (λ e. snoc_not_nil q c (sym e)) ∙ hold.rooted
       ∙ ap Some (sym kept ∙ sym (get_or-set_other u.slots (child_slot n c) 0 m blank_node (λ e. omega arith)))
 
-  -- the node n at p becomes m, and its child c becomes o: the block of the children of p has others, and those of other nodes stay
+  -- the node n at p becomes m, and its child c becomes o: the block of the children of p has
+  -- others, and those of other nodes stay
   pub child_changed : (p : List ℕ) (s : ℕ) (n m : Node) (c : ℕ) (o : Option Node) (u : Store Node) (own : List (UsedBlock Node)) (rest after : List (List ℕ))
       → IsSlot nodes p s → nodes p ≡ Some n → has_bit m.child_bitmap c ≡ is_some o →
       ((i : ℕ) → i ≢ c → has_bit m.child_bitmap i ≡ has_bit n.child_bitmap i) → ((d : ℕ) → is_some (nodes ((p ++ c ∷ []) ++ d ∷ [])) ≡ has_child o d)

@@ -30,7 +30,7 @@ module _ {T : Type 0} where
           let l = length_all_zip R xs ys z in
           subst (λ o. IsCloned C o (get_or ys i None)) (sym (get_or_past xs i None past)) (get_or_past ys i None (omega arith))
 
-  -- a clone is there where its source is
+  -- there is a clone exactly if there is its source
   pub cloned_there : (C : T → T → Type 0) (x y : Option T) → IsCloned C x y → is_some y ≡ is_some x
   cloned_there C None y h = ap is_some h
   cloned_there C (Some x) None h = absurd h
@@ -191,7 +191,7 @@ module _ {T : Type 0} (C : T → T → Type 0) (R : Option T → Option T → Ty
   pub copied_nodes : (t : Shaped v2.slots w2.slots) → t.0.nodes ≡ s.0.nodes
   copied_nodes t = ap (λ (y : State T). y.nodes) (copied_only t)
 
-  -- and so is the room
+  -- and so are the slots
   pub copied_space : (z : Sized v.slots) (t : Shaped v2.slots w2.slots) (k : Sized v2.slots) → (seen_of v2 w2 t.0 k).space ≡ (seen_of v w s.0 z).space
   copied_space z t k = ap₂ (λ (y : Store Node) (n : ℕ). record { limit = y.limit; node_slots = length y.slots; cell_slots = n }) nodes long
 
@@ -208,7 +208,7 @@ module _ {T : Type 0} (C : T → T → Type 0) (R : Option T → Option T → Ty
       ap (λ (y : Store (Option T)). laid_out v2 y.tiers k) rest
       ∙ subst (λ (y : Store Node). (k : Sized y.slots) → laid_out y w.tiers k ≡ laid_out v w.tiers z) (sym nodes) (λ k. ap (laid_out v w.tiers) (Sized-prop v.slots k z)) k
 
-  -- where a clone is equal to its source, contracts see the same
+  -- if a clone is equal to its source, contracts see the same
   pub copied_same : (z : Sized v.slots) → ((x y : T) → C x y → y ≡ x) → (t : Shaped v2.slots w2.slots) (k : Sized v2.slots) →
       seen_of v2 w2 t.0 k ≡ seen_of v w s.0 z
   copied_same z law t k =

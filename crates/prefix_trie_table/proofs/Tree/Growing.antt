@@ -29,7 +29,7 @@ or_old true b = refl
 or_old false true = refl
 or_old false false = refl
 
--- nothing that a false test says, and everything else that a true one does
+-- nothing that a false test accepts, and everything else that a true one does
 and_false : (a b : Bool) → (a && (b && false)) ≡ false
 and_false true true = refl
 and_false true false = refl
@@ -40,7 +40,7 @@ and_none true b = refl
 and_none false b = refl
 
 module _ (reading : List ℕ → Option Node) (path : List ℕ) where
-  -- a node that is deep enough gets no child, nor does one whose next node is there
+  -- a node deep enough gets no child, nor does one whose next node is there
   gains_deep : (depth : ℕ) (q : List ℕ) → depth ≤ length q → gains reading path depth q ≡ false
   gains_deep depth q h =
       ap (λ b. is_start q path && (b && not (is_some (reading (take (length q + 1) path))))) (le-ltb (length q) depth h)
@@ -49,7 +49,7 @@ module _ (reading : List ℕ → Option Node) (path : List ℕ) where
   gains_there : (depth : ℕ) (q : List ℕ) → is_some (reading (take (length q + 1) path)) ≡ true → gains reading path depth q ≡ false
   gains_there depth q some = ap (λ b. is_start q path && (nat_lt (length q) depth && not b)) some ∙ and_false (is_start q path) (nat_lt (length q) depth)
 
-  -- the node where the way is gets one
+  -- the node where the search ends gets one
   gains_here : (depth : ℕ) → depth < length path → is_some (reading (take (depth + 1) path)) ≡ false → gains reading path (depth + 1) (take depth path) ≡ true
   gains_here depth inside missing =
       let long : length (take depth path) ≡ depth = length-take-le depth path (omega arith) in
@@ -62,7 +62,7 @@ module _ (reading : List ℕ → Option Node) (path : List ℕ) where
       let r = is_start-is q path h in
       sym (ap (take (length q)) r.1 ∙ take_at q r.0 (length q) refl)
 
-  -- the others get one where they did
+  -- the others get one if they did before
   gains_other : (depth : ℕ) (q : List ℕ) → q ≢ take depth path → gains reading path (depth + 1) q ≡ gains reading path depth q
   gains_other depth q other = ⊎_elim (λ (e : length q ≡ depth). by_start e (is_start q path) refl)
       (λ (ne : length q ≢ depth). ap (λ b. is_start q path && (b && not (is_some (reading (take (length q + 1) path))))) (same_lt (length q) depth ne)) (cases_eq (length q) depth)
@@ -218,7 +218,7 @@ module _ {T : Type 0} (reading : List ℕ → Option Node) (values : List ℕ �
     (slot_holds node_sizes more ((way ++ c ∷ []) ∷ a.paths) v2 one.hold (way ++ c ∷ []) slot2 blank_node one.stands (is_new (way ++ c ∷ []) refl)).0,
   )
 
--- a value put at the end of the way adds the entry
+-- a value put at the end of the path adds the entry
 module _ {T : Type 0} (reading : List ℕ → Option Node) (values : List ℕ → ℕ → Option T) (before : List (List ℕ)) (path : List ℕ) (depth slot b : ℕ) (x : Option T)
     (v v2 : Store Node) (w u : Store (Option T)) (a : Walked reading values before path depth slot v w) (all : depth ≡ length path)
     (put : (nodes : List ℕ → Option Node) (paths : List (List ℕ)) (p : List ℕ) (n : Node) → NodesHold node_sizes nodes paths v →
@@ -271,7 +271,7 @@ pub free_next : (ts us : List Tier) (o : Option ℕ) (lists : ℕ) → AreFree t
 free_next ts us o lists free left =
     let d = many_here 1 lists in omega (arith, free 1, left 1, how_many-needs o lists 1, d)
 
--- the block of a list's own is free where more are
+-- the block of a list's own is free if more are
 pub free_own : (ts : List Tier) (o : Option ℕ) (lists : ℕ) → AreFree ts (needs o lists) → AreFree ts (needs o 0)
 free_own ts o lists free = λ size.
     let d = many-le 1 0 lists size (omega arith) in omega (arith, free size, how_many-needs o lists size, how_many-needs o 0 size, d)
@@ -283,7 +283,7 @@ blank_child n e = ap (λ (k : Node). child_need (Some k)) e ∙ blank_needs
 pub blank_value : (n : Node) → n ≡ blank_node → value_need (Some n) ≡ Some 1
 blank_value n e = ap (λ (k : Node). value_need (Some k)) e ∙ blank_value_needs
 
--- it is free where some of one slot are
+-- it is free if some of one slot are
 pub free_one : (ts : List Tier) (o : Option ℕ) → o ≡ Some 1 → 0 < free_in ts 1 → AreFree ts (needs o 0)
 free_one ts o e some = λ size.
     let a = how_many-needs o 0 size in

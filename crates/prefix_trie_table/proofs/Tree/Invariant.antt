@@ -1,7 +1,7 @@
--- The table's invariant, and the parts of it that calls on its fields ask for.
+-- The table's invariant, and the parts of it that calls on its fields require.
 use Rattle.prefix_trie_table.proofs.Prelude.{◌≡◌, ℕ, List, Option, sym, subst, len, AreWithin, AreNodes, Layout, Space, State, Node, Store, SomeTable, SomeNodes, IsNodeAt, Deepest, entry_count, Contents, Shaped, IsTable, IsTrie}
 
--- the deepest node of a way stands at its slot
+-- the deepest node of a path is in its slot
 abbrev pub deepest_there : {nodes : List ℕ → Option Node} {path : List ℕ} {depth slot : ℕ} {v : Store Node} → Deepest nodes path depth slot v → IsNodeAt nodes slot
 deepest_there deep = record { path = _; node = deep.node; stands = deep.stands; is = deep.is }
 

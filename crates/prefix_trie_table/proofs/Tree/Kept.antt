@@ -13,7 +13,7 @@ use Rattle.prefix_trie_table.proofs.Blocks.Sizing.{storage_of}
 use Rattle.prefix_trie_table.proofs.Tree.Trees.{is_none-None}
 use Rattle.prefix_trie_table.proofs.Tree.SearchEnds.{way_ends, way_reached}
 
--- the way that a table has for a missing string
+-- the search path that a table has for a missing string
 module _ {T : Type 0} (v : Store Node) (w : Store (Option T)) (count : ℕ) (s : Shaped v.slots w.slots) (is : IsTable v w count s.0) (b : List Bool) (len : ℕ)
     (long : len ≤ length b) (end : SearchEnd) (build : List Node) (same : v.slots ≡ build) where
   -- its end is the node reached
@@ -62,7 +62,7 @@ module _ {T : Type 0} (v v2 : Store Node) (w w2 : Store (Option T)) (count : ℕ
 
   module _ (b : List Bool) (len : ℕ) (end : SearchEnd)
       (at : IsReached b len end.reached.level end.reached.node (end.reached.at.start + end.reached.at.offset) v) where
-    -- a way ends where it ended
+    -- a search ends where it ended
     pub kept_end : IsSearchEnd v2.slots (take len b) end
     kept_end =
         let t = some_table is in

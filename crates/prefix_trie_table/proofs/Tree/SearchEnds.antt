@@ -1,4 +1,4 @@
--- Where nodes stand by their paths, and the end of a way.
+-- The slots of nodes by their paths, and the end of a search.
 use Rattle.prefix_trie_table.proofs.Prelude.{◌≡◌, ℕ, ◌+◌, ◌*◌, ◌/◌, ◌≤◌, Bool, true, List, [], ◌∷◌, ◌++◌, length, get_or, take, Option, is_some, refl, sym, ap, ◌∙◌, subst, arith, Node, SearchEnd, node_at, node_sizes, chunks_of, child_slot, IsSlot, at_root, at_child, NodesHold, Deepest, has_child, node_or_blank, slot_from, IsSearchEnd, Store, IsReached, take_more}
 use Rattle.std.proofs.lemmas.List.{length-take-le}
 use Rattle.prefix_trie_table.proofs.Strings.Digits.{path-length}
@@ -13,7 +13,7 @@ slot_from-snoc nodes at [] c = refl
 slot_from-snoc nodes at (x ∷ p) c = slot_from-snoc nodes (child_slot (node_at nodes at) x) p c
 
 module _ (v : Store Node) (reading : List ℕ → Option Node) (paths : List (List ℕ)) (hold : NodesHold node_sizes reading paths v) where
-  -- a node that is there stands in the slot to which its path leads
+  -- a node that is there is in the slot to which its path leads
   pub slot_stands : (p : List ℕ) → is_some (reading p) ≡ true → IsSlot reading p (slot_from v.slots 0 p)
   slot_stands = snoc_ind (λ p. is_some (reading p) ≡ true → IsSlot reading p (slot_from v.slots 0 p)) (λ some. at_root)
       (λ p c ih some. below p c ih (sym (hold.linked p c) ∙ some))
@@ -39,7 +39,7 @@ module _ (v : Store Node) (reading : List ℕ → Option Node) (paths : List (Li
   abbrev way : List ℕ
   way = chunks_of (take len b)
 
-  -- where the way down stopped it ends
+  -- the search ends where the descent stopped
   pub way_ends : IsReached b len end.reached.level end.reached.node (end.reached.at.start + end.reached.at.offset) v → IsSearchEnd v.slots (take len b) end
   way_ends at =
       let e = reached_end b len end.reached.level (end.reached.at.start + end.reached.at.offset) end.reached.node v at reading paths hold in
@@ -52,7 +52,7 @@ module _ (v : Store Node) (reading : List ℕ → Option Node) (paths : List (Li
         node_is = at.node_is;
       }
 
-  -- and where it ends the way down has stopped
+  -- and the descent stopped where the search ends
   pub way_reached : len ≤ length b → IsSearchEnd v.slots (take len b) end →
       IsReached b len end.reached.level end.reached.node (end.reached.at.start + end.reached.at.offset) v
   way_reached long e = record {

@@ -82,7 +82,7 @@ module _ {T : Type 0} where
         at_depth q true e = both (begins q key) (is_some (reading (chunks_of q))) (is_start (chunks_of q) (chunks_of key))
             (sym (begins-way q key (eqb-true (length q % 5) 0 e)))
 
-    -- and where nothing was
+    -- and if nothing was
     pub shape_kept : (s : State T) → IsShapeOf v.slots w.slots s → Holds reading values paths v2 w2 → IsShapeOf v2.slots w2.slots s
     shape_kept s is later = shape_of reading values paths v2 w2 later s (shape_nodes reading values paths v w holds s is)
         (shape_entries reading values paths v w holds s is)
@@ -217,7 +217,7 @@ module _ {T : Type 0} (key : List Bool) (x : T) (v v2 : Store Node) (w w2 : Stor
   entry_is = shape_entries is.reading is.values is.paths v w held_by s.0 s.1 key
 
   module _ {E : Type 0} where
-    -- what the call says of the values and the nodes that the old arrays hold
+    -- what the call says of the values and the nodes of the old arrays
     abbrev pub Leaves : Result (Option T) E → Type 0
     Leaves r =
         (reading : List ℕ → Option Node) (paths : List (List ℕ)) (values : List ℕ → ℕ → Option T) → Holds reading values paths v w
@@ -285,7 +285,7 @@ module _ {T : Type 0} (key : List Bool) (x : T) (v v2 : Store Node) (w w2 : Stor
       cells_within = cells.within is.cells_within;
     }
 
-    -- the answer is the value that was there
+    -- the result is the previous value
     pub before_left : (r : Result (Option T) E) → Leaves r → IfOk r (λ before. before ≡ get s.0.entries key)
     before_left (Ok before) left = (left is.reading is.paths is.values held_by).0 ∙ sym entry_is
     before_left (Err e) left = tt

@@ -61,7 +61,7 @@ module _ {T : Type 0} (v v2 : Store Node) (w w2 : Store (Option T)) (count count
   done : ◌≡◌ {A = Reply (List Bool) T} Done (Reply.Refused IndexRange) → ⊥
   done e = cc
 
-  -- ---- one entry is taken out
+  -- ---- one entry is removed
 
   module _ (q : List Bool) (value : Option T) (is_value : value ≡ get s.0.entries q) where
     pub removes_step : s2.0 ≡ record { entries = without_entry s.0.entries q; nodes = nodes_without s.0.nodes s.0.entries q } →

@@ -21,7 +21,7 @@ read_from-append : (nodes : List Node) (at : Option Node) (p q : List ℕ) → r
 read_from-append nodes at [] q = refl
 read_from-append nodes at (c ∷ p) q = read_from-append nodes (below nodes at c) p q
 
--- below a missing node no node stands
+-- there is no node under a missing node
 pub read-missing : (nodes : List Node) (p q : List ℕ) → read nodes p ≡ None → read nodes (p ++ q) ≡ None
 unfolding read
 read-missing nodes p q h = read_from-append nodes (Some (node_at nodes 0)) p q ∙ ap (λ o. read_from nodes o q) h ∙ read_from-none nodes q
@@ -41,14 +41,14 @@ pub number-small : (s : List Bool) → length s ≡ 5 → number s < 32
 number-small s h = subst (λ n. number s < 2 ^ n) h (number-lt s)
 
 module _ {T : Type 0} (width : ℕ) (v : Store Node) (t : Tree T) (tree : IsTrie width t.count v t.cells t.shape) where
-  -- below a string where no node stands, nothing is stored
+  -- under a string without nodes nothing is stored
   pub nothing_below : (q : List Bool) → length q % 5 ≡ 0 → read v.slots (chunks_of q) ≡ None → listing_below t.shape.entries q ≡ []
   nothing_below q whole missing = listing_below_none t.shape.entries q (λ k has. no_or_yes (begins q k) (λ e.
       let way : chunks_of k ≡ chunks_of q ++ chunks_of (drop (length q) k) = ap chunks_of (begins-rest q k e) ∙ path-append q (drop (length q) k) whole in
       let none : read v.slots (chunks_of k) ≡ None = ap (read v.slots) way ∙ read-missing v.slots (chunks_of q) (chunks_of (drop (length q) k)) missing in
       absurd (false≢true (sym (ap is_some (tree.shaped.1 k ∙ ap (λ o. value_of t.cells.slots o (bit_of k)) none)) ∙ has))))
 
-  -- a node that stands has no value bit 31
+  -- a node that is there has no value bit 31
   pub few_at : (p : List ℕ) (n : Node) → read v.slots p ≡ Some n → has_bit n.value_bitmap 31 ≡ false
   few_at p n is =
       let h = has_nodes v t.cells (some_table tree.table) in h.1 p n (sym (reads node_sizes h.0.reading h.0.paths v h.0.hold p) ∙ is)
@@ -81,12 +81,12 @@ module _ {T : Type 0} (width : ℕ) (v : Store Node) (t : Tree T) (tree : IsTrie
           tree.table.cells.set_where (chunks_of q) (value_bit s) ∙ ap (λ o. has_value o (value_bit s)) node_is
           ∙ has_bit-is n.value_bitmap (value_bit s) bit_small
 
-      -- where it is not set nothing is stored
+      -- if it is not set nothing is stored
       no_value_there : has n.value_bitmap (value_bit s) ≡ false → get t.shape.entries (q ++ s) ≡ None
       no_value_there clear = value_is ∙ is_none-None (tree.table.values (chunks_of q) (value_bit s)) (has_value_is ∙ clear)
 
       module _ (set : has n.value_bitmap (value_bit s) ≡ true) where
-        -- where it is set a value is stored
+        -- if it is set a value is stored
         value_there : (x : T) × (get t.shape.entries (q ++ s) ≡ Some x)
         value_there = some-is (get t.shape.entries (q ++ s)) (ap is_some value_is ∙ has_value_is ∙ set)
 
@@ -140,7 +140,7 @@ module _ {T : Type 0} (width : ℕ) (v : Store Node) (t : Tree T) (tree : IsTrie
         child_set : has_bit n.child_bitmap (number s) ≡ true
         child_set = has_bit-is n.child_bitmap (number s) child_small ∙ set
 
-        -- where it is set a node stands
+        -- if it is set there is a node
         pub child_is : read v.slots (chunks_of (q ++ s)) ≡ Some (node_at v.slots (child_slot n (number s)))
         child_is = child_read ∙ child-there v.slots n (number s) child_set
 
@@ -169,6 +169,6 @@ module _ {T : Type 0} (width : ℕ) (v : Store Node) (t : Tree T) (tree : IsTrie
           listing_at_child t.shape.entries q s five ∙ no_child_there s five (sym (is_in-child n.value_bitmap n.child_bitmap s five) ∙ clear)
     ]
 
-    -- what is below a node stands at its places
+    -- what is under a node is at its places
     pub all_places : listing_at_places t.shape.entries q (places n.value_bitmap n.child_bitmap) ≡ listing_below t.shape.entries q
     all_places = listing_by_node_places t.shape.entries q n.value_bitmap n.child_bitmap unset

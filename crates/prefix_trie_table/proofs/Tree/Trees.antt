@@ -61,7 +61,7 @@ module _ (sizes : List ℕ) (nodes : List ℕ → Option Node) (paths : List (Li
   pub listed_once : (p : List ℕ) (n : Node) → nodes p ≡ Some n → times p paths ≡ 1
   listed_once p n e = hold.listed p ∙ ap (λ o. one_if (is_some o)) e
 
-  -- the block in which the children of a node stand
+  -- the block of the children of a node
   abbrev block_of : List ℕ → Node → UsedBlock Node
   block_of p n = block n.child_tier n.child_block (size_in sizes n.child_tier) (child_items nodes p n.child_bitmap)
 
@@ -81,7 +81,7 @@ module _ (sizes : List ℕ) (nodes : List ℕ → Option Node) (paths : List (Li
       subst (λ bs. Sound blank_node (bs ++ flat_map (child_blocks sizes nodes) (without p paths)) v)
       (held_some n.child_tier n.child_block (size_in sizes n.child_tier) (child_items nodes p n.child_bitmap) h) (own_first p n e)
 
-  -- where a child stands
+  -- where a child is
   pub child_stands : (p : List ℕ) (n : Node) (c : ℕ) → nodes p ≡ Some n → has_bit n.child_bitmap c ≡ true
       → (rank n.child_bitmap c < length (child_items nodes p n.child_bitmap)) ×
       (node_at v.slots (child_slot n c) ≡ node_or_blank (nodes (p ++ c ∷ []))) × (child_slot n c < length v.slots) × (0 < child_slot n c)
@@ -111,7 +111,7 @@ module _ (sizes : List ℕ) (nodes : List ℕ → Option Node) (paths : List (Li
   reads = snoc_ind (λ q. read v.slots q ≡ nodes q) (read-nil v.slots ∙ sym hold.rooted)
       (λ q c ih. read-snoc v.slots q c ∙ ap (λ o. below v.slots o c) ih ∙ reads_below q c (nodes q) refl)
 
-  -- what stands at a slot
+  -- what is in a slot
   pub slot_holds : (p : List ℕ) (s : ℕ) (n : Node) → IsSlot nodes p s → nodes p ≡ Some n → (node_at v.slots s ≡ n) × (s < length v.slots)
   slot_holds p s n (at_root) e =
       let z : Some (node_at v.slots 0) ≡ Some n = sym hold.rooted ∙ e in
@@ -144,7 +144,7 @@ times_out_same p paths h =
     let z : one_if (same_path p p) ≡ 1 = ap one_if (same_path-itself p) in omega arith
 
 module _ (sizes : List ℕ) (nodes : List ℕ → Option Node) (paths : List (List ℕ)) (v : Store Node) (hold : NodesHold sizes nodes paths v) where
-  -- the node at p becomes m, where it stands in the block of its parent, or before the first block
+  -- the node at p becomes m, in the block of its parent or before the first block
   pub node_set : (rest : List (List ℕ)) (p : List ℕ) (s : ℕ) (n m : Node) (later : List ℕ → Option Node) (own : List (UsedBlock Node)) (u : Store Node)
       → ((q : List ℕ) (c : ℕ) → q ++ c ∷ [] ≡ p → times q rest ≡ 1)
       → IsSlot nodes p s → nodes p ≡ Some n → u.first ≡ 1

@@ -40,7 +40,7 @@ module _ {T : Type 0} (sizes node_sizes : List ℕ) (nodes : List ℕ → Option
       subst (λ o. Sound None (value_blocks_of sizes values p o ++ flat_map (value_blocks sizes nodes values) (without p paths)) w) e
       (node_first sizes nodes paths None (value_blocks sizes nodes values) w p h sound)
 
-  -- which are one block, where there are any
+  -- which are one block if there are any
   block_first : (w : Store (Option T)) → Sound None (flat_map (value_blocks sizes nodes values) paths) w → (p : List ℕ) (n : Node) → nodes p ≡ Some n →
       0 < length (items_of p n) → Sound None (block_of p n ∷ flat_map (value_blocks sizes nodes values) (without p paths)) w
   block_first w sound p n e some =
@@ -88,7 +88,7 @@ module _ {T : Type 0} (sizes node_sizes : List ℕ) (nodes : List ℕ → Option
         (value_blocks sizes nodes values) (without p paths)) w
     values_first p n e = held_first w cells.sound p n e
 
-    -- where a value stands
+    -- where a value is
     pub value_stands : (p : List ℕ) (n : Node) (b : ℕ) → nodes p ≡ Some n → has_bit n.value_bitmap b ≡ true
         → (rank n.value_bitmap b < length (map (values p) (bits n.value_bitmap))) ×
         (get_or w.slots (n.value_block + rank n.value_bitmap b) None ≡ values p b) × (n.value_block + rank n.value_bitmap b < length w.slots)
@@ -113,7 +113,7 @@ module _ {T : Type 0} (sizes node_sizes : List ℕ) (nodes : List ℕ → Option
       has_same : (b : ℕ) → has_value (Some m) b ≡ has_value (nodes p) b
       has_same b = ap (λ k. has_bit k b) same_bits ∙ sym (ap (λ o. has_value o b) is)
 
-      -- where the child c becomes o, and neither it nor what was there has values
+      -- the child c becomes o, and neither it nor the one before has values
       module _ (c : ℕ) (o : Option Node) (bare : (b : ℕ) → has_value o b ≡ has_value (nodes (p ++ c ∷ [])) b) where
         blocks_same : (q : List ℕ) → q ≢ p ++ c ∷ [] → (q ≡ p) ⊎ (q ≢ p) → value_blocks sizes (changed nodes p m c o) values q ≡ value_blocks sizes nodes values q
         blocks_same q nr (inl e) = ap (value_blocks_of sizes values q) (changed_here nodes p m c o q e)

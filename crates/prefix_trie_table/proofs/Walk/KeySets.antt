@@ -45,7 +45,7 @@ module _ {T : Type 0} where
   pair_bare s (Some u) None h = absurd (false≢true (sym h))
   pair_bare s (Some u) (Some x) h = refl
 
-  -- where a set is that of the strings of entries
+  -- if a set is that of the strings of entries
   module _ (m : Entries T) (keys : Nodes) (same : (q : List Bool) → has_node keys q ≡ contains_key m q) where
     keys_listed : entries keys ≡ map bare (entries m)
     keys_listed =
@@ -65,7 +65,7 @@ module _ {T : Type 0} where
     places_bare s (t ∷ ts) =
         ap₂ (λ xs ys. xs ++ ys) (place_bare s t) (places_bare s ts) ∙ sym (map-append bare (listing_at_place m s t) (listing_at_places m s ts))
 
-    -- the strings still to come are those of the pairs
+    -- the strings to come are those of the entries
     pub pending_bare : {K : Type 0} (bits : K → List Bool) (key : K) (ps : List Spot) → pending bits keys key ps ≡ map bare (pending bits m key ps)
     pending_bare bits key [] = refl
     pending_bare bits key (p ∷ ps) =

@@ -1,4 +1,4 @@
--- The values of two strings stand in two cells.
+-- The values of two strings are in two cells.
 use Rattle.prefix_trie_table.proofs.Prelude.{◌≡◌, ◌≢◌, ℕ, ◌+◌, ◌<◌, ◌⊎◌, inl, inr, Bool, true, List, [], ◌∷◌, ◌++◌, length, get_or, map, flat_map, Option, None, Some, sym, ap, ◌∙◌, subst, arith, All-head, IsPermutation-cons, Node, Seat, has_bit, bits, rank, node_sizes, cell_sizes, chunks_of, bit_of, Store, UsedBlock, Sound, block, extent, free_extents, tier_sizes, SomeTable, times, without, value_blocks, value_blocks_of, IsSeat}
 use Rattle.prefix_trie_table.specs.Forest.{size_in}
 use Rattle.prefix_trie_table.proofs.Strings.Bits.{has_bit-below}
@@ -26,7 +26,7 @@ module _ {T : Type 0} (v : Store Node) (w : Store (Option T)) (t : SomeTable v w
   abbrev blocks_at : List ℕ → List (UsedBlock (Option T))
   blocks_at = value_blocks cell_sizes t.reading t.values
 
-  -- is one block where it has a value
+  -- is one block if it has a value
   own_block : (p : List ℕ) (n : Node) (b : ℕ) → t.reading p ≡ Some n → has_bit n.value_bitmap b ≡ true → blocks_at p ≡ own p n ∷ []
   own_block p n b is bit =
       let g = map_get (t.values p) n.value_bitmap b None (has_bit-below n.value_bitmap b bit) bit in
@@ -40,7 +40,7 @@ module _ {T : Type 0} (v : Store Node) (w : Store (Option T)) (t : SomeTable v w
       let g = map_get (t.values p) n.value_bitmap b None (has_bit-below n.value_bitmap b bit) bit in
       let fits = fits_block None (own p n) live w sound in (let x = g.0 in omega arith)
 
-  -- values of two nodes stand in two blocks
+  -- values of two nodes are in two blocks
   blocks_differ : (p q : List ℕ) (n m : Node) (b c : ℕ) → t.reading p ≡ Some n → t.reading q ≡ Some m → has_bit n.value_bitmap b ≡ true → has_bit m.value_bitmap c ≡ true →
       q ≢ p → n.value_block + rank n.value_bitmap b ≢ m.value_block + rank m.value_bitmap c
   blocks_differ p q n m b c is at bit bit2 ne same =

@@ -1,4 +1,4 @@
--- What a walk from a bit string gives, node by node on the string's way.
+-- What a walk from a bit string gives, node by node on the string's search path.
 use Rattle.prefix_trie_table.proofs.Prelude.{◌≡◌, ℕ, zero, suc, ◌<◌, ◌≤◌, Bool, true, false, not, cond, ◌&&◌, ◌||◌, nat_lt, ltb-true, List, [], ◌∷◌, ◌++◌, length, take, drop, filter, is_lt, is_le, Ordering, Less, Equal, Greater, Option, Some, None, inl, inr, refl, sym, ap, ap₂, ◌∙◌, subst, arith, cases_lt, false≢true, ordering_reverse, take-take, take_at, drop_at, filter-append, filter_agree, get, entries, entries_sorted, begins, same_bool, begins-from-take, take-begins, begins-rest, begins-take, begins-trans, begins-append, listing_cmp, listing_total, listing-refl, listing-common, listing-apart, strings, is_before, Entries, listing, listing_below, pair_of, listing_at_place, listing_at_places, both, each, strings-short, and-first, and-second, lt-less, two-tests, listing_by_places, listing_at_inner, listing_at_child, Start, At, After, Below, selected, behind, kept}
 use Rattle.std.proofs.lemmas.List.{take-append-drop, take_all, append_assoc}
 use Rattle.prefix_trie_table.proofs.Strings.Plain.{no_or_yes}
@@ -15,7 +15,8 @@ or-false : (a : Bool) → a ≡ (a || false)
 or-false true = refl
 or-false false = refl
 
--- behind the beginning c come the strings that begin with it, and those that differ from it and come later
+-- after the beginning c come the strings that begin with it, and those that differ from it and come
+-- later
 here-ordered : (f : Ordering → Bool) → f Less ≡ true → f Greater ≡ false → (c r k : List Bool) →
     f (listing_cmp (c ++ r) k) ≡ ((begins c k && f (listing_cmp (c ++ r) k)) || is_before c (take (length c) k))
 unfolding begins
@@ -65,7 +66,7 @@ passed-string x (false ∷ p) c r (true ∷ k) = refl
 passed-string x (false ∷ p) c r (false ∷ k) =
     subst (λ w. (begins p k && w) ≡ ((begins (p ++ c) k && w) || (begins p k && behind x c (take (length c) (drop (length p) k))))) (sym (common x false (p ++ c ++ r) k)) (passed-string x p c r k)
 
--- what is behind comes after what is below
+-- what is after it comes after what is under it
 apart-here : (c k l : List Bool) → begins c k ≡ true → is_before c (take (length c) l) ≡ true → listing_cmp k l ≡ Less
 apart-here c k l e f =
     ap₂ listing_cmp (begins-rest c k e) (sym (take-append-drop (length c) l))
@@ -144,7 +145,7 @@ module _ {X : Type 0} where
   keep false true x ys zs e h = cc
   keep false false x ys zs e h = h
 
-  -- where a test has one answer for all that pass another, all of them are kept or none
+  -- if a test has one result for all that pass another, all of them are kept or none
   pub one-answer : (g p : X → Bool) (b : Bool) → ((x : X) → p x ≡ true → g x ≡ b) → (xs : List X) → filter g (filter p xs) ≡ cond b (filter p xs) []
   one-answer g p b h [] = cond-none b
   one-answer g p b h (x ∷ xs) = elim (p x) as (λ c. p x ≡ c → filter g (cond c (x ∷ filter p xs) (filter p xs)) ≡ cond b (cond c (x ∷ filter p xs) (filter p xs)) []) [
@@ -208,7 +209,7 @@ at_some_places m s test some inside is none =
     some inside is none (strings 5) strings-short
     ∙ ap (filter (λ e. test (take 5 (drop (length s) e.0)))) (sym (listing_by_places m s))
 
--- ---- the way
+-- ---- the search path
 
 module _ {T : Type 0} (x : Start) (m : Entries T) where
   -- what is selected below p
@@ -224,7 +225,8 @@ module _ {T : Type 0} (x : Start) (m : Entries T) where
       at_root After = refl
       at_root Below = refl
 
-  -- below a node that is passed it is what is selected below the child taken, and then what is behind that child
+  -- under a node that is passed it is what is selected under the child taken, and then what comes
+  -- after that child
   pub wanted_passed : (p c r : List Bool) → wanted_below (p ++ c ++ r) p ≡ wanted_below (p ++ c ++ r) (p ++ c) ++ filter (λ e. behind x c (take (length c) (drop (length p) e.0))) (listing_below m p)
   wanted_passed p c r =
       filter_agree _ _ (λ e. passed-string x p c r e.0) (listing m)
@@ -233,12 +235,12 @@ module _ {T : Type 0} (x : Start) (m : Entries T) where
       (entries m) (entries_sorted m)
       ∙ ap (λ es. wanted_below (p ++ c ++ r) (p ++ c) ++ es) (sym (filter-both (λ e. begins p e.0) (λ e. behind x c (take (length c) (drop (length p) e.0))) (listing m)))
 
-  -- below the node where the string ends it is what is kept there
+  -- under the node where the string ends it is what is kept there
   pub wanted_ended : (p r : List Bool) → length r < 5 → wanted_below (p ++ r) p ≡ filter (λ e. kept x r (take 5 (drop (length p) e.0))) (listing_below m p)
   wanted_ended p r h =
       filter_agree _ _ (λ e. end-string x p r e.0 h) (listing m)
       ∙ sym (filter-both (λ e. begins p e.0) (λ e. kept x r (take 5 (drop (length p) e.0))) (listing m))
 
-  -- and nothing where nothing is stored
+  -- and nothing if nothing is stored
   pub wanted_none : (q p : List Bool) → listing_below m p ≡ [] → wanted_below q p ≡ []
   wanted_none q p h = sym (filter-both (λ e. begins p e.0) (λ e. wanted x q e.0) (listing m)) ∙ ap (filter (λ e. wanted x q e.0)) h

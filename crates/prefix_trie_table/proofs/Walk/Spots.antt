@@ -25,14 +25,14 @@ weight-child d e vs cs ss is fits all =
 
 -- ---- which place it is
 
--- a value place is that of a string of less than five bits
+-- a place for a value is that of a string of less than five bits
 pub place-value : (s : List Bool) (b : ℕ) → length s ≤ 5 → Value b ≡ place_of s → (length s ≤ 4) × (b ≡ value_bit s)
 place-value s b h e = elim (cases_lt (length s) 5) as (λ _. (length s ≤ 4) × (b ≡ value_bit s)) [
   | inl l ↦ (omega arith, let f : Value b ≡ Value (value_bit s) = e ∙ ap (λ c. cond c (Value (value_bit s)) (ChildPlace (number s))) (lt-ltb (length s) 5 l) in cc)
   | inr g ↦ absurd (let f : Value b ≡ ChildPlace (number s) = e ∙ ap (λ c. cond c (Value (value_bit s)) (ChildPlace (number s))) (le-ltb (length s) 5 g) in cc)
 ]
 
--- a child place is that of a string of five
+-- a place for a child is that of a string of five
 pub place-child : (s : List Bool) (b : ℕ) → length s ≤ 5 → ChildPlace b ≡ place_of s → (length s ≡ 5) × (b ≡ number s)
 place-child s b h e = elim (cases_lt (length s) 5) as (λ _. (length s ≡ 5) × (b ≡ number s)) [
   | inl l ↦ absurd (let f : ChildPlace b ≡ Value (value_bit s) = e ∙ ap (λ c. cond c (Value (value_bit s)) (ChildPlace (number s))) (lt-ltb (length s) 5 l) in cc)

@@ -33,7 +33,7 @@ module _ {K : Type 0} (IsKey : K → Type 0) (bits : K → List Bool) (width : �
       let deeper = cursor-pop (n + 5) ps p h.2 in
       ((h.0, h.1, deeper.0), omega (arith, deeper.1), deeper.2)
 
-  -- wherever a trail starts, it is a stack
+  -- spots are a stack from whatever depth they start
   pub restart : (n : ℕ) (ps : List Spot) → IsStackFrom IsKey bits width v n key ps → IsStack IsKey bits width v key ps
   restart n [] h = tt
   restart n (p ∷ ps) h = subst (λ k. IsStackFrom IsKey bits width v k key (p ∷ ps)) (sym h.0) h
@@ -42,7 +42,7 @@ module _ (all below : List Spot) (p : Spot) (popped : all ≡ below ++ p ∷ [])
   pub weight-popped : sum_by weight all ≡ sum_by weight below + weight p
   weight-popped = ap (sum_by weight) popped ∙ sum_by_push weight below p
 
-  -- the last spot has become q, and c stands above it
+  -- the last spot has become q, and c is above it
   pub weight-deeper : (q c : Spot) → weight c + weight q < weight p → sum_by weight ((below ++ q ∷ []) ++ c ∷ []) < sum_by weight all
   weight-deeper q c h = omega (arith, h, sum_by_push weight (below ++ q ∷ []) c, sum_by_push weight below q, weight-popped)
 
@@ -63,7 +63,7 @@ module _ (all below : List Spot) (p : Spot) (popped : all ≡ below ++ p ∷ [])
     pub stack-popped : IsStack IsKey bits width v key below
     stack-popped = restart IsKey bits width v key (start all) below cursor-at.0
 
-    -- there is room to put the spot back
+    -- there is space to put the spot back
     pub stack-space : width ≤ 128 → length below < 26
     stack-space small = let w = cursor-at.2.within in omega (arith, w, cursor-at.1, small)
 
@@ -94,7 +94,7 @@ module _ {K : Type 0} (IsKey : K → Type 0) (bits : K → List Bool) (width : �
       ap (λ es. es ++ still bits m other p) (pending-way m (n + 5) ps (omega (arith, h)) t.2)
       ∙ ap (λ s. pending bits m key ps ++ listing_at_places m s (to_come p.places)) (same_path p.depth (omega (arith, h, t.0)))
 
--- the last spot p of these has become q, and c, with a key of its own, stands above it
+-- the last spot p of these has become q, and c, with a key of its own, is above it
 module _ {K : Type 0} (IsKey : K → Type 0) (bits : K → List Bool) (width : ℕ) (v : Store Node) (key other : K) (all below : List Spot) (p q c : Spot) (popped : all ≡ below ++ p ∷ [])
     (stack : IsStack IsKey bits width v key all) (depth : q.depth ≡ p.depth) (is_q : IsSpot IsKey bits width v key q)
     (deeper : c.depth ≡ p.depth + 5) (is_c : IsSpot IsKey bits width v other c) (same : take p.depth (bits other) ≡ take p.depth (bits key)) where

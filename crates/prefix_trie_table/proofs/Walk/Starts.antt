@@ -27,7 +27,7 @@ module _ (values children : ℕ) (r : List Bool) (short : length r ≤ 4) (from 
   pub own_bit : has values (value_bit r) ≡ true
   own_bit = sym (is_in-value values children r (omega arith)) ∙ from.bits r (omega arith) ∙ ap not (not-itself r)
 
-  -- and without it they are those behind it
+  -- and without it they are those after it
   pub masks_after : (less : ℕ) → Sets less (value_bit r) values → less < 2 ^ 31 → HoldsPlaces less children (is_before r)
   masks_after less sets small = record { bits = each; small = small }
     where
@@ -60,16 +60,16 @@ pub short_rest : (b : List Bool) (width : ℕ) → length b ≡ width → (depth
 short_rest b width long depth len within last =
     let l = length-take-le len b (omega (arith, long, within)) in omega (arith, length-drop depth (take len b), l, last)
 
--- ---- the way
+-- ---- the search path
 
--- nothing is behind itself
+-- nothing comes after itself
 behind-itself : (x : Start) (s : List Bool) → behind x s s ≡ false
 behind-itself At s = not-itself s
 behind-itself After s = not-itself s
 behind-itself Below s = refl
 
 module _ {K : Type 0} (IsKey : K → Type 0) (bits : K → List Bool) (width : ℕ) (v : Store Node) (key : K) (len : ℕ) (from : Start) where
-  -- at the next node of the way: what stands above it, and what is selected below it, is the selection
+  -- at the next node of the path: what is above it, and what is selected under it, is the selection
   pub record IsLaid (T : Type 0) (depth : ℕ) (node : Node) (ps : List Spot) : Type 0 where
     pub level : ℕ
     pub depth_is : depth ≡ 5 * level
@@ -108,7 +108,7 @@ module _ {K : Type 0} (IsKey : K → Type 0) (bits : K → List Bool) (width : �
         sym (take-append-drop depth (take len (bits key)))
         ∙ ap (λ s. s ++ drop depth (take len (bits key))) (take-take depth len (bits key) laid.inside)
 
-    -- the way goes on
+    -- the path goes on
     module _ (more : depth + 5 ≤ len) where
       five : length (take 5 (drop depth (bits key))) ≡ 5
       five = let d = length-drop depth (bits key) in length-take-le 5 (drop depth (bits key)) (omega (arith, d, long, within, more))
@@ -122,7 +122,7 @@ module _ {K : Type 0} (IsKey : K → Type 0) (bits : K → List Bool) (width : �
           ∙ ap (λ s. s ++ drop (depth + 5) (take len (bits key))) (take-take (depth + 5) len (bits key) more ∙ deeper_string)
 
       module _ (t : Tree T) (tree : IsTrie width t.count v t.cells t.shape) (k : ℕ) (k_is : k ≡ number (take 5 (drop depth (bits key)))) where
-        -- the next node, where its bit is set
+        -- the next node, if its bit is set
         module _ (set : has node.child_bitmap k ≡ true) (slot : ℕ) (slot_is : slot ≡ child_slot node k) where
           bit_set : has node.child_bitmap (number (take 5 (drop depth (bits key)))) ≡ true
           bit_set = ap (has node.child_bitmap) (sym k_is) ∙ set
@@ -139,7 +139,7 @@ module _ {K : Type 0} (IsKey : K → Type 0) (bits : K → List Bool) (width : �
               ∙ child_is width v t tree (take depth (bits key)) node whole laid.stands (take 5 (drop depth (bits key))) five bit_set
               ∙ ap (λ n. Some (node_at v.slots n)) own_slot ∙ ap Some (sym is)
 
-        -- where it is clear nothing is stored below
+        -- if it is clear nothing is stored under it
         none_below : has node.child_bitmap k ≡ false → listing_below t.shape.entries (take (depth + 5) (bits key)) ≡ []
         none_below clear =
             ap (listing_below t.shape.entries) deeper_string
@@ -183,7 +183,7 @@ module _ {K : Type 0} (IsKey : K → Type 0) (bits : K → List Bool) (width : �
         pending_is : pending bits t.shape.entries key qs ≡ still bits t.shape.entries key p ++ pending bits t.shape.entries key ps
         pending_is = ap (pending bits t.shape.entries key) pushed ∙ pending-push bits t.shape.entries key ps p
 
-      -- the node is passed: what is behind the child taken is left there
+      -- the node is passed: what comes after the child taken is left there
       module _ (more : depth + 5 ≤ len) (values children : ℕ) (all : to_come p.places ≡ places_in node values children) (k : ℕ) (k_is : k ≡ number (take 5 (drop depth (bits key))))
           (masks : (s : List Bool) → length s ≡ 5 → number s ≡ k → HoldsPlaces values children (behind from s)) where
         holds : HoldsPlaces values children (behind from (take 5 (drop depth (bits key))))
@@ -219,13 +219,13 @@ module _ {K : Type 0} (IsKey : K → Type 0) (bits : K → List Bool) (width : �
             ∙ append_assoc (wanted_below from t.shape.entries (take len (bits key)) (take (depth + 5) (bits key))) (still bits t.shape.entries key p) (pending bits t.shape.entries key ps)
             ∙ ap (λ es. wanted_below from t.shape.entries (take len (bits key)) (take (depth + 5) (bits key)) ++ es) (sym (pending_is values children all (behind from (take 5 (drop depth (bits key)))) holds t tree))
 
-        -- where the child is missing that is all
+        -- if the child is missing that is all
         pub rest_missing : has node.child_bitmap k ≡ false → (t : Tree T) → IsTrie width t.count v t.cells t.shape → pending bits t.shape.entries key qs ≡ selected from t.shape.entries (take len (bits key))
         rest_missing clear t tree =
             sym (rest_pushed t tree
             ∙ ap (λ es. es ++ pending bits t.shape.entries key qs) (wanted_none from t.shape.entries (take len (bits key)) (take (depth + 5) (bits key)) (none_below more t tree k k_is clear)))
 
-        -- where it stands it is the next node
+        -- if it is there it is the next node
         pub laid_next : (t : Tree T) → IsTrie width t.count v t.cells t.shape → has node.child_bitmap k ≡ true → (slot : ℕ) → slot ≡ child_slot node k → (next : Node) → next ≡ node_at v.slots slot →
             IsLaid T (depth + 5) next qs
         laid_next t tree set slot slot_is next is = record {

@@ -15,7 +15,7 @@ use Rattle.prefix_trie_table.proofs.Tree.Copying.{clones_at, cloned_there, cells
 -- ---- cells and seats
 
 module _ {T : Type 0} where
-  -- what stands at a seat
+  -- the content of a seat
   abbrev in_seat : List (Option T) → Option Seat → Option T
   in_seat cells None = None
   in_seat cells (Some seat) = get_or cells (slot_of seat) None
@@ -34,7 +34,7 @@ module _ {T : Type 0} where
   unfolding seat_of
   cell_at nodes cells q = cell_in cells (read nodes (chunks_of q)) (bit_of q)
 
--- ---- sorted strings stand apart
+-- ---- sorted strings are apart
 
 module _ {T : Type 0} where
   apart_below : (q : List Bool) (es : List (List Bool × T)) → IsT (below_all listing_cmp q es) → IsApart q (map bare es)
@@ -53,13 +53,13 @@ module _ {T : Type 0} where
 
 module _ {K T : Type 0} (IsKey : K → Type 0) (bits : K → List Bool) (width : ℕ) (v : Store Node) where
   module _ (t : Tree T) (trie : IsTrie width t.count v t.cells t.shape) where
-    -- the strings still to come are those of the pairs of the table
+    -- the strings to come are those of the entries of the table
     strings_come : (keys : Seated v.slots) (key : K) (ps : List Spot) → pending bits keys.0 key ps ≡ map bare (pending bits t.shape.entries key ps)
     strings_come keys key ps =
         pending_bare t.shape.entries keys.0 (λ q. keys.1 q ∙ sym (stored_if v t.cells t.count (t.shape, trie.shaped) trie.table q)) bits key ps
 
     module _ (cells : List (Option T)) (q : List Bool) (x : Seat) (found : seat_of v.slots q ≡ Some x) where
-      -- where one cell is made vacant the others are as they were
+      -- if one cell is made vacant the others are unchanged
       other_cell : (s : List Bool) → q ≢ s → cell_of v.slots (set cells (slot_of x) None) s ≡ cell_of v.slots cells s
       other_cell s ne = cell_at v.slots (set cells (slot_of x) None) s ∙ at (seat_of v.slots s) refl ∙ sym (cell_at v.slots cells s)
         where
@@ -214,7 +214,7 @@ module _ {K T : Type 0} (IsKey : K → Type 0) (bits : K → List Bool) (width :
 -- ---- the copy of a walk that takes values out of their cells
 
 module _ {T : Type 0} (C : T → T → Type 0) where
-  -- a pair, where there is one, and its clone before others
+  -- an entry, if there is one, and its clone before others
   pairs_more : (q : List Bool) (x y : Option T) (es fs : List (List Bool × T)) → IsCloned C x y → AllZip (IsPairCloned C) es fs →
       AllZip (IsPairCloned C) (pair_of q x ++ es) (pair_of q y ++ fs)
   pairs_more q None None es fs h rest = rest
@@ -222,7 +222,7 @@ module _ {T : Type 0} (C : T → T → Type 0) where
   pairs_more q (Some x) None es fs h rest = absurd h
   pairs_more q (Some x) (Some y) es fs h rest = ((refl, h), rest)
 
-  -- where a clone is equal to its source the pairs are the same
+  -- if a clone is equal to its source the entries are the same
   pub pairs_same : ((x y : T) → C x y → y ≡ x) → (es fs : List (List Bool × T)) → AllZip (IsPairCloned C) es fs → fs ≡ es
   pairs_same law es fs z = same_from_all_zip (IsPairCloned C) es fs z (λ e f h i. (h.0 i, law e.1 f.1 h.1 i))
 

@@ -1,4 +1,4 @@
--- What the arrays and the spots of a walk say of what is still to come.
+-- What the arrays and the spots of a walk tell of what is to come.
 use Rattle.prefix_trie_table.proofs.Prelude.{◌≡◌, ℕ, ◌%◌, Bool, List, [], ◌∷◌, length, take, arith, Option, None, Some, refl, sym, ap, ◌∙◌, subst, ◌+◌, map, is_some, true, MatchOption, IfSome, All-nil, slice_index_or, Bor, places, to_come, listing, listing_below, listing_at_places, State, listing_of_root, Node, Store, node_at, chunks_of, read, Shaped, IsShapeOf, same_shape, Seat, Spot, GivesFilled, Tree, IsSpot, IsPlaceOf, IsStack, IsPassed, ArePassed, still, pending, GivesSeat, ShapeOf, rest_of_walk, IsWalk, IsStackFrom, start, IsTrie, IsTable, len, contains_key, seat_of, GivesKey}
 use Rattle.std.specs.List.{All}
 use Rattle.prefix_trie_table.specs.Walking.Walks.{slot_of}
@@ -81,7 +81,7 @@ module _ {K T : Type 0} (IsKey : K → Type 0) (bits : K → List Bool) (width :
       pub spots_rest : (x : State T) → IsShapeOf v.slots w.slots x → pending bits u.0.entries key ps ≡ pending bits x.entries key ps
       spots_rest x is = ap (λ (y : State T). pending bits y.entries key ps) (same_shape v.slots w.slots u.0 x u.1 is)
 
-    -- a walk that stands at the root, with all its places
+    -- a walk at the root, with all its places
     module _ (key : K) (c : Spot) (is_key : IsKey key) (depth_is : c.depth ≡ 0) (node_is : c.node ≡ node_at v.slots 0)
         (all : to_come c.places ≡ places c.node.value_bitmap c.node.child_bitmap) (each : All (IsPlaceOf c.node) (to_come c.places)) (ps : List Spot) (only : ps ≡ c ∷ []) where
       root_string : take c.depth (bits key) ≡ []
@@ -105,7 +105,7 @@ module _ {K T : Type 0} (IsKey : K → Type 0) (bits : K → List Bool) (width :
           ∙ ap (listing_below s.entries) root_string ∙ listing_of_root s.entries
           ∙ ap (λ (y : State T). listing y.entries) (same_shape v.slots w.slots s x tree.shaped is)
 
--- ---- a trail stands in each array of the same nodes, and what a step along it gives
+-- ---- a cursor is in each array of the same nodes, and what a step of it gives
 
 module _ {K : Type 0} (bits : K → List Bool) (width : ℕ) (IsKey IsOther : K → Type 0) (v w : Store Node) (same : v.slots ≡ w.slots) (key : K) (is : IsOther key) where
   cursor_in : (n : ℕ) (ps : List Spot) → IsStackFrom IsKey bits width v n key ps → IsStackFrom IsOther bits width w n key ps
@@ -116,7 +116,7 @@ module _ {K : Type 0} (bits : K → List Bool) (width : ℕ) (IsKey IsOther : K 
     cursor_in (n + 5) ps h.2,
   )
 
-  -- spots stand in one array where they stand in another of the same nodes, and whatever a key is
+  -- spots in one array are spots in another with the same nodes, for any key
   pub stack_in : (ps : List Spot) → IsStack IsKey bits width v key ps → IsStack IsOther bits width w key ps
   stack_in ps h = cursor_in (start ps) ps h
 

@@ -1,4 +1,5 @@
--- What an array of blocks ends as, where a `&mut` to one of its values is returned. This project's own.
+-- An array of blocks after a `&mut` to one of its values was returned and ended. This project's
+-- own.
 use Rattle.std.specs.Prelude.{ℕ, Option, Some, None, vec_capacity, ⊤}
 use Rattle.std.specs.Borrow.{Lends, LendsIf, Fml, RattleType, MutBor}
 use Rattle.std.specs.contracts.option.Option as option
@@ -27,6 +28,6 @@ module _ (T A : RattleType) (a : alloc.Ghosts A.Denot) (w : MutBor (Store (Optio
   abbrev pub lends_cell : Seat → MutBor T.Denot → Fml
   lends_cell seat r = Lends (array_of_row (option.the_row T) A (record { vacant = None }) a) T w r (with_cell w.now (Some seat))
 
-  -- the same where there may be no seat and no reference, and the array then stays as it is
+  -- the same if there may be no seat and no reference; the array is unchanged then
   abbrev pub lends_cell_if : Option Seat → Option (MutBor T.Denot) → Fml
   lends_cell_if seat r = LendsIf (array_of_row (option.the_row T) A (record { vacant = None }) a) T w r (with_cell w.now seat) w.now

@@ -1,4 +1,4 @@
--- What a table ends as, where a `&mut` to one of its values is returned. This project's own.
+-- A table after a `&mut` to one of its values was returned and ended. This project's own.
 use Rattle.std.specs.Prelude.{Bool, List, Option}
 use Rattle.std.specs.Borrow.{Lends, LendsIf, Fml, RattleType, MutBor}
 use Rattle.std.specs.declared.alloc.Allocator as alloc
@@ -15,6 +15,6 @@ module _ (T A V : RattleType) (a : alloc.Ghosts A.Denot) (t : tick.Ghosts V.Deno
   abbrev pub lends_entry_if : List Bool → Option (MutBor T.Denot) → Fml
   lends_entry_if q r = LendsIf (table.the_row T A V t a) T s r (with_stored_at s.now q) s.now
 
-  -- the same of the longest key that begins q
+  -- the same for the longest key that q begins with
   abbrev pub lends_longest_if : List Bool → Option (MutBor T.Denot) → Fml
   lends_longest_if q r = LendsIf (table.the_row T A V t a) T s r (with_longest_at s.now q) s.now

@@ -1,4 +1,4 @@
--- A table that is laid with all its blocks before its values come. This project's own.
+-- A table that is built with all its blocks before its values come. This project's own.
 use Rattle.std.specs.Prelude.{◌≡◌, ◌+◌, ◌<◌, ◌≤◌, ℕ, zero, suc, Bool, true, false, cond, ◌&&◌, List, [], ◌∷◌, ◌++◌, flat_map, Option, None, Some, is_some, length}
 use Rattle.prefix_trie_bits.specs.Bits.{begins, number}
 use Rattle.prefix_trie_bits.specs.Places.{value_bit}
@@ -12,13 +12,13 @@ use Rattle.prefix_trie_table.specs.OwnBlocks.{child_block_size, value_block_size
 use Rattle.prefix_trie_table.specs.Store.{Store}
 use Rattle.prefix_trie_table.specs.Forest.{child_slot, read_from, times, one_if, has_child, has_value, NodesHold, child_blocks, value_blocks, child_items}
 
--- ---- what is laid anew of the nodes in an array
+-- ---- what is built of the nodes in an array
 
--- a value stands for the string s, at a node or below it, and t begins s
+-- there is a value for the string s, at a node or under it, and s begins with t
 abbrev pub in_part : List Node → Node → List Bool → List Bool → Bool
 in_part nodes n t s = begins t s && has_value (read_from nodes (Some n) (chunks_of s)) (bit_of s)
 
--- the same of a string below the child of five bits u
+-- the same for a string under the child of five bits u
 abbrev pub in_child : List Node → Node → List Bool → List Bool → List Bool → Bool
 in_child nodes n t u s = begins t (u ++ s) && has_value (read_from nodes (Some n) (number u ∷ chunks_of s)) (bit_of s)
 
@@ -28,7 +28,8 @@ pub record SomeValue (sub : List ℕ → Option Node) (p : List ℕ) : Type 0 wh
   pub bit : ℕ
   pub is : has_value (sub (p ++ below)) bit ≡ true
 
--- a node of an array, below which nodes stand on so many levels at most; values stand at the bits of strings
+-- a node of an array with at most so many levels of nodes under it, and values at the bits of
+-- strings
 pub record IsSource (v : Store Node) (n : Node) (levels : ℕ) : Type 0 where
   pub reading : List ℕ → Option Node
   pub paths : List (List ℕ)
@@ -87,8 +88,9 @@ module _ {T : Type 0} where
   abbrev pub no_value : List ℕ → ℕ → Option T
   no_value p b = None
 
-  -- of a node and all below it the part was laid that t begins: each of its nodes has a value or one below it, and each has its blocks,
-  -- which are packed. The slot of the first is still to be found
+  -- the part of a node and everything under it that begins with t was built: each of its nodes has
+  -- a value or one under it, and each has its blocks, which are packed; the slot of the first is
+  -- not chosen yet
   pub record IsLaid (array : List Node) (levels : ℕ) (n : Node) (t : List Bool) (v v2 : Store Node) (w w2 : Store (Option T)) (top : Node) : Type 0 where
     pub sub : List ℕ → Option Node
     pub paths : List (List ℕ)
@@ -98,7 +100,8 @@ module _ {T : Type 0} where
     pub nodes : Lays blank_node (flat_map (child_blocks node_sizes sub) paths) (slots_below child_slots array levels n) v v2
     pub cells : Lays None (flat_map (value_blocks cell_sizes sub no_value) paths) (slots_below value_slots array levels n) w w2
 
-  -- it is being laid: the values of the node m have their block, and below the children before i all is laid. These have no block yet
+  -- it is being built: the values of the node m have their block, and everything under the children
+  -- before i is built; these children have no block yet
   pub record IsSubtree (array : List Node) (levels : ℕ) (n : Node) (t : List Bool) (v : Store Node) (w : Store (Option T)) (i : ℕ) (m : Node)
       (below : List Node) (v2 : Store Node) (w2 : Store (Option T)) : Type 0 where
     pub sub : List ℕ → Option Node
@@ -117,13 +120,13 @@ module _ {T : Type 0} where
     pub cells : Lays None (flat_map (value_blocks cell_sizes sub no_value) ([] ∷ rest))
         (value_slots n + sum_to (slots_at_child value_slots array levels n) i) w w2
 
-  -- nothing of it is laid
+  -- nothing of it is built
   pub record NothingLaid (array : List Node) (levels : ℕ) (n : Node) (t : List Bool) (v v2 : Store Node) (w w2 : Store (Option T)) : Type 0 where
     pub none : (s : List Bool) → in_part array n t s ≡ false
     pub nodes : Lays blank_node [] (slots_below child_slots array levels n) v v2
     pub cells : Lays None [] (slots_below value_slots array levels n) w w2
 
-  -- it was laid if there is a value
+  -- it was built if there is a value
   abbrev pub LaysNode : List Node → ℕ → Node → List Bool → Store Node → Store Node → Store (Option T) → Store (Option T) → Option Node → Type 0
   LaysNode array levels n t v v2 w w2 None = NothingLaid array levels n t v v2 w w2
   LaysNode array levels n t v v2 w w2 (Some top) = IsLaid array levels n t v v2 w w2 top

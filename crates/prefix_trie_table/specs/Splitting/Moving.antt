@@ -18,12 +18,13 @@ module _ {T : Type 0} where
   filled_with nodes [] w = w
   filled_with nodes (e ∷ es) w = filled_with nodes es (with_cell w (seat_of nodes e.0) e.1)
 
-  -- what is handed out of a table that has these entries
+  -- what is split off a table with these entries
   abbrev pub split_off : State T → List Bool → State T
   split_off s q = record { entries = part_below s.entries q; nodes = needed (part_below s.entries q) }
 
   module _ {K : Type 0} (IsKey : K → Type 0) (bits : K → List Bool) (width : ℕ) where
-    -- with these values the arrays are a table of these entries and nodes, and the spots stand before the seats of just them, in order
+    -- with these values the arrays are a table of these entries and nodes, and the seats to come
+    -- are exactly theirs, in order
     pub record Awaits (shape : State T) (v : Store Node) (w : Store (Option T)) (key : K) (ps : List Spot) (rest : List (List Bool × T)) : Type 0 where
       pub trie : IsTrie width (len shape.entries) v (filled_with v.slots rest w) shape
       pub stack : IsStack IsKey bits width v key ps

@@ -1,4 +1,5 @@
--- A second table before its values come: all its nodes and blocks are laid, and each cell is vacant. This project's own.
+-- A second table before its values come: all its nodes and blocks are built, and each cell is
+-- vacant. This project's own.
 use Rattle.std.specs.Prelude.{◌≡◌, ℕ, ◌≤◌, Bool, true, List, ◌∷◌, flat_map, Option, None, is_some, length}
 use Rattle.prefix_trie_table.specs.declared.allocator.node.Node.{Node}
 use Rattle.prefix_trie_table.specs.Cells.{node_at, node_sizes, cell_sizes}
@@ -13,11 +14,12 @@ module _ {T : Type 0} where
     pub reading : List ℕ → Option Node
     pub paths : List (List ℕ)
     pub nodes : NodesHold node_sizes reading paths v2
-    -- the blocks of values in use are those of the holders, each without any value so far
+    -- the used blocks of values are those of the holders, each without any value so far
     pub cells : Sound None (flat_map (value_blocks cell_sizes reading no_value) paths) w2
     pub cells_first : w2.first ≡ 0
     pub cell_sizes_are : tier_sizes w2.tiers ≡ cell_sizes
-    -- a value is to stand where the first table has one whose string q begins, and each block is the smallest that holds its list
+    -- there is a cell for each value of the first table whose string begins with q, and each block
+    -- is the smallest that holds its list
     pub part : IsPart v.slots (node_at v.slots 0) q reading
     -- each node but the root has such a value, or one below it
     pub needed : (c : ℕ) (p : List ℕ) → is_some (reading (c ∷ p)) ≡ true → SomeValue reading (c ∷ p)

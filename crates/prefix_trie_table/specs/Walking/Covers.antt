@@ -1,4 +1,5 @@
--- Where a walk over the beginnings of a bit string stands, and what it has still to give. This project's own.
+-- A walk over the stored beginnings of a bit string: where it is, and what it has still to give.
+-- This project's own.
 use Rattle.std.specs.Prelude.{◌≡◌, ℕ, ◌+◌, ◌*◌, ◌≤◌, Bool, ◌&&◌, ◌||◌, nat_le, List, Option, Some, length, take, drop, filter, MatchOption}
 use Rattle.prefix_trie_bits.specs.Bits.{begins}
 use Rattle.prefix_trie_bits.specs.Model.Matches.{covers}
@@ -17,20 +18,22 @@ abbrev pub AreLeft : ℕ → ℕ → ℕ → ℕ → List Bool → Type 0
 AreLeft matches bitmap depth first q =
     HoldsValues matches (λ s. begins s (drop depth q) && (nat_le first (depth + length s) && has bitmap (value_bit s)))
 
--- the walk over the first len bits of b stands at this node, and the beginnings of `first` bits or more are still to come
+-- the walk over the first len bits of b is at this node, and the beginnings of at least `first`
+-- bits are to come
 pub record IsCovering (b : List Bool) (len level : ℕ) (node : Node) (slot matches first : ℕ) (v : Store Node) : Type 0 where
   pub on_path : IsOnPath b len level node slot v
   pub low : 5 * level ≤ first
   pub high : first ≤ 5 * level + 5
   pub left : AreLeft matches node.value_bitmap (5 * level) first (take len b)
 
--- of the beginnings of q that have `first` bits or more the next is the shortest that has a value, and those of `later` bits or more are then left
+-- the next beginning of q with at least `first` bits is the shortest that has a value, and those of
+-- at least `later` bits are left then
 abbrev pub NextHeld : (List ℕ → Option Node) → List Bool → ℕ → ℕ → ℕ → Option Match → Type 0
 NextHeld reading q end first later o =
     MatchOption o (NoneHeld reading q first end × NoneHeld reading q later end)
     (λ m. (first ≤ m.len) × (later ≡ m.len + 1) × IsHeld reading q m.len m.bit m.node × NoneHeld reading q first m.len)
 
--- of a node's matches, those of q with `first` bits or more, the shortest was taken
+-- the shortest of a node's matches of q with at least `first` bits was removed from them
 pub record TakesMatch (level : ℕ) (node : Node) (matches first : ℕ) (q : List Bool) (o : Option Match) : Type 0 where
   pub later : ℕ
   pub high : later ≤ 5 * level + 5
@@ -50,7 +53,7 @@ pub record GoesOn (b : List Bool) (len level : ℕ) (node : Node) (slot matches 
   pub stands : IsCovering b len level node slot matches later v
   pub next : (reading : List ℕ → Option Node) (paths : List (List ℕ)) → NodesHold node_sizes reading paths v → NextHeld reading (take len b) (len + 1) first later o
 
--- whether a beginning is still to come, by the matches of the node where the walk stands
+-- whether a beginning is to come, by the matches of the node where the walk is
 abbrev pub is_ahead : ℕ → ℕ → List Bool → Bool
 is_ahead level matches s =
     nat_le (5 * level + 5) (length s) || (nat_le (5 * level) (length s) && has matches (value_bit (drop (5 * level) s)))

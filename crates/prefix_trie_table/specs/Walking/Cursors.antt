@@ -1,4 +1,5 @@
--- Where a walk stands in a table that it does not hold, and what is still to come of it. This project's own.
+-- A position of a walk in a table that it does not hold, and what is to come of the walk. This
+-- project's own.
 use Rattle.std.specs.Prelude.{◌≡◌, ℕ, ◌+◌, ◌*◌, ◌-◌, ◌≤◌, Bool, List, [], ◌∷◌, ◌++◌, take, map, Some, ⊤}
 use Rattle.std.proofs.Common.{arith}
 use Rattle.std.specs.Coded.{Coded-set, coded_ℕ, coded_bool, coded_option}
@@ -23,7 +24,7 @@ same_level : (d l m : ℕ) → d ≡ 5 * l → d ≡ 5 * m → l ≡ m
 same_level d l m e f = omega (arith, e, f)
 
 module _ {K : Type 0} where
-  -- a trail stands in these nodes
+  -- the cursor is in these nodes
   abbrev pub IsCursorIn : (K → List Bool) → ℕ → List Node → Cursor K → Type 0
   IsCursorIn bits width nodes cursor = IsStack (λ _. ⊤) bits width (array_of nodes) cursor.key cursor.stack.items
 
@@ -31,7 +32,8 @@ module _ {K : Type 0} where
   abbrev pub keys_to_come : {T : Type 0} → (K → List Bool) → Entries T → Cursor K → List (List Bool)
   keys_to_come bits m cursor = map (λ e. e.0) (pending bits m cursor.key cursor.stack.items)
 
-  -- a step gives the first key still to come, which is the first len bits of a number, with zeros behind them, and its value's seat
+  -- a step gives the first key to come, which is the first len bits of a number, with zeros after
+  -- them, and the seat of its value
   pub record GivesKey (IsKey : K → Type 0) (bits : K → List Bool) (width : ℕ) (nodes : List Node) (key : K) (len : ℕ) (seat : Seat) (old new : List (List Bool)) : Type 0 where
     pub is_key : IsKey key
     pub short : len ≤ width
@@ -55,6 +57,6 @@ module _ {K : Type 0} where
     cursor-prop n [] = λ x y i. tt
     cursor-prop n (p ∷ ps) = λ x y i. (Coded-set coded_ℕ _ _ x.0 y.0 i, spot-prop p x.1 y.1 i, cursor-prop (n + 5) ps x.2 y.2 i)
 
-  -- that a trail stands in these nodes has one proof at most
+  -- that a cursor is in these nodes has at most one proof
   pub IsCursorIn-prop : (bits : K → List Bool) (width : ℕ) (nodes : List Node) (cursor : Cursor K) → IsProp (IsCursorIn bits width nodes cursor)
   IsCursorIn-prop bits width nodes cursor = cursor-prop bits width (array_of nodes) cursor.key (start cursor.stack.items) cursor.stack.items

@@ -9,7 +9,7 @@ module _ {K T : Type 0} where
     pub short : len ≤ width
     pub first : old ≡ (take len (bits key), value) ∷ new
 
-  -- the same, and the number has zeros behind those bits
+  -- the same, and the number has zeros after those bits
   pub record GivesFilled (IsKey : K → Type 0) (bits : K → List Bool) (width : ℕ) (key : K) (len : ℕ) (value : T) (old new : List (List Bool × T)) : Type 0 where
     pub is_key : IsKey key
     pub short : len ≤ width

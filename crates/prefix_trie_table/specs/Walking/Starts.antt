@@ -1,4 +1,5 @@
--- What a walk that starts at a bit string gives, and which places of the nodes on its way hold it. This project's own.
+-- What a walk that starts at a bit string gives, and at which places of the nodes on its search
+-- path it is. This project's own.
 use Rattle.std.specs.Prelude.{ℕ, Bool, false, not, ◌&&◌, List, filter}
 use Rattle.prefix_trie_bits.specs.Bits.{begins}
 use Rattle.prefix_trie_bits.specs.Places.{strings, is_in, is_before}
@@ -14,13 +15,15 @@ selected At m q = listing_from m q
 selected After m q = listing_after m q
 selected Below m q = listing_below m q
 
--- whether all at the place s is selected at a node that is passed, where t is the child taken
+-- whether everything at the place s is selected at a node that is passed, where t is the child
+-- taken
 abbrev pub behind : Start → List Bool → List Bool → Bool
 behind At t s = is_before t s
 behind After t s = is_before t s
 behind Below t s = false
 
--- whether all at the place s is selected at the node where the string ends, of which r is the rest
+-- whether everything at the place s is selected at the node where the string ends, where r is its
+-- last bits
 abbrev pub kept : Start → List Bool → List Bool → Bool
 kept At r s = not (is_before s r)
 kept After r s = is_before r s

@@ -1,4 +1,4 @@
--- What a walk that takes the values of a table out of their cells has still to come. This project's own.
+-- What a walk that moves the values of a table out of their cells has to come. This project's own.
 use Rattle.std.specs.Prelude.{◌≡◌, ◌≢◌, ℕ, Bool, true, List, [], ◌∷◌, ◌++◌, length, Option, is_some, ⊤}
 use Rattle.std.proofs.Common.{sym, ◌∙◌}
 use Rattle.std.specs.Coded.{coded_bool, Coded-set}
@@ -28,16 +28,16 @@ pub Seated-prop : (nodes : List Node) → IsProp (Seated nodes)
 Seated-prop nodes = λ x y. Σ_prop_path (λ keys. Π_prop (λ _. Coded-set coded_bool _ _)) (same_members x.0 y.0 (λ q. x.1 q ∙ sym (y.1 q)))
 
 module _ {T : Type 0} where
-  -- what stands in the cell of a string
+  -- the content of the cell of a string
   abbrev pub cell_of : List Node → List (Option T) → List Bool → Option T
   cell_of nodes cells q = value_of cells (read nodes (chunks_of q)) (bit_of q)
 
-  -- these strings with the values that stand in their cells
+  -- these strings with the values in their cells
   abbrev pub pairs_in : List Node → List (Option T) → List (List Bool × Unit {0}) → List (List Bool × T)
   pairs_in nodes cells [] = []
   pairs_in nodes cells (k ∷ ks) = pair_of k.0 (cell_of nodes cells k.0) ++ pairs_in nodes cells ks
 
-  -- a value stands in the cell of each
+  -- there is a value in the cell of each
   abbrev pub AreHeld : List Node → List (Option T) → List (List Bool × Unit {0}) → Type 0
   AreHeld nodes cells [] = ⊤
   AreHeld nodes cells (k ∷ ks) = (is_some (cell_of nodes cells k.0) ≡ true) × AreHeld nodes cells ks
@@ -47,12 +47,13 @@ abbrev pub IsApart : List Bool → List (List Bool × Unit {0}) → Type 0
 IsApart q [] = ⊤
 IsApart q (k ∷ ks) = (q ≢ k.0) × IsApart q ks
 
--- none of them stands there twice
+-- none of them occurs twice
 abbrev pub AreApart : List (List Bool × Unit {0}) → Type 0
 AreApart [] = ⊤
 AreApart (k ∷ ks) = IsApart k.0 ks × AreApart ks
 
--- the nodes are those of a table, some of whose values were taken out of their cells, but none that is still to come
+-- the nodes are those of a table some of whose values were moved out of their cells, but none that
+-- is to come
 pub record IsTaking {K T : Type 0} (IsKey : K → Type 0) (bits : K → List Bool) (width : ℕ) (v : Store Node) (w : Store (Option T))
     (keys : Nodes) (key : K) (ps : List Spot) : Type 0 where
   -- the table

@@ -76,11 +76,11 @@ module _ {K : Type 0} where
   IsStackFrom IsKey bits width v n key [] = ⊤
   IsStackFrom IsKey bits width v n key (p ∷ ps) = (p.depth ≡ n) × IsSpot IsKey bits width v key p × IsStackFrom IsKey bits width v (n + 5) key ps
 
-  -- the spots stand one below the other, from any depth on
+  -- each spot is a level below the one before, from any depth on
   abbrev pub IsStack : (K → Type 0) → (K → List Bool) → ℕ → Store Node → K → List Spot → Type 0
   IsStack IsKey bits width v key ps = IsStackFrom IsKey bits width v (start ps) key ps
 
-  -- the child on the key's way is not among the places still to come
+  -- the child on the key's search path is not among the places to come
   abbrev pub IsPassed : (K → List Bool) → K → Spot → Type 0
   IsPassed bits key p = All (IsOther (take 5 (drop p.depth (bits key)))) (to_come p.places)
 
@@ -94,7 +94,7 @@ module _ {K : Type 0} where
     pub last : len < p.depth + 5
     pub same_above : take p.depth (bits key) ≡ take p.depth (bits along)
 
-  -- at that of the last of these spots
+  -- they end at the node of the last of these spots
   pub record EndsLast (bits : K → List Bool) (along : K) (ps : List Spot) (key : K) (len : ℕ) : Type 0 where
     pub below : List Spot
     pub spot : Spot
@@ -106,12 +106,12 @@ module _ {K : Type 0} where
     abbrev pub still : (K → List Bool) → Entries T → K → Spot → List (List Bool × T)
     still bits m key p = listing_at_places m (take p.depth (bits key)) (to_come p.places)
 
-    -- the pairs still to come at a stack of spots, the last of which is the deepest
+    -- the entries to come at a stack of spots, the last of which is the deepest
     abbrev pub pending : (K → List Bool) → Entries T → K → List Spot → List (List Bool × T)
     pending bits m key [] = []
     pending bits m key (p ∷ ps) = pending bits m key ps ++ still bits m key p
 
-    -- the value at a seat is that of the first pair still to come
+    -- the value at a seat is that of the first entry to come
     pub record GivesSeat (IsKey : K → Type 0) (bits : K → List Bool) (width : ℕ) (t : Tree T) (key : K) (len : ℕ) (seat : Seat) (old new : List (List Bool × T)) : Type 0 where
       pub value : T
       pub stands : slot_of seat < length t.cells.slots
@@ -134,7 +134,7 @@ module _ {K T : Type 0} (IsKey : K → Type 0) (bits : K → List Bool) (width :
       × IsSpot IsKey bits width v below c × (c.depth ≡ p.depth + 5) × (take p.depth (bits below) ≡ take p.depth (bits key))
   Steps Done q = (still bits t.shape.entries key p ≡ []) × (0 < weight p)
 
--- the seat of an entry that a step gave is that of its key
+-- the seat of an entry that a step gave is the seat of its key
 abbrev pub IsSeated : {K : Type 0} → (K → List Bool) → List Node → Step K → Type 0
 IsSeated bits nodes (Entry key len seat) = seat_of nodes (take len (bits key)) ≡ Some seat
 IsSeated bits nodes (Child c key) = ⊤
@@ -147,7 +147,7 @@ StaysOnPath bits along p (Child c key) q = IsPassed bits key q
 StaysOnPath bits along p Done q = ⊤
 
 module _ {T : Type 0} where
-  -- the one shape that the arrays have, where there are arrays
+  -- the one shape of the arrays, if there are arrays
   abbrev pub ShapeOf : Option (Bor (Store Node) × Bor (Store (Option T))) → Type 0
   ShapeOf None = Unit {0}
   ShapeOf (Some a) = Shaped a.0.now.slots a.1.now.slots

@@ -192,7 +192,8 @@ impl<A: Allocator, V: Drop> NodeAllocator<A, V> {
     {
         // Read for the proof alone.
         self.blocks.sizes_fit();
-        self.blocks.insert_at(k, start, count, offset, Node::blank())
+        self.blocks
+            .insert_at(k, start, count, offset, Node::blank())
     }
 
     /// Removes a node from a list of `count` nodes, as `Blocks::remove_at` does, and returns the block of the rest.

@@ -7,10 +7,10 @@ ghost use Rattle.prefix_trie_table.specs.Walking.Starts.{selected};
 
 use crate::allocator::nodes::Tick;
 use crate::table::Table;
-use crate::table::walk_start::{Start, start_at};
 use crate::table::seat::Seat;
 use crate::table::spot::Spot;
 use crate::table::walk::advance;
+use crate::table::walk_start::{Start, start_at};
 use arrayvec::ArrayVec;
 use prefix_trie_bits::prefix::Key;
 use std::alloc::Allocator;

@@ -16,7 +16,7 @@ use crate::allocator::blocks::Cells;
 use crate::allocator::node::{Node, NodeSlot};
 use crate::allocator::nodes::{NodeAllocator, Tick};
 use crate::table::lookup::{Reached, locate_in};
-use crate::table::seat::{Location, Seat, SearchEnd};
+use crate::table::seat::{Location, SearchEnd, Seat};
 use prefix_trie_bits::node::{child_bit_of, count, rank, value_bit_of, with_bit};
 use prefix_trie_bits::prefix::{Key, Refusal, Refused};
 use std::alloc::Allocator;

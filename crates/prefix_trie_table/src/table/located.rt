@@ -16,7 +16,7 @@ use crate::table::Table;
 use crate::table::insertion::{insert_entry, prepare};
 use crate::table::lending::lend;
 use crate::table::lookup::locate_in;
-use crate::table::seat::{Location, Seat, SearchEnd};
+use crate::table::seat::{Location, SearchEnd, Seat};
 use prefix_trie_bits::prefix::{Key, Refusal, Refused};
 use std::alloc::Allocator;
 

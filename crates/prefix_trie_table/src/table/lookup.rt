@@ -15,7 +15,7 @@ ghost use Rattle.prefix_trie_table.specs.Store.{Store};
 use crate::allocator::blocks::Cells;
 use crate::allocator::node::{Node, NodeSlot};
 use crate::allocator::nodes::{NodeAllocator, Tick};
-use crate::table::seat::{Location, Seat, SearchEnd};
+use crate::table::seat::{Location, SearchEnd, Seat};
 use prefix_trie_bits::node::{child_bit_of, has_bit, value_bit_of};
 use prefix_trie_bits::prefix::Key;
 use std::alloc::Allocator;

@@ -41,7 +41,7 @@ module _ {X : Type 0} where
       let all = len-entries m in
       omega (arith, kept, counted, few, all)
 
-  -- where entries go, no more pass
+  -- if entries are removed, no more pass
   pub passing-fewer : (test r : List Bool → Bool) (m : FinMap listing_cmp X) → passing test (retain_keys m r) ≤ passing test m
   passing-fewer test r m =
       let same : retain_keys (retain_keys m r) test ≡ retain_keys (retain_keys m test) r =
@@ -56,14 +56,14 @@ module _ {X : Type 0} where
   same_kept true false (Some x) h = absurd (true≢false (sym (h refl refl)))
   same_kept a b o h = refl
 
-  -- and as many, where all that pass stay
+  -- and as many pass if all that pass stay
   pub passing-same : (test r : List Bool → Bool) (m : FinMap listing_cmp X) → ((k : List Bool) → contains_key m k ≡ true → test k ≡ true → r k ≡ true) →
       passing test (retain_keys m r) ≡ passing test m
   passing-same test r m stay =
       passing-len test (retain_keys m r) ∙ ap (λ x. len x) (same_entries (retain_keys (retain_keys m r) test) (retain_keys m test)
       (λ q. get-kept_both m r test q ∙ same_kept (test q) (r q) (get m q) (stay q) ∙ sym (get-kept m test q))) ∙ sym (passing-len test m)
 
-  -- what is set is one more, where it is new and passes
+  -- a new key that passes adds one
   pub passing-inserted : (test : List Bool → Bool) (m : FinMap listing_cmp X) (k : List Bool) (v : X) →
       passing test (insert m k v) ≡ passing test m + cond (test k && not (contains_key m k)) 1 0
   passing-inserted test m k v = passing-len test (insert m k v) ∙ grown (test k) refl ∙ ap (λ n. n + cond (test k && not (contains_key m k)) 1 0) (sym (passing-len test m))
@@ -106,7 +106,8 @@ module _ {X : Type 0} where
               ap (λ b. cond b (Some v) None) fails ∙ sym (ap (λ b. cond b (get m q) None) fails)
           away q false s = refl
 
-  -- a map has no more keys than there are strings, where each key is one of them behind p
+  -- a map whose keys are each p followed by one of the strings `rs` has no more keys than there are
+  -- strings
   pub few_behind : (p : List Bool) (rs : List (List Bool)) (m : FinMap listing_cmp X)
       → ((k : List Bool) → contains_key m k ≡ true → (begins p k ≡ true) × (list_any (same_string (drop (length p) k)) rs ≡ true)) → len m ≤ length rs
   few_behind p [] m each =
@@ -160,13 +161,13 @@ put_values f k v (e ∷ es) = let more = at_more f e es in elim (listing_cmp k e
   | Greater ↦ omega (arith, more, put_values f k v es, at_more f e (put listing_cmp k v es))
 ]
 
--- no more are in use where nodes go
+-- no more blocks are used if nodes are removed
 pub used-kept : (m : Sizes) (r : List Bool → Bool) (size : ℕ) → used_of (retain_keys m r) size ≤ used_of m size
 used-kept m r size =
     let f : ℕ → Bool = λ n. n == size in
     subst (λ es. at_values f es ≤ at_values f (entries m)) (sym (entries-retained m r)) (kept_values f r (entries m))
 
--- and one more at most where a block is taken
+-- and at most one more if a block is taken
 pub used-taken : (m : Sizes) (k : List Bool) (v size : ℕ) → used_of (insert m k v) size ≤ used_of m size + one_of (Some v) size
 used-taken m k v size =
     let f : ℕ → Bool = λ n. n == size in

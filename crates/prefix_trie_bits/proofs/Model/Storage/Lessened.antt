@@ -1,4 +1,5 @@
--- What a removal may leave of the storage: every block where it was, but the one that lost an item, which steps down if a smaller one is free.
+-- What a removal may leave of the storage: every block as it was, except that of the shrunken list,
+-- which steps down if a smaller one is free.
 use Rattle.prefix_trie_bits.proofs.Prelude.{◌≡◌, ℕ, ◌+◌, ◌*◌, ◌/◌, ◌%◌, ◌<◌, ◌≤◌, ◌==◌, ◌⊎◌, inl, inr, Bool, true, false, not, ◌&&◌, nat_lt, List, [], length, take, None, is_some, refl, sym, ap, ◌∙◌, subst, arith, eqb-true, ltb-true, true≢false, cases_Bool, cases_eq, cases_lt, false_from_ne_true, Contains, get, retain_keys, contains_key, contains_key-keys, keys, get-empty, begins-length, begins-take, begins-trans, begins, listing_cmp, same_string, IsMap, Sizes, no_layout, child_block_sizes, value_block_sizes, child_count, own_entries, free_of, used_of, made_of, SizesStepDown, SizesStepBetween, NodesHaveBlocks, Entries, without_entry, Nodes, has_node, root_alone, home, AreNodes, nodes_without, State, Storage, HaveBlocks, RemovesValueInStorage, PrunesInStorage, RemovesManyInStorage, and-false}
 use Rattle.prefix_trie_bits.specs.Model.Entries.{no_entries as new_entries}
 use Rattle.prefix_trie_bits.proofs.Model.Storage.Counting.{passing-fewer, passing-same, get-kept, used-kept}
@@ -55,7 +56,7 @@ module _ (sizes free : List ℕ) (up : goes_up 0 sizes ≡ true) (n left : Nodes
 
 -- ---- what is left of a map
 
--- nodes that all stood before are those that a test keeps
+-- nodes that were all there before are those that a test keeps
 subset : (n left : Nodes) → ((p : List Bool) → has_node left p ≡ true → has_node n p ≡ true) → left ≡ retain_keys n (λ p. has_node left p)
 subset n left stood = same_members left (retain_keys n (λ p. has_node left p)) (λ p. within (has_node left p) (has_node n p) (stood p) ∙ sym (has-retained n (λ s. has_node left s) p))
   where
@@ -64,7 +65,7 @@ subset n left stood = same_members left (retain_keys n (λ p. has_node left p)) 
     within false b h = refl
 
 module _ {T : Type 0} where
-  -- what is left of a map, of whose entries a test kept some, and whose nodes all stood before
+  -- what is left of a map if a test kept some of its entries, and all its nodes were there before
   pub record IsLeft (width : ℕ) (s t : State T) : Type 0 where
     pub was : IsMap width s
     pub is : IsMap width t
@@ -148,7 +149,7 @@ new_have T = bare_have (record { entries = new_entries; nodes = root_alone }) (�
 
 -- ---- one entry
 
--- on the way to a question a string is that of its level
+-- a string on the search path of q is that of its level
 on_path : (p q : List Bool) → length p % 5 ≡ 0 → begins p q ≡ true → at_level q (length p / 5) ≡ p
 on_path p q depth b = ap (λ n. take n q) (fives (length p) depth) ∙ begins-take p q b
 
@@ -157,7 +158,7 @@ module _ {T : Type 0} where
   removed_is m q = same_entries (without_entry m q) (retain_keys m (λ k. not (same_string k q)))
       (λ k. get-without_entry m q k ∙ sym (turned (same_string k q) (get m k) None) ∙ sym (get-kept m (λ s. not (same_string s q)) k))
 
-  -- where one entry goes, only its own node has fewer
+  -- if one entry is removed, only its own node has fewer
   entries_alone : (m : Entries T) (q p : List Bool) → length p % 5 ≡ 0 → same_string p (home q) ≡ false → own_entries (without_entry m q) p ≡ own_entries m p
   entries_alone m q p depth other = ap (λ x. own_entries x p) (removed_is m q)
       ∙ passing-same (λ k. begins p k && nat_lt (length k) (length p + 5)) (λ k. not (same_string k q)) m
@@ -167,7 +168,8 @@ module _ {T : Type 0} where
       let less = subst (λ x. length x < length p + 5) is (ltb-true (length k) (length p + 5) (and-second (begins p k) (nat_lt (length k) (length p + 5)) own)) in
       true≢false (sym (is-same_string p (home q) (own_home p q depth b less)) ∙ other))))
 
-  -- the node that loses a child where nodes on the way to q go: the last one on it that stays
+  -- the node that loses a child when nodes on the search path of q are removed: the last one on it
+  -- that stays
   last_left : (width : ℕ) (m : Entries T) (n : Nodes) (q : List Bool) → AreNodes width m n → (at : List Bool)
       × ((i : ℕ) → i + 1 ≤ length q / 5 → has_node n (at_level q i) ≡ true → has_node n (at_level q (i + 1)) ≡ false → at_level q i ≡ at)
   last_left width m n q are = elim (split_at (λ i. has_node n (at_level q i)) (length q / 5) (closed width m n are q) are.rooted) [
@@ -185,7 +187,7 @@ module _ {T : Type 0} where
   ]
 
 module _ {T : Type 0} (width : ℕ) (s t : State T) (left : IsLeft width s t) (q : List Bool) where
-  -- a node on the way whose child goes is the last that stays
+  -- a node on the path whose child is removed is the last that stays
   lost_child : (at : List Bool)
       → ((i : ℕ) → i + 1 ≤ length q / 5 → has_node t.nodes (at_level q i) ≡ true → has_node t.nodes (at_level q (i + 1)) ≡ false → at_level q i ≡ at)
       → (p c : List Bool) → length p % 5 ≡ 0 → has_node t.nodes p ≡ true → has_node t.nodes c ≡ false → begins p c ≡ true → length c ≡ length p + 5 →

@@ -1,4 +1,4 @@
--- The blocks that an insertion needs at the nodes on its way.
+-- The blocks that an insertion needs at the nodes of its search path.
 use Rattle.prefix_trie_bits.proofs.Prelude.{◌≡◌, ℕ, zero, suc, ◌+◌, ◌-◌, ◌*◌, ◌/◌, ◌%◌, ◌<◌, ◌≤◌, ◌==◌, Bool, true, false, cond, not, ◌&&◌, nat_lt, List, [], ◌∷◌, ◌++◌, length, take, map, filter, replicate, Option, None, Some, refl, sym, ap, ap₂, ◌∙◌, arith, eq-eqb, length-take-le, lt-ltb, le-ltb, filter_map, option_to_list, cons_option, get, take-begins, Nodes, has_node, is_node_depth, beginnings, nodes_above, home, Sizes, child_block_sizes, child_count, block_needed, gains_child, child_block_needed, and-false}
 use Rattle.prefix_trie_bits.proofs.Model.Homes.{home-length}
 use Rattle.prefix_trie_bits.proofs.Model.Levels.{five_times, depth_of}
@@ -86,7 +86,8 @@ module _ (n : Nodes) (blocks : Sizes) (q : List Bool) (k : ℕ) (is : k ≡ leng
   long : (i : ℕ) → i ≤ k → length (take (5 * i) q) ≡ 5 * i
   long i h = length-take-le (5 * i) q (five_times i k (length q) h is)
 
-  -- a node on the way to q gets a child exactly where it is not q's own and the next one is missing
+  -- a node on the search path of q gets a child exactly if it is not q's own and the next one is
+  -- missing
   pub gains_at : (i : ℕ) → i ≤ k → gains_child n q (take (5 * i) q) ≡ (nat_lt (5 * i) (5 * k) && not (has_node n (take (5 * (i + 1)) q)))
   gains_at i h =
       ap₂ (λ a b. (a && b) && (nat_lt (length (take (5 * i) q)) (length (home q)) && not (has_node n (take (length (take (5 * i) q) + 5) q))))
@@ -107,7 +108,7 @@ module _ (n : Nodes) (blocks : Sizes) (q : List Bool) (k : ℕ) (is : k ≡ leng
   gains_next : (i : ℕ) → i < k → has_node n (take (5 * (i + 1)) q) ≡ false → gains_child n q (take (5 * i) q) ≡ true
   gains_next i h missing = gains_at i (omega arith) ∙ ap₂ (λ a b. a && not b) (lt-ltb (5 * i) (5 * k) (omega arith)) missing
 
-  -- where q's own node is there it needs none
+  -- if q's own node is there, no child block is needed
   pub none_needed : ((i : ℕ) → i ≤ k → has_node n (take (5 * i) q) ≡ true) → filter_map (child_block_needed n blocks q) (nodes_above q) ≡ []
   none_needed there =
       from_level 1 q (child_block_needed n blocks q) k k None is (omega arith)

@@ -1,4 +1,4 @@
--- What an insertion finds and leaves where the blocks that it lacks were made before it.
+-- What an insertion finds and leaves if its missing blocks were made before it.
 use Rattle.prefix_trie_bits.proofs.Prelude.{◌≡◌, ℕ, zero, suc, ◌+◌, ◌-◌, ◌*◌, ◌<◌, Bool, true, cond, ◌&&◌, ◌==◌, List, [], ◌∷◌, length, nat_lt, refl, sym, ap, ◌∙◌, subst, arith, eq-eqb, eqb-true, ltb-true, false_from_ne_true, Contains, filter, Sizes, free_of, used_of, child_block_sizes, value_block_sizes, child_block_count, value_block_count, missing_of, slots_of_missing, TakesBlocks, child_block_needed, value_block_needed, child_blocks_needed, value_blocks_needed, missing_child_blocks, missing_value_blocks, missing_node_slots, missing_cell_slots, State, Refusal, Storage, InsertsInStorage, PreparesInStorage, RefusesInStorage}
 pub use Rattle.std.proofs.lemmas.Bool.{and_parts as both}
 
@@ -27,7 +27,7 @@ pub free_later : (s : ℕ) (sizes : List ℕ) (f : ℕ) (free : List ℕ) (x : �
 free_later s sizes f free x less =
     ap (λ b. cond b f (free_of sizes free x)) (false_from_ne_true (s == x) (λ h. let e = eqb-true s x h in omega (arith, less, e)))
 
--- where no block of any size lacks, no slots do
+-- if no block of any size is missing, no slots are
 none_lack : (s : ℕ) (sizes free needed : List ℕ) → goes_up s sizes ≡ true → ((x : ℕ) → Contains sizes x → missing_of sizes free needed x ≡ 0) →
     slots_of_missing sizes free needed ≡ 0
 none_lack s [] free needed up each = refl
@@ -49,7 +49,7 @@ made_free : (sizes : List ℕ) (needed : List ℕ) (used : Sizes) (free free2 : 
 made_free sizes needed used free free2 x made = omega (arith, made)
 
 module _ {T : Type 0} (s : State T) (q : List Bool) (before mid : Storage) (readied : PreparesInStorage s q before mid) where
-  -- no block lacks then
+  -- no block is missing then
   pub no_child_block_lacks : (size : ℕ) → Contains child_block_sizes size → missing_child_blocks s.nodes mid.layout q size ≡ 0
   no_child_block_lacks size there =
       subst (λ b. missing_of child_block_sizes mid.layout.free_child_blocks (child_blocks_needed s.nodes (record mid.layout { child_blocks = b }) q) size ≡ 0) (sym readied.child_blocks)

@@ -1,4 +1,4 @@
--- Where an insertion lacks a block, it may be refused and leave all as it was.
+-- An insertion with a missing block may be refused and leave everything unchanged.
 use Rattle.prefix_trie_bits.proofs.Prelude.{◌≡◌, ℕ, ◌+◌, ◌-◌, ◌*◌, ◌<◌, ◌≤◌, ◌==◌, inl, inr, Bool, true, false, cond, nat_lt, nat_le, List, [], ◌∷◌, Option, None, Some, refl, sym, ap, subst, arith, ltb-true, eqb-true, cases_eq, false_from_ne_true, none-some, same_Some, mul-le-mul_left, Contains, filter_map, cons_option, get, same_string, free_of, smallest_size, child_block_sizes, value_block_sizes, child_count, own_entries, block_needed, gains_child, child_block_needed, value_block_needed, child_blocks_needed, value_blocks_needed, missing_child_blocks, missing_value_blocks, missing_node_slots, missing_cell_slots, missing_of, slots_of_missing, home, nodes_above, State, Refusal, Memory, IndexRange, Storage, RefusesInStorage, GivesCause}
 use Rattle.std.specs.Prelude.{find}
 use Rattle.prefix_trie_bits.proofs.Model.Storage.Gained.{one_list}
@@ -26,7 +26,7 @@ if_needed : (sizes : List ℕ) (b : Bool) (block : Option ℕ) (count x : ℕ) �
 if_needed sizes true block count x e = needed_among sizes block count x e
 if_needed sizes false block count x e = absurd (none-some x e)
 
--- what is listed has one of the sizes, where each block that is needed has one
+-- if each needed block has one of the sizes, so has each in the list
 listed_among : (sizes : List ℕ) (needed : List Bool → Option ℕ) → ((p : List Bool) (x : ℕ) → needed p ≡ Some x → Contains sizes x) → (ps : List (List Bool)) (x : ℕ) →
     0 < how_many x (filter_map needed ps) → Contains sizes x
 listed_among sizes needed each [] x some = absurd (omega (arith, some))
@@ -41,7 +41,7 @@ listed_among sizes needed each (p ∷ ps) x some = of_first (needed p) (each p x
           let no : ◌≡◌ {A = ℕ} (cond (y == x) 1 0) 0 = ap (λ b. cond b 1 0) (false_from_ne_true (y == x) (λ same. other (eqb-true y x same))) in omega (arith, h, more, no))
     ]
 
--- ---- a block that lacks has slots
+-- ---- a missing block has slots
 
 least_slots : (t h rest : ℕ) → 0 < t → 0 < h → 0 < t * h + rest
 least_slots t h rest a b = let m = mul-le-mul_left t (let one : 1 ≤ h = omega (arith, b) in one) in omega (arith, m, a)

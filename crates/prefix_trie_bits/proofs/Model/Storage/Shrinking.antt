@@ -1,4 +1,5 @@
--- The blocks that a removal may leave: the old ones where items are left, and at one node the smaller one, if such a block is free.
+-- The blocks that a removal may leave: the old ones if items are left, and at one node the smaller
+-- one if such a block is free.
 use Rattle.prefix_trie_bits.proofs.Prelude.{◌≡◌, ℕ, zero, suc, ◌+◌, ◌-◌, ◌<◌, ◌≤◌, ◌==◌, ◌⊎◌, inl, inr, Bool, true, false, cond, ◌&&◌, nat_lt, nat_le, List, [], ◌∷◌, map, Option, None, Some, refl, sym, ap, ◌∙◌, subst, arith, eqb-true, eq-eqb, ltb-true, true≢false, cases_Bool, cases_lt, cases_eq, lt-ltb, le-ltb, nat_tests, none-some, same_Some, Contains, option_or, get, insert, retain_keys, get-insert, listing_total, same_string, Sizes, StepsDown, StepsBetween, SizesStepDown, SizesStepBetween, HasBlock, NodesHaveBlocks, free_of, used_of, one_of, made_of, smallest_size, Nodes, has_node}
 use Rattle.std.specs.Prelude.{find}
 use Rattle.prefix_trie_bits.proofs.Model.Storage.Counting.{get-kept, used-kept, used-taken}
@@ -28,7 +29,7 @@ free_as (s ∷ sizes) f size at = elim (cases_Bool (s == size)) as (λ _. cond (
   ]
 ]
 
--- the free blocks beside those in use, where there are so many of each size in all
+-- the free blocks beside the used ones, given how many of each size there are in all
 abbrev pub rest_free : List ℕ → (ℕ → ℕ) → Sizes → List ℕ
 rest_free sizes all new = map (λ size. all size - used_of new size) sizes
 
@@ -96,7 +97,7 @@ pub has_cases : (sizes : List ℕ) (count : ℕ) (block : Option ℕ) → HasBlo
 has_cases sizes zero block has = inl (refl, has)
 has_cases sizes (suc n) block has = inr (record { size = has.0; is = has.1; among = has.2; some = omega arith; fits = has.3 })
 
--- ---- a block that stays where items are left
+-- ---- a block that stays if items are left
 
 abbrev pub kept_block : ℕ → Option ℕ → Option ℕ
 kept_block after old = cond (nat_lt 0 after) old None
@@ -113,7 +114,7 @@ abbrev pub if_free : List ℕ → List ℕ → Option ℕ → Option ℕ
 if_free sizes free None = None
 if_free sizes free (Some size) = cond (nat_lt 0 (free_of sizes free size)) (Some size) None
 
--- the free block that is taken, where some items are left and others went
+-- the free block that is taken if some items are left and others are removed
 abbrev pub taken_block : List ℕ → List ℕ → ℕ → ℕ → Option ℕ
 taken_block sizes free before after = cond (nat_lt 0 after && nat_lt after before) (if_free sizes free (smallest_size sizes after)) None
 

@@ -77,7 +77,7 @@ slots_most sizes free up needed = (let a = free_fewer sizes free needed in let b
 
 -- ---- sizes
 
--- those of one array, whose largest is `top`
+-- the sizes of one array, whose largest is `top`
 abbrev pub sizes_to : ℕ → List ℕ
 sizes_to top = 1 ∷ 2 ∷ 4 ∷ 8 ∷ 16 ∷ 24 ∷ top ∷ []
 
@@ -158,7 +158,7 @@ last_of prev [] = prev
 last_of prev (s ∷ small) = last_of s small
 
 module _ (top : ℕ) where
-  -- what asks for the largest size is more than the one before it
+  -- what needs a size above 24 has more than 24 items
   over_others : (prev : ℕ) (small : List ℕ) (n x : ℕ) → prev < n → All (λ size. size ≤ 24) small → last_of prev small ≡ 24 →
       find (λ size. nat_le n size) (small ++ top ∷ []) ≡ Some x → 24 < x → 24 < n
   over_others prev [] n x less all last found more = omega (arith, last, less)

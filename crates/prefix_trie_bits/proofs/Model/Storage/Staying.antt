@@ -44,7 +44,7 @@ steps_have sizes free up n left before after old new have steps stood bare = rec
   ];
 }
 
--- the same where items were lost in several steps
+-- the same if items were lost in several steps
 between_has : (sizes : List ℕ) → goes_up 0 sizes ≡ true → (before after : ℕ) (old new : Option ℕ) → StepsBetween sizes before after old new → HasBlock sizes before old → HasBlock sizes after new
 between_has sizes up before after old new step has = elim (cases_eq after 0) as (λ _. HasBlock sizes after new) [
   | inl none ↦ has_none sizes after new none (step.none none)
@@ -127,7 +127,7 @@ module _ {P T : Type 0} (path : P → List Bool) (back : List Bool → P) (width
     ]
   ]
 
-  -- what is left where one entry goes
+  -- what is left if one entry is removed
   pub one_gone : (q : P) (t : State T) → IsMap width t → t.entries ≡ without_entry s.0.entries (path q)
       → ((p : List Bool) → has_node t.nodes p ≡ true → has_node s.0.nodes p ≡ true) → IsLeft width s.0 t
   one_gone q t is entries stood = record {
@@ -138,7 +138,7 @@ module _ {P T : Type 0} (path : P → List Bool) (back : List Bool → P) (width
     stood = stood;
   }
 
-  -- where the keys of n bits or more stay
+  -- if the keys of n bits or more stay
   pub longer_left : (n : ℕ) (reply : Reply P T) (t : State T) → Step path back width s.0 (RetainAtLeast n) reply t → IsLeft width s.0 t
   longer_left n reply t h = record {
     was = whole.is_map;
@@ -149,7 +149,7 @@ module _ {P T : Type 0} (path : P → List Bool) (back : List Bool → P) (width
         (needed_fewer s.0.entries (part_at_least s.0.entries n) (part_fewer s.0.entries n) p (sym (ap (λ x. has_node x.nodes p) h.1) ∙ there));
   }
 
-  -- and where those that q does not begin do
+  -- if those stay that do not begin with q
   pub outside_left : (q : P) (reply : Reply P T) (t : State T) → length (path q) ≤ width → Step path back width s.0 (RemoveChildren q) reply t → IsLeft width s.0 t
   outside_left q reply t fits h = record {
     was = whole.is_map;

@@ -120,7 +120,7 @@ module _ (n : Nodes) (q p : List Bool) (depth : length p % 5 ≡ 0) where
   abbrev is_child : List Bool → Bool
   is_child k = begins p k && (length k == length p + 5)
 
-  -- of the strings on the way p has one below it
+  -- of the strings on the search path, p has one as its child
   child_on_path : (k : List Bool) → is_child k ≡ true → (begins k q && is_node_depth k) ≡ same_string k next
   child_on_path k child =
       let long = eqb-true (length k) (length p + 5) (and-second (begins p k) (length k == length p + 5) child) in
@@ -156,7 +156,7 @@ module _ (n : Nodes) (q p : List Bool) (depth : length p % 5 ≡ 0) where
       (begins-linear p next q (and-first (begins p q) (nat_lt (length p) (length (home q))) on) (take-begins (length p + 5) q) (omega (arith, long)))
       (eq-eqb (length next) (length p + 5) long))
 
-  -- a node has one child more where it gains one
+  -- a node that gains a child has one more
   pub children_grow : child_count (with_needed n q) p ≡ child_count n p + cond (gains_child n q p) 1 0
   children_grow = children_as_one ∙ passing-inserted is_child n next tt
       ∙ ap (λ b. child_count n p + cond (b && not (has_node n next)) 1 0) next_child

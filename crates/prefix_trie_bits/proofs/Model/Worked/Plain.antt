@@ -43,7 +43,8 @@ module _ {P T : Type 0} (path : P → List Bool) (back : List Bool → P) (width
   abbrev pub answered : Reply P T → List (List Bool × T) → Marks → Played P T
   answered r es ns = record { reply = r; entries = es; nodes = ns }
 
-  -- what the call answers and leaves. Where a cause is given, the insertion of a new key is refused for it
+  -- the reply to a call and the state that it leaves; with a cause, the insertion of a new key is
+  -- refused for it
   abbrev pub play : List (List Bool × T) → Marks → Option Refusal → Call P T → Played P T
   play es ns fate (Insert q v) =
       elim (is_some (find listing_cmp (path q) es)) as (λ _. Played P T) [
@@ -76,7 +77,7 @@ module _ {P T : Type 0} (path : P → List Bool) (back : List Bool → P) (width
   play es ns fate (Children q) = answered (Items (prefix_pairs back (filter (λ e. begins (path q) e.0) es))) es ns
   play es ns fate (Cover q) = answered (Items (prefix_pairs back (filter (λ e. begins e.0 (path q)) es))) es ns
 
-  -- what calls are answered, each with its fate, and where they lead
+  -- the replies to calls, each with its fate, and the state that they lead to
   abbrev pub play_all : List (List Bool × T) → Marks → List (Call P T × Option Refusal) → List (Reply P T) × List (List Bool × T) × Marks
   play_all es ns [] = ([], es, ns)
   play_all es ns (c ∷ cs) = let r = play es ns c.1 c.0 in let rest = play_all r.entries r.nodes cs in (r.reply ∷ rest.0, rest.1, rest.2)
@@ -211,7 +212,7 @@ module _ {P T : Type 0} (path : P → List Bool) (back : List Bool → P) (width
   step_at s fate AddressCount = stays s _ _ AddressCount _ (here s) (ap (λ n. Addresses (cond (n == 2 ^ width) None (Some n))) (sym (covered-halves width (keys s.entries))), refl)
   step_at s fate call = stays s _ _ call _ (here s) (inl refl, refl)
 
-  -- what the plain model answers to a list of calls is a run, and leads to what the plain model ends with
+  -- the plain model's replies to a list of calls are a run that leads to its last state
   abbrev pub Ran : State T → List (Call P T × Option Refusal) → List (List Bool × T) × Marks → Type 0
   Ran s cs p =
       (t : State T) × Run path back width s (calls_of path back width cs) (play_all path back width p.0 p.1 cs).0 t × Shows t (play_all path back width p.0 p.1 cs).1 (play_all path back width p.0 p.1 cs).2

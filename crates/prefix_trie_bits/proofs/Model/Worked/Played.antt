@@ -1,4 +1,4 @@
--- A worked row holds where the plain model answers as it says.
+-- A worked row holds if the plain model gives its replies.
 use Rattle.prefix_trie_bits.proofs.Prelude.{◌≡◌, ℕ, Bool, List, [], ◌∷◌, map, Option, Some, None, refl, ap, subst, State, Call, Reply, Refused, Refusal, Run, path_at, back_at, new_map, Row, calls, replies, Gives, LeadsTo}
 use Rattle.prefix_trie_bits.proofs.Model.Worked.Plain.{from_new, Shows, Marks, root_mark, calls_of, play_all}
 
@@ -15,7 +15,7 @@ calls-fated : (width : ℕ) (row : Row) → calls_of (path_at width) (back_at wi
 calls-fated width [] = refl
 calls-fated width (c ∷ row) = ap (λ cs. c.0 ∷ cs) (calls-fated width row)
 
--- what the plain model answers to a row's calls
+-- the plain model's replies to a row's calls
 abbrev pub answers : ℕ → Row → List (Reply (ℕ × ℕ) ℕ)
 answers width row = (play_all (path_at width) (back_at width) width [] root_mark (fated row)).0
 

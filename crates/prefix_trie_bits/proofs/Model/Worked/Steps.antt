@@ -82,7 +82,8 @@ made sizes old new f g size lack h k none more most =
     above : (a b n : ℕ) → n ≡ 0 → a < b → b ≤ a + n → ⊥
     above a b n e l m = absurd (omega arith)
 
--- an array that is longer by another number than that of its new block's slots, or although no block changed
+-- an array that grows by another number of slots than those of its new block, or although no block
+-- changed
 by_wrong : (sizes free : List ℕ) (old new : Option ℕ) (before now size : ℕ) → new ≡ Some size → (now == before) ≡ false → (now == before + size) ≡ false → LongerByOne sizes free old new before now → ⊥
 by_wrong sizes free old new before now size is p q (inl e) = differ now before p e
 by_wrong sizes free old new before now size is p q (inr (n, e, o, f, g)) = differ now (before + size) q (g ∙ ap (λ x. before + x) (some_is n size (sym e ∙ is)))

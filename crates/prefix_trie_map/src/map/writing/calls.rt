@@ -5,7 +5,7 @@ ghost use Rattle.prefix_trie_table.specs.Walking.Starts.{selected};
 ghost use Rattle.prefix_trie_map.specs.Whole.{IsWhole};
 
 use crate::map::parts::parts;
-use crate::map::writing::{MapCursor, IterMut, ValuesMut, ValuesOf, WalkOf};
+use crate::map::writing::{IterMut, MapCursor, ValuesMut, ValuesOf, WalkOf};
 use crate::map::{PrefixMap, Visits};
 use prefix_trie_bits::prefix::{Key, Prefix};
 use prefix_trie_table::table::walk_start::Start;
@@ -92,8 +92,7 @@ impl<P: Prefix, T: Drop, A: Allocator> PrefixMap<P, T, A> {
         ensures starts { StartsIn self.entry (selected from self.old.entries (take len (P.R.bits key))) result.source }
         ensures whole { IsWhole P.R.bit_width self.old }
     {
-        // The proof learns from it that the map is whole.
-        let _ = self.len();
+        self.known_valid();
         let cursor = self.table.cursor(key, len, from, &mut Visits::new());
         let source = MapCursor { map: self, cursor };
         WalkOf {

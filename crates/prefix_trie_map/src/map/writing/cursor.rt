@@ -6,8 +6,8 @@ use crate::map::PrefixMap;
 use crate::map::iter::without_host_bits;
 use crate::map::writing::{Source, ValuesOf, WalkOf};
 use prefix_trie_bits::prefix::{Key, Prefix};
-use prefix_trie_table::table::seat::Seat;
 use prefix_trie_table::table::cursor::Cursor;
+use prefix_trie_table::table::seat::Seat;
 use std::alloc::Allocator;
 
 /// A map lent for writing, and where a walk of it stands.

@@ -7,7 +7,7 @@ other_way : (a b : Bool) → a ≡ not b → b ≡ not a
 other_way a false h = sym (ap not h)
 other_way a true h = sym (ap not h)
 
--- the value that was there, as the answer shows it
+-- the previous value, as the result has it
 was_there : (before : Option (Unit {0})) (is_new : Bool) → is_some before ≡ not is_new → ◌≡◌ {A = Reply (List Bool) (Unit {0})} (Value before) (put_in (Ok is_new))
 was_there None false h = absurd (false≢true h)
 was_there None true h = refl

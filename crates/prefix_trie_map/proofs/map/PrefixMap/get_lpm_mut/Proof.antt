@@ -79,7 +79,7 @@ get_lpm_mut_spec 𝓤 𝓛 𝓜 𝓡 wired P T A R lP lT lA lR cR p p' d d' k k'
     await ! tt $ pick ! (λ a. split ! $ move ! (1 ∷ []) $ pick ! (λ fs. split ! $ drop ! $ heard ! (a ≡ o.0) (λ same.
     split ! $ split ! $ move ! (1 ∷ []) $ split ! $ move ! (1 ∷ []) $ split ! $ move ! (1 ∷ []) $ drop ! $
     move ! (0 ∷ 4 ∷ []) $ join ! $ move ! (1 ∷ 0 ∷ []) $ join ! $ move ! (3 ∷ 0 ∷ []) $ join ! $ move ! (1 ∷ 0 ∷ []) $ join ! $
-    -- [the tokens; the answer; what self follows]
+    -- [the tokens; the result; what self follows]
     move ! (1 ∷ []) $ peeks ! Found _ (shows 𝓛 Found) a (u ∷ []) (λ is_found.
     lands_as ! refl refl ((found_laws.lawful 𝓛).typed a (u ∷ []) is_found).0 $ returns ! (look_at ! 0 refl) $ free_all ! refl $
     suffices ! _ (ends_at 𝓛 En hs c y u a (tt, (tt, tt)) (tt, (tt, tt))) $

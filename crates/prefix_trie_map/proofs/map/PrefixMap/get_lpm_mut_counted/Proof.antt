@@ -83,7 +83,8 @@ get_lpm_mut_counted_spec 𝓤 𝓛 𝓜 𝓡 wired P T A R lP lT lA lR cR p p' d
     take_at ! 4 $ use0 𝓛 (‵ (flft [] full_share)) (𝓛.lfts.lft-nil full_share) $ move ! (1 ∷ 2 ∷ 0 ∷ []) $ use3 𝓛 (later (some (λ (n : ℕ × GName). ‵ ((MutRef (named 2) (n.0 ∷ []) u32).own_val (record { ref_ptr = (l 4, 0); ghost_name = n.1; now = 0 }) (vptr (l 4) 0 ∷ []))
     ⊛ ‵ (flft (n.0 ∷ []) full_share) ⊛ raw (KeptWithin 𝓛 u32 refl (named 2) (l 4) [] full_share n)))) (lends_within 𝓛 u32 refl (named 2) (l 4) [] full_share 0 (vint w32 0)) $
     await ! tt $ pick ! (λ other. let α = other.0 in split ! $ move ! (1 ∷ []) $ split ! $
-    -- [the token of `found`, its way back, the loan; the counter's likewise; prefix, twice; self; the tokens]
+    -- [the token of `found`, its return, the loan; the counter's likewise; prefix, twice; self; the
+    -- tokens]
     let G = triple_of 𝓛 (h.signature P T A R p p' d d' k k' n n' e e' s s' w w' g g' xP xT xA) (h.spec P T A R p p' d d' k k' n n' e e' s s' w w' g g' xP xT xA 𝓛 𝓜.mem 𝓡.returns) in
     let counter : MutBor ℕ = record { ref_ptr = (l 3, 0); ghost_name = loan.1; now = r } in let found : MutBor ℕ = record { ref_ptr = (l 4, 0); ghost_name = other.1; now = 0 } in
     let z : G.Ghost = (((κ, (κs.1.0, (α ∷ [], (β ∷ [], κs.1.1)))), (qs.0, (qs.1.0, (full_share, (full_share, qs.1.1)))), bounds, (m, (q, (found, (counter, tt)))), (mut_vals m, (shr_vals q, (mut_vals found, (mut_vals counter, tt))))), tt) in
@@ -130,7 +131,7 @@ get_lpm_mut_counted_spec 𝓤 𝓛 𝓜 𝓡 wired P T A R lP lT lA lR cR p p' d
     await ! tt $ pick ! (λ a. split ! $ move ! (1 ∷ []) $ pick ! (λ fs. split ! $ drop ! $ split ! $ heard ! (Same a) (λ same. heard ! (Back a) (λ back.
     split ! $ split ! $ move ! (1 ∷ []) $ split ! $ move ! (1 ∷ []) $ split ! $ move ! (1 ∷ []) $ split ! $
     move ! (6 ∷ 1 ∷ []) $ join ! $ move ! (1 ∷ 0 ∷ []) $ join ! $ move ! (1 ∷ 0 ∷ []) $ join ! $ move ! (1 ∷ 0 ∷ []) $ join ! $ move ! (1 ∷ 0 ∷ []) $ join ! $
-    -- [the tokens; the answer; the counter; what self follows]
+    -- [the tokens; the result; the counter; what self follows]
     move ! (1 ∷ []) $ peeks ! Shown _ (shows 𝓛 Shown) a (v₂ ∷ []) (λ is_shown. let shown_ok = ((shown_laws.lawful 𝓛).typed a (v₂ ∷ []) is_shown).0 in
     lands_as ! refl refl shown_ok $ sets ! (of_opd ! (get ! refl)) refl count_ok $
     move ! (0 ∷ 2 ∷ []) $ use2 𝓛 (‵ (Pair.own_val (a, j) (pair_val v₂ x ∷ []))) (pair_of 𝓛 Shown V a j v₂ x) $

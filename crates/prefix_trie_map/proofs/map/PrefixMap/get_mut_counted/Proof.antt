@@ -46,7 +46,7 @@ get_mut_counted_spec 𝓤 𝓛 𝓜 𝓡 wired P T A R lP lT lA lR cR p p' d d' 
     qed 𝓛 (((‵ (flft κ qs.0) ⊛ ‵ (flft κs.1.0 qs.1.0) ⊛ others) ⊛ Self ⊛ Asked ⊛ ‵ ftrue) ∷ raw ((c κs xs).requires tt) ∷ []) ∵
     split ! $ split ! $ move ! (1 ∷ []) $ split ! $ move ! (3 ∷ []) $ split ! $ move ! (1 ∷ []) $ split ! $ keep ! (2 ∷ 0 ∷ 5 ∷ 3 ∷ 4 ∷ 6 ∷ []) $
     enter ! _ _ _ _ _ $ alloc_all ! (λ l. pass_all ! refl ((tt, tt), ((tt, tt), tt)) $
-    -- [self; prefix; the tokens of self, of prefix, and of the type parameters; what is asked]
+    -- [self; prefix; the tokens of self, of prefix, and of the type parameters; what is required]
     let G₀ = triple_of 𝓛 new.signature (new.spec 𝓛 𝓜.mem 𝓡.returns) in
     let z₀ : G₀.Ghost = ((tt, tt, tt, tt, tt), tt) in
     nothing ! $ nothing ! $ nothing ! $ join ! $ use2 𝓛 (raw (G₀.pre z₀)) (id⊢ 𝓤 _) $
@@ -60,7 +60,8 @@ get_mut_counted_spec 𝓤 𝓛 𝓜 𝓡 wired P T A R lP lT lA lR cR p p' d d' 
     take_at ! 3 $ use0 𝓛 (‵ (flft [] full_share)) (𝓛.lfts.lft-nil full_share) $ move ! (1 ∷ 2 ∷ 0 ∷ []) $ use3 𝓛 (later (some (λ (n : ℕ × GName). ‵ ((MutRef (named 2) (n.0 ∷ []) V).own_val (record { ref_ptr = (l 3, 0); ghost_name = n.1; now = r }) (vptr (l 3) 0 ∷ []))
     ⊛ ‵ (flft (n.0 ∷ []) full_share) ⊛ raw (KeptWithin 𝓛 V refl (named 2) (l 3) [] full_share n)))) (lends_within 𝓛 V refl (named 2) (l 3) [] full_share r v) $
     await ! tt $ pick ! (λ loan. let α = loan.0 in let γ = loan.1 in split ! $ move ! (1 ∷ []) $ split ! $ move ! (2 ∷ 1 ∷ []) $
-    -- [the counter; its way back; its token; self; prefix; the tokens of self, of prefix, and of the type parameters; what is asked]
+    -- [the counter; its return; its token; self; prefix; the tokens of self, of prefix, and of the
+    -- type parameters; what is required]
     let G = triple_of 𝓛 (h.signature P T A R p p' d d' k k' n n' e e' s s' w w' g g' xP xT xA) (h.spec P T A R p p' d d' k k' n n' e e' s s' w w' g g' xP xT xA 𝓛 𝓜.mem 𝓡.returns) in
     let counter : MutBor ℕ = record { ref_ptr = (l 3, 0); ghost_name = γ; now = r } in
     let z : G.Ghost = (((κ, (κs.1.0, (α ∷ [], κs.1.1))), (qs.0, (qs.1.0, (full_share, qs.1.1))), bounds, (m, (q, (counter, tt))), (mut_vals m, (shr_vals q, (mut_vals counter, tt)))), tt) in
@@ -80,7 +81,8 @@ get_mut_counted_spec 𝓤 𝓛 𝓜 𝓡 wired P T A R lP lT lA lR cR p p' d d' 
     ⊛ some (λ (es : Unit {0} × (Unit {0} × (ℕ × Unit {0}))). ‵ (preserves (h.ended P T A R p p' d d' k k' n n' e e' s s' w w' g g' xP xT xA) z.0.0 z.0.3 es)
     ⊛ ‵ (lends o) ⊛ raw (fact 𝓤 (Value o)) ⊛ raw (fact 𝓤 (Exact es.1.1.0)) ⊛ raw (fact 𝓤 (Bound es.1.1.0)))))) (id⊢ 𝓤 _) $
     await ! tt $ pick ! (λ o. split ! $ split ! $ split ! $ move ! (1 ∷ []) $ split ! $ move ! (1 ∷ []) $ split ! $
-    -- [the counter's token; the tokens of the type parameters, of prefix and of self; the value lent; what is ensured; the counter's way back]
+    -- [the counter's token; the tokens of the type parameters, of prefix and of self; the value
+    -- lent; what is ensured; the counter's return]
     move ! (5 ∷ []) $ pick ! (λ es. let j = es.1.1.0 in split ! $ fsplit ! $ drop ! $ fsplit ! $ drop ! $ fsplit ! $ fsplit ! $
     move ! (4 ∷ 9 ∷ 0 ∷ []) $ use3 𝓛 (later (some (λ (x : Val). ‵ (fat full_share (lone V.mir) (l 3) 0 x) ⊛ ‵ (V.own_val j (x ∷ [])) ⊛ ‵ (flft [] full_share)))) (back_within 𝓛 V refl (named 2) (l 3) [] full_share loan j) $
     await ! tt $ pick ! (λ x. split ! $ give_at ! 3 $ split ! $ move ! (1 ∷ []) $ drop ! $

@@ -14,7 +14,7 @@ step g c =
     by_key (λ old k. StepByPath g.P.R.Key.bit_width (stored_state old) (Insert k c.args.value) (insert_new_reply c.insert_located.result) (stored_state c.insert_located.new.self)) c.self.view_is c.parts-key.ensures.path
     (c.insert_located.ensures.step g.P.R.Key.bit_width)
 
--- what it says of the map
+-- what the call says of the map
 left : (g : given.Over) (c : goal.After-insert_located g) → Places g.P.R.Key.bit_width c.args.self.now c.insert_located.new.self (g.P.Prefix.path c.args.prefix.now) c.args.value c.insert_located.result
 left g c =
     places g.P.R.Key.bit_width c.args.self.now c.insert_located.new.self (g.P.Prefix.path c.args.prefix.now) c.args.value c.insert_located.result

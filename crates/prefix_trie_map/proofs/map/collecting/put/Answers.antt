@@ -8,7 +8,7 @@ returns-clause-ok g c =
     let short = path_within g.met.P.Prefix.prefix_laws c.args.prefix c.requires in
     let width = g.met.P.Prefix.prefix_laws.keys.at_most_128 in
     puts_one g.P.Prefix.path c.args.map.now c.insert.new.self c.args.prefix c.args.value (insert_reply c.insert.result)
-    c.len.ensures.whole (omega (arith, short, width)) c.in_ok-insert.ensures.entries c.in_ok-insert.ensures.nodes c.insert.ensures.step
+    c.known_valid.ensures.whole (omega (arith, short, width)) c.in_ok-insert.ensures.entries c.in_ok-insert.ensures.nodes c.insert.ensures.step
 
 pub returns-in_err-insert : goal.returns-in_err-insert
 returns-in_err-insert g c =

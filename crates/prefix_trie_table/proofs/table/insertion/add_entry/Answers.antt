@@ -10,7 +10,7 @@ use Rattle.prefix_trie_table.proofs.Insertion.Spaces.{none_then}
 use Rattle.prefix_trie_table.proofs.Insertion.Paths.{end_added, end_seat}
 use Rattle.prefix_trie_table.proofs.table.insertion.add_entry.Goals as goal
 
--- ---- a value in a node that stands
+-- ---- a value in a node that is there
 
 pub add_value-requires-clause-bit : goal.add_value-requires-clause-bit
 add_value-requires-clause-bit g c = c.value_bit_of-bit.ensures.small

@@ -12,7 +12,7 @@ use Rattle.prefix_trie_table.proofs.Lookup.Going.{level_last, level_more}
 use Rattle.prefix_trie_table.proofs.table.insertion.prepare.Given as given
 use Rattle.prefix_trie_table.proofs.table.insertion.prepare.Goals as goal
 
--- an array of values that is asked for one block
+-- an array of values of which one block is requested
 module _ {T : Type 0} (v : Store Node) (w x : Store (Option T)) (o : Option ℕ) (count : ℕ) (r : Result (Unit {0}) Refusal) (are : tier_sizes w.tiers ≡ cell_sizes)
     (got : Obtains (λ e. e ≡ IndexRange) (λ e. e ≡ Memory) r w x (needs (block_needed value_block_sizes o count) 0)) where
   cells_only : GrowsBoth (λ e. e ≡ IndexRange) r v v w x
@@ -23,7 +23,7 @@ module _ {T : Type 0} (v : Store Node) (w x : Store (Option T)) (o : Option ℕ)
         range = IfErr-weaker r _ (λ cause. cause ≡ IndexRange → MayPass v w) (λ cause h is. inr (let past = h is in omega (arith, past, few))) got.range;
       }
 
--- ---- a value in a node that stands
+-- ---- a value in a node that is there
 
 pub prepare-requires-clause-tier : goal.prepare-requires-clause-tier
 prepare-requires-clause-tier g c = λ some.

@@ -14,7 +14,7 @@ use Rattle.prefix_trie_table.proofs.table.splitting.+lay_node.Goals as goal
 pub masks-values-requires : goal.masks-values-requires
 masks-values-requires g t c = record { key = c.requires.key; whole = c.requires.whole; within = c.requires.within }
 
--- the values that are laid, and their block
+-- the values that are built, and their block
 pub lay_vacant-requires-clause-sound : goal.lay_vacant-requires-clause-sound
 lay_vacant-requires-clause-sound g t c = (c.requires.cells.live, c.requires.cells.sound)
 
@@ -70,7 +70,7 @@ loop-child-preserved-then-not-has_bit g t c =
       tier = c.loop-child.invariant.tier;
     }
 
--- one that is laid
+-- one that is built
 pub visit-lower-requires : goal.visit-lower-requires
 visit-lower-requires g t c =
     let set = has_bit-is (bit_and c.args.node.child_bitmap c.masks-values.result.1) c.loop-child.child c.loop-child-test.true ∙ sym c.has_bit.ensures ∙ c.if-not-has_bit.false in
@@ -163,7 +163,7 @@ loop-child-preserved g t c =
       tier = c.loop-child.invariant.tier;
     }
 
--- the node whose children are laid
+-- the node whose children are built
 pub returns-then-is_bare-clause-laid : goal.returns-then-is_bare-clause-laid
 returns-then-is_bare-clause-laid g t c =
     let all : c.loop-child.child ≡ 32 = (let h = c.loop-child-test.false in let e = c.loop-child.auto.child-end in omega (arith, h, e)) in

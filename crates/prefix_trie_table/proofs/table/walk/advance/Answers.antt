@@ -9,7 +9,7 @@ next_at-requires-clause-spot g c = (cursor-at _ _ _ c.in-Some.ensures.last.1 g.K
 some_last : (all below : List Spot) (p : Spot) → all ≡ below ++ p ∷ [] → 0 < length all
 some_last all below p is = omega (arith, ap length is, length-append below (p ∷ []))
 
--- the stack once the places of the last spot are those of the next
+-- the stack after the places of the last spot become those of the next
 put_is : (all put below : List Spot) (p q : Spot) → all ≡ below ++ p ∷ [] → q ≡ record p { places = q.places }
     → ((under : List Spot) (last : Spot) → all ≡ under ++ last ∷ [] → put ≡ under ++ record last { places = q.places } ∷ []) → put ≡ below ++ q ∷ []
 put_is all put below p q is moved writes = writes below p is ∙ ap (λ s. below ++ s ∷ []) (sym moved)

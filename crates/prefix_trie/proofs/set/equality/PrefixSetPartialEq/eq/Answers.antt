@@ -3,7 +3,7 @@ use Rattle.prefix_trie.proofs.SameKeys.{walks_alike, same_entries}
 use Rattle.prefix_trie.proofs.set.equality.PrefixSetPartialEq.eq.Given as given
 use Rattle.prefix_trie.proofs.set.equality.PrefixSetPartialEq.eq.Goals as goal
 
--- what the walks answer is what the sets are compared by
+-- the items of the walks decide whether the sets are equal
 compared : (g : given.Over) (c : goal.After-give_alike g) → c.give_alike.result ≡ same_keys c.args.self.now.entries c.args.other.now.entries
 compared g c =
     c.give_alike.ensures

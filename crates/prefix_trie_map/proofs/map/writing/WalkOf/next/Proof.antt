@@ -106,7 +106,7 @@ next_spec 𝓤 𝓛 𝓜 𝓡 wired C P V S lC lP lV lS g c' p' s' mC mP mS =
     await ! tt $ pick ! (λ a. split ! $ move ! (1 ∷ []) $ pick ! (λ fs. split ! $ drop ! $ split ! $ heard ! (Same a) (λ same. heard ! (Its a) (λ its.
     split ! $ split ! $ move ! (1 ∷ []) $ split ! $ move ! (1 ∷ []) $ split ! $ move ! (1 ∷ []) $ drop ! $
     move ! (0 ∷ 4 ∷ []) $ join ! $ move ! (1 ∷ 0 ∷ []) $ join ! $ move ! (4 ∷ 0 ∷ []) $ join ! $ move ! (1 ∷ 0 ∷ []) $ join ! $
-    -- [the tokens; the answer; what self follows]
+    -- [the tokens; the result; what self follows]
     move ! (1 ∷ []) $ peeks ! Shown _ (shows 𝓛 Shown) a (v ∷ []) (λ is_shown. let shown_ok = ((shown_laws.lawful 𝓛).typed a (v ∷ []) is_shown).0 in
     lands_as ! refl refl shown_ok $ returns ! (look_at ! 0 refl) $ free_all ! refl $
     suffices ! _ (ends_at 𝓛 En hs c y v a (tt, tt) (tt, tt)) $

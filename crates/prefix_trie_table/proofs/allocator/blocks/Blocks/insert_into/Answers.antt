@@ -11,7 +11,7 @@ size_of-requires g c =
     let u = c.requires.in_use in
     (tier_of_block g.S.Slot.vacant (block c.args.k c.args.start u.size u.items) u.live _ u.sound).within
 
--- ---- a block with room
+-- ---- a block with a free slot
 
 pub insert_within-requires-clause-space : goal.insert_within-requires-clause-space
 insert_within-requires-clause-space g c =

@@ -5,7 +5,7 @@ use Rattle.prefix_trie_table.proofs.allocator.blocks.Blocks.prepare.Given as giv
 use Rattle.prefix_trie_table.proofs.allocator.blocks.Blocks.prepare.Goals as goal
 use Rattle.prefix_trie_table.proofs.allocator.blocks.Blocks.prepare.Goals.{in-Some+then-tier-eq0, in-Some+else-tier-eq0+in_ok-obtain, in_default}
 
--- the size of the block that the list lacks
+-- the size of the block that the list needs
 need_is : (g : given.Over) (c : goal.After-from_residual g) → list_need c.args.self.now.tiers c.args.k c.args.count ≡ Some (size_in (tier_sizes c.args.self.now.tiers) c.in-Some.tier)
 need_is g c = c.lacking.ensures.size ∙ ap (option_map (size_in (tier_sizes c.args.self.now.tiers))) c.in-Some.is
 
@@ -72,7 +72,7 @@ returns-clause-obtains g c =
     (subst (λ s. OnErr r ((m : ℕ) × (free_in u.tiers s + m < n) × Turnover u x (many_of s m) None None)) one c.obtain-2.ensures.err)
     (subst (λ s. IfErr r (λ e. (e ≡ IndexRange) ↔ (x.limit < length x.slots + s))) one c.obtain-2.ensures.range)
 
--- the block that the list itself lacks was refused
+-- the block that the list itself needs was refused
 pub returns-in_err-obtain-clause-obtains : goal.returns-in_err-obtain-clause-obtains
 returns-in_err-obtain-clause-obtains g c =
     let p = err_from_is_err_and c.from_residual.result c.from_residual.ensures.1 in
@@ -85,7 +85,7 @@ returns-in_err-obtain-clause-obtains g c =
     (partly_made_first v s c.args.lists) c.in_err-obtain.field-0.0 some.0 some.1 some.2 c.in_err-obtain.ensures.range in
     rw (p.1, p.2, need) all
 
--- where what is needed is free, nothing is made
+-- if what is needed is free, nothing is made
 pub returns-clause-unchanged : goal.returns-clause-unchanged
 returns-clause-unchanged g c = λ free.
     let v = c.args.self.now in

@@ -60,7 +60,7 @@ returns-then-rest-eq0-clause-loses g c = record {
       steps_gone c.args.self.now.tiers c.args.k c.args.count (omega (arith, c.requires.offset)) (omega (arith, c.if-rest-eq0.true, c.requires.offset)));
 }
 
--- ---- the rest stands in a smaller block
+-- ---- the rest is in a smaller block
 
 pub tier_holding-tier-requires : goal.tier_holding-tier-requires
 tier_holding-tier-requires g c =

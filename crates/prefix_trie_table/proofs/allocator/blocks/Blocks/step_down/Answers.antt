@@ -70,7 +70,7 @@ give_back-requires g c =
     let reserved = has_place g.S.Slot.vacant _ _ _ (c.move_items.ensures.sound a b u.live s refl refl u.is_count refl space) in
     record { within = reserved.0; reserved = reserved.1 }
 
--- the block was obtained, and has room
+-- the block was obtained, and holds the list
 obtained : (g : given.Over) (c : goal.After-give_back g) → Turnover c.args.self.now c.obtain.new.self (many_of (size_in (tier_sizes c.args.self.now.tiers) c.args.to)
     (1 - free_in c.args.self.now.tiers (size_in (tier_sizes c.args.self.now.tiers) c.args.to))) None None
 obtained g c = told_ok c.obtain.result c.if-is_err.ensures.value c.obtain.ensures.made
