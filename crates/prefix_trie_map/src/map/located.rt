@@ -15,8 +15,8 @@ ghost use Rattle.prefix_trie_map.specs.Whole.{IsWhole};
 use crate::map::parts::parts;
 use crate::map::{PrefixMap, Visits};
 use prefix_trie_bits::prefix::{Prefix, Refusal, Refused};
-use prefix_trie_table::table::seat::{Location, Seat, SearchEnd};
 use prefix_trie_table::table::cursor::Cursor;
+use prefix_trie_table::table::seat::{Location, SearchEnd, Seat};
 use std::alloc::Allocator;
 
 impl<P: Prefix, T: Drop, A: Allocator> PrefixMap<P, T, A> {
@@ -93,7 +93,12 @@ impl<P: Prefix, T: Drop, A: Allocator> PrefixMap<P, T, A> {
     // Inserts a new prefix, whose way ends here, and answers where its value stands.
     // It is not inlined, so that what an entry's callers do with a stored key stays small.
     #[inline(never)]
-    pub(super) fn insert_located(&mut self, prefix: &P, end: SearchEnd, value: T) -> Result<Seat, Refused<T>>
+    pub(super) fn insert_located(
+        &mut self,
+        prefix: &P,
+        end: SearchEnd,
+        value: T,
+    ) -> Result<Seat, Refused<T>>
         requires fits { P.IsFitting prefix.now }
         requires absent { contains_key self.old.entries (P.path prefix.now) ≡ false }
         requires end { IsSearchEnd self.old.build (P.path prefix.now) end }

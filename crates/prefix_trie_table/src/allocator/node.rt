@@ -68,5 +68,8 @@ pub struct NodeSlot {
 
 impl NodeSlot {
     /// The slot of the root, which is outside every block.
-    pub const ROOT: NodeSlot = NodeSlot { start: 0, offset: 0 };
+    pub const ROOT: NodeSlot = NodeSlot {
+        start: 0,
+        offset: 0,
+    };
 }

@@ -40,7 +40,13 @@ impl<S: Slot, R: SlotArray<S>, A: Allocator> Blocks<S, R, A> {
 
     /// Removes a value from the list of a block, and returns the value and the block of the rest, if any is left.
     #[inline(always)]
-    fn remove_from(&mut self, k: usize, start: u32, count: u32, offset: u32) -> (S, Option<BlockRef>)
+    fn remove_from(
+        &mut self,
+        k: usize,
+        start: u32,
+        count: u32,
+        offset: u32,
+    ) -> (S, Option<BlockRef>)
         requires in_use { InUse S.vacant self.old k start count }
         requires sizes { HasSizes self.old.tiers }
         requires offset { offset < count }
