@@ -1,4 +1,5 @@
--- What lookups find, in words, and which stored key is the longest that begins a question after a change.
+-- What lookups find, in words, and how the longest match of a bit string changes with the entries:
+-- for `lookup_laws`.
 use Rattle.prefix_trie.proofs.Prelude.{◌≡◌, ◌≢◌, inl, inr, ℕ, ◌+◌, ◌<◌, ◌≤◌, Bool, true, false, List, [], length, take, Option, Some, None, is_some, refl, sym, ap, ◌∙◌, subst, arith, true≢false, length-take-le, cases_lt, IfSome, option_map, contains_key, get, begins, begins-trans, begins-linear, begins-length, take-begins, Entries, no_entries, with_entry, without_entry, IsLongestMatch, shortest_match, prefix_pair, match_laws, one_of_length, some-value, of-key, IsUncovered, LookupLaws}
 use Rattle.std.specs.Option.{MatchOption}
 use Rattle.prefix_trie_bits.specs.Model.Matches.{longest_match}

@@ -1,4 +1,5 @@
--- Sets are equal exactly if their walks give prefixes of the same numbers and lengths.
+-- Two sets are equal exactly if their walks give prefixes with the same numbers and lengths: for
+-- `==` of sets.
 use Rattle.prefix_trie.proofs.Prelude.{◌≡◌, ◌≤◌, ◌&&◌, ℕ, Bool, true, List, [], ◌∷◌, length, map, take, refl, sym, ap, ◌∙◌, subst, nat_eq, eqb-true, eq-eqb, one_answer, Decides, pointwise, pointwise_decides, contains_key-keys, same_entries_map, list_any, on, PrefixLaws, path_back, same_string, Entries, AreWithin, listing, same_string-is, is-same_string, and-first, and-second, and-join, or-left, or-right, same_keys, same_parts}
 
 -- the entries of sets with the same keys are one

@@ -1,4 +1,4 @@
--- What a map lists: the prefixes fit, and a selection is no longer than the map.
+-- The listed prefixes of a map fit, and no selection is longer than the map.
 use Rattle.prefix_trie_map.proofs.Prelude.{◌≡◌, ℕ, Bool, true, List, [], ◌∷◌, is_some, ap, All, Contains, contains_key, All-head, All-tail, All-contains_itself, All-weaker, All-map, All-filter, begins, PrefixLaws, fits_back, path_back, CallableOnEachEntry, Entries, AreWithin, covers, listing, prefix_pairs, listing_laws, ListedLaws, ◌≤◌, false, cond, length, filter, arith, length-map, length-filter, count_by-le-length, len, len-entries, listing_from, listing_after}
 
 module _ {T : Type 0} where

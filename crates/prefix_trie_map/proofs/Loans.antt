@@ -1,5 +1,6 @@
--- What walks cite: a local is lent for one call, a `&mut` in an `Option`, and a pair of two machine values. What it names of the kit the
--- proofs of calls that lend name too, so they take it from here. Assumes `Logic`.
+-- Lemmas for proofs of calls that lend: a local is lent for one call, a `&mut` in an `Option`, and
+-- a pair of two machine values. Those proofs take the names of the separation logic from here.
+-- Assumes `Logic`.
 use seplogic.Ra.Ura.{Ura}
 use types.Logic.{Logic, sem}
 use types.SemTy.{Body}
