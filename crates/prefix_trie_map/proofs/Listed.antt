@@ -11,7 +11,7 @@ module _ {K P : Type 0} {w : ℕ} {IsKey : K → Type 0} {bits : K → List Bool
   pub listed_fit : All (λ e. IsFitting e.0) (prefix_pairs back (listing m))
   listed_fit = All-map (λ e. IsFitting e.0) (λ e. (back e.0, e.1)) (listing m) (each_listed (λ k. IsFitting (back k)) m (λ k has. fits_back laws k (within k has)))
 
-  -- and each that covers a question
+  -- and each cover of a bit string fits
   pub covers_fit : (q : List Bool) → All (λ e. IsFitting e.0) (prefix_pairs back (covers m q))
   covers_fit q =
       All-map (λ e. IsFitting e.0) (λ e. (back e.0, e.1)) (covers m q)

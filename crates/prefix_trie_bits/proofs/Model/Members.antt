@@ -204,11 +204,11 @@ module _ {T : Type 0} where
   pub get-part_at_least : (m : Entries T) (n : ℕ) (t : List Bool) → get (part_at_least m n) t ≡ cond (nat_le n (length t)) (get m t) None
   get-part_at_least m n t = get-retained m (λ s. nat_le n (length s)) t
 
-  -- two entry maps with the same value at each key are one
+  -- two entry maps with the same value at each key are equal
   pub same_entries : (m n : Entries T) → ((s : List Bool) → get m s ≡ get n s) → m ≡ n
   same_entries m n same = same_map listing_total listing_same m n same
 
--- two sets of nodes with the same members are one
+-- two sets of nodes with the same members are equal
 pub same_members : (n k : Nodes) → ((s : List Bool) → has_node n s ≡ has_node k s) → n ≡ k
 same_members n k same = same_map listing_total listing_same n k (λ s. marks _ _ (same s))
 
