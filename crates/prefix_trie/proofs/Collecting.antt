@@ -1,4 +1,4 @@
--- What an iterator gives that is seen as the list of the items still to come.
+-- An iterator that is seen as the list of its items to come gives them in order: for `from_iter`.
 use Rattle.prefix_trie.proofs.Prelude.{◌≡◌, List, [], ◌∷◌, Option, None, Some, sym, ap, ◌∙◌, Drains, HoldsAlong, All-nil, All-cons, All-head, All-tail, All-same}
 use Rattle.std.specs.List.{All}
 

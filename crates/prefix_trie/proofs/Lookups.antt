@@ -1,11 +1,12 @@
--- What lookups find, in words, and which stored key is the longest that begins a question after a change.
+-- What lookups find, in words, and how the longest match of a bit string changes with the entries:
+-- for `lookup_laws`.
 use Rattle.prefix_trie.proofs.Prelude.{◌≡◌, ◌≢◌, inl, inr, ℕ, ◌+◌, ◌<◌, ◌≤◌, Bool, true, false, List, [], length, take, Option, Some, None, is_some, refl, sym, ap, ◌∙◌, subst, arith, true≢false, length-take-le, cases_lt, IfSome, option_map, contains_key, get, begins, begins-trans, begins-linear, begins-length, take-begins, Entries, no_entries, with_entry, without_entry, IsLongestMatch, shortest_match, prefix_pair, match_laws, one_of_length, some-value, of-key, IsUncovered, LookupLaws}
 use Rattle.std.specs.Option.{MatchOption}
 use Rattle.prefix_trie_bits.specs.Model.Matches.{longest_match}
 use Rattle.prefix_trie.proofs.Stored.{stored_laws, set_stored, taken_stored}
 
 module _ {T : Type 0} where
-  -- a stored string that begins the question is no longer than the longest
+  -- no stored string that q begins with is longer than the longest match
   longest_of : (m : Entries T) (q t : List Bool) (w : T) → get m t ≡ Some w → begins t q ≡ true → (e : List Bool × T) × (longest_match m q ≡ Some e) × (length t ≤ length e.0)
   longest_of m q t w stored b = elim (longest_match m q) as (λ o. longest_match m q ≡ o → (e : List Bool × T) × (o ≡ Some e) × (length t ≤ length e.0)) [
     | None ↦ λ none. absurd (true≢false (sym ((match_laws T).some_longest m q ∙ of-key m (λ k. begins k q) t (ap is_some stored) b) ∙ ap is_some none))
@@ -129,7 +130,7 @@ module _ {T : Type 0} (m : Entries T) (q s : List Bool) where
         })
   ] refl
 
-  -- of what is left, each string that begins the question is shorter
+  -- each remaining string that q begins with is shorter
   left_shorter : (v : T) → longest_match m q ≡ Some (s, v) → (t : List Bool) (w : T) → get (without_entry m s) t ≡ Some w → begins t q ≡ true → length t < length s
   left_shorter v is t w stored b =
       let f = ((match_laws T).longest_is m q (s, v)).0 is in

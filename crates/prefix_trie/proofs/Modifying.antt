@@ -1,4 +1,4 @@
--- What callers of `and_modify(..).or_insert(..)` conclude.
+-- What `and_modify(..).or_insert(..)` leaves of a map, for its callers.
 use Rattle.prefix_trie.proofs.Prelude.{◌≡◌, Bool, cond, List, None, Some, refl, sym, ap, ◌∙◌, MutBor, get, option_map, Entries, with_entry, get-with_entry, is-same_string, Contents, is_none-None, Entry, Occupied, Vacant, ModifiesEntry, entry_key, entry_map, entry_path, entry_value, entry_twice}
 use Rattle.std.specs.Option.{unwrap_or}
 use denote.Param.Members.{Once}

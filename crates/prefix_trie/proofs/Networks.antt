@@ -1,4 +1,5 @@
--- The path of a network, or of a pair of a number and a length, in numbers.
+-- The path of a network, or of a pair of a number and a length, as numbers: for `network_laws` and
+-- `narrow_laws`.
 use Rattle.prefix_trie.proofs.Prelude.{◌≡◌, ℕ, ◌+◌, ◌-◌, ◌^◌, ◌/◌, ◌<◌, ◌≤◌, length, take, nat_eq, refl, sym, ap, ◌∙◌, subst, arith, eqb-true, eq-eqb, Option, Some, None, IfSome, option_map, length-take-le, take_all, shr_below, begins, digits, number, length-digits, take-digits, number_of_digits, same_bool, begins-take, begins-from-take, NetworkLaws, NumberLaws}
 
 -- the number that the first len bits of a number of w bits write has len bits

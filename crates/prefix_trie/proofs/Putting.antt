@@ -1,4 +1,5 @@
--- What a loop leaves that puts the entries of one map into another, and how its invariant goes on.
+-- The laws of a loop that inserts the entries of one map into another: its invariant and its
+-- result.
 use Rattle.prefix_trie.proofs.Prelude.{◌≡◌, ℕ, Bool, true, false, cond, T, List, [], ◌∷◌, Option, Some, None, refl, sym, ap, ◌∙◌, option_or, entries_sorted, get, get-entries, is_sorted, find, All-head, All-tail, All-same, PrefixLaws, listing_cmp, same_string, Entries, AreWithin, no_entries, put_all, with_entry, listing, prefix_pairs, get-with_entry, same_string-is, same_entries, each-behind, not_itself, sorted-head, sorted-tail, Leads, PutLaws, listed_fit, listed_paths}
 use lib.Dec.{T as IsT}
 use Rattle.std.specs.List.{All}

@@ -1,4 +1,5 @@
--- What a loop that changes each value by a function of the old one has done so far.
+-- What a loop that changes each value by a function of the old one has done so far: for
+-- `rewrite_laws`.
 use Rattle.prefix_trie.proofs.Prelude.{◌≡◌, ℕ, ◌<◌, Bool, true, false, cond, ◌||◌, ◌&&◌, List, [], ◌∷◌, length, map, Option, None, Some, is_some, is_lt, is_eq, Ordering, Less, Equal, Greater, refl, sym, ap, ◌∙◌, subst, arith, true≢false, list_any, option_map, get, contains_key-keys, entries_sorted, is_sorted, below_all, listing_cmp, same_string, Entries, with_entry, listing, and-first, and-second, or-right, get-with_entry, is-same_string, same_string-is, same_entries, sorted-head, sorted-tail, t-true, true-t, Contents, bare, sorted_mapped, MapCursor, keys_left, IsFirst, GoesOver, ComesToEnd, StartsIn, ReturnsMap, PassesIn, EndsIn, FirstIn, left_at_start, left_behind, none_left, keyed, AreOrdered, is_left, Rewrites, RewritesIn, OrderedIn}
 use lib.Dec.{T as IsT}
 use Rattle.std.specs.Borrow.{MutBor}

@@ -1,4 +1,4 @@
--- What is stored after a change.
+-- What is stored after a key is set or removed: for `stored_laws`.
 use Rattle.prefix_trie.proofs.Prelude.{◌≡◌, ◌≢◌, ◌⊎◌, inl, inr, Bool, true, false, cond, List, Some, None, is_some, refl, sym, ap, ◌∙◌, true≢false, get, get-empty, listing_cmp, same_string, Entries, with_entry, without_entry, get-with_entry, get-without_entry, is-same_string, same_string-is, same_entries, StoredLaws}
 
 -- strings that differ do not tie

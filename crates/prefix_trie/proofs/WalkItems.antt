@@ -1,4 +1,5 @@
--- What a list has that takes in a walk whose items are copied.
+-- A list that copies the items of a walk has all of them, if they can be allocated: for the
+-- listings of `replay`.
 use Rattle.prefix_trie.proofs.Prelude.{◌≡◌, refl, List, [], ◌∷◌, ◌++◌, map, sym, ap, subst, ◌∙◌, Option, Result, Ok, Err, IfOk, All, All-map, Yields, Drains, HoldsAlong, map_source, map_steps, Map, Mut, Called, TakesFirst}
 use Rattle.std.proofs.lemmas.List.{append-nil}
 

@@ -116,7 +116,7 @@ pub enum Reply<P: Prefix, A: Allocator> {
 /// ```text
 /// let wide = "10.1.0.0/16".parse::<Ipv4Prefix>()?;
 /// let host = "10.1.2.3/32".parse::<Ipv4Prefix>()?;
-/// let mut map = PrefixMap::new(alloc)?;
+/// let mut map = PrefixMap::new(alloc.clone())?;
 /// let calls = [
 ///     Call::Insert(wide, 1),            // Reply::Value(None)
 ///     Call::Get(host),                  // Reply::Value(None)

@@ -1,4 +1,5 @@
--- The listing of all places, by computing, and the loop that brings set bits into its order.
+-- The listing of all places, by computing, and the loop that brings set bits into its order: for
+-- `Places`.
 use Rattle.prefix_trie_bits.proofs.Prelude.{◌≡◌, ℕ, ◌+◌, ◌-◌, ◌*◌, ◌%◌, ◌^◌, ◌<◌, Bool, true, false, ◌||◌, ◌&&◌, nat_eq, nat_lt, eqb-true, ltb-true, cond, List, [], length, map, Some, refl, sym, ap, ap₂, ◌∙◌, subst, inl, inr, bit_and, bit_or, mod-eq_of_lt, arith, get_or, slice_get, trailing_zeros, w64, or_lt, one_shl, pow_below, bit_at-trailing_zeros, bit_at_set_same, bit_at_set_other, cases_lt, cases_eq, lt-ltb, le-ltb, get_or-map, slice_get-get_or, get_or_from_slice_get, number, has, value_bit, heap_number, strings, place_of, places, is_in, pick, TakesPlace, LISTING, POSITION, Place}
 use Rattle.prefix_trie_bits.specs.declared.node.Place.TheVariants.{Value}
 use Rattle.prefix_trie_bits.proofs.Checks.{both, below, each, at_below, at_index}

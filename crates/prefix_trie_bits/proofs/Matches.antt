@@ -1,4 +1,5 @@
--- The longest and the shortest string of a bitmap that begins another.
+-- The longest and the shortest string of a bitmap with which another begins: for `longest_match`
+-- and `shortest_match`.
 use Rattle.prefix_trie_bits.proofs.Prelude.{◌≡◌, ℕ, suc, ◌+◌, ◌-◌, ◌*◌, ◌/◌, ◌%◌, ◌^◌, ◌<◌, ◌≤◌, Bool, true, ◌&&◌, List, length, take, sym, ap, ap₂, ◌∙◌, subst, arith, bit_and, pow_pos, pow-suc, inl, inr, bit_at, leading_zeros, trailing_zeros, w32, le-div, div_below, and_le_l, bit_at-zero, bit_at_above, bit_at-trailing_zeros, cases_lt, digits, begins, length-digits, begins-take, begins-length, take-begins, has, value_bit, stands, HoldsValues, NoneBegins, IsLongest, IsShortest}
 use Rattle.std.proofs.lemmas.List.{length-take-le}
 use Rattle.std.proofs.lemmas.Bool.{false_from_ne_true as not-true}

@@ -1,4 +1,4 @@
--- Lemmas on the model, and its worked rows.
+-- Laws of the model, and its worked rows and facts.
 pub mod Members
 pub mod Homes
 pub mod Pruning

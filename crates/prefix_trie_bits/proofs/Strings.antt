@@ -156,7 +156,7 @@ child_bit-small b depth h = number-below 5 (take 5 (drop depth b)) (length-windo
 
 -- ---- one bit more
 
--- strings with one value bit are one
+-- strings with one value bit are equal
 pub value_bit-injective : (s t : List Bool) → value_bit s ≡ value_bit t → s ≡ t
 value_bit-injective s t e =
     let l : length s ≡ length t =

@@ -41,7 +41,7 @@ six_calls =
 
 -- the facts of this file
 pub record FactsHold : Type 0 where
-  -- two of row 5's keys: seven nodes are read for 32 bits, six for 29, and the root alone for a question with another first bit
+  -- two of row 5's keys: seven nodes are read for 32 bits, six for 29, and the root alone for a string with another first bit
   pub visits32 : LeadsTo 32 (sets (((0x01020300, 32), 1) ∷ ((0x01020301, 32), 2) ∷ [])) (λ t.
       (visits t.nodes (path_at 32 (0x01020301, 32)) ≡ 7)
       × (visits_to_match t.entries t.nodes (path_at 32 (0x01020301, 32)) ≡ 7)

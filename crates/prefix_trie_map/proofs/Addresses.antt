@@ -1,4 +1,5 @@
--- What a walk over the outermost entries adds up to.
+-- The sum over a walk of the outermost entries is the number of covered addresses: for
+-- `address_count`.
 use Rattle.prefix_trie_map.proofs.Prelude.{◌≡◌, ℕ, ◌+◌, ◌-◌, ◌^◌, ◌<◌, ◌≤◌, Bool, not, List, [], length, take, Some, None, refl, sym, ap, ◌∙◌, subst, arith, pow_pos, length-take-le, length-filter_both, option_map, number, zeros, begins, zero_bits, number_of_digits, number-lt, KeyLaws, address_answer, Entries, listing, IsCounted, counted-start, counted-next, counted-end, counted-all, answer-number, GivesOutermost}
 
 -- the sum of a key's number and the power of an entry's addresses

@@ -1,4 +1,4 @@
--- The copy of a map, and walks whose pairs are clones.
+-- A copy of a map has clones of its values: for `clone`.
 use Rattle.prefix_trie_map.proofs.Prelude.{◌≡◌, ◌↔◌, ℕ, true, List, Bool, sym, ◌∙◌, subst, get, contains_key, Entries, Nodes, AreNodes, IsTidy, needed, State, IsMap, same_nodes, needed_fewer, AreCloned, cloned_there, CopyLaws, [], ◌∷◌, map, refl, ap, ap₂, AllZip, prefix_pairs, IsPairCloned, Option, None, Some, IsSomeAnd, IsCloned, same_entries, none-some, same_Some}
 
 -- the copy of a map, with the same keys and nodes, is a map

@@ -1,4 +1,4 @@
--- Two walks that are gone over side by side.
+-- Two walks compared item by item: for `==` of maps.
 use Rattle.prefix_trie_map.proofs.Prelude.{◌≡◌, Bool, true, false, ◌&&◌, List, [], ◌∷◌, Option, None, Some, MatchOption, IfSome, sym, ap, ◌∙◌, subst, pointwise, YieldsThen, ComparesItemsByEq, AllZip, TakesFirst}
 
 module _ {A X : Type 0} (shows : A → X) (equal : X → X → Bool) where

@@ -1,4 +1,4 @@
--- What a map lists: the prefixes fit, and a selection is no longer than the map.
+-- The listed prefixes of a map fit, and no selection is longer than the map.
 use Rattle.prefix_trie_map.proofs.Prelude.{◌≡◌, ℕ, Bool, true, List, [], ◌∷◌, is_some, ap, All, Contains, contains_key, All-head, All-tail, All-contains_itself, All-weaker, All-map, All-filter, begins, PrefixLaws, fits_back, path_back, CallableOnEachEntry, Entries, AreWithin, covers, listing, prefix_pairs, listing_laws, ListedLaws, ◌≤◌, false, cond, length, filter, arith, length-map, length-filter, count_by-le-length, len, len-entries, listing_from, listing_after}
 
 module _ {T : Type 0} where
@@ -11,7 +11,7 @@ module _ {K P : Type 0} {w : ℕ} {IsKey : K → Type 0} {bits : K → List Bool
   pub listed_fit : All (λ e. IsFitting e.0) (prefix_pairs back (listing m))
   listed_fit = All-map (λ e. IsFitting e.0) (λ e. (back e.0, e.1)) (listing m) (each_listed (λ k. IsFitting (back k)) m (λ k has. fits_back laws k (within k has)))
 
-  -- and each that covers a question
+  -- and each cover of a bit string fits
   pub covers_fit : (q : List Bool) → All (λ e. IsFitting e.0) (prefix_pairs back (covers m q))
   covers_fit q =
       All-map (λ e. IsFitting e.0) (λ e. (back e.0, e.1)) (covers m q)

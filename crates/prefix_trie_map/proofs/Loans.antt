@@ -1,5 +1,6 @@
--- What walks cite: a local is lent for one call, a `&mut` in an `Option`, and a pair of two machine values. What it names of the kit the
--- proofs of calls that lend name too, so they take it from here. Assumes `Logic`.
+-- Lemmas for proofs of calls that lend: a local is lent for one call, a `&mut` in an `Option`, and
+-- a pair of two machine values. Those proofs take the names of the separation logic from here.
+-- Assumes `Logic`.
 use seplogic.Ra.Ura.{Ura}
 use types.Logic.{Logic, sem}
 use types.SemTy.{Body}
@@ -24,7 +25,7 @@ pub use contract.Monad.{fact, fact_i}
 pub use contract.Running.{tables}
 pub use types.Kit.{‵, raw, ◌⊛◌, some, later, ◌$◌, ◌∵◌, !, qed, done, move, keep, drop, use0, use1, use2, use3, split, join, fsplit, fjoin, pick, await, rewrite, suffices, frame, fpack, feq_i, updating, now, show}
 pub use types.Part.{agg}
-pub use types.Run.{enter, of_opd, lit, addr, from, item, no_more, and_then, returns}
+pub use types.Run.{enter, of_opd, lit, addr, from, stop, no_more, and_then, returns}
 pub use types.ByLocal.{alloc_all, pass_all, free_all, look_at, get, through, sets, lands_as, take_at, give_at}
 pub use denote.Param.{param, copied, bounded}
 pub use denote.Param.Laws.{Laws, param_laws, of_field, row_shared}
@@ -37,7 +38,7 @@ pub use denote.Steps.{nothing, heard, peeks}
 pub use denote.Laws.{shows}
 pub use denote.Struct.Tuple.{Tuple, tuple_laws, tuple_type}
 pub use denote.Triple.Call.{calls_at}
-pub use denote.Triple.Clauses.{PreservesBelow, preserves}
+pub use denote.Triple.Clauses.{Lasts, lasts}
 pub use denote.Triple.Spec.{triple_of}
 pub use denote.Triple.Table.{framed}
 pub use denote.Triple.Walked.{Stays, stay_dropped, walk_of, ends_at, Goes-dropped, Goes-spent_ref}

@@ -1,4 +1,4 @@
--- What a match of the table is to users, by the prefix rebuilt from it, and what a lookup reads.
+-- A match of the table, as the map returns it with a rebuilt prefix, and what a lookup reads.
 use Rattle.prefix_trie_map.proofs.Prelude.{◌≡◌, ℕ, ◌+◌, ◌≤◌, Bool, List, take, Option, Some, None, Bor, MatchOption, sym, ap, ◌∙◌, subst, arith, option_map, take-take, IsMap, Entries, prefix_pair, visits, visits_to_match, ReadsPath, ReadsToMatch, visits-bound, visit_laws, Contents, state, lent_item}
 
 module _ {T : Type 0} where

@@ -1,4 +1,4 @@
--- An occupied entry, once a value is written at its key.
+-- An occupied entry after a value is written at its key.
 use Rattle.prefix_trie_map.proofs.Prelude.{◌≡◌, Bool, true, List, Some, sym, subst, Coded-set, coded_bool, contains_key, with_entry, seat_of, is_seat-prop, with_value_at, OccupiedEntry, stays_stored, with_value_in}
 use Rattle.std.specs.declared.cmp.PartialEq as partial
 use Rattle.std.specs.declared.fmt.Debug as debug

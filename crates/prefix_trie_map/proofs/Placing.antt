@@ -1,4 +1,4 @@
--- That a new key is placed, or refused its blocks, is a step of the model.
+-- Inserting a new key, or being refused its blocks, is a step of the model: for entries.
 use Rattle.prefix_trie_map.proofs.Prelude.{◌≡◌, ℕ, ◌+◌, ◌*◌, ◌≤◌, Bool, true, false, cond, List, Option, None, Some, inl, inr, refl, sym, ap, ◌∙◌, true≢false, subst, Result, Ok, Err, IfErr, OnOk, MatchResult, get, contains_key, len, Refusal, Refused, IndexRange, with_entry, with_needed, AreNodes, MayPassLimit, LeavesSpace, Reply, Step, Insert, Value, PreparesInStorage, InsertsInStorage, RefusesInStorage, StepByPath, get-with_entry, is-same_string, same_entries, same_string, Entries, Contents, with_value_at, is_none-None, state, storage, stored_state, insert_new_reply, readied_inserts}
 use Rattle.prefix_trie_map.proofs.Insertions.{inserts_are}
 

@@ -1,4 +1,4 @@
--- Which refusals there are.
+-- A refusal that is not for the limit is for memory.
 use Rattle.prefix_trie_map.proofs.Prelude.{◌≡◌, ◌↔◌, ℕ, suc, Result, Ok, Err, IfErr, refl, arith, Refusal, Memory, IndexRange}
 
 -- if a limit of some slots is no cause, memory is

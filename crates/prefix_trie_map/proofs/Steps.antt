@@ -1,4 +1,5 @@
--- What holds of the table by a key's bits holds of the map by the prefix's path, and steps leave maps.
+-- What holds of the table at a key's bits holds of the map at the prefix's path, and steps lead
+-- from maps to maps.
 use Rattle.prefix_trie_map.proofs.Prelude.{◌≡◌, ◌<◌, ◌≤◌, ℕ, zero, suc, take, arith, sym, BoundsStorageGrowth, storage, Bool, List, length, Option, subst, IsMap, State, Call, CallFits, Reply, Value, Storage, StepByPath, stays_map, Contents, state, stored_state}
 
 module _ {T : Type 0} where

@@ -1,5 +1,5 @@
--- What a step of a writing walk says of its first entry, that a walk that may have no map steps as
--- what it goes over does, and which keys are to come of a walk.
+-- A step of a writing walk gives its first entry, also for a walk that may have no map; and the
+-- keys to come of a walk.
 use Rattle.prefix_trie_map.proofs.Prelude.{◌≡◌, Bool, true, List, [], ◌∷◌, map, Option, None, Some, MatchOption, IfSome, IfNone, refl, sym, ap, ◌∙◌, subst, contains_key, Contents, with_value_at, IsCursorIn, IsCursorIn-prop, GivesKey, keys_to_come, Cursor, pending_again, MapCursor, CursorItem, keys_left, as_walk, key_at, IsItemAt, HasValueAt, with_written, IsFirst, GoesOver, ComesToEnd, StartsOver, lent_beside, EndsIn, StepsIn}
 use Rattle.std.specs.Borrow.{MutBor}
 use Rattle.std.specs.declared.cmp.PartialEq as partial

@@ -1,4 +1,4 @@
--- A second table to which values come.
+-- The second table of a split, while values come to it.
 pub mod Coming
 pub mod Putting
 pub mod Valued

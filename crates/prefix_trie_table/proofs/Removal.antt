@@ -1,4 +1,4 @@
--- What calls that take entries out leave.
+-- What the calls that remove entries leave.
 pub mod Clearing
 pub mod Items
 pub mod GivingBack

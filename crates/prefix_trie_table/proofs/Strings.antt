@@ -1,4 +1,4 @@
--- Bit strings, paths and bitmaps, and plain facts.
+-- Bit strings, chunks, paths and bitmaps, and plain facts.
 pub mod Digits
 pub mod Plain
 pub mod Bits

@@ -1,4 +1,5 @@
--- Walks over entries, those that start at a string, and those that write or take values out.
+-- Walks over entries: those that start at a string, those that write, and those that move values
+-- out.
 pub mod Stacks
 pub mod Spots
 pub mod Walking

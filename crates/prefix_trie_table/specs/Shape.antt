@@ -96,7 +96,7 @@ module _ {T : Type 0} where
     Π_prop (λ _. Coded-set (coded_option c) _ _) x.1 y.1 i,
   )
 
-  -- two shapes of the same arrays are one
+  -- two shapes of the same arrays are equal
   pub same_shape : (nodes : List Node) (cells : List (Option T)) (s t : State T) → IsShapeOf nodes cells s → IsShapeOf nodes cells t → s ≡ t
   same_shape nodes cells s t h k =
       let entries : s.entries ≡ t.entries = same_entries s.entries t.entries (λ q. h.1 q ∙ sym (k.1 q)) in

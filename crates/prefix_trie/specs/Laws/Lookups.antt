@@ -1,4 +1,4 @@
--- What lookups find, in words, and which stored key is the longest that begins a question after a change.
+-- What lookups find, in words, and how the longest match changes with the entries.
 use Rattle.std.specs.Prelude.{◌≡◌, ◌≢◌, ℕ, ◌+◌, ◌<◌, ◌≤◌, Bool, true, false, List, [], length, take, Option, Some, None, IfSome, MatchOption, is_some}
 use Rattle.std.specs.Option.{option_map}
 use Rattle.std.specs.FinMap.{contains_key}
@@ -6,7 +6,7 @@ use Rattle.prefix_trie_bits.specs.Bits.{begins}
 use Rattle.prefix_trie_bits.specs.Model.Entries.{Entries, no_entries, with_entry, without_entry}
 use Rattle.prefix_trie_bits.specs.Model.Matches.{IsLongestMatch, longest_match, shortest_match, prefix_pair}
 
--- no stored key begins the question
+-- q begins with no stored key
 abbrev pub IsUncovered : {T : Type 0} → Entries T → List Bool → Type 0
 IsUncovered m q = (s : List Bool) → contains_key m s ≡ true → begins s q ≡ false
 

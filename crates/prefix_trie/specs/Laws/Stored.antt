@@ -12,5 +12,5 @@ pub record StoredLaws (T : Type 0) : Type 0 where
   -- the removed key has no value, and each other key has the value that it had
   pub taken : (m : Entries T) (s : List Bool) → get (without_entry m s) s ≡ None
   pub beside_taken : (m : Entries T) (s t : List Bool) → (t ≢ s) → get (without_entry m s) t ≡ get m t
-  -- two maps that have the same value at each key are one
+  -- two maps that have the same value at each key are equal
   pub same : (m n : Entries T) → ((s : List Bool) → get m s ≡ get n s) → m ≡ n

@@ -1,4 +1,4 @@
--- Runs with their counts.
+-- The laws of runs with counts: for `counted_laws` and the headline.
 use Rattle.prefix_trie_bits.proofs.Prelude.{◌≡◌, ◌≢◌, ◌<◌, ◌≤◌, map, take, get_or, ℕ, ◌+◌, Bool, true, false, List, [], ◌∷◌, ◌++◌, length, Option, None, Some, MatchOption, refl, sym, ap, ◌∙◌, subst, true≢false, take_more, map-append, All-head, All-tail, All-nil, All-cons, State, Call, Insert, Get, Lpm, Spm, Remove, RemoveKeepTree, RemoveChildren, RetainAtLeast, Clear, ListFrom, Children, Cover, CallFits, Reply, Step, Runs, Storage, RunInStorage, tidy_after, tidy_after_all, TidyIf, CountsReads, CountedStep, CountedFrom, ReadsExactly, CountedLaws, IsMap}
 use Rattle.std.specs.List.{All}
 use Rattle.prefix_trie_bits.proofs.Model.Runs.{runs_join}

@@ -1,4 +1,5 @@
--- Counting the strings that some string of a list begins, half by half.
+-- The strings of a length that begin with some string of a list, counted half by half: for
+-- `address_laws`.
 use Rattle.prefix_trie_bits.proofs.Prelude.{◌≡◌, ◌≤◌, subst, ℕ, suc, zero, ◌+◌, ◌^◌, Bool, true, false, cond, ◌&&◌, ◌||◌, List, [], ◌∷◌, length, map, filter, refl, sym, ap, ap₂, ◌∙◌, arith, true≢false, length-append, filter-append, list_any, begins, same_bit, is_root, full_strings, covered}
 
 -- the rests of the strings that begin with the bit b, without it; the empty string stays

@@ -1,4 +1,4 @@
--- The listing and its selections.
+-- The laws of the listing and its selections: for `listing_laws`.
 use Rattle.prefix_trie_bits.proofs.Prelude.{◌≡◌, ◌≢◌, ◌↔◌, ◌⊎◌, Bool, true, false, cond, not, ◌&&◌, T, List, [], ◌∷◌, ◌++◌, filter, is_lt, is_le, Ordering, Less, Equal, Greater, refl, sym, ap, ◌∙◌, subst, Some, inl, inr, true≢false, ordering_reverse, entries_sorted, get, get-entries, is_sorted, below_all, begins, listing_cmp, listing_total, listing_same, listing-refl, listing-common, IsBefore, Entries, listing, listing_from, listing_after, is_root, ListingLaws, IsListedBefore, All, All-nil, All-cons, order-filled, order-numbers}
 use lib.Dec.{T as IsT}
 use Rattle.std.specs.List.{Contains}

@@ -1,4 +1,4 @@
--- The covers of a question, the first and the last of them.
+-- The covers of a bit string, with the first and the last of them as its matches: for `match_laws`.
 use Rattle.prefix_trie_bits.proofs.Prelude.{◌≡◌, ◌⊎◌, ◌≤◌, ◌<◌, Bool, true, false, cond, T, List, [], ◌∷◌, ◌++◌, length, is_some, Less, Option, Some, None, refl, sym, ap, ◌∙◌, subst, arith, inl, inr, true≢false, Contains-append_left, Contains-append_right, Contains-push, list_any, same_Some, entries, entries_sorted, get, contains_key, keys, get-entries, is_sorted, find, is_sorted-where_key, find-where_key, begins, begins-linear, begins-same-length, same_bool, listing_cmp, listing_same, same_string, Entries, first_item, last_item, covers, IsMatch, IsLongestMatch, IsShortestMatch, longest_match, shortest_match, MatchLaws}
 use lib.Dec.{T as IsT}
 use Rattle.std.specs.List.{Contains}

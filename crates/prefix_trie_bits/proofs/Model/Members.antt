@@ -1,4 +1,4 @@
--- What an entry map or a set of nodes of a shape has, and when two of them are one.
+-- What entries or nodes of a given shape contain, and when two of them are equal.
 use Rattle.prefix_trie_bits.proofs.Prelude.{◌≡◌, ◌⊎◌, ◌%◌, Bool, true, false, cond, not, ◌&&◌, ◌||◌, List, [], ◌∷◌, ◌++◌, length, map, filter, flat_map, is_some, is_eq, Option, Some, None, refl, sym, ap, ◌∙◌, subst, inl, inr, true≢false, eqb-true, eq-eqb, ℕ, nat_le, Equal-is, list_any, list_all, FinMap, empty, get, contains_key, insert, remove, retain_keys, keys, get-empty, get-insert, get-remove, get-retain_keys, contains_key-keys, same_map, begins, same_bit, listing_cmp, listing_total, listing_same, listing-refl, same_string, same_bool, Entries, with_entry, without_entry, without_below, part_below, part_at_least, Nodes, has_node, root_alone, with_nodes, beginnings, is_node_depth, nodes_above, needed, and_parts, or-false, or_assoc, and-false, and-or_distrib_left}
 pub use Rattle.std.proofs.lemmas.Bool.{or_cases as or-cases, or_left as or-left, or_right as or-right, and_from as and-join, not_from_false as not-true, not-true as from-not}
 
@@ -204,11 +204,11 @@ module _ {T : Type 0} where
   pub get-part_at_least : (m : Entries T) (n : ℕ) (t : List Bool) → get (part_at_least m n) t ≡ cond (nat_le n (length t)) (get m t) None
   get-part_at_least m n t = get-retained m (λ s. nat_le n (length s)) t
 
-  -- two entry maps with the same value at each key are one
+  -- two entry maps with the same value at each key are equal
   pub same_entries : (m n : Entries T) → ((s : List Bool) → get m s ≡ get n s) → m ≡ n
   same_entries m n same = same_map listing_total listing_same m n same
 
--- two sets of nodes with the same members are one
+-- two sets of nodes with the same members are equal
 pub same_members : (n k : Nodes) → ((s : List Bool) → has_node n s ≡ has_node k s) → n ≡ k
 same_members n k same = same_map listing_total listing_same n k (λ s. marks _ _ (same s))
 

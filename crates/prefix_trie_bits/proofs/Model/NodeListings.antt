@@ -1,4 +1,4 @@
--- What a listing has below a node is what it has at the node's places, one after another.
+-- The listing under a node is the listing of its places, one after another.
 use Rattle.prefix_trie_bits.proofs.Prelude.{◌≡◌, ℕ, zero, suc, ◌<◌, ◌≤◌, Bool, true, false, cond, ◌&&◌, ◌||◌, nat_lt, ltb-true, List, [], ◌∷◌, ◌++◌, length, map, filter, flat_map, is_lt, is_some, Less, Option, Some, None, refl, sym, ap, ap₂, ◌∙◌, arith, append-nil, append_assoc, length-append, lt-ltb, le-ltb, flat_map-append, flat_map-map, entries, entries_sorted, get, contains_key, get-empty, get-entries, find, is_sorted, below_all, begins, same_bool, begins-append, begins-length, begins-trans, listing_cmp, listing-extension, same_string, strings, is_in, places, Entries, part_below, no_entries, listing, listing_below, pair_of, listing_at_place, listing_at_places}
 use lib.Dec.{T as IsT}
 use Rattle.prefix_trie_bits.proofs.Checks.{both, each}

@@ -1,4 +1,4 @@
--- Sets of nodes, the nodes that keys need, and what setting or removing a key makes of them.
+-- The laws of the needed nodes, and how setting or removing a key changes them: for `node_laws`.
 use Rattle.prefix_trie_bits.proofs.Prelude.{◌≡◌, ◌≢◌, ◌↔◌, ◌⊎◌, ℕ, ◌%◌, ◌≤◌, Bool, true, ◌&&◌, ◌||◌, List, [], ◌∷◌, length, is_some, refl, sym, ap, ◌∙◌, subst, arith, inl, inr, true≢false, eqb-true, eq-eqb, and_comm, or_comm, contains_key, get-empty, begins, begins-length, begins-refl, begins-trans, listing_cmp, same_string, Entries, AreWithin, no_entries, with_entry, without_entry, Nodes, has_node, root_alone, is_node_depth, nodes_above, home, with_needed, needed, AreNodes, IsTidy, IsHome, BeginsKey, NodeLaws}
 use Rattle.prefix_trie_bits.proofs.Model.Homes.{home-begins, home-depth, home-longest}
 use Rattle.prefix_trie_bits.proofs.Model.Members.{or-cases, or-left, or-right, and-first, and-second, and-join, same_string-is, is-same_string, has-inserted, has-with_nodes, has-root_alone, any-node_above, needs, needs_root, needed_for, same_nodes}

@@ -1,4 +1,4 @@
--- Lists of entries in listing order, and what each operation makes of the listing.
+-- Lists of entries in listing order, and how each operation changes the listing.
 use Rattle.prefix_trie_bits.proofs.Prelude.{◌≡◌, ◌≤◌, ◌<◌, Bool, true, false, cond, not, ◌&&◌, nat_lt, T, List, [], ◌∷◌, ◌++◌, length, filter, is_lt, Ordering, Less, Equal, Some, None, is_some, refl, sym, ap, ◌∙◌, subst, arith, true≢false, inl, inr, unwrap_or, Contains-append_left, Contains-append_right, Contains-append_cases, Contains-push, Contains-push_cases, nat_tests, ordering_reverse, FinMap, entries, entries_sorted, empty, get, remove, retain_keys, from_sorted, len-entries, len-empty, entries-from_sorted, get-from_sorted, get-retain_keys, get-remove, get-entries, same_map, find, is_sorted, below_all, where_key, is_sorted-where_key, find-where_key, begins, begins-linear, begins-same-length, listing_cmp, listing_total, listing_same, listing-refl, listing-extension, same_string}
 use Rattle.std.specs.List.{Contains}
 use Rattle.prefix_trie_bits.proofs.Model.Members.{and-first, and-second, same_string-is, is-same_string, turned}

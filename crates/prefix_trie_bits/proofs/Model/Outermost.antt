@@ -1,4 +1,5 @@
--- Counting addresses by the outermost keys alone: those that no other stored key begins.
+-- The number of covered addresses is the sum over the outermost keys, which begin with no other
+-- stored key: for `address_count`.
 use Rattle.prefix_trie_bits.proofs.Prelude.{◌≡◌, ℕ, zero, suc, ◌+◌, ◌-◌, ◌^◌, ◌≤◌, ◌<◌, Bool, true, false, cond, not, ◌||◌, nat_le, nat_lt, List, [], ◌∷◌, length, map, filter, Some, None, is_some, refl, sym, ap, ap₂, ◌∙◌, subst, arith, inl, inr, eq-eqb, Less, ◌==◌, true≢false, ne_eqb, nat_tests, list_any, entries_sorted, is_sorted, keys, contains_key, get, get-entries, find, begins, same_bool, begins-refl, begins-trans, begins-linear, begins-length, begins-same-length, listing_cmp, listing-extension, same_string, Entries, without_below, listing, is_root, full_strings, covered, addresses, address_answer, AddressLaws}
 use Rattle.std.proofs.Common.{T as IsT}
 use Rattle.prefix_trie_bits.proofs.Model.Members.{or-cases, or-left, or-right, and-first, and-second, and-join, not-true, from-not, some-value, same_string-is, some-key, of-key, has-retained}

@@ -1,4 +1,4 @@
--- What removals leave of the nodes.
+-- Which nodes removals leave: for `pruning_laws`.
 use Rattle.prefix_trie_bits.proofs.Prelude.{◌≡◌, ◌≢◌, ℕ, ◌%◌, ◌≤◌, Bool, true, false, cond, not, ◌&&◌, ◌||◌, nat_lt, List, [], ◌∷◌, length, refl, sym, ◌∙◌, subst, arith, inl, inr, true≢false, list_any, list_all, contains_key, keys, retain_keys, nat_tests, begins, begins-trans, begins-refl, begins-linear, begins-antisymm, begins-length, same_string, Entries, without_entry, without_below, Nodes, has_node, home, needed, AreNodes, IsTidy, is_root, is_pruned, pruned, nodes_not_below, nodes_without, nodes_without_below, IsTakenOut, IsPruning, PruningLaws}
 use Rattle.prefix_trie_bits.proofs.Model.Members.{or-right, and-first, and-second, and-join, not-true, from-not, same_string-is, is-same_string, some-key, of-key, each-key, all-keys, has-retained, has-removed, needs, needs_root, needed_for, same_nodes}
 use Rattle.prefix_trie_bits.proofs.Model.Homes.{home-begins, home-depth, home-longest}

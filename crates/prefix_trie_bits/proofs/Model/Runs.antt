@@ -1,4 +1,4 @@
--- Runs of steps of whichever kind, joined; and the run that one with its storage is.
+-- Runs of steps join, for any kind of step; a run with its storage is a run.
 use Rattle.prefix_trie_bits.proofs.Prelude.{ℕ, Bool, List, [], ◌∷◌, ◌++◌, sym, ap, subst, State, Call, Reply, Runs, Run, Storage, RunInStorage}
 
 module _ {S C R : Type 0} (OneStep : S → C → R → S → Type 0) where

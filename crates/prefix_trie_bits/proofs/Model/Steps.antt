@@ -1,4 +1,4 @@
--- What every step of the model keeps.
+-- What every step of the model keeps: for `step_laws`.
 use Rattle.prefix_trie_bits.proofs.Prelude.{◌≡◌, ◌≢◌, ℕ, ◌≤◌, Bool, true, false, cond, not, List, [], ◌∷◌, length, Some, None, is_some, refl, sym, ap, ◌∙◌, subst, inl, inr, true≢false, nat_le, All-head, All-tail, get, contains_key, len, get-empty, begins, listing_cmp, same_string, Entries, AreWithin, with_entry, without_entry, without_below, part_at_least, Nodes, with_needed, needed, AreNodes, IsTidy, nodes_without, State, Call, Insert, Remove, RemoveKeepTree, RemoveChildren, RetainAtLeast, Clear, NodeCount, CallFits, Reply, Count, Refused, Refusal, Step, Run, IsMap, StepKeeps, StepLaws, touches}
 use Rattle.std.specs.List.{All}
 use Rattle.prefix_trie_bits.proofs.Model.Determined.{refused}

@@ -1,4 +1,4 @@
--- How many beginnings of a question a set of nodes has.
+-- The number of nodes on the search path of a bit string: for `visit_laws`.
 use Rattle.prefix_trie_bits.proofs.Prelude.{◌≡◌, ℕ, zero, suc, ◌+◌, ◌*◌, ◌/◌, ◌%◌, ◌≤◌, ◌<◌, Bool, true, false, cond, ◌&&◌, ◌||◌, nat_le, List, [], ◌∷◌, length, filter, Some, None, refl, sym, ap, ◌∙◌, subst, arith, true≢false, Option, take, is_some, length-take-le, ◌⊎◌, inl, inr, leb-true, le-leb, contains_key, keys, retain_keys, empty, len, len-insert, len-empty, list_any, take-begins, begins-take, begins-linear, begins-trans, same_bool, begins-length, listing_cmp, listing_total, same_string, begins, home, Nodes, has_node, with_nodes, AreNodes, Entries, shortest_match, visits, visits_of_match, visits_to_match, VisitLaws, cases_lt, cases_eq, or-false, filter_agree, length-filter, sum_by-le-sum_by}
 use Rattle.prefix_trie_bits.proofs.Model.Levels.{at_level, depth_of}
 use Rattle.prefix_trie_bits.proofs.Model.Homes.{home-depth, home-begins}

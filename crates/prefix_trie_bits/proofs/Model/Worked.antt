@@ -1,4 +1,4 @@
--- Worked rows, examples and facts of the model, by the plain model.
+-- The worked rows, examples and facts of the model, proved by a plain model that computes.
 pub mod Plain
 pub mod Played
 pub mod Rows

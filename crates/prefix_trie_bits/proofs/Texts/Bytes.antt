@@ -1,4 +1,4 @@
--- The number of an address and its bytes, each from the other.
+-- The number of an address and its bytes determine each other.
 use Rattle.std.proofs.Common.{◌≡◌, ℕ, zero, suc, ◌-◌, ◌+◌, ◌*◌, ◌/◌, ◌%◌, ◌^◌, ◌<◌, List, [], ◌∷◌, length, get_or, refl, sym, ap, ◌∙◌, arith}
 use Rattle.std.specs.Int.{w32, w128, to_be_bytes, from_be_bytes, bytes_high_first, byte_at}
 use Rattle.std.specs.Net.Addr.{segments_of, octets_of, ipv4_bits, ipv6_bits}

@@ -1,4 +1,4 @@
--- The laws of texts: what is written is read back, since a text is of one network at most.
+-- What is written is read back, since a text denotes at most one network: for `text_laws`.
 use Rattle.std.proofs.Common.{◌≡◌, ℕ, ◌^◌, ◌<◌, ◌≤◌, List, Result, Ok, refl, sym, ap, ◌∙◌, subst, arith, zero, suc, [], ◌∷◌, get_or, ◌++◌, decimal}
 use Rattle.std.proofs.lemmas.Fmt.{decimal_injective}
 use Rattle.std.proofs.lemmas.Nat.{be_bytes_4}

@@ -14,7 +14,7 @@ pub record LookupsHold : Type 0 where
       (Get (0xc0a80200, 24), Value None) ∷
       (Get (0xc0a80180, 25), Value None) ∷
       [])
-  -- row 3: of two networks that begin a question the longer is the longest match and the shorter the shortest
+  -- row 3: of two networks that contain another, the longer is its longest match and the shorter its shortest
   pub row3 : Gives 32 (
       (Insert (0xc0a80100, 24) 1, Value None) ∷
       (Insert (0xc0a80000, 23) 2, Value None) ∷
@@ -23,7 +23,7 @@ pub record LookupsHold : Type 0 where
       (Lpm (0xc0a80200, 24), Match None) ∷
       (Spm (0xc0a80101, 32), Match (Some ((0xc0a80000, 23), 2))) ∷
       [])
-  -- row 4, its first half: a stored prefix of length 0 covers every question
+  -- row 4, its first half: a stored prefix of length 0 matches everything
   pub row4 : Gives 32 (
       (Insert (0, 0) 0, Value None) ∷
       (Cover (0x0a000000, 8), Items (((0, 0), 0) ∷ [])) ∷

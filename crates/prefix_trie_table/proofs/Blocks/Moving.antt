@@ -1,4 +1,4 @@
--- A list that moves to a block with no items.
+-- A list moves to a block without items: for insertions and removals that change the block.
 use Rattle.prefix_trie_table.proofs.Prelude.{◌≡◌, ℕ, ◌+◌, ◌-◌, ◌≤◌, List, [], ◌∷◌, ◌++◌, length, map, take, drop, replicate, Option, sym, ap, ◌∙◌, subst, arith, length-replicate, take-take, take_at, drop_at, take-replicate, drop-replicate, replicate-append-replicate, All-head, run, put_run, swap_runs, Store, UsedBlock, Sound, Turnover, none_of, extent, free_extents, filled}
 use Rattle.prefix_trie_table.proofs.Blocks.Tilings.{Disjoint}
 use Rattle.prefix_trie_table.proofs.Blocks.Soundness.{Sound-exchanged, Sound-written, block_inside, fits_block, block_slots, filled_none, others}

@@ -1,4 +1,4 @@
--- Which blocks `prepare` makes.
+-- `prepare` makes exactly the missing blocks, or some of them if it fails.
 use Rattle.prefix_trie_table.proofs.Prelude.{◌≡◌, ◌≢◌, ℕ, zero, suc, ◌+◌, ◌-◌, ◌<◌, ◌≤◌, ◌↔◌, inl, inr, true, List, length, replicate, Option, None, Some, Result, Ok, Err, OnOk, OnErr, IfErr, refl, sym, ap, ◌∙◌, arith, cases_eq, cases_lt, length-map, Contains, Refusal, Memory, IndexRange, one_of, goes_up, above, how_many, how_many-more, Store, Turnover, Obtains, tier_sizes, free_in, free_counts, many_of, none_of, slots_of, needs, missing_in, missing_slots}
 use Rattle.prefix_trie_table.proofs.Blocks.BySize.{many_here, many_other, many-none, many-sub, many-add, many-le, slots_lack, slots_of-le, slots_of-add, slots_of-many}
 use Rattle.prefix_trie_table.proofs.Blocks.Turnovers.{Turnover-same, Turnover-as, Turnover-then}

@@ -1,4 +1,4 @@
--- What keeps a store sound.
+-- Which changes keep a store sound: its blocks tile the array, and no two overlap.
 use Rattle.prefix_trie_table.proofs.Prelude.{◌≡◌, ◌≢◌, ℕ, zero, suc, ◌+◌, ◌-◌, ◌*◌, ◌<◌, ◌≤◌, ⊎_elim, cond, eqb, List, [], ◌∷◌, ◌++◌, length, get_or, set, drop, map, replicate, insert, remove, sum_by, count_by, All, IsPermutation, refl, sym, ap, ◌∙◌, subst, arith, append_assoc, length-append, get_or-set_other, set-set, set-get_or, length-replicate, map-append, get_or-take, get_or-drop, get_or_append_left, set-append_left, insert-append_left, insert-append_right, remove-append_left, remove-append_right, length-insert, length-remove, All-nil, All-cons, All-head, All-tail, All-weaker, All-same, All-map, sum_by-cons, sum_by-set, All-permutation, IsPermutation-refl, IsPermutation-sym, IsPermutation-trans, IsPermutation-cons, IsPermutation-to_front, IsPermutation-middle, IsPermutation-append_left, IsPermutation-append_right, IsPermutation-map, sum_by-IsPermutation, cases_eq, nat_tests, Tiles, AreBlocksOf, run, put_run, Tier, Store, UsedBlock, Sound, IsOfTier, HoldsItems, IsVacant, tier_at, tier_sizes, slots_made, extent, of_size, free_extents, with_tier, filled, block, held, no_blocks}
 use Rattle.std.proofs.lemmas.List.{get_or-set_same, length-set}
 use Rattle.prefix_trie_bits.specs.Model.Blocks.{Block as Extent}

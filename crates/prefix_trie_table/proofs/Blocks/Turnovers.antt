@@ -1,4 +1,4 @@
--- What calls on blocks make, take and give back, and what they leave of the rest.
+-- Which blocks the calls on blocks make, take and free, and that the others stay.
 use Rattle.prefix_trie_table.proofs.Prelude.{◌≡◌, ◌≢◌, ℕ, ◌+◌, ◌*◌, ◌<◌, ◌≤◌, true, List, ◌++◌, length, get_or, set, insert, remove, replicate, Option, None, Some, refl, sym, ap, ◌∙◌, subst, arith, length-append, length-replicate, get_or_append_left, get_or-insert_below, get_or-remove_below, length-insert, length-remove, Contains, option_or, one_of, goes_up, Tier, Store, Turnover, Keeps, KeepsMade, MakesNone, SameMade, SameSpace, AreFree, tier_at, with_tier, tier_sizes, size_in, free_in, made_in, many_of, none_of, slots_of, missing_in}
 use Rattle.std.proofs.lemmas.List.{length-set}
 use Rattle.prefix_trie_table.specs.Growth.{Reserves}

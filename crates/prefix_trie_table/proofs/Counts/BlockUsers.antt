@@ -1,4 +1,4 @@
--- The blocks in use are as many as the nodes with children, and as those with values of their own.
+-- There are as many used blocks as nodes with children, and as nodes with values of their own.
 use Rattle.prefix_trie_table.proofs.Prelude.{◌≡◌, ◌≢◌, ℕ, zero, suc, ◌+◌, ◌-◌, ◌%◌, ◌<◌, Bool, true, false, cond, ◌==◌, ◌&&◌, ◌||◌, List, [], ◌∷◌, length, map, filter, flat_map, count_by, sum_by, nat_lt, All, Option, None, Some, is_some, refl, sym, ap, ap₂, ◌∙◌, arith, eq-eqb, lt-ltb, list_any, nat_tests, All-head, All-tail, length-flat_map, sum_by-cons, length-filter, entries, keys, get, Entries, Nodes, has_node, is_node_depth, is_parent, is_holder, parents, holders, entries-empty, Node, tier_count, used_blocks, bits, blank_node, node_sizes, cell_sizes, chunks_of, bit_of, Tier, UsedBlock, Sound, Store, IsOfTier, tier_at, held, NodesHold, CellsHold, times, has_child, has_value, child_items, child_blocks, child_blocks_of, value_blocks, value_blocks_of, node_or_blank}
 use Rattle.prefix_trie_table.specs.Forest.{size_in}
 use Rattle.prefix_trie_table.proofs.Counts.OwnCounts.{children_counted, values_counted}

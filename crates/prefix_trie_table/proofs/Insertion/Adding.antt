@@ -1,4 +1,4 @@
--- What the calls that add leave of a table.
+-- A table after a child, a value or an entry is added.
 use Rattle.prefix_trie_table.proofs.Prelude.{◌≡◌, ◌≢◌, ℕ, ◌+◌, ◌<◌, ◌⊎◌, inl, inr, Bool, true, false, ◌||◌, nat_eq, List, [], ◌∷◌, ◌++◌, length, get_or, set, insert, map, flat_map, Option, None, Some, is_some, refl, sym, ap, ◌∙◌, subst, arith, length-map, Sets, Node, has_bit, bits, rank, Store, Tier, UsedBlock, Sound, block, held, HasList, Keeps, tier_at, tier_sizes, size_in, list_size, list_need, size_if_any, block_needed, option_or, child_need, value_need, without, child_items, child_blocks, IsSlot, at_child, NodesHold, with_child, SomeTable, SomeNodes, IsNodeAt, ChildAdded, ValueSet, CellsHold, value_blocks, with_node, has_value, own_count, one_if, blank_node, node_at, node_sizes, cell_sizes}
 use Rattle.prefix_trie_table.specs.OwnBlocks.{child_block_size, value_block_size}
 use Rattle.prefix_trie_table.proofs.Tree.Invariant.{some_nodes}

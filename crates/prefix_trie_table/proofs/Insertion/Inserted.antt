@@ -1,4 +1,4 @@
--- What an insertion leaves of how a table is stored, in the model's words.
+-- An insertion changes the storage of a table as the model states.
 use Rattle.prefix_trie_table.proofs.Prelude.{◌≡◌, ℕ, ◌+◌, ◌<◌, ◌≤◌, inl, inr, List, Bool, length, Option, Result, Ok, Err, MatchResult, sym, ap, subst, arith, filter_map, option_to_list, Refusal, Memory, IndexRange, Sizes, used_of, free_of, child_block_sizes, value_block_sizes, MakesBlocks, MakesAtMost, child_block_count, value_block_count, missing_of, slots_of_missing, missing_node_slots, missing_cell_slots, child_blocks_needed, value_blocks_needed, missing_child_blocks, missing_value_blocks, TakesBlocks, child_block_needed, value_block_needed, nodes_above, home, State, Storage, PreparesInStorage, InsertsInStorage, RefusesInStorage, Node, Made, MadeAtMost, ObtainsBoth, node_sizes, cell_sizes, Sized, Store, tier_sizes, free_counts, missing_in, missing_slots, IsTable}
 use Rattle.prefix_trie_table.proofs.Tree.Invariant.{some_table}
 use Rattle.prefix_trie_table.proofs.Blocks.KeptBlocks.{IsCut, blocks_made, blocks_at_most, nodes_cut, cells_cut}

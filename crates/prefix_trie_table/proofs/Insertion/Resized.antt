@@ -1,4 +1,4 @@
--- The sizes of the blocks that an insertion leaves.
+-- The sizes of the blocks after an insertion.
 use Rattle.prefix_trie_table.proofs.Prelude.{◌≡◌, ℕ, ◌+◌, ◌*◌, ◌/◌, ◌%◌, ◌≤◌, inl, inr, Bool, true, false, cond, not, nat_lt, ◌&&◌, List, length, take, Option, None, Some, is_some, Result, Ok, Err, MatchResult, refl, sym, ap, ap₂, ◌∙◌, arith, eqb-true, eq-eqb, false≢true, cases_Bool, cases_lt, le-ltb, false_from_ne_true, get, contains_key, option_or, begins, same_bool, same_string, child_block_sizes, value_block_sizes, child_count, own_entries, block_needed, gains_child, child_block_needed, value_block_needed, TakesBlocks, has_node, is_node_depth, home, State, home-depth, home-length, same_string-is, is-same_string, same_entries, Node, node_sizes, chunks_of, bit_of, read, same_path, is_start, gains, Holds, EntryAdded, Sized, child_need, value_need, IsShapeOf, Shaped, Store, IsTable, ForHeld}
 use Rattle.std.proofs.lemmas.Bool.{lt-ltb}
 use Rattle.std.proofs.lemmas.List.{take_all}

@@ -1,4 +1,4 @@
--- Questions that go down side by side.
+-- Lookups that descend side by side, round by round: for `find_longest_each`.
 use Rattle.prefix_trie_table.proofs.Prelude.{◌≡◌, ℕ, ◌+◌, ◌*◌, ◌<◌, ◌≤◌, ◌⊎◌, inl, inr, Bool, List, [], ◌∷◌, ◌++◌, Option, None, Some, IfSome, MatchOption, Contains, option_map, map, take, drop, length, length-drop, get_or, set, sum_by, refl, sym, ap, ◌∙◌, subst, arith, option_or, add-mul, one-mul, cases_eq, length-map, map-append, length_push, take_more, take_more_set, get_or_default, get_or-map, get_or-drop, get_or-take, get_or-set_other, All-nil, All-push, Contains-append_cases, Contains-append_left, Contains-append_right, Contains-push_cases, sum_by_push, Node, NodeSlot, Found, Descent, Match, AreAnswered, AreRead, GoOn, HasFound, asked, asks, cost_of, found_of, question_of, questions_of, slot_of, node_at, chunks_of, IsEnd, SomeNodes, IsOnPath, LongestHeld, Store, IsReached}
 use Rattle.std.proofs.lemmas.List.{append_assoc, length-take-le, drop-drop, get_or-set_same}
 use Rattle.prefix_trie_table.specs.Bulk.{IsDescent}

@@ -1,4 +1,4 @@
--- The entries that a walk over the beginnings of a bit string has still to give.
+-- The entries to come of a cover walk: for `cover`.
 use Rattle.prefix_trie_table.proofs.Prelude.{◌≡◌, ◌⊎◌, ℕ, ◌+◌, ◌-◌, ◌*◌, ◌<◌, ◌≤◌, Bool, true, false, cond, ◌&&◌, ◌||◌, nat_le, List, [], ◌∷◌, length, length-drop, filter, take, drop, Option, None, Some, is_some, refl, sym, ap, ◌∙◌, subst, add-sub_of_le, arith, inl, inr, le-leb, lt-leb, cases_lt, false≢true, drop-take, take-take, Contains-append_left, Contains-append_right, Contains-push, Contains-push_cases, Contains-append_cases, entries, entries_sorted, is_sorted, is_sorted-where_key, begins, begins-take, begins-length, take-begins, listing_cmp, has, value_bit, Entries, covers, IsMatch, State, IsMatch-from_covers, covers-from_IsMatch, each-behind, find-from_Contains, sorted-head, sorted-tail, shorter-first, Node, Match, Store, SomeTable, holds_value, IsHeld, NoneHeld, cell_slot, IsShapeOf, same_shape, IsCovering, GoesOn, is_ahead, still_covering}
 use lib.Dec.{T as IsT}
 use Rattle.std.proofs.lemmas.List.{length-take-le}

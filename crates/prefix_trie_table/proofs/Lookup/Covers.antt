@@ -1,4 +1,4 @@
--- What a walk over the beginnings of a bit string has still to give.
+-- The matches to come of a cover walk, node by node.
 use Rattle.prefix_trie_table.proofs.Prelude.{◌≡◌, ℕ, ◌+◌, ◌-◌, ◌*◌, ◌^◌, ◌<◌, ◌≤◌, Bool, true, false, ◌&&◌, nat_le, List, length, take, drop, Option, None, Some, refl, sym, ap, ◌∙◌, subst, arith, inl, inr, leb-true, length-drop, bit_and, bit_at, le-leb, lt-leb, cases_lt, false≢true, and_le_r, bit_at_above, begins, digits, length-digits, same_bool, begins-take, begins-length, take-begins, has, value_bit, stands, Sets, HoldsValues, both, bit-set, has-zero, has-and, value_bit-longer, one_of_length, Node, Match, Store, node_sizes, NodesHold, IsReached, NoneHeld, IsOnPath, AreLeft, TakesMatch, TakesShortest, NextHeld, IsCovering, GoesOn, IsCover}
 use Rattle.std.proofs.lemmas.List.{length-take-le}
 use Rattle.prefix_trie_table.proofs.Strings.Plain.{no_or_yes}

@@ -1,4 +1,5 @@
--- Questions that go down side by side: before the first round, from one to the next, and after the last.
+-- Lookups that descend side by side: before the first round, from one round to the next, and after
+-- the last.
 use Rattle.prefix_trie_table.proofs.Prelude.{◌≡◌, ℕ, zero, suc, ◌+◌, ◌*◌, ◌<◌, ◌≤◌, inl, inr, Bool, List, [], ◌∷◌, Option, None, Some, is_some, Contains, All, map, take, length, get_or, sum, sum_by, refl, sym, ap, ap₂, ◌∙◌, subst, arith, mul-zero, mul-add, mul-one, zero-mul, false≢true, length-map, take_more, get_or_default, get_or-map, get_or-take, All-map, map-map, sum_by_push, sum-map, Node, Found, Descent, Match, AreAnswered, AreAnswers, AreCosts, AreRead, CanAsk, EachOf, GoOn, IsAhead, IsAnswer, IsLongestFound, IsNew, asked, asks, cost_of, found_of, new_descent, question_of, questions_of, slot_of, node_sizes, chunks_of, IsEnd, NodesHold, SomeNodes, SomeTable, read, IsHeld, NoneHeld, IsShapeOf, Store, Nodes, State, visits}
 use Rattle.std.proofs.lemmas.List.{append-nil, length-take-le}
 use Rattle.prefix_trie_table.specs.Bulk.{IsDescent}

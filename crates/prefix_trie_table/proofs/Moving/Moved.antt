@@ -1,4 +1,5 @@
--- All values that a bit string begins, moved into a second table one after another.
+-- All values whose strings begin with a bit string are moved into a second table, one after
+-- another.
 use Rattle.prefix_trie_table.proofs.Prelude.{◌≡◌, ℕ, Bool, true, false, cond, List, [], ◌∷◌, Option, None, refl, sym, ap, ◌∙◌, subst, get, len, entries, begins, CallableOnEachEntry, Entries, part_below, listing, listing_below, State, same_entries, get-part_below, entries-retained, Node, Spot, filled_with, split_off, Awaits, AwaitsNext, HasCome, AsksUpTo, IsSecond, Store, IsTrie, Tree, IsStack, pending}
 use Rattle.prefix_trie_table.proofs.Moving.Second.{second_trie}
 

@@ -1,4 +1,4 @@
--- The values of a second table once all have come, by string.
+-- The values of the second table by string, after all have come.
 use Rattle.prefix_trie_table.proofs.Prelude.{◌≡◌, ℕ, Bool, true, false, cond, List, [], ◌∷◌, ◌++◌, Option, None, Some, refl, sym, ap, ap₂, ◌∙◌, false≢true, All-head, All-tail, get, entries, entries_sorted, get-entries, is_sorted, find, listing_cmp, same_string, Entries, same_string-is, sorted-head, sorted-tail, each-behind, not_itself, Node, node_sizes, chunks_of, bit_of, same_path, has_value, with_value, NodesHold, no_value, Store}
 use Rattle.std.proofs.Common.{T as IsT}
 use Rattle.std.specs.List.{All}

@@ -1,4 +1,5 @@
--- What several removals do to the size of a block.
+-- The size of a block after several removals lies between its old size and the smallest that holds
+-- the list.
 use Rattle.prefix_trie_table.proofs.Prelude.{◌≡◌, ◌≢◌, ℕ, ◌<◌, ◌≤◌, ◌⊎◌, inl, inr, List, [], ◌∷◌, ◌++◌, Option, None, Some, refl, sym, ap, ◌∙◌, subst, arith, cases_lt, StepsBetween, smallest_size, Node, node_sizes, cell_sizes, with_node, with_child_removed, own_count, own_children, child_block_size, value_block_size, ValueTaken, ChildDropped, IsBare, PrunedTo, BlocksBetween, Stays, Store, free_counts, Grows}
 use Rattle.std.specs.List.{Contains}
 use Rattle.prefix_trie_table.proofs.Blocks.Turnovers.{made_then}

@@ -1,4 +1,5 @@
--- What calls that take entries out give back: a node written after them, and one after the other.
+-- The freed blocks of calls that remove entries: after a node is written, and of one call after
+-- another.
 use Rattle.prefix_trie_table.proofs.Prelude.{◌≡◌, ℕ, set, refl, sym, ◌∙◌, subst, arith, Store, GivesBack, Grows}
 use Rattle.std.proofs.lemmas.List.{length-set}
 use Rattle.prefix_trie_table.proofs.Blocks.Turnovers.{none_written, none_same}

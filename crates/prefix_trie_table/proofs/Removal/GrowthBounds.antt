@@ -1,4 +1,4 @@
--- That the calls that take values and nodes out raise nothing that the arrays may reach.
+-- Calls that remove values and nodes do not raise the length that the arrays can reach.
 use Rattle.prefix_trie_table.proofs.Prelude.{◌≡◌, inl, inr, Bool, true, not, ℕ, ◌+◌, ◌*◌, ◌<◌, ◌≤◌, nat_lt, List, [], ◌∷◌, ◌++◌, length, set, sum_by, All, Option, None, Some, is_some, refl, sym, ap, ◌∙◌, subst, arith, All-nil, All-cons, sum_by-filter_both, sum_by-le, sum_by-set, len, empty_of_len, get-empty, false≢true, cases_lt, listing_cmp, Nodes, has_node, State, Node, blank_node, node_at, node_sizes, cell_sizes, Store, size_in, size_if_any, without, node_or_blank, with_child_removed, NodesHold, IsShapeOf, IsTable, smaller_sizes, headroom, headroom_if_any, child_headroom, value_headroom, BoundsGrowthBy, BoundsGrowth, BoundsNodeGrowth}
 use Rattle.std.proofs.lemmas.List.{length-set}
 use Rattle.prefix_trie_table.specs.OwnBlocks.{child_block_size, value_block_size}

@@ -1,4 +1,4 @@
--- The places of a node that two masks leave list what is below a bit string.
+-- The places of a node that two masks leave list what is under a bit string.
 use Rattle.prefix_trie_table.proofs.Prelude.{◌≡◌, ◌↔◌, ℕ, ◌+◌, ◌<◌, ◌≤◌, Bool, true, false, ◌&&◌, List, [], ◌++◌, length, filter, Option, Some, None, is_some, refl, sym, ap, ◌∙◌, arith, bit_and, length-append, false≢true, begins, HoldsValues, HoldsChildren, is_in, places, home, listing_at_places, listing, listing_below, State, home-depth, home-length, listing_below_none, Node, Below, chunks_of, read, Store, IsTrie}
 use Rattle.std.specs.List.{Contains}
 use Rattle.prefix_trie_table.proofs.Strings.Plain.{no_or_yes}

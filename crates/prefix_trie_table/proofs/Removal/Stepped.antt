@@ -1,4 +1,4 @@
--- What contracts see of the sizes of blocks after a removal.
+-- The sizes of blocks after a removal are those of the model.
 use Rattle.prefix_trie_table.proofs.Prelude.{◌≡◌, ℕ, ◌*◌, ◌%◌, ◌≤◌, inl, inr, Bool, true, false, cond, ◌&&◌, List, length, take, Option, None, Some, is_some, refl, sym, ap, ◌∙◌, subst, arith, eq-eqb, cases_Bool, get, Sizes, StepsDown, SizesStepDown, StepsBetween, SizesStepBetween, value_block_sizes, child_block_sizes, own_entries, child_count, Nodes, has_node, is_node_depth, home, State, RemovesValueInStorage, PrunesInStorage, home-depth, and-first, same_entries, Node, node_sizes, cell_sizes, chunks_of, bit_of, NodesHold, Holds, SomeTable, has_bit, rank, has_child, has_value, own_count, read, with_value, AreSizesBy, Sized, own_children, child_block_size, value_block_size, EntryTaken, EntryRemoved, GrowsBy, MakesEntered, MakesFew, BlocksBetween, IsShapeOf, Shaped, Store, free_counts, IsTable, ForHeld}
 use Rattle.std.proofs.lemmas.List.{length-take-le}
 use Rattle.prefix_trie_table.proofs.Strings.Plain.{fifths}

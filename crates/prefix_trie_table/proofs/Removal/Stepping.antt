@@ -1,4 +1,4 @@
--- What a removal does to the size of a block, by the tiers and counts of nodes.
+-- The size of a block after a removal, by the tiers and the counts of nodes.
 use Rattle.prefix_trie_table.proofs.Prelude.{◌≡◌, ◌≢◌, ℕ, ◌<◌, ◌≤◌, ◌⊎◌, inl, inr, List, [], ◌∷◌, ◌++◌, length, take, Option, None, Some, is_some, refl, sym, ap, ◌∙◌, subst, arith, cases_Bool, cases_lt, HasBlock, StepsDown, LongerByOne, MakesAtMost, made_of, Node, rank, node_sizes, cell_sizes, with_child_removed, own_count, is_start, own_children, child_block_size, value_block_size, GrowsBy, MakesFew, SameValues, EntryTaken, Drops, none, more, PrunedTo, Store, size_in, size_if_any, free_counts, made_in, SameBlock}
 use Rattle.std.proofs.lemmas.Bool.{true≢false}
 use Rattle.prefix_trie_table.proofs.Tree.Children.{same_or, changed_below, changed_here, changed_other}

@@ -1,4 +1,4 @@
--- A subtree that hangs from nothing yet is hung below a node, with its blocks.
+-- A subtree that was built on its own is attached to a node, with its blocks.
 use Rattle.prefix_trie_table.proofs.Prelude.{◌≡◌, ◌≢◌, ℕ, ◌+◌, ◌<◌, inl, inr, true, false, cond, nat_eq, List, [], ◌∷◌, ◌++◌, length, map, flat_map, Option, None, Some, is_some, refl, sym, ap, ap₂, ◌∙◌, arith, Node, has_bit, node_sizes, cell_sizes, same_path, one_if, times, has_child, node_or_blank, child_blocks_of, child_blocks, value_blocks_of, value_blocks, Hangs, no_value, UsedBlock, held, size_in}
 use Rattle.prefix_trie_table.proofs.Strings.PathStrings.{from-one}
 use Rattle.prefix_trie_table.proofs.Strings.BitLists.{map_same}

@@ -1,4 +1,4 @@
--- What a bit string begins of a node and below each of its children, by masks.
+-- The part of a node that begins with a bit string, and of each of its children, by masks.
 use Rattle.prefix_trie_table.proofs.Prelude.{lit<, ◌≡◌, ℕ, ◌+◌, ◌-◌, ◌<◌, ◌≤◌, inl, inr, Bool, true, false, ◌&&◌, List, [], ◌∷◌, ◌++◌, length, take, drop, take_all, length-drop, Some, refl, sym, ap, ap₂, ◌∙◌, subst, arith, bit_and, nat_lt, cases_Bool, cases_lt, le-ltb, drop-take, take-take, begins-refl, begins-longer, begins-same-length, begins, number, same_bit, same-from-number, HoldsValues, HoldsChildren, Sets, has, value_bit, has-and, and-first, and-second, value_bit-small, Node, has_bit, node_at, chunks_of, bit_of, child_slot, child, read_from, has_value, in_part, in_child, and_comm, and_assoc, and-false}
 use Rattle.std.proofs.lemmas.List.{length-take-le}
 use Rattle.prefix_trie_table.proofs.Tree.Subtrees.{number-small, read_from-none}

@@ -1,4 +1,4 @@
--- A node that is read, and its children.
+-- A node of the first table, and its children.
 use Rattle.prefix_trie_table.proofs.Prelude.{◌≡◌, ℕ, ◌+◌, ◌<◌, true, [], ◌∷◌, ◌++◌, length, Some, is_some, sym, ap, ◌∙◌, arith, append_assoc, append-nil, Node, has_bit, node_at, node_sizes, child_slot, has_child, has_value, IsSource, Store}
 use Rattle.prefix_trie_table.proofs.Tree.Trees.{child_stands, is_some-Some}
 

@@ -1,4 +1,4 @@
--- What a node has and all nodes below it, as a sum over paths.
+-- A sum over a node and all nodes under it, as a sum over paths.
 use Rattle.prefix_trie_table.proofs.Prelude.{◌≡◌, ◌≢◌, ℕ, zero, suc, ◌+◌, ◌<◌, ◌≤◌, inl, inr, Bool, true, false, cond, List, [], ◌∷◌, ◌++◌, length, sum_by, Option, None, Some, is_some, refl, sym, ap, ◌∙◌, subst, arith, append_assoc, append-nil, cases_Bool, false≢true, append_cancel_left, take_at, sum_by-cons, sum_by-le-sum_by, Node, has_bit, node_at, node_sizes, child_slot, has_child, is_start, one_if, same_path, times, NodesHold, sum_to, slots_below, Store}
 use Rattle.prefix_trie_table.proofs.Splitting.Space.{sum_to_none}
 use Rattle.prefix_trie_table.proofs.Strings.Paths.{same_path-itself, same_path-true}

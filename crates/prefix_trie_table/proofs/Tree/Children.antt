@@ -1,4 +1,4 @@
--- A node gains a child, loses one, or is another.
+-- The nodes after one of them gains a child, loses one, or changes.
 use Rattle.prefix_trie_table.proofs.Prelude.{◌≡◌, ◌≢◌, ℕ, ◌+◌, ◌<◌, ◌⊎◌, inl, inr, ⊎_elim, true, false, cond, ◌||◌, nat_eq, List, [], ◌∷◌, ◌++◌, length, set, insert, remove, map, flat_map, Option, None, Some, is_some, IsPermutation, refl, sym, ap, ◌∙◌, subst, arith, length-append, false≢true, cases_Bool, eqb_tells, get_or-set_other, length-insert, Node, has_bit, bits, rank, Store, UsedBlock, Sound, block, child_slot, same_path, one_if, times, without, node_or_blank, has_child, child_items, child_blocks_of, child_blocks, IsSlot, at_root, at_child, NodesHold, with_child, with_child_removed, with_node, blank_node, node_at, IsPermutation-append_right}
 use Rattle.std.proofs.lemmas.List.{get_or-set_same}
 use Rattle.prefix_trie_table.specs.Forest.{held, size_in, tier_sizes}

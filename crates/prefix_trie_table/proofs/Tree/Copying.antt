@@ -1,4 +1,4 @@
--- What contracts see of the copy of a table.
+-- Contracts see the copy of a table as the table: for `clone`.
 use Rattle.prefix_trie_table.proofs.Prelude.{◌≡◌, ℕ, ◌+◌, Bool, true, false, cond, List, [], ◌∷◌, length, get_or, map, flat_map, Option, None, Some, is_some, ◌<◌, ◌≤◌, ◌⊎◌, inl, inr, refl, sym, ap, ap₂, ◌∙◌, subst, arith, eq_by_cmp, AllZip, get, len, entries, entries_sorted, from_sorted, entries-from_sorted, get-from_sorted, get-entries, len-entries, is_sorted, find, length-map, get_or_past, AllZip-get_or, length_all_zip, false≢true, cases_lt, listing_cmp, Layout, Entries, State, same_entries, same_string-is, Node, has_bit, rank, node_sizes, cell_sizes, IsCloned, AreCloned, chunks_of, bit_of, Sized, Sized-prop, Store, Tier, free_counts, Sound, SomeTable, CellsHold, read, value_in, value_of, value_blocks, IsShapeOf, Shaped, same_shape, IsTable}
 use lib.Dec.{T as IsT}
 use Rattle.std.specs.Option.{unwrap_or}

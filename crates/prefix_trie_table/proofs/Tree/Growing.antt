@@ -1,4 +1,4 @@
--- A path grows digit by digit.
+-- The nodes of a search path are added one chunk at a time: for insertions.
 use Rattle.prefix_trie_table.proofs.Prelude.{◌≡◌, ◌≢◌, ℕ, ◌+◌, ◌<◌, ◌≤◌, ◌⊎◌, inl, inr, ⊎_elim, Bool, true, false, cond, not, nat_lt, ◌&&◌, ◌||◌, List, [], ◌∷◌, ◌++◌, length, get_or, take, Option, None, Some, is_some, refl, sym, ap, ap₂, ◌∙◌, subst, arith, length-take-le, take_more, take_at, take-take, false≢true, cases_lt, cases_eq, le-ltb, option_or, child_block_sizes, value_block_sizes, block_needed, child_need, value_need, Node, has_bit, rank, one_of, how_many, Tier, Store, AreFree, free_in, size_in, size_if_any, many_of, needs, same_path, is_start, gains, size_gained, one_if, IsSlot, NodesHold, CellsHold, Holds, Walked, EntryAdded, Deepest, ChildAdded, ValueSet, with_child, with_node, has_child, blank_node, node_at, node_sizes, cell_sizes}
 use Rattle.std.proofs.lemmas.List.{take_all}
 use Rattle.std.proofs.lemmas.Bool.{lt-ltb}

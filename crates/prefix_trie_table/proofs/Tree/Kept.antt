@@ -1,4 +1,4 @@
--- What a call leaves of a table that makes free blocks alone.
+-- A table after a call that only makes free blocks.
 use Rattle.prefix_trie_table.proofs.Prelude.{◌≡◌, ℕ, ◌+◌, ◌≤◌, false, Bool, List, length, take, Option, Result, MatchResult, sym, ap, ◌∙◌, subst, contains_key, Refusal, Memory, IndexRange, State, PreparesInStorage, RefusesInStorage, Node, SearchEnd, ObtainsBoth, nodes_needed, cells_needed, Holds, Sized, EndsAt, seat_of, IsSearchEnd, Shaped, same_shape, Store, IsReached, IsTable, ForHeld, Grows}
 use Rattle.std.specs.FinMap.{len as number_of}
 use Rattle.prefix_trie_table.proofs.Insertion.Asks.{at_end}

@@ -1,4 +1,4 @@
--- The cells read by paths, and what changes of nodes and of values leave.
+-- The cells read by paths, after changes of nodes and of values.
 use Rattle.prefix_trie_table.proofs.Prelude.{◌≡◌, ◌≢◌, ℕ, ◌+◌, ◌<◌, ◌≤◌, ◌⊎◌, inl, inr, true, false, cond, List, [], ◌∷◌, ◌++◌, length, get_or, set, insert, remove, map, flat_map, Option, None, Some, is_some, refl, sym, ap, ◌∙◌, subst, arith, length-insert, Node, has_bit, bits, rank, Store, UsedBlock, Sound, block, one_if, times, without, has_value, has_child, NodesHold, CellsHold, value_blocks, value_blocks_of, with_child, with_child_removed, with_node, with_value, blank_node}
 use Rattle.std.proofs.lemmas.List.{length-set}
 use Rattle.prefix_trie_table.specs.Forest.{held, size_in, tier_sizes}

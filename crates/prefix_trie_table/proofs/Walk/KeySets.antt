@@ -1,4 +1,4 @@
--- The strings of entries as a set, and what is still to come of them.
+-- The strings of entries as a set, and those to come of a walk.
 use Rattle.prefix_trie_table.proofs.Prelude.{◌≡◌, Bool, true, false, cond, ◌&&◌, ◌||◌, nat_lt, List, [], ◌∷◌, ◌++◌, length, take, map, filter, Option, None, Some, is_some, is_lt, refl, sym, ap, ap₂, ◌∙◌, subst, false≢true, map-append, map-map, eq_by_cmp, list_any, get, contains_key, entries, entries_sorted, from_sorted, entries-from_sorted, contains_key-keys, is_sorted, below_all, begins, listing_cmp, same_string, Entries, with_entry, Nodes, has_node, pair_of, listing_at_place, listing_at_places, to_come, same_members, same_string-is, has-inserted, Spot, still, pending}
 use lib.Dec.{T as IsT}
 

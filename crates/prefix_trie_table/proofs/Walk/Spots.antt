@@ -1,4 +1,4 @@
--- What the next place of a spot gives.
+-- The next place of a spot gives an entry or a child: for `next_at`.
 use Rattle.prefix_trie_table.proofs.Prelude.{◌≡◌, ℕ, suc, ◌+◌, ◌-◌, ◌*◌, ◌^◌, ◌%◌, ◌<◌, ◌≤◌, Bool, true, false, not, cond, List, ◌∷◌, ◌++◌, length, take, drop, get_or, None, Some, refl, sym, ap, ap₂, ◌∙◌, subst, arith, inl, inr, length-append, append_assoc, IsStrictlySortedBy, add-mul, one-mul, pow_pos, shl_below, length-filter_both, cases_lt, le-ltb, take-append-le, take-take, take_at, drop_at, All-head, All-tail, number, digits, zeros, length-digits, digits-number, listing_cmp, take-extend, has, value_bit, is_in, places, place_of, strings, to_come, Places, listing_below, listing_at_place, listing_at_places, count-strings, value_bit-small, listing_at_child, Node, Seat, Spot, has_bit, node_at, chunks_of, seat_of, value_seat, Store, read, child_slot, Tree, IsSpot, IsPlaceOf, IsOther, IsPassed, still, GivesSeat, weight, IsTrie, Value}
 use Rattle.std.specs.List.{All}
 use Rattle.std.proofs.lemmas.Bool.{lt-ltb}

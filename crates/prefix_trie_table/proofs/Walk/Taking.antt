@@ -1,4 +1,4 @@
--- A walk that takes values out of their cells.
+-- A walk that moves values out of their cells: for `IntoWalk`.
 use Rattle.prefix_trie_table.proofs.Prelude.{◌≡◌, ◌≢◌, ℕ, ◌+◌, Bool, true, false, cond, ◌&&◌, List, [], ◌∷◌, ◌++◌, length, take, get_or, set, map, Option, None, Some, is_some, is_lt, refl, sym, ap, ◌∙◌, subst, arith, AllZip, get, len, entries, entries_sorted, get-entries, is_sorted, below_all, is_sorted-where_key, false≢true, get_or-set_other, get_or_default, All-head, All-tail, All-filter, All-weaker, All-contains_itself, length_all_zip, same_from_all_zip, begins, listing_cmp, pair_of, listing_below, State, and-first, and-second, t-true, true-t, lt-less, not_itself, sorted-head, sorted-tail, find-from_Contains, Node, Seat, Spot, has_bit, rank, chunks_of, bit_of, Store, read, value_in, value_of, GivesFilled, value_seat, seat_in, seat_of, IsShapeOf, same_shape, IsTrie, Seated, cell_of, pairs_in, AreHeld, IsApart, AreApart, IsTaking, Seated-prop, Tree, IsStack, pending, GivesSeat, IsCloned, IsPairCloned}
 use lib.Dec.{T as IsT}
 use Rattle.std.specs.List.{All, Contains}

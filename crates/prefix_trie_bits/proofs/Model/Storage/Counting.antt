@@ -1,4 +1,5 @@
--- How many keys of a map pass a test as entries go and come, and how many blocks of a size are in use.
+-- The number of keys that pass a test when entries are added or removed, and the number of used
+-- blocks of a size.
 use Rattle.prefix_trie_bits.proofs.Prelude.{◌≡◌, ℕ, suc, ◌+◌, ◌-◌, ◌≤◌, ◌==◌, Bool, true, false, cond, not, ◌&&◌, List, [], ◌∷◌, ◌++◌, length, filter, map, drop, Option, None, Some, Less, Equal, Greater, is_some, refl, sym, ap, ◌∙◌, subst, arith, inl, inr, true≢false, count_by-le-length, length-filter, sum_by-cons, count_by, list_any, FinMap, get, insert, remove, retain_keys, contains_key, keys, entries, len, empty, get-empty, get-insert, len-entries, len-empty, len-insert, len-remove, entries-insert, by_order, begins-rest, begins, listing_cmp, listing_total, same_string, Sizes, used_of, one_of}
 use Rattle.std.specs.FinMap.Entries.{put}
 use Rattle.prefix_trie_bits.proofs.Model.Members.{from-not, is-same_string, or-cases, and-first, and-second, same_string-is, same_entries, has-retained, has-removed}

@@ -1,4 +1,4 @@
--- How many slots the calls for one key make, at most.
+-- Upper bounds on the slots that a call for one key makes: for `slot_laws`.
 use Rattle.prefix_trie_bits.proofs.Prelude.{◌≡◌, ◌≢◌, ℕ, zero, suc, ◌+◌, ◌-◌, ◌/◌, ◌<◌, ◌≤◌, ◌==◌, ◌⊎◌, inl, inr, Bool, true, false, cond, ◌&&◌, nat_lt, nat_le, List, [], ◌∷◌, ◌++◌, length, filter, replicate, Option, None, Some, All, refl, sym, ap, ◌∙◌, subst, arith, lit≤, append-nil, eqb-true, eq-eqb, ltb-true, cases_eq, cases_Bool, cases_lt, nat_tests, All-nil, All-cons, All-head, All-tail, All-contains, mul-add, mul-le-mul_left, option_to_list, get, contains_key, same_string, MakesSlots, SlotLaws, IsMap, Layout, child_block_sizes, value_block_sizes, smallest_size, child_count, own_entries, Sizes, StepsDown, SizesStepDown, LongerByOne, HasBlock, NodesHaveBlocks, block_needed, slots_of_missing, child_blocks_needed, value_block_needed, missing_node_slots, missing_cell_slots, Nodes, has_node, home, AreNodes, State, Insert, Remove, RemoveKeepTree, Reply, Storage, HaveBlocks, RemovesValueInStorage, StepInStorage, same_Some}
 use Rattle.std.specs.Prelude.{find}
 use Rattle.prefix_trie_bits.proofs.Model.Members.{and-first, and-second}

@@ -1,4 +1,4 @@
--- A step leads from a map, however it is stored, to such a map again.
+-- A step from a stored map leads to a stored map: for `total_laws`.
 use Rattle.prefix_trie_bits.proofs.Prelude.{◌≡◌, ℕ, ◌<◌, ◌≤◌, inl, inr, Bool, true, false, cond, not, ◌&&◌, nat_le, List, [], length, Option, None, refl, sym, ap, ◌∙◌, subst, arith, true≢false, cases_Bool, cases_eq, nil_from_length, get, contains_key, begins, same_string, Sizes, no_layout, StepsDown, SizesStepDown, StepsBetween, SizesStepBetween, HasBlock, NodesHaveBlocks, child_block_sizes, value_block_sizes, child_count, own_entries, Entries, with_entry, without_entry, without_below, part_at_least, no_entries, Nodes, has_node, root_alone, with_needed, pruned, nodes_not_below, nodes_without_below, State, Call, Insert, Remove, RemoveKeepTree, RemoveChildren, RetainAtLeast, Clear, CallFits, Reply, Step, Storage, empty_storage, HaveBlocks, RemovesManyInStorage, StepInStorage, IsMap, may_change, IsStoredMap}
 use Rattle.prefix_trie_bits.proofs.Model.Storage.Lessened.{IsLeft, removed_is, bare_have, new_have, entries_bare, children_bare}
 use Rattle.prefix_trie_bits.proofs.Model.Members.{has-retained}

@@ -1,4 +1,4 @@
--- What a step leaves of the storage, as far as one storage alone can be left.
+-- What a step fixes of the storage: for `storage_laws`.
 use Rattle.prefix_trie_bits.proofs.Prelude.{◌≡◌, ℕ, Bool, true, false, List, [], ◌∷◌, length, Option, refl, sym, ap, ◌∙◌, subst, true≢false, contains_key, Sizes, Space, TakesBlocks, is_root, State, Call, Insert, Remove, RemoveKeepTree, RemoveChildren, RetainAtLeast, Clear, Reply, Refused, Refusal, Storage, InsertsInStorage, StepInStorage, is_refusal, asks_length, may_change, UseAlike, LeavesFixed, StorageLaws}
 use Rattle.prefix_trie_bits.proofs.Model.Determined.{no_refusal, set}
 use Rattle.prefix_trie_bits.proofs.Model.Members.{same_entries}

@@ -1,8 +1,8 @@
 -- `get_lpm_mut` lends what `get_lpm_mut_counted` lends. Assumes `Logic`.
 use Rattle.prefix_trie_map.proofs.Loans.{◌≡◌, ℕ, Option, [], ◌∷◌, refl, sym, MutBor, proved, Args, named, a_type, dcons, dnil, inst_fn, emp, id⊢, Fml, ftrue, flft, ◌⊑◌, fact, fact_i, tables, ‵, raw, ◌⊛◌, some, later}
-use Rattle.prefix_trie_map.proofs.Loans.{◌$◌, ◌∵◌, !, qed, done, move, drop, use0, use1, use2, split, join, fjoin, pick, await, rewrite, suffices, frame, enter, addr, item, no_more, and_then, returns, alloc_all}
+use Rattle.prefix_trie_map.proofs.Loans.{◌$◌, ◌∵◌, !, qed, done, move, drop, use0, use1, use2, split, join, fjoin, pick, await, rewrite, suffices, frame, enter, addr, stop, no_more, and_then, returns, alloc_all}
 use Rattle.prefix_trie_map.proofs.Loans.{pass_all, free_all, look_at, get, through, sets, lands_as, param, copied, bounded, Laws, param_laws, yes, no, RattleType, MutRef, ShrRef, mut_vals, mut_Tells, shr_vals, shr_Tells}
-use Rattle.prefix_trie_map.proofs.Loans.{plain, mut_ref_to, shr_ref_to, nothing, heard, peeks, shows, Tuple, tuple_laws, calls_at, PreservesBelow, preserves, triple_of, framed, Stays, stay_dropped, walk_of, ends_at, Goes-dropped}
+use Rattle.prefix_trie_map.proofs.Loans.{plain, mut_ref_to, shr_ref_to, nothing, heard, peeks, shows, Tuple, tuple_laws, calls_at, Lasts, lasts, triple_of, framed, Stays, stay_dropped, walk_of, ends_at, Goes-dropped}
 use Rattle.prefix_trie_map.proofs.Loans.{Goes-spent_ref, option_laws, Lent, lent_laws}
 use Rattle.prefix_trie_map.proofs.Prelude.{subst, longest_match, prefix_pair, lends_longest_if, lent_beside, ReadsPath, lent_item_mut, option_map}
 use Rattle.std.specs.contracts.option.Option as option
@@ -51,7 +51,7 @@ get_lpm_mut_spec 𝓤 𝓛 𝓜 𝓡 wired P T A R lP lT lA lR cR p p' d d' k k'
     use0 𝓛 (raw (fact 𝓤 (κs.1.1.1.0 ⊑ T.lives))) (fact_i 𝓤 (κs.1.1.1.0 ⊑ T.lives) (emp 𝓤) inT) $ move ! (0 ∷ 2 ∷ []) $ join ! $
     use0 𝓛 (raw (fact 𝓤 (κs.1.1.0 ⊑ P.lives))) (fact_i 𝓤 (κs.1.1.0 ⊑ P.lives) (emp 𝓤) inP) $ join ! $ move ! (1 ∷ []) $
     enter ! _ _ _ _ _ $ alloc_all ! (λ l. pass_all ! refl ((tt, tt), ((tt, tt), tt)) $
-    sets ! (addr ! (through ! refl (item !))) refl (tt, tt) $
+    sets ! (addr ! (through ! refl (stop !))) refl (tt, tt) $
     let G = triple_of 𝓛 (h.signature P T A R p p' d d' k k' n n' e e' s s' w w' g g' xP xT xA) (h.spec P T A R p p' d d' k k' n n' e e' s s' w w' g g' xP xT xA 𝓛 𝓜.mem 𝓡.returns) in
     let z : G.Ghost = y in
     join ! $ use1 𝓛 (raw (G.pre z)) (id⊢ 𝓤 _) $
@@ -60,7 +60,7 @@ get_lpm_mut_spec 𝓤 𝓛 𝓜 𝓡 wired P T A R lP lT lA lR cR p p' d d' k k'
     let Read : ℕ → Type 0 = λ j. ReadsPath m.now.nodes path j in
     use1 𝓛 (later (some (λ (o : Option (P.Denot × MutBor T.Denot) × ℕ).
     ((‵ (flft κ qs.0) ⊛ ‵ (flft κs.1.0 qs.1.0) ⊛ ‵ (flft κs.1.1.0 qs.1.1.0) ⊛ ‵ (flft κs.1.1.1.0 qs.1.1.1.0) ⊛ toks₂) ⊛ ‵ (Pair.own_val o (v ∷ [])))
-    ⊛ some (λ (es : Unit {0} × (Unit {0} × Unit {0})). ‵ (preserves (h.ended P T A R p p' d d' k k' n n' e e' s s' w w' g g' xP xT xA) z.0.0 z.0.3 es)
+    ⊛ some (λ (es : Unit {0} × (Unit {0} × Unit {0})). ‵ (lasts (h.ended P T A R p p' d d' k k' n n' e e' s s' w w' g g' xP xT xA) z.0.0 z.0.3 es)
     ⊛ ‵ (lends o.0) ⊛ raw (fact 𝓤 (Value o.0)) ⊛ raw (fact 𝓤 (Read o.1)))))) (id⊢ 𝓤 _) $
     await ! tt $ pick ! (λ o. split ! $ move ! (1 ∷ []) $ pick ! (λ es. split ! $ drop ! $ split ! $ move ! (1 ∷ []) $ split ! $ heard ! (Value o.0) (λ value. drop ! $
     -- [what self follows; the tokens and the pair]
@@ -75,7 +75,7 @@ get_lpm_mut_spec 𝓤 𝓛 𝓜 𝓡 wired P T A R lP lT lA lR cR p p' d d' k k'
     use0 𝓛 (raw (fact 𝓤 (κs.1.1.0 ⊑ P.lives))) (fact_i 𝓤 (κs.1.1.0 ⊑ P.lives) (emp 𝓤) inP) $ join ! $ move ! (1 ∷ 0 ∷ []) $ use2 𝓛 (raw (B.pre t)) (id⊢ 𝓤 _) $
     calls_at ! (framed 𝓤 𝓛.H 𝓜 𝓣) B (b_met 𝓤 𝓛 𝓜 𝓡 (code.calls-prefix_trie_map::map::lending::not_counted 𝓡.env wired) P T lP lT) t (and_then ! (get ! refl) (no_more !)) (λ u.
     use1 𝓛 (later (some (λ (a : Option (P.Denot × MutBor T.Denot)). ((‵ (flft κ qs.0) ⊛ ‵ (flft κs.1.1.0 qs.1.1.0) ⊛ ‵ (flft κs.1.1.1.0 qs.1.1.1.0) ⊛ ‵ ftrue) ⊛ ‵ (Found.own_val a (u ∷ [])))
-    ⊛ some (λ (fs : PreservesBelow (b.ended P T) t.0.0 t.0.3). ‵ (preserves (b.ended P T) t.0.0 t.0.3 fs) ⊛ raw (fact 𝓤 (a ≡ o.0)))))) (id⊢ 𝓤 _) $
+    ⊛ some (λ (fs : Lasts (b.ended P T) t.0.0 t.0.3). ‵ (lasts (b.ended P T) t.0.0 t.0.3 fs) ⊛ raw (fact 𝓤 (a ≡ o.0)))))) (id⊢ 𝓤 _) $
     await ! tt $ pick ! (λ a. split ! $ move ! (1 ∷ []) $ pick ! (λ fs. split ! $ drop ! $ heard ! (a ≡ o.0) (λ same.
     split ! $ split ! $ move ! (1 ∷ []) $ split ! $ move ! (1 ∷ []) $ split ! $ move ! (1 ∷ []) $ drop ! $
     move ! (0 ∷ 4 ∷ []) $ join ! $ move ! (1 ∷ 0 ∷ []) $ join ! $ move ! (3 ∷ 0 ∷ []) $ join ! $ move ! (1 ∷ 0 ∷ []) $ join ! $

@@ -1,9 +1,9 @@
 -- `get_lpm_mut_counted` lends what `lend_longest` lends, beside its prefix. Assumes `Logic`.
 use Rattle.prefix_trie_map.proofs.Loans.{◌≡◌, ℕ, ◌+◌, ◌/◌, ◌≤◌, length, IfSome, None, Some, Option, [], ◌∷◌, refl, sym, MutBor, arith, proved, Args, named, a_type, dcons, dnil, Val, vptr, inst_fn, full_share, ent, emp}
 use Rattle.prefix_trie_map.proofs.Loans.{id⊢, Fml, GName, ftrue, fat, flft, ◌⊑◌, fact, fact_i, tables, ‵, raw, ◌⊛◌, some, later, ◌$◌, ◌∵◌, !, qed, done, move, keep, drop, use0, use1, use2, use3, split, join, fsplit}
-use Rattle.prefix_trie_map.proofs.Loans.{fjoin, pick, await, rewrite, suffices, frame, agg, enter, of_opd, lit, addr, from, item, no_more, and_then, returns, alloc_all, pass_all, free_all, look_at, get, through, sets}
+use Rattle.prefix_trie_map.proofs.Loans.{fjoin, pick, await, rewrite, suffices, frame, agg, enter, of_opd, lit, addr, from, stop, no_more, and_then, returns, alloc_all, pass_all, free_all, look_at, get, through, sets}
 use Rattle.prefix_trie_map.proofs.Loans.{lands_as, take_at, give_at, param, copied, bounded, Laws, param_laws, yes, no, lone, RattleType, MutRef, ShrRef, mut_vals, mut_Tells, shr_vals, shr_Tells, plain, mut_ref_to}
-use Rattle.prefix_trie_map.proofs.Loans.{shr_ref_to, nothing, heard, peeks, shows, Tuple, tuple_laws, calls_at, PreservesBelow, preserves, triple_of, framed, Stays, stay_dropped, walk_of, ends_at, Goes-dropped, Goes-spent_ref}
+use Rattle.prefix_trie_map.proofs.Loans.{shr_ref_to, nothing, heard, peeks, shows, Tuple, tuple_laws, calls_at, Lasts, lasts, triple_of, framed, Stays, stay_dropped, walk_of, ends_at, Goes-dropped, Goes-spent_ref}
 use Rattle.prefix_trie_map.proofs.Loans.{option_laws, Lent, lent_laws, KeptWithin, lends_within, back_within, pair_of, pair_val}
 use Rattle.prefix_trie_map.proofs.Prelude.{take, w32, lit<, MatchOption, longest_match, prefix_pair, lends_longest_if, lent_beside, ReadsPath, lent_item_mut, option_map}
 use mir.Val.{vint}
@@ -71,11 +71,11 @@ get_lpm_mut_counted_spec 𝓤 𝓛 𝓜 𝓡 wired P T A R lP lT lA lR cR p p' d
     let z₀ : G₀.Ghost = ((tt, tt, tt, tt, tt), tt) in
     nothing ! $ nothing ! $ nothing ! $ join ! $ use2 𝓛 (raw (G₀.pre z₀)) (id⊢ 𝓤 _) $
     calls_at ! (framed 𝓤 𝓛.H 𝓜 𝓣) G₀ (new_met 𝓤 𝓛 𝓜 𝓡 (code.calls-prefix_trie_map::map::visits::Visits::new 𝓡.env wired)) z₀ (no_more !) (λ v.
-    use1 𝓛 (later (some (λ (r : ℕ). (‵ ftrue ⊛ ‵ (V.own_val r (v ∷ []))) ⊛ some (λ (ws : Unit {0}). ‵ (preserves new.ended z₀.0.0 z₀.0.3 ws) ⊛ raw (fact 𝓤 (r ≡ 0)))))) (id⊢ 𝓤 _) $
+    use1 𝓛 (later (some (λ (r : ℕ). (‵ ftrue ⊛ ‵ (V.own_val r (v ∷ []))) ⊛ some (λ (ws : Unit {0}). ‵ (lasts new.ended z₀.0.0 z₀.0.3 ws) ⊛ raw (fact 𝓤 (r ≡ 0)))))) (id⊢ 𝓤 _) $
     await ! tt $ pick ! (λ r. split ! $ split ! $ drop ! $ move ! (1 ∷ []) $ pick ! (λ ws. split ! $ drop ! $ heard ! (r ≡ 0) (λ none.
     peeks ! V _ (shows 𝓛 V) r (v ∷ []) (λ is. let ok = ((visits_laws.lawful 𝓛).typed r (v ∷ []) is).0 in
     lands_as ! refl refl ok $ sets ! (of_opd ! (get ! refl)) refl ok $ sets ! (of_opd ! (lit ! tt)) refl (tt, record { fits = lit< tt }) $
-    sets ! (addr ! (through ! refl (item !))) refl (tt, tt) $ sets ! (addr ! (from ! (item !))) refl (tt, tt) $ sets ! (addr ! (from ! (item !))) refl (tt, tt) $
+    sets ! (addr ! (through ! refl (stop !))) refl (tt, tt) $ sets ! (addr ! (from ! (stop !))) refl (tt, tt) $ sets ! (addr ! (from ! (stop !))) refl (tt, tt) $
     take_at ! 3 $ use0 𝓛 (‵ (flft [] full_share)) (𝓛.lfts.lft-nil full_share) $ move ! (1 ∷ 2 ∷ 0 ∷ []) $ use3 𝓛 (later (some (λ (n : ℕ × GName). ‵ ((MutRef (named 3) (n.0 ∷ []) V).own_val (record { ref_ptr = (l 3, 0); ghost_name = n.1; now = r }) (vptr (l 3) 0 ∷ []))
     ⊛ ‵ (flft (n.0 ∷ []) full_share) ⊛ raw (KeptWithin 𝓛 V refl (named 3) (l 3) [] full_share n)))) (lends_within 𝓛 V refl (named 3) (l 3) [] full_share r v) $
     await ! tt $ pick ! (λ loan. let β = loan.0 in split ! $ move ! (1 ∷ []) $ split ! $
@@ -99,7 +99,7 @@ get_lpm_mut_counted_spec 𝓤 𝓛 𝓜 𝓡 wired P T A R lP lT lA lR cR p p' d
     let Exact : ℕ → Type 0 = λ j. j ≡ r + nodes_read m.now.nodes path in
     let Bound : ℕ → Type 0 = λ j. j ≤ r + (length path / 5 + 1) in
     use1 𝓛 (later (some (λ (o : Option (MutBor T.Denot)). ((tok₀ ⊛ tok₁ ⊛ ‵ (flft (α ∷ []) full_share) ⊛ ‵ (flft (β ∷ []) full_share) ⊛ others) ⊛ ‵ (Found.own_val o (u ∷ [])))
-    ⊛ some (λ (es : Unit {0} × (Unit {0} × (ℕ × (ℕ × Unit {0})))). ‵ (preserves (h.ended P T A R p p' d d' k k' n n' e e' s s' w w' g g' xP xT xA) z.0.0 z.0.3 es)
+    ⊛ some (λ (es : Unit {0} × (Unit {0} × (ℕ × (ℕ × Unit {0})))). ‵ (lasts (h.ended P T A R p p' d d' k k' n n' e e' s s' w w' g g' xP xT xA) z.0.0 z.0.3 es)
     ⊛ ‵ (lends o) ⊛ raw (fact 𝓤 (Value es.1.1.0 o)) ⊛ raw (fact 𝓤 (Within es.1.1.0 o)) ⊛ raw (fact 𝓤 (Exact es.1.1.1.0)) ⊛ raw (fact 𝓤 (Bound es.1.1.1.0)))))) (id⊢ 𝓤 _) $
     await ! tt $ pick ! (λ o. split ! $ split ! $ split ! $ move ! (1 ∷ []) $ split ! $ move ! (1 ∷ []) $ split ! $ move ! (1 ∷ []) $ split ! $
     move ! (6 ∷ []) $ pick ! (λ es. let i = es.1.1.0 in let j = es.1.1.1.0 in split ! $ fsplit ! $ drop ! $ fsplit ! $ drop ! $ fsplit ! $ fsplit ! $ move ! (2 ∷ []) $ fsplit ! $ fsplit ! $
@@ -127,7 +127,7 @@ get_lpm_mut_counted_spec 𝓤 𝓛 𝓜 𝓡 wired P T A R lP lT lA lR cR p p' d
     let Back : Option (P.Denot × MutBor T.Denot) → Type 0 = λ a. IfSome a (λ f. f.0 ≡ p.back (take i path)) in
     let Answer : Option (P.Denot × MutBor T.Denot) → Type 0 = λ a. option_map lent_item_mut a ≡ prefix_pair p.back best in
     use1 𝓛 (later (some (λ (a : Option (P.Denot × MutBor T.Denot)). ((tok₀ ⊛ tok₁ ⊛ tok₂ ⊛ tok₃ ⊛ tok₅) ⊛ ‵ (Shown.own_val a (v₂ ∷ [])))
-    ⊛ some (λ (fs : PreservesBelow (b.ended P T R p p' d d' k k' n n' e e' s s' w w' xP) t.0.0 t.0.3). ‵ (preserves (b.ended P T R p p' d d' k k' n n' e e' s s' w w' xP) t.0.0 t.0.3 fs) ⊛ raw (fact 𝓤 (Same a)) ⊛ raw (fact 𝓤 (Back a)))))) (id⊢ 𝓤 _) $
+    ⊛ some (λ (fs : Lasts (b.ended P T R p p' d d' k k' n n' e e' s s' w w' xP) t.0.0 t.0.3). ‵ (lasts (b.ended P T R p p' d d' k k' n n' e e' s s' w w' xP) t.0.0 t.0.3 fs) ⊛ raw (fact 𝓤 (Same a)) ⊛ raw (fact 𝓤 (Back a)))))) (id⊢ 𝓤 _) $
     await ! tt $ pick ! (λ a. split ! $ move ! (1 ∷ []) $ pick ! (λ fs. split ! $ drop ! $ split ! $ heard ! (Same a) (λ same. heard ! (Back a) (λ back.
     split ! $ split ! $ move ! (1 ∷ []) $ split ! $ move ! (1 ∷ []) $ split ! $ move ! (1 ∷ []) $ split ! $
     move ! (6 ∷ 1 ∷ []) $ join ! $ move ! (1 ∷ 0 ∷ []) $ join ! $ move ! (1 ∷ 0 ∷ []) $ join ! $ move ! (1 ∷ 0 ∷ []) $ join ! $ move ! (1 ∷ 0 ∷ []) $ join ! $

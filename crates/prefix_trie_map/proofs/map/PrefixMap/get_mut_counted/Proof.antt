@@ -1,9 +1,9 @@
 -- `get_mut_counted` lends what `lend_entry` lends. Assumes `Logic`.
 use Rattle.prefix_trie_map.proofs.Loans.{◌≡◌, ℕ, ◌+◌, ◌/◌, ◌≤◌, length, Option, [], ◌∷◌, refl, MutBor, arith, proved, Args, named, a_type, dcons, dnil, Val, vptr, inst_fn, full_share, emp, id⊢, Fml, GName, ftrue, fat}
 use Rattle.prefix_trie_map.proofs.Loans.{flft, fact, fact_i, tables, ‵, raw, ◌⊛◌, some, later, ◌$◌, ◌∵◌, !, qed, done, move, keep, drop, use0, use1, use2, use3, split, join, fsplit, fjoin, pick, await, suffices, frame}
-use Rattle.prefix_trie_map.proofs.Loans.{agg, enter, of_opd, addr, from, item, no_more, and_then, returns, alloc_all, pass_all, free_all, look_at, get, through, sets, lands_as, take_at, give_at, param, copied, bounded}
+use Rattle.prefix_trie_map.proofs.Loans.{agg, enter, of_opd, addr, from, stop, no_more, and_then, returns, alloc_all, pass_all, free_all, look_at, get, through, sets, lands_as, take_at, give_at, param, copied, bounded}
 use Rattle.prefix_trie_map.proofs.Loans.{Laws, yes, no, lone, RattleType, MutRef, ShrRef, mut_vals, mut_Tells, shr_vals, shr_Tells, plain, mut_ref_to, shr_ref_to, nothing, heard, peeks, shows, Tuple, tuple_laws}
-use Rattle.prefix_trie_map.proofs.Loans.{calls_at, preserves, triple_of, framed, Stays, stay_dropped, walk_of, ends_at, Goes-dropped, Goes-spent_ref, option_laws, Lent, lent_laws, KeptWithin, lends_within, back_within}
+use Rattle.prefix_trie_map.proofs.Loans.{calls_at, lasts, triple_of, framed, Stays, stay_dropped, walk_of, ends_at, Goes-dropped, Goes-spent_ref, option_laws, Lent, lent_laws, KeptWithin, lends_within, back_within}
 use Rattle.prefix_trie_map.proofs.Loans.{pair_of, pair_val}
 use Rattle.std.specs.contracts.option.Option as option
 use Rattle.prefix_trie_map.proofs.Prelude.{option_copied_mut, lends_entry_if, ReadsPath}
@@ -51,12 +51,12 @@ get_mut_counted_spec 𝓤 𝓛 𝓜 𝓡 wired P T A R lP lT lA lR cR p p' d d' 
     let z₀ : G₀.Ghost = ((tt, tt, tt, tt, tt), tt) in
     nothing ! $ nothing ! $ nothing ! $ join ! $ use2 𝓛 (raw (G₀.pre z₀)) (id⊢ 𝓤 _) $
     calls_at ! (framed 𝓤 𝓛.H 𝓜 𝓣) G₀ (new_met 𝓤 𝓛 𝓜 𝓡 (code.calls-prefix_trie_map::map::visits::Visits::new 𝓡.env wired)) z₀ (no_more !) (λ v.
-    use1 𝓛 (later (some (λ (r : ℕ). (‵ ftrue ⊛ ‵ (V.own_val r (v ∷ []))) ⊛ some (λ (ws : Unit {0}). ‵ (preserves new.ended z₀.0.0 z₀.0.3 ws) ⊛ raw (fact 𝓤 (r ≡ 0)))))) (id⊢ 𝓤 _) $
+    use1 𝓛 (later (some (λ (r : ℕ). (‵ ftrue ⊛ ‵ (V.own_val r (v ∷ []))) ⊛ some (λ (ws : Unit {0}). ‵ (lasts new.ended z₀.0.0 z₀.0.3 ws) ⊛ raw (fact 𝓤 (r ≡ 0)))))) (id⊢ 𝓤 _) $
     await ! tt $ pick ! (λ r. split ! $ split ! $ drop ! $ move ! (1 ∷ []) $ pick ! (λ ws. split ! $ drop ! $ heard ! (r ≡ 0) (λ none.
     peeks ! V _ (shows 𝓛 V) r (v ∷ []) (λ is. let ok = ((visits_laws.lawful 𝓛).typed r (v ∷ []) is).0 in
     lands_as ! refl refl ok $ sets ! (of_opd ! (get ! refl)) refl ok $
-    sets ! (addr ! (through ! refl (item !))) refl (tt, tt) $
-    sets ! (addr ! (from ! (item !))) refl (tt, tt) $
+    sets ! (addr ! (through ! refl (stop !))) refl (tt, tt) $
+    sets ! (addr ! (from ! (stop !))) refl (tt, tt) $
     take_at ! 3 $ use0 𝓛 (‵ (flft [] full_share)) (𝓛.lfts.lft-nil full_share) $ move ! (1 ∷ 2 ∷ 0 ∷ []) $ use3 𝓛 (later (some (λ (n : ℕ × GName). ‵ ((MutRef (named 2) (n.0 ∷ []) V).own_val (record { ref_ptr = (l 3, 0); ghost_name = n.1; now = r }) (vptr (l 3) 0 ∷ []))
     ⊛ ‵ (flft (n.0 ∷ []) full_share) ⊛ raw (KeptWithin 𝓛 V refl (named 2) (l 3) [] full_share n)))) (lends_within 𝓛 V refl (named 2) (l 3) [] full_share r v) $
     await ! tt $ pick ! (λ loan. let α = loan.0 in let γ = loan.1 in split ! $ move ! (1 ∷ []) $ split ! $ move ! (2 ∷ 1 ∷ []) $
@@ -78,7 +78,7 @@ get_mut_counted_spec 𝓤 𝓛 𝓜 𝓡 wired P T A R lP lT lA lR cR p p' d d' 
     let Bound : ℕ → Type 0 = λ j. j ≤ r + (length path / 5 + 1) in
     let lends : Option (MutBor T.Denot) → Fml = lends_entry_if (param 0 P) (param 1 T) (param 2 A) (copied 3 R) p d k s w g m path in
     use1 𝓛 (later (some (λ (o : Option (MutBor T.Denot)). ((‵ (flft κ qs.0) ⊛ ‵ (flft κs.1.0 qs.1.0) ⊛ ‵ (flft (α ∷ []) full_share) ⊛ others) ⊛ ‵ (Found.own_val o (u ∷ [])))
-    ⊛ some (λ (es : Unit {0} × (Unit {0} × (ℕ × Unit {0}))). ‵ (preserves (h.ended P T A R p p' d d' k k' n n' e e' s s' w w' g g' xP xT xA) z.0.0 z.0.3 es)
+    ⊛ some (λ (es : Unit {0} × (Unit {0} × (ℕ × Unit {0}))). ‵ (lasts (h.ended P T A R p p' d d' k k' n n' e e' s s' w w' g g' xP xT xA) z.0.0 z.0.3 es)
     ⊛ ‵ (lends o) ⊛ raw (fact 𝓤 (Value o)) ⊛ raw (fact 𝓤 (Exact es.1.1.0)) ⊛ raw (fact 𝓤 (Bound es.1.1.0)))))) (id⊢ 𝓤 _) $
     await ! tt $ pick ! (λ o. split ! $ split ! $ split ! $ move ! (1 ∷ []) $ split ! $ move ! (1 ∷ []) $ split ! $
     -- [the counter's token; the tokens of the type parameters, of prefix and of self; the value

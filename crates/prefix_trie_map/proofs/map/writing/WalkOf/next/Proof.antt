@@ -1,8 +1,8 @@
 -- `next` lends what `lend_next` lends, beside its prefix. Assumes `Logic`.
 use Rattle.prefix_trie_map.proofs.Loans.{◌≡◌, ℕ, IfSome, IfNone, None, Some, Option, [], ◌∷◌, refl, sym, MutBor, proved, Args, named, a_type, dcons, dnil, Val, vptr, inst_fn, full_share, ent, emp, id⊢, Fml, GName, ftrue, fat}
 use Rattle.prefix_trie_map.proofs.Loans.{flft, ◌⊑◌, fact, fact_i, tables, ‵, raw, ◌⊛◌, some, later, ◌$◌, ◌∵◌, !, qed, done, move, drop, use0, use1, use2, use3, split, join, fsplit, fjoin, pick, await, rewrite, suffices}
-use Rattle.prefix_trie_map.proofs.Loans.{frame, agg, enter, of_opd, lit, addr, from, item, no_more, and_then, returns, alloc_all, pass_all, free_all, look_at, get, through, sets, lands_as, take_at, give_at, param}
-use Rattle.prefix_trie_map.proofs.Loans.{bounded, Laws, param_laws, no, lone, RattleType, MutRef, mut_vals, mut_Tells, plain, mut_ref_to, nothing, heard, peeks, shows, Tuple, tuple_laws, calls_at, PreservesBelow, preserves}
+use Rattle.prefix_trie_map.proofs.Loans.{frame, agg, enter, of_opd, lit, addr, from, stop, no_more, and_then, returns, alloc_all, pass_all, free_all, look_at, get, through, sets, lands_as, take_at, give_at, param}
+use Rattle.prefix_trie_map.proofs.Loans.{bounded, Laws, param_laws, no, lone, RattleType, MutRef, mut_vals, mut_Tells, plain, mut_ref_to, nothing, heard, peeks, shows, Tuple, tuple_laws, calls_at, Lasts, lasts}
 use Rattle.prefix_trie_map.proofs.Loans.{triple_of, framed, Stays, stay_dropped, walk_of, ends_at, Goes-spent_ref, option_laws, Lent, lent_laws, KeptWithin, lends_within, back_within}
 use Rattle.prefix_trie_map.proofs.Prelude.{none_of, lent_beside, FirstIn, IsOverIn, lends_next}
 use mir.Val.{vnil}
@@ -62,7 +62,7 @@ next_spec 𝓤 𝓛 𝓜 𝓡 wired C P V S lC lP lV lS g c' p' s' mC mP mS =
     use0 𝓛 (‵ (Prefix.own_val None (none ∷ []))) (none_of 𝓛 (param 1 P)) $
     peeks ! Prefix _ (shows 𝓛 Prefix) None (none ∷ []) (λ is_none. let none_ok = ((prefix_laws.lawful 𝓛).typed None (none ∷ []) is_none).0 in
     sets ! (agg ! (and_then ! (lit ! tt) (no_more !))) refl none_ok $
-    sets ! (addr ! (through ! refl (item !))) refl (tt, tt) $ sets ! (addr ! (from ! (item !))) refl (tt, tt) $
+    sets ! (addr ! (through ! refl (stop !))) refl (tt, tt) $ sets ! (addr ! (from ! (stop !))) refl (tt, tt) $
     take_at ! 2 $ use3 𝓛 (later (some (λ (n : ℕ × GName). ‵ ((MutRef (named 1) (n.0 ∷ π) Prefix).own_val (record { ref_ptr = (l 2, 0); ghost_name = n.1; now = None }) (vptr (l 2) 0 ∷ []))
     ⊛ ‵ (flft (n.0 ∷ π) left) ⊛ raw (KeptWithin 𝓛 Prefix refl (named 1) (l 2) π left n)))) (lends_within 𝓛 Prefix refl (named 1) (l 2) π left None none) $
     await ! tt $ pick ! (λ loan. let β = loan.0 ∷ π in split ! $ move ! (1 ∷ []) $ split ! $
@@ -77,7 +77,7 @@ next_spec 𝓤 𝓛 𝓜 𝓡 wired C P V S lC lP lV lS g c' p' s' mC mP mS =
     calls_at ! (framed 𝓤 𝓛.H 𝓜 𝓣) G (h_met 𝓤 𝓛 𝓜 𝓡 (code.calls-prefix_trie_map::map::writing::WalkOf::lend_next 𝓡.env wired) C P V S lC lP lV lS g c' p' s' mC mP mS) z
     (and_then ! (get ! refl) (and_then ! (get ! refl) (no_more !))) (λ u.
     use1 𝓛 (later (some (λ (o : Option (MutBor V.Denot)). ((tok₀ ⊛ ‵ (flft β left) ⊛ tok₁ ⊛ ‵ (flft π right) ⊛ tok₃ ⊛ tok₄) ⊛ ‵ (Found.own_val o (u ∷ [])))
-    ⊛ some (λ (es : Unit {0} × (Option P.Denot × Unit {0})). ‵ (preserves (h.ended C P V S g c' p' s') z.0.0 z.0.3 es) ⊛ ‵ (lends o) ⊛ raw (fact 𝓤 (HasFirst IsOver First es.1.0 o)))))) (id⊢ 𝓤 _) $
+    ⊛ some (λ (es : Unit {0} × (Option P.Denot × Unit {0})). ‵ (lasts (h.ended C P V S g c' p' s') z.0.0 z.0.3 es) ⊛ ‵ (lends o) ⊛ raw (fact 𝓤 (HasFirst IsOver First es.1.0 o)))))) (id⊢ 𝓤 _) $
     await ! tt $ pick ! (λ o. split ! $ split ! $ split ! $ move ! (1 ∷ []) $ split ! $ move ! (1 ∷ []) $ split ! $ move ! (1 ∷ []) $ split ! $
     move ! (6 ∷ []) $ pick ! (λ es. let i = es.1.0 in split ! $ fsplit ! $ drop ! $ fsplit ! $ fsplit ! $
     move ! (7 ∷ 10 ∷ 0 ∷ []) $ use3 𝓛 (later (some (λ (x : Val). ‵ (fat full_share (lone Prefix.mir) (l 2) 0 x) ⊛ ‵ (Prefix.own_val i (x ∷ [])) ⊛ ‵ (flft π left))))
@@ -102,7 +102,7 @@ next_spec 𝓤 𝓛 𝓜 𝓡 wired C P V S lC lP lV lS g c' p' s' mC mP mS =
     let Answer : Option (P.Denot × MutBor V.Denot) → Type 0 = λ a. IfSome a (λ r. First r.0 r.1.now) in
     let None_left : Option (P.Denot × MutBor V.Denot) → Type 0 = λ a. IfNone a IsOver in
     use1 𝓛 (later (some (λ (a : Option (P.Denot × MutBor V.Denot)). ((tok₀ ⊛ tok₂ ⊛ tok₃ ⊛ ‵ ftrue) ⊛ ‵ (Shown.own_val a (v ∷ [])))
-    ⊛ some (λ (fs : PreservesBelow (b.ended P V p') t.0.0 t.0.3). ‵ (preserves (b.ended P V p') t.0.0 t.0.3 fs) ⊛ raw (fact 𝓤 (Same a)) ⊛ raw (fact 𝓤 (Its a)))))) (id⊢ 𝓤 _) $
+    ⊛ some (λ (fs : Lasts (b.ended P V p') t.0.0 t.0.3). ‵ (lasts (b.ended P V p') t.0.0 t.0.3 fs) ⊛ raw (fact 𝓤 (Same a)) ⊛ raw (fact 𝓤 (Its a)))))) (id⊢ 𝓤 _) $
     await ! tt $ pick ! (λ a. split ! $ move ! (1 ∷ []) $ pick ! (λ fs. split ! $ drop ! $ split ! $ heard ! (Same a) (λ same. heard ! (Its a) (λ its.
     split ! $ split ! $ move ! (1 ∷ []) $ split ! $ move ! (1 ∷ []) $ split ! $ move ! (1 ∷ []) $ drop ! $
     move ! (0 ∷ 4 ∷ []) $ join ! $ move ! (1 ∷ 0 ∷ []) $ join ! $ move ! (4 ∷ 0 ∷ []) $ join ! $ move ! (1 ∷ 0 ∷ []) $ join ! $
