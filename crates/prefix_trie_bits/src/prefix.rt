@@ -1,5 +1,5 @@
 //! Keys and prefixes as strings of bits: numbers, pairs of a number and a length, and IP networks.
-ghost use Rattle.std.specs.Prelude.{◌≡◌, ℕ, ◌+◌, ◌-◌, ◌^◌, ◌<◌, ◌≤◌, ◌++◌, List, Bool, take, drop, IsTrue, MatchOption, true, ◌↔◌};
+ghost use Rattle.std.specs.Prelude.{◌≡◌, ℕ, ◌+◌, ◌-◌, ◌^◌, ◌<◌, ◌≤◌, ◌++◌, List, Bool, length, take, drop, IsTrue, MatchOption, true, ◌↔◌};
 ghost use Rattle.prefix_trie_bits.specs.Keys.{KeyLaws, PrefixLaws};
 ghost use Rattle.prefix_trie_bits.specs.Bits.{number, digits, zeros, begins};
 ghost use Rattle.prefix_trie_bits.specs.Order.{listing_cmp};
@@ -7,6 +7,7 @@ ghost use Rattle.prefix_trie_bits.specs.Order.{listing_cmp};
 use std::cmp::Ordering;
 use std::fmt::Debug;
 
+mod bit_string;
 mod decimal;
 mod narrow;
 mod networks;
@@ -14,6 +15,7 @@ mod numbers;
 mod pair;
 mod refusals;
 
+pub use bit_string::BitString;
 pub use narrow::{Narrow, ParseNarrowError};
 pub use networks::{Ipv4Prefix, Ipv6Prefix, ParseNetworkError};
 
@@ -256,6 +258,18 @@ pub trait Prefix: Sized + Debug + Drop {
     {
         self.prefix_len() <= other.prefix_len()
             && other.repr().keep(u32::from(self.prefix_len())) == self.mask()
+    }
+
+    /// Returns the path as one value.
+    ///
+    /// Asks that the prefix fits.
+    #[inline(always)]
+    fn path(&self) -> BitString<Self::R>
+        requires { IsFitting self.now }
+        ensures path { result ≡ path self.now }
+        ensures short { length (path self.now) ≤ Self.R.bit_width }
+    {
+        BitString::new(self.repr(), u32::from(self.prefix_len()))
     }
 
     /// Whether the number is a key and the length at most `num_bits()`.

@@ -1,0 +1,160 @@
+//! Bit strings as one value: the first bits of a key.
+ghost use Rattle.std.specs.Prelude.{◌≡◌, ℕ, ◌^◌, ◌<◌, ◌≤◌, take, drop, length, MatchOption};
+ghost use Rattle.prefix_trie_bits.specs.Bits.{number, begins};
+ghost use Rattle.prefix_trie_bits.specs.Places.{HoldsValues, HoldsChildren, IsLongest, IsShortest, NoneBegins, value_bit as value_bit_in};
+
+use crate::node::{
+    child_bit_of, child_cover_mask, longest_match, match_mask, shortest_match, value_bit_of,
+    value_cover_mask,
+};
+use crate::prefix::Key;
+use std::marker::Model;
+
+/// A bit string: the first `len` bits of a key. Contracts see the list of its bits.
+///
+/// The later bits of the key do not matter.
+///
+/// ```text
+/// BitString::new(0xd4000000_u32, 6)   110101
+/// its below()                         1
+/// ```
+#[derive(Drop)]
+pub struct BitString<K: Key> {
+    key: K,
+    len: u32,
+}
+
+impl<K: Key> Model for BitString<K> {
+    ghost use Rattle.std.specs.Prelude.{List, Bool, take, ◌≤◌};
+
+    ghost Value = { List Bool };
+
+    ghost view = { λ s. take s.len (K.bits s.key) };
+
+    ghost invariant = { λ s. K.IsKey s.key × (s.len ≤ K.bit_width) };
+}
+
+impl<K: Key> BitString<K> {
+    /// Returns the first `len` bits of a key.
+    #[inline(always)]
+    pub fn new(key: K, len: u32) -> Self
+        requires key { K.IsKey key }
+        requires within { len ≤ K.bit_width }
+        ensures { result ≡ take len (K.bits key) }
+    {
+        BitString { key, len }
+    }
+
+    /// Returns a copy.
+    // A derived `Clone` would owe that a clone of a key is a key.
+    #[inline(always)]
+    pub fn again(&self) -> Self
+        ensures { result ≡ self.now }
+    {
+        BitString {
+            key: self.key,
+            len: self.len,
+        }
+    }
+
+    /// Returns a key that begins with the bit string.
+    #[inline(always)]
+    pub fn key(&self) -> K
+        ensures key { K.IsKey result }
+        ensures bits { take (length self.now) (K.bits result) ≡ self.now }
+        ensures within { length self.now ≤ K.bit_width }
+    {
+        // Needed only for the proof: a key has as many bits as its type says.
+        let _ = self.key.is_key();
+        self.key
+    }
+
+    /// Returns the number of bits, at most 128.
+    #[inline(always)]
+    pub fn len(&self) -> u32
+        ensures len { result ≡ length self.now }
+        ensures within { result ≤ K.bit_width }
+        ensures short { result ≤ 128 }
+    {
+        // Needed only for the proof: a key has as many bits as its type says.
+        let _ = self.key.is_key();
+        self.len
+    }
+
+    /// Returns the number of the first five bits: the child bit of the next node on the search path.
+    #[inline(always)]
+    pub fn child_bit(&self) -> u32
+        requires { 5 ≤ length self.now }
+        ensures value { result ≡ number (take 5 self.now) }
+        ensures small { result < 32 }
+    {
+        child_bit_of(self.key, 0)
+    }
+
+    /// Returns the bits after the first five.
+    // It shifts by the same number of bits at each level, so no shift depends on the depth.
+    #[inline(always)]
+    pub fn below(self) -> Self
+        requires { 5 ≤ length self }
+        ensures { result ≡ drop 5 self }
+    {
+        BitString {
+            key: self.key.behind(5),
+            len: self.len - 5,
+        }
+    }
+
+    /// Returns the value bit of a string of at most four bits.
+    #[inline(always)]
+    pub fn value_bit(&self) -> u32
+        requires { length self.now < 5 }
+        ensures value { result ≡ value_bit_in self.now }
+        ensures small { result < 31 }
+    {
+        value_bit_of(self.key, 0, self.len)
+    }
+
+    /// Returns the value bits of the strings that begin the bit string.
+    #[inline(always)]
+    pub fn match_mask(&self) -> u32
+        ensures { HoldsValues result (λ s. begins s self.now) }
+    {
+        match_mask(self.key, 0, self.len)
+    }
+
+    /// Returns the value bits of the strings that a string of at most four bits begins.
+    #[inline(always)]
+    pub fn value_cover_mask(&self) -> u32
+        requires { length self.now < 5 }
+        ensures { HoldsValues result (begins self.now) }
+    {
+        value_cover_mask(self.key, 0, self.len)
+    }
+
+    /// Returns the child bits of the strings that a string of at most four bits begins.
+    #[inline(always)]
+    pub fn child_cover_mask(&self) -> u32
+        requires { length self.now < 5 }
+        ensures { HoldsChildren result (begins self.now) }
+    {
+        child_cover_mask(self.key, 0, self.len)
+    }
+
+    /// Returns the value bit of the longest string in a bitmap that begins the bit string.
+    #[inline(always)]
+    pub fn longest_match(&self, bitmap: u32) -> Option<u32>
+        requires { bitmap < 2 ^ 31 }
+        ensures { MatchOption result (NoneBegins bitmap self.now) (IsLongest bitmap self.now) }
+    {
+        longest_match(bitmap, self.key, 0, self.len)
+    }
+
+    /// Returns the value bit of the shortest string in a bitmap that begins the bit string.
+    #[inline(always)]
+    pub fn shortest_match(&self, bitmap: u32) -> Option<u32>
+        requires { bitmap < 2 ^ 31 }
+        ensures { MatchOption result (NoneBegins bitmap self.now) (IsShortest bitmap self.now) }
+    {
+        shortest_match(bitmap, self.key, 0, self.len)
+    }
+}
