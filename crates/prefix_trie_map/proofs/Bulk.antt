@@ -1,6 +1,6 @@
 -- Many lookups in one call: what a group of them reads and finds, and one more result.
 use Rattle.prefix_trie_map.proofs.Prelude.{◌≡◌, ℕ, ◌+◌, ◌-◌, ◌<◌, ◌≤◌, Bool, List, [], ◌∷◌, ◌++◌, Option, None, Some, Bor, refl, map, set, take, drop, length, get_or, sum_by, slice_range, sym, ap, ap₂, ◌∙◌, subst, arith, add-sub_of_le, length-drop, option_map, drop-take, get_or_append_left, get_or-drop, get_or-map, get_or-take, length-map, length-take-le, map-append, take_more, take_more_set, take-take, sum_by-take-drop, sum_by_push, Entries, longest_match, Nodes, visits, Node, Found, AreAnswers, asks, questions_of, AreAnswered, AreFound, ReadsMore, visits_of_all, take_all}
-use Rattle.prefix_trie_map.proofs.Lookups.{Finds, by_bits}
+use Rattle.prefix_trie_map.proofs.Lookups.{Finds, by_key_bits}
 
 -- a group's reads
 pub reads_more : {P : Type 0} (path : P → List Bool) (nodes : Nodes) (prefixes : List P) (from to before after : ℕ) → from ≤ to
@@ -44,12 +44,12 @@ answered_more shows answer prefixes out n m so_far more space inside p is x show
     ∙ ap₂ (λ l y. l ++ y ∷ []) so_far (shown ∙ ap answer is)
     ∙ sym (ap (map answer) (take_more prefixes n p inside) ∙ map-append answer (take n prefixes) (get_or prefixes n p ∷ [])))
 
--- a match of the table, as what the result is right for
-pub right_match : {T Y : Type 0} (entries : Entries T) (right : Option (List Bool × T) → Y) (bits : List Bool) (len : ℕ) (path : List Bool) → take len bits ≡ path → (found : Option (ℕ × Bor T))
-    → Finds bits len (longest_match entries (take len bits)) found → (shown : Y) → shown ≡ right (option_map (λ f. (take f.0 bits, f.1.now)) found)
+-- a match of the table, as what the answer is right for
+pub right_match : {T Y : Type 0} (entries : Entries T) (right : Option (List Bool × T) → Y) (bits asked path : List Bool) → take (length asked) bits ≡ asked → asked ≡ path → (found : Option (ℕ × Bor T))
+    → Finds asked (longest_match entries asked) found → (shown : Y) → shown ≡ right (option_map (λ f. (take f.0 bits, f.1.now)) found)
     → shown ≡ right (longest_match entries path)
-right_match entries right bits len path key found finds shown is =
-    is ∙ ap right (by_bits bits len (longest_match entries (take len bits)) found finds) ∙ ap (λ s. right (longest_match entries s)) key
+right_match entries right bits asked path begin key found finds shown is =
+    is ∙ ap right (by_key_bits bits asked begin (longest_match entries asked) found finds) ∙ ap (λ s. right (longest_match entries s)) key
 
 -- the value of a match, with and without its key
 pub values_found : {X Y V : Type 0} (key : X → Y) (found : Option (X × Bor V)) → option_map (λ (e : Y × V). e.1) (option_map (λ (f : X × Bor V). (key f.0, f.1.now)) found) ≡ option_map (λ (f : X × Bor V). f.1.now) found

@@ -50,10 +50,10 @@ module _ {P T A R : Type 0} {p : prefix.Ghosts P R} {shows : debug.Ghosts P} {k 
 
 -- a value written to an item leaves the cursor unchanged, except its map
 pub written_there : {P T A R : Type 0} {p : prefix.Ghosts P R} {shows : debug.Ghosts P} {k : key.Ghosts R} {same : partial.Ghosts R} {writes : debug.Ghosts R}
-    (c : MapCursor P T A R p shows k same writes) (item : CursorItem R) (w : T) (stands : IsCursorIn k.bits k.bit_width c.map.now.build c.cursor) →
-    record { map = record c.map { now = with_value_at c.map.now (key_at c item) w }; cursor = c.cursor; stands = stands } ≡ with_written c item w
-written_there {k = k} c item w stands = λ i. record {
-  map = record c.map { now = with_value_at c.map.now (key_at c item) w };
+    (c : MapCursor P T A R p shows k same writes) (item : CursorItem R) (w : T) (q : List Bool) → q ≡ key_at c item → (stands : IsCursorIn k.bits k.bit_width c.map.now.build c.cursor) →
+    record { map = record c.map { now = with_value_at c.map.now q w }; cursor = c.cursor; stands = stands } ≡ with_written c item w
+written_there {k = k} c item w q at stands = λ i. record {
+  map = record c.map { now = with_value_at c.map.now (at i) w };
   cursor = c.cursor;
   stands = IsCursorIn-prop k.bits k.bit_width c.map.now.build c.cursor stands c.stands i;
 }

@@ -1,7 +1,10 @@
 -- Lookups, matches and covers, and values lent.
 pub mod Going
 pub mod Finding
+pub mod SearchPaths
 pub mod Locating
+pub mod Ends
+pub mod Borders
 pub mod Matching
 pub mod Matched
 pub mod Covers

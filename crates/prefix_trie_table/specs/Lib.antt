@@ -14,6 +14,7 @@ pub mod Bulk
 pub mod Layouts
 pub mod Shape
 pub mod Tables
+pub mod SearchPaths
 pub mod Locations
 pub mod Needs
 pub mod Matching

@@ -17,6 +17,7 @@ use Rattle.prefix_trie_table.specs.Cells.{node_at}
 use Rattle.prefix_trie_table.specs.Digits.{chunks_of, bit_of}
 use Rattle.prefix_trie_table.specs.Forest.{child_slot, read}
 use Rattle.prefix_trie_table.specs.Shape.{Contents, coded_node}
+use Rattle.prefix_trie_table.specs.SearchPaths.{IsLast}
 use Rattle.prefix_trie_table.specs.Store.{Store}
 use Rattle.prefix_trie_table.specs.Tables.{IsReached}
 
@@ -53,11 +54,10 @@ EndsAt v b len reached =
     (seat_of v.slots (take len b) ≡ None)
     × IsReached b len reached.level reached.node (reached.at.start + reached.at.offset) v
 
--- what an array of nodes has for the first len bits of b: the seat of their value, or the end of
--- the search if they have none
-abbrev pub Locates : Store Node → List Bool → ℕ → Location → Type 0
-Locates v b len (Stored seat) = seat_of v.slots (take len b) ≡ Some seat
-Locates v b len (Missing end) = EndsAt v b len end.reached
+-- what an array of nodes says of a bit string: the seat of its value, or the last node of its search path if it has none
+abbrev pub Locates : Store Node → List Bool → Location → Type 0
+Locates v q (Stored seat) = seat_of v.slots q ≡ Some seat
+Locates v q (Missing end) = (seat_of v.slots q ≡ None) × IsLast q end.reached v
 
 -- what a table has for a bit string: the seat of its value, or the end of the search if it has none
 abbrev pub IsLocation : {T : Type 0} → Contents T → List Bool → Location → Type 0

@@ -27,7 +27,7 @@ mod taking;
 pub mod walk;
 pub mod walk_start;
 
-ghost use Rattle.std.specs.Prelude.{◌≡◌, ◌+◌, ◌^◌, ◌<◌, ◌≤◌, ℕ, cond, take, IfOk, IfErr, IsErr, ◌↔◌, MatchOption, None, Some};
+ghost use Rattle.std.specs.Prelude.{◌≡◌, ◌+◌, ◌^◌, ◌<◌, ◌≤◌, ℕ, cond, take, length, IfOk, IfErr, IsErr, ◌↔◌, MatchOption, None, Some};
 ghost use Rattle.std.specs.Option.{option_copied};
 ghost use Rattle.std.specs.FinMap.{get, len};
 ghost use Rattle.prefix_trie_bits.specs.Model.Retaining.{CallableOnEachEntry};
@@ -57,7 +57,7 @@ use crate::table::splitting::lay_part;
 use crate::table::walk::walk_of;
 use crate::table::walk_start::{Start, walk_at};
 pub use cover::Cover;
-use prefix_trie_bits::prefix::{Key, Refusal, Refused};
+use prefix_trie_bits::prefix::{BitString, Key, Refusal, Refused};
 use std::alloc::Allocator;
 use std::marker::Model;
 use std::mem;
@@ -192,56 +192,45 @@ impl<T: Drop, A: Allocator, V: Tick> Table<T, A, V> {
         self.count
     }
 
-    /// The value at a bit string. Each node on the way is read once.
+    /// Returns the value at a bit string. It reads each node on the search path once.
     #[inline]
-    pub fn find<K: Key>(&self, key: K, len: u32, counter: &mut V) -> Option<&T>
-        requires key { K.IsKey key }
-        requires within { len ≤ K.bit_width }
-        ensures value { option_copied result ≡ get self.now.entries (take len (K.bits key)) }
-        ensures visits { V.count counter.new
-            ≡ V.count counter.old + visits self.now.nodes (take len (K.bits key)) }
+    pub fn find<K: Key>(&self, path: BitString<K>, counter: &mut V) -> Option<&T>
+        ensures value { option_copied result ≡ get self.now.entries path }
+        ensures visits { V.count counter.new ≡ V.count counter.old + visits self.now.nodes path }
     {
-        match self.locate(key, len, counter) {
-            Location::Stored(seat) => Some(self.at(key, len, seat)),
+        match self.locate(path.again(), counter) {
+            Location::Stored(seat) => Some(self.at(path, seat)),
             Location::Missing(_) => None,
         }
     }
 
-    /// The value at the longest beginning of a bit string that has one, behind the number of bits of that beginning. Each
-    /// node on the way is read once.
+    /// Returns the length of the longest match of a bit string, and its value. It reads each node on the search path once.
     #[inline]
-    pub fn find_longest<K: Key>(&self, key: K, len: u32, counter: &mut V) -> Option<(u32, &T)>
-        requires key { K.IsKey key }
-        requires within { len ≤ K.bit_width }
+    pub fn find_longest<K: Key>(&self, path: BitString<K>, counter: &mut V) -> Option<(u32, &T)>
         ensures value { MatchOption result
-            (longest_match self.now.entries (take len (K.bits key)) ≡ None)
-            (λ found. (found.0 ≤ len)
-            × (longest_match self.now.entries (take len (K.bits key))
-            ≡ Some (take found.0 (take len (K.bits key)), found.1.now))) }
-        ensures visits { V.count counter.new
-            ≡ V.count counter.old + visits self.now.nodes (take len (K.bits key)) }
+            (longest_match self.now.entries path ≡ None)
+            (λ found. (found.0 ≤ length path)
+            × (longest_match self.now.entries path ≡ Some (take found.0 path, found.1.now))) }
+        ensures visits { V.count counter.new ≡ V.count counter.old + visits self.now.nodes path }
     {
-        let Some(found) = longest_on_path(&self.nodes, key, len, counter) else {
+        let Some(found) = longest_on_path(&self.nodes, path, counter) else {
             return None;
         };
         value_of_match(&self.cells, found)
     }
 
-    /// The value at the shortest beginning of a bit string that has one, behind the number of bits of that beginning. The
-    /// nodes on the way are read once each, and none below the one that holds the value.
+    /// Returns the length of the shortest match of a bit string, and its value.
+    ///
+    /// It reads the nodes of the search path once each, down to the one that has the match.
     #[inline]
-    pub fn find_shortest<K: Key>(&self, key: K, len: u32, counter: &mut V) -> Option<(u32, &T)>
-        requires key { K.IsKey key }
-        requires within { len ≤ K.bit_width }
+    pub fn find_shortest<K: Key>(&self, path: BitString<K>, counter: &mut V) -> Option<(u32, &T)>
         ensures value { MatchOption result
-            (shortest_match self.now.entries (take len (K.bits key)) ≡ None)
-            (λ found. (found.0 ≤ len)
-            × (shortest_match self.now.entries (take len (K.bits key))
-            ≡ Some (take found.0 (take len (K.bits key)), found.1.now))) }
-        ensures visits { V.count counter.new ≡ V.count counter.old
-            + visits_to_match self.now.entries self.now.nodes (take len (K.bits key)) }
+            (shortest_match self.now.entries path ≡ None)
+            (λ found. (found.0 ≤ length path)
+            × (shortest_match self.now.entries path ≡ Some (take found.0 path, found.1.now))) }
+        ensures visits { V.count counter.new ≡ V.count counter.old + visits_to_match self.now.entries self.now.nodes path }
     {
-        let Some(found) = shortest_on_path(&self.nodes, key, len, counter) else {
+        let Some(found) = shortest_on_path(&self.nodes, path, counter) else {
             return None;
         };
         value_of_match(&self.cells, found)
@@ -309,8 +298,9 @@ impl<T: Drop, A: Allocator, V: Tick> Table<T, A, V> {
     {
         // Read for the proof alone: neither array passes the limit.
         let _entries = self.len();
-        match self.locate(key, len, counter) {
-            Location::Stored(seat) => Ok(Some(mem::replace(self.at_mut(key, len, seat), value))),
+        let path = BitString::new(key, len);
+        match self.locate(path.again(), counter) {
+            Location::Stored(seat) => Ok(Some(mem::replace(self.at_mut(path, seat), value))),
             Location::Missing(end) => match self.insert_located(key, len, end, value) {
                 Ok(_) => Ok(None),
                 Err(refused) => Err(refused),

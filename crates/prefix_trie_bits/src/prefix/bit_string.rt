@@ -57,6 +57,18 @@ impl<K: Key> BitString<K> {
         }
     }
 
+    /// Returns the first `n` bits.
+    #[inline(always)]
+    pub fn first(&self, n: u32) -> Self
+        requires { n ≤ length self.now }
+        ensures { result ≡ take n self.now }
+    {
+        BitString {
+            key: self.key,
+            len: n,
+        }
+    }
+
     /// Returns a key that begins with the bit string.
     #[inline(always)]
     pub fn key(&self) -> K
@@ -101,6 +113,18 @@ impl<K: Key> BitString<K> {
         BitString {
             key: self.key.behind(5),
             len: self.len - 5,
+        }
+    }
+
+    /// Returns the bits after the first `n`.
+    #[inline(always)]
+    pub fn after(&self, n: u32) -> Self
+        requires { n ≤ length self.now }
+        ensures { result ≡ drop n self.now }
+    {
+        BitString {
+            key: self.key.behind(n),
+            len: self.len - n,
         }
     }
 

@@ -7,10 +7,10 @@ ghost use Rattle.prefix_trie_map.specs.Bulk.{AreAnswered, AreFound, ReadsMore, r
 ghost use Rattle.prefix_trie_map.specs.Walks.{lent_item};
 
 use crate::map::PrefixMap;
-use crate::map::lookup::{rebuilt_match, value_of};
+use crate::map::lookup::{rebuilt, value_of};
 use crate::map::parts::parts;
 use crate::map::visits::Visits;
-use prefix_trie_bits::prefix::Prefix;
+use prefix_trie_bits::prefix::{BitString, Prefix};
 use prefix_trie_table::table::Table;
 use prefix_trie_table::table::bulk::{FEW_NODES, Found, GROUP};
 use std::alloc::Allocator;
@@ -113,7 +113,10 @@ impl<'a, P: Prefix, T> Answer<'a, P, T> for Option<(P, &'a T)> {
 
     #[inline(always)]
     fn of_match(key: P::R, found: Option<(u32, &'a T)>) -> Self {
-        rebuilt_match(key, found)
+        match found {
+            Some((len, value)) => Some((rebuilt(BitString::new(key, len)), value)),
+            None => None,
+        }
     }
 }
 
@@ -164,8 +167,8 @@ fn answer_singly<'a, P: Prefix, T: Drop, A: Allocator, X: Answer<'a, P, T>>(
     ensures visits { visits.new ≡ visits.old + visits_of_all P.path table.now.nodes prefixes.now }
 {
     for i in 0..prefixes.len() {
-        let (key, len) = parts(&prefixes[i]);
-        out[i] = X::of_match(key, table.find_longest(key, len, visits));
+        let path = prefixes[i].path();
+        out[i] = X::of_match(path.key(), table.find_longest(path, visits));
     }
 }
 

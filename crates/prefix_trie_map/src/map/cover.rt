@@ -12,7 +12,7 @@ use crate::map::lookup::rebuilt;
 use crate::map::parts::parts;
 use crate::map::projection::{Keyed, KeysOf};
 use crate::map::{PrefixMap, Visits};
-use prefix_trie_bits::prefix::Prefix;
+use prefix_trie_bits::prefix::{BitString, Prefix};
 use prefix_trie_table::table::Cover as TableCover;
 use std::alloc::Allocator;
 use std::marker::{Model, PhantomData};
@@ -110,7 +110,7 @@ impl<'a, P: Prefix, T: Drop, A: Allocator> Iterator for Cover<'a, P, T, A> {
         let Some((key, len, value)) = self.walk.next(&mut Visits::new()) else {
             return None;
         };
-        Some((rebuilt(key, len), value))
+        Some((rebuilt(BitString::new(key, len)), value))
     }
 }
 

@@ -11,9 +11,8 @@ mod vacant;
 
 use crate::map::PrefixMap;
 use crate::map::lookup::rebuilt;
-use crate::map::parts::parts;
 pub use insertion::Put;
-use prefix_trie_bits::prefix::{Prefix, Refusal, Refused};
+use prefix_trie_bits::prefix::{BitString, Prefix, Refusal, Refused};
 use prefix_trie_table::table::seat::{Location, SearchEnd, Seat};
 use std::alloc::Allocator;
 use std::marker::Model;
@@ -50,25 +49,22 @@ impl<P: Prefix> Fitting<P> {
         &self.prefix
     }
 
-    // Its path, as the number and the length that the map is handed.
+    // Returns the prefix's path.
     #[inline]
-    fn parts(&self) -> (P::R, u32)
-        ensures key { P.R.IsKey result.0 }
-        ensures within { result.1 ≤ P.R.bit_width }
-        ensures path { take result.1 (P.R.bits result.0) ≡ P.path self.now }
+    fn path(&self) -> BitString<P::R>
+        ensures path { result ≡ P.path self.now }
         ensures short { length (P.path self.now) ≤ P.R.bit_width }
     {
-        parts(&self.prefix)
+        self.prefix.path()
     }
 
-    // The prefix of the same path whose other bits are 0.
+    // Returns the prefix of the same path whose other bits are 0.
     #[inline]
     fn without_host_bits(&self) -> Self
         ensures key { result ≡ P.back (P.path self.now) }
         ensures path { P.path result ≡ P.path self.now }
     {
-        let (key, len) = self.parts();
-        Fitting::new(rebuilt(key, len))
+        Fitting::new(rebuilt(self.path()))
     }
 }
 

@@ -11,7 +11,6 @@ ghost use Rattle.prefix_trie_map.specs.Walks.{lent_item_mut};
 
 use crate::map::PrefixMap;
 use crate::map::lookup::rebuilt;
-use crate::map::parts::parts;
 use crate::map::visits::Visits;
 use prefix_trie_bits::prefix::Prefix;
 use std::alloc::Allocator;
@@ -57,8 +56,7 @@ impl<P: Prefix, T: Drop, A: Allocator> PrefixMap<P, T, A> {
         ensures exact { counter.new ≡ counter.old + visits self.old.nodes (P.path prefix.now) }
         ensures bound { counter.new ≤ counter.old + (length (P.path prefix.now) / 5 + 1) }
     {
-        let (key, len) = parts(prefix);
-        self.table.find_mut(key, len, counter)
+        self.table.find_mut(prefix.path(), counter)
     }
 
     /// The value of the longest stored prefix that contains this one, for writing: what `get_lpm_mut` lends, without the
@@ -119,12 +117,11 @@ impl<P: Prefix, T: Drop, A: Allocator> PrefixMap<P, T, A> {
         ensures value { MatchOption result
             (longest_match self.old.entries (P.path prefix.now) ≡ None)
             (λ value. longest_match self.old.entries (P.path prefix.now) ≡ Some (take found.new (P.path prefix.now), value.now)) }
-        ensures within { IfSome result (λ value. found.new ≤ P.len_of prefix.now) }
+        ensures within { IfSome result (λ value. found.new ≤ length (P.path prefix.now)) }
         ensures exact { counter.new ≡ counter.old + visits self.old.nodes (P.path prefix.now) }
         ensures bound { counter.new ≤ counter.old + (length (P.path prefix.now) / 5 + 1) }
     {
-        let (key, len) = parts(prefix);
-        self.table.find_longest_mut(key, len, found, counter)
+        self.table.find_longest_mut(prefix.path(), found, counter)
     }
 }
 
@@ -136,12 +133,12 @@ fn beside<'a, P: Prefix, T>(
     found: u32,
 ) -> Option<(P, &'a mut T)>
     requires fits { P.IsFitting prefix.now }
-    requires within { IfSome value (λ v. found ≤ P.len_of prefix.now) }
+    requires within { IfSome value (λ v. found ≤ length (P.path prefix.now)) }
     ensures lent { lent_beside result ≡ value.entry }
     ensures prefix { IfSome result (λ f. f.0 ≡ P.back (take found (P.path prefix.now))) }
 {
     match value {
-        Some(value) => Some((rebuilt(prefix.repr(), found), value)),
+        Some(value) => Some((rebuilt(prefix.path().first(found)), value)),
         None => None,
     }
 }

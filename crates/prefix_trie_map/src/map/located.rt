@@ -14,7 +14,7 @@ ghost use Rattle.prefix_trie_map.specs.Whole.{IsWhole};
 
 use crate::map::parts::parts;
 use crate::map::{PrefixMap, Visits};
-use prefix_trie_bits::prefix::{Prefix, Refusal, Refused};
+use prefix_trie_bits::prefix::{BitString, Prefix, Refusal, Refused};
 use prefix_trie_table::table::cursor::Cursor;
 use prefix_trie_table::table::seat::{Location, SearchEnd, Seat};
 use std::alloc::Allocator;
@@ -23,40 +23,36 @@ impl<P: Prefix, T: Drop, A: Allocator> PrefixMap<P, T, A> {
     ghost use Rattle.prefix_trie_table.specs.Walking.Cursors.{IsCursorIn, keys_to_come, GivesKey};
     ghost use Rattle.prefix_trie_map.specs.Lending.{lends_value};
 
-    // Where the value of a prefix stands, or where its way ends.
+    // Finds where the value of a prefix is stored, or where its search path ends.
     #[inline]
     pub(super) fn locate(&self, prefix: &P) -> Location
         requires { P.IsFitting prefix.now }
         ensures { IsLocation self.now (P.path prefix.now) result }
     {
-        let (key, len) = parts(prefix);
-        self.table.locate(key, len, &mut Visits::new())
+        self.table.locate(prefix.path(), &mut Visits::new())
     }
 
-    // The value of a prefix, where it stands.
+    // Returns the value of a prefix, which is stored at this seat.
     #[inline]
     pub(super) fn value_at(&self, prefix: &P, seat: Seat) -> &T
         requires fits { P.IsFitting prefix.now }
         requires seat { seat_of self.now.build (P.path prefix.now) ≡ Some seat }
         ensures { get self.now.entries (P.path prefix.now) ≡ Some result.now }
     {
-        let (key, len) = parts(prefix);
-        self.table.at(key, len, seat)
+        self.table.at(prefix.path(), seat)
     }
 
-    // The value at the first bits of a key, where it stands, for writing.
+    // Returns the value at a bit string, which is stored at this seat, for writing.
     #[inline]
-    pub(super) fn lend_at(&mut self, key: P::R, len: u32, seat: Seat) -> &mut T
-        requires key { P.R.IsKey key }
-        requires within { len ≤ P.R.bit_width }
-        requires seat { seat_of self.old.build (take len (P.R.bits key)) ≡ Some seat }
-        ensures* writes_back { sem 𝓛 (lends_value P.row T.row A.row P.R.row P.Prefix.own P.Debug P.R.Key.own P.R.PartialEq P.R.Debug A.Allocator self.entry (take len (P.R.bits key)) result) }
-        ensures value { get self.old.entries (take len (P.R.bits key)) ≡ Some result.now }
+    pub(super) fn lend_at(&mut self, path: BitString<P::R>, seat: Seat) -> &mut T
+        requires { seat_of self.old.build path ≡ Some seat }
+        ensures* writes_back { sem 𝓛 (lends_value P.row T.row A.row P.R.row P.Prefix.own P.Debug P.R.Key.own P.R.PartialEq P.R.Debug A.Allocator self.entry path result) }
+        ensures value { get self.old.entries path ≡ Some result.now }
         ensures whole { IsWhole P.R.bit_width self.old }
     {
-        // The proof learns from it that the map is whole.
+        // Needed only for the proof: the map is whole.
         let _ = self.len();
-        self.table.at_mut(key, len, seat)
+        self.table.at_mut(path, seat)
     }
 
     // Goes on to the next entry of a walk: its key, the key's length, and where its value stands.

@@ -3,7 +3,7 @@
 //! Each but `get_lpm_value` has a form that also says how many nodes it read. `get_counted`, `get_lpm_counted` and
 //! `get_spm_counted` make one counter, and hand it to one call of the table; the other counted forms ask one of these, and
 //! answer its counter. The plain form is the first part of that answer: `Visits` has no bytes, so it costs nothing to make it.
-ghost use Rattle.std.specs.Prelude.{◌≡◌, ◌≤◌, take, IfSome};
+ghost use Rattle.std.specs.Prelude.{◌≡◌, ◌≤◌, take, length, IfSome};
 ghost use Rattle.std.specs.Option.{option_copied, option_map, is_some};
 ghost use Rattle.std.specs.FinMap.{get, contains_key};
 ghost use Rattle.prefix_trie_bits.specs.Model.Matches.{longest_match, shortest_match, prefix_pair};
@@ -11,9 +11,8 @@ ghost use Rattle.prefix_trie_bits.specs.Model.Visits.{ReadsPath, ReadsToMatch};
 ghost use Rattle.prefix_trie_map.specs.Walks.{lent_item};
 
 use crate::map::PrefixMap;
-use crate::map::parts::parts;
 use crate::map::visits::Visits;
-use prefix_trie_bits::prefix::{Key, Prefix};
+use prefix_trie_bits::prefix::{BitString, Key, Prefix};
 use std::alloc::Allocator;
 
 impl<P: Prefix, T: Drop, A: Allocator> PrefixMap<P, T, A> {
@@ -42,8 +41,7 @@ impl<P: Prefix, T: Drop, A: Allocator> PrefixMap<P, T, A> {
         ensures reads { ReadsPath self.now.nodes (P.path prefix.now) result.1 }
     {
         let mut visits = Visits::new();
-        let (key, len) = parts(prefix);
-        let answer = self.table.find(key, len, &mut visits);
+        let answer = self.table.find(prefix.path(), &mut visits);
         (answer, visits)
     }
 
@@ -91,9 +89,8 @@ impl<P: Prefix, T: Drop, A: Allocator> PrefixMap<P, T, A> {
         ensures reads { ReadsPath self.now.nodes (P.path prefix.now) result.1 }
     {
         let (value, visits) = self.get_counted(prefix);
-        let (key, len) = parts(prefix);
         let pair = match value {
-            Some(value) => Some((rebuilt(key, len), value)),
+            Some(value) => Some((rebuilt(prefix.path()), value)),
             None => None,
         };
         (pair, visits)
@@ -124,9 +121,9 @@ impl<P: Prefix, T: Drop, A: Allocator> PrefixMap<P, T, A> {
         ensures reads { ReadsPath self.now.nodes (P.path prefix.now) result.1 }
     {
         let mut visits = Visits::new();
-        let (key, len) = parts(prefix);
-        let longest = self.table.find_longest(key, len, &mut visits);
-        (rebuilt_match(key, longest), visits)
+        let path = prefix.path();
+        let longest = self.table.find_longest(path.again(), &mut visits);
+        (rebuilt_match(&path, longest), visits)
     }
 
     /// The value of the longest stored prefix that contains this one: the value that `get_lpm` gives. It builds no prefix.
@@ -141,8 +138,7 @@ impl<P: Prefix, T: Drop, A: Allocator> PrefixMap<P, T, A> {
         requires { P.IsFitting prefix.now }
         ensures { option_copied result ≡ option_map (λ found. found.1) (longest_match self.now.entries (P.path prefix.now)) }
     {
-        let (key, len) = parts(prefix);
-        let longest = self.table.find_longest(key, len, &mut Visits::new());
+        let longest = self.table.find_longest(prefix.path(), &mut Visits::new());
         value_of(longest)
     }
 
@@ -185,9 +181,9 @@ impl<P: Prefix, T: Drop, A: Allocator> PrefixMap<P, T, A> {
         ensures reads { ReadsToMatch self.now.entries self.now.nodes (P.path prefix.now) result.1 }
     {
         let mut visits = Visits::new();
-        let (key, len) = parts(prefix);
-        let shortest = self.table.find_shortest(key, len, &mut visits);
-        (rebuilt_match(key, shortest), visits)
+        let path = prefix.path();
+        let shortest = self.table.find_shortest(path.again(), &mut visits);
+        (rebuilt_match(&path, shortest), visits)
     }
 
     /// The shortest stored prefix that contains this one, without its host bits: the prefix that `get_spm` gives.
@@ -231,25 +227,26 @@ impl<P: Prefix, T: Drop, A: Allocator> PrefixMap<P, T, A> {
     }
 }
 
-/// The prefix of the first bits of a key, without host bits.
+/// Returns the prefix with a path, without host bits.
 #[inline]
-pub(super) fn rebuilt<P: Prefix>(key: P::R, len: u32) -> P
-    requires key { P.R.IsKey key }
-    requires within { len ≤ P.R.bit_width }
-    ensures { result ≡ P.back (take len (P.R.bits key)) }
+pub(super) fn rebuilt<P: Prefix>(path: BitString<P::R>) -> P
+    ensures { result ≡ P.back path }
 {
-    P::from_repr_len(key.keep(len), len as u8)
+    let len = path.len();
+    P::from_repr_len(path.key().keep(len), len as u8)
 }
 
-/// A match of the table, with the prefix in place of its length.
+/// Returns a match of the table with the prefix in place of its length.
 #[inline]
-pub(super) fn rebuilt_match<P: Prefix, T>(key: P::R, found: Option<(u32, &T)>) -> Option<(P, &T)>
-    requires key { P.R.IsKey key }
-    requires within { IfSome found (λ f. f.0 ≤ P.R.bit_width) }
-    ensures { option_map lent_item result ≡ option_map (λ f. (P.back (take f.0 (P.R.bits key)), f.1.now)) found.entry }
+pub(super) fn rebuilt_match<'a, P: Prefix, T>(
+    path: &BitString<P::R>,
+    found: Option<(u32, &'a T)>,
+) -> Option<(P, &'a T)>
+    requires { IfSome found (λ f. f.0 ≤ length path.now) }
+    ensures { option_map lent_item result ≡ option_map (λ f. (P.back (take f.0 path.now), f.1.now)) found.entry }
 {
     match found {
-        Some((len, value)) => Some((rebuilt(key, len), value)),
+        Some((len, value)) => Some((rebuilt(path.first(len)), value)),
         None => None,
     }
 }

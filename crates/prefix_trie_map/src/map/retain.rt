@@ -12,7 +12,7 @@ ghost use Rattle.prefix_trie_map.specs.Whole.{IsWhole};
 use crate::map::PrefixMap;
 use crate::map::lookup::rebuilt;
 use crate::map::visits::Visits;
-use prefix_trie_bits::prefix::Prefix;
+use prefix_trie_bits::prefix::{BitString, Prefix};
 use prefix_trie_table::allocator::nodes::Tick;
 use prefix_trie_table::table::retain::Keep;
 use std::alloc::Allocator;
@@ -42,7 +42,7 @@ impl<P: Prefix, T: Drop, V: Tick, F: FnMut(&P, &T) -> bool + Drop> Keep<P::R, T,
     ghost refuses = { λ f k v f'. CalledAtEntry F.FnMut P.back f k v false f' };
 
     fn keeps(&mut self, key: P::R, len: u32, value: &T) -> bool {
-        let prefix = rebuilt::<P>(key, len);
+        let prefix = rebuilt::<P>(BitString::new(key, len));
         (self.test)(&prefix, value)
     }
 

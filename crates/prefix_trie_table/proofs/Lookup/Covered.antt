@@ -109,7 +109,7 @@ module _ {T : Type 0} where
       cover_within = begins-length e.0 asked cover_match.begins_it
 
       cover_holds : holds_value t.reading (take len b) (length e.0) ≡ true
-      cover_holds = match_held v w t s is b len long e.0 (ap is_some cover_match.stored) cover_match.begins_it
+      cover_holds = match_held v w t s is (take len b) e.0 (ap is_some cover_match.stored) cover_match.begins_it
 
     -- none is left if none is held
     none_left : (first : ℕ) → NoneHeld t.reading (take len b) first (len + 1) → from_length first (covers s.entries (take len b)) ≡ []
@@ -127,7 +127,7 @@ module _ {T : Type 0} where
         let own : length (take m.len asked) ≡ m.len = length-take-le m.len asked held.within in
         take_shortest asked first d (covers s.entries asked) (is_sorted-where_key listing_cmp (λ k. begins k asked) (entries s.entries) (entries_sorted s.entries))
         (λ e has. (cover_match e has).begins_it)
-        (covers-from_IsMatch s.entries asked d (is_match v w t s is b len long m held x read))
+        (covers-from_IsMatch s.entries asked d (is_match v w t s is (take len b) m held x read))
         (omega (arith, own))
         (λ e has from. elim (cases_lt (length e.0) m.len) as (λ _. length (take m.len asked) ≤ length e.0) [
           | inl l ↦ absurd (false≢true (sym (none (length e.0) from l (cover_within e has)) ∙ cover_holds e has))
@@ -214,7 +214,7 @@ module _ {T : Type 0} where
     pub match_there : (m : Match) → GoesOn b len deeper below offset rest first (Some m) v → (m.bit < 31) × (cell_slot m < length w.slots) × (is_some (cell_of w m) ≡ true)
     match_there m gone =
         let held : IsHeld t.reading (take len b) m.len m.bit m.node = (gone.next t.reading t.paths t.holds.hold).2 in
-        (held.small, cell_inside v w t s is b len long m held, cell_some v w t s is b len long m held)
+        (held.small, cell_inside v w t s is (take len b) m held, cell_some v w t s is (take len b) m held)
 
     -- a match is no longer than the string
     pub match_short : (m : Match) → GoesOn b len deeper below offset rest first (Some m) v → m.len ≤ len

@@ -1,6 +1,6 @@
 -- A table after one of its values was overwritten in its cell.
 use Rattle.prefix_trie_table.proofs.Prelude.{◌≡◌, ℕ, ◌+◌, ◌<◌, ◌≤◌, Bool, true, cond, List, length, take, get_or, Option, None, Some, IfSome, MatchOption, is_some, refl, sym, ap, ap₂, ◌∙◌, subst, arith, inr, false≢true, MutBor, option_copied_mut, ghost_name_of, get, get-insert, len-insert, len, listing_total, with_entry, longest_match, State, Node, Seat, Match, has_bit, rank, node_sizes, cell_sizes, chunks_of, bit_of, Store, Holds, SomeTable, CellsHold, with_node, with_value, has_value, IsHeld, NoneHeld, LongestHeld, SeatAt, match_seat, cell_slot, with_slot, with_cell, HasValue, IsSeat, Sized, Sized-prop, Contents, with_value_at, with_match_at, with_longest_at, IsShapeOf, Shaped, same_shape, IsTable}
-use Rattle.std.proofs.lemmas.List.{length-set, length-take-le}
+use Rattle.std.proofs.lemmas.List.{length-set}
 use borrow.Follows.Closed.{read_of}
 use Rattle.prefix_trie_table.proofs.Tree.Invariant.{some_table}
 use Rattle.prefix_trie_table.proofs.Strings.Keys.{same_key}
@@ -134,13 +134,9 @@ module _ {T : Type 0} (v : Store Node) (w : Store (Option T)) (count : ℕ) (s :
       λ i. read_of (ghost_name_of r) (λ x. (written_seen z (Some seat) at seat x refl (t x) (y x) ∙ same seat x refl) i) (kept i)
 
 -- the value of the longest match lent
-module _ {T : Type 0} (v : Store Node) (w : Store (Option T)) (t : SomeTable v w) (s : State T) (is : IsShapeOf v.slots w.slots s) (b : List Bool) (len : ℕ) (long : len ≤ length b)
-    (n : ℕ) where
-  abbrev asked : List Bool
-  asked = take len b
-
-  module _ (m : Match) (held : IsHeld t.reading (take len b) m.len m.bit m.node) where
-    own_seat : IsSeat t.reading (chunks_of (take m.len (take len b))) (bit_of (take m.len (take len b))) (match_seat m)
+module _ {T : Type 0} (v : Store Node) (w : Store (Option T)) (t : SomeTable v w) (s : State T) (is : IsShapeOf v.slots w.slots s) (q : List Bool) (n : ℕ) where
+  module _ (m : Match) (held : IsHeld t.reading q m.len m.bit m.node) where
+    own_seat : IsSeat t.reading (chunks_of (take m.len q)) (bit_of (take m.len q)) (match_seat m)
     own_seat = record {
       node = m.node;
       is = held.is;
@@ -148,42 +144,42 @@ module _ {T : Type 0} (v : Store Node) (w : Store (Option T)) (t : SomeTable v w
       slot_is = ap (λ i. m.node.value_block + rank m.node.value_bitmap i) (sym held.bit_is);
     }
 
-    seat_there : (o : Option Seat) → o ≡ Some (match_seat m) → n ≡ m.len → IfSome o (λ seat. IsSeat t.reading (chunks_of (take n (take len b))) (bit_of (take n (take len b))) seat)
+    seat_there : (o : Option Seat) → o ≡ Some (match_seat m) → n ≡ m.len → IfSome o (λ seat. IsSeat t.reading (chunks_of (take n q)) (bit_of (take n q)) seat)
     seat_there o e f =
-        subst (λ y. IfSome y (λ seat. IsSeat t.reading (chunks_of (take n asked)) (bit_of (take n asked)) seat)) (sym e)
-        (subst (λ k. IsSeat t.reading (chunks_of (take k asked)) (bit_of (take k asked)) (match_seat m)) (sym f) own_seat)
+        subst (λ y. IfSome y (λ seat. IsSeat t.reading (chunks_of (take n q)) (bit_of (take n q)) seat)) (sym e)
+        (subst (λ k. IsSeat t.reading (chunks_of (take k q)) (bit_of (take k q)) (match_seat m)) (sym f) own_seat)
 
-    split_off_map : NoneHeld t.reading (take len b) (m.len + 1) (len + 1) → n ≡ m.len → (r : Option (MutBor T)) →
+    split_off_map : NoneHeld t.reading q (m.len + 1) (length q + 1) → n ≡ m.len → (r : Option (MutBor T)) →
         option_copied_mut r ≡ get_or w.slots (cell_slot m) None →
-        MatchOption r (longest_match s.entries (take len b) ≡ None) (λ x. (n ≤ len) × (longest_match s.entries (take len b) ≡ Some (take n (take len b), x.now)))
-    split_off_map none f None e = absurd (false≢true (ap is_some e ∙ cell_some v w t s is b len long m held))
+        MatchOption r (longest_match s.entries q ≡ None) (λ x. (n ≤ length q) × (longest_match s.entries q ≡ Some (take n q, x.now)))
+    split_off_map none f None e = absurd (false≢true (ap is_some e ∙ cell_some v w t s is q m held))
     split_off_map none f (Some x) e = (
-      omega (arith, f, held.within, length-take-le len b long),
-      longest_at v w t s is b len long m held none x.now (sym e) ∙ ap (λ k. Some (take k asked, x.now)) (sym f),
+      omega (arith, f, held.within),
+      longest_at v w t s is q m held none x.now (sym e) ∙ ap (λ k. Some (take k q, x.now)) (sym f),
     )
 
   -- the seat is that of a beginning
-  pub longest_seat : (longest : Option Match) (o : Option Seat) → SeatAt longest o n → LongestHeld t.reading (take len b) 0 (len + 1) longest →
-      IfSome o (λ seat. IsSeat t.reading (chunks_of (take n (take len b))) (bit_of (take n (take len b))) seat)
-  longest_seat None o at held = subst (λ y. IfSome y (λ seat. IsSeat t.reading (chunks_of (take n asked)) (bit_of (take n asked)) seat)) (sym at) tt
+  pub longest_seat : (longest : Option Match) (o : Option Seat) → SeatAt longest o n → LongestHeld t.reading q 0 (length q + 1) longest →
+      IfSome o (λ seat. IsSeat t.reading (chunks_of (take n q)) (bit_of (take n q)) seat)
+  longest_seat None o at held = subst (λ y. IfSome y (λ seat. IsSeat t.reading (chunks_of (take n q)) (bit_of (take n q)) seat)) (sym at) tt
   longest_seat (Some m) o at held = seat_there m held.0 o at.0 at.1
 
   -- a value written there is written at the longest match
-  pub longest_written : (z : Sized v.slots) (longest : Option Match) (o : Option Seat) → SeatAt longest o n → LongestHeld t.reading (take len b) 0 (len + 1) longest →
-      (seat : Seat) (x : T) → o ≡ Some seat → with_value_at (seen_of v w s z) (take n (take len b)) x ≡ with_longest_at (seen_of v w s z) (take len b) x
+  pub longest_written : (z : Sized v.slots) (longest : Option Match) (o : Option Seat) → SeatAt longest o n → LongestHeld t.reading q 0 (length q + 1) longest →
+      (seat : Seat) (x : T) → o ≡ Some seat → with_value_at (seen_of v w s z) (take n q) x ≡ with_longest_at (seen_of v w s z) q x
   longest_written z None o at held seat x e = absurd (false≢true (ap is_some (sym at ∙ e)))
   longest_written z (Some m) o at held seat x e =
-      let there = longest_there v w t s is b len long m held.0 held.1 in
-      ap (λ k. with_value_at (seen_of v w s z) (take k asked) x) at.1 ∙ sym (ap (λ y. with_match_at (seen_of v w s z) y x) there.1)
+      let there = longest_there v w t s is q m held.0 held.1 in
+      ap (λ k. with_value_at (seen_of v w s z) (take k q) x) at.1 ∙ sym (ap (λ y. with_match_at (seen_of v w s z) y x) there.1)
 
   -- the value lent is that of the longest match
-  pub longest_lent : (longest : Option Match) (o : Option Seat) → SeatAt longest o n → LongestHeld t.reading (take len b) 0 (len + 1) longest →
+  pub longest_lent : (longest : Option Match) (o : Option Seat) → SeatAt longest o n → LongestHeld t.reading q 0 (length q + 1) longest →
       (r : Option (MutBor T)) → MatchOption o (r ≡ None) (λ seat. option_copied_mut r ≡ get_or w.slots (seat.start + seat.offset) None) →
-      MatchOption r (longest_match s.entries (take len b) ≡ None) (λ x. (n ≤ len) × (longest_match s.entries (take len b) ≡ Some (take n (take len b), x.now)))
+      MatchOption r (longest_match s.entries q ≡ None) (λ x. (n ≤ length q) × (longest_match s.entries q ≡ Some (take n q, x.now)))
   longest_lent None o at held r e =
       let none : r ≡ None = subst (λ y. MatchOption y (r ≡ None) (λ seat. option_copied_mut r ≡ get_or w.slots (seat.start + seat.offset) None)) at e in
-      subst (λ y. MatchOption y (longest_match s.entries asked ≡ None) (λ x. (n ≤ len) × (longest_match s.entries asked ≡ Some (take n asked, x.now)))) (sym none)
-      (longest_none v w t s is b len long held)
+      subst (λ y. MatchOption y (longest_match s.entries q ≡ None) (λ x. (n ≤ length q) × (longest_match s.entries q ≡ Some (take n q, x.now)))) (sym none)
+      (longest_none v w t s is q held)
   longest_lent (Some m) o at held r e = split_off_map m held.0 held.1 at.1 r (subst (λ y. MatchOption y (r ≡ None) (λ seat. option_copied_mut r ≡ get_or w.slots (seat.start + seat.offset) None)) at.0 e)
 
 -- the bit of a match is one of a node's

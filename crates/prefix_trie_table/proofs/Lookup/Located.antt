@@ -1,10 +1,10 @@
--- What contracts see of a location.
-use Rattle.prefix_trie_table.proofs.Prelude.{◌≡◌, ℕ, ◌+◌, ◌<◌, true, Bool, List, length, get_or, take, Option, None, Some, is_some, sym, ap, ◌∙◌, get_or_default, get, contains_key, Node, Seat, Location, Stored, Missing, chunks_of, bit_of, Sized, seat_of, Locates, IsLocation, Shaped, IsSeat, Store, IsTable}
+-- What contracts see of a place.
+use Rattle.prefix_trie_table.proofs.Prelude.{◌≡◌, ℕ, ◌+◌, ◌<◌, true, Bool, List, length, get_or, Option, None, Some, is_some, sym, ap, ◌∙◌, get_or_default, get, contains_key, Node, Seat, Location, Stored, Missing, chunks_of, bit_of, Sized, seat_of, Locates, IsLocation, Shaped, IsSeat, Store, IsTable}
 use Rattle.prefix_trie_table.proofs.Tree.Invariant.{some_table}
 use Rattle.prefix_trie_table.proofs.Lookup.Lending.{seen_of, cell_there, value_there, stored_is}
 use Rattle.prefix_trie_table.proofs.Lookup.Locating.{seat_if, is_seat}
 use Rattle.prefix_trie_table.proofs.Tree.Shapes.{shape_entries}
-use Rattle.prefix_trie_table.proofs.Tree.SearchEnds.{way_ends}
+use Rattle.prefix_trie_table.proofs.Lookup.Ends.{last_ends}
 
 module _ {T : Type 0} (v : Store Node) (w : Store (Option T)) (count : ℕ) (s : Shaped v.slots w.slots) (is : IsTable v w count s.0) where
   -- a string is stored if it has a seat
@@ -15,11 +15,11 @@ module _ {T : Type 0} (v : Store Node) (w : Store (Option T)) (count : ℕ) (s :
       ∙ sym (seat_if v t.reading t.paths t.holds.hold q)
 
   -- what a search found is where the string is
-  pub located : (z : Sized v.slots) (b : List Bool) (len : ℕ) (found : Location) → Locates v b len found → IsLocation (seen_of v w s.0 z) (take len b) found
-  located z b len (Stored seat) found = (stored_if (take len b) ∙ ap is_some found, found)
-  located z b len (Missing end) found =
+  pub located : (z : Sized v.slots) (q : List Bool) (found : Location) → Locates v q found → IsLocation (seen_of v w s.0 z) q found
+  located z q (Stored seat) found = (stored_if q ∙ ap is_some found, found)
+  located z q (Missing end) found =
       let t = some_table is in
-      (stored_if (take len b) ∙ ap is_some found.0, way_ends v t.reading t.paths t.holds.hold b len end found.1)
+      (stored_if q ∙ ap is_some found.0, last_ends v t.reading t.paths t.holds.hold q end.reached found.1)
 
   -- a seat that was found, by the table as contracts see it
   module _ (q : List Bool) (seat : Seat) (build : List Node) (same : v.slots ≡ build) (found : seat_of build q ≡ Some seat) where

@@ -26,110 +26,103 @@ module _ {T : Type 0} where
   abbrev pub cell_of : Store (Option T) → Match → Option T
   cell_of w m = get_or w.slots (cell_slot m) None
 
-  module _ (v : Store Node) (w : Store (Option T)) (t : SomeTable v w) (s : State T) (is : IsShapeOf v.slots w.slots s) (b : List Bool) (len : ℕ) (long : len ≤ length b) where
-    -- the bit string that was looked up
-    abbrev pub asked : List Bool
-    asked = take len b
-
-    asked_length : length (take len b) ≡ len
-    asked_length = length-take-le len b long
-
-    -- a beginning is stored if it has a value
-    stored-is : (i : ℕ) → contains_key s.entries (take i (take len b)) ≡ holds_value t.reading (take len b) i
+  module _ (v : Store Node) (w : Store (Option T)) (t : SomeTable v w) (s : State T) (is : IsShapeOf v.slots w.slots s) (q : List Bool) where
+    -- a beginning is stored where it has a value
+    stored-is : (i : ℕ) → contains_key s.entries (take i q) ≡ holds_value t.reading q i
     stored-is i =
-        ap is_some (shape_entries t.reading t.values t.paths v w t.holds s is (take i asked)) ∙ t.holds.cells.set_where (chunks_of (take i asked)) (bit_of (take i asked))
+        ap is_some (shape_entries t.reading t.values t.paths v w t.holds s is (take i q)) ∙ t.holds.cells.set_where (chunks_of (take i q)) (bit_of (take i q))
 
     -- a stored string that begins it is such a beginning
-    pub match_held : (k : List Bool) → contains_key s.entries k ≡ true → begins k (take len b) ≡ true → holds_value t.reading (take len b) (length k) ≡ true
-    match_held k has e = sym (stored-is (length k)) ∙ ap (contains_key s.entries) (begins-take k asked e) ∙ has
+    pub match_held : (k : List Bool) → contains_key s.entries k ≡ true → begins k q ≡ true → holds_value t.reading q (length k) ≡ true
+    match_held k has e = sym (stored-is (length k)) ∙ ap (contains_key s.entries) (begins-take k q e) ∙ has
 
-    no_match : NoneHeld t.reading (take len b) 0 (len + 1) → (o : Option (List Bool × T)) → ((e : List Bool × T) → o ≡ Some e → IsMatch s.entries (take len b) e) → o ≡ None
+    no_match : NoneHeld t.reading q 0 (length q + 1) → (o : Option (List Bool × T)) → ((e : List Bool × T) → o ≡ Some e → IsMatch s.entries q e) → o ≡ None
     no_match none None found = refl
     no_match none (Some e) found =
         let m = found e refl in
-        let within : length e.0 ≤ length asked = begins-length e.0 asked m.begins_it in
-        absurd (true≢false (sym (match_held e.0 (ap is_some m.stored) m.begins_it) ∙ none (length e.0) (omega arith) (omega (arith, asked_length)) within))
+        let within : length e.0 ≤ length q = begins-length e.0 q m.begins_it in
+        absurd (true≢false (sym (match_held e.0 (ap is_some m.stored) m.begins_it) ∙ none (length e.0) (omega arith) (omega arith) within))
 
-    pub longest_none : NoneHeld t.reading (take len b) 0 (len + 1) → longest_match s.entries (take len b) ≡ None
-    longest_none none = no_match none (longest_match s.entries asked) (λ e h. (((match_laws T).longest_is s.entries asked e).0 h).matches)
+    pub longest_none : NoneHeld t.reading q 0 (length q + 1) → longest_match s.entries q ≡ None
+    longest_none none = no_match none (longest_match s.entries q) (λ e h. (((match_laws T).longest_is s.entries q e).0 h).matches)
 
-    pub shortest_none : NoneHeld t.reading (take len b) 0 (len + 1) → shortest_match s.entries (take len b) ≡ None
-    shortest_none none = no_match none (shortest_match s.entries asked) (λ e h. (((match_laws T).shortest_is s.entries asked e).0 h).matches)
+    pub shortest_none : NoneHeld t.reading q 0 (length q + 1) → shortest_match s.entries q ≡ None
+    shortest_none none = no_match none (shortest_match s.entries q) (λ e h. (((match_laws T).shortest_is s.entries q e).0 h).matches)
 
     -- the nodes met
-    pub met_is : (before after : ℕ) → (level : ℕ) × IsEnd t.reading (chunks_of (take len b)) level × (after ≡ before + (level + 1)) → after ≡ before + visits s.nodes (take len b)
-    met_is before after met = met_on_path v w t s is asked before after met
+    pub met_is : (before after : ℕ) → (level : ℕ) × IsEnd t.reading (chunks_of q) level × (after ≡ before + (level + 1)) → after ≡ before + visits s.nodes q
+    met_is before after met = met_on_path v w t s is q before after met
 
-    pub met_none : (before after : ℕ) → NoneHeld t.reading (take len b) 0 (len + 1) → (level : ℕ) × IsEnd t.reading (chunks_of (take len b)) level × (after ≡ before + (level + 1)) → after ≡ before + visits_to_match s.entries s.nodes (take len b)
+    pub met_none : (before after : ℕ) → NoneHeld t.reading q 0 (length q + 1) → (level : ℕ) × IsEnd t.reading (chunks_of q) level × (after ≡ before + (level + 1)) → after ≡ before + visits_to_match s.entries s.nodes q
     met_none before after none met =
-        met_is before after met ∙ ap (λ o. before + visits_of_match s.nodes asked o) (sym (shortest_none none))
+        met_is before after met ∙ ap (λ o. before + visits_of_match s.nodes q o) (sym (shortest_none none))
 
     -- a match, and its cell
-    module _ (m : Match) (held : IsHeld t.reading (take len b) m.len m.bit m.node) where
-      stands_at : (get_or w.slots (cell_slot m) None ≡ t.values (chunks_of (take m.len (take len b))) m.bit) × (cell_slot m < length w.slots)
+    module _ (m : Match) (held : IsHeld t.reading q m.len m.bit m.node) where
+      stands_at : (get_or w.slots (cell_slot m) None ≡ t.values (chunks_of (take m.len q)) m.bit) × (cell_slot m < length w.slots)
       stands_at =
-          let h = value_stands cell_sizes node_sizes t.reading t.paths v t.holds.hold t.values w t.holds.cells (chunks_of (take m.len asked)) m.node m.bit held.is held.set in (h.1, h.2)
+          let h = value_stands cell_sizes node_sizes t.reading t.paths v t.holds.hold t.values w t.holds.cells (chunks_of (take m.len q)) m.node m.bit held.is held.set in (h.1, h.2)
 
       pub cell_inside : cell_slot m < length w.slots
       cell_inside = stands_at.1
 
-      value_at : get s.entries (take m.len (take len b)) ≡ cell_of w m
+      value_at : get s.entries (take m.len q) ≡ cell_of w m
       value_at =
-          shape_entries t.reading t.values t.paths v w t.holds s is (take m.len asked) ∙ ap (t.values (chunks_of (take m.len asked))) held.bit_is ∙ sym stands_at.0
+          shape_entries t.reading t.values t.paths v w t.holds s is (take m.len q) ∙ ap (t.values (chunks_of (take m.len q))) held.bit_is ∙ sym stands_at.0
 
       -- the value is there
       pub cell_some : is_some (cell_of w m) ≡ true
       cell_some =
-          ap is_some (sym value_at) ∙ stored-is m.len ∙ ap (λ o. has_value o (bit_of (take m.len asked))) held.is ∙ ap (has_bit m.node.value_bitmap) held.bit_is ∙ held.set
+          ap is_some (sym value_at) ∙ stored-is m.len ∙ ap (λ o. has_value o (bit_of (take m.len q))) held.is ∙ ap (has_bit m.node.value_bitmap) held.bit_is ∙ held.set
 
-      pub is_match : (x : T) → cell_of w m ≡ Some x → IsMatch s.entries (take len b) (take m.len (take len b), x)
-      is_match x e = record { stored = value_at ∙ e; begins_it = take-begins m.len asked }
+      pub is_match : (x : T) → cell_of w m ≡ Some x → IsMatch s.entries q (take m.len q, x)
+      is_match x e = record { stored = value_at ∙ e; begins_it = take-begins m.len q }
 
-      match_length : length (take m.len (take len b)) ≡ m.len
-      match_length = length-take-le m.len asked held.within
+      match_length : length (take m.len q) ≡ m.len
+      match_length = length-take-le m.len q held.within
 
-      pub longest_at : NoneHeld t.reading (take len b) (m.len + 1) (len + 1) → (x : T) → cell_of w m ≡ Some x → longest_match s.entries (take len b) ≡ Some (take m.len (take len b), x)
-      longest_at none x e = ((match_laws T).longest_is s.entries asked (take m.len asked, x)).1 (record {
+      pub longest_at : NoneHeld t.reading q (m.len + 1) (length q + 1) → (x : T) → cell_of w m ≡ Some x → longest_match s.entries q ≡ Some (take m.len q, x)
+      longest_at none x e = ((match_laws T).longest_is s.entries q (take m.len q, x)).1 (record {
         matches = is_match x e;
         longest = λ k has h.
-            let within : length k ≤ length asked = begins-length k asked h in
-            elim (cases_lt m.len (length k)) as (λ _. length k ≤ length (take m.len asked)) [
-              | inl l ↦ absurd (true≢false (sym (match_held k has h) ∙ none (length k) (omega arith) (omega (arith, asked_length)) within))
+            let within : length k ≤ length q = begins-length k q h in
+            elim (cases_lt m.len (length k)) as (λ _. length k ≤ length (take m.len q)) [
+              | inl l ↦ absurd (true≢false (sym (match_held k has h) ∙ none (length k) (omega arith) (omega arith) within))
               | inr g ↦ omega (arith, match_length)
             ];
       })
 
       -- the longest match is at its string
-      pub longest_there : NoneHeld t.reading (take len b) (m.len + 1) (len + 1) → (x : T) × (longest_match s.entries (take len b) ≡ Some (take m.len (take len b), x))
+      pub longest_there : NoneHeld t.reading q (m.len + 1) (length q + 1) → (x : T) × (longest_match s.entries q ≡ Some (take m.len q, x))
       longest_there none = let x = some-value (cell_of w m) cell_some in (x.0, longest_at none x.0 x.1)
 
-      shortest_at : NoneHeld t.reading (take len b) 0 m.len → (x : T) → cell_of w m ≡ Some x → shortest_match s.entries (take len b) ≡ Some (take m.len (take len b), x)
-      shortest_at none x e = ((match_laws T).shortest_is s.entries asked (take m.len asked, x)).1 (record {
+      shortest_at : NoneHeld t.reading q 0 m.len → (x : T) → cell_of w m ≡ Some x → shortest_match s.entries q ≡ Some (take m.len q, x)
+      shortest_at none x e = ((match_laws T).shortest_is s.entries q (take m.len q, x)).1 (record {
         matches = is_match x e;
         shortest = λ k has h.
-            elim (cases_lt (length k) m.len) as (λ _. length (take m.len asked) ≤ length k) [
-              | inl l ↦ absurd (true≢false (sym (match_held k has h) ∙ none (length k) (omega arith) l (begins-length k asked h)))
+            elim (cases_lt (length k) m.len) as (λ _. length (take m.len q) ≤ length k) [
+              | inl l ↦ absurd (true≢false (sym (match_held k has h) ∙ none (length k) (omega arith) l (begins-length k q h)))
               | inr g ↦ omega (arith, match_length)
             ];
       })
 
       -- the nodes met down to its own
-      own_end : IsEnd t.reading (chunks_of (take m.len (take len b))) (m.len / 5)
+      own_end : IsEnd t.reading (chunks_of (take m.len q)) (m.len / 5)
       own_end =
-          let steps : length (chunks_of (take m.len asked)) ≡ m.len / 5 = path-length (take m.len asked) ∙ ap (λ n. n / 5) match_length in
+          let steps : length (chunks_of (take m.len q)) ≡ m.len / 5 = path-length (take m.len q) ∙ ap (λ n. n / 5) match_length in
           record {
             within = omega (arith, steps);
-            stands = ap (λ p. is_some (t.reading p)) (take_all (m.len / 5) (chunks_of (take m.len asked)) (omega (arith, steps))) ∙ ap is_some held.is;
+            stands = ap (λ p. is_some (t.reading p)) (take_all (m.len / 5) (chunks_of (take m.len q)) (omega (arith, steps))) ∙ ap is_some held.is;
             stops = λ more. absurd (omega (arith, steps));
           }
 
-      met_to_match : (x : T) → shortest_match s.entries (take len b) ≡ Some (take m.len (take len b), x) → visits_to_match s.entries s.nodes (take len b) ≡ m.len / 5 + 1
+      met_to_match : (x : T) → shortest_match s.entries q ≡ Some (take m.len q, x) → visits_to_match s.entries s.nodes q ≡ m.len / 5 + 1
       met_to_match x e =
-          ap (visits_of_match s.nodes asked) e
-          ∙ ap length (filter_agree (λ k. begins k asked && nat_le (length k) (length (take m.len asked))) (λ k. begins k (take m.len asked)) (λ k. begins-within (take m.len asked) asked k (take-begins m.len asked)) (keys s.nodes))
-          ∙ visits_counted t.reading t.paths v t.holds.hold s.nodes (shape_nodes t.reading t.values t.paths v w t.holds s is) (take m.len asked) (m.len / 5) own_end
+          ap (visits_of_match s.nodes q) e
+          ∙ ap length (filter_agree (λ k. begins k q && nat_le (length k) (length (take m.len q))) (λ k. begins k (take m.len q)) (λ k. begins-within (take m.len q) q k (take-begins m.len q)) (keys s.nodes))
+          ∙ visits_counted t.reading t.paths v t.holds.hold s.nodes (shape_nodes t.reading t.values t.paths v w t.holds s is) (take m.len q) (m.len / 5) own_end
 
-      pub met_shortest : NoneHeld t.reading (take len b) 0 m.len → visits_to_match s.entries s.nodes (take len b) ≡ m.len / 5 + 1
+      pub met_shortest : NoneHeld t.reading q 0 m.len → visits_to_match s.entries s.nodes q ≡ m.len / 5 + 1
       met_shortest none = let x = some-value (cell_of w m) cell_some in met_to_match x.0 (shortest_at none x.0 x.1)
 
       -- the result of a call that reads the cell
@@ -138,15 +131,15 @@ module _ {T : Type 0} where
         Hands r = MatchOption r (cell_of w m ≡ None) (λ f. (f.0 ≡ m.len) × (cell_of w m ≡ Some (now f.1)))
 
         abbrev Answers : Option (List Bool × T) → Option (ℕ × R) → Type 0
-        Answers answer r = MatchOption r (answer ≡ None) (λ f. (f.0 ≤ len) × (answer ≡ Some (take f.0 (take len b), now f.1)))
+        Answers answer r = MatchOption r (answer ≡ None) (λ f. (f.0 ≤ length q) × (answer ≡ Some (take f.0 q, now f.1)))
 
-        handed : (answer : Option (List Bool × T)) → ((x : T) → cell_of w m ≡ Some x → answer ≡ Some (take m.len (take len b), x)) → (r : Option (ℕ × R)) → Hands r → Answers answer r
+        handed : (answer : Option (List Bool × T)) → ((x : T) → cell_of w m ≡ Some x → answer ≡ Some (take m.len q, x)) → (r : Option (ℕ × R)) → Hands r → Answers answer r
         handed answer found None e = absurd (false≢true (sym (ap is_some e) ∙ cell_some))
         handed answer found (Some f) e =
-            (omega (arith, e.0, held.within, asked_length), found (now f.1) e.1 ∙ ap (λ n. Some (take n asked, now f.1)) (sym e.0))
+            (omega (arith, e.0, held.within), found (now f.1) e.1 ∙ ap (λ n. Some (take n q, now f.1)) (sym e.0))
 
-        pub longest_handed : NoneHeld t.reading (take len b) (m.len + 1) (len + 1) → (r : Option (ℕ × R)) → Hands r → Answers (longest_match s.entries (take len b)) r
-        longest_handed none = handed (longest_match s.entries asked) (longest_at none)
+        pub longest_handed : NoneHeld t.reading q (m.len + 1) (length q + 1) → (r : Option (ℕ × R)) → Hands r → Answers (longest_match s.entries q) r
+        longest_handed none = handed (longest_match s.entries q) (longest_at none)
 
-        pub shortest_handed : NoneHeld t.reading (take len b) 0 m.len → (r : Option (ℕ × R)) → Hands r → Answers (shortest_match s.entries (take len b)) r
-        shortest_handed none = handed (shortest_match s.entries asked) (shortest_at none)
+        pub shortest_handed : NoneHeld t.reading q 0 m.len → (r : Option (ℕ × R)) → Hands r → Answers (shortest_match s.entries q) r
+        shortest_handed none = handed (shortest_match s.entries q) (shortest_at none)

@@ -1,5 +1,5 @@
 -- Which beginnings of a bit string have values, node by node on its search path.
-use Rattle.prefix_trie_table.proofs.Prelude.{◌≡◌, ℕ, ◌+◌, ◌-◌, ◌*◌, ◌/◌, ◌^◌, ◌<◌, ◌≤◌, Bool, true, false, List, length, length-drop, take, drop, Option, None, Some, is_some, refl, sym, ap, ap₂, ◌∙◌, subst, arith, inl, inr, add-sub_of_le, bit_at, option_or, false≢true, cases_Bool, cases_lt, take-take, drop-take, digits, length-digits, has, value_bit, stands, IsLongest, IsShortest, NoneBegins, bit-clear, value_bit-small, Node, Match, has_bit, node_sizes, chunks_of, bit_of, Store, NodesHold, IsEnd, has_value, holds_value, NoneHeld, IsHeld, IsOnPath, LongestHeld, ShortestHeld}
+use Rattle.prefix_trie_table.proofs.Prelude.{◌≡◌, ℕ, ◌+◌, ◌-◌, ◌*◌, ◌/◌, ◌^◌, ◌<◌, ◌≤◌, Bool, true, false, List, length, length-drop, take, drop, Option, None, Some, is_some, refl, sym, ap, ap₂, ◌∙◌, subst, arith, inl, inr, add-sub_of_le, bit_at, option_or, false≢true, cases_Bool, cases_lt, take-take, drop-take, digits, length-digits, has, value_bit, stands, IsLongest, IsShortest, NoneBegins, bit-clear, value_bit-small, Node, Match, has_bit, node_sizes, chunks_of, bit_of, Store, NodesHold, IsEnd, has_value, holds_value, NoneHeld, IsHeld, IsOnPath, LongestHeld, ShortestHeld, Reached, IsAlong, slot_at}
 use Rattle.std.proofs.lemmas.List.{take_all, length-take-le}
 use Rattle.prefix_trie_table.proofs.Strings.Bits.{has_bit-is}
 use Rattle.prefix_trie_table.proofs.Strings.Digits.{path-length, path-take, rest-is}
@@ -140,6 +140,19 @@ module _ (reading : List ℕ → Option Node) (q : List Bool) (a b c : ℕ) wher
   pub shortest_behind : NoneHeld reading q a b → (o : Option Match) → ShortestHeld reading q b c o → ShortestHeld reading q a c o
   shortest_behind low None high = none_join reading q a b c low high
   shortest_behind low (Some m) high = (high.0, none_join reading q a b m.len low high.1)
+
+-- the node on the search path is the one at its path
+pub along_is : (q : List Bool) (here : Reached) (v : Store Node) → IsAlong q here v → (reading : List ℕ → Option Node) (paths : List (List ℕ)) → NodesHold node_sizes reading paths v → reading (take here.level (chunks_of q)) ≡ Some here.node
+along_is q here v at reading paths hold = deepest_is reading paths v (chunks_of q) here.level (slot_at here) hold (at.deepest reading paths hold) here.node at.node_is
+
+-- the best match so far, after this node was searched
+pub best_now : (q : List Bool) (here : Reached) (v : Store Node) → IsAlong q here v → (reading : List ℕ → Option Node) (paths : List (List ℕ)) → NodesHold node_sizes reading paths v
+    → (best found result : Option Match) → LongestHeld reading q 0 (5 * here.level) best
+    → ((nodes : List ℕ → Option Node) → nodes (take here.level (chunks_of q)) ≡ Some here.node → LongestHeld nodes q (5 * here.level) (5 * here.level + 5) found)
+    → result ≡ option_or found best → LongestHeld reading q 0 (5 * here.level + 5) result
+best_now q here v at reading paths hold best found result so_far in_node is =
+    subst (LongestHeld reading q 0 (5 * here.level + 5)) (sym is)
+    (longest_or reading q 0 (5 * here.level) (5 * here.level + 5) best found so_far (in_node reading (along_is q here v at reading paths hold)))
 
 -- the best so far, after the node on the path was searched
 pub longest_now : (b : List Bool) (len level slot : ℕ) (node : Node) (v : Store Node) → IsOnPath b len level node slot v

@@ -21,7 +21,7 @@ use crate::table::Table;
 use crate::table::lookup::{Reached, next_slot};
 use crate::table::matching::{Match, longest_in};
 use crate::table::seat::Seat;
-use prefix_trie_bits::prefix::{Key, Prefix};
+use prefix_trie_bits::prefix::{BitString, Key, Prefix};
 use std::alloc::Allocator;
 
 /// How many questions go down side by side.
@@ -102,14 +102,14 @@ fn look<K: Key>(
         → HasFound v (asked K.bits question) (5 * level + 5) result.0 }
 {
     let (key, len) = question;
-    let rest = key.behind(5 * level);
+    let rest = BitString::new(key.behind(5 * level), len - 5 * level);
     let here = Reached {
         at: descent.at,
         node,
         level,
     };
-    let found = longer(longest_in(here, rest, len), descent.best);
-    (found, next_slot(here, rest, len))
+    let found = longer(longest_in(here, &rest), descent.best);
+    (found, next_slot(here, &rest))
 }
 
 /// Reads the nodes to which the first `count` ways have come.

@@ -13,7 +13,7 @@ use crate::table::Table;
 use crate::table::lookup::{Reached, root, step_down};
 use crate::table::matching::{Match, value_of_match};
 use prefix_trie_bits::node::{match_mask, string_of, without_bit};
-use prefix_trie_bits::prefix::Key;
+use prefix_trie_bits::prefix::{BitString, Key};
 use std::alloc::Allocator;
 use std::marker::Model;
 
@@ -148,8 +148,8 @@ fn next_match<K: Key, A: Allocator, V: Tick>(
         if let Some(found) = take_match(*here, matches) {
             return Some(found);
         }
-        let rest = key.behind(5 * here.level);
-        let Some(next) = step_down(nodes, *here, rest, len, counter) else {
+        let rest = BitString::new(key.behind(5 * here.level), len - 5 * here.level);
+        let Some(next) = step_down(nodes, *here, &rest, counter) else {
             return None;
         };
         *matches = matches_in(next, key, len);

@@ -1,4 +1,4 @@
-//! Lending a value for writing. What is written through it is all that changes.
+//! Values lent for writing. Only what is written through the reference changes.
 ghost use Rattle.std.specs.Prelude.{◌≡◌, ℕ, ◌+◌, ◌<◌, ◌≤◌, Option, None, Some, take, length, slice_index_or, IsSome, IfSome, MatchOption};
 ghost use Rattle.std.specs.Option.{option_copied_mut};
 ghost use Rattle.std.specs.Borrow.{sem};
@@ -14,10 +14,10 @@ use crate::allocator::nodes::Tick;
 use crate::table::Table;
 use crate::table::matching::{Match, longest_on_path};
 use crate::table::seat::{Location, Seat};
-use prefix_trie_bits::prefix::Key;
+use prefix_trie_bits::prefix::{BitString, Key};
 use std::alloc::Allocator;
 
-/// The value in a cell that has one.
+/// Returns the value in a cell that has one.
 #[inline]
 fn held<T>(cell: &mut Option<T>) -> &mut T
     requires { IsSome cell.old }
@@ -30,9 +30,8 @@ fn held<T>(cell: &mut Option<T>) -> &mut T
     }
 }
 
-/// The value at a seat. Each call that changes a stored value in its place goes through this one.
-// What comes to a table or leaves it does not: an insertion or a removal shifts a list of cells, and a value that moves to another
-// owner fills a vacant cell or leaves one.
+/// Returns the value at a seat. Each call that changes a stored value in its place uses this one.
+// Inserting and removing do not: they shift a list of cells, and a value that moves to another table fills a vacant cell or leaves one.
 #[inline]
 pub fn lend<T: Drop, A: Allocator>(cells: &mut Cells<T, A>, seat: Seat) -> &mut T
     requires { HasValue cells.old seat }
@@ -42,7 +41,7 @@ pub fn lend<T: Drop, A: Allocator>(cells: &mut Cells<T, A>, seat: Seat) -> &mut 
     held(cells.at_mut(seat.start, seat.offset))
 }
 
-/// The value at a seat that may be missing.
+/// Returns the value at a seat, if there is one.
 #[inline]
 fn lend_if<T: Drop, A: Allocator>(cells: &mut Cells<T, A>, seat: Option<Seat>) -> Option<&mut T>
     requires { IfSome seat (λ s. HasValue cells.old s) }
@@ -54,7 +53,7 @@ fn lend_if<T: Drop, A: Allocator>(cells: &mut Cells<T, A>, seat: Option<Seat>) -
     Some(lend(cells, seat))
 }
 
-/// The seat of a match. The number of bits of its string goes to `found`.
+/// Returns the seat of a match, and stores its length in `found`.
 #[inline]
 fn seat_of(longest: Option<Match>, found: &mut u32) -> Option<Seat>
     requires { IfSome longest (λ m. m.bit < 31) }
@@ -68,53 +67,43 @@ fn seat_of(longest: Option<Match>, found: &mut u32) -> Option<Seat>
 impl<T: Drop, A: Allocator, V: Tick> Table<T, A, V> {
     ghost use Rattle.prefix_trie_table.specs.Lending.Tables.{lends_entry_if, lends_longest_if};
 
-    /// The value at a bit string, for writing. What is written through it becomes the value there, and nothing else changes.
-    /// Each node on the way is read once.
+    /// Returns the value at a bit string for writing. Nothing else changes. It reads each node on the search path once.
     ///
     /// ```text
-    /// if let Some(value) = table.find_mut(key, len, &mut counter) {
+    /// if let Some(value) = table.find_mut(path, &mut counter) {
     ///     *value = 7;
     /// }
     /// ```
     #[inline]
-    pub fn find_mut<K: Key>(&mut self, key: K, len: u32, counter: &mut V) -> Option<&mut T>
-        requires key { K.IsKey key }
-        requires within { len ≤ K.bit_width }
-        ensures* writes_back { sem 𝓛 (lends_entry_if T.row A.row V.row A.Allocator V.Tick self.entry (take len (K.bits key)) result) }
-        ensures value { option_copied_mut result ≡ get self.old.entries (take len (K.bits key)) }
-        ensures visits { V.count counter.new
-            ≡ V.count counter.old + visits self.old.nodes (take len (K.bits key)) }
+    pub fn find_mut<K: Key>(&mut self, path: BitString<K>, counter: &mut V) -> Option<&mut T>
+        ensures* writes_back { sem 𝓛 (lends_entry_if T.row A.row V.row A.Allocator V.Tick self.entry path result) }
+        ensures value { option_copied_mut result ≡ get self.old.entries path }
+        ensures visits { V.count counter.new ≡ V.count counter.old + visits self.old.nodes path }
     {
-        let place = self.locate(key, len, counter);
+        let place = self.locate(path.again(), counter);
         match place {
-            Location::Stored(seat) => Some(self.at_mut(key, len, seat)),
+            Location::Stored(seat) => Some(self.at_mut(path, seat)),
             Location::Missing(_) => None,
         }
     }
 
-    /// The value at the longest beginning of a bit string that has one, for writing. The number of bits of that beginning goes
-    /// to `found`. What is written through the answer becomes the value there, and nothing else changes. Each node on the way
-    /// is read once.
+    /// Returns the value of the longest match of a bit string for writing, and stores the match's length in `found`. Nothing else
+    /// changes. It reads each node on the search path once.
     #[inline]
     pub fn find_longest_mut<K: Key>(
         &mut self,
-        key: K,
-        len: u32,
+        path: BitString<K>,
         found: &mut u32,
         counter: &mut V,
     ) -> Option<&mut T>
-        requires key { K.IsKey key }
-        requires within { len ≤ K.bit_width }
-        ensures* writes_back { sem 𝓛 (lends_longest_if T.row A.row V.row A.Allocator V.Tick self.entry (take len (K.bits key)) result) }
+        ensures* writes_back { sem 𝓛 (lends_longest_if T.row A.row V.row A.Allocator V.Tick self.entry path result) }
         ensures value { MatchOption result
-            (longest_match self.old.entries (take len (K.bits key)) ≡ None)
-            (λ value. (found.new ≤ len)
-            × (longest_match self.old.entries (take len (K.bits key))
-            ≡ Some (take found.new (take len (K.bits key)), value.now))) }
-        ensures visits { V.count counter.new
-            ≡ V.count counter.old + visits self.old.nodes (take len (K.bits key)) }
+            (longest_match self.old.entries path ≡ None)
+            (λ value. (found.new ≤ length path)
+            × (longest_match self.old.entries path ≡ Some (take found.new path, value.now))) }
+        ensures visits { V.count counter.new ≡ V.count counter.old + visits self.old.nodes path }
     {
-        let longest = longest_on_path(&self.nodes, key, len, counter);
+        let longest = longest_on_path(&self.nodes, path, counter);
         let seat = seat_of(longest, found);
         lend_if(&mut self.cells, seat)
     }

@@ -1,4 +1,4 @@
-//! Calls that go down once: one says where a value stands or would stand, and the others take that.
+//! Calls that share one search: `locate` returns where a value is stored or would be inserted, and the others take that.
 ghost use Rattle.std.specs.Prelude.{◌≡◌, ◌+◌, ◌≤◌, ℕ, take, false, IfOk, IfErr, MatchResult, Some};
 ghost use Rattle.std.specs.Borrow.{sem};
 ghost use Rattle.std.specs.FinMap.{get, contains_key, len as number_of};
@@ -17,38 +17,35 @@ use crate::table::insertion::{insert_entry, prepare};
 use crate::table::lending::lend;
 use crate::table::lookup::locate_in;
 use crate::table::seat::{Location, SearchEnd, Seat};
-use prefix_trie_bits::prefix::{Key, Refusal, Refused};
+use prefix_trie_bits::prefix::{BitString, Key, Refusal, Refused};
 use std::alloc::Allocator;
 
 impl<T: Drop, A: Allocator, V: Tick> Table<T, A, V> {
     ghost use Rattle.prefix_trie_table.specs.Lending.Tables.{lends_entry};
 
-    /// Where the value at a bit string stands, or where its way ends. Each node on the way is read once.
+    /// Finds where the value at a bit string is stored, or where its search path ends. It reads each node on the path once.
     ///
     /// ```text
-    /// match table.locate(key, len, &mut counter) {
-    ///     Location::Stored(seat) => *table.at_mut(key, len, seat) = 7,
+    /// match table.locate(path.again(), &mut counter) {
+    ///     Location::Stored(seat) => *table.at_mut(path, seat) = 7,
     ///     Location::Missing(end) => {
-    ///         table.place(key, len, end, 7)?;     // does not go down again
+    ///         table.place(path.key(), path.len(), end, 7)?;     // reads no node
     ///     }
     /// }
     /// ```
     #[inline]
-    pub fn locate<K: Key>(&self, key: K, len: u32, counter: &mut V) -> Location
-        requires key { K.IsKey key }
-        requires within { len ≤ K.bit_width }
-        ensures located { IsLocation self.now (take len (K.bits key)) result }
-        ensures visits { V.count counter.new
-            ≡ V.count counter.old + visits self.now.nodes (take len (K.bits key)) }
+    pub fn locate<K: Key>(&self, path: BitString<K>, counter: &mut V) -> Location
+        ensures located { IsLocation self.now path result }
+        ensures visits { V.count counter.new ≡ V.count counter.old + visits self.now.nodes path }
     {
-        locate_in(&self.nodes, key, len, counter)
+        locate_in(&self.nodes, path, counter)
     }
 
-    /// The value at a bit string, which stands at this seat.
+    /// Returns the value at a bit string, which is stored at this seat.
     #[inline]
-    pub fn at<K: Key>(&self, key: K, len: u32, seat: Seat) -> &T
-        requires { seat_of self.now.build (take len (K.bits key)) ≡ Some seat }
-        ensures { get self.now.entries (take len (K.bits key)) ≡ Some result.now }
+    pub fn at<K: Key>(&self, path: BitString<K>, seat: Seat) -> &T
+        requires { seat_of self.now.build path ≡ Some seat }
+        ensures { get self.now.entries path ≡ Some result.now }
     {
         match self.cells.at(seat.start, seat.offset) {
             Some(value) => value,
@@ -56,13 +53,12 @@ impl<T: Drop, A: Allocator, V: Tick> Table<T, A, V> {
         }
     }
 
-    /// The same value, for writing. What is written through it becomes the value there, and nothing else changes: the seat is
-    /// right still.
+    /// Returns the same value for writing. Nothing else changes, so the seat stays right.
     #[inline]
-    pub fn at_mut<K: Key>(&mut self, key: K, len: u32, seat: Seat) -> &mut T
-        requires { seat_of self.old.build (take len (K.bits key)) ≡ Some seat }
-        ensures* writes_back { sem 𝓛 (lends_entry T.row A.row V.row A.Allocator V.Tick self.entry (take len (K.bits key)) result) }
-        ensures value { get self.old.entries (take len (K.bits key)) ≡ Some result.now }
+    pub fn at_mut<K: Key>(&mut self, path: BitString<K>, seat: Seat) -> &mut T
+        requires { seat_of self.old.build path ≡ Some seat }
+        ensures* writes_back { sem 𝓛 (lends_entry T.row A.row V.row A.Allocator V.Tick self.entry path result) }
+        ensures value { get self.old.entries path ≡ Some result.now }
     {
         lend(&mut self.cells, seat)
     }

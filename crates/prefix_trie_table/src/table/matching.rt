@@ -1,24 +1,23 @@
-//! The longest and the shortest beginning of a bit string that has a value.
-ghost use Rattle.std.specs.Prelude.{◌≡◌, ℕ, ◌+◌, ◌*◌, ◌/◌, ◌^◌, ◌<◌, ◌≤◌, Bool, List, Option, None, Some, false, take, length, IfSome, MatchOption, slice_index_or};
-ghost use Rattle.prefix_trie_bits.specs.Windows.{IsRest};
+//! Longest and shortest match on a search path.
+ghost use Rattle.std.specs.Prelude.{◌≡◌, ℕ, ◌+◌, ◌*◌, ◌/◌, ◌<◌, ◌≤◌, Bool, List, Option, None, Some, false, take, drop, length, IfSome, MatchOption, slice_index_or};
 ghost use Rattle.prefix_trie_table.specs.declared.allocator.node.Node.{Node};
 ghost use Rattle.prefix_trie_table.specs.Bitmaps.{has_bit as is_set};
 ghost use Rattle.prefix_trie_table.specs.Cells.{node_sizes};
 ghost use Rattle.prefix_trie_table.specs.Digits.{chunks_of};
-ghost use Rattle.prefix_trie_table.specs.Forest.{NodesHold, SomeNodes, IsEnd};
-ghost use Rattle.prefix_trie_table.specs.Tables.{IsReached};
-ghost use Rattle.prefix_trie_table.specs.Matching.{LackLastBit, IsOnPath, LongestHeld, ShortestHeld, cell_slot, match_seat};
+ghost use Rattle.prefix_trie_table.specs.Forest.{NodesHold, SomeNodes};
+ghost use Rattle.prefix_trie_table.specs.Matching.{LackLastBit, LongestHeld, ShortestHeld, cell_slot, match_seat};
+ghost use Rattle.prefix_trie_table.specs.SearchPaths.{ReadsAlong};
 
 use crate::allocator::blocks::Cells;
 use crate::allocator::node::Node;
 use crate::allocator::nodes::{NodeAllocator, Tick};
 use crate::table::lookup::{Reached, root, step_down};
 use crate::table::seat::Seat;
-use prefix_trie_bits::node::{longest_match, shortest_match, string_of};
-use prefix_trie_bits::prefix::Key;
+use prefix_trie_bits::node::string_of;
+use prefix_trie_bits::prefix::{BitString, Key};
 use std::alloc::Allocator;
 
-/// A value whose string begins the one asked for: how long that string is, the node that holds the value, and its bit.
+/// A stored bit string that begins the one looked up: its length, the node that has its value, and the value bit there.
 #[derive(Clone, Copy)]
 pub struct Match {
     pub len: u32,
@@ -27,7 +26,7 @@ pub struct Match {
 }
 
 impl Match {
-    /// Where the value stands.
+    /// Returns where the value is stored.
     #[inline]
     pub fn seat(self) -> Seat
         requires { self.bit < 31 }
@@ -37,122 +36,107 @@ impl Match {
     }
 }
 
-/// The longest beginning of a bit string that has its value in this node on the way.
+/// Finds the longest match whose value this node on the search path has.
 #[inline(always)]
-pub fn longest_in<K: Key>(here: Reached, rest: K, len: u32) -> Option<Match>
-    requires key { K.IsKey rest }
-    requires within { len ≤ K.bit_width }
-    requires whole { 5 * here.level ≤ len }
+pub fn longest_in<K: Key>(here: Reached, rest: &BitString<K>) -> Option<Match>
+    requires shallow { 5 * here.level ≤ 128 }
     requires few { is_set here.node.value_bitmap 31 ≡ false }
-    ensures { (b : List Bool) (reading : List ℕ → Option Node)
-        → len ≤ length b → IsRest b (5 * here.level) (K.bits rest)
-        → reading (take here.level (chunks_of (take len b))) ≡ Some here.node
-        → LongestHeld reading (take len b) (5 * here.level) (5 * here.level + 5) result }
+    ensures { (q : List Bool) (reading : List ℕ → Option Node)
+        → 5 * here.level ≤ length q → rest.now ≡ drop (5 * here.level) q
+        → reading (take here.level (chunks_of q)) ≡ Some here.node
+        → LongestHeld reading q (5 * here.level) (5 * here.level + 5) result }
 {
-    let depth = 5 * here.level;
-    let Some(bit) = longest_match(here.node.value_bitmap, rest, 0, len - depth) else {
+    let Some(bit) = rest.longest_match(here.node.value_bitmap) else {
         return None;
     };
     Some(Match {
-        len: depth + string_of(bit).0,
+        len: 5 * here.level + string_of(bit).0,
         node: here.node,
         bit,
     })
 }
 
-/// The longest beginning of a bit string that has a value. Each node on the way is read once.
+/// Finds the longest match of a bit string. It reads each node on the search path once.
 #[inline(always)]
 pub fn longest_on_path<K: Key, A: Allocator, V: Tick>(
     nodes: &NodeAllocator<A, V>,
-    key: K,
-    len: u32,
+    path: BitString<K>,
     counter: &mut V,
 ) -> Option<Match>
-    requires key { K.IsKey key }
-    requires within { len ≤ K.bit_width }
     requires sound { (n : SomeNodes nodes.now) × LackLastBit n.reading }
     ensures found { (reading : List ℕ → Option Node) (paths : List (List ℕ))
         → NodesHold node_sizes reading paths nodes.now
-        → LongestHeld reading (take len (K.bits key)) 0 (len + 1) result }
-    ensures visits { (reading : List ℕ → Option Node) (paths : List (List ℕ))
-        → NodesHold node_sizes reading paths nodes.now
-        → (level : ℕ) × IsEnd reading (chunks_of (take len (K.bits key))) level
-        × (V.count counter.new ≡ V.count counter.old + (level + 1)) }
+        → LongestHeld reading path 0 (length path + 1) result }
+    ensures visits { ReadsAlong path nodes.now (V.count counter.old) (V.count counter.new) }
 {
+    // Needed only for the proof: lengths do not overflow.
+    let _ = path.len();
     let mut here = root(nodes, counter);
-    let mut rest = key;
+    let mut rest = path;
     let mut best = None;
-    'descent: loop {
-        best = longest_in(here, rest, len).or(best);
-        let Some(next) = step_down(nodes, here, rest, len, counter) else {
+    'down: loop {
+        best = longest_in(here, &rest).or(best);
+        let Some(next) = step_down(nodes, here, &rest, counter) else {
             return best;
         };
         here = next;
-        rest = rest.behind(5);
+        rest = rest.below();
     }
 }
 
-/// The shortest beginning of a bit string that has its value in this node on the way.
+/// Finds the shortest match whose value this node on the search path has.
 #[inline(always)]
-fn shortest_in<K: Key>(here: Reached, rest: K, len: u32) -> Option<Match>
-    requires key { K.IsKey rest }
-    requires within { len ≤ K.bit_width }
-    requires whole { 5 * here.level ≤ len }
+fn shortest_in<K: Key>(here: Reached, rest: &BitString<K>) -> Option<Match>
+    requires shallow { 5 * here.level ≤ 128 }
     requires few { is_set here.node.value_bitmap 31 ≡ false }
-    ensures found { (b : List Bool) (reading : List ℕ → Option Node)
-        → len ≤ length b → IsRest b (5 * here.level) (K.bits rest)
-        → reading (take here.level (chunks_of (take len b))) ≡ Some here.node
-        → ShortestHeld reading (take len b) (5 * here.level) (5 * here.level + 5) result }
+    ensures found { (q : List Bool) (reading : List ℕ → Option Node)
+        → 5 * here.level ≤ length q → rest.now ≡ drop (5 * here.level) q
+        → reading (take here.level (chunks_of q)) ≡ Some here.node
+        → ShortestHeld reading q (5 * here.level) (5 * here.level + 5) result }
     ensures own { IfSome result (λ m. (5 * here.level ≤ m.len) × (m.len < 5 * here.level + 5)) }
 {
-    let depth = 5 * here.level;
-    let Some(bit) = shortest_match(here.node.value_bitmap, rest, 0, len - depth) else {
+    let Some(bit) = rest.shortest_match(here.node.value_bitmap) else {
         return None;
     };
     Some(Match {
-        len: depth + string_of(bit).0,
+        len: 5 * here.level + string_of(bit).0,
         node: here.node,
         bit,
     })
 }
 
-/// The shortest beginning of a bit string that has a value. The nodes on the way are read once each, down to the one of
-/// that beginning.
+/// Finds the shortest match of a bit string. It reads the nodes of the search path once each, down to the one that has the match.
 #[inline(always)]
 pub fn shortest_on_path<K: Key, A: Allocator, V: Tick>(
     nodes: &NodeAllocator<A, V>,
-    key: K,
-    len: u32,
+    path: BitString<K>,
     counter: &mut V,
 ) -> Option<Match>
-    requires key { K.IsKey key }
-    requires within { len ≤ K.bit_width }
     requires sound { (n : SomeNodes nodes.now) × LackLastBit n.reading }
     ensures found { (reading : List ℕ → Option Node) (paths : List (List ℕ))
         → NodesHold node_sizes reading paths nodes.now
-        → ShortestHeld reading (take len (K.bits key)) 0 (len + 1) result }
-    ensures visits { (reading : List ℕ → Option Node) (paths : List (List ℕ))
-        → NodesHold node_sizes reading paths nodes.now
-        → MatchOption result
-        ((level : ℕ) × IsEnd reading (chunks_of (take len (K.bits key))) level
-        × (V.count counter.new ≡ V.count counter.old + (level + 1)))
+        → ShortestHeld reading path 0 (length path + 1) result }
+    ensures visits { MatchOption result
+        (ReadsAlong path nodes.now (V.count counter.old) (V.count counter.new))
         (λ m. V.count counter.new ≡ V.count counter.old + (m.len / 5 + 1)) }
 {
+    // Needed only for the proof: lengths do not overflow.
+    let _ = path.len();
     let mut here = root(nodes, counter);
-    let mut rest = key;
-    'descent: loop {
-        if let Some(found) = shortest_in(here, rest, len) {
+    let mut rest = path;
+    'down: loop {
+        if let Some(found) = shortest_in(here, &rest) {
             return Some(found);
         }
-        let Some(next) = step_down(nodes, here, rest, len, counter) else {
+        let Some(next) = step_down(nodes, here, &rest, counter) else {
             return None;
         };
         here = next;
-        rest = rest.behind(5);
+        rest = rest.below();
     }
 }
 
-/// The value of a match, behind the length of its string.
+/// Returns the length of a match and its value.
 #[inline(always)]
 pub fn value_of_match<'a, T: Drop, A: Allocator>(
     cells: &'a Cells<T, A>,

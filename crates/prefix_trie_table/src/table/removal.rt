@@ -16,7 +16,7 @@ use crate::allocator::nodes::{NodeAllocator, Tick};
 use crate::table::lookup::descend;
 use arrayvec::ArrayVec;
 use prefix_trie_bits::node::{child_bit_of, count, has_bit, rank, value_bit_of, without_bit};
-use prefix_trie_bits::prefix::Key;
+use prefix_trie_bits::prefix::{BitString, Key};
 use std::alloc::Allocator;
 
 /// Takes all values out, and all nodes but the root.
@@ -153,7 +153,7 @@ pub fn remove_value<K: Key, T: Drop, A: Allocator, V: Tick>(
     ensures node_blocks { SameBlocks nodes.old nodes.new }
     ensures cell_space { Grows cells.old cells.new 24 }
 {
-    let (reached, _) = descend(nodes, key, len, counter);
+    let (reached, _) = descend(nodes, BitString::new(key, len), counter);
     if 5 * reached.level + 5 <= len {
         return None;
     }

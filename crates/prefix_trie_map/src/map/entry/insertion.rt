@@ -89,8 +89,7 @@ impl<'a, P: Prefix, T: Drop, A: Allocator> OccupiedEntry<'a, P, T, A> {
         ensures whole { IsWhole P.R.bit_width (entry_map (Occupied self.entry)) }
     {
         let OccupiedEntry { map, key, seat } = self;
-        let (number, len) = key.parts();
-        let before = mem::replace(map.lend_at(number, len, seat), value);
+        let before = mem::replace(map.lend_at(key.path(), seat), value);
         Put {
             map,
             answer: Ok(Some(before)),

@@ -39,9 +39,9 @@ impl<'a, P: Prefix, T: Drop, A: Allocator> OccupiedEntry<'a, P, T, A> {
         ensures* writes_back { sem 𝓛 (lends_occupied P.row T.row A.row P.R.row P.Debug P.R.PartialEq P.R.Debug A.Allocator self.entry result) }
         ensures value { entry_value (Occupied self.old) ≡ Some result.now }
     {
-        let (number, len) = self.key.parts();
+        let path = self.key.path();
         let seat = self.seat;
-        self.map.lend_at(number, len, seat)
+        self.map.lend_at(path, seat)
     }
 
     /// The same, for as long as the map is lent.
@@ -52,8 +52,7 @@ impl<'a, P: Prefix, T: Drop, A: Allocator> OccupiedEntry<'a, P, T, A> {
         ensures whole { IsWhole P.R.bit_width (entry_map (Occupied self.entry)) }
     {
         let OccupiedEntry { map, key, seat } = self;
-        let (number, len) = key.parts();
-        map.lend_at(number, len, seat)
+        map.lend_at(key.path(), seat)
     }
 
     /// Lets the entry go. A caller's proof learns what the map is then: what the entry had of it, with what was written through
@@ -80,9 +79,8 @@ impl<'a, P: Prefix, T: Drop, A: Allocator> OccupiedEntry<'a, P, T, A> {
         ensures after { self.exit.0.now ≡ with_value_at (entry_map (Occupied self.entry)) (entry_path (Occupied self.entry)) value }
     {
         let key = self.key;
-        let (number, len) = key.parts();
         let seat = self.seat;
-        mem::replace(self.map.lend_at(number, len, seat), value)
+        mem::replace(self.map.lend_at(key.path(), seat), value)
     }
 
     /// Takes the entry out of the map, and hands out its value. All nodes stay, as `PrefixMap::remove_keep_tree` leaves them. Never

@@ -33,9 +33,9 @@ impl<'a, P: Prefix, T: Drop, A: Allocator> VacantEntry<'a, P, T, A> {
         ensures returned { IfErr result (λ refused. refused.value ≡ value) }
     {
         let VacantEntry { map, key, end } = self;
-        let (number, len) = key.parts();
+        let path = key.path();
         let seat = map.insert_located(key.prefix(), end, value)?;
-        Ok(map.lend_at(number, len, seat))
+        Ok(map.lend_at(path, seat))
     }
 
     /// The same with the value that a closure gives. It is called once, when all room is certain.
@@ -48,12 +48,12 @@ impl<'a, P: Prefix, T: Drop, A: Allocator> VacantEntry<'a, P, T, A> {
         ensures value { IfOk result (λ x. F.post f x.now) }
     {
         let VacantEntry { map, key, end } = self;
-        let (number, len) = key.parts();
+        let path = key.path();
         if let Err(cause) = map.reserve(key.prefix(), end) {
             return Err(cause);
         }
         let seat = map.insert_ready(key.prefix(), end, f());
-        Ok(map.lend_at(number, len, seat))
+        Ok(map.lend_at(path, seat))
     }
 
     /// The same with the default value, which is made as `insert_with` calls its closure.

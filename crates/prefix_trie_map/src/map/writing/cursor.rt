@@ -5,7 +5,7 @@ ghost use Rattle.prefix_trie_table.specs.Walking.Cursors.{IsCursorIn, IsCursorIn
 use crate::map::PrefixMap;
 use crate::map::iter::without_host_bits;
 use crate::map::writing::{Source, ValuesOf, WalkOf};
-use prefix_trie_bits::prefix::{Key, Prefix};
+use prefix_trie_bits::prefix::{BitString, Key, Prefix};
 use prefix_trie_table::table::cursor::Cursor;
 use prefix_trie_table::table::seat::Seat;
 use std::alloc::Allocator;
@@ -112,6 +112,7 @@ impl<'a, P: Prefix, T: Drop, A: Allocator> Source for MapCursor<'a, P, T, A> {
 
     #[inline]
     fn lend(&mut self, item: CursorItem<P::R>) -> &mut T {
-        self.map.lend_at(item.key, item.len, item.seat)
+        self.map
+            .lend_at(BitString::new(item.key, item.len), item.seat)
     }
 }

@@ -1,4 +1,4 @@
-use Rattle.std.proofs.Common.{◌≡◌, Result, Ok, Err, OnOk, OnErr, sym, subst}
+use Rattle.std.proofs.Common.{Result, Ok, Err, OnOk, OnErr, sym, subst}
 use Rattle.prefix_trie_bits.proofs.Model.NodeSets.{AreNodes-needed}
 use Rattle.prefix_trie_bits.specs.Laws.Steps.{IsMap}
 use Rattle.prefix_trie_bits.specs.Model.Entries.{Entries, AreWithin}

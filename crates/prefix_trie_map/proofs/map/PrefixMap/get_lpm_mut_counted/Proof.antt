@@ -95,7 +95,7 @@ get_lpm_mut_counted_spec 𝓤 𝓛 𝓜 𝓡 wired P T A R lP lT lA lR cR p p' d
     calls_at ! (framed 𝓤 𝓛.H 𝓜 𝓣) G (h_met 𝓤 𝓛 𝓜 𝓡 (code.calls-prefix_trie_map::map::PrefixMap::lend_longest 𝓡.env wired) P T A R lP lT lA lR cR p p' d d' k k' n n' e e' s s' w w' g g' xP xT xA mp md mk mn me ms mw mg gP gT gA) z
     (and_then ! (get ! refl) (and_then ! (get ! refl) (and_then ! (get ! refl) (and_then ! (get ! refl) (no_more !))))) (λ u.
     let Value : ℕ → Option (MutBor T.Denot) → Type 0 = λ i o. MatchOption o (best ≡ None) (λ value. best ≡ Some (take i path, value.now)) in
-    let Within : ℕ → Option (MutBor T.Denot) → Type 0 = λ i o. IfSome o (λ value. i ≤ p.len_of q.now) in
+    let Within : ℕ → Option (MutBor T.Denot) → Type 0 = λ i o. IfSome o (λ value. i ≤ length (p.path q.now)) in
     let Exact : ℕ → Type 0 = λ j. j ≡ r + nodes_read m.now.nodes path in
     let Bound : ℕ → Type 0 = λ j. j ≤ r + (length path / 5 + 1) in
     use1 𝓛 (later (some (λ (o : Option (MutBor T.Denot)). ((tok₀ ⊛ tok₁ ⊛ ‵ (flft (α ∷ []) full_share) ⊛ ‵ (flft (β ∷ []) full_share) ⊛ others) ⊛ ‵ (Found.own_val o (u ∷ [])))

@@ -1,4 +1,4 @@
-use Rattle.prefix_trie_map.proofs.Prelude.{◌≡◌, ◌+◌, ◌<◌, None, length, get_or, sym, ap₂, subst, arith, get_or_default, IsAnswer, AreAnswered, right_for}
+use Rattle.prefix_trie_map.proofs.Prelude.{◌≡◌, ◌+◌, ◌<◌, ◌≤◌, None, Some, MatchOption, take, length, length-take-le, longest_match, get_or, sym, ap, ap₂, subst, arith, get_or_default, IsAnswer, AreAnswered, right_for}
 use Rattle.prefix_trie_map.proofs.Bulk.{answered_more, right_match}
 use Rattle.prefix_trie_map.proofs.map.bulk.answer_group.Goals as goal
 
@@ -14,14 +14,19 @@ value_found-requires-clause-answer g c =
 
 pub loop-i-preserved : goal.loop-i-preserved
 loop-i-preserved g c = λ so_far.
+    let q = c.parts-question.result in
+    let b = g.P.R.Key.bits q.0 in
+    let within : q.1 ≤ length b = omega (arith, g.met.P.R.Key.key_laws.bits_length q.0 c.parts-question.ensures.key, c.parts-question.ensures.within) in
+    let long = length-take-le q.1 b within in
     let n = c.args.from + c.loop-i.i in
     let p = c.index-prefixes-from.result in
     let entries = c.args.table.now.entries in
     let inside : n < length c.args.prefixes.now = omega (arith, c.loop-i-test.true, c.find_group-count.ensures.group.2) in
     answered_more g.X.Answer.shows (right_for g.X.Answer.right g.P.Prefix.path entries) c.args.prefixes.now c.loop-i.out n _ (c.loop-i.invariant so_far) (omega arith)
     (omega (arith, inside, c.requires.same_length, c.loop-i.auto.out)) inside p c.index-prefixes-from.is c.of_match.result
-    (right_match entries g.X.Answer.right (g.P.R.Key.bits c.parts-question.result.0) c.parts-question.result.1 (g.P.Prefix.path p) c.parts-question.ensures.path
-    c.value_found.result c.value_found.ensures _ c.of_match.ensures)
+    (right_match entries g.X.Answer.right b (take q.1 b) (g.P.Prefix.path p) (ap (λ m. take m b) long) c.parts-question.ensures.path
+    c.value_found.result (subst (λ m. MatchOption c.value_found.result (longest_match entries (take q.1 b) ≡ None) (λ f. (f.0 ≤ m) × (longest_match entries (take q.1 b) ≡ Some (take f.0 (take q.1 b), f.1.now)))) (sym long) c.value_found.ensures)
+    _ c.of_match.ensures)
 
 pub loop-i-init : goal.loop-i-init
 loop-i-init g c = λ so_far.

@@ -1,5 +1,6 @@
 use Rattle.prefix_trie_map.proofs.Prelude.{◌<◌, length, refl, sym, subst, arith, right_for}
 use Rattle.prefix_trie_map.proofs.Bulk.{answered_all, answered_more, read_all, reads_one, right_match}
+use Rattle.prefix_trie_map.proofs.Lookups.{found_within}
 use Rattle.prefix_trie_map.proofs.map.bulk.answer_singly.Goals as goal
 
 pub loop-i-preserved : goal.loop-i-preserved
@@ -12,9 +13,9 @@ loop-i-preserved g c =
     record {
       answered = answered_more g.X.Answer.shows (right_for g.X.Answer.right g.P.Prefix.path entries) ps c.loop-i.out i _ c.loop-i.invariant.answered (omega arith)
           (omega (arith, inside, c.requires.same_length, c.loop-i.auto.out)) inside p c.index-prefixes-i.is c.of_match.result
-          (right_match entries g.X.Answer.right (g.P.R.Key.bits c.parts-key.result.0) c.parts-key.result.1 (g.P.Prefix.path p) c.parts-key.ensures.path
+          (right_match entries g.X.Answer.right (g.P.R.Key.bits c.key.result) c.path-path.result (g.P.Prefix.path p) c.key.ensures.bits c.path-path.ensures.path
           c.find_longest.result c.find_longest.ensures.value _ c.of_match.ensures);
-      read = reads_one g.P.Prefix.path c.args.table.now.nodes ps i inside p c.index-prefixes-i.is _ c.parts-key.ensures.path c.args.visits.now c.loop-i.visits _ c.loop-i.invariant.read c.find_longest.ensures.visits;
+      read = reads_one g.P.Prefix.path c.args.table.now.nodes ps i inside p c.index-prefixes-i.is _ c.path-path.ensures.path c.args.visits.now c.loop-i.visits _ c.loop-i.invariant.read c.find_longest.ensures.visits;
     }
 
 pub loop-i-init : goal.loop-i-init
@@ -26,11 +27,11 @@ bounds-prefixes-i g c = c.loop-i-test.true
 pub bounds-out-i : goal.bounds-out-i
 bounds-out-i g c = omega (arith, c.loop-i-test.true, c.requires.same_length, c.loop-i.auto.out)
 
-pub parts-key-requires : goal.parts-key-requires
-parts-key-requires g c = subst g.P.Prefix.IsFitting (sym c.index-prefixes-i.is) (c.requires.fit c.loop-i.i c.index-prefixes-i.result c.loop-i-test.true)
+pub path-path-requires : goal.path-path-requires
+path-path-requires g c = subst g.P.Prefix.IsFitting (sym c.index-prefixes-i.is) (c.requires.fit c.loop-i.i c.index-prefixes-i.result c.loop-i-test.true)
 
-pub find_longest-requires : goal.find_longest-requires
-find_longest-requires g c = record { key = c.parts-key.ensures.key; within = c.parts-key.ensures.within }
+pub of_match-requires : goal.of_match-requires
+of_match-requires g c = λ k. ((refl, tt), (c.key.ensures.key, found_within c.path-path.result g.P.R.Key.bit_width c.key.ensures.within _ c.find_longest.result c.find_longest.ensures.value))
 
 pub returns : goal.returns
 returns g c =

@@ -1,4 +1,4 @@
-use Rattle.prefix_trie_table.proofs.Prelude.{Some, take, refl, sym, ap, ◌∙◌, get, Contents, with_value_at}
+use Rattle.prefix_trie_table.proofs.Prelude.{Some, refl, sym, ap, ◌∙◌, get, Contents, with_value_at}
 use Rattle.prefix_trie_table.proofs.Tree.Invariant.{some_table}
 use Rattle.prefix_trie_table.proofs.Lookup.Lending.{cell_there, seat_has, left_shape, table_left, stored_is, written_seen}
 use Rattle.prefix_trie_table.proofs.Lookup.Located.{seat_found}
@@ -7,7 +7,7 @@ use Rattle.prefix_trie_table.proofs.table.Table.at_mut.Goals as goal
 pub lend-requires : goal.lend-requires
 lend-requires g c =
     let i = c.self.inside in
-    let q = take c.args.len (g.K.Key.bits c.args.key) in
+    let q = c.args.path in
     let same = ap (λ (s : Contents g.row.T.Denot). s.build) c.self.view_is in
     seat_has i.nodes i.cells (some_table c.self.invariant) q c.args.seat
     (seat_found i.nodes i.cells i.count i.shape c.self.invariant q c.args.seat _ same c.requires)
@@ -15,7 +15,7 @@ lend-requires g c =
 pub invariant_of-self-inside-lent : goal.invariant_of-self-inside-lent
 invariant_of-self-inside-lent g c =
     let i = c.self.inside in
-    let q = take c.args.len (g.K.Key.bits c.args.key) in
+    let q = c.args.path in
     let same = ap (λ (s : Contents g.row.T.Denot). s.build) c.self.view_is in
     let at = seat_found i.nodes i.cells i.count i.shape c.self.invariant q c.args.seat _ same c.requires in
     λ x. (left_shape i.nodes i.cells i.count i.shape c.self.invariant q (Some c.args.seat) at x, (i.sizes, tt))
@@ -23,7 +23,7 @@ invariant_of-self-inside-lent g c =
 pub invariant_of-self-lent : goal.invariant_of-self-lent
 invariant_of-self-lent g c =
     let i = c.self.inside in
-    let q = take c.args.len (g.K.Key.bits c.args.key) in
+    let q = c.args.path in
     let same = ap (λ (s : Contents g.row.T.Denot). s.build) c.self.view_is in
     let at = seat_found i.nodes i.cells i.count i.shape c.self.invariant q c.args.seat _ same c.requires in
     λ x. table_left i.nodes i.cells i.count i.shape c.self.invariant q (Some c.args.seat) at x (c.self-1.given x).0
@@ -31,7 +31,7 @@ invariant_of-self-lent g c =
 pub returns : goal.returns
 returns g c =
     let i = c.self.inside in
-    let q = take c.args.len (g.K.Key.bits c.args.key) in
+    let q = c.args.path in
     let same = ap (λ (s : Contents g.row.T.Denot). s.build) c.self.view_is in
     let at = seat_found i.nodes i.cells i.count i.shape c.self.invariant q c.args.seat _ same c.requires in (
       (

@@ -1,5 +1,6 @@
 use Rattle.prefix_trie_table.proofs.Prelude.{◌+◌, ◌*◌, ◌≤◌, length, take, ap, ◌∙◌, arith, covers, State, IsCovering, Contents, same_shape}
 use Rattle.prefix_trie_table.proofs.Tree.Invariant.{some_table}
+use Rattle.prefix_trie_table.proofs.Lookup.Borders.{on_path_of}
 use Rattle.prefix_trie_table.proofs.Lookup.Covers.{at_root}
 use Rattle.prefix_trie_table.proofs.Lookup.Covered.{all_ahead}
 use Rattle.prefix_trie_table.proofs.Lookup.Matched.{has_nodes}
@@ -13,7 +14,7 @@ stands : (g : _) (c : goal.After-result-1 g) → IsCovering (g.K.Key.bits c.args
 stands g c =
     let b = g.K.Key.bits c.args.key in
     let long : c.args.len ≤ length b = omega (arith, g.met.K.Key.key_laws.bits_length c.args.key c.requires.key, c.requires.within) in
-    at_root b c.args.len _ _ _ _ _ long c.root-here.ensures.on_path c.matches_in.ensures
+    at_root b c.args.len _ _ _ _ _ long (λ s n h. on_path_of s n c.root-here.result c.self.inside.nodes h (c.root-here.ensures.along (take n s))) c.matches_in.ensures
 
 pub invariant_of-result-2 : goal.invariant_of-result-2
 invariant_of-result-2 g c = record {

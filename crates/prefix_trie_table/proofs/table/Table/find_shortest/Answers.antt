@@ -1,39 +1,32 @@
 use Rattle.prefix_trie_table.proofs.Prelude.{◌+◌, ap, sym, ◌∙◌}
 use Rattle.prefix_trie_table.proofs.Tree.Invariant.{some_table}
-use Rattle.prefix_trie_table.proofs.Lookup.Going.{key_long}
 use Rattle.prefix_trie_table.proofs.Lookup.Matched.{has_nodes, cell_inside, shortest_none, shortest_handed, met_none, met_shortest}
 use Rattle.prefix_trie_table.proofs.table.Table.find_shortest.Goals as goal
 
-pub shortest_on_path-requires-clause-sound : goal.shortest_on_path-requires-clause-sound
-shortest_on_path-requires-clause-sound g c = has_nodes _ _ (some_table c.self.invariant)
+pub shortest_on_path-requires : goal.shortest_on_path-requires
+shortest_on_path-requires g c = record { sound = has_nodes _ _ (some_table c.self.invariant) }
 
 pub returns-in_default : goal.returns-in_default
 returns-in_default g c =
     let t = some_table c.self.invariant in
-    let b = g.K.Key.bits c.args.key in
-    let long = key_long _ _ _ (g.met.K.Key.key_laws.bits_length c.args.key c.requires.key) c.requires.within in
     let none = c.in_default.ensures.found t.reading t.paths t.holds.hold in
     rw (← c.self.view_is) (record {
-      value = shortest_none _ _ t _ c.self.inside.shape.1 b c.args.len long none;
-      visits = met_none _ _ t _ c.self.inside.shape.1 b c.args.len long _ _ none (c.in_default.ensures.visits t.reading t.paths t.holds.hold);
+      value = shortest_none _ _ t _ c.self.inside.shape.1 c.args.path none;
+      visits = met_none _ _ t _ c.self.inside.shape.1 c.args.path _ _ none (c.in_default.ensures.visits t.reading t.paths t.holds.hold);
     })
 
 pub value_of_match-requires : goal.value_of_match-requires
 value_of_match-requires g c =
     let t = some_table c.self.invariant in
-    let b = g.K.Key.bits c.args.key in
-    let long = key_long _ _ _ (g.met.K.Key.key_laws.bits_length c.args.key c.requires.key) c.requires.within in
     let held = (c.in-Some.ensures.found t.reading t.paths t.holds.hold).0 in
-    record { bit = held.small; stands = cell_inside _ _ t _ c.self.inside.shape.1 b c.args.len long c.in-Some.found held }
+    record { bit = held.small; stands = cell_inside _ _ t _ c.self.inside.shape.1 c.args.path c.in-Some.found held }
 
 pub returns : goal.returns
 returns g c =
     let t = some_table c.self.invariant in
-    let b = g.K.Key.bits c.args.key in
-    let long = key_long _ _ _ (g.met.K.Key.key_laws.bits_length c.args.key c.requires.key) c.requires.within in
     let found = c.in-Some.ensures.found t.reading t.paths t.holds.hold in
     rw (← c.self.view_is) (record {
-      value = shortest_handed _ _ t _ c.self.inside.shape.1 b c.args.len long c.in-Some.found found.0 (λ x. x.now) found.1 c.value_of_match.result c.value_of_match.ensures;
-      visits = c.in-Some.ensures.visits t.reading t.paths t.holds.hold
-          ∙ ap (λ n. g.V.Tick.count c.args.counter.now + n) (sym (met_shortest _ _ t _ c.self.inside.shape.1 b c.args.len long c.in-Some.found found.0 found.1));
+      value = shortest_handed _ _ t _ c.self.inside.shape.1 c.args.path c.in-Some.found found.0 (λ x. x.now) found.1 c.value_of_match.result c.value_of_match.ensures;
+      visits = c.in-Some.ensures.visits
+          ∙ ap (λ n. g.V.Tick.count c.args.counter.now + n) (sym (met_shortest _ _ t _ c.self.inside.shape.1 c.args.path c.in-Some.found found.0 found.1));
     })

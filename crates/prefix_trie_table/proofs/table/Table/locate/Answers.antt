@@ -1,4 +1,3 @@
-use Rattle.prefix_trie_table.proofs.Prelude.{take}
 use Rattle.prefix_trie_table.proofs.Tree.Invariant.{some_table}
 use Rattle.prefix_trie_table.proofs.Lookup.Matched.{met_on_path}
 use Rattle.prefix_trie_table.proofs.Lookup.Located.{located}
@@ -8,8 +7,7 @@ pub returns : goal.returns
 returns g c =
     let i = c.self.inside in
     let t = some_table c.self.invariant in
-    let b = g.K.Key.bits c.args.key in
     rw (← c.self.view_is) (record {
-      located = located i.nodes i.cells i.count i.shape c.self.invariant i.sizes b c.args.len c.locate_in.result c.locate_in.ensures.located;
-      visits = met_on_path i.nodes i.cells t i.shape.0 i.shape.1 (take c.args.len b) _ _ (c.locate_in.ensures.visits t.reading t.paths t.holds.hold);
+      located = located i.nodes i.cells i.count i.shape c.self.invariant i.sizes c.args.path c.locate_in.result c.locate_in.ensures.located;
+      visits = met_on_path i.nodes i.cells t i.shape.0 i.shape.1 c.args.path _ _ (c.locate_in.ensures.visits t.reading t.paths t.holds.hold);
     })

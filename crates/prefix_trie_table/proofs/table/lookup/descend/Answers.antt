@@ -1,21 +1,24 @@
 use Rattle.prefix_trie_table.proofs.Prelude.{arith}
-use Rattle.prefix_trie_table.proofs.Lookup.Going.{followed_root, followed_next}
+use Rattle.prefix_trie_table.proofs.Lookup.SearchPaths.{followed_root, followed_next, left_length}
 use Rattle.prefix_trie_table.proofs.table.lookup.descend.Goals as goal
 
-pub descent-init : goal.descent-init
-descent-init g c = followed_root g.K.Key.IsKey g.K.Key.bits c.args.key c.args.len c.root-here.result c.args.nodes.now g.K.Key.bit_width c.requires.key (g.met.K.Key.key_laws.bits_length c.args.key c.requires.key) c.requires.within c.root-here.ensures.level c.root-here.ensures.on_path _ _ c.root-here.ensures.visits
+pub down-init : goal.down-init
+down-init g c = followed_root c.args.path c.root-here.result c.args.nodes.now c.root-here.ensures.level (c.root-here.ensures.along c.args.path) (omega (arith, c.len.ensures.len, c.len.ensures.short)) _ _ c.root-here.ensures.visits
 
-pub step_down-requires-clause-on_path : goal.step_down-requires-clause-on_path
-step_down-requires-clause-on_path g c = (g.K.Key.bits c.args.key, c.descent.invariant.on_path, c.descent.invariant.behind)
+pub step_down-requires-clause-along : goal.step_down-requires-clause-along
+step_down-requires-clause-along g c = let at = c.down.invariant in (c.args.path, at.along, at.rest_is, at.short)
 
-pub returns-in_default-clause-reached : goal.returns-in_default-clause-reached
-returns-in_default-clause-reached g c = c.in_default.ensures.step (g.K.Key.bits c.args.key) c.descent.invariant.on_path c.descent.invariant.behind
+pub returns-in_default-clause-last : goal.returns-in_default-clause-last
+returns-in_default-clause-last g c = c.in_default.ensures.step c.args.path c.down.invariant.along c.down.invariant.rest_is
 
-pub behind-rest-requires : goal.behind-rest-requires
-behind-rest-requires g c =
-    let next = c.in-Some.ensures.step (g.K.Key.bits c.args.key) c.descent.invariant.on_path c.descent.invariant.behind in
+pub below-rest-requires : goal.below-rest-requires
+below-rest-requires g c =
+    let at = c.down.invariant in
+    let next = c.in-Some.ensures.step c.args.path at.along at.rest_is in
     let whole = next.1.whole in
-    omega (arith, next.0, whole, c.requires.within)
+    omega (arith, next.0, whole, left_length c.args.path c.down.rest c.down.here.level at.rest_is)
 
-pub descent-preserved : goal.descent-preserved
-descent-preserved g c = followed_next g.K.Key.IsKey g.K.Key.bits c.args.key c.args.len c.descent.here c.args.nodes.now _ _ _ c.descent.invariant c.in-Some.next (c.in-Some.ensures.step (g.K.Key.bits c.args.key) c.descent.invariant.on_path c.descent.invariant.behind) c.behind-rest.result c.behind-rest.ensures.key c.behind-rest.ensures.value _ c.in-Some.ensures.visits
+pub down-preserved : goal.down-preserved
+down-preserved g c =
+    let at = c.down.invariant in
+    rw c.below-rest.ensures (followed_next c.args.path c.down.here c.in-Some.next c.args.nodes.now _ _ _ _ at (c.in-Some.ensures.step c.args.path at.along at.rest_is) c.in-Some.ensures.visits)

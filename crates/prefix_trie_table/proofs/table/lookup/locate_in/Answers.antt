@@ -1,28 +1,34 @@
-use Rattle.prefix_trie_table.proofs.Prelude.{ap, sym, ◌∙◌, arith, value_bit, rest_string}
-use Rattle.prefix_trie_table.proofs.Lookup.Finding.{met_end}
-use Rattle.prefix_trie_table.proofs.Lookup.Locating.{located_below, located_none, located_here}
+use Rattle.prefix_trie_table.proofs.Prelude.{◌<◌, ◌∙◌, length, sym, arith}
+use Rattle.prefix_trie_table.proofs.Lookup.Ends.{seat_none, seat_here}
+use Rattle.prefix_trie_table.proofs.Lookup.Locating.{no_seat}
+use Rattle.prefix_trie_table.proofs.Lookup.SearchPaths.{none_at_end, way_read}
 use Rattle.prefix_trie_table.proofs.table.lookup.locate_in.Goals as goal
 
-pub returns-then-reached-len : goal.returns-then-reached-len
-returns-then-reached-len g c =
+pub returns-then-len-ge5 : goal.returns-then-len-ge5
+returns-then-len-ge5 g c =
     let s = c.requires.sound in
-    let at = c.descend-rest.ensures.reached in
-    record { located = (located_below _ _ _ _ _ _ at s.reading s.paths s.hold (omega (arith, c.if-reached-len.true)), at); visits = met_end _ _ _ _ _ _ at _ _ c.descend-rest.ensures.visits }
+    let e = c.descend-rest.ensures in
+    record {
+      located = (no_seat _ s.reading s.paths s.hold _ (none_at_end _ _ _ e.last s.reading s.paths s.hold _ e.rest (omega (arith, c.len.ensures.len, c.if-len-ge5.true))), e.last);
+      visits = way_read _ _ _ e.last _ _ e.visits;
+    }
 
 pub returns-then-not-has_bit : goal.returns-then-not-has_bit
 returns-then-not-has_bit g c =
     let s = c.requires.sound in
-    let at = c.descend-rest.ensures.reached in
-    let value = c.value_bit_of-bit.ensures.value ∙ ap value_bit (sym (rest_string _ _ _ _ c.descend-rest.ensures.rest at.whole at.long)) in
-    let none = located_none _ _ _ _ _ _ at s.reading s.paths s.hold (omega (arith, c.if-reached-len.false)) c.value_bit_of-bit.result c.value_bit_of-bit.ensures.small
-    value (sym c.has_bit.ensures ∙ c.if-not-has_bit.true) in
-    record { located = (none, at); visits = met_end _ _ _ _ _ _ at _ _ c.descend-rest.ensures.visits }
+    let e = c.descend-rest.ensures in
+    let short : length c.descend-rest.result.1 < 5 = omega (arith, c.len.ensures.len, c.if-len-ge5.false) in
+    record {
+      located = (seat_none _ s.reading s.paths s.hold _ _ e.last _ e.rest short _ c.value_bit-bit.ensures.small c.value_bit-bit.ensures.value (sym c.has_bit.ensures ∙ c.if-not-has_bit.true), e.last);
+      visits = way_read _ _ _ e.last _ _ e.visits;
+    }
 
 pub returns : goal.returns
 returns g c =
     let s = c.requires.sound in
-    let at = c.descend-rest.ensures.reached in
-    let value = c.value_bit_of-bit.ensures.value ∙ ap value_bit (sym (rest_string _ _ _ _ c.descend-rest.ensures.rest at.whole at.long)) in
-    let here = located_here _ _ _ _ _ _ at s.reading s.paths s.hold (omega (arith, c.if-reached-len.false)) c.value_bit_of-bit.result c.value_bit_of-bit.ensures.small
-    value (sym c.has_bit.ensures ∙ c.if-not-has_bit.false) _ c.value_seat.ensures in
-    record { located = here; visits = met_end _ _ _ _ _ _ at _ _ c.descend-rest.ensures.visits }
+    let e = c.descend-rest.ensures in
+    let short : length c.descend-rest.result.1 < 5 = omega (arith, c.len.ensures.len, c.if-len-ge5.false) in
+    record {
+      located = seat_here _ s.reading s.paths s.hold _ _ e.last _ e.rest short _ c.value_bit-bit.ensures.small c.value_bit-bit.ensures.value (sym c.has_bit.ensures ∙ c.if-not-has_bit.false) _ c.value_seat.ensures;
+      visits = way_read _ _ _ e.last _ _ e.visits;
+    }

@@ -1,22 +1,18 @@
 use Rattle.prefix_trie_table.proofs.Prelude.{refl, sym, ◌∙◌, arith}
-use Rattle.prefix_trie_table.proofs.Lookup.Going.{next_bit, next_deep}
+use Rattle.prefix_trie_table.proofs.Lookup.SearchPaths.{next_bit, next_deep, left_length}
 use Rattle.prefix_trie_table.proofs.table.lookup.next_slot.Goals as goal
 
 pub returns-then-not-has_bit : goal.returns-then-not-has_bit
-returns-then-not-has_bit g c = λ b v at rest. record {
-  long = at.long;
-  whole = at.whole;
-  node_is = at.node_is;
-  deepest = at.deepest;
-  missing = λ inside. next_bit b _ _ _ _ _ at _ rest c.child_bit_of-child.result c.child_bit_of-child.ensures.small c.child_bit_of-child.ensures.value inside
-      ∙ sym c.has_bit.ensures ∙ c.if-not-has_bit.true;
+returns-then-not-has_bit g c = λ q v at left. record {
+  along = at;
+  missing = λ _. next_bit q c.args.from v at _ left c.child_bit-child.result c.child_bit-child.ensures.small c.child_bit-child.ensures.value
+      (omega (arith, c.if-len-lt5.false, c.len.ensures.len)) ∙ sym c.has_bit.ensures ∙ c.if-not-has_bit.true;
 }
 
 pub returns : goal.returns
-returns g c = λ b v at rest. record {
-  long = at.long;
-  whole = omega (arith, c.if-from-len.false);
+returns g c = λ q v at left. record {
+  whole = omega (arith, c.if-len-lt5.false, c.len.ensures.len, left_length q _ c.args.from.level left);
   node_is = refl;
-  deepest = next_deep b _ _ _ _ _ at _ rest c.child_bit_of-child.result c.child_bit_of-child.ensures.small c.child_bit_of-child.ensures.value
-      (omega (arith, c.if-from-len.false)) (sym c.has_bit.ensures ∙ c.if-not-has_bit.false) _ c.child_slot.ensures;
+  deepest = next_deep q c.args.from v at _ left c.child_bit-child.result c.child_bit-child.ensures.small c.child_bit-child.ensures.value
+      (omega (arith, c.if-len-lt5.false, c.len.ensures.len)) (sym c.has_bit.ensures ∙ c.if-not-has_bit.false) _ c.child_slot.ensures;
 }

@@ -1,4 +1,4 @@
-use Rattle.prefix_trie_table.proofs.Prelude.{[], take, arith, chunks_of}
+use Rattle.prefix_trie_table.proofs.Prelude.{[], arith, chunks_of}
 use Rattle.prefix_trie_table.proofs.Lookup.Going.{deepest_root, deepest_in}
 use Rattle.prefix_trie_table.proofs.table.lookup.root.Goals as goal
 
@@ -7,10 +7,9 @@ visit-node-requires g c =
     let s = c.requires.sound in
     deepest_in s.reading s.paths c.args.nodes.now [] 0 0 s.hold (deepest_root s.reading s.paths c.args.nodes.now [] s.hold)
 
-pub returns-clause-on_path : goal.returns-clause-on_path
-returns-clause-on_path g c = λ b len long. record {
-  long = long;
+pub returns-clause-along : goal.returns-clause-along
+returns-clause-along g c = λ q. record {
   whole = omega arith;
   node_is = c.visit-node.ensures.node;
-  deepest = λ reading paths hold. deepest_root reading paths c.args.nodes.now (chunks_of (take len b)) hold;
+  deepest = λ reading paths hold. deepest_root reading paths c.args.nodes.now (chunks_of q) hold;
 }

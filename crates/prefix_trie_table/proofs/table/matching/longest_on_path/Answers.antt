@@ -1,59 +1,60 @@
-use Rattle.prefix_trie_table.proofs.Prelude.{◌≡◌, ◌+◌, ◌*◌, take, ◌∙◌, subst, arith, LongestHeld, chunks_of}
-use Rattle.prefix_trie_table.proofs.Lookup.Finding.{reached_end, met_end}
-use Rattle.prefix_trie_table.proofs.Lookup.Going.{followed_root, followed_next}
-use Rattle.prefix_trie_table.proofs.Lookup.Matching.{on_path_is, none_past, longest_none, longest_now}
+use Rattle.prefix_trie_table.proofs.Prelude.{◌≡◌, ◌+◌, ◌*◌, length, take, ◌∙◌, subst, arith, LongestHeld, chunks_of}
+use Rattle.prefix_trie_table.proofs.Lookup.SearchPaths.{followed_root, followed_next, left_length, way_end, way_read}
+use Rattle.prefix_trie_table.proofs.Lookup.Matching.{none_past, longest_none}
+use Rattle.prefix_trie_table.proofs.Lookup.Matching.{along_is, best_now}
 use Rattle.prefix_trie_table.proofs.table.matching.longest_on_path.Goals as goal
 
-pub descent-init : goal.descent-init
-descent-init g c = record {
-  descent = followed_root g.K.Key.IsKey g.K.Key.bits c.args.key c.args.len c.root-here.result c.args.nodes.now g.K.Key.bit_width c.requires.key (g.met.K.Key.key_laws.bits_length c.args.key c.requires.key) c.requires.within c.root-here.ensures.level c.root-here.ensures.on_path _ _ c.root-here.ensures.visits;
+pub down-init : goal.down-init
+down-init g c = record {
+  descent = followed_root c.args.path c.root-here.result c.args.nodes.now c.root-here.ensures.level (c.root-here.ensures.along c.args.path) (omega (arith, c.len.ensures.len, c.len.ensures.short)) _ _ c.root-here.ensures.visits;
   best = λ reading paths hold i from last within. absurd (let top = c.root-here.ensures.level in omega (arith, top));
 }
 
+pub longest_in-requires-clause-shallow : goal.longest_in-requires-clause-shallow
+longest_in-requires-clause-shallow g c =
+    let whole = c.down.invariant.descent.along.whole in
+    omega (arith, whole, c.down.invariant.descent.short)
+
 pub longest_in-requires-clause-few : goal.longest_in-requires-clause-few
 longest_in-requires-clause-few g c =
-    let b = g.K.Key.bits c.args.key in
     let s = c.requires.sound in
-    s.1 (take c.descent.here.level (chunks_of (take c.args.len b))) c.descent.here.node (on_path_is b c.args.len c.descent.here.level _ c.descent.here.node c.args.nodes.now c.descent.invariant.descent.on_path s.0.reading s.0.paths s.0.hold)
+    s.1 (take c.down.here.level (chunks_of c.args.path)) c.down.here.node (along_is c.args.path c.down.here c.args.nodes.now c.down.invariant.descent.along s.0.reading s.0.paths s.0.hold)
 
 pub step_down-requires-clause-sound : goal.step_down-requires-clause-sound
 step_down-requires-clause-sound g c = c.requires.sound.0
 
-pub step_down-requires-clause-on_path : goal.step_down-requires-clause-on_path
-step_down-requires-clause-on_path g c = (g.K.Key.bits c.args.key, c.descent.invariant.descent.on_path, c.descent.invariant.descent.behind)
+pub step_down-requires-clause-along : goal.step_down-requires-clause-along
+step_down-requires-clause-along g c = let at = c.down.invariant.descent in (c.args.path, at.along, at.rest_is, at.short)
 
 pub returns-in_default : goal.returns-in_default
 returns-in_default g c =
-    let b = g.K.Key.bits c.args.key in
-    let q = take c.args.len b in
-    let at = c.descent.invariant in
-    let level = c.descent.here.level in
-    let last = c.in_default.ensures.step b at.descent.on_path at.descent.behind in
+    let q = c.args.path in
+    let at = c.down.invariant in
+    let level = c.down.here.level in
+    let last = c.in_default.ensures.step q at.descent.along at.descent.rest_is in
     record {
       found = λ reading paths hold.
-          let found = longest_now b c.args.len level _ c.descent.here.node c.args.nodes.now at.descent.on_path reading paths hold c.descent.best c.longest_in.result c.or-best.result (at.best reading paths hold) (λ nodes. c.longest_in.ensures b nodes at.descent.on_path.long at.descent.behind) c.or-best.ensures in
-          let end = reached_end b c.args.len level _ c.descent.here.node c.args.nodes.now last reading paths hold in
-          longest_none reading q 0 (5 * level + 5) (c.args.len + 1) c.or-best.result found (none_past reading paths c.args.nodes.now q level (c.args.len + 1) hold end);
-      visits = met_end _ c.args.len level _ c.descent.here.node c.args.nodes.now last _ _ (c.in_default.ensures.visits ∙ at.descent.counted);
+          let found = best_now q c.down.here c.args.nodes.now at.descent.along reading paths hold c.down.best c.longest_in.result c.or-best.result (at.best reading paths hold) (λ nodes. c.longest_in.ensures q nodes at.descent.along.whole at.descent.rest_is) c.or-best.ensures in
+          longest_none reading q 0 (5 * level + 5) (length q + 1) c.or-best.result found (none_past reading paths c.args.nodes.now q level (length q + 1) hold (way_end q c.down.here c.args.nodes.now last reading paths hold));
+      visits = way_read q c.down.here c.args.nodes.now last _ _ (c.in_default.ensures.visits ∙ at.descent.counted);
     }
 
-pub behind-rest-requires : goal.behind-rest-requires
-behind-rest-requires g c =
-    let next = c.in-Some.ensures.step (g.K.Key.bits c.args.key) c.descent.invariant.descent.on_path c.descent.invariant.descent.behind in
-    let whole = next.1.whole in
-    omega (arith, next.0, whole, c.requires.within)
-
-pub descent-preserved : goal.descent-preserved
-descent-preserved g c =
-    let b = g.K.Key.bits c.args.key in
-    let q = take c.args.len b in
-    let at = c.descent.invariant in
-    let next = c.in-Some.ensures.step b at.descent.on_path at.descent.behind in
-    let level = c.descent.here.level in
-    record {
-      descent = followed_next g.K.Key.IsKey g.K.Key.bits c.args.key c.args.len c.descent.here c.args.nodes.now _ _ _ at.descent c.in-Some.next (c.in-Some.ensures.step (g.K.Key.bits c.args.key) at.descent.on_path at.descent.behind) c.behind-rest.result c.behind-rest.ensures.key c.behind-rest.ensures.value _ c.in-Some.ensures.visits;
+pub down-preserved : goal.down-preserved
+down-preserved g c =
+    let q = c.args.path in
+    let at = c.down.invariant in
+    let next = c.in-Some.ensures.step q at.descent.along at.descent.rest_is in
+    rw c.below-rest.ensures (record {
+      descent = followed_next q c.down.here c.in-Some.next c.args.nodes.now _ _ _ _ at.descent next c.in-Some.ensures.visits;
       best = λ reading paths hold.
-          let found = longest_now b c.args.len level _ c.descent.here.node c.args.nodes.now at.descent.on_path reading paths hold c.descent.best c.longest_in.result c.or-best.result (at.best reading paths hold) (λ nodes. c.longest_in.ensures b nodes at.descent.on_path.long at.descent.behind) c.or-best.ensures in
-          let more : 5 * level + 5 ≡ 5 * c.in-Some.next.level = omega (arith, next.0) in
+          let found = best_now q c.down.here c.args.nodes.now at.descent.along reading paths hold c.down.best c.longest_in.result c.or-best.result (at.best reading paths hold) (λ nodes. c.longest_in.ensures q nodes at.descent.along.whole at.descent.rest_is) c.or-best.ensures in
+          let more : 5 * c.down.here.level + 5 ≡ 5 * c.in-Some.next.level = omega (arith, next.0) in
           subst (λ n. LongestHeld reading q 0 n c.or-best.result) more found;
-    }
+    })
+
+pub below-rest-requires : goal.below-rest-requires
+below-rest-requires g c =
+    let at = c.down.invariant.descent in
+    let next = c.in-Some.ensures.step c.args.path at.along at.rest_is in
+    let whole = next.1.whole in
+    omega (arith, next.0, whole, left_length c.args.path c.down.rest c.down.here.level at.rest_is)

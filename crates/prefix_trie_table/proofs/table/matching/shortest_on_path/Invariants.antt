@@ -1,13 +1,13 @@
-use Rattle.prefix_trie_table.proofs.Prelude.{ℕ, ◌+◌, ◌*◌, ◌-◌, List, Option, take, Node, node_sizes, NodesHold, NoneHeld}
-use Rattle.prefix_trie_table.proofs.Lookup.Going.{IsFollowed}
+use Rattle.prefix_trie_table.proofs.Prelude.{ℕ, ◌+◌, ◌-◌, ◌*◌, List, length, Option, Node, node_sizes, NodesHold, NoneHeld}
+use Rattle.prefix_trie_table.proofs.Lookup.SearchPaths.{IsFollowed}
 use Rattle.prefix_trie_table.proofs.table.matching.shortest_on_path.Given as goal
 
-abbrev pub invariant-descent : goal.invariant-descent
-invariant-descent g l =
+abbrev pub invariant-down : goal.invariant-down
+invariant-down g l =
     record {
-      descent : IsFollowed g.K.Key.IsKey g.K.Key.bits l.fn.key l.len l.here l.nodes l.rest (g.V.Tick.count l.fn.counter) (g.V.Tick.count l.counter);
-      none : (reading : List ℕ → Option Node) (paths : List (List ℕ)) → NodesHold node_sizes reading paths l.nodes → NoneHeld reading (take l.len (g.K.Key.bits l.fn.key)) 0 (5 * l.here.level);
+      descent : IsFollowed l.fn.path l.here l.nodes l.rest (g.V.Tick.count l.fn.counter) (g.V.Tick.count l.counter);
+      none : (reading : List ℕ → Option Node) (paths : List (List ℕ)) → NodesHold node_sizes reading paths l.nodes → NoneHeld reading l.fn.path 0 (5 * l.here.level);
     }
 
-abbrev pub decreases-descent : goal.decreases-descent
-decreases-descent g l = l.len + 5 - 5 * l.here.level
+abbrev pub decreases-down : goal.decreases-down
+decreases-down g l = length l.fn.path + 5 - 5 * l.here.level

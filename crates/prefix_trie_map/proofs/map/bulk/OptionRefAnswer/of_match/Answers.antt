@@ -1,4 +1,4 @@
-use Rattle.prefix_trie_map.proofs.Prelude.{ap, sym, ◌∙◌}
+use Rattle.prefix_trie_map.proofs.Prelude.{sym, ◌∙◌}
 use Rattle.prefix_trie_map.proofs.Bulk.{values_found}
 use Rattle.prefix_trie_map.proofs.map.bulk.OptionRefAnswer.of_match.Goals as goal
 

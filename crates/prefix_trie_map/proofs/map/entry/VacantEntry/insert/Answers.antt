@@ -12,19 +12,13 @@ insert_located-requires-clause-absent g c = let e = c.args.self in ap (λ k. con
 pub insert_located-requires-clause-end : goal.insert_located-requires-clause-end
 insert_located-requires-clause-end g c = let e = c.args.self in subst (λ k. IsSearchEnd e.map.now.build (g.P.Prefix.path k) e.end) (sym c.prefix.ensures.value) e.ends
 
-pub lend_at-requires-clause-key : goal.lend_at-requires-clause-key
-lend_at-requires-clause-key g c = c.parts-number.ensures.key
-
-pub lend_at-requires-clause-within : goal.lend_at-requires-clause-within
-lend_at-requires-clause-within g c = c.parts-number.ensures.within
-
-pub lend_at-requires-clause-seat : goal.lend_at-requires-clause-seat
-lend_at-requires-clause-seat g c = ap (seat_of c.insert_located.new.self.build) (c.parts-number.ensures.path ∙ sym (ap g.P.Prefix.path c.prefix.ensures.value)) ∙ c.in_ok-seat.ensures.seat
+pub lend_at-requires : goal.lend_at-requires
+lend_at-requires g c = ap (seat_of c.insert_located.new.self.build) (c.path-path.ensures.path ∙ sym (ap g.P.Prefix.path c.prefix.ensures.value)) ∙ c.in_ok-seat.ensures.seat
 
 pub returns : goal.returns
 returns g c =
     let is = c.prefix.ensures.value in
-    let at = c.parts-number.ensures.path in
+    let at = c.path-path.ensures.path in
     let placed = c.in_ok-seat.ensures in
     let found = ap (get c.insert_located.new.self.entries) (ap g.P.Prefix.path is ∙ sym at) ∙ c.lend_at.ensures.value in (
       (refl, (λ w _. Fills-lent c.args.self c.insert_located.new.self c.prefix.result.now _ c.args.value w is at placed.entries placed.nodes placed.step), tt),

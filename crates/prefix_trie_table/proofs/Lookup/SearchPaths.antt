@@ -1,0 +1,119 @@
+-- The search path of a bit string, as `descend` follows it.
+use Rattle.prefix_trie_table.proofs.Prelude.{◌≡◌, ℕ, ◌+◌, ◌-◌, ◌*◌, ◌<◌, ◌≤◌, Bool, true, false, inl, inr, List, length, length-drop, get_or, take, drop, Option, None, Some, refl, sym, ap, ◌∙◌, subst, arith, nat_le, leb-true, nat_tests, cases_Bool, number, has, value_bit, Node, has_bit, rank, node_sizes, chunks_of, bit_of, Store, Reached, IsSlot, IsNodeAt, Holds, child_slot, NodesHold, Deepest, IsEnd, has_value, IsSeat, Seat, value_seat, IsAlong, IsLast, ReadsAlong, slot_at}
+use Rattle.std.proofs.lemmas.List.{drop-drop, take_all}
+use Rattle.prefix_trie_table.proofs.Strings.Bits.{has_bit-is}
+use Rattle.prefix_trie_table.proofs.Strings.Digits.{path-length, step-is, rest-is}
+use Rattle.prefix_trie_table.proofs.Lookup.Going.{deepest_is, deepest_more, deepest_end}
+use Rattle.prefix_trie_table.proofs.Lookup.Finding.{none_below}
+use Rattle.prefix_trie_table.proofs.Tree.Invariant.{deepest_there}
+use Rattle.prefix_trie_table.proofs.Tree.Trees.{is_none-None}
+
+-- a search path was followed to this node, and each node on it was visited once
+pub record IsFollowed (q : List Bool) (here : Reached) (v : Store Node) (rest : List Bool) (before now : ℕ) : Type 0 where
+  pub along : IsAlong q here v
+  pub rest_is : rest ≡ drop (5 * here.level) q
+  pub short : length q ≤ 128
+  pub counted : now ≡ before + (here.level + 1)
+
+-- so many bits are left
+pub left_length : (q r : List Bool) (level : ℕ) → r ≡ drop (5 * level) q → length r ≡ length q - 5 * level
+left_length q r level e = ap length e ∙ length-drop (5 * level) q
+
+-- at the root
+pub followed_root : (q : List Bool) (here : Reached) (v : Store Node) → here.level ≡ 0 → IsAlong q here v → length q ≤ 128 → (before now : ℕ) → now ≡ before + 1 → IsFollowed q here v q before now
+followed_root q here v top along short before now met =
+    record { along = along; rest_is = ap (λ n. drop (5 * n) q) (sym top); short = short; counted = omega (arith, top, met) }
+
+-- one step more
+pub followed_next : (q : List Bool) (here next : Reached) (v : Store Node) (r : List Bool) (before now after : ℕ) → IsFollowed q here v r before now
+    → (next.level ≡ here.level + 1) × IsAlong q next v → after ≡ now + 1 → IsFollowed q next v (drop 5 r) before after
+followed_next q here next v r before now after at step met =
+    let deeper : 5 * here.level + 5 ≡ 5 * next.level = omega (arith, step.0) in
+    record {
+      along = step.1;
+      rest_is = ap (drop 5) at.rest_is ∙ drop-drop 5 (5 * here.level) q ∙ ap (λ n. drop n q) deeper;
+      short = at.short;
+      counted = omega (arith, met, step.0, at.counted);
+    }
+
+module _ (q : List Bool) (here : Reached) (v : Store Node) (at : IsAlong q here v) (r : List Bool) (left : r ≡ drop (5 * here.level) q) where
+  -- the bit read of what is left is that of the next step, and the child there the next node
+  module _ (x : ℕ) (small : x < 32) (read : x ≡ number (take 5 r)) (more : 5 ≤ length r) where
+    inside : here.level < length (chunks_of q)
+    inside = omega (arith, path-length q, left_length q r here.level left, more)
+
+    step : get_or (chunks_of q) here.level 0 ≡ x
+    step = step-is q here.level inside ∙ ap (λ s. number (take 5 s)) (sym left) ∙ sym read
+
+    pub next_bit : has_bit here.node.child_bitmap (get_or (chunks_of q) here.level 0) ≡ has here.node.child_bitmap x
+    next_bit = ap (has_bit here.node.child_bitmap) step ∙ has_bit-is here.node.child_bitmap x small
+
+    pub next_deep : has here.node.child_bitmap x ≡ true → (to : ℕ) → to ≡ child_slot here.node x → (reading : List ℕ → Option Node) (paths : List (List ℕ))
+        → NodesHold node_sizes reading paths v → Deepest reading (chunks_of q) (here.level + 1) to v
+    next_deep set to is reading paths hold =
+        subst (λ i. Deepest reading (chunks_of q) (here.level + 1) i v) (sym is)
+        (deepest_more reading paths v (chunks_of q) here.level (slot_at here) hold (at.deepest reading paths hold) (rank here.node.child_bitmap x) here.node inside at.node_is
+        (next_bit ∙ set) (ap (rank here.node.child_bitmap) (sym step)))
+
+  -- the value bit read of what is left is the string's own
+  pub own_bit : length r < 5 → (x : ℕ) → x ≡ value_bit r → bit_of q ≡ x
+  own_bit short x read =
+      ap value_bit (rest-is q ∙ ap (λ n. drop (5 * n) q) last ∙ sym left) ∙ sym read
+    where
+      last : length (chunks_of q) ≡ here.level
+      last = let whole = at.whole in omega (arith, path-length q, left_length q r here.level left, short, whole)
+
+module _ (q : List Bool) (here : Reached) (v : Store Node) (at : IsLast q here v) (reading : List ℕ → Option Node) (paths : List (List ℕ)) (hold : NodesHold node_sizes reading paths v) where
+  -- the search path was followed to its end
+  pub way_end : IsEnd reading (chunks_of q) here.level
+  way_end =
+      let whole = at.along.whole in
+      deepest_end reading paths v (chunks_of q) here.level (slot_at here) hold (at.along.deepest reading paths hold) here.node (omega (arith, path-length q, whole)) at.along.node_is
+      (λ more. at.missing (omega (arith, path-length q, more)))
+
+  -- the string's own node is missing where a whole step is left
+  pub way_none : (r : List Bool) → r ≡ drop (5 * here.level) q → 5 ≤ length r → reading (chunks_of q) ≡ None
+  way_none r left more = none_below reading paths v (chunks_of q) here.level hold way_end (omega (arith, path-length q, left_length q r here.level left, more))
+
+  -- so there is no value
+  pub none_at_end : (r : List Bool) → r ≡ drop (5 * here.level) q → 5 ≤ length r → has_value (reading (chunks_of q)) (bit_of q) ≡ false
+  none_at_end r left more = ap (λ o. has_value o (bit_of q)) (way_none r left more)
+
+  -- where no whole step is left, the last node is the string's own
+  module _ (r : List Bool) (left : r ≡ drop (5 * here.level) q) (short : length r < 5) where
+    steps : length (chunks_of q) ≤ here.level
+    steps = let whole = at.along.whole in omega (arith, path-length q, left_length q r here.level left, short, whole)
+
+    pub way_own : reading (chunks_of q) ≡ Some here.node
+    way_own = ap reading (sym (take_all here.level (chunks_of q) steps))
+        ∙ deepest_is reading paths v (chunks_of q) here.level (slot_at here) hold (at.along.deepest reading paths hold) here.node at.along.node_is
+
+    pub way_slot : IsSlot reading (chunks_of q) (slot_at here)
+    way_slot = subst (λ p. IsSlot reading p (slot_at here)) (take_all here.level (chunks_of q) steps) (at.along.deepest reading paths hold).stands
+
+    -- and the value bit tells whether there is one
+    module _ (x : ℕ) (small : x < 31) (read : x ≡ value_bit r) where
+      pub own_value : has_value (reading (chunks_of q)) (bit_of q) ≡ has here.node.value_bitmap x
+      own_value = ap (λ o. has_value o (bit_of q)) way_own ∙ ap (has_bit here.node.value_bitmap) (own_bit q here v at.along r left short x read) ∙ has_bit-is here.node.value_bitmap x (omega (arith, small))
+
+      pub own_seat : has here.node.value_bitmap x ≡ true → (seat : Seat) → seat ≡ value_seat here.node x → IsSeat reading (chunks_of q) (bit_of q) seat
+      own_seat set seat is = record {
+        node = here.node;
+        is = way_own;
+        set = ap (λ o. has_value o (bit_of q)) (sym way_own) ∙ own_value ∙ set;
+        slot_is = ap (λ s. s.start + s.offset) is ∙ ap (λ i. here.node.value_block + rank here.node.value_bitmap i) (sym (own_bit q here v at.along r left short x read));
+      }
+
+  -- a node stands there
+  pub last_there : IsNodeAt reading (slot_at here)
+  last_there = deepest_there (at.along.deepest reading paths hold)
+
+-- no value where the node is missing
+pub no_value_at_end : {T : Type 0} (q : List Bool) (here : Reached) (v : Store Node) (at : IsLast q here v) (reading : List ℕ → Option Node) (paths : List (List ℕ)) (values : List ℕ → ℕ → Option T)
+    (w : Store (Option T)) (holds : Holds reading values paths v w) (r : List Bool) → r ≡ drop (5 * here.level) q → 5 ≤ length r → values (chunks_of q) (bit_of q) ≡ None
+no_value_at_end q here v at reading paths values w holds r left more =
+    is_none-None (values (chunks_of q) (bit_of q)) (holds.cells.set_where (chunks_of q) (bit_of q) ∙ none_at_end q here v at reading paths holds.hold r left more)
+
+-- and as many nodes were visited as levels were passed
+pub way_read : (q : List Bool) (here : Reached) (v : Store Node) → IsLast q here v → (before after : ℕ) → after ≡ before + (here.level + 1) → ReadsAlong q v before after
+way_read q here v at before after visits reading paths hold = (here.level, way_end q here v at reading paths hold, visits)

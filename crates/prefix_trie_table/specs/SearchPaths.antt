@@ -1,0 +1,29 @@
+-- The search path of a bit string down the nodes. This project's own.
+use Rattle.std.specs.Prelude.{◌≡◌, ℕ, ◌+◌, ◌*◌, ◌≤◌, Bool, false, List, Option, length, slice_index_or}
+use Rattle.prefix_trie_table.specs.declared.allocator.node.Node.{Node}
+use Rattle.prefix_trie_table.specs.declared.table.lookup.Reached.{Reached}
+use Rattle.prefix_trie_table.specs.Bitmaps.{has_bit}
+use Rattle.prefix_trie_table.specs.Cells.{node_at, node_sizes}
+use Rattle.prefix_trie_table.specs.Digits.{chunks_of}
+use Rattle.prefix_trie_table.specs.Store.{Store}
+use Rattle.prefix_trie_table.specs.Forest.{NodesHold, Deepest, IsEnd}
+
+-- the slot of a node that was reached
+abbrev pub slot_at : Reached → ℕ
+slot_at here = here.at.start + here.at.offset
+
+-- this node is on the search path of a bit string
+pub record IsAlong (q : List Bool) (here : Reached) (v : Store Node) : Type 0 where
+  pub whole : 5 * here.level ≤ length q
+  pub node_is : here.node ≡ node_at v.slots (slot_at here)
+  pub deepest : (reading : List ℕ → Option Node) (paths : List (List ℕ)) → NodesHold node_sizes reading paths v → Deepest reading (chunks_of q) here.level (slot_at here) v
+
+-- it is the last one
+pub record IsLast (q : List Bool) (here : Reached) (v : Store Node) : Type 0 where
+  pub along : IsAlong q here v
+  pub missing : 5 * here.level + 5 ≤ length q → has_bit here.node.child_bitmap (slice_index_or (chunks_of q) here.level 0) ≡ false
+
+-- each node on the search path of a bit string was visited once
+abbrev pub ReadsAlong : List Bool → Store Node → ℕ → ℕ → Type 0
+ReadsAlong q v before after =
+    (reading : List ℕ → Option Node) (paths : List (List ℕ)) → NodesHold node_sizes reading paths v → (level : ℕ) × IsEnd reading (chunks_of q) level × (after ≡ before + (level + 1))
