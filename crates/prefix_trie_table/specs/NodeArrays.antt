@@ -1,5 +1,5 @@
 -- An array of nodes that is kept as two: what contracts see of it. This project's own.
-use Rattle.std.specs.Prelude.{◌≡◌, ℕ, ◌+◌, ◌*◌, ◌/◌, ◌%◌, ◌<◌, ◌⊎◌, List, [], ◌∷◌}
+use Rattle.std.specs.Prelude.{◌≡◌, ℕ, ◌/◌, ◌%◌, ◌<◌, ◌⊎◌, List, [], ◌∷◌}
 use Rattle.std.proofs.Common.{lit<}
 use Rattle.prefix_trie_table.specs.Cells.{blank_node}
 use Rattle.prefix_trie_table.specs.declared.allocator.node.Node.{Node}

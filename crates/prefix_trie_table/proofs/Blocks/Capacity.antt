@@ -1,6 +1,5 @@
 -- How the capacity of an array grows over several steps; no fact on its blocks depends on it.
-use Rattle.prefix_trie_table.proofs.Prelude.{◌≡◌, ℕ, ◌+◌, ◌*◌, ◌/◌, ◌<◌, ◌≤◌, ◌⊎◌, inl, inr, ⊎_elim, List, Option, None, refl, sym, ap, subst, arith, Node, Store, UsedBlock, Sound, NodesHold, CellsHold, node_sizes, cell_sizes, State, IsTable, IsTrie}
-use Rattle.std.specs.Prelude.{max}
+use Rattle.prefix_trie_table.proofs.Prelude.{◌≡◌, ℕ, ◌+◌, ◌/◌, ◌≤◌, ◌⊎◌, inl, inr, ⊎_elim, List, Option, refl, subst, arith, Node, Store, UsedBlock, Sound, NodesHold, CellsHold, node_sizes, cell_sizes, State, IsTable, IsTrie}
 use Rattle.prefix_trie_table.specs.Growth.{Reserves}
 
 pub Reserves-same : (before needed : ℕ) → Reserves before needed before

@@ -1,9 +1,9 @@
--- A list moves to a block without items: for insertions and removals that change the block.
-use Rattle.prefix_trie_table.proofs.Prelude.{◌≡◌, ℕ, ◌+◌, ◌-◌, ◌≤◌, List, [], ◌∷◌, ◌++◌, length, map, take, drop, replicate, Option, sym, ap, ◌∙◌, subst, arith, length-replicate, take-take, take_at, drop_at, take-replicate, drop-replicate, replicate-append-replicate, All-head, run, put_run, swap_runs, Store, UsedBlock, Sound, Turnover, none_of, extent, free_extents, filled}
+-- A list that moves to a block with no items.
+use Rattle.prefix_trie_table.proofs.Prelude.{◌≡◌, ℕ, ◌+◌, ◌-◌, ◌<◌, ◌≤◌, ◌⊎◌, inl, inr, cases_lt, get_or, List, [], ◌∷◌, ◌++◌, length, map, take, drop, replicate, Option, sym, ap, ◌∙◌, subst, arith, length-replicate, take-take, take_at, drop_at, take-replicate, drop-replicate, replicate-append-replicate, All-head, run, put_run, swap_runs, Store, UsedBlock, Sound, Turnover, none_of, extent, free_extents, filled}
 use Rattle.prefix_trie_table.proofs.Blocks.Tilings.{Disjoint}
 use Rattle.prefix_trie_table.proofs.Blocks.Soundness.{Sound-exchanged, Sound-written, block_inside, fits_block, block_slots, filled_none, others}
 use Rattle.prefix_trie_table.proofs.Blocks.Turnovers.{Turnover-written}
-use Rattle.prefix_trie_table.proofs.Blocks.RunLemmas.{Apart, length-put_run, get_or-put_run_out, put_run_part, swap_runs_is, exchanged, length-swap_runs}
+use Rattle.prefix_trie_table.proofs.Blocks.RunLemmas.{Apart, length-put_run, get_or-put_run_out, put_run_part, swap_runs_is, exchanged, length-swap_runs, vacant_at}
 
 -- a block in use, and another that holds none
 module _ {S : Type 0} (vacant : S) (a b : UsedBlock S) (live : List (UsedBlock S)) (v : Store S) (none : b.items ≡ []) (s : Sound vacant (a ∷ b ∷ live) v) where
@@ -60,6 +60,20 @@ module _ {S : Type 0} (vacant : S) (a b : UsedBlock S) (live : List (UsedBlock S
         omega (arith, is_count, (block_inside vacant a (b ∷ live) v s).before, fits_block vacant a (b ∷ live) v s),
         omega (arith, (block_inside vacant b (a ∷ live) v sound).before, space),
       )
+
+  -- and they have no slot in common
+  pub runs_apart : (a.start + count ≤ b.start) ⊎ (b.start + count ≤ a.start)
+  runs_apart =
+      let s = Sound-exchanged vacant b a live v sound in
+      let apart = All-head (Disjoint (extent a)) (extent b) (map extent live ++ free_extents v.tiers) (others vacant a (b ∷ live) v s) in
+      elim (cases_lt b.start (a.start + count)) [
+        | inl h ↦ inr (let p = apart (omega (arith, h, fits_block vacant a (b ∷ live) v s, is_count)) in omega (arith, p, space))
+        | inr h ↦ inl h
+      ]
+
+  -- the second is vacant, if it holds none
+  pub second_vacant : b.items ≡ [] → (k : ℕ) → k < count → get_or v.slots (b.start + k) vacant ≡ vacant
+  second_vacant none = vacant_at v.slots b.start count vacant (run_none vacant a b live v none (Sound-exchanged vacant b a live v sound) count space)
 
   -- and no block is taken if the second then holds these items
   pub put_over_turned : (w : Store S) (items : List S) → length items ≤ b.size → w ≡ record v { slots = put_run (put_run v.slots a.start (replicate count vacant)) b.start items } → (o : Option ℕ) → Turnover v w none_of o o

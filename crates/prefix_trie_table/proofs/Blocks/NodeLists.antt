@@ -1,6 +1,5 @@
 -- The nodes of two arrays of node parts of one length.
-use Rattle.prefix_trie_table.proofs.Prelude.{◌≡◌, ℕ, zero, suc, ◌+◌, ◌*◌, ◌/◌, ◌%◌, ◌<◌, ⊎_elim, subst, List, [], ◌∷◌, ◌++◌, length, get_or, set, take, insert, remove, swap, refl, sym, ap, ap₂, ◌∙◌, arith, Node, length-set}
-use Rattle.std.proofs.lemmas.List.Edits.{swap_is}
+use Rattle.prefix_trie_table.proofs.Prelude.{◌≡◌, ℕ, zero, suc, ◌+◌, ◌*◌, ◌/◌, ◌%◌, ◌<◌, ⊎_elim, subst, List, [], ◌∷◌, ◌++◌, length, get_or, set, take, insert, remove, refl, ap, arith, Node}
 use Rattle.prefix_trie_table.specs.NodeArrays.{FitsByte, FitsOver, node_of, nodes_of}
 use Rattle.prefix_trie_table.specs.declared.allocator.node_array.Head.{Head}
 
@@ -49,17 +48,6 @@ get_or-nodes [] ns i h n d e w = absurd (omega (arith, w))
 get_or-nodes (g ∷ hs) [] i h n d e w = absurd (omega (arith, e))
 get_or-nodes (g ∷ hs) (m ∷ ns) zero h n d e w = refl
 get_or-nodes (g ∷ hs) (m ∷ ns) (suc i) h n d e w = get_or-nodes hs ns i h n d (omega (arith, e)) (omega (arith, w))
-
-pub nodes-swap : (hs : List Head) (ns : List ℕ) (a b : ℕ) (h : Head) (n : ℕ) (d : Node) → length hs ≡ length ns → a < length hs → b < length hs →
-    nodes_of (swap hs a b) (swap ns a b) ≡ swap (nodes_of hs ns) a b
-nodes-swap hs ns a b h n d e in_a in_b =
-    let long = length-nodes hs ns e in
-    let one : length (set hs a (get_or hs b h)) ≡ length (set ns a (get_or ns b n)) = length-set hs a (get_or hs b h) ∙ e ∙ sym (length-set ns a (get_or ns b n)) in
-    (λ i. nodes_of (sym (swap_is hs a b h in_a in_b) i) (sym (swap_is ns a b n (omega (arith, e, in_a)) (omega (arith, e, in_b))) i))
-    ∙ nodes-set (set hs a (get_or hs b h)) (set ns a (get_or ns b n)) b (get_or hs a h) (get_or ns a n) one
-    ∙ (λ i. set (nodes-set hs ns a (get_or hs b h) (get_or ns b n) e i) b (get_or-nodes hs ns a h n d e in_a i))
-    ∙ ap (λ x. set (set (nodes_of hs ns) a x) b (get_or (nodes_of hs ns) a d)) (get_or-nodes hs ns b h n d e in_b)
-    ∙ swap_is (nodes_of hs ns) a b d (omega (arith, long, in_a)) (omega (arith, long, in_b))
 
 -- both sizes come back from one byte
 pub packed : (n : Node) → FitsByte n → node_of (record { value_bitmap = n.value_bitmap; child_bitmap = n.child_bitmap; value_block = n.value_block; child_block = n.child_block }) (n.value_tier + 8 * n.child_tier) ≡ n

@@ -1,6 +1,7 @@
 -- A write to one run of a list leaves each run that is apart from it.
-use Rattle.prefix_trie_table.proofs.Prelude.{set, ◌≡◌, ◌≢◌, ℕ, zero, suc, ◌+◌, ◌-◌, ◌<◌, ◌≤◌, ◌⊎◌, inl, inr, ⊎_elim, List, ◌++◌, length, get_or, take, drop, insert, remove, swap, refl, sym, ap, ◌∙◌, subst, arith, append_assoc, length-append, length-take, length-drop, take-append-drop, drop-drop, replicate, take_at, drop_at, take-append-le, drop-append-le, set-append_left, set-append_right, drop-set-lt, get_or-take, get_or-drop, ext_get_or, length-replicate, get_or-set_other, insert-append_left, insert-append_right, remove-append_left, remove-append_right, length-insert, length-remove, length-swap, Swapped, swapped_from_swap, get_or-insert_below, get_or-insert_at, get_or-insert_above, cases_lt, cases_eq, drop-append-drop, run, put_run, swap_runs, get_or-replicate}
+use Rattle.prefix_trie_table.proofs.Prelude.{set, ◌≡◌, ◌≢◌, ℕ, zero, suc, ◌+◌, ◌-◌, ◌<◌, ◌≤◌, ◌⊎◌, inl, inr, ⊎_elim, List, [], ◌∷◌, ◌++◌, length, get_or, take, drop, insert, remove, swap, refl, sym, ap, ◌∙◌, subst, arith, append_assoc, length-append, length-take, length-drop, take-append-drop, drop-drop, replicate, take_at, drop_at, take-append-le, drop-append-le, set-append_left, set-append_right, drop-set-lt, get_or-take, get_or-drop, ext_get_or, length-replicate, get_or-set_other, insert-append_left, insert-append_right, remove-append_left, remove-append_right, length-insert, length-remove, length-swap, Swapped, swapped_from_swap, get_or-insert_below, get_or-insert_at, get_or-insert_above, cases_lt, cases_eq, drop-append-drop, run, put_run, swap_runs, get_or-replicate}
 use Rattle.std.proofs.lemmas.List.{length-take-le, length-set, take_all, get_or-set_same}
+use Rattle.std.proofs.lemmas.List.Edits.{swap_is}
 
 -- the m places from a on and the n from b on have none in common
 abbrev pub Apart : ℕ → ℕ → ℕ → ℕ → Type 0
@@ -81,6 +82,23 @@ module _ {X : Type 0} where
   get_or-put_run_out xs a ys k d inside out =
       let one : (zs : List X) → get_or zs k d ≡ get_or (run zs k 1) 0 d = λ zs. ap (λ m. get_or zs m d) (let e : k ≡ k + 0 = omega arith in e) ∙ sym (get_or-run zs k 1 0 d (omega arith)) in
       one (put_run xs a ys) ∙ ap (λ zs. get_or zs 0 d) (run-put_run_other xs a ys k 1 inside (λ h. let q = out h in omega arith)) ∙ sym (one xs)
+
+  -- two slots are written in either order
+  pub set-comm : (xs : List X) (i j : ℕ) (x y : X) → i ≢ j → set (set xs i x) j y ≡ set (set xs j y) i x
+  set-comm [] i j x y ne = refl
+  set-comm (z ∷ xs) zero zero x y ne = absurd (ne refl)
+  set-comm (z ∷ xs) zero (suc j) x y ne = refl
+  set-comm (z ∷ xs) (suc i) zero x y ne = refl
+  set-comm (z ∷ xs) (suc i) (suc j) x y ne = ap (λ ys. z ∷ ys) (set-comm xs i j x y (λ e. ne (ap suc e)))
+
+  -- moving an item to a vacant slot is exchanging the two
+  pub moved_is : (xs : List X) (a b : ℕ) (v : X) → a < length xs → b < length xs → a ≢ b → get_or xs b v ≡ v → set (set xs b (get_or xs a v)) a v ≡ swap xs a b
+  moved_is xs a b v in_a in_b ne none =
+      set-comm xs b a (get_or xs a v) v (λ e. ne (sym e)) ∙ ap (λ w. set (set xs a w) b (get_or xs a v)) (sym none) ∙ swap_is xs a b v in_a in_b
+
+  -- the slots of a vacant run are vacant
+  pub vacant_at : (xs : List X) (b n : ℕ) (v : X) → run xs b n ≡ replicate n v → (k : ℕ) → k < n → get_or xs (b + k) v ≡ v
+  vacant_at xs b n v empty k h = sym (get_or-run xs b n k v h) ∙ ap (λ zs. get_or zs k v) empty ∙ get_or-replicate n k v v h
 
   -- where each item is after two runs were exchanged
   pub record Exchanged (xs zs : List X) (a b n : ℕ) (d : X) : Type 0 where
@@ -184,6 +202,12 @@ module _ {X : Type 0} (vacant x : X) (xs : List X) (a b n i : ℕ) (from_within 
 
   wrote : (k : ℕ) → k ≢ b + i → get_or (set (swap_runs xs a b i) (b + i) x) k vacant ≡ get_or (swap_runs xs a b i) k vacant
   wrote k ne = get_or-set_other (swap_runs xs a b i) (b + i) k x vacant ne
+
+  -- the slots of those after it are vacant until they move there
+  pub still_none : (k : ℕ) → k < n - i → get_or (set (swap_runs xs a b i) (b + i) x) (b + i + 1 + k) vacant ≡ vacant
+  still_none k h =
+      wrote (b + i + 1 + k) (λ e. omega arith) ∙ one.elsewhere (b + i + 1 + k) (λ p. grind (arith, apart, offset)) (λ p. omega arith)
+      ∙ ap (λ m. get_or xs m vacant) (let e : b + i + 1 + k ≡ b + (i + 1 + k) = omega arith in e) ∙ none (i + 1 + k) (omega (arith, h, offset))
 
   -- nothing is left where the items were
   left : (j : ℕ) → j < n → get_or both_parts (a + j) vacant ≡ vacant

@@ -1,5 +1,5 @@
 //! The array of slots that `Blocks` cuts into blocks. Contracts see a list and a capacity.
-ghost use Rattle.std.specs.Prelude.{◌≡◌, ℕ, ◌+◌, ◌<◌, ◌≤◌, ◌++◌, [], ◌∷◌, List, length, swap, take, insert, remove, slice_index_or, slice_set, OnOk, OnErr, IsOk};
+ghost use Rattle.std.specs.Prelude.{◌≡◌, ◌≢◌, ℕ, ◌+◌, ◌<◌, ◌≤◌, ◌++◌, [], ◌∷◌, List, length, take, insert, remove, slice_index_or, slice_set, OnOk, OnErr, IsOk};
 ghost use Rattle.prefix_trie_table.specs.Growth.{Reserves};
 
 use crate::allocator::slots::{Slot, reserve, shift_in, shift_out, shrink};
@@ -43,11 +43,12 @@ pub trait SlotArray<S: Slot>: Drop {
         ensures value { result ≡ slice_index_or (list self.old) at result }
         ensures capacity { capacity self.new ≡ capacity self.old };
 
-    /// Exchanges two slots.
-    fn exchange(&mut self, a: usize, b: usize)
-        requires a { a < length (list self.old) }
-        requires b { b < length (list self.old) }
-        ensures list { list self.new ≡ swap (list self.old) a b }
+    /// Moves the value of a slot to another slot, and makes the first one vacant.
+    fn move_to(&mut self, from: usize, to: usize)
+        requires from { from < length (list self.old) }
+        requires to { to < length (list self.old) }
+        requires other { from ≢ to }
+        ensures list { list self.new ≡ slice_set (slice_set (list self.old) to (slice_index_or (list self.old) from S.vacant)) from S.vacant }
         ensures capacity { capacity self.new ≡ capacity self.old };
 
     /// Inserts a value at `from`, moves the values of `from..to` to the next slot, and drops the value of `to`.
@@ -113,8 +114,9 @@ impl<S: Slot, A: Allocator> SlotArray<S> for Vec<S, A> {
     }
 
     #[inline]
-    fn exchange(&mut self, a: usize, b: usize) {
-        self.swap(a, b);
+    fn move_to(&mut self, from: usize, to: usize) {
+        let value = mem::replace(&mut self[from], S::vacant());
+        self[to] = value;
     }
 
     #[inline]

@@ -188,9 +188,11 @@ impl<A: Allocator> SlotArray<Node> for NodeArray<A> {
     }
 
     #[inline]
-    fn exchange(&mut self, a: usize, b: usize) {
-        self.heads.swap(a, b);
-        self.tiers.swap(a, b);
+    fn move_to(&mut self, from: usize, to: usize) {
+        self.heads[to] = self.heads[from];
+        self.heads[from] = head_of(Node::blank());
+        self.tiers[to] = self.tiers[from];
+        self.tiers[from] = 0;
     }
 
     #[inline]

@@ -156,18 +156,25 @@ pub(super) fn shift_out<S: Drop, A: Allocator>(
     carried
 }
 
-/// Exchanges two runs of `count` slots.
-pub(super) fn exchange<S: Slot, R: SlotArray<S>>(slots: &mut R, a: usize, b: usize, count: usize)
-    requires a_within { a + count ≤ length (R.list slots.old) }
-    requires b_within { b + count ≤ length (R.list slots.old) }
-    ensures items { R.list slots.new ≡ swap_runs (R.list slots.old) a b count }
+/// Moves `count` values to vacant slots, and makes their old slots vacant. So the two runs of slots are exchanged.
+pub(super) fn move_run<S: Slot, R: SlotArray<S>>(
+    slots: &mut R,
+    from: usize,
+    to: usize,
+    count: usize,
+)
+    requires from_within { from + count ≤ length (R.list slots.old) }
+    requires to_within { to + count ≤ length (R.list slots.old) }
+    requires apart { (from + count ≤ to) ⊎ (to + count ≤ from) }
+    requires vacant { (k : ℕ) → k < count → slice_index_or (R.list slots.old) (to + k) S.vacant ≡ S.vacant }
+    ensures items { R.list slots.new ≡ swap_runs (R.list slots.old) from to count }
     ensures len { length (R.list slots.new) ≡ length (R.list slots.old) }
     ensures capacity { R.capacity slots.new ≡ R.capacity slots.old }
 {
     // Read for the proof alone: the length fits into a `usize`.
     let _count = slots.count();
     for i in 0..count {
-        slots.exchange(a + i, b + i);
+        slots.move_to(from + i, to + i);
     }
 }
 
@@ -192,9 +199,9 @@ pub(super) fn move_in<S: Slot, R: SlotArray<S>>(
 {
     // Read for the proof alone.
     let _count = slots.count();
-    exchange(slots, from, to, offset);
+    move_run(slots, from, to, offset);
     slots.put(to + offset, value);
-    exchange(slots, from + offset, to + offset + 1, count - offset);
+    move_run(slots, from + offset, to + offset + 1, count - offset);
 }
 
 /// Writes items over the slots from `from` on.

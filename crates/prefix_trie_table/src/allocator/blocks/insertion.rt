@@ -42,6 +42,7 @@ impl<S: Slot, R: SlotArray<S>, A: Allocator> Blocks<S, R, A> {
     }
 
     /// Inserts a value into the list of a block. If the block is full, the list moves to a free block of the smallest size that fits.
+    #[inline(always)]
     fn insert_into(&mut self, k: usize, start: u32, count: u32, offset: u32, value: S) -> BlockRef
         requires in_use { InUse S.vacant self.old k start count }
         requires some { 0 < count }

@@ -1,11 +1,11 @@
 //! Taking a free block, freeing one, and moving a list to another block.
-ghost use Rattle.std.specs.Prelude.{◌≡◌, ℕ, ◌+◌, ◌<◌, ◌≤◌, [], ◌∷◌, List, length, None, Some};
+ghost use Rattle.std.specs.Prelude.{◌≡◌, ℕ, ◌+◌, ◌<◌, ◌≤◌, ◌⊎◌, [], ◌∷◌, List, length, slice_index_or, None, Some};
 ghost use Rattle.prefix_trie_table.specs.Runs.{swap_runs};
 ghost use Rattle.prefix_trie_table.specs.Store.{UsedBlock, Sound, Turnover, tier_at, tier_sizes, size_in, free_in, none_of, block};
 
 use crate::allocator::array::SlotArray;
 use crate::allocator::blocks::Blocks;
-use crate::allocator::slots::{Slot, exchange};
+use crate::allocator::slots::{Slot, move_run};
 use std::alloc::Allocator;
 
 impl<S: Slot, R: SlotArray<S>, A: Allocator> Blocks<S, R, A> {
@@ -38,6 +38,8 @@ impl<S: Slot, R: SlotArray<S>, A: Allocator> Blocks<S, R, A> {
     pub(super) fn move_items(&mut self, from: u32, to: u32, count: u32)
         requires from_within { from + count ≤ length self.old.slots }
         requires to_within { to + count ≤ length self.old.slots }
+        requires apart { (from + count ≤ to) ⊎ (to + count ≤ from) }
+        requires vacant { (k : ℕ) → k < count → slice_index_or self.old.slots (to + k) S.vacant ≡ S.vacant }
         ensures slots { self.new ≡ record self.old { slots = swap_runs self.old.slots from to count } }
         ensures len { length self.new.slots ≡ length self.old.slots }
         ensures sound { (a b : UsedBlock S) (live : List (UsedBlock S))
@@ -45,6 +47,6 @@ impl<S: Slot, R: SlotArray<S>, A: Allocator> Blocks<S, R, A> {
             → length a.items ≡ count → b.items ≡ [] → count ≤ b.size
             → Sound S.vacant (record a { items = [] } ∷ record b { items = a.items } ∷ live) self.new }
     {
-        exchange(&mut self.slots, from as usize, to as usize, count as usize);
+        move_run(&mut self.slots, from as usize, to as usize, count as usize);
     }
 }

@@ -1,4 +1,4 @@
-use Rattle.prefix_trie_table.proofs.Prelude.{◌≡◌, suc, ◌+◌, ◌-◌, ◌<◌, length, insert, remove, get_or, set, sym, ap, ◌∙◌, arith, rules}
+use Rattle.prefix_trie_table.proofs.Prelude.{◌≡◌, suc, ◌-◌, ◌<◌, insert, remove, get_or, set, sym, ap, ◌∙◌, arith, rules}
 use Rattle.prefix_trie_table.proofs.Blocks.Shifts.{carried_in, carried_back, carried_before}
 use Rattle.prefix_trie_table.proofs.allocator.slots.shift_out.Goals as goal
 

@@ -6,5 +6,5 @@ use Rattle.prefix_trie_table.proofs.allocator.blocks.Blocks.move_items.Goals as 
 pub returns-clause-sound : goal.returns-clause-sound
 returns-clause-sound g c = λ a b live s from to count none space.
     let xs = (g.R.SlotArray.list c.self.inside.slots) in
-    let written : (g.R.SlotArray.list c.exchange.new.slots) ≡ swap_runs xs a.start b.start c.args.count = c.exchange.ensures.items ∙ ap (λ n. swap_runs xs n c.args.to c.args.count) (sym from) ∙ ap (λ n. swap_runs xs a.start n c.args.count) (sym to) in
-    rw written (Sound-capacity g.S.Slot.vacant _ _ (g.R.SlotArray.capacity c.exchange.new.slots) (Sound-moved g.S.Slot.vacant a b live _ none (rw (← c.self.view_is) at s) c.args.count count space))
+    let written : (g.R.SlotArray.list c.move_run.new.slots) ≡ swap_runs xs a.start b.start c.args.count = c.move_run.ensures.items ∙ ap (λ n. swap_runs xs n c.args.to c.args.count) (sym from) ∙ ap (λ n. swap_runs xs a.start n c.args.count) (sym to) in
+    rw written (Sound-capacity g.S.Slot.vacant _ _ (g.R.SlotArray.capacity c.move_run.new.slots) (Sound-moved g.S.Slot.vacant a b live _ none (rw (← c.self.view_is) at s) c.args.count count space))

@@ -1,7 +1,7 @@
 use Rattle.prefix_trie_table.proofs.Prelude.{ℕ, ◌+◌, ◌-◌, ◌<◌, ◌≤◌, ◌∷◌, [], None, Some, refl, sym, ap, ◌∙◌, subst, arith, Sound, Turnover, tier_at, tier_sizes, size_in, free_in, many_of, none_of, block}
 use Rattle.prefix_trie_table.proofs.Blocks.BySize.{size_at, tiers_long, many_here, many-none}
 use Rattle.prefix_trie_table.proofs.Blocks.Soundness.{Sound-exchanged, has_place}
-use Rattle.prefix_trie_table.proofs.Blocks.Moving.{runs_within, moved_turned}
+use Rattle.prefix_trie_table.proofs.Blocks.Moving.{runs_within, runs_apart, second_vacant, moved_turned}
 use Rattle.prefix_trie_table.proofs.Blocks.ResultCases.{told_ok, told_err}
 use Rattle.prefix_trie_table.proofs.Blocks.Turnovers.{size_kept, Turnover-as, Turnover-then, Turnover-moved}
 use Rattle.prefix_trie_table.proofs.allocator.blocks.Blocks.step_down.Given as given
@@ -53,8 +53,14 @@ move_items-requires g c =
     let size : ℕ = size_in (tier_sizes c.args.self.now.tiers) c.args.to in
     let made : Turnover v w (many_of size (1 - free_in v.tiers size)) None None = told_ok c.obtain.result c.if-is_err.ensures.value c.obtain.ensures.made in
     let space : c.args.count ≤ (tier_at c.obtain.new.self.tiers c.args.to).size = omega (arith, c.requires.holds, size_kept v w c.args.to made.keeps.sizes, size_at v.tiers c.args.to) in
-    let within = runs_within g.S.Slot.vacant a b u.live _ c.args.count (c.take-new.ensures.sound (a ∷ u.live) (c.obtain.ensures.sound (a ∷ u.live) u.sound)) u.is_count space in
-    record { from_within = within.0; to_within = within.1 }
+    let s = c.take-new.ensures.sound (a ∷ u.live) (c.obtain.ensures.sound (a ∷ u.live) u.sound) in
+    let within = runs_within g.S.Slot.vacant a b u.live _ c.args.count s u.is_count space in
+    record {
+      from_within = within.0;
+      to_within = within.1;
+      apart = runs_apart g.S.Slot.vacant a b u.live _ c.args.count s u.is_count space;
+      vacant = second_vacant g.S.Slot.vacant a b u.live _ c.args.count s u.is_count space refl;
+    }
 
 pub give_back-requires : goal.give_back-requires
 give_back-requires g c =

@@ -1,7 +1,6 @@
 use Rattle.prefix_trie_table.proofs.Prelude.{◌≡◌, ◌+◌, ◌<◌, ◌≤◌, refl, length, Result, Ok, Err, OnOk, OnErr, sym, ap, ◌∙◌, arith, vec_len, vec_capacity, on_ok_weaker}
 use Rattle.std.specs.Prelude.{max}
-use Rattle.prefix_trie_table.specs.Growth.{Reserves}
-use Rattle.prefix_trie_table.specs.NodeArrays.{NodeList, nodes_of}
+use Rattle.prefix_trie_table.specs.NodeArrays.{nodes_of}
 use Rattle.prefix_trie_table.proofs.Blocks.Capacity.{Reserves-same, Reserves-as}
 use Rattle.prefix_trie_table.proofs.Blocks.NodeLists.{length-nodes}
 use Rattle.prefix_trie_table.proofs.allocator.node_array.NodeArray.grow.Goals as goal

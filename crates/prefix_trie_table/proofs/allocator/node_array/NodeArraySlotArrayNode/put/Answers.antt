@@ -1,4 +1,4 @@
-use Rattle.prefix_trie_table.proofs.Prelude.{◌≡◌, ◌<◌, length, get_or, set, sym, ap, ◌∙◌, arith, blank_node, get_or_default}
+use Rattle.prefix_trie_table.proofs.Prelude.{◌≡◌, ◌<◌, length, get_or, set, ap, ◌∙◌, arith}
 use Rattle.prefix_trie_table.specs.NodeArrays.{NodeList, node_of, nodes_of}
 use Rattle.prefix_trie_table.proofs.Blocks.NodeLists.{length-nodes, nodes-set, get_or-nodes, packed}
 use Rattle.prefix_trie_table.proofs.allocator.node_array.NodeArraySlotArrayNode.put.Goals as goal

@@ -1,4 +1,4 @@
-use Rattle.prefix_trie_table.proofs.Prelude.{◌≡◌, ◌+◌, ◌<◌, ◌≤◌, length, sym, ◌∙◌, subst, arith, vec_len, vec_capacity}
+use Rattle.prefix_trie_table.proofs.Prelude.{◌+◌, ◌<◌, ◌≤◌, length, subst, arith, vec_capacity}
 use Rattle.prefix_trie_table.specs.NodeArrays.{NodeList, nodes_of}
 use Rattle.prefix_trie_table.proofs.Blocks.NodeLists.{length-nodes}
 use Rattle.prefix_trie_table.proofs.allocator.node_array.NodeArraySlotArrayNode.reserve.Goals as goal
