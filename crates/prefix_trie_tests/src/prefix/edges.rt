@@ -12,7 +12,7 @@ use prefix_trie::{Key, Narrow, Prefix, PrefixMap, PrefixSet};
 use std::alloc::{AllocError, Allocator, Global};
 
 /// The calls that insert a value, and the values that they set.
-const FILLS: [(InsertVia, u64); 8] = [
+const INSERTIONS: [(InsertVia, u64); 8] = [
     (InsertVia::Map, 6),
     (InsertVia::Put, 6),
     (InsertVia::OrInsert, 6),
@@ -107,8 +107,8 @@ fn are_inserted_and_removed<K: Key, A: Allocator + Copy, M: UnderTest<K, A>>(
     at: Pair<K>,
     other: Pair<K>,
 ) -> bool {
-    for (fill, value) in &FILLS {
-        let is_stored = holds_alone::<K, A, M>(heap, subject, &InsertsVia(*fill, at, *value));
+    for (call, value) in &INSERTIONS {
+        let is_stored = holds_alone::<K, A, M>(heap, subject, &InsertsVia(*call, at, *value));
         if !(is_stored & holds_alone::<K, A, M>(heap, subject, &RemovesEntry(other, *value))) {
             return false;
         }
