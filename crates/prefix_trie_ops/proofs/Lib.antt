@@ -1,3 +1,4 @@
+pub mod Bounds
 pub mod Lists
 pub mod Sorted
 pub mod Chains
@@ -10,5 +11,6 @@ pub mod Pairs
 pub mod Reading
 pub mod Removing
 pub mod Selecting
+pub mod Turning
 pub mod Uppermost
 pub mod Walking
