@@ -1,5 +1,5 @@
 -- In a set in which no shorter key covers a key, no key begins another one.
-use Rattle.std.proofs.Common.{◌≡◌, ◌∙◌, ◌<◌, ◌≤◌, ◌-◌, ◌+◌, ℕ, Bool, true, false, true≢false, cond, List, length, take, eqb, eqb-true, nat_lt, is_some, ap, sym, refl, arith}
+use Rattle.std.proofs.Common.{◌≡◌, ◌∙◌, ◌<◌, ◌≤◌, ◌-◌, ◌+◌, ℕ, Bool, true, false, true≢false, cond, List, length, take, eqb, eqb-true, ltb-true, nat_lt, is_some, ap, sym, refl, arith}
 use Rattle.std.specs.FinMap.{contains_key}
 use Rattle.prefix_trie_bits.specs.Begins.{begins-from-take, begins-linear}
 use Rattle.prefix_trie.specs.Laws.Lookups.{LookupLaws}
@@ -23,9 +23,6 @@ module _ {P T' : Type 0} (laws : LookupLaws P T') (m : Entries T') where
   pub none_begins : ((s : List Bool) → contains_key m s ≡ true → is_below_another m s ≡ false)
       → (s t : List Bool) → contains_key m s ≡ true → contains_key m t ≡ true → begins s t ≡ true → s ≡ t
   none_begins tidy s t at_s at_t h = elim (nat_lt (length s) (length t)) as (λ b. nat_lt (length s) (length t) ≡ b → s ≡ t) [
-    | true ↦ λ e. absurd (true≢false (sym (below s t at_s h (is_less (length s) (length t) e)) ∙ tidy t at_t))
+    | true ↦ λ e. absurd (true≢false (sym (below s t at_s h (ltb-true (length s) (length t) e)) ∙ tidy t at_t))
     | false ↦ λ e. no_shorter s t h e
   ] refl
-    where
-      is_less : (a b : ℕ) → nat_lt a b ≡ true → a < b
-      is_less a b e = omega (arith, e)

@@ -4,3 +4,5 @@
 pub mod examples;
 #[cfg(test)]
 mod ops;
+#[cfg(test)]
+mod runs;

@@ -2,6 +2,7 @@
 use prefix_trie::{Key, Prefix};
 
 /// Keys in listing order, and which of them are on the left and on the right: the lowest bit is the first key's.
+#[derive(Clone, Copy)]
 pub struct Case<'k, K> {
     pub keys: &'k [(K, u8)],
     pub left: u32,
