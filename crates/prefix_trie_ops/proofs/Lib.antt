@@ -7,6 +7,7 @@ pub mod Comparing
 pub mod Covers
 pub mod Marking
 pub mod Merging
+pub mod Optimal
 pub mod Pairs
 pub mod Reading
 pub mod Removing
