@@ -4,6 +4,7 @@ use Rattle.std.specs.Ordering.{is_eq, is_lt}
 use Rattle.std.specs.Option.{option_or}
 use Rattle.std.specs.FinMap.{get}
 use Rattle.prefix_trie.specs.Words.{Entries, begins, listing, listing_cmp}
+use Rattle.prefix_trie_ops.specs.Values.{are_equal}
 
 module _ {T : Type 0} where
   -- the pairs whose keys are after s, without those that s begins
@@ -19,10 +20,17 @@ module _ {T : Type 0} where
   value_along value above s [] = option_or (value s) above
   value_along value above s (b ∷ r) = value_along value (option_or (value s) above) (s ++ b ∷ []) r
 
-  -- a map is changed only below s, and there each full-width question has the longest-match value that it has in another map
-  pub record Rebuilds (width : ℕ) (source : Entries T) (s : List Bool) (inherited held : Option T) (before after : Entries T) : Type 0 where
+  -- whether the entry at s ++ r has the value that the shorter keys give
+  abbrev pub is_repeated_along : (T → T → Bool) → (List Bool → Option T) → Option T → List Bool → List Bool → Bool
+  is_repeated_along eq value above s [] = are_equal eq above (value s)
+  is_repeated_along eq value above s (b ∷ r) = is_repeated_along eq value (option_or (value s) above) (s ++ b ∷ []) r
+
+  -- a map is changed only below s. There each full-width question has the longest-match value that it has in another map, and no entry has the
+  -- value that shorter keys give
+  pub record Rebuilds (eq : T → T → Bool) (width : ℕ) (source : Entries T) (s : List Bool) (inherited held : Option T) (before after : Entries T) : Type 0 where
     pub beside : (t : List Bool) → begins s t ≡ false → get after t ≡ get before t
     pub values : (r : List Bool) → length s + length r ≡ width → value_along (get after) held s r ≡ value_along (get source) inherited s r
+    pub tidy : (r : List Bool) → is_repeated_along eq (get after) held s r ≡ false
 
 module _ {P T : Type 0} (path : P → List Bool) where
   -- whether the prefix of the first item has this path

@@ -1,11 +1,10 @@
 -- What the next item of a walk over a sorted listing says of the map at and below a string.
-use Rattle.std.proofs.Common.{◌≡◌, ◌≢◌, ◌∙◌, ◌&&◌, ◌<◌, ◌≤◌, not, nat_lt, ltb-true, lt-ltb, ℕ, Bool, true, false, true≢false, cond, List, [], ◌∷◌, ◌++◌, length, map, filter, Option, Some, None, Less, Equal, Greater, Ordering, is_eq, is_le, is_lt, is_some, inl, inr, ap, sym, subst, refl, arith, T}
+use Rattle.std.proofs.Common.{◌≡◌, ◌≢◌, ◌∙◌, ◌&&◌, not, nat_lt, ltb-true, Bool, true, false, true≢false, cond, List, [], ◌∷◌, ◌++◌, length, filter, Some, None, Less, Equal, Greater, is_eq, is_le, is_lt, inl, inr, ap, sym, subst, refl, T}
 use Rattle.std.specs.List.{Contains}
 use Rattle.std.specs.FinMap.{entries_sorted, get, get-entries}
 use Rattle.std.specs.FinMap.Entries.{below_all, find, is_sorted}
-use Rattle.prefix_trie_bits.specs.Begins.{begins-length, begins-same-length}
 use Rattle.prefix_trie_bits.specs.Order.{listing_cmp, listing-extension, listing_same, listing_total}
-use Rattle.prefix_trie_bits.proofs.Model.Ordered.{Contains-from_find, find-from_Contains, not_itself, sorted-head, sorted-tail}
+use Rattle.prefix_trie_bits.proofs.Model.Ordered.{Contains-from_find, not_itself, sorted-head, sorted-tail}
 use Rattle.prefix_trie.specs.Words.{Entries, begins, listing, listing_after, listing_from, prefix_pairs}
 use Rattle.prefix_trie_ops.specs.Optimal.{first_value_at, is_first_below, items_after, listing_past}
 use Rattle.prefix_trie_ops.proofs.Covers.{behind_all, between, no_shorter}

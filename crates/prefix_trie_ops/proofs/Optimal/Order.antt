@@ -1,6 +1,6 @@
 -- The listing order around a string and its two extensions by one bit.
-use Rattle.std.proofs.Common.{◌≡◌, ◌≢◌, ◌∙◌, ◌&&◌, ◌+◌, ◌<◌, ◌++◌, not, Bool, true, false, true≢false, List, [], ◌∷◌, length, ap, sym, refl, arith, is_le, is_lt, length-append}
-use Rattle.prefix_trie_bits.specs.Begins.{begins-append, begins-length, begins-trans, same_bool}
+use Rattle.std.proofs.Common.{◌≡◌, ◌≢◌, ◌&&◌, ◌++◌, not, Bool, true, false, true≢false, List, [], ◌∷◌, length, ap, sym, refl, arith, is_le, is_lt, length-append}
+use Rattle.prefix_trie_bits.specs.Begins.{begins-append, begins-length, begins-trans}
 use Rattle.prefix_trie_bits.specs.Order.{listing_cmp}
 use Rattle.prefix_trie_bits.specs.Bits.{begins}
 

@@ -1,5 +1,5 @@
 -- What the tests of the entry that was read ahead say of a walk, and what taking it leaves.
-use Rattle.std.proofs.Common.{◌≡◌, ◌∙◌, ◌+◌, ◌<◌, ◌≤◌, ◌++◌, ◌&&◌, ◌-◌, ℕ, nat_lt, lt-ltb, ltb-true, Bool, true, false, true≢false, cond, List, [], ◌∷◌, length, take, Option, Some, None, Bor, is_eq, ap, sym, subst, refl, arith, length-append}
+use Rattle.std.proofs.Common.{◌≡◌, ◌∙◌, ◌+◌, ◌++◌, ◌&&◌, ℕ, nat_lt, Bool, true, false, cond, List, [], ◌∷◌, length, take, Option, Some, None, Bor, is_eq, ap, sym, refl, length-append}
 use Rattle.std.proofs.lemmas.List.{take_at}
 use Rattle.prefix_trie_bits.specs.Bits.{digits}
 use Rattle.prefix_trie.specs.Words.{begins, listing_cmp}

@@ -1,9 +1,8 @@
 -- A whole map is what is below the empty string, and a selection of its entries has no more of them.
-use Rattle.std.proofs.Common.{◌≡◌, ◌∙◌, ◌≤◌, ◌+◌, Bool, true, false, cond, List, [], ◌∷◌, length, filter, is_le, ap, sym, subst, refl, arith}
+use Rattle.std.proofs.Common.{◌≡◌, ◌∙◌, ◌≤◌, Bool, true, false, cond, List, [], ◌∷◌, length, filter, is_le, ap, sym, subst, refl, arith}
 use Rattle.std.specs.FinMap.{len, len-entries, retain_keys}
 use Rattle.prefix_trie_bits.proofs.Model.Ordered.{entries-retained}
 use Rattle.prefix_trie.specs.Words.{Entries, listing, listing_cmp, listing_from}
-use Rattle.prefix_trie_ops.specs.Values.{is_redundant, without_redundant}
 
 module _ {X : Type 0} where
   from_first : (es : List (List Bool × X)) → es ≡ filter (λ e. is_le (listing_cmp [] e.0)) es

@@ -1,5 +1,5 @@
 //! The third pass: it places the chosen values from the top down.
-ghost use Rattle.std.specs.Prelude.{◌≡◌, ◌≢◌, Bool, true, List, Some, None, OnOk};
+ghost use Rattle.std.specs.Prelude.{◌≡◌, ◌≢◌, Bool, true, false, List, Some, None, OnOk};
 ghost use Rattle.std.specs.Option.{option_or};
 ghost use Rattle.std.specs.FinMap.{get};
 ghost use Rattle.prefix_trie.specs.Words.{AreWithin, Entries, listing_from, prefix_pairs};
@@ -51,7 +51,7 @@ pub(super) fn place<P: Prefix, T: Copy + Ord, A: Allocator, B: Allocator, C: All
     ensures rebuilds { OnOk result ((source : Entries T) → AreWithin P.R.bit_width source
         → walk.old ≡ prefix_pairs P.back (listing_from source (P.path at.now)) → HasNoneBelow made.old.entries (P.path at.now)
         → ((x y : T) → T.PartialEq.eq x y ≡ true → x ≡ y)
-        → Rebuilds P.R.bit_width source (P.path at.now) inherited held made.old.entries made.new.entries) }
+        → Rebuilds T.PartialEq.eq P.R.bit_width source (P.path at.now) inherited held made.old.entries made.new.entries) }
 {
     listing_laws::<T>();
     listed_laws::<P, T>();
@@ -78,6 +78,7 @@ fn settle<P: Prefix, T: Copy + Ord, A: Allocator>(
     ensures beside { OnOk result ((t : List Bool) → t ≢ P.path at.now → get made.new.entries t ≡ get made.old.entries t) }
     ensures value { OnOk result (((x y : T) → T.PartialEq.eq x y ≡ true → x ≡ y) → get made.old.entries (P.path at.now) ≡ None
         → option_or (get made.new.entries (P.path at.now)) held ≡ wanted) }
+    ensures fresh { OnOk result (get made.old.entries (P.path at.now) ≡ None → are_equal T.PartialEq.eq held (get made.new.entries (P.path at.now)) ≡ false) }
 {
     stored_laws::<T>();
     let Some(value) = wanted else {

@@ -1,7 +1,6 @@
 use Rattle.std.proofs.Common.{rules, ◌≡◌, ◌∙◌, ◌<◌, ◌++◌, Bool, true, false, List, [], ◌∷◌, length, is_some, ap, sym, subst, arith}
 use Rattle.std.specs.List.{Contains}
 use Rattle.std.specs.Option.{option_or}
-use Rattle.std.specs.FinMap.{get}
 use Rattle.prefix_trie_bits.specs.Begins.{begins-refl}
 use Rattle.prefix_trie_bits.specs.Keys.{path_length}
 use Rattle.prefix_trie.specs.Words.{listing, listing_after, listing_from, prefix_pairs}
@@ -27,8 +26,8 @@ returns-then-not-is_next_below-clause-rebuilds g t c source within is empty exac
     let s = path c.args.at.now in
     let known : (e : List Bool × g.row.T.Denot) → Contains (listing source) e → path (back e.0) ≡ e.0 = λ e at. c.listed_laws.ensures.key_is source within e.0 (ap is_some ((c.listing_laws.ensures.has_each source e.0 e.1).1 at)) in
     let off : is_first_below path s c.take_at.new.walk ≡ false = search rules in
-    leaf g.P.R.Key.bit_width source c.args.made.now.entries c.settle.new.made.entries s c.args.inherited c.args.held c.or-here.result
-    empty c.in_ok-settle.ensures.beside (c.in_ok-settle.ensures.value exact (empty s (begins-refl s)))
+    leaf g.T.PartialEq.eq g.P.R.Key.bit_width source c.args.made.now.entries c.settle.new.made.entries s c.args.inherited c.args.held c.or-here.result
+    empty c.in_ok-settle.ensures.beside (c.in_ok-settle.ensures.value exact (empty s (begins-refl s))) (c.in_ok-settle.ensures.fresh (empty s (begins-refl s)))
     (no_key_below path back source known s c.take_at.new.walk (c.take_at.ensures.items ∙ left_after path back source known s c.args.walk.now is) off)
     (c.or-here.ensures ∙ ap (λ o. option_or o c.args.inherited) (c.take_at.ensures.value ∙ value_here path back source known s c.args.walk.now is))
 
@@ -73,14 +72,15 @@ returns-clause-rebuilds g t c source within is empty exact =
     let held = c.args.held in
     let beside = c.in_ok-settle-2.ensures.beside in
     let gives = c.in_ok-settle-2.ensures.value exact (empty s (begins-refl s)) in
-    let left : Rebuilds width source (s ++ false ∷ []) here wanted settled middle =
-    subst (λ t. Rebuilds width source t here wanted settled middle) lower
-    (c.in_ok-place.ensures.rebuilds source within to_lower (subst (HasNoneBelow settled) (sym lower) (none_left width source before settled s c.args.inherited held wanted empty beside gives)) exact) in
-    let right : Rebuilds width source (s ++ true ∷ []) here wanted middle after =
-    subst (λ t. Rebuilds width source t here wanted middle after) upper
+    let fresh = c.in_ok-settle-2.ensures.fresh (empty s (begins-refl s)) in
+    let left : Rebuilds g.T.PartialEq.eq width source (s ++ false ∷ []) here wanted settled middle =
+    subst (λ t. Rebuilds g.T.PartialEq.eq width source t here wanted settled middle) lower
+    (c.in_ok-place.ensures.rebuilds source within to_lower (subst (HasNoneBelow settled) (sym lower) (none_left g.T.PartialEq.eq width source before settled s c.args.inherited held wanted empty beside gives fresh)) exact) in
+    let right : Rebuilds g.T.PartialEq.eq width source (s ++ true ∷ []) here wanted middle after =
+    subst (λ t. Rebuilds g.T.PartialEq.eq width source t here wanted middle after) upper
     (c.in_ok-place-2.ensures.rebuilds source within to_upper
-    (subst (HasNoneBelow middle) (sym upper) (none_right width source before settled s c.args.inherited held wanted empty beside gives middle left.beside)) exact) in
+    (subst (HasNoneBelow middle) (sym upper) (none_right g.T.PartialEq.eq width source before settled s c.args.inherited held wanted empty beside gives fresh middle left.beside)) exact) in
     let shorter : g.P.Prefix.len_of c.args.at.now < width = search rules in
     let short : length s < width = omega (arith, shorter, path_length g.met.P.Prefix.prefix_laws c.args.at.now c.requires) in
-    joined width source before settled s c.args.inherited held wanted empty beside gives middle after here short
+    joined g.T.PartialEq.eq width source before settled s c.args.inherited held wanted empty beside gives fresh middle after here short
     (c.or-here.ensures ∙ ap (λ o. option_or o c.args.inherited) (c.take_at.ensures.value ∙ value_here path back source known s c.args.walk.now is)) left right

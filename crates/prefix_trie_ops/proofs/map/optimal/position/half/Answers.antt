@@ -1,4 +1,4 @@
-use Rattle.std.proofs.Common.{rules, ◌≡◌, ◌∙◌, ◌+◌, ◌-◌, ◌≤◌, ◌++◌, ap, sym, arith, take}
+use Rattle.std.proofs.Common.{◌≡◌, ◌∙◌, ◌+◌, ◌-◌, ◌≤◌, ◌++◌, ap, arith, take}
 use Rattle.prefix_trie.specs.Words.{digits, zeros}
 use Rattle.prefix_trie_bits.specs.Keys.{path_length}
 use Rattle.prefix_trie_ops.proofs.Optimal.Positions.{half_path, one_digit}

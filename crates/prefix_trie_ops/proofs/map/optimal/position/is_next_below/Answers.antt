@@ -1,4 +1,4 @@
-use Rattle.std.proofs.Common.{rules, ◌≡◌, ◌∙◌, ◌≤◌, ◌<◌, ◌&&◌, nat_lt, lt-ltb, false, Some, ap, sym, arith, length}
+use Rattle.std.proofs.Common.{rules, ◌≡◌, ◌∙◌, ◌≤◌, ◌<◌, ◌&&◌, nat_lt, lt-ltb, false, Some, ap, sym, arith}
 use Rattle.std.proofs.lemmas.Bool.Decides.{nat_tests}
 use Rattle.prefix_trie.specs.Words.{begins}
 use Rattle.prefix_trie_ops.specs.Optimal.{is_first_below}
