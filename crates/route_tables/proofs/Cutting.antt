@@ -8,7 +8,7 @@ use Rattle.std.specs.Prelude.{◌==◌}
 use Rattle.std.specs.Char.{is_ascii_whitespace}
 use Rattle.std.specs.Str.{IsTrimAsciiStart}
 use Rattle.std.specs.List.{onto_first, position, position_or_len}
-use Rattle.route_tables.specs.Lines.{begins_comment, begins_word, fields, lines, words}
+use Rattle.route_tables.specs.Lines.{begins_word, lines, words}
 
 -- where the first byte is that passes, or the length
 pub or_length : (p : ℕ → Bool) (bs : List ℕ) → unwrap_or (position p bs) (length bs) ≡ position_or_len p bs

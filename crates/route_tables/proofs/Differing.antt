@@ -7,7 +7,6 @@ use Rattle.prefix_trie_bits.specs.Laws.Listings.{ListingLaws}
 use Rattle.prefix_trie_ops.specs.Laws.{CombiningLaws}
 use Rattle.prefix_trie_ops.specs.Merging.{sides, union_of}
 use Rattle.prefix_trie_ops.specs.declared.map.sides.Side.{Side}
-use Rattle.prefix_trie_ops.specs.declared.map.sides.Side.TheVariants.{Left, Right, Both}
 use Rattle.route_tables.specs.Changes.{changes_of, differ}
 use Rattle.route_tables.specs.Tables.{Values}
 use Rattle.route_tables.proofs.Lists.{filter_of_map, from_filter, in_filter}

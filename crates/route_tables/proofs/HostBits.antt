@@ -1,5 +1,5 @@
 -- Host bits: a network has none exactly if its address is its first bits and then zeros.
-use Rattle.std.proofs.Common.{◌≡◌, ℕ, ◌-◌, ◌^◌, ◌<◌, ◌≤◌, ◌++◌, take, sym, ap, ◌∙◌}
+use Rattle.std.proofs.Common.{◌≡◌, ℕ, ◌-◌, ◌^◌, ◌<◌, ◌++◌, take, sym, ap, ◌∙◌}
 use Rattle.prefix_trie_bits.specs.BitStrings.{number_of_digits}
 use Rattle.prefix_trie.specs.Words.{digits, lowest_address, number, zeros, HasNoHostBits}
 

@@ -1,5 +1,5 @@
 -- Loading a text line by line: the invariant of the loop, how it goes on, and what it leaves.
-use Rattle.std.proofs.Common.{◌≡◌, ◌⊎◌, ℕ, zero, suc, ◌+◌, List, [], ◌∷◌, refl, sym, ap, subst, ◌∙◌, inl, inr, arith}
+use Rattle.std.proofs.Common.{◌≡◌, ℕ, suc, ◌+◌, List, [], ◌∷◌, refl, sym, ap, subst, ◌∙◌, inl, inr, arith}
 use Rattle.prefix_trie.specs.Words.{no_entries}
 use Rattle.route_tables.specs.Loads.{AddsLine, IsBadAt, NamesFirstBad}
 use Rattle.route_tables.specs.declared.load.LoadError.{LoadError}

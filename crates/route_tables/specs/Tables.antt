@@ -1,5 +1,5 @@
 -- The entries of the tables of both families. This project's own.
-use Rattle.std.specs.Prelude.{ℕ, Bool, List, [], ◌∷◌, Option, Some, None}
+use Rattle.std.specs.Prelude.{ℕ, Bool, List, [], ◌∷◌}
 use Rattle.std.specs.FinMap.{contains_key}
 use Rattle.prefix_trie.specs.Words.{Entries, ipv4_path, ipv6_path, with_entry}
 use Rattle.route_tables.specs.Routes.{Route}

@@ -9,7 +9,7 @@ pub loop-network-preserved : goal.loop-network-preserved
 loop-network-preserved g c = (
   tt,
   tt,
-  rules_next (c.in-Some.network, c.in-Some.value.now) c.next.new.self c.loop-network.network-iterator _ c.in-Some.ensures.steps (search rules) c.loop-network.invariant.2,
+  rules_next (c.in-Some.network, c.in-Some.value.now) c.next.new.self c.loop-network.network-iterator c.in-Some.ensures.steps (search rules) c.loop-network.invariant.2,
 )
 
 pub returns : goal.returns

@@ -1,4 +1,4 @@
-use Rattle.std.proofs.Common.{◌≡◌, ◌∙◌, sym}
+use Rattle.std.proofs.Common.{◌∙◌, sym}
 use Rattle.route_tables.proofs.Covering.{any_covers}
 use Rattle.route_tables.proofs.access.is_covered_by.Goals as goal
 

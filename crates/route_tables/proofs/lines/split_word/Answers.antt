@@ -1,4 +1,4 @@
-use Rattle.std.proofs.Common.{rules, arith, ◌≡◌, ◌<◌, ◌∙◌, length, sym}
+use Rattle.std.proofs.Common.{rules}
 use Rattle.route_tables.proofs.Cutting.{words_cut, words_none}
 use Rattle.route_tables.proofs.lines.split_word.Goals as goal
 

@@ -1,6 +1,5 @@
-use Rattle.std.proofs.Common.{◌≡◌, ◌∙◌, ◌↔◌, not, Bool, List, bytes_eq, filter, subst, sym, ap, Some}
+use Rattle.std.proofs.Common.{◌≡◌, ◌∙◌, not, Bool, List, bytes_eq, filter, subst, ap}
 use Rattle.std.specs.List.{Contains}
-use Rattle.std.specs.FinMap.{get}
 use Rattle.prefix_trie.specs.Words.{listing}
 use Rattle.prefix_trie_ops.specs.Values.{is_redundant}
 use Rattle.route_tables.proofs.Lists.{from_filter}

@@ -1,4 +1,4 @@
-use Rattle.std.proofs.Common.{◌≡◌, ◌∙◌, sym, subst}
+use Rattle.std.proofs.Common.{◌∙◌, sym, subst}
 use Rattle.prefix_trie.specs.Words.{HasNoHostBits}
 use Rattle.route_tables.proofs.HostBits.{with_host_bits, without_host_bits}
 use Rattle.route_tables.proofs.network.parse_ipv6.Goals as goal
