@@ -1,6 +1,8 @@
 //! The tests of `prefix_trie_ops`, and programs over it as a user writes them.
 #![tactic(auto)]
 
+#[cfg(test)]
+mod aggregation;
 pub mod examples;
 #[cfg(test)]
 mod ops;

@@ -1,0 +1,5 @@
+use Rattle.std.proofs.Common.{◌-◌}
+use Rattle.prefix_trie_ops_tests.proofs.aggregation.+least.Given as goal
+
+abbrev pub decreases-least : goal.decreases-least
+decreases-least l = 15 - l.key
