@@ -35,8 +35,7 @@ struct Maps {
     step: u32,
 }
 
-/// Every map with one value, every map over the first seven keys with two values, every one over the first six with three values,
-/// and samples of all others.
+/// Every map with one value, every map over the keys of at most two bits with two or three values, and samples of all other maps.
 static MAPS: [Maps; 5] = [
     Maps {
         values: 1,
@@ -50,17 +49,17 @@ static MAPS: [Maps; 5] = [
     },
     Maps {
         values: 3,
-        count: 4_096,
+        count: 16_384,
         step: 1,
     },
     Maps {
         values: 2,
-        count: 5_000,
+        count: 30_000,
         step: 2_654_435_761,
     },
     Maps {
         values: 3,
-        count: 2_000,
+        count: 10_000,
         step: 2_654_435_761,
     },
 ];
