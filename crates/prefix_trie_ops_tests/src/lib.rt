@@ -1,4 +1,4 @@
-//! The tests of `prefix_trie_ops`, and programs over it as a user writes them.
+//! The tests of `prefix_trie_ops` and of `route_tables`, and programs over `prefix_trie_ops` as a user writes them.
 #![tactic(auto)]
 
 #[cfg(test)]
@@ -6,5 +6,7 @@ mod aggregation;
 pub mod examples;
 #[cfg(test)]
 mod ops;
+#[cfg(test)]
+mod routes;
 #[cfg(test)]
 mod runs;

@@ -38,8 +38,6 @@ mod refusing;
 #[cfg(test)]
 mod retain;
 #[cfg(test)]
-mod routes;
-#[cfg(test)]
 mod runs;
 #[cfg(test)]
 mod sets;
