@@ -1,5 +1,5 @@
 -- Many lookups in one call: what a group of them reads and finds, and one more result.
-use Rattle.prefix_trie_map.proofs.Prelude.{◌≡◌, ℕ, ◌+◌, ◌-◌, ◌<◌, ◌≤◌, Bool, List, [], ◌∷◌, ◌++◌, Option, None, Some, Bor, refl, map, set, take, drop, length, get_or, sum_by, slice_range, sym, ap, ap₂, ◌∙◌, subst, arith, add-sub_of_le, length-drop, option_map, drop-take, get_or_append_left, get_or-drop, get_or-map, get_or-take, length-map, length-take-le, map-append, take_more, take_more_set, take-take, sum_by-take-drop, sum_by_push, Entries, longest_match, Nodes, visits, Node, Found, AreAnswers, asks, questions_of, AreAnswered, AreFound, ReadsMore, visits_of_all, take_all}
+use Rattle.prefix_trie_map.proofs.Prelude.{◌≡◌, ℕ, ◌+◌, ◌-◌, ◌<◌, ◌≤◌, Bool, List, [], ◌∷◌, ◌++◌, Option, None, Some, Bor, refl, map, set, take, drop, length, get_or, sum_by, slice_range, sym, ap, ap₂, ◌∙◌, subst, arith, add-sub_of_le, length-drop, option_map, drop-take, get_or_append_left, get_or-drop, get_or-map, get_or-take, length-map, length-take-le, map-append, take_more, take_more_set, take-take, sum_by-take-drop, sum_by_push, Entries, longest_match, Nodes, visits, Node, Found, AreAnswers, AreAnswered, AreFound, ReadsMore, visits_of_all, take_all}
 use Rattle.prefix_trie_map.proofs.Lookups.{Finds, by_key_bits}
 
 -- a group's reads
@@ -23,17 +23,17 @@ reads_one path nodes prefixes n inside p is asked same start before after so_far
     omega (arith, so_far, read, here, more)
 
 -- what was found for a group, before what was found for those after it
-pub found_more : {P K : Type 0} (bits : K → List Bool) (number : P → K) (len : P → ℕ) (nodes : List Node) (prefixes : List P) (from n : ℕ) (found rest : List (Option Found))
-    → from + n ≤ length prefixes → length found ≡ n → AreAnswers bits nodes (questions_of number len (slice_range prefixes from (from + n))) found
-    → AreFound bits number len nodes prefixes from n (found ++ rest)
-found_more bits number len nodes prefixes from n found rest space long answers i p a inside p_is a_is =
+pub found_more : {P : Type 0} (path : P → List Bool) (nodes : List Node) (prefixes : List P) (from n : ℕ) (found rest : List (Option Found))
+    → from + n ≤ length prefixes → length found ≡ n → AreAnswers nodes (map path (slice_range prefixes from (from + n))) found
+    → AreFound path nodes prefixes from n (found ++ rest)
+found_more path nodes prefixes from n found rest space long answers i p a inside p_is a_is =
     let many : from + n - from ≡ n = omega arith in
     let group : slice_range prefixes from (from + n) ≡ take n (drop from prefixes) = ap (λ k. take k (drop from prefixes)) many in
     let fits : i < length (take n (drop from prefixes)) = omega (arith, inside, length-take-le n (drop from prefixes) (omega (arith, length-drop from prefixes, space))) in
     let read : get_or (take n (drop from prefixes)) i p ≡ p = get_or-take n (drop from prefixes) i p inside ∙ get_or-drop from prefixes i p ∙ sym p_is in
-    let q = asks number len p in
-    subst (λ l. AreAnswers bits nodes (questions_of number len l) found) group answers i q a (omega (arith, fits, length-map (take n (drop from prefixes)) (asks number len)))
-    (sym (get_or-map (asks number len) (take n (drop from prefixes)) i p q fits ∙ ap (asks number len) read)) (a_is ∙ get_or_append_left found rest a i (omega (arith, inside, long)))
+    let q = path p in
+    subst (λ l. AreAnswers nodes (map path l) found) group answers i q a (omega (arith, fits, length-map (take n (drop from prefixes)) path))
+    (sym (get_or-map path (take n (drop from prefixes)) i p q fits ∙ ap path read)) (a_is ∙ get_or_append_left found rest a i (omega (arith, inside, long)))
 
 -- one more result
 pub answered_more : {P X Y : Type 0} (shows : X → Y) (answer : P → Y) (prefixes : List P) (out : List X) (n m : ℕ) → AreAnswered shows answer prefixes out n → m ≡ n + 1

@@ -56,7 +56,7 @@ pub use Rattle.prefix_trie_table.proofs.Lookup.Covered.{covers_few}
 pub use Rattle.prefix_trie_table.proofs.Tree.Copying.{cloned_there}
 pub use Rattle.prefix_trie_table.proofs.Tree.Trees.{is_none-None}
 pub use Rattle.prefix_trie_table.proofs.Walk.KeySets.{pending_again}
-pub use Rattle.prefix_trie_table.specs.Bulk.{AreAnswers, IsAnswer, asks, questions_of}
+pub use Rattle.prefix_trie_table.specs.Bulk.{AreAnswers, IsAnswer}
 pub use Rattle.prefix_trie_table.specs.Copies.{AreCloned, IsCloned, IsPairCloned}
 pub use Rattle.prefix_trie_table.specs.Locations.{IsSearchEnd, is_seat-prop, seat_of}
 pub use Rattle.prefix_trie_table.specs.Steps.{BoundsStorageGrowth}

@@ -6,7 +6,7 @@ use Rattle.prefix_trie_bits.specs.Model.Nodes.{Nodes}
 use Rattle.prefix_trie_bits.specs.Model.Visits.{visits}
 use Rattle.prefix_trie_table.specs.declared.allocator.node.Node.{Node}
 use Rattle.prefix_trie_table.specs.declared.table.bulk.Found.{Found}
-use Rattle.prefix_trie_table.specs.Bulk.{IsAnswer, asks}
+use Rattle.prefix_trie_table.specs.Bulk.{IsAnswer}
 
 -- the number of nodes on the search paths of these prefixes; a node on several paths counts once
 -- for each
@@ -27,6 +27,6 @@ ReadsMore path n prefixes from to before after =
     after + visits_of_all path n (take from prefixes) ≡ before + visits_of_all path n (take to prefixes)
 
 -- the table found these of so many prefixes, from a place on
-abbrev pub AreFound : {P K : Type 0} → (K → List Bool) → (P → K) → (P → ℕ) → List Node → List P → ℕ → ℕ → List (Option Found) → Type 0
-AreFound {P} bits number len nodes prefixes from n found =
-    (i : ℕ) (p : P) (a : Option Found) → i < n → p ≡ slice_index_or prefixes (from + i) p → a ≡ slice_index_or found i a → IsAnswer bits nodes (asks number len p) a
+abbrev pub AreFound : {P : Type 0} → (P → List Bool) → List Node → List P → ℕ → ℕ → List (Option Found) → Type 0
+AreFound {P} path nodes prefixes from n found =
+    (i : ℕ) (p : P) (a : Option Found) → i < n → p ≡ slice_index_or prefixes (from + i) p → a ≡ slice_index_or found i a → IsAnswer nodes (path p) a

@@ -4,7 +4,6 @@ pub mod Finding
 pub mod SearchPaths
 pub mod Locating
 pub mod Ends
-pub mod Borders
 pub mod Matching
 pub mod Matched
 pub mod Covers

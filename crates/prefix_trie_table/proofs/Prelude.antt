@@ -85,7 +85,7 @@ pub use Rattle.prefix_trie_table.specs.Needs.{AtDeepest, Made, MadeAtMost, Makes
 pub use Rattle.prefix_trie_table.specs.Bitmaps.{bits_below, if_set}
 unfoldable pub use Rattle.prefix_trie_table.specs.Bitmaps.{bits, has_bit, rank}
 pub use Rattle.prefix_trie_table.specs.BlockCounts.{block_counts, slots_counted, tier_count, used_blocks}
-pub use Rattle.prefix_trie_table.specs.Bulk.{AreAnswered, AreAnswers, AreCosts, AreRead, CanAsk, EachOf, GoOn, HasFound, IsAhead, IsAnswer, IsLongestFound, IsNew, asked, asks, cost_of, found_of, new_descent, question_of, questions_of, slot_of}
+pub use Rattle.prefix_trie_table.specs.Bulk.{AreAnswered, AreAnswers, AreCosts, AreRead, EachOf, GoOn, HasFound, IsAhead, IsAnswer, IsLongestFound, IsNew, cost_of, found_of, new_descent, question_of, reached_by, slot_of}
 pub use Rattle.prefix_trie_table.specs.Cells.{blank_node, cell_sizes, node_at, node_sizes}
 unfoldable pub use Rattle.prefix_trie_table.specs.Cells.{HasSizes}
 pub use Rattle.prefix_trie_table.specs.Copies.{AreCloned, IsCloned, IsPairCloned}
@@ -101,7 +101,7 @@ pub use Rattle.prefix_trie_table.specs.Layouts.{AreSizesBy, Sized, Sized-prop, c
 pub use Rattle.prefix_trie_table.specs.Locations.{EndsAt, IsLocation, IsSearchEnd, Locates, seat_in, slot_from, value_seat}
 unfoldable pub use Rattle.prefix_trie_table.specs.Locations.{seat_of}
 pub use Rattle.prefix_trie_table.specs.Losing.{LosesOne}
-pub use Rattle.prefix_trie_table.specs.Matching.{IsHeld, IsOnPath, LackLastBit, LongestHeld, NoneHeld, SeatAt, ShortestHeld, cell_slot, holds_value, match_seat}
+pub use Rattle.prefix_trie_table.specs.Matching.{IsHeld, LackLastBit, LongestHeld, NoneHeld, SeatAt, ShortestHeld, cell_slot, holds_value, match_seat}
 pub use Rattle.prefix_trie_table.specs.OwnBlocks.{child_need, value_need}
 pub use Rattle.prefix_trie_table.specs.Removals.{ChildDropped, Drops, EntryRemoved, EntryTaken, GivesBack, GrowsBy, IsBare, IsStocked, AreAncestors, ShrinksList, MakesEntered, MakesFew, Pruned, PrunedTo, SameBlock, SameChildren, SameValues, StandsAtEnd, ValueTaken, more, none, slot_in}
 pub use Rattle.prefix_trie_table.specs.Retaining.{AsksUpTo, BlocksBetween, HasPlace, IsSite, PreservesBelow, MayAskAt, Needs, Retains, RetainsAll, RetainsIn, RetainsTo, Stays, is_at, is_at_some, is_under, is_under_some}

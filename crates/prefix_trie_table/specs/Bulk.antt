@@ -1,13 +1,15 @@
 -- Questions of one call that go down side by side, and how far each has come. This project's own.
-use Rattle.std.specs.Prelude.{◌≡◌, ℕ, ◌+◌, ◌*◌, ◌<◌, ◌≤◌, ◌⊎◌, Bool, List, Option, None, All, Contains, ◌++◌, length, map, option_map, slice_index_or, sum_by, take}
+use Rattle.std.specs.Prelude.{◌≡◌, ℕ, ◌+◌, ◌*◌, ◌<◌, ◌⊎◌, Bool, List, Option, None, All, Contains, ◌++◌, length, map, option_map, slice_index_or, sum_by}
 use Rattle.prefix_trie_table.specs.declared.allocator.node.Node.{Node}
 use Rattle.prefix_trie_table.specs.declared.table.bulk.Found.{Found}
 use Rattle.prefix_trie_table.specs.declared.table.bulk.Descent.{Descent}
+use Rattle.prefix_trie_table.specs.declared.table.lookup.Reached.{Reached}
 use Rattle.prefix_trie_table.specs.declared.table.matching.Match.{Match}
 use Rattle.prefix_trie_table.specs.Cells.{node_at, node_sizes}
 use Rattle.prefix_trie_table.specs.Digits.{chunks_of}
 use Rattle.prefix_trie_table.specs.Forest.{NodesHold, IsEnd, SomeNodes, read}
-use Rattle.prefix_trie_table.specs.Matching.{IsOnPath, LackLastBit, LongestHeld, match_seat}
+use Rattle.prefix_trie_table.specs.Matching.{LackLastBit, LongestHeld, match_seat}
+use Rattle.prefix_trie_table.specs.SearchPaths.{IsAlong}
 use Rattle.prefix_trie_table.specs.Store.{Store}
 
 -- P holds of each of the first n items and its index
@@ -55,60 +57,48 @@ abbrev pub IsSound : Store Node → Type 0
 IsSound v = (n : SomeNodes v) × LackLastBit n.reading
 
 -- the question for a prefix: so many bits of its number
-abbrev pub asks : {P K : Type 0} → (P → K) → (P → ℕ) → P → K × ℕ
-asks number len p = (number p, len p)
+abbrev pub reached_by : Descent → Node → ℕ → Reached
+reached_by w n level = record { at = w.at; node = n; level = level }
 
-abbrev pub questions_of : {P K : Type 0} → (P → K) → (P → ℕ) → List P → List (K × ℕ)
-questions_of number len prefixes = map (asks number len) prefixes
+-- what was found is the answer to a question, in these nodes
+abbrev pub IsAnswer : List Node → List Bool → Option Found → Type 0
+IsAnswer nodes q found = IsLongestFound (read nodes) q (length q + 1) found
 
--- a key, and a number of bits that it has
-abbrev pub CanAsk : {K : Type 0} → (K → Type 0) → ℕ → K × ℕ → Type 0
-CanAsk IsKey width q = IsKey q.0 × (q.1 ≤ width)
+-- each question has its answer
+abbrev pub AreAnswers : List Node → List (List Bool) → List (Option Found) → Type 0
+AreAnswers nodes questions found =
+    (i : ℕ) (q : List Bool) (a : Option Found) → i < length questions → q ≡ slice_index_or questions i q → a ≡ slice_index_or found i a → IsAnswer nodes q a
 
-module _ {K : Type 0} (bits : K → List Bool) where
-  -- the bit string of a question: so many bits of a key
-  abbrev pub asked : K × ℕ → List Bool
-  asked q = take q.1 (bits q.0)
+module _ (v : Store Node) (questions : List (List Bool)) where
+  -- the way of a question has come to the node ahead, and the longest match above it is known
+  pub record IsDescent (level : ℕ) (w : Descent) : Type 0 where
+    pub question : List Bool
+    pub is : question ≡ slice_index_or questions w.question question
+    pub inside : w.question < length questions
+    pub along : IsAlong question (reached_by w (node_at v.slots (slot_of w)) level) v
+    pub best : HasFound v question (5 * level) w.best
 
-  -- what was found is the result of a question, in these nodes
-  abbrev pub IsAnswer : List Node → K × ℕ → Option Found → Type 0
-  IsAnswer nodes q found = IsLongestFound (read nodes) (asked q) (q.1 + 1) found
+  -- a question that is no longer on its way has its answer
+  abbrev pub AreAnswered : List ℕ → List (Option Found) → Type 0
+  AreAnswered under_way found =
+      (i : ℕ) (q : List Bool) (a : Option Found) → i < length questions → q ≡ slice_index_or questions i q → a ≡ slice_index_or found i a
+      → Contains under_way i ⊎ HasFound v q (length q + 1) a
 
-  -- each question has its result
-  abbrev pub AreAnswers : List Node → List (K × ℕ) → List (Option Found) → Type 0
-  AreAnswers nodes questions found =
-      (i : ℕ) (q : K × ℕ) (a : Option Found) → i < length questions → q ≡ slice_index_or questions i q → a ≡ slice_index_or found i a → IsAnswer nodes q a
+  -- how many nodes there are on the way of each question
+  abbrev pub AreCosts : List ℕ → Type 0
+  AreCosts costs =
+      (i : ℕ) (q : List Bool) → i < length questions → q ≡ slice_index_or questions i q
+      → (reading : List ℕ → Option Node) (paths : List (List ℕ)) (level : ℕ) → NodesHold node_sizes reading paths v → IsEnd reading (chunks_of q) level
+      → slice_index_or costs i 0 ≡ level + 1
 
-  module _ (v : Store Node) (questions : List (K × ℕ)) where
-    -- the descent of a question has reached the node ahead, and the longest match above it is known
-    pub record IsDescent (level : ℕ) (w : Descent) : Type 0 where
-      pub question : K × ℕ
-      pub is : question ≡ slice_index_or questions w.question question
-      pub inside : w.question < length questions
-      pub on_path : IsOnPath (bits question.0) question.1 level (node_at v.slots (slot_of w)) (slot_of w) v
-      pub best : HasFound v (asked question) (5 * level) w.best
+  -- the nodes that these ways have come to were read
+  pub record AreRead (level : ℕ) (descents : List Descent) (nodes : List Node) : Type 0 where
+    pub sound : SomeNodes v
+    pub descents_are : All (IsDescent level) descents
+    pub nodes_are : EachOf (IsAhead v.slots descents) (length descents) nodes
 
-    -- each question without a descent has its result
-    abbrev pub AreAnswered : List ℕ → List (Option Found) → Type 0
-    AreAnswered under_way found =
-        (i : ℕ) (q : K × ℕ) (a : Option Found) → i < length questions → q ≡ slice_index_or questions i q → a ≡ slice_index_or found i a
-        → Contains under_way i ⊎ HasFound v (asked q) (q.1 + 1) a
-
-    -- the number of nodes on the search path of each question
-    abbrev pub AreCosts : List ℕ → Type 0
-    AreCosts costs =
-        (i : ℕ) (q : K × ℕ) → i < length questions → q ≡ slice_index_or questions i q
-        → (reading : List ℕ → Option Node) (paths : List (List ℕ)) (level : ℕ) → NodesHold node_sizes reading paths v → IsEnd reading (chunks_of (asked q)) level
-        → slice_index_or costs i 0 ≡ level + 1
-
-    -- the nodes that these descents have reached were read
-    pub record AreRead (level : ℕ) (descents : List Descent) (nodes : List Node) : Type 0 where
-      pub sound : SomeNodes v
-      pub descents_are : All (IsDescent level) descents
-      pub nodes_are : EachOf (IsAhead v.slots descents) (length descents) nodes
-
-    -- some of these descents go on, and the questions of the others have their results
-    pub record GoOn (level : ℕ) (descents next : List Descent) (before after : List (Option Found)) : Type 0 where
-      pub descents_are : All (IsDescent (level + 1)) next
-      pub answered : (others : List ℕ) → AreAnswered (map question_of descents ++ others) before → AreAnswered (map question_of next ++ others) after
-      pub counted : (costs : List ℕ) → AreCosts costs → sum_by (cost_of costs) descents + length next * (level + 1) ≡ sum_by (cost_of costs) next + length descents * (level + 1)
+  -- of these ways some go on, and the questions of the others are answered
+  pub record GoOn (level : ℕ) (descents next : List Descent) (before after : List (Option Found)) : Type 0 where
+    pub descents_are : All (IsDescent (level + 1)) next
+    pub answered : (others : List ℕ) → AreAnswered (map question_of descents ++ others) before → AreAnswered (map question_of next ++ others) after
+    pub counted : (costs : List ℕ) → AreCosts costs → sum_by (cost_of costs) descents + length next * (level + 1) ≡ sum_by (cost_of costs) next + length descents * (level + 1)

@@ -10,7 +10,6 @@ pub mod Forest
 pub mod Slots
 pub mod Lending
 pub mod BlockCounts
-pub mod Bulk
 pub mod Layouts
 pub mod Shape
 pub mod Tables
@@ -18,6 +17,7 @@ pub mod SearchPaths
 pub mod Locations
 pub mod Needs
 pub mod Matching
+pub mod Bulk
 pub mod GrowthBounds
 pub mod Steps
 pub mod Removals

@@ -1,14 +1,11 @@
--- Which beginnings of a bit string have a value, and the search path on which they are. This
--- project's own.
-use Rattle.std.specs.Prelude.{◌≡◌, ℕ, ◌+◌, ◌*◌, ◌<◌, ◌≤◌, Bool, true, false, List, Option, None, Some, length, take, MatchOption}
+-- Which beginnings of a bit string have a value, and the way on which they stand. This project's own.
+use Rattle.std.specs.Prelude.{◌≡◌, ℕ, ◌+◌, ◌<◌, ◌≤◌, Bool, true, false, List, Option, None, Some, length, take, MatchOption}
 use Rattle.prefix_trie_table.specs.declared.allocator.node.Node.{Node}
 use Rattle.prefix_trie_table.specs.declared.table.matching.Match.{Match}
 use Rattle.prefix_trie_table.specs.declared.table.seat.Seat.{Seat}
 use Rattle.prefix_trie_table.specs.Bitmaps.{has_bit, rank}
-use Rattle.prefix_trie_table.specs.Cells.{node_at, node_sizes}
 use Rattle.prefix_trie_table.specs.Digits.{chunks_of, bit_of}
-use Rattle.prefix_trie_table.specs.Store.{Store}
-use Rattle.prefix_trie_table.specs.Forest.{NodesHold, Deepest, has_value}
+use Rattle.prefix_trie_table.specs.Forest.{has_value}
 
 -- whether the first i bits of q have a value
 abbrev pub holds_value : (List ℕ → Option Node) → List Bool → ℕ → Bool
@@ -51,10 +48,3 @@ ShortestHeld reading q first end o =
 -- no node has a value bit 31
 abbrev pub LackLastBit : (List ℕ → Option Node) → Type 0
 LackLastBit nodes = (p : List ℕ) (n : Node) → nodes p ≡ Some n → has_bit n.value_bitmap 31 ≡ false
-
--- the search path of the first len bits of b leads to this node in this slot
-pub record IsOnPath (b : List Bool) (len level : ℕ) (node : Node) (slot : ℕ) (v : Store Node) : Type 0 where
-  pub long : len ≤ length b
-  pub whole : 5 * level ≤ len
-  pub node_is : node ≡ node_at v.slots slot
-  pub deepest : (reading : List ℕ → Option Node) (paths : List (List ℕ)) → NodesHold node_sizes reading paths v → Deepest reading (chunks_of (take len b)) level slot v

@@ -246,38 +246,48 @@ impl<T: Drop, A: Allocator, V: Tick> Table<T, A, V> {
         walk_of(&self.nodes, &self.cells, counter)
     }
 
-    /// The entries behind a bit string in listing order, and before them the one at it where `inclusive`. Its extensions are
-    /// behind it. The nodes on the way are read at once.
+    /// Walks the entries after a bit string in listing order, starting with its own if `inclusive`.
+    ///
+    /// Its extensions come after it. The call reads the nodes of the search path at once.
     #[inline]
     pub fn walk_from<K: Key>(
         &self,
-        key: K,
-        len: u32,
+        path: BitString<K>,
         inclusive: bool,
         counter: &mut V,
     ) -> Walk<'_, K, T, A, V>
-        requires key { K.IsKey key }
-        requires long { len ≤ K.bit_width }
         requires within { AreWithin K.bit_width self.now.entries }
         requires nodes { AreNodes K.bit_width self.now.entries self.now.nodes }
         ensures { result ≡ cond inclusive
-            (listing_from self.now.entries (take len (K.bits key)))
-            (listing_after self.now.entries (take len (K.bits key))) }
+            (listing_from self.now.entries path)
+            (listing_after self.now.entries path) }
     {
         let from = if inclusive { Start::At } else { Start::After };
-        walk_at(&self.nodes, &self.cells, key, len, from, counter)
+        walk_at(
+            &self.nodes,
+            &self.cells,
+            path.key(),
+            path.len(),
+            from,
+            counter,
+        )
     }
 
-    /// The entries whose keys a bit string begins, in listing order. The nodes on the way are read at once.
+    /// Walks the entries whose keys a bit string begins, in listing order. It reads the nodes of the search path at once.
     #[inline]
-    pub fn walk_below<K: Key>(&self, key: K, len: u32, counter: &mut V) -> Walk<'_, K, T, A, V>
-        requires key { K.IsKey key }
-        requires long { len ≤ K.bit_width }
+    pub fn walk_below<K: Key>(&self, path: BitString<K>, counter: &mut V) -> Walk<'_, K, T, A, V>
         requires within { AreWithin K.bit_width self.now.entries }
         requires nodes { AreNodes K.bit_width self.now.entries self.now.nodes }
-        ensures { result ≡ listing_below self.now.entries (take len (K.bits key)) }
+        ensures { result ≡ listing_below self.now.entries path }
     {
-        walk_at(&self.nodes, &self.cells, key, len, Start::Below, counter)
+        walk_at(
+            &self.nodes,
+            &self.cells,
+            path.key(),
+            path.len(),
+            Start::Below,
+            counter,
+        )
     }
 
     /// Sets the value at a bit string, and adds the nodes on its way that are missing. It asks for all room that it needs
@@ -308,41 +318,35 @@ impl<T: Drop, A: Allocator, V: Tick> Table<T, A, V> {
         }
     }
 
-    /// Takes the value at a bit string out, if it is there, and then the nodes that have nothing left, from the string's own
-    /// node upward: so it prunes also where that node has no such value. Never refused: blocks shrink as in
-    /// `remove_keep_tree`.
+    /// Removes the value at a bit string, if there is one, and then the empty nodes of the search path, from the bottom up.
+    ///
+    /// It prunes even if no value was stored. It never fails: blocks shrink as in `remove_keep_tree`.
     #[inline]
-    pub fn remove<K: Key>(&mut self, key: K, len: u32, counter: &mut V) -> Option<T>
-        requires key { K.IsKey key }
-        requires within { len ≤ K.bit_width }
-        ensures step { (width : ℕ) → StepByPath width (stored_state self.old) (Remove (take len (K.bits key))) (Value result)
-            (stored_state self.new) }
+    pub fn remove<K: Key>(&mut self, path: BitString<K>, counter: &mut V) -> Option<T>
+        ensures step { (width : ℕ) → StepByPath width (stored_state self.old) (Remove path) (Value result) (stored_state self.new) }
     {
         remove_entry(
             &mut self.nodes,
             &mut self.cells,
             &mut self.count,
-            key,
-            len,
+            path.key(),
+            path.len(),
             counter,
         )
     }
 
-    /// Takes the value at a bit string out, if it is there, and keeps all nodes. Never refused: where its node's values fit
-    /// a smaller block they move there if one is free or can be made, and stay in the old one else.
+    /// Removes the value at a bit string, if there is one, and keeps all nodes.
+    ///
+    /// It never fails: the values of the node move to a smaller block if they fit and such a block is free or can be made.
     #[inline]
-    pub fn remove_keep_tree<K: Key>(&mut self, key: K, len: u32, counter: &mut V) -> Option<T>
-        requires key { K.IsKey key }
-        requires within { len ≤ K.bit_width }
-        ensures step { (width : ℕ) → StepByPath width (stored_state self.old) (RemoveKeepTree (take len (K.bits key))) (Value result)
-            (stored_state self.new) }
+    pub fn remove_keep_tree<K: Key>(&mut self, path: BitString<K>, counter: &mut V) -> Option<T>
+        ensures step { (width : ℕ) → StepByPath width (stored_state self.old) (RemoveKeepTree path) (Value result) (stored_state self.new) }
     {
         remove_value(
             &mut self.nodes,
             &mut self.cells,
             &mut self.count,
-            key,
-            len,
+            path,
             counter,
         )
     }

@@ -8,7 +8,6 @@ ghost use Rattle.prefix_trie_map.specs.Walks.{lent_item};
 
 use crate::map::PrefixMap;
 use crate::map::lookup::{rebuilt, value_of};
-use crate::map::parts::parts;
 use crate::map::visits::Visits;
 use prefix_trie_bits::prefix::{BitString, Prefix};
 use prefix_trie_table::table::Table;
@@ -202,7 +201,7 @@ fn find_group<P: Prefix, T: Drop, A: Allocator>(
     requires some { from < length prefixes.now }
     requires space { length found.old ≡ 32 }
     ensures group { (0 < result) × (result ≤ 32) × (from + result ≤ length prefixes.now) }
-    ensures found { AreFound P.R.bits P.repr_of P.len_of table.now.build prefixes.now from result found.new }
+    ensures found { AreFound P.path table.now.build prefixes.now from result found.new }
     ensures visits { ReadsMore P.path table.now.nodes prefixes.now from (from + result) visits.old visits.new }
     ensures length { length found.new ≡ 32 }
 {
@@ -231,8 +230,8 @@ fn answer_group<'a, P: Prefix, T: Drop, A: Allocator, X: Answer<'a, P, T>>(
     let mut found = [None; GROUP];
     let count = find_group(table, prefixes, from, &mut found, visits);
     for i in 0..count {
-        let question = parts(&prefixes[from + i]);
-        out[from + i] = X::of_match(question.0, table.value_found(question, found[i]));
+        let path = prefixes[from + i].path();
+        out[from + i] = X::of_match(path.key(), table.value_found(path, found[i]));
     }
     count
 }

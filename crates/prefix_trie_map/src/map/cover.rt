@@ -9,10 +9,9 @@ ghost use Rattle.prefix_trie_map.specs.Walks.{lent_item};
 ghost use Rattle.prefix_trie_map.specs.Whole.{IsWhole};
 
 use crate::map::lookup::rebuilt;
-use crate::map::parts::parts;
 use crate::map::projection::{Keyed, KeysOf};
 use crate::map::{PrefixMap, Visits};
-use prefix_trie_bits::prefix::{BitString, Prefix};
+use prefix_trie_bits::prefix::Prefix;
 use prefix_trie_table::table::Cover as TableCover;
 use std::alloc::Allocator;
 use std::marker::{Model, PhantomData};
@@ -35,8 +34,7 @@ impl<P: Prefix, T: Drop, A: Allocator> PrefixMap<P, T, A> {
         ensures whole { IsWhole P.R.bit_width self.now }
     {
         self.known_valid();
-        let (key, len) = parts(prefix);
-        let walk = self.table.cover(key, len, &mut Visits::new());
+        let walk = self.table.cover(prefix.path(), &mut Visits::new());
         Cover::over(walk)
     }
 
@@ -107,10 +105,10 @@ impl<'a, P: Prefix, T: Drop, A: Allocator> Iterator for Cover<'a, P, T, A> {
 
     #[inline]
     fn next(&mut self) -> Option<(P, &'a T)> {
-        let Some((key, len, value)) = self.walk.next(&mut Visits::new()) else {
+        let Some((path, value)) = self.walk.next(&mut Visits::new()) else {
             return None;
         };
-        Some((rebuilt(BitString::new(key, len)), value))
+        Some((rebuilt(path), value))
     }
 }
 

@@ -10,7 +10,6 @@ ghost use Rattle.prefix_trie_table.specs.Copies.{IsPairCloned};
 ghost use Rattle.prefix_trie_map.specs.Whole.{IsWhole};
 
 use crate::map::iter::without_host_bits;
-use crate::map::parts::parts;
 use crate::map::projection::{Keyed, KeysOf};
 use crate::map::{PrefixMap, Visits};
 use prefix_trie_bits::prefix::Prefix;
@@ -36,8 +35,9 @@ impl<P: Prefix, T: Drop, A: Allocator> PrefixMap<P, T, A> {
         ensures whole { IsWhole P.R.bit_width self }
     {
         self.known_valid();
-        let (key, len) = parts(prefix);
-        let walk = self.table.into_walk_below(key, len, &mut Visits::new());
+        let walk = self
+            .table
+            .into_walk_below(prefix.path(), &mut Visits::new());
         IntoIter::over(walk)
     }
 

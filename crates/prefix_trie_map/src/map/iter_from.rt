@@ -6,7 +6,6 @@ ghost use Rattle.prefix_trie_map.specs.Walks.{lent_item};
 ghost use Rattle.prefix_trie_map.specs.Whole.{IsWhole};
 
 use crate::map::iter::Iter;
-use crate::map::parts::parts;
 use crate::map::{PrefixMap, Visits};
 use prefix_trie_bits::prefix::Prefix;
 use std::alloc::Allocator;
@@ -34,10 +33,9 @@ impl<P: Prefix, T: Drop, A: Allocator> PrefixMap<P, T, A> {
         ensures whole { IsWhole P.R.bit_width self.now }
     {
         self.known_valid();
-        let (key, len) = parts(prefix);
         let walk = self
             .table
-            .walk_from(key, len, inclusive, &mut Visits::new());
+            .walk_from(prefix.path(), inclusive, &mut Visits::new());
         Iter::over(walk)
     }
 
@@ -58,8 +56,7 @@ impl<P: Prefix, T: Drop, A: Allocator> PrefixMap<P, T, A> {
         ensures whole { IsWhole P.R.bit_width self.now }
     {
         self.known_valid();
-        let (key, len) = parts(prefix);
-        let walk = self.table.walk_below(key, len, &mut Visits::new());
+        let walk = self.table.walk_below(prefix.path(), &mut Visits::new());
         Iter::over(walk)
     }
 }

@@ -50,8 +50,7 @@ impl<P: Prefix, T: Drop, A: Allocator> PrefixMap<P, T, A> {
         ensures value { get self.old.entries path ≡ Some result.now }
         ensures whole { IsWhole P.R.bit_width self.old }
     {
-        // Needed only for the proof: the map is whole.
-        let _ = self.len();
+        self.known_valid();
         self.table.at_mut(path, seat)
     }
 

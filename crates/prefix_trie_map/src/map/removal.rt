@@ -34,8 +34,7 @@ impl<P: Prefix, T: Drop, A: Allocator> PrefixMap<P, T, A> {
         // made only where none of its size was free.
         ensures step { StepByPath P.R.bit_width (stored_state self.old) (Remove (P.path prefix.now)) (Value result) (stored_state self.new) }
     {
-        let (key, len) = parts(prefix);
-        self.table.remove(key, len, &mut Visits::new())
+        self.table.remove(prefix.path(), &mut Visits::new())
     }
 
     /// Takes the entry of a prefix out, and hands out its value. All nodes stay, those that have nothing left too. Never
@@ -56,8 +55,8 @@ impl<P: Prefix, T: Drop, A: Allocator> PrefixMap<P, T, A> {
         // It is a step of the model, of the storage too. The array of nodes is as it was.
         ensures step { StepByPath P.R.bit_width (stored_state self.old) (RemoveKeepTree (P.path prefix.now)) (Value result) (stored_state self.new) }
     {
-        let (key, len) = parts(prefix);
-        self.table.remove_keep_tree(key, len, &mut Visits::new())
+        self.table
+            .remove_keep_tree(prefix.path(), &mut Visits::new())
     }
 
     /// Takes out the entries whose prefixes this one contains, its own among them, and all nodes below its own node; and

@@ -1,9 +1,9 @@
 -- The entries to come of a cover walk: for `cover`.
-use Rattle.prefix_trie_table.proofs.Prelude.{◌≡◌, ◌⊎◌, ℕ, ◌+◌, ◌-◌, ◌*◌, ◌<◌, ◌≤◌, Bool, true, false, cond, ◌&&◌, ◌||◌, nat_le, List, [], ◌∷◌, length, length-drop, filter, take, drop, Option, None, Some, is_some, refl, sym, ap, ◌∙◌, subst, add-sub_of_le, arith, inl, inr, le-leb, lt-leb, cases_lt, false≢true, drop-take, take-take, Contains-append_left, Contains-append_right, Contains-push, Contains-push_cases, Contains-append_cases, entries, entries_sorted, is_sorted, is_sorted-where_key, begins, begins-take, begins-length, take-begins, listing_cmp, has, value_bit, Entries, covers, IsMatch, State, IsMatch-from_covers, covers-from_IsMatch, each-behind, find-from_Contains, sorted-head, sorted-tail, shorter-first, Node, Match, Store, SomeTable, holds_value, IsHeld, NoneHeld, cell_slot, IsShapeOf, same_shape, IsCovering, GoesOn, is_ahead, still_covering}
+use Rattle.prefix_trie_table.proofs.Prelude.{◌≡◌, ◌⊎◌, ℕ, ◌+◌, ◌-◌, ◌*◌, ◌<◌, ◌≤◌, Bool, true, false, cond, ◌&&◌, ◌||◌, nat_le, List, [], ◌∷◌, length, length-drop, filter, take, drop, Option, None, Some, is_some, refl, sym, ap, ◌∙◌, subst, add-sub_of_le, arith, inl, inr, le-leb, lt-leb, cases_lt, false≢true, drop-take, Contains-append_left, Contains-append_right, Contains-push, Contains-push_cases, Contains-append_cases, entries, entries_sorted, is_sorted, is_sorted-where_key, begins, begins-take, begins-length, take-begins, listing_cmp, has, value_bit, Entries, covers, IsMatch, State, IsMatch-from_covers, covers-from_IsMatch, each-behind, find-from_Contains, sorted-head, sorted-tail, shorter-first, Node, Reached, Match, Store, SomeTable, holds_value, IsHeld, NoneHeld, cell_slot, IsShapeOf, same_shape, IsCovering, GoesOn, is_ahead, still_covering}
 use lib.Dec.{T as IsT}
 use Rattle.std.proofs.lemmas.List.{length-take-le}
 use Rattle.std.specs.List.{Contains}
-use Rattle.prefix_trie_table.proofs.Lookup.Matching.{held_is, on_path_is}
+use Rattle.prefix_trie_table.proofs.Lookup.Matching.{held_is, along_is}
 use Rattle.prefix_trie_table.proofs.Lookup.Matched.{match_held, cell_of, cell_inside, is_match, cell_some}
 
 -- ---- filters of lists
@@ -96,62 +96,59 @@ module _ {T : Type 0} where
 
   -- ---- what a table's walk has still to give
 
-  module _ (v : Store Node) (w : Store (Option T)) (t : SomeTable v w) (s : State T) (is : IsShapeOf v.slots w.slots s) (b : List Bool) (len : ℕ) (long : len ≤ length b) where
-    abbrev asked : List Bool
-    asked = take len b
-
+  module _ (v : Store Node) (w : Store (Option T)) (t : SomeTable v w) (s : State T) (is : IsShapeOf v.slots w.slots s) (q : List Bool) where
     -- the key of a cover is a beginning that has a value
-    module _ (e : List Bool × T) (has : Contains (covers s.entries (take len b)) e) where
-      cover_match : IsMatch s.entries (take len b) e
-      cover_match = IsMatch-from_covers s.entries asked e has
+    module _ (e : List Bool × T) (has : Contains (covers s.entries q) e) where
+      cover_match : IsMatch s.entries q e
+      cover_match = IsMatch-from_covers s.entries q e has
 
-      cover_within : length e.0 ≤ length (take len b)
-      cover_within = begins-length e.0 asked cover_match.begins_it
+      cover_within : length e.0 ≤ length q
+      cover_within = begins-length e.0 q cover_match.begins_it
 
-      cover_holds : holds_value t.reading (take len b) (length e.0) ≡ true
-      cover_holds = match_held v w t s is (take len b) e.0 (ap is_some cover_match.stored) cover_match.begins_it
+      cover_holds : holds_value t.reading q (length e.0) ≡ true
+      cover_holds = match_held v w t s is q e.0 (ap is_some cover_match.stored) cover_match.begins_it
 
     -- none is left if none is held
-    none_left : (first : ℕ) → NoneHeld t.reading (take len b) first (len + 1) → from_length first (covers s.entries (take len b)) ≡ []
-    none_left first none = none_pass (λ e. nat_le first (length e.0)) (covers s.entries asked) (λ e has.
+    none_left : (first : ℕ) → NoneHeld t.reading q first (length q + 1) → from_length first (covers s.entries q) ≡ []
+    none_left first none = none_pass (λ e. nat_le first (length e.0)) (covers s.entries q) (λ e has.
         elim (cases_lt (length e.0) first) as (λ _. nat_le first (length e.0) ≡ false) [
           | inl l ↦ lt-leb first (length e.0) l
-          | inr g ↦ absurd (false≢true (sym (none (length e.0) g (omega (arith, length-take-le len b long, cover_within e has)) (cover_within e has)) ∙ cover_holds e has))
+          | inr g ↦ absurd (false≢true (sym (none (length e.0) g (omega (arith, cover_within e has)) (cover_within e has)) ∙ cover_holds e has))
         ])
 
     -- the next is the shortest that is held
-    next_left : (m : Match) (first : ℕ) → first ≤ m.len → IsHeld t.reading (take len b) m.len m.bit m.node → NoneHeld t.reading (take len b) first m.len
-        → (x : T) → cell_of w m ≡ Some x → from_length first (covers s.entries (take len b)) ≡ (take m.len (take len b), x) ∷ from_length (m.len + 1) (covers s.entries (take len b))
+    next_left : (m : Match) (first : ℕ) → first ≤ m.len → IsHeld t.reading q m.len m.bit m.node → NoneHeld t.reading q first m.len
+        → (x : T) → cell_of w m ≡ Some x → from_length first (covers s.entries q) ≡ (take m.len q, x) ∷ from_length (m.len + 1) (covers s.entries q)
     next_left m first low held none x read =
-        let d : List Bool × T = (take m.len asked, x) in
-        let own : length (take m.len asked) ≡ m.len = length-take-le m.len asked held.within in
-        take_shortest asked first d (covers s.entries asked) (is_sorted-where_key listing_cmp (λ k. begins k asked) (entries s.entries) (entries_sorted s.entries))
+        let d : List Bool × T = (take m.len q, x) in
+        let own : length (take m.len q) ≡ m.len = length-take-le m.len q held.within in
+        take_shortest q first d (covers s.entries q) (is_sorted-where_key listing_cmp (λ k. begins k q) (entries s.entries) (entries_sorted s.entries))
         (λ e has. (cover_match e has).begins_it)
-        (covers-from_IsMatch s.entries asked d (is_match v w t s is (take len b) m held x read))
+        (covers-from_IsMatch s.entries q d (is_match v w t s is q m held x read))
         (omega (arith, own))
-        (λ e has from. elim (cases_lt (length e.0) m.len) as (λ _. length (take m.len asked) ≤ length e.0) [
+        (λ e has from. elim (cases_lt (length e.0) m.len) as (λ _. length (take m.len q) ≤ length e.0) [
           | inl l ↦ absurd (false≢true (sym (none (length e.0) from l (cover_within e has)) ∙ cover_holds e has))
           | inr g ↦ omega (arith, own)
         ])
-        ∙ ap (λ n. d ∷ from_length (n + 1) (covers s.entries asked)) own
+        ∙ ap (λ n. d ∷ from_length (n + 1) (covers s.entries q)) own
 
     -- what is to come by the matches of the node where the walk is
-    module _ (level : ℕ) (node : Node) (slot matches first : ℕ) (at : IsCovering b len level node slot matches first v) where
+    module _ (here : Reached) (matches first : ℕ) (at : IsCovering q here matches first v) where
       -- in the node
-      match_is : (e : List Bool × T) → Contains (covers s.entries (take len b)) e → 5 * level ≤ length e.0 → length e.0 < 5 * level + 5
-          → has matches (value_bit (drop (5 * level) e.0)) ≡ nat_le first (length e.0)
+      match_is : (e : List Bool × T) → Contains (covers s.entries q) e → 5 * here.level ≤ length e.0 → length e.0 < 5 * here.level + 5
+          → has matches (value_bit (drop (5 * here.level) e.0)) ≡ nat_le first (length e.0)
       match_is e there from last =
           let i = length e.0 in
-          let rest = drop (5 * level) asked in
-          let below = drop (5 * level) e.0 in
-          let below_is : drop (5 * level) e.0 ≡ take (i - 5 * level) rest = ap (drop (5 * level)) (sym (begins-take e.0 asked (cover_match e there).begins_it)) ∙ ap (λ n. drop (5 * level) (take n asked)) (sym (add-sub_of_le from))
-          ∙ drop-take (5 * level) (i - 5 * level) asked in
-          let below_long : length (drop (5 * level) e.0) ≡ i - 5 * level = length-drop (5 * level) e.0 in
-          let whole : 5 * level + length (drop (5 * level) e.0) ≡ i = omega (arith, below_long, from) in
-          let stored : has node.value_bitmap (value_bit (drop (5 * level) e.0)) ≡ true = ap (λ k. has node.value_bitmap (value_bit k)) below_is
-          ∙ sym (held_is asked level i from (cover_within e there) last t.reading node (on_path_is b len level slot node v at.on_path t.reading t.paths t.holds.hold)) ∙ cover_holds e there in
+          let rest = drop (5 * here.level) q in
+          let below = drop (5 * here.level) e.0 in
+          let below_is : drop (5 * here.level) e.0 ≡ take (i - 5 * here.level) rest = ap (drop (5 * here.level)) (sym (begins-take e.0 q (cover_match e there).begins_it)) ∙ ap (λ n. drop (5 * here.level) (take n q)) (sym (add-sub_of_le from))
+          ∙ drop-take (5 * here.level) (i - 5 * here.level) q in
+          let below_long : length (drop (5 * here.level) e.0) ≡ i - 5 * here.level = length-drop (5 * here.level) e.0 in
+          let whole : 5 * here.level + length (drop (5 * here.level) e.0) ≡ i = omega (arith, below_long, from) in
+          let stored : has here.node.value_bitmap (value_bit (drop (5 * here.level) e.0)) ≡ true = ap (λ k. has here.node.value_bitmap (value_bit k)) below_is
+          ∙ sym (held_is q here.level i from (cover_within e there) last t.reading here.node (along_is q here v at.along t.reading t.paths t.holds.hold)) ∙ cover_holds e there in
           at.left.bits below (omega (arith, below_long, last))
-          ∙ middle (begins below rest) (nat_le first (5 * level + length below)) (has node.value_bitmap (value_bit below)) (ap (λ k. begins k rest) below_is ∙ take-begins (i - 5 * level) rest) stored
+          ∙ middle (begins below rest) (nat_le first (5 * here.level + length below)) (has here.node.value_bitmap (value_bit below)) (ap (λ k. begins k rest) below_is ∙ take-begins (i - 5 * here.level) rest) stored
           ∙ ap (λ n. nat_le first n) whole
         where
           middle : (x y z : Bool) → x ≡ true → z ≡ true → (x && (y && z)) ≡ y
@@ -159,66 +156,63 @@ module _ {T : Type 0} where
           middle true false z e f = refl
           middle false y z e f = absurd (false≢true e)
 
-      ahead_is : (e : List Bool × T) → Contains (covers s.entries (take len b)) e → is_ahead level matches e.0 ≡ nat_le first (length e.0)
+      ahead_is : (e : List Bool × T) → Contains (covers s.entries q) e → is_ahead here.level matches e.0 ≡ nat_le first (length e.0)
       ahead_is e there =
-          let own = has matches (value_bit (drop (5 * level) e.0)) in
-          elim (cases_lt (length e.0) (5 * level + 5)) as (λ _. is_ahead level matches e.0 ≡ nat_le first (length e.0)) [
-            | inl last ↦ ap (λ x. x || (nat_le (5 * level) (length e.0) && own)) (lt-leb (5 * level + 5) (length e.0) last)
-                ∙ elim (cases_lt (length e.0) (5 * level)) as (λ _. (nat_le (5 * level) (length e.0) && own) ≡ nat_le first (length e.0)) [
-                  | inl above ↦ ap (λ x. x && own) (lt-leb (5 * level) (length e.0) above) ∙ sym (lt-leb first (length e.0) (let low = at.low in omega (arith, low, above)))
-                  | inr from ↦ ap (λ x. x && own) (le-leb (5 * level) (length e.0) from) ∙ match_is e there from last
+          let own = has matches (value_bit (drop (5 * here.level) e.0)) in
+          elim (cases_lt (length e.0) (5 * here.level + 5)) as (λ _. is_ahead here.level matches e.0 ≡ nat_le first (length e.0)) [
+            | inl last ↦ ap (λ x. x || (nat_le (5 * here.level) (length e.0) && own)) (lt-leb (5 * here.level + 5) (length e.0) last)
+                ∙ elim (cases_lt (length e.0) (5 * here.level)) as (λ _. (nat_le (5 * here.level) (length e.0) && own) ≡ nat_le first (length e.0)) [
+                  | inl above ↦ ap (λ x. x && own) (lt-leb (5 * here.level) (length e.0) above) ∙ sym (lt-leb first (length e.0) (let low = at.low in omega (arith, low, above)))
+                  | inr from ↦ ap (λ x. x && own) (le-leb (5 * here.level) (length e.0) from) ∙ match_is e there from last
                 ]
-            | inr past ↦ ap (λ x. x || (nat_le (5 * level) (length e.0) && own)) (le-leb (5 * level + 5) (length e.0) past)
+            | inr past ↦ ap (λ x. x || (nat_le (5 * here.level) (length e.0) && own)) (le-leb (5 * here.level + 5) (length e.0) past)
                 ∙ sym (le-leb first (length e.0) (let high = at.high in omega (arith, high, past)))
           ]
 
-      still_is : still_covering s.entries (take len b) level matches ≡ from_length first (covers s.entries (take len b))
-      still_is = agree (λ e. is_ahead level matches e.0) (λ e. nat_le first (length e.0)) (covers s.entries asked) ahead_is
+      still_is : still_covering s.entries q here.level matches ≡ from_length first (covers s.entries q)
+      still_is = agree (λ e. is_ahead here.level matches e.0) (λ e. nat_le first (length e.0)) (covers s.entries q) ahead_is
 
       -- at the start all of them
-      pub all_ahead : first ≡ 0 → still_covering s.entries (take len b) level matches ≡ covers s.entries (take len b)
-      all_ahead e = still_is ∙ all_pass (λ e. nat_le first (length e.0)) (covers s.entries asked) (λ d has. le-leb first (length d.0) (omega (arith, e)))
+      pub all_ahead : first ≡ 0 → still_covering s.entries q here.level matches ≡ covers s.entries q
+      all_ahead e = still_is ∙ all_pass (λ e. nat_le first (length e.0)) (covers s.entries q) (λ d has. le-leb first (length d.0) (omega (arith, e)))
 
-      pub none_ahead : NoneHeld t.reading (take len b) first (len + 1) → still_covering s.entries (take len b) level matches ≡ []
+      pub none_ahead : NoneHeld t.reading q first (length q + 1) → still_covering s.entries q here.level matches ≡ []
       none_ahead none = still_is ∙ none_left first none
 
   -- ---- one step of a walk
 
   module _ (v : Store Node) (w : Store (Option T)) (t : SomeTable v w) (s later : State T) (is : IsShapeOf v.slots w.slots s) (later_is : IsShapeOf v.slots w.slots later)
-      (b : List Bool) (len : ℕ) (long : len ≤ length b) (level deeper : ℕ) (node below : Node) (slot offset matches rest first : ℕ)
-      (at : IsCovering b len level node slot matches first v) where
+      (q : List Bool) (here next : Reached) (matches rest first : ℕ) (at : IsCovering q here matches first v) where
     -- there is no further entry, now and afterwards
-    pub gives_none : GoesOn b len deeper below offset rest first None v
-        → (still_covering s.entries (take len b) level matches ≡ []) × (still_covering later.entries (take len b) deeper rest ≡ [])
+    pub gives_none : GoesOn q next rest first None v
+        → (still_covering s.entries q here.level matches ≡ []) × (still_covering later.entries q next.level rest ≡ [])
     gives_none gone =
-        let next = gone.next t.reading t.paths t.holds.hold in (
-          none_ahead v w t s is b len long level node slot matches first at next.0,
-          none_ahead v w t later later_is b len long deeper below offset rest gone.later gone.stands next.1,
+        let left = gone.next t.reading t.paths t.holds.hold in (
+          none_ahead v w t s is q here matches first at left.0,
+          none_ahead v w t later later_is q next rest gone.later gone.stands left.1,
         )
 
     -- the next entry is that of the match
-    pub gives_next : (m : Match) → GoesOn b len deeper below offset rest first (Some m) v → (x : T) → cell_of w m ≡ Some x
-        → still_covering s.entries (take len b) level matches ≡ (take m.len b, x) ∷ still_covering later.entries (take len b) deeper rest
+    pub gives_next : (m : Match) → GoesOn q next rest first (Some m) v → (x : T) → cell_of w m ≡ Some x
+        → still_covering s.entries q here.level matches ≡ (take m.len q, x) ∷ still_covering later.entries q next.level rest
     gives_next m gone x read =
-        let next = gone.next t.reading t.paths t.holds.hold in
-        let held : IsHeld t.reading (take len b) m.len m.bit m.node = next.2 in
-        let d : List Bool × T = (take m.len b, x) in
-        still_is v w t s is b len long level node slot matches first at
-        ∙ next_left v w t s is b len long m first next.0 held next.3 x read
-        ∙ ap (λ k. (k, x) ∷ from_length (m.len + 1) (covers s.entries (take len b))) (take-take m.len len b (let h = held.within in omega (arith, h, length-take-le len b long)))
-        ∙ ap (λ (z : State T). d ∷ from_length (m.len + 1) (covers z.entries (take len b))) (same_shape v.slots w.slots s later is later_is)
-        ∙ ap (λ n. d ∷ from_length n (covers later.entries (take len b))) (sym next.1)
-        ∙ ap (λ es. d ∷ es) (sym (still_is v w t later later_is b len long deeper below offset rest gone.later gone.stands))
+        let left = gone.next t.reading t.paths t.holds.hold in
+        let held : IsHeld t.reading q m.len m.bit m.node = left.2 in
+        let d : List Bool × T = (take m.len q, x) in
+        still_is v w t s is q here matches first at
+        ∙ next_left v w t s is q m first left.0 held left.3 x read
+        ∙ ap (λ (z : State T). d ∷ from_length (m.len + 1) (covers z.entries q)) (same_shape v.slots w.slots s later is later_is)
+        ∙ ap (λ n. d ∷ from_length n (covers later.entries q)) (sym left.1)
+        ∙ ap (λ es. d ∷ es) (sym (still_is v w t later later_is q next rest gone.later gone.stands))
 
     -- the match has its value
-    pub match_there : (m : Match) → GoesOn b len deeper below offset rest first (Some m) v → (m.bit < 31) × (cell_slot m < length w.slots) × (is_some (cell_of w m) ≡ true)
+    pub match_there : (m : Match) → GoesOn q next rest first (Some m) v → (m.bit < 31) × (cell_slot m < length w.slots) × (is_some (cell_of w m) ≡ true)
     match_there m gone =
-        let held : IsHeld t.reading (take len b) m.len m.bit m.node = (gone.next t.reading t.paths t.holds.hold).2 in
-        (held.small, cell_inside v w t s is (take len b) m held, cell_some v w t s is (take len b) m held)
+        let held : IsHeld t.reading q m.len m.bit m.node = (gone.next t.reading t.paths t.holds.hold).2 in
+        (held.small, cell_inside v w t s is q m held, cell_some v w t s is q m held)
 
     -- a match is no longer than the string
-    pub match_short : (m : Match) → GoesOn b len deeper below offset rest first (Some m) v → m.len ≤ len
+    pub match_short : (m : Match) → GoesOn q next rest first (Some m) v → m.len ≤ length q
     match_short m gone =
-        let held : IsHeld t.reading (take len b) m.len m.bit m.node = (gone.next t.reading t.paths t.holds.hold).2 in
-        let within = held.within in
-        omega (arith, within, length-take-le len b long)
+        let held : IsHeld t.reading q m.len m.bit m.node = (gone.next t.reading t.paths t.holds.hold).2 in
+        held.within

@@ -1,9 +1,9 @@
 -- The matches to come of a cover walk, node by node.
-use Rattle.prefix_trie_table.proofs.Prelude.{◌≡◌, ℕ, ◌+◌, ◌-◌, ◌*◌, ◌^◌, ◌<◌, ◌≤◌, Bool, true, false, ◌&&◌, nat_le, List, length, take, drop, Option, None, Some, refl, sym, ap, ◌∙◌, subst, arith, inl, inr, leb-true, length-drop, bit_and, bit_at, le-leb, lt-leb, cases_lt, false≢true, and_le_r, bit_at_above, begins, digits, length-digits, same_bool, begins-take, begins-length, take-begins, has, value_bit, stands, Sets, HoldsValues, both, bit-set, has-zero, has-and, value_bit-longer, one_of_length, Node, Match, Store, node_sizes, NodesHold, IsReached, NoneHeld, IsOnPath, AreLeft, TakesMatch, TakesShortest, NextHeld, IsCovering, GoesOn, IsCover}
+use Rattle.prefix_trie_table.proofs.Prelude.{◌≡◌, ℕ, ◌+◌, ◌-◌, ◌*◌, ◌^◌, ◌<◌, ◌≤◌, Bool, true, false, ◌&&◌, nat_le, List, length, take, drop, Option, None, Some, refl, sym, ap, ◌∙◌, subst, arith, inl, inr, leb-true, length-drop, bit_and, bit_at, le-leb, lt-leb, cases_lt, false≢true, and_le_r, bit_at_above, begins, digits, length-digits, same_bool, begins-take, begins-length, take-begins, has, value_bit, stands, Sets, HoldsValues, both, bit-set, has-zero, has-and, value_bit-longer, one_of_length, Node, Match, Store, node_sizes, NodesHold, NoneHeld, Reached, IsAlong, IsLast, AreLeft, TakesMatch, TakesShortest, NextHeld, IsCovering, GoesOn, IsCover}
 use Rattle.std.proofs.lemmas.List.{length-take-le}
 use Rattle.prefix_trie_table.proofs.Strings.Plain.{no_or_yes}
-use Rattle.prefix_trie_table.proofs.Lookup.Finding.{reached_end}
-use Rattle.prefix_trie_table.proofs.Lookup.Matching.{held_is, held_here, none_join, none_past, on_path_is, steps-within}
+use Rattle.prefix_trie_table.proofs.Lookup.SearchPaths.{way_end}
+use Rattle.prefix_trie_table.proofs.Lookup.Matching.{held_is, held_here, none_join, none_past, along_is}
 
 -- three that hold at once
 all-three : (a b c : Bool) → a ≡ true → b ≡ true → c ≡ true → (a && (b && c)) ≡ true
@@ -132,78 +132,74 @@ all_left level bitmap mask q holds = record {
 -- ---- the descent
 
 -- a walk whose beginnings of `first` bits or more were still to come has gone on without one that has a value
-pub record GoneTo (b : List Bool) (len first level : ℕ) (node : Node) (slot matches : ℕ) (v : Store Node) : Type 0 where
+pub record GoneTo (q : List Bool) (first : ℕ) (here : Reached) (matches : ℕ) (v : Store Node) : Type 0 where
   pub to : ℕ
-  pub stands : IsCovering b len level node slot matches to v
+  pub stands : IsCovering q here matches to v
   pub low : first ≤ to
-  pub none : (reading : List ℕ → Option Node) (paths : List (List ℕ)) → NodesHold node_sizes reading paths v → NoneHeld reading (take len b) first to
+  pub none : (reading : List ℕ → Option Node) (paths : List (List ℕ)) → NodesHold node_sizes reading paths v → NoneHeld reading q first to
 
 -- so it has at its start
-pub gone_nowhere : (b : List Bool) (len first level : ℕ) (node : Node) (slot matches : ℕ) (v : Store Node) → IsCovering b len level node slot matches first v
-    → GoneTo b len first level node slot matches v
-gone_nowhere b len first level node slot matches v at = record { to = first; stands = at; low = omega arith; none = λ reading paths hold i from last within. absurd (omega arith) }
+pub gone_nowhere : (q : List Bool) (first : ℕ) (here : Reached) (matches : ℕ) (v : Store Node) → IsCovering q here matches first v → GoneTo q first here matches v
+gone_nowhere q first here matches v at = record { to = first; stands = at; low = omega arith; none = λ reading paths hold i from last within. absurd (omega arith) }
 
-module _ (b : List Bool) (len first level : ℕ) (node : Node) (slot matches : ℕ) (v : Store Node) (gone : GoneTo b len first level node slot matches v)
-    (new : ℕ) (o : Option Match) (takes : TakesShortest level node matches new o) where
-  taken : TakesMatch level node new gone.to (take len b) o
-  taken = takes (take len b) gone.to (steps-within b len level gone.stands.on_path.long gone.stands.on_path.whole) gone.stands.low gone.stands.high gone.stands.left
+module _ (q : List Bool) (first : ℕ) (here : Reached) (matches : ℕ) (v : Store Node) (gone : GoneTo q first here matches v)
+    (new : ℕ) (o : Option Match) (takes : TakesShortest here.level here.node matches new o) where
+  taken : TakesMatch here.level here.node new gone.to q o
+  taken = takes q gone.to gone.stands.along.whole gone.stands.low gone.stands.high gone.stands.left
 
   -- the walk is where it was, with the matches that are left
-  stays : IsCovering b len level node slot new taken.later v
-  stays = record { on_path = gone.stands.on_path; low = (let l = gone.stands.low in let m = taken.low in omega (arith, l, m)); high = taken.high; left = taken.left }
+  stays : IsCovering q here new taken.later v
+  stays = record { along = gone.stands.along; low = (let l = gone.stands.low in let m = taken.low in omega (arith, l, m)); high = taken.high; left = taken.left }
 
-  taken_next : (reading : List ℕ → Option Node) (paths : List (List ℕ)) → NodesHold node_sizes reading paths v → NextHeld reading (take len b) (5 * level + 5) gone.to taken.later o
-  taken_next reading paths hold = taken.next reading (on_path_is b len level slot node v gone.stands.on_path reading paths hold)
+  taken_next : (reading : List ℕ → Option Node) (paths : List (List ℕ)) → NodesHold node_sizes reading paths v → NextHeld reading q (5 * here.level + 5) gone.to taken.later o
+  taken_next reading paths hold = taken.next reading (along_is q here v gone.stands.along reading paths hold)
 
 -- a match was taken
-pub gone_on : (b : List Bool) (len first level : ℕ) (node : Node) (slot matches : ℕ) (v : Store Node) (gone : GoneTo b len first level node slot matches v)
-    (new : ℕ) (m : Match) → TakesShortest level node matches new (Some m) → GoesOn b len level node slot new first (Some m) v
-gone_on b len first level node slot matches v gone new m takes = record {
-  later = (taken b len first level node slot matches v gone new (Some m) takes).later;
-  stands = stays b len first level node slot matches v gone new (Some m) takes;
+pub gone_on : (q : List Bool) (first : ℕ) (here : Reached) (matches : ℕ) (v : Store Node) (gone : GoneTo q first here matches v)
+    (new : ℕ) (m : Match) → TakesShortest here.level here.node matches new (Some m) → GoesOn q here new first (Some m) v
+gone_on q first here matches v gone new m takes = record {
+  later = (taken q first here matches v gone new (Some m) takes).later;
+  stands = stays q first here matches v gone new (Some m) takes;
   next = λ reading paths hold.
-      let next = taken_next b len first level node slot matches v gone new (Some m) takes reading paths hold in
+      let next = taken_next q first here matches v gone new (Some m) takes reading paths hold in
       let before = gone.low in
-      (omega (arith, before, next.0), next.1, next.2, none_join reading (take len b) first gone.to m.len (gone.none reading paths hold) next.3);
+      (omega (arith, before, next.0), next.1, next.2, none_join reading q first gone.to m.len (gone.none reading paths hold) next.3);
 }
 
 -- there is none, here and below
-pub gone_past : (b : List Bool) (len first level : ℕ) (node : Node) (slot matches : ℕ) (v : Store Node) (gone : GoneTo b len first level node slot matches v)
-    (new : ℕ) → TakesShortest level node matches new None → IsReached b len level node slot v → GoesOn b len level node slot new first None v
-gone_past b len first level node slot matches v gone new takes end = record {
-  later = (taken b len first level node slot matches v gone new None takes).later;
-  stands = stays b len first level node slot matches v gone new None takes;
+pub gone_past : (q : List Bool) (first : ℕ) (here : Reached) (matches : ℕ) (v : Store Node) (gone : GoneTo q first here matches v)
+    (new : ℕ) → TakesShortest here.level here.node matches new None → IsLast q here v → GoesOn q here new first None v
+gone_past q first here matches v gone new takes end = record {
+  later = (taken q first here matches v gone new None takes).later;
+  stands = stays q first here matches v gone new None takes;
   next = λ reading paths hold.
-      let q = take len b in
-      let here = taken_next b len first level node slot matches v gone new None takes reading paths hold in
-      let past = none_past reading paths v q level (len + 1) hold (reached_end b len level slot node v end reading paths hold) in (
-        none_join reading q first gone.to (len + 1) (gone.none reading paths hold) (none_join reading q gone.to (5 * level + 5) (len + 1) here.0 past),
-        none_join reading q _ (5 * level + 5) (len + 1) here.1 past,
+      let now = taken_next q first here matches v gone new None takes reading paths hold in
+      let past = none_past reading paths v q here.level (length q + 1) hold (way_end q here v end reading paths hold) in (
+        none_join reading q first gone.to (length q + 1) (gone.none reading paths hold) (none_join reading q gone.to (5 * here.level + 5) (length q + 1) now.0 past),
+        none_join reading q _ (5 * here.level + 5) (length q + 1) now.1 past,
       );
 }
 
 -- there is none here, and the walk goes down
-pub gone_down : (b : List Bool) (len first level : ℕ) (node : Node) (slot matches : ℕ) (v : Store Node) (gone : GoneTo b len first level node slot matches v)
-    (new : ℕ) → TakesShortest level node matches new None → (deeper : ℕ) (below : Node) (offset rest : ℕ) → deeper ≡ level + 1
-    → IsOnPath b len deeper below offset v → AreLeft rest below.value_bitmap (5 * deeper) (5 * deeper) (take len b) → GoneTo b len first deeper below offset rest v
-gone_down b len first level node slot matches v gone new takes deeper below offset rest down on_path left = record {
-  to = 5 * deeper;
-  stands = record { on_path = on_path; low = omega arith; high = omega arith; left = left };
-  low = (let l = gone.low in let h = gone.stands.high in omega (arith, l, h));
+pub gone_down : (q : List Bool) (first : ℕ) (here : Reached) (matches : ℕ) (v : Store Node) (gone : GoneTo q first here matches v)
+    (new : ℕ) → TakesShortest here.level here.node matches new None → (next : Reached) (rest : ℕ) → next.level ≡ here.level + 1
+    → IsAlong q next v → AreLeft rest next.node.value_bitmap (5 * next.level) (5 * next.level) q → GoneTo q first next rest v
+gone_down q first here matches v gone new takes next rest down along left = record {
+  to = 5 * next.level;
+  stands = record { along = along; low = omega arith; high = omega arith; left = left };
+  low = (let l = gone.low in let h = gone.stands.high in omega (arith, l, h, down));
   none = λ reading paths hold.
-      let here = taken_next b len first level node slot matches v gone new None takes reading paths hold in
-      let more : 5 * level + 5 ≡ 5 * deeper = omega arith in
-      subst (NoneHeld reading (take len b) first) more (none_join reading (take len b) first gone.to (5 * level + 5) (gone.none reading paths hold) here.0);
+      let now = taken_next q first here matches v gone new None takes reading paths hold in
+      let more : 5 * here.level + 5 ≡ 5 * next.level = omega (arith, down) in
+      subst (NoneHeld reading q first) more (none_join reading q first gone.to (5 * here.level + 5) (gone.none reading paths hold) now.0);
 }
 
 -- a walk begins at the root
-pub at_root : (b : List Bool) (len level : ℕ) (node : Node) (slot matches : ℕ) (v : Store Node) → len ≤ length b
-    → ((k : List Bool) (n : ℕ) → n ≤ length k → IsOnPath k n level node slot v) → AreLeft matches node.value_bitmap (5 * level) (5 * level) (take len b)
-    → IsCovering b len level node slot matches (5 * level) v
-at_root b len level node slot matches v long on_path left = record { on_path = on_path b len long; low = omega arith; high = omega arith; left = left }
+pub at_root : (q : List Bool) (here : Reached) (matches : ℕ) (v : Store Node) → IsAlong q here v → AreLeft matches here.node.value_bitmap (5 * here.level) (5 * here.level) q
+    → IsCovering q here matches (5 * here.level) v
+at_root q here matches v along left = record { along = along; low = omega arith; high = omega arith; left = left }
 
 -- what holds of a walk's fields holds after a step
-pub cover_on : {K T : Type 0} {IsKey : K → Type 0} {bits : K → List Bool} (width : ℕ) (key : K) (len level deeper : ℕ) (node below : Node) (slot offset matches rest : ℕ)
-    (o : Option Match) (v : Store Node) (w : Store (Option T)) (at : IsCover IsKey bits width key len level node slot matches v w)
-    → GoesOn (bits key) len deeper below offset rest at.first o v → IsCover IsKey bits width key len deeper below offset rest v w
-cover_on width key len level deeper node below slot offset matches rest o v w at gone = record { is_key = at.is_key; short = at.short; table = at.table; first = gone.later; stands = gone.stands }
+pub cover_on : {T : Type 0} (q : List Bool) (here next : Reached) (matches rest : ℕ) (o : Option Match) (v : Store Node) (w : Store (Option T)) (at : IsCover q here matches v w)
+    → GoesOn q next rest at.first o v → IsCover q next rest v w
+cover_on q here next matches rest o v w at gone = record { table = at.table; first = gone.later; stands = gone.stands }

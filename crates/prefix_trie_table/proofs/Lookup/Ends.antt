@@ -1,5 +1,5 @@
 -- The end of a search path, by the nodes in their slots and as `descend` finds it.
-use Rattle.prefix_trie_table.proofs.Prelude.{◌≡◌, ℕ, ◌+◌, ◌*◌, ◌/◌, ◌<◌, ◌≤◌, List, Bool, true, false, length, get_or, take, drop, Option, None, Some, is_some, sym, ap, ◌∙◌, subst, arith, has, has_bit, value_bit, Node, Seat, SearchEnd, node_sizes, chunks_of, bit_of, IsSlot, NodesHold, Deepest, has_child, node_or_blank, seat_in, seat_of, value_seat, IsSearchEnd, Store, Reached, take_more, IsAlong, IsLast, slot_at}
+use Rattle.prefix_trie_table.proofs.Prelude.{◌≡◌, ℕ, ◌+◌, ◌*◌, ◌/◌, ◌<◌, ◌≤◌, List, Bool, true, false, length, get_or, take, drop, Option, None, Some, is_some, sym, ap, ◌∙◌, subst, arith, has, has_bit, value_bit, Node, Seat, node_sizes, chunks_of, bit_of, IsSlot, NodesHold, Deepest, has_child, node_or_blank, seat_in, seat_of, value_seat, IsSearchEnd, Store, Reached, take_more, IsLast, slot_at}
 use Rattle.prefix_trie_table.proofs.Strings.Bits.{has_bit-is}
 use Rattle.prefix_trie_table.proofs.Strings.Digits.{path-length}
 use Rattle.prefix_trie_table.proofs.Lookup.Going.{deepest_is}

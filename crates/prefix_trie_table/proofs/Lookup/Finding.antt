@@ -1,13 +1,12 @@
 -- What there is, and is not, at the end of a descent.
-use Rattle.prefix_trie_table.proofs.Prelude.{◌≡◌, ◌≢◌, ℕ, ◌+◌, ◌*◌, ◌<◌, ◌≤◌, inl, inr, ⊎_elim, Bool, true, false, ◌||◌, List, [], ◌∷◌, ◌++◌, length, take, drop, Option, None, Some, is_some, refl, sym, ap, ◌∙◌, arith, nat_le, leb-true, nat_tests, false≢true, cases_Bool, has, value_bit, Node, has_bit, node_sizes, chunks_of, bit_of, Store, same_path, is_start, NodesHold, Holds, IsEnd, has_value, IsReached}
+use Rattle.prefix_trie_table.proofs.Prelude.{◌≡◌, ◌≢◌, ℕ, ◌+◌, ◌*◌, ◌<◌, ◌≤◌, inl, inr, ⊎_elim, Bool, true, false, ◌||◌, List, [], ◌∷◌, ◌++◌, length, take, Option, None, Some, is_some, refl, sym, ap, ◌∙◌, arith, nat_le, leb-true, nat_tests, false≢true, cases_Bool, Node, node_sizes, chunks_of, Store, same_path, is_start, NodesHold, IsEnd, IsReached}
 use Rattle.std.proofs.lemmas.List.{take_all}
 use Rattle.prefix_trie_table.proofs.Strings.Plain.{needs_node}
-use Rattle.prefix_trie_table.proofs.Strings.Bits.{has_bit-is}
 use Rattle.prefix_trie_table.proofs.Strings.Paths.{same_path-not, snoc_ind}
 use Rattle.prefix_trie_table.proofs.Strings.Starts.{is_start-snoc, is_start_take, or_either}
 use Rattle.prefix_trie_table.proofs.Tree.Trees.{is_none-None}
 use Rattle.prefix_trie_table.proofs.Tree.Children.{same_or}
-use Rattle.prefix_trie_table.proofs.Lookup.Going.{step-inside, steps-end, bit-read, deepest_is, deepest_end}
+use Rattle.prefix_trie_table.proofs.Lookup.Going.{step-inside, steps-end, deepest_is, deepest_end}
 
 or_false_right : (a : Bool) → (a || false) ≡ a
 or_false_right true = refl
@@ -36,11 +35,6 @@ none_below nodes paths v path depth hold end inside =
       | inr e ↦ is_none-None (nodes path) e
     ]
 
--- whether the node reached has a value at the bit that the code reads
-pub bit_set : (b : List Bool) (len level slot : ℕ) (node : Node) (v : Store Node) → IsReached b len level node slot v → len < 5 * level + 5 → (x : ℕ) → x < 31 →
-    x ≡ value_bit (drop (5 * level) (take len b)) → has_bit node.value_bitmap (bit_of (take len b)) ≡ has node.value_bitmap x
-bit_set b len level slot node v at less x small read = ap (has_bit node.value_bitmap) (bit-read b len level at.long x at.whole less read) ∙ has_bit-is node.value_bitmap x (omega arith)
-
 module _ (b : List Bool) (len level slot : ℕ) (node : Node) (v : Store Node) (at : IsReached b len level node slot v) (reading : List ℕ → Option Node)
     (paths : List (List ℕ)) (hold : NodesHold node_sizes reading paths v) where
   -- the search path was followed to its end
@@ -67,18 +61,3 @@ module _ (b : List Bool) (len level slot : ℕ) (node : Node) (v : Store Node) (
   -- the node of the string is not there
   pub reached_none : 5 * level + 5 ≤ len → reading (chunks_of (take len b)) ≡ None
   reached_none more = none_below reading paths v (chunks_of (take len b)) level hold reached_end (step-inside b len level at.long more)
-
-module _ {T : Type 0} (b : List Bool) (len level slot : ℕ) (node : Node) (v : Store Node) (at : IsReached b len level node slot v)
-    (reading : List ℕ → Option Node) (values : List ℕ → ℕ → Option T) (paths : List (List ℕ)) (w : Store (Option T))
-    (holds : Holds reading values paths v w) where
-  -- no value if the node is missing
-  pub no_value_below : 5 * level + 5 ≤ len → values (chunks_of (take len b)) (bit_of (take len b)) ≡ None
-  no_value_below more =
-      is_none-None (values (chunks_of (take len b)) (bit_of (take len b)))
-      (holds.cells.set_where (chunks_of (take len b)) (bit_of (take len b))
-      ∙ ap (λ o. has_value o (bit_of (take len b))) (reached_none b len level slot node v at reading paths holds.hold more))
-
--- and as many nodes were met as levels were passed
-pub met_end : (b : List Bool) (len level slot : ℕ) (node : Node) (v : Store Node) → IsReached b len level node slot v → (before after : ℕ) → after ≡ before + (level + 1) →
-    (reading : List ℕ → Option Node) (paths : List (List ℕ)) → NodesHold node_sizes reading paths v → (last : ℕ) × IsEnd reading (chunks_of (take len b)) last × (after ≡ before + (last + 1))
-met_end b len level slot node v at before after visits reading paths hold = (level, reached_end b len level slot node v at reading paths hold, visits)

@@ -1,5 +1,5 @@
 -- The descent along a bit string, as the code follows it on a key.
-use Rattle.prefix_trie_table.proofs.Prelude.{◌≡◌, ◌≢◌, ℕ, ◌+◌, ◌*◌, ◌/◌, ◌<◌, ◌≤◌, Bool, true, false, List, [], ◌∷◌, ◌++◌, length, get_or, take, drop, Option, Some, is_some, refl, sym, ap, ◌∙◌, subst, arith, take_more, number, zeros, window-of-front, IsRest, rest_whole, rest_behind, rest_front, has, ones_below, value_bit, Node, has_bit, rank, node_at, node_sizes, chunks_of, bit_of, IsOnPath, Store, Reached, IsSlot, at_root, at_child, child_slot, NodesHold, Deepest, IsEnd, has_child, node_or_blank}
+use Rattle.prefix_trie_table.proofs.Prelude.{◌≡◌, ◌≢◌, ℕ, ◌+◌, ◌*◌, ◌/◌, ◌<◌, ◌≤◌, Bool, true, false, List, [], ◌∷◌, ◌++◌, length, get_or, take, drop, Option, Some, is_some, refl, sym, ap, ◌∙◌, subst, arith, take_more, number, window-of-front, has, ones_below, value_bit, Node, has_bit, rank, node_at, node_sizes, chunks_of, bit_of, Store, IsSlot, at_root, at_child, NodesHold, Deepest, IsEnd, has_child, node_or_blank}
 use Rattle.std.proofs.lemmas.List.{length-take-le}
 use Rattle.prefix_trie_table.proofs.Strings.Bits.{has_bit-is, rank-ones}
 use Rattle.prefix_trie_table.proofs.Strings.Digits.{path-length, step-is, rest-is}
@@ -96,62 +96,6 @@ module _ (b : List Bool) (len level slot : ℕ) (node : Node) (v : Store Node) (
       deepest_more reading paths v (chunks_of (take len b)) level slot hold (down.deepest reading paths hold) offset node
       (step-inside b len level within inside) down.node_is (down_bit ∙ bit)
       (place_is ∙ sym (rank-ones node.child_bitmap x (omega arith)) ∙ ap (rank node.child_bitmap) (sym (step-read b len level within x inside read)))
-
--- a node on the path is where it is during the descent
-pub on_path_down : (b : List Bool) (len level slot : ℕ) (node : Node) (v : Store Node) → IsOnPath b len level node slot v → IsDown (chunks_of (take len b)) len level node slot v
-on_path_down b len level slot node v at = record { whole = at.whole; node_is = at.node_is; deepest = at.deepest }
-
--- a path was followed to here: the bits after it are those of a key in hand, and each node on it
--- was met once
-pub record IsFollowed {K : Type 0} (IsKey : K → Type 0) (bits : K → List Bool) (key : K) (len : ℕ) (here : Reached) (v : Store Node) (rest : K) (before now : ℕ) : Type 0 where
-  pub on_path : IsOnPath (bits key) len here.level here.node (here.at.start + here.at.offset) v
-  pub is_key : IsKey rest
-  pub behind : IsRest (bits key) (5 * here.level) (bits rest)
-  pub counted : now ≡ before + (here.level + 1)
-
-module _ {K : Type 0} (IsKey : K → Type 0) (bits : K → List Bool) (key : K) (len : ℕ) (here : Reached) (v : Store Node) where
-  -- at the root
-  pub followed_root : (width : ℕ) → IsKey key → length (bits key) ≡ width → len ≤ width → here.level ≡ 0
-      → ((b : List Bool) (n : ℕ) → n ≤ length b → IsOnPath b n here.level here.node (here.at.start + here.at.offset) v)
-      → (before now : ℕ) → now ≡ before + 1 → IsFollowed IsKey bits key len here v key before now
-  followed_root width is_key long within top on_path before now met = record {
-    on_path = on_path (bits key) len (key_long (length (bits key)) len width long within);
-    is_key = is_key;
-    behind = subst (λ n. IsRest (bits key) (5 * n) (bits key)) (sym top) (rest_whole (bits key));
-    counted = omega (arith, top, met);
-  }
-
-  -- the bits after the next five are those after its child
-  pub followed_next : (rest : K) (before now : ℕ) → IsFollowed IsKey bits key len here v rest before now → (next : Reached)
-      → (next.level ≡ here.level + 1) × IsOnPath (bits key) len next.level next.node (next.at.start + next.at.offset) v
-      → (later : K) → IsKey later → bits later ≡ drop 5 (bits rest) ++ zeros 5 → (after : ℕ) → after ≡ now + 1 → IsFollowed IsKey bits key len next v later before after
-  followed_next rest before now at next step later is_key shifted after met =
-      let long = step.1.long in
-      let whole = step.1.whole in
-      let more : 5 * here.level + 5 ≡ 5 * next.level = omega (arith, step.0) in
-      record {
-        on_path = step.1;
-        is_key = is_key;
-        behind = subst (λ d. IsRest (bits key) d (bits later)) more (rest_behind (bits key) (bits rest) (bits later) (5 * here.level) 5 at.behind (omega (arith, long, whole, more)) shifted);
-        counted = omega (arith, met, step.0, at.counted);
-      }
-
--- the bit that the code reads of them is that of the next chunk, and the child there is the next
--- node
-module _ (b : List Bool) (len level slot : ℕ) (node : Node) (v : Store Node) (at : IsOnPath b len level node slot v) (r : List Bool) (rest : IsRest b (5 * level) r)
-    (x : ℕ) (small : x < 32) (read : x ≡ number (take 5 (drop 0 r))) (inside : 5 * level + 5 ≤ len) where
-  read_front : x ≡ number (take 5 (drop (5 * level) b))
-  read_front = let long = at.long in read ∙ ap number (sym (rest_front b r (5 * level) 5 rest (omega (arith, long))))
-
-  pub next_bit : has_bit node.child_bitmap (get_or (chunks_of (take len b)) level 0) ≡ has node.child_bitmap x
-  next_bit = down_bit b len level slot node v at.long (on_path_down b len level slot node v at) x small read_front inside
-
-  pub next_deep : has node.child_bitmap x ≡ true → (to : ℕ) → to ≡ child_slot node x → (reading : List ℕ → Option Node) (paths : List (List ℕ))
-      → NodesHold node_sizes reading paths v → Deepest reading (chunks_of (take len b)) (level + 1) to v
-  next_deep set to is reading paths hold =
-      subst (λ i. Deepest reading (chunks_of (take len b)) (level + 1) i v) (sym is)
-      (down_more b len level slot node v at.long (on_path_down b len level slot node v at) x small read_front inside (rank node.child_bitmap x) set
-      (rank-ones node.child_bitmap x (omega arith)) reading paths hold)
 
 -- ---- whole steps of a length
 

@@ -1,13 +1,12 @@
 -- Where the value of a bit string is stored, by the nodes in their array.
-use Rattle.prefix_trie_table.proofs.Prelude.{◌≡◌, ℕ, ◌+◌, ◌*◌, ◌<◌, ◌≤◌, Bool, true, false, cond, ◌||◌, nat_eq, List, ◌++◌, length, set, take, drop, Option, None, Some, is_some, refl, sym, ap, ap₂, ◌∙◌, arith, false≢true, has, value_bit, Sets, value_bit-small, Node, Reached, Seat, has_bit, rank, blank_node, node_at, node_sizes, cell_sizes, chunks_of, bit_of, read, SomeTable, IsNodeAt, IsSlot, at_root, at_child, NodesHold, CellsHold, ValueSet, with_node, has_value, EndsAt, value_seat, seat_in, seat_of, IsSeat, Store, IsReached}
+use Rattle.prefix_trie_table.proofs.Prelude.{◌≡◌, ℕ, ◌+◌, ◌*◌, ◌<◌, ◌≤◌, Bool, true, false, cond, ◌||◌, nat_eq, List, ◌++◌, length, set, take, Option, None, Some, is_some, refl, sym, ap, ap₂, ◌∙◌, arith, false≢true, has, value_bit, Sets, value_bit-small, Node, Reached, Seat, has_bit, rank, blank_node, node_at, node_sizes, cell_sizes, chunks_of, bit_of, read, SomeTable, IsNodeAt, IsSlot, at_root, at_child, NodesHold, CellsHold, ValueSet, with_node, has_value, EndsAt, value_seat, seat_in, seat_of, IsSeat, Store, IsReached}
 use Rattle.std.proofs.lemmas.List.{get_or-set_same}
 use Rattle.prefix_trie_table.proofs.Strings.Bits.{has_bit-is, has_bit-sets}
 use Rattle.prefix_trie_table.proofs.Strings.BitLists.{rank-same}
 use Rattle.prefix_trie_table.proofs.Tree.Children.{same_number, other_number, with_here, with_other}
 use Rattle.prefix_trie_table.proofs.Strings.Digits.{bit_of-small}
 use Rattle.prefix_trie_table.proofs.Insertion.Inserting.{few_values, reached_still}
-use Rattle.prefix_trie_table.proofs.Lookup.Finding.{reached_none, reached_own, bit_set}
-use Rattle.prefix_trie_table.proofs.Lookup.Going.{bit-read}
+use Rattle.prefix_trie_table.proofs.Lookup.Finding.{reached_own}
 use Rattle.prefix_trie_table.proofs.Strings.Paths.{snoc_not_same}
 use Rattle.prefix_trie_table.proofs.Strings.Placing.{below_node}
 use Rattle.prefix_trie_table.proofs.Tree.Invariant.{deepest_there}
@@ -80,12 +79,7 @@ module _ (v : Store Node) (reading : List ℕ → Option Node) (paths : List (Li
 
 module _ (b : List Bool) (len level slot : ℕ) (node : Node) (v : Store Node) (at : IsReached b len level node slot v) (reading : List ℕ → Option Node)
     (paths : List (List ℕ)) (hold : NodesHold node_sizes reading paths v) where
-  -- no seat if the node is missing
-  pub located_below : 5 * level + 5 ≤ len → seat_of v.slots (take len b) ≡ None
-  located_below more = no_seat v reading paths hold (take len b)
-      (ap (λ o. has_value o (bit_of (take len b))) (reached_none b len level slot node v at reading paths hold more))
-
-  -- if there is no seat the bit is clear
+  -- where there is none the bit is clear
   pub missing_bit : seat_of v.slots (take len b) ≡ None → len < 5 * level + 5 → has_bit node.value_bitmap (bit_of (take len b)) ≡ false
   missing_bit e less = ap (λ o. has_value o (bit_of (take len b))) (sym (reached_own b len level slot node v at reading paths hold less))
       ∙ no_value_seat v reading paths hold (take len b) e
@@ -97,22 +91,7 @@ module _ (b : List Bool) (len level slot : ℕ) (node : Node) (v : Store Node) (
       few_values reading values paths w (chunks_of (take len b)) node (bit_of (take len b)) cells
       (reached_own b len level slot node v at reading paths hold less) (bit_of-small (take len b)) (missing_bit e less)
 
-  module _ (less : len < 5 * level + 5) (x : ℕ) (small : x < 31) (read : x ≡ value_bit (drop (5 * level) (take len b))) where
-    -- no seat if the bit that the code reads is clear
-    pub located_none : has node.value_bitmap x ≡ false → seat_of v.slots (take len b) ≡ None
-    located_none clear = no_seat v reading paths hold (take len b)
-        (ap (λ o. has_value o (bit_of (take len b))) (reached_own b len level slot node v at reading paths hold less)
-        ∙ bit_set b len level slot node v at less x small read ∙ clear)
-
-    -- the seat if it is set
-    pub located_here : has node.value_bitmap x ≡ true → (seat : Seat) → seat ≡ value_seat node x → seat_of v.slots (take len b) ≡ Some seat
-    located_here set seat is =
-        seat_reads v reading paths hold (take len b)
-        ∙ ap (λ o. seat_in o (bit_of (take len b))) (reached_own b len level slot node v at reading paths hold less)
-        ∙ seat_there node (bit_of (take len b)) (bit_set b len level slot node v at less x small read ∙ set)
-        ∙ ap (λ i. Some (value_seat node i)) (bit-read b len level at.long x at.whole less read) ∙ ap Some (sym is)
-
--- where a value is stored that was added to a node
+-- where a value stands that was added to a node
 module _ (v v2 : Store Node) (slot offset b bitmap : ℕ) (k m : Node) (sets : Sets k.value_bitmap b bitmap) (bits_are : m.value_bitmap ≡ bitmap) (small : b < 32) where
   more : (i : ℕ) → has_bit m.value_bitmap i ≡ (nat_eq i b || has_bit k.value_bitmap i)
   more i = ap (λ n. has_bit n i) bits_are ∙ has_bit-sets k.value_bitmap b bitmap i sets small

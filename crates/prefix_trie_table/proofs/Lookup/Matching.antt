@@ -1,5 +1,5 @@
 -- Which beginnings of a bit string have values, node by node on its search path.
-use Rattle.prefix_trie_table.proofs.Prelude.{◌≡◌, ℕ, ◌+◌, ◌-◌, ◌*◌, ◌/◌, ◌^◌, ◌<◌, ◌≤◌, Bool, true, false, List, length, length-drop, take, drop, Option, None, Some, is_some, refl, sym, ap, ap₂, ◌∙◌, subst, arith, inl, inr, add-sub_of_le, bit_at, option_or, false≢true, cases_Bool, cases_lt, take-take, drop-take, digits, length-digits, has, value_bit, stands, IsLongest, IsShortest, NoneBegins, bit-clear, value_bit-small, Node, Match, has_bit, node_sizes, chunks_of, bit_of, Store, NodesHold, IsEnd, has_value, holds_value, NoneHeld, IsHeld, IsOnPath, LongestHeld, ShortestHeld, Reached, IsAlong, slot_at}
+use Rattle.prefix_trie_table.proofs.Prelude.{◌≡◌, ℕ, ◌+◌, ◌-◌, ◌*◌, ◌/◌, ◌^◌, ◌<◌, ◌≤◌, Bool, true, false, List, length, length-drop, take, drop, Option, None, Some, is_some, refl, sym, ap, ap₂, ◌∙◌, subst, arith, inl, inr, add-sub_of_le, bit_at, option_or, false≢true, cases_Bool, cases_lt, take-take, drop-take, digits, length-digits, has, value_bit, stands, IsLongest, IsShortest, NoneBegins, bit-clear, value_bit-small, Node, Match, has_bit, node_sizes, chunks_of, bit_of, Store, NodesHold, IsEnd, has_value, holds_value, NoneHeld, IsHeld, LongestHeld, ShortestHeld, Reached, IsAlong, slot_at}
 use Rattle.std.proofs.lemmas.List.{take_all, length-take-le}
 use Rattle.prefix_trie_table.proofs.Strings.Bits.{has_bit-is}
 use Rattle.prefix_trie_table.proofs.Strings.Digits.{path-length, path-take, rest-is}
@@ -102,11 +102,7 @@ longest-small bitmap bit rest l = bit-small l.len bit rest l.short l.within l.bi
 pub shortest-small : (bitmap bit : ℕ) (rest : List Bool) → IsShortest bitmap rest bit → bit < 31
 shortest-small bitmap bit rest l = bit-small l.len bit rest l.short l.within l.bit_is
 
--- whole steps within the first len bits
-pub steps-within : (b : List Bool) (len level : ℕ) → len ≤ length b → 5 * level ≤ len → 5 * level ≤ length (take len b)
-steps-within b len level long whole = omega (arith, length-take-le len b long, whole)
-
--- past the end of the path nothing has a value
+-- past the end of the way nothing has a value
 pub none_past : (reading : List ℕ → Option Node) (paths : List (List ℕ)) (v : Store Node) (q : List Bool) (level end : ℕ) → NodesHold node_sizes reading paths v → IsEnd reading (chunks_of q) level → NoneHeld reading q (5 * level + 5) end
 none_past reading paths v q level end hold at i from last within =
     let inside : level < length (chunks_of q) = further level i (length q) (length (chunks_of q)) from within (path-length q) in
@@ -118,10 +114,6 @@ none_past reading paths v q level end hold at i from last within =
   where
     further : (k i l n : ℕ) → 5 * k + 5 ≤ i → i ≤ l → n ≡ l / 5 → k < n
     further k i l n a b c = omega (arith, a, b, c)
-
--- the node on the path is the one at its chunks
-pub on_path_is : (b : List Bool) (len level slot : ℕ) (node : Node) (v : Store Node) → IsOnPath b len level node slot v → (reading : List ℕ → Option Node) (paths : List (List ℕ)) → NodesHold node_sizes reading paths v → reading (take level (chunks_of (take len b))) ≡ Some node
-on_path_is b len level slot node v at reading paths hold = deepest_is reading paths v (chunks_of (take len b)) level slot hold (at.deepest reading paths hold) node at.node_is
 
 -- ---- the longest of two parts
 
@@ -153,13 +145,3 @@ pub best_now : (q : List Bool) (here : Reached) (v : Store Node) → IsAlong q h
 best_now q here v at reading paths hold best found result so_far in_node is =
     subst (LongestHeld reading q 0 (5 * here.level + 5)) (sym is)
     (longest_or reading q 0 (5 * here.level) (5 * here.level + 5) best found so_far (in_node reading (along_is q here v at reading paths hold)))
-
--- the best so far, after the node on the path was searched
-pub longest_now : (b : List Bool) (len level slot : ℕ) (node : Node) (v : Store Node) → IsOnPath b len level node slot v
-    → (reading : List ℕ → Option Node) (paths : List (List ℕ)) → NodesHold node_sizes reading paths v → (best here result : Option Match)
-    → LongestHeld reading (take len b) 0 (5 * level) best
-    → ((nodes : List ℕ → Option Node) → nodes (take level (chunks_of (take len b))) ≡ Some node → LongestHeld nodes (take len b) (5 * level) (5 * level + 5) here)
-    → result ≡ option_or here best → LongestHeld reading (take len b) 0 (5 * level + 5) result
-longest_now b len level slot node v at reading paths hold best here result so_far found is =
-    subst (LongestHeld reading (take len b) 0 (5 * level + 5)) (sym is)
-    (longest_or reading (take len b) 0 (5 * level) (5 * level + 5) best here so_far (found reading (on_path_is b len level slot node v at reading paths hold)))

@@ -1,12 +1,11 @@
--- Lookups that descend side by side: before the first round, from one round to the next, and after
--- the last.
-use Rattle.prefix_trie_table.proofs.Prelude.{◌≡◌, ℕ, zero, suc, ◌+◌, ◌*◌, ◌<◌, ◌≤◌, inl, inr, Bool, List, [], ◌∷◌, Option, None, Some, is_some, Contains, All, map, take, length, get_or, sum, sum_by, refl, sym, ap, ap₂, ◌∙◌, subst, arith, mul-zero, mul-add, mul-one, zero-mul, false≢true, length-map, take_more, get_or_default, get_or-map, get_or-take, All-map, map-map, sum_by_push, sum-map, Node, Found, Descent, Match, AreAnswered, AreAnswers, AreCosts, AreRead, CanAsk, EachOf, GoOn, IsAhead, IsAnswer, IsLongestFound, IsNew, asked, asks, cost_of, found_of, new_descent, question_of, questions_of, slot_of, node_sizes, chunks_of, IsEnd, NodesHold, SomeNodes, SomeTable, read, IsHeld, NoneHeld, IsShapeOf, Store, Nodes, State, visits}
+-- Questions that go down side by side: before the first round, from one to the next, and after the last.
+use Rattle.prefix_trie_table.proofs.Prelude.{◌≡◌, ℕ, zero, suc, ◌+◌, ◌*◌, ◌<◌, ◌≤◌, inl, inr, Bool, List, [], ◌∷◌, Option, None, Some, is_some, Contains, All, map, take, length, get_or, sum, sum_by, refl, sym, ap, ap₂, ◌∙◌, subst, arith, mul-zero, mul-add, mul-one, zero-mul, false≢true, length-map, take_more, get_or_default, get_or-map, get_or-take, All-map, map-map, sum_by_push, sum-map, Node, Found, Descent, Match, AreAnswered, AreAnswers, AreCosts, AreRead, EachOf, GoOn, IsAhead, IsAnswer, IsLongestFound, IsNew, cost_of, found_of, new_descent, question_of, slot_of, node_sizes, chunks_of, IsEnd, NodesHold, SomeNodes, SomeTable, read, IsHeld, NoneHeld, IsShapeOf, Store, Nodes, State, visits}
 use Rattle.std.proofs.lemmas.List.{append-nil, length-take-le}
 use Rattle.prefix_trie_table.specs.Bulk.{IsDescent}
 use Rattle.prefix_trie_table.proofs.Counts.Counted.{visits_counted}
 use Rattle.prefix_trie_table.proofs.Tree.Shapes.{shape_nodes}
 use Rattle.prefix_trie_table.proofs.Tree.Trees.{reads}
-use Rattle.prefix_trie_table.proofs.Lookup.Going.{deepest_in, deepest_root, key_long}
+use Rattle.prefix_trie_table.proofs.Lookup.Going.{deepest_in, deepest_root}
 
 -- the item at a place of a list that reaches there
 some_at : {X : Type 0} (xs : List X) (i : ℕ) → i < length xs → (x : X) × (x ≡ get_or xs i x)
@@ -38,59 +37,47 @@ module _ (descents : List Descent) where
       ∙ ap₂ (λ a w. a + cost_of costs w) earlier (new_at (suc n) long new n (omega arith) (new_descent n))
       ∙ sym (ap (λ k. sum (take k costs)) more ∙ ap sum (take_more costs n 0 (omega (arith, costed))) ∙ sum_by_push (λ x. x) (take n costs) (get_or costs n 0))
 
-module _ {P K : Type 0} (number : P → K) (len : P → ℕ) (IsFitting : P → Type 0) (IsKey : K → Type 0) (width : ℕ) (can : (p : P) → IsFitting p → CanAsk IsKey width (asks number len p))
-    (bits : K → List Bool) (laws : (k : K) → IsKey k → length (bits k) ≡ width) (v : Store Node) (prefixes : List P) (fit : All IsFitting prefixes) where
-  abbrev questions : List (K × ℕ)
-  questions = questions_of number len prefixes
+module _ {P : Type 0} (path : P → List Bool) (IsFitting : P → Type 0) (width : ℕ) (short : (p : P) → IsFitting p → length (path p) ≤ width) (v : Store Node) (prefixes : List P) (fit : All IsFitting prefixes) where
+  -- no question is longer than the width
+  all_short : (i : ℕ) (q : List Bool) → i < length (map path prefixes) → q ≡ get_or (map path prefixes) i q → length q ≤ width
+  all_short i q inside is = subst (λ s. length s ≤ width) (sym is) (All-map (λ s. length s ≤ width) path prefixes (λ k d inside. short (get_or prefixes k d) (fit k d inside)) i q inside)
 
-  -- the questions for prefixes that fit are allowed
-  can_ask : (i : ℕ) (q : K × ℕ) → i < length questions → q ≡ get_or questions i q → CanAsk IsKey width q
-  can_ask i q inside is = subst (CanAsk IsKey width) (sym is) (All-map (CanAsk IsKey width) (asks number len) prefixes (λ k d inside. can (get_or prefixes k d) (fit k d inside)) i q inside)
-
-  new_is_descent : (i : ℕ) → i < length (questions_of number len prefixes) → IsDescent bits v (questions_of number len prefixes) 0 (new_descent i)
+  new_is_descent : (i : ℕ) → i < length (map path prefixes) → IsDescent v (map path prefixes) 0 (new_descent i)
   new_is_descent i inside =
-      let q = some_at questions i inside in
-      let can = can_ask i q.0 inside q.1 in
-      let long = key_long (length (bits q.0.0)) q.0.1 width (laws q.0.0 can.0) can.1 in
+      let q = some_at (map path prefixes) i inside in
       record {
         question = q.0;
         is = q.1;
         inside = inside;
-        on_path = record {
-          long = long;
-          whole = omega arith;
-          node_is = refl;
-          deepest = λ reading paths hold. deepest_root reading paths v (chunks_of (take q.0.1 (bits q.0.0))) hold;
-        };
+        along = record { whole = omega arith; node_is = refl; deepest = λ reading paths hold. deepest_root reading paths v (chunks_of q.0) hold };
         best = λ reading paths hold. (None, λ i from last within. absurd (omega (arith, last)), refl);
       }
 
-  pub new_descents : (descents : List Descent) (n : ℕ) → n ≤ length descents → n ≤ length prefixes → EachOf IsNew n descents → All (IsDescent bits v (questions_of number len prefixes) 0) (take n descents)
+  pub new_descents : (descents : List Descent) (n : ℕ) → n ≤ length descents → n ≤ length prefixes → EachOf IsNew n descents → All (IsDescent v (map path prefixes) 0) (take n descents)
   new_descents descents n long asked new i d inside =
       let within : i < n = omega (arith, inside, length-take-le n descents long) in
-      subst (IsDescent bits v (questions_of number len prefixes) 0) (sym (get_or-take n descents i d within ∙ new_at descents n long new i within d)) (new_is_descent i (omega (arith, within, asked, length-map prefixes (asks number len))))
+      subst (IsDescent v (map path prefixes) 0) (sym (get_or-take n descents i d within ∙ new_at descents n long new i within d)) (new_is_descent i (omega (arith, within, asked, length-map prefixes (path))))
 
   -- a descent is no deeper than its question is long
-  pub level_fits : (level : ℕ) (descents : List Descent) (n : ℕ) → n ≤ length descents → All (IsDescent bits v (questions_of number len prefixes) level) (take n descents) → 0 < n → 5 * level ≤ width
+  pub level_fits : (level : ℕ) (descents : List Descent) (n : ℕ) → n ≤ length descents → All (IsDescent v (map path prefixes) level) (take n descents) → 0 < n → 5 * level ≤ width
   level_fits level descents n long all some =
       let is = all 0 (new_descent 0) (omega (arith, some, length-take-le n descents long)) in
-      let can = can_ask _ is.question is.inside is.is in
-      let whole = is.on_path.whole in
-      let short = can.1 in
-      omega (arith, whole, short)
+      let within = all_short _ is.question is.inside is.is in
+      let whole = is.along.whole in
+      omega (arith, whole, within)
 
 -- ---- from one round to the next
 
-module _ {K : Type 0} (bits : K → List Bool) (v : Store Node) (questions : List (K × ℕ)) (level : ℕ) (descents : List Descent) (n : ℕ) (long : n ≤ length descents)
-    (all : All (IsDescent bits v questions level) (take n descents)) where
+module _ (v : Store Node) (questions : List (List Bool)) (level : ℕ) (descents : List Descent) (n : ℕ) (long : n ≤ length descents)
+    (all : All (IsDescent v questions level) (take n descents)) where
   -- the nodes ahead are in the array
   pub ahead_inside : SomeNodes v → All (λ w. slot_of w < length v.slots) (take n descents)
   ahead_inside s i d inside =
       let w : Descent = get_or (take n descents) i d in
       let is = all i d inside in
-      deepest_in s.reading s.paths v (chunks_of (take is.question.1 (bits is.question.0))) level (slot_of w) s.hold (is.on_path.deepest s.reading s.paths s.hold)
+      deepest_in s.reading s.paths v (chunks_of is.question) level (slot_of w) s.hold (is.along.deepest s.reading s.paths s.hold)
 
-  pub are_read : SomeNodes v → (read : List Node) → EachOf (IsAhead v.slots descents) n read → AreRead bits v questions level (take n descents) read
+  pub are_read : SomeNodes v → (read : List Node) → EachOf (IsAhead v.slots descents) n read → AreRead v questions level (take n descents) read
   are_read s read each = record {
     sound = s;
     descents_are = all;
@@ -109,14 +96,14 @@ sums_last C Z level e = let none = zero-mul level in omega (arith, e, none)
 sums_next : (C C' S S' Z L l A B : ℕ) → C + S ≡ Z + L → C' ≡ C + l → S + A ≡ S' + B → B ≡ L + l → C' + S' ≡ Z + A
 sums_next C C' S S' Z L l A B e c s b = omega (arith, e, c, s, b)
 
-module _ {K : Type 0} (bits : K → List Bool) (v : Store Node) (questions : List (K × ℕ)) (level : ℕ) (descents next : List Descent) (before after : List (Option Found))
-    (go : GoOn bits v questions level descents next before after) where
-  pub answered_next : AreAnswered bits v questions (map question_of descents) before → AreAnswered bits v questions (map question_of next) after
+module _ (v : Store Node) (questions : List (List Bool)) (level : ℕ) (descents next : List Descent) (before after : List (Option Found))
+    (go : GoOn v questions level descents next before after) where
+  pub answered_next : AreAnswered v questions (map question_of descents) before → AreAnswered v questions (map question_of next) after
   answered_next h =
-      subst (λ l. AreAnswered bits v questions l after) (append-nil (map question_of next))
-      (go.answered [] (subst (λ l. AreAnswered bits v questions l before) (sym (append-nil (map question_of descents))) h))
+      subst (λ l. AreAnswered v questions l after) (append-nil (map question_of next))
+      (go.answered [] (subst (λ l. AreAnswered v questions l before) (sym (append-nil (map question_of descents))) h))
 
-  pub counted_next : (costs : List ℕ) → AreCosts bits v questions costs → (l k count later start : ℕ) → length descents ≡ l → length next ≡ k
+  pub counted_next : (costs : List ℕ) → AreCosts v questions costs → (l k count later start : ℕ) → length descents ≡ l → length next ≡ k
       → count + sum_by (cost_of costs) descents ≡ start + l * level → later ≡ count + l → later + sum_by (cost_of costs) next ≡ start + k * (level + 1)
   counted_next costs are l k count later start descents_long next_long so_far read =
       sums_next count later (sum_by (cost_of costs) descents) (sum_by (cost_of costs) next) start (l * level) l (k * (level + 1)) (l * (level + 1)) so_far read
@@ -130,34 +117,29 @@ module _ (v : Store Node) (reading : List ℕ → Option Node) (paths : List (Li
   -- the node of the array at each path
   reading_is : read v.slots ≡ reading
   reading_is = λ i p. reads node_sizes reading paths v hold p i
+      -- a question without a descent has its result
 
-  module _ {K : Type 0} (bits : K → List Bool) where
-    -- a question without a descent has its result
-    pub are_answers : (questions : List (K × ℕ)) (found : List (Option Found)) → AreAnswered bits v questions [] found → AreAnswers bits v.slots questions found
-    are_answers questions found answered i q a inside q_is a_is = elim (answered i q a inside q_is a_is) as (λ _. IsAnswer bits v.slots q a) [
-      | inl none ↦ absurd (omega (arith, none.1))
-      | inr has ↦ subst (λ r. IsLongestFound r (asked bits q) (q.1 + 1) a) (sym reading_is) (has reading paths hold)
-    ]
+  pub are_answers : (questions : List (List Bool)) (found : List (Option Found)) → AreAnswered v questions [] found → AreAnswers v.slots questions found
+  are_answers questions found answered i q a inside q_is a_is = elim (answered i q a inside q_is a_is) as (λ _. IsAnswer v.slots q a) [
+    | inl none ↦ absurd (omega (arith, none.1))
+    | inr has ↦ subst (λ r. IsLongestFound r q (length q + 1) a) (sym reading_is) (has reading paths hold)
+  ]
 
-    pub answer_is : (q : K × ℕ) (a : Option Found) → IsAnswer bits v.slots q a → IsLongestFound reading (asked bits q) (q.1 + 1) a
-    answer_is q a is = subst (λ r. IsLongestFound r (asked bits q) (q.1 + 1) a) reading_is is
+  pub answer_is : (q : List Bool) (a : Option Found) → IsAnswer v.slots q a → IsLongestFound reading q (length q + 1) a
+  answer_is q a is = subst (λ r. IsLongestFound r q (length q + 1) a) reading_is is
 
 module _ {T : Type 0} (v : Store Node) (w : Store (Option T)) (t : SomeTable v w) (s : State T) (shaped : IsShapeOf v.slots w.slots s) where
   -- a question costs the nodes on its search path
-  pub costs_are : {K : Type 0} (bits : K → List Bool) (questions : List (K × ℕ)) → AreCosts bits v questions (map (λ q. visits s.nodes (asked bits q)) questions)
-  costs_are bits questions i q inside is reading paths level hold end =
+  pub costs_are : (questions : List (List Bool)) → AreCosts v questions (map (λ q. visits s.nodes q) questions)
+  costs_are questions i q inside is reading paths level hold end =
       let same : reading ≡ t.reading = sym (reading_is v reading paths hold) ∙ reading_is v t.reading t.paths t.holds.hold in
-      get_or-map (λ x. visits s.nodes (asked bits x)) questions i q 0 inside ∙ ap (λ x. visits s.nodes (asked bits x)) (sym is)
-      ∙ visits_counted t.reading t.paths v t.holds.hold s.nodes (shape_nodes t.reading t.values t.paths v w t.holds s shaped) (asked bits q) level
-      (subst (λ r. IsEnd r (chunks_of (asked bits q)) level) same end)
+      get_or-map (λ x. visits s.nodes x) questions i q 0 inside ∙ ap (λ x. visits s.nodes x) (sym is)
+      ∙ visits_counted t.reading t.paths v t.holds.hold s.nodes (shape_nodes t.reading t.values t.paths v w t.holds s shaped) q level
+      (subst (λ r. IsEnd r (chunks_of q) level) same end)
 
 -- the sum over the questions for prefixes is that over their paths
-pub costs_sum : {P K : Type 0} (nodes : Nodes) (bits : K → List Bool) (number : P → K) (len : P → ℕ) (path : P → List Bool) → ((p : P) → path p ≡ take (len p) (bits (number p))) → (prefixes : List P)
-    → sum (map (λ q. visits nodes (asked bits q)) (questions_of number len prefixes)) ≡ sum_by (λ p. visits nodes (path p)) prefixes
-costs_sum nodes bits number len path paths prefixes =
-    ap sum (map-map (λ q. visits nodes (asked bits q)) (asks number len) prefixes)
-    ∙ sum-map (λ p. visits nodes (asked bits (asks number len p))) prefixes
-    ∙ (λ i. sum_by (λ p. visits nodes (sym (paths p) i)) prefixes)
+pub costs_sum : {P : Type 0} (nodes : Nodes) (path : P → List Bool) (prefixes : List P) → sum (map (λ q. visits nodes q) (map path prefixes)) ≡ sum_by (λ p. visits nodes (path p)) prefixes
+costs_sum nodes path prefixes = ap sum (map-map (λ q. visits nodes q) path prefixes) ∙ sum-map (λ p. visits nodes (path p)) prefixes
 
 -- a match that is kept, and what there is if none is
 abbrev kept_or : Found → Option Found → Found

@@ -1,5 +1,5 @@
 -- The search path of a bit string, as `descend` follows it.
-use Rattle.prefix_trie_table.proofs.Prelude.{◌≡◌, ℕ, ◌+◌, ◌-◌, ◌*◌, ◌<◌, ◌≤◌, Bool, true, false, inl, inr, List, length, length-drop, get_or, take, drop, Option, None, Some, refl, sym, ap, ◌∙◌, subst, arith, nat_le, leb-true, nat_tests, cases_Bool, number, has, value_bit, Node, has_bit, rank, node_sizes, chunks_of, bit_of, Store, Reached, IsSlot, IsNodeAt, Holds, child_slot, NodesHold, Deepest, IsEnd, has_value, IsSeat, Seat, value_seat, IsAlong, IsLast, ReadsAlong, slot_at}
+use Rattle.prefix_trie_table.proofs.Prelude.{◌≡◌, ℕ, ◌+◌, ◌-◌, ◌*◌, ◌/◌, ◌<◌, ◌≤◌, Bool, true, false, List, length, length-drop, get_or, take, drop, Option, None, Some, sym, ap, ◌∙◌, subst, arith, number, has, value_bit, Node, has_bit, rank, node_sizes, chunks_of, bit_of, Store, Reached, IsSlot, IsNodeAt, Holds, child_slot, NodesHold, Deepest, IsEnd, has_value, IsSeat, Seat, value_seat, IsAlong, IsLast, ReadsAlong, slot_at}
 use Rattle.std.proofs.lemmas.List.{drop-drop, take_all}
 use Rattle.prefix_trie_table.proofs.Strings.Bits.{has_bit-is}
 use Rattle.prefix_trie_table.proofs.Strings.Digits.{path-length, step-is, rest-is}
@@ -18,6 +18,17 @@ pub record IsFollowed (q : List Bool) (here : Reached) (v : Store Node) (rest : 
 -- so many bits are left
 pub left_length : (q r : List Bool) (level : ℕ) → r ≡ drop (5 * level) q → length r ≡ length q - 5 * level
 left_length q r level e = ap length e ∙ length-drop (5 * level) q
+
+-- how levels and lengths compare, above the level of a string's own node and there
+pub deeper_fits : (level last n : ℕ) → last ≡ n / 5 → level < last → 5 * (level + 1) ≤ n
+deeper_fits level last n is h = omega (arith, is, h)
+
+pub own_level : (level last n : ℕ) → last ≡ n / 5 → last ≤ level → 5 * level + 5 ≤ n → ⊥
+own_level level last n is h more = omega (arith, is, h, more)
+
+-- a whole step is left above the level of a string's own node
+pub step_left : (q r : List Bool) (level last : ℕ) → r ≡ drop (5 * level) q → last ≡ length q / 5 → level < last → 5 ≤ length r
+step_left q r level last left is h = let fits = deeper_fits level last (length q) is h in omega (arith, fits, left_length q r level left)
 
 -- at the root
 pub followed_root : (q : List Bool) (here : Reached) (v : Store Node) → here.level ≡ 0 → IsAlong q here v → length q ≤ 128 → (before now : ℕ) → now ≡ before + 1 → IsFollowed q here v q before now

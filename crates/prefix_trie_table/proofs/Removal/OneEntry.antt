@@ -56,6 +56,17 @@ module _ {T : Type 0} (reading : List ℕ → Option Node) (values : List ℕ �
   pub no_value : (path : List ℕ) (b : ℕ) → reading path ≡ None → values path b ≡ None
   no_value path b none = is_none-None (values path b) (holds.cells.set_where path b ∙ ap (λ o. has_value o b) none)
 
+  -- the bit of a node tells whether there is a value
+  pub some_at : (path : List ℕ) (n : Node) → reading path ≡ Some n → (b : ℕ) → is_some (values path b) ≡ has_bit n.value_bitmap b
+  some_at path n is b = holds.cells.set_where path b ∙ ap (λ o. has_value o b) is
+
+  pub none_at : (path : List ℕ) (n : Node) → reading path ≡ Some n → (b : ℕ) → has_bit n.value_bitmap b ≡ false → values path b ≡ None
+  none_at path n is b clear = is_none-None (values path b) (some_at path n is b ∙ clear)
+
+  pub kept_at : (path : List ℕ) (n : Node) → reading path ≡ Some n → (b : ℕ) → values path b ≡ None → (t : EntryTaken reading paths values path b v w w) × (t.later path ≡ Some n)
+  unfolding nothing_taken
+  kept_at path n is b none = (nothing_taken path b none, is)
+
   -- a value that its node has lost is taken
   pub value_taken : (path : List ℕ) (b : ℕ) (n m : Node) (v2 : Store Node) (w2 : Store (Option T)) → reading path ≡ Some n →
       is_some (values path b) ≡ true → ValueTaken reading paths values path b n m v2 w w2 →

@@ -1,30 +1,30 @@
--- A walk over the stored beginnings of a bit string: where it is, and what it has still to give.
--- This project's own.
+-- Where a walk over the beginnings of a bit string is, and what it has still to give. This project's own.
 use Rattle.std.specs.Prelude.{◌≡◌, ℕ, ◌+◌, ◌*◌, ◌≤◌, Bool, ◌&&◌, ◌||◌, nat_le, List, Option, Some, length, take, drop, filter, MatchOption}
 use Rattle.prefix_trie_bits.specs.Bits.{begins}
 use Rattle.prefix_trie_bits.specs.Model.Matches.{covers}
 use Rattle.prefix_trie_bits.specs.Model.Entries.{Entries}
 use Rattle.prefix_trie_bits.specs.Places.{has, value_bit, HoldsValues}
 use Rattle.prefix_trie_table.specs.declared.allocator.node.Node.{Node}
+use Rattle.prefix_trie_table.specs.declared.table.lookup.Reached.{Reached}
 use Rattle.prefix_trie_table.specs.declared.table.matching.Match.{Match}
 use Rattle.prefix_trie_table.specs.Cells.{node_sizes}
 use Rattle.prefix_trie_table.specs.Digits.{chunks_of}
 use Rattle.prefix_trie_table.specs.Store.{Store}
 use Rattle.prefix_trie_table.specs.Forest.{NodesHold, SomeTable}
-use Rattle.prefix_trie_table.specs.Matching.{NoneHeld, IsHeld, IsOnPath}
+use Rattle.prefix_trie_table.specs.Matching.{NoneHeld, IsHeld}
+use Rattle.prefix_trie_table.specs.SearchPaths.{IsAlong}
 
 -- the matches are the value bits of a node, at so many bits of q, whose strings begin q and have `first` bits or more with the node's
 abbrev pub AreLeft : ℕ → ℕ → ℕ → ℕ → List Bool → Type 0
 AreLeft matches bitmap depth first q =
     HoldsValues matches (λ s. begins s (drop depth q) && (nat_le first (depth + length s) && has bitmap (value_bit s)))
 
--- the walk over the first len bits of b is at this node, and the beginnings of at least `first`
--- bits are to come
-pub record IsCovering (b : List Bool) (len level : ℕ) (node : Node) (slot matches first : ℕ) (v : Store Node) : Type 0 where
-  pub on_path : IsOnPath b len level node slot v
-  pub low : 5 * level ≤ first
-  pub high : first ≤ 5 * level + 5
-  pub left : AreLeft matches node.value_bitmap (5 * level) first (take len b)
+-- the walk over the beginnings of q has come to this node, and those of `first` bits or more are still to come
+pub record IsCovering (q : List Bool) (here : Reached) (matches first : ℕ) (v : Store Node) : Type 0 where
+  pub along : IsAlong q here v
+  pub low : 5 * here.level ≤ first
+  pub high : first ≤ 5 * here.level + 5
+  pub left : AreLeft matches here.node.value_bitmap (5 * here.level) first q
 
 -- the next beginning of q with at least `first` bits is the shortest that has a value, and those of
 -- at least `later` bits are left then
@@ -48,10 +48,10 @@ TakesShortest level node old new o =
     → TakesMatch level node new first q o
 
 -- the walk has gone on by one beginning
-pub record GoesOn (b : List Bool) (len level : ℕ) (node : Node) (slot matches first : ℕ) (o : Option Match) (v : Store Node) : Type 0 where
+pub record GoesOn (q : List Bool) (here : Reached) (matches first : ℕ) (o : Option Match) (v : Store Node) : Type 0 where
   pub later : ℕ
-  pub stands : IsCovering b len level node slot matches later v
-  pub next : (reading : List ℕ → Option Node) (paths : List (List ℕ)) → NodesHold node_sizes reading paths v → NextHeld reading (take len b) (len + 1) first later o
+  pub stands : IsCovering q here matches later v
+  pub next : (reading : List ℕ → Option Node) (paths : List (List ℕ)) → NodesHold node_sizes reading paths v → NextHeld reading q (length q + 1) first later o
 
 -- whether a beginning is to come, by the matches of the node where the walk is
 abbrev pub is_ahead : ℕ → ℕ → List Bool → Bool
@@ -63,10 +63,7 @@ abbrev pub still_covering : {T : Type 0} → Entries T → List Bool → ℕ →
 still_covering m q level matches = filter (λ e. is_ahead level matches e.0) (covers m q)
 
 -- what holds of the fields of every covering walk
-pub record IsCover {K T : Type 0} (IsKey : K → Type 0) (bits : K → List Bool) (width : ℕ) (key : K) (len level : ℕ) (node : Node)
-    (slot matches : ℕ) (v : Store Node) (w : Store (Option T)) : Type 0 where
-  pub is_key : IsKey key
-  pub short : len ≤ width
+pub record IsCover {T : Type 0} (q : List Bool) (here : Reached) (matches : ℕ) (v : Store Node) (w : Store (Option T)) : Type 0 where
   pub table : SomeTable v w
   pub first : ℕ
-  pub stands : IsCovering (bits key) len level node slot matches first v
+  pub stands : IsCovering q here matches first v

@@ -8,11 +8,10 @@ ghost use Rattle.prefix_trie_table.specs.declared.allocator.node.Node.{Node};
 ghost use Rattle.prefix_trie_table.specs.declared.table.bulk.Found.{Found};
 ghost use Rattle.prefix_trie_table.specs.declared.table.bulk.Descent.{Descent};
 ghost use Rattle.prefix_trie_table.specs.Bitmaps.{has_bit as is_set};
-ghost use Rattle.prefix_trie_table.specs.Bulk.{AreAnswered, AreAnswers, AreCosts, AreRead, CanAsk, EachOf, GoOn, HasFound, IsAhead, IsAnswer, IsNew, IsSound, IsDescent, asked, asks, found_of, new_descent, questions_of, slot_of};
+ghost use Rattle.prefix_trie_table.specs.Bulk.{AreAnswered, AreAnswers, AreCosts, AreRead, EachOf, GoOn, HasFound, IsAhead, IsAnswer, IsNew, IsSound, IsDescent, found_of, new_descent, reached_by, slot_of};
 ghost use Rattle.prefix_trie_table.specs.Cells.{node_at};
-ghost use Rattle.prefix_trie_table.specs.Matching.{IsOnPath};
+ghost use Rattle.prefix_trie_table.specs.SearchPaths.{IsAlong, IsLast};
 ghost use Rattle.prefix_trie_table.specs.Store.{Store};
-ghost use Rattle.prefix_trie_table.specs.Tables.{IsReached};
 
 use crate::allocator::blocks::Cells;
 use crate::allocator::node::{Node, NodeSlot};
@@ -74,42 +73,33 @@ fn longer(here: Option<Match>, above: Option<Found>) -> Option<Found>
     })
 }
 
-/// What is asked for a prefix: its number, and how many bits of it.
-#[inline(always)]
-fn question<P: Prefix>(prefix: &P) -> (P::R, u32)
-    ensures { result ≡ asks P.repr_of P.len_of prefix.now }
-{
-    (prefix.repr(), u32::from(prefix.prefix_len()))
-}
-
-/// Looks at the node to which the way of a question has come: what was found so far, and where the next node stands, if the
-/// way goes on.
+/// Looks at the node to which the search of a question has come. Returns the longest match so far, and the slot of the next node, if
+/// there is one.
 #[inline(always)]
 fn look<K: Key>(
-    question: (K, u32),
+    path: &BitString<K>,
     descent: Descent,
     level: u32,
     node: Node,
 ) -> (Option<Found>, Option<NodeSlot>)
-    requires asks { CanAsk K.IsKey K.bit_width question }
-    requires on_path { (v : Store Node) × IsSound v × IsOnPath (K.bits question.0) question.1 level node (slot_of descent) v }
-    ensures next { (v : Store Node) → IsOnPath (K.bits question.0) question.1 level node (slot_of descent) v
+    requires along { (v : Store Node) × IsSound v × IsAlong path.now (reached_by descent node level) v }
+    ensures next { (v : Store Node) → IsAlong path.now (reached_by descent node level) v
         → MatchOption result.1
-        (IsReached (K.bits question.0) question.1 level node (slot_of descent) v)
-        (λ at. IsOnPath (K.bits question.0) question.1 (level + 1) (node_at v.slots (at.start + at.offset)) (at.start + at.offset) v) }
-    ensures found { (v : Store Node) → IsOnPath (K.bits question.0) question.1 level node (slot_of descent) v
-        → HasFound v (asked K.bits question) (5 * level) descent.best
-        → HasFound v (asked K.bits question) (5 * level + 5) result.0 }
+        (IsLast path.now (reached_by descent node level) v)
+        (λ at. IsAlong path.now (record { at = at; node = node_at v.slots (at.start + at.offset); level = level + 1 }) v) }
+    ensures found { (v : Store Node) → IsAlong path.now (reached_by descent node level) v
+        → HasFound v path.now (5 * level) descent.best
+        → HasFound v path.now (5 * level + 5) result.0 }
 {
-    let (key, len) = question;
-    let rest = BitString::new(key.behind(5 * level), len - 5 * level);
+    let last = path.len() / 5;
+    let rest = path.after(5 * level);
     let here = Reached {
         at: descent.at,
         node,
         level,
     };
     let found = longer(longest_in(here, &rest), descent.best);
-    (found, next_slot(here, &rest))
+    (found, next_slot(here, &rest, last))
 }
 
 /// Reads the nodes to which the first `count` ways have come.
@@ -145,18 +135,18 @@ fn look_at_each<P: Prefix>(
     requires same_length { length found.old ≡ length prefixes.now }
     requires count { (count ≤ length descents.old) × (count ≤ length read.now) }
     requires read { (v : Store Node) × IsSound v
-        × AreRead P.R.bits v (questions_of P.repr_of P.len_of prefixes.now) level (take count descents.old) read.now }
+        × AreRead v (map P.path prefixes.now) level (take count descents.old) read.now }
     ensures few { result ≤ count }
     ensures go_on { (v : Store Node)
-        → AreRead P.R.bits v (questions_of P.repr_of P.len_of prefixes.now) level (take count descents.old) read.now
-        → GoOn P.R.bits v (questions_of P.repr_of P.len_of prefixes.now) level (take count descents.old) (take result descents.new) found.old found.new }
+        → AreRead v (map P.path prefixes.now) level (take count descents.old) read.now
+        → GoOn v (map P.path prefixes.now) level (take count descents.old) (take result descents.new) found.old found.new }
     ensures lengths { (length descents.new ≡ length descents.old) × (length found.new ≡ length found.old) }
 {
     let mut kept = 0;
     for j in 0..count {
         let descent = descents[j];
-        let asked = question(&prefixes[descent.question]);
-        let (best, next) = look(asked, descent, level, read[j]);
+        let path = prefixes[descent.question].path();
+        let (best, next) = look(&path, descent, level, read[j]);
         match next {
             Some(at) => {
                 descents[kept] = Descent {
@@ -196,9 +186,9 @@ fn answer_each<P: Prefix, A: Allocator, V: Tick>(
     requires fit { All P.IsFitting prefixes.now }
     requires same_length { length found.old ≡ length prefixes.now }
     requires few { length prefixes.now ≤ 32 }
-    ensures answered { AreAnswered P.R.bits nodes.now (questions_of P.repr_of P.len_of prefixes.now) [] found.new }
+    ensures answered { AreAnswered nodes.now (map P.path prefixes.now) [] found.new }
     ensures counted { (costs : List ℕ) → length costs ≡ length prefixes.now
-        → AreCosts P.R.bits nodes.now (questions_of P.repr_of P.len_of prefixes.now) costs
+        → AreCosts nodes.now (map P.path prefixes.now) costs
         → V.count counter.new ≡ V.count counter.old + sum costs }
     ensures length { length found.new ≡ length found.old }
 {
@@ -230,10 +220,9 @@ fn value_at<'a, T: Drop, A: Allocator>(cells: &'a Cells<T, A>, found: Found) -> 
 }
 
 impl<T: Drop, A: Allocator, V: Tick> Table<T, A, V> {
-    /// What `find_longest` finds for each prefix: in the place of each in `found` its answer, which `value_found` reads. Each node on
-    /// the way of a prefix is read once for it.
+    /// Stores in `found` what `find_longest` finds for each prefix, in order. `value_found` reads the values.
     ///
-    /// It takes prefixes, where the other calls take a key and a length, since no array of keys of any type is known to fit.
+    /// For each prefix it reads each node on the search path once.
     #[inline]
     pub fn find_longest_each<P: Prefix>(
         &self,
@@ -244,7 +233,7 @@ impl<T: Drop, A: Allocator, V: Tick> Table<T, A, V> {
         requires fit { All P.IsFitting prefixes.now }
         requires same_length { length found.old ≡ length prefixes.now }
         requires few { length prefixes.now ≤ 32 }
-        ensures answers { AreAnswers P.R.bits self.now.build (questions_of P.repr_of P.len_of prefixes.now) found.new }
+        ensures answers { AreAnswers self.now.build (map P.path prefixes.now) found.new }
         ensures visits { V.count counter.new
             ≡ V.count counter.old + sum_by (λ p. visits self.now.nodes (P.path p)) prefixes.now }
         ensures length { length found.new ≡ length found.old }
@@ -252,16 +241,13 @@ impl<T: Drop, A: Allocator, V: Tick> Table<T, A, V> {
         answer_each(&self.nodes, prefixes, found, counter);
     }
 
-    /// The value of an answer of `find_longest_each`, behind the length of its string, as `find_longest` answers it.
+    /// Returns the length and the value of a match of `find_longest_each`, as `find_longest` returns them.
     #[inline]
-    pub fn value_found<K: Key>(&self, question: (K, u32), found: Option<Found>) -> Option<(u32, &T)>
-        requires asks { CanAsk K.IsKey K.bit_width question }
-        requires answer { IsAnswer K.bits self.now.build question found }
+    pub fn value_found<K: Key>(&self, path: BitString<K>, found: Option<Found>) -> Option<(u32, &T)>
+        requires { IsAnswer self.now.build path found }
         ensures { MatchOption result
-            (longest_match self.now.entries (asked K.bits question) ≡ None)
-            (λ f. (f.0 ≤ question.1)
-            × (longest_match self.now.entries (asked K.bits question)
-            ≡ Some (take f.0 (asked K.bits question), f.1.now))) }
+            (longest_match self.now.entries path ≡ None)
+            (λ f. (f.0 ≤ length path) × (longest_match self.now.entries path ≡ Some (take f.0 path, f.1.now))) }
     {
         let cells = &self.cells;
         let Some(found) = found else {

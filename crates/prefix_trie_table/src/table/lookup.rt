@@ -1,5 +1,5 @@
 //! Search paths, from the root down to a bit string's own node.
-ghost use Rattle.std.specs.Prelude.{◌≡◌, ℕ, ◌+◌, ◌*◌, ◌≤◌, Bool, List, drop, length, MatchOption};
+ghost use Rattle.std.specs.Prelude.{◌≡◌, ℕ, ◌+◌, ◌*◌, ◌/◌, ◌<◌, ◌≤◌, Bool, List, drop, length, MatchOption};
 ghost use Rattle.prefix_trie_table.specs.declared.allocator.node.Node.{Node};
 ghost use Rattle.prefix_trie_table.specs.Cells.{node_at};
 ghost use Rattle.prefix_trie_table.specs.Forest.{SomeNodes};
@@ -37,14 +37,16 @@ pub fn root<A: Allocator, V: Tick>(nodes: &NodeAllocator<A, V>, counter: &mut V)
 
 /// Returns the slot of the next node on a search path, if there is one. It reads no node.
 ///
-/// `rest` has the bits after those that lead to `from`.
+/// `rest` has the bits after those that lead to `from`, and `last` is the level of the bit string's own node.
+// The level is compared, and not the number of bits left, so that a loop counts one of them.
 #[inline(always)]
-pub fn next_slot<K: Key>(from: Reached, rest: &BitString<K>) -> Option<NodeSlot>
-    ensures { (q : List Bool) (v : Store Node) → IsAlong q from v → rest.now ≡ drop (5 * from.level) q
+pub fn next_slot<K: Key>(from: Reached, rest: &BitString<K>, last: u32) -> Option<NodeSlot>
+    requires { from.level < last → 5 ≤ length rest.now }
+    ensures { (q : List Bool) (v : Store Node) → IsAlong q from v → rest.now ≡ drop (5 * from.level) q → last ≡ length q / 5
         → MatchOption result (IsLast q from v)
         (λ at. IsAlong q (record { at = at; node = node_at v.slots (at.start + at.offset); level = from.level + 1 }) v) }
 {
-    if rest.len() < 5 {
+    if from.level >= last {
         return None;
     }
     let child = rest.child_bit();
@@ -56,23 +58,24 @@ pub fn next_slot<K: Key>(from: Reached, rest: &BitString<K>) -> Option<NodeSlot>
 
 /// Reads the next node on a search path, if there is one.
 ///
-/// `rest` has the bits after those that lead to `from`.
+/// `rest` has the bits after those that lead to `from`, and `last` is the level of the bit string's own node.
 #[inline(always)]
 pub fn step_down<K: Key, A: Allocator, V: Tick>(
     nodes: &NodeAllocator<A, V>,
     from: Reached,
     rest: &BitString<K>,
+    last: u32,
     counter: &mut V,
 ) -> Option<Reached>
     requires sound { SomeNodes nodes.now }
-    requires along { (q : List Bool) × IsAlong q from nodes.now × (rest.now ≡ drop (5 * from.level) q) × (length q ≤ 128) }
-    ensures step { (q : List Bool) → IsAlong q from nodes.now → rest.now ≡ drop (5 * from.level) q
+    requires along { (q : List Bool) × IsAlong q from nodes.now × (rest.now ≡ drop (5 * from.level) q) × (length q ≤ 128) × (last ≡ length q / 5) }
+    ensures step { (q : List Bool) → IsAlong q from nodes.now → rest.now ≡ drop (5 * from.level) q → last ≡ length q / 5
         → MatchOption result (IsLast q from nodes.now) (λ next. (next.level ≡ from.level + 1) × IsAlong q next nodes.now) }
     ensures visits { MatchOption result
         (V.count counter.new ≡ V.count counter.old)
         (λ _. V.count counter.new ≡ V.count counter.old + 1) }
 {
-    let Some(at) = next_slot(from, rest) else {
+    let Some(at) = next_slot(from, rest, last) else {
         return None;
     };
     let node = nodes.visit(at, counter);
@@ -95,12 +98,11 @@ pub fn descend<K: Key, A: Allocator, V: Tick>(
     ensures rest { result.1 ≡ drop (5 * result.0.level) path }
     ensures visits { V.count counter.new ≡ V.count counter.old + (result.0.level + 1) }
 {
-    // Needed only for the proof: levels do not overflow.
-    let _ = path.len();
+    let last = path.len() / 5;
     let mut here = root(nodes, counter);
     let mut rest = path;
     'down: loop {
-        let Some(next) = step_down(nodes, here, &rest, counter) else {
+        let Some(next) = step_down(nodes, here, &rest, last, counter) else {
             return (here, rest);
         };
         here = next;

@@ -69,14 +69,13 @@ pub fn longest_on_path<K: Key, A: Allocator, V: Tick>(
         → LongestHeld reading path 0 (length path + 1) result }
     ensures visits { ReadsAlong path nodes.now (V.count counter.old) (V.count counter.new) }
 {
-    // Needed only for the proof: lengths do not overflow.
-    let _ = path.len();
+    let last = path.len() / 5;
     let mut here = root(nodes, counter);
     let mut rest = path;
     let mut best = None;
     'down: loop {
         best = longest_in(here, &rest).or(best);
-        let Some(next) = step_down(nodes, here, &rest, counter) else {
+        let Some(next) = step_down(nodes, here, &rest, last, counter) else {
             return best;
         };
         here = next;
@@ -120,15 +119,14 @@ pub fn shortest_on_path<K: Key, A: Allocator, V: Tick>(
         (ReadsAlong path nodes.now (V.count counter.old) (V.count counter.new))
         (λ m. V.count counter.new ≡ V.count counter.old + (m.len / 5 + 1)) }
 {
-    // Needed only for the proof: lengths do not overflow.
-    let _ = path.len();
+    let last = path.len() / 5;
     let mut here = root(nodes, counter);
     let mut rest = path;
     'down: loop {
         if let Some(found) = shortest_in(here, &rest) {
             return Some(found);
         }
-        let Some(next) = step_down(nodes, here, &rest, counter) else {
+        let Some(next) = step_down(nodes, here, &rest, last, counter) else {
             return None;
         };
         here = next;

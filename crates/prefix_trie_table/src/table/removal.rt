@@ -7,13 +7,14 @@ ghost use Rattle.prefix_trie_table.specs.Digits.{chunks_of, bit_of};
 ghost use Rattle.prefix_trie_table.specs.Store.{Sound, no_blocks};
 ghost use Rattle.prefix_trie_table.specs.Forest.{IsSlot, NodesHold, CellsHold, SomeTable, SomeNodes, IsNodeAt, entry_count, one_if};
 ghost use Rattle.prefix_trie_table.specs.Removals.{ValueTaken, EntryTaken, SameBlocks, IsBare, IsStocked, GivesBack, ChildDropped, AreAncestors, StandsAtEnd, Pruned, EntryRemoved};
+ghost use Rattle.prefix_trie_table.specs.SearchPaths.{slot_at};
 ghost use Rattle.prefix_trie_table.specs.GrowthBounds.{BoundsGrowth, BoundsNodeGrowth};
 ghost use Rattle.prefix_trie_table.specs.Tables.{IsReached, Grows, ForHeld, own_value};
 
 use crate::allocator::blocks::Cells;
 use crate::allocator::node::{Node, NodeSlot};
 use crate::allocator::nodes::{NodeAllocator, Tick};
-use crate::table::lookup::descend;
+use crate::table::lookup::{Reached, descend};
 use arrayvec::ArrayVec;
 use prefix_trie_bits::node::{child_bit_of, count, has_bit, rank, value_bit_of, without_bit};
 use prefix_trie_bits::prefix::{BitString, Key};
@@ -131,33 +132,58 @@ fn take_entry<K: Key, T: Drop, A: Allocator, V: Tick>(
     taken
 }
 
-/// Takes the value at a bit string out, if it is there. All nodes stay.
+/// Removes the value at a bit of a node, if there is one. Returns it, and the node as it is then.
+#[inline(always)]
+fn take_bit<T: Drop, A: Allocator, V: Tick>(
+    nodes: &mut NodeAllocator<A, V>,
+    cells: &mut Cells<T, A>,
+    entries: &mut usize,
+    here: Reached,
+    bit: u32,
+) -> (Option<T>, Node)
+    requires bit { bit < 31 }
+    requires table { (t : SomeTable nodes.old cells.old)
+        × (entries.old ≡ entry_count t.reading t.paths) × IsNodeAt t.reading (slot_at here) }
+    requires node { here.node ≡ node_at nodes.old.slots (slot_at here) }
+    ensures taken { ForHeld nodes.old cells.old (λ reading paths values.
+        (p : List ℕ) → IsSlot reading p (slot_at here) → reading p ≡ Some here.node
+        → (result.0 ≡ values p bit)
+        × ((t : EntryTaken reading paths values p bit nodes.new cells.old cells.new) × (t.later p ≡ Some result.1))) }
+    ensures counted { entries.new + one_if (is_some result.0) ≡ entries.old }
+    ensures node_blocks { SameBlocks nodes.old nodes.new }
+    ensures cell_space { Grows cells.old cells.new 24 }
+{
+    if !has_bit(here.node.value_bitmap, bit) {
+        return (None, here.node);
+    }
+    let taken = take_value(nodes, cells, here.at, here.node, bit);
+    *entries -= 1;
+    taken
+}
+
+/// Removes the value at a bit string, if there is one. All nodes stay.
 pub fn remove_value<K: Key, T: Drop, A: Allocator, V: Tick>(
     nodes: &mut NodeAllocator<A, V>,
     cells: &mut Cells<T, A>,
     entries: &mut usize,
-    key: K,
-    len: u32,
+    path: BitString<K>,
     counter: &mut V,
 ) -> Option<T>
-    requires key { K.IsKey key }
-    requires within { len ≤ K.bit_width }
     requires table { (t : SomeTable nodes.old cells.old)
         × (entries.old ≡ entry_count t.reading t.paths) }
     ensures value { ForHeld nodes.old cells.old (λ reading paths values.
-        result ≡ own_value values (K.bits key) len) }
+        result ≡ values (chunks_of path) (bit_of path)) }
     ensures taken { ForHeld nodes.old cells.old (λ reading paths values.
-        EntryTaken reading paths values (chunks_of (take len (K.bits key)))
-        (bit_of (take len (K.bits key))) nodes.new cells.old cells.new) }
+        EntryTaken reading paths values (chunks_of path) (bit_of path) nodes.new cells.old cells.new) }
     ensures counted { entries.new + one_if (is_some result) ≡ entries.old }
     ensures node_blocks { SameBlocks nodes.old nodes.new }
     ensures cell_space { Grows cells.old cells.new 24 }
 {
-    let (reached, _) = descend(nodes, BitString::new(key, len), counter);
-    if 5 * reached.level + 5 <= len {
+    let (here, rest) = descend(nodes, path, counter);
+    if rest.len() >= 5 {
         return None;
     }
-    take_entry(nodes, cells, entries, key, len, reached.at, reached.node).0
+    take_bit(nodes, cells, entries, here, rest.value_bit()).0
 }
 
 /// Goes down the way of a bit string to the string's own node, and puts the slots of the nodes above it into `above`, which is

@@ -19,7 +19,7 @@ use crate::table::spot::Spot;
 use crate::table::walk::advance;
 use crate::table::walk_start::{Start, start_at};
 use arrayvec::ArrayVec;
-use prefix_trie_bits::prefix::Key;
+use prefix_trie_bits::prefix::{BitString, Key};
 use std::alloc::{AllocError, Allocator};
 use std::marker::Model;
 
@@ -124,26 +124,29 @@ impl<K: Key, T: Clone, A: Allocator + Clone, V: Tick> IntoWalk<K, T, A, V> {
 }
 
 impl<T: Drop, A: Allocator, V: Tick> Table<T, A, V> {
-    /// Takes the table apart: all entries, in listing order. The root is read at once. It asks for no memory.
+    /// Walks all entries in listing order, and takes the table apart. It reads the root at once and does not allocate.
     #[inline]
     pub fn into_walk<K: Key>(self, counter: &mut V) -> IntoWalk<K, T, A, V>
         requires within { AreWithin K.bit_width self.entries }
         requires nodes { AreNodes K.bit_width self.entries self.nodes }
         ensures { result ≡ listing self.entries }
     {
-        self.into_walk_below(K::zero(), 0, counter)
+        self.into_walk_below(BitString::new(K::zero(), 0), counter)
     }
 
-    /// The same for the entries whose keys a bit string begins. The others stay in the walk, and are dropped with it. The nodes
-    /// on the way are read at once.
+    /// Walks the entries whose keys a bit string begins. The walk drops the others with it.
+    ///
+    /// The call reads the nodes of the search path at once.
     #[inline]
-    pub fn into_walk_below<K: Key>(self, key: K, len: u32, counter: &mut V) -> IntoWalk<K, T, A, V>
-        requires key { K.IsKey key }
-        requires long { len ≤ K.bit_width }
+    pub fn into_walk_below<K: Key>(
+        self,
+        path: BitString<K>,
+        counter: &mut V,
+    ) -> IntoWalk<K, T, A, V>
         requires within { AreWithin K.bit_width self.entries }
         requires nodes { AreNodes K.bit_width self.entries self.nodes }
-        ensures { result ≡ listing_below self.entries (take len (K.bits key)) }
+        ensures { result ≡ listing_below self.entries path }
     {
-        IntoWalk::below(self.nodes, self.cells, key, len, counter)
+        IntoWalk::below(self.nodes, self.cells, path.key(), path.len(), counter)
     }
 }

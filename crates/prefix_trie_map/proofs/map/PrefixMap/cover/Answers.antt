@@ -5,7 +5,7 @@ use Rattle.prefix_trie_map.proofs.map.PrefixMap.cover.Goals as goal
 
 pub returns-clause-items : goal.returns-clause-items
 returns-clause-items g c =
-    by_key (λ m k. c.over.result ≡ prefix_pairs g.P.Prefix.back (covers m.entries k)) c.self.view_is c.parts-key.ensures.path (c.over.ensures ∙ ap (prefix_pairs g.P.Prefix.back) c.cover-walk.ensures)
+    by_key (λ m k. c.over.result ≡ prefix_pairs g.P.Prefix.back (covers m.entries k)) c.self.view_is c.path.ensures.path (c.over.ensures ∙ ap (prefix_pairs g.P.Prefix.back) c.cover-walk.ensures)
 
 pub returns-clause-counted : goal.returns-clause-counted
 returns-clause-counted g c =
@@ -15,7 +15,7 @@ returns-clause-counted g c =
 pub returns-clause-fits : goal.returns-clause-fits
 returns-clause-fits g c =
     let path = g.P.Prefix.path c.args.prefix.now in
-    omega (arith, covers_few c.args.self.now.entries path, c.parts-key.ensures.short, g.met.P.Prefix.prefix_laws.keys.at_most_128)
+    omega (arith, covers_few c.args.self.now.entries path, c.path.ensures.short, g.met.P.Prefix.prefix_laws.keys.at_most_128)
 
 pub returns-clause-runs : goal.returns-clause-runs
 returns-clause-runs g c = shows_in_order lent_item

@@ -6,7 +6,7 @@ use Rattle.prefix_trie_map.proofs.map.PrefixMap.into_children.Goals as goal
 
 pub returns-clause-items : goal.returns-clause-items
 returns-clause-items g c =
-    by_key (λ m k. c.over.result ≡ prefix_pairs g.P.Prefix.back (listing_below m.entries k)) c.self.view_is c.parts-key.ensures.path (c.over.ensures ∙ ap (prefix_pairs g.P.Prefix.back) c.into_walk_below-walk.ensures)
+    by_key (λ m k. c.over.result ≡ prefix_pairs g.P.Prefix.back (listing_below m.entries k)) c.self.view_is c.path.ensures.path (c.over.ensures ∙ ap (prefix_pairs g.P.Prefix.back) c.into_walk_below-walk.ensures)
 
 pub returns-clause-fits : goal.returns-clause-fits
 returns-clause-fits g c =

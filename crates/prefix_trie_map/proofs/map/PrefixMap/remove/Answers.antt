@@ -4,10 +4,10 @@ use Rattle.prefix_trie_map.proofs.map.PrefixMap.remove.Goals as goal
 
 pub returns-clause-step : goal.returns-clause-step
 returns-clause-step g c =
-    by_key (λ old k. StepByPath g.P.R.Key.bit_width (stored_state old) (Remove k) (Value c.remove.result) (stored_state c.remove.new.self)) c.self.view_is c.parts-key.ensures.path (c.remove.ensures.step g.P.R.Key.bit_width)
+    by_key (λ old k. StepByPath g.P.R.Key.bit_width (stored_state old) (Remove k) (Value c.remove.result) (stored_state c.remove.new.self)) c.self.view_is c.path.ensures.path (c.remove.ensures.step g.P.R.Key.bit_width)
 
 pub invariant_of-self : goal.invariant_of-self
-invariant_of-self g c = stays c.self.view_is c.self.invariant c.parts-key.ensures.short (returns-clause-step g c)
+invariant_of-self g c = stays c.self.view_is c.self.invariant c.path.ensures.short (returns-clause-step g c)
 
 pub returns-clause-value : goal.returns-clause-value
 returns-clause-value g c = one_value _ _ (returns-clause-step g c).step.0

@@ -1,4 +1,4 @@
-use Rattle.prefix_trie_table.proofs.Prelude.{◌≡◌, ◌+◌, map, sum_by, ap, ◌∙◌, subst, length-map, visits, AreAnswers, asked, asks, questions_of, Contents}
+use Rattle.prefix_trie_table.proofs.Prelude.{◌≡◌, ◌+◌, map, sum_by, ap, ◌∙◌, subst, length-map, visits, AreAnswers, Contents}
 use Rattle.prefix_trie_table.proofs.Lookup.Matched.{has_nodes}
 use Rattle.prefix_trie_table.proofs.Lookup.Rounds.{are_answers, costs_are, costs_sum}
 use Rattle.prefix_trie_table.proofs.Tree.Invariant.{some_table}
@@ -10,18 +10,18 @@ answer_each-requires-clause-sound g c = has_nodes _ _ (some_table c.self.invaria
 pub returns-clause-answers : goal.returns-clause-answers
 returns-clause-answers g c =
     let t = some_table c.self.invariant in
-    let qs = questions_of g.P.Prefix.repr_of g.P.Prefix.len_of c.args.prefixes.now in
-    subst (λ (s : Contents g.row.T.Denot). AreAnswers g.P.R.Key.bits s.build qs c.answer_each.new.found) c.self.view_is
-    (are_answers c.self.inside.nodes t.reading t.paths t.holds.hold g.P.R.Key.bits qs c.answer_each.new.found c.answer_each.ensures.answered)
+    let qs = map g.P.Prefix.path c.args.prefixes.now in
+    subst (λ (s : Contents g.row.T.Denot). AreAnswers s.build qs c.answer_each.new.found) c.self.view_is
+    (are_answers c.self.inside.nodes t.reading t.paths t.holds.hold qs c.answer_each.new.found c.answer_each.ensures.answered)
 
 pub returns-clause-visits : goal.returns-clause-visits
 returns-clause-visits g c =
     let t = some_table c.self.invariant in
     let ps = c.args.prefixes.now in
-    let qs = questions_of g.P.Prefix.repr_of g.P.Prefix.len_of c.args.prefixes.now in
+    let qs = map g.P.Prefix.path c.args.prefixes.now in
     let s = c.self.inside.shape in
     subst (λ (s : Contents g.row.T.Denot). g.V.Tick.count c.answer_each.new.counter ≡ g.V.Tick.count c.args.counter.now + sum_by (λ p. visits s.nodes (g.P.Prefix.path p)) ps) c.self.view_is
-    (c.answer_each.ensures.counted (map (λ q. visits s.0.nodes (asked g.P.R.Key.bits q)) qs)
-    (length-map qs (λ q. visits s.0.nodes (asked g.P.R.Key.bits q)) ∙ length-map ps (asks g.P.Prefix.repr_of g.P.Prefix.len_of))
-    (costs_are c.self.inside.nodes c.self.inside.cells t s.0 s.1 g.P.R.Key.bits qs)
-    ∙ ap (λ n. g.V.Tick.count c.args.counter.now + n) (costs_sum s.0.nodes g.P.R.Key.bits g.P.Prefix.repr_of g.P.Prefix.len_of g.P.Prefix.path g.met.P.Prefix.prefix_laws.path_is ps))
+    (c.answer_each.ensures.counted (map (λ q. visits s.0.nodes q) qs)
+    (length-map qs (λ q. visits s.0.nodes q) ∙ length-map ps g.P.Prefix.path)
+    (costs_are c.self.inside.nodes c.self.inside.cells t s.0 s.1 qs)
+    ∙ ap (λ n. g.V.Tick.count c.args.counter.now + n) (costs_sum s.0.nodes g.P.Prefix.path ps))

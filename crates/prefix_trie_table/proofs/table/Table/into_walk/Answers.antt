@@ -1,5 +1,5 @@
-use Rattle.prefix_trie_table.proofs.Prelude.{◌∙◌, listing_of_root}
+use Rattle.prefix_trie_table.proofs.Prelude.{◌∙◌, ap, listing_below, listing_of_root}
 use Rattle.prefix_trie_table.proofs.table.Table.into_walk.Goals as goal
 
 pub returns : goal.returns
-returns g c = c.into_walk_below.ensures ∙ listing_of_root c.args.self.entries
+returns g c = c.into_walk_below.ensures ∙ ap (listing_below c.args.self.entries) c.new.ensures ∙ listing_of_root c.args.self.entries

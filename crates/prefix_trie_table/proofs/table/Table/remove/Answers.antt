@@ -1,4 +1,5 @@
-use Rattle.prefix_trie_table.proofs.Prelude.{take}
+use Rattle.prefix_trie_table.proofs.Prelude.{◌≡◌, take}
+use Rattle.prefix_trie_table.proofs.Strings.Parts.{taken_apart}
 use Rattle.prefix_trie_table.proofs.Tree.Invariant.{some_table, some_counted}
 use Rattle.prefix_trie_table.proofs.Removal.NodesLeft.{removed_without}
 use Rattle.prefix_trie_table.proofs.Blocks.Sizing.{table_sizes}
@@ -22,7 +23,7 @@ invariant_of-self g c =
 
 pub returns : goal.returns
 returns g c =
-    let q = take c.args.len (g.K.Key.bits c.args.key) in
+    let q = take c.len.result (g.K.Key.bits c.key.result) in
     let v2 = c.remove_entry.new.nodes in
     let w2 = c.remove_entry.new.cells in
     let i = c.self.inside in
@@ -31,8 +32,8 @@ returns g c =
     let e = c.remove_entry.ensures in
     let left = invariant_of-self g c in
     let out = removed_without q i.nodes v2 i.cells w2 _ _ i.shape c.self.invariant c.remove_entry.result e.value e.counted e.removed in
-    rw (← c.self.view_is) (record {
-      step = removes_step i.nodes v2 i.cells w2 _ _ i.shape c.self.invariant i.sizes s2 left z2 q c.remove_entry.result out.was (out.only s2)
-          (removed_in q i.nodes v2 i.cells w2 _ i.shape i.sizes c.self.invariant s2 z2 e.removed (some_table left))
-          (pruned_in q i.nodes v2 i.cells w2 _ i.shape i.sizes c.self.invariant s2 z2 e.removed (some_table left)) e.node_space e.cell_space;
-    })
+    let step = removes_step i.nodes v2 i.cells w2 _ _ i.shape c.self.invariant i.sizes s2 left z2 q c.remove_entry.result out.was (out.only s2)
+    (removed_in q i.nodes v2 i.cells w2 _ i.shape i.sizes c.self.invariant s2 z2 e.removed (some_table left))
+    (pruned_in q i.nodes v2 i.cells w2 _ i.shape i.sizes c.self.invariant s2 z2 e.removed (some_table left)) e.node_space e.cell_space in
+    let same : take c.len.result (g.K.Key.bits c.key.result) ≡ c.args.path = taken_apart (g.K.Key.bits c.key.result) c.args.path c.len.result c.len.ensures.len c.key.ensures.bits in
+    rw (← c.self.view_is) (record { step = rw same at step })

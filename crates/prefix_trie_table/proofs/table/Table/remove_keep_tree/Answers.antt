@@ -1,4 +1,3 @@
-use Rattle.prefix_trie_table.proofs.Prelude.{take}
 use Rattle.prefix_trie_table.proofs.Tree.Invariant.{some_table, some_counted}
 use Rattle.prefix_trie_table.proofs.Removal.OneEntry.{kept_without}
 use Rattle.prefix_trie_table.proofs.Insertion.Spaces.{Grows-none}
@@ -7,8 +6,8 @@ use Rattle.prefix_trie_table.proofs.Tree.Stated.{takes_step}
 use Rattle.prefix_trie_table.proofs.Removal.Stepped.{kept_in, kept_children}
 use Rattle.prefix_trie_table.proofs.table.Table.remove_keep_tree.Goals as goal
 
-pub remove_value-requires-clause-table : goal.remove_value-requires-clause-table
-remove_value-requires-clause-table g c = some_counted c.self.invariant
+pub remove_value-requires : goal.remove_value-requires
+remove_value-requires g c = record { table = some_counted c.self.invariant }
 
 pub invariant_of-self-inside : goal.invariant_of-self-inside
 invariant_of-self-inside g c =
@@ -24,7 +23,7 @@ invariant_of-self g c =
 
 pub returns : goal.returns
 returns g c =
-    let q = take c.args.len (g.K.Key.bits c.args.key) in
+    let q = c.args.path in
     let v2 = c.remove_value.new.nodes in
     let w2 = c.remove_value.new.cells in
     let i = c.self.inside in

@@ -1,4 +1,5 @@
-use Rattle.prefix_trie_table.proofs.Prelude.{take, ◌∙◌, ap, listing_below, Contents}
+use Rattle.prefix_trie_table.proofs.Prelude.{◌∙◌, ap, listing_below, Contents}
+use Rattle.prefix_trie_table.proofs.Strings.Parts.{taken_apart}
 use Rattle.prefix_trie_table.proofs.Tree.Invariant.{sized_trie}
 use Rattle.prefix_trie_table.proofs.table.Table.walk_below.Goals as goal
 
@@ -8,4 +9,5 @@ walk_at-requires-clause-tree g c = sized_trie _ _ _ _ c.self.inside.shape c.self
 pub returns : goal.returns
 returns g c =
     c.walk_at.ensures c.self.inside.shape.0 c.self.inside.shape.1
-    ∙ ap (λ (s : Contents g.row.T.Denot). listing_below s.entries (take c.args.len (g.K.Key.bits c.args.key))) c.self.view_is
+    ∙ ap (listing_below c.self.inside.shape.0.entries) (taken_apart (g.K.Key.bits c.key.result) c.args.path c.len.result c.len.ensures.len c.key.ensures.bits)
+    ∙ ap (λ (s : Contents g.row.T.Denot). listing_below s.entries c.args.path) c.self.view_is

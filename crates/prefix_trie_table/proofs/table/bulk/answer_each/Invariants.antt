@@ -1,4 +1,4 @@
-use Rattle.prefix_trie_table.proofs.Prelude.{◌≡◌, ◌+◌, ◌-◌, ◌*◌, ◌≤◌, All, List, ℕ, length, map, take, sum, sum_by, AreAnswered, AreCosts, cost_of, question_of, questions_of}
+use Rattle.prefix_trie_table.proofs.Prelude.{◌≡◌, ◌+◌, ◌-◌, ◌*◌, ◌≤◌, All, List, ℕ, length, map, take, sum, sum_by, AreAnswered, AreCosts, cost_of, question_of}
 use Rattle.prefix_trie_table.specs.Bulk.{IsDescent}
 use Rattle.prefix_trie_table.proofs.table.bulk.answer_each.Given as goal
 
@@ -6,9 +6,9 @@ abbrev pub invariant-round : goal.invariant-round
 invariant-round g l = record {
   few : l.left ≤ 32;
   space : (length l.descents ≡ 32) × (length l.read ≡ 32);
-  descents : All (IsDescent g.P.R.Key.bits l.nodes (questions_of g.P.Prefix.repr_of g.P.Prefix.len_of l.prefixes) l.level) (take l.left l.descents);
-  answered : AreAnswered g.P.R.Key.bits l.nodes (questions_of g.P.Prefix.repr_of g.P.Prefix.len_of l.prefixes) (map question_of (take l.left l.descents)) l.found;
-  counted : (costs : List ℕ) → length costs ≡ length l.prefixes → AreCosts g.P.R.Key.bits l.nodes (questions_of g.P.Prefix.repr_of g.P.Prefix.len_of l.prefixes) costs
+  descents : All (IsDescent l.nodes (map g.P.Prefix.path l.prefixes) l.level) (take l.left l.descents);
+  answered : AreAnswered l.nodes (map g.P.Prefix.path l.prefixes) (map question_of (take l.left l.descents)) l.found;
+  counted : (costs : List ℕ) → length costs ≡ length l.prefixes → AreCosts l.nodes (map g.P.Prefix.path l.prefixes) costs
       → g.V.Tick.count l.counter + sum_by (cost_of costs) (take l.left l.descents) ≡ g.V.Tick.count l.fn.counter + sum costs + l.left * l.level;
 }
 

@@ -1,11 +1,10 @@
-use Rattle.prefix_trie_table.proofs.Prelude.{ℕ, ◌+◌, ◌*◌, ◌-◌, IsCovering}
+use Rattle.prefix_trie_table.proofs.Prelude.{ℕ, ◌+◌, ◌*◌, ◌-◌, length, IsCovering}
 use Rattle.prefix_trie_table.proofs.Lookup.Covers.{GoneTo}
 use Rattle.prefix_trie_table.proofs.table.cover.next_match.Given as goal
 
-abbrev pub invariant-descent : goal.invariant-descent
-invariant-descent g l = (first : ℕ) × IsCovering (g.K.Key.bits l.key) l.len l.here.level l.here.node (l.here.at.start + l.here.at.offset) l.matches first l.nodes
-    × ((before : ℕ) → IsCovering (g.K.Key.bits l.key) l.len l.fn.here.level l.fn.here.node (l.fn.here.at.start + l.fn.here.at.offset) l.fn.matches before l.nodes
-    → GoneTo (g.K.Key.bits l.key) l.len before l.here.level l.here.node (l.here.at.start + l.here.at.offset) l.matches l.nodes)
+abbrev pub invariant-down : goal.invariant-down
+invariant-down g l = (first : ℕ) × IsCovering l.path l.here l.matches first l.nodes
+    × ((before : ℕ) → IsCovering l.path l.fn.here l.fn.matches before l.nodes → GoneTo l.path before l.here l.matches l.nodes)
 
-abbrev pub decreases-descent : goal.decreases-descent
-decreases-descent g l = l.len + 5 - 5 * l.here.level
+abbrev pub decreases-down : goal.decreases-down
+decreases-down g l = length l.path + 5 - 5 * l.here.level

@@ -1,4 +1,4 @@
-use Rattle.prefix_trie_table.proofs.Prelude.{◌≡◌, ◌+◌, ◌*◌, length, take, ◌∙◌, subst, arith, LongestHeld, chunks_of}
+use Rattle.prefix_trie_table.proofs.Prelude.{◌≡◌, ◌+◌, ◌*◌, length, take, ◌∙◌, subst, arith, LongestHeld, chunks_of, ◌/◌, ap}
 use Rattle.prefix_trie_table.proofs.Lookup.SearchPaths.{followed_root, followed_next, left_length, way_end, way_read}
 use Rattle.prefix_trie_table.proofs.Lookup.Matching.{none_past, longest_none}
 use Rattle.prefix_trie_table.proofs.Lookup.Matching.{along_is, best_now}
@@ -6,7 +6,7 @@ use Rattle.prefix_trie_table.proofs.table.matching.longest_on_path.Goals as goal
 
 pub down-init : goal.down-init
 down-init g c = record {
-  descent = followed_root c.args.path c.root-here.result c.args.nodes.now c.root-here.ensures.level (c.root-here.ensures.along c.args.path) (omega (arith, c.len.ensures.len, c.len.ensures.short)) _ _ c.root-here.ensures.visits;
+  descent = followed_root c.args.path c.root-here.result c.args.nodes.now c.root-here.ensures.level (c.root-here.ensures.along c.args.path) (omega (arith, c.len-last.ensures.len, c.len-last.ensures.short)) _ _ c.root-here.ensures.visits;
   best = λ reading paths hold i from last within. absurd (let top = c.root-here.ensures.level in omega (arith, top));
 }
 
@@ -24,14 +24,14 @@ pub step_down-requires-clause-sound : goal.step_down-requires-clause-sound
 step_down-requires-clause-sound g c = c.requires.sound.0
 
 pub step_down-requires-clause-along : goal.step_down-requires-clause-along
-step_down-requires-clause-along g c = let at = c.down.invariant.descent in (c.args.path, at.along, at.rest_is, at.short)
+step_down-requires-clause-along g c = let at = c.down.invariant.descent in (c.args.path, at.along, at.rest_is, at.short, (ap (λ n. n / 5) c.len-last.ensures.len))
 
 pub returns-in_default : goal.returns-in_default
 returns-in_default g c =
     let q = c.args.path in
     let at = c.down.invariant in
     let level = c.down.here.level in
-    let last = c.in_default.ensures.step q at.descent.along at.descent.rest_is in
+    let last = c.in_default.ensures.step q at.descent.along at.descent.rest_is (ap (λ n. n / 5) c.len-last.ensures.len) in
     record {
       found = λ reading paths hold.
           let found = best_now q c.down.here c.args.nodes.now at.descent.along reading paths hold c.down.best c.longest_in.result c.or-best.result (at.best reading paths hold) (λ nodes. c.longest_in.ensures q nodes at.descent.along.whole at.descent.rest_is) c.or-best.ensures in
@@ -43,7 +43,7 @@ pub down-preserved : goal.down-preserved
 down-preserved g c =
     let q = c.args.path in
     let at = c.down.invariant in
-    let next = c.in-Some.ensures.step q at.descent.along at.descent.rest_is in
+    let next = c.in-Some.ensures.step q at.descent.along at.descent.rest_is (ap (λ n. n / 5) c.len-last.ensures.len) in
     rw c.below-rest.ensures (record {
       descent = followed_next q c.down.here c.in-Some.next c.args.nodes.now _ _ _ _ at.descent next c.in-Some.ensures.visits;
       best = λ reading paths hold.
@@ -55,6 +55,6 @@ down-preserved g c =
 pub below-rest-requires : goal.below-rest-requires
 below-rest-requires g c =
     let at = c.down.invariant.descent in
-    let next = c.in-Some.ensures.step c.args.path at.along at.rest_is in
+    let next = c.in-Some.ensures.step c.args.path at.along at.rest_is (ap (λ n. n / 5) c.len-last.ensures.len) in
     let whole = next.1.whole in
     omega (arith, next.0, whole, left_length c.args.path c.down.rest c.down.here.level at.rest_is)

@@ -1,4 +1,4 @@
-use Rattle.prefix_trie_table.proofs.Prelude.{◌≡◌, ◌+◌, ◌*◌, length, take, Some, ◌∙◌, subst, arith, NoneHeld, chunks_of}
+use Rattle.prefix_trie_table.proofs.Prelude.{◌≡◌, ◌+◌, ◌*◌, length, take, Some, ◌∙◌, subst, arith, NoneHeld, chunks_of, ◌/◌, ap}
 use Rattle.prefix_trie_table.proofs.Lookup.SearchPaths.{followed_root, followed_next, left_length, way_end, way_read}
 use Rattle.prefix_trie_table.proofs.Lookup.Matching.{none_past, none_join, shortest_behind}
 use Rattle.prefix_trie_table.proofs.Lookup.Matching.{along_is}
@@ -6,7 +6,7 @@ use Rattle.prefix_trie_table.proofs.table.matching.shortest_on_path.Goals as goa
 
 pub down-init : goal.down-init
 down-init g c = record {
-  descent = followed_root c.args.path c.root-here.result c.args.nodes.now c.root-here.ensures.level (c.root-here.ensures.along c.args.path) (omega (arith, c.len.ensures.len, c.len.ensures.short)) _ _ c.root-here.ensures.visits;
+  descent = followed_root c.args.path c.root-here.result c.args.nodes.now c.root-here.ensures.level (c.root-here.ensures.along c.args.path) (omega (arith, c.len-last.ensures.len, c.len-last.ensures.short)) _ _ c.root-here.ensures.visits;
   none = λ reading paths hold i from last within. absurd (let top = c.root-here.ensures.level in omega (arith, top));
 }
 
@@ -24,7 +24,7 @@ pub step_down-requires-clause-sound : goal.step_down-requires-clause-sound
 step_down-requires-clause-sound g c = c.requires.sound.0
 
 pub step_down-requires-clause-along : goal.step_down-requires-clause-along
-step_down-requires-clause-along g c = let at = c.down.invariant.descent in (c.args.path, at.along, at.rest_is, at.short)
+step_down-requires-clause-along g c = let at = c.down.invariant.descent in (c.args.path, at.along, at.rest_is, at.short, (ap (λ n. n / 5) c.len-last.ensures.len))
 
 pub returns-in-Some-clause-found : goal.returns-in-Some-clause-found
 returns-in-Some-clause-found g c = λ reading paths hold.
@@ -39,7 +39,7 @@ returns-in_default-step_down g c =
     let q = c.args.path in
     let at = c.down.invariant in
     let level = c.down.here.level in
-    let last = c.in_default-step_down.ensures.step q at.descent.along at.descent.rest_is in
+    let last = c.in_default-step_down.ensures.step q at.descent.along at.descent.rest_is (ap (λ n. n / 5) c.len-last.ensures.len) in
     record {
       found = λ reading paths hold.
           let is = along_is q c.down.here c.args.nodes.now at.descent.along reading paths hold in
@@ -53,7 +53,7 @@ pub down-preserved : goal.down-preserved
 down-preserved g c =
     let q = c.args.path in
     let at = c.down.invariant in
-    let next = c.in-Some-step_down.ensures.step q at.descent.along at.descent.rest_is in
+    let next = c.in-Some-step_down.ensures.step q at.descent.along at.descent.rest_is (ap (λ n. n / 5) c.len-last.ensures.len) in
     let level = c.down.here.level in
     rw c.below-rest.ensures (record {
       descent = followed_next q c.down.here c.in-Some-step_down.next c.args.nodes.now _ _ _ _ at.descent next c.in-Some-step_down.ensures.visits;
@@ -66,6 +66,6 @@ down-preserved g c =
 pub below-rest-requires : goal.below-rest-requires
 below-rest-requires g c =
     let at = c.down.invariant.descent in
-    let next = c.in-Some-step_down.ensures.step c.args.path at.along at.rest_is in
+    let next = c.in-Some-step_down.ensures.step c.args.path at.along at.rest_is (ap (λ n. n / 5) c.len-last.ensures.len) in
     let whole = next.1.whole in
     omega (arith, next.0, whole, left_length c.args.path c.down.rest c.down.here.level at.rest_is)

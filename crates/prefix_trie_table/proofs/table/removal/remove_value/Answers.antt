@@ -1,39 +1,46 @@
-use Rattle.prefix_trie_table.proofs.Prelude.{◌+◌, ◌≤◌, length, refl, sym, subst, arith, IsReached, slot_at}
+use Rattle.prefix_trie_table.proofs.Prelude.{◌≡◌, ◌≤◌, ◌<◌, length, refl, sym, arith, chunks_of, bit_of, EntryTaken, ForHeld}
 use Rattle.prefix_trie_table.proofs.Insertion.Spaces.{Grows-same}
-use Rattle.prefix_trie_table.proofs.Lookup.Borders.{reached_of}
-use Rattle.prefix_trie_table.proofs.Lookup.Finding.{no_value_below}
-use Rattle.prefix_trie_table.proofs.Lookup.Going.{level_past}
+use Rattle.prefix_trie_table.proofs.Lookup.SearchPaths.{no_value_at_end, ancestors_own, ancestors_slot, own_bit, last_there}
 use Rattle.prefix_trie_table.proofs.Removal.OneEntry.{nothing_taken}
+use Rattle.prefix_trie_table.proofs.table.removal.remove_value.Given as given
 use Rattle.prefix_trie_table.proofs.table.removal.remove_value.Goals as goal
 
-pub returns-then-reached-len : goal.returns-then-reached-len
-returns-then-reached-len g c =
-    let b = g.K.Key.bits c.args.key in
-    let long : c.args.len ≤ length b = omega (arith, g.met.K.Key.key_laws.bits_length c.args.key c.requires.key, c.requires.within) in
-    let reached = reached_of b c.args.len c.descend.result.0 c.args.nodes.now long (rw c.new.ensures at c.descend.ensures.last) in
-    let none = no_value_below (g.K.Key.bits c.args.key) c.args.len c.descend.result.0.level _ c.descend.result.0.node c.args.nodes.now reached in
+pub returns-then-len-ge5 : goal.returns-then-len-ge5
+returns-then-len-ge5 g c =
+    let e = c.descend-rest.ensures in
+    let long : 5 ≤ length c.descend-rest.result.1 = omega (arith, c.len.ensures.len, c.if-len-ge5.true) in
     record {
-      value = λ reading paths values holds. sym (none reading values paths c.args.cells.now holds c.if-reached-len.true);
+      value = λ reading paths values holds. sym (no_value_at_end _ _ _ e.last reading paths values c.args.cells.now holds _ e.rest long);
       taken = λ reading paths values holds.
-          nothing_taken reading values paths c.args.nodes.now c.args.cells.now holds _ _ (none reading values paths c.args.cells.now holds c.if-reached-len.true);
+          nothing_taken reading values paths c.args.nodes.now c.args.cells.now holds _ _ (no_value_at_end _ _ _ e.last reading paths values c.args.cells.now holds _ e.rest long);
       counted = omega arith;
       node_blocks = record { space = (refl, refl, refl); tiers = refl };
       cell_space = Grows-same _ _ 24 refl;
     }
 
-pub take_entry-requires-clause-reached : goal.take_entry-requires-clause-reached
-take_entry-requires-clause-reached g c =
-    let b = g.K.Key.bits c.args.key in
-    let long : c.args.len ≤ length b = omega (arith, g.met.K.Key.key_laws.bits_length c.args.key c.requires.key, c.requires.within) in
-    let reached = reached_of b c.args.len c.descend.result.0 c.args.nodes.now long (rw c.new.ensures at c.descend.ensures.last) in
-    let at = c.descend.result.0 in
-    let end = level_past at.level c.args.len c.if-reached-len.false reached.whole in
-    subst (λ n. IsReached (g.K.Key.bits c.args.key) c.args.len n at.node (at.at.start + at.at.offset) c.args.nodes.now) end reached
+pub take_bit-requires-clause-table : goal.take_bit-requires-clause-table
+take_bit-requires-clause-table g c =
+    let t = c.requires.table in
+    (t.0, t.1, last_there _ _ _ c.descend-rest.ensures.last t.0.reading t.0.paths t.0.holds.hold)
 
-pub take_entry-requires-clause-table : goal.take_entry-requires-clause-table
-take_entry-requires-clause-table g c = c.requires.table
+-- what is taken at the string's own node
+own : (g : given.Over) (c : goal.After-take_bit g) → ForHeld c.args.nodes.now c.args.cells.now (λ reading paths values.
+    (c.take_bit.result.0 ≡ values (chunks_of c.args.path) (bit_of c.args.path))
+    × EntryTaken reading paths values (chunks_of c.args.path) (bit_of c.args.path) c.take_bit.new.nodes c.args.cells.now c.take_bit.new.cells)
+own g c = λ reading paths values holds.
+    let e = c.descend-rest.ensures in
+    let short : length c.descend-rest.result.1 < 5 = omega (arith, c.len.ensures.len, c.if-len-ge5.false) in
+    let bit = own_bit _ _ _ e.last.along _ e.rest short _ c.value_bit.ensures.value in
+    let t = c.take_bit.ensures.taken reading paths values holds (chunks_of c.args.path) (ancestors_slot _ _ _ e.last reading paths holds.hold _ e.rest short) (ancestors_own _ _ _ e.last reading paths holds.hold _ e.rest short) in
+    rw bit (t.0, t.1.0)
 
 pub returns : goal.returns
 returns g c =
-    let e = c.take_entry.ensures in
-    record { value = e.value; taken = λ reading paths values holds. (e.taken reading paths values holds).0; counted = e.counted; node_blocks = e.node_blocks; cell_space = e.cell_space }
+    let t = c.take_bit.ensures in
+    record {
+      value = λ reading paths values holds. (own g c reading paths values holds).0;
+      taken = λ reading paths values holds. (own g c reading paths values holds).1;
+      counted = t.counted;
+      node_blocks = t.node_blocks;
+      cell_space = t.cell_space;
+    }

@@ -11,37 +11,44 @@ pub next_match-requires-clause-stands : goal.next_match-requires-clause-stands
 next_match-requires-clause-stands g c = (c.self.invariant.first, c.self.invariant.stands)
 
 pub invariant_of-self : goal.invariant_of-self
-invariant_of-self g c = cover_on _ _ _ _ _ _ _ _ _ _ _ _ _ _ c.self.invariant (c.in_default.ensures c.self.invariant.first c.self.invariant.stands)
+invariant_of-self g c = cover_on _ _ _ _ _ _ _ _ c.self.invariant (c.in_default.ensures c.self.invariant.first c.self.invariant.stands)
 
 pub returns-in_default : goal.returns-in_default
 returns-in_default g c =
     let at = c.self.invariant.stands in
     let later = c.self-1.given.0 in
     let gone = c.in_default.ensures c.self.invariant.first at in
-    let none = gives_none _ _ c.self.invariant.table _ _ c.self.inside.shape.1 later.1 _ _ at.on_path.long _ _ _ _ _ _ _ _ _ at gone in
+    let none = gives_none _ _ c.self.invariant.table _ _ c.self.inside.shape.1 later.1 _ _ _ _ _ _ at gone in
     (sym c.self.view_is ∙ none.0, none.1)
 
 pub value_of_match-requires-clause-bit : goal.value_of_match-requires-clause-bit
 value_of_match-requires-clause-bit g c =
     let at = c.self.invariant.stands in
-    (match_there _ _ c.self.invariant.table _ _ c.self.inside.shape.1 c.self.inside.shape.1 _ _ at.on_path.long _ _ _ _ _ _ _ _ _ at c.in-Some.found (c.in-Some.ensures c.self.invariant.first at)).0
+    (match_there _ _ c.self.invariant.table _ _ c.self.inside.shape.1 c.self.inside.shape.1 _ _ _ _ _ _ at c.in-Some.found (c.in-Some.ensures c.self.invariant.first at)).0
 
 pub value_of_match-requires-clause-stands : goal.value_of_match-requires-clause-stands
 value_of_match-requires-clause-stands g c =
     let at = c.self.invariant.stands in
-    (match_there _ _ c.self.invariant.table _ _ c.self.inside.shape.1 c.self.inside.shape.1 _ _ at.on_path.long _ _ _ _ _ _ _ _ _ at c.in-Some.found (c.in-Some.ensures c.self.invariant.first at)).1
+    (match_there _ _ c.self.invariant.table _ _ c.self.inside.shape.1 c.self.inside.shape.1 _ _ _ _ _ _ at c.in-Some.found (c.in-Some.ensures c.self.invariant.first at)).1
 
 pub invariant_of-self-in_default-value_of_match : goal.invariant_of-self-in_default-value_of_match
-invariant_of-self-in_default-value_of_match g c = cover_on _ _ _ _ _ _ _ _ _ _ _ _ _ _ c.self.invariant (c.in-Some.ensures c.self.invariant.first c.self.invariant.stands)
+invariant_of-self-in_default-value_of_match g c = cover_on _ _ _ _ _ _ _ _ c.self.invariant (c.in-Some.ensures c.self.invariant.first c.self.invariant.stands)
 
 pub returns-in_default-value_of_match : goal.returns-in_default-value_of_match
 returns-in_default-value_of_match g c =
     let at = c.self.invariant.stands in
-    let there = match_there _ _ c.self.invariant.table _ _ c.self.inside.shape.1 c.self.inside.shape.1 _ _ at.on_path.long _ _ _ _ _ _ _ _ _ at c.in-Some.found (c.in-Some.ensures c.self.invariant.first at) in
+    let there = match_there _ _ c.self.invariant.table _ _ c.self.inside.shape.1 c.self.inside.shape.1 _ _ _ _ _ _ at c.in-Some.found (c.in-Some.ensures c.self.invariant.first at) in
     absurd (false≢true (sym (ap is_some c.in_default-value_of_match.ensures) ∙ there.2))
 
 pub invariant_of-self-2 : goal.invariant_of-self-2
-invariant_of-self-2 g c = cover_on _ _ _ _ _ _ _ _ _ _ _ _ _ _ c.self.invariant (c.in-Some.ensures c.self.invariant.first c.self.invariant.stands)
+invariant_of-self-2 g c = cover_on _ _ _ _ _ _ _ _ c.self.invariant (c.in-Some.ensures c.self.invariant.first c.self.invariant.stands)
+
+pub first-requires : goal.first-requires
+first-requires g c =
+    let at = c.self.invariant.stands in
+    let short = match_short _ _ c.self.invariant.table _ _ c.self.inside.shape.1 c.self.inside.shape.1 _ _ _ _ _ _ at c.in-Some.found (c.in-Some.ensures c.self.invariant.first at) in
+    let read = c.in-Some-value_of_match.ensures in
+    omega (arith, short, read.0)
 
 pub returns : goal.returns
 returns g c =
@@ -49,12 +56,7 @@ returns g c =
     let later = c.self-1.given.0 in
     let gone = c.in-Some.ensures c.self.invariant.first at in
     let read = c.in-Some-value_of_match.ensures in
-    let b = g.K.Key.bits c.self.inside.key in
-    record {
-      is_key = c.self.invariant.is_key;
-      short = (let m = match_short _ _ c.self.invariant.table _ _ c.self.inside.shape.1 later.1 _ _ at.on_path.long _ _ _ _ _ _ _ _ _ at c.in-Some.found gone in
-          let w = c.self.invariant.short in omega (arith, m, w, read.0));
-      first = sym c.self.view_is
-          ∙ gives_next _ _ c.self.invariant.table _ _ c.self.inside.shape.1 later.1 _ _ at.on_path.long _ _ _ _ _ _ _ _ _ at c.in-Some.found gone c.in-Some-value_of_match.value.now read.1
-          ∙ ap (λ n. (take n b, c.in-Some-value_of_match.value.now) ∷ still_covering later.0.entries (take c.self.inside.len b) c.next_match.new.here.level c.next_match.new.matches) (sym read.0);
-    }
+    let q = c.self.inside.path in
+    sym c.self.view_is
+    ∙ gives_next _ _ c.self.invariant.table _ _ c.self.inside.shape.1 later.1 _ _ _ _ _ _ at c.in-Some.found gone c.in-Some-value_of_match.value.now read.1
+    ∙ ap (λ s. (s, c.in-Some-value_of_match.value.now) ∷ still_covering later.0.entries q c.next_match.new.here.level c.next_match.new.matches) (ap (λ n. take n q) (sym read.0) ∙ sym c.first.ensures)
