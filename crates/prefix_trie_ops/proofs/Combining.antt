@@ -36,7 +36,7 @@ module _ {T U : Type 0} where
       go (Some v) None = refl
       go (Some v) (Some w) = refl
 
-  common_commutes : (m : Entries T) (n : Entries U) (s : List Bool) → get (common n m) s ≡ option_map turned_pair (get (common m n) s)
+  pub common_commutes : (m : Entries T) (n : Entries U) (s : List Bool) → get (common n m) s ≡ option_map turned_pair (get (common m n) s)
   common_commutes m n s = get_common m n s ∙ go (get m s) (get n s) ∙ sym (ap (option_map turned_pair) (get_common n m s))
     where
       go : (v : Option T) (w : Option U) → both_values w v ≡ option_map turned_pair (both_values v w)

@@ -1,3 +1,4 @@
+pub mod Bounds
 pub mod Lists
 pub mod Sorted
 pub mod Chains
@@ -6,9 +7,11 @@ pub mod Comparing
 pub mod Covers
 pub mod Marking
 pub mod Merging
+pub mod Optimal
 pub mod Pairs
 pub mod Reading
 pub mod Removing
 pub mod Selecting
+pub mod Turning
 pub mod Uppermost
 pub mod Walking

@@ -1,12 +1,12 @@
 -- The keys of either of two maps, as a map: its listing, and what it has at a key.
-use Rattle.std.proofs.Common.{◌≡◌, ◌∙◌, ◌&&◌, Bool, true, false, true≢false, cond, List, [], ◌∷◌, map, Option, Some, None, Ordering, Less, Equal, Greater, ap, sym, subst, refl, T}
+use Rattle.std.proofs.Common.{◌≡◌, ◌∙◌, ◌&&◌, Bool, true, false, true≢false, cond, List, [], ◌∷◌, map, Option, Some, None, Ordering, Less, Equal, Greater, ap, ap₂, sym, subst, refl, T}
 use Rattle.std.specs.List.{Contains}
 use Rattle.std.specs.Ordering.{is_eq, is_lt, ordering_reverse}
 use Rattle.std.specs.FinMap.{entries_sorted, entries-from_sorted, get, get-entries, get-from_sorted}
 use Rattle.std.specs.FinMap.Entries.{below_all, find, is_sorted}
 use Rattle.prefix_trie_bits.specs.Order.{listing_cmp, listing_same, listing_total, same_string}
 use Rattle.prefix_trie.specs.Words.{Entries, listing, prefix_pairs}
-use Rattle.prefix_trie_ops.specs.Merging.{merged, sides, union_of}
+use Rattle.prefix_trie_ops.specs.Merging.{merged, merged_keys, sides, union_of}
 use Rattle.prefix_trie_ops.specs.declared.map.sides.Side.{Side}
 use Rattle.prefix_trie_ops.specs.declared.map.sides.Side.TheVariants.{Left, Right, Both}
 use Rattle.prefix_trie_ops.proofs.Lists.{contains_here, contains_later}
@@ -108,6 +108,10 @@ module _ {X Y : Type 0} where
         | false ↦ λ s. rest
       ] refl
 
+  pub union_listing : (m : Entries X) (n : Entries Y) → listing (union_of m n) ≡ both (listing m) (listing n)
+  unfolding union_of
+  union_listing m n = entries-from_sorted listing_cmp (both (listing m) (listing n)) (sorted_both (listing m) (listing n) (entries_sorted m) (entries_sorted n))
+
   pub get_union : (m : Entries X) (n : Entries Y) (q : List Bool) → get (union_of m n) q ≡ sides (get m q) (get n q)
   unfolding union_of
   get_union m n q =
@@ -141,7 +145,44 @@ module _ {X Y : Type 0} where
     pub union_shown : (m : Entries X) (n : Entries Y)
         → ((e : List Bool × X) → Contains (listing m) e → path (back e.0) ≡ e.0) → ((e : List Bool × Y) → Contains (listing n) e → path (back e.0) ≡ e.0)
         → merged path (prefix_pairs back (listing m)) (prefix_pairs back (listing n)) ≡ prefix_pairs back (listing (union_of m n))
-    unfolding union_of
-    union_shown m n hx hy =
-        both_shown (listing m) (listing n) hx hy
-        ∙ sym (ap (prefix_pairs back) (entries-from_sorted listing_cmp (both (listing m) (listing n)) (sorted_both (listing m) (listing n) (entries_sorted m) (entries_sorted n))))
+    union_shown m n hx hy = both_shown (listing m) (listing n) hx hy ∙ sym (ap (prefix_pairs back) (union_listing m n))
+
+module _ {P X Y : Type 0} (path : P → List Bool) where
+  -- the prefixes of a merged list are those of two lists, merged
+  pub merged_prefixes : (xs : List (P × X)) (ys : List (P × Y)) → merged_keys path (map (λ e. e.0) xs) (map (λ e. e.0) ys) ≡ map (λ e. e.0) (merged path xs ys)
+  merged_prefixes [] [] = refl
+  merged_prefixes [] (y ∷ ys) = ap (λ zs. y.0 ∷ zs) (merged_prefixes [] ys)
+  merged_prefixes (x ∷ xs) [] = ap (λ zs. x.0 ∷ zs) (merged_prefixes xs [])
+  merged_prefixes (x ∷ xs) (y ∷ ys) =
+      elim (listing_cmp (path x.0) (path y.0)) as (λ o. keys_by o ≡ map (λ e. e.0) (items_by o)) [
+        | Less ↦ ap (λ zs. x.0 ∷ zs) (merged_prefixes xs (y ∷ ys))
+        | Equal ↦ ap (λ zs. x.0 ∷ zs) (merged_prefixes xs ys)
+        | Greater ↦ ap (λ zs. y.0 ∷ zs) (merged_prefixes (x ∷ xs) ys)
+      ]
+    where
+      keys_by : Ordering → List P
+      keys_by o = elim o [
+        | Less ↦ x.0 ∷ merged_keys path (map (λ e. e.0) xs) (map (λ e. e.0) (y ∷ ys))
+        | Equal ↦ x.0 ∷ merged_keys path (map (λ e. e.0) xs) (map (λ e. e.0) ys)
+        | Greater ↦ y.0 ∷ merged_keys path (map (λ e. e.0) (x ∷ xs)) (map (λ e. e.0) ys)
+      ]
+
+      items_by : Ordering → List (P × Side X Y)
+      items_by o = elim o [
+        | Less ↦ (x.0, Left x.1) ∷ merged path xs (y ∷ ys)
+        | Equal ↦ (x.0, Both x.1 y.1) ∷ merged path xs ys
+        | Greater ↦ (y.0, Right y.1) ∷ merged path (x ∷ xs) ys
+      ]
+
+  -- two walks over keys, merged, are the keys of the union
+  pub keys_shown : (back : List Bool → P) (m : Entries X) (n : Entries Y)
+      → ((e : List Bool × X) → Contains (listing m) e → path (back e.0) ≡ e.0) → ((e : List Bool × Y) → Contains (listing n) e → path (back e.0) ≡ e.0)
+      → merged_keys path (map (λ e. back e.0) (listing m)) (map (λ e. back e.0) (listing n)) ≡ map (λ e. back e.0) (listing (union_of m n))
+  keys_shown back m n hx hy =
+      ap₂ (merged_keys path) (sym (only_keys (listing m))) (sym (only_keys (listing n)))
+      ∙ merged_prefixes (prefix_pairs back (listing m)) (prefix_pairs back (listing n))
+      ∙ ap (map (λ e. e.0)) (union_shown path back m n hx hy) ∙ only_keys (listing (union_of m n))
+    where
+      only_keys : {Z : Type 0} (es : List (List Bool × Z)) → map (λ e. e.0) (prefix_pairs back es) ≡ map (λ e. back e.0) es
+      only_keys [] = refl
+      only_keys (e ∷ es) = ap (λ zs. back e.0 ∷ zs) (only_keys es)

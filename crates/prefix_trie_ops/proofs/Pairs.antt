@@ -56,6 +56,10 @@ module _ {X Y : Type 0} (n : Entries Y) where
       no_pair None = refl
       no_pair (Some v) = refl
 
+  pub common_listing : (m : Entries X) → listing (common m n) ≡ pairs (listing m)
+  unfolding common
+  common_listing m = entries-from_sorted listing_cmp (pairs (listing m)) (sorted_pairs (listing m) (entries_sorted m))
+
   pub get_common : (m : Entries X) (q : List Bool) → get (common m n) q ≡ both_values (get m q) (get n q)
   unfolding common
   get_common m q =
@@ -77,8 +81,7 @@ module _ {X Y : Type 0} (n : Entries Y) where
     -- the items of a walk that have a partner are the listing of the common keys
     pub common_shown : (m : Entries X) → ((e : List Bool × X) → Contains (listing m) e → path (back e.0) ≡ e.0)
         → filter_map (with_partner path n) (prefix_pairs back (listing m)) ≡ prefix_pairs back (listing (common m n))
-    unfolding common
-    common_shown m known = pairs_shown (listing m) known ∙ sym (ap (prefix_pairs back) (entries-from_sorted listing_cmp (pairs (listing m)) (sorted_pairs (listing m) (entries_sorted m))))
+    common_shown m known = pairs_shown (listing m) known ∙ sym (ap (prefix_pairs back) (common_listing m))
 
 -- an item without a partner is skipped
 pub pairs_skip : {P X Y : Type 0} (path : P → List Bool) (n : Entries Y) (xs rest : List (P × X)) (x : P × X) → xs ≡ x ∷ rest → None ≡ get n (path x.0)

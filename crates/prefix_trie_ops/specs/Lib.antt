@@ -3,5 +3,6 @@ pub mod Covered
 pub mod Laws
 pub mod Lending
 pub mod Merging
+pub mod Optimal
 pub mod Turned
 pub mod Values

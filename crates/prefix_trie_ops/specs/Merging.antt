@@ -25,16 +25,44 @@ module _ {P T U : Type 0} (path : P → List Bool) where
   first_side_of (x ∷ xs) [] = Some Less
   first_side_of (x ∷ xs) (y ∷ ys) = Some (listing_cmp (path x.0) (path y.0))
 
--- what is lent beside a prefix
+module _ {P : Type 0} (path : P → List Bool) where
+  -- the prefixes of two lists in listing order, each once
+  abbrev pub merged_keys : List P → List P → List P
+  merged_keys [] [] = []
+  merged_keys [] (q ∷ qs) = q ∷ merged_keys [] qs
+  merged_keys (p ∷ ps) [] = p ∷ merged_keys ps []
+  merged_keys (p ∷ ps) (q ∷ qs) = elim (listing_cmp (path p) (path q)) [
+    | Less ↦ p ∷ merged_keys ps (q ∷ qs)
+    | Equal ↦ p ∷ merged_keys ps qs
+    | Greater ↦ q ∷ merged_keys (p ∷ ps) qs
+  ]
+
+  -- which of two lists has the first prefix
+  abbrev pub first_key_of : List P → List P → Option Ordering
+  first_key_of [] [] = None
+  first_key_of [] (q ∷ qs) = Some Greater
+  first_key_of (p ∷ ps) [] = Some Less
+  first_key_of (p ∷ ps) (q ∷ qs) = Some (listing_cmp (path p) (path q))
+
+-- the values that are lent
+abbrev pub lent_values : {T U : Type 0} → Side (Bor T) (Bor U) → Side T U
+lent_values (Left v) = Left v.now
+lent_values (Right w) = Right w.now
+lent_values (Both v w) = Both v.now w.now
+
+-- a prefix and the values that are lent with it
 abbrev pub lent_side : {P T U : Type 0} → P × Side (Bor T) (Bor U) → P × Side T U
-lent_side (p, Left v) = (p, Left v.now)
-lent_side (p, Right w) = (p, Right w.now)
-lent_side (p, Both v w) = (p, Both v.now w.now)
+lent_side x = (x.0, lent_values x.1)
 
 -- the item that was read ahead, and those to come
 abbrev pub ahead : {P T : Type 0} → Option (P × Bor T) → List (P × T) → List (P × T)
 ahead None es = []
 ahead (Some x) es = lent_item x ∷ es
+
+-- the prefix that was read ahead, and those to come
+abbrev pub keys_ahead : {P : Type 0} → Option P → List P → List P
+keys_ahead None ps = []
+keys_ahead (Some p) ps = p ∷ ps
 
 module _ {T U : Type 0} where
   -- what two maps have at a key

@@ -11,3 +11,7 @@ module _ {T U : Type 0} where
 
   abbrev pub turned_pair : T × U → U × T
   turned_pair p = (p.1, p.0)
+
+-- an item with a pair, with the sides turned round
+abbrev pub turned_item : {P T U : Type 0} → P × (T × U) → P × (U × T)
+turned_item e = (e.0, turned_pair e.1)

@@ -3,12 +3,13 @@
 mod aggregation;
 mod comparing;
 mod membership;
+mod merge;
+mod shared;
 mod walks;
 
 pub use aggregation::aggregate_consistent;
 pub use comparing::{intersects, is_disjoint, is_subset};
 pub use membership::{Missing, Stored, Uncovered};
-pub use walks::{
-    CoveringDifferenceWalk, DifferenceWalk, IntersectionWalk, covering_difference, difference,
-    intersection,
-};
+pub use merge::{UnionWalk, union};
+pub use shared::{IntersectionWalk, intersection};
+pub use walks::{CoveringDifferenceWalk, DifferenceWalk, covering_difference, difference};

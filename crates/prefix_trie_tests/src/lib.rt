@@ -38,6 +38,8 @@ mod refusing;
 #[cfg(test)]
 mod retain;
 #[cfg(test)]
+mod routes;
+#[cfg(test)]
 mod runs;
 #[cfg(test)]
 mod sets;

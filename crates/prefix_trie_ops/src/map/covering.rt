@@ -1,5 +1,5 @@
 //! The entries of one map that nothing in another one covers.
-ghost use Rattle.std.specs.Prelude.{◌≡◌, not};
+ghost use Rattle.std.specs.Prelude.{◌≡◌, ◌<◌, ◌^◌, All, length, not};
 ghost use Rattle.std.specs.Map.Iter.{ShowsInOrder};
 ghost use Rattle.prefix_trie.specs.Words.{lent_item, listing, prefix_pairs};
 ghost use Rattle.prefix_trie_ops.specs.Combining.{not_covered};
@@ -45,6 +45,8 @@ pub fn covering_difference<'a, P: Prefix, T: Drop, U: Drop, A: Allocator, B: All
     right: &'a PrefixMap<P, U, B>,
 ) -> CoveringDifferenceWalk<'a, P, T, U, A, B>
     ensures items { result ≡ prefix_pairs P.back (listing (not_covered left.now.entries right.now.entries)) }
+    ensures each_fits { All (λ e. P.IsFitting e.0) result }
+    ensures fits { length result < 2 ^ 64 }
     ensures runs { ShowsInOrder (lent_item {P = P} {T = T}) }
 {
     listing_laws::<T>();

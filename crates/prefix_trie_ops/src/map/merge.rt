@@ -1,5 +1,6 @@
 //! The keys of either of two maps.
-ghost use Rattle.std.specs.Prelude.{◌≡◌, List, length};
+ghost use Rattle.std.specs.Prelude.{◌≡◌, ◌+◌, ◌≤◌, All, List, length};
+ghost use Rattle.std.specs.FinMap.{len};
 ghost use Rattle.std.specs.Iterator.{at_most};
 ghost use Rattle.std.specs.Map.Iter.{ShowsInOrder, TakesFirst};
 ghost use Rattle.prefix_trie.specs.Words.{listing, prefix_pairs};
@@ -47,12 +48,15 @@ pub fn union<'a, P: Prefix, T: Drop, U: Drop, A: Allocator, B: Allocator>(
     right: &'a PrefixMap<P, U, B>,
 ) -> UnionWalk<'a, P, T, U, A, B>
     ensures items { result ≡ prefix_pairs P.back (listing (union_of left.now.entries right.now.entries)) }
+    ensures each_fits { All (λ e. P.IsFitting e.0) result }
+    ensures at_most { length result ≤ len left.now.entries + len right.now.entries }
     ensures runs { ShowsInOrder (lent_side {P = P} {T = T} {U = U}) }
 {
     listing_laws::<T>();
     listing_laws::<U>();
     listed_laws::<P, T>();
     listed_laws::<P, U>();
+    listed_laws::<P, Side<T, U>>();
 
     // The proofs learn from it that no key is longer than the width.
     let _ = (left.len(), right.len());

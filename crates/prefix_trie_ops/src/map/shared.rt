@@ -1,5 +1,5 @@
 //! The keys that two maps have.
-ghost use Rattle.std.specs.Prelude.{◌≡◌, All, List, length};
+ghost use Rattle.std.specs.Prelude.{◌≡◌, ◌<◌, ◌^◌, ◌⊎◌, [], All, List, length};
 ghost use Rattle.std.specs.Iterator.{at_most};
 ghost use Rattle.std.specs.List.{filter_map};
 ghost use Rattle.std.specs.Map.Iter.{ShowsInOrder, TakesFirst};
@@ -13,31 +13,67 @@ use prefix_trie::{Prefix, PrefixMap};
 use std::alloc::Allocator;
 use std::marker::Model;
 
-/// The keys that two maps have, each with both values, in listing order.
-///
-/// The walk does not allocate. After its last item it returns `None` each time.
+/// The entries of a walk whose keys a map has too, each with both values.
 #[derive(Drop)]
-pub struct IntersectionWalk<'a, P: Prefix, T: Drop, U: Drop, A: Allocator, B: Allocator> {
-    left: Iter<'a, P, T, A>,
-    right: &'a PrefixMap<P, U, B>,
+struct Partners<'a, P: Prefix, T: Drop, U: Drop, A: Allocator, B: Allocator> {
+    entries: Iter<'a, P, T, A>,
+    other: &'a PrefixMap<P, U, B>,
 }
 
 impl<'a, P: Prefix, T: Drop, U: Drop, A: Allocator, B: Allocator> Model
-    for IntersectionWalk<'a, P, T, U, A, B> {
+    for Partners<'a, P, T, U, A, B> {
     ghost use Rattle.std.specs.Prelude.{All, List};
     ghost use Rattle.std.specs.List.{filter_map};
     ghost use Rattle.prefix_trie_ops.specs.Combining.{with_partner};
 
     ghost Value = { List (P × (T × U)) };
 
-    ghost view = { λ w. filter_map (with_partner P.path w.right.now.entries) w.left };
+    ghost view = { λ w. filter_map (with_partner P.path w.other.now.entries) w.entries };
 
-    ghost invariant = { λ w. All (λ e. P.IsFitting e.0) w.left };
+    ghost invariant = { λ w. All (λ e. P.IsFitting e.0) w.entries };
+}
+
+impl<'a, P: Prefix, T: Drop, U: Drop, A: Allocator, B: Allocator> Partners<'a, P, T, U, A, B> {
+    /// Returns the walk over those of the entries whose keys a map has too.
+    fn of(entries: Iter<'a, P, T, A>, other: &'a PrefixMap<P, U, B>) -> Self
+        requires { All (λ e. P.IsFitting e.0) entries }
+        ensures { result ≡ filter_map (with_partner P.path other.now.entries) entries.entry }
+    {
+        Partners { entries, other }
+    }
+
+    /// Returns the next entry with both values.
+    #[inline]
+    fn take(&mut self) -> Option<(P, &'a T, &'a U)>
+        ensures { TakesFirst lent_pair self.old result self.new }
+    {
+        next_common(&mut self.entries, self.other)
+    }
+}
+
+/// The keys that two maps have, each with both values, in listing order.
+///
+/// The walk does not allocate. After its last item it returns `None` each time.
+#[derive(Drop)]
+pub struct IntersectionWalk<'a, P: Prefix, T: Drop, U: Drop, A: Allocator, B: Allocator> {
+    // One of the two has no entries: the walk goes over the smaller map.
+    by_left: Partners<'a, P, T, U, A, B>,
+    by_right: Partners<'a, P, U, T, B, A>,
+}
+
+impl<'a, P: Prefix, T: Drop, U: Drop, A: Allocator, B: Allocator> Model
+    for IntersectionWalk<'a, P, T, U, A, B> {
+    ghost use Rattle.std.specs.Prelude.{List, map, ◌++◌};
+    ghost use Rattle.prefix_trie_ops.specs.Turned.{turned_item};
+
+    ghost Value = { List (P × (T × U)) };
+
+    ghost view = { λ w. w.by_left ++ map turned_item w.by_right };
 }
 
 /// Returns a walk over the keys that both maps have, each with both values, in listing order.
 ///
-/// Each entry of `left` costs one lookup in `right`, so pass the smaller map as `left`.
+/// Each entry of the smaller map costs one lookup in the larger one, whichever is on the left.
 ///
 /// # Examples
 ///
@@ -50,13 +86,22 @@ pub fn intersection<'a, P: Prefix, T: Drop, U: Drop, A: Allocator, B: Allocator>
     right: &'a PrefixMap<P, U, B>,
 ) -> IntersectionWalk<'a, P, T, U, A, B>
     ensures items { result ≡ prefix_pairs P.back (listing (common left.now.entries right.now.entries)) }
+    ensures each_fits { All (λ e. P.IsFitting e.0) result }
+    ensures fits { length result < 2 ^ 64 }
     ensures runs { ShowsInOrder (lent_pair {P = P} {T = T} {U = U}) }
 {
     listing_laws::<T>();
+    listing_laws::<U>();
     listed_laws::<P, T>();
+    listed_laws::<P, U>();
+    listed_laws::<P, (T, U)>();
+
+    // The proofs learn from it that no key is longer than the width.
+    let _ = (left.len(), right.len());
+    let (of_left, of_right) = smaller(left, right);
     IntersectionWalk {
-        left: left.iter(),
-        right,
+        by_left: Partners::of(of_left, right),
+        by_right: Partners::of(of_right, left),
     }
 }
 
@@ -69,7 +114,28 @@ impl<'a, P: Prefix, T: Drop, U: Drop, A: Allocator, B: Allocator> Iterator
     ghost remaining = { λ items. at_most (length items) };
 
     fn next(&mut self) -> Option<(P, &'a T, &'a U)> {
-        next_common(&mut self.left, self.right)
+        if let Some(item) = self.by_left.take() {
+            return Some(item);
+        }
+        let Some((prefix, right, left)) = self.by_right.take() else {
+            return None;
+        };
+        Some((prefix, left, right))
+    }
+}
+
+/// Returns a walk over each map, of which that over the larger one is at its end.
+fn smaller<'a, P: Prefix, T: Drop, U: Drop, A: Allocator, B: Allocator>(
+    left: &'a PrefixMap<P, T, A>,
+    right: &'a PrefixMap<P, U, B>,
+) -> (Iter<'a, P, T, A>, Iter<'a, P, U, B>)
+    ensures { ((result.0 ≡ prefix_pairs P.back (listing left.now.entries)) × (result.1 ≡ []))
+        ⊎ ((result.0 ≡ []) × (result.1 ≡ prefix_pairs P.back (listing right.now.entries))) }
+{
+    if left.len() <= right.len() {
+        (left.iter(), Iter::default())
+    } else {
+        (Iter::default(), right.iter())
     }
 }
 

@@ -1,5 +1,5 @@
 //! The entries of one map whose keys another one does not have.
-ghost use Rattle.std.specs.Prelude.{◌≡◌, not};
+ghost use Rattle.std.specs.Prelude.{◌≡◌, ◌<◌, ◌^◌, All, length, not};
 ghost use Rattle.std.specs.FinMap.{contains_key};
 ghost use Rattle.std.specs.Map.Iter.{ShowsInOrder};
 ghost use Rattle.prefix_trie.specs.Words.{lent_item, listing, prefix_pairs};
@@ -45,6 +45,8 @@ pub fn difference<'a, P: Prefix, T: Drop, U: Drop, A: Allocator, B: Allocator>(
     right: &'a PrefixMap<P, U, B>,
 ) -> DifferenceWalk<'a, P, T, U, A, B>
     ensures items { result ≡ prefix_pairs P.back (listing (minus left.now.entries right.now.entries)) }
+    ensures each_fits { All (λ e. P.IsFitting e.0) result }
+    ensures fits { length result < 2 ^ 64 }
     ensures runs { ShowsInOrder (lent_item {P = P} {T = T}) }
 {
     listing_laws::<T>();

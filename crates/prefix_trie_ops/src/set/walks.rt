@@ -1,45 +1,20 @@
 //! Walks over the keys of one set, by what another one has.
-ghost use Rattle.std.specs.Prelude.{◌≡◌, map};
+ghost use Rattle.std.specs.Prelude.{◌≡◌, ◌<◌, ◌^◌, All, length, map};
 ghost use Rattle.std.specs.Map.Iter.{GivesInOrder};
 ghost use Rattle.prefix_trie.specs.Words.{listing};
-ghost use Rattle.prefix_trie_ops.specs.Combining.{minus, not_covered, restricted_to};
+ghost use Rattle.prefix_trie_ops.specs.Combining.{minus, not_covered};
 
 use crate::select::SelectedKeys;
-use crate::set::membership::{Missing, Stored, Uncovered};
+use crate::set::membership::{Missing, Uncovered};
 use prefix_trie::laws::{listed_laws, listing_laws};
 use prefix_trie::{Prefix, PrefixSet};
 use std::alloc::Allocator;
-
-/// The keys that two sets have, in listing order.
-pub type IntersectionWalk<'a, P, A, B> = SelectedKeys<'a, P, A, Stored<'a, P, B>>;
 
 /// The keys of a set that another one does not have, in listing order.
 pub type DifferenceWalk<'a, P, A, B> = SelectedKeys<'a, P, A, Missing<'a, P, B>>;
 
 /// The keys of a set that no key of another one contains, in listing order.
 pub type CoveringDifferenceWalk<'a, P, A, B> = SelectedKeys<'a, P, A, Uncovered<'a, P, B>>;
-
-/// Returns a walk over the keys that both sets have, in listing order.
-///
-/// Each key of `left` costs one lookup in `right`, so pass the smaller set as `left`.
-///
-/// # Examples
-///
-/// ```text
-/// left has 10.0.0.0/8 and 10.1.0.0/16, and right has 10.1.0.0/16 and 10.2.0.0/16
-/// intersection(&left, &right)    gives 10.1.0.0/16
-/// ```
-pub fn intersection<'a, P: Prefix, A: Allocator, B: Allocator>(
-    left: &'a PrefixSet<P, A>,
-    right: &'a PrefixSet<P, B>,
-) -> IntersectionWalk<'a, P, A, B>
-    ensures items { result ≡ map (λ e. P.back e.0) (listing (restricted_to left.now.entries right.now.entries)) }
-    ensures runs { GivesInOrder P }
-{
-    listed_laws::<P, ()>();
-    listing_laws::<()>();
-    SelectedKeys::new(left.iter(), Stored { set: right })
-}
 
 /// Returns a walk over the keys of `left` that `right` does not have, in listing order.
 ///
@@ -56,6 +31,8 @@ pub fn difference<'a, P: Prefix, A: Allocator, B: Allocator>(
     right: &'a PrefixSet<P, B>,
 ) -> DifferenceWalk<'a, P, A, B>
     ensures items { result ≡ map (λ e. P.back e.0) (listing (minus left.now.entries right.now.entries)) }
+    ensures each_fits { All P.IsFitting result }
+    ensures fits { length result < 2 ^ 64 }
     ensures runs { GivesInOrder P }
 {
     listed_laws::<P, ()>();
@@ -78,6 +55,8 @@ pub fn covering_difference<'a, P: Prefix, A: Allocator, B: Allocator>(
     right: &'a PrefixSet<P, B>,
 ) -> CoveringDifferenceWalk<'a, P, A, B>
     ensures items { result ≡ map (λ e. P.back e.0) (listing (not_covered left.now.entries right.now.entries)) }
+    ensures each_fits { All P.IsFitting result }
+    ensures fits { length result < 2 ^ 64 }
     ensures runs { GivesInOrder P }
 {
     listed_laws::<P, ()>();

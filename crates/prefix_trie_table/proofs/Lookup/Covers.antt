@@ -2,7 +2,7 @@
 use Rattle.prefix_trie_table.proofs.Prelude.{◌≡◌, ℕ, ◌+◌, ◌-◌, ◌*◌, ◌^◌, ◌<◌, ◌≤◌, Bool, true, false, ◌&&◌, nat_le, List, length, take, drop, Option, None, Some, refl, sym, ap, ◌∙◌, subst, arith, inl, inr, leb-true, length-drop, bit_and, bit_at, le-leb, lt-leb, cases_lt, false≢true, and_le_r, bit_at_above, begins, digits, length-digits, same_bool, begins-take, begins-length, take-begins, has, value_bit, stands, Sets, HoldsValues, both, bit-set, has-zero, has-and, value_bit-longer, one_of_length, Node, Match, Store, node_sizes, NodesHold, NoneHeld, Reached, IsAlong, IsLast, AreLeft, TakesMatch, TakesShortest, NextHeld, IsCovering, GoesOn, IsCover}
 use Rattle.std.proofs.lemmas.List.{length-take-le}
 use Rattle.prefix_trie_table.proofs.Strings.Plain.{no_or_yes}
-use Rattle.prefix_trie_table.proofs.Lookup.SearchPaths.{way_end}
+use Rattle.prefix_trie_table.proofs.Lookup.SearchPaths.{path_end}
 use Rattle.prefix_trie_table.proofs.Lookup.Matching.{held_is, held_here, none_join, none_past, along_is}
 
 -- three that hold at once
@@ -174,7 +174,7 @@ gone_past q first here matches v gone new takes end = record {
   stands = stays q first here matches v gone new None takes;
   next = λ reading paths hold.
       let now = taken_next q first here matches v gone new None takes reading paths hold in
-      let past = none_past reading paths v q here.level (length q + 1) hold (way_end q here v end reading paths hold) in (
+      let past = none_past reading paths v q here.level (length q + 1) hold (path_end q here v end reading paths hold) in (
         none_join reading q first gone.to (length q + 1) (gone.none reading paths hold) (none_join reading q gone.to (5 * here.level + 5) (length q + 1) now.0 past),
         none_join reading q _ (5 * here.level + 5) (length q + 1) now.1 past,
       );

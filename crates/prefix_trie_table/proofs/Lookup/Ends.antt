@@ -4,7 +4,7 @@ use Rattle.prefix_trie_table.proofs.Strings.Bits.{has_bit-is}
 use Rattle.prefix_trie_table.proofs.Strings.Digits.{path-length}
 use Rattle.prefix_trie_table.proofs.Lookup.Going.{deepest_is}
 use Rattle.prefix_trie_table.proofs.Lookup.Locating.{no_seat, seat_reads, seat_there}
-use Rattle.prefix_trie_table.proofs.Lookup.SearchPaths.{way_end, way_own, own_bit, own_value}
+use Rattle.prefix_trie_table.proofs.Lookup.SearchPaths.{path_end, path_own, own_bit, own_value}
 use Rattle.prefix_trie_table.proofs.Tree.Trees.{reads, is_some-Some}
 use Rattle.prefix_trie_table.proofs.Tree.SearchEnds.{slot_only, slot_stands}
 
@@ -12,7 +12,7 @@ module _ (v : Store Node) (reading : List ℕ → Option Node) (paths : List (Li
   -- the last node reached is the end of the search path
   pub last_ends : IsLast q here v → IsSearchEnd v.slots q (record { reached = here })
   last_ends at =
-      let e = way_end q here v at reading paths hold in
+      let e = path_end q here v at reading paths hold in
       record {
         within = e.within;
         stands = ap is_some (reads node_sizes reading paths v hold (take here.level (chunks_of q))) ∙ e.stands;
@@ -54,6 +54,6 @@ module _ (v : Store Node) (reading : List ℕ → Option Node) (paths : List (Li
     seat_here set seat is =
         let own = own_bit q here v at.along r left short x read in
         seat_reads v reading paths hold q
-        ∙ ap (λ o. seat_in o (bit_of q)) (way_own q here v at reading paths hold r left short)
+        ∙ ap (λ o. seat_in o (bit_of q)) (path_own q here v at reading paths hold r left short)
         ∙ seat_there here.node (bit_of q) (ap (has_bit here.node.value_bitmap) own ∙ has_bit-is here.node.value_bitmap x (omega (arith, small)) ∙ set)
         ∙ ap (λ i. Some (value_seat here.node i)) own ∙ ap Some (sym is)

@@ -76,42 +76,42 @@ module _ (q : List Bool) (here : Reached) (v : Store Node) (at : IsAlong q here 
 
 module _ (q : List Bool) (here : Reached) (v : Store Node) (at : IsLast q here v) (reading : List ℕ → Option Node) (paths : List (List ℕ)) (hold : NodesHold node_sizes reading paths v) where
   -- the search path was followed to its end
-  pub way_end : IsEnd reading (chunks_of q) here.level
-  way_end =
+  pub path_end : IsEnd reading (chunks_of q) here.level
+  path_end =
       let whole = at.along.whole in
       deepest_end reading paths v (chunks_of q) here.level (slot_at here) hold (at.along.deepest reading paths hold) here.node (omega (arith, path-length q, whole)) at.along.node_is
       (λ more. at.missing (omega (arith, path-length q, more)))
 
   -- the string's own node is missing where a whole step is left
-  pub way_none : (r : List Bool) → r ≡ drop (5 * here.level) q → 5 ≤ length r → reading (chunks_of q) ≡ None
-  way_none r left more = none_below reading paths v (chunks_of q) here.level hold way_end (omega (arith, path-length q, left_length q r here.level left, more))
+  pub path_none : (r : List Bool) → r ≡ drop (5 * here.level) q → 5 ≤ length r → reading (chunks_of q) ≡ None
+  path_none r left more = none_below reading paths v (chunks_of q) here.level hold path_end (omega (arith, path-length q, left_length q r here.level left, more))
 
   -- so there is no value
   pub none_at_end : (r : List Bool) → r ≡ drop (5 * here.level) q → 5 ≤ length r → has_value (reading (chunks_of q)) (bit_of q) ≡ false
-  none_at_end r left more = ap (λ o. has_value o (bit_of q)) (way_none r left more)
+  none_at_end r left more = ap (λ o. has_value o (bit_of q)) (path_none r left more)
 
   -- where no whole step is left, the last node is the string's own
   module _ (r : List Bool) (left : r ≡ drop (5 * here.level) q) (short : length r < 5) where
     steps : length (chunks_of q) ≤ here.level
     steps = let whole = at.along.whole in omega (arith, path-length q, left_length q r here.level left, short, whole)
 
-    pub way_own : reading (chunks_of q) ≡ Some here.node
-    way_own = ap reading (sym (take_all here.level (chunks_of q) steps))
+    pub path_own : reading (chunks_of q) ≡ Some here.node
+    path_own = ap reading (sym (take_all here.level (chunks_of q) steps))
         ∙ deepest_is reading paths v (chunks_of q) here.level (slot_at here) hold (at.along.deepest reading paths hold) here.node at.along.node_is
 
-    pub way_slot : IsSlot reading (chunks_of q) (slot_at here)
-    way_slot = subst (λ p. IsSlot reading p (slot_at here)) (take_all here.level (chunks_of q) steps) (at.along.deepest reading paths hold).stands
+    pub path_slot : IsSlot reading (chunks_of q) (slot_at here)
+    path_slot = subst (λ p. IsSlot reading p (slot_at here)) (take_all here.level (chunks_of q) steps) (at.along.deepest reading paths hold).stands
 
     -- and the value bit tells whether there is one
     module _ (x : ℕ) (small : x < 31) (read : x ≡ value_bit r) where
       pub own_value : has_value (reading (chunks_of q)) (bit_of q) ≡ has here.node.value_bitmap x
-      own_value = ap (λ o. has_value o (bit_of q)) way_own ∙ ap (has_bit here.node.value_bitmap) (own_bit q here v at.along r left short x read) ∙ has_bit-is here.node.value_bitmap x (omega (arith, small))
+      own_value = ap (λ o. has_value o (bit_of q)) path_own ∙ ap (has_bit here.node.value_bitmap) (own_bit q here v at.along r left short x read) ∙ has_bit-is here.node.value_bitmap x (omega (arith, small))
 
       pub own_seat : has here.node.value_bitmap x ≡ true → (seat : Seat) → seat ≡ value_seat here.node x → IsSeat reading (chunks_of q) (bit_of q) seat
       own_seat set seat is = record {
         node = here.node;
-        is = way_own;
-        set = ap (λ o. has_value o (bit_of q)) (sym way_own) ∙ own_value ∙ set;
+        is = path_own;
+        set = ap (λ o. has_value o (bit_of q)) (sym path_own) ∙ own_value ∙ set;
         slot_is = ap (λ s. s.start + s.offset) is ∙ ap (λ i. here.node.value_block + rank here.node.value_bitmap i) (sym (own_bit q here v at.along r left short x read));
       }
 
@@ -126,5 +126,5 @@ no_value_at_end q here v at reading paths values w holds r left more =
     is_none-None (values (chunks_of q) (bit_of q)) (holds.cells.set_where (chunks_of q) (bit_of q) ∙ none_at_end q here v at reading paths holds.hold r left more)
 
 -- and as many nodes were visited as levels were passed
-pub way_read : (q : List Bool) (here : Reached) (v : Store Node) → IsLast q here v → (before after : ℕ) → after ≡ before + (here.level + 1) → ReadsAlong q v before after
-way_read q here v at before after visits reading paths hold = (here.level, way_end q here v at reading paths hold, visits)
+pub path_read : (q : List Bool) (here : Reached) (v : Store Node) → IsLast q here v → (before after : ℕ) → after ≡ before + (here.level + 1) → ReadsAlong q v before after
+path_read q here v at before after visits reading paths hold = (here.level, path_end q here v at reading paths hold, visits)

@@ -1,7 +1,9 @@
-use Rattle.std.proofs.Common.{◌∙◌, ap, is_some}
+use Rattle.std.proofs.Common.{◌∙◌, ◌+◌, All, ap, is_some, subst, sym}
+use Rattle.std.specs.FinMap.{len}
 use Rattle.prefix_trie.specs.Words.{listing, prefix_pairs}
 use Rattle.prefix_trie_map.proofs.Runs.{shows_in_order}
-use Rattle.prefix_trie_ops.specs.Merging.{lent_side, merged}
+use Rattle.prefix_trie_ops.specs.Merging.{lent_side, merged, union_of}
+use Rattle.prefix_trie_ops.proofs.Bounds.{items_at_most, union_fewer, union_within}
 use Rattle.prefix_trie_ops.proofs.Merging.{union_shown}
 use Rattle.prefix_trie_ops.proofs.map.merge.union.Goals as goal
 
@@ -18,3 +20,16 @@ returns-clause-items g c =
 
 pub returns-clause-runs : goal.returns-clause-runs
 returns-clause-runs g c = shows_in_order lent_side
+
+pub returns-clause-each_fits : goal.returns-clause-each_fits
+returns-clause-each_fits g c =
+    let m = c.args.left.now.entries in
+    let n = c.args.right.now.entries in
+    subst (All (λ e. g.P.Prefix.IsFitting e.0)) (sym (returns-clause-items g c))
+    (c.listed_laws-3.ensures.listed_fit (union_of m n) (union_within g.P.R.Key.bit_width m n c.len.ensures.whole.is_map.keys_within c.len-2.ensures.whole.is_map.keys_within))
+
+pub returns-clause-at_most : goal.returns-clause-at_most
+returns-clause-at_most g c =
+    let m = c.args.left.now.entries in
+    let n = c.args.right.now.entries in
+    items_at_most (len m + len n) (merged g.P.Prefix.path c.of.result c.of-2.result) (λ e. (g.P.Prefix.back e.0, e.1)) (listing (union_of m n)) (returns-clause-items g c) (union_fewer m n)

@@ -1,5 +1,8 @@
-use Rattle.std.proofs.Common.{◌∙◌, not, filter, ap, is_some}
-use Rattle.std.specs.FinMap.{contains_key}
+use Rattle.std.proofs.Common.{◌∙◌, ◌^◌, All, not, filter, ap, is_some, subst, sym}
+use Rattle.std.specs.FinMap.{contains_key, len}
+use Rattle.prefix_trie.specs.Words.{listing}
+use Rattle.prefix_trie_ops.specs.Combining.{minus}
+use Rattle.prefix_trie_ops.proofs.Bounds.{items_below, retained_fewer, retained_within}
 use Rattle.prefix_trie_ops.proofs.Selecting.{selected}
 use Rattle.prefix_trie_ops.proofs.map.subtraction.difference.Goals as goal
 
@@ -11,3 +14,16 @@ returns-clause-items g c =
     c.new.ensures ∙ ap (filter (λ e. not (contains_key n (path e.0)))) c.iter.ensures.items
     ∙ selected path g.P.Prefix.back (λ s. not (contains_key n s)) m
     (λ e at. c.listed_laws.ensures.key_is m c.iter.ensures.whole.is_map.keys_within e.0 (ap is_some ((c.listing_laws.ensures.has_each m e.0 e.1).1 at)))
+
+pub returns-clause-each_fits : goal.returns-clause-each_fits
+returns-clause-each_fits g c =
+    let m = c.args.left.now.entries in
+    let n = c.args.right.now.entries in
+    subst (All (λ e. g.P.Prefix.IsFitting e.0)) (sym (returns-clause-items g c))
+    (c.listed_laws.ensures.listed_fit (minus m n) (retained_within g.P.R.Key.bit_width m (λ s. not (contains_key n s)) c.iter.ensures.whole.is_map.keys_within))
+
+pub returns-clause-fits : goal.returns-clause-fits
+returns-clause-fits g c =
+    let m = c.args.left.now.entries in
+    let n = c.args.right.now.entries in
+    items_below (2 ^ 64) (len m) c.new.result (λ e. (g.P.Prefix.back e.0, e.1)) (listing (minus m n)) (returns-clause-items g c) (retained_fewer m (λ s. not (contains_key n s))) c.iter.ensures.fits

@@ -1,6 +1,8 @@
-use Rattle.std.proofs.Common.{◌∙◌, not, filter, All, ap, is_some, subst, sym}
-use Rattle.std.specs.FinMap.{contains_key}
+use Rattle.std.proofs.Common.{◌∙◌, ◌^◌, not, filter, All, ap, is_some, subst, sym}
+use Rattle.std.specs.FinMap.{contains_key, len}
 use Rattle.prefix_trie.specs.Words.{listing}
+use Rattle.prefix_trie_ops.specs.Combining.{minus}
+use Rattle.prefix_trie_ops.proofs.Bounds.{items_below, retained_fewer, retained_within}
 use Rattle.prefix_trie_ops.proofs.Selecting.{keys_fit, selected_keys}
 use Rattle.prefix_trie_ops.proofs.set.walks.difference.Goals as goal
 
@@ -18,3 +20,17 @@ new-requires g c =
     let m = c.args.left.now.entries in
     subst (All g.P.Prefix.IsFitting) (sym c.iter.ensures.items)
     (keys_fit g.P.Prefix.IsFitting g.P.Prefix.back (listing m) (c.listed_laws.ensures.listed_fit m c.iter.ensures.whole.is_map.keys_within))
+
+pub returns-clause-each_fits : goal.returns-clause-each_fits
+returns-clause-each_fits g c =
+    let m = c.args.left.now.entries in
+    let n = c.args.right.now.entries in
+    subst (All g.P.Prefix.IsFitting) (sym (returns-clause-items g c))
+    (keys_fit g.P.Prefix.IsFitting g.P.Prefix.back (listing (minus m n))
+    (c.listed_laws.ensures.listed_fit (minus m n) (retained_within g.P.R.Key.bit_width m (λ s. not (contains_key n s)) c.iter.ensures.whole.is_map.keys_within)))
+
+pub returns-clause-fits : goal.returns-clause-fits
+returns-clause-fits g c =
+    let m = c.args.left.now.entries in
+    let n = c.args.right.now.entries in
+    items_below (2 ^ 64) (len m) c.new.result (λ e. g.P.Prefix.back e.0) (listing (minus m n)) (returns-clause-items g c) (retained_fewer m (λ s. not (contains_key n s))) c.iter.ensures.fits

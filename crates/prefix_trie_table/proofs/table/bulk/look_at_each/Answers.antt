@@ -1,6 +1,6 @@
 use Rattle.prefix_trie_table.proofs.Prelude.{◌≡◌, ◌+◌, ◌<◌, MatchOption, get_or, length, map, take, drop, refl, sym, ap, ◌∙◌, subst, arith, drop-set-lt, length-map, Node, Descent, GoOn, new_descent, reached_by, blank_node, node_at, IsAlong, IsLast}
 use Rattle.prefix_trie_table.proofs.Lookup.Bulk.{descent_is, descent_inside, descent_best, descent_next, read_on, rest_more, round_on, round_end, question_at, go_on_none, found_end}
-use Rattle.prefix_trie_table.proofs.Lookup.SearchPaths.{descent_end}
+use Rattle.prefix_trie_table.proofs.Lookup.SearchPaths.{path_end}
 use Rattle.prefix_trie_table.proofs.table.bulk.look_at_each.Goals as goal
 use Rattle.prefix_trie_table.proofs.table.bulk.look_at_each.Goals.{in-Some, in-None}
 
@@ -80,7 +80,7 @@ loop-j-preserved g c =
             let next = subst (λ o. MatchOption o (IsLast q (reached_by descent node c.args.level) v) (λ at. IsAlong q (record { at = at; node = node_at v.slots (at.start + at.offset); level = c.args.level + 1 }) v)) w.in-None.is (c.look-best.ensures.next v on) in
             round_end v _ c.args.level c.args.descents.now c.args.count c.args.read.now c.requires.count.0 given c.loop-j.descents j at.rest c.loop-j-test.true c.loop-j.kept c.args.found.now c.loop-j.found (at.go_on v given) (new_descent 0) c.match-next.descents c.match-next.kept c.match-next.found w.kept-is w.descents-is c.look-best.result.0 w.found-is
             (c.loop-j.auto.found ∙ c.requires.same_length ∙ sym (length-map c.args.prefixes.now g.P.Prefix.path)) q is (found_end q (reached_by descent node c.args.level) v next c.look-best.result.0 has)
-            (λ n. descent_end q (reached_by descent node c.args.level) v next n.reading n.paths n.hold);
+            (λ n. path_end q (reached_by descent node c.args.level) v next n.reading n.paths n.hold);
       }
     ]
 

@@ -1,5 +1,5 @@
 use Rattle.prefix_trie_table.proofs.Prelude.{◌≡◌, ◌+◌, ◌*◌, length, take, ◌∙◌, subst, arith, LongestHeld, chunks_of, ◌/◌, ap}
-use Rattle.prefix_trie_table.proofs.Lookup.SearchPaths.{followed_root, followed_next, left_length, way_end, way_read}
+use Rattle.prefix_trie_table.proofs.Lookup.SearchPaths.{followed_root, followed_next, left_length, path_end, path_read}
 use Rattle.prefix_trie_table.proofs.Lookup.Matching.{none_past, longest_none}
 use Rattle.prefix_trie_table.proofs.Lookup.Matching.{along_is, best_now}
 use Rattle.prefix_trie_table.proofs.table.matching.longest_on_path.Goals as goal
@@ -35,8 +35,8 @@ returns-in_default g c =
     record {
       found = λ reading paths hold.
           let found = best_now q c.down.here c.args.nodes.now at.descent.along reading paths hold c.down.best c.longest_in.result c.or-best.result (at.best reading paths hold) (λ nodes. c.longest_in.ensures q nodes at.descent.along.whole at.descent.rest_is) c.or-best.ensures in
-          longest_none reading q 0 (5 * level + 5) (length q + 1) c.or-best.result found (none_past reading paths c.args.nodes.now q level (length q + 1) hold (way_end q c.down.here c.args.nodes.now last reading paths hold));
-      visits = way_read q c.down.here c.args.nodes.now last _ _ (c.in_default.ensures.visits ∙ at.descent.counted);
+          longest_none reading q 0 (5 * level + 5) (length q + 1) c.or-best.result found (none_past reading paths c.args.nodes.now q level (length q + 1) hold (path_end q c.down.here c.args.nodes.now last reading paths hold));
+      visits = path_read q c.down.here c.args.nodes.now last _ _ (c.in_default.ensures.visits ∙ at.descent.counted);
     }
 
 pub down-preserved : goal.down-preserved

@@ -1,5 +1,5 @@
 use Rattle.prefix_trie_table.proofs.Prelude.{◌≡◌, ◌+◌, ◌*◌, length, take, Some, ◌∙◌, subst, arith, NoneHeld, chunks_of, ◌/◌, ap}
-use Rattle.prefix_trie_table.proofs.Lookup.SearchPaths.{followed_root, followed_next, left_length, way_end, way_read}
+use Rattle.prefix_trie_table.proofs.Lookup.SearchPaths.{followed_root, followed_next, left_length, path_end, path_read}
 use Rattle.prefix_trie_table.proofs.Lookup.Matching.{none_past, none_join, shortest_behind}
 use Rattle.prefix_trie_table.proofs.Lookup.Matching.{along_is}
 use Rattle.prefix_trie_table.proofs.table.matching.shortest_on_path.Goals as goal
@@ -45,8 +45,8 @@ returns-in_default-step_down g c =
           let is = along_is q c.down.here c.args.nodes.now at.descent.along reading paths hold in
           none_join reading q 0 (5 * level) (length q + 1) (at.none reading paths hold)
           (none_join reading q (5 * level) (5 * level + 5) (length q + 1) (c.in_default.ensures.found q reading at.descent.along.whole at.descent.rest_is is)
-          (none_past reading paths c.args.nodes.now q level (length q + 1) hold (way_end q c.down.here c.args.nodes.now last reading paths hold)));
-      visits = way_read q c.down.here c.args.nodes.now last _ _ (c.in_default-step_down.ensures.visits ∙ at.descent.counted);
+          (none_past reading paths c.args.nodes.now q level (length q + 1) hold (path_end q c.down.here c.args.nodes.now last reading paths hold)));
+      visits = path_read q c.down.here c.args.nodes.now last _ _ (c.in_default-step_down.ensures.visits ∙ at.descent.counted);
     }
 
 pub down-preserved : goal.down-preserved

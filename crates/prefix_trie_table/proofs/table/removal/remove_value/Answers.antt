@@ -1,6 +1,6 @@
 use Rattle.prefix_trie_table.proofs.Prelude.{◌≡◌, ◌≤◌, ◌<◌, length, refl, sym, arith, chunks_of, bit_of, EntryTaken, ForHeld}
 use Rattle.prefix_trie_table.proofs.Insertion.Spaces.{Grows-same}
-use Rattle.prefix_trie_table.proofs.Lookup.SearchPaths.{no_value_at_end, ancestors_own, ancestors_slot, own_bit, last_there}
+use Rattle.prefix_trie_table.proofs.Lookup.SearchPaths.{no_value_at_end, path_own, path_slot, own_bit, last_there}
 use Rattle.prefix_trie_table.proofs.Removal.OneEntry.{nothing_taken}
 use Rattle.prefix_trie_table.proofs.table.removal.remove_value.Given as given
 use Rattle.prefix_trie_table.proofs.table.removal.remove_value.Goals as goal
@@ -31,7 +31,7 @@ own g c = λ reading paths values holds.
     let e = c.descend-rest.ensures in
     let short : length c.descend-rest.result.1 < 5 = omega (arith, c.len.ensures.len, c.if-len-ge5.false) in
     let bit = own_bit _ _ _ e.last.along _ e.rest short _ c.value_bit.ensures.value in
-    let t = c.take_bit.ensures.taken reading paths values holds (chunks_of c.args.path) (ancestors_slot _ _ _ e.last reading paths holds.hold _ e.rest short) (ancestors_own _ _ _ e.last reading paths holds.hold _ e.rest short) in
+    let t = c.take_bit.ensures.taken reading paths values holds (chunks_of c.args.path) (path_slot _ _ _ e.last reading paths holds.hold _ e.rest short) (path_own _ _ _ e.last reading paths holds.hold _ e.rest short) in
     rw bit (t.0, t.1.0)
 
 pub returns : goal.returns

@@ -1,0 +1,13 @@
+use Rattle.std.proofs.Common.{rules, ◌≡◌, Some}
+use Rattle.prefix_trie_ops.proofs.Reading.{first_key_fits, rest_of_keys_fit}
+use Rattle.prefix_trie_ops.proofs.ahead.KeysAhead.take.Goals as goal
+
+pub invariant_of-self-2 : goal.invariant_of-self-2
+invariant_of-self-2 g c =
+    let is : c.self.inside.next ≡ Some c.in_ok-prefix.prefix = search rules in
+    rest_of_keys_fit g.P.Prefix.IsFitting c.self.inside.next c.self.inside.walk c.in_ok-prefix.prefix c.next.result c.next.new.self is c.next.ensures.steps c.self.invariant
+
+pub returns-clause-fits : goal.returns-clause-fits
+returns-clause-fits g c =
+    let is : c.self.inside.next ≡ Some c.in_ok-prefix.prefix = search rules in
+    first_key_fits g.P.Prefix.IsFitting c.self.inside.next c.self.inside.walk c.in_ok-prefix.prefix is c.self.invariant

@@ -1,0 +1,5 @@
+use Rattle.std.proofs.Common.{◌-◌}
+use Rattle.prefix_trie_ops.proofs.map.optimal.choosing.+choose.Given as goal
+
+abbrev pub decreases-choose : goal.decreases-choose
+decreases-choose g l = g.P.R.Key.bit_width - g.P.Prefix.len_of l.at.now

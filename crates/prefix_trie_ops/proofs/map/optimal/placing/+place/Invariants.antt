@@ -1,0 +1,5 @@
+use Rattle.std.proofs.Common.{◌-◌}
+use Rattle.prefix_trie_ops.proofs.map.optimal.placing.+place.Given as goal
+
+abbrev pub decreases-place : goal.decreases-place
+decreases-place g l = g.P.R.Key.bit_width - g.P.Prefix.len_of l.at.now

@@ -1,0 +1,111 @@
+//! The table with the fewest entries for the same full-width lookups.
+ghost use Rattle.std.specs.Prelude.{◌≡◌, ◌≤◌, Bool, true, false, List, length, IfErr, IfOk, IfSome};
+ghost use Rattle.std.specs.FinMap.{len};
+ghost use Rattle.prefix_trie_ops.specs.Values.{is_redundant, value_of};
+
+mod choosing;
+mod placing;
+mod position;
+mod spans;
+
+use crate::ahead::Ahead;
+use crate::map::aggregate_consistent;
+use choosing::choices_of;
+use placing::{Stop, place};
+use prefix_trie::laws::{lookup_laws, stored_laws};
+use prefix_trie::{Key, Prefix, PrefixMap, Refusal};
+use std::alloc::Allocator;
+
+/// Replaces the entries by as few as the same full-width lookups need.
+///
+/// Every full-width question has the same longest-match value as before, or still none. The map has at most as many entries as
+/// before, none of which has the value of its longest shorter entry. Shorter questions may have other values afterwards. The map
+/// keeps its slot limit.
+///
+/// This is the optimal routing table of Draves, King, Venkatachary and Zill ("Constructing Optimal IP Routing Tables", 1999), except
+/// that a question without a value keeps none. Tests find no map with fewer entries; this is not proved. The result is checked: if it
+/// had more entries than the map, or a value for a question without one, the map would get the entries of `aggregate_consistent`.
+///
+/// The time grows with the bits of the stored prefixes, where bits that prefixes share count once. The new map is built beside the
+/// old one. Until then, the call also needs memory for a few values and numbers for each of these bits.
+///
+/// # Errors
+///
+/// Returns `Memory` if an allocation fails, and `IndexRange` if the new map exceeds the slot limit. The map is unchanged then.
+///
+/// # Examples
+///
+/// ```text
+/// 10.0.0.0/9, 10.128.0.0/9 and 10.64.0.0/10 are stored with 1, 1 and 2
+/// aggregate(&mut map, alloc)?
+/// map.iter()                       gives (10.0.0.0/8, &1) and (10.64.0.0/10, &2)
+/// ```
+pub fn aggregate<P: Prefix, T: Copy + Ord, A: Allocator + Clone, B: Allocator>(
+    table: &mut PrefixMap<P, T, A>,
+    alloc: B,
+) -> Result<(), Refusal>
+    // Values that `==` calls equal are one in the next two clauses.
+    ensures values { IfOk result (λ _. ((x y : T) → T.PartialEq.eq x y ≡ true → x ≡ y)
+        → (q : List Bool) → length q ≡ P.R.bit_width → value_of table.new.entries q ≡ value_of table.old.entries q) }
+    ensures tidy { IfOk result (λ _. ((x y : T) → T.PartialEq.eq x y ≡ true → x ≡ y)
+        → (s : List Bool) → is_redundant T.PartialEq.eq table.new.entries s ≡ false) }
+    ensures at_most { IfOk result (λ _. len table.new.entries ≤ len table.old.entries) }
+    ensures unchanged { IfErr result (λ _. table.new ≡ table.old) }
+{
+    match no_larger(table, &alloc)? {
+        Some(made) => {
+            *table = made;
+            Ok(())
+        }
+        None => match aggregate_consistent(table, &alloc) {
+            Ok(()) => Ok(()),
+            Err(_) => Err(Refusal::Memory),
+        },
+    }
+}
+
+/// Returns the rebuilt map if it has no more entries than the map.
+fn no_larger<P: Prefix, T: Copy + Ord, A: Allocator + Clone, B: Allocator>(
+    table: &PrefixMap<P, T, A>,
+    alloc: &B,
+) -> Result<Option<PrefixMap<P, T, A>>, Refusal>
+    ensures values { IfOk result (λ found. IfSome found (λ made. ((x y : T) → T.PartialEq.eq x y ≡ true → x ≡ y)
+        → (q : List Bool) → length q ≡ P.R.bit_width → value_of made.entries q ≡ value_of table.now.entries q)) }
+    ensures tidy { IfOk result (λ found. IfSome found (λ made. ((x y : T) → T.PartialEq.eq x y ≡ true → x ≡ y)
+        → (s : List Bool) → is_redundant T.PartialEq.eq made.entries s ≡ false)) }
+    ensures at_most { IfOk result (λ found. IfSome found (λ made. len made.entries ≤ len table.now.entries)) }
+{
+    let made = match rebuilt(table, alloc) {
+        Ok(made) => made,
+        Err(Stop::Hole) => return Ok(None),
+        Err(Stop::Refused(cause)) => return Err(cause),
+    };
+    if made.len() <= table.len() {
+        Ok(Some(made))
+    } else {
+        Ok(None)
+    }
+}
+
+/// Returns a map with the same full-width lookups, in memory of its own.
+fn rebuilt<P: Prefix, T: Copy + Ord, A: Allocator + Clone, B: Allocator>(
+    table: &PrefixMap<P, T, A>,
+    alloc: &B,
+) -> Result<PrefixMap<P, T, A>, Stop>
+    ensures values { IfOk result (λ made. ((x y : T) → T.PartialEq.eq x y ≡ true → x ≡ y)
+        → (q : List Bool) → length q ≡ P.R.bit_width → value_of made.entries q ≡ value_of table.now.entries q) }
+    ensures tidy { IfOk result (λ made. ((x y : T) → T.PartialEq.eq x y ≡ true → x ≡ y)
+        → (s : List Bool) → is_redundant T.PartialEq.eq made.entries s ≡ false) }
+{
+    lookup_laws::<P, T>();
+    stored_laws::<T>();
+    // The proof learns from it that no key is longer than the width.
+    let _ = table.len();
+    let root = P::from_repr_len(P::R::zero(), 0);
+    let mut choices = choices_of(table, &root, alloc)?;
+    let mut made = table.clone()?;
+    made.clear();
+    let mut walk = Ahead::of(table);
+    place(&mut walk, &mut choices, &mut made, &root, None, None)?;
+    Ok(made)
+}

@@ -1,0 +1,3 @@
+pub mod Updating
+pub mod Preferring
+pub mod Reducing

@@ -1,0 +1,12 @@
+use Rattle.std.proofs.Common.{◌≡◌, ◌++◌}
+use Rattle.std.specs.List.{filter_map}
+use Rattle.prefix_trie.specs.Words.{listing, prefix_pairs}
+use Rattle.prefix_trie_ops.specs.Merging.{union_of}
+use Rattle.prefix_trie_ops_tests.proofs.Updating.{message_of}
+use Rattle.prefix_trie_ops_tests.proofs.examples.updates.updates.Given as goal
+
+abbrev pub invariant-loop-prefix : goal.invariant-loop-prefix
+invariant-loop-prefix g l =
+    (goal.iterator-loop-prefix g).can_next l.prefix-iterator
+    × (goal.iterator-loop-prefix g).is_finite l.prefix-iterator
+    × (l.messages.items ++ filter_map message_of l.prefix-iterator ≡ filter_map message_of (prefix_pairs g.P.Prefix.back (listing (union_of l.old.entries l.new.entries))))

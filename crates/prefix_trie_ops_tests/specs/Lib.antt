@@ -1,0 +1,2 @@
+pub mod Preferences
+pub mod Updates

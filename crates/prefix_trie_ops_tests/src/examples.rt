@@ -1,0 +1,4 @@
+//! Programs over the crate as a user writes them, each with a contract of its own.
+pub mod preference;
+pub mod reduction;
+pub mod updates;

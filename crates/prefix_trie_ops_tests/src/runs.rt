@@ -1,0 +1,83 @@
+//! The examples, run on small tables.
+use crate::examples::preference::preferring;
+use crate::examples::reduction::reduce;
+use crate::examples::updates::updates;
+use prefix_trie::{Ipv4Prefix, Prefix, PrefixMap, PrefixSet, Refusal};
+use std::alloc::Global;
+
+type Table = PrefixMap<(u32, u8), u32, Global>;
+
+/// The table of these routes.
+fn table(routes: &[((u32, u8), u32)], alloc: Global) -> Result<Table, Refusal> {
+    let mut table = PrefixMap::new(alloc)?;
+    for (route, hop) in routes {
+        let route = *route;
+        if route.fits() {
+            table.insert(route, *hop)?;
+        }
+    }
+    Ok(table)
+}
+
+static FIRST: [((u32, u8), u32); 3] = [
+    ((0x0a00_0000, 8), 1),
+    ((0x0a01_0000, 16), 2),
+    ((0x0a02_0000, 16), 3),
+];
+
+static SECOND: [((u32, u8), u32); 3] = [
+    ((0x0a00_0000, 8), 1),
+    ((0x0a01_0000, 16), 4),
+    ((0x0b00_0000, 8), 5),
+];
+
+/// Whether the first table becomes the second one by a change, a withdrawal and an announcement.
+fn are_updated(alloc: Global) -> Result<bool, Refusal> {
+    let (old, new) = (table(&FIRST, alloc)?, table(&SECOND, alloc)?);
+    match updates(&old, &new, alloc) {
+        Ok(messages) => Ok(
+            messages.as_slice()
+                == [
+                    ((0x0a01_0000, 16), Some(4)),
+                    ((0x0a02_0000, 16), None),
+                    ((0x0b00_0000, 8), Some(5)),
+                ]
+                .as_slice(),
+        ),
+        Err(_) => Err(Refusal::Memory),
+    }
+}
+
+/// Whether the first table's routes are preferred, and the second one's are there too.
+fn are_preferred(alloc: Global) -> Result<bool, Refusal> {
+    let (first, second) = (table(&FIRST, alloc)?, table(&SECOND, alloc)?);
+    let both = preferring(&first, &second, alloc)?;
+    Ok(
+        (both.len() == 4)
+            & (both.get(&(0x0a01_0000, 16)) == Some(&2))
+            & (both.get(&(0x0b00_0000, 8)) == Some(&5)),
+    )
+}
+
+/// Whether a network within another one is left out.
+fn is_reduced(alloc: Global) -> Result<bool, Refusal> {
+    let mut list = PrefixSet::new(alloc)?;
+    list.insert(Ipv4Prefix::new(0x0a00_0000, 8).unwrap())?;
+    list.insert(Ipv4Prefix::new(0x0a01_0000, 16).unwrap())?;
+    list.insert(Ipv4Prefix::new(0x0b00_0000, 8).unwrap())?;
+    let is_done = reduce(&mut list, alloc).is_ok();
+    Ok(
+        is_done
+            & (list.len() == 2)
+            & !list.contains(&Ipv4Prefix::new(0x0a01_0000, 16).unwrap())
+            & list.is_covered(&Ipv4Prefix::new(0x0a01_0000, 16).unwrap()),
+    )
+}
+
+#[test]
+fn examples_run(rt: HostRuntime) {
+    let alloc = rt.alloc();
+    assert!(rt; are_updated(alloc) == Ok(true));
+    assert!(rt; are_preferred(alloc) == Ok(true));
+    assert!(rt; is_reduced(alloc) == Ok(true));
+}

@@ -1,0 +1,305 @@
+//! The tables of the program `routes`: what is read, what is refused, and what each command prints.
+//!
+//! A case of `READINGS` is a text and what becomes of it. A case of `COMMANDS` is a command line over the two texts `old` and `new`, and
+//! what the command prints. The expected texts are written by hand.
+
+use route_tables::access::first_other;
+use route_tables::addresses::read_addresses;
+use route_tables::arguments::{Command, HELP, UsageError, parse};
+use route_tables::commands;
+use route_tables::load::{Loaded, load};
+use route_tables::minimise::minimise;
+use route_tables::network::parse_network;
+use route_tables::table::Tables;
+use std::alloc::Global;
+use std::io::Write;
+use std::net::IpAddr;
+use std::str;
+use std::test::Fail;
+
+/// A text, and what is printed of its tables and of the lines that replace a value, or the error.
+type Reading = (&'static [u8], &'static str);
+
+const READINGS: [Reading; 22] = [
+    (b"", ""),
+    (b"\n\n", ""),
+    (b"# a comment\n  # another\n", ""),
+    (b"10.0.0.0/8 a\n", "10.0.0.0/8 a\n"),
+    (b"10.0.0.0/8 a", "10.0.0.0/8 a\n"),
+    (
+        b"10.0.0.0/8 a\r\n192.0.2.0/24 b\r\n",
+        "10.0.0.0/8 a\n192.0.2.0/24 b\n",
+    ),
+    (b"\t10.0.0.0/8  \t a # why\n", "10.0.0.0/8 a\n"),
+    (b"10.0.0.0/8 a#b\n", "10.0.0.0/8 a#b\n"),
+    (
+        b"2001:DB8:0:0::/32 six\n0.0.0.0/0 four\n",
+        "0.0.0.0/0 four\n2001:db8::/32 six\n",
+    ),
+    (b"10.0.0.0/8 \xc3\xa9\n", "10.0.0.0/8 \u{e9}\n"),
+    (
+        b"10.0.0.0/8 a\n10.0.0.0/8 b\n::/0 c\n10.0.0.0/8 d\n",
+        "10.0.0.0/8 d\n::/0 c\nline 2: 10.0.0.0/8\nline 4: 10.0.0.0/8\n",
+    ),
+    (
+        b"10.0.0.0 a\n",
+        "line 1: missing slash between address and length",
+    ),
+    (
+        b"# first\n\n10.0.0.0/33 a\n",
+        "line 3: invalid length after the slash",
+    ),
+    (b"10.0.0.0/08 a\n", "line 1: invalid length after the slash"),
+    (b"10.0.0/8 a\n", "line 1: invalid address before the slash"),
+    (
+        b"2001:db8::/129 a\n",
+        "line 1: invalid length after the slash",
+    ),
+    (
+        b"10.1.2.3/8 a\n",
+        "line 1: address has bits set after the length",
+    ),
+    (
+        b"::1/64 a\n",
+        "line 1: address has bits set after the length",
+    ),
+    (b"10.0.0.0/8\n", "line 1: missing value after the network"),
+    (
+        b"10.0.0.0/8 a\n10.0.0.0/8 a b\nnonsense\n",
+        "line 2: more than a network and a value",
+    ),
+    (b"10.0.0.0/8 \xff\n", "line 1: not UTF-8"),
+    (b"\xff\xfe1\0\n", "line 1: not UTF-8"),
+];
+
+/// Returns what is printed of the tables of a text, and of the lines that replace a value, or the error.
+fn reading(text: &[u8], alloc: Global) -> Result<String, Fail> {
+    match load(text, alloc) {
+        Ok(loaded) => shown(&loaded, alloc),
+        Err(error) => Ok(error.to_string(alloc)?),
+    }
+}
+
+/// Returns what is printed of tables, and of the lines that replace a value.
+fn shown(loaded: &Loaded, alloc: Global) -> Result<String, Fail> {
+    let mut out = Vec::new(alloc);
+    commands::list(&loaded.tables, &mut out)?;
+    let mut text = String::from_utf8(out)?;
+    for line in &loaded.replaced {
+        let (number, network) = (line.line, line.network);
+        writeln!(text, "line {number}: {network}")?;
+    }
+    Ok(text)
+}
+
+#[test]
+fn texts_are_read_or_refused(rt: HostRuntime) -> Result<(), Fail> {
+    for (text, expected) in READINGS {
+        assert_eq!(rt; reading(text, rt.alloc())?.as_str(), expected);
+    }
+    Ok(())
+}
+
+/// Returns a text of two networks with `middle` 10,000,000 times between them.
+fn long_text(before: &str, middle: u8, after: &str, alloc: Global) -> Result<Vec<u8>, Fail> {
+    let mut text = Vec::new(alloc);
+    text.extend_from_slice(before.as_bytes())?;
+    let len = text.len();
+    text.resize(len.saturating_add(10_000_000), middle)?;
+    text.extend_from_slice(after.as_bytes())?;
+    Ok(text)
+}
+
+#[test]
+fn a_long_value_is_kept(rt: HostRuntime) -> Result<(), Fail> {
+    let text = long_text("10.0.0.0/8 a\n::/0 ", b'x', "\n10.0.0.0/8 b\n", rt.alloc())?;
+    let printed = reading(text.as_slice(), rt.alloc())?;
+    assert_eq!(rt;
+        printed.len(),
+        10_000_000 + "10.0.0.0/8 b\n::/0 \nline 3: 10.0.0.0/8\n".len()
+    );
+    Ok(())
+}
+
+#[test]
+fn a_long_line_is_refused(rt: HostRuntime) -> Result<(), Fail> {
+    let text = long_text("10.0.0.0/8 a\n", b'1', "\n", rt.alloc())?;
+    let printed = reading(text.as_slice(), rt.alloc())?;
+    assert_eq!(rt;
+        printed.as_str(),
+        "line 2: missing slash between address and length"
+    );
+    Ok(())
+}
+
+/// The texts that the commands read.
+const OLD: &str =
+    "0.0.0.0/0 up\n10.0.0.0/8 core\n10.1.0.0/16 core\n10.1.2.0/24 lab\n192.0.2.0/24 test\n2001:db8::/32 six\n";
+
+const NEW: &str =
+    "0.0.0.0/0 up\n10.0.0.0/8 core\n10.1.2.0/24 office\n10.64.0.0/10 vpn\n2001:db8::/32 six\n2001:db8:1::/48 lab\n";
+
+const ACCESS: &str = "10.0.0.0/8 allow\n10.1.0.0/16 deny\n10.1.2.0/24 allow\n::/0 allow\n";
+
+/// A command line, and what the command prints.
+type Printing = (&'static [&'static str], &'static str);
+
+const PRINTINGS: [Printing; 13] = [
+    (&["--help"], HELP),
+    (
+        &[
+            "lookup",
+            "old",
+            "10.1.2.3",
+            "10.1.9.9",
+            "8.8.8.8",
+            "2001:db8::1",
+            "::1",
+        ],
+        "10.1.2.3 10.1.2.0/24 lab\n10.1.9.9 10.1.0.0/16 core\n8.8.8.8 0.0.0.0/0 up\n2001:db8::1 2001:db8::/32 six\n::1 none\n",
+    ),
+    (&["lookup", "old"], ""),
+    (&["list", "old"], OLD),
+    (
+        &["list", "old", "10.1.0.0/16"],
+        "10.1.0.0/16 core\n10.1.2.0/24 lab\n",
+    ),
+    (&["list", "new", "2001:db8:1::/47"], "2001:db8:1::/48 lab\n"),
+    (
+        &["diff", "old", "new"],
+        "- 10.1.0.0/16 core\n~ 10.1.2.0/24 lab -> office\n+ 10.64.0.0/10 vpn\n- 192.0.2.0/24 test\n+ 2001:db8:1::/48 lab\n",
+    ),
+    (&["diff", "new", "new"], ""),
+    (
+        &["minimise", "old"],
+        "0.0.0.0/0 up\n10.0.0.0/8 core\n10.1.2.0/24 lab\n192.0.2.0/24 test\n2001:db8::/32 six\n",
+    ),
+    (&["minimise", "new"], NEW),
+    (
+        &["check", "access", "10.9.9.9", "10.1.2.3", "11.0.0.1", "::1"],
+        "10.9.9.9 allowed\n10.1.2.3 denied\n11.0.0.1 denied\n::1 allowed\nfalse\n",
+    ),
+    (&["check", "access", "10.9.9.9"], "10.9.9.9 allowed\ntrue\n"),
+    (&["check", "old", "10.9.9.9"], "0.0.0.0/0 up\n"),
+];
+
+/// Returns the tables of a text by its name.
+fn tables(name: &str, alloc: Global) -> Result<Tables, Fail> {
+    let text = match name {
+        "old" => OLD,
+        "new" => NEW,
+        _ => ACCESS,
+    };
+    let Loaded {
+        tables,
+        replaced: _,
+    } = load(text.as_bytes(), alloc)?;
+    Ok(tables)
+}
+
+/// Returns addresses that are separated by line feeds.
+fn addresses(words: &[&str], alloc: Global) -> Result<Vec<IpAddr>, Fail> {
+    let mut text = Vec::new(alloc);
+    for word in words {
+        text.extend_from_slice(word.as_bytes())?;
+        text.push(b'\n')?;
+    }
+    Ok(read_addresses(text.as_slice(), alloc)?)
+}
+
+fn lookup(name: &str, words: &[&str], out: &mut Vec<u8>, alloc: Global) -> Result<(), Fail> {
+    let addresses = addresses(words, alloc)?;
+    commands::lookup(&tables(name, alloc)?, addresses.as_slice(), out)?;
+    Ok(())
+}
+
+fn list(name: &str, within: Option<&str>, out: &mut Vec<u8>, alloc: Global) -> Result<(), Fail> {
+    let tables = tables(name, alloc)?;
+    match within {
+        Some(text) => commands::list_within(&tables, parse_network(text)?, out)?,
+        None => commands::list(&tables, out)?,
+    }
+    Ok(())
+}
+
+fn diff(old: &str, new: &str, out: &mut Vec<u8>, alloc: Global) -> Result<(), Fail> {
+    let old = tables(old, alloc)?;
+    let new = tables(new, alloc)?;
+    commands::diff(&old, &new, alloc, out)?;
+    Ok(())
+}
+
+fn minimised(name: &str, out: &mut Vec<u8>, alloc: Global) -> Result<(), Fail> {
+    let mut tables = tables(name, alloc)?;
+    minimise(&mut tables.ipv4, alloc)?;
+    minimise(&mut tables.ipv6, alloc)?;
+    commands::list(&tables, out)?;
+    Ok(())
+}
+
+/// Prints what `check` prints and returns, or the first entry that is no rule.
+fn check(name: &str, words: &[&str], out: &mut Vec<u8>, alloc: Global) -> Result<(), Fail> {
+    let addresses = addresses(words, alloc)?;
+    let tables = tables(name, alloc)?;
+    if let Some((network, value)) = first_other(&tables.ipv4) {
+        writeln!(out, "{network} {value}")?;
+        return Ok(());
+    }
+    let are_allowed = commands::check(&tables, addresses.as_slice(), out)?;
+    writeln!(out, "{are_allowed}")?;
+    Ok(())
+}
+
+/// Carries out a command line.
+fn printed(words: &[&str], alloc: Global) -> Result<Vec<u8>, Fail> {
+    let mut out = Vec::new(alloc);
+    match parse(words)? {
+        Command::Help => out.extend_from_slice(HELP.as_bytes())?,
+        Command::Lookup(name, words) => lookup(name, words, &mut out, alloc)?,
+        Command::List(name) => list(name, None, &mut out, alloc)?,
+        Command::ListWithin(name, network) => list(name, Some(network), &mut out, alloc)?,
+        Command::Diff(old, new) => diff(old, new, &mut out, alloc)?,
+        Command::Minimise(name) => minimised(name, &mut out, alloc)?,
+        Command::Check(name, words) => check(name, words, &mut out, alloc)?,
+        Command::Stats(name) => commands::stats(&tables(name, alloc)?, alloc, &mut out)?,
+    }
+    Ok(out)
+}
+
+#[test]
+fn commands_print(rt: HostRuntime) -> Result<(), Fail> {
+    for (words, expected) in PRINTINGS {
+        let out = printed(words, rt.alloc())?;
+        assert_eq!(rt; str::from_utf8(out.as_slice())?, expected);
+    }
+    Ok(())
+}
+
+/// The lines of `stats` that do not depend on how a table is stored.
+#[test]
+fn stats_count(rt: HostRuntime) -> Result<(), Fail> {
+    let out = printed(&["stats", "old"], rt.alloc())?;
+    let text = str::from_utf8(out.as_slice())?;
+    assert!(rt; text.starts_with("IPv4\n  entries    5\n"));
+    assert!(rt; text.contains("\n  addresses  all\n"));
+    assert!(rt;
+        text.contains(
+            "\n  /0           1 #\n  /8           1 #\n  /16          1 #\n  /24          2 ##\nIPv6\n  entries    1\n"
+        )
+    );
+    assert!(rt; text.contains("\n  addresses  79228162514264337593543950336\n"));
+    Ok(())
+}
+
+#[test]
+fn unknown_commands_are_refused(rt: HostRuntime) -> Result<(), Fail> {
+    for words in [
+        &[].as_slice(),
+        &["lookup"],
+        &["diff", "old"],
+        &["merge", "old", "new"],
+    ] {
+        assert_eq!(rt; parse(words), Err(UsageError));
+    }
+    Ok(())
+}

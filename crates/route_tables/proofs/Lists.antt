@@ -1,0 +1,62 @@
+-- Elements of lists that are mapped or filtered.
+use Rattle.std.proofs.Common.{◌≡◌, ◌⊎◌, zero, suc, Bool, true, false, cond, List, [], ◌∷◌, map, filter, refl, sym, ap, subst, ◌∙◌, inl, inr, arith}
+use Rattle.std.specs.List.{Contains}
+
+module _ {X : Type 0} where
+  -- an element of a list is its first, or one of the others
+  pub in_cons : (y : X) (ys : List X) (x : X) → Contains (y ∷ ys) x → (y ≡ x) ⊎ Contains ys x
+  in_cons y ys x (zero, less, is) = inl is
+  in_cons y ys x (suc k, less, is) = inr (k, omega arith, is)
+
+  pub in_here : (y : X) (ys : List X) (x : X) → y ≡ x → Contains (y ∷ ys) x
+  in_here y ys x is = (zero, omega arith, is)
+
+  pub in_later : (y : X) (ys : List X) (x : X) → Contains ys x → Contains (y ∷ ys) x
+  in_later y ys x (k, less, is) = (suc k, omega arith, is)
+
+  -- of a filtered list
+  pub in_filter : (p : X → Bool) (xs : List X) (x : X) → p x ≡ true → Contains xs x → Contains (filter p xs) x
+  in_filter p [] x passes (k, less, is) = absurd (omega arith)
+  in_filter p (y ∷ ys) x passes at = elim (in_cons y ys x at) [
+    | inl is ↦ subst (λ b. Contains (cond b (y ∷ filter p ys) (filter p ys)) x) (sym (ap p is ∙ passes)) (in_here y (filter p ys) x is)
+    | inr later ↦ elim (p y) as (λ b. Contains (cond b (y ∷ filter p ys) (filter p ys)) x) [
+      | true ↦ in_later y (filter p ys) x (in_filter p ys x passes later)
+      | false ↦ in_filter p ys x passes later
+    ]
+  ]
+
+  pub from_filter : (p : X → Bool) (xs : List X) (x : X) → Contains (filter p xs) x → Contains xs x × (p x ≡ true)
+  from_filter p [] x (k, less, is) = absurd (omega arith)
+  from_filter p (y ∷ ys) x at =
+      elim (p y) as (λ b. p y ≡ b → Contains (cond b (y ∷ filter p ys) (filter p ys)) x → Contains (y ∷ ys) x × (p x ≡ true)) [
+        | true ↦ λ e here. elim (in_cons y (filter p ys) x here) [
+          | inl is ↦ (in_here y ys x is, sym (ap p is) ∙ e)
+          | inr later ↦ let w = from_filter p ys x later in (in_later y ys x w.0, w.1)
+        ]
+        | false ↦ λ e here. let w = from_filter p ys x here in (in_later y ys x w.0, w.1)
+      ] refl at
+
+module _ {X Y : Type 0} (f : X → Y) where
+  -- of a mapped list
+  pub in_map : (xs : List X) (x : X) → Contains xs x → Contains (map f xs) (f x)
+  in_map [] x (k, less, is) = absurd (omega arith)
+  in_map (y ∷ ys) x at = elim (in_cons y ys x at) [
+    | inl is ↦ in_here (f y) (map f ys) (f x) (ap f is)
+    | inr later ↦ in_later (f y) (map f ys) (f x) (in_map ys x later)
+  ]
+
+  pub from_map : (xs : List X) (z : Y) → Contains (map f xs) z → (x : X) × Contains xs x × (f x ≡ z)
+  from_map [] z (k, less, is) = absurd (omega arith)
+  from_map (y ∷ ys) z at = elim (in_cons (f y) (map f ys) z at) [
+    | inl is ↦ (y, in_here y ys y refl, is)
+    | inr later ↦ let w = from_map ys z later in (w.0, in_later y ys w.0 w.1, w.2)
+  ]
+
+  -- a filter and a map change places
+  pub filter_of_map : (p : Y → Bool) (xs : List X) → filter p (map f xs) ≡ map f (filter (λ x. p (f x)) xs)
+  filter_of_map p [] = refl
+  filter_of_map p (y ∷ ys) =
+      elim (p (f y)) as (λ b. cond b (f y ∷ filter p (map f ys)) (filter p (map f ys)) ≡ map f (cond b (y ∷ filter (λ x. p (f x)) ys) (filter (λ x. p (f x)) ys))) [
+        | true ↦ ap (λ zs. f y ∷ zs) (filter_of_map p ys)
+        | false ↦ filter_of_map p ys
+      ]

@@ -1,0 +1,10 @@
+use Rattle.std.proofs.Common.{All}
+use Rattle.prefix_trie.specs.Words.{listing, prefix_pairs}
+use Rattle.route_tables.specs.Access.{IsRule}
+use Rattle.route_tables.proofs.access.first_other.Given as goal
+
+abbrev pub invariant-loop-network : goal.invariant-loop-network
+invariant-loop-network g l =
+    (goal.iterator-loop-network g).can_next l.network-iterator
+    × (goal.iterator-loop-network g).is_finite l.network-iterator
+    × (All (λ e. IsRule e.1) l.network-iterator → All (λ e. IsRule e.1) (prefix_pairs g.P.Prefix.back (listing l.table.entries)))

@@ -1,0 +1,8 @@
+use Rattle.route_tables.proofs.Cutting.{lines_cut, lines_whole}
+use Rattle.route_tables.proofs.lines.split_line.Goals as goal
+
+pub returns-then-end-text-clause-first : goal.returns-then-end-text-clause-first
+returns-then-end-text-clause-first c = lines_cut c.args.text.now c.line_len-end.result c.line_len-end.ensures c.if-end-text.true
+
+pub returns-else-end-text-clause-first : goal.returns-else-end-text-clause-first
+returns-else-end-text-clause-first c = lines_whole c.args.text.now c.line_len-end.result c.line_len-end.ensures c.if-end-text.false c.requires

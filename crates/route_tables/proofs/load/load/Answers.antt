@@ -1,0 +1,33 @@
+use Rattle.std.proofs.Common.{rules, arith}
+use Rattle.std.proofs.lemmas.Result.{err_from_is_err_and}
+use Rattle.route_tables.specs.Lines.{lines}
+use Rattle.route_tables.proofs.Cutting.{lines_none}
+use Rattle.route_tables.proofs.Loading.{loads_end, loads_error, loads_on}
+use Rattle.route_tables.proofs.load.load.Goals as goal
+
+pub returns-in_err-network-clause-first_bad : goal.returns-in_err-network-clause-first_bad
+returns-in_err-network-clause-first_bad c =
+    let p = err_from_is_err_and c.from_residual-in_err-network.result c.from_residual-in_err-network.ensures.1 in
+    rw (p.1, p.2) (loads_error (lines c.args.text.now) (lines c.loop-rest.rest.now) (lines c.split_line.result.1.now) c.split_line.result.0.now c.loop-rest.number
+    c.loop-rest.tables.ipv4.entries c.loop-rest.tables.ipv6.entries c.in_err-network.field-0.0 c.split_line.ensures.first c.in_err-network.ensures.bad c.loop-rest.invariant.1)
+
+pub loop-rest-preserved-in-Continue-branch-4 : goal.loop-rest-preserved-in-Continue-branch-4
+loop-rest-preserved-in-Continue-branch-4 c = (
+  omega (arith, c.split_line.ensures.shorter, c.loop-rest.invariant.0),
+  loads_on (lines c.args.text.now) (lines c.loop-rest.rest.now) (lines c.split_line.result.1.now) c.split_line.result.0.now c.loop-rest.number
+      c.loop-rest.tables.ipv4.entries c.loop-rest.tables.ipv6.entries c.add_line.new.tables.ipv4.entries c.add_line.new.tables.ipv6.entries
+      c.split_line.ensures.first c.in_ok-network.ensures.added c.loop-rest.invariant.1,
+)
+
+pub loop-rest-preserved : goal.loop-rest-preserved
+loop-rest-preserved c = (
+  omega (arith, c.split_line.ensures.shorter, c.loop-rest.invariant.0),
+  loads_on (lines c.args.text.now) (lines c.loop-rest.rest.now) (lines c.split_line.result.1.now) c.split_line.result.0.now c.loop-rest.number
+      c.loop-rest.tables.ipv4.entries c.loop-rest.tables.ipv6.entries c.add_line.new.tables.ipv4.entries c.add_line.new.tables.ipv6.entries
+      c.split_line.ensures.first c.in_ok-network.ensures.added c.loop-rest.invariant.1,
+)
+
+pub returns-clause-tables : goal.returns-clause-tables
+returns-clause-tables c =
+    loads_end (lines c.args.text.now) (lines c.loop-rest.rest.now) c.loop-rest.number c.loop-rest.tables.ipv4.entries c.loop-rest.tables.ipv6.entries
+    (lines_none c.loop-rest.rest.now (search rules)) c.loop-rest.invariant.1

@@ -1,0 +1,12 @@
+use Rattle.std.proofs.Common.{◌+◌, ◌≤◌, length}
+use Rattle.route_tables.specs.Lines.{lines}
+use Rattle.route_tables.proofs.Loading.{Loads}
+use Rattle.route_tables.proofs.load.load.Given as goal
+
+abbrev pub invariant-loop-rest : goal.invariant-loop-rest
+invariant-loop-rest l =
+    (l.number + length l.rest ≤ length l.text)
+    × Loads (lines l.text) (lines l.rest) l.number l.tables.ipv4.entries l.tables.ipv6.entries
+
+abbrev pub decreases-loop-rest : goal.decreases-loop-rest
+decreases-loop-rest l = length l.rest

@@ -1,0 +1,13 @@
+use Rattle.std.proofs.Common.{◌≡◌, ℕ, ◌+◌, ◌^◌, ◌<◌, ◌≤◌, All, eqb, filter, length, get_or}
+use Rattle.prefix_trie.specs.Words.{listing, prefix_pairs}
+use Rattle.route_tables.proofs.stats.by_length.Given as goal
+
+abbrev pub invariant-loop-network : goal.invariant-loop-network
+invariant-loop-network g l =
+    (goal.iterator-loop-network g).can_next l.network-iterator
+    × (goal.iterator-loop-network g).is_finite l.network-iterator
+    × (All (λ e. g.P.Prefix.IsFitting e.0) l.network-iterator)
+    × ((k : ℕ) → k ≤ g.P.R.Key.bit_width → get_or l.counts.items k 0 + length (filter (λ e. eqb (g.P.Prefix.len_of e.0) k) l.network-iterator)
+    ≡ length (filter (λ e. eqb (g.P.Prefix.len_of e.0) k) (prefix_pairs g.P.Prefix.back (listing l.table.entries))))
+    × (length (prefix_pairs g.P.Prefix.back (listing l.table.entries)) < 2 ^ 64)
+    × (length l.counts.items ≡ g.P.R.Key.bit_width + 1)

@@ -1,0 +1,24 @@
+-- Where two tables differ. This project's own.
+use Rattle.std.specs.Prelude.{ℕ, Bool, true, not, List, filter, bytes_eq}
+use Rattle.std.specs.Borrow.{Bor}
+use Rattle.prefix_trie.specs.Words.{listing}
+use Rattle.prefix_trie_ops.specs.Merging.{union_of}
+use Rattle.prefix_trie_ops.specs.declared.map.sides.Side.{Side}
+use Rattle.prefix_trie_ops.specs.declared.map.sides.Side.TheVariants.{Left, Right, Both}
+use Rattle.route_tables.specs.Tables.{Values}
+
+-- the values that are lent
+abbrev pub lent : {X : Type 0} → Side (Bor X) (Bor X) → Side X X
+lent (Left v) = Left v.now
+lent (Right w) = Right w.now
+lent (Both v w) = Both v.now w.now
+
+-- whether two tables that have these values at a key differ there
+abbrev pub differ : Side (List ℕ) (List ℕ) → Bool
+differ (Left old) = true
+differ (Right new) = true
+differ (Both old new) = not (bytes_eq old new)
+
+-- the keys of either table at which they differ, each with what they have there, in listing order
+abbrev pub changes_of : Values → Values → List (List Bool × Side (List ℕ) (List ℕ))
+changes_of old new = filter (λ e. differ e.1) (listing (union_of old new))

@@ -1,0 +1,7 @@
+pub mod Access
+pub mod Changes
+pub mod Lines
+pub mod Loads
+pub mod Networks
+pub mod Routes
+pub mod Tables

@@ -1,0 +1,38 @@
+-- What the lines of a table say. This project's own.
+use Rattle.std.specs.Prelude.{◌≡◌, ◌≢◌, ◌⊎◌, ℕ, zero, suc, List, [], ◌∷◌}
+use Rattle.std.specs.Str.{IsUtf8}
+use Rattle.route_tables.specs.Lines.{fields}
+use Rattle.route_tables.specs.Networks.{IsNetworkText}
+use Rattle.route_tables.specs.declared.network.Network.{Network}
+
+-- a network and its value
+abbrev pub Route : Type 0
+Route = Network × List ℕ
+
+-- the line has two fields, the text of a network and its value
+pub record IsRoute (line : List ℕ) (route : Route) : Type 0 where
+  pub text : List ℕ
+  pub has_fields : fields line ≡ text ∷ route.1 ∷ []
+  pub network : IsNetworkText text route.0
+  pub utf8 : IsUtf8 text × IsUtf8 route.1
+
+-- the line is neither blank nor a route
+pub record IsBad (line : List ℕ) : Type 0 where
+  pub is_some : fields line ≢ []
+  pub is_none : (route : Route) → ¬ (IsRoute line route)
+
+-- the routes of lines, in order; the other lines are blank or comments
+abbrev pub HasRoutes : List (List ℕ) → List Route → Type 0
+HasRoutes [] routes = routes ≡ []
+HasRoutes (line ∷ later) routes = ((fields line ≡ []) × HasRoutes later routes)
+    ⊎ ((route : Route) × (rest : List Route) × (routes ≡ route ∷ rest) × IsRoute line route × HasRoutes later rest)
+
+-- a line is blank, or a comment, or a route
+abbrev pub IsGood : List ℕ → Type 0
+IsGood line = (fields line ≡ []) ⊎ ((route : Route) × IsRoute line route)
+
+-- the first bad line is the one at this index, from 0 on
+abbrev pub IsFirstBad : List (List ℕ) → ℕ → Type 0
+IsFirstBad [] index = ⊥
+IsFirstBad (line ∷ later) zero = IsBad line
+IsFirstBad (line ∷ later) (suc index) = IsGood line × IsFirstBad later index

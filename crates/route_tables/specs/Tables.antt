@@ -1,0 +1,34 @@
+-- The entries of the tables of both families. This project's own.
+use Rattle.std.specs.Prelude.{ℕ, Bool, List, [], ◌∷◌}
+use Rattle.std.specs.FinMap.{contains_key}
+use Rattle.prefix_trie.specs.Words.{Entries, ipv4_path, ipv6_path, with_entry}
+use Rattle.route_tables.specs.Routes.{Route}
+use Rattle.route_tables.specs.declared.network.Network.{Network}
+use Rattle.route_tables.specs.declared.network.Network.TheVariants.{V4, V6}
+
+-- values are texts
+abbrev pub Values : Type 0
+Values = Entries (List ℕ)
+
+-- the entries of one family with a route more, if it is of that family
+abbrev pub ipv4_with : Values → Route → Values
+ipv4_with m (V4 network, value) = with_entry m (ipv4_path network) value
+ipv4_with m (V6 network, value) = m
+
+abbrev pub ipv6_with : Values → Route → Values
+ipv6_with m (V4 network, value) = m
+ipv6_with m (V6 network, value) = with_entry m (ipv6_path network) value
+
+-- the entries of one family after its routes are set in order, so that the later one of two for one network stays
+abbrev pub ipv4_with_all : Values → List Route → Values
+ipv4_with_all m [] = m
+ipv4_with_all m (route ∷ routes) = ipv4_with_all (ipv4_with m route) routes
+
+abbrev pub ipv6_with_all : Values → List Route → Values
+ipv6_with_all m [] = m
+ipv6_with_all m (route ∷ routes) = ipv6_with_all (ipv6_with m route) routes
+
+-- whether the table of its family has a network
+abbrev pub is_stored : Values → Values → Network → Bool
+is_stored ipv4 ipv6 (V4 network) = contains_key ipv4 (ipv4_path network)
+is_stored ipv4 ipv6 (V6 network) = contains_key ipv6 (ipv6_path network)

@@ -1,0 +1,20 @@
+//! Tables of IP networks as text, each network with a value: they are read, looked up, compared, made smaller, checked and counted.
+//!
+//! This is the proved core of the program `routes`. A table of one family is a map, `Table<P>`, and the functions on it are
+//! generic over `P: Prefix`. `Tables` is what a file holds: one table of IPv4 networks and one of IPv6 networks.
+#![tactic(auto)]
+
+pub mod access;
+pub mod addresses;
+pub mod arguments;
+pub mod commands;
+pub mod diff;
+pub mod line;
+pub mod lines;
+pub mod load;
+pub mod lookup;
+pub mod minimise;
+pub mod network;
+pub mod stats;
+pub mod table;
+pub mod value;

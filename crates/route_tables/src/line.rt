@@ -1,0 +1,78 @@
+//! What a line of a table says.
+ghost use Rattle.std.specs.Prelude.{◌≡◌, [], IfErr, IfOk, MatchOption, MatchResult};
+ghost use Rattle.std.specs.Str.{IsUtf8};
+ghost use Rattle.route_tables.specs.Lines.{fields};
+ghost use Rattle.route_tables.specs.Networks.{IsNetworkText};
+ghost use Rattle.route_tables.specs.Routes.{IsBad, IsRoute};
+ghost use Rattle.route_tables.specs.declared.network.Network.{Network};
+
+use crate::lines::split_field;
+use crate::network::{Network, NetworkError, parse_network};
+use std::error::Error;
+use std::fmt::{self, Display, Formatter, Write};
+use std::str;
+
+/// Why a line is not a line of a table.
+#[derive(Clone, Copy, Debug, PartialEq, Eq)]
+pub enum LineError {
+    /// The first field is not UTF-8, or the second is not.
+    NotUtf8,
+    /// The first field is not a network.
+    Network(NetworkError),
+    /// There is no second field.
+    MissingValue,
+    /// There is a third field.
+    ExtraField,
+}
+
+impl Display for LineError {
+    fn fmt<W: Write>(&self, f: &mut Formatter<W>) -> fmt::Result {
+        match self {
+            LineError::NotUtf8 => f.write_str("not UTF-8"),
+            LineError::Network(error) => Display::fmt(error, f),
+            LineError::MissingValue => f.write_str("missing value after the network"),
+            LineError::ExtraField => f.write_str("more than a network and a value"),
+        }
+    }
+}
+
+impl Error for LineError {}
+
+/// Reads a line: a network and its value, or nothing if the line is blank or a comment.
+///
+/// # Errors
+///
+/// Returns the first reason why the line is neither: of its network, then of its value, then of what follows.
+pub fn read_line(line: &[u8]) -> Result<Option<(Network, &str)>, LineError>
+    ensures read { IfOk result (λ found. MatchOption found (fields line.now ≡ []) (λ route. IsRoute line.now (route.0, route.1.now))) }
+    ensures bad { IfErr result (λ _. IsBad line.now) }
+{
+    let Some((network, rest)) = split_field(line) else {
+        return Ok(None);
+    };
+    let network = read_network(network)?;
+    let Some((value, rest)) = split_field(rest) else {
+        return Err(LineError::MissingValue);
+    };
+    let Ok(value) = str::from_utf8(value) else {
+        return Err(LineError::NotUtf8);
+    };
+    if split_field(rest).is_some() {
+        return Err(LineError::ExtraField);
+    }
+    Ok(Some((network, value)))
+}
+
+// Reads the first field of a line.
+fn read_network(field: &[u8]) -> Result<Network, LineError>
+    ensures { MatchResult result (λ network. IsNetworkText field.now network × IsUtf8 field.now)
+        (λ _. IsUtf8 field.now → (network : Network) → ¬ (IsNetworkText field.now network)) }
+{
+    let Ok(text) = str::from_utf8(field) else {
+        return Err(LineError::NotUtf8);
+    };
+    match parse_network(text) {
+        Ok(network) => Ok(network),
+        Err(error) => Err(LineError::Network(error)),
+    }
+}

@@ -1,0 +1,72 @@
+//! The lines of a text, and the fields of a line.
+ghost use Rattle.std.specs.Prelude.{◌≡◌, ◌==◌, [], ◌∷◌, ◌<◌, ◌≤◌, length, MatchOption};
+ghost use Rattle.std.specs.Char.{is_ascii_whitespace};
+ghost use Rattle.std.specs.List.{position, position_or_len};
+ghost use Rattle.route_tables.specs.Lines.{fields, lines, words};
+
+// How many bytes come before the first line feed, or in all.
+#[tactic(auto, using(crate::proofs::Cutting::or_length))]
+fn line_len(text: &[u8]) -> usize
+    ensures { result ≡ position_or_len (λ b. b == 10) text.now }
+{
+    line_end(text).unwrap_or(text.len())
+}
+
+// Where the first line feed is.
+fn line_end(text: &[u8]) -> Option<usize>
+    ensures { result ≡ position (λ b. b == 10) text.now }
+{
+    text.iter().position(|byte| *byte == b'\n')
+}
+
+// How many bytes come before the first white space, or in all.
+#[tactic(auto, using(crate::proofs::Cutting::or_length))]
+fn word_len(text: &[u8]) -> usize
+    ensures value { result ≡ position_or_len is_ascii_whitespace text.now }
+    ensures within { result ≤ length text.now }
+{
+    word_end(text).unwrap_or(text.len())
+}
+
+// Where the first white space is.
+fn word_end(text: &[u8]) -> Option<usize>
+    ensures { result ≡ position is_ascii_whitespace text.now }
+{
+    text.iter().position(|byte| byte.is_ascii_whitespace())
+}
+
+/// Splits off the first line of a text. The line feed that ends it belongs to neither part.
+pub fn split_line(text: &[u8]) -> (&[u8], &[u8])
+    requires { 0 < length text.now }
+    ensures first { lines text.now ≡ result.0.now ∷ lines result.1.now }
+    ensures shorter { length result.1.now < length text.now }
+{
+    let end = line_len(text);
+    if end < text.len() {
+        (&text[..end], &text[end + 1..])
+    } else {
+        (text, &[])
+    }
+}
+
+/// Splits off the first word, what white space does not cut: None exactly if there is none.
+fn split_word(text: &[u8]) -> Option<(&[u8], &[u8])>
+    ensures { MatchOption result (words text.now ≡ []) (λ parts. words text.now ≡ parts.0.now ∷ words parts.1.now) }
+{
+    let text = text.trim_ascii_start();
+    if text.is_empty() {
+        return None;
+    }
+    Some(text.split_at(word_len(text)))
+}
+
+/// Splits off the first field, a word before the comment: None exactly if there is none.
+pub fn split_field(text: &[u8]) -> Option<(&[u8], &[u8])>
+    ensures { MatchOption result (fields text.now ≡ []) (λ parts. fields text.now ≡ parts.0.now ∷ fields parts.1.now) }
+{
+    let (word, rest) = split_word(text)?;
+    if word.first() == Some(&b'#') {
+        return None;
+    }
+    Some((word, rest))
+}

@@ -1,0 +1,152 @@
+//! Reading tables from text.
+//!
+//! Each line is blank, or a network without host bits and its value: any text without white space. A field that begins with `#`
+//! begins a comment. White space separates fields and may stand at both ends of a line, so lines may end with CR LF.
+ghost use Rattle.std.specs.Prelude.{◌≡◌, List, IfErr, IfOk};
+ghost use Rattle.prefix_trie.specs.Words.{no_entries};
+ghost use Rattle.route_tables.specs.Lines.{lines};
+ghost use Rattle.route_tables.specs.Loads.{AddsLine, IsBadAt, IsRefusal, NamesFirstBad};
+ghost use Rattle.route_tables.specs.Routes.{HasRoutes, Route};
+ghost use Rattle.route_tables.specs.Tables.{ipv4_with, ipv4_with_all, ipv6_with, ipv6_with_all};
+
+use crate::line::{LineError, read_line};
+use crate::lines::split_line;
+use crate::network::Network;
+use crate::table::Tables;
+use crate::value::Value;
+use prefix_trie::Refusal;
+use std::alloc::{AllocError, AllocFailed, Global};
+use std::error::Error;
+use std::fmt::{self, Display, Formatter, Write};
+
+/// A line that replaces the value of a network.
+#[derive(Clone, Copy, Debug, PartialEq, Eq)]
+pub struct Replaced {
+    /// The number of the line, from 1 on.
+    pub line: usize,
+    /// The network, which an earlier line has too.
+    pub network: Network,
+}
+
+/// The tables of a text, and the lines that replace a value.
+#[derive(Drop)]
+pub struct Loaded {
+    /// The tables.
+    pub tables: Tables,
+    /// The lines whose network an earlier line has too, in order.
+    pub replaced: Vec<Replaced>,
+}
+
+/// Why a text is not read.
+#[derive(Clone, Copy, Debug, PartialEq, Eq)]
+pub enum LoadError {
+    /// The line with this number, from 1 on, is the first that is not a line of a table.
+    Line(usize, LineError),
+    /// An allocation failed, or a table is full.
+    Refused(Refusal),
+}
+
+impl Display for LoadError {
+    fn fmt<W: Write>(&self, f: &mut Formatter<W>) -> fmt::Result {
+        match self {
+            LoadError::Line(number, error) => write!(f, "line {number}: {error}"),
+            LoadError::Refused(cause) => Display::fmt(cause, f),
+        }
+    }
+}
+
+impl Error for LoadError {}
+
+impl From<Refusal> for LoadError {
+    ghost use Rattle.route_tables.specs.declared.load.LoadError.TheVariants.{Refused};
+
+    ghost from_gives = { λ cause error. error ≡ Refused cause };
+
+    fn from(cause: Refusal) -> LoadError {
+        LoadError::Refused(cause)
+    }
+}
+
+impl From<AllocError> for LoadError {
+    ghost use Rattle.prefix_trie_bits.specs.declared.prefix.Refusal.TheVariants.{Memory};
+    ghost use Rattle.route_tables.specs.declared.load.LoadError.TheVariants.{Refused};
+
+    ghost from_gives = { λ _ error. error ≡ Refused Memory };
+
+    fn from(_error: AllocError) -> LoadError {
+        LoadError::Refused(Refusal::Memory)
+    }
+}
+
+impl<T: Drop> From<AllocFailed<T>> for LoadError {
+    ghost use Rattle.prefix_trie_bits.specs.declared.prefix.Refusal.TheVariants.{Memory};
+    ghost use Rattle.route_tables.specs.declared.load.LoadError.TheVariants.{Refused};
+
+    ghost from_gives = { λ _ error. error ≡ Refused Memory };
+
+    fn from(_error: AllocFailed<T>) -> LoadError {
+        LoadError::Refused(Refusal::Memory)
+    }
+}
+
+/// Reads the tables of a text. If two lines have one network, the later one stays.
+///
+/// # Errors
+///
+/// Returns the number of the first line that is not a line of a table, and the reason. Returns why memory is refused if an allocation
+/// fails or a table is full.
+pub fn load(text: &[u8], alloc: Global) -> Result<Loaded, LoadError>
+    ensures tables { IfOk result (λ loaded. (routes : List Route) × HasRoutes (lines text.now) routes
+        × (loaded.tables.ipv4.entries ≡ ipv4_with_all no_entries routes)
+        × (loaded.tables.ipv6.entries ≡ ipv6_with_all no_entries routes)) }
+    ensures first_bad { IfErr result (NamesFirstBad (lines text.now)) }
+{
+    let mut tables = Tables::new(alloc)?;
+    let mut replaced = Vec::new(alloc);
+    let mut number = 0;
+    let mut rest = text;
+    while !rest.is_empty() {
+        let (line, later) = split_line(rest);
+        number += 1;
+        rest = later;
+        if let Some(network) = add_line(&mut tables, line, number, alloc)? {
+            replaced.push(Replaced {
+                line: number,
+                network,
+            })?;
+        }
+    }
+    Ok(Loaded { tables, replaced })
+}
+
+// Adds what the line with this number says, and returns its network if the tables have it.
+fn add_line(
+    tables: &mut Tables,
+    line: &[u8],
+    number: usize,
+    alloc: Global,
+) -> Result<Option<Network>, LoadError>
+    ensures added { IfOk result (λ _. AddsLine line.now tables.old.ipv4.entries tables.old.ipv6.entries tables.new.ipv4.entries tables.new.ipv6.entries) }
+    ensures bad { IfErr result (IsBadAt number line.now) }
+{
+    match read_line(line) {
+        Ok(None) => Ok(None),
+        Ok(Some((network, value))) => add_route(tables, network, value, alloc),
+        Err(error) => Err(LoadError::Line(number, error)),
+    }
+}
+
+// Adds a route, and returns its network if the tables have it.
+fn add_route(
+    tables: &mut Tables,
+    network: Network,
+    value: &str,
+    alloc: Global,
+) -> Result<Option<Network>, LoadError>
+    ensures ipv4 { IfOk result (λ _. tables.new.ipv4.entries ≡ ipv4_with tables.old.ipv4.entries (network, value.now)) }
+    ensures ipv6 { IfOk result (λ _. tables.new.ipv6.entries ≡ ipv6_with tables.old.ipv6.entries (network, value.now)) }
+    ensures no_line { IfErr result IsRefusal }
+{
+    let value = Value::new(value, alloc)?;
+    Ok(tables.insert(network, value)?)
+}

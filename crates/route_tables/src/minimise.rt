@@ -1,0 +1,29 @@
+//! Smaller tables in which every lookup gives the same value.
+ghost use Rattle.std.specs.Prelude.{◌≡◌, ◌≢◌, ℕ, Bool, List, IfErr, OnOk, Some};
+ghost use Rattle.std.specs.FinMap.{get};
+ghost use Rattle.prefix_trie_ops.specs.Values.{value_above, value_of};
+
+use crate::table::Table;
+use crate::value::Value;
+use prefix_trie::Prefix;
+use prefix_trie::laws::listing_laws;
+use prefix_trie_ops::map::aggregate_consistent;
+use std::alloc::{AllocError, Global};
+
+/// Removes each network whose longest shorter network in the table has the same value.
+///
+/// Every lookup, of an address or of a network, gives the same value as before.
+///
+/// # Errors
+///
+/// Returns the allocator's error if an allocation fails. The table is unchanged then.
+pub fn minimise<P: Prefix>(table: &mut Table<P>, alloc: Global) -> Result<(), AllocError>
+    ensures same { OnOk result ((q : List Bool) → value_of table.new.entries q ≡ value_of table.old.entries q) }
+    ensures least { OnOk result ((s : List Bool) (v : List ℕ) → get table.new.entries s ≡ Some v → value_above table.new.entries s ≢ Some v) }
+    ensures part { OnOk result ((s : List Bool) (v : List ℕ) → get table.new.entries s ≡ Some v → get table.old.entries s ≡ Some v) }
+    ensures unchanged { IfErr result (λ _. table.new ≡ table.old) }
+{
+    listing_laws::<Value>();
+    aggregate_consistent(table, alloc)?;
+    Ok(())
+}

@@ -1,0 +1,63 @@
+//! The values of a table.
+ghost use Rattle.std.specs.Prelude.{◌≡◌, IfOk, IsTrue, Some, bytes_eq, string_bytes, codes};
+
+use std::alloc::{AllocError, Global};
+use std::fmt::{self, Display, Formatter, Write};
+use std::marker::Model;
+
+/// The value of a network: any text without white space. Contracts see its bytes.
+#[derive(Drop)]
+pub struct Value {
+    text: String,
+}
+
+impl Model for Value {
+    ghost use Rattle.std.specs.Prelude.{ℕ, List, string_bytes};
+
+    ghost Value = { List ℕ };
+
+    ghost view = { λ value. string_bytes value.text };
+}
+
+impl Value {
+    /// Returns a copy of a text.
+    ///
+    /// # Errors
+    ///
+    /// Returns the allocator's error if an allocation fails.
+    pub fn new(text: &str, alloc: Global) -> Result<Value, AllocError>
+        ensures { IfOk result (λ value. value ≡ text.now) }
+    {
+        let text = String::from_str(alloc, text)?;
+        Ok(Value { text })
+    }
+
+    /// Returns the text.
+    pub fn as_str(&self) -> &str
+        ensures { result.now ≡ self.now }
+    {
+        self.text.as_str()
+    }
+}
+
+impl PartialEq for Value {
+    ghost use Rattle.std.specs.Prelude.{bytes_eq};
+    ghost use Rattle.std.specs.Cmp.{partial_equiv_from_equiv};
+    ghost use Rattle.std.specs.Cmp.Lexicographic.{nat_list_eq_equiv};
+
+    ghost eq = { bytes_eq };
+
+    ghost laws = { partial_equiv_from_equiv nat_list_eq_equiv };
+
+    fn eq(&self, other: &Value) -> bool {
+        self.as_str() == other.as_str()
+    }
+}
+
+impl Display for Value {
+    ghost output = { λ value. Some value };
+
+    fn fmt<W: Write>(&self, f: &mut Formatter<W>) -> fmt::Result {
+        f.write_str(self.as_str())
+    }
+}

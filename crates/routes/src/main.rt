@@ -1,0 +1,128 @@
+//! Looks up, prints, compares, minimises, checks and describes tables of IP networks. The work is done by the library `route_tables`.
+#![tactic(auto)]
+
+use anyhow::{Context, Result, anyhow, ensure};
+use prefix_trie::Prefix;
+use route_tables::access::first_other;
+use route_tables::addresses::read_addresses;
+use route_tables::arguments::{Command, HELP, parse};
+use route_tables::commands;
+use route_tables::load::{Loaded, load};
+use route_tables::minimise::minimise;
+use route_tables::network::parse_network;
+use route_tables::table::{Table, Tables};
+use std::fmt::Display;
+use std::io::{self, BufWriter, Read, Write};
+use std::net::IpAddr;
+use std::process::ExitCode;
+use std::{env, fs};
+
+/// Reads a file, or standard input if its name is `-`.
+fn read_file(rt: &HostRuntime, path: &str) -> io::Result<Vec<u8>> {
+    if path != "-" {
+        return fs::read(rt, path);
+    }
+    let mut bytes = Vec::new(rt.alloc());
+    rt.reader().read_to_end(&mut bytes)?;
+    Ok(bytes)
+}
+
+/// Reads tables, and warns of lines that replace a value.
+fn read_tables(rt: &HostRuntime, path: &str) -> Result<Tables> {
+    let text = read_file(rt, path).context(path)?;
+    let Loaded { tables, replaced } = load(text.as_slice(), rt.alloc()).context(path)?;
+    for line in &replaced {
+        let (number, network) = (line.line, line.network);
+        eprintln!(rt; "routes: {path}: line {number}: replaces the value of {network}")?;
+    }
+    Ok(tables)
+}
+
+/// Reads addresses from the command line, or from standard input if there are none.
+fn addresses(rt: &HostRuntime, table: &str, words: &[&str]) -> Result<Vec<IpAddr>> {
+    if words.is_empty() {
+        ensure!(
+            table != "-",
+            "the table and the addresses cannot both come from standard input"
+        );
+        let text = read_file(rt, "-").context("-")?;
+        return read_addresses(text.as_slice(), rt.alloc()).context("-");
+    }
+    let mut addresses = Vec::new(rt.alloc());
+    for word in words {
+        let address = word.parse::<IpAddr>();
+        addresses.push(address.map_err(|_| anyhow!("{word}: not an address"))?)?;
+    }
+    Ok(addresses)
+}
+
+/// Returns an error if a value is not one of an access list.
+fn ensure_rules<P: Prefix + Display>(table: &Table<P>, path: &str) -> Result<()> {
+    match first_other(table) {
+        Some((network, value)) => Err(anyhow!(
+            "{path}: {network}: {value} is neither allow nor deny"
+        )),
+        None => Ok(()),
+    }
+}
+
+/// Carries out a command.
+fn carry_out(rt: &HostRuntime, command: Command<'_>, out: &mut impl Write) -> Result<ExitCode> {
+    let alloc = rt.alloc();
+    match command {
+        Command::Help => out.write_all(HELP.as_bytes())?,
+        Command::Lookup(path, words) => {
+            let addresses = addresses(rt, path, words)?;
+            commands::lookup(&read_tables(rt, path)?, addresses.as_slice(), out)?;
+        }
+        Command::List(path) => commands::list(&read_tables(rt, path)?, out)?,
+        Command::ListWithin(path, word) => {
+            let network = parse_network(word).context(word)?;
+            commands::list_within(&read_tables(rt, path)?, network, out)?;
+        }
+        Command::Diff(old, new) => {
+            let old = read_tables(rt, old)?;
+            let new = read_tables(rt, new)?;
+            commands::diff(&old, &new, alloc, out)?;
+        }
+        Command::Minimise(path) => {
+            let mut tables = read_tables(rt, path)?;
+            minimise(&mut tables.ipv4, alloc)?;
+            minimise(&mut tables.ipv6, alloc)?;
+            commands::list(&tables, out)?;
+        }
+        Command::Check(path, words) => {
+            let addresses = addresses(rt, path, words)?;
+            let tables = read_tables(rt, path)?;
+            ensure_rules(&tables.ipv4, path)?;
+            ensure_rules(&tables.ipv6, path)?;
+            if !commands::check(&tables, addresses.as_slice(), out)? {
+                return Ok(ExitCode::FAILURE);
+            }
+        }
+        Command::Stats(path) => commands::stats(&read_tables(rt, path)?, alloc, out)?,
+    }
+    Ok(ExitCode::SUCCESS)
+}
+
+/// Carries out the command of the command line.
+fn run(rt: &HostRuntime) -> Result<ExitCode> {
+    let alloc = rt.alloc();
+    let arguments: Vec<String> = env::args(rt)?.skip(1).collect(alloc)?;
+    let words: Vec<&str> = arguments.iter().map(|word| word.as_str()).collect(alloc)?;
+    let command = parse(words.as_slice())?;
+    let mut out = BufWriter::new(alloc, io::writer(rt))?;
+    let code = carry_out(rt, command, &mut out)?;
+    out.flush()?;
+    Ok(code)
+}
+
+fn main(rt: HostRuntime) -> ExitCode {
+    match run(&rt) {
+        Ok(code) => code,
+        Err(error) => {
+            let _ = eprintln!(rt; "routes: {error:#}");
+            ExitCode::from(2)
+        }
+    }
+}
