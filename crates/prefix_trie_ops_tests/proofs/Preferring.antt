@@ -1,5 +1,5 @@
 -- The preferred values of a union, put into an empty table.
-use Rattle.std.proofs.Common.{◌≡◌, ◌≢◌, ◌∙◌, Bool, true, false, cond, List, [], ◌∷◌, map, Option, None, Some, ap, sym, refl, T}
+use Rattle.std.proofs.Common.{◌≡◌, ◌∙◌, Bool, true, false, cond, List, [], ◌∷◌, map, Option, None, Some, ap, sym, refl, T}
 use Rattle.std.specs.List.{Contains}
 use Rattle.std.specs.Option.{option_map, option_or}
 use Rattle.std.specs.FinMap.{entries_sorted, get, get-entries}
@@ -9,7 +9,6 @@ use Rattle.prefix_trie.specs.Laws.Stored.{StoredLaws}
 use Rattle.prefix_trie.specs.Words.{Entries, listing, no_entries, put_all, prefix_pairs, with_entry}
 use Rattle.prefix_trie_ops.specs.Merging.{sides, union_of}
 use Rattle.prefix_trie_ops.specs.declared.map.sides.Side.{Side}
-use Rattle.prefix_trie_ops.specs.declared.map.sides.Side.TheVariants.{Left, Right, Both}
 use Rattle.prefix_trie_ops.proofs.Lists.{contains_here, contains_later}
 use Rattle.prefix_trie_ops.proofs.Sorted.{find_before, same_is, t_first, t_second}
 use Rattle.prefix_trie_ops_tests.specs.Preferences.{preferred_of}

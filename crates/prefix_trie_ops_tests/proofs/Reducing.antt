@@ -1,5 +1,5 @@
 -- In a set in which no shorter key covers a key, no key begins another one.
-use Rattle.std.proofs.Common.{◌≡◌, ◌∙◌, ◌<◌, ◌≤◌, ◌-◌, ◌+◌, ℕ, Bool, true, false, true≢false, cond, List, length, take, eqb, eqb-true, ltb-true, nat_lt, is_some, ap, sym, refl, arith}
+use Rattle.std.proofs.Common.{◌≡◌, ◌∙◌, ◌<◌, ◌-◌, Bool, true, false, true≢false, cond, List, length, take, eqb, eqb-true, ltb-true, nat_lt, is_some, sym, refl, arith}
 use Rattle.std.specs.FinMap.{contains_key}
 use Rattle.prefix_trie_bits.specs.Begins.{begins-from-take, begins-linear}
 use Rattle.prefix_trie.specs.Laws.Lookups.{LookupLaws}

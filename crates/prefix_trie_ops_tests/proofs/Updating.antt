@@ -1,5 +1,5 @@
 -- The messages for all prefixes at which two tables differ turn one into the other.
-use Rattle.std.proofs.Common.{◌≡◌, ◌≢◌, ◌∙◌, ◌++◌, ℕ, Bool, true, false, true≢false, cond, List, [], ◌∷◌, Option, None, Some, is_some, nat_eq, eqb-true, ap, ap₂, sym, subst, refl, T}
+use Rattle.std.proofs.Common.{◌≡◌, ◌≢◌, ◌∙◌, ◌++◌, ℕ, Bool, true, false, true≢false, cond, List, [], ◌∷◌, Option, None, Some, nat_eq, eqb-true, ap, sym, refl, T}
 use Rattle.std.specs.List.{Contains, cons_option, filter_map}
 use Rattle.std.specs.Option.{option_map}
 use Rattle.std.specs.FinMap.{entries_sorted, get, get-entries}
@@ -14,7 +14,7 @@ use Rattle.prefix_trie_ops.specs.declared.map.sides.Side.TheVariants.{Left, Righ
 use Rattle.prefix_trie_ops.proofs.Lists.{contains_here, contains_later}
 use Rattle.prefix_trie_ops.proofs.Turning.{none_after}
 use Rattle.prefix_trie_ops.proofs.Sorted.{find_before, same_is, t_first, t_second}
-use Rattle.prefix_trie_ops_tests.specs.Updates.{change_of, with_message, with_messages}
+use Rattle.prefix_trie_ops_tests.specs.Updates.{change_of, with_messages}
 
 -- the message for an item of the union, if there is one
 abbrev pub message_of : {P : Type 0} → P × Side ℕ ℕ → Option (P × Option ℕ)

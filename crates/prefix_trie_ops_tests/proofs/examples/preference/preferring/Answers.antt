@@ -1,6 +1,6 @@
-use Rattle.std.proofs.Common.{rules, ◌≡◌, ◌∙◌, All, List, ap, ap₂, is_some, map, subst, sym}
+use Rattle.std.proofs.Common.{rules, ◌≡◌, ◌∙◌, All, ap, ap₂, is_some, map, subst, sym}
 use Rattle.std.proofs.lemmas.List.Elements.{All-head, All-rest}
-use Rattle.prefix_trie.specs.Words.{listing, no_entries, put_all, prefix_pairs, with_entry}
+use Rattle.prefix_trie.specs.Words.{listing, put_all, prefix_pairs, with_entry}
 use Rattle.prefix_trie_ops.specs.Merging.{lent_side, union_of}
 use Rattle.prefix_trie_ops.proofs.Bounds.{union_within}
 use Rattle.prefix_trie_ops_tests.proofs.Preferring.{all_preferred, preferred_item}
