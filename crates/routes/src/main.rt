@@ -66,60 +66,93 @@ fn ensure_rules<P: Prefix + Display>(table: &Table<P>, path: &str) -> Result<()>
     }
 }
 
-/// Carries out a command.
-fn carry_out(rt: &HostRuntime, command: Command<'_>, out: &mut impl Write) -> Result<ExitCode> {
-    let alloc = rt.alloc();
+/// Prints each address with its longest network.
+fn print_lookup(rt: &HostRuntime, path: &str, words: &[&str], out: &mut impl Write) -> Result<()> {
+    let addresses = addresses(rt, path, words)?;
+    let tables = read_tables(rt, path)?;
+    commands::lookup(&tables, addresses.as_slice(), out)?;
+    Ok(())
+}
+
+/// Prints a table.
+fn print_list(rt: &HostRuntime, path: &str, out: &mut impl Write) -> Result<()> {
+    let tables = read_tables(rt, path)?;
+    commands::list(&tables, out)?;
+    Ok(())
+}
+
+/// Prints what a network contains.
+fn print_within(rt: &HostRuntime, path: &str, word: &str, out: &mut impl Write) -> Result<()> {
+    let network = parse_network(word).context(word)?;
+    let tables = read_tables(rt, path)?;
+    commands::list_within(&tables, network, out)?;
+    Ok(())
+}
+
+/// Prints what changes from an old table to a new one.
+fn print_diff(rt: &HostRuntime, old: &str, new: &str, out: &mut impl Write) -> Result<()> {
+    let old = read_tables(rt, old)?;
+    let new = read_tables(rt, new)?;
+    commands::diff(&old, &new, rt.alloc(), out)?;
+    Ok(())
+}
+
+/// Prints a table without the networks that change no lookup.
+fn print_minimised(rt: &HostRuntime, path: &str, out: &mut impl Write) -> Result<()> {
+    let mut tables = read_tables(rt, path)?;
+    minimise(&mut tables.ipv4, rt.alloc())?;
+    minimise(&mut tables.ipv6, rt.alloc())?;
+    commands::list(&tables, out)?;
+    Ok(())
+}
+
+/// Prints whether an access list allows each address, and returns whether it allows all.
+fn print_check(rt: &HostRuntime, path: &str, words: &[&str], out: &mut impl Write) -> Result<bool> {
+    let addresses = addresses(rt, path, words)?;
+    let tables = read_tables(rt, path)?;
+    ensure_rules(&tables.ipv4, path)?;
+    ensure_rules(&tables.ipv6, path)?;
+    Ok(commands::check(&tables, addresses.as_slice(), out)?)
+}
+
+/// Prints counts, memory and lengths of a table.
+fn print_stats(rt: &HostRuntime, path: &str, out: &mut impl Write) -> Result<()> {
+    let tables = read_tables(rt, path)?;
+    commands::stats(&tables, rt.alloc(), out)?;
+    Ok(())
+}
+
+/// Carries out a command, and returns whether `check` allows all addresses.
+fn carry_out(rt: &HostRuntime, command: Command<'_>, out: &mut impl Write) -> Result<bool> {
     match command {
         Command::Help => out.write_all(HELP.as_bytes())?,
-        Command::Lookup(path, words) => {
-            let addresses = addresses(rt, path, words)?;
-            commands::lookup(&read_tables(rt, path)?, addresses.as_slice(), out)?;
-        }
-        Command::List(path) => commands::list(&read_tables(rt, path)?, out)?,
-        Command::ListWithin(path, word) => {
-            let network = parse_network(word).context(word)?;
-            commands::list_within(&read_tables(rt, path)?, network, out)?;
-        }
-        Command::Diff(old, new) => {
-            let old = read_tables(rt, old)?;
-            let new = read_tables(rt, new)?;
-            commands::diff(&old, &new, alloc, out)?;
-        }
-        Command::Minimise(path) => {
-            let mut tables = read_tables(rt, path)?;
-            minimise(&mut tables.ipv4, alloc)?;
-            minimise(&mut tables.ipv6, alloc)?;
-            commands::list(&tables, out)?;
-        }
-        Command::Check(path, words) => {
-            let addresses = addresses(rt, path, words)?;
-            let tables = read_tables(rt, path)?;
-            ensure_rules(&tables.ipv4, path)?;
-            ensure_rules(&tables.ipv6, path)?;
-            if !commands::check(&tables, addresses.as_slice(), out)? {
-                return Ok(ExitCode::FAILURE);
-            }
-        }
-        Command::Stats(path) => commands::stats(&read_tables(rt, path)?, alloc, out)?,
+        Command::Lookup(path, words) => print_lookup(rt, path, words, out)?,
+        Command::List(path) => print_list(rt, path, out)?,
+        Command::ListWithin(path, word) => print_within(rt, path, word, out)?,
+        Command::Diff(old, new) => print_diff(rt, old, new, out)?,
+        Command::Minimise(path) => print_minimised(rt, path, out)?,
+        Command::Check(path, words) => return print_check(rt, path, words, out),
+        Command::Stats(path) => print_stats(rt, path, out)?,
     }
-    Ok(ExitCode::SUCCESS)
+    Ok(true)
 }
 
 /// Carries out the command of the command line.
-fn run(rt: &HostRuntime) -> Result<ExitCode> {
+fn run(rt: &HostRuntime) -> Result<bool> {
     let alloc = rt.alloc();
     let arguments: Vec<String> = env::args(rt)?.skip(1).collect(alloc)?;
     let words: Vec<&str> = arguments.iter().map(|word| word.as_str()).collect(alloc)?;
     let command = parse(words.as_slice())?;
     let mut out = BufWriter::new(alloc, io::writer(rt))?;
-    let code = carry_out(rt, command, &mut out)?;
+    let is_allowed = carry_out(rt, command, &mut out)?;
     out.flush()?;
-    Ok(code)
+    Ok(is_allowed)
 }
 
 fn main(rt: HostRuntime) -> ExitCode {
     match run(&rt) {
-        Ok(code) => code,
+        Ok(true) => ExitCode::SUCCESS,
+        Ok(false) => ExitCode::FAILURE,
         Err(error) => {
             let _ = eprintln!(rt; "routes: {error:#}");
             ExitCode::from(2)
