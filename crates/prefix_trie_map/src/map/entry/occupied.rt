@@ -1,4 +1,4 @@
-//! Reading, writing and taking out what an occupied entry has.
+//! Reading, writing and removing an occupied entry.
 ghost use Rattle.std.specs.Prelude.{◌≡◌, Some};
 ghost use Rattle.std.specs.Borrow.{sem};
 ghost use Rattle.prefix_trie_bits.specs.Model.Entries.{without_entry};
@@ -17,7 +17,7 @@ use std::mem;
 impl<'a, P: Prefix, T: Drop, A: Allocator> OccupiedEntry<'a, P, T, A> {
     ghost use Rattle.prefix_trie_map.specs.Entry.{Occupied, entry_map, entry_key, entry_path, entry_value, lends_written, lends_occupied};
 
-    /// The prefix, without host bits.
+    /// Returns the prefix, without host bits.
     #[inline]
     pub fn key(&self) -> &P
         ensures { result.now ≡ entry_key (Occupied self.now) }
@@ -25,7 +25,7 @@ impl<'a, P: Prefix, T: Drop, A: Allocator> OccupiedEntry<'a, P, T, A> {
         self.key.prefix()
     }
 
-    /// The value.
+    /// Returns the value.
     #[inline]
     pub fn get(&self) -> &T
         ensures { entry_value (Occupied self.now) ≡ Some result.now }
@@ -33,7 +33,7 @@ impl<'a, P: Prefix, T: Drop, A: Allocator> OccupiedEntry<'a, P, T, A> {
         self.map.value_at(self.key.prefix(), self.seat)
     }
 
-    /// The value, for writing. What is written through it is then the value of the entry, and nothing else changes.
+    /// Returns the value for writing. Nothing else of the map can change through it.
     #[inline]
     pub fn get_mut(&mut self) -> &mut T
         ensures* writes_back { sem 𝓛 (lends_occupied P.row T.row A.row P.R.row P.Debug P.R.PartialEq P.R.Debug A.Allocator self.entry result) }
@@ -44,7 +44,7 @@ impl<'a, P: Prefix, T: Drop, A: Allocator> OccupiedEntry<'a, P, T, A> {
         self.map.lend_at(path, seat)
     }
 
-    /// The same, for as long as the map is lent.
+    /// Returns the value for writing, for as long as the map is borrowed.
     #[inline]
     pub fn into_mut(self) -> &'a mut T
         ensures* writes_back { sem 𝓛 (lends_written P.row T.row A.row P.R.row P.Debug P.R.PartialEq P.R.Debug A.Allocator (Occupied self.entry) result) }
@@ -55,8 +55,12 @@ impl<'a, P: Prefix, T: Drop, A: Allocator> OccupiedEntry<'a, P, T, A> {
         map.lend_at(key.path(), seat)
     }
 
-    /// Lets the entry go. A caller's proof learns what the map is then: what the entry had of it, with what was written through
-    /// `get_mut` or by `and_modify`. Of an entry that is only dropped it learns nothing of the map.
+    /// Ends the entry, so that a caller's proof knows the map again.
+    ///
+    /// The map then has what was written through `get_mut` or by `and_modify`. The proof learns nothing about the map
+    /// if the entry is only dropped.
+    ///
+    /// # Examples
     ///
     /// ```text
     /// if let Entry::Occupied(entry) = map.entry(10.1.0.0/16).and_modify(|n| *n += 1) { entry.release(); }
@@ -72,7 +76,7 @@ impl<'a, P: Prefix, T: Drop, A: Allocator> OccupiedEntry<'a, P, T, A> {
         } = self;
     }
 
-    /// Sets the value, and hands out the old one. Never refused.
+    /// Sets the value and returns the previous one. It never fails and does not allocate.
     #[inline]
     pub fn insert(self, value: T) -> T
         ensures before { entry_value (Occupied self.entry) ≡ Some result }
@@ -83,8 +87,9 @@ impl<'a, P: Prefix, T: Drop, A: Allocator> OccupiedEntry<'a, P, T, A> {
         mem::replace(self.map.lend_at(key.path(), seat), value)
     }
 
-    /// Takes the entry out of the map, and hands out its value. All nodes stay, as `PrefixMap::remove_keep_tree` leaves them. Never
-    /// refused.
+    /// Removes the entry from the map and returns its value.
+    ///
+    /// All nodes stay, as after `PrefixMap::remove_keep_tree`. It never fails.
     #[inline]
     pub fn remove(self) -> T
         ensures value { entry_value (Occupied self.entry) ≡ Some result }

@@ -1,4 +1,4 @@
-//! Filling an entry that is vacant.
+//! Filling a vacant entry.
 ghost use Rattle.std.specs.Prelude.{◌≡◌, IfOk, IfErr, OnErr};
 ghost use Rattle.std.specs.Borrow.{sem};
 
@@ -10,7 +10,7 @@ use std::alloc::Allocator;
 impl<'a, P: Prefix, T: Drop, A: Allocator> VacantEntry<'a, P, T, A> {
     ghost use Rattle.prefix_trie_map.specs.Entry.{Vacant, entry_key, lends_filled};
 
-    /// The prefix, as it was handed in.
+    /// Returns the prefix as it was passed.
     #[inline]
     pub fn key(&self) -> &P
         ensures { result.now ≡ entry_key (Vacant self.now) }
@@ -18,9 +18,13 @@ impl<'a, P: Prefix, T: Drop, A: Allocator> VacantEntry<'a, P, T, A> {
         self.key.prefix()
     }
 
-    /// Inserts a value, and lends it for writing.
+    /// Inserts a value and returns it for writing.
     ///
-    /// Errors: as of `PrefixMap::insert`, with the value handed back.
+    /// # Errors
+    ///
+    /// Returns the value back, with the cause, as `PrefixMap::insert` does.
+    ///
+    /// # Examples
     ///
     /// ```text
     /// if let Entry::Vacant(entry) = map.entry(10.2.0.0/16) { *entry.insert(3)? += 1; }
@@ -38,9 +42,13 @@ impl<'a, P: Prefix, T: Drop, A: Allocator> VacantEntry<'a, P, T, A> {
         Ok(map.lend_at(path, seat))
     }
 
-    /// The same with the value that a closure gives. It is called once, when all room is certain.
+    /// Inserts what a closure returns, and returns it for writing.
     ///
-    /// Errors: as of `PrefixMap::insert`, and then the closure is not called.
+    /// The closure is called once, after all blocks have been made.
+    ///
+    /// # Errors
+    ///
+    /// Returns the cause, as `PrefixMap::insert` does. The closure is not called then.
     #[inline]
     pub fn insert_with<F: FnOnce() -> T + Drop>(self, f: F) -> Result<&'a mut T, Refusal>
         requires { F.pre f }
@@ -56,9 +64,13 @@ impl<'a, P: Prefix, T: Drop, A: Allocator> VacantEntry<'a, P, T, A> {
         Ok(map.lend_at(path, seat))
     }
 
-    /// The same with the default value, which is made as `insert_with` calls its closure.
+    /// Inserts the default value and returns it for writing.
     ///
-    /// Errors: as of `insert_with`.
+    /// The default value is made after all blocks have been made.
+    ///
+    /// # Errors
+    ///
+    /// Returns the same errors as `insert_with`.
     #[inline]
     pub fn default(self) -> Result<&'a mut T, Refusal>
     where
