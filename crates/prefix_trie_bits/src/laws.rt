@@ -1,5 +1,6 @@
-//! Laws of the model and its worked rows, as lemmas for proofs. Each function does nothing at run
-//! time; calling it brings its contract into the proof.
+//! Lemmas for proofs: the laws of the model, and its worked rows.
+//!
+//! Each function does nothing at run time. Calling it brings its contract into the proof.
 
 ghost use Rattle.std.specs.Prelude.{◌≡◌, ℕ};
 ghost use Rattle.prefix_trie_bits.specs.Networks.{network_cmp};
