@@ -1,8 +1,8 @@
 //! Sets of prefixes: maps without values.
+//! The key of a prefix is its path, its first `prefix_len` bits: two prefixes with the same path are one key, whatever
+//! their host bits.
 //!
-//! The key of a prefix is its path, its first `prefix_len` bits: two prefixes with the same path
-//! are one key, whatever their host bits. Contracts see a set as a map whose values are units: its
-//! entries, its nodes, the slots of its arrays, and its layout.
+//! Contracts see a set as a map whose values are units: its entries, its nodes, its space and its layout.
 ghost use Rattle.std.specs.Prelude.{◌≡◌, ◌-◌, ◌^◌, ◌↔◌, IfOk, OnOk, IfErr, OnErr, IfSome, IsErr, IsTrue, not};
 ghost use Rattle.std.specs.Option.{option_map};
 ghost use Rattle.std.specs.FinMap.{contains_key, len};
@@ -65,11 +65,11 @@ impl<P: Prefix, A: Allocator> Model for PrefixSet<P, A> {
 }
 
 impl<P: Prefix, A: Allocator + Clone> PrefixSet<P, A> {
-    /// Makes an empty set with a slot limit of `u32::MAX`.
+    /// Creates an empty set with a slot limit of `u32::MAX`.
     ///
     /// # Errors
     ///
-    /// Returns `Memory` if an allocation failed.
+    /// Returns `Memory` if an allocation fails. No set exists then.
     #[inline]
     pub fn new(alloc: A) -> Result<Self, Refusal>
         ensures entries { IfOk result (λ set. set.entries ≡ no_entries) }
@@ -83,13 +83,12 @@ impl<P: Prefix, A: Allocator + Clone> PrefixSet<P, A> {
         })
     }
 
-    /// Makes an empty set whose two arrays, of nodes and of keys, never have more than `limit`
-    /// slots.
+    /// Creates an empty set whose two arrays, of nodes and of keys, are never longer than `limit` slots.
     ///
     /// # Errors
     ///
-    /// Returns `IndexRange` if `limit` is 0, since the root needs a slot, and `Memory` if an
-    /// allocation failed.
+    /// Returns `IndexRange` if `limit` is 0, since the root needs a slot. Otherwise returns `Memory` if an allocation
+    /// fails. No set exists then.
     ///
     /// # Examples
     ///
@@ -112,14 +111,13 @@ impl<P: Prefix, A: Allocator + Clone> PrefixSet<P, A> {
         })
     }
 
-    /// Makes a copy with the same keys and nodes, in memory of its own.
+    /// Creates a set with the same keys and nodes, in memory of its own.
     ///
-    /// It copies slot by slot, free ones too: the copy's arrays have the same lengths, blocks and
-    /// limit.
+    /// Slots are copied one by one, free ones too: both arrays have the same length, blocks and limit as in this set.
     ///
     /// # Errors
     ///
-    /// Returns an error if an allocation failed.
+    /// Returns an error if an allocation fails. No copy exists then.
     ///
     /// # Examples
     ///
@@ -169,11 +167,10 @@ impl<P: Prefix, A: Allocator> PrefixSet<P, A> {
         self.map.node_count()
     }
 
-    /// Returns the number of addresses, prefixes of full width, that the keys contain, each counted
-    /// once.
+    /// Returns the number of addresses that the keys contain, each counted once.
     ///
-    /// Returns `None` exactly if they contain all addresses. A key within another one adds nothing,
-    /// and nodes under a key are not read.
+    /// An address is a prefix of the full width. The result is `None` exactly if all addresses are covered, since their
+    /// number does not fit. A key within another one adds nothing, and the nodes under a key are not read.
     ///
     /// # Examples
     ///

@@ -208,24 +208,26 @@ pub fn worked_addresses()
     ensures { AddressesHold }
 {}
 
-/// Proves worked facts that no reply contains: visits, holders and parents, block sizes, tilings,
-/// calls of a test, a writing walk and a split.
+/// Proves worked facts that no reply contains.
+///
+/// They are about visits, holders and parents, block sizes, tilings, calls of a test, a writing walk and a split.
 #[tactic(auto, using(crate::proofs::Model::Worked::Examples::facts_hold))]
 pub fn worked_facts()
     ensures { FactsHold }
 {}
 
-/// Proves worked facts on blocks: which block holds a list, which it needs, how blocks step down,
-/// how arrays grow and how blocks tile them.
+/// Proves worked facts on blocks.
 ///
+/// They say which block holds a list, which it needs, how blocks step down, how arrays grow and how blocks tile them.
 /// Each has an example that the definition excludes.
 #[tactic(auto, using(crate::proofs::Model::Worked::Blocks::blocks_hold))]
 pub fn worked_blocks()
     ensures { BlocksHold }
 {}
 
-/// Proves worked facts on the blocks that an insertion needs, on the missing slots and the limit,
-/// and on which keys a node holds.
+/// Proves worked facts on insertions.
+///
+/// They are about the blocks that an insertion needs, the missing slots and the limit, and which keys a node holds.
 #[tactic(auto, using(crate::proofs::Model::Worked::Insertions::insertions_hold))]
 pub fn worked_insertions()
     ensures { InsertionsHold }

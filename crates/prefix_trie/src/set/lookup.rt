@@ -27,8 +27,7 @@ impl<P: Prefix, A: Allocator> PrefixSet<P, A> {
         self.map.contains_key(prefix)
     }
 
-    /// Returns whether a stored prefix contains this one, which is whether `get_lpm` finds one. A
-    /// stored prefix contains itself.
+    /// Returns whether a stored prefix contains this one. A stored prefix contains itself.
     #[inline]
     pub fn is_covered(&self, prefix: &P) -> bool
         requires { P.IsFitting prefix.now }
@@ -56,8 +55,9 @@ impl<P: Prefix, A: Allocator> PrefixSet<P, A> {
         }
     }
 
-    /// Returns the longest stored prefix that contains this one, without host bits. A stored prefix
-    /// contains itself.
+    /// Returns the longest stored prefix that contains this one, without host bits.
+    ///
+    /// A stored prefix contains itself.
     ///
     /// # Examples
     ///
