@@ -60,11 +60,11 @@ IsSound v = (n : SomeNodes v) × LackLastBit n.reading
 abbrev pub reached_by : Descent → Node → ℕ → Reached
 reached_by w n level = record { at = w.at; node = n; level = level }
 
--- what was found is the answer to a question, in these nodes
+-- what was found is the match of a question, in these nodes
 abbrev pub IsAnswer : List Node → List Bool → Option Found → Type 0
 IsAnswer nodes q found = IsLongestFound (read nodes) q (length q + 1) found
 
--- each question has its answer
+-- each question has its match
 abbrev pub AreAnswers : List Node → List (List Bool) → List (Option Found) → Type 0
 AreAnswers nodes questions found =
     (i : ℕ) (q : List Bool) (a : Option Found) → i < length questions → q ≡ slice_index_or questions i q → a ≡ slice_index_or found i a → IsAnswer nodes q a
@@ -78,7 +78,7 @@ module _ (v : Store Node) (questions : List (List Bool)) where
     pub along : IsAlong question (reached_by w (node_at v.slots (slot_of w)) level) v
     pub best : HasFound v question (5 * level) w.best
 
-  -- a question that is no longer on its way has its answer
+  -- a question whose search has ended has its match
   abbrev pub AreAnswered : List ℕ → List (Option Found) → Type 0
   AreAnswered under_way found =
       (i : ℕ) (q : List Bool) (a : Option Found) → i < length questions → q ≡ slice_index_or questions i q → a ≡ slice_index_or found i a
@@ -97,7 +97,7 @@ module _ (v : Store Node) (questions : List (List Bool)) where
     pub descents_are : All (IsDescent level) descents
     pub nodes_are : EachOf (IsAhead v.slots descents) (length descents) nodes
 
-  -- of these ways some go on, and the questions of the others are answered
+  -- of these searches some go on, and the questions of the others have their matches
   pub record GoOn (level : ℕ) (descents next : List Descent) (before after : List (Option Found)) : Type 0 where
     pub descents_are : All (IsDescent (level + 1)) next
     pub answered : (others : List ℕ) → AreAnswered (map question_of descents ++ others) before → AreAnswered (map question_of next ++ others) after
