@@ -36,7 +36,7 @@ module _ {C S : Type 0} where
     written_in with (Some c) item value = Some (with c item value)
 
 module _ {C V : Type 0} where
-  -- the walk has gone on over its first entry, at which this value was left
+  -- the walk has passed its first entry, at which this value was left
   abbrev pub PassesIn : (C → V → C → Type 0) → Option C → V → Option C → Type 0
   PassesIn Passes None value n = ⊥
   PassesIn Passes (Some c) value None = ⊥

@@ -1,7 +1,8 @@
 //! Maps from prefixes to values, looked up exactly and by longest match.
 //!
-//! A key is the path of a prefix: its first `prefix_len` bits. Two prefixes with the same path are one key, whatever
-//! their host bits.
+//! A key is the path of a prefix: its first `prefix_len` bits.
+//!
+//! Two prefixes with the same path are one key, whatever their host bits.
 //!
 //! Contracts see a map as its entries, its nodes, its space and its layout. The entries are a finite map from paths to
 //! values. The space is the slot limit and the lengths of the two arrays. The layout is how the arrays are cut into

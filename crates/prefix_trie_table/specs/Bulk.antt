@@ -70,7 +70,7 @@ AreAnswers nodes questions found =
     (i : ℕ) (q : List Bool) (a : Option Found) → i < length questions → q ≡ slice_index_or questions i q → a ≡ slice_index_or found i a → IsAnswer nodes q a
 
 module _ (v : Store Node) (questions : List (List Bool)) where
-  -- the way of a question has come to the node ahead, and the longest match above it is known
+  -- the search for a question is at the next node, and the longest match above that node is known
   pub record IsDescent (level : ℕ) (w : Descent) : Type 0 where
     pub question : List Bool
     pub is : question ≡ slice_index_or questions w.question question
@@ -84,14 +84,14 @@ module _ (v : Store Node) (questions : List (List Bool)) where
       (i : ℕ) (q : List Bool) (a : Option Found) → i < length questions → q ≡ slice_index_or questions i q → a ≡ slice_index_or found i a
       → Contains under_way i ⊎ HasFound v q (length q + 1) a
 
-  -- how many nodes there are on the way of each question
+  -- the number of nodes on the search path of each question
   abbrev pub AreCosts : List ℕ → Type 0
   AreCosts costs =
       (i : ℕ) (q : List Bool) → i < length questions → q ≡ slice_index_or questions i q
       → (reading : List ℕ → Option Node) (paths : List (List ℕ)) (level : ℕ) → NodesHold node_sizes reading paths v → IsEnd reading (chunks_of q) level
       → slice_index_or costs i 0 ≡ level + 1
 
-  -- the nodes that these ways have come to were read
+  -- the next nodes of these searches were read
   pub record AreRead (level : ℕ) (descents : List Descent) (nodes : List Node) : Type 0 where
     pub sound : SomeNodes v
     pub descents_are : All (IsDescent level) descents

@@ -18,7 +18,7 @@ MakesEntered sizes v w old new = MakesBlocks sizes (made_of sizes (free_counts v
 abbrev pub MakesFew : {S : Type 0} → List ℕ → Store S → Store S → Option ℕ → Option ℕ → Type 0
 MakesFew sizes v w old new = MakesAtMost sizes (made_of sizes (free_counts v.tiers) old new) (made_in v.tiers) (made_in w.tiers)
 
--- an array grows by at most that block, which was made as one of these two says
+-- an array grows by at most that block, made as one of the two relations above states
 pub record GrowsBy {S : Type 0} (Makes : List ℕ → Store S → Store S → Option ℕ → Option ℕ → Type 0) (sizes : List ℕ) (v w : Store S) (old new : Option ℕ) : Type 0 where
   pub longer : LongerByOne sizes (free_counts v.tiers) old new (length v.slots) (length w.slots)
   pub made : Makes sizes v w old new

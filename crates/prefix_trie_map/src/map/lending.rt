@@ -18,7 +18,7 @@ use std::alloc::Allocator;
 impl<P: Prefix, T: Drop, A: Allocator> PrefixMap<P, T, A> {
     /// Returns the value stored for exactly this prefix, for writing.
     ///
-    /// Nothing else of the map can change through it.
+    /// What is written through it becomes the stored value, and nothing else changes.
     ///
     /// # Examples
     ///
@@ -66,7 +66,8 @@ impl<P: Prefix, T: Drop, A: Allocator> PrefixMap<P, T, A> {
 
     /// Returns the value of the longest stored prefix that contains this one, for writing.
     ///
-    /// Nothing else of the map can change through it. Unlike `get_lpm_mut`, it does not rebuild the prefix.
+    /// What is written through it becomes the stored value, and nothing else changes. Unlike `get_lpm_mut`, it does not
+    /// rebuild the prefix.
     ///
     /// # Examples
     ///
@@ -86,8 +87,9 @@ impl<P: Prefix, T: Drop, A: Allocator> PrefixMap<P, T, A> {
 
     /// Returns the longest stored prefix that contains this one, and its value for writing.
     ///
-    /// The prefix is returned without host bits. A stored prefix contains itself. Nothing else of the map can change
-    /// through the value. Only the contract of `get_lpm_value_mut` tells a caller's proof what was written.
+    /// The prefix is returned without host bits. A stored prefix contains itself. What is written becomes the stored
+    /// value, and nothing else changes. Only the contract of `get_lpm_value_mut` tells a caller's proof what was
+    /// written.
     ///
     /// # Examples
     ///

@@ -33,7 +33,7 @@ impl<'a, P: Prefix, T: Drop, A: Allocator> OccupiedEntry<'a, P, T, A> {
         self.map.value_at(self.key.prefix(), self.seat)
     }
 
-    /// Returns the value for writing. Nothing else of the map can change through it.
+    /// Returns the value for writing. What is written becomes the entry's value, and nothing else changes.
     #[inline]
     pub fn get_mut(&mut self) -> &mut T
         ensures* writes_back { sem 𝓛 (lends_occupied P.row T.row A.row P.R.row P.Debug P.R.PartialEq P.R.Debug A.Allocator self.entry result) }
