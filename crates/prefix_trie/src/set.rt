@@ -70,6 +70,13 @@ impl<P: Prefix, A: Allocator + Clone> PrefixSet<P, A> {
     /// # Errors
     ///
     /// Returns `Memory` if an allocation fails. No set exists then.
+    ///
+    /// # Examples
+    ///
+    /// ```text
+    /// let set: PrefixSet<Ipv4Prefix, Global> = PrefixSet::new(alloc)?;
+    /// (set.len(), set.node_count());                  // (0, 1)
+    /// ```
     #[inline]
     pub fn new(alloc: A) -> Result<Self, Refusal>
         ensures entries { IfOk result (λ set. set.entries ≡ no_entries) }
@@ -138,6 +145,13 @@ impl<P: Prefix, A: Allocator + Clone> PrefixSet<P, A> {
 
 impl<P: Prefix, A: Allocator> PrefixSet<P, A> {
     /// Returns the number of keys.
+    ///
+    /// # Examples
+    ///
+    /// ```text
+    /// // 10.0.0.0/8 and 10.1.0.0/16 are stored
+    /// set.len();                          // 2
+    /// ```
     #[inline]
     pub fn len(&self) -> usize
         ensures count { result ≡ len self.now.entries }
@@ -147,6 +161,13 @@ impl<P: Prefix, A: Allocator> PrefixSet<P, A> {
     }
 
     /// Returns whether there are no keys.
+    ///
+    /// # Examples
+    ///
+    /// ```text
+    /// set.clear();
+    /// set.is_empty();                     // true
+    /// ```
     #[inline]
     pub fn is_empty(&self) -> bool
         ensures none { IsTrue result ↔ (self.now.entries ≡ no_entries) }
@@ -159,6 +180,13 @@ impl<P: Prefix, A: Allocator> PrefixSet<P, A> {
     ///
     /// The number is not stored: each call reads every slot of the array of nodes once, free ones
     /// too.
+    ///
+    /// # Examples
+    ///
+    /// ```text
+    /// // 0.0.0.0/32 is the only key
+    /// set.node_count();                   // 7: the root, and a node for each five bits
+    /// ```
     #[inline]
     pub fn node_count(&self) -> usize
         ensures count { result ≡ len self.now.nodes }
@@ -191,6 +219,13 @@ impl<P: Prefix, A: Allocator> PrefixSet<P, A> {
     ///
     /// It never exceeds the limit. Changes may add slots. Only `clear`, `compact`, and
     /// `drop_children` and `remove_children` of a prefix of length 0 remove slots.
+    ///
+    /// # Examples
+    ///
+    /// ```text
+    /// // 10.1.0.0/16 was inserted into a new set
+    /// set.node_slots();                   // 4: the root, and three blocks of one slot
+    /// ```
     #[inline]
     pub fn node_slots(&self) -> usize
         ensures slots { result ≡ self.now.space.node_slots }
@@ -202,6 +237,13 @@ impl<P: Prefix, A: Allocator> PrefixSet<P, A> {
     /// Returns the number of slots of the array of keys, used or free; a new set has none.
     ///
     /// It never exceeds the limit.
+    ///
+    /// # Examples
+    ///
+    /// ```text
+    /// // 10.1.0.0/16 was inserted into a new set
+    /// set.cell_slots();                   // 1
+    /// ```
     #[inline]
     pub fn cell_slots(&self) -> usize
         ensures slots { result ≡ self.now.space.cell_slots }
@@ -219,6 +261,13 @@ impl<P: Prefix, A: Allocator> PrefixSet<P, A> {
     ///
     /// For a new prefix, returns `Memory` if an allocation failed, and `IndexRange` if the missing
     /// blocks would exceed the slot limit. The keys and nodes are unchanged then.
+    ///
+    /// # Examples
+    ///
+    /// ```text
+    /// set.insert("10.1.0.0/16".parse::<Ipv4Prefix>()?)?;      // true
+    /// set.insert("10.1.255.255/16".parse()?)?;                // false: both have one path
+    /// ```
     #[inline]
     pub fn insert(&mut self, prefix: P) -> Result<bool, Refusal>
         requires { P.IsFitting prefix }

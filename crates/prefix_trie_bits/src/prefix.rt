@@ -221,7 +221,7 @@ pub trait Prefix: Sized + Debug + Drop {
     // the prefix with this path, without host bits
     ghost back: { List Bool → Self };
 
-    /// Returns the number of bits of the number, which is the greatest length.
+    /// Returns the width of the number in bits, which is the greatest length.
     #[inline]
     fn num_bits() -> u32
         ensures { result ≡ Self.R.bit_width }

@@ -98,6 +98,13 @@ impl<P: Prefix, T: Drop, A: Allocator + Clone> PrefixMap<P, T, A> {
     /// # Errors
     ///
     /// Returns `Memory` if an allocation fails. No map exists then.
+    ///
+    /// # Examples
+    ///
+    /// ```text
+    /// let map: PrefixMap<Ipv4Prefix, u32, Global> = PrefixMap::new(alloc)?;
+    /// (map.len(), map.node_count())   (0, 1)
+    /// ```
     #[inline]
     pub fn new(alloc: A) -> Result<Self, Refusal>
         ensures entries { IfOk result (λ map. map.entries ≡ no_entries) }
@@ -112,6 +119,13 @@ impl<P: Prefix, T: Drop, A: Allocator + Clone> PrefixMap<P, T, A> {
 
 impl<P: Prefix, T: Drop, A: Allocator> PrefixMap<P, T, A> {
     /// Returns the number of entries. It is stored, so the call reads no node.
+    ///
+    /// # Examples
+    ///
+    /// ```text
+    /// 10.0.0.0/8 and 10.1.0.0/16 are stored
+    /// map.len()   2
+    /// ```
     #[inline]
     pub fn len(&self) -> usize
         ensures count { result ≡ len self.now.entries }
@@ -130,6 +144,13 @@ impl<P: Prefix, T: Drop, A: Allocator> PrefixMap<P, T, A> {
     }
 
     /// Returns whether there are no entries.
+    ///
+    /// # Examples
+    ///
+    /// ```text
+    /// map.clear()
+    /// map.is_empty()   true
+    /// ```
     #[inline]
     pub fn is_empty(&self) -> bool
         ensures none { IsTrue result ↔ (self.now.entries ≡ no_entries) }
@@ -148,6 +169,13 @@ impl<P: Prefix, T: Drop, A: Allocator> PrefixMap<P, T, A> {
     /// Returns the value back, with the cause, if a new prefix needs a block that cannot be made: `Memory` if an
     /// allocation fails, `IndexRange` if the missing blocks would exceed the slot limit. Entries and nodes are
     /// unchanged then.
+    ///
+    /// # Examples
+    ///
+    /// ```text
+    /// map.insert(10.1.0.0/16, 1)   Ok(None), in a new map
+    /// map.insert(10.1.2.3/16, 2)   Ok(Some(1)), since both have one path
+    /// ```
     #[inline]
     pub fn insert(&mut self, prefix: P, value: T) -> Result<Option<T>, Refused<T>>
         requires { P.IsFitting prefix }

@@ -1,6 +1,6 @@
 //! The program `routes`: which texts it reads, which it refuses, and what each command prints.
 //!
-//! A case of `READINGS` is a text and the result of reading it. A case of `COMMANDS` is a command line over the two
+//! A case of `READINGS` is a text and the result of reading it. A case of `PRINTINGS` is a command line over the two
 //! texts `old` and `new`, and what the command prints. The expected texts are written by hand.
 
 use route_tables::access::first_other;

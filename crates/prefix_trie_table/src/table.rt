@@ -135,7 +135,7 @@ impl<T: Drop, A: Allocator + Clone, V: Tick> Table<T, A, V> {
         })
     }
 
-    /// Removes all entries whose keys a bit string begins, and returns them as a table of their own.
+    /// Removes all entries whose keys begin with a bit string, and returns them as a table of their own.
     ///
     /// The second table has just the nodes that its entries need, in the smallest blocks that hold them. It has a clone
     /// of this table's allocator, and the same limit. This table is left as `drop_children` leaves it.
@@ -289,7 +289,7 @@ impl<T: Drop, A: Allocator, V: Tick> Table<T, A, V> {
         )
     }
 
-    /// Walks the entries whose keys a bit string begins, in listing order. It reads the nodes of the search path at once.
+    /// Walks the entries whose keys begin with a bit string, in listing order. It reads the nodes of the search path at once.
     #[inline]
     pub fn walk_below<K: Key>(&self, path: BitString<K>, counter: &mut V) -> Walk<'_, K, T, A, V>
         requires within { AreWithin K.bit_width self.now.entries }
@@ -371,7 +371,7 @@ impl<T: Drop, A: Allocator, V: Tick> Table<T, A, V> {
         )
     }
 
-    /// Removes all entries whose keys a bit string begins, and all nodes below the string's own.
+    /// Removes all entries whose keys begin with a bit string, and all nodes below the string's own.
     ///
     /// Then it prunes from the string's own node upward, as `remove` does. If that node is missing, nothing changes. At
     /// length 0 it is `clear`. It never fails. It reads the search path and the nodes that it removes.

@@ -16,6 +16,13 @@ impl<P: Prefix, A: Allocator> PrefixSet<P, A> {
     /// # Errors
     ///
     /// Returns an error if memory of a smaller size could not be allocated. The set is unchanged in both cases.
+    ///
+    /// # Examples
+    ///
+    /// ```text
+    /// set.insert("10.1.0.0/16".parse::<Ipv4Prefix>()?)?;
+    /// set.shrink_to_fit()?;
+    /// ```
     pub fn shrink_to_fit(&mut self) -> Result<(), AllocError>
         ensures { self.new ≡ self.old }
     {
@@ -30,6 +37,13 @@ impl<P: Prefix, A: Allocator + Clone> PrefixSet<P, A> {
     ///
     /// Returns `Memory` if an allocation fails, and never `IndexRange`. The set is unchanged then, its slots and blocks
     /// too.
+    ///
+    /// # Examples
+    ///
+    /// ```text
+    /// set.remove(&"10.1.2.0/24".parse::<Ipv4Prefix>()?);
+    /// set.compact()?;
+    /// ```
     pub fn compact(&mut self) -> Result<(), Refusal>
         ensures entries { OnOk result (self.new.entries ≡ self.old.entries) }
         ensures nodes { OnOk result (self.new.nodes ≡ needed self.old.entries) }

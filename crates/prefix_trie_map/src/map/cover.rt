@@ -1,4 +1,4 @@
-//! Walks over the entries that contain a prefix, shortest first.
+//! Walks over the entries whose prefixes contain a prefix, shortest first.
 //!
 //! Contracts see each walk as the list of the items still to come.
 ghost use Rattle.std.specs.Prelude.{◌≡◌, ◌≤◌, map, length};
@@ -44,6 +44,13 @@ impl<P: Prefix, T: Drop, A: Allocator> PrefixMap<P, T, A> {
     }
 
     /// Returns a walk over the stored prefixes that contain this one: the prefixes of `cover`.
+    ///
+    /// # Examples
+    ///
+    /// ```text
+    /// 10.0.0.0/8, 10.1.0.0/16 and 11.0.0.0/8 are stored
+    /// map.cover_keys(&10.1.1.0/24)   gives 10.0.0.0/8 and 10.1.0.0/16
+    /// ```
     #[inline]
     pub fn cover_keys(&self, prefix: &P) -> CoverKeys<'_, P, T, A>
         requires { P.IsFitting prefix.now }
@@ -57,6 +64,13 @@ impl<P: Prefix, T: Drop, A: Allocator> PrefixMap<P, T, A> {
     }
 
     /// Returns a walk over the values whose prefixes contain this one: the values of `cover`.
+    ///
+    /// # Examples
+    ///
+    /// ```text
+    /// 10.0.0.0/8, 10.1.0.0/16 and 11.0.0.0/8 are stored with 1, 2 and 3
+    /// map.cover_values(&10.1.1.0/24)   gives &1 and &2
+    /// ```
     #[inline]
     pub fn cover_values(&self, prefix: &P) -> CoverValues<'_, P, T, A>
         requires { P.IsFitting prefix.now }

@@ -155,6 +155,14 @@ impl<'a, P: Prefix, T: Drop, A: Allocator> Entry<'a, P, T, A> {
     ghost use Rattle.prefix_trie_map.specs.Entry.{entry_map_ref, entry_map, entry_key, entry_value, MatchEntry, ModifiesEntry, lends_filled};
 
     /// Returns the prefix: without host bits if it is stored, otherwise as it was passed.
+    ///
+    /// # Examples
+    ///
+    /// ```text
+    /// 10.1.0.0/16 is stored, and 10.2.0.0/16 is not
+    /// map.entry(10.1.2.3/16).key()   &10.1.0.0/16
+    /// map.entry(10.2.2.3/16).key()   &10.2.2.3/16
+    /// ```
     #[inline]
     pub fn key(&self) -> &P
         ensures { result.now ≡ entry_key self.now }
@@ -166,6 +174,14 @@ impl<'a, P: Prefix, T: Drop, A: Allocator> Entry<'a, P, T, A> {
     }
 
     /// Returns the value if the prefix is stored.
+    ///
+    /// # Examples
+    ///
+    /// ```text
+    /// 10.1.0.0/16 is stored with 1
+    /// map.entry(10.1.0.0/16).get()   Some(&1)
+    /// map.entry(10.2.0.0/16).get()   None
+    /// ```
     #[inline]
     pub fn get(&self) -> Option<&T>
         ensures { option_copied result ≡ entry_value self.now }
@@ -180,6 +196,15 @@ impl<'a, P: Prefix, T: Drop, A: Allocator> Entry<'a, P, T, A> {
     ///
     /// Only the contracts of `OccupiedEntry::get_mut` and `OccupiedEntry::into_mut` tell a caller's proof what was
     /// written.
+    ///
+    /// # Examples
+    ///
+    /// ```text
+    /// 10.1.0.0/16 is stored with 1
+    /// let mut entry = map.entry(10.1.0.0/16);
+    /// if let Some(value) = entry.get_mut() { *value = 2; }
+    /// entry.get()                                            Some(&2)
+    /// ```
     #[inline]
     pub fn get_mut(&mut self) -> Option<&mut T>
         ensures { option_copied_mut result ≡ entry_value self.old }
@@ -224,6 +249,14 @@ impl<'a, P: Prefix, T: Drop, A: Allocator> Entry<'a, P, T, A> {
     ///
     /// Returns the value back, with the cause, if it cannot be inserted, as `PrefixMap::insert` does. This never
     /// happens if the prefix is stored.
+    ///
+    /// # Examples
+    ///
+    /// ```text
+    /// 10.1.0.0/16 is stored with 1
+    /// map.entry(10.1.0.0/16).or_insert(9)   Ok(&mut 1)
+    /// map.entry(10.2.0.0/16).or_insert(9)   Ok(&mut 9)
+    /// ```
     #[inline]
     pub fn or_insert(self, value: T) -> Result<&'a mut T, Refused<T>>
         ensures* writes_back { sem 𝓛 (lends_filled P.row T.row A.row P.R.row P.Debug P.R.PartialEq P.R.Debug A.Allocator (λ refused. refused.cause) self.entry result) }
@@ -246,6 +279,14 @@ impl<'a, P: Prefix, T: Drop, A: Allocator> Entry<'a, P, T, A> {
     ///
     /// Returns the cause if the missing blocks cannot be made, as `PrefixMap::insert` does. The closure is not called
     /// then. This never happens if the prefix is stored.
+    ///
+    /// # Examples
+    ///
+    /// ```text
+    /// 10.1.0.0/16 is stored with 1
+    /// map.entry(10.1.0.0/16).or_insert_with(|| 9)   Ok(&mut 1)
+    /// map.entry(10.2.0.0/16).or_insert_with(|| 9)   Ok(&mut 9)
+    /// ```
     #[inline]
     pub fn or_insert_with<F: FnOnce() -> T + Drop>(self, f: F) -> Result<&'a mut T, Refusal>
         requires { entry_value self ≡ None → F.pre f }
@@ -266,6 +307,14 @@ impl<'a, P: Prefix, T: Drop, A: Allocator> Entry<'a, P, T, A> {
     /// # Errors
     ///
     /// Returns the same errors as `or_insert_with`.
+    ///
+    /// # Examples
+    ///
+    /// ```text
+    /// 10.1.0.0/16 is stored with 1
+    /// map.entry(10.1.0.0/16).or_default()   Ok(&mut 1)
+    /// map.entry(10.2.0.0/16).or_default()   Ok(&mut 0)
+    /// ```
     #[inline]
     pub fn or_default(self) -> Result<&'a mut T, Refusal>
     where

@@ -69,6 +69,13 @@ impl<P: Prefix, T: Drop, A: Allocator> PrefixMap<P, T, A> {
     }
 
     /// Consumes the map and returns a walk over its values, in the listing order of their prefixes.
+    ///
+    /// # Examples
+    ///
+    /// ```text
+    /// 10.0.0.0/8, 10.1.0.0/16 and 9.0.0.0/8 are stored with 1, 2 and 3
+    /// map.into_values()   gives 3, 1 and 2
+    /// ```
     #[inline]
     pub fn into_values(self) -> IntoValues<P, T, A>
         ensures items { result ≡ map (λ e. e.1) (listing self.entries) }

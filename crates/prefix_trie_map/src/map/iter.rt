@@ -46,6 +46,13 @@ impl<P: Prefix, T: Drop, A: Allocator> PrefixMap<P, T, A> {
     }
 
     /// Returns a walk over the prefixes in listing order, without host bits.
+    ///
+    /// # Examples
+    ///
+    /// ```text
+    /// 10.0.0.0/8, 10.1.0.0/16 and 9.0.0.0/8 are stored
+    /// map.keys()   gives 9.0.0.0/8, 10.0.0.0/8 and 10.1.0.0/16
+    /// ```
     #[inline]
     pub fn keys(&self) -> Keys<'_, P, T, A>
         ensures items { result ≡ map (λ e. P.back e.0) (listing self.now.entries) }
@@ -58,6 +65,13 @@ impl<P: Prefix, T: Drop, A: Allocator> PrefixMap<P, T, A> {
     }
 
     /// Returns a walk over the values, in the listing order of their prefixes.
+    ///
+    /// # Examples
+    ///
+    /// ```text
+    /// 10.0.0.0/8, 10.1.0.0/16 and 9.0.0.0/8 are stored with 1, 2 and 3
+    /// map.values()   gives &3, &1 and &2
+    /// ```
     #[inline]
     pub fn values(&self) -> Values<'_, P, T, A>
         ensures items { result ≡ map (λ e. e.1) (listing self.now.entries) }

@@ -41,6 +41,13 @@ impl<P: Prefix, T: Drop, A: Allocator> PrefixMap<P, T, A> {
     ///
     /// Each node on the prefix's search path is read once. These are at most `len / 5 + 1` nodes for a prefix of `len`
     /// bits.
+    ///
+    /// # Examples
+    ///
+    /// ```text
+    /// map.insert(10.1.0.0/16, 1)      Ok(None), in a new map
+    /// map.get_counted(&10.1.0.0/16)   (Some(&1), visits), with `visits` at 4: lengths 0, 5, 10 and 15
+    /// ```
     #[inline]
     pub fn get_counted(&self, prefix: &P) -> (Option<&T>, Visits)
         requires { P.IsFitting prefix.now }
@@ -53,6 +60,14 @@ impl<P: Prefix, T: Drop, A: Allocator> PrefixMap<P, T, A> {
     }
 
     /// Returns whether a value is stored for exactly this prefix. Host bits are ignored.
+    ///
+    /// # Examples
+    ///
+    /// ```text
+    /// 10.1.0.0/16 is stored
+    /// map.contains_key(&10.1.2.3/16)   true
+    /// map.contains_key(&10.1.0.0/17)   false
+    /// ```
     #[inline]
     pub fn contains_key(&self, prefix: &P) -> bool
         requires { P.IsFitting prefix.now }
@@ -132,6 +147,13 @@ impl<P: Prefix, T: Drop, A: Allocator> PrefixMap<P, T, A> {
     /// Returns the result of `get_lpm` and the number of nodes read.
     ///
     /// Like `get_counted`, it reads each node on the prefix's search path once, even if a match was found further up.
+    ///
+    /// # Examples
+    ///
+    /// ```text
+    /// map.insert(10.1.0.0/16, 1)          Ok(None), in a new map
+    /// map.get_lpm_counted(&10.1.2.3/32)   (Some((10.1.0.0/16, &1)), visits), with `visits` at 4
+    /// ```
     #[inline]
     pub fn get_lpm_counted(&self, prefix: &P) -> (Option<(P, &T)>, Visits)
         requires { P.IsFitting prefix.now }
@@ -165,6 +187,14 @@ impl<P: Prefix, T: Drop, A: Allocator> PrefixMap<P, T, A> {
     }
 
     /// Returns the longest stored prefix that contains this one, without its host bits.
+    ///
+    /// # Examples
+    ///
+    /// ```text
+    /// 10.0.0.0/8 and 10.1.0.0/16 are stored
+    /// map.get_lpm_prefix(&10.1.2.3/32)   Some(10.1.0.0/16)
+    /// map.get_lpm_prefix(&11.0.0.0/8)    None
+    /// ```
     #[inline]
     pub fn get_lpm_prefix(&self, prefix: &P) -> Option<P>
         requires { P.IsFitting prefix.now }
@@ -189,6 +219,14 @@ impl<P: Prefix, T: Drop, A: Allocator> PrefixMap<P, T, A> {
     /// Returns the shortest stored prefix that contains this one, and its value.
     ///
     /// The prefix is returned without host bits. A stored prefix contains itself. `get_lpm` has an example of both.
+    ///
+    /// # Examples
+    ///
+    /// ```text
+    /// 10.0.0.0/8 is stored with 1, and 10.1.0.0/16 with 2
+    /// map.get_spm(&10.1.2.3/32)   Some((10.0.0.0/8, &1))
+    /// map.get_spm(&11.0.0.0/8)    None
+    /// ```
     #[inline]
     pub fn get_spm(&self, prefix: &P) -> Option<(P, &T)>
         requires { P.IsFitting prefix.now }
@@ -200,6 +238,13 @@ impl<P: Prefix, T: Drop, A: Allocator> PrefixMap<P, T, A> {
     /// Returns the result of `get_spm` and the number of nodes read.
     ///
     /// It reads the nodes on the prefix's search path once each, down to the node that holds the match.
+    ///
+    /// # Examples
+    ///
+    /// ```text
+    /// 10.0.0.0/8 is stored with 1, and 10.1.0.0/16 with 2
+    /// map.get_spm_counted(&10.1.2.3/32)   (Some((10.0.0.0/8, &1)), visits), with `visits` at 2: lengths 0 and 5
+    /// ```
     #[inline]
     pub fn get_spm_counted(&self, prefix: &P) -> (Option<(P, &T)>, Visits)
         requires { P.IsFitting prefix.now }
@@ -213,6 +258,14 @@ impl<P: Prefix, T: Drop, A: Allocator> PrefixMap<P, T, A> {
     }
 
     /// Returns the shortest stored prefix that contains this one, without its host bits.
+    ///
+    /// # Examples
+    ///
+    /// ```text
+    /// 10.0.0.0/8 and 10.1.0.0/16 are stored
+    /// map.get_spm_prefix(&10.1.2.3/32)   Some(10.0.0.0/8)
+    /// map.get_spm_prefix(&11.0.0.0/8)    None
+    /// ```
     #[inline]
     pub fn get_spm_prefix(&self, prefix: &P) -> Option<P>
         requires { P.IsFitting prefix.now }
@@ -235,6 +288,14 @@ impl<P: Prefix, T: Drop, A: Allocator> PrefixMap<P, T, A> {
     }
 
     /// Returns whether a stored prefix contains this one. A stored prefix contains itself.
+    ///
+    /// # Examples
+    ///
+    /// ```text
+    /// 10.0.0.0/8 is stored
+    /// map.is_covered(&10.1.2.3/32)   true
+    /// map.is_covered(&11.0.0.0/8)    false
+    /// ```
     #[inline]
     pub fn is_covered(&self, prefix: &P) -> bool
         requires { P.IsFitting prefix.now }

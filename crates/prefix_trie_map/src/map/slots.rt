@@ -50,6 +50,13 @@ impl<P: Prefix, T: Drop, A: Allocator> PrefixMap<P, T, A> {
     ///
     /// It is never above the limit. A change may add slots. Only `clear`, and `drop_children` and `remove_children` of
     /// a prefix of length 0, remove slots.
+    ///
+    /// # Examples
+    ///
+    /// ```text
+    /// map.insert(10.1.0.0/16, 1)   Ok(None), in a new map
+    /// map.node_slots()             4: the root, and three blocks of one slot
+    /// ```
     #[inline]
     pub fn node_slots(&self) -> usize
         ensures slots { result ≡ self.now.space.node_slots }
@@ -62,6 +69,13 @@ impl<P: Prefix, T: Drop, A: Allocator> PrefixMap<P, T, A> {
     /// Returns the number of slots of the array of values, used or free: a new map has none.
     ///
     /// It is never above the limit.
+    ///
+    /// # Examples
+    ///
+    /// ```text
+    /// map.insert(10.1.0.0/16, 1)   Ok(None), in a new map
+    /// map.cell_slots()             1
+    /// ```
     #[inline]
     pub fn cell_slots(&self) -> usize
         ensures slots { result ≡ self.now.space.cell_slots }
@@ -97,6 +111,13 @@ impl<P: Prefix, T: Drop, A: Allocator> PrefixMap<P, T, A> {
     ///
     /// The sizes are 1, 2, 4, 8, 16, 24 and 31 slots. Each node with values of its own has one used block, which holds
     /// them.
+    ///
+    /// # Examples
+    ///
+    /// ```text
+    /// map.insert(10.1.0.0/16, 1)   Ok(None), in a new map
+    /// map.cell_blocks()[0]         BlockCount { size: 1, used: 1, free: 0 }
+    /// ```
     #[inline]
     pub fn cell_blocks(&self) -> [BlockCount; 7]
         ensures counts { result ≡ block_counts value_block_sizes self.now.layout.value_blocks self.now.layout.free_value_blocks }

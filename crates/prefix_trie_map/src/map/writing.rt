@@ -122,6 +122,16 @@ impl<C: Source> WalkOf<C> {
     /// Returns the next prefix, without host bits, and its value, lent until the next call.
     ///
     /// Only the contracts of `step` with `value`, or of `next_value`, tell a caller's proof what was written.
+    ///
+    /// # Examples
+    ///
+    /// ```text
+    /// 10.0.0.0/8 and 10.1.0.0/16 are stored with 1 and 2
+    /// let mut walk = map.iter_mut();
+    /// walk.next()                      Some((10.0.0.0/8, &mut 1))
+    /// walk.next()                      Some((10.1.0.0/16, &mut 2))
+    /// walk.next()                      None
+    /// ```
     #[inline]
     pub fn next(&mut self) -> Option<(C::Prefix, &mut C::Value)>
         ensures* writes_back { sem 𝓛 (lends_next C.row C.Value.row self.entry C.Passes C.Ends (lent_beside result)) }
@@ -183,6 +193,16 @@ impl<C: Source> ValuesOf<C> {
     ghost use Rattle.prefix_trie_map.specs.WritingWalks.{FirstIn, lends_next_value};
 
     /// Returns the next value, lent until the next call.
+    ///
+    /// # Examples
+    ///
+    /// ```text
+    /// 10.0.0.0/8 and 10.1.0.0/16 are stored with 1 and 2
+    /// let mut walk = map.values_mut();
+    /// walk.next()                        Some(&mut 1)
+    /// walk.next()                        Some(&mut 2)
+    /// walk.next()                        None
+    /// ```
     #[inline]
     pub fn next(&mut self) -> Option<&mut C::Value>
         ensures* writes_back { sem 𝓛 (lends_next_value C.row C.Value.row self.entry C.Passes C.Ends result) }

@@ -1,7 +1,7 @@
 //! Many lookups at once, whose searches go down side by side so that the processor fetches their nodes together.
 //!
 //! Each round first reads the next node of every search, one after another and without a test of what it has. Only then
-//! it looks at the nodes.
+//! does it look at the nodes.
 ghost use Rattle.std.specs.Prelude.{◌≡◌, ℕ, ◌+◌, ◌*◌, ◌<◌, ◌≤◌, [], List, All, IfSome, MatchOption, None, Some, length, map, option_map, take, sum, sum_by, slice_index_or};
 ghost use Rattle.prefix_trie_bits.specs.Model.Matches.{longest_match};
 ghost use Rattle.prefix_trie_bits.specs.Model.Visits.{visits};

@@ -1,4 +1,4 @@
-//! Removing all entries that a bit string begins.
+//! Removing all entries whose keys begin with a bit string.
 ghost use Rattle.std.specs.Prelude.{◌≡◌, ℕ, ◌+◌, ◌/◌, ◌≤◌, Bool, false, List, Some, take, ⊤};
 ghost use Rattle.prefix_trie_bits.specs.Model.Entries.{without_below};
 ghost use Rattle.prefix_trie_bits.specs.Model.Nodes.{nodes_not_below, nodes_without_below};
@@ -37,7 +37,7 @@ impl<K: Key, T: Drop, V: Tick> Keep<K, T, V> for KeepNothing {
     fn taken(&mut self, _key: K, _len: u32, _value: T, _counter: &mut V) {}
 }
 
-/// Removes what a bit string begins, at the string's own node and below it, and returns the node as it is then.
+/// Removes what begins with a bit string, at its own node and below it, and returns the node as it is then.
 ///
 /// The test returns `false` for each entry, and is given the values.
 fn empty_part<K: Key, T: Drop, A: Allocator, V: Tick, F: Keep<K, T, V>>(
@@ -76,7 +76,7 @@ fn empty_part<K: Key, T: Drop, A: Allocator, V: Tick, F: Keep<K, T, V>>(
     retain_places(nodes, cells, entries, keep, site, node, places, counter)
 }
 
-/// Removes all entries that a bit string begins, and all nodes below the string's own.
+/// Removes all entries whose keys begin with a bit string, and all nodes below the string's own.
 ///
 /// Then the nodes of its search path that have no value and no child are removed, from its own node upward. If that
 /// node is missing, nothing changes. The test returns `false` for each entry, and is given the values.

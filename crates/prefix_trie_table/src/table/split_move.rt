@@ -1,4 +1,4 @@
-//! Moving the entries that a bit string begins out of a table into one of their own.
+//! Moving the entries whose keys begin with a bit string to a table of their own.
 ghost use Rattle.std.specs.Prelude.{◌≡◌, ◌≤◌, false, take};
 ghost use Rattle.std.specs.FinMap.{len as size};
 ghost use Rattle.prefix_trie_bits.specs.Model.Entries.{part_below, without_below};
@@ -58,7 +58,7 @@ impl<K: Key, T: Drop, A: Allocator, V: Tick> Keep<K, T, V> for Seats<K, T, A, V>
     }
 }
 
-/// Removes all entries that a bit string begins, and moves their values to a second table that is built for them.
+/// Removes all entries whose keys begin with a bit string, and moves their values to a second table that is built for them.
 ///
 /// Returns the arrays of the second table. Only the blocks of the first table may need memory.
 pub(super) fn move_part<K: Key, T: Drop, A: Allocator, V: Tick>(

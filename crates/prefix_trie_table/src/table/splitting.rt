@@ -22,7 +22,7 @@ use prefix_trie_bits::node::{
 use prefix_trie_bits::prefix::{Key, Refusal};
 use std::alloc::Allocator;
 
-/// Returns masks of what a bit string begins in a node, and the depth of a child.
+/// Returns masks of what begins with a bit string in a node, and the depth of a child.
 ///
 /// The first mask has the value bits of strings that it begins. The second has the child bits below which there can be
 /// such strings. `depth` bits lead to the node. The child's depth is at most `len`.
@@ -43,7 +43,7 @@ fn masks<K: Key>(key: K, depth: u32, len: u32) -> (u32, u32, u32)
     (0, with_bit(0, child_bit_of(key, depth)), depth + 5)
 }
 
-/// Builds a node with those of its values that a bit string begins, and its children with theirs, if they have any.
+/// Builds a node with those of its values that begin with a bit string, and its children with theirs, if any.
 ///
 /// No value is moved: all cells are vacant. The returned node has its blocks, but no slot yet. `depth` bits lead to the
 /// node, which are at most all of the bit string. At most `levels` levels of nodes are below it.
@@ -102,7 +102,7 @@ fn lay_node<K: Key, T: Drop, A: Allocator, V: Tick>(
     Ok(Some(laid))
 }
 
-/// Builds the nodes and blocks for the entries that a bit string begins, in arrays of their own under the same limit.
+/// Builds the nodes and blocks for the entries that begin with a bit string, in arrays of their own under the same limit.
 ///
 /// No value is moved: all cells are vacant. Both arrays of the table are only read.
 ///

@@ -58,7 +58,7 @@ impl<K: Key, T: Drop, A: Allocator, V: Tick> Model for IntoWalk<K, T, A, V> {
 }
 
 impl<K: Key, T: Drop, A: Allocator, V: Tick> IntoWalk<K, T, A, V> {
-    /// Walks the entries in these arrays whose keys a bit string begins.
+    /// Walks the entries in these arrays whose keys begin with a bit string.
     ///
     /// It reads the nodes of the search path at once.
     #[inline]
@@ -144,7 +144,7 @@ impl<T: Drop, A: Allocator, V: Tick> Table<T, A, V> {
         self.into_walk_below(BitString::new(K::zero(), 0), counter)
     }
 
-    /// Walks the entries whose keys a bit string begins. The walk drops the others with it.
+    /// Walks the entries whose keys begin with a bit string. The walk drops the others with it.
     ///
     /// The call reads the nodes of the search path at once.
     #[inline]

@@ -85,7 +85,7 @@ impl<'a, K: Key, T: Drop, A: Allocator, V: Tick> Walk<'a, K, T, A, V> {
         Some((key, len, value_at(cells, seat)))
     }
 
-    /// Returns the next key and its length in bits, and skips all other entries that the key begins.
+    /// Returns the next key and its length in bits, and skips all other entries whose keys begin with it.
     ///
     /// No node below the entry's place is read.
     #[inline]

@@ -18,6 +18,13 @@ impl<'a, P: Prefix, T: Drop, A: Allocator> OccupiedEntry<'a, P, T, A> {
     ghost use Rattle.prefix_trie_map.specs.Entry.{Occupied, entry_map, entry_key, entry_path, entry_value, lends_written, lends_occupied};
 
     /// Returns the prefix, without host bits.
+    ///
+    /// # Examples
+    ///
+    /// ```text
+    /// `entry` is the occupied entry of 10.1.2.3/16
+    /// entry.key()   &10.1.0.0/16
+    /// ```
     #[inline]
     pub fn key(&self) -> &P
         ensures { result.now ≡ entry_key (Occupied self.now) }
@@ -26,6 +33,13 @@ impl<'a, P: Prefix, T: Drop, A: Allocator> OccupiedEntry<'a, P, T, A> {
     }
 
     /// Returns the value.
+    ///
+    /// # Examples
+    ///
+    /// ```text
+    /// `entry` is an occupied entry with the value 1
+    /// entry.get()   &1
+    /// ```
     #[inline]
     pub fn get(&self) -> &T
         ensures { entry_value (Occupied self.now) ≡ Some result.now }
@@ -34,6 +48,14 @@ impl<'a, P: Prefix, T: Drop, A: Allocator> OccupiedEntry<'a, P, T, A> {
     }
 
     /// Returns the value for writing. What is written becomes the entry's value, and nothing else changes.
+    ///
+    /// # Examples
+    ///
+    /// ```text
+    /// `entry` is an occupied entry with the value 1
+    /// *entry.get_mut() += 1
+    /// entry.get()             &2
+    /// ```
     #[inline]
     pub fn get_mut(&mut self) -> &mut T
         ensures* writes_back { sem 𝓛 (lends_occupied P.row T.row A.row P.R.row P.Debug P.R.PartialEq P.R.Debug A.Allocator self.entry result) }
@@ -45,6 +67,14 @@ impl<'a, P: Prefix, T: Drop, A: Allocator> OccupiedEntry<'a, P, T, A> {
     }
 
     /// Returns the value for writing, for as long as the map is borrowed.
+    ///
+    /// # Examples
+    ///
+    /// ```text
+    /// 10.1.0.0/16 is stored with 1
+    /// if let Entry::Occupied(entry) = map.entry(10.1.0.0/16) { *entry.into_mut() += 1; }
+    /// map.get(&10.1.0.0/16)                                                                Some(&2)
+    /// ```
     #[inline]
     pub fn into_mut(self) -> &'a mut T
         ensures* writes_back { sem 𝓛 (lends_written P.row T.row A.row P.R.row P.Debug P.R.PartialEq P.R.Debug A.Allocator (Occupied self.entry) result) }
@@ -77,6 +107,14 @@ impl<'a, P: Prefix, T: Drop, A: Allocator> OccupiedEntry<'a, P, T, A> {
     }
 
     /// Sets the value and returns the previous one. It never fails and does not allocate.
+    ///
+    /// # Examples
+    ///
+    /// ```text
+    /// `entry` is the occupied entry of 10.1.0.0/16, with the value 1
+    /// entry.insert(2)         1
+    /// map.get(&10.1.0.0/16)   Some(&2)
+    /// ```
     #[inline]
     pub fn insert(self, value: T) -> T
         ensures before { entry_value (Occupied self.entry) ≡ Some result }
@@ -90,6 +128,14 @@ impl<'a, P: Prefix, T: Drop, A: Allocator> OccupiedEntry<'a, P, T, A> {
     /// Removes the entry from the map and returns its value.
     ///
     /// All nodes stay, as after `PrefixMap::remove_keep_tree`. It never fails.
+    ///
+    /// # Examples
+    ///
+    /// ```text
+    /// `entry` is the occupied entry of 10.1.0.0/16, with the value 1
+    /// entry.remove()          1
+    /// map.get(&10.1.0.0/16)   None
+    /// ```
     #[inline]
     pub fn remove(self) -> T
         ensures value { entry_value (Occupied self.entry) ≡ Some result }

@@ -11,6 +11,13 @@ impl<'a, P: Prefix, T: Drop, A: Allocator> VacantEntry<'a, P, T, A> {
     ghost use Rattle.prefix_trie_map.specs.Entry.{Vacant, entry_key, lends_filled};
 
     /// Returns the prefix as it was passed.
+    ///
+    /// # Examples
+    ///
+    /// ```text
+    /// `entry` is the vacant entry of 10.2.2.3/16
+    /// entry.key()   &10.2.2.3/16
+    /// ```
     #[inline]
     pub fn key(&self) -> &P
         ensures { result.now ≡ entry_key (Vacant self.now) }
@@ -49,6 +56,13 @@ impl<'a, P: Prefix, T: Drop, A: Allocator> VacantEntry<'a, P, T, A> {
     /// # Errors
     ///
     /// Returns the cause, as `PrefixMap::insert` does. The closure is not called then.
+    ///
+    /// # Examples
+    ///
+    /// ```text
+    /// if let Entry::Vacant(entry) = map.entry(10.2.0.0/16) { *entry.insert_with(|| 3)? += 1; }
+    /// map.get(&10.2.0.0/16)                                                                      Some(&4), if it was not stored
+    /// ```
     #[inline]
     pub fn insert_with<F: FnOnce() -> T + Drop>(self, f: F) -> Result<&'a mut T, Refusal>
         requires { F.pre f }
@@ -71,6 +85,13 @@ impl<'a, P: Prefix, T: Drop, A: Allocator> VacantEntry<'a, P, T, A> {
     /// # Errors
     ///
     /// Returns the same errors as `insert_with`.
+    ///
+    /// # Examples
+    ///
+    /// ```text
+    /// if let Entry::Vacant(entry) = map.entry(10.2.0.0/16) { *entry.default()? += 1; }
+    /// map.get(&10.2.0.0/16)                                                              Some(&1), if it was not stored
+    /// ```
     #[inline]
     pub fn default(self) -> Result<&'a mut T, Refusal>
     where
