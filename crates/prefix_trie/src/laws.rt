@@ -1,5 +1,6 @@
-//! Lemmas for a caller's own contracts about maps. Each function does nothing at run time; calling
-//! it brings a record of laws into the caller's proof.
+//! Lemmas for a caller's own contracts about maps.
+//!
+//! Each function does nothing at run time. Calling it brings a record of laws into the caller's proof.
 
 ghost use Rattle.prefix_trie.specs.Laws.Stored.{StoredLaws};
 ghost use Rattle.prefix_trie.specs.Laws.Lookups.{LookupLaws};
@@ -42,14 +43,14 @@ pub fn lookup_laws<P, T>()
 
 /// Brings the laws of a loop that inserts the entries of one map into another.
 ///
-/// They give its invariant, how the invariant goes on, and what the loop leaves.
+/// They give its invariant, what one more item does to it, and what the loop leaves.
 pub fn put_laws<P: Prefix, T>()
     ensures { PutLaws T P.R.bit_width P.path P.IsFitting P.back }
 {}
 
 /// Brings the laws of a loop that joins the values of one map to those of another, as a sum does.
 ///
-/// They give its invariant, how the invariant goes on, and what the loop leaves.
+/// They give its invariant, what one more item does to it, and what the loop leaves.
 pub fn join_laws<P: Prefix, T>()
     ensures { JoinLaws T P.R.bit_width P.path P.IsFitting P.back }
 {}

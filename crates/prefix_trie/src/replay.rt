@@ -38,11 +38,9 @@ pub enum Call<P> {
     Remove(P),
     /// `remove_keep_tree`: removes the entry of this prefix, and leaves all nodes.
     RemoveKeepTree(P),
-    /// `drop_children`: removes the entries whose prefixes this one contains, and the nodes left
-    /// empty.
+    /// `drop_children`: removes the entries that this prefix contains, and the nodes left empty.
     RemoveChildren(P),
-    /// `retain`: keeps the entries whose prefixes have at least this length, and the nodes that
-    /// they need.
+    /// `retain`: keeps the entries whose prefixes have at least this length, and the nodes that they need.
     RetainAtLeast(u8),
     /// `clear`: removes all entries, and leaves only the root.
     Clear,
@@ -58,7 +56,7 @@ pub enum Call<P> {
     ListFrom(P, bool),
     /// `children`: the entries whose prefixes this one contains.
     Children(P),
-    /// `cover`: the entries whose prefixes contain this one, the shortest first.
+    /// `cover`: the entries whose prefixes contain this one, shortest first.
     Cover(P),
 }
 
@@ -77,7 +75,7 @@ pub enum Reply<P: Prefix, A: Allocator> {
     Addresses(Option<P::R>),
     /// For `List`, `ListFrom`, `Children` and `Cover`.
     Entries(Vec<(P, u64), A>),
-    /// For `Insert` and the listings, if they were refused. The map keeps its entries and nodes.
+    /// For `Insert` and the listings, if they failed. The map keeps its entries and nodes.
     Refused(Refusal),
 }
 
@@ -159,15 +157,14 @@ pub fn run<P: Prefix, A: Allocator + Clone>(
     Ok(run_counted(alloc, map, calls)?.0)
 }
 
-/// Returns the replies of `run`, and for each call the number of nodes that it read, if it is a
-/// lookup.
+/// Carries out the calls as `run` does, and returns how many nodes each lookup read too.
 ///
-/// The numbers exist only in the contract. A lookup reads exactly the nodes of its search path, or
-/// those down to the shortest match, and at most one for each five bits of its prefix plus one.
+/// The numbers exist only in the contract. A lookup reads exactly the nodes of its search path, or those down to the
+/// shortest match, and at most one for each five bits of its prefix plus one.
 ///
 /// # Errors
 ///
-/// As for `run`.
+/// Returns the same errors as `run`.
 pub fn run_counted<P: Prefix, A: Allocator + Clone>(
     alloc: A,
     map: &mut PrefixMap<P, u64, A>,
@@ -179,7 +176,7 @@ pub fn run_counted<P: Prefix, A: Allocator + Clone>(
     ensures one_each { IfOk result (λ ran. vec_len ran.0 ≡ length calls.now) }
     ensures none_carried_out { OnErr result (map.new ≡ map.old) }
 {
-    // For the proof: the nodes are those of a map.
+    // Read for the proof alone: the nodes are those of a map.
     let _ = map.len();
     let mut replies = Vec::with_capacity(alloc.clone()?, calls.len())?;
     let mut reads = Reads::new();
@@ -191,7 +188,7 @@ pub fn run_counted<P: Prefix, A: Allocator + Clone>(
     Ok((replies, reads))
 }
 
-/// Carries out one call. Its number is that of the nodes it read, if it is a lookup.
+/// Carries out one call. Returns its reply, and the number of nodes read if it is a lookup.
 fn answer<P: Prefix, A: Allocator + Clone>(
     alloc: &A,
     map: &mut PrefixMap<P, u64, A>,
@@ -201,7 +198,7 @@ fn answer<P: Prefix, A: Allocator + Clone>(
     ensures { CountedStep P.path P.back P.R.bit_width
         (stored_state map.old) (call_of call.now) (reply_of P.R.bits result.0, result.1) (stored_state map.new) }
 {
-    // For the proof: neither array exceeds the limit.
+    // Read for the proof alone: neither array exceeds the limit.
     let _ = map.len();
     match call {
         Call::Insert(prefix, value) => (insert(map, prefix, *value), None),
@@ -341,8 +338,7 @@ fn value_at<P: Prefix, A: Allocator>(
     (Reply::Value(value.copied()), Some(visits))
 }
 
-/// Returns the longest stored prefix that contains this one, its value, and the number of nodes
-/// read.
+/// Returns the longest stored prefix that contains this one, its value, and the number of nodes read.
 fn longest<P: Prefix, A: Allocator>(
     map: &PrefixMap<P, u64, A>,
     prefix: &P,
@@ -355,8 +351,7 @@ fn longest<P: Prefix, A: Allocator>(
     (Reply::Match(found.map(owned)), Some(visits))
 }
 
-/// Returns the shortest stored prefix that contains this one, its value, and the number of nodes
-/// read.
+/// Returns the shortest stored prefix that contains this one, its value, and the number of nodes read.
 fn shortest<P: Prefix, A: Allocator>(
     map: &PrefixMap<P, u64, A>,
     prefix: &P,
@@ -396,8 +391,9 @@ fn listed<P: Prefix, A: Allocator + Clone>(
     copied(alloc, map.len(), map.iter())
 }
 
-/// Returns the entries after a prefix in listing order, and its own if `inclusive`. A first walk
-/// counts them.
+/// Returns the entries after a prefix in listing order, and its own if `inclusive`.
+///
+/// A first walk counts them, so that their memory is allocated at once.
 fn listed_from<P: Prefix, A: Allocator + Clone>(
     alloc: &A,
     map: &PrefixMap<P, u64, A>,
@@ -426,8 +422,7 @@ fn children<P: Prefix, A: Allocator + Clone>(
     copied(alloc, count, map.children(prefix))
 }
 
-/// Returns the entries whose prefixes contain this one, the shortest first. A first walk counts
-/// them.
+/// Returns the entries whose prefixes contain this one, shortest first. A first walk counts them.
 fn covered<P: Prefix, A: Allocator + Clone>(
     alloc: &A,
     map: &PrefixMap<P, u64, A>,
@@ -455,7 +450,7 @@ fn copied<'a, P: Drop, A: Allocator + Clone, I: Iterator<Item = (P, &'a u64)> + 
     Ok(entries)
 }
 
-/// Returns the entries, or the refusal if they could not be allocated.
+/// Returns the entries, or a refusal if their memory could not be allocated.
 fn list_reply<P: Prefix, A: Allocator>(listed: Result<Vec<(P, u64), A>, AllocError>) -> Reply<P, A>
     ensures { MatchResult listed (λ entries. reply_of P.R.bits result ≡ Items entries.items) (λ _. reply_of P.R.bits result ≡ Refused Memory) }
 {

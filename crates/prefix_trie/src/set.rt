@@ -1,8 +1,8 @@
 //! Sets of prefixes: maps without values.
+//! The key of a prefix is its path, its first `prefix_len` bits: two prefixes with the same path are one key, whatever
+//! their host bits.
 //!
-//! The key of a prefix is its path, its first `prefix_len` bits: two prefixes with the same path
-//! are one key, whatever their host bits. Contracts see a set as a map whose values are units: its
-//! entries, its nodes, the slots of its arrays, and its layout.
+//! Contracts see a set as a map whose values are units: its entries, its nodes, its space and its layout.
 ghost use Rattle.std.specs.Prelude.{◌≡◌, ◌-◌, ◌^◌, ◌↔◌, IfOk, OnOk, IfErr, OnErr, IfSome, IsErr, IsTrue, not};
 ghost use Rattle.std.specs.Option.{option_map};
 ghost use Rattle.std.specs.FinMap.{contains_key, len};
@@ -65,11 +65,18 @@ impl<P: Prefix, A: Allocator> Model for PrefixSet<P, A> {
 }
 
 impl<P: Prefix, A: Allocator + Clone> PrefixSet<P, A> {
-    /// Makes an empty set with a slot limit of `u32::MAX`.
+    /// Creates an empty set with a slot limit of `u32::MAX`.
     ///
     /// # Errors
     ///
-    /// Returns `Memory` if an allocation failed.
+    /// Returns `Memory` if an allocation fails. No set exists then.
+    ///
+    /// # Examples
+    ///
+    /// ```text
+    /// let set: PrefixSet<Ipv4Prefix, Global> = PrefixSet::new(alloc)?;
+    /// (set.len(), set.node_count());                  // (0, 1)
+    /// ```
     #[inline]
     pub fn new(alloc: A) -> Result<Self, Refusal>
         ensures entries { IfOk result (λ set. set.entries ≡ no_entries) }
@@ -83,13 +90,12 @@ impl<P: Prefix, A: Allocator + Clone> PrefixSet<P, A> {
         })
     }
 
-    /// Makes an empty set whose two arrays, of nodes and of keys, never have more than `limit`
-    /// slots.
+    /// Creates an empty set whose two arrays, of nodes and of keys, are never longer than `limit` slots.
     ///
     /// # Errors
     ///
-    /// Returns `IndexRange` if `limit` is 0, since the root needs a slot, and `Memory` if an
-    /// allocation failed.
+    /// Returns `IndexRange` if `limit` is 0, since the root needs a slot. Otherwise returns `Memory` if an allocation
+    /// fails. No set exists then.
     ///
     /// # Examples
     ///
@@ -112,14 +118,13 @@ impl<P: Prefix, A: Allocator + Clone> PrefixSet<P, A> {
         })
     }
 
-    /// Makes a copy with the same keys and nodes, in memory of its own.
+    /// Creates a set with the same keys and nodes, in memory of its own.
     ///
-    /// It copies slot by slot, free ones too: the copy's arrays have the same lengths, blocks and
-    /// limit.
+    /// Slots are copied one by one, free ones too: both arrays have the same length, blocks and limit as in this set.
     ///
     /// # Errors
     ///
-    /// Returns an error if an allocation failed.
+    /// Returns an error if an allocation fails. No copy exists then.
     ///
     /// # Examples
     ///
@@ -140,6 +145,13 @@ impl<P: Prefix, A: Allocator + Clone> PrefixSet<P, A> {
 
 impl<P: Prefix, A: Allocator> PrefixSet<P, A> {
     /// Returns the number of keys.
+    ///
+    /// # Examples
+    ///
+    /// ```text
+    /// // 10.0.0.0/8 and 10.1.0.0/16 are stored
+    /// set.len();                          // 2
+    /// ```
     #[inline]
     pub fn len(&self) -> usize
         ensures count { result ≡ len self.now.entries }
@@ -149,6 +161,13 @@ impl<P: Prefix, A: Allocator> PrefixSet<P, A> {
     }
 
     /// Returns whether there are no keys.
+    ///
+    /// # Examples
+    ///
+    /// ```text
+    /// set.clear();
+    /// set.is_empty();                     // true
+    /// ```
     #[inline]
     pub fn is_empty(&self) -> bool
         ensures none { IsTrue result ↔ (self.now.entries ≡ no_entries) }
@@ -161,6 +180,13 @@ impl<P: Prefix, A: Allocator> PrefixSet<P, A> {
     ///
     /// The number is not stored: each call reads every slot of the array of nodes once, free ones
     /// too.
+    ///
+    /// # Examples
+    ///
+    /// ```text
+    /// // 0.0.0.0/32 is the only key
+    /// set.node_count();                   // 7: the root, and a node for each five bits
+    /// ```
     #[inline]
     pub fn node_count(&self) -> usize
         ensures count { result ≡ len self.now.nodes }
@@ -169,11 +195,10 @@ impl<P: Prefix, A: Allocator> PrefixSet<P, A> {
         self.map.node_count()
     }
 
-    /// Returns the number of addresses, prefixes of full width, that the keys contain, each counted
-    /// once.
+    /// Returns the number of addresses that the keys contain, each counted once.
     ///
-    /// Returns `None` exactly if they contain all addresses. A key within another one adds nothing,
-    /// and nodes under a key are not read.
+    /// An address is a prefix of the full width. The result is `None` exactly if all addresses are covered, since their
+    /// number does not fit. A key within another one adds nothing, and the nodes under a key are not read.
     ///
     /// # Examples
     ///
@@ -194,6 +219,13 @@ impl<P: Prefix, A: Allocator> PrefixSet<P, A> {
     ///
     /// It never exceeds the limit. Changes may add slots. Only `clear`, `compact`, and
     /// `drop_children` and `remove_children` of a prefix of length 0 remove slots.
+    ///
+    /// # Examples
+    ///
+    /// ```text
+    /// // 10.1.0.0/16 was inserted into a new set
+    /// set.node_slots();                   // 4: the root, and three blocks of one slot
+    /// ```
     #[inline]
     pub fn node_slots(&self) -> usize
         ensures slots { result ≡ self.now.space.node_slots }
@@ -205,6 +237,13 @@ impl<P: Prefix, A: Allocator> PrefixSet<P, A> {
     /// Returns the number of slots of the array of keys, used or free; a new set has none.
     ///
     /// It never exceeds the limit.
+    ///
+    /// # Examples
+    ///
+    /// ```text
+    /// // 10.1.0.0/16 was inserted into a new set
+    /// set.cell_slots();                   // 1
+    /// ```
     #[inline]
     pub fn cell_slots(&self) -> usize
         ensures slots { result ≡ self.now.space.cell_slots }
@@ -222,6 +261,13 @@ impl<P: Prefix, A: Allocator> PrefixSet<P, A> {
     ///
     /// For a new prefix, returns `Memory` if an allocation failed, and `IndexRange` if the missing
     /// blocks would exceed the slot limit. The keys and nodes are unchanged then.
+    ///
+    /// # Examples
+    ///
+    /// ```text
+    /// set.insert("10.1.0.0/16".parse::<Ipv4Prefix>()?)?;      // true
+    /// set.insert("10.1.255.255/16".parse()?)?;                // false: both have one path
+    /// ```
     #[inline]
     pub fn insert(&mut self, prefix: P) -> Result<bool, Refusal>
         requires { P.IsFitting prefix }

@@ -1,5 +1,6 @@
-//! Laws of the model and its worked rows, as lemmas for proofs. Each function does nothing at run
-//! time; calling it brings its contract into the proof.
+//! Lemmas for proofs: the laws of the model, and its worked rows.
+//!
+//! Each function does nothing at run time. Calling it brings its contract into the proof.
 
 ghost use Rattle.std.specs.Prelude.{◌≡◌, ℕ};
 ghost use Rattle.prefix_trie_bits.specs.Networks.{network_cmp};
@@ -207,24 +208,26 @@ pub fn worked_addresses()
     ensures { AddressesHold }
 {}
 
-/// Proves worked facts that no reply contains: visits, holders and parents, block sizes, tilings,
-/// calls of a test, a writing walk and a split.
+/// Proves worked facts that no reply contains.
+///
+/// They are about visits, holders and parents, block sizes, tilings, calls of a test, a writing walk and a split.
 #[tactic(auto, using(crate::proofs::Model::Worked::Examples::facts_hold))]
 pub fn worked_facts()
     ensures { FactsHold }
 {}
 
-/// Proves worked facts on blocks: which block holds a list, which it needs, how blocks step down,
-/// how arrays grow and how blocks tile them.
+/// Proves worked facts on blocks.
 ///
+/// They say which block holds a list, which it needs, how blocks step down, how arrays grow and how blocks tile them.
 /// Each has an example that the definition excludes.
 #[tactic(auto, using(crate::proofs::Model::Worked::Blocks::blocks_hold))]
 pub fn worked_blocks()
     ensures { BlocksHold }
 {}
 
-/// Proves worked facts on the blocks that an insertion needs, on the missing slots and the limit,
-/// and on which keys a node holds.
+/// Proves worked facts on insertions.
+///
+/// They are about the blocks that an insertion needs, the missing slots and the limit, and which keys a node holds.
 #[tactic(auto, using(crate::proofs::Model::Worked::Insertions::insertions_hold))]
 pub fn worked_insertions()
     ensures { InsertionsHold }

@@ -1,4 +1,4 @@
-//! One node of the tree: two bitmaps whose bits stand for short strings below its path.
+//! One node of the tree: two bitmaps, with a bit for each short string below the node's path.
 //!
 //! A node holds a value for each set value bit (strings of 0 to 4 bits) and a child for each set
 //! child bit (strings of 5 bits), both in blocks in the order of the bits. So a set bit's place in
@@ -30,8 +30,8 @@ pub enum Place {
 
 /// The places of one node that a walk has still to give.
 ///
-/// It is copied with the walk, and holds no bitmap of the node: one bit for each place, in listing
-/// order, so that each step takes the same time however many places there are.
+/// It is copied with the walk. It has one bit for each place, in listing order, and not the bitmaps of the node. So
+/// each step takes the same time however many places there are.
 #[derive(Clone, Copy)]
 pub struct Places {
     listing: u64,
@@ -43,7 +43,7 @@ impl Default for Places {
 
     ghost is_default = { λ p. to_come p ≡ [] };
 
-    /// No place.
+    /// Returns no places.
     #[inline]
     fn default() -> Places {
         Places { listing: 0 }
@@ -53,9 +53,9 @@ impl Default for Places {
 impl Places {
     ghost use Rattle.prefix_trie_bits.specs.Walks.{to_come};
 
-    /// The places of the set bits of a value bitmap and a child bitmap.
+    /// Returns the places of the set bits of a value bitmap and a child bitmap.
     ///
-    /// Masks of the bitmaps select among the places, as `values & from`.
+    /// To select among a node's places, pass masked bitmaps, as `values & from`.
     #[inline]
     pub fn new(values: u32, children: u32) -> Places
         requires { values < 2 ^ 31 }
@@ -72,7 +72,7 @@ impl Places {
         Places { listing }
     }
 
-    /// Takes the first place in listing order, or `None` where none is left.
+    /// Removes the first place in listing order and returns it. Returns `None` if none is left.
     #[inline]
     pub fn next_place(&mut self) -> Option<Place>
         ensures place { MatchOption result
@@ -89,7 +89,9 @@ impl Places {
     }
     /// Drops the places that the string of a value bit begins, its own among them.
     ///
-    /// For example at bit 29, of 1110: that bit and the child bits 28 and 29.
+    /// For example, bit 29 is that of 1110, which begins the bit itself and the child bits 28 and 29.
+    ///
+    /// # Examples
     ///
     /// ```text
     /// let mut places = Places::new(1 << 29 | 1 << 30, 1 << 29 | 1 << 31);

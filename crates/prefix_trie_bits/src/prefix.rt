@@ -21,12 +21,14 @@ pub use networks::{Ipv4Prefix, Ipv6Prefix, ParseNetworkError};
 
 /// A number that is read as a string of bits, the most significant first.
 ///
-/// Laws: all keys of a type have the same number of bits, from 1 to 128, and every string of that
-/// many bits is that of exactly one key. Of `u8`, `u16`, `u32`, `u64`, `u128` and `usize` (64 bits)
-/// every number is a key, of `Narrow<W>` every number below `2^width`. Keys that are `==` are the same.
+/// Laws: all keys of a type have the same number of bits, from 1 to 128, and every string of that many bits belongs to
+/// exactly one key. For `u8`, `u16`, `u32`, `u64`, `u128` and `usize` (64 bits), every number is a key. For
+/// `Narrow<W>`, every number below `2^width` is a key. Keys that are `==` are the same.
 ///
-/// `behind`, `power` and `compare` have bodies here, which a type may replace. Those of `behind` and `compare` read five bits at a
-/// time.
+/// `behind`, `power` and `compare` have bodies here, which a type may replace. The bodies of `behind` and `compare`
+/// read five bits at a time.
+///
+/// # Examples
 ///
 /// ```text
 /// 0xd4adbeef_u32 has the bits 1101 0100 1010 1101 ..
@@ -48,39 +50,39 @@ pub trait Key: Copy + Eq + Debug {
     // the key with these bits
     ghost key_of: { List Bool → Self };
 
-    /// How many bits a key has.
+    /// Returns the number of bits of every key.
     fn width() -> u32
         ensures { result ≡ bit_width };
 
-    /// The key whose bits are all 0.
+    /// Returns the key whose bits are all 0.
     fn zero() -> Self
         ensures key { IsKey result }
         ensures value { bits result ≡ zeros bit_width };
 
-    /// True: a value in hand is a key.
+    /// Returns true. Its contract tells a caller's proof that this value is a key.
     fn is_key(self) -> bool
         ensures key { IsKey self }
         ensures value { IsTrue result };
 
-    /// The number of the `n` bits from `depth` on, where bits past the end read as 0.
+    /// Returns the number of the `n` bits from `depth` on, where bits past the end read as 0.
     ///
-    /// Asks that `depth` is at most the width and `n` at most 5.
+    /// Requires that `depth` is at most the width and `n` at most 5.
     fn window(self, depth: u32, n: u32) -> u32
         requires start { depth ≤ bit_width }
         requires few { n ≤ 5 }
         ensures { result ≡ number (take n (drop depth (bits self ++ zeros 5))) };
 
-    /// The first `len` bits, and then zeros.
+    /// Returns the first `len` bits, and then zeros.
     ///
-    /// Asks that `len` is at most the width.
+    /// Requires that `len` is at most the width.
     fn keep(self, len: u32) -> Self
         requires { len ≤ bit_width }
         ensures key { IsKey result }
         ensures value { bits result ≡ take len (bits self) ++ zeros (bit_width - len) };
 
-    /// The first `depth` bits, then the `n` bits of the number `tail`, and then zeros.
+    /// Returns the first `depth` bits, then the `n` bits of the number `tail`, and then zeros.
     ///
-    /// Asks that `n` is at most 5, that `depth + n` is at most the width, and that `tail` is below `2^n`.
+    /// Requires that `n` is at most 5, that `depth + n` is at most the width, and that `tail` is below `2^n`.
     fn extend(self, depth: u32, n: u32, tail: u32) -> Self
         requires few { n ≤ 5 }
         requires within { depth + n ≤ bit_width }
@@ -88,16 +90,16 @@ pub trait Key: Copy + Eq + Debug {
         ensures key { IsKey result }
         ensures value { bits result ≡ take depth (bits self) ++ digits n tail ++ zeros (bit_width - (depth + n)) };
 
-    /// The bits behind the first `n`, and then zeros.
+    /// Returns the bits after the first `n`, and then zeros.
     ///
-    /// Asks that `n` is at most the width.
+    /// Requires that `n` is at most the width.
     #[inline]
     fn behind(self, n: u32) -> Self
         requires { n ≤ bit_width }
         ensures key { IsKey result }
         ensures value { bits result ≡ drop n (bits self) ++ zeros n }
     {
-        // The proof learns from it that the number in hand is a key.
+        // The proof learns from it that the number is a key.
         let _ = self.is_key();
         let width = Self::width();
         let mut rest = Self::zero();
@@ -110,9 +112,11 @@ pub trait Key: Copy + Eq + Debug {
         rest
     }
 
-    /// The key whose number is `2^k`.
+    /// Returns the key whose number is `2^k`.
     ///
-    /// Asks that `k` is below the width.
+    /// Requires that `k` is below the width.
+    ///
+    /// # Examples
     ///
     /// ```text
     /// u8::power(3)   0b0000_1000, the number of strings of 8 bits that begin with a given one of 5
@@ -126,7 +130,9 @@ pub trait Key: Copy + Eq + Debug {
         Self::zero().extend(Self::width() - 1 - k, 1, 1)
     }
 
-    /// The key whose number is the sum of the two; `None` exactly if that is `2^width` or more.
+    /// Returns the key whose number is the sum of the two, or `None` if the sum is `2^width` or more.
+    ///
+    /// # Examples
     ///
     /// ```text
     /// 1_u8.plus(2)     Some(3)
@@ -138,8 +144,10 @@ pub trait Key: Copy + Eq + Debug {
 
     /// Compares two keys in listing order: the first bit in which they differ decides, and 0 comes before 1.
     ///
-    /// So keys compare as their numbers. Prefixes without host bits are in listing order if their numbers are compared first and, if
-    /// these are equal, their lengths (`by_filled` of `listing_laws`).
+    /// So keys compare as their numbers. Prefixes without host bits are in listing order if their numbers are compared
+    /// first and, if these are equal, their lengths (`by_filled` of `listing_laws`).
+    ///
+    /// # Examples
     ///
     /// ```text
     /// 0b0100_0000_u8.compare(0b0110_0000)   Less
@@ -148,7 +156,7 @@ pub trait Key: Copy + Eq + Debug {
     fn compare(self, other: Self) -> Ordering
         ensures { result ≡ listing_cmp (bits self) (bits other) }
     {
-        // The proof learns from these calls that the numbers in hand are keys.
+        // The proof learns from these calls that the numbers are keys.
         let _ = self.is_key();
         let _ = other.is_key();
         let width = Self::width();
@@ -171,20 +179,22 @@ pub trait Key: Copy + Eq + Debug {
     ghost same_if_equal: { (a b : Self) → Self.eq a b ≡ true → a ≡ b };
 }
 
-/// A string of bits at the front of a number, its path; the bits behind it, the host bits, count for nothing.
+/// A string of bits at the front of a number: its path. The bits after it, the host bits, are ignored.
 ///
-/// A prefix fits if its number is a key and its length at most `num_bits()`. Every call that takes a
-/// prefix asks that it fits, but `repr`, `prefix_len` and `fits` itself, which is the test.
+/// A prefix fits if its number is a key and its length at most `num_bits()`. Every call that takes a prefix requires
+/// that it fits, except `repr`, `prefix_len` and `fits`, which tests it.
 ///
 /// Laws, for prefixes that fit:
 /// - `num_bits()` is the width of `R`;
 /// - the path is the first `prefix_len` bits of `repr`;
 /// - `mask` is the path, and then zeros;
-/// - `a.contains(b)` exactly if the path of `a` begins that of `b`;
-/// - `from_repr_len(r, len)` has the length `len` and as path the first `len` bits of `r`; where the
-///   other bits of `r` are 0, its `repr` is `r`.
+/// - `a.contains(b)` exactly if the path of `a` begins the path of `b`;
+/// - `from_repr_len(r, len)` has the length `len` and as path the first `len` bits of `r`; if the other bits of `r` are
+///   0, its `repr` is `r`.
 ///
 /// `num_bits`, `mask`, `contains` and `fits` have bodies here, which a type may replace.
+///
+/// # Examples
 ///
 /// ```text
 /// (0x0a010000_u32, 8): repr 0x0a010000, mask 0x0a000000, contains (0x0a820205, 9)
@@ -193,7 +203,7 @@ pub trait Prefix: Sized + Debug + Drop {
     /// The type of the number.
     type R: Key;
 
-    // the number as handed in
+    // the number as it was passed
     ghost repr_of: { Self → Self.R };
 
     // how many bits the path has
@@ -205,13 +215,13 @@ pub trait Prefix: Sized + Debug + Drop {
     // the number is a key, and the length at most its width
     ghost IsFitting: { Self → Type 0 };
 
-    // the prefix that from_repr_len gives
+    // the prefix that from_repr_len returns
     ghost from_parts: { Self.R → ℕ → Self };
 
     // the prefix with this path, without host bits
     ghost back: { List Bool → Self };
 
-    /// How many bits the number has, which is the greatest length.
+    /// Returns the width of the number in bits, which is the greatest length.
     #[inline]
     fn num_bits() -> u32
         ensures { result ≡ Self.R.bit_width }
@@ -219,25 +229,25 @@ pub trait Prefix: Sized + Debug + Drop {
         Self::R::width()
     }
 
-    /// The number as handed in, host bits kept.
+    /// Returns the number as it was passed, with its host bits.
     fn repr(&self) -> Self::R
         ensures { result ≡ repr_of self.now };
 
-    /// How many bits the path has.
+    /// Returns the number of bits of the path.
     fn prefix_len(&self) -> u8
         ensures { result ≡ len_of self.now };
 
-    /// The prefix of the first `len` bits of `repr`.
+    /// Returns the prefix of the first `len` bits of `repr`.
     ///
-    /// Asks that `repr` is a key and `len` at most the width.
+    /// Requires that `repr` is a key and `len` at most the width.
     fn from_repr_len(repr: Self::R, len: u8) -> Self
         requires key { Self.R.IsKey repr }
         requires within { len ≤ Self.R.bit_width }
         ensures { result ≡ from_parts repr len };
 
-    /// The path, and then zeros.
+    /// Returns the path, and then zeros.
     ///
-    /// Asks that the prefix fits.
+    /// Requires that the prefix fits.
     #[inline]
     fn mask(&self) -> Self::R
         requires { IsFitting self.now }
@@ -247,9 +257,9 @@ pub trait Prefix: Sized + Debug + Drop {
         self.repr().keep(u32::from(self.prefix_len()))
     }
 
-    /// Whether this path begins the other's, as each path begins itself.
+    /// Returns whether this path begins the other path. Each path begins itself.
     ///
-    /// Asks that both prefixes fit.
+    /// Requires that both prefixes fit.
     #[inline]
     fn contains(&self, other: &Self) -> bool
         requires fits { IsFitting self.now }
@@ -262,7 +272,7 @@ pub trait Prefix: Sized + Debug + Drop {
 
     /// Returns the path as one value.
     ///
-    /// Asks that the prefix fits.
+    /// Requires that the prefix fits.
     #[inline(always)]
     fn path(&self) -> BitString<Self::R>
         requires { IsFitting self.now }
@@ -272,7 +282,7 @@ pub trait Prefix: Sized + Debug + Drop {
         BitString::new(self.repr(), u32::from(self.prefix_len()))
     }
 
-    /// Whether the number is a key and the length at most `num_bits()`.
+    /// Returns whether the number is a key and the length at most `num_bits()`.
     #[inline]
     fn fits(&self) -> bool
         ensures { IsTrue result ↔ IsFitting self.now }
@@ -284,10 +294,13 @@ pub trait Prefix: Sized + Debug + Drop {
     ghost prefix_laws: { PrefixLaws Self.R.bit_width Self.R.IsKey Self.R.bits Self.R.key_of repr_of len_of path IsFitting from_parts back };
 }
 
-/// Why a call was refused.
+/// Why a call failed.
 ///
-/// It has a text and is a `std::error::Error`, so `?` takes it to an `anyhow::Error`. `?` takes it to an `io::Error` too, of the kind
-/// `OutOfMemory` or `QuotaExceeded`; a crate that writes this lists `prefix_trie_bits`, where that `impl` stands.
+/// It has a text and is a `std::error::Error`, so `?` converts it to an `anyhow::Error`. `?` converts it to an
+/// `io::Error` too, of the kind `OutOfMemory` or `QuotaExceeded`. A crate that does this lists `prefix_trie_bits`,
+/// which has that `impl`.
+///
+/// # Examples
 ///
 /// ```text
 /// println!(rt; "{}", Refusal::Memory)   a request for memory was refused
@@ -295,25 +308,27 @@ pub trait Prefix: Sized + Debug + Drop {
 /// ```
 #[derive(Clone, Copy, PartialEq, Eq, Debug)]
 pub enum Refusal {
-    /// A request for memory was refused.
+    /// An allocation failed.
     Memory = 1,
-    /// The slots needed pass the limit.
+    /// The slots needed would exceed the limit.
     IndexRange = 2,
 }
 
-/// A refusal that hands back the value that was not stored.
+/// A refusal with the value that was not stored.
 ///
-/// In a function that answers a `Result` with a `Refusal`, `?` takes it to its cause, and drops the value. It has the text of its
-/// cause, and is a `std::error::Error` and becomes an `io::Error` as that does.
+/// In a function that returns a `Result` with a `Refusal`, `?` converts it to its cause and drops the value. It has the
+/// text of its cause. Like its cause, it is a `std::error::Error` and converts to an `io::Error`.
+///
+/// # Examples
 ///
 /// ```text
-/// map.insert(prefix, 1)    Err(Refused { cause: Refusal::Memory, value: 1 }), where a request for memory was refused
-/// map.insert(prefix, 1)?   there returns Err(Refusal::Memory)
+/// map.insert(prefix, 1)    Err(Refused { cause: Refusal::Memory, value: 1 }), if an allocation fails
+/// map.insert(prefix, 1)?   returns Err(Refusal::Memory) then
 /// ```
 #[derive(PartialEq, Eq, Debug, Drop)]
 pub struct Refused<T> {
-    /// Why the call was refused.
+    /// Why the call failed.
     pub cause: Refusal,
-    /// The value as handed in.
+    /// The value as it was passed.
     pub value: T,
 }

@@ -1,9 +1,10 @@
-//! What a key of at most 128 bits computes on its number, as `digits` does for 64 bits, where
-//! shifts cost less.
+//! The operations of keys of at most 128 bits, on their numbers.
+//!
+//! `digits` does the same for 64 bits, where shifts cost less.
 ghost use Rattle.std.specs.Prelude.{◌≡◌, ℕ, ◌+◌, ◌-◌, ◌*◌, ◌/◌, ◌%◌, ◌^◌, ◌<◌, ◌≤◌, ◌++◌, List, Bool, take, drop};
 ghost use Rattle.prefix_trie_bits.specs.Bits.{number, digits, zeros};
 
-/// The number of the n bits of value from depth on; bits past the end are 0.
+/// Returns the number of the n bits of value from depth on. Bits past the end are 0.
 #[inline]
 pub(crate) fn window_of(value: u128, width: u32, depth: u32, n: u32) -> u32
     requires narrow { width ≤ 128 }
@@ -21,7 +22,7 @@ pub(crate) fn window_of(value: u128, width: u32, depth: u32, n: u32) -> u32
     ((shifted % 32) >> (5 - n)) as u32
 }
 
-/// The first len bits of value, and then zeros.
+/// Returns the first len bits of value, and then zeros.
 #[inline]
 #[tactic(auto, using(crate::specs::BitStrings::kept_of_128, crate::specs::BitStrings::kept_of_none))]
 pub(crate) fn keep_of(value: u128, width: u32, len: u32) -> u128
@@ -39,7 +40,7 @@ pub(crate) fn keep_of(value: u128, width: u32, len: u32) -> u128
     value >> rest << rest
 }
 
-/// The first depth bits of value, then the n bits of tail, and then zeros.
+/// Returns the first depth bits of value, then the n bits of tail, and then zeros.
 #[inline]
 #[tactic(auto, using(crate::specs::BitStrings::extended_by_none))]
 pub(crate) fn extend_of(value: u128, width: u32, depth: u32, n: u32, tail: u32) -> u128

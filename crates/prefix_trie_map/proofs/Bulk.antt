@@ -44,7 +44,7 @@ answered_more shows answer prefixes out n m so_far more space inside p is x show
     ∙ ap₂ (λ l y. l ++ y ∷ []) so_far (shown ∙ ap answer is)
     ∙ sym (ap (map answer) (take_more prefixes n p inside) ∙ map-append answer (take n prefixes) (get_or prefixes n p ∷ [])))
 
--- a match of the table, as what the answer is right for
+-- a match of the table, as the right result for it
 pub right_match : {T Y : Type 0} (entries : Entries T) (right : Option (List Bool × T) → Y) (bits asked path : List Bool) → take (length asked) bits ≡ asked → asked ≡ path → (found : Option (ℕ × Bor T))
     → Finds asked (longest_match entries asked) found → (shown : Y) → shown ≡ right (option_map (λ f. (take f.0 bits, f.1.now)) found)
     → shown ≡ right (longest_match entries path)

@@ -38,13 +38,13 @@ module _ {P T A R : Type 0} {p : prefix.Ghosts P R} {shows : debug.Ghosts P} {k 
       keys_left c ≡ map (λ e. e.0) selection
   left_at_start m selection c starts = ap (λ w. w.to_come) starts.starts
 
-  -- for a walk that has gone on over one key, the keys after it
+  -- for a walk that has passed one key, the keys after it
   pub left_behind : (c n : MapCursor P T A R p shows k same writes) (value : T) (goes : GoesOver c value n) → keys_left c ≡ goes.key ∷ keys_left n
   left_behind c n value goes =
       let passes = goes.passes None in
       passes.1.0 ∙ ap (λ w. goes.key ∷ w.to_come) (sym passes.2.2)
 
-  -- of a walk that has come to its end, none
+  -- for a walk that is at its end, none
   pub none_left : (c n : MapCursor P T A R p shows k same writes) (ends : ComesToEnd c n) → keys_left n ≡ []
   none_left c n ends = ap (λ w. w.to_come) (ends.ends None).1 ∙ (ends.ends None).0
 

@@ -21,12 +21,12 @@ right_for right path m p = right (longest_match m (path p))
 abbrev pub AreAnswered : {P X Y : Type 0} → (X → Y) → (P → Y) → List P → List X → ℕ → Type 0
 AreAnswered shows answer prefixes out n = map shows (take n out) ≡ map answer (take n prefixes)
 
--- between two counts the nodes of the prefixes from one place to another were read
+-- between two counts, the nodes of the prefixes from one index to another were read
 abbrev pub ReadsMore : {P : Type 0} → (P → List Bool) → Nodes → List P → ℕ → ℕ → ℕ → ℕ → Type 0
 ReadsMore path n prefixes from to before after =
     after + visits_of_all path n (take from prefixes) ≡ before + visits_of_all path n (take to prefixes)
 
--- the table found these of so many prefixes, from a place on
+-- the table found these for so many prefixes, from an index on
 abbrev pub AreFound : {P : Type 0} → (P → List Bool) → List Node → List P → ℕ → ℕ → List (Option Found) → Type 0
 AreFound {P} path nodes prefixes from n found =
     (i : ℕ) (p : P) (a : Option Found) → i < n → p ≡ slice_index_or prefixes (from + i) p → a ≡ slice_index_or found i a → IsAnswer nodes (path p) a

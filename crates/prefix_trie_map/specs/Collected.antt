@@ -14,6 +14,6 @@ pub record Puts {P T : Type 0} (path : P → List Bool) (before : Contents T) (i
   pub node_slots : after.space.node_slots ≤ before.space.node_slots + 56 * length items
   pub cell_slots : after.space.cell_slots ≤ before.space.cell_slots + 31 * length items
 
--- the blocks that so many insertions may need would pass the limit
+-- the blocks that so many insertions may need would exceed the limit
 abbrev pub ManyMayPassLimit : Space → ℕ → Type 0
 ManyMayPassLimit space count = (space.limit < space.node_slots + 56 * count) ⊎ (space.limit < space.cell_slots + 31 * count)

@@ -63,7 +63,7 @@ module _ {P T A R : Type 0} {p : prefix.Ghosts P R} {shows : debug.Ghosts P} {k 
   MatchEntry (Occupied o) F G = F
   MatchEntry (Vacant e) F G = G
 
-  -- the new map has at the key of an occupied entry what a call of f leaves of the value there, and is else as it was
+  -- the new map has what a call of f leaves of the value at the key of an occupied entry, and is unchanged otherwise
   abbrev pub ModifiesEntry : {F : Type 0} → Once F (MutBor T × Unit {0}) (Unit {0} × (MutBor T × Unit {0})) → F → Entry P T A R p shows k same writes → Contents T → Type 0
   ModifiesEntry g f (Vacant e) new = new ≡ e.map.now
   ModifiesEntry g f (Occupied o) new =
@@ -76,7 +76,7 @@ module _ {P T A R : Type 0} {p : prefix.Ghosts P R} {shows : debug.Ghosts P} {k 
     -- it is a step of the model, of the storage too
     pub step : StepByPath k.bit_width (stored_state (entry_map e)) (Insert (entry_path e) value) (Value (entry_value e)) (stored_state new)
 
-  -- the new map is what such an insertion leaves that is refused, whatever the value
+  -- the new map is what a refused insertion at the entry's key leaves, whatever the value
   pub record RefusesToFill (e : Entry P T A R p shows k same writes) (cause : Refusal) (new : Contents T) : Type 0 where
     pub entries : new.entries ≡ (entry_map e).entries
     pub nodes : new.nodes ≡ (entry_map e).nodes
@@ -96,7 +96,7 @@ module _ {P T A R : Type 0} {p : prefix.Ghosts P R} {shows : debug.Ghosts P} {k 
 
 module _ (P T A R : RattleType) {p : prefix.Ghosts P.Denot R.Denot} (shows : debug.Ghosts P.Denot) {k : key.Ghosts R.Denot}
     (same : partial.Ghosts R.Denot) (writes : debug.Ghosts R.Denot) (a : alloc.Ghosts A.Denot) where
-  -- once the borrow r ends, the map has the last value written through r at e's key, and is else as it was
+  -- once the borrow r ends, the map has the last value written through r at e's key, and is unchanged otherwise
   abbrev pub lends_written : Entry P.Denot T.Denot A.Denot R.Denot p shows k same writes → MutBor T.Denot → Fml
   lends_written e r = Lends (map.the_row P T A R p shows k same writes a) T (entry_map_ref e) r (with_value_at (entry_map e) (entry_path e))
 

@@ -6,8 +6,8 @@ use Rattle.prefix_trie_bits.specs.Model.Storage.{HaveBlocks}
 use Rattle.prefix_trie_table.specs.Shape.{Contents}
 use Rattle.prefix_trie_map.specs.Steps.{state, stored_state}
 
--- a map of prefixes of so many bits: no key is longer, the nodes are such as the keys need, each has its blocks, and neither array
--- passes the limit, which is below 2^32
+-- a map of prefixes of so many bits: no key is longer, the nodes are such as the keys need, each has its blocks, and
+-- neither array exceeds the limit, which is below 2^32
 pub record IsWhole {T : Type 0} (width : ℕ) (map : Contents T) : Type 0 where
   pub is_map : IsMap width (state map)
   pub have_blocks : HaveBlocks (state map) map.layout

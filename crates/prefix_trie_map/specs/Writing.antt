@@ -46,8 +46,8 @@ module _ {P T A R : Type 0} {p : prefix.Ghosts P R} {shows : debug.Ghosts P} {k 
   IsFirst c q value =
       (s : List Bool) × (after : WritingWalk T) × Next (as_walk c None) (Some s) after × (q ≡ p.back s) × (get c.map.now.entries s ≡ Some value)
 
-  -- the walk has gone on over its first entry and left this value there, whatever was lent before;
-  -- the map is unchanged otherwise
+  -- the walk has passed its first entry and left this value there, whatever was lent before; the map is unchanged
+  -- otherwise
   pub record GoesOver (c : MapCursor P T A R p shows k same writes) (value : T) (n : MapCursor P T A R p shows k same writes) : Type 0 where
     pub key : List Bool
     pub passes : (lent : Option (List Bool)) → Passes (as_walk c lent) key value (as_walk n (Some key))

@@ -25,18 +25,18 @@ module _ {C S : Type 0} where
   AtIn IsAt (Some c) item = IsAt c item
 
   module _ {V : Type 0} where
-    -- the value at a stop
+    -- the value at an item
     abbrev pub HoldsIn : (C → S → V → Type 0) → Option C → S → V → Type 0
     HoldsIn Holds None item value = ⊥
     HoldsIn Holds (Some c) item value = Holds c item value
 
-    -- what it goes over, with a value written at a stop
+    -- what it goes over, with a value written at an item
     abbrev pub written_in : (C → S → V → C) → Option C → S → V → Option C
     written_in with None item value = None
     written_in with (Some c) item value = Some (with c item value)
 
 module _ {C V : Type 0} where
-  -- the walk has gone on over its first entry, at which this value was left
+  -- the walk has passed its first entry, at which this value was left
   abbrev pub PassesIn : (C → V → C → Type 0) → Option C → V → Option C → Type 0
   PassesIn Passes None value n = ⊥
   PassesIn Passes (Some c) value None = ⊥
@@ -57,12 +57,12 @@ module _ {C Q V : Type 0} where
     pub passes : (value : V) → PassesIn Passes o value (written_in with n item value)
 
 module _ (C V : RattleType) (s : MutBor (WalkOf C.Denot)) where
-  -- once the borrow r ends, the last value written through it is at the stop
+  -- once the borrow r ends, the last value written through it is at the item
   abbrev pub lends_item : {S : Type 0} → (C.Denot → S → V.Denot → C.Denot) → S → MutBor V.Denot → Fml
   lends_item with item r = Lends (walk.the_row C) V s r (λ value. record { source = written_in with s.now.source item value })
 
-  -- once the borrow r ends, the walk has gone on over its first entry, at which the last value written through r was left; without r
-  -- nothing was to come
+  -- once the borrow r ends, the walk has passed its first entry, at which the last value written through r was left;
+  -- without r, nothing was to come
   abbrev pub lends_next : (C.Denot → V.Denot → C.Denot → Type 0) → (C.Denot → C.Denot → Type 0) → Option (MutBor V.Denot) → Fml
   lends_next Passes Ends r = LendsSo (walk.the_row C) V s r (λ n value. OnSome r (PassesIn Passes s.now.source value n.source)) (λ n. IfNone r (EndsIn Ends s.now.source n.source))
 

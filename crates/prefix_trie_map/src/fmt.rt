@@ -1,11 +1,13 @@
-//! Debug text of maps.
+//! Debug output of maps.
 
 use crate::map::PrefixMap;
 use prefix_trie_bits::prefix::Prefix;
 use std::alloc::Allocator;
 use std::fmt::{self, Debug, Formatter, Write};
 
-/// The outermost entries in listing order, each with those whose prefixes it contains as a map within it.
+/// Writes the outermost entries in listing order, each with the entries that it contains nested in it.
+///
+/// # Examples
 ///
 /// ```text
 /// {}
@@ -22,7 +24,7 @@ impl<P: Prefix, T: Debug + Drop, A: Allocator> Debug for PrefixMap<P, T, A> {
     }
 }
 
-/// Writes the entries, and answers how many of the last ones are still open.
+/// Writes the entries, and returns how many of them are still open at the end.
 fn write_entries<P: Prefix, T: Debug + Drop, A: Allocator, F: Write>(
     map: &PrefixMap<P, T, A>,
     f: &mut Formatter<F>,
@@ -37,7 +39,9 @@ fn write_entries<P: Prefix, T: Debug + Drop, A: Allocator, F: Write>(
     Ok(open)
 }
 
-/// Leads on to an entry that stands at a depth, the outermost at 1, where so many are open.
+/// Writes what separates an entry from the previous one.
+///
+/// `open` entries are open. The new entry is at `depth`, which is 1 for an outermost one.
 fn separate<F: Write>(f: &mut Formatter<F>, open: usize, depth: usize) -> fmt::Result {
     if open < depth {
         return if open == 0 {
@@ -50,7 +54,7 @@ fn separate<F: Write>(f: &mut Formatter<F>, open: usize, depth: usize) -> fmt::R
     f.write_str(", ")
 }
 
-/// Closes an entry without children, and so many that it stands in.
+/// Closes an entry without children, and `outer` entries around it.
 fn close<F: Write>(f: &mut Formatter<F>, outer: usize) -> fmt::Result {
     f.write_str(" }")?;
     for _ in 0..outer {

@@ -1,5 +1,6 @@
-//! How the lookups belong together, and what holds of what a map lists and of its copy. Each function does nothing: its
-//! contract is a law, so that the check proves it.
+//! Lemmas for callers: how the lookups are related, and what holds of listings and copies.
+//!
+//! Each function does nothing. Its contract is a law, and calling the function brings the law into the proof.
 
 ghost use Rattle.prefix_trie_map.specs.Copied.{CopyLaws};
 ghost use Rattle.prefix_trie_map.specs.Covers.{CoverLaws};
@@ -12,42 +13,53 @@ ghost use Rattle.prefix_trie_map.specs.Whole.{WholeLaws};
 use prefix_trie_bits::prefix::Prefix;
 use std::alloc::Allocator;
 
-/// `get_lpm` answers the last item of the list of stored prefixes that contain the question, the shortest first, `get_spm` the
-/// first, and `is_covered` whether there is one.
+/// Relates `get_lpm`, `get_spm` and `is_covered` to the list of stored prefixes that contain a prefix, shortest first.
+///
+/// `get_lpm` returns its last item and `get_spm` its first. `is_covered` returns whether the list has an item.
 pub fn cover_laws<P, T>()
     ensures { CoverLaws P T }
 {}
 
-/// Each prefix that a map gives fits, so it may be handed to any call. Asks what `len`, `is_empty`, `node_count` and the makers
-/// of walks say of every map.
+/// States that each prefix that a map returns fits, so it may be passed to any call.
+///
+/// Requires what `len`, `is_empty`, `node_count` and the calls that make walks ensure for every map.
 pub fn listed_laws<P: Prefix, T>()
     ensures { ListedLaws T P.R.bit_width P.path P.IsFitting P.back }
 {}
 
-/// After at least one item of `iter` or of `iter_from`, `iter_from` behind the last item read gives the rest. Asks what walks
-/// say of every map.
+/// States that `iter_from` after the last item read gives the rest of a walk.
+///
+/// The walk is `iter` or `iter_from`, and at least one item was read. Requires what calls that make walks ensure for
+/// every map.
 pub fn resume_laws<P: Prefix, T>()
     ensures { ResumeLaws T P.R.bit_width P.path P.back }
 {}
 
-/// A copy of a map needs the nodes that its source needs, so it is tidy exactly if its source is. It has a clone of each value, and
-/// the same entries if clones are equal to their sources.
+/// States that a copy needs the nodes that its source needs, so it is tidy exactly if its source is.
+///
+/// The copy has a clone of each value. It has the same entries if clones are equal to their sources.
 pub fn copy_laws<T: Clone>()
     ensures { CopyLaws T.is_clone }
 {}
 
-/// Each array of a map has fewer than 2^32 slots. Requires what `len` and the makers of walks say of every map.
+/// States that each array of a map has fewer than 2^32 slots.
+///
+/// Requires what `len` and the calls that make walks ensure for every map.
 pub fn whole_laws<P: Prefix, T>()
     ensures { WholeLaws T P.R.bit_width }
 {}
 
-/// Filling an entry leaves slots and blocks as `insert` does at the entry's key: unchanged if the key is stored.
+/// States that filling an entry changes slots and blocks as `insert` does at the entry's key.
+///
+/// They are unchanged if the key is stored.
 pub fn fill_laws<P: Prefix, T: Drop, A: Allocator>()
     ensures { FillLaws P T A P.R P.Prefix.own P.Debug P.R.Key.own P.R.PartialEq P.R.Debug }
 {}
 
-/// Any number of calls with the clause `settles`, as `retain`, `drop_children` and `remove_children` have it, lengthens an array by at most
-/// the headroom that its blocks had before the first call. The headroom of a block is the slots of one block of each smaller size.
+/// Bounds how much any number of calls with the clause `bounds_growth` lengthens an array.
+///
+/// `retain`, `drop_children` and `remove_children` have this clause. The bound is the headroom that the array's blocks
+/// had before the first call. The headroom of a block is the slots of one block of each smaller size.
 pub fn settling_laws()
     ensures { SettlingLaws }
 {}

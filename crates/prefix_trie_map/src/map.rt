@@ -1,8 +1,12 @@
 //! Maps from prefixes to values, looked up exactly and by longest match.
 //!
-//! The path of a prefix, its first `prefix_len` bits, is its key: two prefixes with the same path are one key, whatever their
-//! host bits. Contracts see a map as its entries, a finite map from paths to values, its nodes, its room, which is its limit
-//! and the lengths of its two arrays, and its layout: how the arrays are cut into blocks.
+//! A key is the path of a prefix: its first `prefix_len` bits.
+//!
+//! Two prefixes with the same path are one key, whatever their host bits.
+//!
+//! Contracts see a map as its entries, its nodes, its space and its layout. The entries are a finite map from paths to
+//! values. The space is the slot limit and the lengths of the two arrays. The layout is how the arrays are cut into
+//! blocks.
 ghost use Rattle.std.specs.Prelude.{◌≡◌, ◌<◌, ◌-◌, ◌^◌, ◌↔◌, IfOk, OnOk, IfErr, OnErr, IsTrue};
 ghost use Rattle.std.specs.FinMap.{get, len};
 ghost use Rattle.prefix_trie_bits.specs.declared.prefix.Refusal.TheVariants.{Memory, IndexRange};
@@ -52,8 +56,10 @@ pub use writing::{IterMut, ValuesMut};
 
 /// A map from prefixes to values, in memory of the allocator `A`.
 ///
-/// Prefixes are not kept: of a key the map knows its path alone. Every call that takes a prefix asks that it fits. In examples
-/// `10.1.0.0/16` stands for the network of that text, `"10.1.0.0/16".parse::<Ipv4Prefix>()?`.
+/// The map stores the path of a prefix, not the prefix itself. Every call that takes a prefix requires that it fits. In
+/// examples, `10.1.0.0/16` is short for the network of that text, `"10.1.0.0/16".parse::<Ipv4Prefix>()?`.
+///
+/// # Examples
 ///
 /// ```text
 /// let mut map = PrefixMap::new(alloc)?;
@@ -69,7 +75,7 @@ pub struct PrefixMap<P: Prefix, T: Drop, A: Allocator> {
     marker: PhantomData<P>,
 }
 
-// Contracts see what they see of the table. No key is longer than those of P, and the nodes are such as keys need.
+// Contracts see what they see of the table. No key is longer than the width of P, and the nodes are such as keys need.
 impl<P: Prefix, T: Drop, A: Allocator> Model for PrefixMap<P, T, A> {
     ghost use Rattle.prefix_trie_table.specs.Shape.{Contents, contents_code};
     ghost use Rattle.prefix_trie_bits.specs.Laws.Steps.{IsMap};
@@ -85,9 +91,20 @@ impl<P: Prefix, T: Drop, A: Allocator> Model for PrefixMap<P, T, A> {
 }
 
 impl<P: Prefix, T: Drop, A: Allocator + Clone> PrefixMap<P, T, A> {
-    /// An empty map. Neither of its arrays will ever be longer than `u32::MAX` slots.
+    /// Creates an empty map.
     ///
-    /// Errors: `Memory` where a request for memory is refused. Then no map exists.
+    /// Neither of its arrays can ever be longer than `u32::MAX` slots.
+    ///
+    /// # Errors
+    ///
+    /// Returns `Memory` if an allocation fails. No map exists then.
+    ///
+    /// # Examples
+    ///
+    /// ```text
+    /// let map: PrefixMap<Ipv4Prefix, u32, Global> = PrefixMap::new(alloc)?;
+    /// (map.len(), map.node_count())   (0, 1)
+    /// ```
     #[inline]
     pub fn new(alloc: A) -> Result<Self, Refusal>
         ensures entries { IfOk result (λ map. map.entries ≡ no_entries) }
@@ -101,7 +118,14 @@ impl<P: Prefix, T: Drop, A: Allocator + Clone> PrefixMap<P, T, A> {
 }
 
 impl<P: Prefix, T: Drop, A: Allocator> PrefixMap<P, T, A> {
-    /// The number of entries.
+    /// Returns the number of entries. It is stored, so the call reads no node.
+    ///
+    /// # Examples
+    ///
+    /// ```text
+    /// 10.0.0.0/8 and 10.1.0.0/16 are stored
+    /// map.len()   2
+    /// ```
     #[inline]
     pub fn len(&self) -> usize
         ensures count { result ≡ len self.now.entries }
@@ -119,7 +143,14 @@ impl<P: Prefix, T: Drop, A: Allocator> PrefixMap<P, T, A> {
         let _ = self.len();
     }
 
-    /// Whether there are no entries.
+    /// Returns whether there are no entries.
+    ///
+    /// # Examples
+    ///
+    /// ```text
+    /// map.clear()
+    /// map.is_empty()   true
+    /// ```
     #[inline]
     pub fn is_empty(&self) -> bool
         ensures none { IsTrue result ↔ (self.now.entries ≡ no_entries) }
@@ -128,11 +159,23 @@ impl<P: Prefix, T: Drop, A: Allocator> PrefixMap<P, T, A> {
         self.len() == 0
     }
 
-    /// Sets the value for a prefix, and answers the one that was there before. A stored prefix is never refused.
+    /// Sets the value of a prefix and returns the previous one.
     ///
-    /// Errors: of a new prefix `Memory` where a request for memory is refused, and `IndexRange` where the slots of the blocks that
-    /// lack pass the limit. It hands the value back, and the map has the entries that it had. One insertion makes at most 56
-    /// slots for nodes and 31 for values (`slot_laws`).
+    /// Inserting a prefix that is already stored never fails and does not allocate. A new prefix makes at most 56 slots
+    /// for nodes and 31 for values (`slot_laws`).
+    ///
+    /// # Errors
+    ///
+    /// Returns the value back, with the cause, if a new prefix needs a block that cannot be made: `Memory` if an
+    /// allocation fails, `IndexRange` if the missing blocks would exceed the slot limit. Entries and nodes are
+    /// unchanged then.
+    ///
+    /// # Examples
+    ///
+    /// ```text
+    /// map.insert(10.1.0.0/16, 1)   Ok(None), in a new map
+    /// map.insert(10.1.2.3/16, 2)   Ok(Some(1)), since both have one path
+    /// ```
     #[inline]
     pub fn insert(&mut self, prefix: P, value: T) -> Result<Option<T>, Refused<T>>
         requires { P.IsFitting prefix }
@@ -140,13 +183,13 @@ impl<P: Prefix, T: Drop, A: Allocator> PrefixMap<P, T, A> {
         ensures entries { OnOk result (self.new.entries ≡ with_entry self.old.entries (P.path prefix) value) }
         ensures nodes { OnOk result (self.new.nodes ≡ with_needed self.old.nodes (P.path prefix)) }
 
-        // A refusal changes neither the entries nor the nodes.
+        // An error changes neither the entries nor the nodes.
         ensures unchanged { OnErr result ((self.new.entries ≡ self.old.entries) × (self.new.nodes ≡ self.old.nodes)) }
         ensures returned { IfErr result (λ refused. refused.value ≡ value) }
 
-        // It is a step of the model, of the storage too. A stored key is never refused, and needs no block. A new one takes free blocks,
-        // and of each size exactly the lacking ones are made. It is refused only where a block lacks: with `IndexRange` only where
-        // the lacking ones pass the limit, and with `Memory` only where one that lacks still would not.
+        // This is a step of the model, of the storage too. A stored key needs no block. A new key uses free blocks, and
+        // exactly the missing ones are made. An error means that a block is missing: for `IndexRange`, the missing
+        // blocks would exceed the limit; for `Memory`, a missing block would fit the limit.
         ensures step { StepByPath P.R.bit_width (stored_state self.old) (Insert (P.path prefix) value) (insert_reply result) (stored_state self.new) }
     {
         let (key, len) = parts(&prefix);

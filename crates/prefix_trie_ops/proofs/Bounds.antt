@@ -1,4 +1,4 @@
--- The maps that are made of two maps have no longer keys than these, and no more entries.
+-- The maps made of two maps have no longer keys than these, and no more entries.
 use Rattle.std.proofs.Common.{◌≡◌, ◌∙◌, ◌+◌, ◌≤◌, ◌<◌, ℕ, Bool, true, false, true≢false, cond, List, [], ◌∷◌, length, map, filter, Option, None, Some, Ordering, Less, Equal, Greater, is_some, suc, ap, sym, subst, refl, arith}
 use Rattle.std.specs.List.{cons_option, filter_map}
 use Rattle.std.specs.Option.{option_map}

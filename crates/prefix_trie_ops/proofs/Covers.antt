@@ -15,7 +15,7 @@ use Rattle.prefix_trie.specs.Words.{Entries, begins, covers, last_item, lent_ite
 use Rattle.prefix_trie_ops.specs.Values.{value_above, value_of}
 use Rattle.prefix_trie_ops.proofs.Lists.{contains_cases, contains_later, contains_here, contains_none, contains_parts, contains_middle, filter_agrees, filter_both, filter_none}
 
--- what is before a string and does not begin it begins no string behind that
+-- what is before a string and does not begin it begins no string after that
 pub between : (e x y : List Bool) → listing_cmp e x ≡ Less → listing_cmp x y ≡ Less → begins e y ≡ true → begins e x ≡ true
 between e x y ex xy b = elim (begins e x) as (λ t. begins e x ≡ t → t ≡ true) [
   | true ↦ λ _. refl
@@ -24,7 +24,7 @@ between e x y ex xy b = elim (begins e x) as (λ t. begins e x ≡ t → t ≡ t
       absurd (not_less x y xy back)
 ] refl
 
--- a string that begins another and is not before it is it
+-- a string that begins another and is not shorter is the same
 pub no_shorter : (e y : List Bool) → begins e y ≡ true → nat_lt (length e) (length y) ≡ false → e ≡ y
 no_shorter e y b n = begins-same-length e y b (let l : length e ≤ length y = begins-length e y b in let g : length y ≤ length e = grind (arith, n) in omega arith)
 
@@ -38,7 +38,7 @@ module _ {T' : Type 0} where
         | inr there ↦ behind_all s es e (true-t (below_all listing_cmp s es) (and-second (is_lt (listing_cmp s x.0)) (below_all listing_cmp s es) all)) there
       ]
 
-  -- in a sorted list, what stands before an item is before it, and what stands behind is behind
+  -- in a sorted list, the keys before an item are less than it, and the keys after it are greater
   pub before_it : (front back : List (List Bool × T')) (d e : List Bool × T') → T (is_sorted listing_cmp (front ++ d ∷ back)) → Contains front e → listing_cmp e.0 d.0 ≡ Less
   before_it [] back d e h at = absurd (contains_none e at)
   before_it (x ∷ front) back d e h at = elim (contains_cases x e front at) [
@@ -54,7 +54,7 @@ module _ {T' : Type 0} where
   abbrev pub shorter_covers : Entries T' → List Bool → List (List Bool × T')
   shorter_covers m y = filter (λ e. begins e.0 y && nat_lt (length e.0) (length y)) (listing m)
 
-  -- the covers of a stored key are the shorter ones and its own
+  -- the covers of a stored key are the shorter ones and its own entry
   pub covers_push : (m : Entries T') (read rest : List (List Bool × T')) (y : List Bool × T') → listing m ≡ read ++ y ∷ rest
       → (covers m y.0 ≡ shorter_covers m y.0 ++ y ∷ []) × (shorter_covers m y.0 ≡ filter (λ e. begins e.0 y.0 && nat_lt (length e.0) (length y.0)) read)
   covers_push m read rest y split =
@@ -93,7 +93,7 @@ module _ {T' : Type 0} where
         ] refl
       ] refl
 
-  -- those of the entry before it that begin a key are its shorter covers
+  -- the covers of the entry before it that begin a key are its shorter covers
   pub covers_next : (m : Entries T') (read rest : List (List Bool × T')) (x y : List Bool × T') → listing m ≡ read ++ x ∷ y ∷ rest
       → filter (λ e. begins e.0 y.0) (covers m x.0) ≡ shorter_covers m y.0
   covers_next m read rest x y split =

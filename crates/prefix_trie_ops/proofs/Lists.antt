@@ -24,7 +24,7 @@ module _ {X : Type 0} where
     | inr l ↦ elim (contains_parts xs ys x l) [ inl a ↦ inl (contains_later z x xs a) | inr b ↦ inr b ]
   ]
 
-  -- two tests that agree at the items keep the same ones
+  -- two tests that agree at the items keep the same items
   pub filter_agrees : (p q : X → Bool) (xs : List X) → ((x : X) → Contains xs x → p x ≡ q x) → filter p xs ≡ filter q xs
   filter_agrees p q [] h = refl
   filter_agrees p q (x ∷ xs) h =

@@ -17,7 +17,7 @@ module _ {X Y : Type 0} where
   abbrev both : List (List Bool × X) → List (List Bool × Y) → List (List Bool × Side X Y)
   both xs ys = merged (λ s. s) xs ys
 
-  -- the merged list of two that are not empty, by the order of their heads
+  -- two merged lists that are not empty, by the order of their heads
   abbrev by_heads : Ordering → List Bool × X → List (List Bool × X) → List Bool × Y → List (List Bool × Y) → List (List Bool × Side X Y)
   by_heads o x xs y ys = elim o [
     | Less ↦ (x.0, Left x.1) ∷ both xs (y ∷ ys)
@@ -148,7 +148,7 @@ module _ {X Y : Type 0} where
     union_shown m n hx hy = both_shown (listing m) (listing n) hx hy ∙ sym (ap (prefix_pairs back) (union_listing m n))
 
 module _ {P X Y : Type 0} (path : P → List Bool) where
-  -- the prefixes of a merged list are those of two lists, merged
+  -- the prefixes of a merged list are the merged prefixes of the two lists
   pub merged_prefixes : (xs : List (P × X)) (ys : List (P × Y)) → merged_keys path (map (λ e. e.0) xs) (map (λ e. e.0) ys) ≡ map (λ e. e.0) (merged path xs ys)
   merged_prefixes [] [] = refl
   merged_prefixes [] (y ∷ ys) = ap (λ zs. y.0 ∷ zs) (merged_prefixes [] ys)

@@ -25,7 +25,7 @@ module _ {T : Type 0} where
   has : (m : Entries T) (s : List Bool) (v : T) → get m s ≡ Some v → contains_key m s ≡ true
   has m s v h = ap is_some h
 
-  -- two maps with the same longest-match values, where the one has a longest match and the other has it too, and no longer one
+  -- an entry that is a longest match is the one that `longest_match` returns
   pub same_longest : {P : Type 0} → LookupLaws P T → (m : Entries T) (q : List Bool) (e : List Bool × T) → IsLongestMatch m q e → longest_match m q ≡ Some e
   same_longest laws m q e is = elim (looked laws m q) [
     | inl none ↦ absurd (true≢false (sym is.matches.begins_it ∙ none.1 e.0 (has m e.0 e.1 is.matches.stored)))

@@ -38,7 +38,7 @@ module _ {P T' : Type 0} (path : P → List Bool) (back : List Bool → P) (p : 
       → filter (λ q. p (path q)) (map (λ e. back e.0) (listing m)) ≡ map (λ e. back e.0) (listing (retain_keys m p))
   selected_keys m known = filter_keys (listing m) known ∙ sym (ap (map (λ e. back e.0)) (entries-retained m p))
 
--- the keys of a listing fit where its items do
+-- the keys of a listing fit if its items do
 pub keys_fit : {P X : Type 0} (F : P → Type 0) (back : List Bool → P) (es : List (List Bool × X)) → All (λ e. F e.0) (prefix_pairs back es) → All F (map (λ e. back e.0) es)
 keys_fit F back [] h = All-nil F
 keys_fit F back (x ∷ es) h =

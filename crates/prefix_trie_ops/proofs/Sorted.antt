@@ -24,7 +24,7 @@ equal_is : (o : Ordering) → is_eq o ≡ true → o ≡ Equal
 equal_is Equal h = refl
 equal_is o h = absurd (true≢false (sym h))
 
--- strings that tie are one
+-- strings that compare as equal are the same
 pub same_is : (s t : List Bool) → same_string s t ≡ true → s ≡ t
 same_is s t h = listing_same s t (equal_is (listing_cmp s t) h)
 

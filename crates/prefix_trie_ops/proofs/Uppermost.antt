@@ -62,7 +62,7 @@ module _ {T' : Type 0} where
         | false ↦ λ nz. ap (λ es. is_some (first_item es)) (covers_shorter m s nz)
       ] refl
 
-  -- the first of a list, after an item is put behind it
+  -- the first of a list, after an item is put after it
   first_pushed : (xs : List (List Bool × T')) (x : List Bool × T') → is_some (first_item xs) ≡ true → first_item (xs ++ x ∷ []) ≡ first_item xs
   first_pushed [] x h = absurd (true≢false (sym h))
   first_pushed (y ∷ xs) x h = refl
@@ -198,7 +198,7 @@ pub same_covered : {P : Type 0} → LookupLaws P (Unit {0}) → MatchLaws (Unit 
 same_covered lookups laws m n is q =
     sym (value_some laws n q) ∙ ap is_some (same_values always m n (left_get laws m n is) lookups (λ x y _. refl) q) ∙ value_some laws m q
 
--- and no key of it is covered by a shorter one
+-- and no shorter key covers a key of it
 pub none_covered : {P : Type 0} → LookupLaws P (Unit {0}) → MatchLaws (Unit {0}) → (m n : Entries (Unit {0})) → n ≡ without_covered m
     → (s : List Bool) → contains_key n s ≡ true → is_below_another n s ≡ false
 none_covered lookups laws m n is s there =

@@ -17,7 +17,7 @@ use Rattle.prefix_trie_ops.proofs.Lists.{contains_here, contains_later, contains
 use Rattle.prefix_trie_ops.proofs.Covers.{shorter_covers, covers_push, next_covers, covers_of, above_is_last}
 
 module _ {T' P : Type 0} (path : P → List Bool) (back : List Bool → P) where
-  -- to select by prefixes is to select by paths
+  -- selecting by prefixes is the same as selecting by paths
   filter_shown : (p : List Bool × T' → Bool) (q : List Bool) (es : List (List Bool × T')) → ((e : List Bool × T') → Contains es e → path (back e.0) ≡ e.0)
       → filter (λ d. begins (path d.0) q) (prefix_pairs back (filter p es)) ≡ prefix_pairs back (filter (λ e. begins e.0 q) (filter p es))
   filter_shown p q [] h = refl

@@ -1,4 +1,4 @@
--- What the maps that are made of two maps have, and how they belong together. This project's own.
+-- What the maps made of two maps have, and how they are related. This project's own.
 use Rattle.std.specs.Prelude.{◌≡◌, ◌↔◌, Bool, true, false, cond, List, None, is_some}
 use Rattle.std.specs.Option.{option_map, option_or}
 use Rattle.std.specs.FinMap.{contains_key, get}
@@ -22,5 +22,5 @@ pub record CombiningLaws (T U : Type 0) : Type 0 where
   pub apart : (m : Entries T) (n : Entries U) (s : List Bool) → contains_key (minus m n) s ≡ true → contains_key (common m n) s ≡ false
   -- the difference is empty exactly if the other map has each key
   pub subset : (m : Entries T) (n : Entries U) → (minus m n ≡ no_entries) ↔ ((s : List Bool) → contains_key m s ≡ true → contains_key n s ≡ true)
-  -- what nothing covers is in the difference
+  -- what no key covers is in the difference
   pub uncovered : (m : Entries T) (n : Entries U) (s : List Bool) → contains_key (not_covered m n) s ≡ true → contains_key (minus m n) s ≡ true

@@ -1,4 +1,4 @@
--- What walks over two maps lend.
+-- The values that walks over two maps lend.
 use Rattle.std.specs.Borrow.{Bor}
 
 -- a prefix and the two values that are lent with it

@@ -7,7 +7,7 @@ use Rattle.prefix_trie_ops.specs.declared.map.sides.Side.{Side}
 use Rattle.prefix_trie_ops.specs.declared.map.sides.Side.TheVariants.{Left, Right, Both}
 
 module _ {P T U : Type 0} (path : P → List Bool) where
-  -- the items of two lists in listing order, where two of one prefix are one item
+  -- the items of two lists in listing order; two items of one prefix become one
   abbrev pub merged : List (P × T) → List (P × U) → List (P × Side T U)
   merged [] [] = []
   merged [] (y ∷ ys) = (y.0, Right y.1) ∷ merged [] ys

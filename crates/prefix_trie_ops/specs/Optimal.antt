@@ -15,7 +15,7 @@ module _ {T : Type 0} where
   abbrev pub HasNoneBelow : Entries T → List Bool → Type 0
   HasNoneBelow m s = (t : List Bool) → begins s t ≡ true → get m t ≡ None
 
-  -- the longest-match value of the question s ++ r, where `above` is the one that the keys shorter than s give
+  -- the longest-match value of the question s ++ r, if `above` is the one that the keys shorter than s give
   abbrev pub value_along : (List Bool → Option T) → Option T → List Bool → List Bool → Option T
   value_along value above s [] = option_or (value s) above
   value_along value above s (b ∷ r) = value_along value (option_or (value s) above) (s ++ b ∷ []) r

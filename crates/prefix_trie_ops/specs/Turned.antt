@@ -1,4 +1,4 @@
--- What two maps have at a key, with the sides turned round.
+-- What two maps have at a key, with the sides exchanged.
 use Rattle.prefix_trie_ops.specs.declared.map.sides.Side.{Side}
 use Rattle.prefix_trie_ops.specs.declared.map.sides.Side.TheVariants.{Left, Right, Both}
 
@@ -12,6 +12,6 @@ module _ {T U : Type 0} where
   abbrev pub turned_pair : T × U → U × T
   turned_pair p = (p.1, p.0)
 
--- an item with a pair, with the sides turned round
+-- an item with a pair, with the sides exchanged
 abbrev pub turned_item : {P T U : Type 0} → P × (T × U) → P × (U × T)
 turned_item e = (e.0, turned_pair e.1)

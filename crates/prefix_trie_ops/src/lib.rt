@@ -1,7 +1,7 @@
-//! Operations on whole maps and sets of prefixes: union, intersection and difference as walks, and the removal of entries that
-//! change no lookup.
+//! Operations on whole maps and sets of prefixes.
 //!
-//! `map` has the operations on maps, `set` those on sets, and `laws` what follows from their contracts.
+//! Union, intersection and difference are walks. Aggregation removes entries that change no lookup. `map` has the
+//! operations on maps, `set` the operations on sets, and `laws` what follows from their contracts.
 #![tactic(auto)]
 
 pub mod ahead;

@@ -9,6 +9,13 @@ use std::cmp::Ordering;
 /// Returns which of two prefixes comes first in a listing.
 ///
 /// A prefix comes before those that it contains. Of two that differ in a bit, the one with 0 comes first.
+///
+/// # Examples
+///
+/// ```text
+/// listing_order(&10.0.0.0/8, &10.1.0.0/16)   Less
+/// listing_order(&10.0.0.0/8, &9.0.0.0/8)     Greater
+/// ```
 #[inline]
 pub fn listing_order<P: Prefix>(left: &P, right: &P) -> Ordering
     requires fits { P.IsFitting left.now }

@@ -1,4 +1,4 @@
-//! Walks that give the items of another walk whose prefixes pass a test.
+//! Walks over the items of another walk whose prefixes pass a test.
 ghost use Rattle.std.specs.Prelude.{◌≡◌, ◌<◌, ◌^◌, All, List, Bool, filter, length, map};
 ghost use Rattle.std.specs.Iterator.{at_most};
 ghost use Rattle.std.specs.Map.Iter.{GivesInOrder, ShowsInOrder, TakesFirst};
@@ -41,7 +41,7 @@ impl<'a, P: Prefix, T: Drop, A: Allocator, F: PathTest<P>> Model for Selected<'a
 }
 
 impl<'a, P: Prefix, T: Drop, A: Allocator, F: PathTest<P>> Selected<'a, P, T, A, F> {
-    /// Returns the walk over those of the entries that pass the test.
+    /// Returns the walk over the entries that pass the test.
     pub(crate) fn new(entries: Iter<'a, P, T, A>, test: F) -> Self
         requires { All (λ e. P.IsFitting e.0) entries }
         ensures { result ≡ filter (λ e. F.outcome test (P.path e.0)) entries.entry }
@@ -99,7 +99,7 @@ impl<'a, P: Prefix, A: Allocator, F: PathTest<P>> Model for SelectedKeys<'a, P, 
 }
 
 impl<'a, P: Prefix, A: Allocator, F: PathTest<P>> SelectedKeys<'a, P, A, F> {
-    /// Returns the walk over those of the keys that pass the test.
+    /// Returns the walk over the keys that pass the test.
     pub(crate) fn new(keys: set::Iter<'a, P, A>, test: F) -> Self
         requires { All P.IsFitting keys }
         ensures { result ≡ filter (λ p. F.outcome test (P.path p)) keys.entry }

@@ -15,7 +15,7 @@ module _ {P T : Type 0} (path : P → List Bool) where
   with_messages [] m = m
   with_messages (x ∷ xs) m = with_messages xs (with_message x m)
 
--- what a message says of a prefix, by what two tables have there: nothing if that is the same
+-- what a message tells of a prefix, by what two tables have there: nothing if that is the same
 abbrev pub change_of : Side ℕ ℕ → Option (Option ℕ)
 change_of (Left v) = Some None
 change_of (Right w) = Some (Some w)

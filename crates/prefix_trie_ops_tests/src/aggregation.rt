@@ -1,6 +1,6 @@
-//! Aggregation of every map over a few keys, beside brute force.
+//! Aggregation of every map over a few keys, compared with brute force.
 //!
-//! A map is a number in the base of its values plus 1. The digit at index `k` is what is stored at key `k`, where 0 is nothing.
+//! A map is a number in the base of its values plus 1. The digit at index `k` is the value of key `k`; 0 is no value.
 ghost use Rattle.std.specs.Prelude.{IfSome};
 
 use prefix_trie::{Narrow, Prefix, PrefixMap, Refusal};
@@ -28,7 +28,7 @@ static KEYS: [(u64, u8); 15] = [
     (7, 3),
 ];
 
-/// Some maps: the first `count` multiples of `step`, where each key has nothing or one of `values` values.
+/// Some maps: the first `count` multiples of `step`. Each key has no value, or one of `values` values.
 struct Maps {
     values: u8,
     count: u32,
@@ -147,7 +147,7 @@ fn put_all(map: &mut Small, stored: &[u32; 15]) -> Result<(), Refusal> {
     Ok(())
 }
 
-/// Returns whether the keys from one on have the longest-match values that they should have.
+/// Returns whether the keys from an index on have the longest-match values that they should have.
 fn keeps_values(map: &Small, stored: &[u32; 15], first: usize) -> bool {
     for key in first..15 {
         let Some(prefix) = prefix_of(key) else {

@@ -1,7 +1,7 @@
-//! Operations on two maps and on two sets, beside brute force.
+//! Operations on two maps and on two sets, compared with brute force.
 //!
-//! A case is a list of keys in listing order, and which of them are on the left and on the right. Each walk is read into a number,
-//! which has to be the number that brute force gives.
+//! A case is a list of keys in listing order, and which of them are on the left and on the right. Each walk is read
+//! into a number, which must be the number that brute force gives.
 mod expected;
 mod maps;
 mod sets;
@@ -12,12 +12,12 @@ use prefix_trie::{Key, Narrow, Prefix, Refusal};
 use sets::are_right_sets;
 use std::alloc::Global;
 
-/// Whether all operations on the maps and on the sets of a case are right.
+/// Returns whether all operations on the maps and on the sets of a case are right.
 fn is_right<K: Key>(case: &Case<'_, K>, alloc: Global) -> Result<bool, Refusal> {
     Ok(are_right_maps(case, alloc)? & are_right_sets(case, alloc)?)
 }
 
-/// Whether a case is right for each choice of keys on the left and on the right.
+/// Returns whether a case is right for each choice of keys on the left and on the right.
 fn all_are_right<K: Key>(keys: &[(K, u8)], choices: u32, alloc: Global) -> Result<bool, Refusal> {
     for left in 0..choices {
         for right in 0..choices {
@@ -29,7 +29,9 @@ fn all_are_right<K: Key>(keys: &[(K, u8)], choices: u32, alloc: Global) -> Resul
     Ok(true)
 }
 
-/// Whether it is right for these choices: empty, equal and disjoint sides, one within the other, and shares.
+/// Returns whether a case is right for some choices of keys.
+///
+/// The sides are empty, equal or disjoint, one contains the other, or they share some keys.
 fn some_are_right<K: Key>(keys: &[(K, u8)], alloc: Global) -> Result<bool, Refusal> {
     for (left, right) in &CHOICES {
         if !is_right(

@@ -1,7 +1,7 @@
-//! The tables of the program `routes`: what is read, what is refused, and what each command prints.
+//! The program `routes`: which texts it reads, which it refuses, and what each command prints.
 //!
-//! A case of `READINGS` is a text and what becomes of it. A case of `COMMANDS` is a command line over the two texts `old` and `new`, and
-//! what the command prints. The expected texts are written by hand.
+//! A case of `READINGS` is a text and the result of reading it. A case of `PRINTINGS` is a command line over the two
+//! texts `old` and `new`, and what the command prints. The expected texts are written by hand.
 
 use route_tables::access::first_other;
 use route_tables::addresses::read_addresses;
@@ -275,7 +275,7 @@ fn commands_print(rt: HostRuntime) -> Result<(), Fail> {
     Ok(())
 }
 
-/// The lines of `stats` that do not depend on how a table is stored.
+/// Tests the lines of `stats` that do not depend on how a table is stored.
 #[test]
 fn stats_count(rt: HostRuntime) -> Result<(), Fail> {
     let out = printed(&["stats", "old"], rt.alloc())?;

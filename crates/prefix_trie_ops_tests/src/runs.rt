@@ -7,7 +7,7 @@ use std::alloc::Global;
 
 type Table = PrefixMap<(u32, u8), u32, Global>;
 
-/// The table of these routes.
+/// Returns the table of these routes.
 fn table(routes: &[((u32, u8), u32)], alloc: Global) -> Result<Table, Refusal> {
     let mut table = PrefixMap::new(alloc)?;
     for (route, hop) in routes {
@@ -31,7 +31,7 @@ static SECOND: [((u32, u8), u32); 3] = [
     ((0x0b00_0000, 8), 5),
 ];
 
-/// Whether the first table becomes the second one by a change, a withdrawal and an announcement.
+/// Returns whether the first table becomes the second one by a change, a withdrawal and an announcement.
 fn are_updated(alloc: Global) -> Result<bool, Refusal> {
     let (old, new) = (table(&FIRST, alloc)?, table(&SECOND, alloc)?);
     match updates(&old, &new, alloc) {
@@ -48,7 +48,7 @@ fn are_updated(alloc: Global) -> Result<bool, Refusal> {
     }
 }
 
-/// Whether the first table's routes are preferred, and the second one's are there too.
+/// Returns whether the first table's routes are preferred, and the second table's are there too.
 fn are_preferred(alloc: Global) -> Result<bool, Refusal> {
     let (first, second) = (table(&FIRST, alloc)?, table(&SECOND, alloc)?);
     let both = preferring(&first, &second, alloc)?;
@@ -59,7 +59,7 @@ fn are_preferred(alloc: Global) -> Result<bool, Refusal> {
     )
 }
 
-/// Whether a network within another one is left out.
+/// Returns whether a network within another one is left out.
 fn is_reduced(alloc: Global) -> Result<bool, Refusal> {
     let mut list = PrefixSet::new(alloc)?;
     list.insert(Ipv4Prefix::new(0x0a00_0000, 8).unwrap())?;

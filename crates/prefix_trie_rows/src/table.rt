@@ -79,8 +79,9 @@ pub enum Line {
     AddOrInsert(Pair, u64, u64),
     /// Calls `or_default`, which lends the first number, and sets the value to the second.
     OrDefault(Pair, u64, u64),
-    /// Calls `or_insert_with` with a closure that returns the first number. The call lends the second number, and calls
-    /// the closure this many times.
+    /// Calls `or_insert_with` with a closure that returns the first number.
+    ///
+    /// The call lends the second number, and calls the closure this many times.
     OrInsertWith(Pair, u64, u64, u64),
     /// The value that an occupied entry returns when it is removed, or `None` if the entry is vacant.
     RemoveEntry(Pair, Option<u64>),

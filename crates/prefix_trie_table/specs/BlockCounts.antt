@@ -9,8 +9,8 @@ use Rattle.prefix_trie_table.specs.Store.{Tier}
 abbrev pub tier_count : Tier → BlockCount
 tier_count t = record { size = t.size; used = t.made - length t.starts; free = length t.starts }
 
--- the counts for each of these sizes, where `used` has the sizes of the used blocks and so many of
--- each size are free
+-- the counts for each of these sizes, if `used` has the sizes of the used blocks, and so many blocks of each size are
+-- free
 abbrev pub block_counts : List ℕ → Sizes → List ℕ → List BlockCount
 block_counts [] used free = []
 block_counts (n ∷ ns) used [] = []

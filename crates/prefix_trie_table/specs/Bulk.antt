@@ -60,17 +60,17 @@ IsSound v = (n : SomeNodes v) × LackLastBit n.reading
 abbrev pub reached_by : Descent → Node → ℕ → Reached
 reached_by w n level = record { at = w.at; node = n; level = level }
 
--- what was found is the answer to a question, in these nodes
+-- what was found is the match of a question, in these nodes
 abbrev pub IsAnswer : List Node → List Bool → Option Found → Type 0
 IsAnswer nodes q found = IsLongestFound (read nodes) q (length q + 1) found
 
--- each question has its answer
+-- each question has its match
 abbrev pub AreAnswers : List Node → List (List Bool) → List (Option Found) → Type 0
 AreAnswers nodes questions found =
     (i : ℕ) (q : List Bool) (a : Option Found) → i < length questions → q ≡ slice_index_or questions i q → a ≡ slice_index_or found i a → IsAnswer nodes q a
 
 module _ (v : Store Node) (questions : List (List Bool)) where
-  -- the way of a question has come to the node ahead, and the longest match above it is known
+  -- the search for a question is at the next node, and the longest match above that node is known
   pub record IsDescent (level : ℕ) (w : Descent) : Type 0 where
     pub question : List Bool
     pub is : question ≡ slice_index_or questions w.question question
@@ -78,26 +78,26 @@ module _ (v : Store Node) (questions : List (List Bool)) where
     pub along : IsAlong question (reached_by w (node_at v.slots (slot_of w)) level) v
     pub best : HasFound v question (5 * level) w.best
 
-  -- a question that is no longer on its way has its answer
+  -- a question whose search has ended has its match
   abbrev pub AreAnswered : List ℕ → List (Option Found) → Type 0
   AreAnswered under_way found =
       (i : ℕ) (q : List Bool) (a : Option Found) → i < length questions → q ≡ slice_index_or questions i q → a ≡ slice_index_or found i a
       → Contains under_way i ⊎ HasFound v q (length q + 1) a
 
-  -- how many nodes there are on the way of each question
+  -- the number of nodes on the search path of each question
   abbrev pub AreCosts : List ℕ → Type 0
   AreCosts costs =
       (i : ℕ) (q : List Bool) → i < length questions → q ≡ slice_index_or questions i q
       → (reading : List ℕ → Option Node) (paths : List (List ℕ)) (level : ℕ) → NodesHold node_sizes reading paths v → IsEnd reading (chunks_of q) level
       → slice_index_or costs i 0 ≡ level + 1
 
-  -- the nodes that these ways have come to were read
+  -- the next nodes of these searches were read
   pub record AreRead (level : ℕ) (descents : List Descent) (nodes : List Node) : Type 0 where
     pub sound : SomeNodes v
     pub descents_are : All (IsDescent level) descents
     pub nodes_are : EachOf (IsAhead v.slots descents) (length descents) nodes
 
-  -- of these ways some go on, and the questions of the others are answered
+  -- of these searches some go on, and the questions of the others have their matches
   pub record GoOn (level : ℕ) (descents next : List Descent) (before after : List (Option Found)) : Type 0 where
     pub descents_are : All (IsDescent (level + 1)) next
     pub answered : (others : List ℕ) → AreAnswered (map question_of descents ++ others) before → AreAnswered (map question_of next ++ others) after

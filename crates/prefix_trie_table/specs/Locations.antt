@@ -54,7 +54,8 @@ EndsAt v b len reached =
     (seat_of v.slots (take len b) ≡ None)
     × IsReached b len reached.level reached.node (reached.at.start + reached.at.offset) v
 
--- what an array of nodes says of a bit string: the seat of its value, or the last node of its search path if it has none
+-- what an array of nodes has for a bit string: the seat of its value, or the last node of its search path if it has
+-- none
 abbrev pub Locates : Store Node → List Bool → Location → Type 0
 Locates v q (Stored seat) = seat_of v.slots q ≡ Some seat
 Locates v q (Missing end) = (seat_of v.slots q ≡ None) × IsLast q end.reached v

@@ -1,4 +1,4 @@
--- Which beginnings of a bit string have a value, and the way on which they stand. This project's own.
+-- The beginnings of a bit string that have a value, and the search path on which they are. This project's own.
 use Rattle.std.specs.Prelude.{◌≡◌, ℕ, ◌+◌, ◌<◌, ◌≤◌, Bool, true, false, List, Option, None, Some, length, take, MatchOption}
 use Rattle.prefix_trie_table.specs.declared.allocator.node.Node.{Node}
 use Rattle.prefix_trie_table.specs.declared.table.matching.Match.{Match}

@@ -1,4 +1,4 @@
--- What the calls that take values out leave, by path. This project's own.
+-- What the calls that remove values leave, by path. This project's own.
 use Rattle.std.specs.Prelude.{◌≡◌, ◌≢◌, ℕ, ◌+◌, ◌<◌, ◌≤◌, ◌⊎◌, true, false, List, [], ◌∷◌, ◌++◌, length, take, slice_index_or, Option, None, Some, is_some}
 use Rattle.prefix_trie_table.specs.declared.allocator.node.Node.{Node}
 use Rattle.prefix_trie_table.specs.declared.allocator.node.NodeSlot.{NodeSlot}
@@ -14,17 +14,17 @@ use Rattle.prefix_trie_table.specs.Forest.{NodesHold, CellsHold, Holds, IsSlot, 
 abbrev pub MakesEntered : {S : Type 0} → List ℕ → Store S → Store S → Option ℕ → Option ℕ → Type 0
 MakesEntered sizes v w old new = MakesBlocks sizes (made_of sizes (free_counts v.tiers) old new) (made_in v.tiers) (made_in w.tiers)
 
--- or that one at most
+-- or at most that one
 abbrev pub MakesFew : {S : Type 0} → List ℕ → Store S → Store S → Option ℕ → Option ℕ → Type 0
 MakesFew sizes v w old new = MakesAtMost sizes (made_of sizes (free_counts v.tiers) old new) (made_in v.tiers) (made_in w.tiers)
 
--- an array grows by at most that block, which was made as one of these two says
+-- an array grows by at most that block, made as one of the two relations above states
 pub record GrowsBy {S : Type 0} (Makes : List ℕ → Store S → Store S → Option ℕ → Option ℕ → Type 0) (sizes : List ℕ) (v w : Store S) (old new : Option ℕ) : Type 0 where
   pub longer : LongerByOne sizes (free_counts v.tiers) old new (length v.slots) (length w.slots)
   pub made : Makes sizes v w old new
 
--- a list that had `before` items in a block of the size `old` has `after` in one of the size `new`: it steps down, and the array
--- grows by that block
+-- a list shrinks from `before` items in a block of the size `old` to `after` in one of the size `new`: it steps down,
+-- and the array grows by that block
 pub record ShrinksList {S : Type 0} (Makes : List ℕ → Store S → Store S → Option ℕ → Option ℕ → Type 0) (sizes : List ℕ) (v w : Store S) (before after : ℕ) (old new : Option ℕ) : Type 0 where
   pub has : after < before → HasBlock sizes before old
   pub steps : StepsDown sizes (free_counts v.tiers) before after old new
@@ -47,7 +47,7 @@ pub record SameValues (n m : Node) : Type 0 where
   pub tier : m.value_tier ≡ n.value_tier
 
 module _ {T : Type 0} where
-  -- the node n at p, now m, has lost its value at bit b, and the other nodes and values are as they were
+  -- the node n at p, now m, has lost its value at bit b, and the other nodes and values are unchanged
   pub record ValueTaken (reading : List ℕ → Option Node) (paths : List (List ℕ)) (values : List ℕ → ℕ → Option T) (p : List ℕ) (b : ℕ) (n m : Node)
       (v : Store Node) (before after : Store (Option T)) : Type 0 where
     pub hold : NodesHold node_sizes (with_node reading p m) paths v

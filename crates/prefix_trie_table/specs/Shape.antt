@@ -35,7 +35,7 @@ state contents = record { entries = contents.entries; nodes = contents.nodes }
 abbrev pub storage : {T : Type 0} → Contents T → Storage
 storage contents = record { space = contents.space; layout = contents.layout }
 
--- the contents with x at a bit string, and else as they are
+-- the contents with x at a bit string, and otherwise unchanged
 abbrev pub with_value_at : {T : Type 0} → Contents T → List Bool → T → Contents T
 with_value_at s q x = record s { entries = with_entry s.entries q x }
 

@@ -1,5 +1,7 @@
-//! Nodes and values are stored in two arrays. Each array is cut into blocks of seven sizes: 1, 2, 4, 8, 16, 24, and 31 slots for
-//! the values of a node or 32 for its children. Slot 0 of the node array is the root, outside every block.
+//! The allocator: two arrays, of nodes and of values, that are cut into blocks.
+//!
+//! The blocks have seven sizes: 1, 2, 4, 8, 16, 24, and 31 slots for the values of a node or 32 for its children. Slot 0 of the
+//! node array is the root, outside every block.
 //!
 //! A block in use holds one list, which starts at its first slot. Its other slots are vacant, and so are all slots of a free block.
 //! Used and free blocks together tile the array, so each slot is in one block, and no block has two owners.

@@ -1,4 +1,4 @@
-//! The array of nodes and the array of values of a prefix trie, and the table that stands in both.
+//! A prefix trie in two arrays, of nodes and of values, and the table that it makes: values by bit strings.
 #![tactic(auto)]
 
 pub mod allocator;

@@ -1,9 +1,11 @@
 //! The table: values by bit strings, in a trie of nodes of five levels.
 //!
-//! A bit string is handed in as a key and a length: the first `len` bits of the key. Contracts see a table as its entries,
-//! a finite map from bit strings to values, its nodes, a finite set of bit strings, its room, and its layout: the size of each
-//! node's two blocks, by its bit string, and how many blocks of each size are free. Of slots, bitmaps and where blocks stand
-//! only those clauses speak that hand out a place or take one (`build`).
+//! A bit string is passed as a `BitString`, or as a key and a length: the first `len` bits of the key.
+//!
+//! Contracts see a table as its entries, its nodes, its space and its layout. The entries are a finite map from bit
+//! strings to values, and the nodes a finite set of bit strings. The layout is the size of each node's two blocks, by
+//! the node's bit string, and how many blocks of each size are free. Only clauses that take or return a seat are about
+//! slots and bitmaps (`build`).
 mod block_counts;
 pub mod bulk;
 mod children;
@@ -64,7 +66,7 @@ use std::mem;
 pub use taking::IntoWalk;
 pub use walk::Walk;
 
-/// Values by bit strings.
+/// A finite map from bit strings to values.
 #[derive(Drop)]
 pub struct Table<T: Drop, A: Allocator, V: Tick> {
     nodes: NodeAllocator<A, V>,
@@ -74,7 +76,7 @@ pub struct Table<T: Drop, A: Allocator, V: Tick> {
     ghost sizes: { Sized nodes.slots } by { Sized-prop nodes.slots },
 }
 
-// Clauses see the entries, the nodes, the room, how the arrays are cut into blocks, and for places the nodes in their slots.
+// Clauses see the entries, the nodes, the space, the layout, and for seats the nodes in their slots.
 impl<T: Drop, A: Allocator, V: Tick> Model for Table<T, A, V> {
     ghost use Rattle.prefix_trie_table.specs.Shape.{Contents, contents_code};
 
@@ -107,8 +109,12 @@ impl<T: Drop, A: Allocator, V: Tick> Model for Table<T, A, V> {
 }
 
 impl<T: Drop, A: Allocator + Clone, V: Tick> Table<T, A, V> {
-    /// An empty table, whose arrays are never longer than `limit` slots. Refused with `IndexRange` where `limit` is 0,
-    /// since the root needs a slot, and else only for memory.
+    /// Creates an empty table whose arrays are never longer than `limit` slots.
+    ///
+    /// # Errors
+    ///
+    /// Returns `IndexRange` if `limit` is 0, since the root needs a slot. Otherwise returns `Memory` if an allocation
+    /// fails.
     pub fn new(alloc: A, limit: u32) -> Result<Self, Refusal>
         ensures entries { IfOk result (λ t. t.entries ≡ no_entries) }
         ensures nodes { IfOk result (λ t. t.nodes ≡ root_alone) }
@@ -129,10 +135,17 @@ impl<T: Drop, A: Allocator + Clone, V: Tick> Table<T, A, V> {
         })
     }
 
-    /// Takes out all entries whose keys a bit string begins, as `drop_children` does, and hands them out as a table of their own, which
-    /// has just the nodes that they need, in the smallest blocks that hold them. Its allocator is a clone of this one's, and its limit is
-    /// the same. All room of the second table is asked for before the first value moves: refused, it leaves everything as it was. Refused
-    /// only where memory is, since the second table has no more slots than the first.
+    /// Removes all entries whose keys begin with a bit string, and returns them as a table of their own.
+    ///
+    /// The second table has just the nodes that its entries need, in the smallest blocks that hold them. It has a clone
+    /// of this table's allocator, and the same limit. This table is left as `drop_children` leaves it.
+    ///
+    /// # Errors
+    ///
+    /// Returns `Memory` if an allocation fails. All memory is allocated before the first value moves, so this table is
+    /// unchanged then. `IndexRange` never comes: the second table has no more slots than the first.
+    ///
+    /// # Examples
     ///
     /// ```text
     /// let part = table.remove_children(key, len, &mut counter)?;    // `table` has the other entries
@@ -178,7 +191,10 @@ impl<T: Drop, A: Allocator + Clone, V: Tick> Table<T, A, V> {
 }
 
 impl<T: Drop, A: Allocator, V: Tick> Table<T, A, V> {
-    /// The number of entries. Neither array passes the limit, which is below 2^32, and each node has its blocks.
+    /// Returns the number of entries.
+    ///
+    /// Its contract also brings two facts into a caller's proof: neither array exceeds the limit, which is below 2^32,
+    /// and each node has its blocks.
     #[inline]
     pub fn len(&self) -> usize
         ensures count { result ≡ len self.now.entries }
@@ -236,7 +252,7 @@ impl<T: Drop, A: Allocator, V: Tick> Table<T, A, V> {
         value_of_match(&self.cells, found)
     }
 
-    /// All entries, in listing order. The root is read at once.
+    /// Walks all entries in listing order. It reads the root at once.
     #[inline]
     pub fn walk<K: Key>(&self, counter: &mut V) -> Walk<'_, K, T, A, V>
         requires within { AreWithin K.bit_width self.now.entries }
@@ -273,7 +289,7 @@ impl<T: Drop, A: Allocator, V: Tick> Table<T, A, V> {
         )
     }
 
-    /// Walks the entries whose keys a bit string begins, in listing order. It reads the nodes of the search path at once.
+    /// Walks the entries whose keys begin with a bit string, in listing order. It reads the nodes of the search path at once.
     #[inline]
     pub fn walk_below<K: Key>(&self, path: BitString<K>, counter: &mut V) -> Walk<'_, K, T, A, V>
         requires within { AreWithin K.bit_width self.now.entries }
@@ -290,8 +306,12 @@ impl<T: Drop, A: Allocator, V: Tick> Table<T, A, V> {
         )
     }
 
-    /// Sets the value at a bit string, and adds the nodes on its way that are missing. It asks for all room that it needs
-    /// before its first change; refused, it hands the value back and leaves entries and nodes as they were.
+    /// Sets the value at a bit string, adds the missing nodes of its search path, and returns the previous value.
+    ///
+    /// # Errors
+    ///
+    /// Returns the value back, with the cause, if a missing block cannot be made. All blocks are made before the first
+    /// change, so entries and nodes are unchanged then.
     #[inline]
     pub fn insert<K: Key>(
         &mut self,
@@ -306,7 +326,7 @@ impl<T: Drop, A: Allocator, V: Tick> Table<T, A, V> {
         ensures step { (width : ℕ) → StepByPath width (stored_state self.old) (Insert (take len (K.bits key)) value) (insert_reply result)
             (stored_state self.new) }
     {
-        // Read for the proof alone: neither array passes the limit.
+        // Read for the proof alone: neither array exceeds the limit.
         let _entries = self.len();
         let path = BitString::new(key, len);
         match self.locate(path.again(), counter) {
@@ -351,9 +371,10 @@ impl<T: Drop, A: Allocator, V: Tick> Table<T, A, V> {
         )
     }
 
-    /// Takes out all entries whose keys a bit string begins, and all nodes below the string's own, and then prunes from that node
-    /// upward as `remove` does. Nothing changes where that node is missing. Never refused. It reads the way down and the part
-    /// that it takes out. At length 0 it is `clear`.
+    /// Removes all entries whose keys begin with a bit string, and all nodes below the string's own.
+    ///
+    /// Then it prunes from the string's own node upward, as `remove` does. If that node is missing, nothing changes. At
+    /// length 0 it is `clear`. It never fails. It reads the search path and the nodes that it removes.
     #[inline]
     pub fn drop_children<K: Key>(&mut self, key: K, len: u32, counter: &mut V)
         requires key { K.IsKey key }
@@ -379,13 +400,14 @@ impl<T: Drop, A: Allocator, V: Tick> Table<T, A, V> {
         );
     }
 
-    /// Asks a test at each entry, in listing order, and takes out those at which it answers `false`, and then all nodes that
-    /// no entry left needs. Never refused: the values of a node move to a smaller block only where one is free or can be
-    /// made. So each node that was there makes at most one block of each smaller size, of children and of values: 55 slots,
-    /// of which the contract says 56.
+    /// Calls a test with each entry, in listing order, and removes the entries for which it returns `false`.
     ///
-    /// Asks that no key is longer than those of `K` and that the nodes are such as the keys need, as in every map, and that the
-    /// test may be asked.
+    /// Then all nodes that no remaining entry needs are removed. It never fails: the values of a node move to a smaller
+    /// block only if one is free or can be made. So each node that there was makes at most one block of each smaller
+    /// size, of children and of values. These are 55 slots; the contract says 56.
+    ///
+    /// Requires that no key is longer than the width of `K`, that the nodes are such as the keys need, as in every map,
+    /// and that the test may be called.
     #[inline]
     pub fn retain<K: Key, F: Keep<K, T, V>>(&mut self, keep: F, counter: &mut V)
         requires within { AreWithin K.bit_width self.old.entries }
@@ -404,7 +426,7 @@ impl<T: Drop, A: Allocator, V: Tick> Table<T, A, V> {
         );
     }
 
-    /// Takes all entries out, and all nodes but the root. It asks for no memory.
+    /// Removes all entries, and all nodes but the root. It does not allocate.
     #[inline]
     pub fn clear(&mut self)
         ensures step { (width : ℕ) → StepByPath width (stored_state self.old) Clear Done (stored_state self.new) }

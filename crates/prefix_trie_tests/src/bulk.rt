@@ -21,8 +21,10 @@ const WIDE: Entry<u128> = ((0x2001_0db8_0000_0000_0000_0000_0000_0000, 32), 1);
 
 const NEAR: Entry<u128> = ((0x2001_0db8_0001_0000_0000_0000_0000_0000, 48), 2);
 
-/// Prefixes with their longest match: a host in both networks, no match, another network in the wider one, the narrower
-/// network itself, and a network around both.
+/// Prefixes with their longest match.
+///
+/// These are a host in both networks, no match, another network in the wider one, the narrower network itself, and a
+/// network around both.
 const CASES: [(Pair<u128>, Option<Entry<u128>>); 5] = [
     ((0x2001_0db8_0001_0000_0000_0000_0000_0007, 128), Some(NEAR)),
     ((1, 128), None),

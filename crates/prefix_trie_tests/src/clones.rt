@@ -211,9 +211,10 @@ fn fails_from<W: HasNames>(heap: &Heap, named: &W, passed: u64) -> bool {
     named.try_clone().is_err() == (heap.left() < u64::MAX)
 }
 
-/// Clones a value with each allocation failing, alone and with all later ones. Returns the number of allocations, if
-/// each clone fails exactly if an allocation does. At last, the value and its clone must have their items from an index
-/// on, without allocating.
+/// Clones a value with each allocation failing, alone and with all later ones.
+///
+/// Returns the number of allocations, if each clone fails exactly if an allocation does. At last, the value and its
+/// clone must have their items from an index on, without allocating.
 fn copy_requests<W: HasNames>(heap: &Heap, mut named: W, first: usize) -> Option<u64> {
     let is_unasked = heap.left() == u64::MAX;
     for passed in 0..MANY {
@@ -280,8 +281,9 @@ fn put_keys<A: Allocator>(set: &mut PrefixSet<Key, A>) -> bool {
     true
 }
 
-/// Returns whether cloning a map of names and cloning each walk that consumes it allocate equally often. A walk that
-/// has yielded a name allocates once less.
+/// Returns whether cloning a map of names and cloning each walk that consumes it allocate equally often.
+///
+/// A walk that has yielded a name allocates once less.
 fn maps_and_walks_agree<A: Allocator + Copy>(heap: &Heap, alloc: A) -> bool {
     let of_items = requests::<A, Items<A>>(heap, alloc);
     let of_two = of_items.1.unwrap_or(0);

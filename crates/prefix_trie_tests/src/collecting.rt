@@ -71,8 +71,10 @@ fn len_and_drops(
     Ok((map.len(), drops.get()))
 }
 
-/// Collects the pairs with each allocation failing. Returns the number of allocations, if collecting fails exactly if
-/// one does. The last map must have both keys and have dropped the earlier value. All values are dropped in the end.
+/// Collects the pairs with each allocation failing.
+///
+/// Returns the number of allocations, if collecting fails exactly if one does. The last map must have both keys and
+/// have dropped the earlier value. All values are dropped in the end.
 fn requests_if_each_fails(heap: &Refusing<Global>, refused: u64) -> Option<u64> {
     for passed in 0..MANY {
         heap.refuse(passed, refused);

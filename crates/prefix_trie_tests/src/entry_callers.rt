@@ -166,8 +166,9 @@ fn lends_none(map: &mut PrefixMap<(u8, u8), u64, Global>) -> bool {
     entry.get_mut().is_none()
 }
 
-/// Returns whether a stored count grows by one and a missing one stays missing. Looking at a vacant entry changes
-/// nothing.
+/// Returns whether a stored count grows by one and a missing one stays missing.
+///
+/// Looking at a vacant entry changes nothing.
 fn counts_once_more(map: &mut PrefixMap<(u8, u8), u64, Global>) -> bool {
     count_again(map, (0xa0, 3));
     count_again(map, (0xc0, 3));

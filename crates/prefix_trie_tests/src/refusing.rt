@@ -2,8 +2,9 @@
 use std::alloc::{AllocError, Allocator};
 use std::cell::Cell;
 
-/// Passes allocations on to `inner`, except those that a test makes fail. A reference to it is an allocator that can be
-/// cloned.
+/// Passes allocations on to `inner`, except those that a test makes fail.
+///
+/// A reference to it is an allocator that can be cloned.
 #[derive(Drop)]
 pub struct Refusing<B: Allocator> {
     inner: B,

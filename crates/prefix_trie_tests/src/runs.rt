@@ -47,8 +47,9 @@ fn run_six<A: Allocator + Clone>(
     run(alloc, map, &calls)
 }
 
-/// Returns a reply as a number: a count of entries, or a value, or 0 if there is no value. Returns `None` if an
-/// allocation failed.
+/// Returns a reply as a number: a count of entries, or a value, or 0 if there is no value.
+///
+/// Returns `None` if an allocation failed.
 fn number_of<A: Allocator>(reply: &Reply<Key, A>) -> Option<usize> {
     match reply {
         Reply::Entries(entries) => Some(entries.len()),
@@ -69,8 +70,9 @@ fn first_refused<A: Allocator>(replies: &[Reply<Key, A>]) -> usize {
     replies.len()
 }
 
-/// Returns whether the call at an index fails if the first failure is at `first`. It fails alone, or with all later
-/// calls that allocate.
+/// Returns whether the call at an index fails if the first failure is at `first`.
+///
+/// It fails alone, or with all later calls that allocate.
 fn is_refused(index: usize, first: usize, is_rest_refused: bool) -> bool {
     index == first || is_rest_refused && first < index && index <= INSERTION
 }
@@ -100,8 +102,9 @@ fn are_as_expected<A: Allocator>(
     (replies.len() == 6) & (map.len() == wanted[5]) & (map.node_count() == wanted[6])
 }
 
-/// Returns what failed first: 0 is the run itself, which then made no call, and the calls follow from 1 on. Returns
-/// `None` if the replies or the map are not as expected.
+/// Returns what failed first: 0 is the run itself, which then made no call, and the calls follow from 1 on.
+///
+/// Returns `None` if the replies or the map are not as expected.
 fn first_refused_part<A: Allocator>(
     outcome: &Result<Vec<Reply<Key, A>, A>, AllocError>,
     map: &Map<A>,
@@ -145,8 +148,9 @@ fn run_once<A: Allocator + Copy>(
     Ok(run_refused::<A>(heap, alloc, &mut map, requests))
 }
 
-/// Returns whether the failures come in this order: the list of replies, each list and the insertion once or more
-/// often, and then none.
+/// Returns whether the failures come in the expected order.
+///
+/// First comes the list of replies, then each list and the insertion once or more often, and then no failure.
 fn each_part_is_refused_once<A: Allocator + Copy>(
     heap: &Refusing<Global>,
     alloc: A,
@@ -175,7 +179,9 @@ fn a_run_loses_only_calls_whose_allocation_fails(rt: HostRuntime) {
     assert!(rt; each_part_is_refused_once(&heap, &heap, u64::MAX) == Ok(true));
 }
 
-/// The numbers of nodes: after inserting 24 bits, after `remove_keep_tree`, after `remove`, after inserting 8, 16 and 7
+/// The numbers of nodes after each change of a map.
+///
+/// They are counted after inserting 24 bits, after `remove_keep_tree`, after `remove`, after inserting 8, 16 and 7
 /// bits, after keeping 8 bits and more, after removing the children of the 16 bits, and after removing the 8 bits.
 const NODES_LEFT: [usize; 7] = [5, 5, 1, 5, 4, 2, 1];
 

@@ -28,8 +28,9 @@ fn len_of_three(heap: &Heap) -> Result<usize, Refusal> {
     }
 }
 
-/// Collects the prefixes with each allocation failing. Returns whether collecting fails exactly if an allocation does,
-/// and at last has three prefixes.
+/// Collects the prefixes with each allocation failing.
+///
+/// Returns whether collecting fails exactly if an allocation does, and at last has three prefixes.
 fn fails_exactly_if_refused(heap: &Heap, refused: u64) -> bool {
     for passed in 0..MANY {
         heap.refuse(passed, refused);

@@ -52,8 +52,9 @@ fn slots_of<A: Allocator>(map: &Map<A>) -> (usize, usize) {
     (map.node_slots(), map.cell_slots())
 }
 
-/// Compacts a map of the two networks. Returns whether that succeeded, if the map is then as small as possible, or else
-/// unchanged.
+/// Compacts a map of the two networks.
+///
+/// Returns whether that succeeded, if the map is then as small as possible, or else unchanged.
 fn is_compact<A: Allocator + Clone>(map: &mut Map<A>) -> Option<bool> {
     let before = slots_of::<A>(map);
     let is_granted = match map.compact() {
@@ -83,8 +84,9 @@ enum Shrinking {
     ShrinkToFit,
 }
 
-/// Makes a call on a new map with some allocations failing. Returns whether one failed, if the call succeeds exactly if
-/// none does.
+/// Makes a call on a new map with some allocations failing.
+///
+/// Returns whether one failed, if the call succeeds exactly if none does.
 fn is_refused_anew<A: Allocator + Clone>(
     heap: &Heap,
     alloc: A,
@@ -131,8 +133,9 @@ fn shrinking_fails_exactly_if_an_allocation_fails(rt: HostRuntime) {
     assert!(rt; requests_of(&heap, &heap, Shrinking::ShrinkToFit, u64::MAX) > Some(0));
 }
 
-/// Removes both networks from a map that was shrunk. Returns whether this did not allocate: the free lists keep their
-/// capacity.
+/// Removes both networks from a map that was shrunk.
+///
+/// Returns whether this did not allocate: the free lists keep their capacity.
 fn removes_without_memory<A: Allocator + Clone>(heap: &Heap, alloc: A) -> Option<bool> {
     let mut map = map_with_free_slots(heap, alloc)?;
     map.shrink_to_fit().ok()?;

@@ -100,8 +100,10 @@ fn is_part<A: Allocator>(map: &Map<'_, A>) -> bool {
         & has_cells(map, 4, 1, 0)
 }
 
-/// Splits a map of the six networks along the second. Returns whether that succeeded, if no value is dropped and both
-/// maps are as expected, or if it failed and the map is unchanged.
+/// Splits a map of the six networks along the second.
+///
+/// Returns whether that succeeded, if no value is dropped and both maps are as expected, or if it failed and the map is
+/// unchanged.
 fn is_split<A: Allocator + Clone>(map: &mut Map<'_, A>, drops: &Cell<u64>) -> Option<bool> {
     match map.remove_children(&prefix_of(NETWORKS[1])) {
         Ok(part) => {

@@ -85,8 +85,9 @@ fn run_anew<K: Key, A: Allocator + Copy, M: UnderTest<K, A>>(
     run_parts_beside::<K, A, M>(heap, alloc, &mut subject, table, requests)
 }
 
-/// Runs a table once for each allocation of its second part, which fails with the next `refused - 1` ones, and at last
-/// with none failing.
+/// Runs a table once for each allocation of its second part, which fails, and at last with none failing.
+///
+/// The next `refused - 1` allocations fail with it.
 fn fail_from_each<K: Key, A: Allocator + Copy, M: UnderTest<K, A>>(
     heap: &Refusing<Global>,
     alloc: A,

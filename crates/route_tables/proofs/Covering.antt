@@ -1,4 +1,4 @@
--- Which values the networks have that contain an address, and whether all values are rules.
+-- The values of the networks that contain an address, and whether all values are rules.
 use Rattle.std.proofs.Common.{◌≡◌, ◌↔◌, ℕ, true, Bool, List, ◌∷◌, All, map, bytes_eq, subst, sym}
 use Rattle.std.proofs.lemmas.List.Elements.{All-cons}
 use Rattle.std.proofs.lemmas.Map.Views.{Contains-from_any, list_any-from_Contains}

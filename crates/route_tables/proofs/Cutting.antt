@@ -1,4 +1,4 @@
--- Lines and words by where they end, for the functions that cut them off.
+-- Lines and words by their ends, for the functions that split them off.
 use Rattle.std.proofs.Common.{◌≡◌, ℕ, suc, zero, ◌+◌, ◌-◌, ◌<◌, ◌≤◌, Bool, true, false, not, cond, List, [], ◌∷◌, length, take, drop, get_or, refl, sym, ap, ◌∙◌, arith, true≢false, nat_lt, Some, None, length-drop}
 use Rattle.std.proofs.lemmas.List.{take_all}
 use Rattle.std.proofs.lemmas.Bool.{ltb-false}
@@ -10,7 +10,7 @@ use Rattle.std.specs.Str.{IsTrimAsciiStart}
 use Rattle.std.specs.List.{onto_first, position, position_or_len}
 use Rattle.route_tables.specs.Lines.{begins_word, lines, words}
 
--- where the first byte is that passes, or the length
+-- the index of the first byte that passes, or the length
 pub or_length : (p : ℕ → Bool) (bs : List ℕ) → unwrap_or (position p bs) (length bs) ≡ position_or_len p bs
 or_length p bs =
     let most = prefix_len-le-length (λ b. not (p b)) bs in
@@ -20,7 +20,7 @@ or_length p bs =
       | false ↦ λ less. let least = ltb-false (position_or_len p bs) (length bs) less in omega arith
     ] refl
 
--- a line that a line feed ends
+-- the lines of a text with a line feed: the first line, and those of the rest
 pub lines_first : (text : List ℕ) → position_or_len (λ b. b == 10) text < length text
     → lines text ≡ take (position_or_len (λ b. b == 10) text) text ∷ lines (drop (position_or_len (λ b. b == 10) text + 1) text)
 lines_first [] less = absurd (omega arith)
@@ -50,7 +50,7 @@ lines_last (b ∷ c ∷ cs) is some =
       | false ↦ λ whole. ap (onto_first b) (lines_last (c ∷ cs) (omega arith) (omega arith))
     ] is
 
--- the same for the two parts that a cut at the line feed gives
+-- the same for the two parts that a split at the line feed gives
 pub lines_cut : (text : List ℕ) (end : ℕ) → end ≡ position_or_len (λ b. b == 10) text → end < length text
     → lines text ≡ take end text ∷ lines (take (length text - (end + 1)) (drop (end + 1) text))
 lines_cut text end is less =
@@ -69,7 +69,7 @@ pub lines_none : (text : List ℕ) → length text ≡ 0 → lines text ≡ []
 lines_none [] none = refl
 lines_none (b ∷ bs) none = absurd (omega arith)
 
--- white space in front counts for nothing
+-- white space in front does not count
 pub words_after : (text : List ℕ) (n : ℕ) → ((i : ℕ) → i < n → is_ascii_whitespace (get_or text i 0) ≡ true) → words text ≡ words (drop n text)
 words_after text zero white = refl
 words_after [] (suc n) white = refl
@@ -77,7 +77,7 @@ words_after (b ∷ bs) (suc n) white =
     ap (λ v. cond v (words bs) (cond (begins_word bs) (onto_first b (words bs)) ((b ∷ []) ∷ words bs))) (white 0 (omega arith))
     ∙ words_after bs n (λ i less. white (suc i) (omega arith))
 
--- no white space comes before its first place
+-- a text that does not begin inside a word has no bytes before its first white space
 none_before : (text : List ℕ) → begins_word text ≡ false → position_or_len is_ascii_whitespace text ≡ 0
 none_before [] white = refl
 none_before (b ∷ bs) white = ap (λ v. cond v (1 + position_or_len is_ascii_whitespace bs) 0) white

@@ -1,4 +1,4 @@
--- Where two tables differ, in words.
+-- The keys at which two tables differ.
 use Rattle.std.proofs.Common.{◌≡◌, ◌≢◌, ◌↔◌, ℕ, Bool, true, false, not, List, Option, Some, None, Contains, bytes_eq, filter, refl, sym, ap, subst, ◌∙◌, true≢false}
 use Rattle.std.proofs.lemmas.Slice.Eq.{bytes_eq-Decides}
 use Rattle.std.specs.FinMap.{get}
@@ -11,7 +11,7 @@ use Rattle.route_tables.specs.Changes.{changes_of, differ}
 use Rattle.route_tables.specs.Tables.{Values}
 use Rattle.route_tables.proofs.Lists.{filter_of_map, from_filter, in_filter}
 
--- what is in both options
+-- two options with the same item have equal items
 same_some : {X : Type 0} (x y : X) → Some x ≡ Some y → x ≡ y
 same_some x y e = cc
 

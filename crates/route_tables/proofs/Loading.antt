@@ -1,4 +1,4 @@
--- Loading a text line by line: the invariant of the loop, how it goes on, and what it leaves.
+-- Loading a text line by line: the invariant of the loop, how each line preserves it, and what the loop leaves.
 use Rattle.std.proofs.Common.{◌≡◌, ℕ, suc, ◌+◌, List, [], ◌∷◌, refl, sym, ap, subst, ◌∙◌, inl, inr, arith}
 use Rattle.prefix_trie.specs.Words.{no_entries}
 use Rattle.route_tables.specs.Loads.{AddsLine, IsBadAt, NamesFirstBad}

@@ -1,4 +1,4 @@
--- Where two tables differ. This project's own.
+-- The networks at which two tables differ. This project's own.
 use Rattle.std.specs.Prelude.{ℕ, Bool, true, not, List, filter, bytes_eq}
 use Rattle.std.specs.Borrow.{Bor}
 use Rattle.prefix_trie.specs.Words.{listing}
@@ -13,7 +13,7 @@ lent (Left v) = Left v.now
 lent (Right w) = Right w.now
 lent (Both v w) = Both v.now w.now
 
--- whether two tables that have these values at a key differ there
+-- whether two tables with these values at a key differ there
 abbrev pub differ : Side (List ℕ) (List ℕ) → Bool
 differ (Left old) = true
 differ (Right new) = true

@@ -1,4 +1,4 @@
--- What the lines of a table say. This project's own.
+-- The meaning of the lines of a table. This project's own.
 use Rattle.std.specs.Prelude.{◌≡◌, ◌≢◌, ◌⊎◌, ℕ, zero, suc, List, [], ◌∷◌}
 use Rattle.std.specs.Str.{IsUtf8}
 use Rattle.route_tables.specs.Lines.{fields}

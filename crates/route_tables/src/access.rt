@@ -25,7 +25,7 @@ pub fn is_allowed<P: Prefix>(table: &Table<P>, address: &P) -> bool
     is_covered_by(table, address, ALLOW) && !is_covered_by(table, address, DENY)
 }
 
-// Whether some network with this value contains an address.
+// Returns whether some network with this value contains an address.
 fn is_covered_by<P: Prefix>(table: &Table<P>, address: &P, rule: &str) -> bool
     requires { P.IsFitting address.now }
     ensures { IsTrue result ↔ IsCoveredBy table.now.entries (P.path address.now) rule.now }
@@ -34,7 +34,7 @@ fn is_covered_by<P: Prefix>(table: &Table<P>, address: &P, rule: &str) -> bool
     has_value(table, address, rule)
 }
 
-// The same by the list of the values of the networks that contain the address.
+// Does the same as `is_covered_by`, by the list of the values of the networks that contain the address.
 fn has_value<P: Prefix>(table: &Table<P>, address: &P, rule: &str) -> bool
     requires { P.IsFitting address.now }
     ensures { result ≡ list_any (bytes_eq rule.now) (map (λ e. e.1) (covers table.now.entries (P.path address.now))) }
@@ -47,7 +47,7 @@ fn has_value<P: Prefix>(table: &Table<P>, address: &P, rule: &str) -> bool
     false
 }
 
-/// Returns the first network whose value is neither `allow` nor `deny`, and that value: None exactly if there is none.
+/// Returns the first network whose value is neither `allow` nor `deny`, and that value, or `None` if there is none.
 pub fn first_other<P: Prefix>(table: &Table<P>) -> Option<(P, &Value)>
     ensures { MatchOption result ((s : List Bool) (value : List ℕ) → get table.now.entries s ≡ Some value → IsRule value)
         (λ found. ¬ (IsRule found.1.now)) }
@@ -61,7 +61,7 @@ pub fn first_other<P: Prefix>(table: &Table<P>) -> Option<(P, &Value)>
     None
 }
 
-// Whether a value is one of an access list.
+// Returns whether a value is `allow` or `deny`.
 fn is_rule(value: &Value) -> bool
     ensures { IsTrue result ↔ IsRule value.now }
 {

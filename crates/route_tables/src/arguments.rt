@@ -26,7 +26,7 @@ In an access list each value is `allow` or `deny`. An address is allowed if a ne
 Exit status: 0, or 1 if `check` does not allow an address, or 2 after an error.
 ";
 
-/// What the program is asked to do.
+/// What the program is to do.
 #[derive(Clone, Copy, Debug, PartialEq, Eq)]
 pub enum Command<'a> {
     /// Print the help.

@@ -122,7 +122,7 @@ pub fn check<W: Write>(tables: &Tables, addresses: &[IpAddr], out: &mut W) -> io
     Ok(are_all_allowed)
 }
 
-// Whether the access list allows an address.
+// Returns whether the access list allows an address.
 fn allows(tables: &Tables, address: &IpAddr) -> bool {
     match *address {
         IpAddr::V4(host) => is_allowed(&tables.ipv4, &Ipv4Prefix::from(host)),

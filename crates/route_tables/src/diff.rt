@@ -42,7 +42,7 @@ pub fn diff<'a, P: Prefix>(
     Ok(changes)
 }
 
-// Whether two tables differ where they have these values.
+// Returns whether two tables that have these values at a network differ there.
 fn differ(values: &Values<'_>) -> bool
     ensures { result ≡ differ (lent values.now) }
 {

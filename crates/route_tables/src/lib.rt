@@ -1,7 +1,9 @@
-//! Tables of IP networks as text, each network with a value: they are read, looked up, compared, made smaller, checked and counted.
+//! Tables of IP networks as text: reading them, looking up, comparing, minimising, checking and counting.
 //!
-//! This is the proved core of the program `routes`. A table of one family is a map, `Table<P>`, and the functions on it are
-//! generic over `P: Prefix`. `Tables` is what a file holds: one table of IPv4 networks and one of IPv6 networks.
+//! Each network has a value.
+//!
+//! This is the proved core of the program `routes`. A table of one family is a map, `Table<P>`, and the functions on it
+//! are generic over `P: Prefix`. `Tables` is what a file holds: one table of IPv4 networks and one of IPv6 networks.
 #![tactic(auto)]
 
 pub mod access;

@@ -1,4 +1,4 @@
-//! What a line of a table says.
+//! Reading one line of a table.
 ghost use Rattle.std.specs.Prelude.{◌≡◌, [], IfErr, IfOk, MatchOption, MatchResult};
 ghost use Rattle.std.specs.Str.{IsUtf8};
 ghost use Rattle.route_tables.specs.Lines.{fields};

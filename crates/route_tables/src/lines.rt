@@ -4,7 +4,7 @@ ghost use Rattle.std.specs.Char.{is_ascii_whitespace};
 ghost use Rattle.std.specs.List.{position, position_or_len};
 ghost use Rattle.route_tables.specs.Lines.{fields, lines, words};
 
-// How many bytes come before the first line feed, or in all.
+// Returns the number of bytes before the first line feed, or of all bytes.
 #[tactic(auto, using(crate::proofs::Cutting::or_length))]
 fn line_len(text: &[u8]) -> usize
     ensures { result ≡ position_or_len (λ b. b == 10) text.now }
@@ -12,14 +12,14 @@ fn line_len(text: &[u8]) -> usize
     line_end(text).unwrap_or(text.len())
 }
 
-// Where the first line feed is.
+// Returns the index of the first line feed.
 fn line_end(text: &[u8]) -> Option<usize>
     ensures { result ≡ position (λ b. b == 10) text.now }
 {
     text.iter().position(|byte| *byte == b'\n')
 }
 
-// How many bytes come before the first white space, or in all.
+// Returns the number of bytes before the first white space, or of all bytes.
 #[tactic(auto, using(crate::proofs::Cutting::or_length))]
 fn word_len(text: &[u8]) -> usize
     ensures value { result ≡ position_or_len is_ascii_whitespace text.now }
@@ -28,7 +28,7 @@ fn word_len(text: &[u8]) -> usize
     word_end(text).unwrap_or(text.len())
 }
 
-// Where the first white space is.
+// Returns the index of the first white space.
 fn word_end(text: &[u8]) -> Option<usize>
     ensures { result ≡ position is_ascii_whitespace text.now }
 {
@@ -49,7 +49,7 @@ pub fn split_line(text: &[u8]) -> (&[u8], &[u8])
     }
 }
 
-/// Splits off the first word, what white space does not cut: None exactly if there is none.
+/// Splits off the first word, and returns it and the rest, or `None` if there is no word.
 fn split_word(text: &[u8]) -> Option<(&[u8], &[u8])>
     ensures { MatchOption result (words text.now ≡ []) (λ parts. words text.now ≡ parts.0.now ∷ words parts.1.now) }
 {
@@ -60,7 +60,7 @@ fn split_word(text: &[u8]) -> Option<(&[u8], &[u8])>
     Some(text.split_at(word_len(text)))
 }
 
-/// Splits off the first field, a word before the comment: None exactly if there is none.
+/// Splits off the first field, a word before the comment, or returns `None` if there is none.
 pub fn split_field(text: &[u8]) -> Option<(&[u8], &[u8])>
     ensures { MatchOption result (fields text.now ≡ []) (λ parts. fields text.now ≡ parts.0.now ∷ fields parts.1.now) }
 {

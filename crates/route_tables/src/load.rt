@@ -1,7 +1,9 @@
 //! Reading tables from text.
 //!
-//! Each line is blank, or a network without host bits and its value: any text without white space. A field that begins with `#`
-//! begins a comment. White space separates fields and may stand at both ends of a line, so lines may end with CR LF.
+//! Each line is blank, or a network without host bits and its value: any text without white space.
+//!
+//! A field that begins with `#` begins a comment. White space separates fields. Both ends of a line may have white
+//! space, so lines may end with CR LF.
 ghost use Rattle.std.specs.Prelude.{◌≡◌, List, IfErr, IfOk};
 ghost use Rattle.prefix_trie.specs.Words.{no_entries};
 ghost use Rattle.route_tables.specs.Lines.{lines};
@@ -89,12 +91,12 @@ impl<T: Drop> From<AllocFailed<T>> for LoadError {
     }
 }
 
-/// Reads the tables of a text. If two lines have one network, the later one stays.
+/// Reads the tables of a text. If two lines have the same network, the later one counts.
 ///
 /// # Errors
 ///
-/// Returns the number of the first line that is not a line of a table, and the reason. Returns why memory is refused if an allocation
-/// fails or a table is full.
+/// Returns the number of the first line that is not a line of a table, and the reason. Returns a refusal if an
+/// allocation fails or a table is full.
 pub fn load(text: &[u8], alloc: Global) -> Result<Loaded, LoadError>
     ensures tables { IfOk result (λ loaded. (routes : List Route) × HasRoutes (lines text.now) routes
         × (loaded.tables.ipv4.entries ≡ ipv4_with_all no_entries routes)
@@ -119,7 +121,7 @@ pub fn load(text: &[u8], alloc: Global) -> Result<Loaded, LoadError>
     Ok(Loaded { tables, replaced })
 }
 
-// Adds what the line with this number says, and returns its network if the tables have it.
+// Adds what the line with this number says. Returns its network if the tables have it already.
 fn add_line(
     tables: &mut Tables,
     line: &[u8],
@@ -136,7 +138,7 @@ fn add_line(
     }
 }
 
-// Adds a route, and returns its network if the tables have it.
+// Adds a route. Returns its network if the tables have it already.
 fn add_route(
     tables: &mut Tables,
     network: Network,

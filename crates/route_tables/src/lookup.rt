@@ -8,7 +8,7 @@ use crate::value::Value;
 use prefix_trie::Prefix;
 use prefix_trie::laws::{listed_laws, lookup_laws};
 
-/// Returns the longest network of a table that contains an address, and its value: None exactly if no network contains it.
+/// Returns the longest network of a table that contains an address, and its value, or `None` if there is none.
 pub fn lookup<'a, P: Prefix>(table: &'a Table<P>, address: &P) -> Option<(P, &'a Value)>
     requires { P.IsFitting address.now }
     ensures value { option_map lent_item result ≡ prefix_pair P.back (longest_match table.now.entries (P.path address.now)) }

@@ -30,7 +30,7 @@ impl Display for Network {
 /// Why a text is not a network of a table.
 #[derive(Clone, Copy, Debug, PartialEq, Eq)]
 pub enum NetworkError {
-    /// The text is not that of a network.
+    /// The text is not the text of a network.
     Text(ParseNetworkError),
     /// A bit of the address after the length is not 0.
     HostBits,
@@ -83,11 +83,11 @@ fn parse_ipv6(text: &str) -> Result<Ipv6Prefix, NetworkError>
     }
 }
 
-/// Reads an IPv4 or an IPv6 network such as `10.0.0.0/8` or `2001:db8::/32`. Each bit after the length has to be 0.
+/// Reads an IPv4 or an IPv6 network such as `10.0.0.0/8` or `2001:db8::/32`, without host bits.
 ///
 /// # Errors
 ///
-/// Returns why the text is not a network: as an IPv6 network if it has a colon, and else as an IPv4 network.
+/// Returns why the text is not a network: as an IPv6 network if it has a colon, otherwise as an IPv4 network.
 pub fn parse_network(text: &str) -> Result<Network, NetworkError>
     ensures { MatchResult result (IsNetworkText text.now) (λ _. (network : Network) → ¬ (IsNetworkText text.now network)) }
 {

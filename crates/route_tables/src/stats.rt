@@ -1,4 +1,4 @@
-//! What a table has as a whole.
+//! Counts and sizes of a table as a whole.
 ghost use Rattle.std.specs.Prelude.{◌≡◌, ◌≤◌, ◌==◌, ◌+◌, ℕ, IfOk, filter, length, slice_index};
 ghost use Rattle.prefix_trie.specs.Words.{listing, prefix_pairs};
 
@@ -28,7 +28,9 @@ pub fn by_length<P: Prefix>(table: &Table<P>, alloc: Global) -> Result<Vec<usize
     Ok(counts)
 }
 
-/// Returns the bytes of the two arrays of a table: 17 for each slot of nodes, and an `Option<Value>` for each slot of values.
+/// Returns the number of bytes of the two arrays of a table.
+///
+/// A slot of nodes has 17 bytes, and a slot of values has an `Option<Value>`.
 pub fn array_bytes<P: Prefix>(table: &Table<P>) -> usize {
     let nodes = table.node_slots().saturating_mul(NODE_BYTES);
     let values = table
@@ -40,7 +42,7 @@ pub fn array_bytes<P: Prefix>(table: &Table<P>) -> usize {
 // The bytes of a slot of nodes.
 const NODE_BYTES: usize = 17;
 
-/// Returns the bytes of the texts of all values.
+/// Returns the number of bytes of the texts of all values.
 pub fn text_bytes<P: Prefix>(table: &Table<P>) -> usize {
     let mut bytes: usize = 0;
     for value in table.values() {

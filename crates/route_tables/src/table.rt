@@ -21,7 +21,7 @@ pub struct Tables {
 }
 
 impl Tables {
-    /// Returns empty tables.
+    /// Creates empty tables.
     ///
     /// # Errors
     ///
@@ -36,7 +36,7 @@ impl Tables {
         })
     }
 
-    /// Sets the value of a network, and returns the network if it had one.
+    /// Sets the value of a network, and returns the network if it had a value before.
     ///
     /// # Errors
     ///

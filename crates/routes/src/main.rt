@@ -1,4 +1,6 @@
-//! Looks up, prints, compares, minimises, checks and describes tables of IP networks. The work is done by the library `route_tables`.
+//! The program `routes`: looks up, prints, compares, minimises, checks and describes tables of IP networks.
+//!
+//! The library `route_tables` does the work.
 #![tactic(auto)]
 
 use anyhow::{Context, Result, anyhow, ensure};

@@ -1,4 +1,4 @@
-//! Collects the prefixes of an iterator into a set.
+//! Sets from the prefixes of an iterator.
 ghost use Rattle.std.specs.Prelude.{◌≡◌, List, ◌+◌, ◌-◌, ◌*◌, ◌^◌, ◌<◌, length, map, All, IfOk, IfErr};
 ghost use Rattle.std.specs.Iterator.{IsFinite, HoldsAlong, Yields, Drains};
 ghost use Rattle.prefix_trie_bits.specs.declared.prefix.Refusal.TheVariants.{IndexRange};
@@ -13,14 +13,14 @@ use std::alloc::Allocator;
 use std::iter::IntoIterator;
 
 impl<P: Prefix, A: Allocator + Clone> PrefixSet<P, A> {
-    /// Makes a set of the prefixes of an iterator, inserted in order, with the slot limit of `new`.
+    /// Creates a set from the prefixes of an iterator, inserted in order, with the slot limit of `new`.
     ///
-    /// The iterator must end, and each prefix that it gives must fit.
+    /// Requires that the iterator ends and that each of its prefixes fits.
     ///
     /// # Errors
     ///
-    /// Returns the errors of `insert`. `IndexRange` takes very many prefixes: each makes at most 56
-    /// slots in an array. The prefixes read so far are dropped.
+    /// Returns the errors of `insert`. `IndexRange` needs very many prefixes: each makes at most 56 slots of an array.
+    /// No set exists then, and the prefixes taken are dropped.
     ///
     /// # Examples
     ///
@@ -35,7 +35,7 @@ impl<P: Prefix, A: Allocator + Clone> PrefixSet<P, A> {
         ensures tidy { IfOk result (λ set. IsTidy set.entries set.nodes) }
         ensures limit { IfOk result (λ set. set.space.limit ≡ 2 ^ 32 - 1) }
 
-        // `IndexRange` comes only after so many prefixes that 56 slots for each exceed the limit.
+        // `IndexRange` comes only if 56 slots for each prefix taken would exceed the limit.
         ensures range { IfErr result (λ cause. cause ≡ IndexRange → (it : I.IntoIter) × (xs : List P) × (rest : I.IntoIter) × I.into_iter_gives items it × Yields I.IntoIter.next_gives it xs rest × (2 ^ 32 - 1 < 1 + 56 * length xs)) }
     {
         let units = items.into_iter().map(|prefix| (prefix, ()));

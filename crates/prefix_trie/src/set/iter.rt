@@ -1,4 +1,6 @@
-//! The walks of a set, in listing order. Contracts see each as the list of the prefixes to come.
+//! The walks of a set, in listing order.
+//!
+//! Contracts see each walk as the list of the prefixes still to come.
 ghost use Rattle.std.specs.Prelude.{◌≡◌, ◌<◌, ◌≤◌, ◌^◌, map, length, cond};
 ghost use Rattle.std.specs.FinMap.{len};
 ghost use Rattle.std.specs.Map.Iter.{GivesInOrder};
@@ -48,11 +50,10 @@ impl<P: Prefix, A: Allocator> PrefixSet<P, A> {
         self.map.keys()
     }
 
-    /// Walks the keys after a prefix in the order of `iter`, and its own if `inclusive`; the prefix
-    /// need not be stored.
+    /// Walks the keys after a prefix in the order of `iter`.
     ///
-    /// The prefixes that it contains come after it, so an exclusive walk leaves out only its own
-    /// key.
+    /// The prefix itself comes first if `inclusive` is true and it is stored. It need not be stored. The prefixes that
+    /// it contains come after it, so an exclusive walk leaves out only its own key.
     ///
     /// # Examples
     ///
@@ -96,7 +97,7 @@ impl<P: Prefix, A: Allocator> PrefixSet<P, A> {
         KeysOf::new(self.map.children(prefix))
     }
 
-    /// Walks the keys that contain a prefix, the shortest first. A stored prefix contains itself.
+    /// Walks the keys that contain a prefix, shortest first. A stored prefix contains itself.
     ///
     /// # Examples
     ///

@@ -27,8 +27,15 @@ impl<P: Prefix, A: Allocator> PrefixSet<P, A> {
         self.map.contains_key(prefix)
     }
 
-    /// Returns whether a stored prefix contains this one, which is whether `get_lpm` finds one. A
-    /// stored prefix contains itself.
+    /// Returns whether a stored prefix contains this one. A stored prefix contains itself.
+    ///
+    /// # Examples
+    ///
+    /// ```text
+    /// // 10.0.0.0/8 is stored
+    /// set.is_covered(&"10.1.2.3/32".parse()?);     // true
+    /// set.is_covered(&"11.0.0.0/8".parse()?);      // false
+    /// ```
     #[inline]
     pub fn is_covered(&self, prefix: &P) -> bool
         requires { P.IsFitting prefix.now }
@@ -56,8 +63,9 @@ impl<P: Prefix, A: Allocator> PrefixSet<P, A> {
         }
     }
 
-    /// Returns the longest stored prefix that contains this one, without host bits. A stored prefix
-    /// contains itself.
+    /// Returns the longest stored prefix that contains this one, without host bits.
+    ///
+    /// A stored prefix contains itself.
     ///
     /// # Examples
     ///
@@ -78,6 +86,14 @@ impl<P: Prefix, A: Allocator> PrefixSet<P, A> {
     /// Returns the shortest stored prefix that contains this one, without host bits.
     ///
     /// A stored prefix contains itself. `get_lpm` has an example of both.
+    ///
+    /// # Examples
+    ///
+    /// ```text
+    /// // 10.0.0.0/8 and 10.1.0.0/16 are stored
+    /// set.get_spm(&"10.1.2.3/32".parse()?);        // Some(10.0.0.0/8)
+    /// set.get_spm(&"11.0.0.0/8".parse()?);         // None
+    /// ```
     #[inline]
     pub fn get_spm(&self, prefix: &P) -> Option<P>
         requires { P.IsFitting prefix.now }

@@ -1,4 +1,4 @@
-//! Returns unused memory of a set.
+//! Freeing memory that a set does not need.
 ghost use Rattle.std.specs.Prelude.{◌≡◌, OnOk, OnErr, IfErr};
 ghost use Rattle.prefix_trie_bits.specs.declared.prefix.Refusal.TheVariants.{Memory};
 ghost use Rattle.prefix_trie_bits.specs.Model.SplitsOff.{IsPacked};
@@ -11,12 +11,18 @@ use prefix_trie_bits::prefix::{Prefix, Refusal};
 use std::alloc::{AllocError, Allocator};
 
 impl<P: Prefix, A: Allocator> PrefixSet<P, A> {
-    /// Frees the memory that the set has reserved and does not use, as `PrefixMap::shrink_to_fit`.
+    /// Frees the memory that the set has reserved and does not use, as `PrefixMap::shrink_to_fit` does.
     ///
     /// # Errors
     ///
-    /// Returns an error if memory of a smaller size could not be allocated. The set is unchanged in
-    /// both cases.
+    /// Returns an error if memory of a smaller size could not be allocated. The set is unchanged in both cases.
+    ///
+    /// # Examples
+    ///
+    /// ```text
+    /// set.insert("10.1.0.0/16".parse::<Ipv4Prefix>()?)?;
+    /// set.shrink_to_fit()?;
+    /// ```
     pub fn shrink_to_fit(&mut self) -> Result<(), AllocError>
         ensures { self.new ≡ self.old }
     {
@@ -25,13 +31,19 @@ impl<P: Prefix, A: Allocator> PrefixSet<P, A> {
 }
 
 impl<P: Prefix, A: Allocator + Clone> PrefixSet<P, A> {
-    /// Moves all keys to new arrays that are as small as those of a set with these keys can be, as
-    /// `PrefixMap::compact`.
+    /// Moves all keys to new arrays that are as small as the keys allow, as `PrefixMap::compact` does.
     ///
     /// # Errors
     ///
-    /// Returns `Memory` if an allocation failed, and never `IndexRange`. The set is unchanged then,
-    /// its slots and blocks too.
+    /// Returns `Memory` if an allocation fails, and never `IndexRange`. The set is unchanged then, its slots and blocks
+    /// too.
+    ///
+    /// # Examples
+    ///
+    /// ```text
+    /// set.remove(&"10.1.2.0/24".parse::<Ipv4Prefix>()?);
+    /// set.compact()?;
+    /// ```
     pub fn compact(&mut self) -> Result<(), Refusal>
         ensures entries { OnOk result (self.new.entries ≡ self.old.entries) }
         ensures nodes { OnOk result (self.new.nodes ≡ needed self.old.entries) }

@@ -1,4 +1,4 @@
-//! Removes keys of a set.
+//! Removing keys of a set.
 ghost use Rattle.std.specs.Prelude.{◌≡◌};
 ghost use Rattle.std.specs.FinMap.{contains_key};
 ghost use Rattle.prefix_trie_bits.specs.Model.Retaining.{RetainsEntries, CallableOnEachEntry};
@@ -42,8 +42,9 @@ impl<P: Prefix, A: Allocator> PrefixSet<P, A> {
         self.map.remove(prefix).is_some()
     }
 
-    /// Removes a prefix and returns whether it was in the set. All nodes stay, even empty ones. It
-    /// never fails.
+    /// Removes a prefix and returns whether it was in the set, and keeps all nodes.
+    ///
+    /// Nodes that have no key and no child stay too. The call never fails.
     ///
     /// # Examples
     ///
@@ -111,14 +112,13 @@ impl<P: Prefix, A: Allocator> PrefixSet<P, A> {
         self.map.clear();
     }
 
-    /// Calls a test on each key once, in listing order, and keeps the keys for which it returns
-    /// `true`.
+    /// Calls a test with each key once, in listing order, and keeps those for which it returns `true`.
     ///
-    /// The test gets each prefix without host bits. Nodes that no remaining key needs are removed
-    /// too. It never fails; for each node that there was, each array grows by at most 56 slots.
+    /// The test gets each prefix without host bits. Nodes that no remaining key needs are removed. The call never
+    /// fails: each array grows by at most 56 slots for each node that there was.
     ///
-    /// The test must be callable on each key, in each state that the calls before may leave it in.
-    /// A closure without a `requires` always is.
+    /// Requires that the test may be called with each key, from each state in which the calls before may have left it.
+    /// This always holds for a closure without a `requires`.
     ///
     /// # Examples
     ///

@@ -1,4 +1,4 @@
-//! Splits keys off as a second set.
+//! Splitting keys off as a second set.
 ghost use Rattle.std.specs.Prelude.{◌≡◌, IfOk, OnOk, IfErr, OnErr};
 ghost use Rattle.prefix_trie_bits.specs.declared.prefix.Refusal.TheVariants.{Memory};
 ghost use Rattle.prefix_trie_bits.specs.Model.Entries.{without_below, part_below};
@@ -11,20 +11,19 @@ use prefix_trie_bits::prefix::{Prefix, Refusal};
 use std::alloc::Allocator;
 
 impl<P: Prefix, A: Allocator + Clone> PrefixSet<P, A> {
-    /// Removes the keys that this prefix contains, its own included, and returns them as a second
-    /// set.
+    /// Removes the keys that this prefix contains, its own included, and returns them as a second set.
     ///
-    /// If the prefix's own node is missing, the second set is empty; at length 0 it has all keys.
-    /// This set is left as after `drop_children`.
+    /// If the prefix's own node is missing, the second set is empty. At length 0 it has all keys. This set is left as
+    /// `drop_children` leaves it.
     ///
-    /// The second set has this set's slot limit and a clone of its allocator. It is tidy and as
-    /// small as a set of its keys can be: each of its blocks is the smallest that holds its items,
-    /// and none is free. All its memory is allocated before a key moves.
+    /// The second set has this set's slot limit and a clone of its allocator. It is tidy and as small as a set of its
+    /// keys can be: each of its blocks is the smallest that holds its items, and none is free. All its memory is
+    /// allocated before a key moves.
     ///
     /// # Errors
     ///
-    /// Returns `Memory` if an allocation failed. This set is unchanged then, its slots and blocks
-    /// too. Never returns `IndexRange`: the second set has no more slots than this one.
+    /// Returns `Memory` if an allocation fails. This set is unchanged then, its slots and blocks too. `IndexRange`
+    /// never comes: the second set has no more slots than this one.
     ///
     /// # Examples
     ///

@@ -46,7 +46,7 @@ module _ {T : Type 0} where
   abbrev pub shortest_match : Entries T → List Bool → Option (List Bool × T)
   shortest_match m q = first_item (covers m q)
 
-  -- a match with its key turned back into a prefix
+  -- a match with the prefix of its key
   abbrev pub prefix_pair : {P : Type 0} → (List Bool → P) → Option (List Bool × T) → Option (P × T)
   prefix_pair back None = None
   prefix_pair back (Some e) = Some (back e.0, e.1)

@@ -25,6 +25,6 @@ module _ {T : Type 0} where
   abbrev pub listing_below : Entries T → List Bool → List (List Bool × T)
   listing_below m q = filter (λ e. begins q e.0) (listing m)
 
-  -- entries with their keys turned back into prefixes
+  -- entries with the prefixes of their keys
   abbrev pub prefix_pairs : {P : Type 0} → (List Bool → P) → List (List Bool × T) → List (P × T)
   prefix_pairs back es = map (λ e. (back e.0, e.1)) es

@@ -61,7 +61,7 @@ module _ {P T : Type 0} where
   CallFits Fits (Cover q) = Fits q
   CallFits Fits call = ⊤
 
-  -- the call returns these items, or is refused for lack of memory; the map is unchanged
+  -- the call returns these items, or is refused because an allocation failed; the map is unchanged
   abbrev pub Lists : State T → List (P × T) → Reply P T → State T → Type 0
   Lists s items reply t = ((reply ≡ Items items) ⊎ (reply ≡ Refused Memory)) × (t ≡ s)
 

@@ -1,11 +1,11 @@
-//! The bits that strings below a node's path have in its two bitmaps, and ranks.
+//! The bits of short strings in a node's two bitmaps, and ranks.
 ghost use Rattle.std.specs.Prelude.{◌≡◌, ℕ, ◌+◌, ◌^◌, ◌<◌, ◌≤◌, List, Bool, take, drop, true, false};
 ghost use Rattle.prefix_trie_bits.specs.Bits.{number, digits};
 ghost use Rattle.prefix_trie_bits.specs.Places.{has, value_bit, ones_below, Sets};
 
 use crate::prefix::Key;
 
-/// Whether bit `k` of a bitmap is set.
+/// Returns whether bit `k` of a bitmap is set.
 #[inline]
 pub fn has_bit(bitmap: u32, k: u32) -> bool
     requires { k < 32 }
@@ -14,10 +14,10 @@ pub fn has_bit(bitmap: u32, k: u32) -> bool
     (bitmap >> k) & 1 == 1
 }
 
-/// How many of the bits below bit `k` are set.
+/// Returns how many of the bits below bit `k` are set.
 ///
-/// In the full bitmap of a node this is the place of `k` in the node's block. A filtered bitmap
-/// gives other ranks, which are no places.
+/// In the full bitmap of a node, this is the offset of the item of `k` in the node's block. A filtered bitmap gives
+/// other ranks, which are no offsets.
 #[inline]
 pub fn rank(bitmap: u32, k: u32) -> u32
     requires { k < 32 }
@@ -26,7 +26,7 @@ pub fn rank(bitmap: u32, k: u32) -> u32
     (bitmap & ((1 << k) - 1)).count_ones()
 }
 
-/// How many bits are set: the number of items in the node's block.
+/// Returns how many bits are set: the number of items in the node's block.
 #[inline]
 #[tactic(auto, using(crate::proofs::Ranks::count_ones_below))]
 pub fn count(bitmap: u32) -> u32
@@ -35,7 +35,7 @@ pub fn count(bitmap: u32) -> u32
     bitmap.count_ones()
 }
 
-/// The bitmap with bit `k` set, which was clear.
+/// Returns the bitmap with bit `k` set, which was clear.
 #[inline]
 #[tactic(auto, using(crate::proofs::Ranks::set_bit_sets, crate::proofs::Ranks::set_bit_small))]
 pub fn with_bit(bitmap: u32, k: u32) -> u32
@@ -47,7 +47,7 @@ pub fn with_bit(bitmap: u32, k: u32) -> u32
     bitmap | 1 << k
 }
 
-/// The bitmap with bit `k` cleared, which was set.
+/// Returns the bitmap with bit `k` cleared, which was set.
 #[inline]
 #[tactic(auto, using(crate::proofs::Ranks::clear_bit_sets, crate::proofs::Ranks::clear_bit_small))]
 pub fn without_bit(bitmap: u32, k: u32) -> u32
@@ -59,7 +59,7 @@ pub fn without_bit(bitmap: u32, k: u32) -> u32
     bitmap & !(1 << k)
 }
 
-/// The value bit, 0 to 30, of a key of `len` bits in its own node, whose path has `depth` bits.
+/// Returns the value bit, 0 to 30, of a key of `len` bits in its own node, whose path has `depth` bits.
 ///
 /// A string of j bits below the path, 0 to 4, has the value bit 2^j - 1 + its number.
 #[inline]
@@ -75,7 +75,7 @@ pub fn value_bit_of<K: Key>(key: K, depth: u32, len: u32) -> u32
     (1 << n) - 1 + key.window(depth, n)
 }
 
-/// The child bit, 0 to 31, of a key below a node whose path has `depth` bits.
+/// Returns the child bit, 0 to 31, of a key below a node whose path has `depth` bits.
 ///
 /// It is the number of the five bits from `depth` on.
 #[inline]
@@ -88,9 +88,9 @@ pub fn child_bit_of<K: Key>(key: K, depth: u32) -> u32
     key.window(depth, 5)
 }
 
-/// The length and the number of the string that has a value bit, as `Key::extend` takes them.
+/// Returns the length and the number of the string that has a value bit, as `Key::extend` takes them.
 ///
-/// For example bit 28 is that of 1101: length 4, number 13.
+/// For example, bit 28 is that of 1101: length 4, number 13.
 #[inline]
 pub fn string_of(bit: u32) -> (u32, u32)
     requires { bit < 31 }

@@ -1,13 +1,13 @@
-//! Which bits of a node begin a key's string, and which the string begins.
+//! Masks of the strings in a node that begin a key's string, or that it begins.
 ghost use Rattle.std.specs.Prelude.{◌≡◌, ℕ, ◌+◌, ◌^◌, ◌<◌, ◌≤◌, ◌++◌, take, drop, MatchOption};
 ghost use Rattle.prefix_trie_bits.specs.Bits.{number, digits, zeros, begins};
 ghost use Rattle.prefix_trie_bits.specs.Places.{HoldsValues, HoldsChildren, IsLongest, IsShortest, NoneBegins};
 
 use crate::prefix::Key;
 
-/// The value bits of the strings that begin a key's string below a node.
+/// Returns the value bits of the strings that begin a key's string below a node.
 ///
-/// `len` may be past the node, as on the way down: then all four bits of the node count.
+/// `len` may be past the node, as on a search path. Then all four bits of the node count.
 #[inline]
 pub fn match_mask<K: Key>(key: K, depth: u32, len: u32) -> u32
     requires key { K.IsKey key }
@@ -19,7 +19,7 @@ pub fn match_mask<K: Key>(key: K, depth: u32, len: u32) -> u32
     match_entry(level, pos)
 }
 
-/// The value bits of the strings that a key's string in its own node begins.
+/// Returns the value bits of the strings that a key's string in its own node begins.
 #[inline]
 pub fn value_cover_mask<K: Key>(key: K, depth: u32, len: u32) -> u32
     requires key { K.IsKey key }
@@ -32,7 +32,7 @@ pub fn value_cover_mask<K: Key>(key: K, depth: u32, len: u32) -> u32
     value_cover_entry(level, pos)
 }
 
-/// The child bits of the strings that a key's string in its own node begins.
+/// Returns the child bits of the strings that a key's string in its own node begins.
 #[inline]
 pub fn child_cover_mask<K: Key>(key: K, depth: u32, len: u32) -> u32
     requires key { K.IsKey key }
@@ -45,7 +45,7 @@ pub fn child_cover_mask<K: Key>(key: K, depth: u32, len: u32) -> u32
     child_cover_entry(level, pos)
 }
 
-/// The value bit of the longest string in the bitmap that begins a key's string below the node.
+/// Returns the value bit of the longest string in the bitmap that begins a key's string below the node.
 ///
 /// A longer string has a higher bit, so this is the highest bit under the match mask.
 #[inline]
@@ -65,7 +65,7 @@ pub fn longest_match<K: Key>(bitmap: u32, key: K, depth: u32, len: u32) -> Optio
     Some(31 - matches.leading_zeros())
 }
 
-/// The value bit of the shortest string in the bitmap that begins a key's string below the node.
+/// Returns the value bit of the shortest string in the bitmap that begins a key's string below the node.
 #[inline]
 pub fn shortest_match<K: Key>(bitmap: u32, key: K, depth: u32, len: u32) -> Option<u32>
     requires bitmap { bitmap < 2 ^ 31 }
@@ -83,7 +83,7 @@ pub fn shortest_match<K: Key>(bitmap: u32, key: K, depth: u32, len: u32) -> Opti
     Some(matches.trailing_zeros())
 }
 
-// The level and the number of the four bits from depth on, where bits past the key's end are 0.
+// Returns the level and the number of the four bits from depth on, where bits past the key's end are 0.
 #[inline]
 fn table_place<K: Key>(key: K, depth: u32, len: u32) -> (u32, u32)
     requires key { K.IsKey key }
@@ -97,7 +97,7 @@ fn table_place<K: Key>(key: K, depth: u32, len: u32) -> (u32, u32)
     ((len - depth).min(4), key.window(depth, 4))
 }
 
-// The value bits of all strings that begin the first level bits of pos.
+// Returns the value bits of all strings that begin the first level bits of pos.
 #[inline]
 fn match_entry(level: u32, pos: u32) -> u32
     requires level { level ≤ 4 }
@@ -107,7 +107,7 @@ fn match_entry(level: u32, pos: u32) -> u32
     MATCHES[(16 * level + pos) as usize]
 }
 
-// The value bits of all strings of at most four bits that the first level bits of pos begin.
+// Returns the value bits of all strings of at most four bits that the first level bits of pos begin.
 #[inline]
 fn value_cover_entry(level: u32, pos: u32) -> u32
     requires level { level ≤ 4 }
@@ -117,7 +117,7 @@ fn value_cover_entry(level: u32, pos: u32) -> u32
     VALUES_COVERED[(16 * level + pos) as usize]
 }
 
-// The child bits of all strings of five bits that the first level bits of pos begin.
+// Returns the child bits of all strings of five bits that the first level bits of pos begin.
 #[inline]
 fn child_cover_entry(level: u32, pos: u32) -> u32
     requires level { level ≤ 4 }
@@ -127,7 +127,7 @@ fn child_cover_entry(level: u32, pos: u32) -> u32
     CHILDREN_COVERED[(16 * level + pos) as usize]
 }
 
-// Each at 16 * level + pos.
+// The masks of `match_entry`, each at the index 16 * level + pos.
 static MATCHES: [u32; 80] = [
     0x00000001, 0x00000001, 0x00000001, 0x00000001, 0x00000001, 0x00000001, 0x00000001, 0x00000001,
     0x00000001, 0x00000001, 0x00000001, 0x00000001, 0x00000001, 0x00000001, 0x00000001, 0x00000001,

@@ -1,4 +1,4 @@
-//! The order of a node's places, and what of them comes after a bit.
+//! The listing order of a node's places.
 ghost use Rattle.std.specs.Prelude.{◌≡◌, ℕ, ◌<◌, ◌≤◌, List, Bool, length, map, not, Some};
 ghost use Rattle.std.specs.List.{slice_get};
 ghost use Rattle.prefix_trie_bits.specs.Bits.{number, begins};
@@ -6,9 +6,9 @@ ghost use Rattle.prefix_trie_bits.specs.Places.{value_bit, heap_number, strings,
 
 use crate::node::Place;
 
-/// The value bits and the child bits from a value bit on in listing order, itself included.
+/// Returns the value bits and the child bits from a value bit on in listing order, itself included.
 ///
-/// For example from bit 30, of 1111: that bit and the child bits 30 and 31.
+/// For example, bit 30 is that of 1111: the masks have that bit, and the child bits 30 and 31.
 #[inline]
 pub fn from_value(bit: u32) -> (u32, u32)
     requires { bit < 31 }
@@ -17,9 +17,9 @@ pub fn from_value(bit: u32) -> (u32, u32)
     FROM_VALUE[bit as usize]
 }
 
-/// The value bits and the child bits behind a child bit in listing order, itself left out.
+/// Returns the value bits and the child bits after a child bit in listing order, itself left out.
 ///
-/// For example behind bit 30, of 11110: the child bit 31 alone.
+/// For example, bit 30 is that of 11110: the masks have the child bit 31 alone.
 #[inline]
 pub fn behind_child(bit: u32) -> (u32, u32)
     requires { bit < 32 }
@@ -28,7 +28,7 @@ pub fn behind_child(bit: u32) -> (u32, u32)
     BEHIND_CHILD[bit as usize]
 }
 
-// The place at a position of the listing.
+// Returns the place at a position of the listing.
 #[inline]
 pub(super) fn place_at(position: u32) -> Place
     requires { position < 63 }
@@ -37,7 +37,7 @@ pub(super) fn place_at(position: u32) -> Place
     LISTING[position as usize]
 }
 
-// The position in the listing of the place with a heap number.
+// Returns the position in the listing of the place with a heap number.
 #[inline]
 pub(super) fn position_of(heap: u32) -> u32
     requires some { 0 < heap }
@@ -48,7 +48,7 @@ pub(super) fn position_of(heap: u32) -> u32
     POSITION[heap as usize] as u32
 }
 
-// The positions in the listing of the places that a value bit's string does not begin.
+// Returns the positions in the listing of the places that a value bit's string does not begin.
 #[inline]
 pub(super) fn not_below(bit: u32) -> u64
     requires { bit < 31 }
@@ -57,7 +57,7 @@ pub(super) fn not_below(bit: u32) -> u64
     NOT_BELOW[bit as usize]
 }
 
-// At a value bit: the value bits and the child bits from there on in listing order.
+// For each value bit: the value bits and the child bits from there on in listing order.
 static FROM_VALUE: [(u32, u32); 31] = [
     (0x7fffffff, 0xffffffff),
     (0x7ffffffe, 0xffffffff),
@@ -92,7 +92,7 @@ static FROM_VALUE: [(u32, u32); 31] = [
     (0x40000000, 0xc0000000),
 ];
 
-// At a child bit: the value bits and the child bits behind it in listing order.
+// For each child bit: the value bits and the child bits after it in listing order.
 static BEHIND_CHILD: [(u32, u32); 32] = [
     (0x7fff7f74, 0xfffffffe),
     (0x7fff7f74, 0xfffffffc),
@@ -195,14 +195,15 @@ static LISTING: [Place; 63] = [
     Place::Child(31),
 ];
 
-// At a heap number: the position in the listing.
+// For each heap number: the position in the listing.
 static POSITION: [u8; 64] = [
     0, 0, 1, 32, 2, 17, 33, 48, 3, 10, 18, 25, 34, 41, 49, 56, 4, 7, 11, 14, 19, 22, 26, 29, 35,
     38, 42, 45, 50, 53, 57, 60, 5, 6, 8, 9, 12, 13, 15, 16, 20, 21, 23, 24, 27, 28, 30, 31, 36, 37,
     39, 40, 43, 44, 46, 47, 51, 52, 54, 55, 58, 59, 61, 62,
 ];
 
-// At a value bit: one bit for each position of the listing but those of the places that the bit's string begins.
+// For each value bit: one bit for each position of the listing, except those of the places that the bit's string
+// begins.
 static NOT_BELOW: [u64; 31] = [
     0x0000000000000000,
     0x7fffffff00000001,

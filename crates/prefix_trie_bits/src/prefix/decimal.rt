@@ -1,7 +1,7 @@
 //! Numbers in plain decimal: digits, with no sign and no leading zero.
 ghost use Rattle.std.specs.Prelude.{◌≡◌, ◌≢◌, ℕ, ◌≤◌, MatchOption, decimal};
 
-// The number that the text writes in plain decimal, if it is at most `most`.
+// Returns the number that the text writes in plain decimal, if it is at most `most`.
 pub(super) fn read_decimal(text: &str, most: u64) -> Option<u64>
     ensures { MatchOption result ((n : ℕ) → n ≤ most → text.now ≢ decimal n) (λ n. (n ≤ most) × (text.now ≡ decimal n)) }
 {

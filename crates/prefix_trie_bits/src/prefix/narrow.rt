@@ -17,8 +17,10 @@ pub use text::ParseNarrowError;
 
 /// A number of `W` bits as a key: a label, a VLAN, digits of a telephone number, a part of an address.
 ///
-/// Its width is `W`, raised to 1 where `W` is 0 and cut to 63 where `W` is larger. With a length, it is a prefix:
+/// Its width is `W`, raised to 1 if `W` is 0 and cut to 63 if `W` is larger. With a length, it is a prefix:
 /// `(Narrow<W>, u8)`. Its text is the number in plain decimal, which `parse` reads back.
+///
+/// # Examples
 ///
 /// ```text
 /// let vlan = Narrow::<12>::new(100)    Some(100), whose bits are 0000 0110 0100
@@ -43,7 +45,9 @@ impl<const W: u32> Model for Narrow<W> {
 }
 
 impl<const W: u32> Narrow<W> {
-    /// The key of a number: None exactly if the number is `2^width` or more.
+    /// Returns the key of a number, or `None` if the number is `2^width` or more.
+    ///
+    /// # Examples
     ///
     /// ```text
     /// Narrow::<5>::new(31)   Some(31)
@@ -60,7 +64,9 @@ impl<const W: u32> Narrow<W> {
         }
     }
 
-    /// The number, which is below `2^width`.
+    /// Returns the number, which is below `2^width`.
+    ///
+    /// # Examples
     ///
     /// ```text
     /// Narrow::<5>::new(31)?.get()   31

@@ -48,7 +48,9 @@ impl Model for Ipv4Prefix {
 }
 
 impl Ipv4Prefix {
-    /// The network of an address and a length: None exactly if the length is above 32. Host bits are kept.
+    /// Returns the network of an address and a length, or `None` if the length is above 32. Host bits are kept.
+    ///
+    /// # Examples
     ///
     /// ```text
     /// Ipv4Prefix::new(0x0a010203, 16)   Some(10.1.2.3/16), which is the same key of a map as 10.1.0.0/16
@@ -65,7 +67,9 @@ impl Ipv4Prefix {
         }
     }
 
-    /// The network of one address: all 32 bits count.
+    /// Returns the network of one address: all 32 bits count.
+    ///
+    /// # Examples
     ///
     /// ```text
     /// Ipv4Prefix::host(0x0a010203)   10.1.2.3/32
@@ -79,7 +83,7 @@ impl Ipv4Prefix {
         Ipv4Prefix { addr, len: 32 }
     }
 
-    /// The address as handed in, host bits kept.
+    /// Returns the address as it was passed, with its host bits.
     #[inline]
     pub fn addr(&self) -> u32
         ensures { result ≡ self.now.0 }
@@ -87,7 +91,9 @@ impl Ipv4Prefix {
         self.addr
     }
 
-    /// Returns the network one bit shorter that contains this one, without host bits: None exactly if the length is 0.
+    /// Returns the network one bit shorter that contains this one, without host bits, or `None` if the length is 0.
+    ///
+    /// # Examples
     ///
     /// ```text
     /// of 10.1.2.3/16   Some(10.0.0.0/15)
@@ -148,7 +154,7 @@ impl Prefix for Ipv4Prefix {
         Ipv4Prefix { addr: repr, len }
     }
 
-    /// True: an IPv4 network always fits.
+    /// Returns true: an IPv4 network always fits.
     #[inline]
     fn fits(&self) -> bool
         ensures value { IsTrue result ↔ ((self.now.0 < 2 ^ 32) × (self.now.1 ≤ 32)) }
@@ -160,12 +166,12 @@ impl Prefix for Ipv4Prefix {
 
 /// An IPv6 network: an address, with its host bits, and a length of at most 128.
 ///
-/// Two networks are equal if both numbers are. They are ordered by address and then by length, so networks without host bits are
-/// ordered as a map lists them.
+/// Two networks are equal if both numbers are. They are ordered by address and then by length, so networks without host
+/// bits are ordered as a map lists them.
 ///
-/// `Display` writes the address as RFC 5952 has it, a slash and the length in plain decimal: `2001:db8::1/32`. `Debug` writes all
-/// eight groups in full: `2001:0db8:0000:0000:0000:0000:0000:0001/32`. `parse` reads each text that std's `Ipv6Addr` reads, with a
-/// slash and a length after it, and keeps host bits.
+/// `Display` writes the address as in RFC 5952, a slash and the length in plain decimal: `2001:db8::1/32`. `Debug`
+/// writes all eight groups in full: `2001:0db8:0000:0000:0000:0000:0000:0001/32`. `parse` reads each text that
+/// `Ipv6Addr` of `std` reads, with a slash and a length after it, and keeps host bits.
 ///
 /// # Examples
 ///
@@ -194,7 +200,9 @@ impl Model for Ipv6Prefix {
 }
 
 impl Ipv6Prefix {
-    /// The network of an address and a length: None exactly if the length is above 128. Host bits are kept.
+    /// Returns the network of an address and a length, or `None` if the length is above 128. Host bits are kept.
+    ///
+    /// # Examples
     ///
     /// ```text
     /// Ipv6Prefix::new(0x2001_0db8 << 96, 32)   Some(2001:db8::/32)
@@ -211,7 +219,9 @@ impl Ipv6Prefix {
         }
     }
 
-    /// The network of one address: all 128 bits count.
+    /// Returns the network of one address: all 128 bits count.
+    ///
+    /// # Examples
     ///
     /// ```text
     /// Ipv6Prefix::host(1)   ::1/128
@@ -225,7 +235,7 @@ impl Ipv6Prefix {
         Ipv6Prefix { addr, len: 128 }
     }
 
-    /// The address as handed in, host bits kept.
+    /// Returns the address as it was passed, with its host bits.
     #[inline]
     pub fn addr(&self) -> u128
         ensures { result ≡ self.now.0 }
@@ -233,7 +243,9 @@ impl Ipv6Prefix {
         self.addr
     }
 
-    /// Returns the network one bit shorter that contains this one, without host bits: None exactly if the length is 0.
+    /// Returns the network one bit shorter that contains this one, without host bits, or `None` if the length is 0.
+    ///
+    /// # Examples
     ///
     /// ```text
     /// of 2001:db8::1/32   Some(2001:db8::/31)
@@ -294,7 +306,7 @@ impl Prefix for Ipv6Prefix {
         Ipv6Prefix { addr: repr, len }
     }
 
-    /// True: an IPv6 network always fits.
+    /// Returns true: an IPv6 network always fits.
     #[inline]
     fn fits(&self) -> bool
         ensures value { IsTrue result ↔ ((self.now.0 < 2 ^ 128) × (self.now.1 ≤ 128)) }

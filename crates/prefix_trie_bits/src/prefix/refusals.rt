@@ -10,7 +10,7 @@ use std::fmt::{self, Debug, Display, Formatter, Write};
 use std::io::{self, ErrorKind};
 
 impl Refusal {
-    // Its text.
+    // Returns its text.
     fn words(self) -> &'static str
         ensures { result.now ≡ refusal_text self }
     {

@@ -1,5 +1,7 @@
-//! Many longest matches in one call. The machine fetches the nodes of a group of prefixes together, so where a table is larger than
-//! its caches, this takes less time than as many lookups. No memory is asked for.
+//! Longest matches of many prefixes in one call.
+//!
+//! Nodes of a group of prefixes are fetched together. If a table is larger than the caches, this takes less time than
+//! separate lookups. No call here allocates.
 ghost use Rattle.std.specs.Prelude.{◌≡◌, ℕ, ◌+◌, ◌<◌, ◌≤◌, All, Bool, IfSome, List, Option, length, map, take};
 ghost use Rattle.std.specs.Option.{option_copied, option_map};
 ghost use Rattle.prefix_trie_bits.specs.Model.Matches.{longest_match, prefix_pair};
@@ -15,7 +17,11 @@ use prefix_trie_table::table::bulk::{FEW_NODES, Found, GROUP};
 use std::alloc::Allocator;
 
 impl<P: Prefix, T: Drop, A: Allocator> PrefixMap<P, T, A> {
-    /// For each prefix what `get_lpm` answers, in the order of the prefixes. Asks that `out` is as long as `prefixes`.
+    /// Finds the longest match of each prefix, as `get_lpm` does, in the order of the prefixes.
+    ///
+    /// Requires that `out` is as long as `prefixes`.
+    ///
+    /// # Examples
     ///
     /// ```text
     /// 10.0.0.0/8 is stored with 1, and 10.1.0.0/16 with 2
@@ -32,8 +38,9 @@ impl<P: Prefix, T: Drop, A: Allocator> PrefixMap<P, T, A> {
         self.get_lpm_bulk_counted(prefixes, out);
     }
 
-    /// The answers of `get_lpm_bulk`, and how many nodes it read: those on the way of each prefix once for that prefix, as
-    /// `get_lpm_counted` does.
+    /// Does what `get_lpm_bulk` does, and returns the number of nodes read.
+    ///
+    /// The nodes on the search path of each prefix are read once for that prefix, as `get_lpm_counted` reads them.
     pub fn get_lpm_bulk_counted<'a>(
         &'a self,
         prefixes: &[P],
@@ -50,8 +57,13 @@ impl<P: Prefix, T: Drop, A: Allocator> PrefixMap<P, T, A> {
         visits
     }
 
-    /// For each prefix what `get_lpm_value` answers, in the order of the prefixes. Asks that `out` is as long as `prefixes`. It
-    /// builds no prefix.
+    /// Finds the value of the longest match of each prefix, in the order of the prefixes.
+    ///
+    /// Unlike `get_lpm_bulk`, it does not rebuild the prefixes of the matches. Requires that `out` is as long as
+    /// `prefixes`.
+    ///
+    /// # Examples
+    ///
     ///
     /// ```text
     /// 10.0.0.0/8 is stored with 1, and 10.1.0.0/16 with 2
@@ -68,7 +80,9 @@ impl<P: Prefix, T: Drop, A: Allocator> PrefixMap<P, T, A> {
         self.get_lpm_value_bulk_counted(prefixes, out);
     }
 
-    /// The answers of `get_lpm_value_bulk`, and how many nodes it read: as many as `get_lpm_bulk_counted`.
+    /// Does what `get_lpm_value_bulk` does, and returns the number of nodes read.
+    ///
+    /// It reads the same nodes as `get_lpm_bulk_counted`.
     pub fn get_lpm_value_bulk_counted<'a>(
         &'a self,
         prefixes: &[P],
@@ -86,14 +100,14 @@ impl<P: Prefix, T: Drop, A: Allocator> PrefixMap<P, T, A> {
     }
 }
 
-/// An answer to one of many questions: what is given for a match of the table.
+/// What a bulk lookup returns for a match of the table.
 trait Answer<'a, P: Prefix, T>: Drop + Sized {
     type Shown;
 
-    // what clauses see of an answer
+    // what clauses see of a result
     ghost shows: { Self → Self.Shown };
 
-    // the same of the answer that is right where this is the match
+    // the right result for this match, as clauses see it
     ghost right: { Option (List Bool × T) → Self.Shown };
 
     fn of_match(key: P::R, found: Option<(u32, &'a T)>) -> Self
@@ -102,7 +116,7 @@ trait Answer<'a, P: Prefix, T>: Drop + Sized {
         ensures { shows result ≡ right (option_map (λ f. (take f.0 (P.R.bits key), f.1.now)) found.entry) };
 }
 
-/// The prefix of the match and its value.
+/// The prefix of the match, and its value.
 impl<'a, P: Prefix, T> Answer<'a, P, T> for Option<(P, &'a T)> {
     type Shown = Option<(P, T)>;
 
@@ -133,7 +147,7 @@ impl<'a, P: Prefix, T> Answer<'a, P, T> for Option<&'a T> {
     }
 }
 
-/// Answers each prefix, in the way that takes less time.
+/// Looks all prefixes up, one by one or in groups, whichever takes less time.
 #[inline]
 fn answer_all<'a, P: Prefix, T: Drop, A: Allocator, X: Answer<'a, P, T>>(
     table: &'a Table<T, A, Visits>,
@@ -153,7 +167,7 @@ fn answer_all<'a, P: Prefix, T: Drop, A: Allocator, X: Answer<'a, P, T>>(
     }
 }
 
-/// Answers one prefix after another.
+/// Looks the prefixes up one by one.
 fn answer_singly<'a, P: Prefix, T: Drop, A: Allocator, X: Answer<'a, P, T>>(
     table: &'a Table<T, A, Visits>,
     prefixes: &[P],
@@ -171,7 +185,7 @@ fn answer_singly<'a, P: Prefix, T: Drop, A: Allocator, X: Answer<'a, P, T>>(
     }
 }
 
-/// Answers a group of prefixes after another.
+/// Looks the prefixes up group by group.
 fn answer_in_groups<'a, P: Prefix, T: Drop, A: Allocator, X: Answer<'a, P, T>>(
     table: &'a Table<T, A, Visits>,
     prefixes: &[P],
@@ -189,7 +203,7 @@ fn answer_in_groups<'a, P: Prefix, T: Drop, A: Allocator, X: Answer<'a, P, T>>(
     }
 }
 
-/// Asks the table for the next prefixes, from a place on, and answers how many these are.
+/// Finds the matches of the next group of prefixes, from an index on, and returns the size of the group.
 fn find_group<P: Prefix, T: Drop, A: Allocator>(
     table: &Table<T, A, Visits>,
     prefixes: &[P],
@@ -210,7 +224,7 @@ fn find_group<P: Prefix, T: Drop, A: Allocator>(
     count
 }
 
-/// Answers the next prefixes, from a place on, and how many these are.
+/// Writes the results of the next group of prefixes, from an index on, and returns the size of the group.
 fn answer_group<'a, P: Prefix, T: Drop, A: Allocator, X: Answer<'a, P, T>>(
     table: &'a Table<T, A, Visits>,
     prefixes: &[P],

@@ -1,4 +1,4 @@
-//! A copy of a map.
+//! Copying a map.
 ghost use Rattle.std.specs.Prelude.{◌≡◌, IfOk};
 ghost use Rattle.prefix_trie_table.specs.Copies.{AreCloned};
 
@@ -8,12 +8,16 @@ use std::alloc::{AllocError, Allocator};
 use std::marker::PhantomData;
 
 impl<P: Prefix, T: Clone, A: Allocator + Clone> PrefixMap<P, T, A> {
-    /// A map with the same keys and nodes, whose values are clones, in memory of its own.
+    /// Creates a map with the same keys and nodes, whose values are clones, in memory of its own.
     ///
-    /// It copies slot by slot, free ones too: both arrays are as long as those of this map, with the same blocks and the
-    /// same limit. Each value is cloned once, and all memory for the arrays is asked for before the first one is.
+    /// Slots are copied one by one, free ones too: both arrays have the same length, blocks and limit as in this map.
+    /// Each value is cloned once. All memory for the arrays is allocated before the first clone.
     ///
-    /// Errors: only where a request for memory is refused, for the arrays or for a value. Then no copy exists.
+    /// # Errors
+    ///
+    /// Returns an error if an allocation fails, for the arrays or in the clone of a value. No copy exists then.
+    ///
+    /// # Examples
     ///
     /// ```text
     /// map.insert(10.1.0.0/16, 1)        Ok(None)
@@ -27,7 +31,7 @@ impl<P: Prefix, T: Clone, A: Allocator + Clone> PrefixMap<P, T, A> {
         ensures space { IfOk result (λ copy. copy.space ≡ self.now.space) }
         ensures layout { IfOk result (λ copy. copy.layout ≡ self.now.layout) }
 
-        // Where a clone of a value equals it, contracts see the same map.
+        // If a clone of a value equals it, contracts see the same map.
         ensures same { IfOk result (λ copy. ((x y : T) → T.is_clone x y → y ≡ x) → copy ≡ self.now) }
     {
         let table = self.table.clone()?;

@@ -1,4 +1,4 @@
-//! Maps of the items that an iterator gives.
+//! Maps from the items of an iterator.
 ghost use Rattle.std.specs.Prelude.{◌≡◌, List, [], ◌∷◌, ◌++◌, ◌+◌, ◌-◌, ◌*◌, ◌^◌, ◌<◌, length, All, IfOk, OnOk, IfErr};
 ghost use Rattle.std.specs.Iterator.{IsFinite, HoldsAlong, Yields, Drains};
 ghost use Rattle.prefix_trie_bits.specs.declared.prefix.Refusal.TheVariants.{Memory, IndexRange};
@@ -14,11 +14,17 @@ use std::alloc::Allocator;
 use std::iter::IntoIterator;
 
 impl<P: Prefix, T: Drop, A: Allocator + Clone> PrefixMap<P, T, A> {
-    /// The map of the items that an iterator gives, inserted in turn: of two with the same path the later value stays. It has
-    /// the limit of `new`. Asks that the iterator comes to its end, and that each prefix that it gives fits.
+    /// Creates a map from the items of an iterator, inserted in order.
     ///
-    /// Errors: as of `insert`, `Memory`, or `IndexRange` where the items are very many: each makes at most 56 slots of an array. Then
-    /// no map exists, and what was taken is dropped.
+    /// If two items have the same path, the map has the later value. The slot limit is that of `new`. Requires that the
+    /// iterator ends and that each of its prefixes fits.
+    ///
+    /// # Errors
+    ///
+    /// Returns `Memory` or `IndexRange` as `insert` does. `IndexRange` needs very many items: each makes at most 56
+    /// slots of an array. No map exists then, and the items taken are dropped.
+    ///
+    /// # Examples
     ///
     /// ```text
     /// PrefixMap::from_iter(alloc, vec![in alloc; (10.1.0.0/16, 1), (10.1.255.255/16, 2)]?)?
@@ -34,7 +40,7 @@ impl<P: Prefix, T: Drop, A: Allocator + Clone> PrefixMap<P, T, A> {
         ensures tidy { IfOk result (λ map. IsTidy map.entries map.nodes) }
         ensures limit { IfOk result (λ map. map.space.limit ≡ 2 ^ 32 - 1) }
 
-        // For want of slots only where so many items came that 56 slots for each pass the limit.
+        // `IndexRange` comes only if 56 slots for each item taken would exceed the limit.
         ensures range { IfErr result (λ cause. cause ≡ IndexRange → (it : I.IntoIter) × (xs : List (P × T)) × (rest : I.IntoIter) × I.into_iter_gives items it × Yields I.IntoIter.next_gives it xs rest × (2 ^ 32 - 1 < 1 + 56 * length xs)) }
     {
         let mut map = Self::new(alloc)?;
@@ -43,7 +49,7 @@ impl<P: Prefix, T: Drop, A: Allocator + Clone> PrefixMap<P, T, A> {
     }
 }
 
-/// Inserts the items in turn, and stops where one is refused.
+/// Inserts the items in order, and stops at the first that fails.
 fn fill<P: Prefix, T: Drop, A: Allocator, I: IntoIterator<Item = (P, T)> + Drop>(
     map: &mut PrefixMap<P, T, A>,
     items: I,
@@ -53,7 +59,7 @@ fn fill<P: Prefix, T: Drop, A: Allocator, I: IntoIterator<Item = (P, T)> + Drop>
     ensures ok { OnOk result ((it : I.IntoIter) × (xs : List (P × T)) × I.into_iter_gives items it × Drains I.IntoIter.next_gives it xs × Puts P.path map.old xs map.new) }
     ensures range { IfErr result (λ cause. cause ≡ IndexRange → (it : I.IntoIter) × (xs : List (P × T)) × (rest : I.IntoIter) × I.into_iter_gives items it × Yields I.IntoIter.next_gives it xs rest × ManyMayPassLimit map.old.space (length xs)) }
 
-    // For want of memory only where some block lacks still for the last item taken, and the limit leaves room for it.
+    // `Memory` comes only if a block that the last item taken needs is still missing and would fit the limit.
     ensures memory { IfErr result (λ cause. cause ≡ Memory → (it : I.IntoIter) × (xs : List (P × T)) × (last : P × T) × (rest : I.IntoIter) × I.into_iter_gives items it
         × Yields I.IntoIter.next_gives it (xs ++ last ∷ []) rest × MissingFitsLimit map.new.entries map.new.nodes map.new.space map.new.layout (P.path last.0)) }
 {
@@ -63,7 +69,7 @@ fn fill<P: Prefix, T: Drop, A: Allocator, I: IntoIterator<Item = (P, T)> + Drop>
     Ok(())
 }
 
-/// Inserts one item. The value that was there before is dropped, and so is this one where it is refused.
+/// Inserts one item. The previous value is dropped, or the new one if the insertion fails.
 fn put<P: Prefix, T: Drop, A: Allocator>(
     map: &mut PrefixMap<P, T, A>,
     prefix: P,

@@ -15,12 +15,15 @@ use prefix_trie_table::table::Walk;
 use std::alloc::Allocator;
 
 impl<P: Prefix, T: Drop, A: Allocator> PrefixMap<P, T, A> {
-    /// The number of nodes, the root among them: a new map has 1. It is not kept: each call reads every slot of the array of
-    /// nodes once, free ones too.
+    /// Returns the number of nodes, including the root: a new map has 1.
+    ///
+    /// The number is not stored. Each call reads every slot of the array of nodes once, free slots too.
+    ///
+    /// # Examples
     ///
     /// ```text
     /// map.insert(0.0.0.0/32, 1)   Ok(None), in a new map
-    /// map.node_count()            7: the root, and a node for each five bits of the way
+    /// map.node_count()            7: the root, and a node for each five bits
     /// ```
     #[inline]
     pub fn node_count(&self) -> usize
@@ -31,8 +34,13 @@ impl<P: Prefix, T: Drop, A: Allocator> PrefixMap<P, T, A> {
         self.table.node_count(&mut Visits::new())
     }
 
-    /// The number of addresses, numbers of the full width, that the stored prefixes contain, each counted once; `None` exactly if
-    /// these are all that there are. A prefix within another stored one adds nothing, and nodes below one are not read.
+    /// Returns the number of addresses that the stored prefixes contain, each counted once.
+    ///
+    /// An address is a number of the full width. The result is `None` exactly if all addresses are covered, since their
+    /// number does not fit. A prefix within another stored one adds nothing, and the nodes under a stored prefix are
+    /// not read.
+    ///
+    /// # Examples
     ///
     /// ```text
     /// 192.0.2.0/24, 192.0.2.128/25 and 198.51.100.0/24 are stored
@@ -53,7 +61,7 @@ impl<P: Prefix, T: Drop, A: Allocator> PrefixMap<P, T, A> {
     }
 }
 
-/// How many addresses the entries to come cover; `None` exactly if that is all.
+/// Returns how many addresses the entries to come cover, or `None` if they cover all.
 fn addresses_of<K: Key, T: Drop, A: Allocator, V: Tick>(
     walk: &mut Walk<'_, K, T, A, V>,
     counter: &mut V,

@@ -1,5 +1,6 @@
-//! The walks over the entries whose prefixes contain a prefix, the shortest first. Contracts see each as the list of the
-//! items still to come.
+//! Walks over the entries whose prefixes contain a prefix, shortest first.
+//!
+//! Contracts see each walk as the list of the items still to come.
 ghost use Rattle.std.specs.Prelude.{◌≡◌, ◌≤◌, map, length};
 ghost use Rattle.std.specs.Iterator.{at_most};
 ghost use Rattle.std.specs.Map.Iter.{TakesFirst, ShowsInOrder, GivesInOrder, deref};
@@ -17,8 +18,12 @@ use std::alloc::Allocator;
 use std::marker::{Model, PhantomData};
 
 impl<P: Prefix, T: Drop, A: Allocator> PrefixMap<P, T, A> {
-    /// The entries whose prefixes contain this one, the shortest first. A stored prefix contains itself. Prefixes come
-    /// without host bits, and there are 129 of them at most, since no two are of one length.
+    /// Returns a walk over the entries whose prefixes contain this one, shortest first.
+    ///
+    /// A stored prefix contains itself. Prefixes are without host bits. There are at most 129 items, since no two have
+    /// the same length.
+    ///
+    /// # Examples
     ///
     /// ```text
     /// 10.0.0.0/8, 10.1.0.0/16, 10.1.1.0/24, 10.1.1.0/25 and 11.0.0.0/8 are stored
@@ -38,7 +43,14 @@ impl<P: Prefix, T: Drop, A: Allocator> PrefixMap<P, T, A> {
         Cover::over(walk)
     }
 
-    /// The stored prefixes that contain this one, the shortest first: those of `cover`.
+    /// Returns a walk over the stored prefixes that contain this one: the prefixes of `cover`.
+    ///
+    /// # Examples
+    ///
+    /// ```text
+    /// 10.0.0.0/8, 10.1.0.0/16 and 11.0.0.0/8 are stored
+    /// map.cover_keys(&10.1.1.0/24)   gives 10.0.0.0/8 and 10.1.0.0/16
+    /// ```
     #[inline]
     pub fn cover_keys(&self, prefix: &P) -> CoverKeys<'_, P, T, A>
         requires { P.IsFitting prefix.now }
@@ -51,7 +63,14 @@ impl<P: Prefix, T: Drop, A: Allocator> PrefixMap<P, T, A> {
         KeysOf::new(self.cover(prefix))
     }
 
-    /// The values stored for the prefixes that contain this one, that of the shortest first: those of `cover`.
+    /// Returns a walk over the values whose prefixes contain this one: the values of `cover`.
+    ///
+    /// # Examples
+    ///
+    /// ```text
+    /// 10.0.0.0/8, 10.1.0.0/16 and 11.0.0.0/8 are stored with 1, 2 and 3
+    /// map.cover_values(&10.1.1.0/24)   gives &1 and &2
+    /// ```
     #[inline]
     pub fn cover_values(&self, prefix: &P) -> CoverValues<'_, P, T, A>
         requires { P.IsFitting prefix.now }
@@ -65,9 +84,10 @@ impl<P: Prefix, T: Drop, A: Allocator> PrefixMap<P, T, A> {
     }
 }
 
-/// The entries whose prefixes contain a prefix, the shortest first: each prefix, without host bits, with its value lent.
+/// The entries whose prefixes contain a prefix, shortest first.
 ///
-/// The walk takes no memory, and after its last item it answers `None` each time.
+/// Each item is a prefix without host bits and a reference to its value. The walk does not allocate. After its last
+/// item it returns `None` each time.
 #[derive(Drop)]
 pub struct Cover<'a, P: Prefix, T: Drop, A: Allocator> {
     walk: TableCover<'a, P::R, T, A, Visits>,
@@ -84,7 +104,7 @@ impl<'a, P: Prefix, T: Drop, A: Allocator> Model for Cover<'a, P, T, A> {
 }
 
 impl<'a, P: Prefix, T: Drop, A: Allocator> Cover<'a, P, T, A> {
-    /// The walk of a table, by prefixes.
+    /// Returns the walk of a table with prefixes in place of lengths.
     #[inline]
     fn over(walk: TableCover<'a, P::R, T, A, Visits>) -> Self
         ensures { result ≡ prefix_pairs P.back walk.entry }
@@ -128,10 +148,10 @@ impl<'a, P: Prefix, T: Drop, A: Allocator> Keyed for Cover<'a, P, T, A> {
     }
 }
 
-/// The stored prefixes that contain a prefix, the shortest first and without host bits.
+/// The stored prefixes that contain a prefix, shortest first and without host bits.
 pub type CoverKeys<'a, P, T, A> = KeysOf<Cover<'a, P, T, A>>;
 
-/// The values stored for the prefixes that contain a prefix, that of the shortest first.
+/// The values whose prefixes contain a prefix, in the order of those prefixes, shortest first.
 #[derive(Drop)]
 pub struct CoverValues<'a, P: Prefix, T: Drop, A: Allocator> {
     inner: Cover<'a, P, T, A>,
@@ -146,7 +166,7 @@ impl<'a, P: Prefix, T: Drop, A: Allocator> Model for CoverValues<'a, P, T, A> {
 }
 
 impl<'a, P: Prefix, T: Drop, A: Allocator> CoverValues<'a, P, T, A> {
-    /// The values of a walk.
+    /// Returns the values of a walk.
     #[inline]
     fn new(inner: Cover<'a, P, T, A>) -> Self
         ensures { result ≡ map (λ e. e.1) inner.entry }
@@ -170,7 +190,7 @@ impl<'a, P: Prefix, T: Drop, A: Allocator> Iterator for CoverValues<'a, P, T, A>
         Some(value)
     }
 
-    // The default does not know that what is lent lives as long as the map.
+    // The default does not know that the borrowed items live as long as the map.
     #[inline]
     fn size_hint(&self) -> (usize, Option<usize>) {
         (0, None)

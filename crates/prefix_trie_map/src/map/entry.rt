@@ -1,4 +1,4 @@
-//! One key of a map, stored or not, looked up once and then read, written, filled or taken out.
+//! Entries: a key of a map, looked up once and then read, written, filled or removed.
 ghost use Rattle.std.specs.Prelude.{◌≡◌, ◌≤◌, length, take, ⊤, IfOk, IfErr, OnErr, None, Some, true, false};
 ghost use Rattle.std.specs.Borrow.{sem, MutBor};
 ghost use Rattle.std.specs.FinMap.{get, contains_key};
@@ -77,7 +77,7 @@ pub struct VacantEntry<'a, P: Prefix, T: Drop, A: Allocator> {
     ghost ends: { IsSearchEnd map.now.build (P.path key) end } by { IsSearchEnd-prop map.now.build (P.path key) end },
 }
 
-/// Let go unfilled, it leaves the map as it was.
+/// A vacant entry that is dropped leaves the map unchanged.
 impl<P: Prefix, T: Drop, A: Allocator> Drop for VacantEntry<'_, P, T, A> {
     fn drop(self)
         ensures { self.exit.0.now ≡ self.entry.map.now }
@@ -103,17 +103,21 @@ pub struct OccupiedEntry<'a, P: Prefix, T: Drop, A: Allocator> {
 /// A prefix of a map, stored or not.
 #[derive(Drop)]
 pub enum Entry<'a, P: Prefix, T: Drop, A: Allocator> {
-    /// It is not stored.
+    /// The prefix is not stored.
     Vacant(VacantEntry<'a, P, T, A>),
-    /// It is stored.
+    /// The prefix is stored.
     Occupied(OccupiedEntry<'a, P, T, A>),
 }
 
 impl<P: Prefix, T: Drop, A: Allocator> PrefixMap<P, T, A> {
     ghost use Rattle.prefix_trie_map.specs.Entry.{entry_map_ref, entry_map, entry_key, entry_path, MatchEntry};
 
-    /// The entry of a prefix: occupied exactly if the prefix is stored, and then its key has no host bits. It asks for no memory,
-    /// and the map stays as it is until the entry is filled, written or taken out.
+    /// Looks a prefix up and returns its entry, occupied if the prefix is stored.
+    ///
+    /// The key of an occupied entry has no host bits. The call does not allocate. The map is unchanged until the entry
+    /// is filled, written or removed.
+    ///
+    /// # Examples
     ///
     /// ```text
     /// 10.1.0.0/16 is stored with 1
@@ -150,7 +154,15 @@ impl<P: Prefix, T: Drop, A: Allocator> PrefixMap<P, T, A> {
 impl<'a, P: Prefix, T: Drop, A: Allocator> Entry<'a, P, T, A> {
     ghost use Rattle.prefix_trie_map.specs.Entry.{entry_map_ref, entry_map, entry_key, entry_value, MatchEntry, ModifiesEntry, lends_filled};
 
-    /// The prefix: without host bits if it is stored, and else as it was handed in.
+    /// Returns the prefix: without host bits if it is stored, otherwise as it was passed.
+    ///
+    /// # Examples
+    ///
+    /// ```text
+    /// 10.1.0.0/16 is stored, and 10.2.0.0/16 is not
+    /// map.entry(10.1.2.3/16).key()   &10.1.0.0/16
+    /// map.entry(10.2.2.3/16).key()   &10.2.2.3/16
+    /// ```
     #[inline]
     pub fn key(&self) -> &P
         ensures { result.now ≡ entry_key self.now }
@@ -161,7 +173,15 @@ impl<'a, P: Prefix, T: Drop, A: Allocator> Entry<'a, P, T, A> {
         }
     }
 
-    /// The value, if the prefix is stored.
+    /// Returns the value if the prefix is stored.
+    ///
+    /// # Examples
+    ///
+    /// ```text
+    /// 10.1.0.0/16 is stored with 1
+    /// map.entry(10.1.0.0/16).get()   Some(&1)
+    /// map.entry(10.2.0.0/16).get()   None
+    /// ```
     #[inline]
     pub fn get(&self) -> Option<&T>
         ensures { option_copied result ≡ entry_value self.now }
@@ -172,8 +192,19 @@ impl<'a, P: Prefix, T: Drop, A: Allocator> Entry<'a, P, T, A> {
         }
     }
 
-    /// The value, if the prefix is stored, for writing. What was written a caller's proof learns from `OccupiedEntry::get_mut` and
-    /// `OccupiedEntry::into_mut` alone.
+    /// Returns the value for writing if the prefix is stored.
+    ///
+    /// Only the contracts of `OccupiedEntry::get_mut` and `OccupiedEntry::into_mut` tell a caller's proof what was
+    /// written.
+    ///
+    /// # Examples
+    ///
+    /// ```text
+    /// 10.1.0.0/16 is stored with 1
+    /// let mut entry = map.entry(10.1.0.0/16);
+    /// if let Some(value) = entry.get_mut() { *value = 2; }
+    /// entry.get()                                            Some(&2)
+    /// ```
     #[inline]
     pub fn get_mut(&mut self) -> Option<&mut T>
         ensures { option_copied_mut result ≡ entry_value self.old }
@@ -184,9 +215,11 @@ impl<'a, P: Prefix, T: Drop, A: Allocator> Entry<'a, P, T, A> {
         }
     }
 
-    /// Calls a closure with the value, if the prefix is stored, and else does nothing.
+    /// Calls a closure with the value if the prefix is stored.
     ///
-    /// Asks that the closure may be called at the value that is stored, if there is one.
+    /// Requires that the closure may be called with the stored value, if there is one.
+    ///
+    /// # Examples
     ///
     /// ```text
     /// 10.1.0.0/16 is stored with 1
@@ -210,9 +243,20 @@ impl<'a, P: Prefix, T: Drop, A: Allocator> Entry<'a, P, T, A> {
         }
     }
 
-    /// The value, for writing. If the prefix is not stored, this value is inserted first.
+    /// Returns the value for writing, after inserting this one if the prefix is not stored.
     ///
-    /// Errors: as of `PrefixMap::insert`, with the value handed back; never where the prefix is stored.
+    /// # Errors
+    ///
+    /// Returns the value back, with the cause, if it cannot be inserted, as `PrefixMap::insert` does. This never
+    /// happens if the prefix is stored.
+    ///
+    /// # Examples
+    ///
+    /// ```text
+    /// 10.1.0.0/16 is stored with 1
+    /// map.entry(10.1.0.0/16).or_insert(9)   Ok(&mut 1)
+    /// map.entry(10.2.0.0/16).or_insert(9)   Ok(&mut 9)
+    /// ```
     #[inline]
     pub fn or_insert(self, value: T) -> Result<&'a mut T, Refused<T>>
         ensures* writes_back { sem 𝓛 (lends_filled P.row T.row A.row P.R.row P.Debug P.R.PartialEq P.R.Debug A.Allocator (λ refused. refused.cause) self.entry result) }
@@ -226,12 +270,23 @@ impl<'a, P: Prefix, T: Drop, A: Allocator> Entry<'a, P, T, A> {
         }
     }
 
-    /// The same with the value that a closure gives. It is called only if the prefix is not stored, once, and when all room is
-    /// certain.
+    /// Returns the value for writing, after inserting what a closure returns if the prefix is not stored.
     ///
-    /// Asks that the closure may be called, if the prefix is not stored.
+    /// The closure is called at most once, after all blocks have been made. Requires that the closure may be called if
+    /// the prefix is not stored.
     ///
-    /// Errors: as of `PrefixMap::insert`, and then the closure is not called; never where the prefix is stored.
+    /// # Errors
+    ///
+    /// Returns the cause if the missing blocks cannot be made, as `PrefixMap::insert` does. The closure is not called
+    /// then. This never happens if the prefix is stored.
+    ///
+    /// # Examples
+    ///
+    /// ```text
+    /// 10.1.0.0/16 is stored with 1
+    /// map.entry(10.1.0.0/16).or_insert_with(|| 9)   Ok(&mut 1)
+    /// map.entry(10.2.0.0/16).or_insert_with(|| 9)   Ok(&mut 9)
+    /// ```
     #[inline]
     pub fn or_insert_with<F: FnOnce() -> T + Drop>(self, f: F) -> Result<&'a mut T, Refusal>
         requires { entry_value self ≡ None → F.pre f }
@@ -245,9 +300,21 @@ impl<'a, P: Prefix, T: Drop, A: Allocator> Entry<'a, P, T, A> {
         }
     }
 
-    /// The same with the default value, which is made as `or_insert_with` calls its closure.
+    /// Returns the value for writing, after inserting the default value if the prefix is not stored.
     ///
-    /// Errors: as of `or_insert_with`.
+    /// The default value is made only if it is needed, after all blocks have been made.
+    ///
+    /// # Errors
+    ///
+    /// Returns the same errors as `or_insert_with`.
+    ///
+    /// # Examples
+    ///
+    /// ```text
+    /// 10.1.0.0/16 is stored with 1
+    /// map.entry(10.1.0.0/16).or_default()   Ok(&mut 1)
+    /// map.entry(10.2.0.0/16).or_default()   Ok(&mut 0)
+    /// ```
     #[inline]
     pub fn or_default(self) -> Result<&'a mut T, Refusal>
     where

@@ -8,8 +8,12 @@ use crate::map::PrefixMap;
 use prefix_trie_bits::prefix::Prefix;
 use std::alloc::Allocator;
 
-/// Two maps are equal if their listings are: as long as one another, with equal prefixes and values, item by item. Prefixes are
-/// compared as `iter` gives them, without host bits. Neither their nodes nor their slots count. No memory is asked for.
+/// Compares the listings of two maps.
+///
+/// Maps are equal if their listings have the same length, and equal prefixes and values item by item. Prefixes are
+/// compared as `iter` gives them, without host bits. Nodes and slots do not count. No memory is allocated.
+///
+/// # Examples
 ///
 /// ```text
 /// a has 10.0.0.0/8 = 1 and 11.0.0.0/8 = 2, inserted in this order, b the same in the other order

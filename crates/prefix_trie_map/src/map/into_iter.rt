@@ -1,5 +1,6 @@
-//! The walks that take a map apart, in listing order: they move its values out. Contracts see each as the list of the items
-//! still to come.
+//! Walks in listing order that consume a map and move its values out.
+//!
+//! Contracts see each walk as the list of the items still to come.
 ghost use Rattle.std.specs.Prelude.{◌≡◌, ◌<◌, ◌^◌, IfOk, map, length};
 ghost use Rattle.std.specs.FinMap.{len};
 ghost use Rattle.std.specs.Iterator.{at_most};
@@ -19,8 +20,12 @@ use std::iter::IntoIterator;
 use std::marker::{Model, PhantomData};
 
 impl<P: Prefix, T: Drop, A: Allocator> PrefixMap<P, T, A> {
-    /// The entries whose prefixes this one contains, its own among them, in the order of `iter`, with their values moved out:
-    /// those of `children`. The other values are dropped with the walk.
+    /// Consumes the map and returns a walk over the entries that this prefix contains, its own included.
+    ///
+    /// They come in the order of `iter`, as `children` gives them, with their values moved out. The other values are
+    /// dropped with the walk.
+    ///
+    /// # Examples
     ///
     /// ```text
     /// 10.0.0.0/8, 10.1.0.0/16, 10.1.1.0/24 and 10.2.0.0/16 are stored with 1, 2, 3 and 4
@@ -41,8 +46,11 @@ impl<P: Prefix, T: Drop, A: Allocator> PrefixMap<P, T, A> {
         IntoIter::over(walk)
     }
 
-    /// The prefixes in the order of `iter`, without host bits. The values are dropped, each as its prefix is given, and the rest
-    /// with the walk.
+    /// Consumes the map and returns a walk over its prefixes, in the order of `iter` and without host bits.
+    ///
+    /// Each value is dropped when its prefix is returned, and the rest with the walk.
+    ///
+    /// # Examples
     ///
     /// ```text
     /// 10.0.0.0/8, 10.1.0.0/16 and 9.0.0.0/8 are stored with 1, 2 and 3
@@ -60,7 +68,14 @@ impl<P: Prefix, T: Drop, A: Allocator> PrefixMap<P, T, A> {
         KeysOf::new(self.into_iter())
     }
 
-    /// The values, moved out in the listing order of their prefixes.
+    /// Consumes the map and returns a walk over its values, in the listing order of their prefixes.
+    ///
+    /// # Examples
+    ///
+    /// ```text
+    /// 10.0.0.0/8, 10.1.0.0/16 and 9.0.0.0/8 are stored with 1, 2 and 3
+    /// map.into_values()   gives 3, 1 and 2
+    /// ```
     #[inline]
     pub fn into_values(self) -> IntoValues<P, T, A>
         ensures items { result ≡ map (λ e. e.1) (listing self.entries) }
@@ -90,8 +105,11 @@ impl<P: Prefix, T: Drop, A: Allocator> IntoIterator for PrefixMap<P, T, A> {
 
 /// The entries of a map in listing order: each prefix, without host bits, with its value, which is moved out.
 ///
-/// A prefix comes before those that it contains, and of two that differ in a bit the one with 0 first. The walk takes no
-/// memory, and after its last item it answers `None` each time. What it has not given is dropped with it.
+/// A prefix comes before those that it contains. Of two prefixes that differ in a bit, the one with 0 comes first. The
+/// walk does not allocate. After its last item it returns `None` each time. Entries that it has not returned are
+/// dropped with it.
+///
+/// # Examples
 ///
 /// ```text
 /// 10.0.0.0/8, 10.1.0.0/16 and 9.0.0.0/8 are stored with 1, 2 and 3
@@ -113,7 +131,7 @@ impl<P: Prefix, T: Drop, A: Allocator> Model for IntoIter<P, T, A> {
 }
 
 impl<P: Prefix, T: Drop, A: Allocator> IntoIter<P, T, A> {
-    /// The walk of a table, by prefixes.
+    /// Returns the walk of a table with prefixes in place of keys.
     #[inline]
     fn over(walk: IntoWalk<P::R, T, A, Visits>) -> Self
         ensures { result ≡ prefix_pairs P.back walk }
@@ -126,9 +144,13 @@ impl<P: Prefix, T: Drop, A: Allocator> IntoIter<P, T, A> {
 }
 
 impl<P: Prefix, T: Clone, A: Allocator + Clone> IntoIter<P, T, A> {
-    /// A walk with the same prefixes to come, whose values are clones, in memory of its own.
+    /// Creates a walk with the same prefixes to come, whose values are clones, in memory of its own.
     ///
-    /// Errors: only where a request for memory is refused, for the arrays or for a value. Then no copy exists.
+    /// # Errors
+    ///
+    /// Returns an error if an allocation fails, for the arrays or in the clone of a value. No copy exists then.
+    ///
+    /// # Examples
     ///
     /// ```text
     /// a walk has (10.0.0.0/8, 1) and (10.1.0.0/16, 2) to come
@@ -138,7 +160,7 @@ impl<P: Prefix, T: Clone, A: Allocator + Clone> IntoIter<P, T, A> {
     pub fn clone(&self) -> Result<Self, AllocError>
         ensures items { IfOk result (λ copy. AllZip (IsPairCloned T.is_clone) self.now copy) }
 
-        // Where a clone of a value equals it, the same items are to come.
+        // If a clone of a value equals it, the same items are to come.
         ensures same { IfOk result (λ copy. ((x y : T) → T.is_clone x y → y ≡ x) → copy ≡ self.now) }
     {
         let walk = self.walk.clone()?;
@@ -185,9 +207,11 @@ impl<P: Prefix, T: Drop, A: Allocator> Keyed for IntoIter<P, T, A> {
 pub type IntoKeys<P, T, A> = KeysOf<IntoIter<P, T, A>>;
 
 impl<P: Prefix, T: Clone, A: Allocator + Clone> KeysOf<IntoIter<P, T, A>> {
-    /// A walk with the same prefixes to come. It clones the values still there.
+    /// Creates a walk with the same prefixes to come. It clones the values that are still there.
     ///
-    /// Errors: as of `IntoIter::clone`.
+    /// # Errors
+    ///
+    /// Returns the same errors as `IntoIter::clone`.
     pub fn clone(&self) -> Result<Self, AllocError>
         ensures { IfOk result (λ copy. copy ≡ self.now) }
     {
@@ -211,7 +235,7 @@ impl<P: Prefix, T: Drop, A: Allocator> Model for IntoValues<P, T, A> {
 }
 
 impl<P: Prefix, T: Drop, A: Allocator> IntoValues<P, T, A> {
-    /// The values of a walk.
+    /// Returns the values of a walk.
     #[inline]
     fn new(inner: IntoIter<P, T, A>) -> Self
         ensures { result ≡ map (λ e. e.1) inner }
@@ -221,13 +245,15 @@ impl<P: Prefix, T: Drop, A: Allocator> IntoValues<P, T, A> {
 }
 
 impl<P: Prefix, T: Clone, A: Allocator + Clone> IntoValues<P, T, A> {
-    /// A walk with clones of the same values to come, in memory of its own.
+    /// Creates a walk with clones of the same values to come, in memory of its own.
     ///
-    /// Errors: as of `IntoIter::clone`.
+    /// # Errors
+    ///
+    /// Returns the same errors as `IntoIter::clone`.
     pub fn clone(&self) -> Result<Self, AllocError>
         ensures items { IfOk result (λ copy. AllZip T.is_clone self.now copy) }
 
-        // Where a clone of a value equals it, the same values are to come.
+        // If a clone of a value equals it, the same values are to come.
         ensures same { IfOk result (λ copy. ((x y : T) → T.is_clone x y → y ≡ x) → copy ≡ self.now) }
     {
         let inner = self.inner.clone()?;

@@ -1,4 +1,6 @@
-//! The walks that lend a map's entries, in listing order. Contracts see each as the list of the items still to come.
+//! Walks in listing order that borrow a map's entries.
+//!
+//! Contracts see each walk as the list of the items still to come.
 ghost use Rattle.std.specs.Prelude.{◌≡◌, ◌<◌, ◌≤◌, ◌^◌, ◌-◌, ◌++◌, [], map, length, take};
 ghost use Rattle.std.specs.FinMap.{len};
 ghost use Rattle.std.specs.Iterator.{at_most};
@@ -17,8 +19,12 @@ use std::iter::IntoIterator;
 use std::marker::{Model, PhantomData};
 
 impl<P: Prefix, T: Drop, A: Allocator> PrefixMap<P, T, A> {
-    /// The entries in listing order: a prefix comes before those that it contains, and of two that differ in a bit the one
-    /// with 0 comes first. Prefixes come without host bits.
+    /// Returns a walk over the entries in listing order.
+    ///
+    /// A prefix comes before those that it contains. Of two prefixes that differ in a bit, the one with 0 comes first.
+    /// Prefixes are without host bits.
+    ///
+    /// # Examples
     ///
     /// ```text
     /// 10.0.0.0/8, 10.1.0.0/16 and 9.0.0.0/8 are stored with 1, 2 and 3
@@ -39,7 +45,14 @@ impl<P: Prefix, T: Drop, A: Allocator> PrefixMap<P, T, A> {
         Iter::over(walk)
     }
 
-    /// The prefixes in listing order, without host bits: those of `iter`.
+    /// Returns a walk over the prefixes in listing order, without host bits.
+    ///
+    /// # Examples
+    ///
+    /// ```text
+    /// 10.0.0.0/8, 10.1.0.0/16 and 9.0.0.0/8 are stored
+    /// map.keys()   gives 9.0.0.0/8, 10.0.0.0/8 and 10.1.0.0/16
+    /// ```
     #[inline]
     pub fn keys(&self) -> Keys<'_, P, T, A>
         ensures items { result ≡ map (λ e. P.back e.0) (listing self.now.entries) }
@@ -51,7 +64,14 @@ impl<P: Prefix, T: Drop, A: Allocator> PrefixMap<P, T, A> {
         KeysOf::new(self.iter())
     }
 
-    /// The values, in the listing order of their prefixes: those of `iter`.
+    /// Returns a walk over the values, in the listing order of their prefixes.
+    ///
+    /// # Examples
+    ///
+    /// ```text
+    /// 10.0.0.0/8, 10.1.0.0/16 and 9.0.0.0/8 are stored with 1, 2 and 3
+    /// map.values()   gives &3, &1 and &2
+    /// ```
     #[inline]
     pub fn values(&self) -> Values<'_, P, T, A>
         ensures items { result ≡ map (λ e. e.1) (listing self.now.entries) }
@@ -77,10 +97,10 @@ impl<'a, P: Prefix, T: Drop, A: Allocator> IntoIterator for &'a PrefixMap<P, T, 
     }
 }
 
-/// The entries of a map in listing order: each prefix, without host bits, with its value lent.
+/// The entries of a map in listing order: each prefix, without host bits, with a reference to its value.
 ///
-/// A prefix comes before those that it contains, and of two that differ in a bit the one with 0 first. The walk takes no
-/// memory, and after its last item it answers `None` each time.
+/// A prefix comes before those that it contains. Of two prefixes that differ in a bit, the one with 0 comes first. The
+/// walk does not allocate. After its last item it returns `None` each time.
 #[derive(Drop)]
 pub struct Iter<'a, P: Prefix, T: Drop, A: Allocator> {
     walk: Walk<'a, P::R, T, A, Visits>,
@@ -97,7 +117,7 @@ impl<'a, P: Prefix, T: Drop, A: Allocator> Model for Iter<'a, P, T, A> {
 }
 
 impl<'a, P: Prefix, T: Drop, A: Allocator> Iter<'a, P, T, A> {
-    /// The walk of a table, by prefixes.
+    /// Returns the walk of a table with prefixes in place of keys.
     #[inline]
     pub(super) fn over(walk: Walk<'a, P::R, T, A, Visits>) -> Self
         ensures { result ≡ prefix_pairs P.back walk.entry }
@@ -108,7 +128,7 @@ impl<'a, P: Prefix, T: Drop, A: Allocator> Iter<'a, P, T, A> {
         }
     }
 
-    /// The same walk, at the same place.
+    /// Returns a walk with the same items to come.
     #[inline]
     pub fn clone(&self) -> Self
         ensures { result ≡ self.now }
@@ -148,7 +168,7 @@ impl<'a, P: Prefix, T: Drop, A: Allocator> Iterator for Iter<'a, P, T, A> {
     }
 }
 
-/// The prefix of a key that has zeros behind its length.
+/// Returns the prefix of a key whose bits past its length are 0.
 #[inline]
 pub(super) fn without_host_bits<P: Prefix>(key: P::R, len: u32) -> P
     requires key { P.R.IsKey key }
@@ -179,7 +199,7 @@ impl<'a, P: Prefix, T: Drop, A: Allocator> Keyed for Iter<'a, P, T, A> {
 pub type Keys<'a, P, T, A> = KeysOf<Iter<'a, P, T, A>>;
 
 impl<'a, P: Prefix, T: Drop, A: Allocator> KeysOf<Iter<'a, P, T, A>> {
-    /// The same walk, at the same place.
+    /// Returns a walk with the same items to come.
     #[inline]
     pub fn clone(&self) -> Self
         ensures { result ≡ self.now }
@@ -197,7 +217,7 @@ impl<'a, P: Prefix, T: Drop, A: Allocator> Default for KeysOf<Iter<'a, P, T, A>>
     }
 }
 
-/// The values of a map, lent in the listing order of their prefixes.
+/// The values of a map, borrowed in the listing order of their prefixes.
 #[derive(Drop)]
 pub struct Values<'a, P: Prefix, T: Drop, A: Allocator> {
     inner: Iter<'a, P, T, A>,
@@ -212,7 +232,7 @@ impl<'a, P: Prefix, T: Drop, A: Allocator> Model for Values<'a, P, T, A> {
 }
 
 impl<'a, P: Prefix, T: Drop, A: Allocator> Values<'a, P, T, A> {
-    /// The values of a walk.
+    /// Returns the values of a walk.
     #[inline]
     pub(super) fn new(inner: Iter<'a, P, T, A>) -> Self
         ensures { result ≡ map (λ e. e.1) inner.entry }
@@ -220,7 +240,7 @@ impl<'a, P: Prefix, T: Drop, A: Allocator> Values<'a, P, T, A> {
         Values { inner }
     }
 
-    /// The same walk, at the same place.
+    /// Returns a walk with the same items to come.
     #[inline]
     pub fn clone(&self) -> Self
         ensures { result ≡ self.now }
@@ -257,7 +277,7 @@ impl<'a, P: Prefix, T: Drop, A: Allocator> Iterator for Values<'a, P, T, A> {
         Some(value)
     }
 
-    // The default does not know that what is lent lives as long as the map.
+    // The default does not know that the borrowed values live as long as the map.
     #[inline]
     fn size_hint(&self) -> (usize, Option<usize>) {
         (0, None)

@@ -1,4 +1,4 @@
-//! Walks that start at a prefix, and those of what a prefix contains.
+//! Walks that start at a prefix, and walks over what a prefix contains.
 ghost use Rattle.std.specs.Prelude.{◌≡◌, ◌<◌, ◌^◌, cond, length};
 ghost use Rattle.std.specs.Map.Iter.{ShowsInOrder};
 ghost use Rattle.prefix_trie_bits.specs.Model.Selections.{listing_from, listing_after, listing_below, prefix_pairs};
@@ -11,10 +11,14 @@ use prefix_trie_bits::prefix::Prefix;
 use std::alloc::Allocator;
 
 impl<P: Prefix, T: Drop, A: Allocator> PrefixMap<P, T, A> {
-    /// The entries behind a prefix in the order of `iter`, and before them its own where `inclusive`, whether it is stored or
-    /// not. The prefixes that it contains are behind it, so an exclusive walk leaves out its own entry alone.
+    /// Returns a walk over the entries after a prefix, in the order of `iter`.
+    ///
+    /// The prefix's own entry comes first if `inclusive` is true and it is stored. The prefix itself need not be
+    /// stored. The prefixes that it contains come after it, so an exclusive walk leaves out only its own entry.
     ///
     /// After some items of `iter` or `iter_from`, `iter_from(&last, false)` gives the rest: see `resume_laws`.
+    ///
+    /// # Examples
     ///
     /// ```text
     /// 10.0.0.0/8, 10.1.0.0/16, 10.1.1.0/24 and 10.2.0.0/16 are stored with 1, 2, 3 and 4
@@ -39,8 +43,12 @@ impl<P: Prefix, T: Drop, A: Allocator> PrefixMap<P, T, A> {
         Iter::over(walk)
     }
 
-    /// The entries whose prefixes this one contains, its own among them, in the order of `iter`. These are the entries that
-    /// `drop_children` and `remove_children` take out: the law `removed` of `listing_laws`.
+    /// Returns a walk over the entries that this prefix contains, its own included, in the order of `iter`.
+    ///
+    /// These are the entries that `drop_children` and `remove_children` remove: see the law `removed` of
+    /// `listing_laws`.
+    ///
+    /// # Examples
     ///
     /// ```text
     /// 10.0.0.0/8, 10.1.0.0/16, 10.1.1.0/24 and 10.2.0.0/16 are stored with 1, 2, 3 and 4

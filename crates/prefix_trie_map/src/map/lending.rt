@@ -1,4 +1,4 @@
-//! Lookups that lend a value for writing.
+//! Lookups that return a value for writing.
 ghost use Rattle.std.specs.Prelude.{◌≡◌, ◌+◌, ◌/◌, ◌≤◌, length, take, MatchOption, IfSome, None, Some};
 ghost use Rattle.std.specs.Option.{option_copied_mut, option_map};
 ghost use Rattle.std.specs.Borrow.{sem};
@@ -16,8 +16,11 @@ use prefix_trie_bits::prefix::Prefix;
 use std::alloc::Allocator;
 
 impl<P: Prefix, T: Drop, A: Allocator> PrefixMap<P, T, A> {
-    /// The value stored for exactly this prefix, for writing. What is written through it is then the value stored, and nothing
-    /// else changes.
+    /// Returns the value stored for exactly this prefix, for writing.
+    ///
+    /// What is written through it becomes the stored value, and nothing else changes.
+    ///
+    /// # Examples
     ///
     /// ```text
     /// 10.1.0.0/16 is stored with 1
@@ -33,8 +36,10 @@ impl<P: Prefix, T: Drop, A: Allocator> PrefixMap<P, T, A> {
         self.lend_entry(prefix, &mut Visits::new())
     }
 
-    /// The answer of `get_mut`, and how many nodes it read: each node on the prefix's way once, as `get_counted` does. What was
-    /// written a caller's proof learns from `get_mut` alone.
+    /// Returns the result of `get_mut` and the number of nodes read.
+    ///
+    /// It reads the same nodes as `get_counted`. Only the contract of `get_mut` tells a caller's proof what was
+    /// written.
     #[inline]
     pub fn get_mut_counted(&mut self, prefix: &P) -> (Option<&mut T>, Visits)
         requires { P.IsFitting prefix.now }
@@ -47,7 +52,7 @@ impl<P: Prefix, T: Drop, A: Allocator> PrefixMap<P, T, A> {
         (answer, visits)
     }
 
-    // The answer of `get_mut`, with the nodes that it reads added to a counter.
+    // Returns the result of `get_mut`, and adds the number of nodes read to a counter.
     #[inline]
     fn lend_entry(&mut self, prefix: &P, counter: &mut Visits) -> Option<&mut T>
         requires { P.IsFitting prefix.now }
@@ -59,8 +64,12 @@ impl<P: Prefix, T: Drop, A: Allocator> PrefixMap<P, T, A> {
         self.table.find_mut(prefix.path(), counter)
     }
 
-    /// The value of the longest stored prefix that contains this one, for writing: what `get_lpm_mut` lends, without the
-    /// prefix. What is written through it is then the value stored for that prefix, and nothing else changes.
+    /// Returns the value of the longest stored prefix that contains this one, for writing.
+    ///
+    /// What is written through it becomes the stored value, and nothing else changes. Unlike `get_lpm_mut`, it does not
+    /// rebuild the prefix.
+    ///
+    /// # Examples
     ///
     /// ```text
     /// 10.0.0.0/8 is stored with 1
@@ -76,9 +85,13 @@ impl<P: Prefix, T: Drop, A: Allocator> PrefixMap<P, T, A> {
         self.lend_longest(prefix, &mut 0, &mut Visits::new())
     }
 
-    /// The longest stored prefix that contains this one, without its host bits, and the value stored for it, for writing. A
-    /// stored prefix contains itself. What is written through it is then the value stored for that prefix, and nothing else
-    /// changes: a caller's proof learns this from `get_lpm_value_mut` alone.
+    /// Returns the longest stored prefix that contains this one, and its value for writing.
+    ///
+    /// The prefix is returned without host bits. A stored prefix contains itself. What is written becomes the stored
+    /// value, and nothing else changes. Only the contract of `get_lpm_value_mut` tells a caller's proof what was
+    /// written.
+    ///
+    /// # Examples
     ///
     /// ```text
     /// 10.0.0.0/8 is stored with 1
@@ -93,8 +106,10 @@ impl<P: Prefix, T: Drop, A: Allocator> PrefixMap<P, T, A> {
         not_counted(self.get_lpm_mut_counted(prefix))
     }
 
-    /// The answer of `get_lpm_mut`, and how many nodes it read: each node on the prefix's way once, as `get_counted` does. What
-    /// was written a caller's proof learns from `get_lpm_value_mut` alone.
+    /// Returns the result of `get_lpm_mut` and the number of nodes read.
+    ///
+    /// It reads the same nodes as `get_counted`. Only the contract of `get_lpm_value_mut` tells a caller's proof what
+    /// was written.
     #[inline]
     pub fn get_lpm_mut_counted(&mut self, prefix: &P) -> (Option<(P, &mut T)>, Visits)
         requires { P.IsFitting prefix.now }
@@ -108,8 +123,8 @@ impl<P: Prefix, T: Drop, A: Allocator> PrefixMap<P, T, A> {
         (beside(value, prefix, found), visits)
     }
 
-    // The answer of `get_lpm_value_mut`. The length of its prefix goes into `found`, and the nodes that it reads are added to a
-    // counter.
+    // Returns the result of `get_lpm_value_mut`. It writes the length of the match to `found`, and adds the number of
+    // nodes read to a counter.
     #[inline]
     fn lend_longest(&mut self, prefix: &P, found: &mut u32, counter: &mut Visits) -> Option<&mut T>
         requires { P.IsFitting prefix.now }
@@ -125,7 +140,7 @@ impl<P: Prefix, T: Drop, A: Allocator> PrefixMap<P, T, A> {
     }
 }
 
-// A value lent for the first bits of a prefix, beside the prefix of these bits, without host bits.
+// Returns a borrowed value with the prefix of the first `found` bits, without host bits.
 #[inline]
 fn beside<'a, P: Prefix, T>(
     value: Option<&'a mut T>,
@@ -143,7 +158,7 @@ fn beside<'a, P: Prefix, T>(
     }
 }
 
-// The answer without its number.
+// Drops the counter.
 #[inline]
 fn not_counted<'a, P, T>(counted: (Option<(P, &'a mut T)>, Visits)) -> Option<(P, &'a mut T)>
     ensures { result ≡ counted.entry.0 }

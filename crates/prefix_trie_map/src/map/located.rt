@@ -1,4 +1,4 @@
-//! What entries do where a key stands, or where its way ends, without going down again.
+//! What entries do at a located key, or at the end of its search path, without a second search.
 ghost use Rattle.std.specs.Prelude.{◌≡◌, ◌≤◌, take, [], false, true, None, Some, IfSome, MatchOption, OnOk, IfOk, IfErr};
 ghost use Rattle.std.specs.Borrow.{sem};
 ghost use Rattle.std.specs.FinMap.{get, contains_key, len};
@@ -54,7 +54,7 @@ impl<P: Prefix, T: Drop, A: Allocator> PrefixMap<P, T, A> {
         self.table.at_mut(path, seat)
     }
 
-    // Goes on to the next entry of a walk: its key, the key's length, and where its value stands.
+    // Advances a walk to its next entry. Returns the key, its length, and the seat of its value.
     #[inline]
     pub(super) fn step(&self, cursor: &mut Cursor<P::R>) -> Option<(P::R, u32, Seat)>
         requires { IsCursorIn P.R.bits P.R.bit_width self.now.build cursor.old }
@@ -68,7 +68,7 @@ impl<P: Prefix, T: Drop, A: Allocator> PrefixMap<P, T, A> {
         self.table.step(cursor, &mut Visits::new())
     }
 
-    // Obtains all blocks that the insertion of a new prefix lacks, whose way ends here.
+    // Makes the missing blocks for a new prefix whose search path ends here.
     #[inline]
     pub(super) fn reserve(&mut self, prefix: &P, end: SearchEnd) -> Result<(), Refusal>
         requires fits { P.IsFitting prefix.now }
@@ -85,8 +85,8 @@ impl<P: Prefix, T: Drop, A: Allocator> PrefixMap<P, T, A> {
         self.table.reserve(key, len, end)
     }
 
-    // Inserts a new prefix, whose way ends here, and answers where its value stands.
-    // It is not inlined, so that what an entry's callers do with a stored key stays small.
+    // Inserts a new prefix whose search path ends here, and returns the seat of its value.
+    // It is not inlined, so that callers of entries stay small if the key is stored.
     #[inline(never)]
     pub(super) fn insert_located(
         &mut self,
@@ -108,7 +108,7 @@ impl<P: Prefix, T: Drop, A: Allocator> PrefixMap<P, T, A> {
         self.table.insert_located(key, len, end, value)
     }
 
-    // The same where no block lacks, which is not refused.
+    // Inserts as `insert_located` does. No block is missing, so it cannot fail.
     #[inline]
     pub(super) fn insert_ready(&mut self, prefix: &P, end: SearchEnd, value: T) -> Seat
         requires fits { P.IsFitting prefix.now }
@@ -127,7 +127,7 @@ impl<P: Prefix, T: Drop, A: Allocator> PrefixMap<P, T, A> {
         }
     }
 
-    // Takes out the entry of a stored prefix, and keeps all nodes.
+    // Removes the entry of a stored prefix, and keeps all nodes.
     #[inline]
     pub(super) fn take(&mut self, prefix: &P) -> T
         requires fits { P.IsFitting prefix.now }

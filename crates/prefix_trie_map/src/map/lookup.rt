@@ -1,8 +1,9 @@
-//! Lookups: of exactly a prefix, and of the longest and the shortest stored prefix that contains one.
+//! Lookups by exact prefix, by longest match and by shortest match.
 //!
-//! Each but `get_lpm_value` has a form that also says how many nodes it read. `get_counted`, `get_lpm_counted` and
-//! `get_spm_counted` make one counter, and hand it to one call of the table; the other counted forms ask one of these, and
-//! answer its counter. The plain form is the first part of that answer: `Visits` has no bytes, so it costs nothing to make it.
+//! Each lookup except `get_lpm_value` has a `*_counted` variant, which also returns how many nodes it read.
+//! `get_counted`, `get_lpm_counted` and `get_spm_counted` make one counter and pass it to one call of the table. The
+//! other variants call one of these three and return its counter. The plain lookups call their variants and drop the
+//! counter, which costs nothing: `Visits` has no bytes.
 ghost use Rattle.std.specs.Prelude.{◌≡◌, ◌≤◌, take, length, IfSome};
 ghost use Rattle.std.specs.Option.{option_copied, option_map, is_some};
 ghost use Rattle.std.specs.FinMap.{get, contains_key};
@@ -16,7 +17,11 @@ use prefix_trie_bits::prefix::{BitString, Key, Prefix};
 use std::alloc::Allocator;
 
 impl<P: Prefix, T: Drop, A: Allocator> PrefixMap<P, T, A> {
-    /// The value stored for exactly this prefix.
+    /// Returns the value stored for exactly this prefix.
+    ///
+    /// Host bits are ignored.
+    ///
+    /// # Examples
     ///
     /// ```text
     /// 10.1.0.0/16 is stored with 1
@@ -32,8 +37,17 @@ impl<P: Prefix, T: Drop, A: Allocator> PrefixMap<P, T, A> {
         self.get_counted(prefix).0
     }
 
-    /// The answer of `get`, and how many nodes it read: each node on the prefix's way once, and so at most one for each
-    /// five bits of the prefix, and one more.
+    /// Returns the result of `get` and the number of nodes read.
+    ///
+    /// Each node on the prefix's search path is read once. These are at most `len / 5 + 1` nodes for a prefix of `len`
+    /// bits.
+    ///
+    /// # Examples
+    ///
+    /// ```text
+    /// map.insert(10.1.0.0/16, 1)      Ok(None), in a new map
+    /// map.get_counted(&10.1.0.0/16)   (Some(&1), visits), with `visits` at 4: lengths 0, 5, 10 and 15
+    /// ```
     #[inline]
     pub fn get_counted(&self, prefix: &P) -> (Option<&T>, Visits)
         requires { P.IsFitting prefix.now }
@@ -45,7 +59,15 @@ impl<P: Prefix, T: Drop, A: Allocator> PrefixMap<P, T, A> {
         (answer, visits)
     }
 
-    /// Whether a value is stored for exactly this prefix, as for `get`.
+    /// Returns whether a value is stored for exactly this prefix. Host bits are ignored.
+    ///
+    /// # Examples
+    ///
+    /// ```text
+    /// 10.1.0.0/16 is stored
+    /// map.contains_key(&10.1.2.3/16)   true
+    /// map.contains_key(&10.1.0.0/17)   false
+    /// ```
     #[inline]
     pub fn contains_key(&self, prefix: &P) -> bool
         requires { P.IsFitting prefix.now }
@@ -54,7 +76,9 @@ impl<P: Prefix, T: Drop, A: Allocator> PrefixMap<P, T, A> {
         self.contains_key_counted(prefix).0
     }
 
-    /// The answer of `contains_key`, and how many nodes it read: as many as `get_counted`.
+    /// Returns the result of `contains_key` and the number of nodes read.
+    ///
+    /// It reads the same nodes as `get_counted`.
     #[inline]
     pub fn contains_key_counted(&self, prefix: &P) -> (bool, Visits)
         requires { P.IsFitting prefix.now }
@@ -65,7 +89,9 @@ impl<P: Prefix, T: Drop, A: Allocator> PrefixMap<P, T, A> {
         (value.is_some(), visits)
     }
 
-    /// This prefix without its host bits, and the value stored for exactly it.
+    /// Returns this prefix without its host bits, and the value stored for exactly this prefix.
+    ///
+    /// # Examples
     ///
     /// ```text
     /// 10.1.0.0/16 is stored with 1
@@ -80,7 +106,9 @@ impl<P: Prefix, T: Drop, A: Allocator> PrefixMap<P, T, A> {
         self.get_key_value_counted(prefix).0
     }
 
-    /// The answer of `get_key_value`, and how many nodes it read: as many as `get_counted`.
+    /// Returns the result of `get_key_value` and the number of nodes read.
+    ///
+    /// It reads the same nodes as `get_counted`.
     #[inline]
     pub fn get_key_value_counted(&self, prefix: &P) -> (Option<(P, &T)>, Visits)
         requires { P.IsFitting prefix.now }
@@ -96,8 +124,11 @@ impl<P: Prefix, T: Drop, A: Allocator> PrefixMap<P, T, A> {
         (pair, visits)
     }
 
-    /// The longest stored prefix that contains this one, without its host bits, and the value stored for it. A stored prefix
-    /// contains itself.
+    /// Returns the longest stored prefix that contains this one, and its value.
+    ///
+    /// The prefix is returned without host bits. A stored prefix contains itself.
+    ///
+    /// # Examples
     ///
     /// ```text
     /// 10.0.0.0/8 is stored with 1, and 10.1.0.0/16 with 2
@@ -113,7 +144,16 @@ impl<P: Prefix, T: Drop, A: Allocator> PrefixMap<P, T, A> {
         self.get_lpm_counted(prefix).0
     }
 
-    /// The answer of `get_lpm`, and how many nodes it read: each node on the prefix's way once, as `get_counted` does.
+    /// Returns the result of `get_lpm` and the number of nodes read.
+    ///
+    /// Like `get_counted`, it reads each node on the prefix's search path once, even if a match was found further up.
+    ///
+    /// # Examples
+    ///
+    /// ```text
+    /// map.insert(10.1.0.0/16, 1)          Ok(None), in a new map
+    /// map.get_lpm_counted(&10.1.2.3/32)   (Some((10.1.0.0/16, &1)), visits), with `visits` at 4
+    /// ```
     #[inline]
     pub fn get_lpm_counted(&self, prefix: &P) -> (Option<(P, &T)>, Visits)
         requires { P.IsFitting prefix.now }
@@ -126,7 +166,11 @@ impl<P: Prefix, T: Drop, A: Allocator> PrefixMap<P, T, A> {
         (rebuilt_match(&path, longest), visits)
     }
 
-    /// The value of the longest stored prefix that contains this one: the value that `get_lpm` gives. It builds no prefix.
+    /// Returns the value of the longest stored prefix that contains this one.
+    ///
+    /// Unlike `get_lpm`, it does not rebuild the prefix.
+    ///
+    /// # Examples
     ///
     /// ```text
     /// 10.0.0.0/8 is stored with 1, and 10.1.0.0/16 with 2
@@ -142,7 +186,15 @@ impl<P: Prefix, T: Drop, A: Allocator> PrefixMap<P, T, A> {
         value_of(longest)
     }
 
-    /// The longest stored prefix that contains this one, without its host bits: the prefix that `get_lpm` gives.
+    /// Returns the longest stored prefix that contains this one, without its host bits.
+    ///
+    /// # Examples
+    ///
+    /// ```text
+    /// 10.0.0.0/8 and 10.1.0.0/16 are stored
+    /// map.get_lpm_prefix(&10.1.2.3/32)   Some(10.1.0.0/16)
+    /// map.get_lpm_prefix(&11.0.0.0/8)    None
+    /// ```
     #[inline]
     pub fn get_lpm_prefix(&self, prefix: &P) -> Option<P>
         requires { P.IsFitting prefix.now }
@@ -151,7 +203,9 @@ impl<P: Prefix, T: Drop, A: Allocator> PrefixMap<P, T, A> {
         self.get_lpm_prefix_counted(prefix).0
     }
 
-    /// The answer of `get_lpm_prefix`, and how many nodes it read: as many as `get_lpm_counted`.
+    /// Returns the result of `get_lpm_prefix` and the number of nodes read.
+    ///
+    /// It reads the same nodes as `get_lpm_counted`.
     #[inline]
     pub fn get_lpm_prefix_counted(&self, prefix: &P) -> (Option<P>, Visits)
         requires { P.IsFitting prefix.now }
@@ -162,8 +216,17 @@ impl<P: Prefix, T: Drop, A: Allocator> PrefixMap<P, T, A> {
         (prefix_of(longest), visits)
     }
 
-    /// The shortest stored prefix that contains this one, without its host bits, and the value stored for it. A stored
-    /// prefix contains itself. `get_lpm` has an example of both.
+    /// Returns the shortest stored prefix that contains this one, and its value.
+    ///
+    /// The prefix is returned without host bits. A stored prefix contains itself. `get_lpm` has an example of both.
+    ///
+    /// # Examples
+    ///
+    /// ```text
+    /// 10.0.0.0/8 is stored with 1, and 10.1.0.0/16 with 2
+    /// map.get_spm(&10.1.2.3/32)   Some((10.0.0.0/8, &1))
+    /// map.get_spm(&11.0.0.0/8)    None
+    /// ```
     #[inline]
     pub fn get_spm(&self, prefix: &P) -> Option<(P, &T)>
         requires { P.IsFitting prefix.now }
@@ -172,8 +235,16 @@ impl<P: Prefix, T: Drop, A: Allocator> PrefixMap<P, T, A> {
         self.get_spm_counted(prefix).0
     }
 
-    /// The answer of `get_spm`, and how many nodes it read: those on the prefix's way, once each, and none below the one that
-    /// holds the match.
+    /// Returns the result of `get_spm` and the number of nodes read.
+    ///
+    /// It reads the nodes on the prefix's search path once each, down to the node that holds the match.
+    ///
+    /// # Examples
+    ///
+    /// ```text
+    /// 10.0.0.0/8 is stored with 1, and 10.1.0.0/16 with 2
+    /// map.get_spm_counted(&10.1.2.3/32)   (Some((10.0.0.0/8, &1)), visits), with `visits` at 2: lengths 0 and 5
+    /// ```
     #[inline]
     pub fn get_spm_counted(&self, prefix: &P) -> (Option<(P, &T)>, Visits)
         requires { P.IsFitting prefix.now }
@@ -186,7 +257,15 @@ impl<P: Prefix, T: Drop, A: Allocator> PrefixMap<P, T, A> {
         (rebuilt_match(&path, shortest), visits)
     }
 
-    /// The shortest stored prefix that contains this one, without its host bits: the prefix that `get_spm` gives.
+    /// Returns the shortest stored prefix that contains this one, without its host bits.
+    ///
+    /// # Examples
+    ///
+    /// ```text
+    /// 10.0.0.0/8 and 10.1.0.0/16 are stored
+    /// map.get_spm_prefix(&10.1.2.3/32)   Some(10.0.0.0/8)
+    /// map.get_spm_prefix(&11.0.0.0/8)    None
+    /// ```
     #[inline]
     pub fn get_spm_prefix(&self, prefix: &P) -> Option<P>
         requires { P.IsFitting prefix.now }
@@ -195,7 +274,9 @@ impl<P: Prefix, T: Drop, A: Allocator> PrefixMap<P, T, A> {
         self.get_spm_prefix_counted(prefix).0
     }
 
-    /// The answer of `get_spm_prefix`, and how many nodes it read: as many as `get_spm_counted`.
+    /// Returns the result of `get_spm_prefix` and the number of nodes read.
+    ///
+    /// It reads the same nodes as `get_spm_counted`.
     #[inline]
     pub fn get_spm_prefix_counted(&self, prefix: &P) -> (Option<P>, Visits)
         requires { P.IsFitting prefix.now }
@@ -206,7 +287,15 @@ impl<P: Prefix, T: Drop, A: Allocator> PrefixMap<P, T, A> {
         (prefix_of(shortest), visits)
     }
 
-    /// Whether a stored prefix contains this one. A stored prefix contains itself. So it is true where `get_lpm` gives one.
+    /// Returns whether a stored prefix contains this one. A stored prefix contains itself.
+    ///
+    /// # Examples
+    ///
+    /// ```text
+    /// 10.0.0.0/8 is stored
+    /// map.is_covered(&10.1.2.3/32)   true
+    /// map.is_covered(&11.0.0.0/8)    false
+    /// ```
     #[inline]
     pub fn is_covered(&self, prefix: &P) -> bool
         requires { P.IsFitting prefix.now }
@@ -215,7 +304,9 @@ impl<P: Prefix, T: Drop, A: Allocator> PrefixMap<P, T, A> {
         self.is_covered_counted(prefix).0
     }
 
-    /// The answer of `is_covered`, and how many nodes it read: as many as `get_spm_counted`.
+    /// Returns the result of `is_covered` and the number of nodes read.
+    ///
+    /// It reads the same nodes as `get_spm_counted`.
     #[inline]
     pub fn is_covered_counted(&self, prefix: &P) -> (bool, Visits)
         requires { P.IsFitting prefix.now }
@@ -251,7 +342,7 @@ pub(super) fn rebuilt_match<'a, P: Prefix, T>(
     }
 }
 
-/// The prefix of a match, without its value.
+/// Returns the prefix of a match, without its value.
 #[inline]
 fn prefix_of<P: Prefix, T>(found: Option<(P, &T)>) -> Option<P>
     ensures { result ≡ option_map (λ f. f.0) found.entry }
@@ -262,7 +353,7 @@ fn prefix_of<P: Prefix, T>(found: Option<(P, &T)>) -> Option<P>
     }
 }
 
-/// The value of a match, without its length.
+/// Returns the value of a match, without its length.
 #[inline]
 pub(super) fn value_of<T>(found: Option<(u32, &T)>) -> Option<&T>
     ensures { option_copied result ≡ option_map (λ f. f.1.now) found.entry }

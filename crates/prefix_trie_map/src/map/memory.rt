@@ -11,13 +11,14 @@ use prefix_trie_bits::prefix::{Prefix, Refusal};
 use std::alloc::{AllocError, Allocator};
 
 impl<P: Prefix, T: Drop, A: Allocator> PrefixMap<P, T, A> {
-    /// Frees the memory that the map has reserved and does not use. Its slots and blocks stay as they are, free blocks too: `compact`
-    /// frees those.
+    /// Frees the memory that the map has reserved and does not use.
+    ///
+    /// Its slots and blocks stay as they are, free blocks too: `compact` frees those.
     ///
     /// # Errors
     ///
-    /// Returns an error if memory of a smaller size could not be allocated. Some may have been freed until then. In both cases the
-    /// map is the same.
+    /// Returns an error if memory of a smaller size could not be allocated. Some may have been freed until then. In
+    /// both cases the map is the same.
     ///
     /// # Examples
     ///
@@ -34,16 +35,16 @@ impl<P: Prefix, T: Drop, A: Allocator> PrefixMap<P, T, A> {
 }
 
 impl<P: Prefix, T: Drop, A: Allocator + Clone> PrefixMap<P, T, A> {
-    /// Moves all entries to new arrays that are as small as those of a map with these entries can be: it has just the nodes that the entries
-    /// need, each block is the smallest that holds its items, and none is free. The blocks are in listing order, so a walk
-    /// reads memory in order. Values move: none is cloned or dropped.
+    /// Moves all entries to new arrays that are as small as the entries allow, in listing order.
     ///
-    /// The old arrays are freed at the end, so memory for both is needed at once.
+    /// The map then has just the nodes that the entries need, each block is the smallest that holds its items, and none
+    /// is free. Since the blocks are in listing order, a walk reads memory in order. Values move: none is cloned or
+    /// dropped. The old arrays are freed at the end, so memory for both is needed at once.
     ///
     /// # Errors
     ///
-    /// Returns `Memory` if an allocation failed, and never `IndexRange`. All memory is allocated before a value moves, so the map is
-    /// as it was then, its slots and blocks too.
+    /// Returns `Memory` if an allocation fails, and never `IndexRange`. All memory is allocated before a value moves,
+    /// so the map is unchanged then, its slots and blocks too.
     ///
     /// # Examples
     ///

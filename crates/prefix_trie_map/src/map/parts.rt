@@ -1,9 +1,9 @@
-//! A prefix as the table is handed it.
+//! The form in which a prefix is passed to the table.
 ghost use Rattle.std.specs.Prelude.{◌≡◌, ◌≤◌, length, take};
 
 use prefix_trie_bits::prefix::Prefix;
 
-/// The number and the length of a prefix, which say its path.
+/// Returns the number and the length of a prefix, which give its path.
 #[inline(always)]
 pub(super) fn parts<P: Prefix>(prefix: &P) -> (P::R, u32)
     requires { P.IsFitting prefix.now }

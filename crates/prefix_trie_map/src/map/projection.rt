@@ -12,12 +12,12 @@ pub trait Keyed: Drop {
     // the keys of the items still to come
     ghost keys: { Self → List Self.Key };
 
-    /// The next key. What else the item holds is dropped.
+    /// Returns the next key. The rest of the item is dropped.
     fn next_key(&mut self) -> Option<Self::Key>
         ensures { TakesFirst (λ p. p) (keys self.old) result (keys self.new) };
 }
 
-/// The keys of a walk, in its order. Contracts see it as the list of the keys still to come.
+/// The keys of a walk, in its order. Contracts see the list of the keys still to come.
 #[derive(Drop)]
 pub struct KeysOf<I: Keyed> {
     pub(super) inner: I,
@@ -32,7 +32,7 @@ impl<I: Keyed> Model for KeysOf<I> {
 }
 
 impl<I: Keyed> KeysOf<I> {
-    /// The keys that a walk has still to give.
+    /// Returns the keys that a walk has still to give.
     #[inline]
     pub fn new(inner: I) -> Self
         ensures { result ≡ I.keys inner }

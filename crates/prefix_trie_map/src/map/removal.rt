@@ -1,4 +1,4 @@
-//! Taking entries out.
+//! Removing entries.
 ghost use Rattle.std.specs.Prelude.{◌≡◌, ◌<◌, length};
 ghost use Rattle.std.specs.FinMap.{get};
 ghost use Rattle.prefix_trie_bits.specs.Model.Entries.{no_entries, without_entry, without_below};
@@ -14,9 +14,13 @@ use prefix_trie_bits::prefix::Prefix;
 use std::alloc::Allocator;
 
 impl<P: Prefix, T: Drop, A: Allocator> PrefixMap<P, T, A> {
-    /// Takes the entry of a prefix out, and hands out its value. Then the nodes that have nothing left go, from the prefix's
-    /// own node upward, also where there was no such entry; empty nodes elsewhere stay. Never refused. It makes at most 24 slots
-    /// in each array (`slot_laws`).
+    /// Removes the value of a prefix and returns it.
+    ///
+    /// Then the nodes that have no value and no child are removed, from the prefix's own node upward, even if no value
+    /// was stored. Empty nodes elsewhere stay. The call never fails. It makes at most 24 slots in each array
+    /// (`slot_laws`).
+    ///
+    /// # Examples
     ///
     /// ```text
     /// map.insert(10.1.0.0/16, 1)   Ok(None)
@@ -30,15 +34,18 @@ impl<P: Prefix, T: Drop, A: Allocator> PrefixMap<P, T, A> {
         ensures entries { self.new.entries ≡ without_entry self.old.entries (P.path prefix.now) }
         ensures nodes { self.new.nodes ≡ nodes_without self.old.nodes self.old.entries (P.path prefix.now) }
 
-        // It is a step of the model, of the storage too: the block that lost a value, and the one that lost a child, step down, and one is
-        // made only where none of its size was free.
+        // This is a step of the model, of the storage too. The blocks of the list that lost the value and of the list
+        // that lost a child step down. A block is made only if none of its size was free.
         ensures step { StepByPath P.R.bit_width (stored_state self.old) (Remove (P.path prefix.now)) (Value result) (stored_state self.new) }
     {
         self.table.remove(prefix.path(), &mut Visits::new())
     }
 
-    /// Takes the entry of a prefix out, and hands out its value. All nodes stay, those that have nothing left too. Never
-    /// refused.
+    /// Removes the value of a prefix and returns it, and keeps all nodes.
+    ///
+    /// Nodes that have no value and no child stay too. The call never fails.
+    ///
+    /// # Examples
     ///
     /// ```text
     /// map.insert(0.0.0.0/32, 1)              Ok(None), and node_count is 7
@@ -52,17 +59,21 @@ impl<P: Prefix, T: Drop, A: Allocator> PrefixMap<P, T, A> {
         ensures entries { self.new.entries ≡ without_entry self.old.entries (P.path prefix.now) }
         ensures nodes { self.new.nodes ≡ self.old.nodes }
 
-        // It is a step of the model, of the storage too. The array of nodes is as it was.
+        // This is a step of the model, of the storage too. The array of nodes is unchanged.
         ensures step { StepByPath P.R.bit_width (stored_state self.old) (RemoveKeepTree (P.path prefix.now)) (Value result) (stored_state self.new) }
     {
         self.table
             .remove_keep_tree(prefix.path(), &mut Visits::new())
     }
 
-    /// Takes out the entries whose prefixes this one contains, its own among them, and all nodes below its own node; and
-    /// then the nodes that have nothing left, from its own node upward. Empty nodes elsewhere stay, and where the prefix's own
-    /// node is missing nothing changes. At length 0 it is `clear`. It answers nothing, and is never refused; `remove_children` hands
-    /// the entries out.
+    /// Removes the entries that this prefix contains, its own included, and drops their values.
+    ///
+    /// All nodes below the prefix's own node are removed. Then the nodes that have no value and no child are removed,
+    /// from its own node upward. Empty nodes elsewhere stay. If the prefix's own node is missing, nothing changes. At
+    /// length 0 the call is `clear`. It never fails. `remove_children` returns the entries instead.
+    ///
+    /// # Examples
+    ///
     ///
     /// ```text
     /// map.insert(10.1.0.0/16, 1)       Ok(None)
@@ -78,7 +89,7 @@ impl<P: Prefix, T: Drop, A: Allocator> PrefixMap<P, T, A> {
         ensures entries { self.new.entries ≡ without_below self.old.entries (P.path prefix.now) }
         ensures nodes { self.new.nodes ≡ nodes_without_below self.old.nodes self.old.entries (P.path prefix.now) }
 
-        // It is a step of the model, of the storage too. No slots go, but at length 0.
+        // This is a step of the model, of the storage too. The arrays keep their slots, except at length 0.
         ensures step { StepByPath P.R.bit_width (stored_state self.old) (RemoveChildren (P.path prefix.now)) Done (stored_state self.new) }
         ensures bounds_growth { 0 < length (P.path prefix.now) → BoundsStorageGrowth (storage self.old) (storage self.new) }
     {
@@ -86,7 +97,11 @@ impl<P: Prefix, T: Drop, A: Allocator> PrefixMap<P, T, A> {
         self.table.drop_children(key, len, &mut Visits::new());
     }
 
-    /// Takes all entries out, and leaves the root alone. It asks for no memory. Never refused.
+    /// Removes all entries, and all nodes but the root.
+    ///
+    /// The call does not allocate, and it never fails.
+    ///
+    /// # Examples
     ///
     /// ```text
     /// map.clear()
@@ -97,7 +112,7 @@ impl<P: Prefix, T: Drop, A: Allocator> PrefixMap<P, T, A> {
         ensures entries { self.new.entries ≡ no_entries }
         ensures nodes { self.new.nodes ≡ root_alone }
 
-        // It is a step of the model, of the storage too: the root has its slot, and no block is left.
+        // This is a step of the model, of the storage too. The root has its slot, and no block is left.
         ensures step { StepByPath P.R.bit_width (stored_state self.old) Clear Done (stored_state self.new) }
     {
         self.table.clear();

@@ -1,4 +1,4 @@
-//! Keeping the entries at which a test says yes.
+//! Keeping the entries that pass a test.
 ghost use Rattle.std.specs.Prelude.{◌≡◌, false};
 ghost use Rattle.prefix_trie_bits.specs.Model.Retaining.{RetainsEntries, CallableOnEachEntry};
 ghost use Rattle.prefix_trie_bits.specs.Model.Nodes.{needed};
@@ -18,7 +18,7 @@ use prefix_trie_table::table::retain::Keep;
 use std::alloc::Allocator;
 use std::marker::{Model, PhantomData};
 
-/// A test of prefixes and values, as one of keys and values.
+/// A test of prefixes and values, as a test of keys and values.
 #[derive(Drop)]
 struct ByPrefix<P, F> {
     test: F,
@@ -32,7 +32,7 @@ impl<P, F> Model for ByPrefix<P, F> {
     ghost view = { λ a. a.test };
 }
 
-// A value that does not stay is dropped.
+// The value of a removed entry is dropped.
 impl<P: Prefix, T: Drop, V: Tick, F: FnMut(&P, &T) -> bool + Drop> Keep<P::R, T, V>
     for ByPrefix<P, F> {
     ghost accepts = { TakesEntry F.FnMut P.back };
@@ -50,12 +50,15 @@ impl<P: Prefix, T: Drop, V: Tick, F: FnMut(&P, &T) -> bool + Drop> Keep<P::R, T,
 }
 
 impl<P: Prefix, T: Drop, A: Allocator> PrefixMap<P, T, A> {
-    /// Asks a test at each entry once, in listing order, and keeps those at which it answers `true`. The test sees each prefix
-    /// without its host bits. Nodes that no entry left needs are gone too. Never refused: for each node that there was the
-    /// arrays grow by 56 slots each at most.
+    /// Calls a test with each entry once, in listing order, and keeps those for which it returns `true`.
     ///
-    /// Asks that the test may be called at each entry, from each state that the calls before may have left it in; a closure
-    /// without a `requires` may always be.
+    /// The test gets each prefix without host bits. Nodes that no remaining entry needs are removed. The call never
+    /// fails: the arrays grow by at most 56 slots each for each node that there was.
+    ///
+    /// Requires that the test may be called with each entry, from each state in which the calls before may have left
+    /// it. This always holds for a closure without a `requires`.
+    ///
+    /// # Examples
     ///
     /// ```text
     /// 10.0.0.0/8, 10.1.0.0/16 and 10.1.2.0/24 are stored with 1, 2 and 3
@@ -68,11 +71,11 @@ impl<P: Prefix, T: Drop, A: Allocator> PrefixMap<P, T, A> {
         ensures kept { RetainsEntries (CalledAtEntry F.FnMut P.back) test (listing self.old.entries) (listing self.new.entries) }
         ensures nodes { self.new.nodes ≡ needed self.new.entries }
 
-        // It is a step of the model, of the storage too: each block that lost items is between its old size and the smallest that holds the
-        // rest, and no slot and no block goes.
+        // This is a step of the model, of the storage too. Each block that lost items has a size between the smallest
+        // that holds the rest and its old one. No slot and no block is lost.
         ensures step { RetainsInStorage (CalledAtEntry F.FnMut P.back) test (stored_state self.old) (stored_state self.new) }
 
-        // The arrays get longer by at most the headroom that their blocks had, over any number of calls (`settling_laws`).
+        // Over any number of calls, the arrays grow by at most the headroom that their blocks had (`settling_laws`).
         ensures bounds_growth { BoundsStorageGrowth (storage self.old) (storage self.new) }
     {
         self.known_valid();

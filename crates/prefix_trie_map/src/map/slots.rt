@@ -1,4 +1,4 @@
-//! The slots and the blocks of the two arrays, and the limit that neither passes.
+//! The slots and blocks of the two arrays, and the limit of both.
 ghost use Rattle.std.specs.Prelude.{◌≡◌, ◌+◌, ◌≤◌, ◌↔◌, length, IfOk, IfErr, IsErr};
 ghost use Rattle.prefix_trie_bits.specs.declared.prefix.Refusal.TheVariants.{IndexRange};
 ghost use Rattle.prefix_trie_bits.specs.Model.Blocks.{NodesHaveBlocks, no_layout, child_block_sizes, value_block_sizes, child_count, own_entries};
@@ -14,10 +14,15 @@ use std::alloc::Allocator;
 use std::marker::PhantomData;
 
 impl<P: Prefix, T: Drop, A: Allocator + Clone> PrefixMap<P, T, A> {
-    /// An empty map whose two arrays, of nodes and of values, are never longer than `limit` slots.
+    /// Creates an empty map whose two arrays, of nodes and of values, are never longer than `limit` slots.
     ///
-    /// Errors: `IndexRange` where `limit` is 0, since the root needs a slot, and else `Memory` where a request for memory is refused.
-    /// Then no map exists.
+    /// # Errors
+    ///
+    /// Returns `IndexRange` if `limit` is 0, since the root needs a slot. Otherwise returns `Memory` if an allocation
+    /// fails. No map exists then.
+    ///
+    /// # Examples
+    ///
     ///
     /// ```text
     /// let mut map = PrefixMap::with_slot_limit(alloc, 4)?;
@@ -41,8 +46,17 @@ impl<P: Prefix, T: Drop, A: Allocator + Clone> PrefixMap<P, T, A> {
 }
 
 impl<P: Prefix, T: Drop, A: Allocator> PrefixMap<P, T, A> {
-    /// How many slots the array of nodes has, used or free: a new map has 1. Never more than the limit. A change may add
-    /// slots; only `clear` takes them away, and `drop_children` and `remove_children` of a prefix of length 0.
+    /// Returns the number of slots of the array of nodes, used or free: a new map has 1.
+    ///
+    /// It is never above the limit. A change may add slots. Only `clear`, and `drop_children` and `remove_children` of
+    /// a prefix of length 0, remove slots.
+    ///
+    /// # Examples
+    ///
+    /// ```text
+    /// map.insert(10.1.0.0/16, 1)   Ok(None), in a new map
+    /// map.node_slots()             4: the root, and three blocks of one slot
+    /// ```
     #[inline]
     pub fn node_slots(&self) -> usize
         ensures slots { result ≡ self.now.space.node_slots }
@@ -52,7 +66,16 @@ impl<P: Prefix, T: Drop, A: Allocator> PrefixMap<P, T, A> {
         self.table.node_slots()
     }
 
-    /// How many slots the array of values has, used or free: a new map has none. Never more than the limit.
+    /// Returns the number of slots of the array of values, used or free: a new map has none.
+    ///
+    /// It is never above the limit.
+    ///
+    /// # Examples
+    ///
+    /// ```text
+    /// map.insert(10.1.0.0/16, 1)   Ok(None), in a new map
+    /// map.cell_slots()             1
+    /// ```
     #[inline]
     pub fn cell_slots(&self) -> usize
         ensures slots { result ≡ self.now.space.cell_slots }
@@ -62,11 +85,15 @@ impl<P: Prefix, T: Drop, A: Allocator> PrefixMap<P, T, A> {
         self.table.cell_slots()
     }
 
-    /// How many blocks of each size the array of nodes has, in use and free: of 1, 2, 4, 8, 16, 24 and 32 slots. Each node with
-    /// children has one in use, which holds them, and the root stands outside every block.
+    /// Returns how many blocks of each size the array of nodes has, used and free.
+    ///
+    /// The sizes are 1, 2, 4, 8, 16, 24 and 32 slots. Each node with children has one used block, which holds them. The
+    /// root is outside every block.
+    ///
+    /// # Examples
     ///
     /// ```text
-    /// map.insert(10.1.0.0/16, 1)   Ok(None), with a node for each five bits on its way
+    /// map.insert(10.1.0.0/16, 1)   Ok(None), with nodes of lengths 0, 5, 10 and 15
     /// map.node_blocks()[0]         BlockCount { size: 1, used: 3, free: 0 }
     /// map.cell_blocks()[0]         BlockCount { size: 1, used: 1, free: 0 }
     /// ```
@@ -80,8 +107,17 @@ impl<P: Prefix, T: Drop, A: Allocator> PrefixMap<P, T, A> {
         self.table.node_blocks()
     }
 
-    /// How many blocks of each size the array of values has, in use and free: of 1, 2, 4, 8, 16, 24 and 31 slots. Each node with
-    /// values of its own has one in use, which holds them.
+    /// Returns how many blocks of each size the array of values has, used and free.
+    ///
+    /// The sizes are 1, 2, 4, 8, 16, 24 and 31 slots. Each node with values of its own has one used block, which holds
+    /// them.
+    ///
+    /// # Examples
+    ///
+    /// ```text
+    /// map.insert(10.1.0.0/16, 1)   Ok(None), in a new map
+    /// map.cell_blocks()[0]         BlockCount { size: 1, used: 1, free: 0 }
+    /// ```
     #[inline]
     pub fn cell_blocks(&self) -> [BlockCount; 7]
         ensures counts { result ≡ block_counts value_block_sizes self.now.layout.value_blocks self.now.layout.free_value_blocks }

@@ -1,4 +1,4 @@
-//! Handing entries out as a second map.
+//! Splitting entries off as a second map.
 ghost use Rattle.std.specs.Prelude.{◌≡◌, ◌<◌, length, IfOk, OnOk, IfErr, OnErr};
 ghost use Rattle.prefix_trie_bits.specs.declared.prefix.Refusal.TheVariants.{Memory};
 ghost use Rattle.prefix_trie_bits.specs.Model.Entries.{without_below, part_below};
@@ -14,15 +14,21 @@ use std::alloc::Allocator;
 use std::marker::PhantomData;
 
 impl<P: Prefix, T: Drop, A: Allocator + Clone> PrefixMap<P, T, A> {
-    /// Takes out the entries whose prefixes this one contains, its own among them, and hands them out as a second map. Where the
-    /// prefix's own node is missing the second map is empty, and at length 0 it has all. Values move: none is cloned or dropped. This map
-    /// is left as `drop_children` leaves it.
+    /// Removes the entries that this prefix contains, its own included, and returns them as a second map.
     ///
-    /// The second map has this map's limit and a clone of its allocator. It is tidy, and as small as a map of its entries can be: each of
-    /// its blocks is the smallest that holds its items, and none is free. All its room is asked for before a value moves.
+    /// If the prefix's own node is missing, the second map is empty. At length 0 it has all entries. Values move: none
+    /// is cloned or dropped. The first map is left as `drop_children` leaves it.
     ///
-    /// Errors: `Memory` where a request for memory is refused. Then this map is as it was, its slots and blocks too, and no second map
-    /// exists. `IndexRange` never: the second map has no more slots than this one.
+    /// The second map has the limit of this map and a clone of its allocator. It is tidy and as small as a map of its
+    /// entries can be: each block is the smallest that holds its items, and none is free. All its memory is allocated
+    /// before a value moves.
+    ///
+    /// # Errors
+    ///
+    /// Returns `Memory` if an allocation fails. This map is unchanged then, its slots and blocks too, and no second map
+    /// exists. `IndexRange` never comes: the second map has no more slots than this one.
+    ///
+    /// # Examples
     ///
     /// ```text
     /// 10.1.0.0/16, 10.1.2.0/24 and 10.2.0.0/16 are stored with 1, 2 and 3
@@ -37,7 +43,7 @@ impl<P: Prefix, T: Drop, A: Allocator + Clone> PrefixMap<P, T, A> {
         ensures entries { OnOk result (self.new.entries ≡ without_below self.old.entries (P.path prefix.now)) }
         ensures nodes { OnOk result (self.new.nodes ≡ nodes_without_below self.old.nodes self.old.entries (P.path prefix.now)) }
 
-        // It is a step of the model, of the storage of both maps too.
+        // This is a step of the model, of the storage of both maps too.
         ensures step { IfOk result (λ second. SplitsOffInStorage (stored_state self.old) (P.path prefix.now) (stored_state second) (stored_state self.new)) }
         ensures bounds_growth { 0 < length (P.path prefix.now) → IfOk result (λ _. BoundsStorageGrowth (storage self.old) (storage self.new)) }
         ensures unchanged { OnErr result (stored_state self.new ≡ stored_state self.old) }

@@ -6,7 +6,7 @@ use std::marker::Model;
 use std::mem::replace;
 use std::snapshot::Snapshot;
 
-// One mark more than the tally before it, or no mark. It is never kept: a snapshot of it is.
+// The tally before it with one more mark, or no mark. It is never stored: only a snapshot of it is.
 #[derive(Drop)]
 struct Tally {
     before: Option<Snapshot<Tally>>,
@@ -27,14 +27,17 @@ impl Model for Tally {
     ghost size_decreases = { λ t h. marks-fall t.before };
 }
 
-/// How many nodes a lookup read. It takes no bytes: the number exists in contracts alone.
+/// The number of nodes that a lookup read. It has no bytes: the number exists in contracts alone.
 ///
-/// Only the map's own calls make one, and only a read of a node adds one to it. The counted lookups hand theirs out.
+/// Only the map's own calls make a counter, and only a read of a node adds one to it. The counted lookups return
+/// theirs.
+///
+/// # Examples
 ///
 /// ```text
 /// map.insert(10.1.0.0/16, 1)                Ok(None)
 /// map.get_counted(&10.1.0.0/16)             (Some(&1), visits), with `visits` at 4: lengths 0, 5, 10 and 15
-/// map.get_counted(&11.0.0.0/8)              (None, visits), with `visits` at 2, the nodes that there are on the way
+/// map.get_counted(&11.0.0.0/8)              (None, visits), with `visits` at 2, the nodes on the search path
 /// ```
 #[derive(Drop)]
 pub struct Visits {
@@ -51,7 +54,7 @@ impl Model for Visits {
 }
 
 impl Visits {
-    /// No read so far.
+    /// Returns a counter without a read.
     #[inline]
     pub(super) fn new() -> Visits
         ensures { result ≡ 0 }

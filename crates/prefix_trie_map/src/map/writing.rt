@@ -1,7 +1,7 @@
 //! Walks that lend a map's values for writing, each until the next call.
 //!
-//! Which value comes next depends on the nodes alone, which no write changes. So a walk gives the entries that were selected when it
-//! was made, in listing order, each once, and asks for no memory.
+//! Which value comes next depends on the nodes alone, and no write changes them. So a walk gives the entries that were
+//! selected when it was made, in listing order, each once. It does not allocate.
 ghost use Rattle.std.specs.Prelude.{◌≡◌, IfSome, IfNone, Some, None, MatchOption};
 ghost use Rattle.std.specs.Borrow.{sem, Lends};
 ghost use Rattle.prefix_trie_map.specs.Lending.{lent_beside};
@@ -11,7 +11,7 @@ mod cursor;
 
 pub use cursor::MapCursor;
 
-/// What a walk goes over, and lends the values of.
+/// A source of entries, which a walk goes over and lends for writing.
 pub trait Source: Sized {
     type Prefix: Drop;
 
@@ -19,19 +19,19 @@ pub trait Source: Sized {
 
     type CursorItem: Drop;
 
-    // the source stands at this stop
+    // the source is at this item
     ghost IsAt: { Self → Self.CursorItem → Type 0 };
 
-    // the source with a value written at a stop
+    // the source with a value written at an item
     ghost with: { Self → Self.CursorItem → Self.Value → Self };
 
-    // the value at a stop
+    // the value at an item
     ghost Holds: { Self → Self.CursorItem → Self.Value → Type 0 };
 
     // the first entry still to come
     ghost First: { Self → Self.Prefix → Self.Value → Type 0 };
 
-    // the second is the first gone on over one entry, at which this value was left
+    // the second source is the first one, advanced over one entry, at which this value was left
     ghost Passes: { Self → Self.Value → Self → Type 0 };
 
     // nothing was to come, nothing is, and nothing was written
@@ -66,7 +66,9 @@ impl<C> Default for WalkOf<C> {
 impl<C: Source> WalkOf<C> {
     ghost use Rattle.prefix_trie_map.specs.WritingWalks.{AtIn, HoldsIn, FirstIn, EndsIn, IsOverIn, StepsIn, lends_item, lends_next};
 
-    /// Goes on to the next entry, and answers its prefix and where its value stands: `value` lends it.
+    /// Advances to the next entry. Returns its prefix and the item for which `value` lends its value.
+    ///
+    /// # Examples
     ///
     /// ```text
     /// 10.0.0.0/8 and 10.1.0.0/16 are stored with 1 and 2
@@ -84,7 +86,7 @@ impl<C: Source> WalkOf<C> {
         }
     }
 
-    /// The value at a stop of this walk, for writing.
+    /// Returns the value at an item of this walk, for writing.
     #[inline]
     pub fn value(&mut self, item: C::CursorItem) -> &mut C::Value
         requires { AtIn C.IsAt self.old.source item }
@@ -97,7 +99,9 @@ impl<C: Source> WalkOf<C> {
         }
     }
 
-    /// The next value, lent until the next call.
+    /// Returns the next value, lent until the next call.
+    ///
+    /// # Examples
     ///
     /// ```text
     /// 10.0.0.0/8 and 10.1.0.0/16 are stored with 1 and 2
@@ -115,8 +119,19 @@ impl<C: Source> WalkOf<C> {
         Some(self.value(item))
     }
 
-    /// The next entry: its prefix, without host bits, and its value, lent until the next call. What was written a caller's proof learns
-    /// from `step` with `value`, or from `next_value`.
+    /// Returns the next prefix, without host bits, and its value, lent until the next call.
+    ///
+    /// Only the contracts of `step` with `value`, or of `next_value`, tell a caller's proof what was written.
+    ///
+    /// # Examples
+    ///
+    /// ```text
+    /// 10.0.0.0/8 and 10.1.0.0/16 are stored with 1 and 2
+    /// let mut walk = map.iter_mut();
+    /// walk.next()                      Some((10.0.0.0/8, &mut 1))
+    /// walk.next()                      Some((10.1.0.0/16, &mut 2))
+    /// walk.next()                      None
+    /// ```
     #[inline]
     pub fn next(&mut self) -> Option<(C::Prefix, &mut C::Value)>
         ensures* writes_back { sem 𝓛 (lends_next C.row C.Value.row self.entry C.Passes C.Ends (lent_beside result)) }
@@ -128,7 +143,7 @@ impl<C: Source> WalkOf<C> {
         beside(prefix, value)
     }
 
-    // The answer of `next_value`. The prefix of its entry goes into `prefix`.
+    // Returns the result of `next_value`, and writes the prefix of its entry to `prefix`.
     #[inline]
     fn lend_next(&mut self, prefix: &mut Option<C::Prefix>) -> Option<&mut C::Value>
         ensures* writes_back { sem 𝓛 (lends_next C.row C.Value.row self.entry C.Passes C.Ends result) }
@@ -141,7 +156,7 @@ impl<C: Source> WalkOf<C> {
     }
 }
 
-// A value lent, beside its prefix.
+// Returns a borrowed value with its prefix.
 #[inline]
 fn beside<'a, P: Drop, T>(prefix: Option<P>, value: Option<&'a mut T>) -> Option<(P, &'a mut T)>
     requires { IfSome value (λ v. (q : P) × (prefix ≡ Some q)) }
@@ -177,7 +192,17 @@ impl<C> Default for ValuesOf<C> {
 impl<C: Source> ValuesOf<C> {
     ghost use Rattle.prefix_trie_map.specs.WritingWalks.{FirstIn, lends_next_value};
 
-    /// The next value, lent until the next call.
+    /// Returns the next value, lent until the next call.
+    ///
+    /// # Examples
+    ///
+    /// ```text
+    /// 10.0.0.0/8 and 10.1.0.0/16 are stored with 1 and 2
+    /// let mut walk = map.values_mut();
+    /// walk.next()                        Some(&mut 1)
+    /// walk.next()                        Some(&mut 2)
+    /// walk.next()                        None
+    /// ```
     #[inline]
     pub fn next(&mut self) -> Option<&mut C::Value>
         ensures* writes_back { sem 𝓛 (lends_next_value C.row C.Value.row self.entry C.Passes C.Ends result) }
@@ -187,8 +212,8 @@ impl<C: Source> ValuesOf<C> {
     }
 }
 
-/// The entries of a map in listing order: each prefix, without host bits, with its value lent for writing until the next call.
+/// The entries of a map in listing order, without host bits, with their values lent until the next call.
 pub type IterMut<'a, P, T, A> = WalkOf<MapCursor<'a, P, T, A>>;
 
-/// The values of a map, in the listing order of their prefixes, lent for writing, each until the next call.
+/// The values of a map, in the listing order of their prefixes, each lent until the next call.
 pub type ValuesMut<'a, P, T, A> = ValuesOf<MapCursor<'a, P, T, A>>;

@@ -49,7 +49,7 @@ module _ {X : Type 0} where
   repeated_none eq f h s [] none = ap (are_equal eq h) (none s (begins-refl s)) ∙ none_equal eq h
   repeated_none eq f h s (b ∷ r) none = repeated_none eq f (option_or (f s) h) (s ++ b ∷ []) r (λ t at. none t (above s t b at))
 
-  -- the value of a question is its own entry's, or else that of the keys above
+  -- the value of a question is its own entry's, or else that of the shorter keys
   here : {P : Type 0} → LookupLaws P X → (m : Entries X) (s : List Bool) → value_of m s ≡ option_or (get m s) (value_above m s)
   here laws m s = elim (get m s) as (λ o. get m s ≡ o → value_of m s ≡ option_or o (value_above m s)) [
     | Some v ↦ λ h. ap (option_map (λ e. e.1)) (same_longest laws m s (s, v) (record {

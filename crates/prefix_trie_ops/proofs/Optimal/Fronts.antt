@@ -1,4 +1,4 @@
--- What the next item of a walk over a sorted listing says of the map at and below a string.
+-- What the next item of a walk over a sorted listing tells of the map at and below a string.
 use Rattle.std.proofs.Common.{◌≡◌, ◌≢◌, ◌∙◌, ◌&&◌, not, nat_lt, ltb-true, Bool, true, false, true≢false, cond, List, [], ◌∷◌, ◌++◌, length, filter, Some, None, Less, Equal, Greater, is_eq, is_le, is_lt, inl, inr, ap, sym, subst, refl, T}
 use Rattle.std.specs.List.{Contains}
 use Rattle.std.specs.FinMap.{entries_sorted, get, get-entries}
@@ -22,12 +22,12 @@ module _ {X : Type 0} where
         | Greater ↦ λ _ bad. absurd (true≢false (sym bad))
       ] refl le
 
-  -- behind an item that is not before the string, both are one
+  -- after an item that is not before the string, no item is the string's own
   same_behind : (s : List Bool) (x : List Bool × X) (es : List (List Bool × X)) → T (is_sorted listing_cmp (x ∷ es)) → is_le (listing_cmp s x.0) ≡ true
       → filter (λ e. is_le (listing_cmp s e.0)) es ≡ filter (λ e. is_lt (listing_cmp s e.0)) es
   same_behind s x es h le = filter_agrees (λ e. is_le (listing_cmp s e.0)) (λ e. is_lt (listing_cmp s e.0)) es (λ e at. ap is_le (later s x es h le e at) ∙ sym (ap is_lt (later s x es h le e at)))
 
-  -- the first of the pairs that are not before a string is that of the string, if there is one
+  -- the first pair that is not before a string is that of the string, if there is one
   front : (s : List Bool) (es : List (List Bool × X)) → T (is_sorted listing_cmp es)
       → (find listing_cmp s es ≡ first_value_at (λ t. t) s (filter (λ e. is_le (listing_cmp s e.0)) es))
       × (filter (λ e. is_lt (listing_cmp s e.0)) es ≡ items_after (λ t. t) s (filter (λ e. is_le (listing_cmp s e.0)) es))
@@ -50,7 +50,7 @@ module _ {X : Type 0} where
       less_only : listing_cmp s x.0 ≡ Less → T (below_all listing_cmp s es)
       less_only l = before_all s x.0 es l (sorted-head x es h)
 
-  -- where the first pair after a string is not below it, none is
+  -- if the first pair after a string is not below it, none is
   none_below : (s : List Bool) (es : List (List Bool × X)) → T (is_sorted listing_cmp es) → is_first_below (λ t. t) s (filter (λ e. is_lt (listing_cmp s e.0)) es) ≡ false
       → (e : List Bool × X) → Contains es e → listing_cmp s e.0 ≡ Less → begins s e.0 ≡ false
   none_below s [] h none e at less = absurd (contains_none e at)
@@ -85,7 +85,7 @@ module _ {X : Type 0} where
           second true h = h
           second false h = refl
 
--- of a map, and a walk that shows its pairs by prefixes
+-- the same of a map, and of a walk over its pairs by prefixes
 module _ {P X : Type 0} (path : P → List Bool) (back : List Bool → P) (m : Entries X) (known : (e : List Bool × X) → Contains (listing m) e → path (back e.0) ≡ e.0) where
   kept : (p : List Bool × X → Bool) (es : List (List Bool × X)) (x : List Bool × X) (xs : List (List Bool × X)) → filter p es ≡ x ∷ xs → Contains es x
   kept p [] x xs is = cc
@@ -119,7 +119,7 @@ module _ {P X : Type 0} (path : P → List Bool) (back : List Bool → P) (m : E
   left_after s walk is =
       ap (items_after path s) is ∙ shown_after s (λ e. is_le (listing_cmp s e.0)) (listing_from m s) refl ∙ ap (prefix_pairs back) (sym (front s (listing m) (entries_sorted m)).1)
 
-  -- where the next item is not below the string, no key is
+  -- if the next item is not below the string, no key is
   pub no_key_below : (s : List Bool) (walk : List (P × X)) → walk ≡ prefix_pairs back (listing_after m s) → is_first_below path s walk ≡ false
       → (t : List Bool) → begins s t ≡ true → t ≢ s → get m t ≡ None
   no_key_below s walk is none t at other = elim (get m t) as (λ o. get m t ≡ o → o ≡ None) [

@@ -16,7 +16,7 @@ after_is_from (false ∷ s) (false ∷ x) = after_is_from s x
 after_is_from (true ∷ s) (false ∷ x) = refl
 after_is_from (false ∷ s) (true ∷ x) = refl
 
--- what is past the extension by 0 is not before that by 1
+-- what is past the extension by 0 is not before the extension by 1
 pub past_left : (s x : List Bool) → (is_lt (listing_cmp (s ++ false ∷ []) x) && not (begins (s ++ false ∷ []) x)) ≡ is_le (listing_cmp (s ++ true ∷ []) x)
 unfolding begins
 past_left [] [] = refl

@@ -1,4 +1,4 @@
--- What the tests of the entry that was read ahead say of a walk, and what taking it leaves.
+-- What the tests of the entry read ahead tell of a walk, and what taking it leaves.
 use Rattle.std.proofs.Common.{◌≡◌, ◌∙◌, ◌+◌, ◌++◌, ◌&&◌, ℕ, nat_lt, Bool, true, false, cond, List, [], ◌∷◌, length, take, Option, Some, None, Bor, is_eq, ap, sym, refl, length-append}
 use Rattle.std.proofs.lemmas.List.{take_at}
 use Rattle.prefix_trie_bits.specs.Bits.{digits}

@@ -30,7 +30,7 @@ pub fn aggregate_consistent<P: Prefix, T: PartialEq + Drop, A: Allocator, B: All
 ) -> Result<(), AllocError>
     ensures entries { IfOk result (λ _. table.new.entries ≡ without_redundant T.PartialEq.eq table.old.entries) }
 
-    // Values that `==` calls equal are one in the next two clauses.
+    // In the next two clauses, values that `==` calls equal are the same.
     ensures values { IfOk result (λ _. ((x y : T) → T.PartialEq.eq x y ≡ true → x ≡ y)
         → (q : List Bool) → value_of table.new.entries q ≡ value_of table.old.entries q) }
     ensures tidy { IfOk result (λ _. ((x y : T) → T.PartialEq.eq x y ≡ true → x ≡ y)
@@ -94,7 +94,7 @@ fn keep_marked<P: Prefix, T: Drop, A: Allocator>(table: &mut PrefixMap<P, T, A>,
         → listing table.new.entries ≡ filter keep (listing table.old.entries) }
     ensures nodes { table.new.nodes ≡ needed table.new.entries }
 {
-    // An iterator is the counter: it cannot overflow, and its view is the marks still to come.
+    // The iterator serves as the counter: it cannot overflow, and its view is the marks still to come.
     let mut left = marks.iter();
     table.retain(move |_, _| left.next().copied().unwrap_or(true));
 }

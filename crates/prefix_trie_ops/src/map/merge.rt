@@ -93,7 +93,9 @@ impl<'a, P: Prefix, T: Drop, U: Drop, A: Allocator, B: Allocator> Iterator
     }
 }
 
-/// Returns which of two walks has the first item: the left one (`Less`), the right one, or both. It returns `None` if both are at their end.
+/// Returns which of two walks has the first item: the left one (`Less`), the right one, or both.
+///
+/// Returns `None` if both walks are at their end.
 fn first_side<P: Prefix, T: Drop, U: Drop, A: Allocator, B: Allocator>(
     left: &Ahead<'_, P, T, A>,
     right: &Ahead<'_, P, U, B>,

@@ -18,20 +18,23 @@ use std::alloc::Allocator;
 
 /// Replaces the entries by as few as the same full-width lookups need.
 ///
-/// Every full-width question has the same longest-match value as before, or still none. The map has at most as many entries as
-/// before, none of which has the value of its longest shorter entry. Shorter questions may have other values afterwards. The map
-/// keeps its slot limit.
+/// Every full-width question has the same longest-match value as before, or still none. The map has at most as many
+/// entries as before, none of which has the value of its longest shorter entry. Shorter questions may have other values
+/// afterwards. The map keeps its slot limit.
 ///
-/// This is the optimal routing table of Draves, King, Venkatachary and Zill ("Constructing Optimal IP Routing Tables", 1999), except
-/// that a question without a value keeps none. Tests find no map with fewer entries; this is not proved. The result is checked: if it
-/// had more entries than the map, or a value for a question without one, the map would get the entries of `aggregate_consistent`.
+/// This is the optimal routing table of Draves, King, Venkatachary and Zill ("Constructing Optimal IP Routing Tables",
+/// 1999), except that a question without a value keeps none. Tests find no map with fewer entries; this is not proved.
+/// The result is checked: if it had more entries than the map, or a value for a question without one, the map would get
+/// the entries of `aggregate_consistent`.
 ///
-/// The time grows with the bits of the stored prefixes, where bits that prefixes share count once. The new map is built beside the
-/// old one. Until then, the call also needs memory for a few values and numbers for each of these bits.
+/// The time grows with the number of bits of the stored prefixes; bits that prefixes share count once. The new map is
+/// built beside the old one. Until then, the call also needs memory for a few values and numbers for each of these
+/// bits.
 ///
 /// # Errors
 ///
-/// Returns `Memory` if an allocation fails, and `IndexRange` if the new map exceeds the slot limit. The map is unchanged then.
+/// Returns `Memory` if an allocation fails, and `IndexRange` if the new map exceeds the slot limit. The map is
+/// unchanged then.
 ///
 /// # Examples
 ///
@@ -44,7 +47,7 @@ pub fn aggregate<P: Prefix, T: Copy + Ord, A: Allocator + Clone, B: Allocator>(
     table: &mut PrefixMap<P, T, A>,
     alloc: B,
 ) -> Result<(), Refusal>
-    // Values that `==` calls equal are one in the next two clauses.
+    // In the next two clauses, values that `==` calls equal are the same.
     ensures values { IfOk result (λ _. ((x y : T) → T.PartialEq.eq x y ≡ true → x ≡ y)
         → (q : List Bool) → length q ≡ P.R.bit_width → value_of table.new.entries q ≡ value_of table.old.entries q) }
     ensures tidy { IfOk result (λ _. ((x y : T) → T.PartialEq.eq x y ≡ true → x ≡ y)

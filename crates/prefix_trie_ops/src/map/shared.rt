@@ -34,7 +34,7 @@ impl<'a, P: Prefix, T: Drop, U: Drop, A: Allocator, B: Allocator> Model
 }
 
 impl<'a, P: Prefix, T: Drop, U: Drop, A: Allocator, B: Allocator> Partners<'a, P, T, U, A, B> {
-    /// Returns the walk over those of the entries whose keys a map has too.
+    /// Returns the walk over the entries whose keys a map has too.
     fn of(entries: Iter<'a, P, T, A>, other: &'a PrefixMap<P, U, B>) -> Self
         requires { All (λ e. P.IsFitting e.0) entries }
         ensures { result ≡ filter_map (with_partner P.path other.now.entries) entries.entry }
@@ -56,7 +56,7 @@ impl<'a, P: Prefix, T: Drop, U: Drop, A: Allocator, B: Allocator> Partners<'a, P
 /// The walk does not allocate. After its last item it returns `None` each time.
 #[derive(Drop)]
 pub struct IntersectionWalk<'a, P: Prefix, T: Drop, U: Drop, A: Allocator, B: Allocator> {
-    // One of the two has no entries: the walk goes over the smaller map.
+    // One of the two has no entries: only the smaller map is walked.
     by_left: Partners<'a, P, T, U, A, B>,
     by_right: Partners<'a, P, U, T, B, A>,
 }
@@ -124,7 +124,7 @@ impl<'a, P: Prefix, T: Drop, U: Drop, A: Allocator, B: Allocator> Iterator
     }
 }
 
-/// Returns a walk over each map, of which that over the larger one is at its end.
+/// Returns a walk over each map. The walk over the larger map is at its end.
 fn smaller<'a, P: Prefix, T: Drop, U: Drop, A: Allocator, B: Allocator>(
     left: &'a PrefixMap<P, T, A>,
     right: &'a PrefixMap<P, U, B>,

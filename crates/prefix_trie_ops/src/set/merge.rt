@@ -90,7 +90,9 @@ impl<'a, P: Prefix, A: Allocator, B: Allocator> Iterator for UnionWalk<'a, P, A,
     }
 }
 
-/// Returns which of two walks has the first key: the left one (`Less`), the right one, or both. It returns `None` if both are at their end.
+/// Returns which of two walks has the first key: the left one (`Less`), the right one, or both.
+///
+/// Returns `None` if both walks are at their end.
 fn first_key<P: Prefix, A: Allocator, B: Allocator>(
     left: &KeysAhead<'_, P, A>,
     right: &KeysAhead<'_, P, B>,

@@ -18,7 +18,7 @@ use std::marker::Model;
 /// The walk does not allocate. After its last key it returns `None` each time.
 #[derive(Drop)]
 pub struct IntersectionWalk<'a, P: Prefix, A: Allocator, B: Allocator> {
-    // One of the two has no keys: the walk goes over the smaller set.
+    // One of the two has no keys: only the smaller set is walked.
     by_left: SelectedKeys<'a, P, A, Stored<'a, P, B>>,
     by_right: SelectedKeys<'a, P, B, Stored<'a, P, A>>,
 }
@@ -77,7 +77,7 @@ impl<'a, P: Prefix, A: Allocator, B: Allocator> Iterator for IntersectionWalk<'a
     }
 }
 
-/// Returns a walk over each set, of which that over the larger one is at its end.
+/// Returns a walk over each set. The walk over the larger set is at its end.
 fn smaller<'a, P: Prefix, A: Allocator, B: Allocator>(
     left: &'a PrefixSet<P, A>,
     right: &'a PrefixSet<P, B>,

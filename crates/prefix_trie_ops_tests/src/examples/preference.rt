@@ -1,4 +1,4 @@
-//! The tables of two vendors as one, where one of them is preferred.
+//! Two vendors' tables merged into one, with one of them preferred.
 ghost use Rattle.std.specs.Prelude.{◌≡◌, List, Bool, IfOk};
 ghost use Rattle.std.specs.Option.{option_or};
 ghost use Rattle.std.specs.FinMap.{get};
@@ -11,7 +11,7 @@ use prefix_trie_ops::laws::combining_laws;
 use prefix_trie_ops::map::{Side, union};
 use std::alloc::Allocator;
 
-/// Returns the routes of both tables. A prefix of both has the next hop of the first one.
+/// Returns the routes of both tables. For a prefix of both, it has the next hop of the first table.
 pub fn preferring<P: Prefix, A: Allocator, B: Allocator, C: Allocator + Clone>(
     first: &PrefixMap<P, u32, A>,
     second: &PrefixMap<P, u32, B>,
@@ -33,7 +33,7 @@ pub fn preferring<P: Prefix, A: Allocator, B: Allocator, C: Allocator + Clone>(
     Ok(table)
 }
 
-/// Returns the left next hop, or else the right one.
+/// Returns the left next hop if there is one, otherwise the right one.
 fn preferred(side: Side<&u32, &u32>) -> u32
     ensures { result ≡ preferred_of (lent_values side.entry) }
 {

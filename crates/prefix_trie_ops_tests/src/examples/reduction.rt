@@ -9,7 +9,7 @@ use prefix_trie::{Ipv4Prefix, PrefixSet};
 use prefix_trie_ops::set::aggregate_consistent;
 use std::alloc::{AllocError, Allocator};
 
-/// Removes the networks that another network of the list contains. The list lets the same addresses in as before.
+/// Removes the networks that another network of the list contains. The list allows the same addresses as before.
 pub fn reduce<A: Allocator, B: Allocator>(
     list: &mut PrefixSet<Ipv4Prefix, A>,
     alloc: B,

@@ -9,7 +9,9 @@ use prefix_trie_ops::laws::combining_laws;
 use prefix_trie_ops::map::{Side, union};
 use std::alloc::{AllocError, Allocator};
 
-/// Returns the messages that turn one table into another: each prefix that changes, with its new next hop, or with none if it is withdrawn.
+/// Returns the messages that change one table into another.
+///
+/// There is a message for each prefix that changes: with its new next hop, or with none if it is withdrawn.
 pub fn updates<P: Prefix, A: Allocator, B: Allocator, C: Allocator>(
     old: &PrefixMap<P, u32, A>,
     new: &PrefixMap<P, u32, B>,
@@ -33,7 +35,7 @@ pub fn updates<P: Prefix, A: Allocator, B: Allocator, C: Allocator>(
     Ok(messages)
 }
 
-/// Returns the new next hop of a prefix, or none if it is withdrawn; `None` if nothing changes.
+/// Returns the new next hop of a prefix, or none if it is withdrawn. Returns `None` if nothing changes.
 fn change(side: Side<&u32, &u32>) -> Option<Option<u32>>
     ensures { result ≡ change_of (lent_values side.entry) }
 {

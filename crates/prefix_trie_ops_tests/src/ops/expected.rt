@@ -1,4 +1,4 @@
-//! What brute force gives: a number for each list of items.
+//! The results of brute force: a number for each list of items.
 use prefix_trie::{Key, Prefix};
 
 /// Keys in listing order, and which of them are on the left and on the right: the lowest bit is the first key's.
@@ -9,7 +9,7 @@ pub struct Case<'k, K> {
     pub right: u32,
 }
 
-/// What an operation gives for a key.
+/// The operations on two maps or sets.
 #[derive(Clone, Copy)]
 pub enum Operation {
     Union,
@@ -18,7 +18,7 @@ pub enum Operation {
     CoveringDifference,
 }
 
-/// The number of a list with one more item: the place of its key, and what it has.
+/// Returns the number of a list with one more item, from the index of its key and what it has.
 pub fn with_item(number: u64, place: u64, kind: u64) -> u64 {
     number
         .wrapping_mul(1_000_003)
@@ -26,7 +26,7 @@ pub fn with_item(number: u64, place: u64, kind: u64) -> u64 {
         .wrapping_add(kind)
 }
 
-/// What is given for a key: 1 if the left side's value is, 2 if the right one's is, 3 for both, and 0 if the key is not given.
+/// Returns which values an operation gives for a key: 1 for the left one, 2 for the right one, 3 for both, 0 for none.
 fn kind_of(operation: Operation, on_left: bool, on_right: bool, is_covered: bool) -> u64 {
     match operation {
         Operation::Union => u64::from(on_left) + 2 * u64::from(on_right),
@@ -36,7 +36,7 @@ fn kind_of(operation: Operation, on_left: bool, on_right: bool, is_covered: bool
     }
 }
 
-/// Whether a key on the right contains this one.
+/// Returns whether a key on the right contains this one.
 fn is_covered<K: Key>(case: &Case<'_, K>, key: (K, u8)) -> bool {
     let mut right = case.right;
     for other in case.keys {
@@ -49,7 +49,7 @@ fn is_covered<K: Key>(case: &Case<'_, K>, key: (K, u8)) -> bool {
     false
 }
 
-/// The number of what an operation gives, and how many items.
+/// Returns the number for the result of an operation, and the number of its items.
 pub fn expected<K: Key>(case: &Case<'_, K>, operation: Operation) -> (u64, usize) {
     let (mut left, mut right) = (case.left, case.right);
     let (mut number, mut place, mut count) = (0_u64, 0_u64, 0_usize);
@@ -71,7 +71,7 @@ pub fn expected<K: Key>(case: &Case<'_, K>, operation: Operation) -> (u64, usize
     (number, count)
 }
 
-/// The place of a key in the list, or 99.
+/// Returns the index of a key in the list, or 99.
 pub fn place_of<K: Key>(case: &Case<'_, K>, key: (K, u8)) -> u64 {
     let mut place: u64 = 0;
     for other in case.keys {

@@ -6,12 +6,12 @@ use std::alloc::Global;
 
 type Map<K> = PrefixMap<(K, u8), u64, Global>;
 
-/// What is added to the place of a key to make its value.
+/// The number that is added to the index of a key to make its value on the left.
 const LEFT: u64 = 1000;
 
 const RIGHT: u64 = 2000;
 
-/// The map of those keys that are chosen.
+/// Returns the map of the keys that are chosen.
 fn chosen<K: Key>(
     keys: &[(K, u8)],
     mut choice: u32,
@@ -31,7 +31,7 @@ fn chosen<K: Key>(
     Ok(map)
 }
 
-/// The kind, if the value is that of the place, and else 8.
+/// Returns the kind if the value is that of the index, otherwise 8.
 fn kind(value: u64, first: u64, place: u64, kind: u64) -> u64 {
     if value == first.wrapping_add(place) {
         kind
@@ -88,7 +88,7 @@ fn of_covering_difference<K: Key>(case: &Case<'_, K>, left: &Map<K>, right: &Map
     number
 }
 
-/// Whether each walk but that of the union has so many items.
+/// Returns whether each walk except that of the union has the right number of items.
 fn are_so_many<K: Key>(case: &Case<'_, K>, left: &Map<K>, right: &Map<K>) -> bool {
     (intersection(left, right).count() == expected(case, Operation::Intersection).1)
         & (difference(left, right).count() == expected(case, Operation::Difference).1)
@@ -105,7 +105,7 @@ fn are_right<K: Key>(case: &Case<'_, K>, left: &Map<K>, right: &Map<K>) -> bool 
         & are_so_many(case, left, right)
 }
 
-/// Whether all operations on the two maps of a case are right.
+/// Returns whether all operations on the two maps of a case are right.
 pub fn are_right_maps<K: Key>(case: &Case<'_, K>, alloc: Global) -> Result<bool, Refusal> {
     let left = chosen(case.keys, case.left, LEFT, alloc)?;
     let right = chosen(case.keys, case.right, RIGHT, alloc)?;

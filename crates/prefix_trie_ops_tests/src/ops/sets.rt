@@ -8,7 +8,7 @@ use std::alloc::Global;
 
 type Set<K> = PrefixSet<(K, u8), Global>;
 
-/// The set of those keys that are chosen.
+/// Returns the set of the keys that are chosen.
 fn chosen<K: Key>(keys: &[(K, u8)], mut choice: u32, alloc: Global) -> Result<Set<K>, Refusal> {
     let mut set = PrefixSet::new(alloc)?;
     for key in keys {
@@ -21,7 +21,9 @@ fn chosen<K: Key>(keys: &[(K, u8)], mut choice: u32, alloc: Global) -> Result<Se
     Ok(set)
 }
 
-/// The number of a list with one more key. Its kind is 1 if it is on the left, 2 if on the right, and 3 if on both sides.
+/// Returns the number of a list with one more key.
+///
+/// Its kind is 1 if it is on the left, 2 if on the right, and 3 if on both sides.
 fn with_key<K: Key>(number: u64, case: &Case<'_, K>, key: (K, u8), kind: u64) -> u64 {
     with_item(number, place_of(case, key), kind)
 }
@@ -63,7 +65,7 @@ fn of_covering_difference<K: Key>(case: &Case<'_, K>, left: &Set<K>, right: &Set
     number
 }
 
-/// Whether the comparisons of two sets are right.
+/// Returns whether the comparisons of two sets are right.
 fn are_compared<K: Key>(case: &Case<'_, K>, left: &Set<K>, right: &Set<K>) -> bool {
     let common = expected(case, Operation::Intersection).1;
     (is_subset(left, right) == (expected(case, Operation::Difference).1 == 0))
@@ -81,7 +83,7 @@ fn are_right<K: Key>(case: &Case<'_, K>, left: &Set<K>, right: &Set<K>) -> bool 
         & are_compared(case, left, right)
 }
 
-/// Whether all operations on the two sets of a case are right.
+/// Returns whether all operations on the two sets of a case are right.
 pub fn are_right_sets<K: Key>(case: &Case<'_, K>, alloc: Global) -> Result<bool, Refusal> {
     let left = chosen(case.keys, case.left, alloc)?;
     let right = chosen(case.keys, case.right, alloc)?;

@@ -2,8 +2,9 @@
 use crate::table::Line::{self, *};
 use prefix_trie::Refusal::IndexRange;
 
-/// Row 13: an insertion whose nodes exceed the limit fails and changes nothing. An insertion that needs no node
-/// succeeds. A limit of 0 allows no map.
+/// Row 13: an insertion whose nodes exceed the limit fails and changes nothing.
+///
+/// An insertion that needs no node succeeds. A limit of 0 allows no map.
 pub const FOUR_SLOTS: [Line; 6] = [
     WithSlotLimit(4, Ok(())),
     Insert((0, 32), 1, Err(IndexRange)),
@@ -13,8 +14,7 @@ pub const FOUR_SLOTS: [Line; 6] = [
     WithSlotLimit(0, Err(IndexRange)),
 ];
 
-/// Row 38: if the limit leaves no capacity for a smaller block, a removal keeps the block, and a clone of the map has
-/// it too.
+/// Row 38: if the limit leaves no capacity for a smaller block, a removal keeps the block, and a clone of the map has it too.
 pub const KEPT_BLOCKS: [Line; 25] = [
     // Three slots leave no capacity for the smaller block. The root keeps its block of two for the one value that is
     // left.

@@ -55,8 +55,9 @@ pub const PRUNED_ON_THE_PATH: [Line; 8] = [
     NodeCount(7),
 ];
 
-/// Row 31: `drop_children` removes all nodes below the prefix's own, prunes upward from it, and keeps the entries
-/// beside the prefix in the same node.
+/// Row 31: `drop_children` removes all nodes below the prefix's own, and prunes upward from it.
+///
+/// It keeps the entries beside the prefix in the same node.
 pub const BELOW_HALF_NODES: [Line; 22] = [
     // A node is emptied from its middle, and its slots are used again.
     Insert((0, 11), 1, Ok(None)),
@@ -87,8 +88,9 @@ pub const BELOW_HALF_NODES: [Line; 22] = [
     Get((0x0400_0000, 6), Some(2)),
 ];
 
-/// Row 32: empty nodes stay if they have a child, or if the prefix's own node is missing. Below the prefix they are
-/// removed.
+/// Row 32: empty nodes stay if they have a child, or if the prefix's own node is missing.
+///
+/// Below the prefix they are removed.
 pub const EMPTY_NODES_ELSEWHERE: [Line; 9] = [
     Insert((0, 16), 1, Ok(None)),
     RemoveKeepTree((0, 16), Some(1)),

@@ -26,8 +26,9 @@ pub const HOST_BITS: [RunCall; 8] = [
     RunCall(List, Entries(&[((0, 0), 1), ((1, 8), 3), ((128, 1), 2)])),
 ];
 
-/// Row 40: under a limit of two slots, a second child of the root is refused and the run continues. The first key is
-/// stored, and is set again.
+/// Row 40: under a limit of two slots, a second child of the root is refused and the run continues.
+///
+/// The first key is stored, and is set again.
 pub const UNDER_TWO_SLOTS: [RunCall; 5] = [
     RunCall(Insert((0, 8), 1), Value(None)),
     RunCall(Insert((128, 8), 2), Refused(IndexRange)),

@@ -3,8 +3,9 @@ use crate::networks::v4;
 use crate::table::Line::{self, *};
 use crate::table::sets::SetLine;
 
-/// Row 47: a network and all networks within it become a second map. Each of its blocks is the smallest that holds its
-/// items.
+/// Row 47: a network and all networks within it become a second map.
+///
+/// Each of its blocks is the smallest that holds its items.
 pub const A_NETWORK: [Line; 11] = [
     Insert(v4!(192, 168, 0, 0; 21), 1, Ok(None)),
     Insert(v4!(192, 168, 0, 0; 22), 2, Ok(None)),

@@ -15,7 +15,7 @@ pub enum SetLine {
     WithSlotLimit(u32),
     /// Continues with the set of these prefixes.
     FromIter(&'static [Pair]),
-    /// Whether the prefix is new, or the reason why it was refused.
+    /// Whether the prefix is new, or the reason why the insertion failed.
     Insert(Pair, Result<bool, Refusal>),
     Remove(Pair, bool),
     /// The number of keys that are split off.

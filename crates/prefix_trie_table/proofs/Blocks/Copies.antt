@@ -58,7 +58,7 @@ module _ {T : Type 0} (ys : List (Option T)) where
         (λ i. node_read p (reading p) refl i ++ paths_read paths i)
         ∙ sym (map-append read_block (value_blocks cell_sizes reading values p) (flat_map (value_blocks cell_sizes reading values) paths))
 
--- ys has values where the array has them
+-- ys has a value at each index at which the array has one
 module _ {T : Type 0} (v : Store (Option T)) (ys : List (Option T)) (long : length ys ≡ length v.slots)
     (kept : (i : ℕ) → is_some (get_or ys i None) ≡ is_some (get_or v.slots i None)) where
   vacant_stays : (first : ℕ) (e : Extent) → Within first (length v.slots) e → IsVacant None v.slots e → IsVacant None ys e

@@ -131,7 +131,7 @@ all_left level bitmap mask q holds = record {
 
 -- ---- the descent
 
--- a walk whose beginnings of `first` bits or more were still to come has gone on without one that has a value
+-- a walk whose beginnings of `first` bits or more were still to come has passed those without a value
 pub record GoneTo (q : List Bool) (first : ℕ) (here : Reached) (matches : ℕ) (v : Store Node) : Type 0 where
   pub to : ℕ
   pub stands : IsCovering q here matches to v

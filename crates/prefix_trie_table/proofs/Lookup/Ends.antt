@@ -45,7 +45,7 @@ module _ (v : Store Node) (reading : List ℕ → Option Node) (paths : List (Li
             is = is_some-Some (other (take here.level (chunks_of q))) some;
           }
 
-  -- where no whole step is left, the seat of the string is that of its value bit
+  -- if no whole step is left, the seat of the string is that of its value bit
   module _ (at : IsLast q here v) (r : List Bool) (left : r ≡ drop (5 * here.level) q) (short : length r < 5) (x : ℕ) (small : x < 31) (read : x ≡ value_bit r) where
     pub seat_none : has here.node.value_bitmap x ≡ false → seat_of v.slots q ≡ None
     seat_none clear = no_seat v reading paths hold q (own_value q here v at reading paths hold r left short x small read ∙ clear)

@@ -79,7 +79,7 @@ module _ (v : Store Node) (reading : List ℕ → Option Node) (paths : List (Li
 
 module _ (b : List Bool) (len level slot : ℕ) (node : Node) (v : Store Node) (at : IsReached b len level node slot v) (reading : List ℕ → Option Node)
     (paths : List (List ℕ)) (hold : NodesHold node_sizes reading paths v) where
-  -- where there is none the bit is clear
+  -- if there is none, the bit is clear
   pub missing_bit : seat_of v.slots (take len b) ≡ None → len < 5 * level + 5 → has_bit node.value_bitmap (bit_of (take len b)) ≡ false
   missing_bit e less = ap (λ o. has_value o (bit_of (take len b))) (sym (reached_own b len level slot node v at reading paths hold less))
       ∙ no_value_seat v reading paths hold (take len b) e
@@ -91,7 +91,7 @@ module _ (b : List Bool) (len level slot : ℕ) (node : Node) (v : Store Node) (
       few_values reading values paths w (chunks_of (take len b)) node (bit_of (take len b)) cells
       (reached_own b len level slot node v at reading paths hold less) (bit_of-small (take len b)) (missing_bit e less)
 
--- where a value stands that was added to a node
+-- the seat of a value that was added to a node
 module _ (v v2 : Store Node) (slot offset b bitmap : ℕ) (k m : Node) (sets : Sets k.value_bitmap b bitmap) (bits_are : m.value_bitmap ≡ bitmap) (small : b < 32) where
   more : (i : ℕ) → has_bit m.value_bitmap i ≡ (nat_eq i b || has_bit k.value_bitmap i)
   more i = ap (λ n. has_bit n i) bits_are ∙ has_bit-sets k.value_bitmap b bitmap i sets small

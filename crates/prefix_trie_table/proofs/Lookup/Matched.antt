@@ -27,7 +27,7 @@ module _ {T : Type 0} where
   cell_of w m = get_or w.slots (cell_slot m) None
 
   module _ (v : Store Node) (w : Store (Option T)) (t : SomeTable v w) (s : State T) (is : IsShapeOf v.slots w.slots s) (q : List Bool) where
-    -- a beginning is stored where it has a value
+    -- a beginning is stored if it has a value
     stored-is : (i : ℕ) → contains_key s.entries (take i q) ≡ holds_value t.reading q i
     stored-is i =
         ap is_some (shape_entries t.reading t.values t.paths v w t.holds s is (take i q)) ∙ t.holds.cells.set_where (chunks_of (take i q)) (bit_of (take i q))

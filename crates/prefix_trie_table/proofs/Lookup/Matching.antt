@@ -102,7 +102,7 @@ longest-small bitmap bit rest l = bit-small l.len bit rest l.short l.within l.bi
 pub shortest-small : (bitmap bit : ℕ) (rest : List Bool) → IsShortest bitmap rest bit → bit < 31
 shortest-small bitmap bit rest l = bit-small l.len bit rest l.short l.within l.bit_is
 
--- past the end of the way nothing has a value
+-- nothing has a value past the end of the search path
 pub none_past : (reading : List ℕ → Option Node) (paths : List (List ℕ)) (v : Store Node) (q : List Bool) (level end : ℕ) → NodesHold node_sizes reading paths v → IsEnd reading (chunks_of q) level → NoneHeld reading q (5 * level + 5) end
 none_past reading paths v q level end hold at i from last within =
     let inside : level < length (chunks_of q) = further level i (length q) (length (chunks_of q)) from within (path-length q) in

@@ -18,7 +18,7 @@ module _ (descents : List Descent) where
   new_at : (n : ℕ) → n ≤ length descents → EachOf IsNew n descents → (i : ℕ) → i < n → (d : Descent) → get_or descents i d ≡ new_descent i
   new_at n long new i inside d = new i (get_or descents i d) inside (get_or_default descents i d (get_or descents i d) (omega (arith, inside, long)))
 
-  -- each of these questions is under way
+  -- each of these questions has a search that goes on
   pub new_under_way : (n : ℕ) → n ≤ length descents → EachOf IsNew n descents → (i : ℕ) → i < n → Contains (map question_of (take n descents)) i
   new_under_way n long new i inside =
       let fits : i < length (take n descents) = omega (arith, inside, length-take-le n descents long) in (

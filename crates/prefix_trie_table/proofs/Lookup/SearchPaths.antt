@@ -82,7 +82,7 @@ module _ (q : List Bool) (here : Reached) (v : Store Node) (at : IsLast q here v
       deepest_end reading paths v (chunks_of q) here.level (slot_at here) hold (at.along.deepest reading paths hold) here.node (omega (arith, path-length q, whole)) at.along.node_is
       (λ more. at.missing (omega (arith, path-length q, more)))
 
-  -- the string's own node is missing where a whole step is left
+  -- if a whole step is left, the string's own node is missing
   pub path_none : (r : List Bool) → r ≡ drop (5 * here.level) q → 5 ≤ length r → reading (chunks_of q) ≡ None
   path_none r left more = none_below reading paths v (chunks_of q) here.level hold path_end (omega (arith, path-length q, left_length q r here.level left, more))
 
@@ -90,7 +90,7 @@ module _ (q : List Bool) (here : Reached) (v : Store Node) (at : IsLast q here v
   pub none_at_end : (r : List Bool) → r ≡ drop (5 * here.level) q → 5 ≤ length r → has_value (reading (chunks_of q)) (bit_of q) ≡ false
   none_at_end r left more = ap (λ o. has_value o (bit_of q)) (path_none r left more)
 
-  -- where no whole step is left, the last node is the string's own
+  -- if no whole step is left, the last node is the string's own
   module _ (r : List Bool) (left : r ≡ drop (5 * here.level) q) (short : length r < 5) where
     steps : length (chunks_of q) ≤ here.level
     steps = let whole = at.along.whole in omega (arith, path-length q, left_length q r here.level left, short, whole)
@@ -115,11 +115,11 @@ module _ (q : List Bool) (here : Reached) (v : Store Node) (at : IsLast q here v
         slot_is = ap (λ s. s.start + s.offset) is ∙ ap (λ i. here.node.value_block + rank here.node.value_bitmap i) (sym (own_bit q here v at.along r left short x read));
       }
 
-  -- a node stands there
+  -- there is a node
   pub last_there : IsNodeAt reading (slot_at here)
   last_there = deepest_there (at.along.deepest reading paths hold)
 
--- no value where the node is missing
+-- there is no value if the node is missing
 pub no_value_at_end : {T : Type 0} (q : List Bool) (here : Reached) (v : Store Node) (at : IsLast q here v) (reading : List ℕ → Option Node) (paths : List (List ℕ)) (values : List ℕ → ℕ → Option T)
     (w : Store (Option T)) (holds : Holds reading values paths v w) (r : List Bool) → r ≡ drop (5 * here.level) q → 5 ≤ length r → values (chunks_of q) (bit_of q) ≡ None
 no_value_at_end q here v at reading paths values w holds r left more =

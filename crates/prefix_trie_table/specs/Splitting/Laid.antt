@@ -64,7 +64,7 @@ abbrev pub slots_at_child : (Node → ℕ) → List Node → ℕ → Node → �
 slots_at_child own nodes zero n c = 0
 slots_at_child own nodes (suc levels) n c = cond (has_bit n.child_bitmap c) (slots_below own nodes levels (node_at nodes (child_slot n c))) 0
 
--- ---- nodes that hang from nothing yet
+-- ---- nodes that have no parent yet
 
 -- these are the nodes from n on, by their paths below it
 pub record Hangs (n : Node) (sub : List ℕ → Option Node) (paths : List (List ℕ)) : Type 0 where

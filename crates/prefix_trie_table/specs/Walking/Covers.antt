@@ -19,7 +19,7 @@ abbrev pub AreLeft : ℕ → ℕ → ℕ → ℕ → List Bool → Type 0
 AreLeft matches bitmap depth first q =
     HoldsValues matches (λ s. begins s (drop depth q) && (nat_le first (depth + length s) && has bitmap (value_bit s)))
 
--- the walk over the beginnings of q has come to this node, and those of `first` bits or more are still to come
+-- the walk over the beginnings of q is at this node, and the beginnings of `first` bits or more are still to come
 pub record IsCovering (q : List Bool) (here : Reached) (matches first : ℕ) (v : Store Node) : Type 0 where
   pub along : IsAlong q here v
   pub low : 5 * here.level ≤ first
@@ -47,7 +47,7 @@ TakesShortest level node old new o =
     (q : List Bool) (first : ℕ) → 5 * level ≤ length q → 5 * level ≤ first → first ≤ 5 * level + 5 → AreLeft old node.value_bitmap (5 * level) first q
     → TakesMatch level node new first q o
 
--- the walk has gone on by one beginning
+-- the walk has passed one beginning
 pub record GoesOn (q : List Bool) (here : Reached) (matches first : ℕ) (o : Option Match) (v : Store Node) : Type 0 where
   pub later : ℕ
   pub stands : IsCovering q here matches later v

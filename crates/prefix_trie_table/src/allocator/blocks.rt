@@ -192,7 +192,7 @@ impl<S: Slot, R: SlotArray<S>, A: Allocator> Blocks<S, R, A> {
 pub type Cells<T, A> = Blocks<Option<T>, Vec<Option<T>, A>, A>;
 
 impl<S: Slot, A: Allocator> Blocks<S, Vec<S, A>, A> {
-    /// Borrows the value at `place` of the block that starts at `start`.
+    /// Borrows the value at `offset` in the block that starts at `start`.
     #[inline]
     pub fn at(&self, start: u32, offset: u32) -> &S
         requires { start + offset < length self.now.slots }
@@ -204,7 +204,7 @@ impl<S: Slot, A: Allocator> Blocks<S, Vec<S, A>, A> {
         &self.slots[start as usize + offset as usize]
     }
 
-    /// Borrows the value at `place` of the block that starts at `start`, mutably.
+    /// Borrows the value at `offset` in the block that starts at `start`, mutably.
     #[inline]
     pub fn at_mut(&mut self, start: u32, offset: u32) -> &mut S
         requires { start + offset < length self.old.slots }
@@ -231,7 +231,7 @@ impl<A: Allocator> Blocks<Node, NodeArray<A>, A> {
         self.slots.sizes_fit();
     }
 
-    /// Returns the node at `place` of the block that starts at `start`.
+    /// Returns the node at `offset` in the block that starts at `start`.
     #[inline]
     pub(super) fn node(&self, start: u32, offset: u32) -> Node
         requires { start + offset < length self.now.slots }

@@ -152,8 +152,9 @@ impl<A: Allocator, V: Drop> NodeAllocator<A, V> {
         self.blocks.counts()
     }
 
-    /// Makes the blocks that are missing for one more node in a list of `count` nodes, and then for the first node of each of `lists`
-    /// other lists.
+    /// Makes the missing blocks for one more node in a list, and then for the first nodes of `lists` other lists.
+    ///
+    /// The list has `count` nodes.
     ///
     /// # Errors
     ///

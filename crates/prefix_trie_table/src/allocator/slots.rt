@@ -178,7 +178,7 @@ pub(super) fn move_run<S: Slot, R: SlotArray<S>>(
     }
 }
 
-/// Moves `count` values to vacant slots, inserts one more among them at `place`, and makes their old slots vacant.
+/// Moves `count` values to vacant slots, inserts one more among them at `offset`, and makes their old slots vacant.
 pub(super) fn move_in<S: Slot, R: SlotArray<S>>(
     slots: &mut R,
     from: usize,

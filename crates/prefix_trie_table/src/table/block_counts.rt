@@ -1,4 +1,4 @@
-//! How many blocks of each size the two arrays have, in use and free.
+//! How many blocks of each size the two arrays have, used and free.
 ghost use Rattle.std.specs.Prelude.{◌≡◌, ◌+◌, length};
 ghost use Rattle.prefix_trie_bits.specs.Model.Blocks.{child_block_sizes, value_block_sizes, child_count, own_entries, NodesHaveBlocks};
 ghost use Rattle.prefix_trie_bits.specs.Model.Nodes.{parents, holders};
@@ -10,8 +10,9 @@ use crate::table::Table;
 use std::alloc::Allocator;
 
 impl<T: Drop, A: Allocator, V: Tick> Table<T, A, V> {
-    /// How many blocks of each size the array of nodes has, in use and free, sizes ascending. A block in use has the children
-    /// of one node, and each node with children has one.
+    /// Counts the blocks of each size in the array of nodes, used and free, in ascending order of size.
+    ///
+    /// A used block has the children of one node, and each node with children has one.
     #[inline]
     pub fn node_blocks(&self) -> [BlockCount; 7]
         ensures counts { result ≡ block_counts child_block_sizes
@@ -24,8 +25,9 @@ impl<T: Drop, A: Allocator, V: Tick> Table<T, A, V> {
         self.nodes.counts()
     }
 
-    /// How many blocks of each size the array of values has, in use and free, sizes ascending. A block in use has the values
-    /// of one node, and each node with values has one.
+    /// Counts the blocks of each size in the array of values, used and free, in ascending order of size.
+    ///
+    /// A used block has the values of one node, and each node with values has one.
     #[inline]
     pub fn cell_blocks(&self) -> [BlockCount; 7]
         ensures counts { result ≡ block_counts value_block_sizes

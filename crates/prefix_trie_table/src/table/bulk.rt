@@ -1,6 +1,7 @@
-//! Many lookups at once: questions that go down side by side, so that the machine fetches the nodes of all of them together.
+//! Many lookups at once, whose searches go down side by side so that the processor fetches their nodes together.
 //!
-//! In each round the nodes that lie ahead are read, one after another and with no test of what they hold, and only then looked at.
+//! Each round first reads the next node of every search, one after another and without a test of what it has. Only then
+//! does it look at the nodes.
 ghost use Rattle.std.specs.Prelude.{◌≡◌, ℕ, ◌+◌, ◌*◌, ◌<◌, ◌≤◌, [], List, All, IfSome, MatchOption, None, Some, length, map, option_map, take, sum, sum_by, slice_index_or};
 ghost use Rattle.prefix_trie_bits.specs.Model.Matches.{longest_match};
 ghost use Rattle.prefix_trie_bits.specs.Model.Visits.{visits};
@@ -23,20 +24,20 @@ use crate::table::seat::Seat;
 use prefix_trie_bits::prefix::{BitString, Key, Prefix};
 use std::alloc::Allocator;
 
-/// How many questions go down side by side.
+/// The number of searches that go down side by side.
 pub const GROUP: usize = 32;
 
-/// Up to so many slots of nodes, which the nearer caches hold, one lookup after another takes less time than a group.
+/// The number of node slots up to which separate lookups take less time than groups, since the nearer caches hold them.
 pub const FEW_NODES: usize = 65_536;
 
-/// A match: how long its string is, and where its value stands. It is right until the table changes.
+/// A match: the length of its string, and the seat of its value. It is right until the table changes.
 #[derive(Clone, Copy)]
 pub struct Found {
     len: u32,
     seat: Seat,
 }
 
-/// One of the questions on its way down: which, the slot of the node ahead, and the longest match above that node.
+/// A search: which question it is for, the slot of its next node, and the longest match above that node.
 #[derive(Clone, Copy)]
 struct Descent {
     question: usize,
@@ -45,7 +46,7 @@ struct Descent {
 }
 
 impl Descent {
-    /// The way of a question, at the root.
+    /// Returns the search for a question, at the root.
     #[inline]
     fn new(question: usize) -> Descent
         ensures { result ≡ new_descent question }
@@ -58,7 +59,7 @@ impl Descent {
     }
 }
 
-/// A match in a node if there is one, and else the one above it.
+/// Returns the match in a node if there is one, otherwise the match above it.
 #[inline(always)]
 fn longer(here: Option<Match>, above: Option<Found>) -> Option<Found>
     requires few { IfSome here (λ m. m.bit < 31) }
@@ -73,8 +74,9 @@ fn longer(here: Option<Match>, above: Option<Found>) -> Option<Found>
     })
 }
 
-/// Looks at the node to which the search of a question has come. Returns the longest match so far, and the slot of the next node, if
-/// there is one.
+/// Looks at the node that a search has reached.
+///
+/// Returns the longest match so far, and the slot of the next node if there is one.
 #[inline(always)]
 fn look<K: Key>(
     path: &BitString<K>,
@@ -102,7 +104,7 @@ fn look<K: Key>(
     (found, next_slot(here, &rest, last))
 }
 
-/// Reads the nodes to which the first `count` ways have come.
+/// Reads the next nodes of the first `count` searches.
 fn read_each<A: Allocator, V: Tick>(
     nodes: &NodeAllocator<A, V>,
     descents: &[Descent],
@@ -121,8 +123,9 @@ fn read_each<A: Allocator, V: Tick>(
     }
 }
 
-/// Looks at the nodes that were read for the first `count` ways. Those that go on are put first, and the questions of the others
-/// are answered. Answers how many go on.
+/// Looks at the nodes that were read for the first `count` searches, and returns how many go on.
+///
+/// Searches that go on are moved to the front. The results of the others are stored.
 fn look_at_each<P: Prefix>(
     prefixes: &[P],
     descents: &mut [Descent],
@@ -164,7 +167,7 @@ fn look_at_each<P: Prefix>(
     kept
 }
 
-/// Puts the ways of the first `count` questions at the root.
+/// Starts the searches for the first `count` questions at the root.
 fn begin(descents: &mut [Descent], count: usize)
     requires count { count ≤ length descents.old }
     ensures new { EachOf IsNew count descents.new }
@@ -175,7 +178,7 @@ fn begin(descents: &mut [Descent], count: usize)
     }
 }
 
-/// Goes down for all prefixes side by side, and answers each.
+/// Searches for all prefixes side by side, and stores the match of each.
 fn answer_each<P: Prefix, A: Allocator, V: Tick>(
     nodes: &NodeAllocator<A, V>,
     prefixes: &[P],
@@ -204,7 +207,7 @@ fn answer_each<P: Prefix, A: Allocator, V: Tick>(
     }
 }
 
-/// The value of a match, behind the length of its string.
+/// Returns the length of a match and its value.
 #[inline(always)]
 fn value_at<'a, T: Drop, A: Allocator>(cells: &'a Cells<T, A>, found: Found) -> Option<(u32, &'a T)>
     requires stands { found.seat.start + found.seat.offset < length cells.now.slots }

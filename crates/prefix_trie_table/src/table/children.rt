@@ -1,4 +1,4 @@
-//! Taking out all entries that a bit string begins.
+//! Removing all entries whose keys begin with a bit string.
 ghost use Rattle.std.specs.Prelude.{◌≡◌, ℕ, ◌+◌, ◌/◌, ◌≤◌, Bool, false, List, Some, take, ⊤};
 ghost use Rattle.prefix_trie_bits.specs.Model.Entries.{without_below};
 ghost use Rattle.prefix_trie_bits.specs.Model.Nodes.{nodes_not_below, nodes_without_below};
@@ -19,7 +19,7 @@ use prefix_trie_bits::node::{Places, child_cover_mask, value_cover_mask};
 use prefix_trie_bits::prefix::Key;
 use std::alloc::Allocator;
 
-/// The test that no entry passes. The values are dropped.
+/// A test that no entry passes. The values are dropped.
 #[derive(Drop)]
 pub struct KeepNothing;
 
@@ -37,8 +37,9 @@ impl<K: Key, T: Drop, V: Tick> Keep<K, T, V> for KeepNothing {
     fn taken(&mut self, _key: K, _len: u32, _value: T, _counter: &mut V) {}
 }
 
-/// Takes out what a bit string begins of the string's own node and below it, and hands the values to a test that says no at each.
-/// Answers what the node is then.
+/// Removes what begins with a bit string, at its own node and below it, and returns the node as it is then.
+///
+/// The test returns `false` for each entry, and is given the values.
 fn empty_part<K: Key, T: Drop, A: Allocator, V: Tick, F: Keep<K, T, V>>(
     nodes: &mut NodeAllocator<A, V>,
     cells: &mut Cells<T, A>,
@@ -75,9 +76,10 @@ fn empty_part<K: Key, T: Drop, A: Allocator, V: Tick, F: Keep<K, T, V>>(
     retain_places(nodes, cells, entries, keep, site, node, places, counter)
 }
 
-/// Takes all entries out that a bit string begins, and all nodes below the string's own, and then the nodes of its way that
-/// have nothing left, from its own upward. Where this node is missing nothing changes. The values are handed to a test that says
-/// no at each.
+/// Removes all entries whose keys begin with a bit string, and all nodes below the string's own.
+///
+/// Then the nodes of its search path that have no value and no child are removed, from its own node upward. If that
+/// node is missing, nothing changes. The test returns `false` for each entry, and is given the values.
 pub fn remove_part<K: Key, T: Drop, A: Allocator, V: Tick, F: Keep<K, T, V>>(
     nodes: &mut NodeAllocator<A, V>,
     cells: &mut Cells<T, A>,

@@ -1,4 +1,4 @@
-//! A copy of a table.
+//! Copying a table.
 ghost use Rattle.std.specs.Prelude.{◌≡◌, IfOk};
 ghost use Rattle.prefix_trie_table.specs.Copies.{AreCloned};
 
@@ -7,10 +7,13 @@ use crate::table::Table;
 use std::alloc::{AllocError, Allocator};
 
 impl<T: Clone, A: Allocator + Clone, V: Tick> Table<T, A, V> {
-    /// A table with the same keys and nodes, in the same blocks, whose values are clones, in memory of its own. All of that
-    /// is asked for before the first value is cloned.
+    /// Creates a table with the same keys, nodes and blocks, whose values are clones, in memory of its own.
     ///
-    /// Errors: only where a request for memory is refused, for the arrays or for a value.
+    /// All memory for the arrays is allocated before the first value is cloned.
+    ///
+    /// # Errors
+    ///
+    /// Returns an error if an allocation fails, for the arrays or in the clone of a value.
     pub fn clone(&self) -> Result<Self, AllocError>
         ensures entries { IfOk result (λ copy. AreCloned T.is_clone self.now.entries copy.entries) }
         ensures nodes { IfOk result (λ copy. copy.nodes ≡ self.now.nodes) }

@@ -12,8 +12,9 @@ use prefix_trie_bits::node::count;
 use std::alloc::Allocator;
 
 impl<T: Drop, A: Allocator, V: Tick> Table<T, A, V> {
-    /// The number of nodes, the root among them. It is not kept: each call reads every slot of the array of nodes once,
-    /// free ones too.
+    /// Returns the number of nodes, including the root.
+    ///
+    /// The number is not stored. Each call reads every slot of the array of nodes once, free slots too.
     #[inline]
     pub fn node_count(&self, counter: &mut V) -> usize
         ensures nodes { result ≡ len self.now.nodes }
@@ -22,7 +23,7 @@ impl<T: Drop, A: Allocator, V: Tick> Table<T, A, V> {
         nodes_in(&self.nodes, counter)
     }
 
-    /// How many slots the array of nodes has. Never more than the limit.
+    /// Returns the number of slots of the array of nodes. It is never above the limit.
     #[inline]
     pub fn node_slots(&self) -> usize
         ensures slots { result ≡ self.now.space.node_slots }
@@ -30,7 +31,7 @@ impl<T: Drop, A: Allocator, V: Tick> Table<T, A, V> {
         self.nodes.len()
     }
 
-    /// How many slots the array of values has. Never more than the limit.
+    /// Returns the number of slots of the array of values. It is never above the limit.
     #[inline]
     pub fn cell_slots(&self) -> usize
         ensures slots { result ≡ self.now.space.cell_slots }
@@ -39,8 +40,9 @@ impl<T: Drop, A: Allocator, V: Tick> Table<T, A, V> {
     }
 }
 
-/// The number of nodes in an array. Each but the root is the child of one other, and a slot without a node is blank: so it
-/// is 1 and the number of children of every slot.
+/// Counts the nodes in an array: 1, and the number of children of every slot.
+///
+/// Each node but the root is the child of exactly one other, and a slot without a node is blank.
 fn nodes_in<A: Allocator, V: Tick>(nodes: &NodeAllocator<A, V>, counter: &mut V) -> usize
     requires { SomeNodes nodes.now }
     ensures nodes { (reading : List ℕ → Option Node) (paths : List (List ℕ))

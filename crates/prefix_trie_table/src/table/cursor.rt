@@ -1,4 +1,4 @@
-//! Walks that do not hold their table, so that its values may be written between their steps.
+//! Walks that do not borrow their table, so that its values can be written between their steps.
 ghost use Rattle.std.specs.Prelude.{◌≡◌, ◌≤◌, [], map, take, true, IfSome, MatchOption};
 ghost use Rattle.std.specs.FinMap.{contains_key};
 ghost use Rattle.prefix_trie_bits.specs.Model.Entries.{AreWithin};
@@ -15,10 +15,10 @@ use arrayvec::ArrayVec;
 use prefix_trie_bits::prefix::Key;
 use std::alloc::Allocator;
 
-/// Where a walk stands in a table. It is right until a node of the table changes: writing a value changes none.
+/// The state of a walk of a table. It is right until a node of the table changes: writing a value changes none.
 #[derive(Drop)]
 pub struct Cursor<K: Key> {
-    // The path of each spot begins it.
+    // The path of each spot begins this key.
     key: K,
     stack: ArrayVec<Spot, 26>,
 }
@@ -26,12 +26,16 @@ pub struct Cursor<K: Key> {
 impl<T: Drop, A: Allocator, V: Tick> Table<T, A, V> {
     ghost use Rattle.prefix_trie_table.specs.Walking.Cursors.{IsCursorIn, keys_to_come, GivesKey};
 
-    /// The start of a walk of the entries that are selected from a bit string. Each node on its way is read once.
+    /// Starts a walk of the entries that are selected from a bit string.
+    ///
+    /// It reads each node on the search path once.
+    ///
+    /// # Examples
     ///
     /// ```text
-    /// let mut trail = table.trail(K::zero(), 0, Start::Below, &mut counter);
-    /// while let Some((key, len, seat)) = table.step(&mut trail, &mut counter) {
-    ///     *table.at_mut(key, len, seat) = 0;      // no node changes, so the trail is right still
+    /// let mut cursor = table.cursor(K::zero(), 0, Start::Below, &mut counter);
+    /// while let Some((key, len, seat)) = table.step(&mut cursor, &mut counter) {
+    ///     *table.at_mut(key, len, seat) = 0;      // no node changes, so the cursor is still right
     /// }
     /// ```
     #[inline]
@@ -48,8 +52,9 @@ impl<T: Drop, A: Allocator, V: Tick> Table<T, A, V> {
         Cursor { key, stack }
     }
 
-    /// Goes on to the next entry, and answers its key, the key's length in bits, and where its value stands. Each node that the
-    /// walk comes to is read once.
+    /// Advances to the next entry, and returns its key, the key's length in bits, and the seat of its value.
+    ///
+    /// It reads each further node once, when the walk comes to it.
     #[inline]
     pub fn step<K: Key>(&self, cursor: &mut Cursor<K>, counter: &mut V) -> Option<(K, u32, Seat)>
         requires stands { IsCursorIn K.bits K.bit_width self.now.build cursor.old }
@@ -62,7 +67,7 @@ impl<T: Drop, A: Allocator, V: Tick> Table<T, A, V> {
             (keys_to_come K.bits self.now.entries cursor.old) (keys_to_come K.bits self.now.entries cursor.new)) }
         ensures stored { IfSome result (λ r. contains_key self.now.entries (take r.1 (K.bits r.0)) ≡ true) }
     {
-        // The proof learns from it that the number in hand is a key.
+        // It brings into the proof that the number is a key.
         let _ = cursor.key.is_key();
         advance::<K, A, V, T>(&self.nodes, &mut cursor.stack, &mut cursor.key, counter)
     }

@@ -1,4 +1,7 @@
-//! Setting a value.
+//! Inserting a value in two phases.
+//!
+//! `prepare` makes every block that the insertion needs and that is not free. Only this phase can fail. `add_entry`
+//! then adds the missing nodes and the value, and takes the blocks from the free lists.
 ghost use Rattle.std.specs.Prelude.{◌≡◌, ℕ, Bool, ◌+◌, ◌<◌, ◌≤◌, List, Option, Some, take, false, true, is_some, IfErr, IsOk, MatchResult, OnOk, None};
 ghost use Rattle.prefix_trie_table.specs.declared.allocator.node.Node.{Node};
 ghost use Rattle.prefix_trie_table.specs.Bitmaps.{has_bit as is_set};
@@ -21,7 +24,9 @@ use prefix_trie_bits::node::{child_bit_of, count, rank, value_bit_of, with_bit};
 use prefix_trie_bits::prefix::{Key, Refusal, Refused};
 use std::alloc::Allocator;
 
-/// Adds a missing child, for whose block there is room, to the node in a slot, and answers where it stands.
+/// Adds a missing child to the node in a slot, and returns the child's slot.
+///
+/// The new child has no values and no children. The block that the child needs, if any, is free.
 #[inline(always)]
 fn add_child<A: Allocator, V: Tick>(
     nodes: &mut NodeAllocator<A, V>,
@@ -66,7 +71,9 @@ fn add_child<A: Allocator, V: Tick>(
     }
 }
 
-/// Adds a missing value, for whose block there is room, to the node in a slot, and answers where it stands.
+/// Adds a missing value to the node in a slot, and returns the value's seat.
+///
+/// The block that the value needs, if any, is free.
 #[inline(always)]
 fn add_value<T: Drop, A: Allocator, V: Tick>(
     nodes: &mut NodeAllocator<A, V>,
@@ -117,8 +124,14 @@ fn add_value<T: Drop, A: Allocator, V: Tick>(
     }
 }
 
-/// Obtains all blocks that a new value of `len` bits needs, where the node reached is the deepest on its way. Refused,
-/// nothing has changed but that some blocks may be free that were not there.
+/// Makes all blocks that the insertion of a missing value needs and that are not free.
+///
+/// `reached` is the deepest node on the search path of the value's bit string, and `len` is the length of that string.
+///
+/// # Errors
+///
+/// Returns `IndexRange` if the missing blocks would exceed the slot limit, and `Memory` if an allocation fails. Blocks
+/// made until then stay, free. Nothing else changes.
 #[inline(always)]
 pub fn prepare<T: Drop, A: Allocator, V: Tick>(
     nodes: &mut NodeAllocator<A, V>,
@@ -151,7 +164,7 @@ pub fn prepare<T: Drop, A: Allocator, V: Tick>(
     )
 }
 
-/// Adds the nodes of a way that are missing, below the deepest that is there, and a value at the last. Answers where it stands.
+/// Adds the missing nodes of a search path, and a value at its last node. Returns the value's seat.
 #[inline(always)]
 fn add_entry<K: Key, T: Drop, A: Allocator, V: Tick>(
     nodes: &mut NodeAllocator<A, V>,
@@ -177,7 +190,8 @@ fn add_entry<K: Key, T: Drop, A: Allocator, V: Tick>(
         let bit = value_bit_of(key, last * 5, len);
         return add_value(nodes, cells, reached.at, &reached.node, bit, value);
     }
-    // The first node hangs below one that stands, all others below a blank one, which costs less.
+    // Only the first new node has a parent that was there before. The parents of the others are blank, which costs
+    // less.
     let child = child_bit_of(key, 5 * reached.level);
     let mut at = add_child(nodes, reached.at, &reached.node, child);
     for level in reached.level + 1..last {
@@ -187,8 +201,11 @@ fn add_entry<K: Key, T: Drop, A: Allocator, V: Tick>(
     add_value(nodes, cells, at, &Node::blank(), bit, value)
 }
 
-/// Adds a missing value at a bit string whose way ends so, and the nodes of its way that are missing, and counts it. Answers where
-/// it stands. On a refusal nothing is added.
+/// Inserts a missing value where the search path of its bit string ends, counts it, and returns its seat.
+///
+/// # Errors
+///
+/// Returns the value back, with the cause, if `prepare` fails. Nothing is added then.
 #[inline(always)]
 pub fn insert_entry<K: Key, T: Drop, A: Allocator, V: Tick>(
     nodes: &mut NodeAllocator<A, V>,

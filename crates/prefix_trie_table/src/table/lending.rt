@@ -87,8 +87,9 @@ impl<T: Drop, A: Allocator, V: Tick> Table<T, A, V> {
         }
     }
 
-    /// Returns the value of the longest match of a bit string for writing, and stores the match's length in `found`. Nothing else
-    /// changes. It reads each node on the search path once.
+    /// Returns the value of the longest match of a bit string for writing, and stores its length in `found`.
+    ///
+    /// Nothing else changes. It reads each node on the search path once.
     #[inline]
     pub fn find_longest_mut<K: Key>(
         &mut self,

@@ -23,13 +23,17 @@ use std::alloc::Allocator;
 impl<T: Drop, A: Allocator, V: Tick> Table<T, A, V> {
     ghost use Rattle.prefix_trie_table.specs.Lending.Tables.{lends_entry};
 
-    /// Finds where the value at a bit string is stored, or where its search path ends. It reads each node on the path once.
+    /// Finds where the value at a bit string is stored, or where its search path ends.
+    ///
+    /// It reads each node on the path once.
+    ///
+    /// # Examples
     ///
     /// ```text
     /// match table.locate(path.again(), &mut counter) {
     ///     Location::Stored(seat) => *table.at_mut(path, seat) = 7,
     ///     Location::Missing(end) => {
-    ///         table.place(path.key(), path.len(), end, 7)?;     // reads no node
+    ///         table.insert_located(path.key(), path.len(), end, 7)?;     // reads no node
     ///     }
     /// }
     /// ```
@@ -53,7 +57,7 @@ impl<T: Drop, A: Allocator, V: Tick> Table<T, A, V> {
         }
     }
 
-    /// Returns the same value for writing. Nothing else changes, so the seat stays right.
+    /// Returns the value at a bit string for writing. Nothing else changes, so the seat stays right.
     #[inline]
     pub fn at_mut<K: Key>(&mut self, path: BitString<K>, seat: Seat) -> &mut T
         requires { seat_of self.old.build path ≡ Some seat }
@@ -63,11 +67,15 @@ impl<T: Drop, A: Allocator, V: Tick> Table<T, A, V> {
         lend(&mut self.cells, seat)
     }
 
-    /// Obtains all blocks that the insertion of a missing bit string needs, whose way ends here: `place` is then not refused.
-    /// In each case entries and nodes stay as they are, and so does the end of the way. No node is read.
+    /// Makes all missing blocks for the insertion of a bit string whose search path ends here.
     ///
-    /// Errors: as of `insert`, only where a block lacks: `Memory` where a request for memory is refused, and `IndexRange` where the
-    /// slots of the blocks that lack pass the limit.
+    /// `insert_located` cannot fail then. Entries and nodes are unchanged in each case, and the end of the path stays
+    /// right. No node is read.
+    ///
+    /// # Errors
+    ///
+    /// Returns an error only if a block is missing: `Memory` if an allocation fails, and `IndexRange` if the slots of
+    /// the missing blocks would exceed the limit.
     #[inline]
     pub fn reserve<K: Key>(&mut self, key: K, len: u32, end: SearchEnd) -> Result<(), Refusal>
         requires key { K.IsKey key }
@@ -86,10 +94,14 @@ impl<T: Drop, A: Allocator, V: Tick> Table<T, A, V> {
         prepare(&mut self.nodes, &mut self.cells, &end.reached, len)
     }
 
-    /// Sets the value at a missing bit string, whose way ends here, adds the nodes that are missing on it, and answers where
-    /// the value stands. No node is read.
+    /// Sets the value at a missing bit string whose search path ends here, and returns the value's seat.
     ///
-    /// Errors: as of `insert`, and then it hands the value back. Never right behind a `reserve` of the same string that was not refused.
+    /// The missing nodes of the path are added. No node is read.
+    ///
+    /// # Errors
+    ///
+    /// Returns the value back, with the cause, as `insert` does. This never happens right after a successful `reserve`
+    /// of the same string.
     #[inline(always)]
     pub fn insert_located<K: Key>(
         &mut self,

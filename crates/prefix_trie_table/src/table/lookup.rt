@@ -14,7 +14,7 @@ use prefix_trie_bits::node::has_bit;
 use prefix_trie_bits::prefix::{BitString, Key};
 use std::alloc::Allocator;
 
-/// A node on a search path: its slot, its contents, and its level, where the root has level 0.
+/// A node on a search path: its slot, its contents and its level. The root has level 0.
 #[derive(Clone, Copy)]
 pub struct Reached {
     pub at: NodeSlot,

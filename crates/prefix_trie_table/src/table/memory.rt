@@ -13,7 +13,7 @@ use prefix_trie_bits::prefix::{Key, Refusal};
 use std::alloc::{AllocError, Allocator};
 
 impl<T: Drop, A: Allocator, V: Tick> Table<T, A, V> {
-    /// Frees the memory that no slot needs and no place for a block that may be given back. Contracts see no change.
+    /// Frees the memory that no slot and no free list needs. Contracts see no change.
     ///
     /// # Errors
     ///
@@ -27,12 +27,15 @@ impl<T: Drop, A: Allocator, V: Tick> Table<T, A, V> {
 }
 
 impl<T: Drop, A: Allocator + Clone, V: Tick> Table<T, A, V> {
-    /// Moves all entries to new arrays, which have just the nodes that the entries need, in the smallest blocks that hold their lists, in
-    /// listing order, and no free block. The limit is the same.
+    /// Moves all entries to new arrays that are as small as the entries allow, in listing order.
+    ///
+    /// The new arrays have just the nodes that the entries need, in the smallest blocks that hold their lists, and no
+    /// free block. The limit is the same.
     ///
     /// # Errors
     ///
-    /// Returns `Memory` if an allocation failed. All memory is allocated before the first value moves, so the table is as it was then.
+    /// Returns `Memory` if an allocation failed. All memory is allocated before the first value moves, so the table is
+    /// unchanged then.
     pub fn compact<K: Key>(&mut self, counter: &mut V) -> Result<(), Refusal>
         requires within { AreWithin K.bit_width self.old.entries }
         requires nodes { AreNodes K.bit_width self.old.entries self.old.nodes }

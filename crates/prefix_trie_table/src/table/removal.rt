@@ -1,4 +1,4 @@
-//! Taking values out.
+//! Removing values.
 ghost use Rattle.std.specs.Prelude.{◌≡◌, ℕ, ◌+◌, ◌*◌, ◌/◌, ◌<◌, ◌≤◌, [], ◌∷◌, ◌++◌, List, Option, Some, map, take, length, None, true, false, is_some, IfSome, IfNone};
 ghost use Rattle.prefix_trie_table.specs.declared.allocator.node.Node.{Node};
 ghost use Rattle.prefix_trie_table.specs.Bitmaps.{has_bit as is_set, rank as rank_of};
@@ -20,7 +20,7 @@ use prefix_trie_bits::node::{child_bit_of, count, has_bit, rank, value_bit_of, w
 use prefix_trie_bits::prefix::{BitString, Key};
 use std::alloc::Allocator;
 
-/// Takes all values out, and all nodes but the root.
+/// Removes all values, and all nodes but the root.
 pub fn clear_entries<T: Drop, A: Allocator, V: Tick>(
     nodes: &mut NodeAllocator<A, V>,
     cells: &mut Cells<T, A>,
@@ -51,7 +51,7 @@ pub fn clear_entries<T: Drop, A: Allocator, V: Tick>(
     *entries = 0;
 }
 
-/// Takes a value that is there out of the node in a slot, and answers it and what the node is then.
+/// Removes a stored value of the node in a slot, and returns it with the node as it is then.
 #[inline(always)]
 pub fn take_value<T: Drop, A: Allocator, V: Tick>(
     nodes: &mut NodeAllocator<A, V>,
@@ -98,7 +98,9 @@ pub fn take_value<T: Drop, A: Allocator, V: Tick>(
     (value, left)
 }
 
-/// Takes the value at a bit string out of the string's own node, if it is there, and answers it and what the node is then.
+/// Removes the value at a bit string from the string's own node, if it is stored.
+///
+/// Returns it, and the node as it is then.
 fn take_entry<K: Key, T: Drop, A: Allocator, V: Tick>(
     nodes: &mut NodeAllocator<A, V>,
     cells: &mut Cells<T, A>,
@@ -186,8 +188,9 @@ pub fn remove_value<K: Key, T: Drop, A: Allocator, V: Tick>(
     take_bit(nodes, cells, entries, here, rest.value_bit()).0
 }
 
-/// Goes down the way of a bit string to the string's own node, and puts the slots of the nodes above it into `above`, which is
-/// empty before. Answers where the node stands, and the node, or `None` where a node of the way is missing.
+/// Goes down the search path to a bit string's own node, and pushes the slots of the nodes above it to `above`.
+///
+/// Returns the slot of that node, and the node, or `None` if a node of the path is missing. `above` must be empty.
 pub fn descend_keeping_ancestors<K: Key, A: Allocator, V: Tick>(
     nodes: &NodeAllocator<A, V>,
     key: K,
@@ -223,13 +226,13 @@ pub fn descend_keeping_ancestors<K: Key, A: Allocator, V: Tick>(
             offset: rank(node.child_bitmap, child),
         };
         node = nodes.visit(at, counter);
-        // Shifted by the same at each level: no shift here depends on the depth.
+        // It shifts by the same number of bits at each level, so no shift depends on the depth.
         rest = rest.behind(5);
     }
     Some((at, node))
 }
 
-/// Whether a node has neither values nor children.
+/// Returns whether a node has neither values nor children.
 #[inline]
 pub fn is_bare(node: Node) -> bool
     ensures bare { result ≡ true → IsBare node }
@@ -238,7 +241,7 @@ pub fn is_bare(node: Node) -> bool
     count(node.value_bitmap) + count(node.child_bitmap) == 0
 }
 
-/// Takes a child that has no children out of the node in a slot, and answers what the node is then.
+/// Removes a child that has no children from the node in a slot, and returns the node as it is then.
 #[inline(always)]
 pub fn drop_child<A: Allocator, V: Tick>(
     nodes: &mut NodeAllocator<A, V>,
@@ -278,8 +281,9 @@ pub fn drop_child<A: Allocator, V: Tick>(
     left
 }
 
-/// Takes out the nodes of a way that have nothing left, from its end upward, where `way` has the slots of those above the end.
-/// The root stays.
+/// Removes the nodes of a search path that have no value and no child, from its end upward.
+///
+/// `ancestors` has the slots of the nodes above the end. The root stays.
 pub fn prune_up<K: Key, A: Allocator, V: Tick>(
     nodes: &mut NodeAllocator<A, V>,
     ancestors: &[NodeSlot],
@@ -310,8 +314,9 @@ pub fn prune_up<K: Key, A: Allocator, V: Tick>(
     }
 }
 
-/// Takes the value at a bit string out, if it is there, and then the nodes of its way that have nothing left, from the
-/// string's own node upward. Where this node is missing nothing changes.
+/// Removes the value at a bit string, if it is stored, and then the empty nodes of its search path.
+///
+/// Nodes are removed from the string's own node upward. If that node is missing, nothing changes.
 pub fn remove_entry<K: Key, T: Drop, A: Allocator, V: Tick>(
     nodes: &mut NodeAllocator<A, V>,
     cells: &mut Cells<T, A>,

@@ -1,4 +1,4 @@
-//! Asking a test at entries, and taking out those at which it says no.
+//! Calling a test with entries, and removing those for which it returns `false`.
 ghost use Rattle.std.specs.Prelude.{◌≡◌, ℕ, ◌+◌, ◌-◌, ◌*◌, ◌/◌, ◌<◌, ◌≤◌, [], ◌∷◌, ◌++◌, List, Bool, true, false, Some, All, take, length, ⊤};
 ghost use Rattle.prefix_trie_bits.specs.Bits.{zeros};
 ghost use Rattle.prefix_trie_bits.specs.Places.{place_of, value_bit, has};
@@ -20,18 +20,21 @@ use prefix_trie_bits::node::{Place, Places, rank, string_of};
 use prefix_trie_bits::prefix::Key;
 use std::alloc::{AllocError, Allocator};
 
-/// A test that is asked of entries, and is handed the values of those that do not stay.
+/// A test that is called with entries, and is given the values of those that it removes.
 pub trait Keep<K: Key, T, V: Tick>: Sized + Drop {
-    // the test may be asked at this key and this value
+    // the test may be called with this key and this value
     ghost accepts: { Self → List Bool → T → Type 0 };
 
-    // asked at this key and this value the test may answer this, and be left as this, once it was handed the value where it said no
+    // called with this key and this value, the test may return this and be left as this; after `false`, once it was
+    // given the value
     ghost asks: { Self → List Bool → T → Bool → Self → Type 0 };
 
-    // asked at this key and this value the test may say no, and be left as this until it is handed the value
+    // called with this key and this value, the test may return `false`, and be left as this until it is given the value
     ghost refuses: { Self → List Bool → T → Self → Type 0 };
 
-    /// Whether the entry of a key and its value stays. The key is the first `len` bits, and has zeros behind them.
+    /// Returns whether the entry of a key and its value stays.
+    ///
+    /// The key is the first `len` bits; the bits past them are 0.
     fn keeps(&mut self, key: K, len: u32, value: &T) -> bool
         requires key { K.IsKey key }
         requires within { len ≤ K.bit_width }
@@ -40,7 +43,7 @@ pub trait Keep<K: Key, T, V: Tick>: Sized + Drop {
         ensures yes { result ≡ true → asks self.old (take len (K.bits key)) value.now true self.new }
         ensures no { result ≡ false → refuses self.old (take len (K.bits key)) value.now self.new };
 
-    /// Takes the value of an entry at which the answer was no. The counter is that of the reads that this makes.
+    /// Takes the value of an entry for which `keeps` returned `false`. `counter` counts the nodes that this reads.
     fn taken(&mut self, key: K, len: u32, value: T, counter: &mut V)
         requires key { K.IsKey key }
         requires within { len ≤ K.bit_width }
@@ -50,7 +53,7 @@ pub trait Keep<K: Key, T, V: Tick>: Sized + Drop {
             → asks before (take len (K.bits key)) value false self.new };
 }
 
-/// Where a node stands: its slot in the array, and its path, the first `depth` bits of a key.
+/// The position of a node: its slot in the array, and its path, the first `depth` bits of a key.
 pub(super) struct Site<K: Key> {
     pub(super) slot: NodeSlot,
     pub(super) key: K,
@@ -59,7 +62,7 @@ pub(super) struct Site<K: Key> {
 
 impl<K: Key> Copy for Site<K> {}
 
-// A copy is the same site, and takes no memory.
+// A copy is the same site, and does not allocate.
 impl<K: Key> Clone for Site<K> {
     ghost is_clone = { λ p q. q ≡ p };
 
@@ -71,7 +74,9 @@ impl<K: Key> Clone for Site<K> {
     }
 }
 
-/// Asks at a value of a node, and takes it out and hands it over where the answer is no. Answers what the node is then.
+/// Calls the test with a value of a node, and removes the value if the test returns `false`.
+///
+/// Returns the node as it is then.
 fn retain_value<K: Key, T: Drop, A: Allocator, V: Tick, F: Keep<K, T, V>>(
     nodes: &mut NodeAllocator<A, V>,
     cells: &mut Cells<T, A>,
@@ -114,8 +119,10 @@ fn retain_value<K: Key, T: Drop, A: Allocator, V: Tick, F: Keep<K, T, V>>(
     left
 }
 
-/// Asks at what stands at one place of a node, and takes out what is answered no, and a child that is left with nothing.
-/// Answers what the node is then.
+/// Calls the test with what is at one place of a node, and returns the node as it is then.
+///
+/// Entries for which the test returns `false` are removed. A child that is left without values and children is removed
+/// too.
 #[cycle(retain)]
 fn retain_place<K: Key, T: Drop, A: Allocator, V: Tick, F: Keep<K, T, V>>(
     nodes: &mut NodeAllocator<A, V>,
@@ -162,7 +169,7 @@ fn retain_place<K: Key, T: Drop, A: Allocator, V: Tick, F: Keep<K, T, V>>(
     }
 }
 
-/// Asks at what stands at these places of a node, in listing order. Answers what the node is then.
+/// Calls the test with what is at these places of a node, in listing order. Returns the node as it is then.
 #[cycle(retain)]
 pub(super) fn retain_places<K: Key, T: Drop, A: Allocator, V: Tick, F: Keep<K, T, V>>(
     nodes: &mut NodeAllocator<A, V>,
@@ -193,7 +200,9 @@ pub(super) fn retain_places<K: Key, T: Drop, A: Allocator, V: Tick, F: Keep<K, T
     node
 }
 
-/// Asks at each entry, in listing order, and takes out those at which the answer is no, and all nodes that have nothing left.
+/// Calls the test with each entry in listing order, and removes those that fail it.
+///
+/// All nodes that are left without values and children are removed too.
 pub fn retain_entries<K: Key, T: Drop, A: Allocator, V: Tick, F: Keep<K, T, V>>(
     nodes: &mut NodeAllocator<A, V>,
     cells: &mut Cells<T, A>,

@@ -1,4 +1,4 @@
-//! Where the value of a bit string stands, or where its way ends.
+//! Where the value of a bit string is stored, or where its search path ends.
 ghost use Rattle.std.specs.Prelude.{◌≡◌, ◌<◌};
 ghost use Rattle.prefix_trie_table.specs.Locations.{value_seat as seat_of_value};
 
@@ -6,31 +6,34 @@ use crate::allocator::node::Node;
 use crate::table::lookup::Reached;
 use prefix_trie_bits::node::rank;
 
-/// Where a value stands: the first slot of its block, and its place in the block. It is right until the table changes.
+/// Where a value is stored: the first slot of its block, and its offset in the block.
+///
+/// It is right until the table changes.
 #[derive(Clone, Copy)]
 pub struct Seat {
     pub(super) start: u32,
     pub(super) offset: u32,
 }
 
-/// Where the way of a bit string ends that has no value: the deepest node on it, as it was read. It is right until the table
-/// changes.
+/// The deepest node on the search path of a bit string that has no value, as it was read.
+///
+/// It is right until the table changes.
 #[derive(Clone, Copy)]
 pub struct SearchEnd {
     pub(super) reached: Reached,
 }
 
-/// Where the value of a bit string stands, or where its way ends.
+/// Where the value of a bit string is stored, or where its search path ends.
 #[derive(Clone, Copy)]
 pub enum Location {
-    /// The value stands here.
+    /// The value is stored here.
     Stored(Seat),
-    /// There is none.
+    /// No value is stored, and the search path ends here.
     Missing(SearchEnd),
 }
 
 impl Node {
-    /// Where the value at a bit stands.
+    /// Returns the seat of the value at a bit.
     #[inline]
     pub fn value_seat(self, bit: u32) -> Seat
         requires { bit < 32 }

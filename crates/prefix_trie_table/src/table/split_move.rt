@@ -1,4 +1,4 @@
-//! Moving the entries that a bit string begins out of a table into one of their own.
+//! Moving the entries whose keys begin with a bit string to a table of their own.
 ghost use Rattle.std.specs.Prelude.{◌≡◌, ◌≤◌, false, take};
 ghost use Rattle.std.specs.FinMap.{len as size};
 ghost use Rattle.prefix_trie_bits.specs.Model.Entries.{part_below, without_below};
@@ -20,13 +20,15 @@ use arrayvec::ArrayVec;
 use prefix_trie_bits::prefix::Key;
 use std::alloc::Allocator;
 
-/// A table whose nodes and blocks are laid, and whose values are handed to it one after another, in listing order: the spots stand
-/// before the seat of the next. As a test it says no at each entry, so that all that it is asked at comes to it.
+/// A table whose nodes and blocks are built, and whose values are given to it one after another, in listing order.
+///
+/// The spots of its walk are before the seat of the next value. As a test it returns `false` for each entry, so it is
+/// given every value.
 #[derive(Drop)]
 struct Seats<K: Key, T: Drop, A: Allocator, V: Tick> {
     nodes: NodeAllocator<A, V>,
     cells: Cells<T, A>,
-    // The path of each spot begins it.
+    // The path of each spot begins this key.
     key: K,
     stack: ArrayVec<Spot, 26>,
 }
@@ -56,8 +58,9 @@ impl<K: Key, T: Drop, A: Allocator, V: Tick> Keep<K, T, V> for Seats<K, T, A, V>
     }
 }
 
-/// Takes all entries out that a bit string begins, as `remove_part`, and puts their values into a second table that is laid for them.
-/// It asks for no memory but what the first table's blocks may take there. Answers the arrays of the second.
+/// Removes all entries whose keys begin with a bit string, and moves their values to a second table that is built for them.
+///
+/// Returns the arrays of the second table. Only the blocks of the first table may need memory.
 pub(super) fn move_part<K: Key, T: Drop, A: Allocator, V: Tick>(
     nodes: &mut NodeAllocator<A, V>,
     cells: &mut Cells<T, A>,

@@ -1,4 +1,4 @@
-//! Laying a part of a table anew, with all its blocks at their final sizes and without its values.
+//! Building a part of a table again, with all its blocks at their final sizes and without its values.
 ghost use Rattle.std.specs.Prelude.{◌≡◌, ℕ, ◌≤◌, None, drop, take, IfOk, IfErr, IfSome};
 ghost use Rattle.prefix_trie_bits.specs.declared.prefix.Refusal.TheVariants.{Memory};
 ghost use Rattle.prefix_trie_bits.specs.Model.Step.{State};
@@ -22,8 +22,10 @@ use prefix_trie_bits::node::{
 use prefix_trie_bits::prefix::{Key, Refusal};
 use std::alloc::Allocator;
 
-/// The value bits of a node at which strings stand that a bit string begins, the child bits below which such strings stand, and how many
-/// bits lead to a child then, at most all. `depth` bits lead to the node.
+/// Returns masks of what begins with a bit string in a node, and the depth of a child.
+///
+/// The first mask has the value bits of strings that it begins. The second has the child bits below which there can be
+/// such strings. `depth` bits lead to the node. The child's depth is at most `len`.
 fn masks<K: Key>(key: K, depth: u32, len: u32) -> (u32, u32, u32)
     requires key { K.IsKey key }
     requires whole { depth ≤ len }
@@ -41,9 +43,10 @@ fn masks<K: Key>(key: K, depth: u32, len: u32) -> (u32, u32, u32)
     (0, with_bit(0, child_bit_of(key, depth)), depth + 5)
 }
 
-/// Lays a node with those of its values that a bit string begins, and below it its children with theirs, where there are any. No value is
-/// moved: all cells are vacant. What it answers has its blocks, and its own slot is still to be found. `depth` bits lead to the node, at
-/// most all, and `levels` of nodes stand below it at most.
+/// Builds a node with those of its values that begin with a bit string, and its children with theirs, if any.
+///
+/// No value is moved: all cells are vacant. The returned node has its blocks, but no slot yet. `depth` bits lead to the
+/// node, which are at most all of the bit string. At most `levels` levels of nodes are below it.
 fn lay_node<K: Key, T: Drop, A: Allocator, V: Tick>(
     from: &NodeAllocator<A, V>,
     node: Node,
@@ -99,9 +102,14 @@ fn lay_node<K: Key, T: Drop, A: Allocator, V: Tick>(
     Ok(Some(laid))
 }
 
-/// Lays the nodes and the blocks that the entries need which a bit string begins, in arrays of their own under the same limit.
-/// No value is moved: all cells are vacant. Both arrays are only read. Refused only for memory, since these blocks are no larger than
-/// those that the same nodes have here.
+/// Builds the nodes and blocks for the entries that begin with a bit string, in arrays of their own under the same limit.
+///
+/// No value is moved: all cells are vacant. Both arrays of the table are only read.
+///
+/// # Errors
+///
+/// Returns `Memory` if an allocation fails. `IndexRange` never comes, since these blocks are no larger than those that
+/// the same nodes have here.
 pub(super) fn lay_part<K: Key, T: Drop, A: Allocator + Clone, V: Tick>(
     nodes: &NodeAllocator<A, V>,
     cells: &Cells<T, A>,

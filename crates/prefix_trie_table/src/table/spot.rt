@@ -1,4 +1,4 @@
-//! A place in the middle of a table, from which a walk goes on: a node and which of its places are still to come.
+//! A spot: a node and which of its places are still to come in a walk.
 ghost use Rattle.std.specs.Prelude.{◌≡◌, ℕ, ◌+◌, ◌<◌, ◌≤◌, [], ◌∷◌, ◌++◌, List, false, Some, None, All, length, slice_index_or};
 ghost use Rattle.prefix_trie_bits.specs.Places.{places};
 ghost use Rattle.prefix_trie_bits.specs.Walks.{to_come};
@@ -26,7 +26,7 @@ pub struct Spot {
 }
 
 impl Default for Spot {
-    /// A spot with nothing to come.
+    /// Returns a spot with nothing to come.
     fn default() -> Self {
         Spot {
             node: Node::blank(),
@@ -46,7 +46,7 @@ pub enum Step<K: Key> {
     Done,
 }
 
-/// The spot of the node in a slot, whose path has `depth` bits, with all its places to come. The node is read once.
+/// Reads the node in a slot, whose path has `depth` bits, and returns its spot with all its places to come.
 #[inline]
 pub fn enter<A: Allocator, V: Tick>(
     nodes: &NodeAllocator<A, V>,
@@ -70,7 +70,7 @@ pub fn enter<A: Allocator, V: Tick>(
     }
 }
 
-/// The spot of a node whose path has `depth` bits, with those of its places to come that are in these masks.
+/// Returns the spot of a node whose path has `depth` bits, with the places to come that are in these masks.
 #[inline]
 pub fn spot_in(node: Node, depth: u32, chosen: (u32, u32)) -> Spot
     requires few { is_set node.value_bitmap 31 ≡ false }
@@ -87,7 +87,7 @@ pub fn spot_in(node: Node, depth: u32, chosen: (u32, u32)) -> Spot
     }
 }
 
-/// Takes the next place of a spot on the way of a key, in listing order. A child is read, and nothing else.
+/// Takes the next place of a spot on the path of a key, in listing order. Only a child is read.
 #[inline]
 pub fn next_at<K: Key, A: Allocator, V: Tick, T: Drop>(
     nodes: &NodeAllocator<A, V>,
@@ -123,7 +123,7 @@ pub fn next_at<K: Key, A: Allocator, V: Tick, T: Drop>(
     }
 }
 
-/// Writes the places of a spot at the last spot of a stack, of which nothing else changes.
+/// Writes the places of a spot to the last spot of a stack. Nothing else of the stack changes.
 #[inline]
 pub fn put_places(stack: &mut ArrayVec<Spot, 26>, spot: Spot)
     requires some { 0 < length stack.old.items }
@@ -134,7 +134,7 @@ pub fn put_places(stack: &mut ArrayVec<Spot, 26>, spot: Spot)
     stack[last].places = spot.places;
 }
 
-/// Drops the places that a key begins, which ends at the node of the spot.
+/// Drops the places that a key begins. The key ends at the node of the spot.
 #[inline]
 pub fn skip_below<K: Key>(spot: &mut Spot, key: K, len: u32)
     requires key { K.IsKey key }
@@ -146,7 +146,7 @@ pub fn skip_below<K: Key>(spot: &mut Spot, key: K, len: u32)
     spot.places.skip_below(value_bit_of(key, spot.depth, len));
 }
 
-/// The value at a seat.
+/// Returns the value at a seat.
 #[inline]
 pub fn value_at<T: Drop, A: Allocator>(cells: &Cells<T, A>, seat: Seat) -> &T
     requires stands { slot_of seat < length cells.now.slots }

@@ -1,4 +1,4 @@
-//! The walk that takes the values out of a table, in listing order.
+//! The walk that moves the values out of a table, in listing order.
 ghost use Rattle.std.specs.Prelude.{◌≡◌, ◌≤◌, [], take, IfOk, MatchOption};
 ghost use Rattle.std.specs.List.{AllZip};
 ghost use Rattle.std.specs.FinMap.{len as size};
@@ -23,8 +23,11 @@ use prefix_trie_bits::prefix::{BitString, Key};
 use std::alloc::{AllocError, Allocator};
 use std::marker::Model;
 
-/// The entries of a table that are still to come, in listing order, with their values. What is not taken is dropped with the
-/// walk.
+/// The entries of a table that are still to come, in listing order, with their values.
+///
+/// Values that are not taken are dropped with the walk.
+///
+/// # Examples
 ///
 /// ```text
 /// let mut walk = table.into_walk(&mut counter);
@@ -33,9 +36,9 @@ use std::marker::Model;
 #[derive(Drop)]
 pub struct IntoWalk<K: Key, T: Drop, A: Allocator, V: Tick> {
     nodes: NodeAllocator<A, V>,
-    // Those of the values that were taken are vacant. Else they and the nodes are those of the table.
+    // The cells of values that were taken are vacant. The other cells and the nodes are those of the table.
     cells: Cells<T, A>,
-    // The path of each spot begins it.
+    // The path of each spot begins this key.
     key: K,
     stack: ArrayVec<Spot, 26>,
     ghost seats: { Seated nodes.slots } by { Seated-prop nodes.slots },
@@ -55,7 +58,9 @@ impl<K: Key, T: Drop, A: Allocator, V: Tick> Model for IntoWalk<K, T, A, V> {
 }
 
 impl<K: Key, T: Drop, A: Allocator, V: Tick> IntoWalk<K, T, A, V> {
-    /// The walk of the entries in these arrays whose keys a bit string begins. The nodes on its way are read at once.
+    /// Walks the entries in these arrays whose keys begin with a bit string.
+    ///
+    /// It reads the nodes of the search path at once.
     #[inline]
     pub(super) fn below(
         nodes: NodeAllocator<A, V>,
@@ -79,7 +84,9 @@ impl<K: Key, T: Drop, A: Allocator, V: Tick> IntoWalk<K, T, A, V> {
         }
     }
 
-    /// Takes the next entry: its key, the key's length in bits, and its value. Each node that the walk comes to is read once.
+    /// Returns the next entry: its key, the key's length in bits, and its value.
+    ///
+    /// It reads each further node once, when the walk comes to it.
     #[inline]
     pub fn next(&mut self, counter: &mut V) -> Option<(K, u32, T)>
         ensures { MatchOption result ((self.old ≡ []) × (self.new ≡ []))
@@ -101,10 +108,13 @@ impl<K: Key, T: Drop, A: Allocator, V: Tick> IntoWalk<K, T, A, V> {
 }
 
 impl<K: Key, T: Clone, A: Allocator + Clone, V: Tick> IntoWalk<K, T, A, V> {
-    /// A walk with the same strings to come, whose values are clones, in memory of its own. All of that is asked for before the
-    /// first value is cloned.
+    /// Creates a walk with the same strings to come, whose values are clones, in memory of its own.
     ///
-    /// Errors: only where a request for memory is refused, for the arrays or for a value.
+    /// All memory for the arrays is allocated before the first value is cloned.
+    ///
+    /// # Errors
+    ///
+    /// Returns an error if an allocation fails, for the arrays or in the clone of a value.
     pub fn clone(&self) -> Result<Self, AllocError>
         ensures pairs { IfOk result (λ copy. AllZip (IsPairCloned T.is_clone) self.now copy) }
         ensures same { IfOk result (λ copy. ((x y : T) → T.is_clone x y → y ≡ x) → copy ≡ self.now) }
@@ -134,7 +144,7 @@ impl<T: Drop, A: Allocator, V: Tick> Table<T, A, V> {
         self.into_walk_below(BitString::new(K::zero(), 0), counter)
     }
 
-    /// Walks the entries whose keys a bit string begins. The walk drops the others with it.
+    /// Walks the entries whose keys begin with a bit string. The walk drops the others with it.
     ///
     /// The call reads the nodes of the search path at once.
     #[inline]

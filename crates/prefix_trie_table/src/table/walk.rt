@@ -1,4 +1,4 @@
-//! The walk that lends the values of a table, in listing order.
+//! The walk that borrows the values of a table, in listing order.
 ghost use Rattle.std.specs.Prelude.{◌≡◌, ◌<◌, ◌≤◌, [], ◌∷◌, ◌++◌, List, Some, IfSome, MatchOption, length, take};
 ghost use Rattle.std.specs.FinMap.{len};
 ghost use Rattle.prefix_trie_bits.specs.Model.Selections.{listing};
@@ -23,7 +23,7 @@ use std::marker::Model;
 #[derive(Drop)]
 pub struct Walk<'a, K: Key, T: Drop, A: Allocator, V: Tick> {
     arrays: Option<(&'a NodeAllocator<A, V>, &'a Cells<T, A>)>,
-    // The path of each spot begins it.
+    // The path of each spot begins this key.
     key: K,
     stack: ArrayVec<Spot, 26>,
     ghost shape: { ShapeOf arrays } by { ShapeOf-prop T.code arrays },
@@ -42,7 +42,7 @@ impl<'a, K: Key, T: Drop, A: Allocator, V: Tick> Model for Walk<'a, K, T, A, V> 
 }
 
 impl<'a, K: Key, T: Drop, A: Allocator, V: Tick> Walk<'a, K, T, A, V> {
-    /// The walk that stands at these spots, whose paths begin the key.
+    /// Returns the walk with these spots, whose paths begin the key.
     #[inline]
     pub fn over(
         nodes: &'a NodeAllocator<A, V>,
@@ -63,7 +63,9 @@ impl<'a, K: Key, T: Drop, A: Allocator, V: Tick> Walk<'a, K, T, A, V> {
         }
     }
 
-    /// Takes the next entry: its key, the key's length in bits, and its value. Each node that the walk comes to is read once.
+    /// Returns the next entry: its key, the key's length in bits, and its value.
+    ///
+    /// It reads each further node once, when the walk comes to it.
     #[inline]
     pub fn next(&mut self, counter: &mut V) -> Option<(K, u32, &'a T)>
         ensures { MatchOption result ((self.old ≡ []) × (self.new ≡ []))
@@ -83,8 +85,9 @@ impl<'a, K: Key, T: Drop, A: Allocator, V: Tick> Walk<'a, K, T, A, V> {
         Some((key, len, value_at(cells, seat)))
     }
 
-    /// Takes the next entry's key and the key's length in bits, and drops all that the key begins from what is to come. No
-    /// node below the entry's place is read.
+    /// Returns the next key and its length in bits, and skips all other entries whose keys begin with it.
+    ///
+    /// No node below the entry's place is read.
     #[inline]
     pub fn next_outermost(&mut self, counter: &mut V) -> Option<(K, u32)>
         ensures { MatchOption result ((self.old ≡ []) × (self.new ≡ []))
@@ -105,7 +108,7 @@ impl<'a, K: Key, T: Drop, A: Allocator, V: Tick> Walk<'a, K, T, A, V> {
         Some((key, len))
     }
 
-    /// The same walk, at the same place. It takes no memory.
+    /// Returns a walk with the same entries to come. It does not allocate.
     #[inline]
     pub fn clone(&self) -> Self
         ensures { result ≡ self.now }
@@ -124,7 +127,7 @@ impl<'a, K: Key, T: Drop, A: Allocator, V: Tick> Walk<'a, K, T, A, V> {
 impl<'a, K: Key, T: Drop, A: Allocator, V: Tick> Default for Walk<'a, K, T, A, V> {
     ghost is_default = { λ w. w ≡ [] };
 
-    /// The walk with nothing to come.
+    /// Returns a walk with nothing to come.
     fn default() -> Self {
         Walk {
             arrays: None,
@@ -134,7 +137,7 @@ impl<'a, K: Key, T: Drop, A: Allocator, V: Tick> Default for Walk<'a, K, T, A, V
     }
 }
 
-/// The walk of all entries that the arrays hold. The root is read.
+/// Walks all entries that the arrays hold. It reads the root.
 pub fn walk_of<'a, K: Key, T: Drop, A: Allocator, V: Tick>(
     nodes: &'a NodeAllocator<A, V>,
     cells: &'a Cells<T, A>,
@@ -152,7 +155,7 @@ pub fn walk_of<'a, K: Key, T: Drop, A: Allocator, V: Tick>(
     }
 }
 
-/// The next entry of a walk that stands at these spots, the last of which is the deepest, and whose paths begin the key.
+/// Returns the next entry of a walk with these spots, whose paths begin the key. The last spot is the deepest.
 pub fn advance<K: Key, A: Allocator, V: Tick, T: Drop>(
     nodes: &NodeAllocator<A, V>,
     stack: &mut ArrayVec<Spot, 26>,
@@ -189,7 +192,7 @@ pub fn advance<K: Key, A: Allocator, V: Tick, T: Drop>(
     None
 }
 
-/// The last spot, which stays where it is.
+/// Returns the last spot, and keeps it.
 #[inline]
 fn last_spot(stack: &ArrayVec<Spot, 26>) -> Option<Spot>
     ensures last { MatchOption result (stack.now.items ≡ [])

@@ -1,4 +1,4 @@
-//! Walks that start at a bit string: one way down, which lays the stack of each of them.
+//! Walks that start at a bit string. One descent builds the stack of each of them.
 ghost use Rattle.std.specs.Prelude.{◌≡◌, ◌+◌, ◌<◌, ◌≤◌, List, Bool, length, take, drop};
 ghost use Rattle.std.specs.FinMap.{len as size};
 ghost use Rattle.prefix_trie_bits.specs.Bits.{number};
@@ -22,18 +22,18 @@ use prefix_trie_bits::node::{
 use prefix_trie_bits::prefix::Key;
 use std::alloc::Allocator;
 
-/// What a walk that starts at a bit string gives.
+/// The entries that a walk from a bit string selects.
 #[derive(Clone, Copy)]
 pub enum Start {
-    /// The entry there and all entries behind it.
+    /// The bit string's own entry, and all entries after it.
     At,
-    /// All entries behind it, its extensions among them.
+    /// All entries after it, its extensions among them.
     After,
     /// The entries whose keys it begins.
     Below,
 }
 
-/// The walk of a selection of the entries that the arrays hold. Each node on the way of the bit string is read once.
+/// Walks a selection of the entries that the arrays hold. It reads each node on the search path once.
 pub fn walk_at<'a, K: Key, T: Drop, A: Allocator, V: Tick>(
     nodes: &'a NodeAllocator<A, V>,
     cells: &'a Cells<T, A>,
@@ -52,8 +52,9 @@ pub fn walk_at<'a, K: Key, T: Drop, A: Allocator, V: Tick>(
     Walk::over(nodes, cells, key, stack)
 }
 
-/// Goes down the way of a bit string as far as nodes stand, and leaves at each node what is selected there but for what is
-/// below the next node of the way.
+/// Goes down the search path of a bit string, and returns the stack of a walk of the selected entries.
+///
+/// The spot of each node has what is selected there, except what is below the next node of the path.
 pub(super) fn start_at<K: Key, T: Drop, A: Allocator, V: Tick>(
     nodes: &NodeAllocator<A, V>,
     key: K,
@@ -85,7 +86,7 @@ pub(super) fn start_at<K: Key, T: Drop, A: Allocator, V: Tick>(
     stack
 }
 
-/// Masks of what is selected at a node that is passed, but for what is below the child that is taken.
+/// Returns masks of what is selected at a node above the last, except what is below this child.
 #[inline]
 fn places_behind(from: Start, child: u32) -> (u32, u32)
     requires { child < 32 }
@@ -97,7 +98,7 @@ fn places_behind(from: Start, child: u32) -> (u32, u32)
     }
 }
 
-/// Masks of what is selected at the node where a bit string ends.
+/// Returns masks of what is selected at the node where a bit string ends.
 #[inline]
 fn places_kept<K: Key>(from: Start, key: K, depth: u32, len: u32) -> (u32, u32)
     requires key { K.IsKey key }

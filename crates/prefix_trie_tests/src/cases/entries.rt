@@ -161,8 +161,10 @@ pub fn removes_entry<P: Prefix, A: Allocator>(
     }
 }
 
-/// Makes each call that finds an occupied entry and does not remove it. Each must find the value that the call before
-/// it left, and no closure that makes a value is called. The last call sets another value.
+/// Makes each call that finds an occupied entry and does not remove it.
+///
+/// Each must find the value that the call before it left, and no closure that makes a value is called. The last call
+/// sets another value.
 pub fn changes_entry<P: Prefix, A: Allocator>(
     map: &mut PrefixMap<P, u64, A>,
     at: Pair<P::R>,
@@ -189,8 +191,9 @@ fn adds_one<P: Prefix, A: Allocator>(
     result_of_lent(entry.or_insert(0), 0)
 }
 
-/// Reads a stored value by each call of its entry that reads. Returns it if the prefix has no host bits. Releases the
-/// entry.
+/// Reads a stored value by each call of its entry that reads.
+///
+/// Returns it if the prefix has no host bits. Releases the entry.
 fn reads_occupied<P: Prefix, A: Allocator>(
     map: &mut PrefixMap<P, u64, A>,
     at: Pair<P::R>,

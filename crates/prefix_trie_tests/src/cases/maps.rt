@@ -144,8 +144,9 @@ fn lists<P: Prefix + Copy, A: Allocator>(
         & gives_before_and_after_next(map.iter(), map.keys(), map.values(), entries)
 }
 
-/// Returns whether the slots or blocks of a map are those of a case. After a failed allocation this is not checked,
-/// because a removal may keep its larger block.
+/// Returns whether the slots or blocks of a map are those of a case.
+///
+/// After a failed allocation this is not checked, because a removal may keep its larger block.
 fn is_stored_in<P: Prefix, A: Allocator>(
     map: &PrefixMap<P, u64, A>,
     case: &Case<'_, P::R>,

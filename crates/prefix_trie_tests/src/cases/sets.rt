@@ -56,8 +56,9 @@ fn gives<P: Prefix + Copy, A: Allocator>(
     walk.next().is_none()
 }
 
-/// Returns whether the walks from a prefix on, after it and among its children return the keys of these entries. The
-/// first key is its own.
+/// Returns whether the walks from a prefix on, after it and among its children return the keys of these entries.
+///
+/// The first key is its own.
 fn gives_from<P: Prefix + Copy, A: Allocator>(
     set: &PrefixSet<P, A>,
     at: Pair<P::R>,

@@ -43,8 +43,9 @@ pub trait UnderTest<K: Key, A: Allocator + Copy>: Drop {
     /// Returns whether the arrays are as long as their blocks require.
     fn slots_add_up(&self) -> bool;
 
-    /// Makes the call of a case that needs no second map and cannot fail. Returns whether the result is the expected
-    /// one.
+    /// Makes the call of a case that needs no second map and cannot fail.
+    ///
+    /// Returns whether the result is the expected one.
     fn check_call(&mut self, heap: &Refusing<Global>, case: &Case<'_, K>) -> bool;
 }
 
@@ -141,9 +142,10 @@ fn expected_result<K: Key, A: Allocator + Copy, M: UnderTest<K, A>>(
     }
 }
 
-/// Makes an insertion, and makes it again if an allocation failed. Returns whether it returned `Memory` exactly if an
-/// allocation failed, changed nothing then, and else had the expected result. If no allocation is to fail any more,
-/// only the result is compared.
+/// Makes an insertion, and makes it again if an allocation failed.
+///
+/// Returns whether it returned `Memory` exactly if an allocation failed, changed nothing then, and else had the
+/// expected result. If no allocation is to fail any more, only the result is compared.
 fn stores<K: Key, A: Allocator + Copy, M: UnderTest<K, A>>(
     heap: &Refusing<Global>,
     subject: &mut M,
@@ -176,8 +178,9 @@ fn lists<K: Key, A: Allocator + Copy, M: UnderTest<K, A>>(
     subject.check_call(heap, &Case::Lists(entries))
 }
 
-/// Makes the call of a case. Returns whether the result is the expected one and the arrays are as long as they should
-/// be.
+/// Makes the call of a case.
+///
+/// Returns whether the result is the expected one and the arrays are as long as they should be.
 pub fn holds<K: Key, A: Allocator + Copy, M: UnderTest<K, A>>(
     heap: &Refusing<Global>,
     alloc: A,

@@ -70,8 +70,9 @@ fn give_entries<P: Prefix + Copy, A: Allocator>(
     items.next().is_none() & keys.next().is_none() & values.next().is_none()
 }
 
-/// Returns whether three walks return these entries and, after their first step, the rest. Their clones must do the
-/// same.
+/// Returns whether three walks return these entries and, after their first step, the rest.
+///
+/// Their clones must do the same.
 pub fn gives_before_and_after_next<P: Prefix + Copy, A: Allocator>(
     mut items: Iter<'_, P, u64, A>,
     mut keys: Keys<'_, P, u64, A>,
@@ -107,8 +108,9 @@ pub fn contained_in_first<K: Key>(entries: &[Entry<K>]) -> &[Entry<K>] {
     entries
 }
 
-/// Returns whether the walks from a prefix on, after it and among its children return these entries. The first entry is
-/// its own.
+/// Returns whether the walks from a prefix on, after it and among its children return these entries.
+///
+/// The first entry is its own.
 pub fn gives_from<P: Prefix + Copy, A: Allocator>(
     map: &PrefixMap<P, u64, A>,
     at: Pair<P::R>,
@@ -164,8 +166,9 @@ fn lends_children<P: Prefix, A: Allocator>(
     lends(&mut walk, entries)
 }
 
-/// Returns whether the mutable walks from a prefix on, after it and among its children lend the values of these
-/// entries. The first entry is its own.
+/// Returns whether the mutable walks from a prefix on, after it and among its children lend the values of these entries.
+///
+/// The first entry is its own.
 pub fn lends_from<P: Prefix, A: Allocator>(
     map: &mut PrefixMap<P, u64, A>,
     at: Pair<P::R>,

@@ -12,8 +12,9 @@ type Routes<A> = PrefixMap<Ipv4Prefix, u32, A>;
 /// The largest number of packets in a burst.
 pub const BURST: usize = 64;
 
-/// Writes the next hop of each address, in the order of the addresses. It is the hop of the longest route that contains
-/// the address, if there is one.
+/// Writes the next hop of each address, in the order of the addresses.
+///
+/// It is the hop of the longest route that contains the address, if there is one.
 pub fn next_hops<A: Allocator>(table: &Routes<A>, addresses: &[u32], hops: &mut [Option<u32>])
     requires burst { length addresses.now ≤ 64 }
     requires same_length { length hops.old ≡ length addresses.now }

@@ -5,8 +5,10 @@ ghost use Rattle.prefix_trie.specs.Words.{no_entries, with_entry};
 use prefix_trie::{Prefix, PrefixMap, Refused};
 use std::alloc::Allocator;
 
-/// Stores a value. Returns whether all other entries were kept. If the insertion fails, the cache forgets all entries
-/// and tries once more.
+/// Stores a value.
+///
+/// Returns whether all other entries were kept. If the insertion fails, the cache forgets all entries and tries once
+/// more.
 ///
 /// # Errors
 ///

@@ -10,8 +10,9 @@ use std::alloc::Allocator;
 /// Ranges of numbers that share their first bits, each with the number of its owner.
 type Plan<const W: u32, A> = PrefixMap<(Narrow<W>, u8), u32, A>;
 
-/// Gives the numbers that share their first `len` bits with this one to an owner. Numbers in narrower ranges keep
-/// theirs.
+/// Gives the numbers that share their first `len` bits with this one to an owner.
+///
+/// Numbers in narrower ranges keep theirs.
 ///
 /// # Errors
 ///

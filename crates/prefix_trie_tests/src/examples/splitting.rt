@@ -7,8 +7,9 @@ use prefix_trie::laws::{handing_laws, put_laws};
 use prefix_trie::{Prefix, PrefixMap, Refusal};
 use std::alloc::Allocator;
 
-/// Splits the entries that a prefix contains off into a table of their own, and merges them again. Returns their
-/// number.
+/// Splits the entries that a prefix contains off into a table of their own, and merges them again.
+///
+/// Returns their number.
 pub fn split_and_merge<P: Prefix, T: Drop, A: Allocator + Clone>(
     table: &mut PrefixMap<P, T, A>,
     prefix: &P,

@@ -31,8 +31,9 @@ fn is_end(len: u8, width: u8) -> bool {
 /// The number of cases of two pairs when no other is stored.
 const STEPS: u32 = 15;
 
-/// Returns one of these cases. They insert, look up and remove by both pairs, and find the third. The last one leaves
-/// the entry.
+/// Returns one of these cases.
+///
+/// They insert, look up and remove by both pairs, and find the third. The last one leaves the entry.
 fn case_at<'a, K: Key + 'a>(
     step: u32,
     at: Pair<K>,
@@ -148,8 +149,9 @@ fn are_alike_at_each_length<K: Key, A: Allocator + Copy, M: UnderTest<K, A>>(
     true
 }
 
-/// Inserts each length as its value, with host bits. Adds the entries to a list, in listing order. Returns whether all
-/// are new.
+/// Inserts each length as its value, with host bits.
+///
+/// Adds the entries to a list, in listing order. Returns whether all are new.
 fn stores_ends<K: Key, A: Allocator + Copy, M: UnderTest<K, A>>(
     subject: &mut M,
     all_ones: K,

@@ -199,8 +199,9 @@ fn are_selected(entries: &[Entry], call: &Call<Key>, list: &[Entry]) -> bool {
     index == entries.len()
 }
 
-/// Returns whether a reply is that of the list before the call. The list has no nodes, so a node count is only compared
-/// with 1.
+/// Returns whether a reply is that of the list before the call.
+///
+/// The list has no nodes, so a node count is only compared with 1.
 fn is_reply(reply: &Reply<Key, Global>, call: &Call<Key>, list: &[Entry]) -> bool {
     match call {
         Call::Insert(at, _) | Call::Get(at) | Call::Remove(at) | Call::RemoveKeepTree(at) => {

@@ -9,8 +9,9 @@ use crate::networks::v4;
 use crate::refusing::Refusing;
 use crate::trials::{FaultPlan, Table, on_both};
 
-/// The first 24 of all pairs with at most four bits. They are stored in a block of 24 after the other seven are
-/// removed.
+/// The first 24 of all pairs with at most four bits.
+///
+/// They are stored in a block of 24 after the other seven are removed.
 const FIRST_24: [Entry<u8>; 24] = [
     ((0, 0), 0),
     ((0, 1), 1),
@@ -38,8 +39,9 @@ const FIRST_24: [Entry<u8>; 24] = [
     ((176, 4), 23),
 ];
 
-/// Without allocating, a 25th pair is inserted into the free block of 31 and removed again, a value is replaced, and
-/// all are removed.
+/// The free block of 31 takes a 25th pair, without an allocation.
+///
+/// The pair is removed again, a value is replaced, and all pairs are removed, without an allocation too.
 const INTO_FREE_BLOCK: Table<'static, u8> = (
     &[
         Inserts((0, 0), 0, None),
@@ -120,8 +122,9 @@ fn an_insertion_uses_a_free_block(rt: HostRuntime) {
     );
 }
 
-/// The root keeps one value, no block of one is free, and the limit leaves capacity for one: the removal makes it. A
-/// removal that used only free blocks would make none.
+/// The root keeps one value, no block of one is free, and the limit leaves capacity for one: the removal makes it.
+///
+/// A removal that used only free blocks would make none.
 const SMALLER_BLOCK_MADE: Table<'static, u8> = (
     &[],
     &[

@@ -8,8 +8,9 @@ use crate::trials::Table;
 
 const TWO_NETWORKS: [Entry<u32>; 2] = [(v4!(10, 0, 0, 0; 8), 8), (v4!(10, 1, 0, 0; 16), 16)];
 
-/// Two networks, with free blocks in both arrays. A change of the clone does not change the original, and the other way
-/// round.
+/// Two networks, with free blocks in both arrays.
+///
+/// A change of the clone does not change the original, and the other way round.
 pub const INDEPENDENT: [Table<'static, u32>; 1] = [(
     &[],
     &[

@@ -9,8 +9,9 @@ pub const NEW_MAPS: [Table<'static, u32>; 2] = [
     (&[], &[StartsAnew(Some(1)), Len(0), NodeCount(1)]),
 ];
 
-/// A host's seven nodes, twice. A third value in the root, whose block of two is full. A third child of the root, with
-/// nodes below it.
+/// A host's seven nodes, twice.
+///
+/// A third value in the root, whose block of two is full. A third child of the root, with nodes below it.
 pub const GROWTHS: [Table<'static, u32>; 4] = [
     (
         &[NodeCount(1)],
@@ -58,8 +59,9 @@ pub const GROWTHS: [Table<'static, u32>; 4] = [
     ),
 ];
 
-/// The search path of a host has seven nodes. The two values of the root are stored in a block of two, and the first
-/// was stored in a block of one.
+/// The search path of a host has seven nodes.
+///
+/// The two values of the root are stored in a block of two, and the first was stored in a block of one.
 pub const LIMITS: [Table<'static, u32>; 2] = [
     (
         &[],

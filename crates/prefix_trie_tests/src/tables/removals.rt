@@ -11,8 +11,9 @@ use prefix_trie::Ipv4Prefix;
 use std::alloc::{AllocError, Global};
 use std::test::Fail;
 
-/// Keys are kept by their lengths. The node filled later uses the smaller blocks that the first node outgrew, so
-/// `retain` must make others.
+/// Keys are kept by their lengths.
+///
+/// The node filled later uses the smaller blocks that the first node outgrew, so `retain` must make others.
 pub const BY_LENGTH: [Table<'static, u32>; 1] = [(
     &[
         Inserts(v4!(0, 0, 0, 0; 0), 0, None),
@@ -94,8 +95,9 @@ fn numbered_network(number: u32) -> Pair<u32> {
     (number << 17, 15)
 }
 
-/// Returns a step of the removal of each second network, from the first on. Each is removed twice, and the second
-/// removal finds nothing. Then exactly the others must be left.
+/// Returns a step of the removal of each second network, from the first on.
+///
+/// Each is removed twice, and the second removal finds nothing. Then exactly the others must be left.
 fn even_removal_case(end: u32, step: u32) -> Case<'static, u32> {
     let steps = end.saturating_add(end % 2);
     let number = step % steps.max(1);
@@ -113,8 +115,10 @@ fn even_removal_case(end: u32, step: u32) -> Case<'static, u32> {
     }
 }
 
-/// Returns the removal of a network with this value. `Children` uses a prefix that is two bits shorter, and so removes
-/// its neighbors. `Retain` uses a test, and so removes from all groups.
+/// Returns the removal of a network with this value.
+///
+/// `Children` uses a prefix that is two bits shorter, and so removes its neighbors. `Retain` uses a test, and so
+/// removes from all groups.
 fn removal_case(at: Pair<u32>, item: u32, via: RemoveVia) -> Case<'static, u32> {
     let value = u64::from(item);
     match via {
@@ -133,8 +137,10 @@ fn entries_left_in_group(item: u32, via: RemoveVia) -> usize {
     }
 }
 
-/// Returns a step of the removal of all networks. The first of each group is removed before any second, so the group
-/// needs small blocks that no other group has left. Each removal must remove what it should, and no more.
+/// Returns a step of the removal of all networks.
+///
+/// The first of each group is removed before any second, so the group needs small blocks that no other group has left.
+/// Each removal must remove what it should, and no more.
 fn group_removal_case(groups: Groups, via: RemoveVia, step: u32) -> Case<'static, u32> {
     let (item, position) = (step / 33, step % 33);
     let at = network(groups, position / 2, item);

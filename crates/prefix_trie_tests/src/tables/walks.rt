@@ -5,8 +5,9 @@ use crate::trials::Table;
 use prefix_trie::map::{Iter, Keys, Values};
 use std::alloc::Global;
 
-/// A site's neighbor, an office of the site, the site and all addresses. The walks are around a host of the office, and
-/// around a network that contains the site.
+/// A site's neighbor, an office of the site, the site and all addresses.
+///
+/// The walks are around a host of the office, and around a network that contains the site.
 pub const ROUTES: [Table<'static, u32>; 1] = [(
     &[],
     &[

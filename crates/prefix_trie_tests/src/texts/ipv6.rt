@@ -4,8 +4,9 @@ use prefix_trie::{Ipv6Prefix, Prefix};
 use std::net::Ipv6Addr;
 use std::test::Fail;
 
-/// A text, its address and length, and the printed text. The first part is from RFC 4291. Then come the examples of RFC
-/// 5952, and others at the edges of its rules.
+/// A text, its address and length, and the printed text.
+///
+/// The first part is from RFC 4291. Then come the examples of RFC 5952, and others at the edges of its rules.
 static READ: [(&str, u128, u8, &str); 35] = [
     (
         "ABCD:EF01:2345:6789:ABCD:EF01:2345:6789/128",

@@ -89,8 +89,10 @@ fn take<W: ConsumingWalk>(walk: &mut W, count: u64) {
     }
 }
 
-/// Returns the number of drops after the walk yielded some items, after its clone yielded all others and was dropped,
-/// and after the walk was dropped.
+/// Returns the number of drops at three points of a walk and its clone.
+///
+/// These are after the walk yielded some items, after its clone yielded all others and was dropped, and after the walk
+/// was dropped.
 fn drops_of<W: ConsumingWalk>(
     mut walk: W,
     taken: u64,

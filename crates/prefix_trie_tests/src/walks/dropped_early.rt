@@ -94,8 +94,9 @@ fn drops_of_lending<'a>(
     [items, from, below, drops.replace(0)]
 }
 
-/// Returns the number of drops by walks over a new map that are dropped early, and then by dropping the map. Returns
-/// `None` if a walk yields another number of items.
+/// Returns the number of drops by walks over a new map that are dropped early, and then by dropping the map.
+///
+/// Returns `None` if a walk yields another number of items.
 fn drops_of_early(alloc: Global, count: u8) -> Option<(u64, [u64; 4], u64)> {
     let drops = Cell::new(0);
     let mut map = map_of_three(alloc, &CHAIN, &drops)?;

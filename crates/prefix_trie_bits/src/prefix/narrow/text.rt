@@ -11,7 +11,9 @@ use std::error::Error;
 use std::fmt::{self, Debug, Display, Formatter, Write};
 use std::str::FromStr;
 
-/// A text that is no number of the width: something else than decimal digits, a leading zero, or a number of `2^width` or more.
+/// A text that is no number of the width.
+///
+/// It has something other than decimal digits, a leading zero, or a number of `2^width` or more.
 #[derive(Clone, Copy, Debug, PartialEq, Eq)]
 pub struct ParseNarrowError;
 

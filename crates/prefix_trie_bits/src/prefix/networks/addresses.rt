@@ -1,4 +1,4 @@
-//! Networks of std's addresses, and their addresses.
+//! Networks from the addresses of `std`, and their addresses.
 ghost use Rattle.std.specs.Prelude.{◌≡◌, ◌-◌, ◌^◌, ◌<◌, ◌≤◌, MatchOption};
 ghost use Rattle.std.specs.Net.Addr.{ipv4_bits, ipv6_bits, IsIpv4OfBits, IsIpv6OfBits};
 ghost use Rattle.prefix_trie_bits.specs.Networks.{lowest_address, highest_address};
@@ -8,7 +8,9 @@ use crate::prefix::Key;
 use std::net::{Ipv4Addr, Ipv6Addr};
 
 impl Ipv4Prefix {
-    /// Returns the network of an address and a length, host bits kept: None exactly if the length is above 32.
+    /// Returns the network of an address and a length, host bits kept, or `None` if the length is above 32.
+    ///
+    /// # Examples
     ///
     /// ```text
     /// Ipv4Prefix::from_address(Ipv4Addr::new(10, 1, 2, 3), 8)   Some(10.1.2.3/8)
@@ -31,6 +33,8 @@ impl Ipv4Prefix {
 
     /// Returns the lowest address of the network: each host bit is 0.
     ///
+    /// # Examples
+    ///
     /// ```text
     /// of 10.1.2.3/8   10.0.0.0
     /// ```
@@ -42,6 +46,8 @@ impl Ipv4Prefix {
     }
 
     /// Returns the highest address of the network: each host bit is 1.
+    ///
+    /// # Examples
     ///
     /// ```text
     /// of 10.1.2.3/8   10.255.255.255
@@ -67,7 +73,9 @@ impl From<Ipv4Addr> for Ipv4Prefix {
 }
 
 impl Ipv6Prefix {
-    /// Returns the network of an address and a length, host bits kept: None exactly if the length is above 128.
+    /// Returns the network of an address and a length, host bits kept, or `None` if the length is above 128.
+    ///
+    /// # Examples
     ///
     /// ```text
     /// Ipv6Prefix::from_address(Ipv6Addr::LOCALHOST, 64)   Some(::1/64)
@@ -90,6 +98,8 @@ impl Ipv6Prefix {
 
     /// Returns the lowest address of the network: each host bit is 0.
     ///
+    /// # Examples
+    ///
     /// ```text
     /// of 2001:db8::1/32   2001:db8::
     /// ```
@@ -101,6 +111,8 @@ impl Ipv6Prefix {
     }
 
     /// Returns the highest address of the network: each host bit is 1.
+    ///
+    /// # Examples
     ///
     /// ```text
     /// of 2001:db8::1/32   2001:db8:ffff:ffff:ffff:ffff:ffff:ffff
@@ -125,7 +137,7 @@ impl From<Ipv6Addr> for Ipv6Prefix {
     }
 }
 
-// The number with zeros in the first `len` bits and ones after them.
+// Returns the number with zeros in the first `len` bits and ones after them.
 fn host_u32(len: u8) -> u32
     requires { len ≤ 32 }
     ensures { result ≡ 2 ^ (32 - len) - 1 }
@@ -136,7 +148,7 @@ fn host_u32(len: u8) -> u32
     (1 << (32 - len)) - 1
 }
 
-// The first `len` bits of the address, and then ones.
+// Returns the first `len` bits of the address, and then ones.
 fn last_u32(addr: u32, len: u8) -> u32
     requires { len ≤ 32 }
     ensures { result ≡ highest_address 32 (addr, len) }
@@ -144,7 +156,7 @@ fn last_u32(addr: u32, len: u8) -> u32
     addr.keep(u32::from(len)) + host_u32(len)
 }
 
-// The number with zeros in the first `len` bits and ones after them.
+// Returns the number with zeros in the first `len` bits and ones after them.
 fn host_u128(len: u8) -> u128
     requires { len ≤ 128 }
     ensures { result ≡ 2 ^ (128 - len) - 1 }
@@ -155,7 +167,7 @@ fn host_u128(len: u8) -> u128
     (1 << (128 - len)) - 1
 }
 
-// The first `len` bits of the address, and then ones.
+// Returns the first `len` bits of the address, and then ones.
 fn last_u128(addr: u128, len: u8) -> u128
     requires { len ≤ 128 }
     ensures { result ≡ highest_address 128 (addr, len) }

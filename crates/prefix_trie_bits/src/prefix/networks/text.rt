@@ -13,6 +13,8 @@ use std::str::{self, FromStr};
 
 /// Why a text is not a network.
 ///
+/// # Examples
+///
 /// ```text
 /// "10.0.0.0".parse::<Ipv4Prefix>()      Err(ParseNetworkError::MissingSlash)
 /// "10.0.0/8".parse::<Ipv4Prefix>()      Err(ParseNetworkError::Address)
@@ -31,7 +33,7 @@ pub enum ParseNetworkError {
 impl ParseNetworkError {
     ghost use Rattle.prefix_trie_bits.specs.Texts.{parse_network_error_text};
 
-    // Its text.
+    // Returns its text.
     fn words(self) -> &'static str
         ensures { result.now ≡ parse_network_error_text self }
     {
@@ -104,7 +106,7 @@ impl Debug for Ipv4Prefix {
     }
 }
 
-// A hexadecimal digit, in lower case.
+// Returns a hexadecimal digit, in lower case.
 fn digit(value: u16) -> u8
     requires { value < 16 }
     ensures { result ≡ digit_char value }

@@ -1,7 +1,8 @@
 //! Setting the value of an entry, whether it is vacant or occupied.
 //!
-//! An `insert` that answers at once would name no lifetime in its answer, and the borrow checker covers no such function of the
-//! enum. So it is two calls: `put`, whose answer holds the map still, and `answer`, which lets it go.
+//! There are two calls, since an `insert` that takes the entry and returns a plain value names no lifetime in its
+//! result, and the borrow checker does not cover such a function of the enum. The result of `put` still borrows the
+//! map; `answer` ends the borrow.
 ghost use Rattle.std.specs.Prelude.{◌≡◌, IfOk, IfErr, Ok, None};
 ghost use Rattle.prefix_trie_table.specs.Shape.{with_value_at};
 ghost use Rattle.prefix_trie_map.specs.Whole.{IsWhole};
@@ -12,7 +13,7 @@ use prefix_trie_bits::prefix::{Prefix, Refused};
 use std::alloc::Allocator;
 use std::mem;
 
-/// What `put` leaves: the map, and the answer of the insertion.
+/// The map after `put`, and the result of the insertion.
 #[derive(Drop)]
 pub struct Put<'a, P: Prefix, T: Drop, A: Allocator> {
     map: &'a mut PrefixMap<P, T, A>,
@@ -20,9 +21,11 @@ pub struct Put<'a, P: Prefix, T: Drop, A: Allocator> {
 }
 
 impl<'a, P: Prefix, T: Drop, A: Allocator> Put<'a, P, T, A> {
-    /// The value that was there before.
+    /// Returns the previous value.
     ///
-    /// Errors: as of `PrefixMap::insert`, with the value handed back.
+    /// # Errors
+    ///
+    /// Returns the value back, with the cause, as `PrefixMap::insert` does.
     pub fn answer(self) -> Result<Option<T>, Refused<T>>
         ensures answer { result ≡ self.entry.answer }
         ensures unchanged { self.exit.0.now ≡ self.entry.map.now }
@@ -34,15 +37,20 @@ impl<'a, P: Prefix, T: Drop, A: Allocator> Put<'a, P, T, A> {
 impl<'a, P: Prefix, T: Drop, A: Allocator> Entry<'a, P, T, A> {
     ghost use Rattle.prefix_trie_map.specs.Entry.{entry_map_ref, entry_value, Fills, RefusesToFill};
 
-    /// Sets the value, as `PrefixMap::insert` does: `put(value).answer()` is what that answers.
+    /// Sets the value, as `PrefixMap::insert` does, whose result is then in `put(value).answer()`.
+    ///
+    /// # Errors
+    ///
+    /// `answer` returns the value back, with the cause, as `PrefixMap::insert` does. This never happens if the prefix
+    /// is stored.
+    ///
+    /// # Examples
     ///
     /// ```text
     /// 10.1.0.0/16 is stored with 1
     /// map.entry(10.1.0.0/16).put(2).answer()   Ok(Some(1))
     /// map.entry(10.2.0.0/16).put(3).answer()   Ok(None)
     /// ```
-    ///
-    /// Errors: in `answer`, as of `PrefixMap::insert`, with the value handed back; never where the prefix is stored.
     pub fn put(self, value: T) -> Put<'a, P, T, A>
         ensures same_map { result.map.ghost_name ≡ (entry_map_ref self.entry).ghost_name }
         ensures set { IfOk result.answer (λ before. (before ≡ entry_value self.entry) × Fills self.entry result.map.now value) }
@@ -58,7 +66,7 @@ impl<'a, P: Prefix, T: Drop, A: Allocator> Entry<'a, P, T, A> {
 impl<'a, P: Prefix, T: Drop, A: Allocator> VacantEntry<'a, P, T, A> {
     ghost use Rattle.prefix_trie_map.specs.Entry.{Vacant, Fills, RefusesToFill};
 
-    // As of any entry.
+    // `Entry::put` for a vacant entry.
     fn put(self, value: T) -> Put<'a, P, T, A>
         ensures same_map { result.map.ghost_name ≡ self.entry.map.ghost_name }
         ensures set { IfOk result.answer (λ before. (before ≡ None) × Fills (Vacant self.entry) result.map.now value) }
@@ -81,7 +89,7 @@ impl<'a, P: Prefix, T: Drop, A: Allocator> VacantEntry<'a, P, T, A> {
 impl<'a, P: Prefix, T: Drop, A: Allocator> OccupiedEntry<'a, P, T, A> {
     ghost use Rattle.prefix_trie_map.specs.Entry.{Occupied, entry_map, entry_path, entry_value};
 
-    // As of any entry.
+    // `Entry::put` for an occupied entry.
     fn put(self, value: T) -> Put<'a, P, T, A>
         ensures same_map { result.map.ghost_name ≡ self.entry.map.ghost_name }
         ensures before { result.answer ≡ Ok (entry_value (Occupied self.entry)) }

@@ -1,4 +1,4 @@
-//! Reading, writing and taking out what an occupied entry has.
+//! Reading, writing and removing an occupied entry.
 ghost use Rattle.std.specs.Prelude.{◌≡◌, Some};
 ghost use Rattle.std.specs.Borrow.{sem};
 ghost use Rattle.prefix_trie_bits.specs.Model.Entries.{without_entry};
@@ -17,7 +17,14 @@ use std::mem;
 impl<'a, P: Prefix, T: Drop, A: Allocator> OccupiedEntry<'a, P, T, A> {
     ghost use Rattle.prefix_trie_map.specs.Entry.{Occupied, entry_map, entry_key, entry_path, entry_value, lends_written, lends_occupied};
 
-    /// The prefix, without host bits.
+    /// Returns the prefix, without host bits.
+    ///
+    /// # Examples
+    ///
+    /// ```text
+    /// `entry` is the occupied entry of 10.1.2.3/16
+    /// entry.key()   &10.1.0.0/16
+    /// ```
     #[inline]
     pub fn key(&self) -> &P
         ensures { result.now ≡ entry_key (Occupied self.now) }
@@ -25,7 +32,14 @@ impl<'a, P: Prefix, T: Drop, A: Allocator> OccupiedEntry<'a, P, T, A> {
         self.key.prefix()
     }
 
-    /// The value.
+    /// Returns the value.
+    ///
+    /// # Examples
+    ///
+    /// ```text
+    /// `entry` is an occupied entry with the value 1
+    /// entry.get()   &1
+    /// ```
     #[inline]
     pub fn get(&self) -> &T
         ensures { entry_value (Occupied self.now) ≡ Some result.now }
@@ -33,7 +47,15 @@ impl<'a, P: Prefix, T: Drop, A: Allocator> OccupiedEntry<'a, P, T, A> {
         self.map.value_at(self.key.prefix(), self.seat)
     }
 
-    /// The value, for writing. What is written through it is then the value of the entry, and nothing else changes.
+    /// Returns the value for writing. What is written becomes the entry's value, and nothing else changes.
+    ///
+    /// # Examples
+    ///
+    /// ```text
+    /// `entry` is an occupied entry with the value 1
+    /// *entry.get_mut() += 1
+    /// entry.get()             &2
+    /// ```
     #[inline]
     pub fn get_mut(&mut self) -> &mut T
         ensures* writes_back { sem 𝓛 (lends_occupied P.row T.row A.row P.R.row P.Debug P.R.PartialEq P.R.Debug A.Allocator self.entry result) }
@@ -44,7 +66,15 @@ impl<'a, P: Prefix, T: Drop, A: Allocator> OccupiedEntry<'a, P, T, A> {
         self.map.lend_at(path, seat)
     }
 
-    /// The same, for as long as the map is lent.
+    /// Returns the value for writing, for as long as the map is borrowed.
+    ///
+    /// # Examples
+    ///
+    /// ```text
+    /// 10.1.0.0/16 is stored with 1
+    /// if let Entry::Occupied(entry) = map.entry(10.1.0.0/16) { *entry.into_mut() += 1; }
+    /// map.get(&10.1.0.0/16)                                                                Some(&2)
+    /// ```
     #[inline]
     pub fn into_mut(self) -> &'a mut T
         ensures* writes_back { sem 𝓛 (lends_written P.row T.row A.row P.R.row P.Debug P.R.PartialEq P.R.Debug A.Allocator (Occupied self.entry) result) }
@@ -55,8 +85,12 @@ impl<'a, P: Prefix, T: Drop, A: Allocator> OccupiedEntry<'a, P, T, A> {
         map.lend_at(key.path(), seat)
     }
 
-    /// Lets the entry go. A caller's proof learns what the map is then: what the entry had of it, with what was written through
-    /// `get_mut` or by `and_modify`. Of an entry that is only dropped it learns nothing of the map.
+    /// Ends the entry, so that a caller's proof knows the map again.
+    ///
+    /// The map then has what was written through `get_mut` or by `and_modify`. The proof learns nothing about the map
+    /// if the entry is only dropped.
+    ///
+    /// # Examples
     ///
     /// ```text
     /// if let Entry::Occupied(entry) = map.entry(10.1.0.0/16).and_modify(|n| *n += 1) { entry.release(); }
@@ -72,7 +106,15 @@ impl<'a, P: Prefix, T: Drop, A: Allocator> OccupiedEntry<'a, P, T, A> {
         } = self;
     }
 
-    /// Sets the value, and hands out the old one. Never refused.
+    /// Sets the value and returns the previous one. It never fails and does not allocate.
+    ///
+    /// # Examples
+    ///
+    /// ```text
+    /// `entry` is the occupied entry of 10.1.0.0/16, with the value 1
+    /// entry.insert(2)         1
+    /// map.get(&10.1.0.0/16)   Some(&2)
+    /// ```
     #[inline]
     pub fn insert(self, value: T) -> T
         ensures before { entry_value (Occupied self.entry) ≡ Some result }
@@ -83,8 +125,17 @@ impl<'a, P: Prefix, T: Drop, A: Allocator> OccupiedEntry<'a, P, T, A> {
         mem::replace(self.map.lend_at(key.path(), seat), value)
     }
 
-    /// Takes the entry out of the map, and hands out its value. All nodes stay, as `PrefixMap::remove_keep_tree` leaves them. Never
-    /// refused.
+    /// Removes the entry from the map and returns its value.
+    ///
+    /// All nodes stay, as after `PrefixMap::remove_keep_tree`. It never fails.
+    ///
+    /// # Examples
+    ///
+    /// ```text
+    /// `entry` is the occupied entry of 10.1.0.0/16, with the value 1
+    /// entry.remove()          1
+    /// map.get(&10.1.0.0/16)   None
+    /// ```
     #[inline]
     pub fn remove(self) -> T
         ensures value { entry_value (Occupied self.entry) ≡ Some result }

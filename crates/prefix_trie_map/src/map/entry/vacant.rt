@@ -1,4 +1,4 @@
-//! Filling an entry that is vacant.
+//! Filling a vacant entry.
 ghost use Rattle.std.specs.Prelude.{◌≡◌, IfOk, IfErr, OnErr};
 ghost use Rattle.std.specs.Borrow.{sem};
 
@@ -10,7 +10,14 @@ use std::alloc::Allocator;
 impl<'a, P: Prefix, T: Drop, A: Allocator> VacantEntry<'a, P, T, A> {
     ghost use Rattle.prefix_trie_map.specs.Entry.{Vacant, entry_key, lends_filled};
 
-    /// The prefix, as it was handed in.
+    /// Returns the prefix as it was passed.
+    ///
+    /// # Examples
+    ///
+    /// ```text
+    /// `entry` is the vacant entry of 10.2.2.3/16
+    /// entry.key()   &10.2.2.3/16
+    /// ```
     #[inline]
     pub fn key(&self) -> &P
         ensures { result.now ≡ entry_key (Vacant self.now) }
@@ -18,9 +25,13 @@ impl<'a, P: Prefix, T: Drop, A: Allocator> VacantEntry<'a, P, T, A> {
         self.key.prefix()
     }
 
-    /// Inserts a value, and lends it for writing.
+    /// Inserts a value and returns it for writing.
     ///
-    /// Errors: as of `PrefixMap::insert`, with the value handed back.
+    /// # Errors
+    ///
+    /// Returns the value back, with the cause, as `PrefixMap::insert` does.
+    ///
+    /// # Examples
     ///
     /// ```text
     /// if let Entry::Vacant(entry) = map.entry(10.2.0.0/16) { *entry.insert(3)? += 1; }
@@ -38,9 +49,20 @@ impl<'a, P: Prefix, T: Drop, A: Allocator> VacantEntry<'a, P, T, A> {
         Ok(map.lend_at(path, seat))
     }
 
-    /// The same with the value that a closure gives. It is called once, when all room is certain.
+    /// Inserts what a closure returns, and returns it for writing.
     ///
-    /// Errors: as of `PrefixMap::insert`, and then the closure is not called.
+    /// The closure is called once, after all blocks have been made.
+    ///
+    /// # Errors
+    ///
+    /// Returns the cause, as `PrefixMap::insert` does. The closure is not called then.
+    ///
+    /// # Examples
+    ///
+    /// ```text
+    /// if let Entry::Vacant(entry) = map.entry(10.2.0.0/16) { *entry.insert_with(|| 3)? += 1; }
+    /// map.get(&10.2.0.0/16)                                                                      Some(&4), if it was not stored
+    /// ```
     #[inline]
     pub fn insert_with<F: FnOnce() -> T + Drop>(self, f: F) -> Result<&'a mut T, Refusal>
         requires { F.pre f }
@@ -56,9 +78,20 @@ impl<'a, P: Prefix, T: Drop, A: Allocator> VacantEntry<'a, P, T, A> {
         Ok(map.lend_at(path, seat))
     }
 
-    /// The same with the default value, which is made as `insert_with` calls its closure.
+    /// Inserts the default value and returns it for writing.
     ///
-    /// Errors: as of `insert_with`.
+    /// The default value is made after all blocks have been made.
+    ///
+    /// # Errors
+    ///
+    /// Returns the same errors as `insert_with`.
+    ///
+    /// # Examples
+    ///
+    /// ```text
+    /// if let Entry::Vacant(entry) = map.entry(10.2.0.0/16) { *entry.default()? += 1; }
+    /// map.get(&10.2.0.0/16)                                                              Some(&1), if it was not stored
+    /// ```
     #[inline]
     pub fn default(self) -> Result<&'a mut T, Refusal>
     where

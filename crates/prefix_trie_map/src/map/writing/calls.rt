@@ -14,8 +14,12 @@ use std::alloc::Allocator;
 impl<P: Prefix, T: Drop, A: Allocator> PrefixMap<P, T, A> {
     ghost use Rattle.prefix_trie_map.specs.Writing.{StartsIn};
 
-    /// The entries, as `iter` gives them, with their values lent for writing, each until the next call. Writing changes nothing but the
-    /// value there, and the walk goes on as if nothing were written.
+    /// Returns a walk over the entries of `iter` that lends their values for writing.
+    ///
+    /// Each value is lent until the next call. Writing changes only that value, and the walk goes on as if nothing were
+    /// written.
+    ///
+    /// # Examples
     ///
     /// ```text
     /// 10.0.0.0/8 and 10.1.0.0/16 are stored with 1 and 2
@@ -31,7 +35,9 @@ impl<P: Prefix, T: Drop, A: Allocator> PrefixMap<P, T, A> {
         self.write_from(P::R::zero(), 0, Start::Below)
     }
 
-    /// The entries that `iter_from` gives, with their values lent for writing.
+    /// Returns a walk over the entries of `iter_from` that lends their values for writing.
+    ///
+    /// # Examples
     ///
     /// ```text
     /// 10.0.0.0/8, 10.1.0.0/16 and 10.2.0.0/16 are stored with 1, 2 and 3
@@ -51,7 +57,9 @@ impl<P: Prefix, T: Drop, A: Allocator> PrefixMap<P, T, A> {
         self.write_from(key, len, from)
     }
 
-    /// The entries that `children` gives, with their values lent for writing.
+    /// Returns a walk over the entries of `children` that lends their values for writing.
+    ///
+    /// # Examples
     ///
     /// ```text
     /// 10.0.0.0/8, 10.1.0.0/16, 10.1.1.0/24 and 10.2.0.0/16 are stored with 1, 2, 3 and 4
@@ -67,7 +75,9 @@ impl<P: Prefix, T: Drop, A: Allocator> PrefixMap<P, T, A> {
         self.write_from(key, len, Start::Below)
     }
 
-    /// The values, as `values` gives them, lent for writing, each until the next call.
+    /// Returns a walk over the values of `values` that lends them for writing, each until the next call.
+    ///
+    /// # Examples
     ///
     /// ```text
     /// 10.0.0.0/8 and 10.1.0.0/16 are stored with 1 and 2
@@ -84,7 +94,7 @@ impl<P: Prefix, T: Drop, A: Allocator> PrefixMap<P, T, A> {
         ValuesOf { walk }
     }
 
-    // The walk of a selection.
+    // Returns the walk of a selection.
     #[inline]
     fn write_from(&mut self, key: P::R, len: u32, from: Start) -> IterMut<'_, P, T, A>
         requires key { P.R.IsKey key }

@@ -1,4 +1,4 @@
-//! The way of a writing walk over a map.
+//! The state of a writing walk over a map.
 ghost use Rattle.std.specs.Prelude.{◌≡◌};
 ghost use Rattle.prefix_trie_table.specs.Walking.Cursors.{IsCursorIn, IsCursorIn-prop};
 
@@ -10,7 +10,7 @@ use prefix_trie_table::table::cursor::Cursor;
 use prefix_trie_table::table::seat::Seat;
 use std::alloc::Allocator;
 
-/// A map lent for writing, and where a walk of it stands.
+/// A map that is borrowed for writing, and the position of a walk over it.
 #[derive(Drop)]
 pub struct MapCursor<'a, P: Prefix, T: Drop, A: Allocator> {
     pub(super) map: &'a mut PrefixMap<P, T, A>,
@@ -18,7 +18,7 @@ pub struct MapCursor<'a, P: Prefix, T: Drop, A: Allocator> {
     ghost stands: { IsCursorIn P.R.bits P.R.bit_width map.now.build cursor } by { IsCursorIn-prop P.R.bits P.R.bit_width map.now.build cursor },
 }
 
-/// Where the value of an entry stands: its key, the key's length, and the value's seat.
+/// Where the value of an entry is stored: its key, the key's length, and the value's seat.
 #[derive(Drop)]
 pub struct CursorItem<K: Key> {
     key: K,
@@ -27,7 +27,7 @@ pub struct CursorItem<K: Key> {
 }
 
 impl<'a, P: Prefix, T: Drop, A: Allocator> MapCursor<'a, P, T, A> {
-    // Its map.
+    // Returns its map.
     #[inline]
     fn into_map(self) -> &'a mut PrefixMap<P, T, A>
         ensures name { result.ghost_name ≡ self.entry.map.ghost_name }
@@ -41,7 +41,11 @@ impl<'a, P: Prefix, T: Drop, A: Allocator> MapCursor<'a, P, T, A> {
 impl<'a, P: Prefix, T: Drop, A: Allocator> WalkOf<MapCursor<'a, P, T, A>> {
     ghost use Rattle.prefix_trie_map.specs.Writing.{ReturnsMap};
 
-    /// Ends the walk, and hands back its map, with what was written, if it has one. A caller's proof that ends a walk so knows the map.
+    /// Ends the walk and returns its map, with what was written, if it has one.
+    ///
+    /// A caller's proof that ends a walk with this call knows the map.
+    ///
+    /// # Examples
     ///
     /// ```text
     /// 10.0.0.0/8 and 10.1.0.0/16 are stored with 1 and 2
@@ -64,7 +68,11 @@ impl<'a, P: Prefix, T: Drop, A: Allocator> WalkOf<MapCursor<'a, P, T, A>> {
 impl<'a, P: Prefix, T: Drop, A: Allocator> ValuesOf<MapCursor<'a, P, T, A>> {
     ghost use Rattle.prefix_trie_map.specs.Writing.{ReturnsMap};
 
-    /// Ends the walk, and hands back its map, with what was written, if it has one. A caller's proof that ends a walk so knows the map.
+    /// Ends the walk and returns its map, with what was written, if it has one.
+    ///
+    /// A caller's proof that ends a walk with this call knows the map.
+    ///
+    /// # Examples
     ///
     /// ```text
     /// 10.0.0.0/8 and 10.1.0.0/16 are stored with 1 and 2

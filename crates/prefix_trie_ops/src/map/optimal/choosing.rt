@@ -1,4 +1,4 @@
-//! The first two passes: from the bottom up, the values with which a smallest table of each part of the tree can begin.
+//! The first two passes, from the bottom up: the values with which a smallest table of each part of the tree can begin.
 ghost use Rattle.std.specs.Prelude.{◌≡◌};
 
 use super::position::{half, is_next_below, take_at};
@@ -18,7 +18,7 @@ pub(super) struct Choices<T: Drop, B: Allocator> {
 }
 
 impl<T: Copy + Ord, B: Allocator> Choices<T, B> {
-    /// Returns the value with which the next part begins: the one that is held if it is in the part's set, else the first of the set.
+    /// Returns the value with which the next part begins: the held one if the part's set has it, or its first.
     pub(super) fn take(&mut self, held: Option<T>) -> Option<T> {
         let set = self.sets.get(self.next).copied()?;
         self.next += 1;
@@ -26,7 +26,7 @@ impl<T: Copy + Ord, B: Allocator> Choices<T, B> {
     }
 }
 
-/// Returns the held value if the set has it, else the set's first value.
+/// Returns the held value if the set has it, otherwise the set's first value.
 fn best<T: Copy + Ord>(values: &[T], set: Option<Span>, held: Option<T>) -> Option<T> {
     let set = set?;
     if let Some(value) = held {

@@ -1,4 +1,4 @@
-//! The third pass: it places the chosen values from the top down.
+//! The third pass, from the top down: storing the chosen values.
 ghost use Rattle.std.specs.Prelude.{◌≡◌, ◌≢◌, Bool, true, false, List, Some, None, OnOk};
 ghost use Rattle.std.specs.Option.{option_or};
 ghost use Rattle.std.specs.FinMap.{get};
@@ -18,7 +18,7 @@ use std::alloc::{AllocError, Allocator};
 pub(super) enum Stop {
     /// A question without a value would get one.
     Hole,
-    /// The rebuilt map was refused memory or slots.
+    /// Memory or slots were missing for the rebuilt map.
     Refused(Refusal),
 }
 
@@ -34,9 +34,10 @@ impl<T: Drop> From<Refused<T>> for Stop {
     }
 }
 
-/// Builds the part of the new map below a prefix, from the entries that the walk is at.
+/// Builds the part of the new map below a prefix, from the next entries of the walk.
 ///
-/// `inherited` is the value that shorter entries of the old map give, and `held` the one that those of the new map give.
+/// `inherited` is the value that shorter entries of the old map give, and `held` the value that shorter entries of the
+/// new map give.
 pub(super) fn place<P: Prefix, T: Copy + Ord, A: Allocator, B: Allocator, C: Allocator>(
     walk: &mut Ahead<'_, P, T, A>,
     choices: &mut Choices<T, B>,

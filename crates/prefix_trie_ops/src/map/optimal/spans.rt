@@ -36,7 +36,9 @@ pub(super) fn push_one<T: Copy + Ord, B: Allocator>(
     Ok(Some(Span { start, end }))
 }
 
-/// Appends the values that two sets share, or all values of both if they share none. There is no set if one of the two is missing.
+/// Appends the values that two sets share, or all values of both if they share none.
+///
+/// There is no set if one of the two is missing.
 pub(super) fn push_best<T: Copy + Ord, B: Allocator>(
     values: &mut Vec<T, B>,
     left: Option<Span>,

@@ -12,15 +12,15 @@ use prefix_trie_bits::prefix::Refusal;
 use std::alloc::Allocator;
 
 impl<S: Slot, R: SlotArray<S>, A: Allocator> Blocks<S, R, A> {
-    /// Makes the blocks that are missing for one more value in the list of `count` values in a block of tier `k`, and then for the first
-    /// value of each of `lists` other lists.
+    /// Makes the missing blocks for one more value in a list, and then for the first values of `lists` other lists.
     ///
-    /// A list of 0 values has no block. Free blocks are counted first, size by size, and missing blocks are made at the end of the array.
+    /// The list has `count` values in a block of tier `k`; a list of 0 values has no block. Free blocks are counted
+    /// first, size by size, and missing blocks are made at the end of the array.
     ///
     /// # Errors
     ///
-    /// Returns an error only if a block is missing: `IndexRange` if the slots of the missing blocks would exceed the limit, and `Memory`
-    /// if an allocation fails. The blocks that were made before stay, and are free.
+    /// Returns an error only if a block is missing: `IndexRange` if the slots of the missing blocks would exceed the
+    /// limit, and `Memory` if an allocation fails. The blocks that were made before stay, and are free.
     pub fn prepare(&mut self, k: usize, count: u32, lists: usize) -> Result<(), Refusal>
         requires tier { 0 < count → k < length self.old.tiers }
         requires sizes { HasSizes self.old.tiers }

@@ -21,8 +21,9 @@ impl<S: Slot, R: SlotArray<S>, A: Allocator> Blocks<S, R, A> {
         list.pop()
     }
 
-    /// Frees a block of tier `k` whose slots are vacant. Its capacity in the free list was reserved when the block was made, so this does
-    /// not allocate.
+    /// Frees a block of tier `k` whose slots are vacant.
+    ///
+    /// It does not allocate: the block's capacity in the free list was reserved when the block was made.
     pub(super) fn give_back(&mut self, k: usize, start: u32)
         requires within { k < length self.old.tiers }
         requires reserved { length (tier_at self.old.tiers k).starts < (tier_at self.old.tiers k).made }

@@ -10,11 +10,11 @@ use crate::allocator::slots::Slot;
 use std::alloc::Allocator;
 
 impl<S: Slot, R: SlotArray<S>, A: Allocator> Blocks<S, R, A> {
-    /// Removes a value from the list of `count` values in the block of tier `k` that starts at `start`, and returns the value and the
-    /// block of the rest.
+    /// Removes a value from a list, and returns the value and the block of the rest.
     ///
-    /// If a smaller size holds the rest, it moves to a block of the smallest such size that is free or can be made, and its old block
-    /// becomes free. If no such block can be had, the rest stays. An empty rest has no block (tier 0, start 0). This never fails.
+    /// The list has `count` values in the block of tier `k` that starts at `start`. If a smaller size holds the rest,
+    /// it moves to a block of the smallest such size that is free or can be made, and its old block becomes free. If no
+    /// such block can be had, the rest stays. An empty rest has no block (tier 0, start 0). This never fails.
     #[inline(always)]
     pub fn remove_at(&mut self, k: usize, start: u32, count: u32, offset: u32) -> (S, BlockRef)
         requires holds { HasList S.vacant self.old k start count }

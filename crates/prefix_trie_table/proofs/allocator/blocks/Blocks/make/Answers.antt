@@ -34,7 +34,7 @@ returns-clause-sound g c = λ live s.
 pub returns-then-len-size-clause-range : goal.returns-then-len-size-clause-range
 returns-then-len-size-clause-range g c = search rules
 
--- memory was refused although the limit leaves space
+-- the allocation failed although the block would fit the limit
 no_range : (limit len size : ℕ) → len + size ≤ limit → (Memory ≡ IndexRange) ↔ (limit < len + size)
 no_range limit len size fits = (λ e. search (rules, e), λ more. absurd (omega (arith, fits, more)))
 
