@@ -164,7 +164,7 @@ const PRINTINGS: [Printing; 13] = [
         &["list", "old", "10.1.0.0/16"],
         "10.1.0.0/16 core\n10.1.2.0/24 lab\n",
     ),
-    (&["list", "new", "2001:db8:1::/47"], "2001:db8:1::/48 lab\n"),
+    (&["list", "new", "2001:db8::/47"], "2001:db8:1::/48 lab\n"),
     (
         &["diff", "old", "new"],
         "- 10.1.0.0/16 core\n~ 10.1.2.0/24 lab -> office\n+ 10.64.0.0/10 vpn\n- 192.0.2.0/24 test\n+ 2001:db8:1::/48 lab\n",
@@ -291,14 +291,12 @@ fn stats_count(rt: HostRuntime) -> Result<(), Fail> {
     Ok(())
 }
 
+/// Command lines that are refused.
+const REFUSED: [&[&str]; 4] = [&[], &["lookup"], &["diff", "old"], &["merge", "old", "new"]];
+
 #[test]
 fn unknown_commands_are_refused(rt: HostRuntime) -> Result<(), Fail> {
-    for words in [
-        &[].as_slice(),
-        &["lookup"],
-        &["diff", "old"],
-        &["merge", "old", "new"],
-    ] {
+    for words in REFUSED {
         assert_eq!(rt; parse(words), Err(UsageError));
     }
     Ok(())
