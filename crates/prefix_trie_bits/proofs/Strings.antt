@@ -1,6 +1,10 @@
 -- Value bits of strings, and the strings of value bits.
-use Rattle.prefix_trie_bits.proofs.Prelude.{◌≡◌, ℕ, suc, ◌+◌, ◌-◌, ◌*◌, ◌%◌, ◌^◌, ◌<◌, ◌≤◌, Bool, List, ◌++◌, length, take, drop, sym, ap, ap₂, ◌∙◌, subst, arith, inl, inr, pow_pos, pow-suc, min, mod-eq_of_lt, leading_zeros, w32, leading_top, pow_below, one_shl, cases_lt, cases_eq, take_all, take-take, number, digits, begins, zeros, same-from-number, number-lt, number-digits, length-digits, digits-number, bits-number, number-below, same_bool, begins-take, begins-from-take, begins-trans, take-begins, window-inside, window-of-front, length-window, value_bit}
+use Rattle.prefix_trie_bits.proofs.Prelude.{◌≡◌, ℕ, suc, ◌+◌, ◌-◌, ◌*◌, ◌/◌, ◌%◌, ◌^◌, ◌<◌, ◌≤◌, Bool, List, ◌++◌, length, take, drop, sym, ap, ap₂, ◌∙◌, subst, arith, inl, inr, pow_pos, pow-suc, min, mod-eq_of_lt, leading_zeros, w32, leading_top, pow_below, one_shl, cases_lt, cases_eq, take_all, take-take, number, digits, begins, zeros, same-from-number, number-lt, number-digits, length-digits, digits-number, bits-number, number-below, same_bool, begins-take, begins-from-take, begins-trans, take-begins, window-inside, window-of-front, length-window, value_bit}
 use Rattle.std.proofs.lemmas.List.{length-drop, length-take-le, length-append}
+use Rattle.std.proofs.lemmas.Nat.{shr_below}
+use Rattle.std.proofs.Math.Nat.{mul-add-div_right}
+use Rattle.std.proofs.Common.{pow-add}
+use Rattle.prefix_trie_bits.specs.BitStrings.{take-digits}
 
 pub pow-le : (a b : ℕ) → a ≤ b → 2 ^ a ≤ 2 ^ b
 pow-le a b l = elim (cases_eq a b) [
@@ -146,6 +150,34 @@ pub value_bit_window_small : (b : List Bool) (depth len x : ℕ) → depth ≤ l
 value_bit_window_small b depth len x h last l e =
     subst (λ y. y < 31) (sym (value_bit_from_window b depth len x h last l e))
     (value_bit-small (drop depth (take len b)) (let n = length-below b depth len h l in omega arith))
+
+-- the five bits from a depth on
+module _ (b : List Bool) (depth x : ℕ) (within : depth ≤ length b) (read : x ≡ number (take 5 (drop depth (b ++ zeros 5)))) where
+  five : length (take 5 (drop depth (b ++ zeros 5))) ≡ 5
+  five = length-window (b ++ zeros 5) depth 5 (omega (arith, length-append b (zeros 5)))
+
+  pub window-small : x < 32
+  window-small = subst (λ y. y < 32) (sym read) (number-below 5 (take 5 (drop depth (b ++ zeros 5))) five)
+
+  -- the upper ones of them
+  upper : (n : ℕ) → n ≤ 5 → x / 2 ^ (5 - n) ≡ number (take n (drop depth (b ++ zeros 5)))
+  upper n few =
+      let all : 5 ≡ n + (5 - n) = omega (arith, few) in
+      sym (mod-eq_of_lt (shr_below x n (5 - n) (subst (λ k. x < 2 ^ k) all window-small)))
+      ∙ sym (number-digits n (x / 2 ^ (5 - n))) ∙ ap number (sym (take-digits n 5 x few))
+      ∙ ap (λ s. number (take n s)) (ap (digits 5) read ∙ bits-number 5 (take 5 (drop depth (b ++ zeros 5))) five)
+      ∙ ap number (take-take n 5 (drop depth (b ++ zeros 5)) few)
+
+-- a 1 and these bits, without those past the string
+pub value_bit_from_five : (b : List Bool) (len x : ℕ) → len < 5 → len ≤ length b → x ≡ number (take 5 (drop 0 (b ++ zeros 5))) → (32 + x) / 2 ^ (5 - len) ≡ value_bit (take len b) + 1
+value_bit_from_five b len x short l e =
+    let few : len ≤ 5 = omega (arith, short) in
+    let all : 5 ≡ len + (5 - len) = omega (arith, few) in
+    let whole : len - 0 ≡ len = omega arith in
+    ap (λ k. (k + x) / 2 ^ (5 - len)) (ap (λ k. 2 ^ k) all ∙ pow-add 2 len (5 - len))
+    ∙ mul-add-div_right (pow_pos (5 - len)) (2 ^ len) x
+    ∙ ap₂ (λ k m. 2 ^ k + m) (sym (length-take-le len b l)) (upper b 0 x (omega arith) e len few ∙ ap number (subst (λ k. take k (drop 0 (b ++ zeros 5)) ≡ drop 0 (take len b)) whole (all-of-window b (zeros 5) 0 len (omega arith) l)))
+    ∙ sym (value_bit-suc (take len b))
 
 -- what the code reads as a child bit
 pub child_bit_from_window : (b : List Bool) (depth x : ℕ) → depth + 5 ≤ length b → x ≡ number (take 5 (drop depth (b ++ zeros 5))) → x ≡ number (take 5 (drop depth b))

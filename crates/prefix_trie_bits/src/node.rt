@@ -15,7 +15,8 @@ mod masks;
 mod order;
 
 pub use bits::{
-    child_bit_of, count, has_bit, rank, string_of, value_bit_of, with_bit, without_bit,
+    child_bit_of, count, first_value_bit, has_bit, rank, string_of, value_bit_of, with_bit,
+    without_bit,
 };
 pub use masks::{child_cover_mask, longest_match, match_mask, shortest_match, value_cover_mask};
 pub use order::{behind_child, from_value};

@@ -75,6 +75,21 @@ pub fn value_bit_of<K: Key>(key: K, depth: u32, len: u32) -> u32
     (1 << n) - 1 + key.window(depth, n)
 }
 
+/// Returns the value bit of the first `len` bits of a key, at most four.
+// One window of five bits and one shift: it is shorter code than `value_bit_of`.
+#[inline]
+pub fn first_value_bit<K: Key>(key: K, len: u32) -> u32
+    requires key { K.IsKey key }
+    requires short { len < 5 }
+    requires within { len ≤ K.bit_width }
+    ensures value { result ≡ value_bit (take len (K.bits key)) }
+    ensures small { result < 31 }
+{
+    // A 1 and the bits, without those past `len`, is one more than the value bit.
+    let five = key.window(0, 5);
+    ((32 + five) >> (5 - len)) - 1
+}
+
 /// Returns the child bit, 0 to 31, of a key below a node whose path has `depth` bits.
 ///
 /// It is the number of the five bits from `depth` on.

@@ -4,7 +4,7 @@ ghost use Rattle.prefix_trie_bits.specs.Bits.{number, begins};
 ghost use Rattle.prefix_trie_bits.specs.Places.{HoldsValues, HoldsChildren, IsLongest, IsShortest, NoneBegins, value_bit as value_bit_in};
 
 use crate::node::{
-    child_bit_of, child_cover_mask, longest_match, match_mask, shortest_match, value_bit_of,
+    child_bit_of, child_cover_mask, first_value_bit, longest_match, match_mask, shortest_match,
     value_cover_mask,
 };
 use crate::prefix::Key;
@@ -135,7 +135,7 @@ impl<K: Key> BitString<K> {
         ensures value { result ≡ value_bit_in self.now }
         ensures small { result < 31 }
     {
-        value_bit_of(self.key, 0, self.len)
+        first_value_bit(self.key, self.len)
     }
 
     /// Returns the value bits of the strings that begin the bit string.

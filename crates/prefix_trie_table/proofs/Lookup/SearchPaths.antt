@@ -30,6 +30,10 @@ own_level level last n is h more = omega (arith, is, h, more)
 pub step_left : (q r : List Bool) (level last : ℕ) → r ≡ drop (5 * level) q → last ≡ length q / 5 → level < last → 5 ≤ length r
 step_left q r level last left is h = let fits = deeper_fits level last (length q) is h in omega (arith, fits, left_length q r level left)
 
+-- and none at that level
+pub none_left : (q r : List Bool) (level last : ℕ) → r ≡ drop (5 * level) q → last ≡ length q / 5 → last ≤ level → length r < 5
+none_left q r level last left is h = omega (arith, is, h, left_length q r level left)
+
 -- at the root
 pub followed_root : (q : List Bool) (here : Reached) (v : Store Node) → here.level ≡ 0 → IsAlong q here v → length q ≤ 128 → (before now : ℕ) → now ≡ before + 1 → IsFollowed q here v q before now
 followed_root q here v top along short before now met =

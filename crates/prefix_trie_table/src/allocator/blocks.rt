@@ -240,6 +240,17 @@ impl<A: Allocator> Blocks<Node, NodeArray<A>, A> {
     {
         self.slots.get(start as usize + offset as usize)
     }
+
+    /// Calls `NodeArray::with_sizes`.
+    #[inline]
+    pub(super) fn with_sizes(&self, start: u32, offset: u32, node: Node) -> Node
+        requires within { start + offset < length self.now.slots }
+        requires node { node ≡ node_at self.now.slots (start + offset) }
+        ensures { result ≡ node }
+    {
+        self.slots
+            .with_sizes(start as usize + offset as usize, node)
+    }
 }
 
 impl<A: Allocator + Clone> Blocks<Node, NodeArray<A>, A> {

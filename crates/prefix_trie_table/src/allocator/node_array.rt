@@ -78,6 +78,16 @@ impl<A: Allocator> NodeArray<A> {
         joined(head, tiers)
     }
 
+    /// Returns a node that was read from this slot. It reads only the indices of its sizes.
+    #[inline]
+    pub fn with_sizes(&self, at: usize, node: Node) -> Node
+        requires within { at < length self.now.list }
+        requires node { node ≡ node_at self.now.list at }
+        ensures { result ≡ node }
+    {
+        joined(head_of(node), self.tiers[at])
+    }
+
     /// Does nothing. Calling it brings the fact that both indices of each node fit into a byte into the proof.
     #[inline]
     pub fn sizes_fit(&self)

@@ -107,6 +107,17 @@ impl<A: Allocator, V: Tick> NodeAllocator<A, V> {
         counter.tick();
         self.blocks.node(at.start, at.offset)
     }
+
+    /// Returns a node that was visited in this slot. It reads only the sizes of its blocks.
+    // Where only this result is used, and not that of `visit`, `visit` is compiled to read no sizes.
+    #[inline]
+    pub fn with_sizes(&self, at: NodeSlot, node: Node) -> Node
+        requires within { at.start + at.offset < length self.now.slots }
+        requires node { node ≡ node_at self.now.slots (at.start + at.offset) }
+        ensures { result ≡ node }
+    {
+        self.blocks.with_sizes(at.start, at.offset, node)
+    }
 }
 
 impl<A: Allocator, V: Drop> NodeAllocator<A, V> {

@@ -98,15 +98,35 @@ pub fn descend<K: Key, A: Allocator, V: Tick>(
     ensures rest { result.1 ≡ drop (5 * result.0.level) path }
     ensures visits { V.count counter.new ≡ V.count counter.old + (result.0.level + 1) }
 {
-    let last = path.len() / 5;
+    let len = path.len();
+    let last = len / 5;
     let mut here = root(nodes, counter);
     let mut rest = path;
     'down: loop {
         let Some(next) = step_down(nodes, here, &rest, last, counter) else {
-            return (here, rest);
+            // All bits that are left. Their number comes from the level, so that the loop counts one of the two.
+            return (here, rest.first(len - 5 * here.level));
         };
         here = next;
         rest = rest.below();
+    }
+}
+
+/// Returns the end of a search path, which this node is.
+// It reads the sizes of the node's blocks, so that a search that finds a value reads no sizes.
+#[inline(always)]
+fn search_end<A: Allocator, V: Tick>(nodes: &NodeAllocator<A, V>, reached: Reached) -> SearchEnd
+    requires sound { SomeNodes nodes.now }
+    requires along { (q : List Bool) × IsAlong q reached nodes.now }
+    ensures { result.reached ≡ reached }
+{
+    let node = nodes.with_sizes(reached.at, reached.node);
+    SearchEnd {
+        reached: Reached {
+            at: reached.at,
+            node,
+            level: reached.level,
+        },
     }
 }
 
@@ -121,13 +141,14 @@ pub fn locate_in<K: Key, A: Allocator, V: Tick>(
     ensures located { Locates nodes.now path result }
     ensures visits { ReadsAlong path nodes.now (V.count counter.old) (V.count counter.new) }
 {
+    let last = path.len() / 5;
     let (reached, rest) = descend(nodes, path, counter);
-    if rest.len() >= 5 {
-        return Location::Missing(SearchEnd { reached });
+    if reached.level < last {
+        return Location::Missing(search_end(nodes, reached));
     }
     let bit = rest.value_bit();
     if !has_bit(reached.node.value_bitmap, bit) {
-        return Location::Missing(SearchEnd { reached });
+        return Location::Missing(search_end(nodes, reached));
     }
     Location::Stored(reached.node.value_seat(bit))
 }
