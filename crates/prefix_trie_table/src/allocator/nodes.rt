@@ -31,7 +31,7 @@ pub trait Tick: Sized + Drop {
 
 /// The array of nodes: the root at slot 0, outside every block, and after it the blocks, each with the children of one node.
 ///
-/// Only `visit` reads a node, and it counts the read. Only `put` and the changes of a block write one.
+/// Only `visit` reads a node, and it counts the read. `with_sizes` reads the sizes of a node that was visited. Only `put` and the changes of a block write one.
 #[derive(Drop)]
 pub struct NodeAllocator<A: Allocator, V: Drop> {
     blocks: Blocks<Node, NodeArray<A>, A>,
@@ -109,7 +109,7 @@ impl<A: Allocator, V: Tick> NodeAllocator<A, V> {
     }
 
     /// Returns a node that was visited in this slot. It reads only the sizes of its blocks.
-    // Where only this result is used, and not that of `visit`, `visit` is compiled to read no sizes.
+    // A caller that takes the sizes from this result lets the compiler drop their read from `visit`.
     #[inline]
     pub fn with_sizes(&self, at: NodeSlot, node: Node) -> Node
         requires within { at.start + at.offset < length self.now.slots }
