@@ -44,7 +44,6 @@ mod writing;
 pub use cover::{Cover, CoverKeys, CoverValues};
 pub use into_iter::{IntoIter, IntoKeys, IntoValues};
 pub use iter::{Iter, Keys, Values};
-use parts::parts;
 use prefix_trie_bits::prefix::{Prefix, Refusal, Refused};
 pub use prefix_trie_table::allocator::block_count::BlockCount;
 use prefix_trie_table::table::Table;
@@ -192,7 +191,6 @@ impl<P: Prefix, T: Drop, A: Allocator> PrefixMap<P, T, A> {
         // blocks would exceed the limit; for `Memory`, a missing block would fit the limit.
         ensures step { StepByPath P.R.bit_width (stored_state self.old) (Insert (P.path prefix) value) (insert_reply result) (stored_state self.new) }
     {
-        let (key, len) = parts(&prefix);
-        self.table.insert(key, len, value, &mut Visits::new())
+        self.table.insert(prefix.path(), value, &mut Visits::new())
     }
 }

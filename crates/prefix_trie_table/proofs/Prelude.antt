@@ -81,7 +81,7 @@ pub use Rattle.prefix_trie_bits.specs.declared.node.Places.{Places}
 pub use Rattle.prefix_trie_bits.specs.declared.prefix.Refusal.{Refusal}
 pub use Rattle.prefix_trie_bits.specs.declared.prefix.Refusal.TheVariants.{IndexRange, Memory, the_data}
 pub use Rattle.prefix_trie_bits.specs.declared.prefix.Refused.{Refused}
-pub use Rattle.prefix_trie_table.specs.Needs.{AtDeepest, Made, MadeAtMost, Makes, ObtainsBoth, cells_needed, nodes_needed}
+pub use Rattle.prefix_trie_table.specs.Needs.{Made, MadeAtMost, Makes, ObtainsBoth, cells_needed, nodes_needed}
 pub use Rattle.prefix_trie_table.specs.Bitmaps.{bits_below, if_set}
 unfoldable pub use Rattle.prefix_trie_table.specs.Bitmaps.{bits, has_bit, rank}
 pub use Rattle.prefix_trie_table.specs.BlockCounts.{block_counts, slots_counted, tier_count, used_blocks}

@@ -19,7 +19,6 @@ use Rattle.prefix_trie_table.specs.Forest.{child_slot, read}
 use Rattle.prefix_trie_table.specs.Shape.{Contents, coded_node}
 use Rattle.prefix_trie_table.specs.SearchPaths.{IsLast}
 use Rattle.prefix_trie_table.specs.Store.{Store}
-use Rattle.prefix_trie_table.specs.Tables.{IsReached}
 
 -- where the value at bit b of a node is stored
 abbrev pub value_seat : Node → ℕ → Seat
@@ -48,17 +47,15 @@ pub record IsSearchEnd (nodes : List Node) (q : List Bool) (end : SearchEnd) : T
   pub slot_is : end.reached.at.start + end.reached.at.offset ≡ slot_from nodes 0 (take end.reached.level (chunks_of q))
   pub node_is : end.reached.node ≡ node_at nodes (end.reached.at.start + end.reached.at.offset)
 
--- the first len bits of b have no value, and their search ends at the node that was reached
-abbrev pub EndsAt : Store Node → List Bool → ℕ → Reached → Type 0
-EndsAt v b len reached =
-    (seat_of v.slots (take len b) ≡ None)
-    × IsReached b len reached.level reached.node (reached.at.start + reached.at.offset) v
+-- a bit string has no value, and this node is the last on its search path
+abbrev pub EndsAt : Store Node → List Bool → Reached → Type 0
+EndsAt v q here = (seat_of v.slots q ≡ None) × IsLast q here v
 
 -- what an array of nodes has for a bit string: the seat of its value, or the last node of its search path if it has
 -- none
 abbrev pub Locates : Store Node → List Bool → Location → Type 0
 Locates v q (Stored seat) = seat_of v.slots q ≡ Some seat
-Locates v q (Missing end) = (seat_of v.slots q ≡ None) × IsLast q end.reached v
+Locates v q (Missing end) = EndsAt v q end.reached
 
 -- what a table has for a bit string: the seat of its value, or the end of the search if it has none
 abbrev pub IsLocation : {T : Type 0} → Contents T → List Bool → Location → Type 0

@@ -1,32 +1,21 @@
 -- The blocks that an insertion needs in the two arrays. This project's own.
-use Rattle.std.specs.Prelude.{◌≡◌, ◌⊎◌, ℕ, ◌+◌, ◌-◌, ◌*◌, ◌/◌, ◌<◌, ◌≤◌, Bool, List, [], Option, None, Some, length, take, nat_lt, if◌then◌else◌, Result, MatchResult, IfErr, OnErr}
+use Rattle.std.specs.Prelude.{◌≡◌, ◌⊎◌, ℕ, ◌+◌, ◌-◌, ◌*◌, ◌/◌, ◌<◌, ◌≤◌, Bool, List, [], Option, None, Some, length, nat_lt, if◌then◌else◌, Result, MatchResult, IfErr, OnErr}
 use Rattle.prefix_trie_table.specs.declared.allocator.node.Node.{Node}
-use Rattle.prefix_trie_table.specs.Digits.{chunks_of}
+use Rattle.prefix_trie_table.specs.declared.table.lookup.Reached.{Reached}
 use Rattle.prefix_trie_table.specs.OwnBlocks.{child_need, value_need}
 use Rattle.prefix_trie_table.specs.Store.{Store, AreFree, made_in, needs, missing_in, missing_slots}
-use Rattle.prefix_trie_table.specs.Forest.{IsEnd}
 
--- the sizes of the node blocks that a string of len bits needs, if this node at this level is the
--- deepest on its search path
-abbrev pub nodes_needed : Node → ℕ → ℕ → List ℕ
-nodes_needed node level len = if nat_lt len (5 * level + 5) then [] else needs (child_need (Some node)) (len / 5 - (level + 1))
+-- the sizes of the node blocks that a bit string needs, if this node is the last on its search path
+abbrev pub nodes_needed : Reached → List Bool → List ℕ
+nodes_needed here q = if nat_lt (length q) (5 * here.level + 5) then [] else needs (child_need (Some here.node)) (length q / 5 - (here.level + 1))
 
 -- the same for values
-abbrev pub cells_needed : Node → ℕ → ℕ → List ℕ
-cells_needed node level len = needs (if nat_lt len (5 * level + 5) then value_need (Some node) else value_need None) 0
+abbrev pub cells_needed : Reached → List Bool → List ℕ
+cells_needed here q = needs (if nat_lt (length q) (5 * here.level + 5) then value_need (Some here.node) else value_need None) 0
 
 -- all these are free
-abbrev pub HasFreeBlocks : {T : Type 0} → Store Node → Store (Option T) → Node → ℕ → ℕ → Type 0
-HasFreeBlocks v w node level len = AreFree v.tiers (nodes_needed node level len) × AreFree w.tiers (cells_needed node level len)
-
--- a fact about the deepest node on the search path of the first len bits of b, and its level
-pub record AtDeepest (reading : List ℕ → Option Node) (b : List Bool) (len : ℕ) (P : Node → ℕ → Type 0) : Type 0 where
-  pub long : len ≤ length b
-  pub node : Node
-  pub level : ℕ
-  pub end : IsEnd reading (chunks_of (take len b)) level
-  pub is : reading (take level (chunks_of (take len b))) ≡ Some node
-  pub fact : P node level
+abbrev pub HasFreeBlocks : {T : Type 0} → Store Node → Store (Option T) → Reached → List Bool → Type 0
+HasFreeBlocks v w here q = AreFree v.tiers (nodes_needed here q) × AreFree w.tiers (cells_needed here q)
 
 -- of each size exactly the missing blocks were made, and the array is longer by their slots
 pub record Made {S : Type 0} (v w : Store S) (needed : List ℕ) : Type 0 where

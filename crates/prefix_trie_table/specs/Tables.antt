@@ -1,5 +1,5 @@
 -- What holds of the fields of every table, and of a descent. This project's own.
-use Rattle.std.specs.Prelude.{◌≡◌, ℕ, ◌+◌, ◌*◌, ◌<◌, ◌≤◌, ◌⊎◌, Bool, false, List, Option, Some, length, take, slice_index_or, Result, IfErr}
+use Rattle.std.specs.Prelude.{◌≡◌, ℕ, ◌+◌, ◌*◌, ◌<◌, ◌≤◌, ◌⊎◌, Bool, false, List, Option, length, take, slice_index_or, Result, IfErr}
 use Rattle.std.specs.FinMap.{len}
 use Rattle.prefix_trie_bits.specs.Model.Entries.{AreWithin}
 use Rattle.prefix_trie_bits.specs.Model.Nodes.{AreNodes}
@@ -9,7 +9,7 @@ use Rattle.prefix_trie_table.specs.Bitmaps.{has_bit}
 use Rattle.prefix_trie_table.specs.Cells.{node_at, node_sizes, cell_sizes}
 use Rattle.prefix_trie_table.specs.Digits.{chunks_of, bit_of}
 use Rattle.prefix_trie_table.specs.Store.{Store, KeepsMade}
-use Rattle.prefix_trie_table.specs.Forest.{NodesHold, CellsHold, Holds, Deepest, EntryAdded, entry_count}
+use Rattle.prefix_trie_table.specs.Forest.{NodesHold, CellsHold, Holds, Deepest, entry_count}
 use Rattle.prefix_trie_table.specs.Shape.{IsShapeOf}
 
 -- THE INVARIANT of every table, which is its storage promise: nodes and values are in blocks, with
@@ -83,8 +83,3 @@ module _ {T : Type 0} where
   -- the value at the first len bits of b
   abbrev pub own_value : (List ℕ → ℕ → Option T) → List Bool → ℕ → Option T
   own_value values b len = values (chunks_of (take len b)) (bit_of (take len b))
-
-  -- the value at the first len bits of b was set to x, and the nodes on the search path were added
-  abbrev pub EntrySet : (List ℕ → Option Node) → List (List ℕ) → (List ℕ → ℕ → Option T) → List Bool → ℕ → T → Store Node → Store (Option T) → Type 0
-  EntrySet reading paths values b len x v w =
-      EntryAdded reading values paths (chunks_of (take len b)) (bit_of (take len b)) (Some x) v w

@@ -315,23 +315,18 @@ impl<T: Drop, A: Allocator, V: Tick> Table<T, A, V> {
     #[inline]
     pub fn insert<K: Key>(
         &mut self,
-        key: K,
-        len: u32,
+        path: BitString<K>,
         value: T,
         counter: &mut V,
     ) -> Result<Option<T>, Refused<T>>
-        requires key { K.IsKey key }
-        requires within { len ≤ K.bit_width }
         ensures returned { IfErr result (λ refused. refused.value ≡ value) }
-        ensures step { (width : ℕ) → StepByPath width (stored_state self.old) (Insert (take len (K.bits key)) value) (insert_reply result)
-            (stored_state self.new) }
+        ensures step { (width : ℕ) → StepByPath width (stored_state self.old) (Insert path value) (insert_reply result) (stored_state self.new) }
     {
         // Read for the proof alone: neither array exceeds the limit.
         let _entries = self.len();
-        let path = BitString::new(key, len);
         match self.locate(path.again(), counter) {
             Location::Stored(seat) => Ok(Some(mem::replace(self.at_mut(path, seat), value))),
-            Location::Missing(end) => match self.insert_located(key, len, end, value) {
+            Location::Missing(end) => match self.insert_located(path, end, value) {
                 Ok(_) => Ok(None),
                 Err(refused) => Err(refused),
             },

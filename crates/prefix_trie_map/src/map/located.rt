@@ -12,7 +12,6 @@ ghost use Rattle.prefix_trie_table.specs.Locations.{seat_of, IsSearchEnd, IsLoca
 ghost use Rattle.prefix_trie_map.specs.Steps.{state, storage, stored_state};
 ghost use Rattle.prefix_trie_map.specs.Whole.{IsWhole};
 
-use crate::map::parts::parts;
 use crate::map::{PrefixMap, Visits};
 use prefix_trie_bits::prefix::{BitString, Prefix, Refusal, Refused};
 use prefix_trie_table::table::cursor::Cursor;
@@ -81,8 +80,7 @@ impl<P: Prefix, T: Drop, A: Allocator> PrefixMap<P, T, A> {
         ensures readies { OnOk result (PreparesInStorage (state self.old) (P.path prefix.now) (storage self.old) (storage self.new)) }
         ensures refuses { IfErr result (λ cause. (value : T) → StepByPath P.R.bit_width (stored_state self.old) (Insert (P.path prefix.now) value) (Refuses cause) (stored_state self.new)) }
     {
-        let (key, len) = parts(prefix);
-        self.table.reserve(key, len, end)
+        self.table.reserve(prefix.path(), end)
     }
 
     // Inserts a new prefix whose search path ends here, and returns the seat of its value.
@@ -104,8 +102,7 @@ impl<P: Prefix, T: Drop, A: Allocator> PrefixMap<P, T, A> {
         ensures step { OnOk result (StepByPath P.R.bit_width (stored_state self.old) (Insert (P.path prefix.now) value) (Value None) (stored_state self.new)) }
         ensures refuses { IfErr result (λ refused. (other : T) → StepByPath P.R.bit_width (stored_state self.old) (Insert (P.path prefix.now) other) (Refuses refused.cause) (stored_state self.new)) }
     {
-        let (key, len) = parts(prefix);
-        self.table.insert_located(key, len, end, value)
+        self.table.insert_located(prefix.path(), end, value)
     }
 
     // Inserts as `insert_located` does. No block is missing, so it cannot fail.

@@ -1,8 +1,6 @@
 -- What an insertion needs of the two arrays, and which blocks it makes.
-use Rattle.prefix_trie_table.proofs.Prelude.{◌≡◌, ℕ, ◌+◌, ◌-◌, ◌*◌, ◌/◌, ◌<◌, ◌≤◌, inl, inr, nat_lt, if◌then◌else◌, List, [], Bool, take, Option, None, Some, Result, Ok, Err, OnOk, ap, ◌∙◌, arith, le-ltb, Node, node_sizes, cell_sizes, HasSizes, child_need, value_need, Store, Keeps, MakesNone, Obtains, AreFree, tier_sizes, size_in, size_if_any, list_need, needs, missing_in, missing_slots, block_needed, rank, nodes_needed, cells_needed, Made, Makes, ObtainsBoth, AtDeepest, chunks_of, NodesHold, IsReached}
+use Rattle.prefix_trie_table.proofs.Prelude.{◌≡◌, ℕ, ◌+◌, ◌-◌, ◌*◌, ◌/◌, ◌<◌, ◌≤◌, inl, inr, nat_lt, if◌then◌else◌, List, [], Bool, length, Option, None, Some, Result, Ok, Err, OnOk, ap, ◌∙◌, arith, le-ltb, Node, Reached, node_sizes, cell_sizes, HasSizes, child_need, value_need, Store, Keeps, MakesNone, Obtains, AreFree, tier_sizes, size_in, size_if_any, list_need, needs, missing_in, missing_slots, block_needed, rank, nodes_needed, cells_needed, Made, Makes, ObtainsBoth}
 use Rattle.std.proofs.lemmas.Bool.{lt-ltb}
-use Rattle.prefix_trie_table.proofs.Lookup.Going.{deepest_is}
-use Rattle.prefix_trie_table.proofs.Lookup.Finding.{reached_end}
 use Rattle.prefix_trie_table.proofs.Blocks.BySize.{sizes_up, slots_of-le, slots_of-none}
 use Rattle.prefix_trie_table.proofs.Blocks.Preparing.{missing_slots-are}
 use Rattle.prefix_trie_table.proofs.Blocks.Turnovers.{free_obtained}
@@ -15,18 +13,18 @@ choose x y a b h = ap (λ t. if t then a else b) (lt-ltb x y h)
 other : {A : Type 0} (x y : ℕ) (a b : A) → y ≤ x → (if nat_lt x y then a else b) ≡ b
 other x y a b h = ap (λ t. if t then a else b) (le-ltb x y h)
 
-module _ (node : Node) (level len : ℕ) where
-  pub nodes_here : len < 5 * level + 5 → nodes_needed node level len ≡ []
-  nodes_here h = choose len (5 * level + 5) [] (needs (child_need (Some node)) (len / 5 - (level + 1))) h
+module _ (here : Reached) (q : List Bool) where
+  pub nodes_here : length q < 5 * here.level + 5 → nodes_needed here q ≡ []
+  nodes_here h = choose (length q) (5 * here.level + 5) [] (needs (child_need (Some here.node)) (length q / 5 - (here.level + 1))) h
 
-  pub nodes_below : 5 * level + 5 ≤ len → nodes_needed node level len ≡ needs (child_need (Some node)) (len / 5 - (level + 1))
-  nodes_below h = other len (5 * level + 5) [] (needs (child_need (Some node)) (len / 5 - (level + 1))) h
+  pub nodes_below : 5 * here.level + 5 ≤ length q → nodes_needed here q ≡ needs (child_need (Some here.node)) (length q / 5 - (here.level + 1))
+  nodes_below h = other (length q) (5 * here.level + 5) [] (needs (child_need (Some here.node)) (length q / 5 - (here.level + 1))) h
 
-  pub cells_here : len < 5 * level + 5 → cells_needed node level len ≡ needs (value_need (Some node)) 0
-  cells_here h = ap (λ o. needs o 0) (choose len (5 * level + 5) (value_need (Some node)) (value_need None) h)
+  pub cells_here : length q < 5 * here.level + 5 → cells_needed here q ≡ needs (value_need (Some here.node)) 0
+  cells_here h = ap (λ o. needs o 0) (choose (length q) (5 * here.level + 5) (value_need (Some here.node)) (value_need None) h)
 
-  pub cells_below : 5 * level + 5 ≤ len → cells_needed node level len ≡ needs (value_need None) 0
-  cells_below h = ap (λ o. needs o 0) (other len (5 * level + 5) (value_need (Some node)) (value_need None) h)
+  pub cells_below : 5 * here.level + 5 ≤ length q → cells_needed here q ≡ needs (value_need None) 0
+  cells_below h = ap (λ o. needs o 0) (other (length q) (5 * here.level + 5) (value_need (Some here.node)) (value_need None) h)
 
 -- ---- what lists need, by nodes
 
@@ -118,15 +116,3 @@ module _ {T X E : Type 0} (L M : E → Type 0) (v v2 : Store Node) (w w2 : Store
         memory = λ is. inl (o.memory is);
         lacks = (let l = o.lacks in omega (arith, l));
       }
-
--- the node reached is the deepest that is there
-pub at_end : (b : List Bool) (len level slot : ℕ) (node : Node) (v : Store Node) → IsReached b len level node slot v → (reading : List ℕ → Option Node)
-    (paths : List (List ℕ)) → NodesHold node_sizes reading paths v → {P : Node → ℕ → Type 0} → P node level → AtDeepest reading b len P
-at_end b len level slot node v at reading paths hold fact = record {
-  long = at.long;
-  node = node;
-  level = level;
-  end = reached_end b len level slot node v at reading paths hold;
-  is = deepest_is reading paths v (chunks_of (take len b)) level slot hold (at.deepest reading paths hold) node at.node_is;
-  fact = fact;
-}

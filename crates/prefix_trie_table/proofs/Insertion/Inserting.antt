@@ -1,10 +1,9 @@
 -- What an insertion allocates and leaves.
-use Rattle.prefix_trie_table.proofs.Prelude.{◌*◌, ◌≡◌, ℕ, ◌+◌, ◌<◌, ◌≤◌, inl, inr, Bool, false, cond, List, ◌∷◌, ◌++◌, length, get_or, take, Option, None, Some, IsSome, is_some, sym, ap, ◌∙◌, subst, arith, cases_Bool, smallest_size, Node, has_bit, rank, Tier, Store, Sound, UsedBlock, block, HasList, Keeps, SameSlots, tier_sizes, size_in, NodesHold, CellsHold, Deepest, has_value, blank_node, node_sizes, cell_sizes, chunks_of, IsReached}
+use Rattle.prefix_trie_table.proofs.Prelude.{◌*◌, ◌≡◌, ℕ, ◌+◌, ◌<◌, ◌≤◌, inl, inr, Bool, false, cond, List, ◌∷◌, ◌++◌, length, get_or, Option, None, Some, IsSome, is_some, sym, ap, ◌∙◌, subst, arith, cases_Bool, smallest_size, Node, Reached, has_bit, rank, Tier, Store, Sound, UsedBlock, block, HasList, Keeps, SameSlots, tier_sizes, size_in, NodesHold, CellsHold, Deepest, has_value, blank_node, node_sizes, cell_sizes, chunks_of, IsLast, slot_at}
 use Rattle.prefix_trie_table.proofs.Blocks.Soundness.{tier_of_block, first_place}
 use Rattle.prefix_trie_table.proofs.Blocks.BySize.{smallest_there, node_sized, cell_sized, tiers_long}
 use Rattle.prefix_trie_table.proofs.Strings.BitLists.{rank-more, rank-lacks}
-use Rattle.prefix_trie_table.proofs.Strings.Digits.{step-small}
-use Rattle.prefix_trie_table.proofs.Lookup.Going.{step-inside}
+use Rattle.prefix_trie_table.proofs.Strings.Digits.{path-length, step-small}
 use Rattle.prefix_trie_table.proofs.Tree.Trees.{reads, slot_holds, held_some}
 
 -- free blocks that were made change nothing
@@ -64,25 +63,24 @@ few_values reading values paths w p n b cells is small lacks =
     let none : ◌≡◌ {A = ℕ} (cond (has_bit m 31) 1 0) 0 = ap (λ s. cond s 1 0) last in
     omega (arith, less, up, none)
 
--- what `descend` reached is still reached if the nodes are the same
-pub reached_still : (b : List Bool) (len level slot : ℕ) (node : Node) (v x : Store Node) (reading : List ℕ → Option Node) (paths : List (List ℕ)) →
-    IsReached b len level node slot v → NodesHold node_sizes reading paths v → NodesHold node_sizes reading paths x → IsReached b len level node slot x
-reached_still b len level slot node v x reading paths at hold later =
-    let deep = at.deepest reading paths hold in
-    record {
-      long = at.long;
-      whole = at.whole;
-      node_is = at.node_is ∙ (slot_holds node_sizes reading paths v hold _ slot deep.node deep.stands deep.is).0
-          ∙ sym (slot_holds node_sizes reading paths x later _ slot deep.node deep.stands deep.is).0;
-      deepest = λ other ps h.
-          let same : reading ≡ other = (λ i q. (sym (reads node_sizes reading paths x later q) ∙ reads node_sizes other ps x h q) i) in
-          subst (λ f. Deepest f (chunks_of (take len b)) level slot x) same (record { node = deep.node; stands = deep.stands; is = deep.is });
-      missing = at.missing;
-    }
+module _ (q : List Bool) (here : Reached) (v : Store Node) (at : IsLast q here v) where
+  -- the last node on a search path is still the last if the nodes are the same
+  pub last_still : (x : Store Node) (reading : List ℕ → Option Node) (paths : List (List ℕ)) → NodesHold node_sizes reading paths v → NodesHold node_sizes reading paths x → IsLast q here x
+  last_still x reading paths hold later =
+      let deep = at.along.deepest reading paths hold in
+      record {
+        along = record {
+          whole = at.along.whole;
+          node_is = at.along.node_is ∙ (slot_holds node_sizes reading paths v hold _ (slot_at here) deep.node deep.stands deep.is).0
+              ∙ sym (slot_holds node_sizes reading paths x later _ (slot_at here) deep.node deep.stands deep.is).0;
+          deepest = λ other ps h.
+              let same : reading ≡ other = (λ i p. (sym (reads node_sizes reading paths x later p) ∙ reads node_sizes other ps x h p) i) in
+              subst (λ f. Deepest f (chunks_of q) here.level (slot_at here) x) same (record { node = deep.node; stands = deep.stands; is = deep.is });
+        };
+        missing = at.missing;
+      }
 
-module _ (b : List Bool) (len level slot : ℕ) (node : Node) (v : Store Node) (at : IsReached b len level node slot v) where
   -- a node without this child has a free bit for it
-  pub few_children : 5 * level + 5 ≤ len → rank node.child_bitmap 32 < 32
+  pub few_children : 5 * here.level + 5 ≤ length q → rank here.node.child_bitmap 32 < 32
   few_children more =
-      rank-lacks node.child_bitmap 32 (get_or (chunks_of (take len b)) level 0) (step-small (take len b) level (step-inside b len level at.long more))
-      (at.missing more)
+      rank-lacks here.node.child_bitmap 32 (get_or (chunks_of q) here.level 0) (step-small q here.level (omega (arith, path-length q, more))) (at.missing more)

@@ -1,6 +1,5 @@
 -- What a call leaves that adds a missing value where its search ends, stated as for an insertion.
-use Rattle.prefix_trie_table.proofs.Prelude.{◌≡◌, ℕ, ◌+◌, false, Bool, List, take, Option, None, Some, Result, Ok, Err, MatchResult, IfErr, sym, ◌∙◌, arith, get, contains_key, Refused, Memory, IndexRange, Insert, InsertsInStorage, RefusesInStorage, StepByPath, Node, Seat, SearchEnd, ObtainsBoth, nodes_needed, cells_needed, chunks_of, bit_of, Holds, EntryAdded, Sized, Shaped, insert_reply, insert_new_reply, Store, IsReached, IsTable, ForHeld, GrowsBoth, MayPass}
-use Rattle.prefix_trie_table.proofs.Insertion.Asks.{at_end}
+use Rattle.prefix_trie_table.proofs.Prelude.{◌≡◌, ℕ, ◌+◌, false, Bool, List, Option, None, Some, Result, Ok, Err, MatchResult, IfErr, sym, ◌∙◌, arith, get, contains_key, Refused, Memory, IndexRange, Insert, InsertsInStorage, RefusesInStorage, StepByPath, Node, Reached, Seat, IsLast, ObtainsBoth, nodes_needed, cells_needed, chunks_of, bit_of, Holds, EntryAdded, Sized, Shaped, insert_reply, insert_new_reply, Store, IsTable, ForHeld, GrowsBoth, MayPass}
 use Rattle.prefix_trie_table.proofs.Insertion.PredictedNeeds.{obtained}
 use Rattle.prefix_trie_table.proofs.Insertion.Inserted.{inserted_in}
 use Rattle.prefix_trie_table.proofs.Insertion.Resized.{sizes_left}
@@ -39,36 +38,31 @@ module _ {T E : Type 0} (q : List Bool) (x : T) (v v2 : Store Node) (w w2 : Stor
   placed_counts (Err e) counts = counts
 
 -- so it is a step of the model
-module _ {T : Type 0} (b : List Bool) (len : ℕ) (x : T) (v v2 : Store Node) (w w2 : Store (Option T)) (count count2 : ℕ) (s : Shaped v.slots w.slots)
-    (is : IsTable v w count s.0) (t : Shaped v2.slots w2.slots) (left : IsTable v2 w2 count2 t.0) (sized : Sized v.slots) (later : Sized v2.slots) (end : SearchEnd)
-    (at : IsReached b len end.reached.level end.reached.node (end.reached.at.start + end.reached.at.offset) v) (absent : contains_key s.0.entries (take len b) ≡ false) where
-  taken : (r : Result Seat (Refused T)) → Leaves (take len b) x v v2 w w2 count count2 s is (inserting r) →
-      ObtainsBoth (λ (e : Refused T). e.cause ≡ IndexRange) (λ (e : Refused T). e.cause ≡ Memory) r v v2 w w2 (nodes_needed end.reached.node end.reached.level len)
-      (cells_needed end.reached.node end.reached.level len) →
-      MatchResult (inserting {T = T} r) (λ _. InsertsInStorage s.0 (take len b) (storage_of v w sized) (storage_of v2 w2 later))
-      (λ e. RefusesInStorage s.0 (take len b) e.cause (storage_of v w sized) (storage_of v2 w2 later))
+module _ {T : Type 0} (q : List Bool) (x : T) (v v2 : Store Node) (w w2 : Store (Option T)) (count count2 : ℕ) (s : Shaped v.slots w.slots)
+    (is : IsTable v w count s.0) (t : Shaped v2.slots w2.slots) (left : IsTable v2 w2 count2 t.0) (sized : Sized v.slots) (later : Sized v2.slots) (here : Reached)
+    (at : IsLast q here v) (absent : contains_key s.0.entries q ≡ false) where
+  taken : (r : Result Seat (Refused T)) → Leaves q x v v2 w w2 count count2 s is (inserting r) →
+      ObtainsBoth (λ (e : Refused T). e.cause ≡ IndexRange) (λ (e : Refused T). e.cause ≡ Memory) r v v2 w w2 (nodes_needed here q) (cells_needed here q) →
+      MatchResult (inserting {T = T} r) (λ _. InsertsInStorage s.0 q (storage_of v w sized) (storage_of v2 w2 later))
+      (λ e. RefusesInStorage s.0 q e.cause (storage_of v w sized) (storage_of v2 w2 later))
   taken r leaves obtains =
-      inserted_in v v2 w w2 count count2 s.0 t.0 is left sized later (take len b) (λ e. e.cause) (inserting r)
-      (obtained (λ e. e.cause ≡ IndexRange) (λ e. e.cause ≡ Memory) b len v v2 w w2 count s is sized (inserting r)
-      (λ reading paths values holds none.
-      at_end b len end.reached.level (end.reached.at.start + end.reached.at.offset) end.reached.node v at reading paths holds.hold
-      (obtaining _ _ v v2 w w2 _ _ r obtains)) absent)
-      (sizes_left (take len b) x v v2 w w2 count s is sized later absent (inserting r) leaves)
+      inserted_in v v2 w w2 count count2 s.0 t.0 is left sized later q (λ e. e.cause) (inserting r)
+      (obtained (λ e. e.cause ≡ IndexRange) (λ e. e.cause ≡ Memory) q here v v2 w w2 count s is sized (inserting r) at (obtaining _ _ v v2 w w2 _ _ r obtains))
+      (sizes_left q x v v2 w w2 count s is sized later absent (inserting r) leaves)
 
   range_given : (r : Result Seat (Refused T)) → IfErr r (λ e. e.cause ≡ IndexRange → MayPass v w) → IfErr (inserting {T = T} r) (λ e. e.cause ≡ IndexRange → MayPass v w)
   range_given (Ok seat) h = tt
   range_given (Err e) h = h
 
-  answered : (width : ℕ) (r : Result Seat (Refused T)) → StepByPath width (s.0, storage_of v w sized) (Insert (take len b) x) (insert_reply (inserting r)) (t.0, storage_of v2 w2 later) →
-      StepByPath width (s.0, storage_of v w sized) (Insert (take len b) x) (insert_new_reply r) (t.0, storage_of v2 w2 later)
+  answered : (width : ℕ) (r : Result Seat (Refused T)) → StepByPath width (s.0, storage_of v w sized) (Insert q x) (insert_reply (inserting r)) (t.0, storage_of v2 w2 later) →
+      StepByPath width (s.0, storage_of v w sized) (Insert q x) (insert_new_reply r) (t.0, storage_of v2 w2 later)
   answered width (Ok seat) h = h
   answered width (Err e) h = h
 
-  pub placed_step : (r : Result Seat (Refused T)) → Leaves (take len b) x v v2 w w2 count count2 s is (inserting r) →
-      ObtainsBoth (λ (e : Refused T). e.cause ≡ IndexRange) (λ (e : Refused T). e.cause ≡ Memory) r v v2 w w2 (nodes_needed end.reached.node end.reached.level len)
-      (cells_needed end.reached.node end.reached.level len) → GrowsBoth (λ (e : Refused T). e.cause ≡ IndexRange) r v v2 w w2 →
-      (width : ℕ) → StepByPath width (s.0, storage_of v w sized) (Insert (take len b) x) (insert_new_reply r) (t.0, storage_of v2 w2 later)
-  placed_step r leaves obtains grows width = answered width r (inserts_step v v2 w w2 count count2 s is sized t left later (take len b) x (inserting r) (record {
+  pub placed_step : (r : Result Seat (Refused T)) → Leaves q x v v2 w w2 count count2 s is (inserting r) →
+      ObtainsBoth (λ (e : Refused T). e.cause ≡ IndexRange) (λ (e : Refused T). e.cause ≡ Memory) r v v2 w w2 (nodes_needed here q) (cells_needed here q) → GrowsBoth (λ (e : Refused T). e.cause ≡ IndexRange) r v v2 w w2 →
+      (width : ℕ) → StepByPath width (s.0, storage_of v w sized) (Insert q x) (insert_new_reply r) (t.0, storage_of v2 w2 later)
+  placed_step r leaves obtains grows width = answered width r (inserts_step v v2 w w2 count count2 s is sized t left later q x (inserting r) (record {
     leaves = leaves;
     absent = absent;
     takes = taken r leaves obtains;

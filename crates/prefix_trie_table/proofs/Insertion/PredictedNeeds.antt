@@ -1,6 +1,6 @@
 -- The blocks that an insertion needs are those that the model states for the table's entries, nodes
 -- and layout.
-use Rattle.prefix_trie_table.proofs.Prelude.{◌≡◌, ℕ, ◌+◌, ◌-◌, ◌*◌, ◌/◌, ◌%◌, ◌<◌, ◌≤◌, inl, inr, Bool, true, false, cond, ◌&&◌, List, length, take, Option, None, Some, is_some, Result, refl, sym, ap, ap₂, ◌∙◌, subst, arith, eq-eqb, length-take-le, append-nil, false≢true, cases_Bool, cases_lt, take-take, option_to_list, get, contains_key, child_block_sizes, value_block_sizes, child_count, own_entries, block_needed, child_blocks_needed, value_blocks_needed, has_node, is_node_depth, home, State, is-same_string, none_needed, blocks_needed, Node, nodes_needed, cells_needed, AtDeepest, ObtainsBoth, IsTable, ForHeld, own_value, rank, node_sizes, cell_sizes, chunks_of, is_start, Holds, IsEnd, has_child, has_value, Sized, child_block_size, value_block_size, value_need, IsShapeOf, Shaped, Store, needs}
+use Rattle.prefix_trie_table.proofs.Prelude.{◌≡◌, ℕ, ◌+◌, ◌-◌, ◌*◌, ◌/◌, ◌%◌, ◌<◌, ◌≤◌, inl, inr, Bool, true, cond, ◌&&◌, List, length, take, Option, None, Some, is_some, Result, refl, sym, ap, ap₂, ◌∙◌, subst, arith, eq-eqb, length-take-le, append-nil, false≢true, cases_Bool, cases_lt, take-take, option_to_list, get, child_block_sizes, value_block_sizes, child_count, own_entries, block_needed, child_blocks_needed, value_blocks_needed, has_node, is_node_depth, home, State, is-same_string, none_needed, blocks_needed, Node, Reached, nodes_needed, cells_needed, ObtainsBoth, IsTable, IsLast, slot_at, rank, node_sizes, cell_sizes, chunks_of, is_start, Holds, IsEnd, has_child, has_value, Sized, child_block_size, value_block_size, value_need, IsShapeOf, Shaped, Store, needs}
 use Rattle.prefix_trie_table.proofs.Strings.Plain.{whole_levels}
 use Rattle.prefix_trie_table.proofs.Tree.Invariant.{some_table}
 use Rattle.prefix_trie_table.proofs.Insertion.Asks.{nodes_here, nodes_below, cells_here, cells_below}
@@ -8,6 +8,8 @@ use Rattle.prefix_trie_table.proofs.Strings.Bits.{has_bit-zero}
 use Rattle.prefix_trie_table.proofs.Strings.BitLists.{rank-zero-all}
 use Rattle.prefix_trie_table.proofs.Strings.Digits.{path-length, path-take}
 use Rattle.prefix_trie_table.proofs.Lookup.Finding.{prefix_some}
+use Rattle.prefix_trie_table.proofs.Lookup.Going.{deepest_is}
+use Rattle.prefix_trie_table.proofs.Lookup.SearchPaths.{path_end}
 use Rattle.prefix_trie_table.proofs.Counts.OwnCounts.{children_counted, values_counted}
 use Rattle.prefix_trie_table.proofs.Tree.Shapes.{shape_nodes, shape_entries}
 use Rattle.prefix_trie_table.proofs.Blocks.Sizing.{layout_of}
@@ -67,43 +69,43 @@ module _ {T : Type 0} (reading : List ℕ → Option Node) (values : List ℕ �
         shape_nodes reading values paths v w holds s is (take (5 * i) q)
         ∙ ap₂ (λ d p. d && is_some (reading p)) (depth_is i h) (way i h)
 
-    module _ (node : Node) (level : ℕ) (end : IsEnd reading (chunks_of q) level) (at : reading (take level (chunks_of q)) ≡ Some node) where
-      deep : level ≤ length q / 5
+    module _ (here : Reached) (end : IsEnd reading (chunks_of q) here.level) (at : reading (take here.level (chunks_of q)) ≡ Some here.node) where
+      deep : here.level ≤ length q / 5
       deep = (let w = end.within in let e = path-length q in omega arith)
 
-      above : (i : ℕ) → i ≤ level → is_some (reading (take i (chunks_of q))) ≡ true
+      above : (i : ℕ) → i ≤ here.level → is_some (reading (take i (chunks_of q))) ≡ true
       above i h =
-          prefix_some node_sizes reading paths v holds.hold (take i (chunks_of q)) (take level (chunks_of q)) (ap is_some at)
-          (ap (λ p. is_start p (take level (chunks_of q))) (sym (take-take i level (chunks_of q) h)) ∙ is_start_take i (take level (chunks_of q)))
+          prefix_some node_sizes reading paths v holds.hold (take i (chunks_of q)) (take here.level (chunks_of q)) (ap is_some at)
+          (ap (λ p. is_start p (take here.level (chunks_of q))) (sym (take-take i here.level (chunks_of q) h)) ∙ is_start_take i (take here.level (chunks_of q)))
 
-      gone : (i : ℕ) → level < i → i ≤ length q / 5 → reading (take i (chunks_of q)) ≡ None
+      gone : (i : ℕ) → here.level < i → i ≤ length q / 5 → reading (take i (chunks_of q)) ≡ None
       gone i more h = elim (cases_Bool (is_some (reading (take i (chunks_of q))))) as (λ _. reading (take i (chunks_of q)) ≡ None) [
         | inl some ↦ absurd (false≢true (sym (end.stops (let e = path-length q in omega arith))
-            ∙ prefix_some node_sizes reading paths v holds.hold (take (level + 1) (chunks_of q)) (take i (chunks_of q)) some
-            (ap (λ p. is_start p (take i (chunks_of q))) (sym (take-take (level + 1) i (chunks_of q) (omega arith))) ∙ is_start_take (level + 1) (take i (chunks_of q)))))
+            ∙ prefix_some node_sizes reading paths v holds.hold (take (here.level + 1) (chunks_of q)) (take i (chunks_of q)) some
+            (ap (λ p. is_start p (take i (chunks_of q))) (sym (take-take (here.level + 1) i (chunks_of q) (omega arith))) ∙ is_start_take (here.level + 1) (take i (chunks_of q)))))
         | inr none ↦ is_none-None (reading (take i (chunks_of q))) none
       ]
 
-      here : reading (chunks_of (take (5 * level) q)) ≡ Some node
-      here = ap reading (way level deep) ∙ at
+      own : reading (chunks_of (take (5 * here.level) q)) ≡ Some here.node
+      own = ap reading (way here.level deep) ∙ at
 
-      below_none : (i : ℕ) → level < i → i ≤ length q / 5 → reading (chunks_of (take (5 * i) q)) ≡ None
+      below_none : (i : ℕ) → here.level < i → i ≤ length q / 5 → reading (chunks_of (take (5 * i) q)) ≡ None
       below_none i more h = ap reading (way i h) ∙ gone i more h
 
       -- the blocks for nodes
-      children_needed : child_blocks_needed s.nodes (layout_of v.slots v.tiers w.tiers sized) q ≡ nodes_needed node level (length q)
-      children_needed = elim (cases_lt level (length q / 5)) as (λ _. child_blocks_needed s.nodes (layout_of v.slots v.tiers w.tiers sized) q ≡ nodes_needed node level (length q)) [
+      children_needed : child_blocks_needed s.nodes (layout_of v.slots v.tiers w.tiers sized) q ≡ nodes_needed here q
+      children_needed = elim (cases_lt here.level (length q / 5)) as (λ _. child_blocks_needed s.nodes (layout_of v.slots v.tiers w.tiers sized) q ≡ nodes_needed here q) [
         | inl inside ↦
-            blocks_needed s.nodes sized.0 q (length q / 5) refl level inside
+            blocks_needed s.nodes sized.0 q (length q / 5) refl here.level inside
             (λ i h. node_is i (omega arith) ∙ above i h) (λ i more h. node_is i h ∙ ap is_some (gone i more h))
             (λ i more h. (child_size (take (5 * i) q) (depth_is i h) None (below_none i more h), no_children (take (5 * i) q) (depth_is i h) (below_none i more h)))
-            ∙ ap₂ (λ o c. needs (block_needed child_block_sizes o c) (length q / 5 - (level + 1)))
-            (child_size (take (5 * level) q) (depth_is level deep) (Some node) here) (children_are (take (5 * level) q) (depth_is level deep) node here)
-            ∙ sym (nodes_below node level (length q) (inner_level level (length q) inside))
+            ∙ ap₂ (λ o c. needs (block_needed child_block_sizes o c) (length q / 5 - (here.level + 1)))
+            (child_size (take (5 * here.level) q) (depth_is here.level deep) (Some here.node) own) (children_are (take (5 * here.level) q) (depth_is here.level deep) here.node own)
+            ∙ sym (nodes_below here q (inner_level here.level (length q) inside))
         | inr past ↦
-            let last : level ≡ length q / 5 = (let d = deep in omega arith) in
+            let last : here.level ≡ length q / 5 = (let d = deep in omega arith) in
             none_needed s.nodes sized.0 q (length q / 5) refl (λ i h. node_is i h ∙ above i (omega arith))
-            ∙ sym (nodes_here node level (length q) (last_level level (length q) last))
+            ∙ sym (nodes_here here q (last_level here.level (length q) last))
       ]
 
       one_needed : (o : Option ℕ) → block_needed value_block_sizes (get sized.1.0 (home q)) (own_entries s.entries (home q)) ≡ o →
@@ -113,33 +115,29 @@ module _ {T : Type 0} (reading : List ℕ → Option Node) (values : List ℕ �
           ∙ ap (λ p. option_to_list p) same ∙ sym (append-nil (option_to_list o))
 
       -- the block for values
-      values_needed : value_blocks_needed s.entries (layout_of v.slots v.tiers w.tiers sized) q ≡ cells_needed node level (length q)
-      values_needed = elim (cases_lt level (length q / 5)) as (λ _. value_blocks_needed s.entries (layout_of v.slots v.tiers w.tiers sized) q ≡ cells_needed node level (length q)) [
+      values_needed : value_blocks_needed s.entries (layout_of v.slots v.tiers w.tiers sized) q ≡ cells_needed here q
+      values_needed = elim (cases_lt here.level (length q / 5)) as (λ _. value_blocks_needed s.entries (layout_of v.slots v.tiers w.tiers sized) q ≡ cells_needed here q) [
         | inl inside ↦
             let none = below_none (length q / 5) inside (omega arith) in
             one_needed (value_need None) (ap₂ (block_needed value_block_sizes) (value_size (home q) (depth_is (length q / 5) (omega arith)) None none)
-            (no_values (home q) (depth_is (length q / 5) (omega arith)) none)) ∙ sym (cells_below node level (length q) (inner_level level (length q) inside))
+            (no_values (home q) (depth_is (length q / 5) (omega arith)) none)) ∙ sym (cells_below here q (inner_level here.level (length q) inside))
         | inr past ↦
-            let last : level ≡ length q / 5 = (let d = deep in omega arith) in
-            let own : reading (chunks_of (home q)) ≡ Some node = ap (λ i. reading (chunks_of (take (5 * i) q))) (sym last) ∙ here in
-            one_needed (value_need (Some node))
-            (ap₂ (block_needed value_block_sizes) (value_size (home q) (depth_is (length q / 5) (omega arith)) (Some node) own)
-            (values_are (home q) (depth_is (length q / 5) (omega arith)) node own)) ∙ sym (cells_here node level (length q) (last_level level (length q) last))
+            let last : here.level ≡ length q / 5 = (let d = deep in omega arith) in
+            let at_home : reading (chunks_of (home q)) ≡ Some here.node = ap (λ i. reading (chunks_of (take (5 * i) q))) (sym last) ∙ own in
+            one_needed (value_need (Some here.node))
+            (ap₂ (block_needed value_block_sizes) (value_size (home q) (depth_is (length q / 5) (omega arith)) (Some here.node) at_home)
+            (values_are (home q) (depth_is (length q / 5) (omega arith)) here.node at_home)) ∙ sym (cells_here here q (last_level here.level (length q) last))
       ]
 
--- what the insertion of a new key obtains are the blocks that the model states
-module _ {T X E : Type 0} (for_limit for_memory : E → Type 0) (b : List Bool) (len : ℕ) (v v2 : Store Node) (w w2 : Store (Option T)) (count : ℕ)
-    (s : Shaped v.slots w.slots) (is : IsTable v w count s.0) (sized : Sized v.slots) (r : Result X E) where
-  pub obtained : ForHeld v w (λ reading paths values. own_value values b len ≡ None →
-      AtDeepest reading b len (λ node level. ObtainsBoth for_limit for_memory r v v2 w w2 (nodes_needed node level len) (cells_needed node level len))) →
-      contains_key s.0.entries (take len b) ≡ false → ObtainsBoth for_limit for_memory r v v2 w w2
-      (child_blocks_needed s.0.nodes (layout_of v.slots v.tiers w.tiers sized) (take len b)) (value_blocks_needed s.0.entries (layout_of v.slots v.tiers w.tiers sized) (take len b))
-  obtained asked new =
-      let t = some_table is in
-      let none : own_value t.values b len ≡ None = sym (shape_entries t.reading t.values t.paths v w t.holds s.0 s.1 (take len b)) ∙ is_none-None (get s.0.entries (take len b)) new in
-      let a = asked t.reading t.paths t.values t.holds none in
-      let long : length (take len b) ≡ len = length-take-le len b a.long in
-      let nodes = children_needed t.reading t.values t.paths v w t.holds s.0 s.1 sized (take len b) a.node a.level a.end a.is ∙ ap (nodes_needed a.node a.level) long in
-      let cells = values_needed t.reading t.values t.paths v w t.holds s.0 s.1 sized (take len b) a.node a.level a.end a.is ∙ ap (cells_needed a.node a.level) long in
-      subst (λ ns. ObtainsBoth for_limit for_memory r v v2 w w2 ns (value_blocks_needed s.0.entries (layout_of v.slots v.tiers w.tiers sized) (take len b))) (sym nodes)
-      (subst (λ cs. ObtainsBoth for_limit for_memory r v v2 w w2 (nodes_needed a.node a.level len) cs) (sym cells) a.fact)
+-- what the insertion of a missing string obtains are the blocks that the model states
+pub obtained : {T X E : Type 0} (for_limit for_memory : E → Type 0) (q : List Bool) (here : Reached) (v v2 : Store Node) (w w2 : Store (Option T)) (count : ℕ)
+    (s : Shaped v.slots w.slots) (is : IsTable v w count s.0) (sized : Sized v.slots) (r : Result X E) → IsLast q here v →
+    ObtainsBoth for_limit for_memory r v v2 w w2 (nodes_needed here q) (cells_needed here q) → ObtainsBoth for_limit for_memory r v v2 w w2
+    (child_blocks_needed s.0.nodes (layout_of v.slots v.tiers w.tiers sized) q) (value_blocks_needed s.0.entries (layout_of v.slots v.tiers w.tiers sized) q)
+obtained for_limit for_memory q here v v2 w w2 count s is sized r at obtains =
+    let t = some_table is in
+    let end = path_end q here v at t.reading t.paths t.holds.hold in
+    let own = deepest_is t.reading t.paths v (chunks_of q) here.level (slot_at here) t.holds.hold (at.along.deepest t.reading t.paths t.holds.hold) here.node at.along.node_is in
+    subst (λ ns. ObtainsBoth for_limit for_memory r v v2 w w2 ns (value_blocks_needed s.0.entries (layout_of v.slots v.tiers w.tiers sized) q))
+    (sym (children_needed t.reading t.values t.paths v w t.holds s.0 s.1 sized q here end own))
+    (subst (λ cs. ObtainsBoth for_limit for_memory r v v2 w w2 (nodes_needed here q) cs) (sym (values_needed t.reading t.values t.paths v w t.holds s.0 s.1 sized q here end own)) obtains)

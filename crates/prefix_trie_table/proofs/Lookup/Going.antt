@@ -1,13 +1,9 @@
 -- The descent along a bit string, as the code follows it on a key.
-use Rattle.prefix_trie_table.proofs.Prelude.{◌≡◌, ◌≢◌, ℕ, ◌+◌, ◌*◌, ◌/◌, ◌<◌, ◌≤◌, Bool, true, false, List, [], ◌∷◌, ◌++◌, length, get_or, take, drop, Option, Some, is_some, refl, sym, ap, ◌∙◌, subst, arith, take_more, number, window-of-front, has, ones_below, value_bit, Node, has_bit, rank, node_at, node_sizes, chunks_of, bit_of, Store, IsSlot, at_root, at_child, NodesHold, Deepest, IsEnd, has_child, node_or_blank}
+use Rattle.prefix_trie_table.proofs.Prelude.{◌≡◌, ℕ, ◌+◌, ◌*◌, ◌/◌, ◌<◌, ◌≤◌, Bool, true, false, List, [], ◌∷◌, ◌++◌, length, get_or, take, drop, Option, Some, is_some, refl, sym, ap, ◌∙◌, subst, arith, take_more, number, window-of-front, has, ones_below, value_bit, Node, has_bit, rank, node_at, node_sizes, chunks_of, bit_of, Store, IsSlot, at_root, at_child, NodesHold, Deepest, IsEnd, has_child, node_or_blank}
 use Rattle.std.proofs.lemmas.List.{length-take-le}
 use Rattle.prefix_trie_table.proofs.Strings.Bits.{has_bit-is, rank-ones}
 use Rattle.prefix_trie_table.proofs.Strings.Digits.{path-length, step-is, rest-is}
 use Rattle.prefix_trie_table.proofs.Tree.Trees.{slot_holds, is_some-Some}
-
--- a string is no longer than its key
-pub key_long : (n len width : ℕ) → n ≡ width → len ≤ width → len ≤ n
-key_long n len width e h = omega (arith, e, h)
 
 -- ---- the steps and the value bit of the first len bits of a key
 
@@ -105,9 +101,6 @@ level_inside level len h = omega (arith, h)
 
 pub level_last : (level len : ℕ) → level ≡ len / 5 → len < 5 * level + 5
 level_last level len e = omega (arith, e)
-
-pub level_more : (level len : ℕ) → 5 * level ≤ len → level ≢ len / 5 → 5 * level + 5 ≤ len
-level_more level len h other = omega (arith, h, other)
 
 pub level_past : (level len : ℕ) → len < 5 * level + 5 → 5 * level ≤ len → level ≡ len / 5
 level_past level len h k = omega (arith, h, k)

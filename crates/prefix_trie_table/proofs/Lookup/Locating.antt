@@ -1,12 +1,12 @@
 -- Where the value of a bit string is stored, by the nodes in their array.
-use Rattle.prefix_trie_table.proofs.Prelude.{◌≡◌, ℕ, ◌+◌, ◌*◌, ◌<◌, ◌≤◌, Bool, true, false, cond, ◌||◌, nat_eq, List, ◌++◌, length, set, take, Option, None, Some, is_some, refl, sym, ap, ap₂, ◌∙◌, arith, false≢true, has, value_bit, Sets, value_bit-small, Node, Reached, Seat, has_bit, rank, blank_node, node_at, node_sizes, cell_sizes, chunks_of, bit_of, read, SomeTable, IsNodeAt, IsSlot, at_root, at_child, NodesHold, CellsHold, ValueSet, with_node, has_value, EndsAt, value_seat, seat_in, seat_of, IsSeat, Store, IsReached}
+use Rattle.prefix_trie_table.proofs.Prelude.{◌≡◌, ℕ, ◌+◌, ◌*◌, ◌<◌, ◌≤◌, Bool, true, false, cond, ◌||◌, nat_eq, List, ◌++◌, length, length-drop, set, drop, Option, None, Some, is_some, refl, sym, ap, ap₂, ◌∙◌, arith, false≢true, has, value_bit, Sets, value_bit-small, Node, Reached, Seat, has_bit, rank, blank_node, node_at, node_sizes, cell_sizes, chunks_of, bit_of, read, SomeTable, IsNodeAt, IsSlot, at_root, at_child, NodesHold, CellsHold, ValueSet, with_node, has_value, EndsAt, value_seat, seat_in, seat_of, IsSeat, Store, slot_at}
 use Rattle.std.proofs.lemmas.List.{get_or-set_same}
 use Rattle.prefix_trie_table.proofs.Strings.Bits.{has_bit-is, has_bit-sets}
 use Rattle.prefix_trie_table.proofs.Strings.BitLists.{rank-same}
 use Rattle.prefix_trie_table.proofs.Tree.Children.{same_number, other_number, with_here, with_other}
 use Rattle.prefix_trie_table.proofs.Strings.Digits.{bit_of-small}
-use Rattle.prefix_trie_table.proofs.Insertion.Inserting.{few_values, reached_still}
-use Rattle.prefix_trie_table.proofs.Lookup.Finding.{reached_own}
+use Rattle.prefix_trie_table.proofs.Insertion.Inserting.{few_values, last_still}
+use Rattle.prefix_trie_table.proofs.Lookup.SearchPaths.{path_own}
 use Rattle.prefix_trie_table.proofs.Strings.Paths.{snoc_not_same}
 use Rattle.prefix_trie_table.proofs.Strings.Placing.{below_node}
 use Rattle.prefix_trie_table.proofs.Tree.Invariant.{deepest_there}
@@ -77,19 +77,18 @@ module _ (v : Store Node) (reading : List ℕ → Option Node) (paths : List (Li
           let there = seat_slot n (bit_of q) (has_bit n.value_bitmap (bit_of q)) seat e in
           record { node = n; is = is; set = there.0; slot_is = there.1 }
 
-module _ (b : List Bool) (len level slot : ℕ) (node : Node) (v : Store Node) (at : IsReached b len level node slot v) (reading : List ℕ → Option Node)
-    (paths : List (List ℕ)) (hold : NodesHold node_sizes reading paths v) where
-  -- if there is none, the bit is clear
-  pub missing_bit : seat_of v.slots (take len b) ≡ None → len < 5 * level + 5 → has_bit node.value_bitmap (bit_of (take len b)) ≡ false
-  missing_bit e less = ap (λ o. has_value o (bit_of (take len b))) (sym (reached_own b len level slot node v at reading paths hold less))
-      ∙ no_value_seat v reading paths hold (take len b) e
+module _ (q : List Bool) (here : Reached) (v : Store Node) (ends : EndsAt v q here) (reading : List ℕ → Option Node) (paths : List (List ℕ)) (hold : NodesHold node_sizes reading paths v)
+    (short : length q < 5 * here.level + 5) where
+  own : reading (chunks_of q) ≡ Some here.node
+  own = path_own q here v ends.1 reading paths hold (drop (5 * here.level) q) refl (omega (arith, length-drop (5 * here.level) q, short))
+
+  -- the value bit of a missing value is clear
+  pub missing_bit : has_bit here.node.value_bitmap (bit_of q) ≡ false
+  missing_bit = ap (λ o. has_value o (bit_of q)) (sym own) ∙ no_value_seat v reading paths hold q ends.0
 
   -- so the node takes one more
-  pub missing_few : {T : Type 0} (values : List ℕ → ℕ → Option T) (w : Store (Option T)) → CellsHold cell_sizes reading values paths w →
-      seat_of v.slots (take len b) ≡ None → len < 5 * level + 5 → rank node.value_bitmap 32 < 31
-  missing_few values w cells e less =
-      few_values reading values paths w (chunks_of (take len b)) node (bit_of (take len b)) cells
-      (reached_own b len level slot node v at reading paths hold less) (bit_of-small (take len b)) (missing_bit e less)
+  pub missing_few : {T : Type 0} (values : List ℕ → ℕ → Option T) (w : Store (Option T)) → CellsHold cell_sizes reading values paths w → rank here.node.value_bitmap 32 < 31
+  missing_few values w cells = few_values reading values paths w (chunks_of q) here.node (bit_of q) cells own (bit_of-small q) missing_bit
 
 -- the seat of a value that was added to a node
 module _ (v v2 : Store Node) (slot offset b bitmap : ℕ) (k m : Node) (sets : Sets k.value_bitmap b bitmap) (bits_are : m.value_bitmap ≡ bitmap) (small : b < 32) where
@@ -122,14 +121,14 @@ entered_seat reading values paths q slot b x seat v2 w2 stands bit one found =
     seat_reads v2 later paths one.hold q ∙ ap₂ (λ o i. seat_in o i) (is ∙ ap Some (sym at.0)) bit ∙ found
 
 -- a search ends where it ended if the nodes are the same
-pub ends_still : (b : List Bool) (len : ℕ) (reached : Reached) (v x : Store Node) (reading : List ℕ → Option Node) (paths : List (List ℕ)) →
-    EndsAt v b len reached → NodesHold node_sizes reading paths v → NodesHold node_sizes reading paths x → EndsAt x b len reached
-ends_still b len reached v x reading paths ends hold later = (
-  seat_reads x reading paths later (take len b) ∙ sym (seat_reads v reading paths hold (take len b)) ∙ ends.0,
-  reached_still b len reached.level (reached.at.start + reached.at.offset) reached.node v x reading paths ends.1 hold later,
+pub ends_still : (q : List Bool) (here : Reached) (v x : Store Node) (reading : List ℕ → Option Node) (paths : List (List ℕ)) →
+    EndsAt v q here → NodesHold node_sizes reading paths v → NodesHold node_sizes reading paths x → EndsAt x q here
+ends_still q here v x reading paths ends hold later = (
+  seat_reads x reading paths later q ∙ sym (seat_reads v reading paths hold q) ∙ ends.0,
+  last_still q here v ends.1 x reading paths hold later,
 )
 
 -- it is in its table
-abbrev pub end_there : (b : List Bool) (len : ℕ) (reached : Reached) {T : Type 0} {v : Store Node} {w : Store (Option T)} (t : SomeTable v w) → EndsAt v b len reached →
-    (t : SomeTable v w) × IsNodeAt t.reading (reached.at.start + reached.at.offset)
-end_there b len reached t ends = (t, deepest_there (ends.1.deepest t.reading t.paths t.holds.hold))
+abbrev pub end_there : (q : List Bool) (here : Reached) {T : Type 0} {v : Store Node} {w : Store (Option T)} (t : SomeTable v w) → EndsAt v q here →
+    (t : SomeTable v w) × IsNodeAt t.reading (slot_at here)
+end_there q here t ends = (t, deepest_there (ends.1.along.deepest t.reading t.paths t.holds.hold))

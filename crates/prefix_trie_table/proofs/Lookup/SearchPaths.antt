@@ -1,5 +1,5 @@
 -- The search path of a bit string, as `descend` follows it.
-use Rattle.prefix_trie_table.proofs.Prelude.{◌≡◌, ℕ, ◌+◌, ◌-◌, ◌*◌, ◌/◌, ◌<◌, ◌≤◌, Bool, true, false, List, length, length-drop, get_or, take, drop, Option, None, Some, sym, ap, ◌∙◌, subst, arith, number, has, value_bit, Node, has_bit, rank, node_sizes, chunks_of, bit_of, Store, Reached, IsSlot, IsNodeAt, Holds, child_slot, NodesHold, Deepest, IsEnd, has_value, IsSeat, Seat, value_seat, IsAlong, IsLast, ReadsAlong, slot_at}
+use Rattle.prefix_trie_table.proofs.Prelude.{◌≡◌, ◌≢◌, ℕ, ◌+◌, ◌-◌, ◌*◌, ◌/◌, ◌<◌, ◌≤◌, Bool, true, false, List, length, length-drop, get_or, take, drop, Option, None, Some, sym, ap, ◌∙◌, subst, arith, number, has, value_bit, Node, has_bit, rank, node_sizes, chunks_of, bit_of, Store, Reached, IsSlot, IsNodeAt, Holds, child_slot, NodesHold, Deepest, IsEnd, has_value, IsSeat, Seat, value_seat, IsAlong, IsLast, ReadsAlong, slot_at}
 use Rattle.std.proofs.lemmas.List.{drop-drop, take_all}
 use Rattle.prefix_trie_table.proofs.Strings.Bits.{has_bit-is}
 use Rattle.prefix_trie_table.proofs.Strings.Digits.{path-length, step-is, rest-is}
@@ -26,6 +26,12 @@ deeper_fits level last n is h = omega (arith, is, h)
 pub own_level : (level last n : ℕ) → last ≡ n / 5 → last ≤ level → 5 * level + 5 ≤ n → ⊥
 own_level level last n is h more = omega (arith, is, h, more)
 
+pub above_own : (level len n : ℕ) → len ≡ n → 5 * level ≤ n → level ≢ len / 5 → (level < len / 5) × (5 * level + 5 ≤ n)
+above_own level len n is whole other = let less : level < len / 5 = omega (arith, is, whole, other) in (less, omega (arith, is, less))
+
+pub at_own : (level len n : ℕ) → len ≡ n → level ≡ len / 5 → n < 5 * level + 5
+at_own level len n is last = omega (arith, is, last)
+
 -- a whole step is left above the level of a string's own node
 pub step_left : (q r : List Bool) (level last : ℕ) → r ≡ drop (5 * level) q → last ≡ length q / 5 → level < last → 5 ≤ length r
 step_left q r level last left is h = let fits = deeper_fits level last (length q) is h in omega (arith, fits, left_length q r level left)
@@ -33,6 +39,23 @@ step_left q r level last left is h = let fits = deeper_fits level last (length q
 -- and none at that level
 pub none_left : (q r : List Bool) (level last : ℕ) → r ≡ drop (5 * level) q → last ≡ length q / 5 → last ≤ level → length r < 5
 none_left q r level last left is h = omega (arith, is, h, left_length q r level left)
+
+-- what is left of a bit string after so many steps
+module _ (q r : List Bool) (level : ℕ) (left : r ≡ drop (5 * level) q) where
+  -- one more step is on the path if five bits are left, and it is their number
+  pub rest_inside : 5 ≤ length r → level < length (chunks_of q)
+  rest_inside more = omega (arith, path-length q, left_length q r level left, more)
+
+  pub rest_step : 5 ≤ length r → (x : ℕ) → x ≡ number (take 5 r) → get_or (chunks_of q) level 0 ≡ x
+  rest_step more x read = step-is q level (rest_inside more) ∙ ap (λ s. number (take 5 s)) (sym left) ∙ sym read
+
+  -- if fewer are left, the path is at its end, and they give the value bit
+  module _ (whole : 5 * level ≤ length q) (short : length r < 5) where
+    pub rest_ends : length (chunks_of q) ≡ level
+    rest_ends = omega (arith, path-length q, left_length q r level left, short, whole)
+
+    pub rest_bit : (x : ℕ) → x ≡ value_bit r → bit_of q ≡ x
+    rest_bit x read = ap value_bit (rest-is q ∙ ap (λ n. drop (5 * n) q) rest_ends ∙ sym left) ∙ sym read
 
 -- at the root
 pub followed_root : (q : List Bool) (here : Reached) (v : Store Node) → here.level ≡ 0 → IsAlong q here v → length q ≤ 128 → (before now : ℕ) → now ≡ before + 1 → IsFollowed q here v q before now
@@ -54,11 +77,8 @@ followed_next q here next v r before now after at step met =
 module _ (q : List Bool) (here : Reached) (v : Store Node) (at : IsAlong q here v) (r : List Bool) (left : r ≡ drop (5 * here.level) q) where
   -- the bit read of what is left is that of the next step, and the child there the next node
   module _ (x : ℕ) (small : x < 32) (read : x ≡ number (take 5 r)) (more : 5 ≤ length r) where
-    inside : here.level < length (chunks_of q)
-    inside = omega (arith, path-length q, left_length q r here.level left, more)
-
     step : get_or (chunks_of q) here.level 0 ≡ x
-    step = step-is q here.level inside ∙ ap (λ s. number (take 5 s)) (sym left) ∙ sym read
+    step = rest_step q r here.level left more x read
 
     pub next_bit : has_bit here.node.child_bitmap (get_or (chunks_of q) here.level 0) ≡ has here.node.child_bitmap x
     next_bit = ap (has_bit here.node.child_bitmap) step ∙ has_bit-is here.node.child_bitmap x small
@@ -67,16 +87,12 @@ module _ (q : List Bool) (here : Reached) (v : Store Node) (at : IsAlong q here 
         → NodesHold node_sizes reading paths v → Deepest reading (chunks_of q) (here.level + 1) to v
     next_deep set to is reading paths hold =
         subst (λ i. Deepest reading (chunks_of q) (here.level + 1) i v) (sym is)
-        (deepest_more reading paths v (chunks_of q) here.level (slot_at here) hold (at.deepest reading paths hold) (rank here.node.child_bitmap x) here.node inside at.node_is
+        (deepest_more reading paths v (chunks_of q) here.level (slot_at here) hold (at.deepest reading paths hold) (rank here.node.child_bitmap x) here.node (rest_inside q r here.level left more) at.node_is
         (next_bit ∙ set) (ap (rank here.node.child_bitmap) (sym step)))
 
   -- the value bit read of what is left is the string's own
   pub own_bit : length r < 5 → (x : ℕ) → x ≡ value_bit r → bit_of q ≡ x
-  own_bit short x read =
-      ap value_bit (rest-is q ∙ ap (λ n. drop (5 * n) q) last ∙ sym left) ∙ sym read
-    where
-      last : length (chunks_of q) ≡ here.level
-      last = let whole = at.whole in omega (arith, path-length q, left_length q r here.level left, short, whole)
+  own_bit short x read = rest_bit q r here.level left at.whole short x read
 
 module _ (q : List Bool) (here : Reached) (v : Store Node) (at : IsLast q here v) (reading : List ℕ → Option Node) (paths : List (List ℕ)) (hold : NodesHold node_sizes reading paths v) where
   -- the search path was followed to its end
@@ -97,7 +113,7 @@ module _ (q : List Bool) (here : Reached) (v : Store Node) (at : IsLast q here v
   -- if no whole step is left, the last node is the string's own
   module _ (r : List Bool) (left : r ≡ drop (5 * here.level) q) (short : length r < 5) where
     steps : length (chunks_of q) ≤ here.level
-    steps = let whole = at.along.whole in omega (arith, path-length q, left_length q r here.level left, short, whole)
+    steps = let ends = rest_ends q r here.level left at.along.whole short in omega (arith, ends)
 
     pub path_own : reading (chunks_of q) ≡ Some here.node
     path_own = ap reading (sym (take_all here.level (chunks_of q) steps))

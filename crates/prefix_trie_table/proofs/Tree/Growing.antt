@@ -7,7 +7,7 @@ use Rattle.prefix_trie_table.proofs.Strings.Paths.{same_path-equal, same_path-no
 use Rattle.prefix_trie_table.proofs.Strings.Starts.{is_start-snoc, is_start_take, is_start-is}
 use Rattle.prefix_trie_table.proofs.Lookup.Finding.{prefix_some}
 use Rattle.prefix_trie_table.proofs.Counts.EntryCounts.{count_with_child, count_with_node}
-use Rattle.prefix_trie_table.proofs.Blocks.BySize.{many_here, many_other, many-none, many-le}
+use Rattle.prefix_trie_table.proofs.Blocks.BySize.{many_here, many_other, many-none}
 use Rattle.prefix_trie_table.proofs.Blocks.Preparing.{how_many-needs}
 use Rattle.prefix_trie_table.proofs.Strings.BitLists.{rank-zero-all}
 use Rattle.prefix_trie_table.proofs.Tree.Trees.{slot_holds, is_none-None}
@@ -270,11 +270,6 @@ module _ {T : Type 0} (reading : List ℕ → Option Node) (values : List ℕ �
 pub free_next : (ts us : List Tier) (o : Option ℕ) (lists : ℕ) → AreFree ts (needs o lists) → ((size : ℕ) → free_in ts size ≤ free_in us size + one_of o size) → lists ≤ free_in us 1
 free_next ts us o lists free left =
     let d = many_here 1 lists in omega (arith, free 1, left 1, how_many-needs o lists 1, d)
-
--- the block of a list's own is free if more are
-pub free_own : (ts : List Tier) (o : Option ℕ) (lists : ℕ) → AreFree ts (needs o lists) → AreFree ts (needs o 0)
-free_own ts o lists free = λ size.
-    let d = many-le 1 0 lists size (omega arith) in omega (arith, free size, how_many-needs o lists size, how_many-needs o 0 size, d)
 
 -- what a blank node needs
 pub blank_child : (n : Node) → n ≡ blank_node → child_need (Some n) ≡ Some 1

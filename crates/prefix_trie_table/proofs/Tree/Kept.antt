@@ -1,30 +1,27 @@
 -- A table after a call that only makes free blocks.
-use Rattle.prefix_trie_table.proofs.Prelude.{◌≡◌, ℕ, ◌+◌, ◌≤◌, false, Bool, List, length, take, Option, Result, MatchResult, sym, ap, ◌∙◌, subst, contains_key, Refusal, Memory, IndexRange, State, PreparesInStorage, RefusesInStorage, Node, SearchEnd, ObtainsBoth, nodes_needed, cells_needed, Holds, Sized, EndsAt, seat_of, IsSearchEnd, Shaped, same_shape, Store, IsReached, IsTable, ForHeld, Grows}
+use Rattle.prefix_trie_table.proofs.Prelude.{◌≡◌, ℕ, false, Bool, List, Option, Result, MatchResult, sym, ap, ◌∙◌, subst, contains_key, Refusal, Memory, IndexRange, State, PreparesInStorage, RefusesInStorage, Node, Reached, SearchEnd, IsLast, ObtainsBoth, nodes_needed, cells_needed, Holds, Sized, EndsAt, seat_of, IsSearchEnd, Shaped, same_shape, Store, IsTable, ForHeld, Grows}
 use Rattle.std.specs.FinMap.{len as number_of}
-use Rattle.prefix_trie_table.proofs.Insertion.Asks.{at_end}
 use Rattle.prefix_trie_table.proofs.Insertion.PredictedNeeds.{obtained}
 use Rattle.prefix_trie_table.proofs.Insertion.Inserted.{readied_in}
-use Rattle.prefix_trie_table.proofs.Insertion.Inserting.{reached_still}
+use Rattle.prefix_trie_table.proofs.Insertion.Inserting.{last_still}
 use Rattle.prefix_trie_table.proofs.Tree.Invariant.{some_table}
+use Rattle.prefix_trie_table.proofs.Lookup.Ends.{last_ends, ends_last}
 use Rattle.prefix_trie_table.proofs.Lookup.Located.{stored_if}
 use Rattle.prefix_trie_table.proofs.Insertion.Resized.{sizes_kept}
 use Rattle.prefix_trie_table.proofs.Tree.Shapes.{shape_kept}
 use Rattle.prefix_trie_table.proofs.Blocks.Sizing.{storage_of}
 use Rattle.prefix_trie_table.proofs.Tree.Trees.{is_none-None}
-use Rattle.prefix_trie_table.proofs.Tree.SearchEnds.{way_ends, way_reached}
 
 -- the search path that a table has for a missing string
-module _ {T : Type 0} (v : Store Node) (w : Store (Option T)) (count : ℕ) (s : Shaped v.slots w.slots) (is : IsTable v w count s.0) (b : List Bool) (len : ℕ)
-    (long : len ≤ length b) (end : SearchEnd) (build : List Node) (same : v.slots ≡ build) where
-  -- its end is the node reached
-  pub end_reached : IsSearchEnd build (take len b) end → IsReached b len end.reached.level end.reached.node (end.reached.at.start + end.reached.at.offset) v
-  end_reached e =
-      way_reached v is.reading is.paths is.nodes b len end long
-      (subst (λ nodes. IsSearchEnd nodes (take len b) end) (sym same) e)
+module _ {T : Type 0} (v : Store Node) (w : Store (Option T)) (count : ℕ) (s : Shaped v.slots w.slots) (is : IsTable v w count s.0) (q : List Bool)
+    (end : SearchEnd) (build : List Node) (same : v.slots ≡ build) where
+  -- its end is the last node on it
+  pub end_last : IsSearchEnd build q end → IsLast q end.reached v
+  end_last e = ends_last v is.reading is.paths is.nodes q end.reached (subst (λ nodes. IsSearchEnd nodes q end) (sym same) e)
 
   -- which has no seat for it
-  pub ends_at : contains_key s.0.entries (take len b) ≡ false → IsSearchEnd build (take len b) end → EndsAt v b len end.reached
-  ends_at absent e = (is_none-None (seat_of v.slots (take len b)) (sym (stored_if v w count s is (take len b)) ∙ absent), end_reached e)
+  pub ends_at : contains_key s.0.entries q ≡ false → IsSearchEnd build q end → EndsAt v q end.reached
+  ends_at absent e = (is_none-None (seat_of v.slots q) (sym (stored_if v w count s is q) ∙ absent), end_last e)
 
 module _ {T : Type 0} (v v2 : Store Node) (w w2 : Store (Option T)) (count : ℕ) (s : Shaped v.slots w.slots) (is : IsTable v w count s.0)
     (kept : ForHeld v w (λ reading paths values. Holds reading values paths v2 w2)) where
@@ -60,24 +57,19 @@ module _ {T : Type 0} (v v2 : Store Node) (w w2 : Store (Option T)) (count : ℕ
   pub kept_sizes : (sized : Sized v.slots) (later : Sized v2.slots) → (later.0 ≡ sized.0) × (later.1.0 ≡ sized.1.0)
   kept_sizes sized later = sizes_kept is.reading is.values is.paths v w (some_table is).holds s.0 s.1 sized v2 w2 later kept_holds
 
-  module _ (b : List Bool) (len : ℕ) (end : SearchEnd)
-      (at : IsReached b len end.reached.level end.reached.node (end.reached.at.start + end.reached.at.offset) v) where
+  module _ (q : List Bool) (here : Reached) (at : IsLast q here v) where
     -- a search ends where it ended
-    pub kept_end : IsSearchEnd v2.slots (take len b) end
+    pub kept_end : IsSearchEnd v2.slots q (record { reached = here })
     kept_end =
         let t = some_table is in
-        way_ends v2 t.reading t.paths kept_holds.hold b len end
-        (reached_still b len end.reached.level (end.reached.at.start + end.reached.at.offset) end.reached.node v v2 t.reading t.paths at t.holds.hold kept_holds.hold)
+        last_ends v2 t.reading t.paths kept_holds.hold q here (last_still q here v at v2 t.reading t.paths t.holds.hold kept_holds.hold)
 
     -- and what was obtained for it readies its insertion
     pub kept_readies : {X : Type 0} (sized : Sized v.slots) (later : Sized v2.slots) (r : Result X Refusal) → Grows v v2 56 → Grows w w2 31 →
-        ObtainsBoth (λ cause. cause ≡ IndexRange) (λ cause. cause ≡ Memory) r v v2 w w2 (nodes_needed end.reached.node end.reached.level len)
-        (cells_needed end.reached.node end.reached.level len) → contains_key s.0.entries (take len b) ≡ false →
-        MatchResult r (λ _. PreparesInStorage s.0 (take len b) (storage_of v w sized) (storage_of v2 w2 later))
-        (λ cause. RefusesInStorage s.0 (take len b) cause (storage_of v w sized) (storage_of v2 w2 later))
-    kept_readies sized later r more_nodes more_cells obtains absent =
-        readied_in v v2 w w2 count count s.0 s.0 is (kept_table more_nodes more_cells kept_shape) sized later (take len b) (λ cause. cause) r
-        (obtained (λ cause. cause ≡ IndexRange) (λ cause. cause ≡ Memory) b len v v2 w w2 count s is sized r
-        (λ reading paths values holds none.
-        at_end b len end.reached.level (end.reached.at.start + end.reached.at.offset) end.reached.node v at reading paths holds.hold obtains) absent)
+        ObtainsBoth (λ cause. cause ≡ IndexRange) (λ cause. cause ≡ Memory) r v v2 w w2 (nodes_needed here q) (cells_needed here q) →
+        MatchResult r (λ _. PreparesInStorage s.0 q (storage_of v w sized) (storage_of v2 w2 later))
+        (λ cause. RefusesInStorage s.0 q cause (storage_of v w sized) (storage_of v2 w2 later))
+    kept_readies sized later r more_nodes more_cells obtains =
+        readied_in v v2 w w2 count count s.0 s.0 is (kept_table more_nodes more_cells kept_shape) sized later q (λ cause. cause) r
+        (obtained (λ cause. cause ≡ IndexRange) (λ cause. cause ≡ Memory) q here v v2 w w2 count s is sized r at obtains)
         (kept_sizes sized later)

@@ -2,26 +2,27 @@
 //!
 //! `prepare` makes every block that the insertion needs and that is not free. Only this phase can fail. `add_entry`
 //! then adds the missing nodes and the value, and takes the blocks from the free lists.
-ghost use Rattle.std.specs.Prelude.{◌≡◌, ℕ, Bool, ◌+◌, ◌<◌, ◌≤◌, List, Option, Some, take, false, true, is_some, IfErr, IsOk, MatchResult, OnOk, None};
+ghost use Rattle.std.specs.Prelude.{◌≡◌, ℕ, ◌+◌, ◌<◌, ◌≤◌, List, Option, Some, false, MatchResult, OnOk};
 ghost use Rattle.prefix_trie_table.specs.declared.allocator.node.Node.{Node};
 ghost use Rattle.prefix_trie_table.specs.Bitmaps.{has_bit as is_set};
 ghost use Rattle.prefix_trie_table.specs.Cells.{node_at, node_sizes, cell_sizes};
+ghost use Rattle.prefix_trie_table.specs.Digits.{chunks_of, bit_of};
 ghost use Rattle.prefix_trie_bits.specs.Model.Blocks.{one_of};
 ghost use Rattle.prefix_trie_table.specs.OwnBlocks.{child_need, value_need};
-ghost use Rattle.prefix_trie_table.specs.Store.{AreFree, MakesNone, SameSpace, free_in, needs};
-ghost use Rattle.prefix_trie_table.specs.Forest.{IsSlot, NodesHold, CellsHold, Holds, SomeTable, SomeNodes, IsNodeAt, ChildAdded, ValueSet, entry_count, one_if};
+ghost use Rattle.prefix_trie_table.specs.Store.{AreFree, MakesNone, free_in, needs};
+ghost use Rattle.prefix_trie_table.specs.Forest.{IsSlot, NodesHold, CellsHold, Holds, SomeTable, SomeNodes, IsNodeAt, ChildAdded, EntryAdded, ValueSet, entry_count};
 ghost use Rattle.prefix_trie_table.specs.Locations.{EndsAt, seat_in, seat_of};
-ghost use Rattle.prefix_trie_table.specs.Tables.{GrowsBoth, ForHeld, own_value, EntrySet};
-ghost use Rattle.prefix_trie_table.specs.Needs.{nodes_needed, cells_needed, HasFreeBlocks, AtDeepest, ObtainsBoth};
+ghost use Rattle.prefix_trie_table.specs.Tables.{GrowsBoth, ForHeld};
+ghost use Rattle.prefix_trie_table.specs.Needs.{nodes_needed, cells_needed, HasFreeBlocks, ObtainsBoth};
 ghost use Rattle.prefix_trie_bits.specs.declared.prefix.Refusal.TheVariants.{Memory, IndexRange};
 
 use crate::allocator::blocks::Cells;
 use crate::allocator::node::{Node, NodeSlot};
 use crate::allocator::nodes::{NodeAllocator, Tick};
-use crate::table::lookup::{Reached, locate_in};
-use crate::table::seat::{Location, SearchEnd, Seat};
-use prefix_trie_bits::node::{child_bit_of, count, rank, value_bit_of, with_bit};
-use prefix_trie_bits::prefix::{Key, Refusal, Refused};
+use crate::table::lookup::Reached;
+use crate::table::seat::{SearchEnd, Seat};
+use prefix_trie_bits::node::{count, rank, with_bit};
+use prefix_trie_bits::prefix::{BitString, Key, Refusal, Refused};
 use std::alloc::Allocator;
 
 /// Adds a missing child to the node in a slot, and returns the child's slot.
@@ -126,37 +127,35 @@ fn add_value<T: Drop, A: Allocator, V: Tick>(
 
 /// Makes all blocks that the insertion of a missing value needs and that are not free.
 ///
-/// `reached` is the deepest node on the search path of the value's bit string, and `len` is the length of that string.
+/// `reached` is the last node on the search path of the value's bit string.
 ///
 /// # Errors
 ///
 /// Returns `IndexRange` if the missing blocks would exceed the slot limit, and `Memory` if an allocation fails. Blocks
 /// made until then stay, free. Nothing else changes.
 #[inline(always)]
-pub fn prepare<T: Drop, A: Allocator, V: Tick>(
+pub fn prepare<K: Key, T: Drop, A: Allocator, V: Tick>(
     nodes: &mut NodeAllocator<A, V>,
     cells: &mut Cells<T, A>,
     reached: &Reached,
-    len: u32,
+    path: &BitString<K>,
 ) -> Result<(), Refusal>
     requires table { SomeTable nodes.old cells.old }
-    requires ends { (b : List Bool) × EndsAt nodes.old b len reached.now }
-    requires short { len ≤ 128 }
-    ensures space { OnOk result
-        (HasFreeBlocks nodes.new cells.new reached.now.node reached.now.level len) }
+    requires ends { EndsAt nodes.old path.now reached.now }
+    ensures space { OnOk result (HasFreeBlocks nodes.new cells.new reached.now path.now) }
     ensures grows { GrowsBoth (λ cause. cause ≡ IndexRange) result nodes.old nodes.new cells.old cells.new }
     ensures obtains { ObtainsBoth (λ cause. cause ≡ IndexRange) (λ cause. cause ≡ Memory)
         result nodes.old nodes.new cells.old cells.new
-        (nodes_needed reached.now.node reached.now.level len)
-        (cells_needed reached.now.node reached.now.level len) }
+        (nodes_needed reached.now path.now) (cells_needed reached.now path.now) }
     ensures kept { ForHeld nodes.old cells.old (λ reading paths values. Holds reading values paths nodes.new cells.new) }
 {
     let node = &reached.node;
-    if reached.level == len / 5 {
+    let last = path.len() / 5;
+    if reached.level == last {
         return cells.prepare(node.value_tier as usize, count(node.value_bitmap), 0);
     }
     cells.prepare(0, 0, 0)?;
-    let below = len / 5 - (reached.level + 1);
+    let below = last - (reached.level + 1);
     nodes.prepare(
         node.child_tier as usize,
         count(node.child_bitmap),
@@ -170,34 +169,35 @@ fn add_entry<K: Key, T: Drop, A: Allocator, V: Tick>(
     nodes: &mut NodeAllocator<A, V>,
     cells: &mut Cells<T, A>,
     reached: &Reached,
-    key: K,
-    len: u32,
+    path: BitString<K>,
     value: T,
 ) -> Seat
-    requires key { K.IsKey key }
-    requires within { len ≤ K.bit_width }
     requires table { SomeTable nodes.old cells.old }
-    requires ends { EndsAt nodes.old (K.bits key) len reached.now }
-    requires space { HasFreeBlocks nodes.old cells.old reached.now.node reached.now.level len }
+    requires ends { EndsAt nodes.old path reached.now }
+    requires space { HasFreeBlocks nodes.old cells.old reached.now path }
     ensures nodes { MakesNone nodes.old nodes.new }
     ensures cells { MakesNone cells.old cells.new }
     ensures added { ForHeld nodes.old cells.old (λ reading paths values.
-        EntrySet reading paths values (K.bits key) len value nodes.new cells.new) }
-    ensures seat { seat_of nodes.new.slots (take len (K.bits key)) ≡ Some result }
+        EntryAdded reading values paths (chunks_of path) (bit_of path) (Some value) nodes.new cells.new) }
+    ensures seat { seat_of nodes.new.slots path ≡ Some result }
 {
-    let last = len / 5;
+    let last = path.len() / 5;
+    let mut rest = path.after(5 * reached.level);
     if reached.level == last {
-        let bit = value_bit_of(key, last * 5, len);
+        let bit = rest.value_bit();
         return add_value(nodes, cells, reached.at, &reached.node, bit, value);
     }
     // Only the first new node has a parent that was there before. The parents of the others are blank, which costs
     // less.
-    let child = child_bit_of(key, 5 * reached.level);
+    let child = rest.child_bit();
     let mut at = add_child(nodes, reached.at, &reached.node, child);
-    for level in reached.level + 1..last {
-        at = add_child(nodes, at, &Node::blank(), child_bit_of(key, 5 * level));
+    rest = rest.below();
+    for _level in reached.level + 1..last {
+        let child = rest.child_bit();
+        at = add_child(nodes, at, &Node::blank(), child);
+        rest = rest.below();
     }
-    let bit = value_bit_of(key, last * 5, len);
+    let bit = rest.value_bit();
     add_value(nodes, cells, at, &Node::blank(), bit, value)
 }
 
@@ -212,31 +212,27 @@ pub fn insert_entry<K: Key, T: Drop, A: Allocator, V: Tick>(
     cells: &mut Cells<T, A>,
     entries: &mut usize,
     end: SearchEnd,
-    key: K,
-    len: u32,
+    path: BitString<K>,
     value: T,
 ) -> Result<Seat, Refused<T>>
-    requires key { K.IsKey key }
-    requires within { len ≤ K.bit_width }
     requires table { (t : SomeTable nodes.old cells.old) × (entries.old ≡ entry_count t.reading t.paths) }
-    requires ends { EndsAt nodes.old (K.bits key) len end.reached }
+    requires ends { EndsAt nodes.old path end.reached }
     ensures placed { ForHeld nodes.old cells.old (λ reading paths values. MatchResult result
-        (λ _. EntrySet reading paths values (K.bits key) len value nodes.new cells.new)
+        (λ _. EntryAdded reading values paths (chunks_of path) (bit_of path) (Some value) nodes.new cells.new)
         (λ _. Holds reading values paths nodes.new cells.new)) }
     ensures counted { MatchResult result (λ _. entries.new ≡ entries.old + 1) (λ _. entries.new ≡ entries.old) }
     ensures answer { MatchResult result
-        (λ seat. seat_of nodes.new.slots (take len (K.bits key)) ≡ Some seat)
+        (λ seat. seat_of nodes.new.slots path ≡ Some seat)
         (λ refused. refused.value ≡ value) }
     ensures grows { GrowsBoth (λ refused. refused.cause ≡ IndexRange) result nodes.old nodes.new cells.old cells.new }
     ensures obtains { ObtainsBoth (λ refused. refused.cause ≡ IndexRange) (λ refused. refused.cause ≡ Memory)
         result nodes.old nodes.new cells.old cells.new
-        (nodes_needed end.reached.node end.reached.level len)
-        (cells_needed end.reached.node end.reached.level len) }
+        (nodes_needed end.reached path) (cells_needed end.reached path) }
 {
-    if let Err(cause) = prepare(nodes, cells, &end.reached, len) {
+    if let Err(cause) = prepare(nodes, cells, &end.reached, &path) {
         return Err(Refused { cause, value });
     }
-    let seat = add_entry(nodes, cells, &end.reached, key, len, value);
+    let seat = add_entry(nodes, cells, &end.reached, path, value);
     // Each entry has a cell, so the count is within the array's length.
     let slots = cells.len();
     prove!(*entries < slots);

@@ -1,5 +1,5 @@
 //! Calls that share one search: `locate` returns where a value is stored or would be inserted, and the others take that.
-ghost use Rattle.std.specs.Prelude.{◌≡◌, ◌+◌, ◌≤◌, ℕ, take, false, IfOk, IfErr, MatchResult, Some};
+ghost use Rattle.std.specs.Prelude.{◌≡◌, ◌+◌, ℕ, false, IfOk, IfErr, MatchResult, Some};
 ghost use Rattle.std.specs.Borrow.{sem};
 ghost use Rattle.std.specs.FinMap.{get, contains_key, len as number_of};
 ghost use Rattle.prefix_trie_bits.specs.Model.Space.{MayPassLimit, LeavesSpace};
@@ -33,7 +33,7 @@ impl<T: Drop, A: Allocator, V: Tick> Table<T, A, V> {
     /// match table.locate(path.again(), &mut counter) {
     ///     Location::Stored(seat) => *table.at_mut(path, seat) = 7,
     ///     Location::Missing(end) => {
-    ///         table.insert_located(path.key(), path.len(), end, 7)?;     // reads no node
+    ///         table.insert_located(path, end, 7)?;     // reads no node
     ///     }
     /// }
     /// ```
@@ -77,21 +77,18 @@ impl<T: Drop, A: Allocator, V: Tick> Table<T, A, V> {
     /// Returns an error only if a block is missing: `Memory` if an allocation fails, and `IndexRange` if the slots of
     /// the missing blocks would exceed the limit.
     #[inline]
-    pub fn reserve<K: Key>(&mut self, key: K, len: u32, end: SearchEnd) -> Result<(), Refusal>
-        requires key { K.IsKey key }
-        requires within { len ≤ K.bit_width }
-        requires absent { contains_key self.old.entries (take len (K.bits key)) ≡ false }
-        requires end { IsSearchEnd self.old.build (take len (K.bits key)) end }
+    pub fn reserve<K: Key>(&mut self, path: BitString<K>, end: SearchEnd) -> Result<(), Refusal>
+        requires absent { contains_key self.old.entries path ≡ false }
+        requires end { IsSearchEnd self.old.build path end }
         ensures unchanged { (self.new.entries ≡ self.old.entries) × (self.new.nodes ≡ self.old.nodes) }
-        ensures end { IsSearchEnd self.new.build (take len (K.bits key)) end }
+        ensures end { IsSearchEnd self.new.build path end }
         ensures readies { MatchResult result
-            (λ _. PreparesInStorage (state self.old) (take len (K.bits key)) (storage self.old) (storage self.new))
-            (λ cause. RefusesInStorage (state self.old) (take len (K.bits key)) cause
-            (storage self.old) (storage self.new)) }
+            (λ _. PreparesInStorage (state self.old) path (storage self.old) (storage self.new))
+            (λ cause. RefusesInStorage (state self.old) path cause (storage self.old) (storage self.new)) }
         ensures range { IfErr result (λ cause. cause ≡ IndexRange → MayPassLimit self.old.space) }
         ensures space { LeavesSpace (number_of self.old.nodes) self.old.space self.new.space }
     {
-        prepare(&mut self.nodes, &mut self.cells, &end.reached, len)
+        prepare(&mut self.nodes, &mut self.cells, &end.reached, &path)
     }
 
     /// Sets the value at a missing bit string whose search path ends here, and returns the value's seat.
@@ -105,19 +102,15 @@ impl<T: Drop, A: Allocator, V: Tick> Table<T, A, V> {
     #[inline(always)]
     pub fn insert_located<K: Key>(
         &mut self,
-        key: K,
-        len: u32,
+        path: BitString<K>,
         end: SearchEnd,
         value: T,
     ) -> Result<Seat, Refused<T>>
-        requires key { K.IsKey key }
-        requires within { len ≤ K.bit_width }
-        requires absent { contains_key self.old.entries (take len (K.bits key)) ≡ false }
-        requires end { IsSearchEnd self.old.build (take len (K.bits key)) end }
-        ensures seat { IfOk result
-            (λ seat. seat_of self.new.build (take len (K.bits key)) ≡ Some seat) }
+        requires absent { contains_key self.old.entries path ≡ false }
+        requires end { IsSearchEnd self.old.build path end }
+        ensures seat { IfOk result (λ seat. seat_of self.new.build path ≡ Some seat) }
         ensures returned { IfErr result (λ refused. refused.value ≡ value) }
-        ensures step { (width : ℕ) → StepByPath width (stored_state self.old) (Insert (take len (K.bits key)) value) (insert_new_reply result)
+        ensures step { (width : ℕ) → StepByPath width (stored_state self.old) (Insert path value) (insert_new_reply result)
             (stored_state self.new) }
     {
         insert_entry(
@@ -125,8 +118,7 @@ impl<T: Drop, A: Allocator, V: Tick> Table<T, A, V> {
             &mut self.cells,
             &mut self.count,
             end,
-            key,
-            len,
+            path,
             value,
         )
     }

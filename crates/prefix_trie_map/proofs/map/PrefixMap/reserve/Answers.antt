@@ -1,4 +1,4 @@
-use Rattle.prefix_trie_map.proofs.Prelude.{◌≡◌, Bool, List, IfErr, MatchResult, take, sym, subst, len, IndexRange, MayPassLimit, LeavesSpace, PreparesInStorage, RefusesInStorage, IsSearchEnd, Contents, state, storage}
+use Rattle.prefix_trie_map.proofs.Prelude.{◌≡◌, Bool, List, IfErr, MatchResult, sym, subst, len, IndexRange, MayPassLimit, LeavesSpace, PreparesInStorage, RefusesInStorage, IsSearchEnd, Contents, state, storage}
 use Rattle.prefix_trie_map.proofs.Placing.{space_refused, space_prepared}
 use Rattle.prefix_trie_map.proofs.Steps.{by_key}
 use Rattle.prefix_trie_map.proofs.map.PrefixMap.reserve.Given as given
@@ -6,12 +6,12 @@ use Rattle.prefix_trie_map.proofs.map.PrefixMap.reserve.Goals as goal
 
 pub reserve-requires-clause-end : goal.reserve-requires-clause-end
 reserve-requires-clause-end g c =
-    by_key (λ (m : Contents g.row.T.Denot) q. IsSearchEnd m.build q c.args.end) (sym c.self.view_is) (sym c.parts-key.ensures.path) c.requires.end
+    by_key (λ (m : Contents g.row.T.Denot) q. IsSearchEnd m.build q c.args.end) (sym c.self.view_is) (sym c.path.ensures.path) c.requires.end
 
 -- what holds of the table and the key's bits holds of the map and the prefix's path
 by_path : (g : given.Over) (c : goal.After-reserve g) (F : Contents g.row.T.Denot → List Bool → Type 0) →
-    F c.self.inside.table (take c.parts-key.result.1 (g.P.R.Key.bits c.parts-key.result.0)) → F c.args.self.now (g.P.Prefix.path c.args.prefix.now)
-by_path g c F fact = by_key F c.self.view_is c.parts-key.ensures.path fact
+    F c.self.inside.table c.path.result → F c.args.self.now (g.P.Prefix.path c.args.prefix.now)
+by_path g c F fact = by_key F c.self.view_is c.path.ensures.path fact
 
 pub returns-clause-space : goal.returns-clause-space
 returns-clause-space g c = by_path g c (λ old q. LeavesSpace (len old.nodes) old.space c.reserve.new.self.space) c.reserve.ensures.space
@@ -25,7 +25,7 @@ leaves g c =
     (λ cause. RefusesInStorage (state old) q cause (storage old) (storage c.reserve.new.self))) c.reserve.ensures.readies
 
 pub returns-clause-end : goal.returns-clause-end
-returns-clause-end g c = subst (λ q. IsSearchEnd c.reserve.new.self.build q c.args.end) c.parts-key.ensures.path c.reserve.ensures.end
+returns-clause-end g c = subst (λ q. IsSearchEnd c.reserve.new.self.build q c.args.end) c.path.ensures.path c.reserve.ensures.end
 
 pub returns-clause-readies : goal.returns-clause-readies
 returns-clause-readies g c =

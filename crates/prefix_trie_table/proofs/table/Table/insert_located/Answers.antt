@@ -1,7 +1,6 @@
-use Rattle.prefix_trie_table.proofs.Prelude.{take, ap, Contents}
+use Rattle.prefix_trie_table.proofs.Prelude.{ap, Contents}
 use Rattle.prefix_trie_table.proofs.Tree.Invariant.{some_table, some_counted}
-use Rattle.prefix_trie_table.proofs.Lookup.Going.{key_long}
-use Rattle.prefix_trie_table.proofs.Tree.Kept.{ends_at, end_reached}
+use Rattle.prefix_trie_table.proofs.Tree.Kept.{ends_at, end_last}
 use Rattle.prefix_trie_table.proofs.Insertion.Placements.{inserting, placed_leaves, placed_counts, placed_step}
 use Rattle.prefix_trie_table.proofs.Tree.Shapes.{left_shape, table_left}
 use Rattle.prefix_trie_table.proofs.Blocks.Sizing.{table_sizes}
@@ -13,16 +12,14 @@ insert_entry-requires-clause-table g c = some_counted c.self.invariant
 pub insert_entry-requires-clause-ends : goal.insert_entry-requires-clause-ends
 insert_entry-requires-clause-ends g c =
     let i = c.self.inside in
-    let b = g.K.Key.bits c.args.key in
-    let long = key_long _ _ _ (g.met.K.Key.key_laws.bits_length c.args.key c.requires.key) c.requires.within in
-    ends_at i.nodes i.cells i.count i.shape c.self.invariant b c.args.len long c.args.end _ (ap (λ (s : Contents g.row.T.Denot). s.build) c.self.view_is)
+    ends_at i.nodes i.cells i.count i.shape c.self.invariant c.args.path c.args.end _ (ap (λ (s : Contents g.row.T.Denot). s.build) c.self.view_is)
     (rw (← c.self.view_is) at c.requires.absent) c.requires.end
 
 pub invariant_of-self-inside : goal.invariant_of-self-inside
 invariant_of-self-inside g c =
     let i = c.self.inside in
     let p = c.insert_entry in
-    let q = take c.args.len (g.K.Key.bits c.args.key) in
+    let q = c.args.path in
     let leaves = placed_leaves q c.args.value i.nodes p.new.nodes i.cells p.new.cells i.count p.new.entries i.shape c.self.invariant (rw (← c.self.view_is) at c.requires.absent) p.result p.ensures.placed in
     let counts = placed_counts q c.args.value i.nodes p.new.nodes i.cells p.new.cells i.count p.new.entries i.shape c.self.invariant p.result p.ensures.counted in
     let shape = left_shape q c.args.value i.nodes p.new.nodes i.cells p.new.cells i.count p.new.entries i.shape c.self.invariant (inserting p.result) leaves in
@@ -32,7 +29,7 @@ pub invariant_of-self : goal.invariant_of-self
 invariant_of-self g c =
     let i = c.self.inside in
     let p = c.insert_entry in
-    let q = take c.args.len (g.K.Key.bits c.args.key) in
+    let q = c.args.path in
     table_left q c.args.value i.nodes p.new.nodes i.cells p.new.cells i.count p.new.entries i.shape c.self.invariant (inserting p.result)
     (placed_leaves q c.args.value i.nodes p.new.nodes i.cells p.new.cells i.count p.new.entries i.shape c.self.invariant (rw (← c.self.view_is) at c.requires.absent) p.result p.ensures.placed)
     (placed_counts q c.args.value i.nodes p.new.nodes i.cells p.new.cells i.count p.new.entries i.shape c.self.invariant p.result p.ensures.counted) p.ensures.grows.nodes p.ensures.grows.cells c.self-1.given.0
@@ -41,12 +38,9 @@ pub returns-clause-step : goal.returns-clause-step
 returns-clause-step g c =
     let i = c.self.inside in
     let p = c.insert_entry in
-    let b = g.K.Key.bits c.args.key in
-    let long = key_long _ _ _ (g.met.K.Key.key_laws.bits_length c.args.key c.requires.key) c.requires.within in
-    let at = end_reached i.nodes i.cells i.count i.shape c.self.invariant b c.args.len long c.args.end _
-    (ap (λ (s : Contents g.row.T.Denot). s.build) c.self.view_is) c.requires.end in
+    let at = end_last i.nodes i.cells i.count i.shape c.self.invariant c.args.path c.args.end _ (ap (λ (s : Contents g.row.T.Denot). s.build) c.self.view_is) c.requires.end in
     let absent = rw (← c.self.view_is) at c.requires.absent in
-    rw (← c.self.view_is) (placed_step b c.args.len c.args.value i.nodes p.new.nodes i.cells p.new.cells i.count p.new.entries i.shape c.self.invariant c.self-1.given.0
-    (invariant_of-self g c) i.sizes c.self-1.given.1.0 c.args.end at absent p.result
+    rw (← c.self.view_is) (placed_step c.args.path c.args.value i.nodes p.new.nodes i.cells p.new.cells i.count p.new.entries i.shape c.self.invariant c.self-1.given.0
+    (invariant_of-self g c) i.sizes c.self-1.given.1.0 c.args.end.reached at absent p.result
     (placed_leaves _ c.args.value i.nodes p.new.nodes i.cells p.new.cells i.count p.new.entries i.shape c.self.invariant absent p.result p.ensures.placed)
     p.ensures.obtains p.ensures.grows)

@@ -1,7 +1,6 @@
 use Rattle.prefix_trie_table.proofs.Prelude.{rules, ap, State, Contents}
 use Rattle.prefix_trie_table.proofs.Tree.Invariant.{some_table}
-use Rattle.prefix_trie_table.proofs.Lookup.Going.{key_long}
-use Rattle.prefix_trie_table.proofs.Tree.Kept.{ends_at, end_reached, kept_shape, kept_same, kept_table, kept_end, kept_readies}
+use Rattle.prefix_trie_table.proofs.Tree.Kept.{ends_at, end_last, kept_shape, kept_same, kept_table, kept_end, kept_readies}
 use Rattle.prefix_trie_table.proofs.Blocks.Sizing.{table_sizes}
 use Rattle.prefix_trie_table.proofs.Tree.Stated.{longer_space}
 use Rattle.prefix_trie_table.proofs.table.Table.reserve.Goals as goal
@@ -12,12 +11,8 @@ prepare-requires-clause-table g c = some_table c.self.invariant
 pub prepare-requires-clause-ends : goal.prepare-requires-clause-ends
 prepare-requires-clause-ends g c =
     let i = c.self.inside in
-    let b = g.K.Key.bits c.args.key in
-    let long = key_long _ _ _ (g.met.K.Key.key_laws.bits_length c.args.key c.requires.key) c.requires.within in (
-      b,
-      ends_at i.nodes i.cells i.count i.shape c.self.invariant b c.args.len long c.args.end _ (ap (λ (s : Contents g.row.T.Denot). s.build) c.self.view_is)
-          (rw (← c.self.view_is) at c.requires.absent) c.requires.end,
-    )
+    ends_at i.nodes i.cells i.count i.shape c.self.invariant c.args.path c.args.end _ (ap (λ (s : Contents g.row.T.Denot). s.build) c.self.view_is)
+    (rw (← c.self.view_is) at c.requires.absent) c.requires.end
 
 pub invariant_of-self-inside : goal.invariant_of-self-inside
 invariant_of-self-inside g c =
@@ -37,16 +32,13 @@ returns g c =
     let p = c.prepare.ensures in
     let s2 = c.self-1.given.0 in
     let z2 = c.self-1.given.1.0 in
-    let b = g.K.Key.bits c.args.key in
-    let long = key_long _ _ _ (g.met.K.Key.key_laws.bits_length c.args.key c.requires.key) c.requires.within in
-    let at = end_reached i.nodes i.cells i.count i.shape c.self.invariant b c.args.len long c.args.end _
-    (ap (λ (s : Contents g.row.T.Denot). s.build) c.self.view_is) c.requires.end in
+    let at = end_last i.nodes i.cells i.count i.shape c.self.invariant c.args.path c.args.end _ (ap (λ (s : Contents g.row.T.Denot). s.build) c.self.view_is) c.requires.end in
     let same = kept_same i.nodes new.nodes i.cells new.cells i.count i.shape c.self.invariant p.kept s2 in
     rw (← c.self.view_is) (record {
       unchanged = (ap (λ (s : State g.row.T.Denot). s.entries) same, ap (λ (s : State g.row.T.Denot). s.nodes) same);
-      end = kept_end i.nodes new.nodes i.cells new.cells i.count i.shape c.self.invariant p.kept b c.args.len c.args.end at;
-      readies = kept_readies i.nodes new.nodes i.cells new.cells i.count i.shape c.self.invariant p.kept b c.args.len c.args.end at i.sizes z2 c.prepare.result
-          p.grows.nodes p.grows.cells p.obtains (rw (← c.self.view_is) at c.requires.absent);
+      end = kept_end i.nodes new.nodes i.cells new.cells i.count i.shape c.self.invariant p.kept c.args.path c.args.end.reached at;
+      readies = kept_readies i.nodes new.nodes i.cells new.cells i.count i.shape c.self.invariant p.kept c.args.path c.args.end.reached at i.sizes z2 c.prepare.result
+          p.grows.nodes p.grows.cells p.obtains;
       range = search rules;
       space = longer_space i.nodes new.nodes i.cells new.cells i.count i.count i.shape c.self.invariant i.sizes s2 (invariant_of-self g c) z2 p.grows.nodes p.grows.cells;
     })

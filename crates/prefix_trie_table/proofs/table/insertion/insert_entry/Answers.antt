@@ -1,12 +1,9 @@
-use Rattle.prefix_trie_table.proofs.Prelude.{◌≡◌, is_some, take, refl, ap, arith, chunks_of, bit_of, one_if}
+use Rattle.prefix_trie_table.proofs.Prelude.{◌≡◌, is_some, refl, ap, arith, chunks_of, bit_of, one_if}
 use Rattle.prefix_trie_table.proofs.Insertion.Asks.{Made-then}
 use Rattle.prefix_trie_table.proofs.Counts.EntryCounts.{entries_bound}
 use Rattle.prefix_trie_table.proofs.Lookup.Locating.{missing_value, ends_still}
 use Rattle.prefix_trie_table.proofs.Insertion.Spaces.{Grows-then}
 use Rattle.prefix_trie_table.proofs.table.insertion.insert_entry.Goals as goal
-
-pub prepare-requires-clause-ends : goal.prepare-requires-clause-ends
-prepare-requires-clause-ends g c = (g.K.Key.bits c.args.key, c.requires.ends)
 
 pub returns-in-Err : goal.returns-in-Err
 returns-in-Err g c =
@@ -28,7 +25,7 @@ add_entry-seat-requires-clause-table g c =
 pub add_entry-seat-requires-clause-ends : goal.add_entry-seat-requires-clause-ends
 add_entry-seat-requires-clause-ends g c =
     let t = c.requires.table.0 in
-    ends_still (g.K.Key.bits c.args.key) c.args.len c.args.end.reached c.args.nodes.now c.prepare.new.nodes t.reading t.paths c.requires.ends t.holds.hold
+    ends_still c.args.path c.args.end.reached c.args.nodes.now c.prepare.new.nodes t.reading t.paths c.requires.ends t.holds.hold
     (c.prepare.ensures.kept t.reading t.paths t.values t.holds).hold
 
 pub returns-clause-placed : goal.returns-clause-placed
@@ -37,9 +34,9 @@ returns-clause-placed g c = λ reading paths values holds. c.add_entry-seat.ensu
 pub prove-unreachable-requires : goal.prove-unreachable-requires
 prove-unreachable-requires g c =
     let t = c.requires.table.0 in
-    let q = take c.args.len (g.K.Key.bits c.args.key) in
+    let q = c.args.path in
     let added = c.add_entry-seat.ensures.added t.reading t.paths t.values (c.prepare.ensures.kept t.reading t.paths t.values t.holds) in
-    let had : one_if (is_some (t.values (chunks_of (take c.args.len (g.K.Key.bits c.args.key))) (bit_of (take c.args.len (g.K.Key.bits c.args.key))))) ≡ 0 =
+    let had : one_if (is_some (t.values (chunks_of c.args.path) (bit_of c.args.path))) ≡ 0 =
     ap (λ o. one_if (is_some o)) (missing_value c.args.nodes.now t.reading t.paths t.holds.hold q t.values c.args.cells.now t.holds.cells c.requires.ends.0) in
     let bound = entries_bound added.later _ added.paths c.add_entry-seat.new.cells added.holds.cells in
     omega (arith, bound, added.counted, had, c.requires.table.1, c.len-slots.ensures.len, c.if-prove.true)

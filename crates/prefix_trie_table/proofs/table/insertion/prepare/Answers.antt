@@ -1,4 +1,4 @@
-use Rattle.prefix_trie_table.proofs.Prelude.{◌≡◌, ℕ, ◌+◌, ◌-◌, ◌/◌, Option, None, Some, inl, inr, [], Result, Err, refl, sym, ap, ◌∙◌, subst, arith, on_ok_weaker, err_from_is_err_and, IfErr-weaker, Refusal, Memory, IndexRange, Node, nodes_needed, cells_needed, ObtainsBoth, rank, value_block_sizes, block_needed, blank_node, cell_sizes, child_need, value_need, Store, Obtains, AreFree, tier_sizes, needs, GrowsBoth, MayPass}
+use Rattle.prefix_trie_table.proofs.Prelude.{◌≡◌, ℕ, ◌+◌, ◌-◌, ◌/◌, length, Option, None, Some, inl, inr, [], Result, Err, refl, sym, ap, ◌∙◌, subst, arith, on_ok_weaker, err_from_is_err_and, IfErr-weaker, Refusal, Memory, IndexRange, Node, nodes_needed, cells_needed, ObtainsBoth, rank, value_block_sizes, block_needed, blank_node, cell_sizes, child_need, value_need, Store, Obtains, AreFree, tier_sizes, list_need, needs, GrowsBoth, MayPass}
 use Rattle.prefix_trie_table.specs.OwnBlocks.{child_block_size, value_block_size}
 use Rattle.prefix_trie_table.proofs.Strings.Bits.{rank-ones}
 use Rattle.prefix_trie_table.proofs.Blocks.BySize.{node_sized, cell_sized}
@@ -8,7 +8,7 @@ use Rattle.prefix_trie_table.proofs.Insertion.Asks.{nodes_here, nodes_below, cel
 use Rattle.prefix_trie_table.proofs.Insertion.Inserting.{list_tier, node_fits, cell_fits, few_children, nodes_prepared, cells_prepared}
 use Rattle.prefix_trie_table.proofs.Insertion.Spaces.{Grows-same, Grows-obtained, missing_nodes, missing_cells, few_steps}
 use Rattle.prefix_trie_table.proofs.Lookup.Locating.{missing_few, end_there}
-use Rattle.prefix_trie_table.proofs.Lookup.Going.{level_last, level_more}
+use Rattle.prefix_trie_table.proofs.Lookup.SearchPaths.{above_own, at_own}
 use Rattle.prefix_trie_table.proofs.table.insertion.prepare.Given as given
 use Rattle.prefix_trie_table.proofs.table.insertion.prepare.Goals as goal
 
@@ -29,7 +29,7 @@ pub prepare-requires-clause-tier : goal.prepare-requires-clause-tier
 prepare-requires-clause-tier g c = λ some.
     let n = c.args.reached.now.node in
     list_tier None c.args.cells.now n.value_tier n.value_block c.count.result
-    (has_values c.args.nodes.now c.args.cells.now _ n c.count.result (end_there c.requires.ends.0 c.args.len c.args.reached.now c.requires.table c.requires.ends.1) c.requires.ends.1.1.node_is
+    (has_values c.args.nodes.now c.args.cells.now _ n c.count.result (end_there c.args.path.now c.args.reached.now c.requires.table c.requires.ends) c.requires.ends.1.along.node_is
     (c.count.ensures ∙ sym (rank-ones n.value_bitmap 32 (omega arith)))) some
 
 pub prepare-requires-clause-sizes : goal.prepare-requires-clause-sizes
@@ -38,8 +38,8 @@ prepare-requires-clause-sizes g c = cell_sized c.args.cells.now.tiers c.requires
 pub prepare-requires-clause-fits : goal.prepare-requires-clause-fits
 prepare-requires-clause-fits g c =
     let t = c.requires.table in
-    let few = missing_few c.requires.ends.0 c.args.len c.args.reached.now.level _ c.args.reached.now.node c.args.nodes.now c.requires.ends.1.1 t.reading t.paths
-    t.holds.hold t.values c.args.cells.now t.holds.cells c.requires.ends.1.0 (level_last c.args.reached.now.level c.args.len c.if-reached-len.true) in
+    let few = missing_few c.args.path.now c.args.reached.now c.args.nodes.now c.requires.ends t.reading t.paths t.holds.hold
+    (at_own c.args.reached.now.level c.len-last.result (length c.args.path.now) c.len-last.ensures.len c.if-reached-last.true) t.values c.args.cells.now t.holds.cells in
     cell_fits c.args.cells.now.tiers (c.count.result + 1) c.requires.table.holds.cells.sizes_are
     (omega (arith, few, rank-ones c.args.reached.now.node.value_bitmap 32 (omega arith), c.count.ensures))
 
@@ -51,38 +51,38 @@ here g c =
     subst (λ o. Obtains (λ e. e ≡ IndexRange) (λ e. e ≡ Memory) c.prepare.result c.args.cells.now c.prepare.new.self (needs o 0))
     (value_list_need c.args.cells.now n c.count.result c.requires.table.holds.cells.sizes_are same) c.prepare.ensures.obtains
 
-pub returns-then-reached-len-clause-space : goal.returns-then-reached-len-clause-space
-returns-then-reached-len-clause-space g c =
+pub returns-then-reached-last-clause-space : goal.returns-then-reached-last-clause-space
+returns-then-reached-last-clause-space g c =
     let n = c.args.reached.now.node in
-    let short = level_last c.args.reached.now.level c.args.len c.if-reached-len.true in
-    let none = nodes_here n c.args.reached.now.level c.args.len short in
-    let one = cells_here n c.args.reached.now.level c.args.len short in
+    let short = at_own c.args.reached.now.level c.len-last.result (length c.args.path.now) c.len-last.ensures.len c.if-reached-last.true in
+    let none = nodes_here c.args.reached.now c.args.path.now short in
+    let one = cells_here c.args.reached.now c.args.path.now short in
     on_ok_weaker c.prepare.result (λ (free : AreFree c.prepare.new.self.tiers (needs (value_need (Some n)) 0)). (
       subst (AreFree c.args.nodes.now.tiers) (sym none) (λ size. omega arith),
       subst (AreFree c.prepare.new.self.tiers) (sym one) free,
     )) (free_by _ _ c.args.cells.now c.prepare.new.self _ (cell_sized c.args.cells.now.tiers c.requires.table.holds.cells.sizes_are) c.prepare.result (here g c))
 
-pub returns-then-reached-len-clause-grows : goal.returns-then-reached-len-clause-grows
-returns-then-reached-len-clause-grows g c =
+pub returns-then-reached-last-clause-grows : goal.returns-then-reached-last-clause-grows
+returns-then-reached-last-clause-grows g c =
     cells_only c.args.nodes.now c.args.cells.now c.prepare.new.self (value_block_size (Some c.args.reached.now.node)) (rank c.args.reached.now.node.value_bitmap 32) c.prepare.result c.requires.table.holds.cells.sizes_are (here g c)
 
-pub returns-then-reached-len-clause-kept : goal.returns-then-reached-len-clause-kept
-returns-then-reached-len-clause-kept g c = λ reading paths values holds. record {
+pub returns-then-reached-last-clause-kept : goal.returns-then-reached-last-clause-kept
+returns-then-reached-last-clause-kept g c = λ reading paths values holds. record {
   hold = holds.hold;
   cells = cells_prepared reading values paths _ _ holds.cells
       (keeps_by _ _ _ _ _ (cell_sized c.args.cells.now.tiers holds.cells.sizes_are) c.prepare.result c.prepare.ensures.obtains) c.prepare.ensures.sound;
 }
 
-pub returns-then-reached-len-clause-obtains : goal.returns-then-reached-len-clause-obtains
-returns-then-reached-len-clause-obtains g c =
+pub returns-then-reached-last-clause-obtains : goal.returns-then-reached-last-clause-obtains
+returns-then-reached-last-clause-obtains g c =
     let n = c.args.reached.now.node in
     let v = c.args.nodes.now in
     let w = c.args.cells.now in
     let t = c.requires.table in
-    let short = level_last c.args.reached.now.level c.args.len c.if-reached-len.true in
-    let none = nodes_here n c.args.reached.now.level c.args.len short in
-    let one = cells_here n c.args.reached.now.level c.args.len short in
-    subst (λ ns. ObtainsBoth (λ e. e ≡ IndexRange) (λ e. e ≡ Memory) c.prepare.result v v w c.prepare.new.self ns (cells_needed n c.args.reached.now.level c.args.len)) (sym none)
+    let short = at_own c.args.reached.now.level c.len-last.result (length c.args.path.now) c.len-last.ensures.len c.if-reached-last.true in
+    let none = nodes_here c.args.reached.now c.args.path.now short in
+    let one = cells_here c.args.reached.now c.args.path.now short in
+    subst (λ ns. ObtainsBoth (λ e. e ≡ IndexRange) (λ e. e ≡ Memory) c.prepare.result v v w c.prepare.new.self ns (cells_needed c.args.reached.now c.args.path.now)) (sym none)
     (subst (λ cs. ObtainsBoth (λ e. e ≡ IndexRange) (λ e. e ≡ Memory) c.prepare.result v v w c.prepare.new.self [] cs) (sym one)
     (cells_alone _ _ v v w c.prepare.new.self _ (node_sized v.tiers t.holds.hold.sizes_are) (cell_sized w.tiers t.holds.cells.sizes_are) c.prepare.result (here g c)))
 
@@ -116,10 +116,10 @@ returns-in_err-prepare-clause-obtains g c =
     let v = c.args.nodes.now in
     let w = c.args.cells.now in
     let t = c.requires.table in
-    let one = ap (λ o. needs o 0) (first_list_need w t.holds.cells.sizes_are) ∙ sym (cells_below n c.args.reached.now.level c.args.len (level_more c.args.reached.now.level c.args.len c.requires.ends.1.1.whole c.if-reached-len.false)) in
+    let one = ap (λ o. needs o 0) (first_list_need w t.holds.cells.sizes_are) ∙ sym (cells_below c.args.reached.now c.args.path.now (above_own c.args.reached.now.level c.len-last.result (length c.args.path.now) c.len-last.ensures.len c.requires.ends.1.along.whole c.if-reached-last.false).1) in
     let all = cells_refused _ _ v v w c.prepare-2.new.self _ (node_sized v.tiers t.holds.hold.sizes_are) (cell_sized w.tiers t.holds.cells.sizes_are)
-    (nodes_needed n c.args.reached.now.level c.args.len) c.in_err-prepare.field-0.0 c.in_err-prepare.ensures.obtains in
-    rw (p.1, p.2) (subst (λ cs. ObtainsBoth {X = Unit {0}} (λ e. e ≡ IndexRange) (λ e. e ≡ Memory) (Err c.in_err-prepare.field-0.0) v v w c.prepare-2.new.self (nodes_needed n c.args.reached.now.level c.args.len) cs) one all)
+    (nodes_needed c.args.reached.now c.args.path.now) c.in_err-prepare.field-0.0 c.in_err-prepare.ensures.obtains in
+    rw (p.1, p.2) (subst (λ cs. ObtainsBoth {X = Unit {0}} (λ e. e ≡ IndexRange) (λ e. e ≡ Memory) (Err c.in_err-prepare.field-0.0) v v w c.prepare-2.new.self (nodes_needed c.args.reached.now c.args.path.now) cs) one all)
 
 -- ---- and blocks for the nodes
 
@@ -127,7 +127,7 @@ pub prepare-requires-3-clause-tier : goal.prepare-requires-3-clause-tier
 prepare-requires-3-clause-tier g c = λ some.
     let n = c.args.reached.now.node in
     list_tier blank_node c.args.nodes.now n.child_tier n.child_block c.count-2.result
-    (has_list c.args.nodes.now _ n c.count-2.result (at_values _ _ _ (end_there c.requires.ends.0 c.args.len c.args.reached.now c.requires.table c.requires.ends.1)) c.requires.ends.1.1.node_is
+    (has_list c.args.nodes.now _ n c.count-2.result (at_values _ _ _ (end_there c.args.path.now c.args.reached.now c.requires.table c.requires.ends)) c.requires.ends.1.along.node_is
     (c.count-2.ensures ∙ sym (rank-ones n.child_bitmap 32 (omega arith)))) some
 
 pub prepare-requires-3-clause-sizes : goal.prepare-requires-3-clause-sizes
@@ -135,30 +135,31 @@ prepare-requires-3-clause-sizes g c = node_sized c.args.nodes.now.tiers c.requir
 
 pub prepare-requires-3-clause-fits : goal.prepare-requires-3-clause-fits
 prepare-requires-3-clause-fits g c =
-    let few = few_children c.requires.ends.0 c.args.len c.args.reached.now.level _ c.args.reached.now.node c.args.nodes.now c.requires.ends.1.1
-    (level_more c.args.reached.now.level c.args.len c.requires.ends.1.1.whole c.if-reached-len.false) in
+    let few = few_children c.args.path.now c.args.reached.now c.args.nodes.now c.requires.ends.1
+    (above_own c.args.reached.now.level c.len-last.result (length c.args.path.now) c.len-last.ensures.len c.requires.ends.1.along.whole c.if-reached-last.false).1 in
     node_fits c.args.nodes.now.tiers (c.count-2.result + 1) c.requires.table.holds.hold.sizes_are
     (omega (arith, few, rank-ones c.args.reached.now.node.child_bitmap 32 (omega arith), c.count-2.ensures))
 
 -- what the array of nodes says of them
 below : (g : given.Over) (c : goal.After-prepare-3 g) → Obtains (λ e. e ≡ IndexRange) (λ e. e ≡ Memory) c.prepare-3.result c.args.nodes.now c.prepare-3.new.self
-    (needs (child_need (Some c.args.reached.now.node)) (c.args.len / 5 - (c.args.reached.now.level + 1)))
+    (needs (child_need (Some c.args.reached.now.node)) (length c.args.path.now / 5 - (c.args.reached.now.level + 1)))
 below g c =
     let n = c.args.reached.now.node in
     let same : c.count-2.result ≡ rank n.child_bitmap 32 = c.count-2.ensures ∙ sym (rank-ones n.child_bitmap 32 (omega arith)) in
-    subst (λ o. Obtains (λ e. e ≡ IndexRange) (λ e. e ≡ Memory) c.prepare-3.result c.args.nodes.now c.prepare-3.new.self (needs o (c.args.len / 5 - (c.args.reached.now.level + 1))))
-    (child_list_need c.args.nodes.now n c.count-2.result c.requires.table.holds.hold.sizes_are same) c.prepare-3.ensures.obtains
+    subst (λ o. Obtains (λ e. e ≡ IndexRange) (λ e. e ≡ Memory) c.prepare-3.result c.args.nodes.now c.prepare-3.new.self (needs o (length c.args.path.now / 5 - (c.args.reached.now.level + 1))))
+    (child_list_need c.args.nodes.now n c.count-2.result c.requires.table.holds.hold.sizes_are same)
+    (subst (λ l. Obtains (λ e. e ≡ IndexRange) (λ e. e ≡ Memory) c.prepare-3.result c.args.nodes.now c.prepare-3.new.self (needs (list_need c.args.nodes.now.tiers n.child_tier c.count-2.result) (l / 5 - (c.args.reached.now.level + 1)))) c.len-last.ensures.len c.prepare-3.ensures.obtains)
 
 pub returns-clause-space : goal.returns-clause-space
 returns-clause-space g c =
     let n = c.args.reached.now.node in
     let w = c.args.cells.now in
     let t = c.requires.table in
-    let more = level_more c.args.reached.now.level c.args.len c.requires.ends.1.1.whole c.if-reached-len.false in
-    let nodes = nodes_below n c.args.reached.now.level c.args.len more in
-    let one = cells_below n c.args.reached.now.level c.args.len more in
+    let more = (above_own c.args.reached.now.level c.len-last.result (length c.args.path.now) c.len-last.ensures.len c.requires.ends.1.along.whole c.if-reached-last.false).1 in
+    let nodes = nodes_below c.args.reached.now c.args.path.now more in
+    let one = cells_below c.args.reached.now c.args.path.now more in
     let made = free_obtained w c.prepare-2.new.self _ c.in_ok-prepare.ensures.obtains.made in
-    on_ok_weaker c.prepare-3.result (λ (free : AreFree c.prepare-3.new.self.tiers (needs (child_need (Some n)) (c.args.len / 5 - (c.args.reached.now.level + 1)))). (
+    on_ok_weaker c.prepare-3.result (λ (free : AreFree c.prepare-3.new.self.tiers (needs (child_need (Some n)) (length c.args.path.now / 5 - (c.args.reached.now.level + 1)))). (
       subst (AreFree c.prepare-3.new.self.tiers) (sym nodes) free,
       subst (AreFree c.prepare-2.new.self.tiers) (ap (λ o. needs o 0) (first_list_need w t.holds.cells.sizes_are) ∙ sym one) made,
     )) (free_by _ _ c.args.nodes.now c.prepare-3.new.self _ (node_sized c.args.nodes.now.tiers t.holds.hold.sizes_are) c.prepare-3.result (below g c))
@@ -168,7 +169,7 @@ returns-clause-grows g c =
     let v = c.args.nodes.now in
     let w = c.args.cells.now in
     let t = c.requires.table in
-    let few = missing_nodes v (child_block_size (Some c.args.reached.now.node)) (rank c.args.reached.now.node.child_bitmap 32) (c.args.len / 5 - (c.args.reached.now.level + 1)) t.holds.hold.sizes_are (few_steps c.args.len c.args.reached.now.level c.requires.short) in
+    let few = missing_nodes v (child_block_size (Some c.args.reached.now.node)) (rank c.args.reached.now.node.child_bitmap 32) (length c.args.path.now / 5 - (c.args.reached.now.level + 1)) t.holds.hold.sizes_are (few_steps (length c.args.path.now) c.args.reached.now.level (omega (arith, c.len-last.ensures.len, c.len-last.ensures.short))) in
     record {
       nodes = Grows-obtained _ _ c.prepare-3.result v c.prepare-3.new.self _ 56 (node_sized v.tiers t.holds.hold.sizes_are) (below g c) few;
       cells = (cells_only v w c.prepare-2.new.self None 0 c.prepare-2.result t.holds.cells.sizes_are
@@ -190,10 +191,10 @@ returns-clause-obtains g c =
     let v = c.args.nodes.now in
     let w = c.args.cells.now in
     let t = c.requires.table in
-    let more = level_more c.args.reached.now.level c.args.len c.requires.ends.1.1.whole c.if-reached-len.false in
-    let nodes = nodes_below n c.args.reached.now.level c.args.len more in
-    let one = ap (λ o. needs o 0) (first_list_need w t.holds.cells.sizes_are) ∙ sym (cells_below n c.args.reached.now.level c.args.len more) in
-    subst (λ ns. ObtainsBoth (λ e. e ≡ IndexRange) (λ e. e ≡ Memory) c.prepare-3.result v c.prepare-3.new.self w c.prepare-2.new.self ns (cells_needed n c.args.reached.now.level c.args.len)) (sym nodes)
-    (subst (λ cs. ObtainsBoth (λ e. e ≡ IndexRange) (λ e. e ≡ Memory) c.prepare-3.result v c.prepare-3.new.self w c.prepare-2.new.self (needs (child_need (Some n)) (c.args.len / 5 - (c.args.reached.now.level + 1))) cs) one
+    let more = (above_own c.args.reached.now.level c.len-last.result (length c.args.path.now) c.len-last.ensures.len c.requires.ends.1.along.whole c.if-reached-last.false).1 in
+    let nodes = nodes_below c.args.reached.now c.args.path.now more in
+    let one = ap (λ o. needs o 0) (first_list_need w t.holds.cells.sizes_are) ∙ sym (cells_below c.args.reached.now c.args.path.now more) in
+    subst (λ ns. ObtainsBoth (λ e. e ≡ IndexRange) (λ e. e ≡ Memory) c.prepare-3.result v c.prepare-3.new.self w c.prepare-2.new.self ns (cells_needed c.args.reached.now c.args.path.now)) (sym nodes)
+    (subst (λ cs. ObtainsBoth (λ e. e ≡ IndexRange) (λ e. e ≡ Memory) c.prepare-3.result v c.prepare-3.new.self w c.prepare-2.new.self (needs (child_need (Some n)) (length c.args.path.now / 5 - (c.args.reached.now.level + 1))) cs) one
     (nodes_then _ _ v c.prepare-3.new.self w c.prepare-2.new.self _ (node_sized v.tiers t.holds.hold.sizes_are) (cell_sized w.tiers t.holds.cells.sizes_are) _ c.prepare-3.result (below g c) _
     c.in_ok-prepare.ensures.obtains))
