@@ -4,7 +4,7 @@ use Rattle.std.specs.List.{All}
 use Rattle.std.proofs.lemmas.Bool.{lt-ltb}
 use Rattle.std.proofs.lemmas.List.{length-take-le}
 use Rattle.prefix_trie_bits.specs.declared.node.Place.TheVariants.{Child as ChildPlace}
-use Rattle.prefix_trie_table.specs.Walking.Walks.{slot_of}
+use Rattle.prefix_trie_table.specs.Walking.Walks.{EndsAt, slot_of}
 use Rattle.prefix_trie_table.proofs.Walk.Stacks.{others_after, spot_as}
 use Rattle.prefix_trie_table.proofs.Strings.Plain.{whole_levels}
 use Rattle.prefix_trie_table.proofs.Lookup.Locating.{seat_below}
@@ -108,6 +108,16 @@ module _ {K : Type 0} (IsKey : K → Type 0) (bits : K → List Bool) (width : �
 
           taken : take (p.depth + n) (bits key) ≡ take p.depth (bits way) ++ s
           taken = take-extend (bits way) (bits key) width p.depth n x long fits extended ∙ ap (λ u. take p.depth (bits way) ++ u) (sym is)
+
+          -- the key ends at the spot
+          pub ends_here : EndsAt (bits way) p (take (p.depth + n) (bits key))
+          ends_here =
+              let l : length (take (p.depth + n) (bits key)) ≡ p.depth + length s = ap length taken ∙ length-append (take p.depth (bits way)) s ∙ ap (λ d. d + length s) string-length in
+              record {
+                whole = omega (arith, l);
+                last = omega (arith, l, short);
+                same_above = ap (take p.depth) taken ∙ take-append-le p.depth (take p.depth (bits way)) s (omega (arith, string-length)) ∙ take-take p.depth p.depth (bits way) (omega arith);
+              }
 
           filled : bits key ≡ take (p.depth + n) (bits key) ++ zeros (width - (p.depth + n))
           filled =

@@ -41,20 +41,33 @@ IsPlaceOf n s = (length s ≤ 5) × (is_in n.value_bitmap n.child_bitmap s ≡ t
 abbrev pub IsOther : List Bool → List Bool → Type 0
 IsOther t s = s ≢ t
 
--- of the places still to come at a spot those are dropped that the first len bits of b begin, which end at its node
-pub record Skips (b : List Bool) (len : ℕ) (p q : Spot) : Type 0 where
+-- of the places still to come at a spot those are dropped that a bit string begins, which ends at its node
+pub record Skips (path : List Bool) (p q : Spot) : Type 0 where
   pub node_is : q.node ≡ p.node
   pub depth_is : q.depth ≡ p.depth
-  pub left : to_come q.places ≡ filter (λ s. not (begins (drop p.depth (take len b)) s)) (to_come p.places)
+  pub left : to_come q.places ≡ filter (λ s. not (begins (drop p.depth path) s)) (to_come p.places)
 
 -- at the last of these spots
-pub record SkipsLast (b : List Bool) (len : ℕ) (old new : List Spot) : Type 0 where
+pub record SkipsLast (path : List Bool) (old new : List Spot) : Type 0 where
   pub below : List Spot
   pub was : Spot
   pub now : Spot
   pub before : old ≡ below ++ was ∷ []
   pub after : new ≡ below ++ now ∷ []
-  pub skips : Skips b len was now
+  pub skips : Skips path was now
+
+-- a bit string ends at the node of the spot, whose path begins this way
+pub record EndsAt (way : List Bool) (p : Spot) (path : List Bool) : Type 0 where
+  pub whole : p.depth ≤ length path
+  pub last : length path < p.depth + 5
+  pub same_above : take p.depth path ≡ take p.depth way
+
+-- it ends at the node of the last of these spots
+pub record EndsLast (way : List Bool) (ps : List Spot) (path : List Bool) : Type 0 where
+  pub below : List Spot
+  pub spot : Spot
+  pub is : ps ≡ below ++ spot ∷ []
+  pub ends : EndsAt way spot path
 
 -- the depth at which a stack starts
 abbrev pub start : List Spot → ℕ
@@ -87,19 +100,6 @@ module _ {K : Type 0} where
   -- so it is at each spot but the last: what a key that ends at the last spot begins is to come there alone
   abbrev pub ArePassed : (K → List Bool) → K → List Spot → Type 0
   ArePassed bits key ps = AllWithin (IsPassed bits key) ps 0 (length ps - 1)
-
-  -- the first len bits of a key end at the node of the spot
-  pub record EndsAt (bits : K → List Bool) (along : K) (p : Spot) (key : K) (len : ℕ) : Type 0 where
-    pub whole : p.depth ≤ len
-    pub last : len < p.depth + 5
-    pub same_above : take p.depth (bits key) ≡ take p.depth (bits along)
-
-  -- they end at the node of the last of these spots
-  pub record EndsLast (bits : K → List Bool) (along : K) (ps : List Spot) (key : K) (len : ℕ) : Type 0 where
-    pub below : List Spot
-    pub spot : Spot
-    pub is : ps ≡ below ++ spot ∷ []
-    pub ends : EndsAt bits along spot key len
 
   module _ {T : Type 0} where
     -- the pairs still to come at a spot
@@ -142,7 +142,7 @@ IsSeated bits nodes Done = ⊤
 
 -- a key that a step gave ends at its spot, and the child that it gave is passed
 abbrev pub StaysOnPath : {K : Type 0} → (K → List Bool) → K → Spot → Step K → Spot → Type 0
-StaysOnPath bits along p (Entry key len seat) q = EndsAt bits along p key len
+StaysOnPath bits along p (Entry key len seat) q = EndsAt (bits along) p (take len (bits key))
 StaysOnPath bits along p (Child c key) q = IsPassed bits key q
 StaysOnPath bits along p Done q = ⊤
 

@@ -13,8 +13,8 @@ use crate::allocator::node::{Node, NodeSlot};
 use crate::allocator::nodes::{NodeAllocator, Tick};
 use crate::table::seat::Seat;
 use arrayvec::ArrayVec;
-use prefix_trie_bits::node::{Place, Places, string_of, value_bit_of};
-use prefix_trie_bits::prefix::Key;
+use prefix_trie_bits::node::{Place, Places, string_of};
+use prefix_trie_bits::prefix::{BitString, Key};
 use std::alloc::Allocator;
 
 /// A node, whose path is the first `depth` bits of a walk's key, and the places of the node that are still to come.
@@ -134,16 +134,14 @@ pub fn put_places(stack: &mut ArrayVec<Spot, 26>, spot: Spot)
     stack[last].places = spot.places;
 }
 
-/// Drops the places that a key begins. The key ends at the node of the spot.
+/// Drops the places that a bit string begins. The bit string ends at the node of the spot.
 #[inline]
-pub fn skip_below<K: Key>(spot: &mut Spot, key: K, len: u32)
-    requires key { K.IsKey key }
-    requires whole { spot.old.depth ≤ len }
-    requires last { len < spot.old.depth + 5 }
-    requires within { len ≤ K.bit_width }
-    ensures { Skips (K.bits key) len spot.old spot.new }
+pub fn skip_below<K: Key>(spot: &mut Spot, path: &BitString<K>)
+    requires whole { spot.old.depth ≤ length path.now }
+    requires last { length path.now < spot.old.depth + 5 }
+    ensures { Skips path.now spot.old spot.new }
 {
-    spot.places.skip_below(value_bit_of(key, spot.depth, len));
+    spot.places.skip_below(path.after(spot.depth).value_bit());
 }
 
 /// Returns the value at a seat.

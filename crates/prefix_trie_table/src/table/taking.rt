@@ -1,5 +1,5 @@
 //! The walk that moves the values out of a table, in listing order.
-ghost use Rattle.std.specs.Prelude.{◌≡◌, ◌≤◌, [], take, IfOk, MatchOption};
+ghost use Rattle.std.specs.Prelude.{◌≡◌, [], IfOk, MatchOption};
 ghost use Rattle.std.specs.List.{AllZip};
 ghost use Rattle.std.specs.FinMap.{len as size};
 ghost use Rattle.prefix_trie_bits.specs.Model.Entries.{AreWithin};
@@ -65,22 +65,18 @@ impl<K: Key, T: Drop, A: Allocator, V: Tick> IntoWalk<K, T, A, V> {
     pub(super) fn below(
         nodes: NodeAllocator<A, V>,
         cells: Cells<T, A>,
-        key: K,
-        len: u32,
+        path: BitString<K>,
         counter: &mut V,
     ) -> Self
-        requires key { K.IsKey key }
-        requires long { len ≤ K.bit_width }
         requires tree { (s : State T) × IsTrie K.bit_width (size s.entries) nodes cells s }
-        ensures { (s : State T) → IsShapeOf nodes.slots cells.slots s
-            → result ≡ listing_below s.entries (take len (K.bits key)) }
+        ensures { (s : State T) → IsShapeOf nodes.slots cells.slots s → result ≡ listing_below s.entries path }
     {
-        let stack = start_at::<K, T, A, V>(&nodes, key, len, Start::Below, counter);
+        let start = start_at::<K, T, A, V>(&nodes, path, Start::Below, counter);
         IntoWalk {
             nodes,
             cells,
-            key,
-            stack,
+            key: start.key,
+            stack: start.stack,
         }
     }
 
@@ -157,6 +153,6 @@ impl<T: Drop, A: Allocator, V: Tick> Table<T, A, V> {
         requires nodes { AreNodes K.bit_width self.entries self.nodes }
         ensures { result ≡ listing_below self.entries path }
     {
-        IntoWalk::below(self.nodes, self.cells, path.key(), path.len(), counter)
+        IntoWalk::below(self.nodes, self.cells, path, counter)
     }
 }

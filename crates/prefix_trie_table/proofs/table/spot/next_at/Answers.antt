@@ -1,5 +1,5 @@
 use Rattle.prefix_trie_table.proofs.Prelude.{◌≡◌, ◌+◌, ◌-◌, length, refl, sym, ap, ◌∙◌, arith, digits, zeros, length-digits, value_seat}
-use Rattle.prefix_trie_table.proofs.Walk.Spots.{same_above, child_passed, place-value, place-child, place-small, place-child-small, goes_on, lighter, value_space, gives_value, value_seated, child_space, child_here, child_spot, child_still, child_lighter}
+use Rattle.prefix_trie_table.proofs.Walk.Spots.{same_above, ends_here, child_passed, place-value, place-child, place-small, place-child-small, goes_on, lighter, value_space, gives_value, value_seated, child_space, child_here, child_spot, child_still, child_lighter}
 use Rattle.prefix_trie_table.proofs.table.spot.next_at.Goals as goal
 
 pub string_of-n-requires : goal.string_of-n-requires
@@ -24,7 +24,6 @@ pub returns-in-Value : goal.returns-in-Value
 returns-in-Value g c =
     let taken = c.in-Some.ensures.place in
     let is = place-value taken.string c.in-Value.bit taken.short (sym c.in-Value.is ∙ taken.place) in
-    let short = c.string_of-n.ensures.short in
     record {
       step = λ t tree. (
         gives_value _ _ _ _ _ _ c.requires.spot (g.met.K.Key.key_laws.bits_length c.args.key c.requires.spot.is_key) taken.string c.next_place.new.self taken.first t tree is.0 c.extend.result c.extend.ensures.key c.string_of-n.result.0 c.string_of-n.result.1 (c.string_of-n.ensures.only taken.string (sym is.1)) c.extend.ensures.value _ (c.value_seat.ensures ∙ ap (value_seat c.args.spot.now.node) is.1),
@@ -33,12 +32,7 @@ returns-in-Value g c =
         refl,
       );
       seat = value_seated _ _ _ _ _ _ c.requires.spot (g.met.K.Key.key_laws.bits_length c.args.key c.requires.spot.is_key) taken.string c.next_place.new.self taken.first c.requires.tree.0 c.requires.tree.1 is.0 c.extend.result c.extend.ensures.key c.string_of-n.result.0 c.string_of-n.result.1 (c.string_of-n.ensures.only taken.string (sym is.1)) c.extend.ensures.value _ (c.value_seat.ensures ∙ ap (value_seat c.args.spot.now.node) is.1);
-      way = record {
-        whole = omega arith;
-        last = omega (arith, short);
-        same_above = same_above _ _ _ _ _ _ c.requires.spot (g.met.K.Key.key_laws.bits_length c.args.key c.requires.spot.is_key) c.extend.result
-            (digits c.string_of-n.result.0 c.string_of-n.result.1) (zeros (g.K.Key.bit_width - (c.args.spot.now.depth + c.string_of-n.result.0))) c.extend.ensures.value;
-      };
+      way = ends_here _ _ _ _ _ _ c.requires.spot (g.met.K.Key.key_laws.bits_length c.args.key c.requires.spot.is_key) taken.string c.next_place.new.self taken.first c.requires.tree.0 c.requires.tree.1 is.0 c.extend.result c.extend.ensures.key c.string_of-n.result.0 c.string_of-n.result.1 (c.string_of-n.ensures.only taken.string (sym is.1)) c.extend.ensures.value;
     }
 
 pub child_slot-at-requires : goal.child_slot-at-requires

@@ -68,7 +68,7 @@ returns-in-Entry-clause-last g c =
       ends = record {
         whole = (let w = ends.whole in omega (arith, w, depth));
         last = (let l = ends.last in omega (arith, l, depth));
-        same_above = subst (λ d. take d (g.K.Key.bits c.in-Entry.found) ≡ take d (g.K.Key.bits c.loop-spot.key)) (sym depth) ends.same_above;
+        same_above = subst (λ d. take d (take c.in-Entry.len (g.K.Key.bits c.in-Entry.found)) ≡ take d (g.K.Key.bits c.loop-spot.key)) (sym depth) ends.same_above;
       };
     }
 
