@@ -61,13 +61,17 @@ in_first n values children s h = and-first (is_in n.value_bitmap n.child_bitmap 
 pub all_left : (rest some : List Bool) (depth len : ℕ) → length rest + depth ≡ len → some ≡ take (len - depth) rest → some ≡ rest
 all_left rest some depth len left is = is ∙ take_all (len - depth) rest (omega (arith, left))
 
+-- a key is as long as a bit string that it begins with
+pub key_reach : (n l width : ℕ) → l ≡ width → n ≤ width → n ≤ l
+key_reach n l width long within = omega (arith, long, within)
+
 -- nothing comes after itself
 behind-itself : (x : Start) (s : List Bool) → behind x s s ≡ false
 behind-itself At s = not-itself s
 behind-itself After s = not-itself s
 behind-itself Below s = refl
 
-module _ {K : Type 0} (IsKey : K → Type 0) (bits : K → List Bool) (width : ℕ) (v : Store Node) (key : K) (q : List Bool) (from : Start) where
+module _ (width : ℕ) (v : Store Node) (way q : List Bool) (from : Start) where
   -- at the next node of the path: what is above it, and what is selected under it, is the selection
   pub record IsLaid (T : Type 0) (depth : ℕ) (node : Node) (ps : List Spot) : Type 0 where
     pub level : ℕ
@@ -75,10 +79,10 @@ module _ {K : Type 0} (IsKey : K → Type 0) (bits : K → List Bool) (width : �
     pub inside : depth ≤ length q
     pub high : length ps ≡ level
     pub stands : read v.slots (chunks_of (take depth q)) ≡ Some node
-    pub cursor : IsStackFrom IsKey bits width v 0 key ps
-    pub passed : All (IsPassed bits key) ps
+    pub cursor : IsStackFrom width v.slots 0 way ps
+    pub passed : All (IsPassed way) ps
     pub rest : (t : Tree T) → IsTrie width t.count v t.cells t.shape →
-        selected from t.shape.entries q ≡ wanted_below from t.shape.entries q (take depth q) ++ pending bits t.shape.entries key ps
+        selected from t.shape.entries q ≡ wanted_below from t.shape.entries q (take depth q) ++ pending t.shape.entries way ps
 
   pub laid_root : {T : Type 0} (node : Node) (ps : List Spot) → node ≡ node_at v.slots 0 → ps ≡ [] → IsLaid T 0 node ps
   laid_root node ps is none = record {
@@ -87,14 +91,14 @@ module _ {K : Type 0} (IsKey : K → Type 0) (bits : K → List Bool) (width : �
     inside = omega arith;
     high = ap length none;
     stands = read-nil v.slots ∙ ap Some (sym is);
-    cursor = subst (λ qs. IsStackFrom IsKey bits width v 0 key qs) (sym none) tt;
-    passed = subst (All (IsPassed bits key)) (sym none) (All-nil (IsPassed bits key));
+    cursor = subst (λ qs. IsStackFrom width v.slots 0 way qs) (sym none) tt;
+    passed = subst (All (IsPassed way)) (sym none) (All-nil (IsPassed way));
     rest = λ t tree.
         sym (wanted_at_root from t.shape.entries q) ∙ sym (append-nil (wanted_below from t.shape.entries q []))
-        ∙ ap (λ qs. wanted_below from t.shape.entries q [] ++ pending bits t.shape.entries key qs) (sym none);
+        ∙ ap (λ qs. wanted_below from t.shape.entries q [] ++ pending t.shape.entries way qs) (sym none);
   }
 
-  module _ {T : Type 0} (is_key : IsKey key) (begun : take (length q) (bits key) ≡ q) (within : length q ≤ width) (depth : ℕ) (node : Node) (ps : List Spot) (laid : IsLaid T depth node ps) where
+  module _ {T : Type 0} (begun : take (length q) way ≡ q) (within : length q ≤ width) (reach : length q ≤ length way) (depth : ℕ) (node : Node) (ps : List Spot) (laid : IsLaid T depth node ps) where
     string_length : length (take depth q) ≡ depth
     string_length = length-take-le depth q laid.inside
 
@@ -106,16 +110,16 @@ module _ {K : Type 0} (IsKey : K → Type 0) (bits : K → List Bool) (width : �
     left_is = sym (take-append-drop depth q)
 
     -- the key begins in the same way
-    same_start : (n : ℕ) → n ≤ length q → take n (bits key) ≡ take n q
-    same_start n h = sym (take-take n (length q) (bits key) h) ∙ ap (take n) begun
+    same_start : (n : ℕ) → n ≤ length q → take n way ≡ take n q
+    same_start n h = sym (take-take n (length q) way h) ∙ ap (take n) begun
 
     -- the path goes on
     module _ (more : depth + 5 ≤ length q) where
       five : length (take 5 (drop depth q)) ≡ 5
       five = length-take-le 5 (drop depth q) (omega (arith, length-drop depth q, more))
 
-      same_child : take 5 (drop depth (bits key)) ≡ take 5 (drop depth q)
-      same_child = sym (drop-take depth 5 (bits key)) ∙ ap (drop depth) (same_start (depth + 5) more) ∙ drop-take depth 5 q
+      same_child : take 5 (drop depth way) ≡ take 5 (drop depth q)
+      same_child = sym (drop-take depth 5 way) ∙ ap (drop depth) (same_start (depth + 5) more) ∙ drop-take depth 5 q
 
       deeper_string : take (depth + 5) q ≡ take depth q ++ take 5 (drop depth q)
       deeper_string = take-add depth 5 q
@@ -151,40 +155,40 @@ module _ {K : Type 0} (IsKey : K → Type 0) (bits : K → List Bool) (width : �
 
     -- a spot is put at this node
     module _ (p : Spot) (node_is : p.node ≡ node) (depth_is : p.depth ≡ depth) (each : All (IsPlaceOf node) (to_come p.places)) (qs : List Spot) (pushed : qs ≡ ps ++ p ∷ []) where
-      spot : IsSpot IsKey bits width v key p
+      spot : IsSpot width v.slots way p
       spot = record {
-        is_key = is_key;
         level = laid.level;
         depth_is = depth_is ∙ laid.depth_is;
         within = (let i = laid.inside in omega (arith, i, depth_is, within));
-        stands = ap (λ d. read v.slots (chunks_of (take d (bits key)))) depth_is ∙ ap (λ s. read v.slots (chunks_of s)) (same_start depth laid.inside) ∙ laid.stands ∙ ap Some (sym node_is);
+        long = (let i = laid.inside in omega (arith, i, depth_is, reach));
+        stands = ap (λ d. read v.slots (chunks_of (take d way))) depth_is ∙ ap (λ s. read v.slots (chunks_of s)) (same_start depth laid.inside) ∙ laid.stands ∙ ap Some (sym node_is);
         each = subst (λ n. All (IsPlaceOf n) (to_come p.places)) (sym node_is) each;
       }
 
-      pub stack_from_pushed : IsStackFrom IsKey bits width v 0 key qs
+      pub stack_from_pushed : IsStackFrom width v.slots 0 way qs
       stack_from_pushed =
-          subst (IsStackFrom IsKey bits width v 0 key) (sym pushed)
-          (cursor-push IsKey bits width v key 0 ps p laid.cursor (let d = laid.depth_is in let h = laid.high in omega (arith, d, h, depth_is)) spot)
+          subst (IsStackFrom width v.slots 0 way) (sym pushed)
+          (cursor-push width v.slots way 0 ps p laid.cursor (let d = laid.depth_is in let h = laid.high in omega (arith, d, h, depth_is)) spot)
 
-      pub stack_pushed : IsStack IsKey bits width v key qs
-      stack_pushed = restart IsKey bits width v key 0 qs stack_from_pushed
+      pub stack_pushed : IsStack width v.slots way qs
+      stack_pushed = restart width v.slots way 0 qs stack_from_pushed
 
-      pub passed_pushed : ArePassed bits key qs
-      passed_pushed = passed-above bits key qs ps p pushed laid.passed
+      pub passed_pushed : ArePassed way qs
+      passed_pushed = passed-above way qs ps p pushed laid.passed
 
       module _ (values children : ℕ) (all : to_come p.places ≡ places_in node values children) (test : List Bool → Bool) (holds : HoldsPlaces values children test)
           (t : Tree T) (tree : IsTrie width t.count v t.cells t.shape) where
-        still_is : still bits t.shape.entries key p ≡ filter (λ e. test (take 5 (drop (length (take depth q)) e.0))) (listing_below t.shape.entries (take depth q))
+        still_is : still t.shape.entries way p ≡ filter (λ e. test (take 5 (drop (length (take depth q)) e.0))) (listing_below t.shape.entries (take depth q))
         still_is =
-            ap (λ d. listing_at_places t.shape.entries (take d (bits key)) (to_come p.places)) depth_is
+            ap (λ d. listing_at_places t.shape.entries (take d way) (to_come p.places)) depth_is
             ∙ ap (λ s. listing_at_places t.shape.entries s (to_come p.places)) (same_start depth laid.inside)
             ∙ ap (listing_at_places t.shape.entries (take depth q)) all
             ∙ at_some_places t.shape.entries (take depth q) test (λ s. is_in node.value_bitmap node.child_bitmap s && is_in values children s) (is_in node.value_bitmap node.child_bitmap)
             (λ s h. ap (λ b. is_in node.value_bitmap node.child_bitmap s && b) (holds.bits s h))
             (unset width v t tree (take depth q) node whole laid.stands)
 
-        pending_is : pending bits t.shape.entries key qs ≡ still bits t.shape.entries key p ++ pending bits t.shape.entries key ps
-        pending_is = ap (pending bits t.shape.entries key) pushed ∙ pending-push bits t.shape.entries key ps p
+        pending_is : pending t.shape.entries way qs ≡ still t.shape.entries way p ++ pending t.shape.entries way ps
+        pending_is = ap (pending t.shape.entries way) pushed ∙ pending-push t.shape.entries way ps p
 
       -- the node is passed: what comes after the child taken is left there
       module _ (more : depth + 5 ≤ length q) (values children : ℕ) (all : to_come p.places ≡ places_in node values children) (k : ℕ) (k_is : k ≡ number (take 5 (drop depth q)))
@@ -193,11 +197,11 @@ module _ {K : Type 0} (IsKey : K → Type 0) (bits : K → List Bool) (width : �
         holds = masks (take 5 (drop depth q)) (five more) (sym k_is)
 
         -- the child is not
-        child_taken : IsPassed bits key p
+        child_taken : IsPassed way p
         child_taken =
-            subst (All (IsOther (take 5 (drop p.depth (bits key))))) (sym all)
-            (All-weaker (λ s. (is_in node.value_bitmap node.child_bitmap s && is_in values children s) ≡ true) (IsOther (take 5 (drop p.depth (bits key))))
-            (λ s h e. taken s h (e ∙ ap (λ d. take 5 (drop d (bits key))) depth_is ∙ same_child more))
+            subst (All (IsOther (take 5 (drop p.depth way)))) (sym all)
+            (All-weaker (λ s. (is_in node.value_bitmap node.child_bitmap s && is_in values children s) ≡ true) (IsOther (take 5 (drop p.depth way)))
+            (λ s h e. taken s h (e ∙ ap (λ d. take 5 (drop d way)) depth_is ∙ same_child more))
             (places_in node values children) (filter_passes (λ s. is_in node.value_bitmap node.child_bitmap s && is_in values children s) (strings 5)))
           where
             taken : (s : List Bool) → (is_in node.value_bitmap node.child_bitmap s && is_in values children s) ≡ true → s ≡ take 5 (drop depth q) → ⊥
@@ -207,26 +211,26 @@ module _ {K : Type 0} (IsKey : K → Type 0) (bits : K → List Bool) (width : �
                 false≢true (sym none ∙ and-second (is_in node.value_bitmap node.child_bitmap s) (is_in values children s) h)
 
         passed_is : (t : Tree T) → IsTrie width t.count v t.cells t.shape → wanted_below from t.shape.entries q (take depth q)
-            ≡ wanted_below from t.shape.entries q (take (depth + 5) q) ++ still bits t.shape.entries key p
+            ≡ wanted_below from t.shape.entries q (take (depth + 5) q) ++ still t.shape.entries way p
         passed_is t tree =
-            subst (λ z. wanted_below from t.shape.entries z (take depth q) ≡ wanted_below from t.shape.entries z (take (depth + 5) q) ++ still bits t.shape.entries key p) (sym (way_is more))
+            subst (λ z. wanted_below from t.shape.entries z (take depth q) ≡ wanted_below from t.shape.entries z (take (depth + 5) q) ++ still t.shape.entries way p) (sym (way_is more))
             (wanted_passed from t.shape.entries (take depth q) (take 5 (drop depth q)) (drop (depth + 5) q)
             ∙ ap₂ (λ s es. wanted_below from t.shape.entries (take depth q ++ take 5 (drop depth q) ++ drop (depth + 5) q) s ++ es) (sym (deeper_string more))
             (ap (λ n. filter (λ e. behind from (take 5 (drop depth q)) (take n (drop (length (take depth q)) e.0))) (listing_below t.shape.entries (take depth q))) (five more)
             ∙ sym (still_is values children all (behind from (take 5 (drop depth q))) holds t tree)))
 
         rest_pushed : (t : Tree T) → IsTrie width t.count v t.cells t.shape → selected from t.shape.entries q
-            ≡ wanted_below from t.shape.entries q (take (depth + 5) q) ++ pending bits t.shape.entries key qs
+            ≡ wanted_below from t.shape.entries q (take (depth + 5) q) ++ pending t.shape.entries way qs
         rest_pushed t tree =
-            laid.rest t tree ∙ ap (λ es. es ++ pending bits t.shape.entries key ps) (passed_is t tree)
-            ∙ append_assoc (wanted_below from t.shape.entries q (take (depth + 5) q)) (still bits t.shape.entries key p) (pending bits t.shape.entries key ps)
+            laid.rest t tree ∙ ap (λ es. es ++ pending t.shape.entries way ps) (passed_is t tree)
+            ∙ append_assoc (wanted_below from t.shape.entries q (take (depth + 5) q)) (still t.shape.entries way p) (pending t.shape.entries way ps)
             ∙ ap (λ es. wanted_below from t.shape.entries q (take (depth + 5) q) ++ es) (sym (pending_is values children all (behind from (take 5 (drop depth q))) holds t tree))
 
         -- if the child is missing that is all
-        pub rest_missing : has node.child_bitmap k ≡ false → (t : Tree T) → IsTrie width t.count v t.cells t.shape → pending bits t.shape.entries key qs ≡ selected from t.shape.entries q
+        pub rest_missing : has node.child_bitmap k ≡ false → (t : Tree T) → IsTrie width t.count v t.cells t.shape → pending t.shape.entries way qs ≡ selected from t.shape.entries q
         rest_missing clear t tree =
             sym (rest_pushed t tree
-            ∙ ap (λ es. es ++ pending bits t.shape.entries key qs) (wanted_none from t.shape.entries q (take (depth + 5) q) (none_below more t tree k k_is clear)))
+            ∙ ap (λ es. es ++ pending t.shape.entries way qs) (wanted_none from t.shape.entries q (take (depth + 5) q) (none_below more t tree k k_is clear)))
 
         -- if it is there it is the next node
         pub laid_next : (t : Tree T) → IsTrie width t.count v t.cells t.shape → has node.child_bitmap k ≡ true → (slot : ℕ) → slot ≡ child_slot node k → (next : Node) → next ≡ node_at v.slots slot →
@@ -238,19 +242,19 @@ module _ {K : Type 0} (IsKey : K → Type 0) (bits : K → List Bool) (width : �
           high = (let h = laid.high in omega (arith, h, ap length pushed, length-append ps (p ∷ [])));
           stands = next_stands more t tree k k_is set slot slot_is next is;
           cursor = stack_from_pushed;
-          passed = subst (All (IsPassed bits key)) (sym pushed) (All-push (IsPassed bits key) ps p laid.passed child_taken);
+          passed = subst (All (IsPassed way)) (sym pushed) (All-push (IsPassed way) ps p laid.passed child_taken);
           rest = rest_pushed;
         }
 
       -- the string ends at this node
       pub rest_ended : length q < depth + 5 → (values children : ℕ) → to_come p.places ≡ places_in node values children → HoldsPlaces values children (kept from (drop depth q)) →
-          (t : Tree T) → IsTrie width t.count v t.cells t.shape → pending bits t.shape.entries key qs ≡ selected from t.shape.entries q
+          (t : Tree T) → IsTrie width t.count v t.cells t.shape → pending t.shape.entries way qs ≡ selected from t.shape.entries q
       rest_ended last values children all masks t tree =
           pending_is values children all (kept from (drop depth q)) masks t tree
-          ∙ ap (λ es. es ++ pending bits t.shape.entries key ps) (sym ended)
+          ∙ ap (λ es. es ++ pending t.shape.entries way ps) (sym ended)
           ∙ sym (laid.rest t tree)
         where
-          ended : wanted_below from t.shape.entries q (take depth q) ≡ still bits t.shape.entries key p
+          ended : wanted_below from t.shape.entries q (take depth q) ≡ still t.shape.entries way p
           ended =
               ap (λ z. wanted_below from t.shape.entries z (take depth q)) left_is
               ∙ wanted_ended from t.shape.entries (take depth q) (drop depth q)

@@ -69,8 +69,6 @@ impl<T: Drop, A: Allocator, V: Tick> Table<T, A, V> {
             (keys_to_come K.bits self.now.entries cursor.old) (keys_to_come K.bits self.now.entries cursor.new)) }
         ensures stored { IfSome result (λ r. contains_key self.now.entries (take r.1 (K.bits r.0)) ≡ true) }
     {
-        // It brings into the proof that the number is a key.
-        let _ = cursor.key.is_key();
         advance::<K, A, V, T>(&self.nodes, &mut cursor.stack, &mut cursor.key, counter)
     }
 }

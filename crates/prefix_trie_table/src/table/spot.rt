@@ -96,12 +96,14 @@ pub fn next_at<K: Key, A: Allocator, V: Tick, T: Drop>(
     counter: &mut V,
 ) -> Step<K>
     requires tree { (t : Tree T) × IsTrie K.bit_width t.count nodes.now t.cells t.shape }
-    requires spot { IsSpot K.IsKey K.bits K.bit_width nodes.now key spot.old }
+    requires spot { IsSpot K.bit_width nodes.now.slots (K.bits key) spot.old }
     ensures step { (t : Tree T) → IsTrie K.bit_width t.count nodes.now t.cells t.shape
-        → Steps K.IsKey K.bits K.bit_width nodes.now t key spot.old result spot.new }
+        → Steps K.IsKey K.bits K.bit_width nodes.now.slots t (K.bits key) spot.old result spot.new }
     ensures seat { IsSeated K.bits nodes.now.slots result }
-    ensures way { StaysOnPath K.bits key spot.old result spot.new }
+    ensures way { StaysOnPath K.bits (K.bits key) spot.old result spot.new }
 {
+    // Needed only for the proof: the number is a key.
+    let _ = key.is_key();
     let Some(place) = spot.places.next_place() else {
         return Step::Done;
     };

@@ -52,9 +52,9 @@ impl<K: Key, T: Drop, A: Allocator, V: Tick> Model for IntoWalk<K, T, A, V> {
 
     ghost Value = { List (List Bool × T) };
 
-    ghost view = { λ w. pairs_in w.nodes.slots w.cells.slots (pending K.bits w.seats.0 w.key w.stack.items) };
+    ghost view = { λ w. pairs_in w.nodes.slots w.cells.slots (pending w.seats.0 (K.bits w.key) w.stack.items) };
 
-    ghost invariant = { λ w. IsTaking K.IsKey K.bits K.bit_width w.nodes w.cells w.seats.0 w.key w.stack.items };
+    ghost invariant = { λ w. IsTaking K.bit_width w.nodes w.cells w.seats.0 (K.bits w.key) w.stack.items };
 }
 
 impl<K: Key, T: Drop, A: Allocator, V: Tick> IntoWalk<K, T, A, V> {

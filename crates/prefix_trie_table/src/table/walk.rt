@@ -37,9 +37,9 @@ impl<'a, K: Key, T: Drop, A: Allocator, V: Tick> Model for Walk<'a, K, T, A, V> 
 
     ghost Value = { List (List Bool × T) };
 
-    ghost view = { λ w. rest_of_walk K.bits w.arrays w.shape w.key w.stack.items };
+    ghost view = { λ w. rest_of_walk w.arrays w.shape (K.bits w.key) w.stack.items };
 
-    ghost invariant = { λ w. IsWalk K.IsKey K.bits K.bit_width w.arrays w.shape w.key w.stack.items };
+    ghost invariant = { λ w. IsWalk K.bit_width w.arrays w.shape (K.bits w.key) w.stack.items };
 }
 
 impl<'a, K: Key, T: Drop, A: Allocator, V: Tick> Walk<'a, K, T, A, V> {
@@ -47,10 +47,10 @@ impl<'a, K: Key, T: Drop, A: Allocator, V: Tick> Walk<'a, K, T, A, V> {
     #[inline]
     pub fn over(nodes: &'a NodeAllocator<A, V>, cells: &'a Cells<T, A>, start: Cursor<K>) -> Self
         requires tree { (s : State T) × IsTrie K.bit_width (len s.entries) nodes.now cells.now s }
-        requires stack { IsStack K.IsKey K.bits K.bit_width nodes.now start.key start.stack.items }
-        requires passed { ArePassed K.bits start.key start.stack.items }
+        requires stack { IsStack K.bit_width nodes.now.slots (K.bits start.key) start.stack.items }
+        requires passed { ArePassed (K.bits start.key) start.stack.items }
         ensures { (s : State T) → IsShapeOf nodes.now.slots cells.now.slots s
-            → result ≡ pending K.bits s.entries start.key start.stack.items }
+            → result ≡ pending s.entries (K.bits start.key) start.stack.items }
     {
         Walk {
             arrays: Some((nodes, cells)),
@@ -159,14 +159,14 @@ pub fn advance<K: Key, A: Allocator, V: Tick, T: Drop>(
     counter: &mut V,
 ) -> Option<(K, u32, Seat)>
     requires tree { (t : Tree T) × IsTrie K.bit_width t.count nodes.now t.cells t.shape }
-    requires stack { IsStack K.IsKey K.bits K.bit_width nodes.now key.old stack.old.items }
-    ensures stack { IsStack K.IsKey K.bits K.bit_width nodes.now key.new stack.new.items }
+    requires stack { IsStack K.bit_width nodes.now.slots (K.bits key.old) stack.old.items }
+    ensures stack { IsStack K.bit_width nodes.now.slots (K.bits key.new) stack.new.items }
     ensures entry { (t : Tree T) → IsTrie K.bit_width t.count nodes.now t.cells t.shape → MatchOption result
-        ((pending K.bits t.shape.entries key.old stack.old.items ≡ []) × (pending K.bits t.shape.entries key.new stack.new.items ≡ []))
+        ((pending t.shape.entries (K.bits key.old) stack.old.items ≡ []) × (pending t.shape.entries (K.bits key.new) stack.new.items ≡ []))
         (λ r. GivesSeat K.IsKey K.bits K.bit_width t r.0 r.1 r.2
-        (pending K.bits t.shape.entries key.old stack.old.items) (pending K.bits t.shape.entries key.new stack.new.items)) }
+        (pending t.shape.entries (K.bits key.old) stack.old.items) (pending t.shape.entries (K.bits key.new) stack.new.items)) }
     ensures seat { IfSome result (λ r. seat_of nodes.now.slots (take r.1 (K.bits r.0)) ≡ Some r.2) }
-    ensures passed { ArePassed K.bits key.old stack.old.items → ArePassed K.bits key.new stack.new.items }
+    ensures passed { ArePassed (K.bits key.old) stack.old.items → ArePassed (K.bits key.new) stack.new.items }
     ensures last { IfSome result (λ r. EndsLast (K.bits key.new) stack.new.items (take r.1 (K.bits r.0))) }
 {
     while let Some(mut spot) = last_spot(stack) {

@@ -55,10 +55,10 @@ pub(super) fn start_at<K: Key, T: Drop, A: Allocator, V: Tick>(
     counter: &mut V,
 ) -> Cursor<K>
     requires tree { (t : Tree T) × IsTrie K.bit_width t.count nodes.now t.cells t.shape }
-    ensures stack { IsStack K.IsKey K.bits K.bit_width nodes.now result.key result.stack.items }
-    ensures passed { ArePassed K.bits result.key result.stack.items }
+    ensures stack { IsStack K.bit_width nodes.now.slots (K.bits result.key) result.stack.items }
+    ensures passed { ArePassed (K.bits result.key) result.stack.items }
     ensures rest { (t : Tree T) → IsTrie K.bit_width t.count nodes.now t.cells t.shape
-        → pending K.bits t.shape.entries result.key result.stack.items ≡ selected from t.shape.entries path }
+        → pending t.shape.entries (K.bits result.key) result.stack.items ≡ selected from t.shape.entries path }
 {
     let key = path.key();
     let len = path.len();
