@@ -25,7 +25,7 @@ module _ {P T A R : Type 0} {p : prefix.Ghosts P R} {shows : debug.Ghosts P} {k 
     key = key_at gone item;
     passes = λ lent. (
       record (as_walk c lent) { to_come = keys_left (with_written gone item value); lent = Some (key_at gone item) },
-      (gives.first ∙ ap (λ ks. key_at gone item ∷ ks) (sym (pending_again c.map.now.entries (key_at gone item) value stored k.bits cursor.key cursor.stack.items)), refl),
+      (gives.first ∙ ap (λ ks. key_at gone item ∷ ks) (sym (pending_again c.map.now.entries (key_at gone item) value stored (k.bits cursor.key) cursor.stack.items)), refl),
       (key_at gone item, refl, refl),
     );
     stored = stored;

@@ -279,14 +279,7 @@ impl<T: Drop, A: Allocator, V: Tick> Table<T, A, V> {
             (listing_after self.now.entries path) }
     {
         let from = if inclusive { Start::At } else { Start::After };
-        walk_at(
-            &self.nodes,
-            &self.cells,
-            path.key(),
-            path.len(),
-            from,
-            counter,
-        )
+        walk_at(&self.nodes, &self.cells, path, from, counter)
     }
 
     /// Walks the entries whose keys begin with a bit string, in listing order. It reads the nodes of the search path at once.
@@ -296,14 +289,7 @@ impl<T: Drop, A: Allocator, V: Tick> Table<T, A, V> {
         requires nodes { AreNodes K.bit_width self.now.entries self.now.nodes }
         ensures { result ≡ listing_below self.now.entries path }
     {
-        walk_at(
-            &self.nodes,
-            &self.cells,
-            path.key(),
-            path.len(),
-            Start::Below,
-            counter,
-        )
+        walk_at(&self.nodes, &self.cells, path, Start::Below, counter)
     }
 
     /// Sets the value at a bit string, adds the missing nodes of its search path, and returns the previous value.

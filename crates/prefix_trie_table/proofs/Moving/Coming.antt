@@ -23,23 +23,23 @@ module _ {T : Type 0} where
       whole_tree = record { count = len shape.entries; cells = filled_with v.slots ((q, x) ∷ later) w; shape = shape }
 
       -- a value is to come
-      pub some_comes : pending bits shape.entries way ps ≡ [] → ⊥
+      pub some_comes : pending shape.entries (bits way) ps ≡ [] → ⊥
       some_comes none = let e : [] ≡ (q, x) ∷ later = sym none ∙ at.come in cc
 
       -- its seat is in the array
       pub seat_inside : (next : K) (qs : List Spot) (key : K) (size : ℕ) (seat : Seat) →
-          GivesSeat IsKey bits width whole_tree key size seat (pending bits shape.entries way ps) (pending bits shape.entries next qs) → slot_of seat < length w.slots
+          GivesSeat IsKey bits width whole_tree key size seat (pending shape.entries (bits way) ps) (pending shape.entries (bits next) qs) → slot_of seat < length w.slots
       seat_inside next qs key size seat h = let inside = h.stands in omega (arith, inside, long_cells v.slots ((q, x) ∷ later) w)
 
     module _ (next : K) (qs : List Spot) (key : K) (size : ℕ) (seat : Seat)
         (gives : (t : Tree T) → IsTrie width t.count v t.cells t.shape →
-        GivesSeat IsKey bits width t key size seat (pending bits t.shape.entries way ps) (pending bits t.shape.entries next qs))
-        (found : seat_of v.slots (take size (bits key)) ≡ Some seat) (stack : IsStack IsKey bits width v next qs)
+        GivesSeat IsKey bits width t key size seat (pending t.shape.entries (bits way) ps) (pending t.shape.entries (bits next) qs))
+        (found : seat_of v.slots (take size (bits key)) ≡ Some seat) (stack : IsStack width v.slots (bits next) qs)
         (w2 : Store (Option T)) (put : w2 ≡ record w { slots = set w.slots (slot_of seat) (Some x) }) where
       goes_on : (shape : State T) (later : List (List Bool × T)) → Awaits IsKey bits width shape v w way ps ((q, x) ∷ later) → Awaits IsKey bits width shape v w2 next qs later
       goes_on shape later at =
           let h = gives (whole_tree shape later at) at.trie in
-          let same = same_first (q, x) (take size (bits key), h.value) later (pending bits shape.entries next qs) (sym at.come ∙ h.gives.first) in
+          let same = same_first (q, x) (take size (bits key), h.value) later (pending shape.entries (bits next) qs) (sym at.come ∙ h.gives.first) in
           let here : seat_of v.slots q ≡ Some seat = ap (seat_of v.slots) same.0 ∙ found in
           let filled : filled_with v.slots ((q, x) ∷ later) w ≡ filled_with v.slots later w2 = ap (λ o. filled_with v.slots later (with_cell w o x)) here ∙ sym (ap (filled_with v.slots later) put) in
           record {

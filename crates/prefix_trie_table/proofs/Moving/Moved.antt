@@ -41,8 +41,8 @@ module _ {K T : Type 0} (IsKey : K → Type 0) (bits : K → List Bool) (width :
 
   -- before the first
   fills_start : (count : ℕ) (v : Store Node) (w : Store (Option T)) (s : State T) → IsTrie width count v w s → (q : List Bool) (laid : Store Node) (vacant : Store (Option T)) →
-      IsSecond q v laid vacant → (key : K) (ps : List Spot) → IsStack IsKey bits width laid key ps →
-      ((t : Tree T) → IsTrie width t.count laid t.cells t.shape → pending bits t.shape.entries key ps ≡ listing_below t.shape.entries q) →
+      IsSecond q v laid vacant → (key : K) (ps : List Spot) → IsStack width laid.slots (bits key) ps →
+      ((t : Tree T) → IsTrie width t.count laid t.cells t.shape → pending t.shape.entries (bits key) ps ≡ listing_below t.shape.entries q) →
       Fills (split_off s q) laid vacant laid vacant key ps (listing_below s.entries q)
   fills_start count v w s trie q laid vacant second key ps stack rest =
       let whole = second_trie width count v w s trie q laid vacant second in
@@ -91,8 +91,8 @@ module _ {K T : Type 0} (IsKey : K → Type 0) (bits : K → List Bool) (width :
 
     -- from the start, where nothing has come and everything that begins with q is to come
     module _ (count : ℕ) (v : Store Node) (w : Store (Option T)) (s : State T) (trie : IsTrie width count v w s) (q : List Bool) (f : F)
-        (second : IsSecond q v (nodes f) (cells f)) (stack : IsStack IsKey bits width (nodes f) (key f) (spots f))
-        (rest : (t : Tree T) → IsTrie width t.count (nodes f) t.cells t.shape → pending bits t.shape.entries (key f) (spots f) ≡ listing_below t.shape.entries q) where
+        (second : IsSecond q v (nodes f) (cells f)) (stack : IsStack width (nodes f).slots (bits (key f)) (spots f))
+        (rest : (t : Tree T) → IsTrie width t.count (nodes f) t.cells t.shape → pending t.shape.entries (bits (key f)) (spots f) ≡ listing_below t.shape.entries q) where
       start : Fills (split_off s q) (nodes f) (cells f) (nodes f) (cells f) (key f) (spots f) (listing_below s.entries q)
       start = fills_start count v w s trie q (nodes f) (cells f) second (key f) (spots f) stack rest
 

@@ -66,11 +66,11 @@ module _ {T : Type 0} where
         ap₂ (λ xs ys. xs ++ ys) (place_bare s t) (places_bare s ts) ∙ sym (map-append bare (listing_at_place m s t) (listing_at_places m s ts))
 
     -- the strings to come are those of the entries
-    pub pending_bare : {K : Type 0} (bits : K → List Bool) (key : K) (ps : List Spot) → pending bits keys key ps ≡ map bare (pending bits m key ps)
-    pending_bare bits key [] = refl
-    pending_bare bits key (p ∷ ps) =
-        ap₂ (λ xs ys. xs ++ ys) (pending_bare bits key ps) (places_bare (take p.depth (bits key)) (to_come p.places))
-        ∙ sym (map-append bare (pending bits m key ps) (still bits m key p))
+    pub pending_bare : (way : List Bool) (ps : List Spot) → pending keys way ps ≡ map bare (pending m way ps)
+    pending_bare way [] = refl
+    pending_bare way (p ∷ ps) =
+        ap₂ (λ xs ys. xs ++ ys) (pending_bare way ps) (places_bare (take p.depth way) (to_come p.places))
+        ∙ sym (map-append bare (pending m way ps) (still m way p))
 
 -- writing a value that is stored leaves the keys still to come
 module _ {X : Type 0} (m : Entries X) (k : List Bool) (v : X) (stored : contains_key m k ≡ true) where
@@ -81,10 +81,10 @@ module _ {X : Type 0} (m : Entries X) (k : List Bool) (v : X) (stored : contains
       at true is = sym (ap (contains_key m) (same_string-is q k is) ∙ stored)
       at false is = refl
 
-  pub pending_again : {K : Type 0} (bits : K → List Bool) (key : K) (ps : List Spot) →
-      map (λ e. e.0) (pending bits (with_entry m k v) key ps) ≡ map (λ e. e.0) (pending bits m key ps)
-  pending_again bits key ps =
-      sym (map-map (λ e. e.0) bare (pending bits (with_entry m k v) key ps))
-      ∙ ap (map (λ e. e.0)) (sym (pending_bare (with_entry m k v) (strings_of m) (λ q. has-strings_of m q ∙ stored_again q) bits key ps)
-      ∙ pending_bare m (strings_of m) (has-strings_of m) bits key ps)
-      ∙ map-map (λ e. e.0) bare (pending bits m key ps)
+  pub pending_again : (way : List Bool) (ps : List Spot) →
+      map (λ e. e.0) (pending (with_entry m k v) way ps) ≡ map (λ e. e.0) (pending m way ps)
+  pending_again way ps =
+      sym (map-map (λ e. e.0) bare (pending (with_entry m k v) way ps))
+      ∙ ap (map (λ e. e.0)) (sym (pending_bare (with_entry m k v) (strings_of m) (λ q. has-strings_of m q ∙ stored_again q) way ps)
+      ∙ pending_bare m (strings_of m) (has-strings_of m) way ps)
+      ∙ map-map (λ e. e.0) bare (pending m way ps)

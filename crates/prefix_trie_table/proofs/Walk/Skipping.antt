@@ -4,7 +4,6 @@ use Rattle.std.specs.List.{All}
 use Rattle.std.proofs.lemmas.Bool.{lt-ltb}
 use Rattle.std.proofs.lemmas.List.{take-append-drop, length-take-le}
 use Rattle.prefix_trie_table.specs.Walking.Walks.{EndsAt}
-use Rattle.prefix_trie_table.proofs.Walk.Starts.{short_rest}
 use Rattle.prefix_trie_table.proofs.Walk.Stacks.{passed-below, passed-above, spot_as, pending-popped, stack-space, stack-put, cursor-at}
 use Rattle.prefix_trie_table.proofs.Strings.Paths.{snoc_inj}
 use Rattle.prefix_trie_table.proofs.Walk.Selected.{begins-common, one-answer, some-places}
@@ -62,89 +61,84 @@ module _ {T : Type 0} (m : Entries T) (s : List Bool) where
 -- ---- at a stack
 
 -- a stack that is not empty is no longer than levels of a key are
-pub few_spots : {K : Type 0} (IsKey : K → Type 0) (bits : K → List Bool) (width : ℕ) (v : Store Node) (way : K) (ps : List Spot) → width ≤ 128 → IsStack IsKey bits width v way ps →
-    (key : K) (len : ℕ) → EndsLast bits way ps key len → length ps ≤ 26
-few_spots IsKey bits width v way ps small stack key len ends =
-    let space = stack-space ps ends.below ends.spot ends.is IsKey bits width v way stack small in
+pub few_spots : (width : ℕ) (nodes : List Node) (way : List Bool) (ps : List Spot) → width ≤ 128 → IsStack width nodes way ps →
+    (along path : List Bool) → EndsLast along ps path → length ps ≤ 26
+few_spots width nodes way ps small stack along path ends =
+    let space = stack-space ps ends.below ends.spot ends.is width nodes way stack small in
     omega (arith, space, ap length ends.is, length-append ends.below (ends.spot ∷ []))
 
-module _ {K : Type 0} (IsKey : K → Type 0) (bits : K → List Bool) (width : ℕ) (v : Store Node) (way : K) (long : length (bits way) ≡ width) where
-  shorts : (p : Spot) → IsSpot IsKey bits width v way p → All IsShort (to_come p.places)
+module _ (width : ℕ) (nodes : List Node) (way : List Bool) where
+  shorts : (p : Spot) → IsSpot width nodes way p → All IsShort (to_come p.places)
   shorts p i = All-weaker (IsPlaceOf p.node) IsShort (λ s h. h.0) (to_come p.places) i.each
 
   -- a string that goes on deeper begins nothing of what is to come at spots that it has passed
-  stay-below : {T : Type 0} (m : Entries T) (z : List Bool) (d : ℕ) → d ≤ width → begins (take d (bits way)) z ≡ true → (n : ℕ) (ps : List Spot) → n + 5 * length ps ≤ d →
-      IsStackFrom IsKey bits width v n way ps → All (IsPassed bits way) ps →
-      filter (λ e. not (begins z e.0)) (pending bits m way ps) ≡ pending bits m way ps
+  stay-below : {T : Type 0} (m : Entries T) (z : List Bool) (d : ℕ) → d ≤ length way → begins (take d way) z ≡ true → (n : ℕ) (ps : List Spot) → n + 5 * length ps ≤ d →
+      IsStackFrom width nodes n way ps → All (IsPassed way) ps →
+      filter (λ e. not (begins z e.0)) (pending m way ps) ≡ pending m way ps
   stay-below m z d inside begun n [] h t o = refl
   stay-below m z d inside begun n (p ∷ ps) h t o =
-      filter-append (λ e. not (begins z e.0)) (pending bits m way ps) (still bits m way p)
-      ∙ ap₂ (λ xs ys. xs ++ ys) (stay-below m z d inside begun (n + 5) ps (omega (arith, h)) t.2 (All-tail (IsPassed bits way) p ps o))
-      (stay-others m (take p.depth (bits way)) (take 5 (drop p.depth (bits way))) z five goes_on (to_come p.places) (shorts p t.1) (All-head (IsPassed bits way) p ps o))
+      filter-append (λ e. not (begins z e.0)) (pending m way ps) (still m way p)
+      ∙ ap₂ (λ xs ys. xs ++ ys) (stay-below m z d inside begun (n + 5) ps (omega (arith, h)) t.2 (All-tail (IsPassed way) p ps o))
+      (stay-others m (take p.depth way) (take 5 (drop p.depth way)) z five goes_on (to_come p.places) (shorts p t.1) (All-head (IsPassed way) p ps o))
     where
       deeper : p.depth + 5 ≤ d
       deeper = omega (arith, h, t.0)
 
-      five : length (take 5 (drop p.depth (bits way))) ≡ 5
-      five = length-take-le 5 (drop p.depth (bits way)) (omega (arith, length-drop p.depth (bits way), long, inside, deeper))
+      five : length (take 5 (drop p.depth way)) ≡ 5
+      five = length-take-le 5 (drop p.depth way) (omega (arith, length-drop p.depth way, inside, deeper))
 
-      goes_on : begins (take p.depth (bits way) ++ take 5 (drop p.depth (bits way))) z ≡ true
+      goes_on : begins (take p.depth way ++ take 5 (drop p.depth way)) z ≡ true
       goes_on =
-          ap (λ s. begins s z) (sym (take-add p.depth 5 (bits way)) ∙ sym (take-take (p.depth + 5) d (bits way) deeper))
-          ∙ begins-trans (take (p.depth + 5) (take d (bits way))) (take d (bits way)) z (take-begins (p.depth + 5) (take d (bits way))) begun
+          ap (λ s. begins s z) (sym (take-add p.depth 5 way) ∙ sym (take-take (p.depth + 5) d way deeper))
+          ∙ begins-trans (take (p.depth + 5) (take d way)) (take d way) z (take-begins (p.depth + 5) (take d way)) begun
 
--- what the first bits of a key begin, which end at the last spot, was dropped there
-module _ {K : Type 0} (IsKey : K → Type 0) (bits : K → List Bool) (width : ℕ) (v : Store Node) (law : (k : K) → IsKey k → length (bits k) ≡ width) (way key : K) (is_key : IsKey key) (len : ℕ) (within : len ≤ width) (old new : List Spot)
-    (stack : IsStack IsKey bits width v way old) (passed : ArePassed bits way old) (ends : EndsLast bits way old key len) (skips : SkipsLast (bits key) len old new) where
-  spot : IsSpot IsKey bits width v way skips.was
-  spot = (cursor-at old skips.below skips.was skips.before IsKey bits width v way stack).2
+-- what a bit string begins, which ends at the last spot, was dropped there
+module _ (width : ℕ) (nodes : List Node) (way path : List Bool) (old new : List Spot)
+    (stack : IsStack width nodes way old) (passed : ArePassed way old) (ends : EndsLast way old path) (skips : SkipsLast path old new) where
+  spot : IsSpot width nodes way skips.was
+  spot = (cursor-at old skips.below skips.was skips.before width nodes way stack).2
 
-  long : length (bits way) ≡ width
-  long = law way spot.is_key
+  ended : EndsAt way skips.was path
+  ended = subst (λ p. EndsAt way p path) (snoc_inj ends.below skips.below ends.spot skips.was (sym ends.is ∙ skips.before)).1 ends.ends
 
-  ended : EndsAt bits way skips.was key len
-  ended = subst (λ p. EndsAt bits way p key len) (snoc_inj ends.below skips.below ends.spot skips.was (sym ends.is ∙ skips.before)).1 ends.ends
-
-  spot_left : IsSpot IsKey bits width v way skips.now
+  spot_left : IsSpot width nodes way skips.now
   spot_left =
       let s = skips.skips in
-      spot_as spot spot.is_key s.depth_is (ap (λ d. read v.slots (chunks_of (take d (bits way)))) s.depth_is ∙ spot.stands ∙ ap Some (sym s.node_is))
+      spot_as spot s.depth_is spot.long (ap (λ d. read nodes (chunks_of (take d way))) s.depth_is ∙ spot.stands ∙ ap Some (sym s.node_is))
       (subst (λ n. All (IsPlaceOf n) (to_come skips.now.places)) (sym s.node_is)
       (subst (All (IsPlaceOf skips.was.node)) (sym s.left)
-      (All-filter (λ u. not (begins (drop skips.was.depth (take len (bits key))) u)) (IsPlaceOf skips.was.node) (to_come skips.was.places) spot.each)))
+      (All-filter (λ u. not (begins (drop skips.was.depth path) u)) (IsPlaceOf skips.was.node) (to_come skips.was.places) spot.each)))
 
-  pub stack_left : IsStack IsKey bits width v way new
+  pub stack_left : IsStack width nodes way new
   stack_left =
-      subst (IsStack IsKey bits width v way) (sym skips.after)
-      (stack-put old skips.below skips.was skips.before IsKey bits width v way stack skips.now skips.skips.depth_is spot_left)
+      subst (IsStack width nodes way) (sym skips.after)
+      (stack-put old skips.below skips.was skips.before width nodes way stack skips.now skips.skips.depth_is spot_left)
 
-  pub passed_left : ArePassed bits way new
-  passed_left = passed-above bits way new skips.below skips.now skips.after (passed-below bits way old skips.below skips.was skips.before passed)
+  pub passed_left : ArePassed way new
+  passed_left = passed-above way new skips.below skips.now skips.after (passed-below way old skips.below skips.was skips.before passed)
 
-  string_is : take skips.was.depth (bits way) ++ drop skips.was.depth (take len (bits key)) ≡ take len (bits key)
-  string_is =
-      ap (λ s. s ++ drop skips.was.depth (take len (bits key))) (sym ended.same_above ∙ sym (take-take skips.was.depth len (bits key) ended.whole))
-      ∙ take-append-drop skips.was.depth (take len (bits key))
+  string_is : take skips.was.depth way ++ drop skips.was.depth path ≡ path
+  string_is = ap (λ s. s ++ drop skips.was.depth path) (sym ended.same_above) ∙ take-append-drop skips.was.depth path
 
   module _ {T : Type 0} (m : Entries T) where
-    still_left : still bits m way skips.now ≡ filter (λ e. not (begins (take len (bits key)) e.0)) (still bits m way skips.was)
+    still_left : still m way skips.now ≡ filter (λ e. not (begins path e.0)) (still m way skips.was)
     still_left =
-        let short = short_rest (bits key) width (law key is_key) skips.was.depth len within ended.last in
-        ap (λ d. listing_at_places m (take d (bits way)) (to_come skips.now.places)) skips.skips.depth_is
-        ∙ ap (listing_at_places m (take skips.was.depth (bits way))) skips.skips.left
-        ∙ stay-places m (take skips.was.depth (bits way)) (drop skips.was.depth (take len (bits key))) (omega (arith, short)) (to_come skips.was.places) (shorts IsKey bits width v way long skips.was spot)
-        ∙ ap (λ z. filter (λ e. not (begins z e.0)) (still bits m way skips.was)) string_is
+        let short : length (drop skips.was.depth path) ≤ 5 = (let l = ended.last in let w = ended.whole in omega (arith, length-drop skips.was.depth path, l, w)) in
+        ap (λ d. listing_at_places m (take d way) (to_come skips.now.places)) skips.skips.depth_is
+        ∙ ap (listing_at_places m (take skips.was.depth way)) skips.skips.left
+        ∙ stay-places m (take skips.was.depth way) (drop skips.was.depth path) short (to_come skips.was.places) (shorts width nodes way skips.was spot)
+        ∙ ap (λ z. filter (λ e. not (begins z e.0)) (still m way skips.was)) string_is
 
-    below_left : filter (λ e. not (begins (take len (bits key)) e.0)) (pending bits m way skips.below) ≡ pending bits m way skips.below
+    below_left : filter (λ e. not (begins path e.0)) (pending m way skips.below) ≡ pending m way skips.below
     below_left =
-        let at = cursor-at old skips.below skips.was skips.before IsKey bits width v way stack in
-        stay-below IsKey bits width v way long m (take len (bits key)) skips.was.depth spot.within
-        (begins-from-rest (take skips.was.depth (bits way)) (take len (bits key)) (drop skips.was.depth (take len (bits key))) (sym string_is))
-        (start old) skips.below (omega (arith, at.1)) at.0 (passed-below bits way old skips.below skips.was skips.before passed)
+        let at = cursor-at old skips.below skips.was skips.before width nodes way stack in
+        stay-below width nodes way m path skips.was.depth spot.long
+        (begins-from-rest (take skips.was.depth way) path (drop skips.was.depth path) (sym string_is))
+        (start old) skips.below (omega (arith, at.1)) at.0 (passed-below way old skips.below skips.was skips.before passed)
 
-    pub pending_left : pending bits m way new ≡ filter (λ e. not (begins (take len (bits key)) e.0)) (pending bits m way old)
+    pub pending_left : pending m way new ≡ filter (λ e. not (begins path e.0)) (pending m way old)
     pending_left =
-        pending-popped new skips.below skips.now skips.after bits m way
+        pending-popped new skips.below skips.now skips.after m way
         ∙ ap₂ (λ xs ys. xs ++ ys) still_left (sym below_left)
-        ∙ sym (filter-append (λ e. not (begins (take len (bits key)) e.0)) (still bits m way skips.was) (pending bits m way skips.below))
-        ∙ ap (filter (λ e. not (begins (take len (bits key)) e.0))) (sym (pending-popped old skips.below skips.was skips.before bits m way))
+        ∙ sym (filter-append (λ e. not (begins path e.0)) (still m way skips.was) (pending m way skips.below))
+        ∙ ap (filter (λ e. not (begins path e.0))) (sym (pending-popped old skips.below skips.was skips.before m way))

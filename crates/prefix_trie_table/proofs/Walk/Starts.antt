@@ -1,5 +1,5 @@
 -- The stack of a walk that starts at a bit string.
-use Rattle.prefix_trie_table.proofs.Prelude.{◌≡◌, ◌≢◌, ℕ, ◌+◌, ◌*◌, ◌^◌, ◌%◌, ◌<◌, ◌≤◌, Bool, true, false, not, ◌&&◌, List, [], ◌∷◌, ◌++◌, length, take, drop, filter, Some, inl, inr, refl, sym, ap, ap₂, ◌∙◌, subst, arith, length-append, length-drop, bit_and, append-nil, append_assoc, Ordering, Less, Equal, Greater, take-add, All-nil, All-push, All-weaker, filter_passes, ordering_reverse, cases_lt, false≢true, eqb_tells, take-take, number, listing_cmp, listing_total, listing_same, listing-refl, has, value_bit, is_in, is_before, places, strings, HoldsPlaces, Sets, to_come, listing_at_places, listing_below, is_in-and, value_bit-injective, and-first, and-second, listing_at_child, Node, Spot, Start, At, After, Below, node_at, selected, behind, kept, places_in, chunks_of, read, child_slot, Store, IsTrie, Tree, IsSpot, IsStackFrom, IsStack, IsPlaceOf, IsOther, IsPassed, ArePassed, still, pending}
+use Rattle.prefix_trie_table.proofs.Prelude.{◌≡◌, ◌≢◌, ℕ, ◌+◌, ◌-◌, ◌*◌, ◌^◌, ◌%◌, ◌<◌, ◌≤◌, Bool, true, false, not, ◌&&◌, List, [], ◌∷◌, ◌++◌, length, take, drop, filter, Some, inl, inr, refl, sym, ap, ap₂, ◌∙◌, subst, arith, length-append, length-drop, bit_and, append-nil, append_assoc, Ordering, Less, Equal, Greater, take-add, take_all, drop-take, All-nil, All-push, All-weaker, filter_passes, ordering_reverse, cases_lt, false≢true, eqb_tells, take-take, number, listing_cmp, listing_total, listing_same, listing-refl, has, value_bit, is_in, is_before, places, strings, HoldsPlaces, Sets, to_come, listing_at_places, listing_below, is_in-and, value_bit-injective, and-first, and-second, listing_at_child, Node, Spot, Start, At, After, Below, node_at, selected, behind, kept, places_in, chunks_of, read, child_slot, Store, IsTrie, Tree, IsSpot, IsStackFrom, IsStack, IsPlaceOf, IsOther, IsPassed, ArePassed, still, pending}
 use Rattle.std.specs.List.{All}
 use Rattle.std.specs.Ordering.{is_lt}
 use Rattle.std.proofs.lemmas.List.{length-take-le, take-append-drop}
@@ -55,12 +55,15 @@ masked n values children = λ i. filter (λ s. is_in-and n.value_bitmap n.child_
 pub in_first : (n : Node) (values children : ℕ) (s : List Bool) → is_in (bit_and n.value_bitmap values) (bit_and n.child_bitmap children) s ≡ true → is_in n.value_bitmap n.child_bitmap s ≡ true
 in_first n values children s h = and-first (is_in n.value_bitmap n.child_bitmap s) (is_in values children s) (sym (is_in-and n.value_bitmap n.child_bitmap values children s) ∙ h)
 
--- at the node where a string ends, less than five bits of it are left
-pub short_rest : (b : List Bool) (width : ℕ) → length b ≡ width → (depth len : ℕ) → len ≤ width → len < depth + 5 → length (drop depth (take len b)) ≤ 4
-short_rest b width long depth len within last =
-    let l = length-take-le len b (omega (arith, long, within)) in omega (arith, length-drop depth (take len b), l, last)
-
 -- ---- the search path
+
+-- all bits that are left
+pub all_left : (rest some : List Bool) (depth len : ℕ) → length rest + depth ≡ len → some ≡ take (len - depth) rest → some ≡ rest
+all_left rest some depth len left is = is ∙ take_all (len - depth) rest (omega (arith, left))
+
+-- a key is as long as a bit string that it begins with
+pub key_reach : (n l width : ℕ) → l ≡ width → n ≤ width → n ≤ l
+key_reach n l width long within = omega (arith, long, within)
 
 -- nothing comes after itself
 behind-itself : (x : Start) (s : List Bool) → behind x s s ≡ false
@@ -68,18 +71,18 @@ behind-itself At s = not-itself s
 behind-itself After s = not-itself s
 behind-itself Below s = refl
 
-module _ {K : Type 0} (IsKey : K → Type 0) (bits : K → List Bool) (width : ℕ) (v : Store Node) (key : K) (len : ℕ) (from : Start) where
+module _ (width : ℕ) (v : Store Node) (way q : List Bool) (from : Start) where
   -- at the next node of the path: what is above it, and what is selected under it, is the selection
   pub record IsLaid (T : Type 0) (depth : ℕ) (node : Node) (ps : List Spot) : Type 0 where
     pub level : ℕ
     pub depth_is : depth ≡ 5 * level
-    pub inside : depth ≤ len
+    pub inside : depth ≤ length q
     pub high : length ps ≡ level
-    pub stands : read v.slots (chunks_of (take depth (bits key))) ≡ Some node
-    pub cursor : IsStackFrom IsKey bits width v 0 key ps
-    pub passed : All (IsPassed bits key) ps
+    pub stands : read v.slots (chunks_of (take depth q)) ≡ Some node
+    pub cursor : IsStackFrom width v.slots 0 way ps
+    pub passed : All (IsPassed way) ps
     pub rest : (t : Tree T) → IsTrie width t.count v t.cells t.shape →
-        selected from t.shape.entries (take len (bits key)) ≡ wanted_below from t.shape.entries (take len (bits key)) (take depth (bits key)) ++ pending bits t.shape.entries key ps
+        selected from t.shape.entries q ≡ wanted_below from t.shape.entries q (take depth q) ++ pending t.shape.entries way ps
 
   pub laid_root : {T : Type 0} (node : Node) (ps : List Spot) → node ≡ node_at v.slots 0 → ps ≡ [] → IsLaid T 0 node ps
   laid_root node ps is none = record {
@@ -88,142 +91,146 @@ module _ {K : Type 0} (IsKey : K → Type 0) (bits : K → List Bool) (width : �
     inside = omega arith;
     high = ap length none;
     stands = read-nil v.slots ∙ ap Some (sym is);
-    cursor = subst (λ qs. IsStackFrom IsKey bits width v 0 key qs) (sym none) tt;
-    passed = subst (All (IsPassed bits key)) (sym none) (All-nil (IsPassed bits key));
+    cursor = subst (λ qs. IsStackFrom width v.slots 0 way qs) (sym none) tt;
+    passed = subst (All (IsPassed way)) (sym none) (All-nil (IsPassed way));
     rest = λ t tree.
-        sym (wanted_at_root from t.shape.entries (take len (bits key))) ∙ sym (append-nil (wanted_below from t.shape.entries (take len (bits key)) []))
-        ∙ ap (λ qs. wanted_below from t.shape.entries (take len (bits key)) [] ++ pending bits t.shape.entries key qs) (sym none);
+        sym (wanted_at_root from t.shape.entries q) ∙ sym (append-nil (wanted_below from t.shape.entries q []))
+        ∙ ap (λ qs. wanted_below from t.shape.entries q [] ++ pending t.shape.entries way qs) (sym none);
   }
 
-  module _ {T : Type 0} (is_key : IsKey key) (long : length (bits key) ≡ width) (within : len ≤ width) (depth : ℕ) (node : Node) (ps : List Spot) (laid : IsLaid T depth node ps) where
-    string_length : length (take depth (bits key)) ≡ depth
-    string_length = let i = laid.inside in length-take-le depth (bits key) (omega (arith, i, long, within))
+  module _ {T : Type 0} (begun : take (length q) way ≡ q) (within : length q ≤ width) (reach : length q ≤ length way) (depth : ℕ) (node : Node) (ps : List Spot) (laid : IsLaid T depth node ps) where
+    string_length : length (take depth q) ≡ depth
+    string_length = length-take-le depth q laid.inside
 
-    whole : length (take depth (bits key)) % 5 ≡ 0
+    whole : length (take depth q) % 5 ≡ 0
     whole = let d = laid.depth_is in omega (arith, d, string_length)
 
     -- what is left of the string here
-    left_is : take len (bits key) ≡ take depth (bits key) ++ drop depth (take len (bits key))
-    left_is =
-        sym (take-append-drop depth (take len (bits key)))
-        ∙ ap (λ s. s ++ drop depth (take len (bits key))) (take-take depth len (bits key) laid.inside)
+    left_is : q ≡ take depth q ++ drop depth q
+    left_is = sym (take-append-drop depth q)
+
+    -- the key begins in the same way
+    same_start : (n : ℕ) → n ≤ length q → take n way ≡ take n q
+    same_start n h = sym (take-take n (length q) way h) ∙ ap (take n) begun
 
     -- the path goes on
-    module _ (more : depth + 5 ≤ len) where
-      five : length (take 5 (drop depth (bits key))) ≡ 5
-      five = let d = length-drop depth (bits key) in length-take-le 5 (drop depth (bits key)) (omega (arith, d, long, within, more))
+    module _ (more : depth + 5 ≤ length q) where
+      five : length (take 5 (drop depth q)) ≡ 5
+      five = length-take-le 5 (drop depth q) (omega (arith, length-drop depth q, more))
 
-      deeper_string : take (depth + 5) (bits key) ≡ take depth (bits key) ++ take 5 (drop depth (bits key))
-      deeper_string = take-add depth 5 (bits key)
+      same_child : take 5 (drop depth way) ≡ take 5 (drop depth q)
+      same_child = sym (drop-take depth 5 way) ∙ ap (drop depth) (same_start (depth + 5) more) ∙ drop-take depth 5 q
 
-      way_is : take len (bits key) ≡ take depth (bits key) ++ take 5 (drop depth (bits key)) ++ drop (depth + 5) (take len (bits key))
-      way_is =
-          sym (take-append-drop (depth + 5) (take len (bits key)))
-          ∙ ap (λ s. s ++ drop (depth + 5) (take len (bits key))) (take-take (depth + 5) len (bits key) more ∙ deeper_string)
+      deeper_string : take (depth + 5) q ≡ take depth q ++ take 5 (drop depth q)
+      deeper_string = take-add depth 5 q
 
-      module _ (t : Tree T) (tree : IsTrie width t.count v t.cells t.shape) (k : ℕ) (k_is : k ≡ number (take 5 (drop depth (bits key)))) where
+      way_is : q ≡ take depth q ++ take 5 (drop depth q) ++ drop (depth + 5) q
+      way_is = sym (take-append-drop (depth + 5) q) ∙ ap (λ s. s ++ drop (depth + 5) q) deeper_string
+
+      module _ (t : Tree T) (tree : IsTrie width t.count v t.cells t.shape) (k : ℕ) (k_is : k ≡ number (take 5 (drop depth q))) where
         -- the next node, if its bit is set
         module _ (set : has node.child_bitmap k ≡ true) (slot : ℕ) (slot_is : slot ≡ child_slot node k) where
-          bit_set : has node.child_bitmap (number (take 5 (drop depth (bits key)))) ≡ true
+          bit_set : has node.child_bitmap (number (take 5 (drop depth q))) ≡ true
           bit_set = ap (has node.child_bitmap) (sym k_is) ∙ set
 
-          own_slot : child_slot node (number (take 5 (drop depth (bits key)))) ≡ slot
+          own_slot : child_slot node (number (take 5 (drop depth q))) ≡ slot
           own_slot = ap (child_slot node) (sym k_is) ∙ sym slot_is
 
           pub next_inside : slot < length v.slots
-          next_inside = subst (λ n. n < length v.slots) own_slot (child_inside width v t tree (take depth (bits key)) node whole laid.stands (take 5 (drop depth (bits key))) five bit_set)
+          next_inside = subst (λ n. n < length v.slots) own_slot (child_inside width v t tree (take depth q) node whole laid.stands (take 5 (drop depth q)) five bit_set)
 
-          next_stands : (next : Node) → next ≡ node_at v.slots slot → read v.slots (chunks_of (take (depth + 5) (bits key))) ≡ Some next
+          next_stands : (next : Node) → next ≡ node_at v.slots slot → read v.slots (chunks_of (take (depth + 5) q)) ≡ Some next
           next_stands next is =
               ap (λ s. read v.slots (chunks_of s)) deeper_string
-              ∙ child_is width v t tree (take depth (bits key)) node whole laid.stands (take 5 (drop depth (bits key))) five bit_set
+              ∙ child_is width v t tree (take depth q) node whole laid.stands (take 5 (drop depth q)) five bit_set
               ∙ ap (λ n. Some (node_at v.slots n)) own_slot ∙ ap Some (sym is)
 
         -- if it is clear nothing is stored under it
-        none_below : has node.child_bitmap k ≡ false → listing_below t.shape.entries (take (depth + 5) (bits key)) ≡ []
+        none_below : has node.child_bitmap k ≡ false → listing_below t.shape.entries (take (depth + 5) q) ≡ []
         none_below clear =
             ap (listing_below t.shape.entries) deeper_string
-            ∙ sym (listing_at_child t.shape.entries (take depth (bits key)) (take 5 (drop depth (bits key))) five)
-            ∙ unset width v t tree (take depth (bits key)) node whole laid.stands (take 5 (drop depth (bits key))) (omega (arith, five))
-            (is_in-child node.value_bitmap node.child_bitmap (take 5 (drop depth (bits key))) five ∙ ap (has node.child_bitmap) (sym k_is) ∙ clear)
+            ∙ sym (listing_at_child t.shape.entries (take depth q) (take 5 (drop depth q)) five)
+            ∙ unset width v t tree (take depth q) node whole laid.stands (take 5 (drop depth q)) (omega (arith, five))
+            (is_in-child node.value_bitmap node.child_bitmap (take 5 (drop depth q)) five ∙ ap (has node.child_bitmap) (sym k_is) ∙ clear)
 
     -- a spot is put at this node
     module _ (p : Spot) (node_is : p.node ≡ node) (depth_is : p.depth ≡ depth) (each : All (IsPlaceOf node) (to_come p.places)) (qs : List Spot) (pushed : qs ≡ ps ++ p ∷ []) where
-      spot : IsSpot IsKey bits width v key p
+      spot : IsSpot width v.slots way p
       spot = record {
-        is_key = is_key;
         level = laid.level;
         depth_is = depth_is ∙ laid.depth_is;
         within = (let i = laid.inside in omega (arith, i, depth_is, within));
-        stands = ap (λ d. read v.slots (chunks_of (take d (bits key)))) depth_is ∙ laid.stands ∙ ap Some (sym node_is);
+        long = (let i = laid.inside in omega (arith, i, depth_is, reach));
+        stands = ap (λ d. read v.slots (chunks_of (take d way))) depth_is ∙ ap (λ s. read v.slots (chunks_of s)) (same_start depth laid.inside) ∙ laid.stands ∙ ap Some (sym node_is);
         each = subst (λ n. All (IsPlaceOf n) (to_come p.places)) (sym node_is) each;
       }
 
-      pub stack_from_pushed : IsStackFrom IsKey bits width v 0 key qs
+      pub stack_from_pushed : IsStackFrom width v.slots 0 way qs
       stack_from_pushed =
-          subst (IsStackFrom IsKey bits width v 0 key) (sym pushed)
-          (cursor-push IsKey bits width v key 0 ps p laid.cursor (let d = laid.depth_is in let h = laid.high in omega (arith, d, h, depth_is)) spot)
+          subst (IsStackFrom width v.slots 0 way) (sym pushed)
+          (cursor-push width v.slots way 0 ps p laid.cursor (let d = laid.depth_is in let h = laid.high in omega (arith, d, h, depth_is)) spot)
 
-      pub stack_pushed : IsStack IsKey bits width v key qs
-      stack_pushed = restart IsKey bits width v key 0 qs stack_from_pushed
+      pub stack_pushed : IsStack width v.slots way qs
+      stack_pushed = restart width v.slots way 0 qs stack_from_pushed
 
-      pub passed_pushed : ArePassed bits key qs
-      passed_pushed = passed-above bits key qs ps p pushed laid.passed
+      pub passed_pushed : ArePassed way qs
+      passed_pushed = passed-above way qs ps p pushed laid.passed
 
       module _ (values children : ℕ) (all : to_come p.places ≡ places_in node values children) (test : List Bool → Bool) (holds : HoldsPlaces values children test)
           (t : Tree T) (tree : IsTrie width t.count v t.cells t.shape) where
-        still_is : still bits t.shape.entries key p ≡ filter (λ e. test (take 5 (drop (length (take depth (bits key))) e.0))) (listing_below t.shape.entries (take depth (bits key)))
+        still_is : still t.shape.entries way p ≡ filter (λ e. test (take 5 (drop (length (take depth q)) e.0))) (listing_below t.shape.entries (take depth q))
         still_is =
-            ap (λ d. listing_at_places t.shape.entries (take d (bits key)) (to_come p.places)) depth_is
-            ∙ ap (listing_at_places t.shape.entries (take depth (bits key))) all
-            ∙ at_some_places t.shape.entries (take depth (bits key)) test (λ s. is_in node.value_bitmap node.child_bitmap s && is_in values children s) (is_in node.value_bitmap node.child_bitmap)
+            ap (λ d. listing_at_places t.shape.entries (take d way) (to_come p.places)) depth_is
+            ∙ ap (λ s. listing_at_places t.shape.entries s (to_come p.places)) (same_start depth laid.inside)
+            ∙ ap (listing_at_places t.shape.entries (take depth q)) all
+            ∙ at_some_places t.shape.entries (take depth q) test (λ s. is_in node.value_bitmap node.child_bitmap s && is_in values children s) (is_in node.value_bitmap node.child_bitmap)
             (λ s h. ap (λ b. is_in node.value_bitmap node.child_bitmap s && b) (holds.bits s h))
-            (unset width v t tree (take depth (bits key)) node whole laid.stands)
+            (unset width v t tree (take depth q) node whole laid.stands)
 
-        pending_is : pending bits t.shape.entries key qs ≡ still bits t.shape.entries key p ++ pending bits t.shape.entries key ps
-        pending_is = ap (pending bits t.shape.entries key) pushed ∙ pending-push bits t.shape.entries key ps p
+        pending_is : pending t.shape.entries way qs ≡ still t.shape.entries way p ++ pending t.shape.entries way ps
+        pending_is = ap (pending t.shape.entries way) pushed ∙ pending-push t.shape.entries way ps p
 
       -- the node is passed: what comes after the child taken is left there
-      module _ (more : depth + 5 ≤ len) (values children : ℕ) (all : to_come p.places ≡ places_in node values children) (k : ℕ) (k_is : k ≡ number (take 5 (drop depth (bits key))))
+      module _ (more : depth + 5 ≤ length q) (values children : ℕ) (all : to_come p.places ≡ places_in node values children) (k : ℕ) (k_is : k ≡ number (take 5 (drop depth q)))
           (masks : (s : List Bool) → length s ≡ 5 → number s ≡ k → HoldsPlaces values children (behind from s)) where
-        holds : HoldsPlaces values children (behind from (take 5 (drop depth (bits key))))
-        holds = masks (take 5 (drop depth (bits key))) (five more) (sym k_is)
+        holds : HoldsPlaces values children (behind from (take 5 (drop depth q)))
+        holds = masks (take 5 (drop depth q)) (five more) (sym k_is)
 
         -- the child is not
-        child_taken : IsPassed bits key p
+        child_taken : IsPassed way p
         child_taken =
-            subst (All (IsOther (take 5 (drop p.depth (bits key))))) (sym all)
-            (All-weaker (λ s. (is_in node.value_bitmap node.child_bitmap s && is_in values children s) ≡ true) (IsOther (take 5 (drop p.depth (bits key))))
-            (λ s h e. taken s h (e ∙ ap (λ d. take 5 (drop d (bits key))) depth_is))
+            subst (All (IsOther (take 5 (drop p.depth way)))) (sym all)
+            (All-weaker (λ s. (is_in node.value_bitmap node.child_bitmap s && is_in values children s) ≡ true) (IsOther (take 5 (drop p.depth way)))
+            (λ s h e. taken s h (e ∙ ap (λ d. take 5 (drop d way)) depth_is ∙ same_child more))
             (places_in node values children) (filter_passes (λ s. is_in node.value_bitmap node.child_bitmap s && is_in values children s) (strings 5)))
           where
-            taken : (s : List Bool) → (is_in node.value_bitmap node.child_bitmap s && is_in values children s) ≡ true → s ≡ take 5 (drop depth (bits key)) → ⊥
+            taken : (s : List Bool) → (is_in node.value_bitmap node.child_bitmap s && is_in values children s) ≡ true → s ≡ take 5 (drop depth q) → ⊥
             taken s h e =
                 let five : length s ≡ 5 = ap length e ∙ five more in
-                let none : is_in values children s ≡ false = holds.bits s (omega (arith, five)) ∙ ap (behind from (take 5 (drop depth (bits key)))) e ∙ behind-itself from (take 5 (drop depth (bits key))) in
+                let none : is_in values children s ≡ false = holds.bits s (omega (arith, five)) ∙ ap (behind from (take 5 (drop depth q))) e ∙ behind-itself from (take 5 (drop depth q)) in
                 false≢true (sym none ∙ and-second (is_in node.value_bitmap node.child_bitmap s) (is_in values children s) h)
 
-        passed_is : (t : Tree T) → IsTrie width t.count v t.cells t.shape → wanted_below from t.shape.entries (take len (bits key)) (take depth (bits key))
-            ≡ wanted_below from t.shape.entries (take len (bits key)) (take (depth + 5) (bits key)) ++ still bits t.shape.entries key p
+        passed_is : (t : Tree T) → IsTrie width t.count v t.cells t.shape → wanted_below from t.shape.entries q (take depth q)
+            ≡ wanted_below from t.shape.entries q (take (depth + 5) q) ++ still t.shape.entries way p
         passed_is t tree =
-            subst (λ q. wanted_below from t.shape.entries q (take depth (bits key)) ≡ wanted_below from t.shape.entries q (take (depth + 5) (bits key)) ++ still bits t.shape.entries key p) (sym (way_is more))
-            (wanted_passed from t.shape.entries (take depth (bits key)) (take 5 (drop depth (bits key))) (drop (depth + 5) (take len (bits key)))
-            ∙ ap₂ (λ s es. wanted_below from t.shape.entries (take depth (bits key) ++ take 5 (drop depth (bits key)) ++ drop (depth + 5) (take len (bits key))) s ++ es) (sym (deeper_string more))
-            (ap (λ n. filter (λ e. behind from (take 5 (drop depth (bits key))) (take n (drop (length (take depth (bits key))) e.0))) (listing_below t.shape.entries (take depth (bits key)))) (five more)
-            ∙ sym (still_is values children all (behind from (take 5 (drop depth (bits key)))) holds t tree)))
+            subst (λ z. wanted_below from t.shape.entries z (take depth q) ≡ wanted_below from t.shape.entries z (take (depth + 5) q) ++ still t.shape.entries way p) (sym (way_is more))
+            (wanted_passed from t.shape.entries (take depth q) (take 5 (drop depth q)) (drop (depth + 5) q)
+            ∙ ap₂ (λ s es. wanted_below from t.shape.entries (take depth q ++ take 5 (drop depth q) ++ drop (depth + 5) q) s ++ es) (sym (deeper_string more))
+            (ap (λ n. filter (λ e. behind from (take 5 (drop depth q)) (take n (drop (length (take depth q)) e.0))) (listing_below t.shape.entries (take depth q))) (five more)
+            ∙ sym (still_is values children all (behind from (take 5 (drop depth q))) holds t tree)))
 
-        rest_pushed : (t : Tree T) → IsTrie width t.count v t.cells t.shape → selected from t.shape.entries (take len (bits key))
-            ≡ wanted_below from t.shape.entries (take len (bits key)) (take (depth + 5) (bits key)) ++ pending bits t.shape.entries key qs
+        rest_pushed : (t : Tree T) → IsTrie width t.count v t.cells t.shape → selected from t.shape.entries q
+            ≡ wanted_below from t.shape.entries q (take (depth + 5) q) ++ pending t.shape.entries way qs
         rest_pushed t tree =
-            laid.rest t tree ∙ ap (λ es. es ++ pending bits t.shape.entries key ps) (passed_is t tree)
-            ∙ append_assoc (wanted_below from t.shape.entries (take len (bits key)) (take (depth + 5) (bits key))) (still bits t.shape.entries key p) (pending bits t.shape.entries key ps)
-            ∙ ap (λ es. wanted_below from t.shape.entries (take len (bits key)) (take (depth + 5) (bits key)) ++ es) (sym (pending_is values children all (behind from (take 5 (drop depth (bits key)))) holds t tree))
+            laid.rest t tree ∙ ap (λ es. es ++ pending t.shape.entries way ps) (passed_is t tree)
+            ∙ append_assoc (wanted_below from t.shape.entries q (take (depth + 5) q)) (still t.shape.entries way p) (pending t.shape.entries way ps)
+            ∙ ap (λ es. wanted_below from t.shape.entries q (take (depth + 5) q) ++ es) (sym (pending_is values children all (behind from (take 5 (drop depth q))) holds t tree))
 
         -- if the child is missing that is all
-        pub rest_missing : has node.child_bitmap k ≡ false → (t : Tree T) → IsTrie width t.count v t.cells t.shape → pending bits t.shape.entries key qs ≡ selected from t.shape.entries (take len (bits key))
+        pub rest_missing : has node.child_bitmap k ≡ false → (t : Tree T) → IsTrie width t.count v t.cells t.shape → pending t.shape.entries way qs ≡ selected from t.shape.entries q
         rest_missing clear t tree =
             sym (rest_pushed t tree
-            ∙ ap (λ es. es ++ pending bits t.shape.entries key qs) (wanted_none from t.shape.entries (take len (bits key)) (take (depth + 5) (bits key)) (none_below more t tree k k_is clear)))
+            ∙ ap (λ es. es ++ pending t.shape.entries way qs) (wanted_none from t.shape.entries q (take (depth + 5) q) (none_below more t tree k k_is clear)))
 
         -- if it is there it is the next node
         pub laid_next : (t : Tree T) → IsTrie width t.count v t.cells t.shape → has node.child_bitmap k ≡ true → (slot : ℕ) → slot ≡ child_slot node k → (next : Node) → next ≡ node_at v.slots slot →
@@ -235,21 +242,21 @@ module _ {K : Type 0} (IsKey : K → Type 0) (bits : K → List Bool) (width : �
           high = (let h = laid.high in omega (arith, h, ap length pushed, length-append ps (p ∷ [])));
           stands = next_stands more t tree k k_is set slot slot_is next is;
           cursor = stack_from_pushed;
-          passed = subst (All (IsPassed bits key)) (sym pushed) (All-push (IsPassed bits key) ps p laid.passed child_taken);
+          passed = subst (All (IsPassed way)) (sym pushed) (All-push (IsPassed way) ps p laid.passed child_taken);
           rest = rest_pushed;
         }
 
       -- the string ends at this node
-      pub rest_ended : len < depth + 5 → (values children : ℕ) → to_come p.places ≡ places_in node values children → HoldsPlaces values children (kept from (drop depth (take len (bits key)))) →
-          (t : Tree T) → IsTrie width t.count v t.cells t.shape → pending bits t.shape.entries key qs ≡ selected from t.shape.entries (take len (bits key))
+      pub rest_ended : length q < depth + 5 → (values children : ℕ) → to_come p.places ≡ places_in node values children → HoldsPlaces values children (kept from (drop depth q)) →
+          (t : Tree T) → IsTrie width t.count v t.cells t.shape → pending t.shape.entries way qs ≡ selected from t.shape.entries q
       rest_ended last values children all masks t tree =
-          pending_is values children all (kept from (drop depth (take len (bits key)))) masks t tree
-          ∙ ap (λ es. es ++ pending bits t.shape.entries key ps) (sym ended)
+          pending_is values children all (kept from (drop depth q)) masks t tree
+          ∙ ap (λ es. es ++ pending t.shape.entries way ps) (sym ended)
           ∙ sym (laid.rest t tree)
         where
-          ended : wanted_below from t.shape.entries (take len (bits key)) (take depth (bits key)) ≡ still bits t.shape.entries key p
+          ended : wanted_below from t.shape.entries q (take depth q) ≡ still t.shape.entries way p
           ended =
-              ap (λ q. wanted_below from t.shape.entries q (take depth (bits key))) left_is
-              ∙ wanted_ended from t.shape.entries (take depth (bits key)) (drop depth (take len (bits key)))
-              (let l = short_rest (bits key) width long depth len within last in omega (arith, l))
-              ∙ sym (still_is values children all (kept from (drop depth (take len (bits key)))) masks t tree)
+              ap (λ z. wanted_below from t.shape.entries z (take depth q)) left_is
+              ∙ wanted_ended from t.shape.entries (take depth q) (drop depth q)
+              (let i = laid.inside in omega (arith, length-drop depth q, i, last))
+              ∙ sym (still_is values children all (kept from (drop depth q)) masks t tree)

@@ -51,12 +51,12 @@ module _ {T : Type 0} where
 
 -- ---- a table, and arrays in which some of its cells are vacant
 
-module _ {K T : Type 0} (IsKey : K → Type 0) (bits : K → List Bool) (width : ℕ) (v : Store Node) where
+module _ {T : Type 0} (width : ℕ) (v : Store Node) where
   module _ (t : Tree T) (trie : IsTrie width t.count v t.cells t.shape) where
     -- the strings to come are those of the entries of the table
-    strings_come : (keys : Seated v.slots) (key : K) (ps : List Spot) → pending bits keys.0 key ps ≡ map bare (pending bits t.shape.entries key ps)
+    strings_come : (keys : Seated v.slots) (key : List Bool) (ps : List Spot) → pending keys.0 key ps ≡ map bare (pending t.shape.entries key ps)
     strings_come keys key ps =
-        pending_bare t.shape.entries keys.0 (λ q. keys.1 q ∙ sym (stored_if v t.cells t.count (t.shape, trie.shaped) trie.table q)) bits key ps
+        pending_bare t.shape.entries keys.0 (λ q. keys.1 q ∙ sym (stored_if v t.cells t.count (t.shape, trie.shaped) trie.table q)) key ps
 
     module _ (cells : List (Option T)) (q : List Bool) (x : Seat) (found : seat_of v.slots q ≡ Some x) where
       -- if one cell is made vacant the others are unchanged
@@ -81,16 +81,16 @@ module _ {K T : Type 0} (IsKey : K → Type 0) (bits : K → List Bool) (width :
       held_left (k ∷ ks) h held = (ap is_some (other_cell k.0 h.0) ∙ held.0, held_left ks h.1 held.1)
 
   -- a walk
-  module _ (w : Store (Option T)) (s : Seated v.slots) (key : K) (ps : List Spot) (at : IsTaking IsKey bits width v w s.0 key ps) where
-    module _ (keys : Seated v.slots) (next : K) (qs : List Spot) where
+  module _ (w : Store (Option T)) (s : Seated v.slots) (key : List Bool) (ps : List Spot) (at : IsTaking width v w s.0 key ps) where
+    module _ (keys : Seated v.slots) (next : List Bool) (qs : List Spot) where
       -- with nothing left to come
-      none_come : pending bits at.tree.shape.entries next qs ≡ [] → pending bits keys.0 next qs ≡ []
+      none_come : pending at.tree.shape.entries next qs ≡ [] → pending keys.0 next qs ≡ []
       none_come none = strings_come at.tree at.trie keys next qs ∙ ap (λ es. map bare es) none
 
-      pub none_given : pending bits at.tree.shape.entries next qs ≡ [] → pairs_in v.slots w.slots (pending bits keys.0 next qs) ≡ []
+      pub none_given : pending at.tree.shape.entries next qs ≡ [] → pairs_in v.slots w.slots (pending keys.0 next qs) ≡ []
       none_given none = ap (pairs_in v.slots w.slots) (none_come none)
 
-      pub walk_ended : pending bits at.tree.shape.entries next qs ≡ [] → IsStack IsKey bits width v next qs → IsTaking IsKey bits width v w keys.0 next qs
+      pub walk_ended : pending at.tree.shape.entries next qs ≡ [] → IsStack width v.slots next qs → IsTaking width v w keys.0 next qs
       walk_ended none stack = record {
         tree = at.tree;
         trie = at.trie;
@@ -101,21 +101,21 @@ module _ {K T : Type 0} (IsKey : K → Type 0) (bits : K → List Bool) (width :
       }
 
     -- which takes the next value
-    module _ (next : K) (qs : List Spot) (found_key : K) (size : ℕ) (seat : Seat)
-        (h : GivesSeat IsKey bits width at.tree found_key size seat (pending bits at.tree.shape.entries key ps) (pending bits at.tree.shape.entries next qs))
+    module _ {K : Type 0} {IsKey : K → Type 0} {bits : K → List Bool} (next : List Bool) (qs : List Spot) (found_key : K) (size : ℕ) (seat : Seat)
+        (h : GivesSeat IsKey bits width at.tree found_key size seat (pending at.tree.shape.entries key ps) (pending at.tree.shape.entries next qs))
         (found : seat_of v.slots (take size (bits found_key)) ≡ Some seat) where
       abbrev q : List Bool
       q = take size (bits found_key)
 
-      come : pending bits s.0 key ps ≡ (q, tt) ∷ pending bits s.0 next qs
+      come : pending s.0 key ps ≡ (q, tt) ∷ pending s.0 next qs
       come =
           strings_come at.tree at.trie s key ps ∙ ap (λ es. map bare es) h.gives.first
           ∙ ap (λ ks. (q, tt) ∷ ks) (sym (strings_come at.tree at.trie s next qs))
 
-      held : (is_some (cell_of v.slots w.slots q) ≡ true) × AreHeld v.slots w.slots (pending bits s.0 next qs)
+      held : (is_some (cell_of v.slots w.slots q) ≡ true) × AreHeld v.slots w.slots (pending s.0 next qs)
       held = subst (AreHeld v.slots w.slots) come at.held
 
-      apart : IsApart q (pending bits s.0 next qs) × AreApart (pending bits s.0 next qs)
+      apart : IsApart q (pending s.0 next qs) × AreApart (pending s.0 next qs)
       apart = subst AreApart come at.apart
 
       taken_cell : (x : Option T) → x ≡ get_or w.slots (slot_of seat) x → cell_of v.slots w.slots q ≡ x
@@ -126,37 +126,37 @@ module _ {K T : Type 0} (IsKey : K → Type 0) (bits : K → List Bool) (width :
       taken_there x read = ap is_some (sym (taken_cell x read)) ∙ held.0
 
       module _ (keys : Seated v.slots) (w2 : Store (Option T)) (left : w2 ≡ record w { slots = set w.slots (slot_of seat) None }) where
-        same_keys : pending bits keys.0 next qs ≡ pending bits s.0 next qs
+        same_keys : pending keys.0 next qs ≡ pending s.0 next qs
         same_keys = strings_come at.tree at.trie keys next qs ∙ sym (strings_come at.tree at.trie s next qs)
 
         left_slots : w2.slots ≡ set w.slots (slot_of seat) None
         left_slots = ap (λ (x : Store (Option T)). x.slots) left
 
         -- and the walk goes on
-        pub walk_goes_on : IsStack IsKey bits width v next qs → IsTaking IsKey bits width v w2 keys.0 next qs
+        pub walk_goes_on : IsStack width v.slots next qs → IsTaking width v w2 keys.0 next qs
         walk_goes_on stack = record {
           tree = at.tree;
           trie = at.trie;
           long = ap (λ xs. length xs) left_slots ∙ length-set w.slots (slot_of seat) None ∙ at.long;
           stack = stack;
-          held = subst (λ xs. AreHeld v.slots xs (pending bits keys.0 next qs)) (sym left_slots)
+          held = subst (λ xs. AreHeld v.slots xs (pending keys.0 next qs)) (sym left_slots)
               (subst (AreHeld v.slots (set w.slots (slot_of seat) None)) (sym same_keys)
-              (held_left at.tree at.trie w.slots q seat found (pending bits s.0 next qs) apart.0 held.1));
+              (held_left at.tree at.trie w.slots q seat found (pending s.0 next qs) apart.0 held.1));
           apart = subst AreApart (sym same_keys) apart.1;
         }
 
         -- with the rest of the pairs
         pub gives_taken : (x : T) (old : List (List Bool × T)) → Some x ≡ get_or w.slots (slot_of seat) (Some x) →
-            pairs_in v.slots w.slots (pending bits s.0 key ps) ≡ old →
-            GivesFilled IsKey bits width found_key size x old (pairs_in v.slots w2.slots (pending bits keys.0 next qs))
+            pairs_in v.slots w.slots (pending s.0 key ps) ≡ old →
+            GivesFilled IsKey bits width found_key size x old (pairs_in v.slots w2.slots (pending keys.0 next qs))
         gives_taken x old read is = record {
           is_key = h.gives.is_key;
           short = h.gives.short;
           first =
               sym is ∙ ap (pairs_in v.slots w.slots) come
-              ∙ ap (λ o. pair_of q o ++ pairs_in v.slots w.slots (pending bits s.0 next qs)) (taken_cell (Some x) read)
-              ∙ ap (λ es. (q, x) ∷ es) (sym (pairs_left at.tree at.trie w.slots q seat found (pending bits s.0 next qs) apart.0)
-              ∙ ap (λ xs. pairs_in v.slots xs (pending bits s.0 next qs)) (sym left_slots) ∙ ap (pairs_in v.slots w2.slots) (sym same_keys));
+              ∙ ap (λ o. pair_of q o ++ pairs_in v.slots w.slots (pending s.0 next qs)) (taken_cell (Some x) read)
+              ∙ ap (λ es. (q, x) ∷ es) (sym (pairs_left at.tree at.trie w.slots q seat found (pending s.0 next qs) apart.0)
+              ∙ ap (λ xs. pairs_in v.slots xs (pending s.0 next qs)) (sym left_slots) ∙ ap (pairs_in v.slots w2.slots) (sym same_keys));
           filled = h.gives.filled;
         }
 
@@ -185,8 +185,8 @@ module _ {K T : Type 0} (IsKey : K → Type 0) (bits : K → List Bool) (width :
     held_stored [] h = tt
     held_stored (e ∷ es) h = (ap is_some (cell_stored e (All-head IsStored e es h)), held_stored es (All-tail IsStored e es h))
 
-    module _ (keys : Seated v.slots) (key : K) (ps : List Spot) (q : List Bool) (rest : pending bits s.entries key ps ≡ listing_below s.entries q) where
-      below_come : pending bits keys.0 key ps ≡ map bare (listing_below s.entries q)
+    module _ (keys : Seated v.slots) (key : List Bool) (ps : List Spot) (q : List Bool) (rest : pending s.entries key ps ≡ listing_below s.entries q) where
+      below_come : pending keys.0 key ps ≡ map bare (listing_below s.entries q)
       below_come = strings_come whole trie keys key ps ∙ ap (λ es. map bare es) rest
 
       below_stored : All IsStored (listing_below s.entries q)
@@ -195,7 +195,7 @@ module _ {K T : Type 0} (IsKey : K → Type 0) (bits : K → List Bool) (width :
           (λ e h. get-entries s.entries e.0 ∙ find-from_Contains (entries s.entries) e (entries_sorted s.entries) h) (entries s.entries)
           (All-contains_itself (entries s.entries)))
 
-      pub walk_below : IsStack IsKey bits width v key ps → IsTaking IsKey bits width v w keys.0 key ps
+      pub walk_below : IsStack width v.slots key ps → IsTaking width v w keys.0 key ps
       walk_below stack = record {
         tree = whole;
         trie = trie;
@@ -206,7 +206,7 @@ module _ {K T : Type 0} (IsKey : K → Type 0) (bits : K → List Bool) (width :
             (apart_sorted (listing_below s.entries q) (is_sorted-where_key listing_cmp (begins q) (entries s.entries) (entries_sorted s.entries)));
       }
 
-      pub below_given : (x : State T) → IsShapeOf v.slots w.slots x → pairs_in v.slots w.slots (pending bits keys.0 key ps) ≡ listing_below x.entries q
+      pub below_given : (x : State T) → IsShapeOf v.slots w.slots x → pairs_in v.slots w.slots (pending keys.0 key ps) ≡ listing_below x.entries q
       below_given x is =
           ap (pairs_in v.slots w.slots) below_come ∙ pairs_stored (listing_below s.entries q) below_stored
           ∙ ap (λ (y : State T). listing_below y.entries q) (same_shape v.slots w.slots s x trie.shaped is)
@@ -241,9 +241,9 @@ module _ {T : Type 0} (C : T → T → Type 0) where
         (cloned_there C (cell_of nodes xs k.0) (cell_of nodes ys k.0) (cell_cloned k.0) ∙ h.0, held_cloned ks h.1)
 
 -- the nodes and the spots of a copy are the same, and what is in its cells are clones
-module _ {K T : Type 0} (IsKey : K → Type 0) (bits : K → List Bool) (width : ℕ) (C : T → T → Type 0) (R : Option T → Option T → Type 0)
-    (means : (x y : Option T) → R x y → IsCloned C x y) (v v2 : Store Node) (w w2 : Store (Option T)) (s : Seated v.slots) (key : K) (ps qs : List Spot)
-    (at : IsTaking IsKey bits width v w s.0 key ps) (nodes : v2 ≡ record v { capacity = v2.capacity }) (clones : AllZip R w.slots w2.slots) (spots : qs ≡ ps) where
+module _ {T : Type 0} (width : ℕ) (C : T → T → Type 0) (R : Option T → Option T → Type 0)
+    (means : (x y : Option T) → R x y → IsCloned C x y) (v v2 : Store Node) (w w2 : Store (Option T)) (s : Seated v.slots) (key : List Bool) (ps qs : List Spot)
+    (at : IsTaking width v w s.0 key ps) (nodes : v2 ≡ record v { capacity = v2.capacity }) (clones : AllZip R w.slots w2.slots) (spots : qs ≡ ps) where
   cloned : (i : ℕ) → IsCloned C (get_or w.slots i None) (get_or w2.slots i None)
   cloned i = clones_at C R means w.slots w2.slots clones i
 
@@ -254,19 +254,11 @@ module _ {K T : Type 0} (IsKey : K → Type 0) (bits : K → List Bool) (width :
   -- what a copy is
   abbrev IsCopy : (y : Store Node) → Seated y.slots → List Spot → Type 0
   IsCopy y keys rs =
-      IsTaking IsKey bits width y w2 keys.0 key rs
-      × AllZip (IsPairCloned C) (pairs_in v.slots w.slots (pending bits s.0 key ps)) (pairs_in y.slots w2.slots (pending bits keys.0 key rs))
+      IsTaking width y w2 keys.0 key rs
+      × AllZip (IsPairCloned C) (pairs_in v.slots w.slots (pending s.0 key ps)) (pairs_in y.slots w2.slots (pending keys.0 key rs))
 
   abbrev moved : Store Node
   moved = record v { capacity = v2.capacity }
-
-  cursor_moved : (n : ℕ) (rs : List Spot) → IsStackFrom IsKey bits width v n key rs → IsStackFrom IsKey bits width moved n key rs
-  cursor_moved n [] h = tt
-  cursor_moved n (r ∷ rs) h = (
-    h.0,
-    record { is_key = h.1.is_key; level = h.1.level; depth_is = h.1.depth_is; within = h.1.within; stands = h.1.stands; each = h.1.each },
-    cursor_moved (n + 5) rs h.2,
-  )
 
   -- it is a walk, with clones of the same pairs
   pub copied_walk : (keys : Seated v2.slots) → IsCopy v2 keys qs
@@ -277,9 +269,9 @@ module _ {K T : Type 0} (IsKey : K → Type 0) (bits : K → List Bool) (width :
           tree = at.tree;
           trie = IsTrie-capacity v at.tree.cells v2.capacity at.tree.cells.capacity at.tree.count at.tree.shape width at.trie;
           long = sym (length_all_zip R w.slots w2.slots clones) ∙ at.long;
-          stack = cursor_moved (start ps) ps at.stack;
-          held = held_cloned C v.slots w.slots w2.slots cloned (pending bits s.0 key ps) at.held;
+          stack = at.stack;
+          held = held_cloned C v.slots w.slots w2.slots cloned (pending s.0 key ps) at.held;
           apart = at.apart;
         },
-        pairs_cloned C v.slots w.slots w2.slots cloned (pending bits s.0 key ps),
+        pairs_cloned C v.slots w.slots w2.slots cloned (pending s.0 key ps),
       )))

@@ -2,7 +2,7 @@
 use Rattle.prefix_trie_table.proofs.Prelude.{◌≡◌, ℕ, ◌%◌, Bool, List, [], ◌∷◌, length, take, arith, Option, None, Some, refl, sym, ap, ◌∙◌, subst, ◌+◌, map, is_some, true, MatchOption, IfSome, All-nil, slice_index_or, Bor, places, to_come, listing, listing_below, listing_at_places, State, listing_of_root, Node, Store, node_at, chunks_of, read, Shaped, IsShapeOf, same_shape, Seat, Spot, GivesFilled, Tree, IsSpot, IsPlaceOf, IsStack, IsPassed, ArePassed, still, pending, GivesSeat, ShapeOf, rest_of_walk, IsWalk, IsStackFrom, start, IsTrie, IsTable, len, contains_key, seat_of, GivesKey}
 use Rattle.std.specs.List.{All}
 use Rattle.prefix_trie_table.specs.Walking.Walks.{slot_of}
-use Rattle.prefix_trie_table.proofs.Walk.Stacks.{passed-above, spot_as}
+use Rattle.prefix_trie_table.proofs.Walk.Stacks.{passed-above}
 use Rattle.prefix_trie_table.proofs.Tree.Trees.{read-nil}
 use Rattle.prefix_trie_table.proofs.Tree.Subtrees.{all_places}
 use Rattle.prefix_trie_table.proofs.Lookup.Located.{stored_if}
@@ -11,20 +11,20 @@ use Rattle.prefix_trie_table.proofs.Lookup.Located.{stored_if}
 abbrev pub tree_of : {T : Type 0} → Store (Option T) → State T → Tree T
 tree_of w s = record { count = len s.entries; cells = w; shape = s }
 
-module _ {K T : Type 0} (IsKey : K → Type 0) (bits : K → List Bool) (width : ℕ) where
+module _ {T : Type 0} (width : ℕ) where
   -- a walk has arrays, which hold a table
-  pub record Rest (arrays : Option (Bor (Store Node) × Bor (Store (Option T)))) (shape : ShapeOf arrays) (key : K) (ps : List Spot) (v : Store Node) (w : Store (Option T)) : Type 0 where
+  pub record Rest (arrays : Option (Bor (Store Node) × Bor (Store (Option T)))) (shape : ShapeOf arrays) (way : List Bool) (ps : List Spot) (v : Store Node) (w : Store (Option T)) : Type 0 where
     pub state : State T
     pub tree : IsTrie width (len state.entries) v w state
-    pub stack : IsStack IsKey bits width v key ps
-    pub passed : ArePassed bits key ps
-    pub rest : rest_of_walk bits arrays shape key ps ≡ pending bits state.entries key ps
-    pub later : (u : ShapeOf arrays) (k : K) (qs : List Spot) → IsStack IsKey bits width v k qs → ArePassed bits k qs → IsWalk IsKey bits width arrays u k qs
-    pub later_rest : (u : ShapeOf arrays) (k : K) (qs : List Spot) → rest_of_walk bits arrays u k qs ≡ pending bits state.entries k qs
+    pub stack : IsStack width v.slots way ps
+    pub passed : ArePassed way ps
+    pub rest : rest_of_walk arrays shape way ps ≡ pending state.entries way ps
+    pub later : (u : ShapeOf arrays) (k : List Bool) (qs : List Spot) → IsStack width v.slots k qs → ArePassed k qs → IsWalk width arrays u k qs
+    pub later_rest : (u : ShapeOf arrays) (k : List Bool) (qs : List Spot) → rest_of_walk arrays u k qs ≡ pending state.entries k qs
 
-  rest_some : (b : Bor (Store Node) × Bor (Store (Option T))) (shape : ShapeOf (Some b)) (key : K) (ps : List Spot) → IsWalk IsKey bits width (Some b) shape key ps →
-      Rest (Some b) shape key ps b.0.now b.1.now
-  rest_some b shape key ps h = record {
+  rest_some : (b : Bor (Store Node) × Bor (Store (Option T))) (shape : ShapeOf (Some b)) (way : List Bool) (ps : List Spot) → IsWalk width (Some b) shape way ps →
+      Rest (Some b) shape way ps b.0.now b.1.now
+  rest_some b shape way ps h = record {
     state = shape.0;
     tree = h.0;
     stack = h.1;
@@ -35,90 +35,75 @@ module _ {K T : Type 0} (IsKey : K → Type 0) (bits : K → List Bool) (width :
       stack,
       passed,
     );
-    later_rest = λ u k qs. ap (λ (x : State T). pending bits x.entries k qs) (same_shape b.0.now.slots b.1.now.slots u.0 shape.0 u.1 shape.1);
+    later_rest = λ u k qs. ap (λ (x : State T). pending x.entries k qs) (same_shape b.0.now.slots b.1.now.slots u.0 shape.0 u.1 shape.1);
   }
 
   pub rest_at : (arrays : Option (Bor (Store Node) × Bor (Store (Option T)))) (a : Bor (Store Node) × Bor (Store (Option T))) → arrays ≡ Some a →
-      (shape : ShapeOf arrays) (key : K) (ps : List Spot) → IsWalk IsKey bits width arrays shape key ps → Rest arrays shape key ps a.0.now a.1.now
-  rest_at None a e shape key ps h = absurd (cc)
-  rest_at (Some b) a e shape key ps h =
-      let same : b ≡ a = cc in subst (λ (x : Bor (Store Node) × Bor (Store (Option T))). Rest (Some b) shape key ps x.0.now x.1.now) same (rest_some b shape key ps h)
+      (shape : ShapeOf arrays) (way : List Bool) (ps : List Spot) → IsWalk width arrays shape way ps → Rest arrays shape way ps a.0.now a.1.now
+  rest_at None a e shape way ps h = absurd (cc)
+  rest_at (Some b) a e shape way ps h =
+      let same : b ≡ a = cc in subst (λ (x : Bor (Store Node) × Bor (Store (Option T))). Rest (Some b) shape way ps x.0.now x.1.now) same (rest_some b shape way ps h)
 
   -- the arrays have one shape, whichever is named
-  pub same_rest : (arrays : Option (Bor (Store Node) × Bor (Store (Option T)))) (s u : ShapeOf arrays) (key : K) (ps qs : List Spot) → qs ≡ ps →
-      rest_of_walk bits arrays u key qs ≡ rest_of_walk bits arrays s key ps
-  same_rest None s u key ps qs e = refl
-  same_rest (Some a) s u key ps qs e = ap (λ (x : State T). pending bits x.entries key qs) (same_shape a.0.now.slots a.1.now.slots u.0 s.0 u.1 s.1) ∙ ap (pending bits s.0.entries key) e
+  pub same_rest : (arrays : Option (Bor (Store Node) × Bor (Store (Option T)))) (s u : ShapeOf arrays) (way : List Bool) (ps qs : List Spot) → qs ≡ ps →
+      rest_of_walk arrays u way qs ≡ rest_of_walk arrays s way ps
+  same_rest None s u way ps qs e = refl
+  same_rest (Some a) s u way ps qs e = ap (λ (x : State T). pending x.entries way qs) (same_shape a.0.now.slots a.1.now.slots u.0 s.0 u.1 s.1) ∙ ap (pending s.0.entries way) e
 
-  pub same_walk : (arrays : Option (Bor (Store Node) × Bor (Store (Option T)))) (s u : ShapeOf arrays) (key : K) (ps qs : List Spot) → qs ≡ ps →
-      IsWalk IsKey bits width arrays s key ps → IsWalk IsKey bits width arrays u key qs
-  same_walk None s u key ps qs e h = tt
-  same_walk (Some a) s u key ps qs e h = (
+  pub same_walk : (arrays : Option (Bor (Store Node) × Bor (Store (Option T)))) (s u : ShapeOf arrays) (way : List Bool) (ps qs : List Spot) → qs ≡ ps →
+      IsWalk width arrays s way ps → IsWalk width arrays u way qs
+  same_walk None s u way ps qs e h = tt
+  same_walk (Some a) s u way ps qs e h = (
     subst (λ (x : State T). IsTrie width (len x.entries) a.0.now a.1.now x) (same_shape a.0.now.slots a.1.now.slots s.0 u.0 s.1 u.1) h.0,
-    subst (IsStack IsKey bits width a.0.now key) (sym e) h.1,
-    subst (ArePassed bits key) (sym e) h.2,
+    subst (IsStack width a.0.now.slots way) (sym e) h.1,
+    subst (ArePassed way) (sym e) h.2,
   )
-
-  -- the value that is read at its seat is the one that comes next
-  pub gives_read : (t : Tree T) (key : K) (len : ℕ) (seat : Seat) (p q old new : List (List Bool × T)) (x : T) → GivesSeat IsKey bits width t key len seat p q →
-      slice_index_or t.cells.slots (slot_of seat) None ≡ Some x → old ≡ p → new ≡ q → GivesFilled IsKey bits width key len x old new
-  gives_read t key len seat p q old new x h reads before after =
-      let both : Some h.value ≡ Some x = sym h.reads ∙ reads in
-      let same : h.value ≡ x = cc in
-      record {
-        is_key = h.gives.is_key;
-        short = h.gives.short;
-        first = before ∙ h.gives.first ∙ ap (λ v. (take len (bits key), v) ∷ q) same ∙ ap (λ es. (take len (bits key), x) ∷ es) (sym after);
-        filled = h.gives.filled;
-      }
 
   module _ (v : Store Node) (w : Store (Option T)) (s : State T) (tree : IsTrie width (len s.entries) v w s) (u : Shaped v.slots w.slots) where
     -- spots of the table in the arrays are a walk, and have to come what is pending at them
-    module _ (key : K) (ps : List Spot) where
-      pub spots_walk : IsStack IsKey bits width v key ps → ArePassed bits key ps → IsTrie width (len u.0.entries) v w u.0 × IsStack IsKey bits width v key ps × ArePassed bits key ps
+    module _ (way : List Bool) (ps : List Spot) where
+      pub spots_walk : IsStack width v.slots way ps → ArePassed way ps → IsTrie width (len u.0.entries) v w u.0 × IsStack width v.slots way ps × ArePassed way ps
       spots_walk stack passed = (subst (λ (x : State T). IsTrie width (len x.entries) v w x) (same_shape v.slots w.slots s u.0 tree.shaped u.1) tree, stack, passed)
 
-      pub spots_rest : (x : State T) → IsShapeOf v.slots w.slots x → pending bits u.0.entries key ps ≡ pending bits x.entries key ps
-      spots_rest x is = ap (λ (y : State T). pending bits y.entries key ps) (same_shape v.slots w.slots u.0 x u.1 is)
+      pub spots_rest : (x : State T) → IsShapeOf v.slots w.slots x → pending u.0.entries way ps ≡ pending x.entries way ps
+      spots_rest x is = ap (λ (y : State T). pending y.entries way ps) (same_shape v.slots w.slots u.0 x u.1 is)
 
     -- a walk at the root, with all its places
-    module _ (key : K) (c : Spot) (is_key : IsKey key) (depth_is : c.depth ≡ 0) (node_is : c.node ≡ node_at v.slots 0)
+    module _ (way : List Bool) (c : Spot) (depth_is : c.depth ≡ 0) (node_is : c.node ≡ node_at v.slots 0)
         (all : to_come c.places ≡ places c.node.value_bitmap c.node.child_bitmap) (each : All (IsPlaceOf c.node) (to_come c.places)) (ps : List Spot) (only : ps ≡ c ∷ []) where
-      root_string : take c.depth (bits key) ≡ []
-      root_string = ap (λ n. take n (bits key)) depth_is
+      root_string : take c.depth way ≡ []
+      root_string = ap (λ n. take n way) depth_is
 
-      root_stands : read v.slots (chunks_of (take c.depth (bits key))) ≡ Some c.node
+      root_stands : read v.slots (chunks_of (take c.depth way)) ≡ Some c.node
       root_stands = ap (λ u. read v.slots (chunks_of u)) root_string ∙ read-nil v.slots ∙ ap Some (sym node_is)
 
       -- is a walk
-      pub root_walk : IsTrie width (len u.0.entries) v w u.0 × IsStack IsKey bits width v key ps × ArePassed bits key ps
+      pub root_walk : IsTrie width (len u.0.entries) v w u.0 × IsStack width v.slots way ps × ArePassed way ps
       root_walk =
-          let spot : IsSpot IsKey bits width v key c = record { is_key = is_key; level = 0; depth_is = depth_is; within = omega (arith, depth_is); stands = root_stands; each = each } in
-          spots_walk key ps (subst (IsStack IsKey bits width v key) (sym only) (refl, spot, tt)) (passed-above bits key ps [] c only (All-nil (IsPassed bits key)))
+          let spot : IsSpot width v.slots way c = record { level = 0; depth_is = depth_is; within = omega (arith, depth_is); long = omega (arith, depth_is); stands = root_stands; each = each } in
+          spots_walk way ps (subst (IsStack width v.slots way) (sym only) (refl, spot, tt)) (passed-above way ps [] c only (All-nil (IsPassed way)))
 
       -- and has the whole listing to come
-      pub root_rest : (x : State T) → IsShapeOf v.slots w.slots x → pending bits u.0.entries key ps ≡ listing x.entries
+      pub root_rest : (x : State T) → IsShapeOf v.slots w.slots x → pending u.0.entries way ps ≡ listing x.entries
       root_rest x is =
-          ap (pending bits u.0.entries key) only ∙ ap (λ (y : State T). still bits y.entries key c) (same_shape v.slots w.slots u.0 s u.1 tree.shaped)
-          ∙ ap (listing_at_places s.entries (take c.depth (bits key))) all
-          ∙ all_places width v (tree_of w s) tree (take c.depth (bits key)) c.node (ap (λ u. length u % 5) root_string) root_stands
+          ap (pending u.0.entries way) only ∙ ap (λ (y : State T). still y.entries way c) (same_shape v.slots w.slots u.0 s u.1 tree.shaped)
+          ∙ ap (listing_at_places s.entries (take c.depth way)) all
+          ∙ all_places width v (tree_of w s) tree (take c.depth way) c.node (ap (λ u. length u % 5) root_string) root_stands
           ∙ ap (listing_below s.entries) root_string ∙ listing_of_root s.entries
           ∙ ap (λ (y : State T). listing y.entries) (same_shape v.slots w.slots s x tree.shaped is)
 
--- ---- a cursor is in each array of the same nodes, and what a step of it gives
-
-module _ {K : Type 0} (bits : K → List Bool) (width : ℕ) (IsKey IsOther : K → Type 0) (v w : Store Node) (same : v.slots ≡ w.slots) (key : K) (is : IsOther key) where
-  cursor_in : (n : ℕ) (ps : List Spot) → IsStackFrom IsKey bits width v n key ps → IsStackFrom IsOther bits width w n key ps
-  cursor_in n [] h = tt
-  cursor_in n (p ∷ ps) h = (
-    h.0,
-    spot_as h.1 is refl (ap (λ nodes. read nodes (chunks_of (take p.depth (bits key)))) (sym same) ∙ h.1.stands) h.1.each,
-    cursor_in (n + 5) ps h.2,
-  )
-
-  -- spots in one array are spots in another with the same nodes, for any key
-  pub stack_in : (ps : List Spot) → IsStack IsKey bits width v key ps → IsStack IsOther bits width w key ps
-  stack_in ps h = cursor_in (start ps) ps h
+-- the value that is read at its seat is the one that comes next
+pub gives_read : {K T : Type 0} (IsKey : K → Type 0) (bits : K → List Bool) (width : ℕ) (t : Tree T) (key : K) (len : ℕ) (seat : Seat) (p q old new : List (List Bool × T)) (x : T) → GivesSeat IsKey bits width t key len seat p q →
+    slice_index_or t.cells.slots (slot_of seat) None ≡ Some x → old ≡ p → new ≡ q → GivesFilled IsKey bits width key len x old new
+gives_read IsKey bits width t key len seat p q old new x h reads before after =
+    let both : Some h.value ≡ Some x = sym h.reads ∙ reads in
+    let same : h.value ≡ x = cc in
+    record {
+      is_key = h.gives.is_key;
+      short = h.gives.short;
+      first = before ∙ h.gives.first ∙ ap (λ v. (take len (bits key), v) ∷ q) same ∙ ap (λ es. (take len (bits key), x) ∷ es) (sym after);
+      filled = h.gives.filled;
+    }
 
 -- what a step of a stack gives is the first key still to come
 pub step_gives : {K T : Type 0} (IsKey : K → Type 0) (bits : K → List Bool) (width : ℕ) (t : Tree T) (nodes : List Node) (old new : List (List Bool × T)) (o : Option (K × ℕ × Seat)) →

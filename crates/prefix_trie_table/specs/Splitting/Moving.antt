@@ -27,8 +27,8 @@ module _ {T : Type 0} where
     -- are exactly theirs, in order
     pub record Awaits (shape : State T) (v : Store Node) (w : Store (Option T)) (key : K) (ps : List Spot) (rest : List (List Bool × T)) : Type 0 where
       pub trie : IsTrie width (len shape.entries) v (filled_with v.slots rest w) shape
-      pub stack : IsStack IsKey bits width v key ps
-      pub come : pending bits shape.entries key ps ≡ rest
+      pub stack : IsStack width v.slots (bits key) ps
+      pub come : pending shape.entries (bits key) ps ≡ rest
 
     -- the value x of the string q is the next to come
     pub record AwaitsNext (v : Store Node) (w : Store (Option T)) (key : K) (ps : List Spot) (q : List Bool) (x : T) : Type 0 where

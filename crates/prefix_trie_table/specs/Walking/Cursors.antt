@@ -1,6 +1,6 @@
 -- A position of a walk in a table that it does not hold, and what is to come of the walk. This
 -- project's own.
-use Rattle.std.specs.Prelude.{◌≡◌, ℕ, ◌+◌, ◌*◌, ◌-◌, ◌≤◌, Bool, List, [], ◌∷◌, ◌++◌, take, map, Some, ⊤}
+use Rattle.std.specs.Prelude.{◌≡◌, ℕ, ◌+◌, ◌*◌, ◌-◌, ◌≤◌, Bool, List, [], ◌∷◌, ◌++◌, take, map, Some}
 use Rattle.std.proofs.Common.{arith}
 use Rattle.std.specs.Coded.{Coded-set, coded_ℕ, coded_bool, coded_option}
 use Rattle.std.proofs.Math.Bridge.{le_prop}
@@ -13,12 +13,7 @@ use Rattle.prefix_trie_table.specs.declared.table.spot.Spot.{Spot}
 use Rattle.prefix_trie_table.specs.declared.table.cursor.Cursor.{Cursor}
 use Rattle.prefix_trie_table.specs.Locations.{seat_of}
 use Rattle.prefix_trie_table.specs.Shape.{coded_node}
-use Rattle.prefix_trie_table.specs.Store.{Store}
 use Rattle.prefix_trie_table.specs.Walking.Walks.{IsSpot, IsStackFrom, IsStack, start, pending}
-
--- an array of these nodes
-abbrev pub array_of : List Node → Store Node
-array_of nodes = record { slots = nodes; first = 0; tiers = []; limit = 0; capacity = 0 }
 
 same_level : (d l m : ℕ) → d ≡ 5 * l → d ≡ 5 * m → l ≡ m
 same_level d l m e f = omega (arith, e, f)
@@ -26,11 +21,11 @@ same_level d l m e f = omega (arith, e, f)
 module _ {K : Type 0} where
   -- the cursor is in these nodes
   abbrev pub IsCursorIn : (K → List Bool) → ℕ → List Node → Cursor K → Type 0
-  IsCursorIn bits width nodes cursor = IsStack (λ _. ⊤) bits width (array_of nodes) cursor.key cursor.stack.items
+  IsCursorIn bits width nodes cursor = IsStack width nodes (bits cursor.key) cursor.stack.items
 
   -- the keys still to come, in a table with these entries
   abbrev pub keys_to_come : {T : Type 0} → (K → List Bool) → Entries T → Cursor K → List (List Bool)
-  keys_to_come bits m cursor = map (λ e. e.0) (pending bits m cursor.key cursor.stack.items)
+  keys_to_come bits m cursor = map (λ e. e.0) (pending m (bits cursor.key) cursor.stack.items)
 
   -- a step gives the first key to come, which is the first len bits of a number, with zeros after
   -- them, and the seat of its value
@@ -41,22 +36,22 @@ module _ {K : Type 0} where
     pub first : old ≡ take len (bits key) ∷ new
     pub seated : seat_of nodes (take len (bits key)) ≡ Some seat
 
-  module _ (bits : K → List Bool) (width : ℕ) (v : Store Node) (key : K) where
-    spot-prop : (p : Spot) → IsProp (IsSpot (λ _. ⊤) bits width v key p)
-    spot-prop p x y =
-        let level : x.level ≡ y.level = same_level p.depth x.level y.level x.depth_is y.depth_is in λ i. record {
-          is_key = tt;
-          level = level i;
-          depth_is = is_prop→PathP (λ j. p.depth ≡ 5 * level j) (λ j. Coded-set coded_ℕ _ _) x.depth_is y.depth_is i;
-          within = le_prop x.within y.within i;
-          stands = Coded-set (coded_option coded_node) _ _ x.stands y.stands i;
-          each = Π_prop (λ k. Π_prop (λ d. Π_prop (λ h a b j. (le_prop a.0 b.0 j, Coded-set coded_bool _ _ a.1 b.1 j)))) x.each y.each i;
-        }
+module _ (width : ℕ) (nodes : List Node) (way : List Bool) where
+  spot-prop : (p : Spot) → IsProp (IsSpot width nodes way p)
+  spot-prop p x y =
+      let level : x.level ≡ y.level = same_level p.depth x.level y.level x.depth_is y.depth_is in λ i. record {
+        level = level i;
+        depth_is = is_prop→PathP (λ j. p.depth ≡ 5 * level j) (λ j. Coded-set coded_ℕ _ _) x.depth_is y.depth_is i;
+        within = le_prop x.within y.within i;
+        long = le_prop x.long y.long i;
+        stands = Coded-set (coded_option coded_node) _ _ x.stands y.stands i;
+        each = Π_prop (λ k. Π_prop (λ d. Π_prop (λ h a b j. (le_prop a.0 b.0 j, Coded-set coded_bool _ _ a.1 b.1 j)))) x.each y.each i;
+      }
 
-    cursor-prop : (n : ℕ) (ps : List Spot) → IsProp (IsStackFrom (λ _. ⊤) bits width v n key ps)
-    cursor-prop n [] = λ x y i. tt
-    cursor-prop n (p ∷ ps) = λ x y i. (Coded-set coded_ℕ _ _ x.0 y.0 i, spot-prop p x.1 y.1 i, cursor-prop (n + 5) ps x.2 y.2 i)
+  stack-prop : (n : ℕ) (ps : List Spot) → IsProp (IsStackFrom width nodes n way ps)
+  stack-prop n [] = λ x y i. tt
+  stack-prop n (p ∷ ps) = λ x y i. (Coded-set coded_ℕ _ _ x.0 y.0 i, spot-prop p x.1 y.1 i, stack-prop (n + 5) ps x.2 y.2 i)
 
-  -- that a cursor is in these nodes has at most one proof
-  pub IsCursorIn-prop : (bits : K → List Bool) (width : ℕ) (nodes : List Node) (cursor : Cursor K) → IsProp (IsCursorIn bits width nodes cursor)
-  IsCursorIn-prop bits width nodes cursor = cursor-prop bits width (array_of nodes) cursor.key (start cursor.stack.items) cursor.stack.items
+-- that a cursor is in these nodes has at most one proof
+pub IsCursorIn-prop : {K : Type 0} (bits : K → List Bool) (width : ℕ) (nodes : List Node) (cursor : Cursor K) → IsProp (IsCursorIn bits width nodes cursor)
+IsCursorIn-prop bits width nodes cursor = stack-prop width nodes (bits cursor.key) (start cursor.stack.items) cursor.stack.items

@@ -54,13 +54,12 @@ AreApart (k ∷ ks) = IsApart k.0 ks × AreApart ks
 
 -- the nodes are those of a table some of whose values were moved out of their cells, but none that
 -- is to come
-pub record IsTaking {K T : Type 0} (IsKey : K → Type 0) (bits : K → List Bool) (width : ℕ) (v : Store Node) (w : Store (Option T))
-    (keys : Nodes) (key : K) (ps : List Spot) : Type 0 where
+pub record IsTaking {T : Type 0} (width : ℕ) (v : Store Node) (w : Store (Option T)) (keys : Nodes) (way : List Bool) (ps : List Spot) : Type 0 where
   -- the table
   pub tree : Tree T
   pub trie : IsTrie width tree.count v tree.cells tree.shape
   pub long : length w.slots ≡ length tree.cells.slots
   -- the spots, and the strings still to come at them
-  pub stack : IsStack IsKey bits width v key ps
-  pub held : AreHeld v.slots w.slots (pending bits keys key ps)
-  pub apart : AreApart (pending bits keys key ps)
+  pub stack : IsStack width v.slots way ps
+  pub held : AreHeld v.slots w.slots (pending keys way ps)
+  pub apart : AreApart (pending keys way ps)

@@ -41,98 +41,97 @@ IsPlaceOf n s = (length s ≤ 5) × (is_in n.value_bitmap n.child_bitmap s ≡ t
 abbrev pub IsOther : List Bool → List Bool → Type 0
 IsOther t s = s ≢ t
 
--- of the places still to come at a spot those are dropped that the first len bits of b begin, which end at its node
-pub record Skips (b : List Bool) (len : ℕ) (p q : Spot) : Type 0 where
+-- of the places still to come at a spot those are dropped that a bit string begins, which ends at its node
+pub record Skips (path : List Bool) (p q : Spot) : Type 0 where
   pub node_is : q.node ≡ p.node
   pub depth_is : q.depth ≡ p.depth
-  pub left : to_come q.places ≡ filter (λ s. not (begins (drop p.depth (take len b)) s)) (to_come p.places)
+  pub left : to_come q.places ≡ filter (λ s. not (begins (drop p.depth path) s)) (to_come p.places)
 
 -- at the last of these spots
-pub record SkipsLast (b : List Bool) (len : ℕ) (old new : List Spot) : Type 0 where
+pub record SkipsLast (path : List Bool) (old new : List Spot) : Type 0 where
   pub below : List Spot
   pub was : Spot
   pub now : Spot
   pub before : old ≡ below ++ was ∷ []
   pub after : new ≡ below ++ now ∷ []
-  pub skips : Skips b len was now
+  pub skips : Skips path was now
+
+-- a bit string ends at the node of the spot, whose path begins this way
+pub record EndsAt (way : List Bool) (p : Spot) (path : List Bool) : Type 0 where
+  pub whole : p.depth ≤ length path
+  pub last : length path < p.depth + 5
+  pub same_above : take p.depth path ≡ take p.depth way
+
+-- it ends at the node of the last of these spots
+pub record EndsLast (way : List Bool) (ps : List Spot) (path : List Bool) : Type 0 where
+  pub below : List Spot
+  pub spot : Spot
+  pub is : ps ≡ below ++ spot ∷ []
+  pub ends : EndsAt way spot path
 
 -- the depth at which a stack starts
 abbrev pub start : List Spot → ℕ
 start [] = 0
 start (p ∷ ps) = p.depth
 
-module _ {K : Type 0} where
-  -- the spot is at a node of the array, whose path begins the key, and only places that the node has are still to come
-  pub record IsSpot (IsKey : K → Type 0) (bits : K → List Bool) (width : ℕ) (v : Store Node) (key : K) (p : Spot) : Type 0 where
-    pub is_key : IsKey key
-    pub level : ℕ
-    pub depth_is : p.depth ≡ 5 * level
-    pub within : p.depth ≤ width
-    pub stands : read v.slots (chunks_of (take p.depth (bits key))) ≡ Some p.node
-    pub each : All (IsPlaceOf p.node) (to_come p.places)
+-- the spot is at a node of the array, whose path begins this way, and only places that the node has are still to come
+pub record IsSpot (width : ℕ) (nodes : List Node) (way : List Bool) (p : Spot) : Type 0 where
+  pub level : ℕ
+  pub depth_is : p.depth ≡ 5 * level
+  pub within : p.depth ≤ width
+  pub long : p.depth ≤ length way
+  pub stands : read nodes (chunks_of (take p.depth way)) ≡ Some p.node
+  pub each : All (IsPlaceOf p.node) (to_come p.places)
 
-  -- each spot is a level below the one before, and the first is at this depth
-  abbrev pub IsStackFrom : (K → Type 0) → (K → List Bool) → ℕ → Store Node → ℕ → K → List Spot → Type 0
-  IsStackFrom IsKey bits width v n key [] = ⊤
-  IsStackFrom IsKey bits width v n key (p ∷ ps) = (p.depth ≡ n) × IsSpot IsKey bits width v key p × IsStackFrom IsKey bits width v (n + 5) key ps
+-- each spot is a level below the one before, and the first is at this depth
+abbrev pub IsStackFrom : ℕ → List Node → ℕ → List Bool → List Spot → Type 0
+IsStackFrom width nodes n way [] = ⊤
+IsStackFrom width nodes n way (p ∷ ps) = (p.depth ≡ n) × IsSpot width nodes way p × IsStackFrom width nodes (n + 5) way ps
 
-  -- each spot is a level below the one before, from any depth on
-  abbrev pub IsStack : (K → Type 0) → (K → List Bool) → ℕ → Store Node → K → List Spot → Type 0
-  IsStack IsKey bits width v key ps = IsStackFrom IsKey bits width v (start ps) key ps
+-- each spot is a level below the one before, from any depth on
+abbrev pub IsStack : ℕ → List Node → List Bool → List Spot → Type 0
+IsStack width nodes way ps = IsStackFrom width nodes (start ps) way ps
 
-  -- the child on the key's search path is not among the places to come
-  abbrev pub IsPassed : (K → List Bool) → K → Spot → Type 0
-  IsPassed bits key p = All (IsOther (take 5 (drop p.depth (bits key)))) (to_come p.places)
+-- the child on the way is not among the places to come
+abbrev pub IsPassed : List Bool → Spot → Type 0
+IsPassed way p = All (IsOther (take 5 (drop p.depth way))) (to_come p.places)
 
-  -- so it is at each spot but the last: what a key that ends at the last spot begins is to come there alone
-  abbrev pub ArePassed : (K → List Bool) → K → List Spot → Type 0
-  ArePassed bits key ps = AllWithin (IsPassed bits key) ps 0 (length ps - 1)
+-- so it is at each spot but the last: what a bit string that ends at the last spot begins is to come there alone
+abbrev pub ArePassed : List Bool → List Spot → Type 0
+ArePassed way ps = AllWithin (IsPassed way) ps 0 (length ps - 1)
 
-  -- the first len bits of a key end at the node of the spot
-  pub record EndsAt (bits : K → List Bool) (along : K) (p : Spot) (key : K) (len : ℕ) : Type 0 where
-    pub whole : p.depth ≤ len
-    pub last : len < p.depth + 5
-    pub same_above : take p.depth (bits key) ≡ take p.depth (bits along)
+module _ {T : Type 0} where
+  -- the pairs still to come at a spot
+  abbrev pub still : Entries T → List Bool → Spot → List (List Bool × T)
+  still m way p = listing_at_places m (take p.depth way) (to_come p.places)
 
-  -- they end at the node of the last of these spots
-  pub record EndsLast (bits : K → List Bool) (along : K) (ps : List Spot) (key : K) (len : ℕ) : Type 0 where
-    pub below : List Spot
-    pub spot : Spot
-    pub is : ps ≡ below ++ spot ∷ []
-    pub ends : EndsAt bits along spot key len
+  -- the entries to come at a stack of spots, the last of which is the deepest
+  abbrev pub pending : Entries T → List Bool → List Spot → List (List Bool × T)
+  pending m way [] = []
+  pending m way (p ∷ ps) = pending m way ps ++ still m way p
 
-  module _ {T : Type 0} where
-    -- the pairs still to come at a spot
-    abbrev pub still : (K → List Bool) → Entries T → K → Spot → List (List Bool × T)
-    still bits m key p = listing_at_places m (take p.depth (bits key)) (to_come p.places)
-
-    -- the entries to come at a stack of spots, the last of which is the deepest
-    abbrev pub pending : (K → List Bool) → Entries T → K → List Spot → List (List Bool × T)
-    pending bits m key [] = []
-    pending bits m key (p ∷ ps) = pending bits m key ps ++ still bits m key p
-
-    -- the value at a seat is that of the first entry to come
-    pub record GivesSeat (IsKey : K → Type 0) (bits : K → List Bool) (width : ℕ) (t : Tree T) (key : K) (len : ℕ) (seat : Seat) (old new : List (List Bool × T)) : Type 0 where
-      pub value : T
-      pub stands : slot_of seat < length t.cells.slots
-      pub reads : slice_index_or t.cells.slots (slot_of seat) None ≡ Some value
-      pub gives : GivesFilled IsKey bits width key len value old new
+  -- the value at a seat is that of the first entry to come
+  pub record GivesSeat {K : Type 0} (IsKey : K → Type 0) (bits : K → List Bool) (width : ℕ) (t : Tree T) (key : K) (len : ℕ) (seat : Seat) (old new : List (List Bool × T)) : Type 0 where
+    pub value : T
+    pub stands : slot_of seat < length t.cells.slots
+    pub reads : slice_index_or t.cells.slots (slot_of seat) None ≡ Some value
+    pub gives : GivesFilled IsKey bits width key len value old new
 
 -- a bound on the steps at a spot: 63 places at most weigh less than one of a level above
 abbrev pub weight : Spot → ℕ
 weight p = length (to_come p.places) * 2 ^ (2 * (130 - p.depth)) + 1
 
-module _ {K T : Type 0} (IsKey : K → Type 0) (bits : K → List Bool) (width : ℕ) (v : Store Node) (t : Tree T) (key : K) (p : Spot) where
+module _ {K T : Type 0} (IsKey : K → Type 0) (bits : K → List Bool) (width : ℕ) (nodes : List Node) (t : Tree T) (way : List Bool) (p : Spot) where
   -- a step at the spot p gave this, and left the spot q
   abbrev pub Steps : Step K → Spot → Type 0
   Steps (Entry found len seat) q =
-      GivesSeat IsKey bits width t found len seat (still bits t.shape.entries key p) (still bits t.shape.entries key q)
-      × (weight q < weight p) × IsSpot IsKey bits width v key q × (q ≡ record p { places = q.places })
+      GivesSeat IsKey bits width t found len seat (still t.shape.entries way p) (still t.shape.entries way q)
+      × (weight q < weight p) × IsSpot width nodes way q × (q ≡ record p { places = q.places })
   Steps (Child c below) q =
-      (still bits t.shape.entries key p ≡ still bits t.shape.entries below c ++ still bits t.shape.entries key q)
-      × (weight c + weight q < weight p) × IsSpot IsKey bits width v key q × (q ≡ record p { places = q.places })
-      × IsSpot IsKey bits width v below c × (c.depth ≡ p.depth + 5) × (take p.depth (bits below) ≡ take p.depth (bits key))
-  Steps Done q = (still bits t.shape.entries key p ≡ []) × (0 < weight p)
+      (still t.shape.entries way p ≡ still t.shape.entries (bits below) c ++ still t.shape.entries way q)
+      × (weight c + weight q < weight p) × IsSpot width nodes way q × (q ≡ record p { places = q.places })
+      × IsSpot width nodes (bits below) c × (c.depth ≡ p.depth + 5) × (take p.depth (bits below) ≡ take p.depth way)
+  Steps Done q = (still t.shape.entries way p ≡ []) × (0 < weight p)
 
 -- the seat of an entry that a step gave is the seat of its key
 abbrev pub IsSeated : {K : Type 0} → (K → List Bool) → List Node → Step K → Type 0
@@ -141,10 +140,10 @@ IsSeated bits nodes (Child c key) = ⊤
 IsSeated bits nodes Done = ⊤
 
 -- a key that a step gave ends at its spot, and the child that it gave is passed
-abbrev pub StaysOnPath : {K : Type 0} → (K → List Bool) → K → Spot → Step K → Spot → Type 0
-StaysOnPath bits along p (Entry key len seat) q = EndsAt bits along p key len
-StaysOnPath bits along p (Child c key) q = IsPassed bits key q
-StaysOnPath bits along p Done q = ⊤
+abbrev pub StaysOnPath : {K : Type 0} → (K → List Bool) → List Bool → Spot → Step K → Spot → Type 0
+StaysOnPath bits way p (Entry key len seat) q = EndsAt way p (take len (bits key))
+StaysOnPath bits way p (Child c key) q = IsPassed (bits key) q
+StaysOnPath bits way p Done q = ⊤
 
 module _ {T : Type 0} where
   -- the one shape of the arrays, if there are arrays
@@ -156,14 +155,12 @@ module _ {T : Type 0} where
   ShapeOf-prop c None = λ x y i. tt
   ShapeOf-prop c (Some a) = Shaped-prop c a.0.now.slots a.1.now.slots
 
-  module _ {K : Type 0} where
-    -- a walk without arrays has nothing to come
-    abbrev pub rest_of_walk : (K → List Bool) → (arrays : Option (Bor (Store Node) × Bor (Store (Option T)))) → ShapeOf arrays → K → List Spot → List (List Bool × T)
-    rest_of_walk bits None shape key ps = []
-    rest_of_walk bits (Some a) shape key ps = pending bits shape.0.entries key ps
+  -- a walk without arrays has nothing to come
+  abbrev pub rest_of_walk : (arrays : Option (Bor (Store Node) × Bor (Store (Option T)))) → ShapeOf arrays → List Bool → List Spot → List (List Bool × T)
+  rest_of_walk None shape way ps = []
+  rest_of_walk (Some a) shape way ps = pending shape.0.entries way ps
 
-    -- the spots of a walk are those of the table in the arrays
-    abbrev pub IsWalk : (K → Type 0) → (K → List Bool) → ℕ → (arrays : Option (Bor (Store Node) × Bor (Store (Option T)))) → ShapeOf arrays → K → List Spot → Type 0
-    IsWalk IsKey bits width None shape key ps = ⊤
-    IsWalk IsKey bits width (Some a) shape key ps =
-        IsTrie width (len shape.0.entries) a.0.now a.1.now shape.0 × IsStack IsKey bits width a.0.now key ps × ArePassed bits key ps
+  -- the spots of a walk are those of the table in the arrays
+  abbrev pub IsWalk : ℕ → (arrays : Option (Bor (Store Node) × Bor (Store (Option T)))) → ShapeOf arrays → List Bool → List Spot → Type 0
+  IsWalk width None shape way ps = ⊤
+  IsWalk width (Some a) shape way ps = IsTrie width (len shape.0.entries) a.0.now a.1.now shape.0 × IsStack width a.0.now.slots way ps × ArePassed way ps

@@ -1,5 +1,5 @@
 //! Walks that do not borrow their table, so that its values can be written between their steps.
-ghost use Rattle.std.specs.Prelude.{◌≡◌, ◌≤◌, [], map, take, true, IfSome, MatchOption};
+ghost use Rattle.std.specs.Prelude.{◌≡◌, [], map, take, true, IfSome, MatchOption};
 ghost use Rattle.std.specs.FinMap.{contains_key};
 ghost use Rattle.prefix_trie_bits.specs.Model.Entries.{AreWithin};
 ghost use Rattle.prefix_trie_bits.specs.Model.Nodes.{AreNodes};
@@ -12,15 +12,15 @@ use crate::table::spot::Spot;
 use crate::table::walk::advance;
 use crate::table::walk_start::{Start, start_at};
 use arrayvec::ArrayVec;
-use prefix_trie_bits::prefix::Key;
+use prefix_trie_bits::prefix::{BitString, Key};
 use std::alloc::Allocator;
 
 /// The state of a walk of a table. It is right until a node of the table changes: writing a value changes none.
 #[derive(Drop)]
 pub struct Cursor<K: Key> {
     // The path of each spot begins this key.
-    key: K,
-    stack: ArrayVec<Spot, 26>,
+    pub(super) key: K,
+    pub(super) stack: ArrayVec<Spot, 26>,
 }
 
 impl<T: Drop, A: Allocator, V: Tick> Table<T, A, V> {
@@ -33,23 +33,25 @@ impl<T: Drop, A: Allocator, V: Tick> Table<T, A, V> {
     /// # Examples
     ///
     /// ```text
-    /// let mut cursor = table.cursor(K::zero(), 0, Start::Below, &mut counter);
+    /// let mut cursor = table.cursor(path, Start::Below, &mut counter);
     /// while let Some((key, len, seat)) = table.step(&mut cursor, &mut counter) {
-    ///     *table.at_mut(key, len, seat) = 0;      // no node changes, so the cursor is still right
+    ///     *table.at_mut(BitString::new(key, len), seat) = 0;      // no node changes, so the cursor is still right
     /// }
     /// ```
     #[inline]
-    pub fn cursor<K: Key>(&self, key: K, len: u32, from: Start, counter: &mut V) -> Cursor<K>
-        requires key { K.IsKey key }
-        requires long { len ≤ K.bit_width }
+    pub fn cursor<K: Key>(
+        &self,
+        path: BitString<K>,
+        from: Start,
+        counter: &mut V,
+    ) -> Cursor<K>
         requires within { AreWithin K.bit_width self.now.entries }
         requires nodes { AreNodes K.bit_width self.now.entries self.now.nodes }
         ensures stands { IsCursorIn K.bits K.bit_width self.now.build result }
         ensures keys { keys_to_come K.bits self.now.entries result
-            ≡ map (λ e. e.0) (selected from self.now.entries (take len (K.bits key))) }
+            ≡ map (λ e. e.0) (selected from self.now.entries path) }
     {
-        let stack = start_at::<K, T, A, V>(&self.nodes, key, len, from, counter);
-        Cursor { key, stack }
+        start_at::<K, T, A, V>(&self.nodes, path, from, counter)
     }
 
     /// Advances to the next entry, and returns its key, the key's length in bits, and the seat of its value.
@@ -67,8 +69,6 @@ impl<T: Drop, A: Allocator, V: Tick> Table<T, A, V> {
             (keys_to_come K.bits self.now.entries cursor.old) (keys_to_come K.bits self.now.entries cursor.new)) }
         ensures stored { IfSome result (λ r. contains_key self.now.entries (take r.1 (K.bits r.0)) ≡ true) }
     {
-        // It brings into the proof that the number is a key.
-        let _ = cursor.key.is_key();
         advance::<K, A, V, T>(&self.nodes, &mut cursor.stack, &mut cursor.key, counter)
     }
 }

@@ -17,7 +17,7 @@ use crate::table::spot::Spot;
 use crate::table::walk::advance;
 use crate::table::walk_start::{Start, start_at};
 use arrayvec::ArrayVec;
-use prefix_trie_bits::prefix::Key;
+use prefix_trie_bits::prefix::{BitString, Key};
 use std::alloc::Allocator;
 
 /// A table whose nodes and blocks are built, and whose values are given to it one after another, in listing order.
@@ -87,12 +87,13 @@ pub(super) fn move_part<K: Key, T: Drop, A: Allocator, V: Tick>(
     ensures nodes { result.0 ≡ laid }
     ensures cells { result.1 ≡ record vacant { slots = result.1.slots } }
 {
-    let stack = start_at::<K, T, A, V>(&laid, key, len, Start::Below, counter);
+    let path = BitString::new(key, len);
+    let start = start_at::<K, T, A, V>(&laid, path, Start::Below, counter);
     let mut seats = Seats {
         nodes: laid,
         cells: vacant,
-        key,
-        stack,
+        key: start.key,
+        stack: start.stack,
     };
     remove_part(nodes, cells, entries, &mut seats, key, len, counter);
     (seats.nodes, seats.cells)

@@ -13,8 +13,8 @@ use crate::allocator::node::{Node, NodeSlot};
 use crate::allocator::nodes::{NodeAllocator, Tick};
 use crate::table::seat::Seat;
 use arrayvec::ArrayVec;
-use prefix_trie_bits::node::{Place, Places, string_of, value_bit_of};
-use prefix_trie_bits::prefix::Key;
+use prefix_trie_bits::node::{Place, Places, string_of};
+use prefix_trie_bits::prefix::{BitString, Key};
 use std::alloc::Allocator;
 
 /// A node, whose path is the first `depth` bits of a walk's key, and the places of the node that are still to come.
@@ -96,12 +96,14 @@ pub fn next_at<K: Key, A: Allocator, V: Tick, T: Drop>(
     counter: &mut V,
 ) -> Step<K>
     requires tree { (t : Tree T) × IsTrie K.bit_width t.count nodes.now t.cells t.shape }
-    requires spot { IsSpot K.IsKey K.bits K.bit_width nodes.now key spot.old }
+    requires spot { IsSpot K.bit_width nodes.now.slots (K.bits key) spot.old }
     ensures step { (t : Tree T) → IsTrie K.bit_width t.count nodes.now t.cells t.shape
-        → Steps K.IsKey K.bits K.bit_width nodes.now t key spot.old result spot.new }
+        → Steps K.IsKey K.bits K.bit_width nodes.now.slots t (K.bits key) spot.old result spot.new }
     ensures seat { IsSeated K.bits nodes.now.slots result }
-    ensures way { StaysOnPath K.bits key spot.old result spot.new }
+    ensures way { StaysOnPath K.bits (K.bits key) spot.old result spot.new }
 {
+    // Needed only for the proof: the number is a key.
+    let _ = key.is_key();
     let Some(place) = spot.places.next_place() else {
         return Step::Done;
     };
@@ -134,16 +136,14 @@ pub fn put_places(stack: &mut ArrayVec<Spot, 26>, spot: Spot)
     stack[last].places = spot.places;
 }
 
-/// Drops the places that a key begins. The key ends at the node of the spot.
+/// Drops the places that a bit string begins. The bit string ends at the node of the spot.
 #[inline]
-pub fn skip_below<K: Key>(spot: &mut Spot, key: K, len: u32)
-    requires key { K.IsKey key }
-    requires whole { spot.old.depth ≤ len }
-    requires last { len < spot.old.depth + 5 }
-    requires within { len ≤ K.bit_width }
-    ensures { Skips (K.bits key) len spot.old spot.new }
+pub fn skip_below<K: Key>(spot: &mut Spot, path: &BitString<K>)
+    requires whole { spot.old.depth ≤ length path.now }
+    requires last { length path.now < spot.old.depth + 5 }
+    ensures { Skips path.now spot.old spot.new }
 {
-    spot.places.skip_below(value_bit_of(key, spot.depth, len));
+    spot.places.skip_below(path.after(spot.depth).value_bit());
 }
 
 /// Returns the value at a seat.

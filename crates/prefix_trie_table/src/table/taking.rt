@@ -1,5 +1,5 @@
 //! The walk that moves the values out of a table, in listing order.
-ghost use Rattle.std.specs.Prelude.{◌≡◌, ◌≤◌, [], take, IfOk, MatchOption};
+ghost use Rattle.std.specs.Prelude.{◌≡◌, [], IfOk, MatchOption};
 ghost use Rattle.std.specs.List.{AllZip};
 ghost use Rattle.std.specs.FinMap.{len as size};
 ghost use Rattle.prefix_trie_bits.specs.Model.Entries.{AreWithin};
@@ -52,9 +52,9 @@ impl<K: Key, T: Drop, A: Allocator, V: Tick> Model for IntoWalk<K, T, A, V> {
 
     ghost Value = { List (List Bool × T) };
 
-    ghost view = { λ w. pairs_in w.nodes.slots w.cells.slots (pending K.bits w.seats.0 w.key w.stack.items) };
+    ghost view = { λ w. pairs_in w.nodes.slots w.cells.slots (pending w.seats.0 (K.bits w.key) w.stack.items) };
 
-    ghost invariant = { λ w. IsTaking K.IsKey K.bits K.bit_width w.nodes w.cells w.seats.0 w.key w.stack.items };
+    ghost invariant = { λ w. IsTaking K.bit_width w.nodes w.cells w.seats.0 (K.bits w.key) w.stack.items };
 }
 
 impl<K: Key, T: Drop, A: Allocator, V: Tick> IntoWalk<K, T, A, V> {
@@ -65,22 +65,18 @@ impl<K: Key, T: Drop, A: Allocator, V: Tick> IntoWalk<K, T, A, V> {
     pub(super) fn below(
         nodes: NodeAllocator<A, V>,
         cells: Cells<T, A>,
-        key: K,
-        len: u32,
+        path: BitString<K>,
         counter: &mut V,
     ) -> Self
-        requires key { K.IsKey key }
-        requires long { len ≤ K.bit_width }
         requires tree { (s : State T) × IsTrie K.bit_width (size s.entries) nodes cells s }
-        ensures { (s : State T) → IsShapeOf nodes.slots cells.slots s
-            → result ≡ listing_below s.entries (take len (K.bits key)) }
+        ensures { (s : State T) → IsShapeOf nodes.slots cells.slots s → result ≡ listing_below s.entries path }
     {
-        let stack = start_at::<K, T, A, V>(&nodes, key, len, Start::Below, counter);
+        let start = start_at::<K, T, A, V>(&nodes, path, Start::Below, counter);
         IntoWalk {
             nodes,
             cells,
-            key,
-            stack,
+            key: start.key,
+            stack: start.stack,
         }
     }
 
@@ -157,6 +153,6 @@ impl<T: Drop, A: Allocator, V: Tick> Table<T, A, V> {
         requires nodes { AreNodes K.bit_width self.entries self.nodes }
         ensures { result ≡ listing_below self.entries path }
     {
-        IntoWalk::below(self.nodes, self.cells, path.key(), path.len(), counter)
+        IntoWalk::below(self.nodes, self.cells, path, counter)
     }
 }

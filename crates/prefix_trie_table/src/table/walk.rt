@@ -1,5 +1,5 @@
 //! The walk that borrows the values of a table, in listing order.
-ghost use Rattle.std.specs.Prelude.{◌≡◌, ◌<◌, ◌≤◌, [], ◌∷◌, ◌++◌, List, Some, IfSome, MatchOption, length, take};
+ghost use Rattle.std.specs.Prelude.{◌≡◌, ◌<◌, ◌≤◌, [], ◌∷◌, ◌++◌, Bool, List, Some, IfSome, MatchOption, length, take};
 ghost use Rattle.std.specs.FinMap.{len};
 ghost use Rattle.prefix_trie_bits.specs.Model.Selections.{listing};
 ghost use Rattle.prefix_trie_bits.specs.Model.Step.{State};
@@ -12,10 +12,11 @@ ghost use Rattle.prefix_trie_table.specs.Walking.Walks.{Tree, ArePassed, EndsLas
 use crate::allocator::blocks::Cells;
 use crate::allocator::node::NodeSlot;
 use crate::allocator::nodes::{NodeAllocator, Tick};
+use crate::table::cursor::Cursor;
 use crate::table::seat::Seat;
 use crate::table::spot::{Spot, Step, enter, next_at, put_places, skip_below, value_at};
 use arrayvec::ArrayVec;
-use prefix_trie_bits::prefix::Key;
+use prefix_trie_bits::prefix::{BitString, Key};
 use std::alloc::Allocator;
 use std::marker::Model;
 
@@ -36,30 +37,25 @@ impl<'a, K: Key, T: Drop, A: Allocator, V: Tick> Model for Walk<'a, K, T, A, V> 
 
     ghost Value = { List (List Bool × T) };
 
-    ghost view = { λ w. rest_of_walk K.bits w.arrays w.shape w.key w.stack.items };
+    ghost view = { λ w. rest_of_walk w.arrays w.shape (K.bits w.key) w.stack.items };
 
-    ghost invariant = { λ w. IsWalk K.IsKey K.bits K.bit_width w.arrays w.shape w.key w.stack.items };
+    ghost invariant = { λ w. IsWalk K.bit_width w.arrays w.shape (K.bits w.key) w.stack.items };
 }
 
 impl<'a, K: Key, T: Drop, A: Allocator, V: Tick> Walk<'a, K, T, A, V> {
-    /// Returns the walk with these spots, whose paths begin the key.
+    /// Returns the walk with this start.
     #[inline]
-    pub fn over(
-        nodes: &'a NodeAllocator<A, V>,
-        cells: &'a Cells<T, A>,
-        key: K,
-        stack: ArrayVec<Spot, 26>,
-    ) -> Self
+    pub fn over(nodes: &'a NodeAllocator<A, V>, cells: &'a Cells<T, A>, start: Cursor<K>) -> Self
         requires tree { (s : State T) × IsTrie K.bit_width (len s.entries) nodes.now cells.now s }
-        requires stack { IsStack K.IsKey K.bits K.bit_width nodes.now key stack.items }
-        requires passed { ArePassed K.bits key stack.items }
+        requires stack { IsStack K.bit_width nodes.now.slots (K.bits start.key) start.stack.items }
+        requires passed { ArePassed (K.bits start.key) start.stack.items }
         ensures { (s : State T) → IsShapeOf nodes.now.slots cells.now.slots s
-            → result ≡ pending K.bits s.entries key stack.items }
+            → result ≡ pending s.entries (K.bits start.key) start.stack.items }
     {
         Walk {
             arrays: Some((nodes, cells)),
-            key,
-            stack,
+            key: start.key,
+            stack: start.stack,
         }
     }
 
@@ -104,7 +100,7 @@ impl<'a, K: Key, T: Drop, A: Allocator, V: Tick> Walk<'a, K, T, A, V> {
         ) else {
             return None;
         };
-        skip_at_last(&mut self.stack, key, len);
+        skip_at_last(&mut self.stack, &BitString::new(key, len));
         Some((key, len))
     }
 
@@ -163,15 +159,15 @@ pub fn advance<K: Key, A: Allocator, V: Tick, T: Drop>(
     counter: &mut V,
 ) -> Option<(K, u32, Seat)>
     requires tree { (t : Tree T) × IsTrie K.bit_width t.count nodes.now t.cells t.shape }
-    requires stack { IsStack K.IsKey K.bits K.bit_width nodes.now key.old stack.old.items }
-    ensures stack { IsStack K.IsKey K.bits K.bit_width nodes.now key.new stack.new.items }
+    requires stack { IsStack K.bit_width nodes.now.slots (K.bits key.old) stack.old.items }
+    ensures stack { IsStack K.bit_width nodes.now.slots (K.bits key.new) stack.new.items }
     ensures entry { (t : Tree T) → IsTrie K.bit_width t.count nodes.now t.cells t.shape → MatchOption result
-        ((pending K.bits t.shape.entries key.old stack.old.items ≡ []) × (pending K.bits t.shape.entries key.new stack.new.items ≡ []))
+        ((pending t.shape.entries (K.bits key.old) stack.old.items ≡ []) × (pending t.shape.entries (K.bits key.new) stack.new.items ≡ []))
         (λ r. GivesSeat K.IsKey K.bits K.bit_width t r.0 r.1 r.2
-        (pending K.bits t.shape.entries key.old stack.old.items) (pending K.bits t.shape.entries key.new stack.new.items)) }
+        (pending t.shape.entries (K.bits key.old) stack.old.items) (pending t.shape.entries (K.bits key.new) stack.new.items)) }
     ensures seat { IfSome result (λ r. seat_of nodes.now.slots (take r.1 (K.bits r.0)) ≡ Some r.2) }
-    ensures passed { ArePassed K.bits key.old stack.old.items → ArePassed K.bits key.new stack.new.items }
-    ensures last { IfSome result (λ r. EndsLast K.bits key.new stack.new.items r.0 r.1) }
+    ensures passed { ArePassed (K.bits key.old) stack.old.items → ArePassed (K.bits key.new) stack.new.items }
+    ensures last { IfSome result (λ r. EndsLast (K.bits key.new) stack.new.items (take r.1 (K.bits r.0))) }
 {
     while let Some(mut spot) = last_spot(stack) {
         match next_at::<K, A, V, T>(nodes, &mut spot, *key, counter) {
@@ -201,17 +197,15 @@ fn last_spot(stack: &ArrayVec<Spot, 26>) -> Option<Spot>
     stack.last().copied()
 }
 
-/// Drops what a key begins from what is to come at the last spot, at whose node the key ends.
+/// Drops what a bit string begins from what is to come at the last spot, at whose node the bit string ends.
 #[inline]
-fn skip_at_last<K: Key>(stack: &mut ArrayVec<Spot, 26>, key: K, len: u32)
-    requires key { K.IsKey key }
-    requires within { len ≤ K.bit_width }
-    requires last { (way : K) × EndsLast K.bits way stack.old.items key len }
+fn skip_at_last<K: Key>(stack: &mut ArrayVec<Spot, 26>, path: &BitString<K>)
+    requires last { (way : List Bool) × EndsLast way stack.old.items path.now }
     requires space { length stack.old.items ≤ 26 }
-    ensures { SkipsLast (K.bits key) len stack.old.items stack.new.items }
+    ensures { SkipsLast path.now stack.old.items stack.new.items }
 {
     if let Some(mut spot) = stack.pop() {
-        skip_below(&mut spot, key, len);
+        skip_below(&mut spot, path);
         stack.push(spot);
     }
 }

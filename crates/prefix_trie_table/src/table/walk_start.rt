@@ -1,5 +1,5 @@
 //! Walks that start at a bit string. One descent builds the stack of each of them.
-ghost use Rattle.std.specs.Prelude.{◌≡◌, ◌+◌, ◌<◌, ◌≤◌, List, Bool, length, take, drop};
+ghost use Rattle.std.specs.Prelude.{◌≡◌, ◌<◌, List, Bool, length};
 ghost use Rattle.std.specs.FinMap.{len as size};
 ghost use Rattle.prefix_trie_bits.specs.Bits.{number};
 ghost use Rattle.prefix_trie_bits.specs.Places.{HoldsPlaces};
@@ -12,14 +12,12 @@ ghost use Rattle.prefix_trie_table.specs.Walking.Starts.{selected, behind, kept}
 use crate::allocator::blocks::Cells;
 use crate::allocator::node::NodeSlot;
 use crate::allocator::nodes::{NodeAllocator, Tick};
-use crate::table::spot::{Spot, spot_in};
+use crate::table::cursor::Cursor;
+use crate::table::spot::spot_in;
 use crate::table::walk::Walk;
 use arrayvec::ArrayVec;
-use prefix_trie_bits::node::{
-    behind_child, child_bit_of, child_cover_mask, from_value, has_bit, value_bit_of,
-    value_cover_mask, without_bit,
-};
-use prefix_trie_bits::prefix::Key;
+use prefix_trie_bits::node::{behind_child, from_value, has_bit, without_bit};
+use prefix_trie_bits::prefix::{BitString, Key};
 use std::alloc::Allocator;
 
 /// The entries that a walk from a bit string selects.
@@ -37,53 +35,51 @@ pub enum Start {
 pub fn walk_at<'a, K: Key, T: Drop, A: Allocator, V: Tick>(
     nodes: &'a NodeAllocator<A, V>,
     cells: &'a Cells<T, A>,
-    key: K,
-    len: u32,
+    path: BitString<K>,
     from: Start,
     counter: &mut V,
 ) -> Walk<'a, K, T, A, V>
-    requires key { K.IsKey key }
-    requires within { len ≤ K.bit_width }
     requires tree { (s : State T) × IsTrie K.bit_width (size s.entries) nodes.now cells.now s }
-    ensures { (s : State T) → IsShapeOf nodes.now.slots cells.now.slots s
-        → result ≡ selected from s.entries (take len (K.bits key)) }
+    ensures { (s : State T) → IsShapeOf nodes.now.slots cells.now.slots s → result ≡ selected from s.entries path }
 {
-    let stack = start_at::<K, T, A, V>(nodes, key, len, from, counter);
-    Walk::over(nodes, cells, key, stack)
+    Walk::over(nodes, cells, start_at::<K, T, A, V>(nodes, path, from, counter))
 }
 
-/// Goes down the search path of a bit string, and returns the stack of a walk of the selected entries.
+/// Goes down the search path of a bit string, and returns the start of a walk of the selected entries.
 ///
 /// The spot of each node has what is selected there, except what is below the next node of the path.
 pub(super) fn start_at<K: Key, T: Drop, A: Allocator, V: Tick>(
     nodes: &NodeAllocator<A, V>,
-    key: K,
-    len: u32,
+    path: BitString<K>,
     from: Start,
     counter: &mut V,
-) -> ArrayVec<Spot, 26>
-    requires key { K.IsKey key }
-    requires within { len ≤ K.bit_width }
+) -> Cursor<K>
     requires tree { (t : Tree T) × IsTrie K.bit_width t.count nodes.now t.cells t.shape }
-    ensures stack { IsStack K.IsKey K.bits K.bit_width nodes.now key result.items }
-    ensures passed { ArePassed K.bits key result.items }
+    ensures stack { IsStack K.bit_width nodes.now.slots (K.bits result.key) result.stack.items }
+    ensures passed { ArePassed (K.bits result.key) result.stack.items }
     ensures rest { (t : Tree T) → IsTrie K.bit_width t.count nodes.now t.cells t.shape
-        → pending K.bits t.shape.entries key result.items ≡ selected from t.shape.entries (take len (K.bits key)) }
+        → pending t.shape.entries (K.bits result.key) result.stack.items ≡ selected from t.shape.entries path }
 {
+    let key = path.key();
+    let len = path.len();
     let mut stack = ArrayVec::new();
     let mut node = nodes.visit(NodeSlot::ROOT, counter);
     let mut depth = 0;
+    let mut rest = path;
     while depth + 5 <= len {
-        let child = child_bit_of(key, depth);
+        let child = rest.child_bit();
         stack.push(spot_in(node, depth, places_behind(from, child)));
         if !has_bit(node.child_bitmap, child) {
-            return stack;
+            return Cursor { key, stack };
         }
         node = nodes.visit(node.child_slot(child), counter);
         depth += 5;
+        rest = rest.below();
     }
-    stack.push(spot_in(node, depth, places_kept(from, key, depth, len)));
-    stack
+    // All bits that are left. Their number comes from the depth, so that the loop counts one of the two.
+    let rest = rest.first(len - depth);
+    stack.push(spot_in(node, depth, places_kept(from, &rest)));
+    Cursor { key, stack }
 }
 
 /// Returns masks of what is selected at a node above the last, except what is below this child.
@@ -98,25 +94,19 @@ fn places_behind(from: Start, child: u32) -> (u32, u32)
     }
 }
 
-/// Returns masks of what is selected at the node where a bit string ends.
+/// Returns masks of what is selected at the node where a bit string ends. `rest` has its bits after the path of the node.
 #[inline]
-fn places_kept<K: Key>(from: Start, key: K, depth: u32, len: u32) -> (u32, u32)
-    requires key { K.IsKey key }
-    requires whole { depth ≤ len }
-    requires last { len < depth + 5 }
-    requires within { len ≤ K.bit_width }
-    ensures { HoldsPlaces result.0 result.1 (kept from (drop depth (take len (K.bits key)))) }
+fn places_kept<K: Key>(from: Start, rest: &BitString<K>) -> (u32, u32)
+    requires { length rest.now < 5 }
+    ensures { HoldsPlaces result.0 result.1 (kept from rest.now) }
 {
-    let bit = value_bit_of(key, depth, len);
     match from {
-        Start::At => from_value(bit),
+        Start::At => from_value(rest.value_bit()),
         Start::After => {
+            let bit = rest.value_bit();
             let (values, children) = from_value(bit);
             (without_bit(values, bit), children)
         }
-        Start::Below => (
-            value_cover_mask(key, depth, len),
-            child_cover_mask(key, depth, len),
-        ),
+        Start::Below => (rest.value_cover_mask(), rest.child_cover_mask()),
     }
 }

@@ -1,13 +1,12 @@
 //! The calls that make walks for writing.
-ghost use Rattle.std.specs.Prelude.{◌≤◌, cond, take};
+ghost use Rattle.std.specs.Prelude.{cond};
 ghost use Rattle.prefix_trie_bits.specs.Model.Selections.{listing, listing_from, listing_after, listing_below};
 ghost use Rattle.prefix_trie_table.specs.Walking.Starts.{selected};
 ghost use Rattle.prefix_trie_map.specs.Whole.{IsWhole};
 
-use crate::map::parts::parts;
 use crate::map::writing::{IterMut, MapCursor, ValuesMut, ValuesOf, WalkOf};
 use crate::map::{PrefixMap, Visits};
-use prefix_trie_bits::prefix::{Key, Prefix};
+use prefix_trie_bits::prefix::{BitString, Key, Prefix};
 use prefix_trie_table::table::walk_start::Start;
 use std::alloc::Allocator;
 
@@ -32,7 +31,7 @@ impl<P: Prefix, T: Drop, A: Allocator> PrefixMap<P, T, A> {
         ensures starts { StartsIn self.entry (listing self.old.entries) result.source }
         ensures whole { IsWhole P.R.bit_width self.old }
     {
-        self.write_from(P::R::zero(), 0, Start::Below)
+        self.write_from(BitString::new(P::R::zero(), 0), Start::Below)
     }
 
     /// Returns a walk over the entries of `iter_from` that lends their values for writing.
@@ -53,8 +52,7 @@ impl<P: Prefix, T: Drop, A: Allocator> PrefixMap<P, T, A> {
         ensures whole { IsWhole P.R.bit_width self.old }
     {
         let from = if inclusive { Start::At } else { Start::After };
-        let (key, len) = parts(prefix);
-        self.write_from(key, len, from)
+        self.write_from(prefix.path(), from)
     }
 
     /// Returns a walk over the entries of `children` that lends their values for writing.
@@ -71,8 +69,7 @@ impl<P: Prefix, T: Drop, A: Allocator> PrefixMap<P, T, A> {
         ensures starts { StartsIn self.entry (listing_below self.old.entries (P.path prefix.now)) result.source }
         ensures whole { IsWhole P.R.bit_width self.old }
     {
-        let (key, len) = parts(prefix);
-        self.write_from(key, len, Start::Below)
+        self.write_from(prefix.path(), Start::Below)
     }
 
     /// Returns a walk over the values of `values` that lends them for writing, each until the next call.
@@ -96,14 +93,12 @@ impl<P: Prefix, T: Drop, A: Allocator> PrefixMap<P, T, A> {
 
     // Returns the walk of a selection.
     #[inline]
-    fn write_from(&mut self, key: P::R, len: u32, from: Start) -> IterMut<'_, P, T, A>
-        requires key { P.R.IsKey key }
-        requires within { len ≤ P.R.bit_width }
-        ensures starts { StartsIn self.entry (selected from self.old.entries (take len (P.R.bits key))) result.source }
+    fn write_from(&mut self, path: BitString<P::R>, from: Start) -> IterMut<'_, P, T, A>
+        ensures starts { StartsIn self.entry (selected from self.old.entries path) result.source }
         ensures whole { IsWhole P.R.bit_width self.old }
     {
         self.known_valid();
-        let cursor = self.table.cursor(key, len, from, &mut Visits::new());
+        let cursor = self.table.cursor(path, from, &mut Visits::new());
         let source = MapCursor { map: self, cursor };
         WalkOf {
             source: Some(source),

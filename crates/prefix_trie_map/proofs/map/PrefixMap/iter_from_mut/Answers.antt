@@ -1,4 +1,4 @@
-use Rattle.prefix_trie_map.proofs.Prelude.{rules, ◌≡◌, cond, sym, ap, subst, ◌∙◌, listing_from, listing_after, selected, StartsIn}
+use Rattle.prefix_trie_map.proofs.Prelude.{◌≡◌, cond, sym, ap, subst, ◌∙◌, listing_from, listing_after, selected, StartsIn}
 use Rattle.prefix_trie_map.proofs.map.PrefixMap.iter_from_mut.Goals as goal
 use Rattle.prefix_trie_map.proofs.map.PrefixMap.iter_from_mut.Goals.{then-inclusive, else-inclusive}
 
@@ -11,4 +11,4 @@ returns-clause-starts g c =
       | then-inclusive w ↦ ap (λ x. selected x m q) w.from-is ∙ sym (ap (λ b. cond b (listing_from m q) (listing_after m q)) w.if-inclusive.true)
       | else-inclusive w ↦ ap (λ x. selected x m q) w.from-is ∙ sym (ap (λ b. cond b (listing_from m q) (listing_after m q)) w.if-inclusive.false)
     ]) in
-    subst (λ es. StartsIn c.args.self es c.write_from.result.source) same (search rules)
+    subst (λ es. StartsIn c.args.self es c.write_from.result.source) (ap (selected c.if-inclusive.from m) c.path.ensures.path ∙ same) c.write_from.ensures.starts

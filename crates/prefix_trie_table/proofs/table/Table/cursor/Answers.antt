@@ -1,14 +1,15 @@
-use Rattle.prefix_trie_table.proofs.Prelude.{map, ap, ⊤, Contents, array_of, Tree}
+use Rattle.prefix_trie_table.proofs.Prelude.{map, ap, Tree}
 use Rattle.prefix_trie_table.proofs.Tree.Invariant.{trie_of}
-use Rattle.prefix_trie_table.proofs.Walk.Walking.{stack_in}
 use Rattle.prefix_trie_table.proofs.table.Table.cursor.Goals as goal
 
-pub start_at-stack-requires-clause-tree : goal.start_at-stack-requires-clause-tree
-start_at-stack-requires-clause-tree g c =
-    let i = c.self.inside in (
-      record { count = i.count; cells = i.cells; shape = i.shape.0 },
-      trie_of g.K.Key.bit_width i.count i.nodes i.cells i.shape c.self.invariant c.args.self.now c.self.view_is c.requires.within c.requires.nodes,
-    )
+pub start_at-requires : goal.start_at-requires
+start_at-requires g c =
+    let i = c.self.inside in record {
+      tree = (
+        record { count = i.count; cells = i.cells; shape = i.shape.0 },
+        trie_of g.K.Key.bit_width i.count i.nodes i.cells i.shape c.self.invariant c.args.self.now c.self.view_is c.requires.within c.requires.nodes,
+      );
+    }
 
 pub returns : goal.returns
 returns g c =
@@ -16,7 +17,6 @@ returns g c =
     let t : Tree g.row.T.Denot = record { count = i.count; cells = i.cells; shape = i.shape.0 } in
     let tree = trie_of g.K.Key.bit_width i.count i.nodes i.cells i.shape c.self.invariant c.args.self.now c.self.view_is c.requires.within c.requires.nodes in
     record {
-      stands = stack_in g.K.Key.bits g.K.Key.bit_width g.K.Key.IsKey (λ _. ⊤) i.nodes (array_of c.args.self.now.build) (ap (λ (s : Contents g.row.T.Denot). s.build) c.self.view_is)
-          c.args.key tt c.start_at-stack.result.items c.start_at-stack.ensures.stack;
-      keys = rw (← c.self.view_is) (ap (map (λ e. e.0)) (c.start_at-stack.ensures.rest t tree));
+      stands = rw (← c.self.view_is) c.start_at.ensures.stack;
+      keys = rw (← c.self.view_is) (ap (map (λ e. e.0)) (c.start_at.ensures.rest t tree));
     }

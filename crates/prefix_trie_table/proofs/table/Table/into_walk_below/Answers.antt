@@ -1,13 +1,11 @@
 use Rattle.prefix_trie_table.proofs.Prelude.{◌∙◌, ap, listing_below, Contents}
-use Rattle.prefix_trie_table.proofs.Strings.Parts.{taken_apart}
 use Rattle.prefix_trie_table.proofs.Tree.Invariant.{sized_trie}
 use Rattle.prefix_trie_table.proofs.table.Table.into_walk_below.Goals as goal
 
-pub below-requires-clause-tree : goal.below-requires-clause-tree
-below-requires-clause-tree g c = sized_trie _ _ _ _ c.self.inside.shape c.self.invariant _ c.self.view_is c.requires.within c.requires.nodes
+pub below-requires : goal.below-requires
+below-requires g c = record { tree = sized_trie _ _ _ _ c.self.inside.shape c.self.invariant _ c.self.view_is c.requires.within c.requires.nodes }
 
 pub returns : goal.returns
 returns g c =
     c.below.ensures c.self.inside.shape.0 c.self.inside.shape.1
-    ∙ ap (listing_below c.self.inside.shape.0.entries) (taken_apart (g.K.Key.bits c.key.result) c.args.path c.len.result c.len.ensures.len c.key.ensures.bits)
     ∙ ap (λ (s : Contents g.row.T.Denot). listing_below s.entries c.args.path) c.self.view_is

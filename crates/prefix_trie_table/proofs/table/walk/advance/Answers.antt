@@ -3,7 +3,7 @@ use Rattle.prefix_trie_table.proofs.Walk.Stacks.{passed-below, passed-above, pas
 use Rattle.prefix_trie_table.proofs.table.walk.advance.Goals as goal
 
 pub next_at-requires-clause-spot : goal.next_at-requires-clause-spot
-next_at-requires-clause-spot g c = (cursor-at _ _ _ c.in-Some.ensures.last.1 g.K.Key.IsKey g.K.Key.bits g.K.Key.bit_width c.args.nodes.now c.loop-spot.key c.loop-spot.invariant.stack).2
+next_at-requires-clause-spot g c = (cursor-at _ _ _ c.in-Some.ensures.last.1 g.K.Key.bit_width c.args.nodes.now.slots (g.K.Key.bits c.loop-spot.key) c.loop-spot.invariant.stack).2
 
 -- some spot is the last
 some_last : (all below : List Spot) (p : Spot) → all ≡ below ++ p ∷ [] → 0 < length all
@@ -25,8 +25,8 @@ pub returns-in-Entry-clause-stack : goal.returns-in-Entry-clause-stack
 returns-in-Entry-clause-stack g c =
     let h = c.in-Entry.ensures.step c.requires.tree.0 c.requires.tree.1 in
     let is = c.in-Some.ensures.last.1 in
-    subst (IsStack g.K.Key.IsKey g.K.Key.bits g.K.Key.bit_width c.args.nodes.now c.loop-spot.key) (sym (put_is _ _ _ _ _ is h.3 c.put_places.ensures.put))
-    (stack-put _ _ _ is g.K.Key.IsKey g.K.Key.bits g.K.Key.bit_width c.args.nodes.now c.loop-spot.key c.loop-spot.invariant.stack c.next_at.new.spot (same_depth c.in-Some.spot c.next_at.new.spot h.3) h.2)
+    subst (IsStack g.K.Key.bit_width c.args.nodes.now.slots (g.K.Key.bits c.loop-spot.key)) (sym (put_is _ _ _ _ _ is h.3 c.put_places.ensures.put))
+    (stack-put _ _ _ is g.K.Key.bit_width c.args.nodes.now.slots (g.K.Key.bits c.loop-spot.key) c.loop-spot.invariant.stack c.next_at.new.spot (same_depth c.in-Some.spot c.next_at.new.spot h.3) h.2)
 
 pub returns-in-Entry-clause-entry : goal.returns-in-Entry-clause-entry
 returns-in-Entry-clause-entry g c =
@@ -42,9 +42,9 @@ returns-in-Entry-clause-entry g c =
         is_key = h.gives.is_key;
         short = h.gives.short;
         first =
-            subst (λ ps. pending g.K.Key.bits t.shape.entries c.args.key.now c.args.stack.now.items ≡ (take c.in-Entry.len (g.K.Key.bits c.in-Entry.found), h.value) ∷ pending g.K.Key.bits t.shape.entries c.loop-spot.key ps)
+            subst (λ ps. pending t.shape.entries (g.K.Key.bits c.args.key.now) c.args.stack.now.items ≡ (take c.in-Entry.len (g.K.Key.bits c.in-Entry.found), h.value) ∷ pending t.shape.entries (g.K.Key.bits c.loop-spot.key) ps)
             (sym (put_is _ _ _ _ _ is step.3 c.put_places.ensures.put))
-            (sym (c.loop-spot.invariant.same t tree) ∙ pending-entry _ _ _ is g.K.Key.bits t.shape.entries c.loop-spot.key c.next_at.new.spot _ h.gives.first);
+            (sym (c.loop-spot.invariant.same t tree) ∙ pending-entry _ _ _ is t.shape.entries (g.K.Key.bits c.loop-spot.key) c.next_at.new.spot _ h.gives.first);
         filled = h.gives.filled;
       };
     }
@@ -53,8 +53,8 @@ pub returns-in-Entry-clause-passed : goal.returns-in-Entry-clause-passed
 returns-in-Entry-clause-passed g c = λ h.
     let step = c.in-Entry.ensures.step c.requires.tree.0 c.requires.tree.1 in
     let is = c.in-Some.ensures.last.1 in
-    passed-above g.K.Key.bits c.loop-spot.key _ _ _ (put_is _ _ _ _ _ is step.3 c.put_places.ensures.put)
-    (passed-below g.K.Key.bits c.loop-spot.key _ _ _ is (c.loop-spot.invariant.passed h))
+    passed-above (g.K.Key.bits c.loop-spot.key) _ _ _ (put_is _ _ _ _ _ is step.3 c.put_places.ensures.put)
+    (passed-below (g.K.Key.bits c.loop-spot.key) _ _ _ is (c.loop-spot.invariant.passed h))
 
 pub returns-in-Entry-clause-last : goal.returns-in-Entry-clause-last
 returns-in-Entry-clause-last g c =
@@ -68,7 +68,7 @@ returns-in-Entry-clause-last g c =
       ends = record {
         whole = (let w = ends.whole in omega (arith, w, depth));
         last = (let l = ends.last in omega (arith, l, depth));
-        same_above = subst (λ d. take d (g.K.Key.bits c.in-Entry.found) ≡ take d (g.K.Key.bits c.loop-spot.key)) (sym depth) ends.same_above;
+        same_above = subst (λ d. take d (take c.in-Entry.len (g.K.Key.bits c.in-Entry.found)) ≡ take d (g.K.Key.bits c.loop-spot.key)) (sym depth) ends.same_above;
       };
     }
 
@@ -81,7 +81,7 @@ push-requires g c =
     let below = c.in-Some.ensures.last.0 in
     let is = c.in-Some.ensures.last.1 in
     let put = put_is _ _ _ _ _ is h.3 c.put_places-in-Child.ensures.put in
-    let at = (cursor-at _ _ _ is g.K.Key.IsKey g.K.Key.bits g.K.Key.bit_width c.args.nodes.now c.loop-spot.key c.loop-spot.invariant.stack).1 in
+    let at = (cursor-at _ _ _ is g.K.Key.bit_width c.args.nodes.now.slots (g.K.Key.bits c.loop-spot.key) c.loop-spot.invariant.stack).1 in
     (omega arith, let inside = h.4.within in omega (arith, at, inside, h.5, g.met.K.Key.key_laws.at_most_128, ap length put, length-append below (c.next_at.new.spot ∷ [])))
 
 -- the spots once the last has moved on and its child is pushed
@@ -103,15 +103,15 @@ loop-spot-preserved-in-Child g c =
     let depth = same_depth c.in-Some.spot c.next_at.new.spot h.3 in
     let all = pushed _ _ _ _ _ (put_is _ _ _ _ _ is h.3 c.put_places-in-Child.ensures.put) c.push.ensures.items in
     record {
-      stack = subst (IsStack g.K.Key.IsKey g.K.Key.bits g.K.Key.bit_width c.args.nodes.now c.in-Child.below) (sym all)
-          (stack-child_way g.K.Key.IsKey g.K.Key.bits g.K.Key.bit_width c.args.nodes.now c.loop-spot.key c.in-Child.below c.loop-spot.stack.items below c.in-Some.spot c.next_at.new.spot c.in-Child.child is c.loop-spot.invariant.stack depth h.2 h.5 h.4 h.6);
+      stack = subst (IsStack g.K.Key.bit_width c.args.nodes.now.slots (g.K.Key.bits c.in-Child.below)) (sym all)
+          (stack-child_way g.K.Key.bit_width c.args.nodes.now.slots (g.K.Key.bits c.loop-spot.key) (g.K.Key.bits c.in-Child.below) c.loop-spot.stack.items below c.in-Some.spot c.next_at.new.spot c.in-Child.child is c.loop-spot.invariant.stack depth h.2 h.5 h.4 h.6);
       same = λ t tree.
-          ap (pending g.K.Key.bits t.shape.entries c.in-Child.below) all
-          ∙ pending-child_way g.K.Key.IsKey g.K.Key.bits g.K.Key.bit_width c.args.nodes.now c.loop-spot.key c.in-Child.below c.loop-spot.stack.items below c.in-Some.spot c.next_at.new.spot c.in-Child.child is c.loop-spot.invariant.stack depth h.2 h.5 h.4 h.6 t.shape.entries (c.in-Child.ensures.step t tree).0
+          ap (pending t.shape.entries (g.K.Key.bits c.in-Child.below)) all
+          ∙ pending-child_way g.K.Key.bit_width c.args.nodes.now.slots (g.K.Key.bits c.loop-spot.key) (g.K.Key.bits c.in-Child.below) c.loop-spot.stack.items below c.in-Some.spot c.next_at.new.spot c.in-Child.child is c.loop-spot.invariant.stack depth h.2 h.5 h.4 h.6 t.shape.entries (c.in-Child.ensures.step t tree).0
           ∙ c.loop-spot.invariant.same t tree;
       passed = λ o.
-          subst (ArePassed g.K.Key.bits c.in-Child.below) (sym all)
-          (passed-child g.K.Key.IsKey g.K.Key.bits g.K.Key.bit_width c.args.nodes.now c.loop-spot.key c.in-Child.below c.loop-spot.stack.items below c.in-Some.spot c.next_at.new.spot c.in-Child.child
+          subst (ArePassed (g.K.Key.bits c.in-Child.below)) (sym all)
+          (passed-child g.K.Key.bit_width c.args.nodes.now.slots (g.K.Key.bits c.loop-spot.key) (g.K.Key.bits c.in-Child.below) c.loop-spot.stack.items below c.in-Some.spot c.next_at.new.spot c.in-Child.child
           is c.loop-spot.invariant.stack h.6 c.in-Child.ensures.way (c.loop-spot.invariant.passed o));
     }
 
@@ -134,11 +134,11 @@ loop-spot-preserved g c =
     let left = left_is _ _ _ _ is c.pop.ensures.rest in
     record {
       stack =
-          subst (IsStack g.K.Key.IsKey g.K.Key.bits g.K.Key.bit_width c.args.nodes.now c.loop-spot.key) (sym left)
-          (stack-popped _ _ _ is g.K.Key.IsKey g.K.Key.bits g.K.Key.bit_width c.args.nodes.now c.loop-spot.key c.loop-spot.invariant.stack);
+          subst (IsStack g.K.Key.bit_width c.args.nodes.now.slots (g.K.Key.bits c.loop-spot.key)) (sym left)
+          (stack-popped _ _ _ is g.K.Key.bit_width c.args.nodes.now.slots (g.K.Key.bits c.loop-spot.key) c.loop-spot.invariant.stack);
       same = λ t tree.
-          ap (pending g.K.Key.bits t.shape.entries c.loop-spot.key) left
-          ∙ pending-done _ _ _ is g.K.Key.bits t.shape.entries c.loop-spot.key (c.in-Done.ensures.step t tree).0
+          ap (pending t.shape.entries (g.K.Key.bits c.loop-spot.key)) left
+          ∙ pending-done _ _ _ is t.shape.entries (g.K.Key.bits c.loop-spot.key) (c.in-Done.ensures.step t tree).0
           ∙ c.loop-spot.invariant.same t tree;
-      passed = λ o. subst (ArePassed g.K.Key.bits c.loop-spot.key) (sym left) (passed-popped g.K.Key.bits c.loop-spot.key _ _ _ is (c.loop-spot.invariant.passed o));
+      passed = λ o. subst (ArePassed (g.K.Key.bits c.loop-spot.key)) (sym left) (passed-popped (g.K.Key.bits c.loop-spot.key) _ _ _ is (c.loop-spot.invariant.passed o));
     }

@@ -4,9 +4,9 @@ use Rattle.prefix_trie_table.proofs.table.walk.advance.Given as goal
 abbrev pub invariant-loop-spot : goal.invariant-loop-spot
 invariant-loop-spot g l =
     record {
-      stack : IsStack g.K.Key.IsKey g.K.Key.bits g.K.Key.bit_width l.nodes l.key l.stack.items;
-      same : (t : Tree g.row.T.Denot) → IsTrie g.K.Key.bit_width t.count l.nodes t.cells t.shape → pending g.K.Key.bits t.shape.entries l.key l.stack.items ≡ pending g.K.Key.bits t.shape.entries l.fn.key l.fn.stack.items;
-      passed : ArePassed g.K.Key.bits l.fn.key l.fn.stack.items → ArePassed g.K.Key.bits l.key l.stack.items;
+      stack : IsStack g.K.Key.bit_width l.nodes.slots (g.K.Key.bits l.key) l.stack.items;
+      same : (t : Tree g.row.T.Denot) → IsTrie g.K.Key.bit_width t.count l.nodes t.cells t.shape → pending t.shape.entries (g.K.Key.bits l.key) l.stack.items ≡ pending t.shape.entries (g.K.Key.bits l.fn.key) l.fn.stack.items;
+      passed : ArePassed (g.K.Key.bits l.fn.key) l.fn.stack.items → ArePassed (g.K.Key.bits l.key) l.stack.items;
     }
 
 abbrev pub decreases-loop-spot : goal.decreases-loop-spot

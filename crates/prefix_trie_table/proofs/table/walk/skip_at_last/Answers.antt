@@ -5,12 +5,12 @@ use Rattle.prefix_trie_table.proofs.table.walk.skip_at_last.Goals as goal
 pub skip_below-requires-clause-whole : goal.skip_below-requires-clause-whole
 skip_below-requires-clause-whole g c =
     let at = c.requires.last.1 in
-    subst (λ (p : Spot). p.depth ≤ c.args.len) (snoc_inj at.below c.pop.new.self.items at.spot c.in-Some.spot (sym at.is ∙ c.in-Some.ensures.items)).1 at.ends.whole
+    subst (λ (p : Spot). p.depth ≤ length c.args.path.now) (snoc_inj at.below c.pop.new.self.items at.spot c.in-Some.spot (sym at.is ∙ c.in-Some.ensures.items)).1 at.ends.whole
 
 pub skip_below-requires-clause-last : goal.skip_below-requires-clause-last
 skip_below-requires-clause-last g c =
     let at = c.requires.last.1 in
-    subst (λ (p : Spot). c.args.len < p.depth + 5) (snoc_inj at.below c.pop.new.self.items at.spot c.in-Some.spot (sym at.is ∙ c.in-Some.ensures.items)).1 at.ends.last
+    subst (λ (p : Spot). length c.args.path.now < p.depth + 5) (snoc_inj at.below c.pop.new.self.items at.spot c.in-Some.spot (sym at.is ∙ c.in-Some.ensures.items)).1 at.ends.last
 
 pub push-requires : goal.push-requires
 push-requires g c = (omega arith, let space = c.requires.space in let less = c.in-Some.ensures.len in omega (arith, space, less))

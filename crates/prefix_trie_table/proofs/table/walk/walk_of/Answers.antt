@@ -12,10 +12,10 @@ enter-requires-clause-few g c = few_at g.K.Key.bit_width c.args.nodes.now _ c.re
 
 pub invariant_of-result-2 : goal.invariant_of-result-2
 invariant_of-result-2 g c =
-    root_walk g.K.Key.IsKey g.K.Key.bits g.K.Key.bit_width c.args.nodes.now c.args.cells.now c.requires.0 c.requires.1 c.result-1.given.0 c.zero.result c.enter.result c.zero.ensures.key c.enter.ensures.depth c.enter.ensures.node c.enter.ensures.places c.enter.ensures.each
+    root_walk g.K.Key.bit_width c.args.nodes.now c.args.cells.now c.requires.0 c.requires.1 c.result-1.given.0 (g.K.Key.bits c.zero.result) c.enter.result c.enter.ensures.depth c.enter.ensures.node c.enter.ensures.places c.enter.ensures.each
     c.push.new.self.items (c.push.ensures.items ∙ ap (λ xs. xs ++ c.enter.result ∷ []) c.new-stack.ensures)
 
 pub returns : goal.returns
 returns g c =
-    root_rest g.K.Key.IsKey g.K.Key.bits g.K.Key.bit_width c.args.nodes.now c.args.cells.now c.requires.0 c.requires.1 c.result-1.given.0 c.zero.result c.enter.result c.zero.ensures.key c.enter.ensures.depth c.enter.ensures.node c.enter.ensures.places c.enter.ensures.each
+    root_rest g.K.Key.bit_width c.args.nodes.now c.args.cells.now c.requires.0 c.requires.1 c.result-1.given.0 (g.K.Key.bits c.zero.result) c.enter.result c.enter.ensures.depth c.enter.ensures.node c.enter.ensures.places c.enter.ensures.each
     c.push.new.self.items (c.push.ensures.items ∙ ap (λ xs. xs ++ c.enter.result ∷ []) c.new-stack.ensures)

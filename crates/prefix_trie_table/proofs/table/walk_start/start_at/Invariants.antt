@@ -1,9 +1,14 @@
-use Rattle.prefix_trie_table.proofs.Prelude.{◌+◌, ◌-◌}
+use Rattle.prefix_trie_table.proofs.Prelude.{◌≡◌, ◌+◌, ◌-◌, drop, length}
 use Rattle.prefix_trie_table.proofs.Walk.Starts.{IsLaid}
 use Rattle.prefix_trie_table.proofs.table.walk_start.start_at.Given as goal
 
 abbrev pub invariant-loop-depth : goal.invariant-loop-depth
-invariant-loop-depth g l = IsLaid g.K.Key.IsKey g.K.Key.bits g.K.Key.bit_width l.nodes l.key l.len l.from g.row.T.Denot l.depth l.node l.stack.items
+invariant-loop-depth g l =
+    record {
+      laid : IsLaid g.K.Key.bit_width l.nodes (g.K.Key.bits l.key) l.fn.path l.from g.row.T.Denot l.depth l.node l.stack.items;
+      rest_is : l.rest ≡ drop l.depth l.fn.path;
+      left : length l.rest + l.depth ≡ l.len;
+    }
 
 abbrev pub decreases-loop-depth : goal.decreases-loop-depth
 decreases-loop-depth g l = l.len + 5 - l.depth

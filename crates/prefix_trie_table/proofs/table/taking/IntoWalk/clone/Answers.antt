@@ -6,8 +6,8 @@ use Rattle.prefix_trie_table.proofs.table.taking.IntoWalk.clone.Goals as goal
 pub invariant_of-result : goal.invariant_of-result
 invariant_of-result g c =
     let i = c.self.inside in (
-      copied_seats g.K.Key.IsKey g.K.Key.bits g.K.Key.bit_width g.T.Clone.is_clone _ (option_pairs _ (λ _. refl) (λ _ h. absurd h) (λ _ h. h) (λ _ _ h. h))
-          i.nodes c.in_ok-nodes.nodes i.cells c.in_ok-cells.cells i.seats i.key i.stack.items c.in-Ok.stack.items c.self.invariant
+      copied_seats g.K.Key.bit_width g.T.Clone.is_clone _ (option_pairs _ (λ _. refl) (λ _ h. absurd h) (λ _ h. h) (λ _ _ h. h))
+          i.nodes c.in_ok-nodes.nodes i.cells c.in_ok-cells.cells i.seats (g.K.Key.bits i.key) i.stack.items c.in-Ok.stack.items c.self.invariant
           c.in_ok-nodes.ensures.same c.in_ok-cells.ensures.slots (each_same i.stack.items c.in-Ok.stack.items c.in-Ok.ensures.cases),
       tt,
     )
@@ -15,14 +15,14 @@ invariant_of-result g c =
 pub invariant_of-result-2 : goal.invariant_of-result-2
 invariant_of-result-2 g c =
     let i = c.self.inside in
-    (copied_walk g.K.Key.IsKey g.K.Key.bits g.K.Key.bit_width g.T.Clone.is_clone _ (option_pairs _ (λ _. refl) (λ _ h. absurd h) (λ _ h. h) (λ _ _ h. h))
-    i.nodes c.in_ok-nodes.nodes i.cells c.in_ok-cells.cells i.seats i.key i.stack.items c.in-Ok.stack.items c.self.invariant
+    (copied_walk g.K.Key.bit_width g.T.Clone.is_clone _ (option_pairs _ (λ _. refl) (λ _ h. absurd h) (λ _ h. h) (λ _ _ h. h))
+    i.nodes c.in_ok-nodes.nodes i.cells c.in_ok-cells.cells i.seats (g.K.Key.bits i.key) i.stack.items c.in-Ok.stack.items c.self.invariant
     c.in_ok-nodes.ensures.same c.in_ok-cells.ensures.slots (each_same i.stack.items c.in-Ok.stack.items c.in-Ok.ensures.cases) c.result-2-1.given.0).0
 
 pub returns : goal.returns
 returns g c =
     let i = c.self.inside in
-    let pairs = (copied_walk g.K.Key.IsKey g.K.Key.bits g.K.Key.bit_width g.T.Clone.is_clone _ (option_pairs _ (λ _. refl) (λ _ h. absurd h) (λ _ h. h) (λ _ _ h. h))
-    i.nodes c.in_ok-nodes.nodes i.cells c.in_ok-cells.cells i.seats i.key i.stack.items c.in-Ok.stack.items c.self.invariant
+    let pairs = (copied_walk g.K.Key.bit_width g.T.Clone.is_clone _ (option_pairs _ (λ _. refl) (λ _ h. absurd h) (λ _ h. h) (λ _ _ h. h))
+    i.nodes c.in_ok-nodes.nodes i.cells c.in_ok-cells.cells i.seats (g.K.Key.bits i.key) i.stack.items c.in-Ok.stack.items c.self.invariant
     c.in_ok-nodes.ensures.same c.in_ok-cells.ensures.slots (each_same i.stack.items c.in-Ok.stack.items c.in-Ok.ensures.cases) c.result-2-1.given.0).1 in
     record { pairs = rw (← c.self.view_is) pairs; same = λ law. pairs_same g.T.Clone.is_clone law _ _ pairs ∙ c.self.view_is }

@@ -4,11 +4,11 @@ use Rattle.prefix_trie_table.proofs.table.walk.Walk.clone.Goals as goal
 
 pub invariant_of-result-2 : goal.invariant_of-result-2
 invariant_of-result-2 g c =
-    same_walk g.K.Key.IsKey g.K.Key.bits g.K.Key.bit_width c.self.inside.arrays c.self.inside.shape _ c.self.inside.key c.self.inside.stack.items c.in-Ok.stack.items
+    same_walk g.K.Key.bit_width c.self.inside.arrays c.self.inside.shape _ (g.K.Key.bits c.self.inside.key) c.self.inside.stack.items c.in-Ok.stack.items
     (each_same c.self.inside.stack.items c.in-Ok.stack.items c.in-Ok.ensures.cases) c.self.invariant
 
 pub returns : goal.returns
 returns g c =
-    same_rest g.K.Key.IsKey g.K.Key.bits g.K.Key.bit_width c.self.inside.arrays c.self.inside.shape _ c.self.inside.key c.self.inside.stack.items c.in-Ok.stack.items
+    same_rest g.K.Key.bit_width c.self.inside.arrays c.self.inside.shape _ (g.K.Key.bits c.self.inside.key) c.self.inside.stack.items c.in-Ok.stack.items
     (each_same c.self.inside.stack.items c.in-Ok.stack.items c.in-Ok.ensures.cases)
     ∙ c.self.view_is
