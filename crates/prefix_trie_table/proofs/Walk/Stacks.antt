@@ -1,5 +1,5 @@
 -- A stack of spots, read from its end.
-use Rattle.prefix_trie_table.proofs.Prelude.{◌≡◌, ℕ, ◌+◌, ◌*◌, ◌<◌, ◌≤◌, Bool, List, [], ◌∷◌, ◌++◌, length, sum_by, take, Some, refl, ap, sym, ◌∙◌, subst, arith, append_assoc, append-nil, length-append, drop, get_or, Less, AllByRecursion, take-take, drop-take, get_or_append_left, sum_by_push, to_come, Entries, listing_at_places, Spot, chunks_of, read, Store, Node, IsSpot, IsPlaceOf, IsStackFrom, IsStack, start, still, pending, weight, IsOther, IsPassed, ArePassed, All-nil, All-cons, All-head, All-tail, All-push, listing_cmp, listing-refl}
+use Rattle.prefix_trie_table.proofs.Prelude.{◌≡◌, ℕ, ◌+◌, ◌*◌, ◌<◌, ◌≤◌, Bool, List, [], ◌∷◌, ◌++◌, length, sum_by, take, Some, refl, ap, sym, ◌∙◌, subst, arith, append_assoc, append-nil, length-append, drop, get_or, Less, AllByRecursion, take-take, drop-take, get_or_append_left, sum_by_push, to_come, Entries, listing_at_places, Spot, chunks_of, read, Node, IsSpot, IsPlaceOf, IsStackFrom, IsStack, start, still, pending, weight, IsOther, IsPassed, ArePassed, All-nil, All-cons, All-head, All-tail, All-push, listing_cmp, listing-refl}
 use Rattle.std.specs.List.{All}
 
 -- a spot of as many levels as another

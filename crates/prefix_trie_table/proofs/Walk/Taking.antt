@@ -3,7 +3,7 @@ use Rattle.prefix_trie_table.proofs.Prelude.{◌≡◌, ◌≢◌, ℕ, ◌+◌,
 use lib.Dec.{T as IsT}
 use Rattle.std.specs.List.{All, Contains}
 use Rattle.std.proofs.lemmas.List.{length-set}
-use Rattle.prefix_trie_table.specs.Walking.Walks.{IsStackFrom, slot_of, start}
+use Rattle.prefix_trie_table.specs.Walking.Walks.{slot_of}
 use Rattle.prefix_trie_table.proofs.Tree.Invariant.{some_table}
 use Rattle.prefix_trie_table.proofs.Walk.KeySets.{bare, strings_of, has-strings_of, pending_bare}
 use Rattle.prefix_trie_table.proofs.Lookup.Located.{stored_if}

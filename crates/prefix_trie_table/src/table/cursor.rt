@@ -39,12 +39,7 @@ impl<T: Drop, A: Allocator, V: Tick> Table<T, A, V> {
     /// }
     /// ```
     #[inline]
-    pub fn cursor<K: Key>(
-        &self,
-        path: BitString<K>,
-        from: Start,
-        counter: &mut V,
-    ) -> Cursor<K>
+    pub fn cursor<K: Key>(&self, path: BitString<K>, from: Start, counter: &mut V) -> Cursor<K>
         requires within { AreWithin K.bit_width self.now.entries }
         requires nodes { AreNodes K.bit_width self.now.entries self.now.nodes }
         ensures stands { IsCursorIn K.bits K.bit_width self.now.build result }

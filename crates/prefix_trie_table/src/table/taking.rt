@@ -1,15 +1,11 @@
 //! The walk that moves the values out of a table, in listing order.
 ghost use Rattle.std.specs.Prelude.{◌≡◌, [], IfOk, MatchOption};
 ghost use Rattle.std.specs.List.{AllZip};
-ghost use Rattle.std.specs.FinMap.{len as size};
 ghost use Rattle.prefix_trie_bits.specs.Model.Entries.{AreWithin};
 ghost use Rattle.prefix_trie_bits.specs.Model.Nodes.{AreNodes};
 ghost use Rattle.prefix_trie_bits.specs.Model.Selections.{listing, listing_below};
-ghost use Rattle.prefix_trie_bits.specs.Model.Step.{State};
 ghost use Rattle.prefix_trie_table.specs.Copies.{IsPairCloned};
 ghost use Rattle.prefix_trie_table.specs.Walking.Items.{GivesFilled};
-ghost use Rattle.prefix_trie_table.specs.Shape.{IsShapeOf};
-ghost use Rattle.prefix_trie_table.specs.Tables.{IsTrie};
 ghost use Rattle.prefix_trie_table.specs.Walking.Taking.{Seated, Seated-prop};
 
 use crate::allocator::blocks::Cells;
@@ -58,28 +54,6 @@ impl<K: Key, T: Drop, A: Allocator, V: Tick> Model for IntoWalk<K, T, A, V> {
 }
 
 impl<K: Key, T: Drop, A: Allocator, V: Tick> IntoWalk<K, T, A, V> {
-    /// Walks the entries in these arrays whose keys begin with a bit string.
-    ///
-    /// It reads the nodes of the search path at once.
-    #[inline]
-    pub(super) fn below(
-        nodes: NodeAllocator<A, V>,
-        cells: Cells<T, A>,
-        path: BitString<K>,
-        counter: &mut V,
-    ) -> Self
-        requires tree { (s : State T) × IsTrie K.bit_width (size s.entries) nodes cells s }
-        ensures { (s : State T) → IsShapeOf nodes.slots cells.slots s → result ≡ listing_below s.entries path }
-    {
-        let start = start_at::<K, T, A, V>(&nodes, path, Start::Below, counter);
-        IntoWalk {
-            nodes,
-            cells,
-            key: start.key,
-            stack: start.stack,
-        }
-    }
-
     /// Returns the next entry: its key, the key's length in bits, and its value.
     ///
     /// It reads each further node once, when the walk comes to it.
@@ -153,6 +127,12 @@ impl<T: Drop, A: Allocator, V: Tick> Table<T, A, V> {
         requires nodes { AreNodes K.bit_width self.entries self.nodes }
         ensures { result ≡ listing_below self.entries path }
     {
-        IntoWalk::below(self.nodes, self.cells, path, counter)
+        let start = start_at::<K, T, A, V>(&self.nodes, path, Start::Below, counter);
+        IntoWalk {
+            nodes: self.nodes,
+            cells: self.cells,
+            key: start.key,
+            stack: start.stack,
+        }
     }
 }

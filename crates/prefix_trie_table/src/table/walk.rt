@@ -12,7 +12,6 @@ ghost use Rattle.prefix_trie_table.specs.Walking.Walks.{Tree, ArePassed, EndsLas
 use crate::allocator::blocks::Cells;
 use crate::allocator::node::NodeSlot;
 use crate::allocator::nodes::{NodeAllocator, Tick};
-use crate::table::cursor::Cursor;
 use crate::table::seat::Seat;
 use crate::table::spot::{Spot, Step, enter, next_at, put_places, skip_below, value_at};
 use arrayvec::ArrayVec;
@@ -23,10 +22,10 @@ use std::marker::Model;
 /// The entries of a table that are still to come, in listing order.
 #[derive(Drop)]
 pub struct Walk<'a, K: Key, T: Drop, A: Allocator, V: Tick> {
-    arrays: Option<(&'a NodeAllocator<A, V>, &'a Cells<T, A>)>,
+    pub(super) arrays: Option<(&'a NodeAllocator<A, V>, &'a Cells<T, A>)>,
     // The path of each spot begins this key.
-    key: K,
-    stack: ArrayVec<Spot, 26>,
+    pub(super) key: K,
+    pub(super) stack: ArrayVec<Spot, 26>,
     ghost shape: { ShapeOf arrays } by { ShapeOf-prop T.code arrays },
 }
 
@@ -43,22 +42,6 @@ impl<'a, K: Key, T: Drop, A: Allocator, V: Tick> Model for Walk<'a, K, T, A, V> 
 }
 
 impl<'a, K: Key, T: Drop, A: Allocator, V: Tick> Walk<'a, K, T, A, V> {
-    /// Returns the walk with this start.
-    #[inline]
-    pub fn over(nodes: &'a NodeAllocator<A, V>, cells: &'a Cells<T, A>, start: Cursor<K>) -> Self
-        requires tree { (s : State T) × IsTrie K.bit_width (len s.entries) nodes.now cells.now s }
-        requires stack { IsStack K.bit_width nodes.now.slots (K.bits start.key) start.stack.items }
-        requires passed { ArePassed (K.bits start.key) start.stack.items }
-        ensures { (s : State T) → IsShapeOf nodes.now.slots cells.now.slots s
-            → result ≡ pending s.entries (K.bits start.key) start.stack.items }
-    {
-        Walk {
-            arrays: Some((nodes, cells)),
-            key: start.key,
-            stack: start.stack,
-        }
-    }
-
     /// Returns the next entry: its key, the key's length in bits, and its value.
     ///
     /// It reads each further node once, when the walk comes to it.

@@ -42,7 +42,12 @@ pub fn walk_at<'a, K: Key, T: Drop, A: Allocator, V: Tick>(
     requires tree { (s : State T) × IsTrie K.bit_width (size s.entries) nodes.now cells.now s }
     ensures { (s : State T) → IsShapeOf nodes.now.slots cells.now.slots s → result ≡ selected from s.entries path }
 {
-    Walk::over(nodes, cells, start_at::<K, T, A, V>(nodes, path, from, counter))
+    let start = start_at::<K, T, A, V>(nodes, path, from, counter);
+    Walk {
+        arrays: Some((nodes, cells)),
+        key: start.key,
+        stack: start.stack,
+    }
 }
 
 /// Goes down the search path of a bit string, and returns the start of a walk of the selected entries.

@@ -7,10 +7,12 @@ use Rattle.prefix_trie_table.proofs.table.split_move.move_part.Goals as goal
 pub start_at-start-requires : goal.start_at-start-requires
 start_at-start-requires g c =
     let s = c.requires.trie.0 in
-    let q = take c.args.len (g.K.Key.bits c.args.key) in record { tree = (
-      record { count = len (part_below s.entries q); cells = filled_with c.args.laid.slots (entries (part_below s.entries q)) c.args.vacant; shape = split_off s q },
-      second_trie g.K.Key.bit_width c.args.entries.now c.args.nodes.now c.args.cells.now s c.requires.trie.1 q c.args.laid c.args.vacant c.requires.second,
-    ) }
+    let q = take c.args.len (g.K.Key.bits c.args.key) in record {
+      tree = (
+        record { count = len (part_below s.entries q); cells = filled_with c.args.laid.slots (entries (part_below s.entries q)) c.args.vacant; shape = split_off s q },
+        second_trie g.K.Key.bit_width c.args.entries.now c.args.nodes.now c.args.cells.now s c.requires.trie.1 q c.args.laid c.args.vacant c.requires.second,
+      );
+    }
 
 pub remove_part-requires-clause-may_ask : goal.remove_part-requires-clause-may_ask
 remove_part-requires-clause-may_ask g c = λ s trie.

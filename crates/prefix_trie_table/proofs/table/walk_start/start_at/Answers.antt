@@ -14,9 +14,6 @@ loop-depth-init g c = record {
   left = omega (arith, c.len-len.ensures.len);
 }
 
-pub child_bit-child-requires : goal.child_bit-child-requires
-child_bit-child-requires g c = let left = c.loop-depth.invariant.left in omega (arith, left, c.loop-depth-test.true)
-
 pub spot_in-requires : goal.spot_in-requires
 spot_in-requires g c = record {
   few = few_at g.K.Key.bit_width c.args.nodes.now c.requires.tree.0 c.requires.tree.1 (chunks_of (take c.loop-depth.depth c.args.path)) c.loop-depth.node c.loop-depth.invariant.laid.stands;
@@ -42,9 +39,6 @@ visit-node-requires-in-loop-depth g c =
     next_inside _ _ _ _ _ key.bits key.within (key_reach _ _ _ (g.met.K.Key.key_laws.bits_length _ key.key) key.within) _ _ _ at.laid
     (omega (arith, c.loop-depth-test.true, c.len-len.ensures.len)) c.requires.tree.0 c.requires.tree.1 c.child_bit-child.result (c.child_bit-child.ensures.value ∙ ap (λ r. number (take 5 r)) at.rest_is) (sym c.has_bit.ensures ∙ c.if-not-has_bit.false) _ c.child_slot.ensures
 
-pub below-rest-requires : goal.below-rest-requires
-below-rest-requires g c = let left = c.loop-depth.invariant.left in omega (arith, left, c.loop-depth-test.true)
-
 pub loop-depth-preserved : goal.loop-depth-preserved
 loop-depth-preserved g c =
     let key = c.key-key.ensures in
@@ -57,9 +51,6 @@ loop-depth-preserved g c =
       rest_is = c.below-rest.ensures ∙ ap (drop 5) at.rest_is ∙ drop-drop 5 c.loop-depth.depth c.args.path;
       left = omega (arith, ap length c.below-rest.ensures, length-drop 5 c.loop-depth.rest, left, c.loop-depth-test.true);
     }
-
-pub first-rest-requires : goal.first-rest-requires
-first-rest-requires g c = let left = c.loop-depth.invariant.left in omega (arith, left)
 
 pub places_kept-requires : goal.places_kept-requires
 places_kept-requires g c = let left = c.loop-depth.invariant.left in omega (arith, ap length (all_left c.loop-depth.rest c.first-rest.result c.loop-depth.depth c.len-len.result left c.first-rest.ensures), left, c.loop-depth-test.false)

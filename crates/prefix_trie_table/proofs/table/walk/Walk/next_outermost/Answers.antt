@@ -1,4 +1,4 @@
-use Rattle.prefix_trie_table.proofs.Prelude.{◌∙◌, sym, subst, take, pending, EndsLast, SkipsLast}
+use Rattle.prefix_trie_table.proofs.Prelude.{◌∙◌, sym, subst, pending, EndsLast, SkipsLast}
 use Rattle.prefix_trie_table.proofs.Walk.Walking.{tree_of, rest_at}
 use Rattle.prefix_trie_table.proofs.Walk.Skipping.{few_spots, stack_left, passed_left, pending_left}
 use Rattle.prefix_trie_table.proofs.table.walk.Walk.next_outermost.Goals as goal
