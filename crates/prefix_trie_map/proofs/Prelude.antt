@@ -79,7 +79,7 @@ pub use Rattle.prefix_trie_map.specs.Resumed.{ResumeLaws}
 pub use Rattle.prefix_trie_map.specs.Steps.{insert_reply, insert_new_reply, state, storage, stored_state}
 pub use Rattle.prefix_trie_map.specs.Walks.{lent_item, lent_item_mut}
 pub use Rattle.prefix_trie_map.specs.Whole.{IsWhole}
-pub use Rattle.prefix_trie_map.specs.Writing.{ComesToEnd, GoesOver, HasValueAt, IsFirst, StartsIn, StartsOver, IsItemAt, as_walk, key_at, keys_left, with_written}
+pub use Rattle.prefix_trie_map.specs.Writing.{ComesToEnd, GoesOver, HasValueAt, IsFirst, StartsIn, StartsOver, IsItemAt, as_walk, keys_left, with_written}
 pub use Rattle.prefix_trie_map.specs.WritingWalks.{EndsIn, FirstIn, IsOverIn, StepsIn, lends_next}
 pub use Rattle.prefix_trie_map.specs.declared.map.entry.OccupiedEntry.{OccupiedEntry}
 pub use Rattle.prefix_trie_map.specs.declared.map.entry.VacantEntry.{VacantEntry}

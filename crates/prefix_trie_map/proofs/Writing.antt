@@ -1,6 +1,6 @@
 -- A step of a writing walk gives its first entry, also for a walk that may have no map; and the
 -- keys to come of a walk.
-use Rattle.prefix_trie_map.proofs.Prelude.{◌≡◌, Bool, true, List, [], ◌∷◌, map, Option, None, Some, MatchOption, IfSome, IfNone, refl, sym, ap, ◌∙◌, subst, contains_key, Contents, with_value_at, IsCursorIn, IsCursorIn-prop, GivesKey, keys_to_come, Cursor, pending_again, MapCursor, CursorItem, keys_left, as_walk, key_at, IsItemAt, HasValueAt, with_written, IsFirst, GoesOver, ComesToEnd, StartsOver, lent_beside, EndsIn, StepsIn}
+use Rattle.prefix_trie_map.proofs.Prelude.{◌≡◌, ℕ, take, seat_of, Bool, true, List, [], ◌∷◌, map, Option, None, Some, MatchOption, IfSome, IfNone, refl, sym, ap, ◌∙◌, subst, contains_key, Contents, with_value_at, IsCursorIn, IsCursorIn-prop, GivesKey, keys_to_come, Cursor, pending_again, MapCursor, CursorItem, keys_left, as_walk, IsItemAt, HasValueAt, with_written, IsFirst, GoesOver, ComesToEnd, StartsOver, lent_beside, EndsIn, StepsIn}
 use Rattle.std.specs.Borrow.{MutBor}
 use Rattle.std.specs.declared.cmp.PartialEq as partial
 use Rattle.std.specs.declared.fmt.Debug as debug
@@ -8,29 +8,35 @@ use Rattle.prefix_trie_bits.specs.declared.prefix.Prefix as prefix
 use Rattle.prefix_trie_bits.specs.declared.prefix.Key as key
 
 module _ {P T A R : Type 0} {p : prefix.Ghosts P R} {shows : debug.Ghosts P} {k : key.Ghosts R} {same : partial.Ghosts R} {writes : debug.Ghosts R}
-    (c : MapCursor P T A R p shows k same writes) (cursor : Cursor R) (stands : IsCursorIn k.bits k.bit_width c.map.now.build cursor) (item : CursorItem R)
-    (gives : GivesKey k.IsKey k.bits k.bit_width c.map.now.build item.key item.len item.seat (keys_left c) (keys_to_come k.bits c.map.now.entries cursor)) where
+    (c : MapCursor P T A R p shows k same writes) (cursor : Cursor R) (stands : IsCursorIn k.bits k.bit_width c.map.now.build cursor) (item : CursorItem R) (key : R) (len : ℕ)
+    (at : item.path ≡ take len (k.bits key)) (gives : GivesKey k.IsKey k.bits k.bit_width c.map.now.build key len item.seat (keys_left c) (keys_to_come k.bits c.map.now.entries cursor)) where
   -- the map's cursor, moved on to this cursor
   abbrev gone : MapCursor P T A R p shows k same writes
   gone = record { map = c.map; cursor = cursor; stands = stands }
 
   pub stops_there : IsItemAt gone item
-  stops_there = record { is_key = gives.is_key; short = gives.short; seated = gives.seated }
+  stops_there = ap (seat_of c.map.now.build) at ∙ gives.seated
 
-  pub first_there : (q : P) → q ≡ p.back (key_at gone item) → (value : T) → HasValueAt gone item value → IsFirst c q value
-  first_there q is value holds = (key_at gone item, record (as_walk c None) { to_come = keys_left gone; lent = Some (key_at gone item) }, (gives.first, refl), is, holds)
+  first : keys_left c ≡ item.path ∷ keys_left gone
+  first = gives.first ∙ ap (λ s. s ∷ keys_left gone) (sym at)
 
-  pub goes_over : contains_key c.map.now.entries (key_at gone item) ≡ true → (value : T) → GoesOver c value (with_written gone item value)
-  goes_over stored value = record {
-    key = key_at gone item;
+  pub first_there : (q : P) → q ≡ p.back (take len (k.bits key)) → (value : T) → HasValueAt gone item value → IsFirst c q value
+  first_there q is value holds = (item.path, record (as_walk c None) { to_come = keys_left gone; lent = Some item.path }, (first, refl), is ∙ ap p.back (sym at), holds)
+
+  pub goes_over : contains_key c.map.now.entries (take len (k.bits key)) ≡ true → (value : T) → GoesOver c value (with_written gone item value)
+  goes_over has value = record {
+    key = item.path;
     passes = λ lent. (
-      record (as_walk c lent) { to_come = keys_left (with_written gone item value); lent = Some (key_at gone item) },
-      (gives.first ∙ ap (λ ks. key_at gone item ∷ ks) (sym (pending_again c.map.now.entries (key_at gone item) value stored (k.bits cursor.key) cursor.stack.items)), refl),
-      (key_at gone item, refl, refl),
+      record (as_walk c lent) { to_come = keys_left (with_written gone item value); lent = Some item.path },
+      (first ∙ ap (λ ks. item.path ∷ ks) (sym (pending_again c.map.now.entries item.path value stored (k.bits cursor.key) cursor.stack.items)), refl),
+      (item.path, refl, refl),
     );
     stored = stored;
     map = refl;
   }
+    where
+      stored : contains_key c.map.now.entries item.path ≡ true
+      stored = ap (contains_key c.map.now.entries) at ∙ has
 
 module _ {P T A R : Type 0} {p : prefix.Ghosts P R} {shows : debug.Ghosts P} {k : key.Ghosts R} {same : partial.Ghosts R} {writes : debug.Ghosts R} where
   -- for a walk that starts, the keys of its selection
@@ -50,10 +56,10 @@ module _ {P T A R : Type 0} {p : prefix.Ghosts P R} {shows : debug.Ghosts P} {k 
 
 -- a value written to an item leaves the cursor unchanged, except its map
 pub written_there : {P T A R : Type 0} {p : prefix.Ghosts P R} {shows : debug.Ghosts P} {k : key.Ghosts R} {same : partial.Ghosts R} {writes : debug.Ghosts R}
-    (c : MapCursor P T A R p shows k same writes) (item : CursorItem R) (w : T) (q : List Bool) → q ≡ key_at c item → (stands : IsCursorIn k.bits k.bit_width c.map.now.build c.cursor) →
-    record { map = record c.map { now = with_value_at c.map.now q w }; cursor = c.cursor; stands = stands } ≡ with_written c item w
-written_there {k = k} c item w q at stands = λ i. record {
-  map = record c.map { now = with_value_at c.map.now (at i) w };
+    (c : MapCursor P T A R p shows k same writes) (item : CursorItem R) (w : T) (stands : IsCursorIn k.bits k.bit_width c.map.now.build c.cursor) →
+    record { map = record c.map { now = with_value_at c.map.now item.path w }; cursor = c.cursor; stands = stands } ≡ with_written c item w
+written_there {k = k} c item w stands = λ i. record {
+  map = record c.map { now = with_value_at c.map.now item.path w };
   cursor = c.cursor;
   stands = IsCursorIn-prop k.bits k.bit_width c.map.now.build c.cursor stands c.stands i;
 }

@@ -1,6 +1,6 @@
 -- What a writing walk has to come, what a write through it leaves, and what it ends as: the model's
 -- walk, over a map that is lent. This project's own.
-use Rattle.std.specs.Prelude.{◌≡◌, ◌≤◌, Bool, true, List, take, Option, None, Some, ⊤}
+use Rattle.std.specs.Prelude.{◌≡◌, Bool, true, List, Option, None, Some, ⊤}
 use Rattle.std.specs.Borrow.{MutBor}
 use Rattle.std.specs.FinMap.{get, contains_key}
 use Rattle.std.specs.declared.cmp.PartialEq as partial
@@ -19,23 +19,17 @@ module _ {P T A R : Type 0} {p : prefix.Ghosts P R} {shows : debug.Ghosts P} {k 
   abbrev pub keys_left : MapCursor P T A R p shows k same writes → List (List Bool)
   keys_left c = keys_to_come k.bits c.map.now.entries c.cursor
 
-  -- the key of an item
-  abbrev pub key_at : MapCursor P T A R p shows k same writes → CursorItem R → List Bool
-  key_at c item = take item.len (k.bits item.key)
-
-  -- its value is stored at its seat
-  pub record IsItemAt (c : MapCursor P T A R p shows k same writes) (item : CursorItem R) : Type 0 where
-    pub is_key : k.IsKey item.key
-    pub short : item.len ≤ k.bit_width
-    pub seated : seat_of c.map.now.build (key_at c item) ≡ Some item.seat
+  -- the value of an item is stored at its seat
+  abbrev pub IsItemAt : MapCursor P T A R p shows k same writes → CursorItem R → Type 0
+  IsItemAt c item = seat_of c.map.now.build item.path ≡ Some item.seat
 
   -- the value of an item
   abbrev pub HasValueAt : MapCursor P T A R p shows k same writes → CursorItem R → T → Type 0
-  HasValueAt c item value = get c.map.now.entries (key_at c item) ≡ Some value
+  HasValueAt c item value = get c.map.now.entries item.path ≡ Some value
 
   -- the walk after a value is written to an item
   abbrev pub with_written : MapCursor P T A R p shows k same writes → CursorItem R → T → MapCursor P T A R p shows k same writes
-  with_written c item value = record c { map = record c.map { now = with_value_at c.map.now (key_at c item) value } }
+  with_written c item value = record c { map = record c.map { now = with_value_at c.map.now item.path value } }
 
   -- the walk as the model has it, while the value of this key is lent
   abbrev pub as_walk : MapCursor P T A R p shows k same writes → Option (List Bool) → WritingWalk T

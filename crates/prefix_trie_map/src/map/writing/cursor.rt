@@ -18,11 +18,10 @@ pub struct MapCursor<'a, P: Prefix, T: Drop, A: Allocator> {
     ghost stands: { IsCursorIn P.R.bits P.R.bit_width map.now.build cursor } by { IsCursorIn-prop P.R.bits P.R.bit_width map.now.build cursor },
 }
 
-/// Where the value of an entry is stored: its key, the key's length, and the value's seat.
+/// Where the value of an entry is stored: its bit string, and the value's seat.
 #[derive(Drop)]
 pub struct CursorItem<K: Key> {
-    key: K,
-    len: u32,
+    path: BitString<K>,
     seat: Seat,
 }
 
@@ -115,12 +114,12 @@ impl<'a, P: Prefix, T: Drop, A: Allocator> Source for MapCursor<'a, P, T, A> {
         let Some((key, len, seat)) = self.map.step(&mut self.cursor) else {
             return None;
         };
-        Some((without_host_bits(key, len), CursorItem { key, len, seat }))
+        let path = BitString::new(key, len);
+        Some((without_host_bits(key, len), CursorItem { path, seat }))
     }
 
     #[inline]
     fn lend(&mut self, item: CursorItem<P::R>) -> &mut T {
-        self.map
-            .lend_at(BitString::new(item.key, item.len), item.seat)
+        self.map.lend_at(item.path, item.seat)
     }
 }
