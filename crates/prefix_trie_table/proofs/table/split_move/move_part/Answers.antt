@@ -1,4 +1,5 @@
-use Rattle.prefix_trie_table.proofs.Prelude.{[], take, len, entries, part_below, State, Seats, filled_with, split_off, IsTrie}
+use Rattle.prefix_trie_table.proofs.Prelude.{[], ap, ◌∙◌, len, entries, listing_below, part_below, State, Seats, filled_with, split_off, IsTrie}
+use Rattle.prefix_trie_table.proofs.Strings.Parts.{taken_apart}
 use Rattle.prefix_trie_table.proofs.Moving.Second.{second_trie}
 use Rattle.prefix_trie_table.proofs.Moving.Moved.{Fills, may_move, all_moved}
 use Rattle.prefix_trie_table.proofs.table.split_move.move_part.Given as given
@@ -7,27 +8,29 @@ use Rattle.prefix_trie_table.proofs.table.split_move.move_part.Goals as goal
 pub start_at-stack-requires-clause-tree : goal.start_at-stack-requires-clause-tree
 start_at-stack-requires-clause-tree g c =
     let s = c.requires.trie.0 in
-    let q = take c.args.len (g.K.Key.bits c.args.key) in (
+    let q = c.args.path in (
       record { count = len (part_below s.entries q); cells = filled_with c.args.laid.slots (entries (part_below s.entries q)) c.args.vacant; shape = split_off s q },
       second_trie g.K.Key.bit_width c.args.entries.now c.args.nodes.now c.args.cells.now s c.requires.trie.1 q c.args.laid c.args.vacant c.requires.second,
     )
 
 pub remove_part-requires-clause-may_ask : goal.remove_part-requires-clause-may_ask
 remove_part-requires-clause-may_ask g c = λ s trie.
+    let begun = taken_apart (g.K.Key.bits c.key-key.result) c.args.path c.len.result c.len.ensures.len c.key-key.ensures.bits in
     may_move g.K.Key.IsKey g.K.Key.bits g.K.Key.bit_width {F = Seats g.row.K.Denot g.row.T.Denot g.row.A.Denot g.row.V.Denot}
     (λ f. f.nodes) (λ f. f.cells) (λ f. f.key) (λ f. f.stack.items) c.args.entries.now c.args.nodes.now c.args.cells.now s trie
-    (take c.args.len (g.K.Key.bits c.args.key)) (record { nodes = c.args.laid; cells = c.args.vacant; key = c.args.key; stack = c.start_at-stack.result })
-    c.requires.second c.start_at-stack.ensures.stack c.start_at-stack.ensures.rest
+    c.args.path (record { nodes = c.args.laid; cells = c.args.vacant; key = c.key-key.result; stack = c.start_at-stack.result })
+    c.requires.second c.start_at-stack.ensures.stack (λ t trie. c.start_at-stack.ensures.rest t trie ∙ ap (listing_below t.shape.entries) begun)
 
 -- what the second table has then
 filled : (g : given.Over) (c : goal.After-remove_part g) → (s : State g.row.T.Denot) → IsTrie g.K.Key.bit_width c.args.entries.now c.args.nodes.now c.args.cells.now s →
-    Fills g.K.Key.IsKey g.K.Key.bits g.K.Key.bit_width (split_off s (take c.args.len (g.K.Key.bits c.args.key))) c.args.laid c.args.vacant
+    Fills g.K.Key.IsKey g.K.Key.bits g.K.Key.bit_width (split_off s c.args.path) c.args.laid c.args.vacant
     c.remove_part.new.keep.nodes c.remove_part.new.keep.cells c.remove_part.new.keep.key c.remove_part.new.keep.stack.items []
 filled g c = λ s trie.
+    let begun = taken_apart (g.K.Key.bits c.key-key.result) c.args.path c.len.result c.len.ensures.len c.key-key.ensures.bits in
     all_moved g.K.Key.IsKey g.K.Key.bits g.K.Key.bit_width {F = Seats g.row.K.Denot g.row.T.Denot g.row.A.Denot g.row.V.Denot}
     (λ f. f.nodes) (λ f. f.cells) (λ f. f.key) (λ f. f.stack.items) c.args.entries.now c.args.nodes.now c.args.cells.now s trie
-    (take c.args.len (g.K.Key.bits c.args.key)) (record { nodes = c.args.laid; cells = c.args.vacant; key = c.args.key; stack = c.start_at-stack.result })
-    c.requires.second c.start_at-stack.ensures.stack c.start_at-stack.ensures.rest c.remove_part.new.keep (c.remove_part.ensures.up_to s trie)
+    c.args.path (record { nodes = c.args.laid; cells = c.args.vacant; key = c.key-key.result; stack = c.start_at-stack.result })
+    c.requires.second c.start_at-stack.ensures.stack (λ t trie. c.start_at-stack.ensures.rest t trie ∙ ap (listing_below t.shape.entries) begun) c.remove_part.new.keep (c.remove_part.ensures.up_to s trie)
 
 pub returns : goal.returns
 returns g c = record {

@@ -47,7 +47,7 @@ put-requires-clause-tiers g c =
 pub returns-clause-laid : goal.returns-clause-laid
 returns-clause-laid g c =
     let trie = c.requires.trie.2 in
-    let q = take c.args.len (g.K.Key.bits c.args.key) in
+    let q = c.args.path.now in
     let stands = root_slot c.args.nodes.now c.args.cells.now (some_table trie.table) in
     let some : 0 < c.args.nodes.now.limit = (let within = trie.table.nodes_within in omega (arith, stands, within)) in
     let cells_are = under_limit c.in-Ok.second_cells c.limit.result c.args.nodes.now.limit c.in-Ok.ensures.empty (c.limit.ensures ∙ trie.table.one_limit) in
