@@ -74,7 +74,7 @@ pub use Rattle.prefix_trie_bits.specs.Order.{listing-apart, listing-common, list
 pub use Rattle.prefix_trie_bits.specs.Places.{HoldsChildren, HoldsPlaces, HoldsValues, IsLongest, IsShortest, NoneBegins, Sets, has, is_before, is_in, place_of, places, stands, strings, value_bit}
 unfoldable pub use Rattle.prefix_trie_bits.specs.Places.{ones_below}
 pub use Rattle.prefix_trie_bits.specs.Walks.{to_come}
-pub use Rattle.prefix_trie_bits.specs.Windows.{IsRest, rest_behind, rest_front, rest_string, rest_whole, take-extend, window-of-front}
+pub use Rattle.prefix_trie_bits.specs.Windows.{take-extend, window-of-front}
 pub use Rattle.prefix_trie_bits.specs.declared.node.Place.{Place}
 pub use Rattle.prefix_trie_bits.specs.declared.node.Place.TheVariants.{Child, Value}
 pub use Rattle.prefix_trie_bits.specs.declared.node.Places.{Places}

@@ -148,7 +148,7 @@ module _ (q : List Bool) (here : Reached) (v : Store Node) (at : IsOwn q here v)
   pub own_short : length (drop (5 * here.level) q) < 5
   own_short = let last = at.last in omega (arith, last, path-length q, length-drop (5 * here.level) q)
 
-  own_last : IsLast q here v
+  pub own_last : IsLast q here v
   own_last = record { along = at.along; missing = λ more. absurd (let last = at.last in omega (arith, last, path-length q, more)) }
 
   module _ (reading : List ℕ → Option Node) (paths : List (List ℕ)) (hold : NodesHold node_sizes reading paths v) where

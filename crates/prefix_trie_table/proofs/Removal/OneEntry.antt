@@ -1,11 +1,11 @@
 -- An entry removed, and what contracts see of it.
-use Rattle.prefix_trie_table.proofs.Prelude.{◌≡◌, ◌≢◌, ℕ, ◌+◌, ◌-◌, ◌*◌, ◌<◌, ◌⊎◌, inl, inr, Bool, true, false, cond, ◌&&◌, List, [], ◌∷◌, ◌++◌, length, take, drop, Option, None, Some, is_some, refl, sym, ap, ap₂, ◌∙◌, subst, arith, false≢true, get, len, len-remove, listing_total, without_entry, is_node_depth, State, get-without_entry, value_bit, Node, NodeSlot, Reached, has_bit, rank, cell_sizes, chunks_of, bit_of, Store, one_if, Holds, IsSlot, at_root, at_child, child_slot, node_or_blank, own_count, has_value, with_node, with_value, SomeTable, entry_count, ShrinksList, ValueTaken, EntryTaken, AreAbove, StandsAtEnd, slot_in, MakesEntered, IsShapeOf, IsOwn, Shaped, same_shape, slot_at, IsTable, Grows, ForHeld, own_children, child_block_size}
+use Rattle.prefix_trie_table.proofs.Prelude.{◌≡◌, ◌≢◌, ℕ, ◌+◌, ◌-◌, ◌*◌, ◌<◌, ◌⊎◌, inl, inr, Bool, true, false, cond, ◌&&◌, List, [], ◌∷◌, ◌++◌, length, take, drop, Option, None, Some, is_some, refl, sym, ap, ap₂, ◌∙◌, subst, arith, false≢true, get, len, len-remove, listing_total, without_entry, is_node_depth, State, get-without_entry, value_bit, Node, NodeSlot, Reached, has_bit, rank, cell_sizes, chunks_of, bit_of, Store, one_if, Holds, IsSlot, at_root, at_child, child_slot, node_or_blank, own_count, has_value, with_node, with_value, SomeTable, entry_count, ShrinksList, ValueTaken, EntryTaken, AreAbove, StandsAtEnd, slot_in, MakesEntered, IsShapeOf, IsLast, Shaped, same_shape, slot_at, IsTable, Grows, ForHeld, own_children, child_block_size}
 use Rattle.prefix_trie_table.specs.OwnBlocks.{value_block_size}
 use Rattle.prefix_trie_table.proofs.Removal.ShrinkingLists.{shrinks_none, values_none, same_children}
 use Rattle.prefix_trie_table.proofs.Tree.Invariant.{some_table}
 use Rattle.prefix_trie_table.proofs.Tree.Children.{same_or, with_here, with_other}
 use Rattle.prefix_trie_table.proofs.Counts.EntryCounts.{count_with_node}
-use Rattle.prefix_trie_table.proofs.Lookup.SearchPaths.{own_bit, own_short, own_node, own_slot}
+use Rattle.prefix_trie_table.proofs.Lookup.SearchPaths.{own_bit, path_own, path_slot}
 use Rattle.prefix_trie_table.proofs.Tree.Trees.{is_none-None}
 use Rattle.prefix_trie_table.proofs.Strings.Keys.{same_key}
 use Rattle.prefix_trie_table.proofs.Strings.Paths.{same_path-equal, same_path-not, snoc_inj}
@@ -170,28 +170,26 @@ module _ {T : Type 0} (key : List Bool) (v v2 : Store Node) (w w2 : Store (Optio
       (record { reading = a.later; values = with_value t.values (chunks_of key) (bit_of key) None; paths = t.paths; holds = a.holds }, a.counted)
 
 -- the value of a string's own node is taken, if there is one
-module _ {T : Type 0} (q rest : List Bool) (here : Reached) (v : Store Node) (own : IsOwn q here v) (left : rest ≡ drop (5 * here.level) q) (x : ℕ) (read : x ≡ value_bit rest)
+module _ {T : Type 0} (q rest : List Bool) (here : Reached) (v : Store Node) (at : IsLast q here v) (left : rest ≡ drop (5 * here.level) q) (short : length rest < 5) (x : ℕ) (read : x ≡ value_bit rest)
     (w : Store (Option T)) (removed : Option T) (m : Node) (v2 : Store Node) (w2 : Store (Option T))
     (taken : ForHeld v w (λ reading paths values. (p : List ℕ) → IsSlot reading p (slot_at here) → reading p ≡ Some here.node →
     (removed ≡ values p x) × ((t : EntryTaken reading paths values p x v2 w w2) × (t.later p ≡ Some m)))) where
   pub own_taken : ForHeld v w (λ reading paths values.
       (removed ≡ values (chunks_of q) (bit_of q)) × ((t : EntryTaken reading paths values (chunks_of q) (bit_of q) v2 w w2) × (t.later (chunks_of q) ≡ Some m)))
   own_taken reading paths values holds =
-      let short : length rest < 5 = omega (arith, own_short q here v own, ap (λ (xs : List Bool). length xs) left) in
-      rw (own_bit q here v own.along rest left short x read)
-      (taken reading paths values holds (chunks_of q) (own_slot q here v own reading paths holds.hold) (own_node q here v own reading paths holds.hold))
+      rw (own_bit q here v at.along rest left short x read)
+      (taken reading paths values holds (chunks_of q) (path_slot q here v at reading paths holds.hold rest left short) (path_own q here v at reading paths holds.hold rest left short))
 
   -- that is at the end of the search path then
-  module _ (ancestors items : List NodeSlot) (same : ancestors ≡ items) (above : AreAbove q here.level items v)
+  module _ (last : here.level ≡ length (chunks_of q)) (ancestors items : List NodeSlot) (same : ancestors ≡ items) (above : AreAbove q here.level items v)
       (reading : List ℕ → Option Node) (paths : List (List ℕ)) (values : List ℕ → ℕ → Option T) (holds : Holds reading values paths v w) where
     abbrev pub own_end : StandsAtEnd (chunks_of q) ancestors m v2
     own_end = record {
       reading = (own_taken reading paths values holds).1.0.later;
       paths = paths;
       hold = (own_taken reading paths values holds).1.0.holds.hold;
-      long = ap (λ (xs : List NodeSlot). length xs) same ∙ above.long ∙ own.last;
+      long = ap (λ (xs : List NodeSlot). length xs) same ∙ above.long ∙ last;
       slots = λ k low.
-          let last = own.last in
           subst (λ xs. IsSlot (own_taken reading paths values holds).1.0.later (take k (chunks_of q)) (slot_in xs k)) (sym same)
           ((own_taken reading paths values holds).1.0.stands _ _ (above.slots reading paths holds.hold k (omega (arith, low, last))));
       is = (own_taken reading paths values holds).1.1;

@@ -1,5 +1,5 @@
 use Rattle.prefix_trie_table.proofs.Prelude.{inl, inr, is_some, refl, ap}
-use Rattle.prefix_trie_table.proofs.Lookup.SearchPaths.{own_short, own_node}
+use Rattle.prefix_trie_table.proofs.Lookup.SearchPaths.{own_last, own_node, own_short}
 use Rattle.prefix_trie_table.proofs.Tree.Invariant.{deepest_there}
 use Rattle.prefix_trie_table.proofs.Removal.OneEntry.{nothing_taken, no_value, own_taken, own_end}
 use Rattle.prefix_trie_table.proofs.table.removal.remove_entry.Goals as goal
@@ -20,19 +20,25 @@ take_bit-value-requires-clause-table g c =
 pub prune_up-requires : goal.prune_up-requires
 prune_up-requires g c =
     let t = c.requires.table.0 in
-    let end = own_end c.args.path c.after.result c.in-Some.here c.args.nodes.now c.in-Some.ensures.found.0 c.after.ensures c.value_bit-bit.result c.value_bit-bit.ensures.value c.args.cells.now
-    c.take_bit-value.result.0 c.take_bit-value.result.1 c.take_bit-value.new.nodes c.take_bit-value.new.cells c.take_bit-value.ensures.taken c.deref.result.now _ c.deref.ensures.0 c.in-Some.ensures.found.1 t.reading t.paths t.values t.holds in
+    let end = own_end c.args.path c.after.result c.in-Some.here c.args.nodes.now
+    (own_last _ _ _ c.in-Some.ensures.found.0) c.after.ensures (rw c.after.ensures (own_short _ _ _ c.in-Some.ensures.found.0)) c.value_bit-bit.result c.value_bit-bit.ensures.value c.args.cells.now
+    c.take_bit-value.result.0 c.take_bit-value.result.1 c.take_bit-value.new.nodes c.take_bit-value.new.cells c.take_bit-value.ensures.taken
+    c.in-Some.ensures.found.0.last c.deref.result.now _ c.deref.ensures.0 c.in-Some.ensures.found.1 t.reading t.paths t.values t.holds in
     record { stands = end }
 
 pub returns-clause-value : goal.returns-clause-value
 returns-clause-value g c = λ reading paths values holds.
-    (own_taken c.args.path c.after.result c.in-Some.here c.args.nodes.now c.in-Some.ensures.found.0 c.after.ensures c.value_bit-bit.result c.value_bit-bit.ensures.value c.args.cells.now
+    (own_taken c.args.path c.after.result c.in-Some.here c.args.nodes.now
+    (own_last _ _ _ c.in-Some.ensures.found.0) c.after.ensures (rw c.after.ensures (own_short _ _ _ c.in-Some.ensures.found.0)) c.value_bit-bit.result c.value_bit-bit.ensures.value c.args.cells.now
     c.take_bit-value.result.0 c.take_bit-value.result.1 c.take_bit-value.new.nodes c.take_bit-value.new.cells c.take_bit-value.ensures.taken reading paths values holds).0
 
 pub returns-clause-removed : goal.returns-clause-removed
 returns-clause-removed g c = λ reading paths values holds.
-    let end = own_end c.args.path c.after.result c.in-Some.here c.args.nodes.now c.in-Some.ensures.found.0 c.after.ensures c.value_bit-bit.result c.value_bit-bit.ensures.value c.args.cells.now
-    c.take_bit-value.result.0 c.take_bit-value.result.1 c.take_bit-value.new.nodes c.take_bit-value.new.cells c.take_bit-value.ensures.taken c.deref.result.now _ c.deref.ensures.0 c.in-Some.ensures.found.1 reading paths values holds in
-    let taken = own_taken c.args.path c.after.result c.in-Some.here c.args.nodes.now c.in-Some.ensures.found.0 c.after.ensures c.value_bit-bit.result c.value_bit-bit.ensures.value c.args.cells.now
+    let end = own_end c.args.path c.after.result c.in-Some.here c.args.nodes.now
+    (own_last _ _ _ c.in-Some.ensures.found.0) c.after.ensures (rw c.after.ensures (own_short _ _ _ c.in-Some.ensures.found.0)) c.value_bit-bit.result c.value_bit-bit.ensures.value c.args.cells.now
+    c.take_bit-value.result.0 c.take_bit-value.result.1 c.take_bit-value.new.nodes c.take_bit-value.new.cells c.take_bit-value.ensures.taken
+    c.in-Some.ensures.found.0.last c.deref.result.now _ c.deref.ensures.0 c.in-Some.ensures.found.1 reading paths values holds in
+    let taken = own_taken c.args.path c.after.result c.in-Some.here c.args.nodes.now
+    (own_last _ _ _ c.in-Some.ensures.found.0) c.after.ensures (rw c.after.ensures (own_short _ _ _ c.in-Some.ensures.found.0)) c.value_bit-bit.result c.value_bit-bit.ensures.value c.args.cells.now
     c.take_bit-value.result.0 c.take_bit-value.result.1 c.take_bit-value.new.nodes c.take_bit-value.new.cells c.take_bit-value.ensures.taken reading paths values holds in
     inr (c.take_bit-value.new.nodes, ap is_some (own_node _ _ _ c.in-Some.ensures.found.0 reading paths holds.hold), taken.1.0, c.prune_up.ensures.pruned end, c.take_bit-value.ensures.node_blocks)
