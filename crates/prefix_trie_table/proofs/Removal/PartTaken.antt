@@ -1,5 +1,5 @@
 -- What is left of a table after everything under a bit string is removed.
-use Rattle.prefix_trie_table.proofs.Prelude.{◌≡◌, ◌↔◌, ℕ, ◌+◌, ◌*◌, ◌/◌, ◌<◌, ◌≤◌, Bool, true, false, not, ◌||◌, List, [], ◌∷◌, ◌++◌, cond, length, take, drop, Option, None, Some, is_some, refl, sym, ap, ◌∙◌, subst, arith, inl, inr, bit_and, take-take, get, get-empty, begins, same_string, HoldsValues, HoldsChildren, is_in, places, PruningLaws, CallableOnEachEntry, Entries, AreWithin, no_entries, without_entry, without_below, Nodes, AreNodes, has_node, home, pruned, root_alone, nodes_not_below, nodes_without, nodes_without_below, listing_at_places, listing_below, State, and-first, and-second, get-without_below, has-retained, has-root_alone, same_entries, same_nodes, same_string-is, begins-nil, pruning_laws, removed_fewer, Node, NodeSlot, Reached, node_sizes, chunks_of, bit_of, Store, read, slot_at, Holds, NodesHold, IsOwn, IsSlot, EntryTaken, EntryRemoved, Pruned, AreAbove, AreAncestors, StandsAtEnd, slot_in, BoundsNodeGrowth, Contents, state, Shaped, ForHeld, Grows, IsTable, IsTrie, BlocksBetween, IsSite, PreservesBelow, Retains, RetainsTo}
+use Rattle.prefix_trie_table.proofs.Prelude.{◌≡◌, ◌↔◌, ℕ, ◌*◌, ◌<◌, ◌≤◌, Bool, true, false, not, ◌||◌, List, [], ◌∷◌, ◌++◌, cond, length, take, drop, Option, None, Some, is_some, refl, sym, ap, ◌∙◌, subst, arith, inl, inr, bit_and, take-take, get, get-empty, begins, same_string, HoldsValues, HoldsChildren, is_in, places, PruningLaws, CallableOnEachEntry, Entries, AreWithin, no_entries, without_entry, without_below, Nodes, AreNodes, has_node, home, pruned, root_alone, nodes_not_below, nodes_without, nodes_without_below, listing_at_places, listing_below, State, and-first, and-second, get-without_below, has-retained, has-root_alone, same_entries, same_nodes, same_string-is, begins-nil, pruning_laws, removed_fewer, Node, NodeSlot, Reached, node_sizes, chunks_of, bit_of, Store, read, slot_at, Holds, NodesHold, IsOwn, IsSlot, EntryTaken, EntryRemoved, Pruned, AreAbove, AreAncestors, StandsAtEnd, slot_in, BoundsNodeGrowth, Contents, state, Shaped, ForHeld, Grows, IsTable, IsTrie, BlocksBetween, IsSite, PreservesBelow, Retains, RetainsTo}
 use Rattle.std.proofs.lemmas.List.{take-append-drop, length-take-le}
 use Rattle.std.specs.List.{Contains}
 use Rattle.prefix_trie_table.specs.Retaining.{SaysNo}

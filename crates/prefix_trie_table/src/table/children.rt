@@ -72,7 +72,9 @@ fn empty_part<K: Key, T: Drop, A: Allocator, V: Tick, F: Keep<K, T, V>>(
         key: path.key(),
         depth,
     };
-    retain_places(nodes, cells, entries, keep, site, here.node, places, counter)
+    retain_places(
+        nodes, cells, entries, keep, site, here.node, places, counter,
+    )
 }
 
 /// Removes all entries whose keys begin with a bit string, and all nodes below the string's own.

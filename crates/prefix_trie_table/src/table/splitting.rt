@@ -30,7 +30,11 @@ fn masks<K: Key>(rest: &BitString<K>) -> (u32, u32, BitString<K>)
     ensures below { result.2 ≡ drop 5 rest.now }
 {
     if rest.len() < 5 {
-        return (rest.value_cover_mask(), rest.child_cover_mask(), rest.first(0));
+        return (
+            rest.value_cover_mask(),
+            rest.child_cover_mask(),
+            rest.first(0),
+        );
     }
     (0, with_bit(0, rest.child_bit()), rest.after(5))
 }

@@ -1,4 +1,4 @@
-use Rattle.prefix_trie_table.proofs.Prelude.{◌≡◌, ℕ, refl, sym, ap, ap₂, ◌∙◌, subst, arith, RemoveChildren, Done, StepByPath, Sized-prop, Contents, Shaped-prop, stored_state, Store, IsTable}
+use Rattle.prefix_trie_table.proofs.Prelude.{ℕ, refl, sym, ap, ap₂, ◌∙◌, subst, arith, RemoveChildren, Done, StepByPath, Sized-prop, Contents, Shaped-prop, stored_state, Store, IsTable}
 use Rattle.prefix_trie_table.proofs.Blocks.Sizing.{table_sizes, storage_of}
 use Rattle.prefix_trie_table.proofs.Removal.Clearing.{root_slot}
 use Rattle.prefix_trie_table.proofs.Moving.SplitOff.{rest_counted, shape_seen, table_seen, clear_behind, split_off_map, second_packed}

@@ -1,4 +1,4 @@
-use Rattle.prefix_trie_table.proofs.Prelude.{◌≡◌, ◌+◌, ◌-◌, ◌*◌, ◌<◌, ◌≤◌, inl, inr, Bool, List, length, length-drop, take, true, sym, ap, ◌∙◌, refl, subst, arith, has_bit, node_at, chunks_of, IsBare, GivesBack, slot_in}
+use Rattle.prefix_trie_table.proofs.Prelude.{◌≡◌, ◌+◌, ◌-◌, ◌*◌, ◌≤◌, inl, inr, Bool, List, length, length-drop, take, true, sym, ap, refl, subst, arith, has_bit, node_at, chunks_of, IsBare, GivesBack, slot_in}
 use Rattle.prefix_trie_table.proofs.Strings.Digits.{path-length}
 use Rattle.prefix_trie_table.proofs.Lookup.SearchPaths.{step_read}
 use Rattle.prefix_trie_table.proofs.Removal.Pruning.{Pruning, pruning_first, pruning_more, parent_is, parent_slot, parent_bit}

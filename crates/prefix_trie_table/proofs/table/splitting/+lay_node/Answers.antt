@@ -1,5 +1,5 @@
 use Rattle.prefix_trie_table.specs.NodeArrays.{FitsByte}
-use Rattle.prefix_trie_table.proofs.Prelude.{ℕ, All, All-nil, All-push, IfSome, None, replicate, sym, ap, subst, ◌∙◌, arith, ◌≡◌, ◌+◌, ◌-◌, List, [], length, drop, take, bit_and, err_from_is_err_and, Memory, node_at, blank_node, node_sizes, cell_sizes, Node, child_slots, value_slots, sum_to, slots_at_child, slots_below, IsSubtree, IsLaid, NothingLaid, LaysNode, LaysList, Lays, tier_sizes}
+use Rattle.prefix_trie_table.proofs.Prelude.{ℕ, All, All-nil, All-push, IfSome, None, replicate, sym, ap, subst, ◌∙◌, arith, ◌≡◌, ◌+◌, ◌-◌, List, [], length, bit_and, err_from_is_err_and, Memory, node_at, blank_node, node_sizes, cell_sizes, Node, child_slots, value_slots, sum_to, slots_at_child, slots_below, IsSubtree, IsLaid, NothingLaid, LaysNode, LaysList, Lays, tier_sizes}
 use Rattle.prefix_trie_table.proofs.Splitting.Subtrees.{first, subtree_start, subtree_few, subtree_clear, subtree_passed, subtree_attached, subtree_closed, subtree_bare}
 use Rattle.prefix_trie_table.proofs.Splitting.FreshArrays.{Lays-none, can_lay_then}
 use Rattle.prefix_trie_table.proofs.Splitting.Parts.{kept, own_values, left_out, below_it}

@@ -1,5 +1,5 @@
 use Rattle.prefix_trie_table.specs.NodeArrays.{FitsByte}
-use Rattle.prefix_trie_table.proofs.Prelude.{inl, IfSome, refl, ◌∙◌, ◌<◌, sym, ap, subst, length, arith, ◌/◌, take, err_from_is_err_and, node_at, LaysNode, Node, Store, tier_sizes, IsSecond}
+use Rattle.prefix_trie_table.proofs.Prelude.{inl, IfSome, refl, ◌∙◌, ◌<◌, sym, ap, subst, length, arith, ◌/◌, err_from_is_err_and, node_at, LaysNode, Node, Store, tier_sizes, IsSecond}
 use Rattle.prefix_trie_table.proofs.Splitting.RootSpace.{root_nodes, root_cells}
 use Rattle.prefix_trie_table.proofs.Splitting.Space.{for_memory}
 use Rattle.prefix_trie_table.proofs.Splitting.Second.{root_source, second_laid, second_bare}
