@@ -1,21 +1,11 @@
 -- What holds of the table at a key's bits holds of the map at the prefix's path, and steps lead
 -- from maps to maps.
-use Rattle.prefix_trie_map.proofs.Prelude.{◌≡◌, ◌<◌, ◌≤◌, ℕ, zero, suc, take, arith, sym, BoundsStorageGrowth, storage, Bool, List, length, Option, subst, IsMap, State, Call, CallFits, Reply, Value, Storage, StepByPath, stays_map, Contents, state, stored_state}
+use Rattle.prefix_trie_map.proofs.Prelude.{◌≡◌, ◌≤◌, ℕ, Bool, List, length, Option, subst, IsMap, State, Call, CallFits, Reply, Value, Storage, StepByPath, stays_map, Contents, state, stored_state}
 
 module _ {T : Type 0} where
   -- what holds of the table, by the key's bits, holds of the map, by the prefix's path
   pub by_key : (F : Contents T → List Bool → Type 0) {inside old : Contents T} {key path : List Bool} → inside ≡ old → key ≡ path → F inside key → F old path
   by_key F {inside} {old} {key} {path} same is fact = subst (λ m. F m path) same (subst (F inside) is fact)
-
-  -- the bound on how far the arrays may grow holds at the prefix's path too
-  pub bounds_growth_from : {inside old : Contents T} {path : List Bool} (new : Contents T) (len : ℕ) (key : List Bool) → inside ≡ old → take len key ≡ path
-      → (0 < len → BoundsStorageGrowth (storage inside) (storage new)) → 0 < length path → BoundsStorageGrowth (storage old) (storage new)
-  bounds_growth_from {inside} {old} {path} new len key same is bounds_growth some =
-      subst (λ m. BoundsStorageGrowth (storage m) (storage new)) same (bounds_growth (taken len key (subst (λ q. 0 < length q) (sym is) some)))
-    where
-      taken : (n : ℕ) (q : List Bool) → 0 < length (take n q) → 0 < n
-      taken zero q h = h
-      taken (suc n) q h = omega arith
 
   -- two replies that are one have one value
   pub one_value : (o p : Option T) → ◌≡◌ {A = Reply (List Bool) T} (Value o) (Value p) → o ≡ p

@@ -74,7 +74,7 @@ pub use Rattle.prefix_trie_bits.specs.Order.{listing-apart, listing-common, list
 pub use Rattle.prefix_trie_bits.specs.Places.{HoldsChildren, HoldsPlaces, HoldsValues, IsLongest, IsShortest, NoneBegins, Sets, has, is_before, is_in, place_of, places, stands, strings, value_bit}
 unfoldable pub use Rattle.prefix_trie_bits.specs.Places.{ones_below}
 pub use Rattle.prefix_trie_bits.specs.Walks.{to_come}
-pub use Rattle.prefix_trie_bits.specs.Windows.{IsRest, rest_behind, rest_front, rest_string, rest_whole, take-extend, window-of-front}
+pub use Rattle.prefix_trie_bits.specs.Windows.{take-extend, window-of-front}
 pub use Rattle.prefix_trie_bits.specs.declared.node.Place.{Place}
 pub use Rattle.prefix_trie_bits.specs.declared.node.Place.TheVariants.{Child, Value}
 pub use Rattle.prefix_trie_bits.specs.declared.node.Places.{Places}
@@ -103,10 +103,10 @@ unfoldable pub use Rattle.prefix_trie_table.specs.Locations.{seat_of}
 pub use Rattle.prefix_trie_table.specs.Losing.{LosesOne}
 pub use Rattle.prefix_trie_table.specs.Matching.{IsHeld, LackLastBit, LongestHeld, NoneHeld, SeatAt, ShortestHeld, cell_slot, holds_value, match_seat}
 pub use Rattle.prefix_trie_table.specs.OwnBlocks.{child_need, value_need}
-pub use Rattle.prefix_trie_table.specs.Removals.{ChildDropped, Drops, EntryRemoved, EntryTaken, GivesBack, GrowsBy, IsBare, IsStocked, AreAncestors, ShrinksList, MakesEntered, MakesFew, Pruned, PrunedTo, SameBlock, SameChildren, SameValues, StandsAtEnd, ValueTaken, more, none, slot_in}
+pub use Rattle.prefix_trie_table.specs.Removals.{AreAbove, ChildDropped, Drops, EntryRemoved, EntryTaken, GivesBack, GrowsBy, IsBare, IsStocked, AreAncestors, ShrinksList, MakesEntered, MakesFew, Pruned, PrunedTo, SameBlock, SameChildren, SameValues, StandsAtEnd, ValueTaken, more, none, slot_in}
 pub use Rattle.prefix_trie_table.specs.Retaining.{AsksUpTo, BlocksBetween, HasPlace, IsSite, PreservesBelow, MayAskAt, Needs, Retains, RetainsAll, RetainsIn, RetainsTo, Stays, is_at, is_at_some, is_under, is_under_some}
 pub use Rattle.prefix_trie_table.specs.Runs.{put_run, run, swap_runs}
-pub use Rattle.prefix_trie_table.specs.SearchPaths.{IsAlong, IsLast, ReadsAlong, slot_at}
+pub use Rattle.prefix_trie_table.specs.SearchPaths.{IsAlong, IsLast, IsOwn, ReadsAlong, slot_at}
 pub use Rattle.prefix_trie_table.specs.GrowthBounds.{BoundsNodeGrowth, BoundsGrowth, BoundsGrowthBy, child_headroom, headroom_if_any, headroom_of, of_any, smaller_sizes, value_headroom}
 unfoldable pub use Rattle.prefix_trie_table.specs.GrowthBounds.{headroom}
 pub use Rattle.prefix_trie_table.specs.Shape.{Contents, IsShapeOf, Shaped, Shaped-prop, same_shape, state, with_longest_at, with_match_at, with_stored_at, with_value_at}

@@ -1,9 +1,10 @@
 -- What the calls that remove values leave, by path. This project's own.
-use Rattle.std.specs.Prelude.{◌≡◌, ◌≢◌, ℕ, ◌+◌, ◌<◌, ◌≤◌, ◌⊎◌, true, false, List, [], ◌∷◌, ◌++◌, length, take, slice_index_or, Option, None, Some, is_some}
+use Rattle.std.specs.Prelude.{◌≡◌, ◌≢◌, ℕ, ◌+◌, ◌<◌, ◌≤◌, ◌⊎◌, Bool, true, false, List, [], ◌∷◌, ◌++◌, length, take, slice_index_or, Option, None, Some, is_some}
 use Rattle.prefix_trie_table.specs.declared.allocator.node.Node.{Node}
 use Rattle.prefix_trie_table.specs.declared.allocator.node.NodeSlot.{NodeSlot}
 use Rattle.prefix_trie_table.specs.Bitmaps.{rank}
 use Rattle.prefix_trie_table.specs.Cells.{node_sizes, cell_sizes}
+use Rattle.prefix_trie_table.specs.Digits.{chunks_of}
 use Rattle.prefix_trie_table.specs.Store.{Store, SameSpace, MakesNone, tier_sizes, free_in, made_in, free_counts}
 use Rattle.prefix_trie_bits.specs.Model.Blocks.{HasBlock, StepsDown, LongerByOne, MakesBlocks, MakesAtMost, made_of}
 use Rattle.prefix_trie_table.specs.Layouts.{own_children, child_block_size, value_block_size}
@@ -98,6 +99,11 @@ slot_in ancestors k = let s = slice_index_or ancestors k (record { start = 0; of
 abbrev pub AreAncestors : (List ℕ → Option Node) → List ℕ → List NodeSlot → ℕ → Type 0
 AreAncestors reading path ancestors level = (k : ℕ) → k < level → IsSlot reading (take k path) (slot_in ancestors k)
 
+-- these are the slots of the nodes on the search path of a bit string, above this level
+pub record AreAbove (q : List Bool) (level : ℕ) (ancestors : List NodeSlot) (v : Store Node) : Type 0 where
+  pub long : length ancestors ≡ level
+  pub slots : (reading : List ℕ → Option Node) (paths : List (List ℕ)) → NodesHold node_sizes reading paths v → AreAncestors reading (chunks_of q) ancestors level
+
 -- the child c of the node n at p, which has no children, is gone, and the node is m then
 pub record ChildDropped (reading : List ℕ → Option Node) (paths : List (List ℕ)) (p : List ℕ) (c : ℕ) (n m : Node) (before after : Store Node) : Type 0 where
   pub hold : NodesHold node_sizes (with_child_removed reading p m c) (without (p ++ c ∷ []) paths) after
@@ -139,11 +145,12 @@ pub record Pruned (reading : List ℕ → Option Node) (paths : List (List ℕ))
   pub stops : (level ≡ 0) ⊎ IsStocked node
 
 -- there is a node at the end of a search path, and these are the slots of the nodes above it
-pub record StandsAtEnd (path : List ℕ) (ancestors : List NodeSlot) (level : ℕ) (node : Node) (v : Store Node) : Type 0 where
+pub record StandsAtEnd (path : List ℕ) (ancestors : List NodeSlot) (node : Node) (v : Store Node) : Type 0 where
   pub reading : List ℕ → Option Node
   pub paths : List (List ℕ)
   pub hold : NodesHold node_sizes reading paths v
-  pub slots : AreAncestors reading path ancestors level
+  pub long : length ancestors ≡ length path
+  pub slots : AreAncestors reading path ancestors (length path)
   pub is : reading path ≡ Some node
 
 -- the value at bit b of the node with a path was removed, if there was one, and the path was

@@ -23,6 +23,12 @@ pub record IsLast (q : List Bool) (here : Reached) (v : Store Node) : Type 0 whe
   pub along : IsAlong q here v
   pub missing : 5 * here.level + 5 ≤ length q → has_bit here.node.child_bitmap (slice_index_or (chunks_of q) here.level 0) ≡ false
 
+-- it is the bit string's own
+pub record IsOwn (q : List Bool) (here : Reached) (v : Store Node) : Type 0 where
+  pub along : IsAlong q here v
+  pub last : here.level ≡ length (chunks_of q)
+  pub short : length q ≤ 128
+
 -- each node on the search path of a bit string was visited once
 abbrev pub ReadsAlong : List Bool → Store Node → ℕ → ℕ → Type 0
 ReadsAlong q v before after =

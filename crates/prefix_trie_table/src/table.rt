@@ -148,25 +148,23 @@ impl<T: Drop, A: Allocator + Clone, V: Tick> Table<T, A, V> {
     /// # Examples
     ///
     /// ```text
-    /// let part = table.remove_children(key, len, &mut counter)?;    // `table` has the other entries
+    /// let part = table.remove_children(path, &mut counter)?;    // `table` has the other entries
     /// ```
     pub fn remove_children<K: Key>(
         &mut self,
-        key: K,
-        len: u32,
+        path: BitString<K>,
         counter: &mut V,
     ) -> Result<Self, Refusal>
-        requires key { K.IsKey key }
-        requires long { len ≤ K.bit_width }
         requires within { AreWithin K.bit_width self.old.entries }
         requires nodes { AreNodes K.bit_width self.old.entries self.old.nodes }
-        ensures split_off { IfOk result (λ second. SplitsOffInStorage (stored_state self.old) (take len (K.bits key))
+        ensures split_off { IfOk result (λ second. SplitsOffInStorage (stored_state self.old) path
             (stored_state second) (stored_state self.new)) }
-        ensures bounds_growth { 0 < len → IfOk result (λ _. BoundsStorageGrowth (storage self.old) (storage self.new)) }
+        ensures bounds_growth { 0 < length path → IfOk result (λ _. BoundsStorageGrowth (storage self.old) (storage self.new)) }
         ensures kept { IfErr result (λ _. stored_state self.new ≡ stored_state self.old) }
         ensures memory { IfErr result (λ cause. cause ≡ Memory) }
     {
-        let (laid, vacant) = lay_part(&self.nodes, &self.cells, key, len, counter)?;
+        let (laid, vacant) = lay_part(&self.nodes, &self.cells, &path, counter)?;
+        let len = path.len();
         let before = self.count;
         let (nodes, cells) = move_part(
             &mut self.nodes,
@@ -174,8 +172,7 @@ impl<T: Drop, A: Allocator + Clone, V: Tick> Table<T, A, V> {
             &mut self.count,
             laid,
             vacant,
-            key,
-            len,
+            path,
             counter,
         );
         let second = Table {
@@ -330,8 +327,7 @@ impl<T: Drop, A: Allocator, V: Tick> Table<T, A, V> {
             &mut self.nodes,
             &mut self.cells,
             &mut self.count,
-            path.key(),
-            path.len(),
+            path,
             counter,
         )
     }
@@ -357,16 +353,14 @@ impl<T: Drop, A: Allocator, V: Tick> Table<T, A, V> {
     /// Then it prunes from the string's own node upward, as `remove` does. If that node is missing, nothing changes. At
     /// length 0 it is `clear`. It never fails. It reads the search path and the nodes that it removes.
     #[inline]
-    pub fn drop_children<K: Key>(&mut self, key: K, len: u32, counter: &mut V)
-        requires key { K.IsKey key }
-        requires long { len ≤ K.bit_width }
+    pub fn drop_children<K: Key>(&mut self, path: BitString<K>, counter: &mut V)
         requires within { AreWithin K.bit_width self.old.entries }
         requires nodes { AreNodes K.bit_width self.old.entries self.old.nodes }
-        ensures step { (width : ℕ) → StepByPath width (stored_state self.old) (RemoveChildren (take len (K.bits key))) Done
+        ensures step { (width : ℕ) → StepByPath width (stored_state self.old) (RemoveChildren path) Done
             (stored_state self.new) }
-        ensures bounds_growth { 0 < len → BoundsStorageGrowth (storage self.old) (storage self.new) }
+        ensures bounds_growth { 0 < length path → BoundsStorageGrowth (storage self.old) (storage self.new) }
     {
-        if len == 0 {
+        if path.len() == 0 {
             self.clear();
             return;
         }
@@ -375,8 +369,7 @@ impl<T: Drop, A: Allocator, V: Tick> Table<T, A, V> {
             &mut self.cells,
             &mut self.count,
             &mut KeepNothing,
-            key,
-            len,
+            path,
             counter,
         );
     }

@@ -8,7 +8,6 @@ ghost use Rattle.prefix_trie_bits.specs.Model.Storage.{StepByPath};
 ghost use Rattle.prefix_trie_table.specs.Steps.{BoundsStorageGrowth};
 ghost use Rattle.prefix_trie_map.specs.Steps.{storage, stored_state};
 
-use crate::map::parts::parts;
 use crate::map::{PrefixMap, Visits};
 use prefix_trie_bits::prefix::Prefix;
 use std::alloc::Allocator;
@@ -93,8 +92,8 @@ impl<P: Prefix, T: Drop, A: Allocator> PrefixMap<P, T, A> {
         ensures step { StepByPath P.R.bit_width (stored_state self.old) (RemoveChildren (P.path prefix.now)) Done (stored_state self.new) }
         ensures bounds_growth { 0 < length (P.path prefix.now) → BoundsStorageGrowth (storage self.old) (storage self.new) }
     {
-        let (key, len) = parts(prefix);
-        self.table.drop_children(key, len, &mut Visits::new());
+        self.table
+            .drop_children(prefix.path(), &mut Visits::new());
     }
 
     /// Removes all entries, and all nodes but the root.

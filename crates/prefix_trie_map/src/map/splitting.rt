@@ -7,7 +7,6 @@ ghost use Rattle.prefix_trie_bits.specs.Model.Nodes.{needed, nodes_without_below
 ghost use Rattle.prefix_trie_table.specs.Steps.{BoundsStorageGrowth};
 ghost use Rattle.prefix_trie_map.specs.Steps.{storage, stored_state};
 
-use crate::map::parts::parts;
 use crate::map::{PrefixMap, Visits};
 use prefix_trie_bits::prefix::{Prefix, Refusal};
 use std::alloc::Allocator;
@@ -49,8 +48,9 @@ impl<P: Prefix, T: Drop, A: Allocator + Clone> PrefixMap<P, T, A> {
         ensures unchanged { OnErr result (stored_state self.new ≡ stored_state self.old) }
         ensures only_memory { IfErr result (λ cause. cause ≡ Memory) }
     {
-        let (key, len) = parts(prefix);
-        let table = self.table.remove_children(key, len, &mut Visits::new())?;
+        let table = self
+            .table
+            .remove_children(prefix.path(), &mut Visits::new())?;
         Ok(PrefixMap {
             table,
             marker: PhantomData,

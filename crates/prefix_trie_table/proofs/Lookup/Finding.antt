@@ -57,7 +57,3 @@ module _ (b : List Bool) (len level slot : ℕ) (node : Node) (v : Store Node) (
   reached_own less =
       ap reading (sym (take_all level (chunks_of (take len b)) (omega (arith, steps-end b len level at.long at.whole less))))
       ∙ deepest_is reading paths v (chunks_of (take len b)) level slot hold (at.deepest reading paths hold) node at.node_is
-
-  -- the node of the string is not there
-  pub reached_none : 5 * level + 5 ≤ len → reading (chunks_of (take len b)) ≡ None
-  reached_none more = none_below reading paths v (chunks_of (take len b)) level hold reached_end (step-inside b len level at.long more)

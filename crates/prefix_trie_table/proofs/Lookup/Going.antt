@@ -1,7 +1,6 @@
 -- The descent along a bit string, as the code follows it on a key.
-use Rattle.prefix_trie_table.proofs.Prelude.{◌≡◌, ℕ, ◌+◌, ◌*◌, ◌/◌, ◌<◌, ◌≤◌, Bool, true, false, List, [], ◌∷◌, ◌++◌, length, get_or, take, drop, Option, Some, is_some, refl, sym, ap, ◌∙◌, subst, arith, take_more, number, window-of-front, has, ones_below, value_bit, Node, has_bit, rank, node_at, node_sizes, chunks_of, bit_of, Store, IsSlot, at_root, at_child, NodesHold, Deepest, IsEnd, has_child, node_or_blank}
+use Rattle.prefix_trie_table.proofs.Prelude.{◌≡◌, ℕ, ◌+◌, ◌*◌, ◌/◌, ◌<◌, ◌≤◌, Bool, true, false, List, [], ◌∷◌, ◌++◌, length, get_or, take, drop, Option, Some, is_some, refl, sym, ap, ◌∙◌, subst, arith, take_more, number, window-of-front, has, ones_below, value_bit, Node, has_bit, rank, node_at, node_sizes, chunks_of, bit_of, Store, IsSlot, at_root, at_child, NodesHold, Deepest, IsEnd, has_child, node_or_blank, ◌≢◌}
 use Rattle.std.proofs.lemmas.List.{length-take-le}
-use Rattle.prefix_trie_table.proofs.Strings.Bits.{has_bit-is, rank-ones}
 use Rattle.prefix_trie_table.proofs.Strings.Digits.{path-length, step-is, rest-is}
 use Rattle.prefix_trie_table.proofs.Tree.Trees.{slot_holds, is_some-Some}
 
@@ -70,28 +69,6 @@ module _ (reading : List ℕ → Option Node) (paths : List (List ℕ)) (v : Sto
         ap (λ p. is_some (reading p)) (take_more path depth 0 inside) ∙ hold.linked (take depth path) d ∙ ap (λ o. has_child o d) (deepest_is k read)
         ∙ missing inside;
   }
-
--- what holds during a descent
-pub record IsDown (path : List ℕ) (len level : ℕ) (node : Node) (slot : ℕ) (v : Store Node) : Type 0 where
-  pub whole : 5 * level ≤ len
-  pub node_is : node ≡ node_at v.slots slot
-  pub deepest : (reading : List ℕ → Option Node) (paths : List (List ℕ)) → NodesHold node_sizes reading paths v → Deepest reading path level slot v
-
-module _ (b : List Bool) (len level slot : ℕ) (node : Node) (v : Store Node) (within : len ≤ length b)
-    (down : IsDown (chunks_of (take len b)) len level node slot v) (x : ℕ) (small : x < 32) (read : x ≡ number (take 5 (drop (5 * level) b)))
-    (inside : 5 * level + 5 ≤ len) where
-  -- the bit of the next step in the node's bitmap
-  pub down_bit : has_bit node.child_bitmap (get_or (chunks_of (take len b)) level 0) ≡ has node.child_bitmap x
-  down_bit = ap (has_bit node.child_bitmap) (step-read b len level within x inside read) ∙ has_bit-is node.child_bitmap x small
-
-  -- one step more
-  pub down_more : (offset : ℕ) → has node.child_bitmap x ≡ true → offset ≡ ones_below x node.child_bitmap →
-      (reading : List ℕ → Option Node) (paths : List (List ℕ)) → NodesHold node_sizes reading paths v →
-      Deepest reading (chunks_of (take len b)) (level + 1) (node.child_block + offset) v
-  down_more offset bit place_is reading paths hold =
-      deepest_more reading paths v (chunks_of (take len b)) level slot hold (down.deepest reading paths hold) offset node
-      (step-inside b len level within inside) down.node_is (down_bit ∙ bit)
-      (place_is ∙ sym (rank-ones node.child_bitmap x (omega arith)) ∙ ap (rank node.child_bitmap) (sym (step-read b len level within x inside read)))
 
 -- ---- whole steps of a length
 

@@ -1,5 +1,5 @@
 -- The search path of a bit string, as `descend` follows it.
-use Rattle.prefix_trie_table.proofs.Prelude.{◌≡◌, ◌≢◌, ℕ, ◌+◌, ◌-◌, ◌*◌, ◌/◌, ◌<◌, ◌≤◌, Bool, true, false, List, length, length-drop, get_or, take, drop, Option, None, Some, sym, ap, ◌∙◌, subst, arith, number, has, value_bit, Node, has_bit, rank, node_sizes, chunks_of, bit_of, Store, Reached, IsSlot, IsNodeAt, Holds, child_slot, NodesHold, Deepest, IsEnd, has_value, IsSeat, Seat, value_seat, IsAlong, IsLast, ReadsAlong, slot_at}
+use Rattle.prefix_trie_table.proofs.Prelude.{◌≡◌, ◌≢◌, ℕ, ◌+◌, ◌-◌, ◌*◌, ◌/◌, ◌<◌, ◌≤◌, Bool, true, false, List, length, length-drop, get_or, take, drop, Option, None, Some, sym, ap, ◌∙◌, subst, arith, number, has, value_bit, Node, has_bit, rank, node_sizes, chunks_of, bit_of, Store, Reached, IsSlot, IsNodeAt, Holds, child_slot, NodesHold, Deepest, IsEnd, has_value, IsSeat, Seat, value_seat, IsAlong, IsLast, ReadsAlong, slot_at, refl, IsOwn}
 use Rattle.std.proofs.lemmas.List.{drop-drop, take_all}
 use Rattle.prefix_trie_table.proofs.Strings.Bits.{has_bit-is}
 use Rattle.prefix_trie_table.proofs.Strings.Digits.{path-length, step-is, rest-is}
@@ -62,14 +62,19 @@ pub followed_root : (q : List Bool) (here : Reached) (v : Store Node) → here.l
 followed_root q here v top along short before now met =
     record { along = along; rest_is = ap (λ n. drop (5 * n) q) (sym top); short = short; counted = omega (arith, top, met) }
 
+-- what is left one step further
+pub left_next : (q r : List Bool) (level next : ℕ) → r ≡ drop (5 * level) q → next ≡ level + 1 → drop 5 r ≡ drop (5 * next) q
+left_next q r level next left is =
+    let deeper : 5 * level + 5 ≡ 5 * next = omega (arith, is) in
+    ap (drop 5) left ∙ drop-drop 5 (5 * level) q ∙ ap (λ n. drop n q) deeper
+
 -- one step more
 pub followed_next : (q : List Bool) (here next : Reached) (v : Store Node) (r : List Bool) (before now after : ℕ) → IsFollowed q here v r before now
     → (next.level ≡ here.level + 1) × IsAlong q next v → after ≡ now + 1 → IsFollowed q next v (drop 5 r) before after
 followed_next q here next v r before now after at step met =
-    let deeper : 5 * here.level + 5 ≡ 5 * next.level = omega (arith, step.0) in
     record {
       along = step.1;
-      rest_is = ap (drop 5) at.rest_is ∙ drop-drop 5 (5 * here.level) q ∙ ap (λ n. drop n q) deeper;
+      rest_is = left_next q r here.level next.level at.rest_is step.0;
       short = at.short;
       counted = omega (arith, met, step.0, at.counted);
     }
@@ -148,3 +153,18 @@ no_value_at_end q here v at reading paths values w holds r left more =
 -- and as many nodes were visited as levels were passed
 pub path_read : (q : List Bool) (here : Reached) (v : Store Node) → IsLast q here v → (before after : ℕ) → after ≡ before + (here.level + 1) → ReadsAlong q v before after
 path_read q here v at before after visits reading paths hold = (here.level, path_end q here v at reading paths hold, visits)
+
+-- a string's own node was reached
+module _ (q : List Bool) (here : Reached) (v : Store Node) (at : IsOwn q here v) where
+  pub own_short : length (drop (5 * here.level) q) < 5
+  own_short = let last = at.last in omega (arith, last, path-length q, length-drop (5 * here.level) q)
+
+  pub own_last : IsLast q here v
+  own_last = record { along = at.along; missing = λ more. absurd (let last = at.last in omega (arith, last, path-length q, more)) }
+
+  module _ (reading : List ℕ → Option Node) (paths : List (List ℕ)) (hold : NodesHold node_sizes reading paths v) where
+    pub own_node : reading (chunks_of q) ≡ Some here.node
+    own_node = path_own q here v own_last reading paths hold (drop (5 * here.level) q) refl own_short
+
+    pub own_slot : IsSlot reading (chunks_of q) (slot_at here)
+    own_slot = path_slot q here v own_last reading paths hold (drop (5 * here.level) q) refl own_short

@@ -1,12 +1,11 @@
 -- The nodes of a table have as many values as it has entries.
-use Rattle.prefix_trie_table.proofs.Prelude.{◌≡◌, ℕ, ◌+◌, ◌/◌, ◌%◌, ◌<◌, Bool, true, false, cond, ◌&&◌, nat_lt, List, [], ◌∷◌, length, filter, sum_by, Option, is_some, refl, sym, ap, ◌∙◌, arith, ltb-true, eq-eqb, length-map, All-head, All-tail, All-map, All-weaker, All-contains_itself, sum_by-cons, contains_key, keys, len, len-entries, entries, entries_sorted, get-entries, begins, same_bool, Entries, and-first, and-second, and-join, find-from_Contains, Node, node_sizes, chunks_of, bit_of, same_path, one_if, times, own_count, entry_count, Holds, Store, IsShapeOf, State, own_home, home-begins, home-depth, home-length, home}
+use Rattle.prefix_trie_table.proofs.Prelude.{◌≡◌, ℕ, ◌+◌, ◌%◌, ◌<◌, Bool, true, false, cond, ◌&&◌, nat_lt, List, [], ◌∷◌, length, filter, sum_by, Option, is_some, refl, sym, ap, ◌∙◌, arith, ltb-true, eq-eqb, length-map, All-head, All-tail, All-map, All-weaker, All-contains_itself, sum_by-cons, contains_key, keys, len, len-entries, entries, entries_sorted, get-entries, begins, same_bool, Entries, and-first, and-second, and-join, find-from_Contains, Node, node_sizes, chunks_of, bit_of, same_path, one_if, times, own_count, entry_count, Holds, Store, IsShapeOf, State, own_home, home-begins, home-depth, home-length, home}
 use Rattle.std.proofs.lemmas.Bool.{lt-ltb}
-use Rattle.std.proofs.lemmas.List.{take_all}
 use Rattle.std.specs.List.{All, Contains}
 use Rattle.prefix_trie_table.proofs.Counts.EntryCounts.{count_sum}
+use Rattle.prefix_trie_table.proofs.Removal.NodesLeft.{home_path}
 use Rattle.prefix_trie_table.proofs.Removal.Stepped.{own_is}
 use Rattle.prefix_trie_table.proofs.Tree.Shapes.{shape_entries}
-use Rattle.prefix_trie_table.proofs.Strings.Digits.{path-length, path-take}
 use Rattle.prefix_trie_table.proofs.Strings.Keys.{same_above}
 use Rattle.prefix_trie_table.proofs.Strings.Paths.{same_path-equal, same_path-true}
 use Rattle.prefix_trie_table.proofs.Strings.PathStrings.{IsStep, string_at, string_depth, string_path, paths_steps}
@@ -34,9 +33,6 @@ all_listed paths [] each = none paths
     none [] = refl
     none (p ∷ ps) = omega (arith, sum_by-cons (at_path []) p ps, none ps)
 all_listed paths (k ∷ ks) each = omega (arith, one_more k ks paths, All-head (λ x. times (chunks_of x) paths ≡ 1) k ks each, all_listed paths ks (All-tail (λ x. times (chunks_of x) paths ≡ 1) k ks each))
-
-home_path : (k : List Bool) → chunks_of (home k) ≡ chunks_of k
-home_path k = path-take (length k / 5) k (omega arith) ∙ take_all (length k / 5) (chunks_of k) (omega (arith, path-length k))
 
 -- the strings of a node's own values are those whose chunks lead there
 own_way : (p : List ℕ) → All IsStep p → (k : List Bool) → (begins (string_at p) k && nat_lt (length k) (length (string_at p) + 5)) ≡ same_path (chunks_of k) p

@@ -1,13 +1,11 @@
 -- An entry removed, and what contracts see of it.
-use Rattle.prefix_trie_table.proofs.Prelude.{◌≡◌, ◌≢◌, ℕ, ◌+◌, ◌-◌, ◌*◌, ◌/◌, ◌<◌, ◌⊎◌, inl, inr, Bool, true, false, cond, ◌&&◌, List, [], ◌∷◌, ◌++◌, take, drop, Option, None, Some, is_some, refl, sym, ap, ap₂, ◌∙◌, subst, arith, false≢true, get, len, len-remove, listing_total, without_entry, is_node_depth, State, get-without_entry, value_bit, Node, has_bit, rank, cell_sizes, chunks_of, bit_of, Store, one_if, Holds, IsSlot, at_root, at_child, child_slot, node_or_blank, own_count, has_value, with_node, with_value, SomeTable, entry_count, ShrinksList, ValueTaken, EntryTaken, MakesEntered, IsShapeOf, Shaped, same_shape, IsReached, IsTable, Grows, ForHeld, own_children, child_block_size}
-use Rattle.std.proofs.lemmas.List.{take_all}
+use Rattle.prefix_trie_table.proofs.Prelude.{◌≡◌, ◌≢◌, ℕ, ◌+◌, ◌-◌, ◌*◌, ◌<◌, ◌⊎◌, inl, inr, Bool, true, false, cond, ◌&&◌, List, [], ◌∷◌, ◌++◌, length, take, drop, Option, None, Some, is_some, refl, sym, ap, ap₂, ◌∙◌, subst, arith, false≢true, get, len, len-remove, listing_total, without_entry, is_node_depth, State, get-without_entry, value_bit, Node, NodeSlot, Reached, has_bit, rank, cell_sizes, chunks_of, bit_of, Store, one_if, Holds, IsSlot, at_root, at_child, child_slot, node_or_blank, own_count, has_value, with_node, with_value, SomeTable, entry_count, ShrinksList, ValueTaken, EntryTaken, AreAbove, StandsAtEnd, slot_in, MakesEntered, IsShapeOf, IsLast, Shaped, same_shape, slot_at, IsTable, Grows, ForHeld, own_children, child_block_size}
 use Rattle.prefix_trie_table.specs.OwnBlocks.{value_block_size}
 use Rattle.prefix_trie_table.proofs.Removal.ShrinkingLists.{shrinks_none, values_none, same_children}
 use Rattle.prefix_trie_table.proofs.Tree.Invariant.{some_table}
 use Rattle.prefix_trie_table.proofs.Tree.Children.{same_or, with_here, with_other}
 use Rattle.prefix_trie_table.proofs.Counts.EntryCounts.{count_with_node}
-use Rattle.prefix_trie_table.proofs.Lookup.Finding.{reached_own}
-use Rattle.prefix_trie_table.proofs.Lookup.Going.{level_last, steps-all, bit-read-last}
+use Rattle.prefix_trie_table.proofs.Lookup.SearchPaths.{own_bit, path_own, path_slot}
 use Rattle.prefix_trie_table.proofs.Tree.Trees.{is_none-None}
 use Rattle.prefix_trie_table.proofs.Strings.Keys.{same_key}
 use Rattle.prefix_trie_table.proofs.Strings.Paths.{same_path-equal, same_path-not, snoc_inj}
@@ -171,49 +169,28 @@ module _ {T : Type 0} (key : List Bool) (v v2 : Store Node) (w w2 : Store (Optio
       left_without _ (shape_taken t.reading t.values t.paths v w t.holds key v2 w2 s.0 s.1 a) refl
       (record { reading = a.later; values = with_value t.values (chunks_of key) (bit_of key) None; paths = t.paths; holds = a.holds }, a.counted)
 
--- a string's own node was reached, and x is the string's value bit
-module _ {T : Type 0} (b : List Bool) (len slot : ℕ) (node : Node) (v : Store Node) (at : IsReached b len (len / 5) node slot v) (x : ℕ)
-    (read : x ≡ value_bit (drop (len / 5 * 5) (take len b))) (reading : List ℕ → Option Node) (paths : List (List ℕ))
-    (values : List ℕ → ℕ → Option T) (w : Store (Option T)) (holds : Holds reading values paths v w) where
-  last : len < 5 * (len / 5) + 5
-  last = level_last (len / 5) len refl
+-- the value of a string's own node is taken, if there is one
+module _ {T : Type 0} (q rest : List Bool) (here : Reached) (v : Store Node) (at : IsLast q here v) (left : rest ≡ drop (5 * here.level) q) (short : length rest < 5) (x : ℕ) (read : x ≡ value_bit rest)
+    (w : Store (Option T)) (removed : Option T) (m : Node) (v2 : Store Node) (w2 : Store (Option T))
+    (taken : ForHeld v w (λ reading paths values. (p : List ℕ) → IsSlot reading p (slot_at here) → reading p ≡ Some here.node →
+    (removed ≡ values p x) × ((t : EntryTaken reading paths values p x v2 w w2) × (t.later p ≡ Some m)))) where
+  pub own_taken : ForHeld v w (λ reading paths values.
+      (removed ≡ values (chunks_of q) (bit_of q)) × ((t : EntryTaken reading paths values (chunks_of q) (bit_of q) v2 w w2) × (t.later (chunks_of q) ≡ Some m)))
+  own_taken reading paths values holds =
+      rw (own_bit q here v at.along rest left short x read)
+      (taken reading paths values holds (chunks_of q) (path_slot q here v at reading paths holds.hold rest left short) (path_own q here v at reading paths holds.hold rest left short))
 
-  own_node : reading (chunks_of (take len b)) ≡ Some node
-  own_node = reached_own b len (len / 5) slot node v at reading paths holds.hold last
-
-  own_slot : IsSlot reading (chunks_of (take len b)) slot
-  own_slot = subst (λ p. IsSlot reading p slot) (take_all (len / 5) (chunks_of (take len b)) (omega (arith, steps-all b len at.long)))
-      (at.deepest reading paths holds.hold).stands
-
-  own_bit : bit_of (take len b) ≡ x
-  own_bit = bit-read-last b len at.long x read
-
-  own_is : is_some (values (chunks_of (take len b)) (bit_of (take len b))) ≡ has_bit node.value_bitmap x
-  own_is =
-      holds.cells.set_where (chunks_of (take len b)) (bit_of (take len b)) ∙ ap (λ o. has_value o (bit_of (take len b))) own_node
-      ∙ ap (has_bit node.value_bitmap) own_bit
-
-  -- if the bit is clear there is no value, and nothing is removed
-  pub none_there : has_bit node.value_bitmap x ≡ false → values (chunks_of (take len b)) (bit_of (take len b)) ≡ None
-  none_there clear = is_none-None (values (chunks_of (take len b)) (bit_of (take len b))) (own_is ∙ clear)
-
-  pub none_taken : has_bit node.value_bitmap x ≡ false →
-      (t : EntryTaken reading paths values (chunks_of (take len b)) (bit_of (take len b)) v w w) × (t.later (chunks_of (take len b)) ≡ Some node)
-  unfolding nothing_taken
-  none_taken clear = (nothing_taken reading values paths v w holds (chunks_of (take len b)) (bit_of (take len b)) (none_there clear), own_node)
-
-  -- if it is set, the node loses the string's value
-  module _ (removed : Option T) (m : Node) (v2 : Store Node) (w2 : Store (Option T)) (there : has_bit node.value_bitmap x ≡ true) where
-    pub some_there : is_some (values (chunks_of (take len b)) (bit_of (take len b))) ≡ true
-    some_there = own_is ∙ there
-
-    pub value_there : ((n : Node) → IsSlot reading (chunks_of (take len b)) slot → reading (chunks_of (take len b)) ≡ Some n →
-        removed ≡ values (chunks_of (take len b)) x) → removed ≡ values (chunks_of (take len b)) (bit_of (take len b))
-    value_there e = e node own_slot own_node ∙ ap (values (chunks_of (take len b))) (sym own_bit)
-
-    pub entry_taken : ((n : Node) → IsSlot reading (chunks_of (take len b)) slot → reading (chunks_of (take len b)) ≡ Some n →
-        ValueTaken reading paths values (chunks_of (take len b)) x n m v2 w w2) →
-        (t : EntryTaken reading paths values (chunks_of (take len b)) (bit_of (take len b)) v2 w w2) × (t.later (chunks_of (take len b)) ≡ Some m)
-    entry_taken taken =
-        value_taken reading values paths v w holds (chunks_of (take len b)) (bit_of (take len b)) node m v2 w2 own_node some_there
-        (subst (λ i. ValueTaken reading paths values (chunks_of (take len b)) i node m v2 w w2) (sym own_bit) (taken node own_slot own_node))
+  -- that is at the end of the search path then
+  module _ (last : here.level ≡ length (chunks_of q)) (ancestors items : List NodeSlot) (same : ancestors ≡ items) (above : AreAbove q here.level items v)
+      (reading : List ℕ → Option Node) (paths : List (List ℕ)) (values : List ℕ → ℕ → Option T) (holds : Holds reading values paths v w) where
+    abbrev pub own_end : StandsAtEnd (chunks_of q) ancestors m v2
+    own_end = record {
+      reading = (own_taken reading paths values holds).1.0.later;
+      paths = paths;
+      hold = (own_taken reading paths values holds).1.0.holds.hold;
+      long = ap (λ (xs : List NodeSlot). length xs) same ∙ above.long ∙ last;
+      slots = λ k low.
+          subst (λ xs. IsSlot (own_taken reading paths values holds).1.0.later (take k (chunks_of q)) (slot_in xs k)) (sym same)
+          ((own_taken reading paths values holds).1.0.stands _ _ (above.slots reading paths holds.hold k (omega (arith, low, last))));
+      is = (own_taken reading paths values holds).1.1;
+    }

@@ -1,17 +1,17 @@
 -- What is left of a table after everything under a bit string is removed.
-use Rattle.prefix_trie_table.proofs.Prelude.{◌≡◌, ◌↔◌, ℕ, ◌+◌, ◌*◌, ◌/◌, ◌≤◌, Bool, true, false, not, ◌||◌, List, [], ◌∷◌, ◌++◌, cond, length, take, drop, Option, None, Some, is_some, refl, sym, ap, ◌∙◌, subst, arith, inl, inr, bit_and, take-take, get, get-empty, begins, same_string, HoldsValues, HoldsChildren, is_in, places, PruningLaws, CallableOnEachEntry, Entries, AreWithin, no_entries, without_entry, without_below, Nodes, AreNodes, has_node, home, pruned, root_alone, nodes_not_below, nodes_without, nodes_without_below, listing_at_places, listing_below, State, and-first, and-second, get-without_below, has-retained, has-root_alone, same_entries, same_nodes, same_string-is, begins-nil, pruning_laws, removed_fewer, Node, NodeSlot, node_sizes, chunks_of, bit_of, Store, read, Holds, NodesHold, IsSlot, EntryTaken, EntryRemoved, Pruned, AreAncestors, StandsAtEnd, slot_in, BoundsNodeGrowth, Contents, state, Shaped, ForHeld, Grows, IsReached, IsTable, IsTrie, BlocksBetween, IsSite, PreservesBelow, Retains, RetainsTo}
-use Rattle.std.proofs.lemmas.List.{take_all, take-append-drop, length-take-le}
+use Rattle.prefix_trie_table.proofs.Prelude.{◌≡◌, ◌↔◌, ℕ, ◌*◌, ◌<◌, ◌≤◌, Bool, true, false, not, ◌||◌, List, [], ◌∷◌, ◌++◌, cond, length, take, drop, Option, None, Some, is_some, refl, sym, ap, ◌∙◌, subst, arith, inl, inr, bit_and, take-take, get, get-empty, begins, same_string, HoldsValues, HoldsChildren, is_in, places, PruningLaws, CallableOnEachEntry, Entries, AreWithin, no_entries, without_entry, without_below, Nodes, AreNodes, has_node, home, pruned, root_alone, nodes_not_below, nodes_without, nodes_without_below, listing_at_places, listing_below, State, and-first, and-second, get-without_below, has-retained, has-root_alone, same_entries, same_nodes, same_string-is, begins-nil, pruning_laws, removed_fewer, Node, NodeSlot, Reached, node_sizes, chunks_of, bit_of, Store, read, slot_at, Holds, NodesHold, IsOwn, IsSlot, EntryTaken, EntryRemoved, Pruned, AreAbove, AreAncestors, StandsAtEnd, slot_in, BoundsNodeGrowth, Contents, state, Shaped, ForHeld, Grows, IsTable, IsTrie, BlocksBetween, IsSite, PreservesBelow, Retains, RetainsTo}
+use Rattle.std.proofs.lemmas.List.{take-append-drop, length-take-le}
 use Rattle.std.specs.List.{Contains}
+use Rattle.prefix_trie_table.specs.Retaining.{SaysNo}
 use Rattle.prefix_trie_table.proofs.Tree.Invariant.{some_table}
 use Rattle.prefix_trie_table.proofs.Removal.Between.{blocks_then, pruned_between, stays_grown, stays_then}
 use Rattle.prefix_trie_table.proofs.Tree.Children.{same_or}
-use Rattle.prefix_trie_table.proofs.Strings.Digits.{path-take}
+use Rattle.prefix_trie_table.proofs.Strings.Digits.{path-length}
 use Rattle.prefix_trie_table.proofs.Removal.OneEntry.{nothing_taken}
-use Rattle.prefix_trie_table.proofs.Removal.AllBelow.{AreBelow, emptied, no_node_there, home_stands, own_gone, removed_alike, pruned_alike}
+use Rattle.prefix_trie_table.proofs.Removal.AllBelow.{covers_below, emptied, no_node_there, home_stands, own_gone, removed_alike, pruned_alike}
 use Rattle.prefix_trie_table.proofs.Removal.Listed.{listed_below, none_listed}
-use Rattle.prefix_trie_table.proofs.Lookup.Finding.{reached_own}
-use Rattle.prefix_trie_table.proofs.Lookup.Going.{level_last, steps-all}
-use Rattle.prefix_trie_table.proofs.Removal.NodesLeft.{removed_without}
+use Rattle.prefix_trie_table.proofs.Lookup.SearchPaths.{own_node, own_slot}
+use Rattle.prefix_trie_table.proofs.Removal.NodesLeft.{home_path, removed_without}
 use Rattle.prefix_trie_table.proofs.Retain.Retained.{read_held}
 use Rattle.prefix_trie_table.proofs.Removal.Pruning.{slot_stays}
 use Rattle.prefix_trie_table.proofs.Insertion.Spaces.{Grows-same}
@@ -19,76 +19,61 @@ use Rattle.prefix_trie_table.proofs.Removal.GrowthBounds.{bounds_growth_nodes, b
 use Rattle.prefix_trie_table.proofs.Tree.Shapes.{reads_node, shape_entries}
 use Rattle.prefix_trie_table.proofs.Tree.Trees.{reads}
 
--- ---- the home of a bit string
-
-five_times : (n : ℕ) → n * 5 ≡ 5 * n
-five_times n = omega arith
-
-fifth_low : (len : ℕ) → len / 5 * 5 ≤ len
-fifth_low len = omega arith
-
-module _ (b : List Bool) (len : ℕ) (within : len ≤ length b) where
-  home_take : home (take len b) ≡ take (len / 5 * 5) (take len b)
-  home_take = ap (λ n. take (5 * (n / 5)) (take len b)) (length-take-le len b within) ∙ ap (λ n. take n (take len b)) (sym (five_times (len / 5)))
-
-  -- the home of the first bits of a key is the first whole steps of the key
-  pub home_is : home (take len b) ≡ take (len / 5 * 5) b
-  home_is = home_take ∙ take-take (len / 5 * 5) len b (fifth_low len)
-
-  -- and the other bits are those after it
-  pub home_rest : take len b ≡ home (take len b) ++ drop (len / 5 * 5) (take len b)
-  home_rest = sym (ap (λ h. h ++ drop (len / 5 * 5) (take len b)) home_take ∙ take-append-drop (len / 5 * 5) (take len b))
-
-  -- and has the steps that the bits have
-  pub home_steps : chunks_of (take (len / 5 * 5) b) ≡ chunks_of (take len b)
-  home_steps =
-      sym (ap chunks_of (take-take (len / 5 * 5) len b (fifth_low len)))
-      ∙ ap (λ n. chunks_of (take n (take len b))) (five_times (len / 5))
-      ∙ path-take (len / 5) (take len b) (let l = length-take-le len b within in omega (arith, l))
-      ∙ take_all (len / 5) (chunks_of (take len b)) (let l = steps-all b len within in omega (arith, l))
-
-  pub home_ancestors : chunks_of (home (take len b)) ≡ chunks_of (take len b)
-  home_ancestors = ap chunks_of home_is ∙ home_steps
-
 -- ---- the node where the search ends
 
-module _ {K T : Type 0} (IsKey : K → Type 0) (bits : K → List Bool) (width : ℕ) (key : K) (is_key : IsKey key) (long : length (bits key) ≡ width) (len : ℕ)
-    (v : Store Node) (n : Node) (at : NodeSlot) (reached : IsReached (bits key) len (len / 5) n (at.start + at.offset) v)
-    (count : ℕ) (w : Store (Option T)) (s : State T) (trie : IsTrie width count v w s) where
+module _ {K T : Type 0} (IsKey : K → Type 0) (bits : K → List Bool) (width : ℕ) (key : K) (is_key : IsKey key) (q : List Bool) (begun : take (length q) (bits key) ≡ q)
+    (short : length q ≤ width) (here : Reached) (v : Store Node) (own : IsOwn q here v) (count : ℕ) (w : Store (Option T)) (s : State T) (trie : IsTrie width count v w s) where
+  -- the home of the string is the first whole steps of the key
+  home_key : home q ≡ take (5 * here.level) (bits key)
+  home_key =
+      ap (λ n. take (5 * n) q) (sym (own.last ∙ path-length q)) ∙ ap (take (5 * here.level)) (sym begun)
+      ∙ take-take (5 * here.level) (length q) (bits key) own.along.whole
+
+  pub home_steps : chunks_of (take (5 * here.level) (bits key)) ≡ chunks_of q
+  home_steps = ap chunks_of (sym home_key) ∙ home_path q
+
   read_table : Holds (read v.slots) trie.table.values trie.table.paths v w
   read_table =
       let t = some_table trie.table in
       read_held t.reading t.values t.paths v w t.holds
 
-  pub reached_site : IsSite IsKey bits width v (record { slot = at; key = key; depth = len / 5 * 5 }) n
-  reached_site =
-      let long_key = reached.long in
-      record {
-        key = is_key;
-        level = len / 5;
-        depth_is = five_times (len / 5);
-        within = (let l = fifth_low len in omega (arith, l, long_key, long));
-        stands =
-            ap (read v.slots) (home_steps (bits key) len long_key)
-            ∙ reached_own (bits key) len (len / 5) (at.start + at.offset) n v reached (read v.slots) trie.table.paths read_table.hold (level_last (len / 5) len refl);
-        slot_is =
-            subst (λ p. IsSlot (read v.slots) p (at.start + at.offset))
-            (take_all (len / 5) (chunks_of (take len (bits key))) (let l = steps-all (bits key) len long_key in omega (arith, l)) ∙ sym (home_steps (bits key) len long_key))
-            (reached.deepest (read v.slots) trie.table.paths read_table.hold).stands;
-      }
+  stands : read v.slots (chunks_of q) ≡ Some here.node
+  stands = own_node q here v own (read v.slots) trie.table.paths read_table.hold
 
-  -- the places of that node that the two masks for the string's end leave list what is below it
-  module _ (values children : ℕ) (holds_values : HoldsValues values (begins (drop (len / 5 * 5) (take len (bits key)))))
-      (holds_children : HoldsChildren children (begins (drop (len / 5 * 5) (take len (bits key))))) (ts : List (List Bool))
-      (each : (u : List Bool) → Contains ts u ↔ ((length u ≤ 5) × (is_in (bit_and n.value_bitmap values) (bit_and n.child_bitmap children) u ≡ true)))
-      (all : ts ≡ places (bit_and n.value_bitmap values) (bit_and n.child_bitmap children)) where
-    pub part_listed : listing_at_places s.entries (take (len / 5 * 5) (bits key)) ts ≡ listing_below s.entries (take len (bits key))
-    part_listed =
-        let long_key = reached.long in
-        ap (λ p. listing_at_places s.entries p ts) (sym (home_is (bits key) len long_key))
-        ∙ listed_below width count v w s trie (take len (bits key)) (drop (len / 5 * 5) (take len (bits key))) (home_rest (bits key) len long_key) n
-        (ap (λ p. read v.slots (chunks_of p)) (home_is (bits key) len long_key) ∙ reached_site.stands)
-        values children holds_values holds_children ts each all
+  pub own_site : IsSite IsKey bits width v (record { slot = here.at; key = key; depth = 5 * here.level }) here.node
+  own_site = record {
+    key = is_key;
+    level = here.level;
+    depth_is = refl;
+    within = (let whole = own.along.whole in omega (arith, whole, short));
+    stands = ap (read v.slots) home_steps ∙ stands;
+    slot_is = subst (λ p. IsSlot (read v.slots) p (slot_at here)) (sym home_steps) (own_slot q here v own (read v.slots) trie.table.paths read_table.hold);
+  }
+
+  -- the places of that node that the two masks for what is left of the string leave are those below it
+  module _ (rest : List Bool) (left : rest ≡ drop (5 * here.level) q) (values children : ℕ) (holds_values : HoldsValues values (begins rest)) (holds_children : HoldsChildren children (begins rest))
+      (ts : List (List Bool)) (each : (u : List Bool) → Contains ts u ↔ ((length u ≤ 5) × (is_in (bit_and here.node.value_bitmap values) (bit_and here.node.child_bitmap children) u ≡ true))) where
+    home_rest : q ≡ home q ++ rest
+    home_rest = sym ((λ i. take (5 * (sym (own.last ∙ path-length q) i)) q ++ left i) ∙ take-append-drop (5 * here.level) q)
+
+    home_read : read v.slots (chunks_of (home q)) ≡ Some here.node
+    home_read = ap (read v.slots) (home_path q) ∙ stands
+
+    -- they list what is there
+    pub part_listed : ts ≡ places (bit_and here.node.value_bitmap values) (bit_and here.node.child_bitmap children) →
+        listing_at_places s.entries (take (5 * here.level) (bits key)) ts ≡ listing_below s.entries q
+    part_listed all =
+        ap (λ p. listing_at_places s.entries p ts) (sym home_key)
+        ∙ listed_below width count v w s trie q rest home_rest here.node home_read values children holds_values holds_children ts each all
+
+    -- and nothing else goes when they are emptied
+    pub part_emptied : {F : Type 0} (asks : F → List Bool → T → Bool → F → Type 0) → SaysNo asks → (accepts : F → List Bool → T → Type 0) (f g : F) (count2 : ℕ) (v2 : Store Node) (w2 : Store (Option T)) →
+        RetainsTo asks accepts width (take (5 * here.level) (bits key)) ts f s g count2 v2 w2 →
+        IsTrie width count2 v2 w2 (record { entries = without_below s.entries q; nodes = nodes_not_below s.nodes q })
+    part_emptied asks says_no accepts f g count2 v2 w2 to =
+        let are = covers_below width count v w s trie q rest home_rest here.node home_read values children holds_values holds_children ts each in
+        let left = emptied asks says_no accepts q ts f g s to.after (subst (λ p. Retains asks accepts p ts f s g to.after) (sym home_key) to.retains) are in
+        subst (λ (x : State T). IsTrie width count2 v2 w2 x) (λ i. record { entries = left.entries i; nodes = left.nodes i }) to.trie
 
 -- ---- a test that may always be called
 
@@ -96,18 +81,6 @@ pub may_ask_all : {F T : Type 0} (asks : F → List Bool → T → Bool → F �
     ((f : F) (k : List Bool) (x : T) → accepts f k x) → (f : F) (es : List (List Bool × T)) → CallableOnEachEntry asks accepts f es
 may_ask_all asks accepts all f [] = tt
 may_ask_all asks accepts all f (e ∷ es) = (all f e.0 e.1, λ b g asked. may_ask_all asks accepts all g es)
-
--- ---- the places of the node that a string begins, emptied
-
-module _ {F T : Type 0} (asks : F → List Bool → T → Bool → F → Type 0) (no : (f : F) (k : List Bool) (x : T) (b : Bool) (g : F) → asks f k x b g → b ≡ false)
-    (accepts : F → List Bool → T → Type 0) (width : ℕ) (b : List Bool) (len : ℕ) (within : len ≤ length b) (ts : List (List Bool)) (s : State T)
-    (are : AreBelow (take len b) ts s) where
-  pub part_emptied : (f g : F) (count : ℕ) (v : Store Node) (w : Store (Option T)) → RetainsTo asks accepts width (take (len / 5 * 5) b) ts f s g count v w →
-      IsTrie width count v w (record { entries = without_below s.entries (take len b); nodes = nodes_not_below s.nodes (take len b) })
-  part_emptied f g count v w to =
-      let left = emptied asks no accepts (take len b) ts f g s to.after
-      (subst (λ p. Retains asks accepts p ts f s g to.after) (sym (home_is b len within)) to.retains) are in
-      subst (λ (x : State T). IsTrie width count v w x) (λ i. record { entries = left.entries i; nodes = left.nodes i }) to.trie
 
 -- ---- the path pruned if there is no value at its end
 
@@ -153,86 +126,84 @@ module _ {T : Type 0} (width : ℕ) (q : List Bool) (v v2 : Store Node) (w : Sto
 
 -- ---- the whole
 
-module _ {T : Type 0} (width : ℕ) (b : List Bool) (len : ℕ) (within : len ≤ length b) (v v2 : Store Node) (w w2 : Store (Option T)) (count count2 : ℕ) (s : State T)
-    (trie : IsTrie width count v w s)
-    (emptied : IsTrie width count2 v2 w2 (record { entries = without_below s.entries (take len b); nodes = nodes_not_below s.nodes (take len b) }))
-    (preserves : PreservesBelow (len / 5) v v2 w w2) (ancestors : List NodeSlot)
-    (found : (reading : List ℕ → Option Node) (paths : List (List ℕ)) → NodesHold node_sizes reading paths v → AreAncestors reading (chunks_of (take len b)) ancestors (len / 5))
-    (n : Node) (is : read v2.slots (chunks_of (take len b)) ≡ Some n) where
+module _ {T : Type 0} (width : ℕ) (q : List Bool) (v v2 : Store Node) (w w2 : Store (Option T)) (count count2 : ℕ) (s : State T) (trie : IsTrie width count v w s)
+    (emptied : IsTrie width count2 v2 w2 (record { entries = without_below s.entries q; nodes = nodes_not_below s.nodes q })) (level : ℕ) (last : level ≡ length (chunks_of q))
+    (preserves : PreservesBelow level v v2 w w2) (ancestors items : List NodeSlot) (same : ancestors ≡ items) (above : AreAbove q level items v) (n : Node)
+    (is : read v2.slots (chunks_of q) ≡ Some n) where
   -- the nodes on the path are unchanged
-  ancestors_left : AreAncestors (read v2.slots) (chunks_of (take len b)) ancestors (len / 5)
+  pub ancestors_left : AreAncestors (read v2.slots) (chunks_of q) ancestors (length (chunks_of q))
   ancestors_left k low =
       let t = some_table trie.table in
-      slot_stays (read v.slots) (read v2.slots) (take k (chunks_of (take len b))) (slot_in ancestors k)
-      (λ p less.
-      let l = steps-all b len within in
-      let m = length-take-le k (chunks_of (take len b)) (omega (arith, l, low)) in
-      preserves.above p (omega (arith, m, less, low)))
-      (found (read v.slots) t.paths (read_held t.reading t.values t.paths v w t.holds).hold k low)
+      let high : k < level = omega (arith, low, last) in
+      subst (λ xs. IsSlot (read v2.slots) (take k (chunks_of q)) (slot_in xs k)) (sym same)
+      (slot_stays (read v.slots) (read v2.slots) (take k (chunks_of q)) (slot_in items k)
+      (λ p less. let m = length-take-le k (chunks_of q) (omega (arith, low)) in preserves.above p (omega (arith, m, less, high)))
+      (above.slots (read v.slots) t.paths (read_held t.reading t.values t.paths v w t.holds).hold k high))
 
-  pub end_left : StandsAtEnd (chunks_of (take len b)) ancestors (len / 5) n v2
-  end_left =
-      let t = some_table emptied.table in
-      record { reading = read v2.slots; paths = t.paths; hold = (read_held t.reading t.values t.paths v2 w2 t.holds).hold; slots = ancestors_left; is = is }
+  abbrev pub end_left : (paths : List (List ℕ)) → NodesHold node_sizes (read v2.slots) paths v2 → StandsAtEnd (chunks_of q) ancestors n v2
+  end_left paths hold = record {
+    reading = read v2.slots;
+    paths = paths;
+    hold = hold;
+    long = ap (λ (xs : List NodeSlot). length xs) same ∙ above.long ∙ last;
+    slots = ancestors_left;
+    is = is;
+  }
+
+  pub held : NodesHold node_sizes (read v2.slots) emptied.table.paths v2
+  held = let t = some_table emptied.table in (read_held t.reading t.values t.paths v2 w2 t.holds).hold
+
+  abbrev pub some_end : StandsAtEnd (chunks_of q) ancestors n v2
+  some_end = end_left emptied.table.paths held
 
   -- the node of the string was there
-  home_stood : has_node s.nodes (home (take len b)) ≡ true
+  home_stood : has_node s.nodes (home q) ≡ true
   home_stood =
-      let q = take len b in
-      let left = home_stands width count2 v2 w2 _ q n emptied (ap (λ p. read v2.slots p) (home_ancestors b len within) ∙ is) in
+      let left = home_stands width count2 v2 w2 _ q n emptied (ap (read v2.slots) (home_path q) ∙ is) in
       and-second (not (begins q (home q)) || same_string (home q) (home q)) (has_node s.nodes (home q))
       (sym (has-retained s.nodes (λ u. not (begins q u) || same_string u (home q)) (home q)) ∙ left)
 
   -- after the path is pruned too
-  pub part_taken : (v3 : Store Node) → Grows v2 v3 24 →
-      ((reading : List ℕ → Option Node) (paths : List (List ℕ)) → NodesHold node_sizes reading paths v2 → AreAncestors reading (chunks_of (take len b)) ancestors (len / 5) →
-      reading (chunks_of (take len b)) ≡ Some n → Pruned reading paths (chunks_of (take len b)) v2 v3) →
-      IsTrie width count2 v3 w2 (record { entries = without_below s.entries (take len b); nodes = nodes_without_below s.nodes s.entries (take len b) })
-  part_taken v3 space prunes =
-      let entries = removed_alike s.entries (take len b) in
-      let nodes = pruned_alike s.entries s.nodes (take len b) home_stood in
-      subst (λ (x : State T). IsTrie width count2 v3 w2 x) (λ i. record { entries = entries i; nodes = nodes i })
-      (trie_pruned width (take len b) v2 v3 w2 count2
-      (record { entries = without_below s.entries (take len b); nodes = nodes_not_below s.nodes (take len b) }) emptied (ap is_some is) (own_gone s.entries (take len b))
-      (λ paths hold. prunes (read v2.slots) paths hold ancestors_left is) space)
+  module _ (v3 : Store Node) (space : Grows v2 v3 24) (prunes : (e : StandsAtEnd (chunks_of q) ancestors n v2) → Pruned e.reading e.paths (chunks_of q) v2 v3) where
+    pub part_taken : IsTrie width count2 v3 w2 (record { entries = without_below s.entries q; nodes = nodes_without_below s.nodes s.entries q })
+    part_taken =
+        let entries = removed_alike s.entries q in
+        let nodes = pruned_alike s.entries s.nodes q home_stood in
+        subst (λ (x : State T). IsTrie width count2 v3 w2 x) (λ i. record { entries = entries i; nodes = nodes i })
+        (trie_pruned width q v2 v3 w2 count2 (record { entries = without_below s.entries q; nodes = nodes_not_below s.nodes q }) emptied (ap is_some is) (own_gone s.entries q)
+        (λ paths hold. prunes (end_left paths hold)) space)
 
-  -- what that leaves of the arrays
-  pub part_preserved : (v3 : Store Node) → Grows v2 v3 24 → BoundsNodeGrowth v2 v3 →
-      ((reading : List ℕ → Option Node) (paths : List (List ℕ)) → NodesHold node_sizes reading paths v2 → AreAncestors reading (chunks_of (take len b)) ancestors (len / 5) →
-      reading (chunks_of (take len b)) ≡ Some n → Pruned reading paths (chunks_of (take len b)) v2 v3) → PreservesBelow 0 v v3 w w2
-  part_preserved v3 space bounds_growth prunes =
-      let t = some_table emptied.table in
-      let held = (read_held t.reading t.values t.paths v2 w2 t.holds).hold in
-      let pruned = prunes (read v2.slots) t.paths held ancestors_left is in
-      let later : (x : List ℕ) → read v3.slots x ≡ pruned.to.later x = λ x. reads node_sizes pruned.to.later pruned.to.left v3 pruned.to.hold x in
-      record {
-        above = λ p less. absurd (omega (arith, less));
-        nodes = stays_then v v2 v3 preserves.nodes (stays_grown v2 v3 24 space);
-        cells = preserves.cells;
-        bounds_growth = bounds_growth_then v v2 v3 _ _ _ preserves.bounds_growth (bounds_growth_nodes v2 v3 (length w2.slots) bounds_growth);
-        blocks = λ x. blocks_then _ _ _ (preserves.blocks x)
-            (subst (BlocksBetween (read v2.slots x)) (sym (later x))
-            (pruned_between (read v2.slots) t.paths (chunks_of (take len b)) pruned.level pruned.node v2 v3 pruned.to x));
-      }
+    -- what that leaves of the arrays
+    pub part_preserved : BoundsNodeGrowth v2 v3 → PreservesBelow 0 v v3 w w2
+    part_preserved bounds_growth =
+        let pruned = prunes some_end in
+        let later : (x : List ℕ) → read v3.slots x ≡ pruned.to.later x = λ x. reads node_sizes pruned.to.later pruned.to.left v3 pruned.to.hold x in
+        record {
+          above = λ p less. absurd (omega (arith, less));
+          nodes = stays_then v v2 v3 preserves.nodes (stays_grown v2 v3 24 space);
+          cells = preserves.cells;
+          bounds_growth = bounds_growth_then v v2 v3 _ _ _ preserves.bounds_growth (bounds_growth_nodes v2 v3 (length w2.slots) bounds_growth);
+          blocks = λ x. blocks_then _ _ _ (preserves.blocks x)
+              (subst (BlocksBetween (read v2.slots x)) (sym (later x))
+              (pruned_between (read v2.slots) emptied.table.paths (chunks_of q) pruned.level pruned.node v2 v3 pruned.to x));
+        }
 
 -- and if the node of the string is missing
-pub part_missing : {T : Type 0} (width : ℕ) (b : List Bool) (len : ℕ) → len ≤ length b → (v : Store Node) (w : Store (Option T)) (count : ℕ) (s : State T) → IsTrie width count v w s →
-    ((reading : List ℕ → Option Node) (paths : List (List ℕ)) → NodesHold node_sizes reading paths v → reading (chunks_of (take len b)) ≡ None) →
-    IsTrie width count v w (record { entries = without_below s.entries (take len b); nodes = nodes_without_below s.nodes s.entries (take len b) })
-part_missing {T} width b len within v w count s trie missing =
-    let t = some_table trie.table in
-    let none = missing (read v.slots) t.paths (read_held t.reading t.values t.paths v w t.holds).hold in
-    let same = no_node_there width count v w s (take len b) trie (ap (read v.slots) (home_ancestors b len within) ∙ none) in
-    subst (λ (x : State T). IsTrie width count v w x) (λ i. record { entries = sym same.0 i; nodes = sym same.1 i }) trie
+module _ {T : Type 0} (width : ℕ) (q : List Bool) (v : Store Node) (w : Store (Option T)) (count : ℕ) (s : State T) (trie : IsTrie width count v w s)
+    (missing : (reading : List ℕ → Option Node) (paths : List (List ℕ)) → NodesHold node_sizes reading paths v → reading (chunks_of q) ≡ None) where
+  none_read : read v.slots (chunks_of (home q)) ≡ None
+  none_read =
+      let t = some_table trie.table in
+      ap (read v.slots) (home_path q) ∙ missing (read v.slots) t.paths (read_held t.reading t.values t.paths v w t.holds).hold
 
--- there is nothing to list
-pub part_unlisted : {T : Type 0} (width : ℕ) (b : List Bool) (len : ℕ) → len ≤ length b → (v : Store Node) (w : Store (Option T)) (count : ℕ) (s : State T) → IsTrie width count v w s →
-    ((reading : List ℕ → Option Node) (paths : List (List ℕ)) → NodesHold node_sizes reading paths v → reading (chunks_of (take len b)) ≡ None) →
-    listing_below s.entries (take len b) ≡ []
-part_unlisted {T} width b len within v w count s trie missing =
-    let t = some_table trie.table in
-    let none = missing (read v.slots) t.paths (read_held t.reading t.values t.paths v w t.holds).hold in
-    none_listed width count v w s (take len b) trie (ap (read v.slots) (home_ancestors b len within) ∙ none)
+  pub part_missing : IsTrie width count v w (record { entries = without_below s.entries q; nodes = nodes_without_below s.nodes s.entries q })
+  part_missing =
+      let same = no_node_there width count v w s q trie none_read in
+      subst (λ (x : State T). IsTrie width count v w x) (λ i. record { entries = sym same.0 i; nodes = sym same.1 i }) trie
+
+  -- there is nothing to list
+  pub part_unlisted : listing_below s.entries q ≡ []
+  part_unlisted = none_listed width count v w s q trie none_read
 
 -- ---- what the empty string begins
 

@@ -1,5 +1,5 @@
 -- A search path pruned from its end upward.
-use Rattle.prefix_trie_table.proofs.Prelude.{◌≡◌, ◌≢◌, ℕ, ◌+◌, ◌<◌, ◌≤◌, inl, inr, true, List, [], ◌∷◌, ◌++◌, length, get_or, take, Option, None, Some, is_some, refl, sym, ap, ◌∙◌, subst, arith, length-append, false≢true, cases_lt, take_more, Node, NodeSlot, has_bit, rank, node_at, node_sizes, cell_sizes, Store, tier_sizes, free_counts, NodesHold, CellsHold, IsSlot, at_root, at_child, has_child, is_start, without, own_count, entry_count, with_child_removed, node_or_blank, ShrinksList, MakesEntered, MakesFew, SameValues, IsBare, AreAncestors, GivesBack, ChildDropped, Drops, none, more, PrunedTo, slot_in, LongerByOne, free_of, own_children, child_block_size}
+use Rattle.prefix_trie_table.proofs.Prelude.{◌≡◌, ◌≢◌, ℕ, ◌+◌, ◌<◌, ◌≤◌, inl, inr, true, List, [], ◌∷◌, ◌++◌, length, get_or, take, Option, None, Some, is_some, refl, sym, ap, ◌∙◌, subst, arith, length-append, false≢true, cases_lt, take_more, Node, NodeSlot, has_bit, rank, node_at, node_sizes, cell_sizes, Store, tier_sizes, free_counts, NodesHold, CellsHold, IsSlot, at_root, at_child, has_child, is_start, without, own_count, entry_count, with_child_removed, node_or_blank, ShrinksList, MakesEntered, MakesFew, SameValues, IsBare, AreAncestors, GivesBack, ChildDropped, Drops, none, more, PrunedTo, StandsAtEnd, slot_in, LongerByOne, free_of, own_children, child_block_size}
 use Rattle.std.proofs.lemmas.List.{take_all, length-take-le}
 use Rattle.prefix_trie_table.proofs.Removal.ShrinkingLists.{shrinks_none, children_none}
 use Rattle.prefix_trie_table.proofs.Strings.Bare.{no_bit}
@@ -30,27 +30,26 @@ pub record Pruning (reading : List ℕ → Option Node) (paths : List (List ℕ)
   pub slots : AreAncestors to.later path ancestors level
 
 -- at first nothing is pruned
-pub pruning_first : (reading : List ℕ → Option Node) (paths : List (List ℕ)) (path : List ℕ) (ancestors : List NodeSlot) (level : ℕ) (node : Node)
-    (v : Store Node) → NodesHold node_sizes reading paths v → AreAncestors reading path ancestors level → reading path ≡ Some node → level ≡ length path →
-    Pruning reading paths path ancestors level node v v
-pruning_first reading paths path ancestors level node v hold slots is all = record {
+pub pruning_first : (path : List ℕ) (ancestors : List NodeSlot) (level : ℕ) (node : Node) (v : Store Node) (s : StandsAtEnd path ancestors node v) → level ≡ length path →
+    Pruning s.reading s.paths path ancestors level node v v
+pruning_first path ancestors level node v s all = record {
   to = record {
-    later = reading;
-    left = paths;
-    hold = hold;
+    later = s.reading;
+    left = s.paths;
+    hold = s.hold;
     drops = none;
     within = omega arith;
-    is = ap reading (take_all level path (omega arith)) ∙ is;
+    is = ap s.reading (take_all level path (omega arith)) ∙ s.is;
     gone = λ k more less. absurd (omega arith);
     above = λ k less. refl;
     off = λ q no. refl;
     whole = λ end. refl;
-    shrinks = subst (λ o. ShrinksList MakesFew node_sizes v v (own_children o) (own_children (Some node)) (child_block_size o) (child_block_size (Some node))) (sym (ap reading (take_all level path (omega arith)) ∙ is))
+    shrinks = subst (λ o. ShrinksList MakesFew node_sizes v v (own_children o) (own_children (Some node)) (child_block_size o) (child_block_size (Some node))) (sym (ap s.reading (take_all level path (omega arith)) ∙ s.is))
         (shrinks_none MakesFew node_sizes v v (own_children (Some node)) (child_block_size (Some node)) (children_none (Some node)) refl
         (λ size there. (omega arith, omega arith)));
     bounds_growth = bounds_growth_none v 0;
   };
-  slots = slots;
+  slots = subst (AreAncestors s.reading path ancestors) (sym all) s.slots;
 }
 
 -- a list lost an item while more blocks are free than before

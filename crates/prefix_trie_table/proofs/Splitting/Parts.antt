@@ -1,6 +1,5 @@
 -- The part of a node that begins with a bit string, and of each of its children, by masks.
-use Rattle.prefix_trie_table.proofs.Prelude.{lit<, ◌≡◌, ℕ, ◌+◌, ◌-◌, ◌<◌, ◌≤◌, inl, inr, Bool, true, false, ◌&&◌, List, [], ◌∷◌, ◌++◌, length, take, drop, take_all, length-drop, Some, refl, sym, ap, ap₂, ◌∙◌, subst, arith, bit_and, nat_lt, cases_Bool, cases_lt, le-ltb, drop-take, take-take, begins-refl, begins-longer, begins-same-length, begins, number, same_bit, same-from-number, HoldsValues, HoldsChildren, Sets, has, value_bit, has-and, and-first, and-second, value_bit-small, Node, has_bit, node_at, chunks_of, bit_of, child_slot, child, read_from, has_value, in_part, in_child, and_comm, and_assoc, and-false}
-use Rattle.std.proofs.lemmas.List.{length-take-le}
+use Rattle.prefix_trie_table.proofs.Prelude.{lit<, ◌≡◌, ℕ, ◌<◌, ◌≤◌, inl, inr, Bool, true, false, ◌&&◌, List, [], ◌∷◌, ◌++◌, length, take, drop, take_all, Some, refl, sym, ap, ap₂, ◌∙◌, subst, arith, bit_and, nat_lt, cases_Bool, cases_lt, le-ltb, begins-refl, begins-longer, begins-same-length, begins, number, same_bit, same-from-number, HoldsValues, HoldsChildren, Sets, has, value_bit, has-and, and-first, and-second, value_bit-small, Node, has_bit, node_at, chunks_of, bit_of, child_slot, child, read_from, has_value, in_part, in_child, and_comm, and_assoc, and-false}
 use Rattle.prefix_trie_table.proofs.Tree.Subtrees.{number-small, read_from-none}
 use Rattle.prefix_trie_table.proofs.Strings.Bits.{has_bit-is, has_bit-past, has_bit-zero}
 use Rattle.prefix_trie_table.proofs.Strings.Plain.{no_or_yes}
@@ -96,14 +95,3 @@ masks_step t c mask long is sets u five = elim (number_or (number u) c) as (λ _
       sets.others (number u) ne ∙ clear_has (number u) (number-small u five)
       ∙ sym (no_or_yes (begins t u) (λ b. ne (sym (ap number (begins-same-length t u b (long ∙ sym five))) ∙ sym is)))
 ]
-
--- the next five bits of a string, and all after them
-module _ (b : List Bool) (len depth : ℕ) (within : len ≤ length b) where
-  pub five_next : depth + 5 ≤ len → take 5 (drop depth (take len b)) ≡ take 5 (drop depth b)
-  five_next more =
-      ap (λ n. take 5 (drop depth (take n b))) (let e : len ≡ depth + (len - depth) = omega (arith, more) in e)
-      ∙ ap (take 5) (drop-take depth (len - depth) b)
-      ∙ take-take 5 (len - depth) (drop depth b) (omega (arith, more))
-
-  pub left_long : length (drop depth (take len b)) ≡ len - depth
-  left_long = length-drop depth (take len b) ∙ ap (λ n. n - depth) (length-take-le len b within)

@@ -1,12 +1,8 @@
 -- The slots of the nodes on a search path.
-use Rattle.prefix_trie_table.proofs.Prelude.{◌≡◌, ℕ, ◌+◌, inl, inr, List, [], ◌∷◌, ◌++◌, length, get_or, take, Option, sym, ap, ◌∙◌, subst, arith, get_or-append_seam, get_or_append_left, cases_lt, Node, NodeSlot, IsSlot, slot_in, AreAncestors}
-
--- no node is above the root
-pub ancestors_first : (reading : List ℕ → Option Node) (path : List ℕ) (ancestors : List NodeSlot) → AreAncestors reading path ancestors 0
-ancestors_first reading path ancestors k h = absurd (omega (arith, h))
+use Rattle.prefix_trie_table.proofs.Prelude.{◌≡◌, ℕ, ◌+◌, inl, inr, Bool, List, [], ◌∷◌, ◌++◌, length, length-append, get_or, take, Option, sym, ap, ◌∙◌, subst, arith, get_or-append_seam, get_or_append_left, cases_lt, Node, NodeSlot, Reached, Store, chunks_of, IsSlot, IsAlong, slot_in, AreAbove, AreAncestors}
 
 -- a step more
-pub ancestors_more : (reading : List ℕ → Option Node) (path : List ℕ) (ancestors : List NodeSlot) (level : ℕ) (s : NodeSlot) → AreAncestors reading path ancestors level →
+ancestors_more : (reading : List ℕ → Option Node) (path : List ℕ) (ancestors : List NodeSlot) (level : ℕ) (s : NodeSlot) → AreAncestors reading path ancestors level →
     length ancestors ≡ level → IsSlot reading (take level path) (s.start + s.offset) → AreAncestors reading path (ancestors ++ s ∷ []) (level + 1)
 ancestors_more reading path ancestors level s is long next k h = elim (cases_lt k level) as (λ _. IsSlot reading (take k path) (slot_in (ancestors ++ s ∷ []) k)) [
   | inl less ↦
@@ -18,3 +14,18 @@ ancestors_more reading path ancestors level s is long next k h = elim (cases_lt 
       subst (λ (x : NodeSlot). IsSlot reading (take k path) (x.start + x.offset)) (sym same)
       (subst (λ i. IsSlot reading (take i path) (s.start + s.offset)) (let at : level ≡ k = omega arith in at) next)
 ]
+
+-- no node is above the root
+pub above_root : (q : List Bool) (level : ℕ) (ancestors : List NodeSlot) (v : Store Node) → level ≡ 0 → ancestors ≡ [] → AreAbove q level ancestors v
+above_root q level ancestors v top empty = record {
+  long = ap (λ (xs : List NodeSlot). length xs) empty ∙ sym top;
+  slots = λ reading paths hold k less. absurd (omega (arith, less, top));
+}
+
+-- and below a node are those above it, and the node
+pub above_next : (q : List Bool) (here : Reached) (ancestors more : List NodeSlot) (v : Store Node) (next : ℕ) → AreAbove q here.level ancestors v → IsAlong q here v → next ≡ here.level + 1 →
+    more ≡ ancestors ++ here.at ∷ [] → AreAbove q next more v
+above_next q here ancestors more v next up along deeper is = record {
+  long = (let l = up.long in omega (arith, l, deeper, ap (λ (xs : List NodeSlot). length xs) is, length-append ancestors (here.at ∷ [])));
+  slots = λ reading paths hold. rw deeper (rw is (ancestors_more reading (chunks_of q) ancestors here.level here.at (up.slots reading paths hold) up.long (along.deepest reading paths hold).stands));
+}

@@ -1,22 +1,24 @@
 //! Removing all entries whose keys begin with a bit string.
-ghost use Rattle.std.specs.Prelude.{◌≡◌, ℕ, ◌+◌, ◌/◌, ◌≤◌, Bool, false, List, Some, take, ⊤};
+ghost use Rattle.std.specs.Prelude.{◌≡◌, false, Some, ⊤};
 ghost use Rattle.prefix_trie_bits.specs.Model.Entries.{without_below};
 ghost use Rattle.prefix_trie_bits.specs.Model.Nodes.{nodes_not_below, nodes_without_below};
 ghost use Rattle.prefix_trie_bits.specs.Model.Selections.{listing_below};
 ghost use Rattle.prefix_trie_bits.specs.Model.Step.{State};
 ghost use Rattle.prefix_trie_table.specs.Digits.{chunks_of};
 ghost use Rattle.prefix_trie_table.specs.Forest.{read};
-ghost use Rattle.prefix_trie_table.specs.Tables.{IsReached, IsTrie};
+ghost use Rattle.prefix_trie_table.specs.SearchPaths.{IsOwn};
+ghost use Rattle.prefix_trie_table.specs.Tables.{IsTrie};
 ghost use Rattle.prefix_trie_table.specs.Retaining.{AsksUpTo, SaysNo, MayAskBelow, TakesBelow, PreservesBelow};
 
 use crate::allocator::blocks::Cells;
-use crate::allocator::node::{Node, NodeSlot};
+use crate::allocator::node::Node;
 use crate::allocator::nodes::{NodeAllocator, Tick};
+use crate::table::lookup::Reached;
 use crate::table::removal::{descend_keeping_ancestors, prune_up};
 use crate::table::retain::{Keep, Site, retain_places};
 use arrayvec::ArrayVec;
-use prefix_trie_bits::node::{Places, child_cover_mask, value_cover_mask};
-use prefix_trie_bits::prefix::Key;
+use prefix_trie_bits::node::Places;
+use prefix_trie_bits::prefix::{BitString, Key};
 use std::alloc::Allocator;
 
 /// A test that no entry passes. The values are dropped.
@@ -45,35 +47,34 @@ fn empty_part<K: Key, T: Drop, A: Allocator, V: Tick, F: Keep<K, T, V>>(
     cells: &mut Cells<T, A>,
     entries: &mut usize,
     keep: &mut F,
-    key: K,
-    len: u32,
-    at: NodeSlot,
-    node: Node,
+    path: &BitString<K>,
+    here: Reached,
     counter: &mut V,
 ) -> Node
-    requires key { K.IsKey key }
-    requires within { len ≤ K.bit_width }
     requires trie { (s : State T) × IsTrie K.bit_width entries.old nodes.old cells.old s }
-    requires reached { IsReached (K.bits key) len (len / 5) node (at.start + at.offset) nodes.old }
+    requires own { IsOwn path.now here nodes.old }
     requires none { SaysNo F.asks }
-    requires may_ask { MayAskBelow F.asks F.accepts K.bit_width (take len (K.bits key)) keep.old entries.old nodes.old cells.old }
+    requires may_ask { MayAskBelow F.asks F.accepts K.bit_width path.now keep.old entries.old nodes.old cells.old }
     ensures emptied { (s : State T) → IsTrie K.bit_width entries.old nodes.old cells.old s
-        → TakesBelow F.asks F.accepts K.bit_width (take len (K.bits key)) keep.old s keep.new
-        (nodes_not_below s.nodes (take len (K.bits key))) entries.new nodes.new cells.new }
-    ensures node { read nodes.new.slots (chunks_of (take len (K.bits key))) ≡ Some result }
-    ensures preserves { PreservesBelow (len / 5) nodes.old nodes.new cells.old cells.new }
+        → TakesBelow F.asks F.accepts K.bit_width path.now keep.old s keep.new
+        (nodes_not_below s.nodes path.now) entries.new nodes.new cells.new }
+    ensures node { read nodes.new.slots (chunks_of path.now) ≡ Some result }
+    ensures preserves { PreservesBelow here.level nodes.old nodes.new cells.old cells.new }
 {
-    let depth = len / 5 * 5;
+    let depth = 5 * here.level;
+    let rest = path.after(depth);
     let places = Places::new(
-        node.value_bitmap & value_cover_mask(key, depth, len),
-        node.child_bitmap & child_cover_mask(key, depth, len),
+        here.node.value_bitmap & rest.value_cover_mask(),
+        here.node.child_bitmap & rest.child_cover_mask(),
     );
     let site = Site {
-        slot: at,
-        key,
+        slot: here.at,
+        key: path.key(),
         depth,
     };
-    retain_places(nodes, cells, entries, keep, site, node, places, counter)
+    retain_places(
+        nodes, cells, entries, keep, site, here.node, places, counter,
+    )
 }
 
 /// Removes all entries whose keys begin with a bit string, and all nodes below the string's own.
@@ -85,28 +86,25 @@ pub fn remove_part<K: Key, T: Drop, A: Allocator, V: Tick, F: Keep<K, T, V>>(
     cells: &mut Cells<T, A>,
     entries: &mut usize,
     keep: &mut F,
-    key: K,
-    len: u32,
+    path: BitString<K>,
     counter: &mut V,
 )
-    requires key { K.IsKey key }
-    requires within { len ≤ K.bit_width }
     requires trie { (s : State T) × IsTrie K.bit_width entries.old nodes.old cells.old s }
     requires none { SaysNo F.asks }
-    requires may_ask { MayAskBelow F.asks F.accepts K.bit_width (take len (K.bits key)) keep.old entries.old nodes.old cells.old }
+    requires may_ask { MayAskBelow F.asks F.accepts K.bit_width path keep.old entries.old nodes.old cells.old }
     ensures removed { (s : State T) → IsTrie K.bit_width entries.old nodes.old cells.old s
         → IsTrie K.bit_width entries.new nodes.new cells.new (record {
-          entries = without_below s.entries (take len (K.bits key));
-          nodes = nodes_without_below s.nodes s.entries (take len (K.bits key));
+          entries = without_below s.entries path;
+          nodes = nodes_without_below s.nodes s.entries path;
         }) }
     ensures up_to { (s : State T) → IsTrie K.bit_width entries.old nodes.old cells.old s
-        → AsksUpTo F.asks keep.old (listing_below s.entries (take len (K.bits key))) keep.new }
+        → AsksUpTo F.asks keep.old (listing_below s.entries path) keep.new }
     ensures preserves { PreservesBelow 0 nodes.old nodes.new cells.old cells.new }
 {
     let mut above = ArrayVec::new();
-    let Some((at, node)) = descend_keeping_ancestors(nodes, key, len, &mut above, counter) else {
+    let Some(here) = descend_keeping_ancestors(nodes, &path, &mut above, counter) else {
         return;
     };
-    let left = empty_part(nodes, cells, entries, keep, key, len, at, node, counter);
-    prune_up(nodes, &above, key, len, left, counter);
+    let left = empty_part(nodes, cells, entries, keep, &path, here, counter);
+    prune_up(nodes, &above, path, left, counter);
 }

@@ -9,7 +9,7 @@ ghost use Rattle.prefix_trie_table.specs.Steps.{stored_state};
 
 use crate::allocator::nodes::Tick;
 use crate::table::Table;
-use prefix_trie_bits::prefix::{Key, Refusal};
+use prefix_trie_bits::prefix::{BitString, Key, Refusal};
 use std::alloc::{AllocError, Allocator};
 
 impl<T: Drop, A: Allocator, V: Tick> Table<T, A, V> {
@@ -46,7 +46,7 @@ impl<T: Drop, A: Allocator + Clone, V: Tick> Table<T, A, V> {
         ensures kept { OnErr result (stored_state self.new ≡ stored_state self.old) }
         ensures memory { IfErr result (λ cause. cause ≡ Memory) }
     {
-        let compacted = self.remove_children(K::zero(), 0, counter)?;
+        let compacted = self.remove_children(BitString::new(K::zero(), 0), counter)?;
         *self = compacted;
         Ok(())
     }

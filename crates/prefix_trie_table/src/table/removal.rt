@@ -1,22 +1,22 @@
 //! Removing values.
-ghost use Rattle.std.specs.Prelude.{◌≡◌, ℕ, ◌+◌, ◌*◌, ◌/◌, ◌<◌, ◌≤◌, [], ◌∷◌, ◌++◌, List, Option, Some, map, take, length, None, true, false, is_some, IfSome, IfNone};
+ghost use Rattle.std.specs.Prelude.{◌≡◌, ℕ, ◌+◌, ◌<◌, [], ◌∷◌, ◌++◌, List, Option, Some, map, None, true, false, is_some, IfSome, IfNone};
 ghost use Rattle.prefix_trie_table.specs.declared.allocator.node.Node.{Node};
 ghost use Rattle.prefix_trie_table.specs.Bitmaps.{has_bit as is_set, rank as rank_of};
 ghost use Rattle.prefix_trie_table.specs.Cells.{blank_node, node_at, node_sizes, cell_sizes};
 ghost use Rattle.prefix_trie_table.specs.Digits.{chunks_of, bit_of};
 ghost use Rattle.prefix_trie_table.specs.Store.{Sound, no_blocks};
 ghost use Rattle.prefix_trie_table.specs.Forest.{IsSlot, NodesHold, CellsHold, SomeTable, SomeNodes, IsNodeAt, entry_count, one_if};
-ghost use Rattle.prefix_trie_table.specs.Removals.{ValueTaken, EntryTaken, SameBlocks, IsBare, IsStocked, GivesBack, ChildDropped, AreAncestors, StandsAtEnd, Pruned, EntryRemoved};
-ghost use Rattle.prefix_trie_table.specs.SearchPaths.{slot_at};
+ghost use Rattle.prefix_trie_table.specs.Removals.{ValueTaken, EntryTaken, SameBlocks, IsBare, IsStocked, GivesBack, ChildDropped, AreAbove, StandsAtEnd, Pruned, EntryRemoved};
+ghost use Rattle.prefix_trie_table.specs.SearchPaths.{IsOwn, slot_at};
 ghost use Rattle.prefix_trie_table.specs.GrowthBounds.{BoundsGrowth, BoundsNodeGrowth};
-ghost use Rattle.prefix_trie_table.specs.Tables.{IsReached, Grows, ForHeld, own_value};
+ghost use Rattle.prefix_trie_table.specs.Tables.{Grows, ForHeld};
 
 use crate::allocator::blocks::Cells;
 use crate::allocator::node::{Node, NodeSlot};
 use crate::allocator::nodes::{NodeAllocator, Tick};
-use crate::table::lookup::{Reached, descend};
+use crate::table::lookup::{Reached, descend, root, step_down};
 use arrayvec::ArrayVec;
-use prefix_trie_bits::node::{child_bit_of, count, has_bit, rank, value_bit_of, without_bit};
+use prefix_trie_bits::node::{count, has_bit, rank, without_bit};
 use prefix_trie_bits::prefix::{BitString, Key};
 use std::alloc::Allocator;
 
@@ -98,42 +98,6 @@ pub fn take_value<T: Drop, A: Allocator, V: Tick>(
     (value, left)
 }
 
-/// Removes the value at a bit string from the string's own node, if it is stored.
-///
-/// Returns it, and the node as it is then.
-fn take_entry<K: Key, T: Drop, A: Allocator, V: Tick>(
-    nodes: &mut NodeAllocator<A, V>,
-    cells: &mut Cells<T, A>,
-    entries: &mut usize,
-    key: K,
-    len: u32,
-    at: NodeSlot,
-    node: Node,
-) -> (Option<T>, Node)
-    requires key { K.IsKey key }
-    requires within { len ≤ K.bit_width }
-    requires reached { IsReached (K.bits key) len (len / 5) node (at.start + at.offset) nodes.old }
-    requires table { (t : SomeTable nodes.old cells.old)
-        × (entries.old ≡ entry_count t.reading t.paths) }
-    ensures value { ForHeld nodes.old cells.old (λ reading paths values.
-        result.0 ≡ own_value values (K.bits key) len) }
-    ensures taken { ForHeld nodes.old cells.old (λ reading paths values.
-        (t : EntryTaken reading paths values (chunks_of (take len (K.bits key)))
-        (bit_of (take len (K.bits key))) nodes.new cells.old cells.new)
-        × (t.later (chunks_of (take len (K.bits key))) ≡ Some result.1)) }
-    ensures counted { entries.new + one_if (is_some result.0) ≡ entries.old }
-    ensures node_blocks { SameBlocks nodes.old nodes.new }
-    ensures cell_space { Grows cells.old cells.new 24 }
-{
-    let bit = value_bit_of(key, len / 5 * 5, len);
-    if !has_bit(node.value_bitmap, bit) {
-        return (None, node);
-    }
-    let taken = take_value(nodes, cells, at, node, bit);
-    *entries -= 1;
-    taken
-}
-
 /// Removes the value at a bit of a node, if there is one. Returns it, and the node as it is then.
 #[inline(always)]
 fn take_bit<T: Drop, A: Allocator, V: Tick>(
@@ -190,46 +154,31 @@ pub fn remove_value<K: Key, T: Drop, A: Allocator, V: Tick>(
 
 /// Goes down the search path to a bit string's own node, and pushes the slots of the nodes above it to `above`.
 ///
-/// Returns the slot of that node, and the node, or `None` if a node of the path is missing. `above` must be empty.
+/// Returns that node, or `None` if a node of the path is missing. `above` must be empty.
 pub fn descend_keeping_ancestors<K: Key, A: Allocator, V: Tick>(
     nodes: &NodeAllocator<A, V>,
-    key: K,
-    len: u32,
+    path: &BitString<K>,
     above: &mut ArrayVec<NodeSlot, 25>,
     counter: &mut V,
-) -> Option<(NodeSlot, Node)>
-    requires key { K.IsKey key }
-    requires within { len ≤ K.bit_width }
+) -> Option<Reached>
     requires sound { SomeNodes nodes.now }
     requires empty { above.old.items ≡ [] }
-    ensures found { IfSome result (λ end. IsReached (K.bits key) len (len / 5)
-        end.1 (end.0.start + end.0.offset) nodes.now
-        × (length above.new.items ≡ len / 5)
-        × ((reading : List ℕ → Option Node) (paths : List (List ℕ))
-        → NodesHold node_sizes reading paths nodes.now
-        → AreAncestors reading (chunks_of (take len (K.bits key))) above.new.items (len / 5))) }
+    ensures found { IfSome result (λ here. IsOwn path.now here nodes.now × AreAbove path.now here.level above.new.items nodes.now) }
     ensures missing { IfNone result ((reading : List ℕ → Option Node) (paths : List (List ℕ))
-        → NodesHold node_sizes reading paths nodes.now
-        → reading (chunks_of (take len (K.bits key))) ≡ None) }
+        → NodesHold node_sizes reading paths nodes.now → reading (chunks_of path.now) ≡ None) }
 {
-    let mut at = NodeSlot::ROOT;
-    let mut node = nodes.visit(at, counter);
-    let mut rest = key;
-    for _level in 0..len / 5 {
-        let child = child_bit_of(rest, 0);
-        if !has_bit(node.child_bitmap, child) {
+    let last = path.len() / 5;
+    let mut here = root(nodes, counter);
+    let mut rest = path.again();
+    while here.level < last {
+        let Some(next) = step_down(nodes, here, &rest, last, counter) else {
             return None;
-        }
-        above.push(at);
-        at = NodeSlot {
-            start: node.child_block,
-            offset: rank(node.child_bitmap, child),
         };
-        node = nodes.visit(at, counter);
-        // It shifts by the same number of bits at each level, so no shift depends on the depth.
-        rest = rest.behind(5);
+        above.push(here.at);
+        here = next;
+        rest = rest.below();
     }
-    Some((at, node))
+    Some(here)
 }
 
 /// Returns whether a node has neither values nor children.
@@ -287,30 +236,22 @@ pub fn drop_child<A: Allocator, V: Tick>(
 pub fn prune_up<K: Key, A: Allocator, V: Tick>(
     nodes: &mut NodeAllocator<A, V>,
     ancestors: &[NodeSlot],
-    key: K,
-    len: u32,
+    path: BitString<K>,
     node: Node,
     counter: &mut V,
 )
-    requires key { K.IsKey key }
-    requires within { len ≤ K.bit_width }
-    requires long { length ancestors.now ≡ len / 5 }
-    requires stands { StandsAtEnd (chunks_of (take len (K.bits key))) ancestors.now (len / 5) node
-        nodes.old }
+    requires stands { StandsAtEnd (chunks_of path) ancestors.now node nodes.old }
     ensures space { Grows nodes.old nodes.new 24 }
     ensures bounds_growth { BoundsNodeGrowth nodes.old nodes.new }
-    ensures pruned { (reading : List ℕ → Option Node) (paths : List (List ℕ))
-        → NodesHold node_sizes reading paths nodes.old
-        → AreAncestors reading (chunks_of (take len (K.bits key))) ancestors.now (len / 5)
-        → reading (chunks_of (take len (K.bits key))) ≡ Some node
-        → Pruned reading paths (chunks_of (take len (K.bits key))) nodes.old nodes.new }
+    ensures pruned { (s : StandsAtEnd (chunks_of path) ancestors.now node nodes.old)
+        → Pruned s.reading s.paths (chunks_of path) nodes.old nodes.new }
 {
-    let mut level = len / 5;
+    let mut level = path.len() / 5;
     let mut node = node;
     while level > 0 && is_bare(node) {
         level -= 1;
         let at = ancestors[level as usize];
-        node = drop_child(nodes, at, child_bit_of(key, 5 * level), counter);
+        node = drop_child(nodes, at, path.after(5 * level).child_bit(), counter);
     }
 }
 
@@ -321,28 +262,25 @@ pub fn remove_entry<K: Key, T: Drop, A: Allocator, V: Tick>(
     nodes: &mut NodeAllocator<A, V>,
     cells: &mut Cells<T, A>,
     entries: &mut usize,
-    key: K,
-    len: u32,
+    path: BitString<K>,
     counter: &mut V,
 ) -> Option<T>
-    requires key { K.IsKey key }
-    requires within { len ≤ K.bit_width }
     requires table { (t : SomeTable nodes.old cells.old)
         × (entries.old ≡ entry_count t.reading t.paths) }
     ensures value { ForHeld nodes.old cells.old (λ reading paths values.
-        result ≡ own_value values (K.bits key) len) }
+        result ≡ values (chunks_of path) (bit_of path)) }
     ensures removed { ForHeld nodes.old cells.old (λ reading paths values.
-        EntryRemoved reading paths values (chunks_of (take len (K.bits key)))
-        (bit_of (take len (K.bits key))) nodes.old cells.old nodes.new cells.new) }
+        EntryRemoved reading paths values (chunks_of path) (bit_of path) nodes.old cells.old nodes.new cells.new) }
     ensures counted { entries.new + one_if (is_some result) ≡ entries.old }
     ensures node_space { Grows nodes.old nodes.new 24 }
     ensures cell_space { Grows cells.old cells.new 24 }
 {
     let mut above = ArrayVec::new();
-    let Some((at, node)) = descend_keeping_ancestors(nodes, key, len, &mut above, counter) else {
+    let Some(here) = descend_keeping_ancestors(nodes, &path, &mut above, counter) else {
         return None;
     };
-    let (value, left) = take_entry(nodes, cells, entries, key, len, at, node);
-    prune_up(nodes, &above, key, len, left, counter);
+    let bit = path.after(5 * here.level).value_bit();
+    let (value, left) = take_bit(nodes, cells, entries, here, bit);
+    prune_up(nodes, &above, path, left, counter);
     value
 }

@@ -1,5 +1,5 @@
 //! Moving the entries whose keys begin with a bit string to a table of their own.
-ghost use Rattle.std.specs.Prelude.{◌≡◌, ◌≤◌, false, take};
+ghost use Rattle.std.specs.Prelude.{◌≡◌, false};
 ghost use Rattle.std.specs.FinMap.{len as size};
 ghost use Rattle.prefix_trie_bits.specs.Model.Entries.{part_below, without_below};
 ghost use Rattle.prefix_trie_bits.specs.Model.Nodes.{nodes_without_below};
@@ -67,34 +67,29 @@ pub(super) fn move_part<K: Key, T: Drop, A: Allocator, V: Tick>(
     entries: &mut usize,
     laid: NodeAllocator<A, V>,
     vacant: Cells<T, A>,
-    key: K,
-    len: u32,
+    path: BitString<K>,
     counter: &mut V,
 ) -> (NodeAllocator<A, V>, Cells<T, A>)
-    requires key { K.IsKey key }
-    requires within { len ≤ K.bit_width }
     requires trie { (s : State T) × IsTrie K.bit_width entries.old nodes.old cells.old s }
-    requires second { IsSecond (take len (K.bits key)) nodes.old laid vacant }
+    requires second { IsSecond path nodes.old laid vacant }
     ensures removed { (s : State T) → IsTrie K.bit_width entries.old nodes.old cells.old s
         → IsTrie K.bit_width entries.new nodes.new cells.new (record {
-          entries = without_below s.entries (take len (K.bits key));
-          nodes = nodes_without_below s.nodes s.entries (take len (K.bits key));
+          entries = without_below s.entries path;
+          nodes = nodes_without_below s.nodes s.entries path;
         }) }
     ensures preserves { PreservesBelow 0 nodes.old nodes.new cells.old cells.new }
     ensures moved { (s : State T) → IsTrie K.bit_width entries.old nodes.old cells.old s
-        → IsTrie K.bit_width (size (part_below s.entries (take len (K.bits key)))) result.0 result.1
-        (split_off s (take len (K.bits key))) }
+        → IsTrie K.bit_width (size (part_below s.entries path)) result.0 result.1 (split_off s path) }
     ensures nodes { result.0 ≡ laid }
     ensures cells { result.1 ≡ record vacant { slots = result.1.slots } }
 {
-    let path = BitString::new(key, len);
-    let start = start_at::<K, T, A, V>(&laid, path, Start::Below, counter);
+    let start = start_at::<K, T, A, V>(&laid, path.again(), Start::Below, counter);
     let mut seats = Seats {
         nodes: laid,
         cells: vacant,
         key: start.key,
         stack: start.stack,
     };
-    remove_part(nodes, cells, entries, &mut seats, key, len, counter);
+    remove_part(nodes, cells, entries, &mut seats, path, counter);
     (seats.nodes, seats.cells)
 }

@@ -1,5 +1,5 @@
 //! Building a part of a table again, with all its blocks at their final sizes and without its values.
-ghost use Rattle.std.specs.Prelude.{◌≡◌, ℕ, ◌≤◌, None, drop, take, IfOk, IfErr, IfSome};
+ghost use Rattle.std.specs.Prelude.{◌≡◌, ℕ, None, drop, take, IfOk, IfErr, IfSome};
 ghost use Rattle.prefix_trie_bits.specs.declared.prefix.Refusal.TheVariants.{Memory};
 ghost use Rattle.prefix_trie_bits.specs.Model.Step.{State};
 ghost use Rattle.prefix_trie_bits.specs.Bits.{begins};
@@ -16,60 +16,50 @@ use crate::allocator::node::{Node, NodeSlot};
 use crate::allocator::nodes::{NodeAllocator, Tick};
 use crate::table::removal::is_bare;
 use arrayvec::ArrayVec;
-use prefix_trie_bits::node::{
-    child_bit_of, child_cover_mask, count, has_bit, value_cover_mask, with_bit,
-};
-use prefix_trie_bits::prefix::{Key, Refusal};
+use prefix_trie_bits::node::{count, has_bit, with_bit};
+use prefix_trie_bits::prefix::{BitString, Key, Refusal};
 use std::alloc::Allocator;
 
-/// Returns masks of what begins with a bit string in a node, and the depth of a child.
+/// Returns masks of what begins with a bit string at a node, and what is left of the string below a child.
 ///
-/// The first mask has the value bits of strings that it begins. The second has the child bits below which there can be
-/// such strings. `depth` bits lead to the node. The child's depth is at most `len`.
-fn masks<K: Key>(key: K, depth: u32, len: u32) -> (u32, u32, u32)
-    requires key { K.IsKey key }
-    requires whole { depth ≤ len }
-    requires within { len ≤ K.bit_width }
-    ensures values { HoldsValues result.0 (begins (drop depth (take len (K.bits key)))) }
-    ensures children { HoldsChildren result.1 (begins (take 5 (drop depth (take len (K.bits key))))) }
-    ensures deeper { drop result.2 (take len (K.bits key)) ≡ drop 5 (drop depth (take len (K.bits key))) }
-    ensures most { result.2 ≤ len }
+/// `rest` has the bits after those that lead to the node. The first mask has the value bits of strings that it begins.
+/// The second has the child bits below which there can be such strings.
+fn masks<K: Key>(rest: &BitString<K>) -> (u32, u32, BitString<K>)
+    ensures values { HoldsValues result.0 (begins rest.now) }
+    ensures children { HoldsChildren result.1 (begins (take 5 rest.now)) }
+    ensures below { result.2 ≡ drop 5 rest.now }
 {
-    if len < depth + 5 {
-        let values = value_cover_mask(key, depth, len);
-        let children = child_cover_mask(key, depth, len);
-        return (values, children, len);
+    if rest.len() < 5 {
+        return (
+            rest.value_cover_mask(),
+            rest.child_cover_mask(),
+            rest.first(0),
+        );
     }
-    (0, with_bit(0, child_bit_of(key, depth)), depth + 5)
+    (0, with_bit(0, rest.child_bit()), rest.after(5))
 }
 
 /// Builds a node with those of its values that begin with a bit string, and its children with theirs, if any.
 ///
-/// No value is moved: all cells are vacant. The returned node has its blocks, but no slot yet. `depth` bits lead to the
-/// node, which are at most all of the bit string. At most `levels` levels of nodes are below it.
+/// No value is moved: all cells are vacant. The returned node has its blocks, but no slot yet. `rest` has the bits of the
+/// string after those that lead to the node. At most `levels` levels of nodes are below it.
 fn lay_node<K: Key, T: Drop, A: Allocator, V: Tick>(
     from: &NodeAllocator<A, V>,
     node: Node,
-    key: K,
-    len: u32,
-    depth: u32,
+    rest: &BitString<K>,
     levels: u32,
     nodes: &mut NodeAllocator<A, V>,
     cells: &mut Cells<T, A>,
     counter: &mut V,
 ) -> Result<Option<Node>, Refusal>
-    requires key { K.IsKey key }
-    requires within { len ≤ K.bit_width }
-    requires whole { depth ≤ len }
     requires source { IsSource from.now node levels }
     requires nodes { CanLay blank_node node_sizes (slots_below child_slots from.now.slots levels node) nodes.old }
     requires cells { CanLay None cell_sizes (slots_below value_slots from.now.slots levels node) cells.old }
-    ensures laid { IfOk result (λ top. LaysNode from.now.slots levels node (drop depth (take len (K.bits key)))
-        nodes.old nodes.new cells.old cells.new top) }
+    ensures laid { IfOk result (λ top. LaysNode from.now.slots levels node rest.now nodes.old nodes.new cells.old cells.new top) }
     ensures fits { IfOk result (λ top. IfSome top FitsByte) }
     ensures memory { IfErr result (λ cause. cause ≡ Memory) }
 {
-    let (values, children, deeper) = masks(key, depth, len);
+    let (values, children, deeper) = masks(rest);
     let own = cells.lay_vacant(count(node.value_bitmap & values))?;
     let mut laid = Node {
         value_bitmap: node.value_bitmap & values,
@@ -86,7 +76,7 @@ fn lay_node<K: Key, T: Drop, A: Allocator, V: Tick>(
         }
         let lower = from.visit(node.child_slot(child), counter);
         let fewer = levels - 1;
-        let branch = lay_node(from, lower, key, len, deeper, fewer, nodes, cells, counter)?;
+        let branch = lay_node(from, lower, &deeper, fewer, nodes, cells, counter)?;
         let Some(branch) = branch else {
             continue;
         };
@@ -113,14 +103,11 @@ fn lay_node<K: Key, T: Drop, A: Allocator, V: Tick>(
 pub(super) fn lay_part<K: Key, T: Drop, A: Allocator + Clone, V: Tick>(
     nodes: &NodeAllocator<A, V>,
     cells: &Cells<T, A>,
-    key: K,
-    len: u32,
+    path: &BitString<K>,
     counter: &mut V,
 ) -> Result<(NodeAllocator<A, V>, Cells<T, A>), Refusal>
-    requires key { K.IsKey key }
-    requires within { len ≤ K.bit_width }
     requires trie { (s : State T) × (count : ℕ) × IsTrie K.bit_width count nodes.now cells.now s }
-    ensures laid { IfOk result (λ r. IsSecond (take len (K.bits key)) nodes.now r.0 r.1) }
+    ensures laid { IfOk result (λ r. IsSecond path.now nodes.now r.0 r.1) }
     ensures range { IfErr result (λ cause. cause ≡ Memory) }
 {
     let mut second_nodes = nodes.another()?;
@@ -131,9 +118,7 @@ pub(super) fn lay_part<K: Key, T: Drop, A: Allocator + Clone, V: Tick>(
     let top = lay_node(
         nodes,
         root,
-        key,
-        len,
-        0,
+        path,
         K::width() / 5,
         &mut second_nodes,
         &mut second_cells,

@@ -1,9 +1,6 @@
-use Rattle.prefix_trie_map.proofs.Prelude.{sym, subst, err_from_is_err_and, IsMap, State, Storage, SplitsOffInStorage, handing_laws, state, stored_state}
-use Rattle.prefix_trie_map.proofs.Steps.{by_key, bounds_growth_from}
+use Rattle.prefix_trie_map.proofs.Prelude.{◌<◌, length, sym, subst, BoundsStorageGrowth, storage, err_from_is_err_and, IsMap, State, Storage, SplitsOffInStorage, handing_laws, state, stored_state}
+use Rattle.prefix_trie_map.proofs.Steps.{by_key}
 use Rattle.prefix_trie_map.proofs.map.PrefixMap.remove_children.Goals as goal
-
-pub parts-key-requires : goal.parts-key-requires
-parts-key-requires g c = c.requires
 
 pub remove_children-requires-clause-within : goal.remove_children-requires-clause-within
 remove_children-requires-clause-within g c = c.self.invariant.keys_within
@@ -23,12 +20,12 @@ invariant_of-self-2 g c =
 
 pub returns-clause-step : goal.returns-clause-step
 returns-clause-step g c =
-    by_key (λ old k. SplitsOffInStorage (stored_state old) k (stored_state c.in_ok-table.table) (stored_state c.remove_children.new.self)) c.self.view_is c.parts-key.ensures.path
+    by_key (λ old k. SplitsOffInStorage (stored_state old) k (stored_state c.in_ok-table.table) (stored_state c.remove_children.new.self)) c.self.view_is c.path.ensures.path
     c.in_ok-table.ensures.split_off
 
 pub returns-clause-bounds_growth : goal.returns-clause-bounds_growth
 returns-clause-bounds_growth g c =
-    bounds_growth_from c.remove_children.new.self _ _ c.self.view_is c.parts-key.ensures.path c.in_ok-table.ensures.bounds_growth
+    by_key (λ old k. 0 < length k → BoundsStorageGrowth (storage old) (storage c.remove_children.new.self)) c.self.view_is c.path.ensures.path c.in_ok-table.ensures.bounds_growth
 
 pub returns-clause-split_off : goal.returns-clause-split_off
 returns-clause-split_off g c = (returns-clause-step g c).splits_off.split_off

@@ -7,9 +7,9 @@ all_below : {T : Type 0} (m : Entries T) → part_below m [] ≡ m
 all_below m = same_entries (part_below m []) m (λ t. get-part_below m [] t ∙ ap (λ b. cond b (get m t) None) (begins-nil t))
 
 pub returns-clause-entries : goal.returns-clause-entries
-returns-clause-entries g c = c.in_ok-compacted.ensures.split_off.splits_off.split_off ∙ all_below c.args.self.now.entries
+returns-clause-entries g c = c.in_ok-compacted.ensures.split_off.splits_off.split_off ∙ ap (part_below c.args.self.now.entries) c.new.ensures ∙ all_below c.args.self.now.entries
 
 pub returns-clause-nodes : goal.returns-clause-nodes
 returns-clause-nodes g c =
     let split_off = c.in_ok-compacted.ensures.split_off.splits_off in
-    split_off.split_nodes ∙ ap needed (split_off.split_off ∙ all_below c.args.self.now.entries)
+    split_off.split_nodes ∙ ap needed (split_off.split_off ∙ ap (part_below c.args.self.now.entries) c.new.ensures ∙ all_below c.args.self.now.entries)

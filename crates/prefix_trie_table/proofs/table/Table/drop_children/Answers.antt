@@ -1,4 +1,4 @@
-use Rattle.prefix_trie_table.proofs.Prelude.{◌≡◌, length, take, refl, ◌∙◌, arith, length-take-le, stored_state}
+use Rattle.prefix_trie_table.proofs.Prelude.{refl, sym, ◌∙◌, arith, stored_state}
 use Rattle.prefix_trie_table.proofs.Tree.Invariant.{some_table}
 use Rattle.prefix_trie_table.proofs.Removal.PartTaken.{may_ask_all, seen_trie}
 use Rattle.prefix_trie_table.proofs.Blocks.Sizing.{table_sizes}
@@ -8,8 +8,7 @@ use Rattle.prefix_trie_table.proofs.table.Table.drop_children.Goals as goal
 
 pub returns-then-len-eq0-clause-step : goal.returns-then-len-eq0-clause-step
 returns-then-len-eq0-clause-step g c =
-    all_step g.K.Key.bit_width (stored_state c.args.self.now) (stored_state c.clear.new.self) (take c.args.len (g.K.Key.bits c.args.key))
-    (length-take-le c.args.len (g.K.Key.bits c.args.key) (omega (arith, g.met.K.Key.key_laws.bits_length c.args.key c.requires.key, c.requires.long)) ∙ c.if-len-eq0.true)
+    all_step g.K.Key.bit_width (stored_state c.args.self.now) (stored_state c.clear.new.self) c.args.path (sym c.len.ensures.len ∙ c.if-len-eq0.true)
     c.requires.nodes c.clear.ensures.step
 
 pub remove_part-requires-clause-trie : goal.remove_part-requires-clause-trie
@@ -33,12 +32,11 @@ pub returns : goal.returns
 returns g c =
     let i = c.self.inside in
     let new = c.remove_part.new in
-    let q = take c.args.len (g.K.Key.bits c.args.key) in
+    let q = c.args.path in
     let trie = seen_trie i.shape c.self.invariant c.self.view_is refl c.requires.within c.requires.nodes in
-    let long : length q ≡ c.args.len = length-take-le c.args.len (g.K.Key.bits c.args.key) (omega (arith, g.met.K.Key.key_laws.bits_length c.args.key c.requires.key, c.requires.long)) in
     rw (← c.self.view_is) (record {
       step = part_step i.nodes new.nodes i.cells new.cells _ _ i.shape c.self.invariant i.sizes c.self-1.given.0 (invariant_of-self g c) c.self-1.given.1.0
-          c.remove_part.ensures.preserves q (omega (arith, long, c.if-len-eq0.false)) (shape_seen (c.remove_part.ensures.removed i.shape.0 trie) c.self-1.given.0);
+          c.remove_part.ensures.preserves q (omega (arith, c.len.ensures.len, c.if-len-eq0.false)) (shape_seen (c.remove_part.ensures.removed i.shape.0 trie) c.self-1.given.0);
       bounds_growth = λ _. bounds_growth_in i.nodes new.nodes i.cells new.cells _ _ i.shape c.self.invariant i.sizes c.self-1.given.0 (invariant_of-self g c) c.self-1.given.1.0
           c.remove_part.ensures.preserves;
     })

@@ -1,5 +1,3 @@
-use Rattle.prefix_trie_table.proofs.Prelude.{◌≡◌, take}
-use Rattle.prefix_trie_table.proofs.Strings.Parts.{taken_apart}
 use Rattle.prefix_trie_table.proofs.Tree.Invariant.{some_table, some_counted}
 use Rattle.prefix_trie_table.proofs.Removal.NodesLeft.{removed_without}
 use Rattle.prefix_trie_table.proofs.Blocks.Sizing.{table_sizes}
@@ -7,8 +5,8 @@ use Rattle.prefix_trie_table.proofs.Tree.Stated.{removes_step}
 use Rattle.prefix_trie_table.proofs.Removal.Stepped.{removed_in, pruned_in}
 use Rattle.prefix_trie_table.proofs.table.Table.remove.Goals as goal
 
-pub remove_entry-requires-clause-table : goal.remove_entry-requires-clause-table
-remove_entry-requires-clause-table g c = some_counted c.self.invariant
+pub remove_entry-requires : goal.remove_entry-requires
+remove_entry-requires g c = record { table = some_counted c.self.invariant }
 
 pub invariant_of-self-inside : goal.invariant_of-self-inside
 invariant_of-self-inside g c =
@@ -23,7 +21,7 @@ invariant_of-self g c =
 
 pub returns : goal.returns
 returns g c =
-    let q = take c.len.result (g.K.Key.bits c.key.result) in
+    let q = c.args.path in
     let v2 = c.remove_entry.new.nodes in
     let w2 = c.remove_entry.new.cells in
     let i = c.self.inside in
@@ -32,8 +30,8 @@ returns g c =
     let e = c.remove_entry.ensures in
     let left = invariant_of-self g c in
     let out = removed_without q i.nodes v2 i.cells w2 _ _ i.shape c.self.invariant c.remove_entry.result e.value e.counted e.removed in
-    let step = removes_step i.nodes v2 i.cells w2 _ _ i.shape c.self.invariant i.sizes s2 left z2 q c.remove_entry.result out.was (out.only s2)
-    (removed_in q i.nodes v2 i.cells w2 _ i.shape i.sizes c.self.invariant s2 z2 e.removed (some_table left))
-    (pruned_in q i.nodes v2 i.cells w2 _ i.shape i.sizes c.self.invariant s2 z2 e.removed (some_table left)) e.node_space e.cell_space in
-    let same : take c.len.result (g.K.Key.bits c.key.result) ≡ c.args.path = taken_apart (g.K.Key.bits c.key.result) c.args.path c.len.result c.len.ensures.len c.key.ensures.bits in
-    rw (← c.self.view_is) (record { step = rw same at step })
+    rw (← c.self.view_is) (record {
+      step = removes_step i.nodes v2 i.cells w2 _ _ i.shape c.self.invariant i.sizes s2 left z2 q c.remove_entry.result out.was (out.only s2)
+          (removed_in q i.nodes v2 i.cells w2 _ i.shape i.sizes c.self.invariant s2 z2 e.removed (some_table left))
+          (pruned_in q i.nodes v2 i.cells w2 _ i.shape i.sizes c.self.invariant s2 z2 e.removed (some_table left)) e.node_space e.cell_space;
+    })

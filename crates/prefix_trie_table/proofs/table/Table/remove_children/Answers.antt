@@ -1,4 +1,4 @@
-use Rattle.prefix_trie_table.proofs.Prelude.{◌≡◌, ℕ, length, take, refl, ap, ap₂, ◌∙◌, subst, arith, length-take-le, RemoveChildren, Done, StepByPath, Sized-prop, Contents, Shaped-prop, stored_state, Store, IsTable}
+use Rattle.prefix_trie_table.proofs.Prelude.{ℕ, refl, sym, ap, ap₂, ◌∙◌, subst, arith, RemoveChildren, Done, StepByPath, Sized-prop, Contents, Shaped-prop, stored_state, Store, IsTable}
 use Rattle.prefix_trie_table.proofs.Blocks.Sizing.{table_sizes, storage_of}
 use Rattle.prefix_trie_table.proofs.Removal.Clearing.{root_slot}
 use Rattle.prefix_trie_table.proofs.Moving.SplitOff.{rest_counted, shape_seen, table_seen, clear_behind, split_off_map, second_packed}
@@ -8,8 +8,8 @@ use Rattle.prefix_trie_table.proofs.Tree.Stated.{all_step, part_step, bounds_gro
 use Rattle.prefix_trie_table.proofs.table.Table.remove_children.Goals as goal
 use Rattle.prefix_trie_table.proofs.table.Table.remove_children.Goals.{then-len-eq0, else-len-eq0}
 
-pub lay_part-requires-clause-trie : goal.lay_part-requires-clause-trie
-lay_part-requires-clause-trie g c = (c.self.inside.shape.0, c.self.inside.count, seen_trie c.self.inside.shape c.self.invariant c.self.view_is refl c.requires.within c.requires.nodes)
+pub lay_part-requires : goal.lay_part-requires
+lay_part-requires g c = record { trie = (c.self.inside.shape.0, c.self.inside.count, seen_trie c.self.inside.shape c.self.invariant c.self.view_is refl c.requires.within c.requires.nodes) }
 
 pub same-self : goal.same-self
 same-self g c =
@@ -29,7 +29,7 @@ invariant_of-self-inside-2 g c =
 pub overflow_sub-second : goal.overflow_sub-second
 overflow_sub-second g c =
     let left = c.move_part-nodes.ensures.removed _ (seen_trie c.self.inside.shape c.self.invariant c.self.view_is refl c.requires.within c.requires.nodes) in
-    (rest_counted g.K.Key.bit_width _ c.self.inside.count _ _ c.self.inside.shape.0 (take c.args.len (g.K.Key.bits c.args.key)) left c.self.invariant.sized).0
+    (rest_counted g.K.Key.bit_width _ c.self.inside.count _ _ c.self.inside.shape.0 c.args.path left c.self.invariant.sized).0
 
 pub invariant_of-self : goal.invariant_of-self
 invariant_of-self g c = table_seen (c.move_part-nodes.ensures.removed _ (seen_trie c.self.inside.shape c.self.invariant c.self.view_is refl c.requires.within c.requires.nodes)) c.self-2-1.given.0
@@ -49,30 +49,29 @@ invariant_of-second g c =
     let left = c.move_part-nodes.ensures.removed _ trie in
     let split_off = c.move_part-nodes.ensures.moved _ trie in
     subst (λ n. IsTable c.move_part-nodes.result.0 c.move_part-nodes.result.1 n c.second-1.given.0.0)
-    (rest_counted g.K.Key.bit_width _ c.self.inside.count _ _ c.self.inside.shape.0 (take c.args.len (g.K.Key.bits c.args.key)) left c.self.invariant.sized).1
+    (rest_counted g.K.Key.bit_width _ c.self.inside.count _ _ c.self.inside.shape.0 c.args.path left c.self.invariant.sized).1
     (table_seen split_off c.second-1.given.0)
 
 pub returns-clause-split_off : goal.returns-clause-split_off
 returns-clause-split_off g c =
     let i = c.self.inside in
     let now = c.args.self.now in
-    let q = take c.args.len (g.K.Key.bits c.args.key) in
+    let q = c.args.path in
     let new = c.move_part-nodes.new in
     let two = c.move_part-nodes.result in
     let trie = seen_trie i.shape c.self.invariant c.self.view_is refl c.requires.within c.requires.nodes in
     let left = c.move_part-nodes.ensures.removed i.shape.0 trie in
     let split_off = c.move_part-nodes.ensures.moved i.shape.0 trie in
     let preserves = c.move_part-nodes.ensures.preserves in
-    let long : length q ≡ c.args.len = length-take-le c.args.len (g.K.Key.bits c.args.key) (omega (arith, g.met.K.Key.key_laws.bits_length c.args.key c.requires.key, c.requires.long)) in
     let step : (width : ℕ) → StepByPath width (stored_state now) (RemoveChildren q) Done (stored_state c.if-len-eq0.self) = elim c.if-len-eq0.branch [
       | then-len-eq0 w ↦
-          rw w.self-is (all_step g.K.Key.bit_width (stored_state now) (stored_state w.clear.new.self) q (long ∙ w.if-len-eq0.true) c.requires.nodes
+          rw w.self-is (all_step g.K.Key.bit_width (stored_state now) (stored_state w.clear.new.self) q (sym c.len-len.ensures.len ∙ w.if-len-eq0.true) c.requires.nodes
           (clear_behind (stored_state now) (c.self-2-1.given.0.0, storage_of new.nodes new.cells c.self-2-1.given.1.0) (stored_state w.clear.new.self)
           (preserves.nodes.limit ∙ ap (λ (m : Contents g.row.T.Denot). m.space.limit) c.self.view_is)
           (rw (← c.self.view_is) (root_slot c.self.inside.nodes c.self.inside.cells (some_table c.self.invariant))) w.clear.ensures.step))
       | else-len-eq0 w ↦
           rw w.self-is (rw (← c.self.view_is) (part_step i.nodes new.nodes i.cells new.cells _ _ i.shape c.self.invariant i.sizes c.self-2-1.given.0
-          (table_seen left c.self-2-1.given.0) c.self-2-1.given.1.0 preserves q (omega (arith, long, w.if-len-eq0.false)) (shape_seen left c.self-2-1.given.0)))
+          (table_seen left c.self-2-1.given.0) c.self-2-1.given.1.0 preserves q (omega (arith, c.len-len.ensures.len, w.if-len-eq0.false)) (shape_seen left c.self-2-1.given.0)))
     ] in
     split_off_map (stored_state now) (c.second-1.given.0.0, storage_of two.0 two.1 c.second-1.given.1.0) (stored_state c.if-len-eq0.self) q step
     (rw (← c.self.view_is) (shape_seen split_off c.second-1.given.0))
@@ -91,7 +90,7 @@ returns-clause-bounds_growth g c = λ some.
     let new = c.move_part-nodes.new in
     let left = c.move_part-nodes.ensures.removed _ (seen_trie i.shape c.self.invariant c.self.view_is refl c.requires.within c.requires.nodes) in
     elim c.if-len-eq0.branch [
-      | then-len-eq0 w ↦ absurd (omega (arith, some, w.if-len-eq0.true))
+      | then-len-eq0 w ↦ absurd (omega (arith, some, c.len-len.ensures.len, w.if-len-eq0.true))
       | else-len-eq0 w ↦
           rw w.self-is (rw (← c.self.view_is) (bounds_growth_in i.nodes new.nodes i.cells new.cells _ _ i.shape c.self.invariant i.sizes c.self-2-1.given.0
           (table_seen left c.self-2-1.given.0) c.self-2-1.given.1.0 c.move_part-nodes.ensures.preserves))

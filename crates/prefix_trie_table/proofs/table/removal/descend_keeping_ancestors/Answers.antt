@@ -1,109 +1,51 @@
-use Rattle.prefix_trie_table.proofs.Prelude.{◌≡◌, ℕ, ◌+◌, ◌*◌, ◌/◌, ◌≤◌, Bool, List, [], length, take, drop, sym, ap, ◌∙◌, subst, arith, number, IsRest, rest_whole, rest_front, rest_behind, NodeSlot, chunks_of, AreAncestors}
-use Rattle.prefix_trie_table.proofs.Lookup.Finding.{reached_none}
-use Rattle.prefix_trie_table.proofs.Lookup.Going.{IsDown, deepest_root, deepest_in, down_bit, down_more, level_inside}
-use Rattle.prefix_trie_table.proofs.Tree.Ancestors.{ancestors_first, ancestors_more}
+use Rattle.prefix_trie_table.proofs.Prelude.{◌*◌, ◌/◌, ap, sym, ◌∙◌, drop, arith}
+use Rattle.prefix_trie_table.proofs.Lookup.SearchPaths.{left_next, path_none, step_left}
+use Rattle.prefix_trie_table.proofs.Strings.Digits.{path-length}
+use Rattle.prefix_trie_table.proofs.Tree.Ancestors.{above_root, above_next}
 use Rattle.prefix_trie_table.proofs.table.removal.descend_keeping_ancestors.Goals as goal
 
-pub visit-node-requires : goal.visit-node-requires
-visit-node-requires g c =
-    let s = c.requires.sound in
-    deepest_in s.reading s.paths c.args.nodes.now [] 0 0 s.hold (deepest_root s.reading s.paths c.args.nodes.now [] s.hold)
-
-pub loop-level-init : goal.loop-level-init
-loop-level-init g c =
-    let path : List ℕ = chunks_of (take c.args.len (g.K.Key.bits c.args.key)) in
+pub loop-here-init : goal.loop-here-init
+loop-here-init g c =
+    let top = c.root-here.ensures.level in
+    let above = above_root c.args.path.now c.root-here.result.level c.args.above.now.items c.args.nodes.now top c.requires.empty in
     record {
-      down = record { whole = omega arith; node_is = c.visit-node.ensures.node; deepest = λ reading paths hold. deepest_root reading paths c.args.nodes.now path hold };
-      ancestors = λ reading paths hold. ancestors_first reading path c.args.above.now.items;
-      long = ap (λ (xs : List NodeSlot). length xs) c.requires.empty;
-      within = omega arith;
-      key = c.requires.key;
-      rest = rest_whole (g.K.Key.bits c.args.key);
+      along = c.root-here.ensures.along c.args.path.now;
+      rest_is = c.again-rest.ensures ∙ ap (λ n. drop (5 * n) c.args.path.now) (sym top);
+      short = omega (arith, c.len-last.ensures.len, c.len-last.ensures.short);
+      long = above.long;
+      slots = above.slots;
     }
 
--- the step that is read of the rest is the key's
-step : (b rest : List Bool) (len level x : ℕ) → IsRest b (5 * level) rest → 5 * level + 5 ≤ len → len ≤ length b → x ≡ number (take 5 (drop 0 rest)) →
-    x ≡ number (take 5 (drop (5 * level) b))
-step b rest len level x is inside long read = read ∙ sym (ap number (rest_front b rest (5 * level) 5 is (omega (arith, inside, long))))
+pub step_down-requires-clause-along : goal.step_down-requires-clause-along
+step_down-requires-clause-along g c = let at = c.loop-here.invariant in (c.args.path.now, at.along, at.rest_is, at.short, (ap (λ n. n / 5) c.len-last.ensures.len))
 
-pub child_bit_of-child-requires-clause-within : goal.child_bit_of-child-requires-clause-within
-child_bit_of-child-requires-clause-within g c = omega (arith, level_inside c.loop-level._level c.args.len c.loop-level-test.true, c.requires.within)
+pub returns-in_default-clause-missing : goal.returns-in_default-clause-missing
+returns-in_default-clause-missing g c = λ reading paths hold.
+    let at = c.loop-here.invariant in
+    let last = ap (λ n. n / 5) c.len-last.ensures.len in
+    path_none c.args.path.now c.loop-here.here c.args.nodes.now (c.in_default.ensures.step c.args.path.now at.along at.rest_is last) reading paths hold c.loop-here.rest at.rest_is
+    (step_left c.args.path.now c.loop-here.rest c.loop-here.here.level _ at.rest_is last c.loop-here-test.true)
 
-pub behind-rest-requires : goal.behind-rest-requires
-behind-rest-requires g c = omega (arith, level_inside c.loop-level._level c.args.len c.loop-level-test.true, c.requires.within)
+pub below-rest-requires : goal.below-rest-requires
+below-rest-requires g c = step_left c.args.path.now c.loop-here.rest c.loop-here.here.level _ c.loop-here.invariant.rest_is (ap (λ n. n / 5) c.len-last.ensures.len) c.loop-here-test.true
 
-pub returns-then-not-has_bit-clause-missing : goal.returns-then-not-has_bit-clause-missing
-returns-then-not-has_bit-clause-missing g c = λ reading paths hold.
-    let b = g.K.Key.bits c.args.key in
-    let long : c.args.len ≤ length b = omega (arith, g.met.K.Key.key_laws.bits_length c.args.key c.requires.key, c.requires.within) in
-    let down = c.loop-level.invariant.down in
-    let inside = level_inside c.loop-level._level c.args.len c.loop-level-test.true in
-    let read = step b _ c.args.len c.loop-level._level _ c.loop-level.invariant.rest inside long c.child_bit_of-child.ensures.value in
-    reached_none b c.args.len c.loop-level._level _ c.loop-level.node c.args.nodes.now
-    (record {
-      long = long;
-      whole = down.whole;
-      node_is = down.node_is;
-      deepest = down.deepest;
-      missing = λ more. down_bit b c.args.len c.loop-level._level _ c.loop-level.node c.args.nodes.now long down c.child_bit_of-child.result
-          c.child_bit_of-child.ensures.small read more ∙ sym c.has_bit.ensures ∙ c.if-not-has_bit.true;
-    }) reading paths hold inside
-
-pub visit-node-requires-in-loop-level : goal.visit-node-requires-in-loop-level
-visit-node-requires-in-loop-level g c =
-    let b = g.K.Key.bits c.args.key in
-    let s = c.requires.sound in
-    let long : c.args.len ≤ length b = omega (arith, g.met.K.Key.key_laws.bits_length c.args.key c.requires.key, c.requires.within) in
-    let inside = level_inside c.loop-level._level c.args.len c.loop-level-test.true in
-    let read = step b _ c.args.len c.loop-level._level _ c.loop-level.invariant.rest inside long c.child_bit_of-child.ensures.value in
-    deepest_in s.reading s.paths c.args.nodes.now (chunks_of (take c.args.len b)) (c.loop-level._level + 1) _ s.hold
-    (down_more b c.args.len c.loop-level._level _ c.loop-level.node c.args.nodes.now long c.loop-level.invariant.down c.child_bit_of-child.result
-    c.child_bit_of-child.ensures.small read inside c.rank.result (sym c.has_bit.ensures ∙ c.if-not-has_bit.false) c.rank.ensures s.reading s.paths s.hold)
-
-pub loop-level-preserved : goal.loop-level-preserved
-loop-level-preserved g c =
-    let b = g.K.Key.bits c.args.key in
-    let inv = c.loop-level.invariant in
-    let level = c.loop-level._level in
-    let long : c.args.len ≤ length b = omega (arith, g.met.K.Key.key_laws.bits_length c.args.key c.requires.key, c.requires.within) in
-    let inside = level_inside c.loop-level._level c.args.len c.loop-level-test.true in
-    let read = step b _ c.args.len c.loop-level._level _ inv.rest inside long c.child_bit_of-child.ensures.value in
-    let deeper : 5 * c.loop-level._level + 5 ≡ 5 * (c.loop-level._level + 1) = omega arith in
+pub loop-here-preserved : goal.loop-here-preserved
+loop-here-preserved g c =
+    let at = c.loop-here.invariant in
+    let next = c.in-Some.ensures.step c.args.path.now at.along at.rest_is (ap (λ n. n / 5) c.len-last.ensures.len) in
+    let above = above_next c.args.path.now c.loop-here.here c.loop-here.above.items c.push.new.self.items c.args.nodes.now c.in-Some.next.level (record { long = at.long; slots = at.slots }) at.along next.0 c.push.ensures.items in
     record {
-      down = record {
-        whole = omega (arith, inside);
-        node_is = c.visit-node-in-loop-level.ensures.node;
-        deepest = down_more b c.args.len level _ c.loop-level.node c.args.nodes.now long inv.down c.child_bit_of-child.result
-            c.child_bit_of-child.ensures.small read inside c.rank.result (sym c.has_bit.ensures ∙ c.if-not-has_bit.false) c.rank.ensures;
-      };
-      ancestors = λ reading paths hold.
-          subst (λ (xs : List NodeSlot). AreAncestors reading (chunks_of (take c.args.len b)) xs (c.loop-level._level + 1)) (sym c.push.ensures.items)
-          (ancestors_more reading (chunks_of (take c.args.len b)) c.loop-level.above.items level c.loop-level.at (inv.ancestors reading paths hold) inv.long
-          (inv.down.deepest reading paths hold).stands);
-      long = omega (arith, c.push.ensures.len, inv.long);
-      within = omega (arith, c.loop-level-test.true);
-      key = c.behind-rest.ensures.key;
-      rest = subst (λ d. IsRest b d (g.K.Key.bits c.behind-rest.result)) deeper
-          (rest_behind b _ (g.K.Key.bits c.behind-rest.result) (5 * level) 5 inv.rest (omega (arith, inside, long)) c.behind-rest.ensures.value);
+      along = next.1;
+      rest_is = c.below-rest.ensures ∙ left_next c.args.path.now c.loop-here.rest c.loop-here.here.level c.in-Some.next.level at.rest_is next.0;
+      short = at.short;
+      long = above.long;
+      slots = above.slots;
     }
 
 pub returns-clause-found : goal.returns-clause-found
 returns-clause-found g c =
-    let b = g.K.Key.bits c.args.key in
-    let inv = c.loop-level.invariant in
-    let all : c.loop-level._level ≡ c.args.len / 5 = omega (arith, inv.within, c.loop-level-test.false) in
-    let down : IsDown (chunks_of (take c.args.len b)) c.args.len (c.args.len / 5) c.loop-level.node (c.loop-level.at.start + c.loop-level.at.offset) c.args.nodes.now =
-    subst (λ n. IsDown (chunks_of (take c.args.len b)) c.args.len n c.loop-level.node (c.loop-level.at.start + c.loop-level.at.offset) c.args.nodes.now) all inv.down in (
-      record {
-        long = omega (arith, g.met.K.Key.key_laws.bits_length c.args.key c.requires.key, c.requires.within);
-        whole = down.whole;
-        node_is = down.node_is;
-        deepest = down.deepest;
-        missing = λ more. absurd (too_far c.args.len more);
-      },
-      inv.long ∙ all,
-      λ reading paths hold. subst (λ n. AreAncestors reading (chunks_of (take c.args.len b)) c.loop-level.above.items n) all (inv.ancestors reading paths hold),
+    let at = c.loop-here.invariant in
+    let whole = at.along.whole in (
+      record { along = at.along; last = omega (arith, whole, path-length c.args.path.now, c.len-last.ensures.len, c.loop-here-test.false); short = at.short },
+      record { long = at.long; slots = at.slots },
     )
-  where
-    too_far : (len : ℕ) → 5 * (len / 5) + 5 ≤ len → ⊥
-    too_far len h = omega (arith, h)

@@ -1,60 +1,44 @@
-use Rattle.prefix_trie_table.proofs.Prelude.{◌/◌, inl, inr, List, length, take, is_some, refl, sym, ap, ◌∙◌, subst, arith, NodeSlot, chunks_of, AreAncestors}
-use Rattle.prefix_trie_table.proofs.Blocks.Turnovers.{made_same}
-use Rattle.prefix_trie_table.proofs.Insertion.Spaces.{Grows-same, Grows-after}
-use Rattle.prefix_trie_table.proofs.Lookup.Finding.{reached_own}
-use Rattle.prefix_trie_table.proofs.Lookup.Going.{level_last}
-use Rattle.prefix_trie_table.proofs.Removal.OneEntry.{nothing_taken, no_value}
+use Rattle.prefix_trie_table.proofs.Prelude.{inl, inr, is_some, refl, ap}
+use Rattle.prefix_trie_table.proofs.Lookup.SearchPaths.{own_last, own_node, own_short}
+use Rattle.prefix_trie_table.proofs.Tree.Invariant.{deepest_there}
+use Rattle.prefix_trie_table.proofs.Removal.OneEntry.{nothing_taken, no_value, own_taken, own_end}
 use Rattle.prefix_trie_table.proofs.table.removal.remove_entry.Goals as goal
 
-pub returns-in_default : goal.returns-in_default
-returns-in_default g c = record {
-  value = λ reading paths values holds. sym (no_value reading values paths _ _ holds _ _ (c.in_default.ensures.missing reading paths holds.hold));
-  removed = λ reading paths values holds.
-      let none = c.in_default.ensures.missing reading paths holds.hold in
-      inl (none, refl, nothing_taken reading values paths c.args.nodes.now c.args.cells.now holds _ _ (no_value reading values paths _ _ holds _ _ none));
-  counted = omega arith;
-  node_space = Grows-same _ _ 24 refl;
-  cell_space = Grows-same _ _ 24 refl;
-}
+pub returns-in_default-clause-removed : goal.returns-in_default-clause-removed
+returns-in_default-clause-removed g c = λ reading paths values holds.
+    let none = c.in_default.ensures.missing reading paths holds.hold in
+    inl (none, refl, nothing_taken reading values paths c.args.nodes.now c.args.cells.now holds _ _ (no_value reading values paths _ _ holds _ _ none))
 
-pub take_entry-value-requires-clause-reached : goal.take_entry-value-requires-clause-reached
-take_entry-value-requires-clause-reached g c = c.in-Some.ensures.found.0
+pub value_bit-bit-requires : goal.value_bit-bit-requires
+value_bit-bit-requires g c = rw c.after.ensures (own_short c.args.path c.in-Some.here c.args.nodes.now c.in-Some.ensures.found.0)
 
-pub take_entry-value-requires-clause-table : goal.take_entry-value-requires-clause-table
-take_entry-value-requires-clause-table g c = c.requires.table
+pub take_bit-value-requires-clause-table : goal.take_bit-value-requires-clause-table
+take_bit-value-requires-clause-table g c =
+    let t = c.requires.table in
+    (t.0, t.1, deepest_there (c.in-Some.ensures.found.0.along.deepest t.0.reading t.0.paths t.0.holds.hold))
 
-pub prune_up-requires-clause-long : goal.prune_up-requires-clause-long
-prune_up-requires-clause-long g c = ap (λ (xs : List NodeSlot). length xs) c.deref.ensures.0 ∙ c.in-Some.ensures.found.1
-
-pub prune_up-requires-clause-stands : goal.prune_up-requires-clause-stands
-prune_up-requires-clause-stands g c =
-    let path = chunks_of (take c.args.len (g.K.Key.bits c.args.key)) in
+pub prune_up-requires : goal.prune_up-requires
+prune_up-requires g c =
     let t = c.requires.table.0 in
-    let taken = c.take_entry-value.ensures.taken t.reading t.paths t.values t.holds in
-    record {
-      reading = taken.0.later;
-      paths = t.paths;
-      hold = taken.0.holds.hold;
-      slots = subst (λ (xs : List NodeSlot). AreAncestors taken.0.later path xs (c.args.len / 5)) (sym c.deref.ensures.0)
-          (λ k h. taken.0.stands _ _ (c.in-Some.ensures.found.2 t.reading t.paths t.holds.hold k h));
-      is = taken.1;
-    }
+    let end = own_end c.args.path c.after.result c.in-Some.here c.args.nodes.now
+    (own_last _ _ _ c.in-Some.ensures.found.0) c.after.ensures (rw c.after.ensures (own_short _ _ _ c.in-Some.ensures.found.0)) c.value_bit-bit.result c.value_bit-bit.ensures.value c.args.cells.now
+    c.take_bit-value.result.0 c.take_bit-value.result.1 c.take_bit-value.new.nodes c.take_bit-value.new.cells c.take_bit-value.ensures.taken
+    c.in-Some.ensures.found.0.last c.deref.result.now _ c.deref.ensures.0 c.in-Some.ensures.found.1 t.reading t.paths t.values t.holds in
+    record { stands = end }
 
-pub returns : goal.returns
-returns g c =
-    let b = g.K.Key.bits c.args.key in
-    let path = chunks_of (take c.args.len b) in
-    let e = c.take_entry-value.ensures in
-    record {
-      value = e.value;
-      removed = λ reading paths values holds.
-          let own = reached_own b c.args.len (c.args.len / 5) _ c.in-Some.node c.args.nodes.now c.in-Some.ensures.found.0 reading paths holds.hold
-          (level_last (c.args.len / 5) c.args.len refl) in
-          let taken = e.taken reading paths values holds in
-          let slots : AreAncestors taken.0.later path c.deref.result.now (c.args.len / 5) = subst (λ (xs : List NodeSlot). AreAncestors taken.0.later path xs (c.args.len / 5)) (sym c.deref.ensures.0)
-          (λ k h. taken.0.stands _ _ (c.in-Some.ensures.found.2 reading paths holds.hold k h)) in
-          inr (c.take_entry-value.new.nodes, ap is_some own, taken.0, c.prune_up.ensures.pruned taken.0.later paths taken.0.holds.hold slots taken.1, e.node_blocks);
-      counted = e.counted;
-      node_space = Grows-after _ _ _ 24 e.node_blocks.space (made_same c.args.nodes.now c.take_entry-value.new.nodes e.node_blocks.tiers) c.prune_up.ensures.space;
-      cell_space = e.cell_space;
-    }
+pub returns-clause-value : goal.returns-clause-value
+returns-clause-value g c = λ reading paths values holds.
+    (own_taken c.args.path c.after.result c.in-Some.here c.args.nodes.now
+    (own_last _ _ _ c.in-Some.ensures.found.0) c.after.ensures (rw c.after.ensures (own_short _ _ _ c.in-Some.ensures.found.0)) c.value_bit-bit.result c.value_bit-bit.ensures.value c.args.cells.now
+    c.take_bit-value.result.0 c.take_bit-value.result.1 c.take_bit-value.new.nodes c.take_bit-value.new.cells c.take_bit-value.ensures.taken reading paths values holds).0
+
+pub returns-clause-removed : goal.returns-clause-removed
+returns-clause-removed g c = λ reading paths values holds.
+    let end = own_end c.args.path c.after.result c.in-Some.here c.args.nodes.now
+    (own_last _ _ _ c.in-Some.ensures.found.0) c.after.ensures (rw c.after.ensures (own_short _ _ _ c.in-Some.ensures.found.0)) c.value_bit-bit.result c.value_bit-bit.ensures.value c.args.cells.now
+    c.take_bit-value.result.0 c.take_bit-value.result.1 c.take_bit-value.new.nodes c.take_bit-value.new.cells c.take_bit-value.ensures.taken
+    c.in-Some.ensures.found.0.last c.deref.result.now _ c.deref.ensures.0 c.in-Some.ensures.found.1 reading paths values holds in
+    let taken = own_taken c.args.path c.after.result c.in-Some.here c.args.nodes.now
+    (own_last _ _ _ c.in-Some.ensures.found.0) c.after.ensures (rw c.after.ensures (own_short _ _ _ c.in-Some.ensures.found.0)) c.value_bit-bit.result c.value_bit-bit.ensures.value c.args.cells.now
+    c.take_bit-value.result.0 c.take_bit-value.result.1 c.take_bit-value.new.nodes c.take_bit-value.new.cells c.take_bit-value.ensures.taken reading paths values holds in
+    inr (c.take_bit-value.new.nodes, ap is_some (own_node _ _ _ c.in-Some.ensures.found.0 reading paths holds.hold), taken.1.0, c.prune_up.ensures.pruned end, c.take_bit-value.ensures.node_blocks)

@@ -1,4 +1,4 @@
-use Rattle.prefix_trie_table.proofs.Prelude.{◌∙◌, ap, [], take, len, listing_below, entries, part_below, State, Seats, filled_with, split_off, IsTrie}
+use Rattle.prefix_trie_table.proofs.Prelude.{◌∙◌, ap, [], len, listing_below, entries, part_below, State, Seats, filled_with, split_off, IsTrie}
 use Rattle.prefix_trie_table.proofs.Moving.Second.{second_trie}
 use Rattle.prefix_trie_table.proofs.Moving.Moved.{Fills, may_move, all_moved}
 use Rattle.prefix_trie_table.proofs.table.split_move.move_part.Given as given
@@ -7,7 +7,7 @@ use Rattle.prefix_trie_table.proofs.table.split_move.move_part.Goals as goal
 pub start_at-start-requires : goal.start_at-start-requires
 start_at-start-requires g c =
     let s = c.requires.trie.0 in
-    let q = take c.args.len (g.K.Key.bits c.args.key) in record {
+    let q = c.args.path in record {
       tree = (
         record { count = len (part_below s.entries q); cells = filled_with c.args.laid.slots (entries (part_below s.entries q)) c.args.vacant; shape = split_off s q },
         second_trie g.K.Key.bit_width c.args.entries.now c.args.nodes.now c.args.cells.now s c.requires.trie.1 q c.args.laid c.args.vacant c.requires.second,
@@ -18,18 +18,18 @@ pub remove_part-requires-clause-may_ask : goal.remove_part-requires-clause-may_a
 remove_part-requires-clause-may_ask g c = λ s trie.
     may_move g.K.Key.IsKey g.K.Key.bits g.K.Key.bit_width {F = Seats g.row.K.Denot g.row.T.Denot g.row.A.Denot g.row.V.Denot}
     (λ f. f.nodes) (λ f. f.cells) (λ f. f.key) (λ f. f.stack.items) c.args.entries.now c.args.nodes.now c.args.cells.now s trie
-    (take c.args.len (g.K.Key.bits c.args.key)) (record { nodes = c.args.laid; cells = c.args.vacant; key = c.start_at-start.result.key; stack = c.start_at-start.result.stack })
-    c.requires.second c.start_at-start.ensures.stack (λ t tree. c.start_at-start.ensures.rest t tree ∙ ap (listing_below t.shape.entries) c.new-path.ensures)
+    c.args.path (record { nodes = c.args.laid; cells = c.args.vacant; key = c.start_at-start.result.key; stack = c.start_at-start.result.stack })
+    c.requires.second c.start_at-start.ensures.stack (λ t tree. c.start_at-start.ensures.rest t tree ∙ ap (listing_below t.shape.entries) c.again.ensures)
 
 -- what the second table has then
 filled : (g : given.Over) (c : goal.After-remove_part g) → (s : State g.row.T.Denot) → IsTrie g.K.Key.bit_width c.args.entries.now c.args.nodes.now c.args.cells.now s →
-    Fills g.K.Key.IsKey g.K.Key.bits g.K.Key.bit_width (split_off s (take c.args.len (g.K.Key.bits c.args.key))) c.args.laid c.args.vacant
+    Fills g.K.Key.IsKey g.K.Key.bits g.K.Key.bit_width (split_off s c.args.path) c.args.laid c.args.vacant
     c.remove_part.new.keep.nodes c.remove_part.new.keep.cells c.remove_part.new.keep.key c.remove_part.new.keep.stack.items []
 filled g c = λ s trie.
     all_moved g.K.Key.IsKey g.K.Key.bits g.K.Key.bit_width {F = Seats g.row.K.Denot g.row.T.Denot g.row.A.Denot g.row.V.Denot}
     (λ f. f.nodes) (λ f. f.cells) (λ f. f.key) (λ f. f.stack.items) c.args.entries.now c.args.nodes.now c.args.cells.now s trie
-    (take c.args.len (g.K.Key.bits c.args.key)) (record { nodes = c.args.laid; cells = c.args.vacant; key = c.start_at-start.result.key; stack = c.start_at-start.result.stack })
-    c.requires.second c.start_at-start.ensures.stack (λ t tree. c.start_at-start.ensures.rest t tree ∙ ap (listing_below t.shape.entries) c.new-path.ensures) c.remove_part.new.keep (c.remove_part.ensures.up_to s trie)
+    c.args.path (record { nodes = c.args.laid; cells = c.args.vacant; key = c.start_at-start.result.key; stack = c.start_at-start.result.stack })
+    c.requires.second c.start_at-start.ensures.stack (λ t tree. c.start_at-start.ensures.rest t tree ∙ ap (listing_below t.shape.entries) c.again.ensures) c.remove_part.new.keep (c.remove_part.ensures.up_to s trie)
 
 pub returns : goal.returns
 returns g c = record {

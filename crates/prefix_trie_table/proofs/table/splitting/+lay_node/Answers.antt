@@ -1,5 +1,5 @@
 use Rattle.prefix_trie_table.specs.NodeArrays.{FitsByte}
-use Rattle.prefix_trie_table.proofs.Prelude.{ℕ, All, All-nil, All-push, IfSome, None, replicate, sym, ap, subst, ◌∙◌, arith, ◌≡◌, ◌+◌, ◌-◌, List, [], length, drop, take, bit_and, err_from_is_err_and, Memory, node_at, blank_node, node_sizes, cell_sizes, Node, child_slots, value_slots, sum_to, slots_at_child, slots_below, IsSubtree, IsLaid, NothingLaid, LaysNode, LaysList, Lays, tier_sizes}
+use Rattle.prefix_trie_table.proofs.Prelude.{ℕ, All, All-nil, All-push, IfSome, None, replicate, sym, ap, subst, ◌∙◌, arith, ◌≡◌, ◌+◌, ◌-◌, List, [], length, bit_and, err_from_is_err_and, Memory, node_at, blank_node, node_sizes, cell_sizes, Node, child_slots, value_slots, sum_to, slots_at_child, slots_below, IsSubtree, IsLaid, NothingLaid, LaysNode, LaysList, Lays, tier_sizes}
 use Rattle.prefix_trie_table.proofs.Splitting.Subtrees.{first, subtree_start, subtree_few, subtree_clear, subtree_passed, subtree_attached, subtree_closed, subtree_bare}
 use Rattle.prefix_trie_table.proofs.Splitting.FreshArrays.{Lays-none, can_lay_then}
 use Rattle.prefix_trie_table.proofs.Splitting.Parts.{kept, own_values, left_out, below_it}
@@ -10,9 +10,6 @@ use Rattle.prefix_trie_table.proofs.Strings.Bare.{was_set, others_stay}
 use Rattle.prefix_trie_table.proofs.Strings.Bits.{has_bit-is, rank-ones}
 use Rattle.prefix_trie_table.proofs.Strings.BitLists.{rank-le, rank-lacks}
 use Rattle.prefix_trie_table.proofs.table.splitting.+lay_node.Goals as goal
-
-pub masks-values-requires : goal.masks-values-requires
-masks-values-requires g t c = record { key = c.requires.key; whole = c.requires.whole; within = c.requires.within }
 
 -- the values that are built, and their block
 pub lay_vacant-requires-clause-sound : goal.lay_vacant-requires-clause-sound
@@ -41,15 +38,14 @@ returns-in_err-own g t c =
 pub loop-child-init : goal.loop-child-init
 loop-child-init g t c =
     let values : ℕ = bit_and c.args.node.value_bitmap c.masks-values.result.0 in
-    let part : List _ = drop c.args.depth (take c.args.len (g.K.Key.bits c.args.key)) in
     let counted = c.count.ensures ∙ sym (rank-ones values 32 (omega arith)) in
     let packed = values_packed c.args.node (tier_sizes c.args.cells.now.tiers) values c.count.result c.requires.cells.sizes_are counted
     (kept c.args.node.value_bitmap c.masks-values.result.0) (own_within c.args.from.now c.args.node c.args.levels c.requires.source) in
     record {
-      subtree = subst (λ xs. IsSubtree c.args.from.now.slots c.args.levels c.args.node part c.args.nodes.now c.args.cells.now 0 (first values c.in_ok-own.own) xs c.args.nodes.now c.lay_vacant.new.self)
+      subtree = subst (λ xs. IsSubtree c.args.from.now.slots c.args.levels c.args.node c.args.rest.now c.args.nodes.now c.args.cells.now 0 (first values c.in_ok-own.own) xs c.args.nodes.now c.lay_vacant.new.self)
           (sym c.new-below.ensures)
           (subtree_start values c.in_ok-own.own c.lay_vacant.new.self
-          (own_values c.args.node part c.masks-values.result.0 c.masks-values.ensures.values)
+          (own_values c.args.node c.args.rest.now c.masks-values.result.0 c.masks-values.ensures.values)
           (λ b set. own_within c.args.from.now c.args.node c.args.levels c.requires.source b (kept c.args.node.value_bitmap c.masks-values.result.0 b set))
           c.requires.cells.sizes_are
           (subst (λ n. LaysList None c.args.cells.now c.lay_vacant.new.self (replicate n None) c.in_ok-own.own) counted c.in_ok-own.ensures.laid)
@@ -98,7 +94,7 @@ lay_node-requires g t c κs within =
     c.requires.nodes inv.nodes (let r = space child_slots in omega (arith, r)) in
     let cells = can_lay_then None c.args.cells.now c.loop-child.cells cell_sizes _ _ (slots_below value_slots c.args.from.now.slots (c.args.levels - 1) c.visit-lower.result) _
     c.requires.cells inv.cells (let r = space value_slots in omega (arith, r)) in
-    (omega (arith, some), (within.0, (within.1.0, (within.1.1.0, (within.1.1.1, (c.requires.key, (c.requires.within, (c.masks-values.ensures.most, (below, (nodes, cells))))))))))
+    (omega (arith, some), (within.0, (within.1.0, (within.1.1.0, (within.1.1.1, (below, (nodes, cells)))))))
 
 pub returns-in_err-branch : goal.returns-in_err-branch
 returns-in_err-branch g t c = let p = err_from_is_err_and c.from_residual-in_err-branch.result c.from_residual-in_err-branch.ensures.1 in rw (p.1, p.2) (record { laid = tt; fits = tt; memory = c.in_err-branch.ensures.memory })
@@ -112,8 +108,8 @@ loop-child-preserved-in_default g t c =
     let some = some_level c.args.from.now c.args.node c.args.levels c.requires.source child there in
     let amount = λ (own : Node → ℕ). child_amount own c.args.from.now.slots c.args.levels c.args.node c.visit-lower.result child some there is in
     let nothing = subst (λ x. NothingLaid c.args.from.now.slots (c.args.levels - 1) c.visit-lower.result x c.loop-child.nodes c.lay_node.new.nodes c.loop-child.cells c.lay_node.new.cells)
-    c.masks-values.ensures.deeper
-    (subst (LaysNode c.args.from.now.slots (c.args.levels - 1) c.visit-lower.result (drop c.masks-values.result.2 (take c.args.len (g.K.Key.bits c.args.key))) c.loop-child.nodes
+    c.masks-values.ensures.below
+    (subst (LaysNode c.args.from.now.slots (c.args.levels - 1) c.visit-lower.result c.masks-values.result.2 c.loop-child.nodes
     c.lay_node.new.nodes c.loop-child.cells c.lay_node.new.cells) c.in_default.is c.in_ok-branch.ensures.laid) in
     record {
       subtree = subtree_passed c.loop-child.invariant.subtree c.lay_node.new.nodes c.lay_node.new.cells
@@ -140,22 +136,21 @@ with_bit-requires-clause-clear g t c =
 pub loop-child-preserved : goal.loop-child-preserved
 loop-child-preserved g t c =
     let child : ℕ = c.loop-child.child in
-    let part : List _ = drop c.args.depth (take c.args.len (g.K.Key.bits c.args.key)) in
     let set = has_bit-is (bit_and c.args.node.child_bitmap c.masks-values.result.1) child c.loop-child-test.true ∙ sym c.has_bit.ensures ∙ c.if-not-has_bit.false in
     let there = kept c.args.node.child_bitmap c.masks-values.result.1 child set in
     let is = c.visit-lower.ensures.node ∙ ap (node_at c.args.from.now.slots) c.child_slot.ensures in
     let some = some_level c.args.from.now c.args.node c.args.levels c.requires.source child there in
     let branch = subst (λ x. IsLaid c.args.from.now.slots (c.args.levels - 1) c.visit-lower.result x c.loop-child.nodes c.lay_node.new.nodes c.loop-child.cells c.lay_node.new.cells
-    c.in-Some.branch) c.masks-values.ensures.deeper
-    (subst (LaysNode c.args.from.now.slots (c.args.levels - 1) c.visit-lower.result (drop c.masks-values.result.2 (take c.args.len (g.K.Key.bits c.args.key))) c.loop-child.nodes
+    c.in-Some.branch) c.masks-values.ensures.below
+    (subst (LaysNode c.args.from.now.slots (c.args.levels - 1) c.visit-lower.result c.masks-values.result.2 c.loop-child.nodes
     c.lay_node.new.nodes c.loop-child.cells c.lay_node.new.cells) c.in-Some.is c.in_ok-branch.ensures.laid) in
     let sets = c.with_bit.ensures.sets in
     record {
-      subtree = subst (λ xs. IsSubtree c.args.from.now.slots c.args.levels c.args.node part c.args.nodes.now c.args.cells.now (child + 1) (record c.loop-child.laid { child_bitmap = c.with_bit.result }) xs
+      subtree = subst (λ xs. IsSubtree c.args.from.now.slots c.args.levels c.args.node c.args.rest.now c.args.nodes.now c.args.cells.now (child + 1) (record c.loop-child.laid { child_bitmap = c.with_bit.result }) xs
           c.lay_node.new.nodes c.lay_node.new.cells) (sym c.push.ensures.items)
           (subtree_attached c.loop-child.invariant.subtree c.in-Some.branch c.with_bit.result (c.args.levels - 1) c.visit-lower.result c.lay_node.new.nodes c.lay_node.new.cells branch
           c.loop-child-test.true there
-          (λ u s long e. below_it c.args.from.now.slots c.args.node part c.masks-values.result.1 c.masks-values.ensures.children child u s long e set c.visit-lower.result is)
+          (λ u s long e. below_it c.args.from.now.slots c.args.node c.args.rest.now c.masks-values.result.1 c.masks-values.ensures.children child u s long e set c.visit-lower.result is)
           (λ own. child_amount own c.args.from.now.slots c.args.levels c.args.node c.visit-lower.result child some there is)
           (was_set c.loop-child.laid.child_bitmap c.with_bit.result child sets c.loop-child-test.true)
           (λ i ne. sym (others_stay c.loop-child.laid.child_bitmap c.with_bit.result child sets c.loop-child-test.true i ne)));

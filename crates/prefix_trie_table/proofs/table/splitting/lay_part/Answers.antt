@@ -1,5 +1,5 @@
 use Rattle.prefix_trie_table.specs.NodeArrays.{FitsByte}
-use Rattle.prefix_trie_table.proofs.Prelude.{inl, IfSome, refl, ◌∙◌, ◌<◌, sym, ap, subst, length, arith, ◌/◌, take, err_from_is_err_and, node_at, LaysNode, Node, Store, tier_sizes, IsSecond}
+use Rattle.prefix_trie_table.proofs.Prelude.{inl, IfSome, refl, ◌∙◌, ◌<◌, sym, ap, subst, length, arith, ◌/◌, err_from_is_err_and, node_at, LaysNode, Node, Store, tier_sizes, IsSecond}
 use Rattle.prefix_trie_table.proofs.Splitting.RootSpace.{root_nodes, root_cells}
 use Rattle.prefix_trie_table.proofs.Splitting.Space.{for_memory}
 use Rattle.prefix_trie_table.proofs.Splitting.Second.{root_source, second_laid, second_bare}
@@ -47,7 +47,7 @@ put-requires-clause-tiers g c =
 pub returns-clause-laid : goal.returns-clause-laid
 returns-clause-laid g c =
     let trie = c.requires.trie.2 in
-    let q = take c.args.len (g.K.Key.bits c.args.key) in
+    let q = c.args.path.now in
     let stands = root_slot c.args.nodes.now c.args.cells.now (some_table trie.table) in
     let some : 0 < c.args.nodes.now.limit = (let within = trie.table.nodes_within in omega (arith, stands, within)) in
     let cells_are = under_limit c.in-Ok.second_cells c.limit.result c.args.nodes.now.limit c.in-Ok.ensures.empty (c.limit.ensures ∙ trie.table.one_limit) in
