@@ -6,7 +6,6 @@ pub mod BitLists
 pub mod Paths
 pub mod Starts
 pub mod Keys
-pub mod Parts
 pub mod PathLists
 pub mod PathSums
 pub mod Bare
