@@ -92,8 +92,7 @@ impl<P: Prefix, T: Drop, A: Allocator> PrefixMap<P, T, A> {
         ensures step { StepByPath P.R.bit_width (stored_state self.old) (RemoveChildren (P.path prefix.now)) Done (stored_state self.new) }
         ensures bounds_growth { 0 < length (P.path prefix.now) → BoundsStorageGrowth (storage self.old) (storage self.new) }
     {
-        self.table
-            .drop_children(prefix.path(), &mut Visits::new());
+        self.table.drop_children(prefix.path(), &mut Visits::new());
     }
 
     /// Removes all entries, and all nodes but the root.
