@@ -7,6 +7,8 @@ pub mod examples;
 #[cfg(test)]
 mod ops;
 #[cfg(test)]
+mod refusals;
+#[cfg(test)]
 mod routes;
 #[cfg(test)]
 mod runs;

@@ -12,3 +12,4 @@ pub mod Lending
 pub mod Located
 pub mod Bulk
 pub mod Rounds
+pub mod Continued

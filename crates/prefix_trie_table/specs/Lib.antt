@@ -26,3 +26,4 @@ pub mod Retaining
 pub mod Copies
 pub mod Walking
 pub mod NodeArrays
+pub mod Continued

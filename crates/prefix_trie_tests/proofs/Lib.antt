@@ -1,5 +1,4 @@
 pub mod Prelude
-pub mod Allocators
 pub mod AnyMap
 pub mod Batches
 pub mod Ran

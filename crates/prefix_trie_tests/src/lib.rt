@@ -34,8 +34,6 @@ mod own_key;
 #[cfg(test)]
 mod prefix;
 #[cfg(test)]
-mod refusing;
-#[cfg(test)]
 mod retain;
 #[cfg(test)]
 mod runs;

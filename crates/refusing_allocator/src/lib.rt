@@ -1,4 +1,6 @@
 //! A test allocator that fails chosen allocations.
+#![tactic(auto)]
+
 use std::alloc::{AllocError, Allocator};
 use std::cell::Cell;
 

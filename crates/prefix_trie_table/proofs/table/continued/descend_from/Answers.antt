@@ -1,0 +1,33 @@
+use Rattle.prefix_trie_table.proofs.Prelude.{arith, ◌/◌, ap}
+use Rattle.prefix_trie_table.proofs.Lookup.SearchPaths.{followed_next, left_length}
+use Rattle.prefix_trie_table.proofs.table.continued.descend_from.Goals as goal
+
+pub down-init : goal.down-init
+down-init g c = record {
+  along = c.requires.along;
+  rest_is = c.after-rest.ensures;
+  short = omega (arith, c.len-len.ensures.len, c.len-len.ensures.short);
+  counted = omega arith;
+}
+
+pub step_down-requires-clause-along : goal.step_down-requires-clause-along
+step_down-requires-clause-along g c = let at = c.down.invariant in (c.args.path, at.along, at.rest_is, at.short, (ap (λ n. n / 5) c.len-len.ensures.len))
+
+pub returns-in_default-clause-last : goal.returns-in_default-clause-last
+returns-in_default-clause-last g c = c.in_default.ensures.step c.args.path c.down.invariant.along c.down.invariant.rest_is (ap (λ n. n / 5) c.len-len.ensures.len)
+
+pub returns-in_default-clause-rest : goal.returns-in_default-clause-rest
+returns-in_default-clause-rest g c = c.down.invariant.rest_is
+
+pub below-rest-requires : goal.below-rest-requires
+below-rest-requires g c =
+    let at = c.down.invariant in
+    let next = c.in-Some.ensures.step c.args.path at.along at.rest_is (ap (λ n. n / 5) c.len-len.ensures.len) in
+    let whole = next.1.whole in
+    omega (arith, next.0, whole, left_length c.args.path c.down.rest c.down.here.level at.rest_is)
+
+pub down-preserved : goal.down-preserved
+down-preserved g c =
+    let at = c.down.invariant in
+    let next = c.in-Some.ensures.step c.args.path at.along at.rest_is (ap (λ n. n / 5) c.len-len.ensures.len) in
+    rw c.below-rest.ensures (followed_next c.args.path c.down.here c.in-Some.next c.args.nodes.now _ _ _ _ at next (omega (arith, next.0)))
