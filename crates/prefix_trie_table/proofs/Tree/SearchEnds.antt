@@ -1,4 +1,4 @@
--- The slots of nodes by their paths, and the end of a search.
+-- The slots of nodes by their paths, and where a search ends: for entries, which remember it.
 use Rattle.prefix_trie_table.proofs.Prelude.{◌≡◌, ℕ, ◌+◌, ◌*◌, ◌/◌, ◌≤◌, Bool, true, List, [], ◌∷◌, ◌++◌, length, get_or, take, Option, is_some, refl, sym, ap, ◌∙◌, subst, arith, Node, SearchEnd, node_at, node_sizes, chunks_of, child_slot, IsSlot, at_root, at_child, NodesHold, Deepest, has_child, node_or_blank, slot_from, IsSearchEnd, Store, IsReached, take_more}
 use Rattle.std.proofs.lemmas.List.{length-take-le}
 use Rattle.prefix_trie_table.proofs.Strings.Digits.{path-length}
@@ -13,7 +13,7 @@ slot_from-snoc nodes at [] c = refl
 slot_from-snoc nodes at (x ∷ p) c = slot_from-snoc nodes (child_slot (node_at nodes at) x) p c
 
 module _ (v : Store Node) (reading : List ℕ → Option Node) (paths : List (List ℕ)) (hold : NodesHold node_sizes reading paths v) where
-  -- a node that is there is in the slot to which its path leads
+  -- a node that exists is in the slot to which its path leads
   pub slot_stands : (p : List ℕ) → is_some (reading p) ≡ true → IsSlot reading p (slot_from v.slots 0 p)
   slot_stands = snoc_ind (λ p. is_some (reading p) ≡ true → IsSlot reading p (slot_from v.slots 0 p)) (λ some. at_root)
       (λ p c ih some. below p c ih (sym (hold.linked p c) ∙ some))
@@ -28,7 +28,7 @@ module _ (v : Store Node) (reading : List ℕ → Option Node) (paths : List (Li
           subst (λ s. IsSlot reading (p ++ c ∷ []) s) (ap (λ (k : Node). child_slot k c) (sym at.0) ∙ sym (slot_from-snoc v.slots 0 p c))
           (at_child p c n is (sym (ap (λ o. has_child o c) is) ∙ has))
 
-  -- and in no other
+  -- a node is in no other slot
   pub slot_only : (p : List ℕ) (slot : ℕ) → IsSlot reading p slot → slot ≡ slot_from v.slots 0 p
   slot_only p slot (at_root) = refl
   slot_only p slot (at_child q c n is bit) =
@@ -52,7 +52,7 @@ module _ (v : Store Node) (reading : List ℕ → Option Node) (paths : List (Li
         node_is = at.node_is;
       }
 
-  -- and the descent stopped where the search ends
+  -- the descent stopped where the search ends
   pub way_reached : len ≤ length b → IsSearchEnd v.slots (take len b) end →
       IsReached b len end.reached.level end.reached.node (end.reached.at.start + end.reached.at.offset) v
   way_reached long e = record {

@@ -50,7 +50,7 @@ returns-then-count-size_of-clause-sound g c = λ n xs live sound count.
     subst (λ m. Sound g.S.Slot.vacant (block c.args.k c.args.start m (insert xs c.args.offset c.args.value) ∷ live) c.insert_within.new.self) size
     (c.insert_within.ensures.sound b live sound refl count (omega (arith, size, c.if-count-size_of.true, c.size_of.ensures, size_at c.args.self.now.tiers c.args.k)))
 
--- ---- a full one
+-- ---- a full block
 
 pub insert_moving-start-requires-clause-ready : goal.insert_moving-start-requires-clause-ready
 insert_moving-start-requires-clause-ready g c =
