@@ -114,7 +114,7 @@ pub pos-below : (b : List Bool) (depth x : ℕ) → depth ≤ length b → x ≡
 pos-below b depth x l e =
     subst (λ y. y < 16) (sym e) (number-below 4 (take 4 (drop depth (b ++ zeros 5))) (length-four b depth l))
 
--- the string that a level and four bits of a window stand for
+-- the string that a level and four bits of a window denote
 pub level-string : (b : List Bool) (depth len level pos : ℕ) → depth ≤ len → len ≤ length b → level ≡ min (len - depth) 4 → pos ≡ number (take 4 (drop depth (b ++ zeros 5))) → take level (digits 4 pos) ≡ take 4 (drop depth (take len b))
 level-string b depth len level pos h l level-is pos-is =
     ap (λ s. take level s) (ap (digits 4) pos-is ∙ bits-number 4 (take 4 (drop depth (b ++ zeros 5))) (length-four b depth (omega arith))) ∙

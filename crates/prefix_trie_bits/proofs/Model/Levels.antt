@@ -38,7 +38,7 @@ five_times i k l h e = omega (arith, h, e)
 pub depth_of : (i l : ℕ) → l ≡ 5 * i → l % 5 ≡ 0
 depth_of i l e = omega (arith, e)
 
--- the first 5 * i bits of q, where the node i levels under the root is on q's search path
+-- the first 5 * i bits of q, which are the string of the node at level i of q's search path
 abbrev pub at_level : List Bool → ℕ → List Bool
 at_level q i = take (5 * i) q
 

@@ -116,7 +116,7 @@ module _ {T : Type 0} where
 
   -- ---- the result
 
-  -- if all addresses are covered, the answer is `None`
+  -- if all addresses are covered, the result is `None`
   pub answer-all : (width : ℕ) (m : Entries T) → 2 ^ width ≤ addresses width m → address_answer width m ≡ None
   answer-all width m h =
       let all : addresses width m ≡ 2 ^ width = omega (arith, covered-most width (keys m)) in

@@ -94,7 +94,7 @@ module _ {K T : Type 0} (IsKey : K → Type 0) (bits : K → List Bool) (width :
             (subst (λ k. asks f k value false g) key_taken (subst (λ c. asks f (take (p.depth + n) (bits key)) value c g) is called));
       }
 
-  -- the value that is taken out of its slot
+  -- the value that is removed from its slot
   module _ (removed : Option T) (m : Node) (v2 : Store Node) (w2 : Store (Option T))
       (gives : (reading : List ℕ → Option Node) (paths : List (List ℕ)) (values : List ℕ → ℕ → Option T) (q : List ℕ) (k : Node) → NodesHold node_sizes reading paths v →
       CellsHold cell_sizes reading values paths w → IsSlot reading q (p.slot.start + p.slot.offset) → reading q ≡ Some k → removed ≡ values q bit)

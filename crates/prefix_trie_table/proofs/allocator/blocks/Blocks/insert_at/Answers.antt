@@ -1,3 +1,5 @@
+-- Inserting an item into a list: a first item takes a block of one slot, and a later one goes where `insert_into` puts
+-- it.
 use Rattle.prefix_trie_table.proofs.Prelude.{◌≡◌, ◌+◌, ◌<◌, ◌++◌, [], length, None, Some, refl, sym, ap, ◌∙◌, arith, subst, option_or, nil_from_length, none-some, one_of, Sound, Turnover, tier_at, tier_sizes, size_in, free_in, size_if_any, none_of, list_size, list_need, block, held}
 use Rattle.prefix_trie_table.proofs.Blocks.BySize.{size_at, size_some, need_first, first_size, many_here}
 use Rattle.prefix_trie_table.proofs.Blocks.Preparing.{how_many-needs}

@@ -1,3 +1,5 @@
+-- Inserting an item into a list that has a block: in place if the block has a free slot, and otherwise in the smallest
+-- larger block.
 use Rattle.prefix_trie_table.proofs.Prelude.{◌≡◌, ℕ, ◌+◌, ◌<◌, ◌∷◌, insert, Some, refl, sym, ap, ◌∙◌, arith, subst, option_or, none-some, one_of, Sound, Turnover, tier_at, tier_sizes, size_in, none_of, list_size, list_need, block}
 use Rattle.prefix_trie_table.proofs.Blocks.BySize.{size_at, size_some, need_none, need_full, smallest_holds, many_here}
 use Rattle.prefix_trie_table.proofs.Blocks.Soundness.{block_inside, tier_of_block}

@@ -1,3 +1,5 @@
+-- `prepare` makes exactly the blocks that are needed and not free. If one is refused, it has made some of them, and
+-- the used blocks are unchanged.
 use Rattle.prefix_trie_table.proofs.Prelude.{◌≡◌, ℕ, List, UsedBlock, Sound, SameSlots, ◌+◌, ◌-◌, ◌<◌, ◌≤◌, ◌↔◌, Option, None, Some, OnOk, OnErr, IfErr, length, refl, sym, ap, ◌∙◌, subst, arith, option_map, Contains, err_from_is_err_and, IndexRange, one_of, Store, Turnover, free_in, many_of, needs, list_need, tier_sizes, size_in}
 use Rattle.prefix_trie_table.proofs.Blocks.BySize.{sizes_up, size_among, tiers_long, first_size, sizes_rise, many_here}
 use Rattle.prefix_trie_table.proofs.Blocks.Preparing.{LastMade, partly_made_same, partly_made_own, partly_made_first, partly_made_second, how_many-needs, obtained, obtained_part}

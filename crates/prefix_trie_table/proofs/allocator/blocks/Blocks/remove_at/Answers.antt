@@ -1,3 +1,5 @@
+-- Removing an item from a list, in terms of the list instead of its block: what `remove_from` returns if items are
+-- left, and if none is.
 use Rattle.prefix_trie_table.proofs.Prelude.{◌≡◌, ◌<◌, ◌∷◌, List, Option, Some, MatchOption, is_some, remove, refl, sym, ap, ◌∙◌, subst, arith, false≢true, length-remove, BlockRef, Store, UsedBlock, Sound, tier_at, tier_sizes, block}
 use Rattle.prefix_trie_table.proofs.Blocks.BySize.{first_size, tiers_long}
 use Rattle.prefix_trie_table.proofs.Blocks.Losing.{left_some, none_left, left_none}

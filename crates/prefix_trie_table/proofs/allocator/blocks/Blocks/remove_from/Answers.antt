@@ -1,3 +1,5 @@
+-- Removing an item from a block: the block is freed if no item is left, or the list moves to a smaller block, or it
+-- keeps its block.
 use Rattle.prefix_trie_table.proofs.Prelude.{◌≡◌, ℕ, ◌+◌, ◌-◌, ◌<◌, ◌≤◌, ◌∷◌, [], List, None, Some, IsSome, IfNone, MatchOption, is_some, length, insert, remove, refl, sym, ap, ◌∙◌, subst, arith, false≢true, same_Some, nil_from_length, length-remove, smallest_size, Store, Tier, UsedBlock, Sound, Turnover, tier_at, tier_sizes, size_in, free_in, free_counts, many_of, none_of, block}
 use Rattle.prefix_trie_table.proofs.Blocks.BySize.{size_at, sizes_up, sizes_rise, tiers_long, smallest_holds, smallest_there}
 use Rattle.prefix_trie_table.proofs.Blocks.Losing.{none_made, same_made, one_made, steps_gone, steps_moved, steps_stayed, smallest_low}
