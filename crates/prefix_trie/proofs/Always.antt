@@ -1,5 +1,4 @@
--- A test that may always be called may be called on each entry, or on each key, in order: for
--- `retain`.
+-- A test that may always be called may be called on each entry, or on each key, in order: for `retain`.
 use Rattle.prefix_trie.proofs.Prelude.{Bool, List, [], ◌∷◌, refl}
 use Rattle.std.specs.Borrow.{Bor}
 use Rattle.std.specs.Fn.{Mut, always_mut}

@@ -1,4 +1,4 @@
--- A step by paths, which the calls of a map promise, is a step by prefixes.
+-- A step on paths, which the contracts of a map promise, is a step on prefixes: for `run`.
 use Rattle.prefix_trie.proofs.Prelude.{◌≡◌, ℕ, Bool, List, Option, Result, Ok, Err, inl, inr, ap, subst, Refused, State, Reply, Step, Insert, Remove, RemoveKeepTree, RemoveChildren, Clear, Value, Done, Storage, StepInStorage, StepByPath, insert_reply}
 
 -- a reply without keys, with another type of keys
@@ -26,7 +26,7 @@ module _ {P T : Type 0} (path : P → List Bool) (back : List Bool → P) (width
     storage = (h.storage.0, λ old new e. h.storage.1 old new (ap carried e), λ cause e. h.storage.2 cause (ap carried e));
   }
 
-  -- the same for another prefix with the same path, once the result is known
+  -- the same for another prefix with the same path, if the result is known
   pub insert_step_as : (q p : P) (v : T) (r answer : Result (Option T) (Refused T)) → path p ≡ path q → r ≡ answer
       → StepByPath width s (Insert (path p) v) (insert_reply r) t → StepInStorage path back width s (Insert q v) (insert_reply answer) t
   insert_step_as q p v r answer same is step =

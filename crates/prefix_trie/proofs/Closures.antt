@@ -1,10 +1,10 @@
--- A closure that calls a test is called on an entry exactly as the test is.
+-- A closure that calls a test is called on an entry exactly as the test is: for `retain` of sets.
 use Rattle.prefix_trie.proofs.Prelude.{Bool, List, [], ◌∷◌, RetainsEntries, CallableOnEachEntry, State, Storage, RetainsInStorage}
 
--- `test_of` is what the closure has of the test; a call of the closure is one of the test
+-- `test_of` is the test that the closure holds; each call of the closure is one call of that test
 module _ {F G T : Type 0} (asks : F → List Bool → T → Bool → F → Type 0) (asks' : G → List Bool → T → Bool → G → Type 0) (test_of : G → F)
     (calls : (g : G) (k : List Bool) (v : T) (b : Bool) (g' : G) → asks' g k v b g' → asks (test_of g) k v b (test_of g')) where
-  -- the closure may be called if the test may be
+  -- the closure may be called if its test may be
   pub may_ask_closure : (accepts : F → List Bool → T → Type 0) (accepts' : G → List Bool → T → Type 0) → ((g : G) (k : List Bool) (v : T) → accepts (test_of g) k v → accepts' g k v)
       → (g : G) (es : List (List Bool × T)) → CallableOnEachEntry asks accepts (test_of g) es → CallableOnEachEntry asks' accepts' g es
   may_ask_closure accepts accepts' takes g [] may = tt
@@ -15,6 +15,6 @@ module _ {F G T : Type 0} (asks : F → List Bool → T → Bool → F → Type 
   in_order g [] kept is = is
   in_order g (e ∷ es) kept (b, g', later, asked, rest, is) = (b, test_of g', later, calls g e.0 e.1 b g' asked, in_order g' es later rest, is)
 
-  -- what `retain` keeps by the closure it keeps by the test
+  -- `retain` keeps by the closure what it keeps by the test
   pub retains_by_test : (g : G) (s t : State T × Storage) → RetainsInStorage asks' g s t → RetainsInStorage asks (test_of g) s t
   retains_by_test g s t r = record { kept = in_order g _ _ r.kept; nodes = r.nodes; space = r.space; storage = r.storage }

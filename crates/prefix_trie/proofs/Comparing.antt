@@ -1,8 +1,8 @@
--- Two maps that `==` finds equal have the same entries.
+-- Two maps that `==` finds equal have the same entries: for `equal_laws`.
 use Rattle.prefix_trie.proofs.Prelude.{◌≡◌, ◌↔◌, ℕ, Bool, true, ◌&&◌, eqb, eqb-true, eq-eqb, List, [], ◌∷◌, map, refl, sym, ap, ◌∙◌, pointwise_decides, same_entries_map, All-head, All-tail, PrefixLaws, listing, prefix_pairs, and-first, and-second, and-join, listed_paths, EqualLaws}
 use Rattle.std.specs.List.{All}
 
--- the keys of items are the paths of their prefixes
+-- the keys of the items are the paths of their prefixes
 unshown : {P T : Type 0} (path : P → List Bool) (back : List Bool → P) (es : List (List Bool × T)) → All (λ e. path (back e.0) ≡ e.0) es → map (λ x. (path x.0, x.1)) (prefix_pairs back es) ≡ es
 unshown path back [] paths = refl
 unshown path back (e ∷ es) paths = λ i. (All-head (λ e. path (back e.0) ≡ e.0) e es paths i, e.1) ∷ unshown path back es (All-tail (λ e. path (back e.0) ≡ e.0) e es paths) i
@@ -20,7 +20,7 @@ equal_laws {path = path} {back = back} laws T = record {
       );
 }
 
--- `==` of numbers, and of networks, decides whether they are the same
+-- `==` of numbers, and of networks, holds exactly if they are the same
 pub numbers_same : (v w : ℕ) → (eqb v w ≡ true) ↔ (v ≡ w)
 numbers_same v w = (eqb-true v w, eq-eqb v w)
 

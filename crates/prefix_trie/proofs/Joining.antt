@@ -1,12 +1,12 @@
--- The laws of a loop that joins the values of one map to those of another: its invariant and its
--- result.
+-- The laws of a loop that joins the values of one map to those of another, which are its invariant and its result: for
+-- `join_laws`.
 use Rattle.prefix_trie.proofs.Prelude.{◌≡◌, ℕ, Bool, true, false, cond, T, List, [], ◌∷◌, Some, refl, sym, ap, ◌∙◌, entries_sorted, get, get-entries, is_sorted, find, All-head, All-tail, All-same, PrefixLaws, listing_cmp, same_string, Entries, with_entry, listing, prefix_pairs, get-with_entry, same_string-is, sorted-tail, JoinLaws, join_all, joined_by, with_value, listed_fit, listed_paths}
 use lib.Dec.{T as IsT}
 use Rattle.std.specs.List.{All}
 use Rattle.prefix_trie.proofs.Putting.{fit_in_turn, not_behind}
 
 module _ {P T : Type 0} (join : T → T → T) (path : P → List Bool) (back : List Bool → P) where
-  -- pairs joined in order: the value of each key is joined to its value among the pairs
+  -- joining pairs in order joins the value of each key to its value among the pairs
   pairs_joined : (es : List (List Bool × T)) (to : Entries T) → IsT (is_sorted listing_cmp es) → All (λ e. path (back e.0) ≡ e.0) es → (s : List Bool) →
       get (join_all join path (prefix_pairs back es) to) s ≡ joined_by join (get to s) (find listing_cmp s es)
   pairs_joined [] to sorted paths s = refl

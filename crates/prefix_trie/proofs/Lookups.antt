@@ -1,5 +1,4 @@
--- What lookups find, in words, and how the longest match of a bit string changes with the entries:
--- for `lookup_laws`.
+-- What lookups find, in words, and how the longest match of a bit string changes with the entries: for `lookup_laws`.
 use Rattle.prefix_trie.proofs.Prelude.{◌≡◌, ◌≢◌, inl, inr, ℕ, ◌+◌, ◌<◌, ◌≤◌, Bool, true, false, List, [], length, take, Option, Some, None, is_some, refl, sym, ap, ◌∙◌, subst, arith, true≢false, length-take-le, cases_lt, IfSome, option_map, contains_key, get, begins, begins-trans, begins-linear, begins-length, take-begins, Entries, no_entries, with_entry, without_entry, IsLongestMatch, shortest_match, prefix_pair, match_laws, one_of_length, some-value, of-key, IsUncovered, LookupLaws}
 use Rattle.std.specs.Option.{MatchOption}
 use Rattle.prefix_trie_bits.specs.Model.Matches.{longest_match}
@@ -47,7 +46,8 @@ module _ {T : Type 0} where
     | Some e ↦ λ is. let f = ((match_laws T).longest_is m q e).0 is in absurd (none e.0 e.1 f.matches.stored f.matches.begins_it)
   ] refl
 
-  -- if q and r begin with the same stored strings, each of its map, the longest match is the same
+  -- if the stored strings that q begins with in one map are those that r begins with in another, the longest matches
+  -- are the same
   same_longest : (m n : Entries T) (q r : List Bool) →
       ((t : List Bool) (w : T) → get m t ≡ Some w → begins t q ≡ true → (get n t ≡ Some w) × (begins t r ≡ true)) →
       ((t : List Bool) (w : T) → get n t ≡ Some w → begins t r ≡ true → (get m t ≡ Some w) × (begins t q ≡ true)) →
@@ -130,7 +130,7 @@ module _ {T : Type 0} (m : Entries T) (q s : List Bool) where
         })
   ] refl
 
-  -- each remaining string that q begins with is shorter
+  -- each other stored string that q begins with is shorter
   left_shorter : (v : T) → longest_match m q ≡ Some (s, v) → (t : List Bool) (w : T) → get (without_entry m s) t ≡ Some w → begins t q ≡ true → length t < length s
   left_shorter v is t w stored b =
       let f = ((match_laws T).longest_is m q (s, v)).0 is in

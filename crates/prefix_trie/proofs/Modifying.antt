@@ -9,7 +9,7 @@ use Rattle.prefix_trie_bits.specs.declared.prefix.Key as key
 
 module _ {P T A R : Type 0} {p : prefix.Ghosts P R} {shows : debug.Ghosts P} {k : key.Ghosts R} {same : partial.Ghosts R} {writes : debug.Ghosts R} where
   module _ {F : Type 0} (h : Once F (MutBor T × Unit {0}) (Unit {0} × (MutBor T × Unit {0}))) (test : F) (f : T → T) (does : (x y : MutBor T) → h.post test (x, tt) (tt, (y, tt)) → y.now ≡ f x.now) where
-    -- the value that is there changed by f, and put there once more
+    -- the value there after f changed it, and set there once more
     changed : (e : Entry P T A R p shows k same writes) (new : Contents T) (v : T) → ModifiesEntry h test e new →
         with_entry new.entries (entry_path e) (unwrap_or (get new.entries (entry_path e)) v) ≡ with_entry (entry_map e).entries (entry_path e) (unwrap_or (option_map f (entry_value e)) v)
     changed (Vacant e) new v update =
@@ -27,8 +27,8 @@ module _ {P T A R : Type 0} {p : prefix.Ghosts P R} {shows : debug.Ghosts P} {k 
         ∙ ap (with_entry m q) (sym left.after ∙ does left.lent left.left left.called ∙ ap f left.before)
         ∙ ap (λ o. with_entry m q (unwrap_or (option_map f o) v)) (sym stored)
 
-    -- what `and_modify(..).or_insert(v)` leaves of a map, whatever was stored: e is the entry, d
-    -- the result of `and_modify`
+    -- what `and_modify(..).or_insert(v)` leaves of a map, whether or not the key was stored: e is the entry, d the
+    -- result of `and_modify`
     pub modified_or_put : (e d : Entry P T A R p shows k same writes) (old : Contents T) (q : List Bool) (v w : T) (new : Entries T) → entry_map e ≡ old → entry_path e ≡ q →
         ModifiesEntry h test e (entry_map d) → entry_key d ≡ entry_key e → w ≡ unwrap_or (entry_value d) v → new ≡ with_entry (entry_map d).entries (entry_path d) w →
         new ≡ with_entry old.entries q (unwrap_or (option_map f (get old.entries q)) v)

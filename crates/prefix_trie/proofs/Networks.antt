@@ -2,7 +2,7 @@
 -- `narrow_laws`.
 use Rattle.prefix_trie.proofs.Prelude.{◌≡◌, ℕ, ◌+◌, ◌-◌, ◌^◌, ◌/◌, ◌<◌, ◌≤◌, length, take, nat_eq, refl, sym, ap, ◌∙◌, subst, arith, eqb-true, eq-eqb, Option, Some, None, IfSome, option_map, length-take-le, take_all, shr_below, begins, digits, number, length-digits, take-digits, number_of_digits, same_bool, begins-take, begins-from-take, NetworkLaws, NumberLaws}
 
--- the number that the first len bits of a number of w bits write has len bits
+-- the number of the first len bits of a number is below 2^len
 first_below : (w n len : ℕ) → n < 2 ^ w → len ≤ w → n / 2 ^ (w - len) < 2 ^ len
 first_below w n len small within = shr_below n len (w - len) (subst (λ k. n < 2 ^ k) (sym (split w len within)) small)
   where

@@ -1,4 +1,4 @@
--- The path of a prefix of any type is as long as the prefix says: for `path_laws`.
+-- The path of a prefix has the length that the prefix says, for each type of prefixes: for `path_laws`.
 use Rattle.prefix_trie.proofs.Prelude.{◌≡◌, ℕ, Bool, List, ◌∙◌, arith, take_all, PrefixLaws, path_length, path_back, fits_back, PathLaws}
 
 module _ {K P : Type 0} {w : ℕ} {IsKey : K → Type 0} {bits : K → List Bool} {key_of : List Bool → K} {repr_of : P → K} {len_of : P → ℕ} {path : P → List Bool} {IsFitting : P → Type 0} {from_parts : K → ℕ → P} {back : List Bool → P} (laws : PrefixLaws w IsKey bits key_of repr_of len_of path IsFitting from_parts back) where

@@ -1,5 +1,4 @@
--- What a loop that changes each value by a function of the old one has done so far: for
--- `rewrite_laws`.
+-- What a loop that changes each value by a function of the old one has done so far: for `rewrite_laws`.
 use Rattle.prefix_trie.proofs.Prelude.{◌≡◌, ℕ, ◌<◌, Bool, true, false, cond, ◌||◌, ◌&&◌, List, [], ◌∷◌, length, map, Option, None, Some, is_some, is_lt, is_eq, Ordering, Less, Equal, Greater, refl, sym, ap, ◌∙◌, subst, arith, true≢false, list_any, option_map, get, contains_key-keys, entries_sorted, is_sorted, below_all, listing_cmp, same_string, Entries, with_entry, listing, and-first, and-second, or-right, get-with_entry, is-same_string, same_string-is, same_entries, sorted-head, sorted-tail, t-true, true-t, Contents, bare, sorted_mapped, MapCursor, keys_left, IsFirst, GoesOver, ComesToEnd, StartsIn, ReturnsMap, PassesIn, EndsIn, FirstIn, left_at_start, left_behind, none_left, keyed, AreOrdered, is_left, Rewrites, RewritesIn, OrderedIn}
 use lib.Dec.{T as IsT}
 use Rattle.std.specs.Borrow.{MutBor}
@@ -8,7 +7,7 @@ use Rattle.std.specs.declared.fmt.Debug as debug
 use Rattle.prefix_trie_bits.specs.declared.prefix.Prefix as prefix
 use Rattle.prefix_trie_bits.specs.declared.prefix.Key as key
 
--- a key that comes before all of a list is not in it
+-- a key that is before all keys of a list is not in it
 apart : (k : List Bool) (ks : List (List Bool)) → IsT (below_all listing_cmp k (map keyed ks)) → list_any (same_string k) ks ≡ false
 apart k [] h = refl
 apart k (x ∷ ks) h =
@@ -31,24 +30,24 @@ listing_ordered {T} m =
     again [] = refl
     again (e ∷ es) = ap (λ xs. keyed e.0 ∷ xs) (again es)
 
--- a map, once each value in it is changed
+-- a map after each of its values was changed
 pub record RewritesMap {T : Type 0} (f : T → T) (m n : MutBor (Contents T)) : Type 0 where
   pub same_map : n.ghost_name ≡ m.ghost_name
   pub values : (s : List Bool) → get n.now.entries s ≡ option_map f (get m.now.entries s)
   pub others : n.now ≡ record m.now { entries = n.now.entries }
 
 module _ {P T A R : Type 0} {p : prefix.Ghosts P R} {shows : debug.Ghosts P} {k : key.Ghosts R} {same : partial.Ghosts R} {writes : debug.Ghosts R} where
-  -- how many are to come
+  -- how many entries are still to come
   abbrev pub left_in : Option (MapCursor P T A R p shows k same writes) → ℕ
   left_in None = 0
   left_in (Some c) = length (keys_left c)
 
-  -- a walk over a whole map starts with its keys in order
+  -- a walk over a whole map starts with all keys to come, in order
   pub starts_ordered : (m : MutBor (Contents T)) (o : Option (MapCursor P T A R p shows k same writes)) → StartsIn m (listing m.now.entries) o → OrderedIn o
   starts_ordered m None starts = absurd starts
   starts_ordered m (Some c) starts = subst AreOrdered (sym (left_at_start m _ c starts)) (listing_ordered m.now.entries)
 
-  -- a walk at its end changes nothing more
+  -- a walk at its end changes nothing
   pub only_once : (f g : T → T) (c d e : MapCursor P T A R p shows k same writes) → Rewrites f c d → Rewrites g d e → e.map.now ≡ d.map.now
   only_once f g c d e first second =
       let m = d.map.now.entries in
@@ -57,7 +56,7 @@ module _ {P T A R : Type 0} {p : prefix.Ghosts P R} {shows : debug.Ghosts P} {k 
       (same_entries e.map.now.entries m (λ s. second.values s ∙ ap (λ ks. cond (list_any (same_string s) ks) (option_map g (get m s)) (get m s)) first.ended))
 
 module _ {P T A R : Type 0} {p : prefix.Ghosts P R} {shows : debug.Ghosts P} {k : key.Ghosts R} {same : partial.Ghosts R} {writes : debug.Ghosts R} (f : T → T) where
-  -- what was to come at first and is not any more has its value changed
+  -- exactly the entries that were to come and are not any more have new values
   pub record HasRewritten (c d : MapCursor P T A R p shows k same writes) : Type 0 where
     pub same_map : d.map.ghost_name ≡ c.map.ghost_name
     pub ordered : AreOrdered (keys_left d)
@@ -65,7 +64,7 @@ module _ {P T A R : Type 0} {p : prefix.Ghosts P R} {shows : debug.Ghosts P} {k 
     pub values : (s : List Bool) → get d.map.now.entries s ≡ cond (is_left d s) (get c.map.now.entries s) (cond (is_left c s) (option_map f (get c.map.now.entries s)) (get c.map.now.entries s))
     pub others : d.map.now ≡ record c.map.now { entries = d.map.now.entries }
 
-  -- one more is changed
+  -- one more value is changed
   rewrites_one : (c d e : MapCursor P T A R p shows k same writes) (q : P) (x : T) → HasRewritten c d → IsFirst d q x → GoesOver d (f x) e → HasRewritten c e
   rewrites_one c d e q x so_far first goes = record {
     same_map = ap (λ (b : MutBor (Contents T)). b.ghost_name) goes.map ∙ so_far.same_map;
@@ -148,7 +147,7 @@ module _ {P T A R : Type 0} {p : prefix.Ghosts P R} {shows : debug.Ghosts P} {k 
   ends_rewriting (Some c) (Some d) None so_far ends = absurd ends
   ends_rewriting (Some c) (Some d) (Some e) so_far ends = rewrites_all c d e so_far ends
 
-  -- the map that the walk returns at its end, after each value to come was changed
+  -- the map that the walk returns at its end, after each value was changed
   pub rewritten : (m : MutBor (Contents T)) (o d : Option (MapCursor P T A R p shows k same writes)) (n : MutBor (Contents T)) →
       StartsIn m (listing m.now.entries) o → RewritesIn f o d → ReturnsMap d (Some n) → RewritesMap f m n
   rewritten m None d n starts done back = absurd starts

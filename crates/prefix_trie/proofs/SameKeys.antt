@@ -1,14 +1,13 @@
--- Two sets are equal exactly if their walks give prefixes with the same numbers and lengths: for
--- `==` of sets.
+-- Two sets are equal exactly if their walks give prefixes with the same numbers and lengths: for `==` of sets.
 use Rattle.prefix_trie.proofs.Prelude.{◌≡◌, ◌≤◌, ◌&&◌, ℕ, Bool, true, List, [], ◌∷◌, length, map, take, refl, sym, ap, ◌∙◌, subst, nat_eq, eqb-true, eq-eqb, one_answer, Decides, pointwise, pointwise_decides, contains_key-keys, same_entries_map, list_any, on, PrefixLaws, path_back, same_string, Entries, AreWithin, listing, same_string-is, is-same_string, and-first, and-second, and-join, or-left, or-right, same_keys, same_parts}
 
--- the entries of sets with the same keys are equal
+-- sets with the same keys have the same entries
 pub same_entries : (m n : Entries (Unit {0})) → Decides (same_keys m n) (m ≡ n)
 same_entries m n =
     let lists = pointwise_decides {E = on (λ e. e.0) same_string} (λ e f. (λ h i. (same_string-is e.0 f.0 h i, tt), λ h. is-same_string e.0 f.0 (ap (λ x. x.0) h))) (listing m) (listing n) in
     (λ h. same_entries_map m n (lists.0 h), λ h. lists.1 (ap listing h))
 
--- the strings of some entries are no longer than the width
+-- the strings of some entries are at most as long as the width
 abbrev AreShort : ℕ → List (List Bool × Unit {0}) → Type 0
 AreShort w es = (k : List Bool) → list_any (same_string k) (map (λ e. e.0) es) ≡ true → length k ≤ w
 
@@ -22,7 +21,7 @@ short_keys : (w : ℕ) (m : Entries (Unit {0})) → AreWithin w m → AreShort w
 short_keys w m h = λ k is. h k (contains_key-keys m k ∙ is)
 
 module _ {K P : Type 0} {w : ℕ} {IsKey : K → Type 0} {bits : K → List Bool} {key_of : List Bool → K} {repr_of : P → K} {len_of : P → ℕ} {path : P → List Bool} {IsFitting : P → Type 0} {from_parts : K → ℕ → P} {back : List Bool → P} (laws : PrefixLaws w IsKey bits key_of repr_of len_of path IsFitting from_parts back) (same : K → K → Bool) (itself : (a : K) → same a a ≡ true) (is : (a b : K) → same a b ≡ true → a ≡ b) where
-  -- prefixes of strings have the same parts exactly if the strings are equal
+  -- the prefixes of two strings have the same number and length exactly if the strings are equal
   same_back : (k l : List Bool) → length k ≤ w → length l ≤ w → same_parts same repr_of len_of (back k) (back l) ≡ same_string k l
   same_back k l short short' =
       let first = and-first (same (repr_of (back k)) (repr_of (back l))) (nat_eq (len_of (back k)) (len_of (back l))) in
@@ -37,7 +36,7 @@ module _ {K P : Type 0} {w : ℕ} {IsKey : K → Type 0} {bits : K → List Bool
       )
       (same_string-is k l, is-same_string k l)
 
-  -- so the walks compare as the sets do
+  -- so comparing the walks decides whether the sets are equal
   alike : (es fs : List (List Bool × Unit {0})) → AreShort w es → AreShort w fs →
       pointwise (same_parts same repr_of len_of) (map (λ e. back e.0) es) (map (λ e. back e.0) fs) ≡ pointwise (on (λ e. e.0) same_string) es fs
   alike [] [] h g = refl

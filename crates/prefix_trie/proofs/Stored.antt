@@ -1,7 +1,7 @@
 -- What is stored after a key is set or removed: for `stored_laws`.
 use Rattle.prefix_trie.proofs.Prelude.{◌≡◌, ◌≢◌, ◌⊎◌, inl, inr, Bool, true, false, cond, List, Some, None, is_some, refl, sym, ap, ◌∙◌, true≢false, get, get-empty, listing_cmp, same_string, Entries, with_entry, without_entry, get-with_entry, get-without_entry, is-same_string, same_string-is, same_entries, StoredLaws}
 
--- strings that differ do not tie
+-- strings that are not the same compare as different
 other_string : (s t : List Bool) → (s ≢ t) → same_string s t ≡ false
 other_string s t differ = elim (same_string s t) as (λ b. same_string s t ≡ b → b ≡ false) [
   | true ↦ λ e. absurd (differ (same_string-is s t e))
@@ -25,14 +25,14 @@ stored_laws T = record {
 }
 
 module _ {T : Type 0} (m : Entries T) (s : List Bool) where
-  -- what is stored once s was set is s, or was stored before
+  -- a string that is stored after s was set is s or was stored before
   pub set_stored : (v w : T) (t : List Bool) → get (with_entry m s v) t ≡ Some w → (t ≡ s) ⊎ (get m t ≡ Some w)
   set_stored v w t stored = elim (same_or_other s t) [
     | inl same ↦ inl same
     | inr other ↦ inr (sym ((stored_laws T).beside_set m s v t other) ∙ stored)
   ]
 
-  -- what is stored after s is removed is another string, and was stored before
+  -- a string that is stored after s was removed is another one, and was stored before
   pub taken_stored : (w : T) (t : List Bool) → get (without_entry m s) t ≡ Some w → (t ≢ s) × (get m t ≡ Some w)
   taken_stored w t stored = elim (same_or_other s t) [
     | inl same ↦ absurd (true≢false (sym (ap is_some stored) ∙ ap is_some (ap (get (without_entry m s)) same ∙ (stored_laws T).taken m s)))

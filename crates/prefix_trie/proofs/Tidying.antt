@@ -1,4 +1,4 @@
--- A tidy map stays tidy when a key is set or removed.
+-- A tidy map stays tidy when a key is set or removed: for callers that keep a map tidy.
 use Rattle.prefix_trie.proofs.Prelude.{◌≡◌, ℕ, List, Bool, sym, ap, ◌∙◌, Entries, with_entry, without_entry, Nodes, needed, with_needed, nodes_without, AreNodes, IsTidy, NodeLaws, PruningLaws}
 
 module _ {T : Type 0} (m now : Entries T) (n nodes : Nodes) (s : List Bool) where

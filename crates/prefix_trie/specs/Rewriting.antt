@@ -27,7 +27,7 @@ module _ {P T A R : Type 0} {p : prefix.Ghosts P R} {shows : debug.Ghosts P} {k 
   abbrev pub is_left : MapCursor P T A R p shows k same writes → List Bool → Bool
   is_left c s = list_any (same_string s) (keys_left c)
 
-  -- of the same map each value that was to come is changed by f and all else is as it was, and nothing is to come
+  -- each value that was to come is changed by f, all other values of the map are unchanged, and nothing is to come
   pub record Rewrites (f : T → T) (c d : MapCursor P T A R p shows k same writes) : Type 0 where
     pub same_map : d.map.ghost_name ≡ c.map.ghost_name
     pub values : (s : List Bool) → get d.map.now.entries s ≡ cond (is_left c s) (option_map f (get c.map.now.entries s)) (get c.map.now.entries s)

@@ -111,21 +111,15 @@ pub enum Reply<P: Prefix, A: Allocator> {
 ///
 /// # Examples
 ///
-/// ```text
-/// let wide = "10.1.0.0/16".parse::<Ipv4Prefix>()?;
-/// let host = "10.1.2.3/32".parse::<Ipv4Prefix>()?;
-/// let mut map = PrefixMap::new(alloc.clone())?;
-/// let calls = [
-///     Call::Insert(wide, 1),            // Reply::Value(None)
-///     Call::Get(host),                  // Reply::Value(None)
-///     Call::Lpm(host),                  // Reply::Match(Some((10.1.0.0/16, 1)))
-///     Call::Len,                        // Reply::Count(1)
-///     Call::ListFrom(wide, false),      // Reply::Entries([])
-///     Call::Cover(host),                // Reply::Entries([(10.1.0.0/16, 1)])
-///     Call::Remove(wide),               // Reply::Value(Some(1))
-///     Call::NodeCount,                  // Reply::Count(1)
-/// ];
-/// let replies = run(alloc, &mut map, &calls)?;
+/// ```rust
+/// let mut map = PrefixMap::new(alloc)?;
+/// let wide: Ipv4Prefix = "10.1.0.0/16".parse()?;
+/// let host = "10.1.2.3/32".parse()?;
+/// let replies = run(alloc, &mut map, &[Call::Insert(wide, 1), Call::Lpm(host), Call::Get(host), Call::Len])?;
+/// matches!(&replies[0], Reply::Value(None));              // true: 10.1.0.0/16 is new
+/// matches!(&replies[1], Reply::Match(Some((_, 1))));      // true: 10.1.0.0/16 has the value 1
+/// matches!(&replies[2], Reply::Value(None));              // true: 10.1.2.3/32 is not stored
+/// matches!(&replies[3], Reply::Count(1));                 // true
 /// ```
 pub fn run<P: Prefix, A: Allocator + Clone>(
     alloc: A,

@@ -36,16 +36,20 @@ use std::marker::Model;
 ///
 /// Prefixes are not stored, only their paths. Every call that takes a prefix requires that it fits.
 ///
+/// In examples, a comment `set = {..}` says what a set of `Ipv4Prefix` holds at the start. The
+/// comment after an expression is its value as `{:?}` prints it, or the list of what an iterator
+/// returns.
+///
 /// # Examples
 ///
-/// ```text
+/// ```rust
 /// let network = "10.1.0.0/16".parse::<Ipv4Prefix>()?;
 /// let mut set = PrefixSet::new(alloc)?;
-/// set.insert(network)?;                            // true
-/// set.insert("10.1.255.255/16".parse()?)?;         // false: both have one path
-/// set.contains(&network);                          // true
-/// set.contains(&"10.1.0.0/17".parse()?);           // false
-/// set.get_lpm(&"10.1.2.3/32".parse()?);            // Some(10.1.0.0/16)
+/// set.insert(network)?;                       // true
+/// set.insert("10.1.255.255/16".parse()?)?;    // false: both have one path
+/// set.contains(&network);                     // true
+/// set.contains(&"10.1.0.0/17".parse()?);      // false
+/// set.get_lpm(&"10.1.2.3/32".parse()?);       // Some(10.1.0.0/16)
 /// ```
 #[derive(Drop)]
 pub struct PrefixSet<P: Prefix, A: Allocator> {
@@ -73,9 +77,9 @@ impl<P: Prefix, A: Allocator + Clone> PrefixSet<P, A> {
     ///
     /// # Examples
     ///
-    /// ```text
+    /// ```rust
     /// let set: PrefixSet<Ipv4Prefix, Global> = PrefixSet::new(alloc)?;
-    /// (set.len(), set.node_count());                  // (0, 1)
+    /// (set.len(), set.node_count());      // (0, 1)
     /// ```
     #[inline]
     pub fn new(alloc: A) -> Result<Self, Refusal>
@@ -99,10 +103,10 @@ impl<P: Prefix, A: Allocator + Clone> PrefixSet<P, A> {
     ///
     /// # Examples
     ///
-    /// ```text
+    /// ```rust
     /// let mut set = PrefixSet::with_slot_limit(alloc, 4)?;
-    /// set.insert("0.0.0.0/32".parse::<Ipv4Prefix>()?);     // Err(IndexRange): it needs six more nodes
-    /// set.insert("0.0.0.0/4".parse()?);                    // Ok(true)
+    /// set.insert("0.0.0.0/32".parse::<Ipv4Prefix>()?);    // Err(IndexRange): it needs six more nodes
+    /// set.insert("0.0.0.0/4".parse()?)?;                  // true
     /// ```
     #[inline]
     pub fn with_slot_limit(alloc: A, limit: u32) -> Result<Self, Refusal>
@@ -128,12 +132,11 @@ impl<P: Prefix, A: Allocator + Clone> PrefixSet<P, A> {
     ///
     /// # Examples
     ///
-    /// ```text
-    /// let network = "10.1.0.0/16".parse::<Ipv4Prefix>()?;
-    /// set.insert(network)?;
+    /// ```rust
+    /// // set = {10.1.0.0/16}
     /// let mut copy = set.clone()?;
-    /// copy.remove(&network);              // true
-    /// set.contains(&network);             // true: the two share nothing
+    /// copy.clear();
+    /// (set.len(), copy.len());        // (1, 0): the two share nothing
     /// ```
     pub fn clone(&self) -> Result<Self, AllocError>
         ensures { IfOk result (λ copy. copy ≡ self.now) }
@@ -148,9 +151,9 @@ impl<P: Prefix, A: Allocator> PrefixSet<P, A> {
     ///
     /// # Examples
     ///
-    /// ```text
-    /// // 10.0.0.0/8 and 10.1.0.0/16 are stored
-    /// set.len();                          // 2
+    /// ```rust
+    /// // set = {10.0.0.0/8, 10.1.0.0/16}
+    /// set.len();      // 2
     /// ```
     #[inline]
     pub fn len(&self) -> usize
@@ -164,9 +167,11 @@ impl<P: Prefix, A: Allocator> PrefixSet<P, A> {
     ///
     /// # Examples
     ///
-    /// ```text
+    /// ```rust
+    /// // set = {10.1.0.0/16}
+    /// set.is_empty();     // false
     /// set.clear();
-    /// set.is_empty();                     // true
+    /// set.is_empty();     // true
     /// ```
     #[inline]
     pub fn is_empty(&self) -> bool
@@ -183,9 +188,9 @@ impl<P: Prefix, A: Allocator> PrefixSet<P, A> {
     ///
     /// # Examples
     ///
-    /// ```text
-    /// // 0.0.0.0/32 is the only key
-    /// set.node_count();                   // 7: the root, and a node for each five bits
+    /// ```rust
+    /// // set = {0.0.0.0/32}
+    /// set.node_count();       // 7: the root, and a node for each five bits
     /// ```
     #[inline]
     pub fn node_count(&self) -> usize
@@ -202,9 +207,9 @@ impl<P: Prefix, A: Allocator> PrefixSet<P, A> {
     ///
     /// # Examples
     ///
-    /// ```text
-    /// // 192.0.2.0/24, 192.0.2.128/25 and 198.51.100.0/24 are stored
-    /// set.address_count();                // Some(512)
+    /// ```rust
+    /// // set = {192.0.2.0/24, 192.0.2.128/25, 198.51.100.0/24}
+    /// set.address_count();    // Some(512)
     /// ```
     #[inline]
     pub fn address_count(&self) -> Option<P::R>
@@ -222,9 +227,9 @@ impl<P: Prefix, A: Allocator> PrefixSet<P, A> {
     ///
     /// # Examples
     ///
-    /// ```text
-    /// // 10.1.0.0/16 was inserted into a new set
-    /// set.node_slots();                   // 4: the root, and three blocks of one slot
+    /// ```rust
+    /// // set = {10.1.0.0/16}
+    /// set.node_slots();       // 4: the root, and three blocks of one slot
     /// ```
     #[inline]
     pub fn node_slots(&self) -> usize
@@ -240,9 +245,9 @@ impl<P: Prefix, A: Allocator> PrefixSet<P, A> {
     ///
     /// # Examples
     ///
-    /// ```text
-    /// // 10.1.0.0/16 was inserted into a new set
-    /// set.cell_slots();                   // 1
+    /// ```rust
+    /// // set = {10.1.0.0/16}
+    /// set.cell_slots();       // 1
     /// ```
     #[inline]
     pub fn cell_slots(&self) -> usize
@@ -264,9 +269,10 @@ impl<P: Prefix, A: Allocator> PrefixSet<P, A> {
     ///
     /// # Examples
     ///
-    /// ```text
-    /// set.insert("10.1.0.0/16".parse::<Ipv4Prefix>()?)?;      // true
-    /// set.insert("10.1.255.255/16".parse()?)?;                // false: both have one path
+    /// ```rust
+    /// // set = {}
+    /// set.insert("10.1.0.0/16".parse()?)?;            // true
+    /// set.insert("10.1.255.255/16".parse()?)?;        // false: both have one path
     /// ```
     #[inline]
     pub fn insert(&mut self, prefix: P) -> Result<bool, Refusal>

@@ -1,4 +1,5 @@
--- The bits of `|` and `&` of two bitmaps, and of two bitmaps in one word.
+-- Which bits `|` and `&` of two bitmaps have, and those of two bitmaps packed into one word: for the walks over a
+-- node's places and for the masks.
 use Rattle.prefix_trie_bits.proofs.Prelude.{◌≡◌, ℕ, ◌-◌, ◌*◌, ◌^◌, ◌<◌, ◌≤◌, false, ◌&&◌, ◌||◌, eqb, bit_and, bit_or, min, max, refl, sym, ap, ◌∙◌, add-zero, pow_pos, bit_at, bit_at_or, bit_at_and, bit_at-lt, bit_at-zero, bit_at_above, bit_at_cat_low, bit_at_cat_high, has}
 use Rattle.prefix_trie_bits.proofs.Ranks.{has-from, below_two}
 pub use Rattle.std.proofs.Math.Bool.{or-false, or-true}

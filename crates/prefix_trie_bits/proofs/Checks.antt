@@ -1,4 +1,5 @@
--- Tests over whole tables, and what they show of each entry.
+-- Tests over all numbers below a bound, over a list or over all short strings: a proof computes such a test once, and
+-- uses its result for each element.
 use Rattle.prefix_trie_bits.proofs.Prelude.{◌≡◌, ℕ, zero, suc, ◌<◌, ◌≤◌, Bool, true, false, ◌&&◌, List, [], ◌∷◌, ◌++◌, length, map, refl, arith, inl, inr, get_or, beq, cases_eq, strings}
 pub use Rattle.std.proofs.lemmas.Bool.{and_parts as both}
 
@@ -7,7 +8,7 @@ same true true h = refl
 same false false h = refl
 same x y h = cc
 
--- a test holds below n
+-- whether a test is true of each number below n
 unfoldable pub below : (ℕ → Bool) → ℕ → Bool
 below p zero = true
 below p (suc n) = p n && below p n
@@ -20,7 +21,7 @@ at_below p (suc n) h k lt =
     elim (cases_eq k n) [ inl e ↦ rw e b.0 | inr other ↦ at_below p n b.1 k (omega arith) ]
 
 module _ {X : Type 0} where
-  -- a test holds of each element
+  -- whether a test is true of each element of a list
   unfoldable pub each : (X → Bool) → List X → Bool
   each p [] = true
   each p (x ∷ xs) = p x && each p xs
@@ -47,7 +48,7 @@ each-map p f (x ∷ xs) h =
     let b = both (p (f x)) (each p (map f xs)) h in
     rw (b.0, each-map p f xs b.1) refl
 
--- what holds of each string of the list holds of all short strings
+-- if a test is true of each listed string, it is true of each string of at most n bits
 pub at_string : (n : ℕ) (p : List Bool → Bool) → each p (strings n) ≡ true → (s : List Bool) → length s ≤ n → p s ≡ true
 unfolding each strings
 at_string zero p h [] lt = (both (p []) true h).0

@@ -1,5 +1,5 @@
--- The listing of all places, by computing, and the loop that brings set bits into its order: for
--- `Places`.
+-- The list of a node's places, checked by computing, and the loop that brings set bits into listing order: for
+-- `Places::new`.
 use Rattle.prefix_trie_bits.proofs.Prelude.{◌≡◌, ℕ, ◌+◌, ◌-◌, ◌*◌, ◌%◌, ◌^◌, ◌<◌, Bool, true, false, ◌||◌, ◌&&◌, nat_eq, nat_lt, eqb-true, ltb-true, cond, List, [], length, map, Some, refl, sym, ap, ap₂, ◌∙◌, subst, inl, inr, bit_and, bit_or, mod-eq_of_lt, arith, get_or, slice_get, trailing_zeros, w64, or_lt, one_shl, pow_below, bit_at-trailing_zeros, bit_at_set_same, bit_at_set_other, cases_lt, cases_eq, lt-ltb, le-ltb, get_or-map, slice_get-get_or, get_or_from_slice_get, number, has, value_bit, heap_number, strings, place_of, places, is_in, pick, TakesPlace, LISTING, POSITION, Place}
 use Rattle.prefix_trie_bits.specs.declared.node.Place.TheVariants.{Value}
 use Rattle.prefix_trie_bits.proofs.Checks.{both, below, each, at_below, at_index}
@@ -22,7 +22,7 @@ pub string_short : (i : ℕ) → i < 63 → length (get_or (strings 5) i []) < 6
 string_short i h =
     ltb-true (length (get_or (strings 5) i [])) 6 (at_index (λ s. nat_lt (length s) 6) (strings 5) strings-short i [] (rw count-strings h))
 
--- the heap number of the place at a position
+-- the heap number of the place at position p of the listing
 abbrev pub heap_at : ℕ → ℕ
 heap_at p = heap_number (get_or (strings 5) p [])
 
@@ -62,7 +62,7 @@ position-entry n p l =
     let b = both (nat_lt q 63) (nat_eq (heap_at q) n) (of-positive n _ p (at_below position_test 64 refl n l)) in
     let inside : q < 63 = ltb-true q 63 b.0 in (heap-listed q inside ∙ ap Some (eqb-true (heap_at q) n b.1), inside)
 
--- two positions have two heap numbers
+-- position p is what the table gives for its heap number, so two positions have two heap numbers
 unfoldable back_test : ℕ → Bool
 back_test p = nat_eq (get_or POSITION (heap_at p) 0) p
 
@@ -124,7 +124,7 @@ module _ (rest : ℕ) (ne : rest ≡ 0 → ⊥) (fits : rest < 18446744073709551
   pub still_even : has (bit_and rest (rest - 1)) 0 ≡ false
   still_even = others 0 (λ e. let p = low_positive in omega arith) ∙ even
 
-  -- the lowest bit moves to its position q
+  -- the lowest bit is moved to its position q in the listing
   module _ (q : ℕ) (inside : q < 63) (place : slice_get (map heap_number (strings 5)) q ≡ Some (trailing_zeros w64 rest)) where
     heap-is : heap_at q ≡ trailing_zeros w64 rest
     heap-is =
@@ -157,7 +157,7 @@ module _ (rest : ℕ) (ne : rest ≡ 0 → ⊥) (fits : rest < 18446744073709551
 
 -- ---- the two bitmaps side by side
 
--- as the code makes it
+-- the word that the code makes of the two bitmaps: value bits in the lower half, child bits in the upper
 abbrev pub heap : ℕ → ℕ → ℕ
 heap values children = bit_or (values * 2 ^ 1 % 18446744073709551616) (children * 2 ^ 32 % 18446744073709551616)
 
@@ -192,14 +192,14 @@ module _ (values children : ℕ) (small : values < 2147483648) (fits : children 
             sym (ap (λ t. cond t (has values (value_bit s)) (has children (number s))) (le-ltb (length s) 5 g))
       ]
 
-  -- what the moved bits pick are the places in both bitmaps
+  -- the places picked by the moved bits are exactly the places in the two bitmaps
   pub listing_places : (listing : ℕ) → ((p : ℕ) → p < 63 → has listing p ≡ has (heap values children) (heap_at p)) → pick listing (strings 5) ≡ places values children
   listing_places listing bits =
       pick-filter (strings 5) (is_in values children) listing [] (λ i l.
       let h : i < 63 = subst (λ n. i < n) count-strings l in
       bits i h ∙ heap_bits (get_or (strings 5) i []) (string_short i h))
 
--- when no bit is left to move, the moved ones are the bits of the heap
+-- once no bit is left to move, the moved bits are the bits of the whole heap
 pub all_moved : (listing rest heap : ℕ) → rest ≡ 0 → ((p : ℕ) → p < 63 → (has listing p || has rest (heap_at p)) ≡ has heap (heap_at p)) → (p : ℕ) → p < 63 → has listing p ≡ has heap (heap_at p)
 all_moved listing rest heap done bits p l =
     sym (or-false (has listing p)) ∙

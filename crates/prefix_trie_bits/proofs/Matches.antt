@@ -1,5 +1,5 @@
--- The longest and the shortest string of a bitmap with which another begins: for `longest_match`
--- and `shortest_match`.
+-- The longest and the shortest string in a bitmap that begins a given string: for `longest_match` and
+-- `shortest_match`.
 use Rattle.prefix_trie_bits.proofs.Prelude.{◌≡◌, ℕ, suc, ◌+◌, ◌-◌, ◌*◌, ◌/◌, ◌%◌, ◌^◌, ◌<◌, ◌≤◌, Bool, true, ◌&&◌, List, length, take, sym, ap, ap₂, ◌∙◌, subst, arith, bit_and, pow_pos, pow-suc, inl, inr, bit_at, leading_zeros, trailing_zeros, w32, le-div, div_below, and_le_l, bit_at-zero, bit_at_above, bit_at-trailing_zeros, cases_lt, digits, begins, length-digits, begins-take, begins-length, take-begins, has, value_bit, stands, HoldsValues, NoneBegins, IsLongest, IsShortest}
 use Rattle.std.proofs.lemmas.List.{length-take-le}
 use Rattle.std.proofs.lemmas.Bool.{false_from_ne_true as not-true}
@@ -47,7 +47,7 @@ module _ (bitmap mask : ℕ) (rest : List Bool) (small : bitmap < 2 ^ 31) (holds
         absurd (omega (arith, bit-set bitmap b (in-each bitmap mask b h).0))
   ]
 
-  -- a bit of both bitmaps is that of a string with which rest begins
+  -- a bit set in both the bitmap and the mask is the value bit of a beginning of `rest`
   found : (b : ℕ) → has (bit_and bitmap mask) b ≡ true → (n : ℕ) × (n ≤ 4) × (n ≤ length rest) × (b ≡ value_bit (take n rest)) × (has bitmap b ≡ true)
   found b h =
       let l = bit-below b h in

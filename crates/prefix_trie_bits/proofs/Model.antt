@@ -1,4 +1,4 @@
--- Laws of the model, and its worked rows and facts.
+-- The laws of the model, and its worked rows and facts.
 pub mod Members
 pub mod Homes
 pub mod Pruning

@@ -1,4 +1,4 @@
--- Networks by numbers: their ends, parents and order.
+-- Networks as numbers: their first and last addresses, their parents and their order.
 pub mod Ends
 pub mod Parents
 pub mod Order

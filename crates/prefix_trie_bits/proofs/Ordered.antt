@@ -1,4 +1,4 @@
--- The strings of a node's places are in listing order, each once.
+-- The strings of a node's places are in listing order, each once: for `Places`.
 use Rattle.prefix_trie_bits.proofs.Prelude.{◌≡◌, ℕ, zero, suc, ◌%◌, ◌/◌, ◌<◌, ◌≤◌, ◌↔◌, ◌⊎◌, Bool, true, false, cond, nat_eq, nat_lt, ltb-true, ◌&&◌, List, [], ◌∷◌, length, map, filter, refl, sym, ap, ◌∙◌, subst, inl, inr, arith, Ordering, Less, Contains, AllByRecursion, IsStrictlySortedBy, Contains-append_left, Contains-append_right, listing_cmp, strings, pick, is_before, is_in, places}
 use Rattle.prefix_trie_bits.proofs.Checks.{both, each, at_index}
 use Rattle.prefix_trie_bits.proofs.Listing.{strings-short}
@@ -54,7 +54,7 @@ contains-map f x (y ∷ ys) h = elim (contains-cases y x ys h) [
   | inr later ↦ contains-later (f y) (f x) (map f ys) (contains-map f x ys later)
 ]
 
--- each string of at most n bits is listed
+-- the list has each string of at most n bits
 strings-contain : (n : ℕ) (s : List Bool) → length s ≤ n → Contains (strings n) s
 unfolding strings
 strings-contain zero [] l = contains-first [] []
@@ -72,7 +72,7 @@ strings-within s (k, l, e) =
     let h : length s < 6 = ltb-true (length s) 6 (ap (λ t. nat_lt (length t) 6) (sym e) ∙ at_index (λ t. nat_lt (length t) 6) (strings 5) strings-short k s l) in
     omega arith
 
--- the places in two bitmaps are the strings of at most five bits whose bits are set
+-- the places of two bitmaps are the strings of at most five bits whose bits are set
 pub in_places : (values children : ℕ) (s : List Bool) → Contains (places values children) s ↔ ((length s ≤ 5) × (is_in values children s ≡ true))
 in_places values children s = (
   λ h. let f = filter-contains (is_in values children) s (strings 5) h in (strings-within s f.0, f.1),

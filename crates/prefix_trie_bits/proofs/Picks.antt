@@ -1,4 +1,4 @@
--- Picking elements by the set bits of a number.
+-- Picking the elements of a list at the set bits of a number: for `Places`.
 use Rattle.prefix_trie_bits.proofs.Prelude.{◌≡◌, ℕ, zero, suc, ◌+◌, ◌-◌, ◌*◌, ◌/◌, ◌%◌, ◌^◌, ◌<◌, ◌≢◌, Bool, true, false, cond, ◌&&◌, eqb, List, [], ◌∷◌, length, refl, sym, ap, ap₂, ◌∙◌, arith, get_or, pow_pos, bit_and, filter, add-zero, pow-suc, inl, inr, bit_at, and_self, and_zero_l, and_block, shr_split, bit_at-zero, bit_at_cat_low, bit_at_cat_high, same_from_bits_below, cases_lt, has, pick}
 use Rattle.prefix_trie_bits.proofs.Ranks.{has-low, has-suc, bit-set, bit-clear, has-from, mod-suc, low}
 
@@ -15,7 +15,7 @@ module _ {X : Type 0} where
       ap₂ (λ t r. cond t (x ∷ r) r) (sym (has-low a) ∙ f 0 (omega arith) ∙ has-low b)
       (pick-same xs (a / 2) (b / 2) (λ i l. sym (has-suc a i) ∙ f (suc i) (omega arith) ∙ has-suc b i))
 
-  -- the elements that pass a test, if the bits are its results
+  -- if bit i says whether element i passes a test, the picked elements are those that pass
   pub pick-filter : (xs : List X) (p : X → Bool) (m : ℕ) (d : X) → ((i : ℕ) → i < length xs → has m i ≡ p (get_or xs i d)) → pick m xs ≡ filter p xs
   unfolding pick
   pick-filter [] p m d f = refl
@@ -23,7 +23,7 @@ module _ {X : Type 0} where
       ap₂ (λ t r. cond t (x ∷ r) r) (sym (has-low m) ∙ f 0 (omega arith))
       (pick-filter xs p (m / 2) d (λ i l. sym (has-suc m i) ∙ f (suc i) (omega arith)))
 
-  -- the elements at the bits of another number that pass a test, if the bits are set in both
+  -- if the bits are those of a that pass a test, the picked elements are those of a that pass
   pub pick-both : (xs : List X) (p : X → Bool) (m a : ℕ) (d : X) → ((i : ℕ) → i < length xs → has m i ≡ (has a i && p (get_or xs i d))) → pick m xs ≡ filter p (pick a xs)
   unfolding pick
   pick-both [] p m a d f = refl
@@ -36,7 +36,7 @@ module _ {X : Type 0} where
       go true = refl
       go false = refl
 
-  -- the lowest set bit picks the first element, and the others the rest
+  -- the lowest set bit picks the first element, and the other bits pick the rest
   pub pick-first : (xs : List X) (m t m' : ℕ) (d : X) → t < length xs → has m t ≡ true → ((i : ℕ) → i < t → has m i ≡ false) → has m' t ≡ false → ((i : ℕ) → i ≢ t → has m' i ≡ has m i) → pick m xs ≡ get_or xs t d ∷ pick m' xs
   unfolding pick
   pick-first [] m t m' d l h before gone others = absurd (omega arith)
@@ -59,7 +59,7 @@ none-below : (m t : ℕ) → ((i : ℕ) → i < t → has m i ≡ false) → m %
 none-below m t before =
     same_from_bits_below t (m % 2 ^ t) 0 (low m t) (pow_pos t) (λ i l. bit_at-low m t i l ∙ bit-clear m i (before i l) ∙ sym (bit_at-zero i))
 
--- a number cut at its lowest set bit
+-- a number is an odd number shifted up by the position of its lowest set bit
 cut-at : (m t : ℕ) → has m t ≡ true → ((i : ℕ) → i < t → has m i ≡ false) → m ≡ (m / 2 ^ suc t * 2 + 1) * 2 ^ t
 cut-at m t h before =
     let e : m % 2 ^ suc t ≡ 1 * 2 ^ t + 0 =

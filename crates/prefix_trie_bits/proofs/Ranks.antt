@@ -1,10 +1,10 @@
--- How many set bits are below a bit.
+-- The rank of a bit, which is the number of set bits below it: for `rank` and the lists of a node.
 use Rattle.prefix_trie_bits.proofs.Prelude.{◌≡◌, ℕ, zero, suc, ◌+◌, ◌-◌, ◌*◌, ◌/◌, ◌%◌, ◌^◌, ◌<◌, ◌≤◌, true, false, cond, eqb, refl, sym, ap, ap₂, ◌∙◌, subst, arith, inl, inr, one-add, pow_pos, eqb-true, bit_and, mod-eq_of_lt, bit_or, bit_at, bit_not, w32, count_ones, ones_cat, ones_le_self, zero_from_ones, and_le_l, mod-pow-add, mod_below, and_mask, one_shl, or_lt, pow_below, bit_at-lt, bit_at-suc, bit_at_set_same, bit_at_set_other, bit_at_clear_same, bit_at_clear_other, bit_at_above, cases_lt, has, ones_below, Sets}
 
 pub bit-set : (m k : ℕ) → has m k ≡ true → bit_at m k ≡ 1
 bit-set m k h = eqb-true (bit_at m k) 1 h
 
--- what holds of 0 and of 1 holds of a bit
+-- a bit is 0 or 1, so what holds of both holds of it
 pub below_two : (P : ℕ → Type 0) → P 0 → P 1 → (x : ℕ) → x < 2 → P x
 below_two P a b zero l = a
 below_two P a b (suc zero) l = b
@@ -42,7 +42,7 @@ pub ones-mod-suc : (m b : ℕ) → count_ones (m % 2 ^ suc b) ≡ bit_at m b + c
 ones-mod-suc m b =
     ap count_ones (mod-suc m b) ∙ ones_cat b (bit_at m b) (m % 2 ^ b) (low m b) ∙ ap (λ x. x + count_ones (m % 2 ^ b)) (ones-bit (bit_at m b) (bit_at-lt m b))
 
--- the number of set bits below b is the number of ones of the low b bits
+-- the rank of bit b is the number of ones among the b lowest bits
 pub ones_below-is : (b m : ℕ) → ones_below b m ≡ count_ones (m % 2 ^ b)
 unfolding ones_below
 ones_below-is zero m =
@@ -52,7 +52,7 @@ ones_below-is zero m =
 ones_below-is (suc b) m =
     ap₂ (λ x y. x + y) (ones_below-is b m) (bit-of m b) ∙ omega (arith, ones-mod-suc m b)
 
--- what `(m & ((1 << b) - 1)).count_ones()` computes
+-- `(m & ((1 << b) - 1)).count_ones()` is the rank of bit b
 pub rank_is : (m b : ℕ) → b < 32 → count_ones (bit_and m (1 * 2 ^ b % 4294967296 - 1)) ≡ ones_below b m
 rank_is m b l =
     ap (λ x. count_ones (bit_and m (x - 1))) (one_shl b 32 l) ∙ ap count_ones (and_mask m b) ∙ sym (ones_below-is b m)
@@ -70,7 +70,7 @@ has-suc m b = ap (λ x. eqb x 1) (bit_at-suc m b)
 pub count_ones_below : (w m : ℕ) → m < 2 ^ w → ones_below w m ≡ count_ones m
 count_ones_below w m small = ones_below-is w m ∙ ap count_ones (mod-eq_of_lt small)
 
--- `m | 1 << k`, of a clear bit
+-- `m | 1 << k` sets a bit that was clear
 pub set_bit_sets : (m k : ℕ) → k < 32 → has m k ≡ false → Sets m k (bit_or m (1 * 2 ^ k % 4294967296))
 set_bit_sets m k l h = record {
   clear = h;
@@ -78,7 +78,7 @@ set_bit_sets m k l h = record {
   others = λ d ne. ap (λ x. eqb x 1) (bit_at_set_other w32 m k l d ne);
 }
 
--- `m & !(1 << k)`, of a set bit
+-- `m & !(1 << k)` clears a bit that was set
 pub clear_bit_sets : (m k : ℕ) → k < 32 → m < 2 ^ 32 → has m k ≡ true → Sets (bit_and m (bit_not w32 (1 * 2 ^ k % 4294967296))) k m
 clear_bit_sets m k l small h = record {
   clear = has-from _ k 0 (bit_at_clear_same w32 m k l);

@@ -1,4 +1,4 @@
--- What two masks leave of a node's places, and which string a place has.
+-- Which places of a node two masks leave, and which string a place has: for the lookups and walks of the table.
 use Rattle.prefix_trie_bits.proofs.Prelude.{◌≡◌, ℕ, Bool, true, false, cond, nat_lt, ◌&&◌, List, ◌∷◌, length, filter, refl, ap₂, ◌∙◌, bit_and, number, has, value_bit, is_in, HoldsPlaces}
 use Rattle.prefix_trie_bits.proofs.Bitmaps.{has-and}
 

@@ -1,4 +1,4 @@
--- Value bits of strings, and the strings of value bits.
+-- The value bit of a string, and the string of a value bit: for the windows that the code reads.
 use Rattle.prefix_trie_bits.proofs.Prelude.{◌≡◌, ℕ, suc, ◌+◌, ◌-◌, ◌*◌, ◌/◌, ◌%◌, ◌^◌, ◌<◌, ◌≤◌, Bool, List, ◌++◌, length, take, drop, sym, ap, ap₂, ◌∙◌, subst, arith, inl, inr, pow_pos, pow-suc, min, mod-eq_of_lt, leading_zeros, w32, leading_top, pow_below, one_shl, cases_lt, cases_eq, take_all, take-take, number, digits, begins, zeros, same-from-number, number-lt, number-digits, length-digits, digits-number, bits-number, number-below, same_bool, begins-take, begins-from-take, begins-trans, take-begins, window-inside, window-of-front, length-window, value_bit}
 use Rattle.std.proofs.lemmas.List.{length-drop, length-take-le, length-append}
 use Rattle.std.proofs.lemmas.Nat.{shr_below}
@@ -12,7 +12,7 @@ pow-le a b l = elim (cases_eq a b) [
   | inr ne ↦ omega (arith, pow_below a b (omega arith))
 ]
 
--- a string's value bit is one less than the number that is a 1 followed by its bits
+-- a string's value bit plus one is the number whose digits are a 1 and then the string
 pub value_bit-suc : (s : List Bool) → value_bit s + 1 ≡ 2 ^ length s + number s
 value_bit-suc s = let p = pow_pos (length s) in omega arith
 
@@ -28,12 +28,12 @@ pub value_bit-small : (s : List Bool) → length s ≤ 4 → value_bit s < 31
 value_bit-small s l =
     let p : 2 ^ suc (length s) ≤ 32 = pow-le (suc (length s)) 5 (omega arith) in omega (arith, p, value_bit-high s)
 
--- a longer string has a higher bit
+-- a longer string has a higher value bit
 pub value_bit-longer : (s t : List Bool) → length s < length t → value_bit s < value_bit t
 value_bit-longer s t l =
     omega (arith, value_bit-high s, value_bit-low t, pow-le (suc (length s)) (length t) (omega arith))
 
--- the length of a number
+-- a number has one length in binary
 pub power-unique : (x a b : ℕ) → 2 ^ a ≤ x → x < 2 ^ suc a → 2 ^ b ≤ x → x < 2 ^ suc b → a ≡ b
 power-unique x a b la ha lb hb =
     elim (cases_lt a b) [
@@ -96,7 +96,7 @@ length-below : (b : List Bool) (depth len : ℕ) → depth ≤ len → len ≤ l
 length-below b depth len h l =
     length-drop depth (take len b) ∙ ap (λ n. n - depth) (length-take-le len b l)
 
--- the bits of a window within a key's length
+-- a window that ends within the key reads bits of the key alone
 pub window-is : (b z : List Bool) (depth len n : ℕ) → depth + n ≤ len → len ≤ length b → take n (drop depth (b ++ z)) ≡ take n (drop depth (take len b))
 window-is b z depth len n h l =
     window-inside b z depth n (omega arith) ∙ sym (window-of-front b len depth n h)
@@ -114,7 +114,7 @@ pub pos-below : (b : List Bool) (depth x : ℕ) → depth ≤ length b → x ≡
 pos-below b depth x l e =
     subst (λ y. y < 16) (sym e) (number-below 4 (take 4 (drop depth (b ++ zeros 5))) (length-four b depth l))
 
--- the string of a level and four bits
+-- the string that a level and four bits of a window denote
 pub level-string : (b : List Bool) (depth len level pos : ℕ) → depth ≤ len → len ≤ length b → level ≡ min (len - depth) 4 → pos ≡ number (take 4 (drop depth (b ++ zeros 5))) → take level (digits 4 pos) ≡ take 4 (drop depth (take len b))
 level-string b depth len level pos h l level-is pos-is =
     ap (λ s. take level s) (ap (digits 4) pos-is ∙ bits-number 4 (take 4 (drop depth (b ++ zeros 5))) (length-four b depth (omega arith))) ∙
@@ -151,7 +151,7 @@ value_bit_window_small b depth len x h last l e =
     subst (λ y. y < 31) (sym (value_bit_from_window b depth len x h last l e))
     (value_bit-small (drop depth (take len b)) (let n = length-below b depth len h l in omega arith))
 
--- the five bits from a depth on
+-- the five bits from a depth on, as one number
 module _ (b : List Bool) (depth x : ℕ) (within : depth ≤ length b) (read : x ≡ number (take 5 (drop depth (b ++ zeros 5)))) where
   five : length (take 5 (drop depth (b ++ zeros 5))) ≡ 5
   five = length-window (b ++ zeros 5) depth 5 (omega (arith, length-append b (zeros 5)))
@@ -159,7 +159,7 @@ module _ (b : List Bool) (depth x : ℕ) (within : depth ≤ length b) (read : x
   pub window-small : x < 32
   window-small = subst (λ y. y < 32) (sym read) (number-below 5 (take 5 (drop depth (b ++ zeros 5))) five)
 
-  -- the upper ones of them
+  -- its upper n bits are the first n bits of the string
   upper : (n : ℕ) → n ≤ 5 → x / 2 ^ (5 - n) ≡ number (take n (drop depth (b ++ zeros 5)))
   upper n few =
       let all : 5 ≡ n + (5 - n) = omega (arith, few) in
@@ -168,7 +168,7 @@ module _ (b : List Bool) (depth x : ℕ) (within : depth ≤ length b) (read : x
       ∙ ap (λ s. number (take n s)) (ap (digits 5) read ∙ bits-number 5 (take 5 (drop depth (b ++ zeros 5))) five)
       ∙ ap number (take-take n 5 (drop depth (b ++ zeros 5)) few)
 
--- a 1 and these bits, without those past the string
+-- a 1 followed by the bits of the string, as the code computes it, is the value bit plus one
 pub value_bit_from_five : (b : List Bool) (len x : ℕ) → len < 5 → len ≤ length b → x ≡ number (take 5 (drop 0 (b ++ zeros 5))) → (32 + x) / 2 ^ (5 - len) ≡ value_bit (take len b) + 1
 value_bit_from_five b len x short l e =
     let few : len ≤ 5 = omega (arith, short) in
@@ -179,7 +179,7 @@ value_bit_from_five b len x short l e =
     ∙ ap₂ (λ k m. 2 ^ k + m) (sym (length-take-le len b l)) (upper b 0 x (omega arith) e len few ∙ ap number (subst (λ k. take k (drop 0 (b ++ zeros 5)) ≡ drop 0 (take len b)) whole (all-of-window b (zeros 5) 0 len (omega arith) l)))
     ∙ sym (value_bit-suc (take len b))
 
--- what the code reads as a child bit
+-- the window of five bits is the child bit
 pub child_bit_from_window : (b : List Bool) (depth x : ℕ) → depth + 5 ≤ length b → x ≡ number (take 5 (drop depth (b ++ zeros 5))) → x ≡ number (take 5 (drop depth b))
 child_bit_from_window b depth x h e = e ∙ ap number (window-inside b (zeros 5) depth 5 h)
 
@@ -188,7 +188,7 @@ child_bit-small b depth h = number-below 5 (take 5 (drop depth b)) (length-windo
 
 -- ---- one bit more
 
--- strings with one value bit are equal
+-- strings with the same value bit are equal
 pub value_bit-injective : (s t : List Bool) → value_bit s ≡ value_bit t → s ≡ t
 value_bit-injective s t e =
     let l : length s ≡ length t =

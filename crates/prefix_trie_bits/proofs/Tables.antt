@@ -1,5 +1,4 @@
--- Each entry of the tables, by computing: a test over the whole table, and what it shows of an
--- entry.
+-- Each entry of the mask tables is right: a test over the whole table is computed, and shows what each entry holds.
 use Rattle.prefix_trie_bits.proofs.Prelude.{◌≡◌, ℕ, zero, suc, ◌+◌, ◌*◌, ◌/◌, ◌%◌, ◌<◌, ◌≤◌, Bool, true, ◌||◌, ◌&&◌, not, nat_eq, nat_lt, ltb-true, List, [], ◌∷◌, length, take, refl, subst, ◌∙◌, arith, get_or, beq, number, digits, begins, has, value_bit, strings, is_in, is_before, HoldsValues, HoldsChildren, HoldsPlaces, HoldsPositions, MATCHES, VALUES_COVERED, CHILDREN_COVERED, FROM_VALUE, BEHIND_CHILD, NOT_BELOW}
 use Rattle.prefix_trie_bits.proofs.Checks.{below, each, at_below, at_string, both, same}
 use Rattle.prefix_trie_bits.proofs.Ranks.{has-low, has-suc}
@@ -98,7 +97,7 @@ behind-child-entry b t l e =
 
 -- ---- what a value bit's string does not begin
 
--- the bits of a mask, the lowest first, are the results of a test
+-- whether the bits of a mask, the lowest first, are the results of a test
 unfoldable bits_hold : ℕ → (List Bool → Bool) → List (List Bool) → Bool
 bits_hold mask test [] = true
 bits_hold mask test (s ∷ ss) = beq (nat_eq (mask % 2) 1) (test s) && bits_hold (mask / 2) test ss

@@ -1,4 +1,4 @@
--- How numbers and windows of keys give the order of the listing. This project's own.
+-- How comparing numbers, or windows of keys, gives the listing order. This project's own.
 use Rattle.std.proofs.Common.{◌≡◌, ℕ, zero, suc, ◌+◌, ◌-◌, ◌*◌, ◌^◌, ◌<◌, ◌≤◌, Bool, true, false, List, [], ◌∷◌, ◌++◌, length, length-append, take, drop, refl, sym, ap, ap₂, ◌∙◌, subst, arith, Ordering, Less, Equal, Greater, true≢false}
 use Rattle.std.proofs.lemmas.List.{drop-drop, length-drop, length-replicate}
 use Rattle.std.specs.Cmp.{nat_cmp_is, ranks}
@@ -8,7 +8,7 @@ use Rattle.prefix_trie_bits.specs.BitStrings.{length-digits, number-lt, number_o
 use Rattle.prefix_trie_bits.specs.Order.{listing_cmp, listing-refl}
 use Rattle.prefix_trie_bits.specs.Windows.{window-inside, length-window}
 
--- two numbers compare as they do with the same number added to both
+-- adding the same number to both sides does not change a comparison
 raised : (o : Ordering) (a b x y k : ℕ) → x ≡ k + a → y ≡ k + b → MatchOrdering o (a < b) (a ≡ b) (b < a) → MatchOrdering o (x < y) (x ≡ y) (y < x)
 raised Less a b x y k e f h = omega (arith, e, f, h)
 raised Equal a b x y k e f h = omega (arith, e, f, h)
@@ -32,7 +32,7 @@ ranked (true ∷ s) (false ∷ t) e =
     let same : 2 ^ length s ≡ 2 ^ length t = ap (λ n. 2 ^ n) (let l : length s ≡ length t = omega (arith, e) in l) in
     omega (arith, number-lt t, same)
 
--- strings of one length are in the order of their numbers
+-- strings of the same length are ordered as their numbers
 pub order-numbers : (s t : List Bool) → length s ≡ length t → listing_cmp s t ≡ nat_cmp (number s) (number t)
 order-numbers s t e = nat_cmp_is (number s) (number t) (listing_cmp s t) (ranked s t e)
 
@@ -41,7 +41,7 @@ pub ordered_as_numbers : (w a b : ℕ) → a < 2 ^ w → b < 2 ^ w → nat_cmp a
 ordered_as_numbers w a b l m =
     sym (order-numbers (digits w a) (digits w b) (length-digits w a ∙ sym (length-digits w b)) ∙ ap₂ nat_cmp (number_of_digits w a l) (number_of_digits w b m))
 
--- the first n bits decide, and if they are the same the bits after them
+-- the first n bits decide the order, and if they are equal the later bits do
 order-split : (n : ℕ) (s t : List Bool) → n ≤ length s → n ≤ length t → listing_cmp s t ≡ ordering_then (listing_cmp (take n s) (take n t)) (listing_cmp (drop n s) (drop n t))
 order-split zero s t h k = refl
 order-split (suc n) [] t h k = absurd (omega (arith, h))
@@ -51,7 +51,7 @@ order-split (suc n) (false ∷ s) (false ∷ t) h k = order-split n s t (omega (
 order-split (suc n) (true ∷ s) (false ∷ t) h k = refl
 order-split (suc n) (false ∷ s) (true ∷ t) h k = refl
 
--- the windows of n bits at depth d decide, and if they are the same the bits after them
+-- the windows of n bits at depth d decide the order, and if they are equal the later bits do
 order-windows : (a b : List Bool) (d n : ℕ) → length a ≡ length b → d + n ≤ length a
     → listing_cmp (drop d a) (drop d b)
     ≡ ordering_then (nat_cmp (number (take n (drop d (a ++ zeros 5)))) (number (take n (drop d (b ++ zeros 5))))) (listing_cmp (drop (d + n) a) (drop (d + n) b))
@@ -70,7 +70,7 @@ module _ (a b : List Bool) (d n x y : ℕ) (o : Ordering) (same : length a ≡ l
       order-windows a b d n same inside
       ∙ ap (λ r. ordering_then r (listing_cmp (drop (d + n) a) (drop (d + n) b))) (sym (o_is ∙ ap₂ nat_cmp x_is y_is))
 
-  -- windows that differ decide
+  -- windows that differ decide the order
   pub order-here : is_ne o ≡ true → listing_cmp (drop d a) (drop d b) ≡ o
   order-here e = by_windows ∙ decided o e
     where
@@ -79,7 +79,7 @@ module _ (a b : List Bool) (d n x y : ℕ) (o : Ordering) (same : length a ≡ l
       decided Equal h = absurd (true≢false (sym h))
       decided Greater h = refl
 
-  -- windows that are the same leave it to the bits after them
+  -- if the windows are equal, the later bits decide the order
   pub order-later : is_ne o ≡ false → listing_cmp (drop d a) (drop d b) ≡ listing_cmp (drop (d + n) a) (drop (d + n) b)
   order-later e = by_windows ∙ left o e
     where
@@ -122,7 +122,7 @@ filled_by (false ∷ s) (false ∷ t) n m e =
 filled_by (true ∷ s) (false ∷ t) n m e = refl
 filled_by (false ∷ s) (true ∷ t) n m e = refl
 
--- two strings are in the order of the filled strings, and if these are the same the shorter is first
+-- two strings are ordered as they are when filled with zeros to one length; if those are equal, the shorter is first
 pub order-filled : (w : ℕ) (s t : List Bool) → length s ≤ w → length t ≤ w
     → listing_cmp s t ≡ ordering_then (listing_cmp (s ++ zeros (w - length s)) (t ++ zeros (w - length t))) (nat_cmp (length s) (length t))
 order-filled w s t h k = filled_by s t (w - length s) (w - length t) (omega (arith, h, k))

@@ -1,4 +1,4 @@
--- What a walk has still to give of one node. This project's own.
+-- The places of a node that a walk has still to visit. This project's own.
 use Rattle.std.specs.Prelude.{List, Bool}
 use Rattle.prefix_trie_bits.specs.Places.{strings, pick}
 use Rattle.prefix_trie_bits.specs.declared.node.Places.{Places}

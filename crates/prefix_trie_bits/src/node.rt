@@ -94,11 +94,11 @@ impl Places {
     ///
     /// # Examples
     ///
-    /// ```text
+    /// ```rust
     /// let mut places = Places::new(1 << 29 | 1 << 30, 1 << 29 | 1 << 31);
     /// places.skip_below(29);
-    /// places.next_place() == Some(Place::Value(30))
-    /// places.next_place() == Some(Place::Child(31))
+    /// places.next_place();    // Some(Value(30))
+    /// places.next_place();    // Some(Child(31))
     /// ```
     #[inline]
     pub fn skip_below(&mut self, bit: u32)

@@ -30,12 +30,12 @@ pub use networks::{Ipv4Prefix, Ipv6Prefix, ParseNetworkError};
 ///
 /// # Examples
 ///
-/// ```text
-/// 0xd4adbeef_u32 has the bits 1101 0100 1010 1101 ..
-/// window(5, 5)   10010, which is 18
-/// keep(6)        0xd4000000
-/// extend(6, 2, 1) 0xd5000000
-/// behind(8)      0xadbeef00
+/// ```rust
+/// let key = 0xd4adbeef_u32;               // the bits 1101 0100 1010 1101 ..
+/// key.window(5, 5);                       // 18: the bits 10010
+/// key.keep(6) == 0xd4000000;              // true
+/// key.extend(6, 2, 1) == 0xd5000000;      // true
+/// key.behind(8) == 0xadbeef00;            // true
 /// ```
 pub trait Key: Copy + Eq + Debug {
     // how many bits a key has
@@ -118,8 +118,8 @@ pub trait Key: Copy + Eq + Debug {
     ///
     /// # Examples
     ///
-    /// ```text
-    /// u8::power(3)   0b0000_1000, the number of strings of 8 bits that begin with a given one of 5
+    /// ```rust
+    /// u8::power(3);       // 8: as many strings of 8 bits begin with a given one of 5
     /// ```
     #[inline]
     fn power(k: u32) -> Self
@@ -134,9 +134,9 @@ pub trait Key: Copy + Eq + Debug {
     ///
     /// # Examples
     ///
-    /// ```text
-    /// 1_u8.plus(2)     Some(3)
-    /// 128_u8.plus(128) None
+    /// ```rust
+    /// 1_u8.plus(2);           // Some(3)
+    /// 128_u8.plus(128);       // None
     /// ```
     fn plus(self, other: Self) -> Option<Self>
         ensures { MatchOption result (2 ^ bit_width ≤ number (bits self) + number (bits other))
@@ -149,8 +149,8 @@ pub trait Key: Copy + Eq + Debug {
     ///
     /// # Examples
     ///
-    /// ```text
-    /// 0b0100_0000_u8.compare(0b0110_0000)   Less
+    /// ```rust
+    /// 0b0100_0000_u8.compare(0b0110_0000);    // Less
     /// ```
     #[inline]
     fn compare(self, other: Self) -> Ordering
@@ -196,8 +196,11 @@ pub trait Key: Copy + Eq + Debug {
 ///
 /// # Examples
 ///
-/// ```text
-/// (0x0a010000_u32, 8): repr 0x0a010000, mask 0x0a000000, contains (0x0a820205, 9)
+/// ```rust
+/// let prefix = (0x0a010000_u32, 8_u8);
+/// prefix.repr() == 0x0a010000;                // true
+/// prefix.mask() == 0x0a000000;                // true
+/// prefix.contains(&(0x0a820205_u32, 9));      // true
 /// ```
 pub trait Prefix: Sized + Debug + Drop {
     /// The type of the number.
@@ -302,9 +305,9 @@ pub trait Prefix: Sized + Debug + Drop {
 ///
 /// # Examples
 ///
-/// ```text
-/// println!(rt; "{}", Refusal::Memory)   a request for memory was refused
-/// println!(rt; "{}", Refusal::IndexRange)   the slots needed pass the limit
+/// ```rust
+/// format!(in alloc; "{}", Refusal::Memory)?;          // "a request for memory was refused"
+/// format!(in alloc; "{}", Refusal::IndexRange)?;      // "the slots needed pass the limit"
 /// ```
 #[derive(Clone, Copy, PartialEq, Eq, Debug)]
 pub enum Refusal {
@@ -321,9 +324,9 @@ pub enum Refusal {
 ///
 /// # Examples
 ///
-/// ```text
-/// map.insert(prefix, 1)    Err(Refused { cause: Refusal::Memory, value: 1 }), if an allocation fails
-/// map.insert(prefix, 1)?   returns Err(Refusal::Memory) then
+/// ```rust
+/// let mut map: PrefixMap<Ipv4Prefix, u32, Global> = PrefixMap::with_slot_limit(alloc, 4)?;
+/// map.insert("0.0.0.0/32".parse()?, 1);       // Err(Refused { cause: IndexRange, value: 1 })
 /// ```
 #[derive(PartialEq, Eq, Debug, Drop)]
 pub struct Refused<T> {

@@ -1,7 +1,7 @@
 -- A copy of a map has clones of its values: for `clone`.
 use Rattle.prefix_trie_map.proofs.Prelude.{◌≡◌, ◌↔◌, ℕ, true, List, Bool, sym, ◌∙◌, subst, get, contains_key, Entries, Nodes, AreNodes, IsTidy, needed, State, IsMap, same_nodes, needed_fewer, AreCloned, cloned_there, CopyLaws, [], ◌∷◌, map, refl, ap, ap₂, AllZip, prefix_pairs, IsPairCloned, Option, None, Some, IsSomeAnd, IsCloned, same_entries, none-some, same_Some}
 
--- the copy of a map, with the same keys and nodes, is a map
+-- a copy with the keys and nodes of a map is a map
 pub IsMap-copied : {T : Type 0} (C : T → T → Type 0) (width : ℕ) (s copy : State T) → AreCloned C s.entries copy.entries → copy.nodes ≡ s.nodes →
     IsMap width s → IsMap width copy
 IsMap-copied C width s copy cloned nodes good = record {
@@ -49,7 +49,7 @@ module _ {T : Type 0} (C : T → T → Type 0) where
   copy_laws = record { same_needed = same_needed; as_tidy = as_tidy; has_clone = has_clone; is_same = is_same }
 
 module _ {T : Type 0} (C : T → T → Type 0) where
-  -- as users see them
+  -- if the pairs are clones, so are the pairs that users see
   pub shown_cloned : {P : Type 0} (back : List Bool → P) (xs ys : List (List Bool × T)) → AllZip (IsPairCloned C) xs ys →
       AllZip (IsPairCloned C) (prefix_pairs back xs) (prefix_pairs back ys)
   shown_cloned back [] [] z = tt
@@ -57,14 +57,14 @@ module _ {T : Type 0} (C : T → T → Type 0) where
   shown_cloned back (x ∷ xs) [] z = absurd z
   shown_cloned back (x ∷ xs) (y ∷ ys) z = ((ap back z.0.0, z.0.1), shown_cloned back xs ys z.1)
 
-  -- the keys are the same
+  -- the keys of the pairs are the same
   pub keys_cloned : {P : Type 0} (xs ys : List (P × T)) → AllZip (IsPairCloned C) xs ys → map (λ e. e.0) ys ≡ map (λ e. e.0) xs
   keys_cloned [] [] z = refl
   keys_cloned [] (y ∷ ys) z = absurd z
   keys_cloned (x ∷ xs) [] z = absurd z
   keys_cloned (x ∷ xs) (y ∷ ys) z = ap₂ (λ k ks. k ∷ ks) z.0.0 (keys_cloned xs ys z.1)
 
-  -- and the values clones
+  -- the values of the pairs are clones
   pub values_cloned : {P : Type 0} (xs ys : List (P × T)) → AllZip (IsPairCloned C) xs ys → AllZip C (map (λ e. e.1) xs) (map (λ e. e.1) ys)
   values_cloned [] [] z = tt
   values_cloned [] (y ∷ ys) z = absurd z

@@ -1,4 +1,4 @@
--- The first and the last item of a cover walk are the shortest and the longest match.
+-- The first item of a cover walk is the shortest match, and the last is the longest: for `cover_laws`.
 use Rattle.prefix_trie_map.proofs.Prelude.{◌≡◌, ◌≢◌, ◌↔◌, Bool, true, List, [], ◌∷◌, is_some, refl, covers, first_item, last_item, prefix_pair, prefix_pairs, CoverLaws}
 
 module _ {P T : Type 0} where

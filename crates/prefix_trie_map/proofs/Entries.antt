@@ -1,4 +1,4 @@
--- What a map becomes when an entry is filled.
+-- What the map is after an entry is filled: for `put`, `or_insert` and the other calls of entries.
 use denote.Param.Members.{Once}
 use Rattle.prefix_trie_map.proofs.Prelude.{◌≡◌, Bool, cond, List, None, Some, MutBor, inl, refl, sym, ap, ◌∙◌, true≢false, subst, arith, get, Refusal, IndexRange, with_entry, with_needed, Insert, Value, StepByPath, Contents, with_value_at, is_none-None, stored_state, IsWhole, VacantEntry, OccupiedEntry, Vacant, Occupied, Fills, RefusesToFill, ModifiesEntry}
 use Rattle.std.specs.declared.cmp.PartialEq as partial
@@ -11,7 +11,7 @@ use Rattle.prefix_trie_map.proofs.Placing.{value_not_refused, entry_twice, writt
 
 module _ {P T A R : Type 0} {p : prefix.Ghosts P R} {shows : debug.Ghosts P} {k : key.Ghosts R} {same : partial.Ghosts R} {writes : debug.Ghosts R} where
   module _ (e : VacantEntry P T A R p shows k same writes) (new : Contents T) where
-    -- what a key left that was placed, with the value last written there
+    -- the map after a new key was inserted, with the value that was written there last
     pub Fills-placed : (v w : T) → new.entries ≡ with_entry e.map.now.entries (p.path e.key) v → new.nodes ≡ with_needed e.map.now.nodes (p.path e.key)
         → StepByPath k.bit_width (stored_state e.map.now) (Insert (p.path e.key) v) (Value None) (stored_state new)
         → Fills (Vacant e) (with_value_at new (p.path e.key) w) w
@@ -23,7 +23,7 @@ module _ {P T A R : Type 0} {p : prefix.Ghosts P R} {shows : debug.Ghosts P} {k 
           (written_step k.bit_width e.map.now new (p.path e.key) v None w step);
     }
 
-    -- the same if the key was passed on, and its path to the call that lends
+    -- the same if key and path were passed on to the call that lends
     pub Fills-lent : (key : P) (q : List Bool) (v w : T) → key ≡ e.key → q ≡ p.path e.key
         → new.entries ≡ with_entry e.map.now.entries (p.path key) v → new.nodes ≡ with_needed e.map.now.nodes (p.path key)
         → StepByPath k.bit_width (stored_state e.map.now) (Insert (p.path key) v) (Value None) (stored_state new)
@@ -35,7 +35,7 @@ module _ {P T A R : Type 0} {p : prefix.Ghosts P R} {shows : debug.Ghosts P} {k 
         (subst (λ y. new.nodes ≡ with_needed e.map.now.nodes (p.path y)) is nodes)
         (subst (λ y. StepByPath k.bit_width (stored_state e.map.now) (Insert (p.path y) v) (Value None) (stored_state new)) is step))
 
-    -- the same with the value that it was placed with
+    -- the same with the value that was inserted
     pub Fills-handed : (key : P) (v : T) → key ≡ e.key → new.entries ≡ with_entry e.map.now.entries (p.path key) v → new.nodes ≡ with_needed e.map.now.nodes (p.path key)
         → StepByPath k.bit_width (stored_state e.map.now) (Insert (p.path key) v) (Value None) (stored_state new) → Fills (Vacant e) new v
     Fills-handed key v is entries nodes step = record {
@@ -45,7 +45,7 @@ module _ {P T A R : Type 0} {p : prefix.Ghosts P R} {shows : debug.Ghosts P} {k 
           (subst (λ y. StepByPath k.bit_width (stored_state e.map.now) (Insert (p.path y) v) (Value None) (stored_state new)) is step);
     }
 
-    -- and if it was refused
+    -- the map after the insertion was refused
     pub Refuses-handed : (key : P) (cause : Refusal) → key ≡ e.key → new.entries ≡ e.map.now.entries → new.nodes ≡ e.map.now.nodes
         → ((v : T) → StepByPath k.bit_width (stored_state e.map.now) (Insert (p.path key) v) (Refused cause) (stored_state new))
         → RefusesToFill (Vacant e) cause new
@@ -55,7 +55,7 @@ module _ {P T A R : Type 0} {p : prefix.Ghosts P R} {shows : debug.Ghosts P} {k 
       step = λ v. subst (λ y. StepByPath k.bit_width (stored_state e.map.now) (Insert (p.path y) v) (Refused cause) (stored_state new)) is (step v);
     }
 
-  -- a stored key has the value last written there
+  -- a stored key has the value that was written there last
   pub Fills-stored : (o : OccupiedEntry P T A R p shows k same writes) → IsWhole k.bit_width o.map.now → (w : T)
       → Fills (Occupied o) (with_value_at o.map.now (p.path o.key) w) w
   Fills-stored o whole w =
@@ -82,7 +82,7 @@ module _ {P T A R : Type 0} {p : prefix.Ghosts P R} {shows : debug.Ghosts P} {k 
         };
       }
 
-  -- a stored key has what a call left of the value there
+  -- a stored key has the value that the closure left there
   pub modified : {F : Type 0} (g : Once F (MutBor T × Unit {0}) (Unit {0} × (MutBor T × Unit {0}))) (f : F) (o : OccupiedEntry P T A R p shows k same writes) (new : Contents T) (w : T) (lent : MutBor T)
       → get o.map.now.entries (p.path o.key) ≡ Some lent.now → new ≡ with_value_at o.map.now (p.path o.key) w
       → g.post f (lent, tt) (tt, (record lent { now = w }, tt)) → ModifiesEntry g f (Occupied o) new

@@ -46,8 +46,8 @@ pub use Rattle.std.proofs.option.Option.TheLaws.{the_row_laws as option_laws}
 use denote.Struct.Declared as struct
 
 module _ {M : Type 1} {𝓤 : Ura M} (𝓛 : Logic 𝓤) (R : RattleType) (one : One R) (ℓ : Lifetime) (b : ℕ) (κ : Lft) (s : Share) where
-  -- what the lender keeps of a loan for a new lifetime within κ, for which it gave a token of κ;
-  -- the loan of [] is free
+  -- what the lender keeps of a loan for a new lifetime within κ, for which it gave a token of κ; nothing is kept for
+  -- the loan of []
   abbrev pub KeptWithin : ℕ × GName → SProp 𝓤
   KeptWithin n = sep 𝓤 (𝓛.A.lent (n.0 ∷ κ) (Body (mem R) b 0 n.1)) (Rest 𝓛 n.0 s)
 

@@ -1,4 +1,4 @@
--- Inserting a new key, or being refused its blocks, is a step of the model: for entries.
+-- Inserting a new key, or refusing it, is a step of the model: for entries and `insert`.
 use Rattle.prefix_trie_map.proofs.Prelude.{◌≡◌, ℕ, ◌+◌, ◌*◌, ◌≤◌, Bool, true, false, cond, List, Option, None, Some, inl, inr, refl, sym, ap, ◌∙◌, true≢false, subst, Result, Ok, Err, IfErr, OnOk, MatchResult, get, contains_key, len, Refusal, Refused, IndexRange, with_entry, with_needed, AreNodes, MayPassLimit, LeavesSpace, Reply, Step, Insert, Value, PreparesInStorage, InsertsInStorage, RefusesInStorage, StepByPath, get-with_entry, is-same_string, same_entries, same_string, Entries, Contents, with_value_at, is_none-None, state, storage, stored_state, insert_new_reply, readied_inserts}
 use Rattle.prefix_trie_map.proofs.Insertions.{inserts_are}
 
@@ -10,7 +10,7 @@ module _ {T : Type 0} where
   same_cause c d e = cc
 
 module _ {T : Type 0} (width : ℕ) (old new : Contents T) (q : List Bool) (absent : contains_key old.entries q ≡ false) (space : LeavesSpace (len old.nodes) old.space new.space) where
-  -- it was placed
+  -- a successful insertion of a new key is a step
   pub placed_step : (v : T) → new.entries ≡ with_entry old.entries q v → new.nodes ≡ with_needed old.nodes q
       → InsertsInStorage (state old) q (storage old) (storage new) → StepByPath width (stored_state old) (Insert q v) (Value None) (stored_state new)
   placed_step v entries nodes inserts =
@@ -26,7 +26,7 @@ module _ {T : Type 0} (width : ℕ) (old new : Contents T) (q : List Bool) (abse
         );
       }
 
-  -- it was refused, whatever its value
+  -- a refusal is a step, whatever the value
   pub refused_step : (cause : Refusal) → new.entries ≡ old.entries → new.nodes ≡ old.nodes
       → RefusesInStorage (state old) q cause (storage old) (storage new) → (cause ≡ IndexRange → MayPassLimit old.space)
       → (v : T) → StepByPath width (stored_state old) (Insert q v) (Reply.Refused cause) (stored_state new)
@@ -44,7 +44,7 @@ module _ {T : Type 0} (width : ℕ) (old new : Contents T) (q : List Bool) (abse
 -- ---- by the result
 
 module _ {T : Type 0} (width : ℕ) (old new : Contents T) (q : List Bool) (v : T) where
-  -- what inserting a new key says of the map, by its result
+  -- what the insertion of a new key says about the map, by its result
   pub record Places {X : Type 0} (r : Result X (Refused T)) : Type 0 where
     pub entries : OnOk r (new.entries ≡ with_entry old.entries q v)
     pub nodes : OnOk r (new.nodes ≡ with_needed old.nodes q)
@@ -66,10 +66,10 @@ module _ {T : Type 0} (width : ℕ) (old new : Contents T) (q : List Bool) (v : 
         refuses = refused_step width old new q absent h.space e.cause same.0 same.1 (h.storage.2 e.cause refl) (λ i. h.index_range (ap Reply.Refused i));
       }
 
--- the same for making only its blocks
+-- the same for a call that only makes the blocks of a new key
 
 module _ {T S E : Type 0} (width : ℕ) (cause : E → Refusal) (old new : Contents T) (q : List Bool) where
-  -- whether its blocks are made or refused
+  -- the blocks are made, or the call is refused
   pub space_refused : (result : Result S E) → contains_key old.entries q ≡ false → LeavesSpace (len old.nodes) old.space new.space
       → (new.entries ≡ old.entries) × (new.nodes ≡ old.nodes)
       → MatchResult result (λ _. PreparesInStorage (state old) q (storage old) (storage new)) (λ e. RefusesInStorage (state old) q (cause e) (storage old) (storage new))
@@ -95,7 +95,7 @@ module _ {T : Type 0} (width : ℕ) (old middle new : Contents T) (q : List Bool
   inserted_then step =
       subst (λ s. InsertsInStorage s q (storage middle) (storage new)) middle_is (step.storage.1 None (ap (λ m. contains_key m q) entries ∙ absent) refl)
 
-  -- placing it is the step that it would have been before
+  -- inserting after the blocks were made is the step that inserting before would have been
   pub readied_step : LeavesSpace (len old.nodes) old.space middle.space → PreparesInStorage (state old) q (storage old) (storage middle)
       → new.entries ≡ with_entry middle.entries q v → new.nodes ≡ with_needed middle.nodes q
       → StepByPath width (stored_state middle) (Insert q v) (Value None) (stored_state new) → StepByPath width (stored_state old) (Insert q v) (Value None) (stored_state new)
@@ -120,12 +120,12 @@ over : {A : Type 0} (b : Bool) (x y z : A) → cond b x (cond b y z) ≡ cond b 
 over true x y z = refl
 over false x y z = refl
 
--- the second value stays
+-- of two values set at one key the second stays
 pub entry_twice : {T : Type 0} (m : Entries T) (q : List Bool) (v w : T) → with_entry (with_entry m q v) q w ≡ with_entry m q w
 entry_twice m q v w = same_entries _ _ (λ s. get-with_entry (with_entry m q v) q w s ∙ ap (cond (same_string s q) (Some w)) (get-with_entry m q v s)
     ∙ over (same_string s q) (Some w) (Some v) (get m s) ∙ sym (get-with_entry m q w s))
 
--- the value is there, and no other
+-- the value that was set is the one that is found
 pub entry_only : {T : Type 0} (m n : Entries T) (q : List Bool) (v r : T) → n ≡ with_entry m q v → get n q ≡ Some r → r ≡ v
 entry_only m n q v r is found =
     let there : get (with_entry m q v) q ≡ Some v = get-with_entry m q v q ∙ ap (λ b. cond b (Some v) (get m q)) (is-same_string q q refl) in
@@ -140,7 +140,7 @@ module _ {T : Type 0} (width : ℕ) (old new : Contents T) (q : List Bool) (v : 
       inl (e.0, λ i. record { entries = entries i; nodes = (e.1 i).nodes })
   rewritten w (inr e) = absurd (value_not_refused x e.1 e.2)
 
-  -- it is the insertion of that value
+  -- inserting a value and overwriting it is the insertion of the second value
   pub written_step : (w : T) → StepByPath width (stored_state old) (Insert q v) (Value x) (stored_state new)
       → StepByPath width (stored_state old) (Insert q w) (Value x) (stored_state (with_value_at new q w))
   written_step w h = record {

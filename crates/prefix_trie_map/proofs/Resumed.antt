@@ -1,4 +1,4 @@
--- A walk of a map is resumed after the last item read.
+-- A walk can be resumed after the last item read: for `resume_laws`.
 use Rattle.prefix_trie_map.proofs.Prelude.{◌≡◌, ℕ, Bool, true, false, cond, List, [], ◌∷◌, ◌++◌, filter, is_lt, is_le, Less, Equal, Greater, refl, sym, ap, ◌∙◌, subst, false≢true, All, All-head, All-tail, All-filter, filter_passes, retain_keys, PrefixLaws, listing_cmp, listing_total, listing_same, Entries, AreWithin, listing, listing_from, listing_after, prefix_pairs, listing_laws, entries-retained, lt-less, ResumeLaws}
 use Rattle.prefix_trie_map.proofs.Listed.{listed_paths}
 
@@ -7,7 +7,7 @@ module _ {X : Type 0} where
   middle F [] x back h = All-head F x back h
   middle F (y ∷ front) x back h = middle F front x back (All-tail F y (front ++ x ∷ back) h)
 
-  -- a second test that passes only where the first does needs no first
+  -- filtering by two tests is filtering by the second if it implies the first
   first-for-nothing : (p q : X → Bool) → ((x : X) → q x ≡ true → p x ≡ true) → (xs : List X) → filter q (filter p xs) ≡ filter q xs
   first-for-nothing p q h [] = refl
   first-for-nothing p q h (x ∷ xs) =
@@ -21,8 +21,7 @@ module _ {X : Type 0} where
       ] refl
 
 module _ {T : Type 0} (m : Entries T) where
-  -- if everything after an item passes a test, what passes after the item is all that comes after
-  -- it
+  -- if everything after an item passes a test, filtering what comes after the item by the test changes nothing
   some-resumes : (p : List Bool → Bool) → ((s t : List Bool) → p s ≡ true → listing_cmp s t ≡ Less → p t ≡ true) → (front : List (List Bool × T)) (last : List Bool × T) (back : List (List Bool × T)) →
       filter (λ e. p e.0) (listing m) ≡ front ++ last ∷ back → listing_after m last.0 ≡ back
   some-resumes p on front last back e =

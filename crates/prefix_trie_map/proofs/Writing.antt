@@ -1,5 +1,5 @@
--- A step of a writing walk gives its first entry, also for a walk that may have no map; and the
--- keys to come of a walk.
+-- A step of a writing walk gives its first entry, also if the walk may have no map, and the keys still to come: for
+-- `IterMut` and `ValuesMut`.
 use Rattle.prefix_trie_map.proofs.Prelude.{◌≡◌, ℕ, take, seat_of, Bool, true, List, [], ◌∷◌, map, Option, None, Some, MatchOption, IfSome, IfNone, refl, sym, ap, ◌∙◌, subst, contains_key, Contents, with_value_at, IsCursorIn, IsCursorIn-prop, GivesKey, keys_to_come, Cursor, pending_again, MapCursor, CursorItem, keys_left, as_walk, IsItemAt, HasValueAt, with_written, IsFirst, GoesOver, ComesToEnd, StartsOver, lent_beside, EndsIn, StepsIn}
 use Rattle.std.specs.Borrow.{MutBor}
 use Rattle.std.specs.declared.cmp.PartialEq as partial
@@ -39,22 +39,22 @@ module _ {P T A R : Type 0} {p : prefix.Ghosts P R} {shows : debug.Ghosts P} {k 
       stored = ap (contains_key c.map.now.entries) at ∙ has
 
 module _ {P T A R : Type 0} {p : prefix.Ghosts P R} {shows : debug.Ghosts P} {k : key.Ghosts R} {same : partial.Ghosts R} {writes : debug.Ghosts R} where
-  -- for a walk that starts, the keys of its selection
+  -- a walk that starts has all keys of its selection to come
   pub left_at_start : (m : MutBor (Contents T)) (selection : List (List Bool × T)) (c : MapCursor P T A R p shows k same writes) → StartsOver m selection c →
       keys_left c ≡ map (λ e. e.0) selection
   left_at_start m selection c starts = ap (λ w. w.to_come) starts.starts
 
-  -- for a walk that has passed one key, the keys after it
+  -- a walk that has passed one key has the keys after it to come
   pub left_behind : (c n : MapCursor P T A R p shows k same writes) (value : T) (goes : GoesOver c value n) → keys_left c ≡ goes.key ∷ keys_left n
   left_behind c n value goes =
       let passes = goes.passes None in
       passes.1.0 ∙ ap (λ w. goes.key ∷ w.to_come) (sym passes.2.2)
 
-  -- for a walk that is at its end, none
+  -- a walk at its end has no keys to come
   pub none_left : (c n : MapCursor P T A R p shows k same writes) (ends : ComesToEnd c n) → keys_left n ≡ []
   none_left c n ends = ap (λ w. w.to_come) (ends.ends None).1 ∙ (ends.ends None).0
 
--- a value written to an item leaves the cursor unchanged, except its map
+-- writing a value at an item changes only the map of the cursor
 pub written_there : {P T A R : Type 0} {p : prefix.Ghosts P R} {shows : debug.Ghosts P} {k : key.Ghosts R} {same : partial.Ghosts R} {writes : debug.Ghosts R}
     (c : MapCursor P T A R p shows k same writes) (item : CursorItem R) (w : T) (stands : IsCursorIn k.bits k.bit_width c.map.now.build c.cursor) →
     record { map = record c.map { now = with_value_at c.map.now item.path w }; cursor = c.cursor; stands = stands } ≡ with_written c item w
@@ -64,7 +64,7 @@ written_there {k = k} c item w stands = λ i. record {
   stands = IsCursorIn-prop k.bits k.bit_width c.map.now.build c.cursor stands c.stands i;
 }
 
--- a step of what it goes over is one of the walk
+-- a step of what the walk goes over is a step of the walk
 pub stepped : {C Q V S : Type 0} (IsAt : C → S → Type 0) (Holds : C → S → V → Type 0) (with : C → S → V → C) (First : C → Q → V → Type 0) (Passes : C → V → C → Type 0) (Ends : C → C → Type 0)
     (o : Option C) (a b : C) → o ≡ Some a → (r : Option (Q × S)) →
     MatchOption r (Ends a b) (λ x. IsAt b x.1 × ((v : V) → Holds b x.1 v → First a x.0 v) × ((v : V) → Passes a v (with b x.1 v))) →
@@ -73,7 +73,7 @@ stepped IsAt Holds with First Passes Ends o a b is None h = subst (λ p. EndsIn 
 stepped IsAt Holds with First Passes Ends o a b is (Some x) h =
     subst (λ p. StepsIn IsAt Holds with First Passes p x.0 x.1 (Some b)) (sym is) (record { is_at = h.0; first = h.1; passes = h.2 })
 
--- a value lent for an entry whose prefix was returned beside it
+-- a value that is lent for an entry whose prefix was returned beside it
 module _ {Q V : Type 0} (IsOver : Type 0) (First : Q → V → Type 0) (prefix : Option Q) where
   abbrev pub HasFirst : Option (MutBor V) → Type 0
   HasFirst o = MatchOption o IsOver (λ x. (q : Q) × (prefix ≡ Some q) × First q x.now)

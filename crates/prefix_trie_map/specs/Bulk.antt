@@ -13,20 +13,20 @@ use Rattle.prefix_trie_table.specs.Bulk.{IsAnswer}
 abbrev pub visits_of_all : {P : Type 0} → (P → List Bool) → Nodes → List P → ℕ
 visits_of_all path n prefixes = sum_by (λ p. visits n (path p)) prefixes
 
--- what the result for a prefix has to be, given what it has to be for a match
+-- the right result for a prefix, given the right result for each match
 abbrev pub right_for : {P T Y : Type 0} → (Option (List Bool × T) → Y) → (P → List Bool) → Entries T → P → Y
 right_for right path m p = right (longest_match m (path p))
 
--- the first n results are those for the first n prefixes
+-- the first n results are right for the first n prefixes
 abbrev pub AreAnswered : {P X Y : Type 0} → (X → Y) → (P → Y) → List P → List X → ℕ → Type 0
 AreAnswered shows answer prefixes out n = map shows (take n out) ≡ map answer (take n prefixes)
 
--- between two counts, the nodes of the prefixes from one index to another were read
+-- between the two counts, the nodes for the prefixes between the two indices were read
 abbrev pub ReadsMore : {P : Type 0} → (P → List Bool) → Nodes → List P → ℕ → ℕ → ℕ → ℕ → Type 0
 ReadsMore path n prefixes from to before after =
     after + visits_of_all path n (take from prefixes) ≡ before + visits_of_all path n (take to prefixes)
 
--- the table found these for so many prefixes, from an index on
+-- what the table found for these prefixes
 abbrev pub AreFound : {P : Type 0} → (P → List Bool) → List Node → List P → ℕ → ℕ → List (Option Found) → Type 0
 AreFound {P} path nodes prefixes from n found =
     (i : ℕ) (p : P) (a : Option Found) → i < n → p ≡ slice_index_or prefixes (from + i) p → a ≡ slice_index_or found i a → IsAnswer nodes (path p) a

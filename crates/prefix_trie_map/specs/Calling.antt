@@ -12,6 +12,6 @@ module _ {F P T : Type 0} (g : Mut F (Bor P × (Bor T × Unit {0})) Bool) (back 
     pub shows : (prefix.now ≡ back k) × (value.now ≡ v)
     pub called : Called g f (prefix, (value, tt)) b f'
 
-  -- f may be called at the prefix with the path k and at v
+  -- f may be called with the prefix of the path k and with v
   abbrev pub TakesEntry : F → List Bool → T → Type 0
   TakesEntry f k v = (p : Bor P) (q : Bor T) → p.now ≡ back k → q.now ≡ v → Takes g f (p, (q, tt))

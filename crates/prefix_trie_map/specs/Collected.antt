@@ -5,7 +5,7 @@ use Rattle.prefix_trie_bits.specs.Model.Nodes.{IsTidy}
 use Rattle.prefix_trie_bits.specs.Model.Space.{Space}
 use Rattle.prefix_trie_table.specs.Shape.{Contents}
 
--- what the insertions leave, each under its item's path: a tidy map stays tidy, and each makes at most 56 slots for nodes and 31 for
+-- what the insertions leave: a tidy map stays tidy, and each insertion makes at most 56 slots for nodes and 31 for
 -- values
 pub record Puts {P T : Type 0} (path : P → List Bool) (before : Contents T) (items : List (P × T)) (after : Contents T) : Type 0 where
   pub entries : after.entries ≡ put_all path items before.entries
@@ -14,6 +14,6 @@ pub record Puts {P T : Type 0} (path : P → List Bool) (before : Contents T) (i
   pub node_slots : after.space.node_slots ≤ before.space.node_slots + 56 * length items
   pub cell_slots : after.space.cell_slots ≤ before.space.cell_slots + 31 * length items
 
--- the blocks that so many insertions may need would exceed the limit
+-- the blocks that this many insertions may need would exceed the limit
 abbrev pub ManyMayPassLimit : Space → ℕ → Type 0
 ManyMayPassLimit space count = (space.limit < space.node_slots + 56 * count) ⊎ (space.limit < space.cell_slots + 31 * count)

@@ -1,6 +1,5 @@
--- What an entry is for contracts: its map, its key and the value there; and what the map becomes.
--- From the Rust crate's documentation of entries. When filling fails, and what it leaves then, is
--- this project's own.
+-- What an entry is in contracts: its map, its key and the value there, and what the map becomes. From the Rust crate's
+-- documentation of entries. When filling fails, and what it leaves then, is this project's own.
 use Rattle.std.specs.Prelude.{◌≡◌, Bool, true, cond, List, [], Option, Some, is_some, Result, IfErr, refl}
 use Rattle.std.proofs.Common.{ap, ◌∙◌}
 use Rattle.std.specs.Borrow.{Lends, LendsSoOk, Fml, RattleType, MutBor}
@@ -58,7 +57,7 @@ module _ {P T A R : Type 0} {p : prefix.Ghosts P R} {shows : debug.Ghosts P} {k 
   abbrev pub entry_value : Entry P T A R p shows k same writes → Option T
   entry_value e = get (entry_map e).entries (entry_path e)
 
-  -- the first fact of an occupied entry, and the second of a vacant one
+  -- one fact if the entry is occupied, another if it is vacant
   abbrev pub MatchEntry : Entry P T A R p shows k same writes → Type 0 → Type 0 → Type 0
   MatchEntry (Occupied o) F G = F
   MatchEntry (Vacant e) F G = G
@@ -73,7 +72,7 @@ module _ {P T A R : Type 0} {p : prefix.Ghosts P R} {shows : debug.Ghosts P} {k 
   pub record Fills (e : Entry P T A R p shows k same writes) (new : Contents T) (value : T) : Type 0 where
     pub entries : new.entries ≡ with_entry (entry_map e).entries (entry_path e) value
     pub nodes : new.nodes ≡ with_needed (entry_map e).nodes (entry_path e)
-    -- it is a step of the model, of the storage too
+    -- filling is a step of the model, including its storage
     pub step : StepByPath k.bit_width (stored_state (entry_map e)) (Insert (entry_path e) value) (Value (entry_value e)) (stored_state new)
 
   -- the new map is what a refused insertion at the entry's key leaves, whatever the value
@@ -83,11 +82,11 @@ module _ {P T A R : Type 0} {p : prefix.Ghosts P R} {shows : debug.Ghosts P} {k 
     pub step : (value : T) → StepByPath k.bit_width (stored_state (entry_map e)) (Insert (entry_path e) value) (Refused cause) (stored_state new)
 
 module _ {P T A R : Type 0} {p : prefix.Ghosts P R} {shows : debug.Ghosts P} {k : key.Ghosts R} {same : partial.Ghosts R} {writes : debug.Ghosts R} where
-  -- its key is stored then too
+  -- the key of an occupied entry is still stored after a value is written there
   pub stays_stored : (o : OccupiedEntry P T A R p shows k same writes) (value : T) → contains_key (with_entry o.map.now.entries (p.path o.key) value) (p.path o.key) ≡ true
   stays_stored o value = ap is_some (get-with_entry o.map.now.entries (p.path o.key) value (p.path o.key) ∙ ap (λ b. cond b (Some value) (get o.map.now.entries (p.path o.key))) (is-same_string (p.path o.key) (p.path o.key) refl))
 
-  -- o, once the value is at its key
+  -- the occupied entry after the value at its key is written
   abbrev pub with_value_in : OccupiedEntry P T A R p shows k same writes → T → OccupiedEntry P T A R p shows k same writes
   with_value_in o value = record o {
     map = record o.map { now = with_value_at o.map.now (p.path o.key) value };

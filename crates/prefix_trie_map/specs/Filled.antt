@@ -16,7 +16,7 @@ pub record FillLaws (P T A R : Type 0) (p : prefix.Ghosts P R) (shows : debug.Gh
   -- an occupied entry is filled in place: no slot and no block changes
   pub in_place : (e : Entry P T A R p shows k same writes) (new : Contents T) (value : T) → Fills e new value
       → contains_key (entry_map e).entries (entry_path e) ≡ true → storage new ≡ storage (entry_map e)
-  -- a vacant one takes exactly the blocks that a new key needs
+  -- a vacant entry takes exactly the blocks that a new key needs
   pub inserted : (e : Entry P T A R p shows k same writes) (new : Contents T) (value : T) → Fills e new value
       → contains_key (entry_map e).entries (entry_path e) ≡ false → InsertsInStorage (state (entry_map e)) (entry_path e) (storage (entry_map e)) (storage new)
   -- if filling is refused, the used blocks stay, and at most the missing blocks were made

@@ -1,4 +1,4 @@
--- The map when a `&mut` to one of its values ends. This project's own.
+-- What the map is when a `&mut` to one of its values ends. This project's own.
 use Rattle.std.specs.Prelude.{Bool, List, Option}
 use Rattle.std.specs.Option.{option_map}
 use Rattle.std.specs.Borrow.{Lends, LendsIf, Fml, RattleType, MutBor}
@@ -10,7 +10,7 @@ use Rattle.prefix_trie_bits.specs.declared.prefix.Key as key
 use Rattle.prefix_trie_table.specs.Shape.{Contents, with_value_at, with_longest_at}
 use Rattle.prefix_trie_map.specs.contracts.map.PrefixMap as map
 
--- the borrow in a result that has it beside a prefix
+-- the borrow in a result that has a prefix beside it
 abbrev pub lent_beside : {P T : Type 0} → Option (P × MutBor T) → Option (MutBor T)
 lent_beside found = option_map (λ f. f.1) found
 
@@ -20,7 +20,7 @@ module _ (P T A R : RattleType) (p : prefix.Ghosts P.Denot R.Denot) (shows : deb
   abbrev pub lends_value : MutBor T.Denot → Fml
   lends_value r = Lends (map.the_row P T A R p shows k same writes a) T m r (with_value_at m.now q)
 
-  -- the same if there may be no r; the map is unchanged then
+  -- the same if there may be no borrow; the map is unchanged then
   abbrev pub lends_entry_if : Option (MutBor T.Denot) → Fml
   lends_entry_if r = LendsIf (map.the_row P T A R p shows k same writes a) T m r (with_value_at m.now q) m.now
 

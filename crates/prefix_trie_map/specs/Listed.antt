@@ -12,5 +12,5 @@ pub record ListedLaws {P : Type 0} (T : Type 0) (width : ℕ) (path : P → List
   pub key_is : (m : Entries T) → AreWithin width m → (k : List Bool) → contains_key m k ≡ true → path (back k) ≡ k
   -- each prefix that `iter` gives fits
   pub listed_fit : (m : Entries T) → AreWithin width m → All (λ e. IsFitting e.0) (prefix_pairs back (listing m))
-  -- and each that `cover` gives
+  -- each prefix that `cover` gives fits
   pub covers_fit : (m : Entries T) → AreWithin width m → (q : List Bool) → All (λ e. IsFitting e.0) (prefix_pairs back (covers m q))

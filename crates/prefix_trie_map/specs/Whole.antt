@@ -6,8 +6,8 @@ use Rattle.prefix_trie_bits.specs.Model.Storage.{HaveBlocks}
 use Rattle.prefix_trie_table.specs.Shape.{Contents}
 use Rattle.prefix_trie_map.specs.Steps.{state, stored_state}
 
--- a map of prefixes of so many bits: no key is longer, the nodes are such as the keys need, each has its blocks, and
--- neither array exceeds the limit, which is below 2^32
+-- what holds of a map with this width: no key is longer, the nodes can be those of its keys, each node has its blocks,
+-- and neither array exceeds the limit, which is below 2^32
 pub record IsWhole {T : Type 0} (width : ℕ) (map : Contents T) : Type 0 where
   pub is_map : IsMap width (state map)
   pub have_blocks : HaveBlocks (state map) map.layout
@@ -15,7 +15,7 @@ pub record IsWhole {T : Type 0} (width : ℕ) (map : Contents T) : Type 0 where
   pub nodes_within : map.space.node_slots ≤ map.space.limit
   pub cells_within : map.space.cell_slots ≤ map.space.limit
 
--- what follows of how such a map is stored
+-- what follows about the storage of such a map
 pub record WholeLaws (T : Type 0) (width : ℕ) : Type 0 where
   -- each array has fewer than 2^32 slots
   pub slots_below : (m : Contents T) → IsWhole width m → (m.space.node_slots < 2 ^ 32) × (m.space.cell_slots < 2 ^ 32)

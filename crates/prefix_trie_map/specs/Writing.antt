@@ -1,5 +1,5 @@
--- What a writing walk has to come, what a write through it leaves, and what it ends as: the model's
--- walk, over a map that is lent. This project's own.
+-- What a writing walk still has to give, what a write through it leaves, and what it is at its end: the model's walk,
+-- over a map that is lent. This project's own.
 use Rattle.std.specs.Prelude.{◌≡◌, Bool, true, List, Option, None, Some, ⊤}
 use Rattle.std.specs.Borrow.{MutBor}
 use Rattle.std.specs.FinMap.{get, contains_key}
@@ -23,7 +23,7 @@ module _ {P T A R : Type 0} {p : prefix.Ghosts P R} {shows : debug.Ghosts P} {k 
   abbrev pub IsItemAt : MapCursor P T A R p shows k same writes → CursorItem R → Type 0
   IsItemAt c item = seat_of c.map.now.build item.path ≡ Some item.seat
 
-  -- the value of an item
+  -- the item has this value
   abbrev pub HasValueAt : MapCursor P T A R p shows k same writes → CursorItem R → T → Type 0
   HasValueAt c item value = get c.map.now.entries item.path ≡ Some value
 
@@ -31,29 +31,29 @@ module _ {P T A R : Type 0} {p : prefix.Ghosts P R} {shows : debug.Ghosts P} {k 
   abbrev pub with_written : MapCursor P T A R p shows k same writes → CursorItem R → T → MapCursor P T A R p shows k same writes
   with_written c item value = record c { map = record c.map { now = with_value_at c.map.now item.path value } }
 
-  -- the walk as the model has it, while the value of this key is lent
+  -- the walk of the model, while the value of this key is lent
   abbrev pub as_walk : MapCursor P T A R p shows k same writes → Option (List Bool) → WritingWalk T
   as_walk c lent = record { entries = c.map.now.entries; nodes = c.map.now.nodes; to_come = keys_left c; lent = lent }
 
-  -- the model lends next the value of this prefix
+  -- the next value that the model lends is that of this prefix
   abbrev pub IsFirst : MapCursor P T A R p shows k same writes → P → T → Type 0
   IsFirst c q value =
       (s : List Bool) × (after : WritingWalk T) × Next (as_walk c None) (Some s) after × (q ≡ p.back s) × (get c.map.now.entries s ≡ Some value)
 
-  -- the walk has passed its first entry and left this value there, whatever was lent before; the map is unchanged
-  -- otherwise
+  -- the walk has passed its first entry and left this value there, whatever was lent before; the rest of the map is
+  -- unchanged
   pub record GoesOver (c : MapCursor P T A R p shows k same writes) (value : T) (n : MapCursor P T A R p shows k same writes) : Type 0 where
     pub key : List Bool
     pub passes : (lent : Option (List Bool)) → Passes (as_walk c lent) key value (as_walk n (Some key))
     pub stored : contains_key c.map.now.entries key ≡ true
     pub map : n.map ≡ record c.map { now = with_value_at c.map.now key value }
 
-  -- nothing is to come before and after, and the map is unchanged
+  -- nothing was to come, nothing is, and the map is unchanged
   pub record ComesToEnd (c n : MapCursor P T A R p shows k same writes) : Type 0 where
     pub ends : (lent : Option (List Bool)) → Next (as_walk c lent) None (as_walk n None)
     pub map : n.map ≡ c.map
 
-  -- a walk over this map, at its start, with this selection to come
+  -- a walk over this map that has not started, with this selection to come
   pub record StartsOver (m : MutBor (Contents T)) (selection : List (List Bool × T)) (c : MapCursor P T A R p shows k same writes) : Type 0 where
     pub same_map : c.map.ghost_name ≡ m.ghost_name
     pub map : c.map.now ≡ m.now
@@ -64,7 +64,7 @@ module _ {P T A R : Type 0} {p : prefix.Ghosts P R} {shows : debug.Ghosts P} {k 
   StartsIn m selection None = ⊥
   StartsIn m selection (Some c) = StartsOver m selection c
 
-  -- a walk returns its map as it left it, which is the map that the model's walk leaves
+  -- a walk returns its map as the model's walk leaves it
   abbrev pub ReturnsMap : Option (MapCursor P T A R p shows k same writes) → Option (MutBor (Contents T)) → Type 0
   ReturnsMap None None = ⊤
   ReturnsMap None (Some m) = ⊥

@@ -1,4 +1,4 @@
--- The same of a walk that may have no map, for whatever it goes over. This project's own.
+-- The same for a walk that may have no map, for anything that it goes over. This project's own.
 use Rattle.std.specs.Prelude.{Option, None, Some, OnSome, IfNone, ⊤}
 use Rattle.std.specs.Borrow.{Lends, LendsSo, Fml, RattleType, MutBor}
 use Rattle.prefix_trie_map.specs.declared.map.writing.WalkOf.{WalkOf}
@@ -7,7 +7,7 @@ use Rattle.prefix_trie_map.specs.declared.map.writing.ValuesOf.{ValuesOf}
 use Rattle.prefix_trie_map.specs.contracts.map.writing.ValuesOf as values
 
 module _ {C : Type 0} where
-  -- nothing was to come and nothing is, and nothing was written
+  -- nothing was to come, nothing is, and nothing was written
   abbrev pub EndsIn : (C → C → Type 0) → Option C → Option C → Type 0
   EndsIn Ends None None = ⊤
   EndsIn Ends None (Some d) = ⊥
@@ -30,7 +30,7 @@ module _ {C S : Type 0} where
     HoldsIn Holds None item value = ⊥
     HoldsIn Holds (Some c) item value = Holds c item value
 
-    -- what it goes over, with a value written at an item
+    -- what the walk goes over, after a value is written at an item
     abbrev pub written_in : (C → S → V → C) → Option C → S → V → Option C
     written_in with None item value = None
     written_in with (Some c) item value = Some (with c item value)
@@ -48,8 +48,7 @@ module _ {C Q V : Type 0} where
   FirstIn First None q value = ⊥
   FirstIn First (Some c) q value = First c q value
 
-  -- a step came to this item: its prefix and its value are those of the first entry, and a write
-  -- there passes it
+  -- a step returns this item: its prefix and value are those of the first entry, and a write there passes it
   pub record StepsIn {S : Type 0} (IsAt : C → S → Type 0) (Holds : C → S → V → Type 0) (with : C → S → V → C) (First : C → Q → V → Type 0) (Passes : C → V → C → Type 0)
       (o : Option C) (q : Q) (item : S) (n : Option C) : Type 0 where
     pub is_at : AtIn IsAt n item

@@ -9,9 +9,9 @@ use std::fmt::{self, Debug, Formatter, Write};
 ///
 /// # Examples
 ///
-/// ```text
-/// {}
-/// {10.0.0.0/8: { value: 1, children: {10.1.0.0/16: { value: 2 }, 10.2.0.0/16: { value: 3 }} }, 11.0.0.0/8: { value: 4 }}
+/// ```rust
+/// // map = {10.0.0.0/8: 1, 10.1.0.0/16: 2, 11.0.0.0/8: 3}
+/// map;    // {10.0.0.0/8: { value: 1, children: {10.1.0.0/16: { value: 2 }} }, 11.0.0.0/8: { value: 3 }}
 /// ```
 impl<P: Prefix, T: Debug + Drop, A: Allocator> Debug for PrefixMap<P, T, A> {
     fn fmt<F: Write>(&self, f: &mut Formatter<F>) -> fmt::Result {

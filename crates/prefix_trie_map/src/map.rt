@@ -56,18 +56,20 @@ pub use writing::{IterMut, ValuesMut};
 
 /// A map from prefixes to values, in memory of the allocator `A`.
 ///
-/// The map stores the path of a prefix, not the prefix itself. Every call that takes a prefix requires that it fits. In
-/// examples, `10.1.0.0/16` is short for the network of that text, `"10.1.0.0/16".parse::<Ipv4Prefix>()?`.
+/// The map stores the path of a prefix, not the prefix itself. Every call that takes a prefix requires that it fits.
+///
+/// In examples, a comment `map = {..}` says what a map of `Ipv4Prefix` and `u32` holds at the start. The comment after
+/// an expression is its value as `{:?}` prints it, or the list of what an iterator returns.
 ///
 /// # Examples
 ///
-/// ```text
-/// let mut map = PrefixMap::new(alloc)?;
-/// map.insert(10.1.0.0/16, 1)              Ok(None)
-/// map.insert(10.1.255.255/16, 2)          Ok(Some(1)), since both have one path
-/// map.get(&10.1.0.0/16)                   Some(&2)
-/// map.get(&10.1.0.0/17)                   None
-/// map.get_lpm(&10.1.2.3/32)               Some((10.1.0.0/16, &2))
+/// ```rust
+/// let mut map: PrefixMap<Ipv4Prefix, u32, Global> = PrefixMap::new(alloc)?;
+/// map.insert("10.1.0.0/16".parse()?, 1)?;         // None
+/// map.insert("10.1.255.255/16".parse()?, 2)?;     // Some(1): both have one path
+/// map.get(&"10.1.0.0/16".parse()?);               // Some(2)
+/// map.get(&"10.1.0.0/17".parse()?);               // None
+/// map.get_lpm(&"10.1.2.3/32".parse()?);           // Some((10.1.0.0/16, 2))
 /// ```
 #[derive(Drop)]
 pub struct PrefixMap<P: Prefix, T: Drop, A: Allocator> {
@@ -101,9 +103,9 @@ impl<P: Prefix, T: Drop, A: Allocator + Clone> PrefixMap<P, T, A> {
     ///
     /// # Examples
     ///
-    /// ```text
+    /// ```rust
     /// let map: PrefixMap<Ipv4Prefix, u32, Global> = PrefixMap::new(alloc)?;
-    /// (map.len(), map.node_count())   (0, 1)
+    /// (map.len(), map.node_count());      // (0, 1)
     /// ```
     #[inline]
     pub fn new(alloc: A) -> Result<Self, Refusal>
@@ -122,9 +124,9 @@ impl<P: Prefix, T: Drop, A: Allocator> PrefixMap<P, T, A> {
     ///
     /// # Examples
     ///
-    /// ```text
-    /// 10.0.0.0/8 and 10.1.0.0/16 are stored
-    /// map.len()   2
+    /// ```rust
+    /// // map = {10.0.0.0/8: 1, 10.1.0.0/16: 2}
+    /// map.len();      // 2
     /// ```
     #[inline]
     pub fn len(&self) -> usize
@@ -147,9 +149,11 @@ impl<P: Prefix, T: Drop, A: Allocator> PrefixMap<P, T, A> {
     ///
     /// # Examples
     ///
-    /// ```text
-    /// map.clear()
-    /// map.is_empty()   true
+    /// ```rust
+    /// // map = {10.1.0.0/16: 1}
+    /// map.is_empty();     // false
+    /// map.clear();
+    /// map.is_empty();     // true
     /// ```
     #[inline]
     pub fn is_empty(&self) -> bool
@@ -172,9 +176,10 @@ impl<P: Prefix, T: Drop, A: Allocator> PrefixMap<P, T, A> {
     ///
     /// # Examples
     ///
-    /// ```text
-    /// map.insert(10.1.0.0/16, 1)   Ok(None), in a new map
-    /// map.insert(10.1.2.3/16, 2)   Ok(Some(1)), since both have one path
+    /// ```rust
+    /// // map = {}
+    /// map.insert("10.1.0.0/16".parse()?, 1)?;     // None
+    /// map.insert("10.1.2.3/16".parse()?, 2)?;     // Some(1): both have one path
     /// ```
     #[inline]
     pub fn insert(&mut self, prefix: P, value: T) -> Result<Option<T>, Refused<T>>

@@ -1,4 +1,5 @@
--- The maps made of two maps have no longer keys than these, and no more entries.
+-- A map made of two maps has no longer keys than they have, and at most their entries together: for the sizes of
+-- walks.
 use Rattle.std.proofs.Common.{◌≡◌, ◌∙◌, ◌+◌, ◌≤◌, ◌<◌, ℕ, Bool, true, false, true≢false, cond, List, [], ◌∷◌, length, map, filter, Option, None, Some, Ordering, Less, Equal, Greater, is_some, suc, ap, sym, subst, refl, arith}
 use Rattle.std.specs.List.{cons_option, filter_map}
 use Rattle.std.specs.Option.{option_map}
@@ -98,7 +99,7 @@ module _ {X Y : Type 0} where
       subst (λ k. k ≤ len m + len n) (sym (ap length (union_listing m n)))
       (subst (λ k. length (merged (λ s. s) (listing m) (listing n)) ≤ k + len n) (sym (len-entries m)) (subst (λ k. length (merged (λ s. s) (listing m) (listing n)) ≤ length (listing m) + k) (sym (len-entries n)) few))
 
--- a bound on the items of a walk, from one on the listing
+-- a walk over a listing gives fewer items than a bound that the listing is below
 pub items_below : {X Y : Type 0} (bound n : ℕ) (items : List Y) (f : X → Y) (es : List X) → items ≡ map f es → length es ≤ n → n < bound → length items < bound
 items_below bound n items f es is few small = subst (λ k. k < bound) (sym (ap length is ∙ mapped_as_many f es)) (omega (arith, few, small))
 

@@ -1,4 +1,5 @@
--- Chains of prefixes, each of which contains those after it, and the last item of a list.
+-- Chains of prefixes, each of which contains the next ones, and the last item of a list: for the stack of
+-- `aggregate_consistent` of maps.
 use Rattle.std.proofs.Common.{◌≡◌, ◌∙◌, ◌-◌, ◌++◌, ℕ, suc, Bool, true, false, cond, List, [], ◌∷◌, length, map, filter, Option, Some, None, All, Bor, ap, sym, subst, refl, arith, append-nil}
 use Rattle.std.proofs.lemmas.List.Elements.{filter-append, All-head, All-tail, All-cons, All-nil, All-filter, All-push}
 use Rattle.std.specs.List.{slice_get}
@@ -36,7 +37,7 @@ module _ {X : Type 0} where
       OfSome P (Some x) = P x
   All-last P (x ∷ y ∷ xs) e is h = All-last P (y ∷ xs) e is (All-tail P x (y ∷ xs) h)
 
--- the last of the lent values, beside another
+-- comparing the last of the lent values with another value
 pub top : {P T : Type 0} (eq : T → T → Bool) (xs : List (P × Bor T)) (x : P × Bor T) (v : T) → slice_get xs (length xs - 1) ≡ Some x
     → are_equal eq (option_map (λ e. e.1) (last_item (map lent_item xs))) (Some v) ≡ eq x.1.now v
 top eq xs x v h = ap (λ o. are_equal eq (option_map (λ e. e.1) o) (Some v)) (last-map lent_item xs ∙ ap (option_map lent_item) (sym (last-get xs) ∙ h))
@@ -46,7 +47,7 @@ module _ {P X : Type 0} (path : P → List Bool) where
   chain-first [] ys h = tt
   chain-first (x ∷ xs) ys h = (All-first (λ d. begins (path x.0) (path d.0) ≡ true) xs ys h.0, chain-first xs ys h.1)
 
-  -- if the last one contains a prefix, each one does
+  -- if the last prefix of a chain contains a prefix, all do
   pub all-contain : (q : List Bool) (xs : List (P × X)) (e : P × X) → IsChain path xs → last_item xs ≡ Some e → begins (path e.0) q ≡ true
       → filter (λ d. begins (path d.0) q) xs ≡ xs
   all-contain q [] e h is b = refl
@@ -58,14 +59,14 @@ module _ {P X : Type 0} (path : P → List Bool) where
       begins-trans (path x.0) (path e.0) q (All-last (λ d. begins (path x.0) (path d.0) ≡ true) (y ∷ xs) e is h.0) b in
       ap (λ t. cond t (x ∷ filter (λ d. begins (path d.0) q) (y ∷ xs)) (filter (λ d. begins (path d.0) q) (y ∷ xs))) first ∙ ap (λ zs. x ∷ zs) (all-contain q (y ∷ xs) e h.1 is b)
 
-  -- a chain without the last one, which does not contain the prefix
+  -- removing the last prefix of a chain, which does not contain the prefix, removes none that does
   pub popped : (q : List Bool) (xs ys : List (P × X)) (e : P × X) → xs ≡ ys ++ e ∷ [] → begins (path e.0) q ≡ false
       → filter (λ d. begins (path d.0) q) ys ≡ filter (λ d. begins (path d.0) q) xs
   popped q xs ys e is b =
       sym (append-nil _) ∙ sym (ap (λ t. filter (λ d. begins (path d.0) q) ys ++ cond t (e ∷ []) []) b) ∙ sym (filter-append (λ d. begins (path d.0) q) ys (e ∷ []))
       ∙ sym (ap (filter (λ d. begins (path d.0) q)) is)
 
--- what a pop removed
+-- the item that `pop` removed is the last one
 pub popped_item : {X : Type 0} (xs ys : List X) (r : Option X) (e : X) → xs ≡ ys ++ option_to_list r → last_item xs ≡ Some e → (r ≡ None → length xs ≡ 0) → xs ≡ ys ++ e ∷ []
 popped_item [] ys None e is last none = cc
 popped_item (x ∷ xs) ys None e is last none = absurd (omega (arith, none refl))
@@ -74,7 +75,7 @@ popped_item xs ys (Some d) e is last none =
     is ∙ ap (λ o. ys ++ option_to_list o) same
 
 module _ {P T : Type 0} where
-  -- filtering the lent values is the same as lending the filtered ones
+  -- filtering lent values and lending the values of a filtered list are the same
   pub filter_lent : (p : P → Bool) (xs : List (P × Bor T)) → map lent_item (filter (λ e. p e.0) xs) ≡ filter (λ e. p e.0) (map lent_item xs)
   filter_lent p [] = refl
   filter_lent p (x ∷ xs) = elim (p x.0) as (λ b. map lent_item (cond b (x ∷ filter (λ e. p e.0) xs) (filter (λ e. p e.0) xs)) ≡ cond b (lent_item x ∷ filter (λ e. p e.0) (map lent_item xs)) (filter (λ e. p e.0) (map lent_item xs))) [
@@ -108,7 +109,7 @@ module _ {P X : Type 0} (path : P → List Bool) where
     chain-push xs x h.1 (All-tail (λ d. begins (path d.0) (path x.0) ≡ true) y xs a),
   )
 
-  -- a chain, after a prefix is put after those that contain it
+  -- a chain stays one when a prefix is added after those that contain it
   pub chain-next : (xs ys zs : List (P × X)) (x : P × X) → ys ≡ filter (λ d. begins (path d.0) (path x.0)) xs → zs ≡ ys ++ x ∷ [] → IsChain path xs → IsChain path zs
   chain-next xs ys zs x is pushed h =
       subst (IsChain path) (sym (pushed ∙ ap (λ es. es ++ x ∷ []) is))

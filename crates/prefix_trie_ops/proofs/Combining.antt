@@ -1,4 +1,4 @@
--- The laws of the maps made of two maps.
+-- The laws of the maps made of two maps: for `combining_laws`.
 use Rattle.std.proofs.Common.{◌≡◌, ◌∙◌, not, Bool, true, false, true≢false, cond, List, Option, Some, None, is_some, ap, sym, refl}
 use Rattle.std.specs.Option.{option_map, option_or}
 use Rattle.std.specs.FinMap.{contains_key, empty, get, get-empty, get-retain_keys, retain_keys, same_map}

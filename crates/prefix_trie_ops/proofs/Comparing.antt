@@ -1,4 +1,5 @@
--- The first call of a walk over the keys that pass a test decides whether any key passes.
+-- The first call of a walk over the keys that pass a test decides whether any key passes: for `is_subset`,
+-- `is_disjoint` and `intersects`.
 use Rattle.std.proofs.Common.{◌≡◌, ◌∙◌, Bool, true, false, true≢false, cond, List, [], ◌∷◌, map, Option, Some, None, MatchOption, is_some, ap, sym, refl}
 use Rattle.std.specs.FinMap.{contains_key, get, get-entries, retain_keys}
 use Rattle.std.specs.FinMap.Entries.{find}
@@ -8,7 +9,7 @@ use Rattle.prefix_trie.specs.Words.{Entries, listing}
 use Rattle.prefix_trie_ops.proofs.Combining.{retained_at}
 
 module _ {P T' : Type 0} (back : List Bool → P) (m : Entries T') (p : List Bool → Bool) where
-  -- the keys that pass, as a list
+  -- the list of the keys that pass
   abbrev passing : List P
   passing = map (λ e. back e.0) (listing (retain_keys m p))
 
@@ -16,7 +17,7 @@ module _ {P T' : Type 0} (back : List Bool → P) (m : Entries T') (p : List Boo
   none_left [] h k = refl
   none_left (e ∷ es) h k = cc
 
-  -- if it gives none, no key passes
+  -- if the walk gives no key, none passes
   pub none_passes : (s t : List P) (r : Option P) → s ≡ passing → MatchOption r ((s ≡ []) × (t ≡ [])) (λ x. s ≡ x ∷ t) → is_some r ≡ false
       → (k : List Bool) → contains_key m k ≡ true → p k ≡ false
   none_passes s t (Some x) items takes bad k there = absurd (true≢false bad)
@@ -30,7 +31,7 @@ module _ {P T' : Type 0} (back : List Bool → P) (m : Entries T') (p : List Boo
       go true h None g here = absurd (true≢false (sym here ∙ ap is_some g))
       go true h (Some v) g here = let bad : Some v ≡ None = sym g ∙ sym (ap (λ b. cond b (get m k) None) h) ∙ sym (retained_at m p k) ∙ none in cc
 
-  -- if it gives one, some key passes
+  -- if the walk gives a key, some key passes
   pub some_passes : (s t : List P) (r : Option P) → s ≡ passing → MatchOption r ((s ≡ []) × (t ≡ [])) (λ x. s ≡ x ∷ t) → is_some r ≡ true
       → (k : List Bool) × (contains_key m k ≡ true) × (p k ≡ true)
   some_passes s t None items takes bad = absurd (true≢false (sym bad))

@@ -1,4 +1,4 @@
--- The prefixes above each entry of a listing.
+-- The covers of each entry of a listing, from those of the entry before it: for `aggregate_consistent`.
 use Rattle.std.proofs.Common.{◌≡◌, ◌∙◌, ◌⊎◌, ◌+◌, ◌-◌, ◌<◌, ◌≤◌, ◌++◌, ◌&&◌, not, nat_lt, eqb, eqb-true, ◌≢◌, ltb-true, lt-ltb, ℕ, zero, suc, Bool, true, false, true≢false, cond, List, [], ◌∷◌, length, take, drop, map, filter, Option, Some, None, All, Bor, Less, is_lt, inl, inr, ap, sym, subst, refl, arith, append-nil, T}
 use Rattle.std.proofs.lemmas.List.Elements.{filter-append, All-head, All-tail, All-cons, All-nil}
 use Rattle.std.proofs.lemmas.List.{append_assoc, take-take, length-take-le}
@@ -15,7 +15,7 @@ use Rattle.prefix_trie.specs.Words.{Entries, begins, covers, last_item, lent_ite
 use Rattle.prefix_trie_ops.specs.Values.{value_above, value_of}
 use Rattle.prefix_trie_ops.proofs.Lists.{contains_cases, contains_later, contains_here, contains_none, contains_parts, contains_middle, filter_agrees, filter_both, filter_none}
 
--- what is before a string and does not begin it begins no string after that
+-- if x is between e and y in listing order and e begins y, e begins x
 pub between : (e x y : List Bool) → listing_cmp e x ≡ Less → listing_cmp x y ≡ Less → begins e y ≡ true → begins e x ≡ true
 between e x y ex xy b = elim (begins e x) as (λ t. begins e x ≡ t → t ≡ true) [
   | true ↦ λ _. refl
@@ -24,7 +24,7 @@ between e x y ex xy b = elim (begins e x) as (λ t. begins e x ≡ t → t ≡ t
       absurd (not_less x y xy back)
 ] refl
 
--- a string that begins another and is not shorter is the same
+-- a string that begins another and is not shorter is equal to it
 pub no_shorter : (e y : List Bool) → begins e y ≡ true → nat_lt (length e) (length y) ≡ false → e ≡ y
 no_shorter e y b n = begins-same-length e y b (let l : length e ≤ length y = begins-length e y b in let g : length y ≤ length e = grind (arith, n) in omega arith)
 
@@ -50,11 +50,11 @@ module _ {T' : Type 0} where
   behind_it [] back d e h at = behind_all d.0 back e (sorted-head d back h) at
   behind_it (x ∷ front) back d e h at = behind_it front back d e (sorted-tail x (front ++ d ∷ back) h) at
 
-  -- the stored pairs whose keys are shorter and begin a string
+  -- the entries whose keys begin y and are shorter
   abbrev pub shorter_covers : Entries T' → List Bool → List (List Bool × T')
   shorter_covers m y = filter (λ e. begins e.0 y && nat_lt (length e.0) (length y)) (listing m)
 
-  -- the covers of a stored key are the shorter ones and its own entry
+  -- the covers of a stored key are its shorter covers and its own entry
   pub covers_push : (m : Entries T') (read rest : List (List Bool × T')) (y : List Bool × T') → listing m ≡ read ++ y ∷ rest
       → (covers m y.0 ≡ shorter_covers m y.0 ++ y ∷ []) × (shorter_covers m y.0 ≡ filter (λ e. begins e.0 y.0 && nat_lt (length e.0) (length y.0)) read)
   covers_push m read rest y split =
@@ -93,7 +93,7 @@ module _ {T' : Type 0} where
         ] refl
       ] refl
 
-  -- the covers of the entry before it that begin a key are its shorter covers
+  -- the covers of the entry before y that begin y are the shorter covers of y
   pub covers_next : (m : Entries T') (read rest : List (List Bool × T')) (x y : List Bool × T') → listing m ≡ read ++ x ∷ y ∷ rest
       → filter (λ e. begins e.0 y.0) (covers m x.0) ≡ shorter_covers m y.0
   covers_next m read rest x y split =
@@ -135,7 +135,7 @@ module _ {T' : Type 0} where
           sorted_end [] back h = h
           sorted_end (z ∷ front) back h = sorted_end front back (sorted-tail z (front ++ back) h)
 
-  -- the covers of an entry, if there is one
+  -- the covers of an entry, or nothing if there is no entry
   abbrev pub covers_of : Entries T' → Option (List Bool × T') → List (List Bool × T')
   covers_of m None = []
   covers_of m (Some x) = covers m x.0
@@ -161,7 +161,7 @@ module _ {T' : Type 0} where
         ∙ covers_next m some.0 rest some.1 y (split ∙ ap (λ es. es ++ y ∷ rest) some.2 ∙ append_assoc some.0 (some.1 ∷ []) (y ∷ rest))
   ]
 
-  -- the covers of a string without its last bit are its shorter covers
+  -- the covers of a string without its last bit are the shorter covers of the string
   pub covers_shorter : (m : Entries T') (s : List Bool) → eqb (length s) 0 ≡ false → covers m (take (length s - 1) s) ≡ shorter_covers m s
   covers_shorter m s nz = filter_agrees (λ e. begins e.0 (take (length s - 1) s)) (λ e. begins e.0 s && nat_lt (length e.0) (length s)) (listing m) (λ e _. same_test e.0 (eqb-false (length s) 0 nz))
     where
@@ -179,7 +179,7 @@ module _ {T' : Type 0} where
           let le : length t ≤ length s - 1 = omega arith in
           begins-from-take t (take (length s - 1) s) (length t) (take-take (length t) (length s - 1) s le ∙ begins-take t s b.0))
 
-  -- the empty string has none
+  -- the empty string has no shorter covers
   pub covers_none : (m : Entries T') (s : List Bool) → eqb (length s) 0 ≡ true → shorter_covers m s ≡ []
   covers_none m s z =
       filter_agrees (λ e. begins e.0 s && nat_lt (length e.0) (length s)) (λ _. false) (listing m) (λ e _. not_below e.0 (eqb-true (length s) 0 z)) ∙ filter_none (listing m)
@@ -190,7 +190,7 @@ module _ {T' : Type 0} where
         | false ↦ λ _. refl
       ] refl
 
-  -- the value above a key is that of its last shorter cover
+  -- the value above a key is the value of its last shorter cover
   pub above_is_last : (m : Entries T') (s : List Bool) → value_above m s ≡ option_map (λ e. e.1) (last_item (shorter_covers m s))
   above_is_last m s = elim (eqb (length s) 0) as (λ b. eqb (length s) 0 ≡ b → cond b None (value_of m (take (length s - 1) s)) ≡ option_map (λ e. e.1) (last_item (shorter_covers m s))) [
     | true ↦ λ z. sym (ap (λ es. option_map (λ e. e.1) (last_item es)) (covers_none m s z))

@@ -1,4 +1,4 @@
--- Members of lists, filters, and the last item of a list.
+-- Small facts on members of lists, filters, and the last item of a list.
 use Rattle.std.proofs.Common.{◌≡◌, ◌∙◌, ◌⊎◌, ◌++◌, ◌&&◌, ℕ, zero, suc, Bool, true, false, cond, List, [], ◌∷◌, map, filter, Option, Some, None, inl, inr, ap, sym, subst, refl, arith}
 use Rattle.std.specs.List.{Contains}
 use Rattle.prefix_trie.specs.Words.{last_item}
@@ -24,7 +24,7 @@ module _ {X : Type 0} where
     | inr l ↦ elim (contains_parts xs ys x l) [ inl a ↦ inl (contains_later z x xs a) | inr b ↦ inr b ]
   ]
 
-  -- two tests that agree at the items keep the same items
+  -- two tests that agree on the items of a list keep the same items
   pub filter_agrees : (p q : X → Bool) (xs : List X) → ((x : X) → Contains xs x → p x ≡ q x) → filter p xs ≡ filter q xs
   filter_agrees p q [] h = refl
   filter_agrees p q (x ∷ xs) h =
@@ -63,6 +63,6 @@ pub map_push : {X Y : Type 0} (f : X → Y) (xs : List X) (x : X) → map f xs +
 map_push f [] x = refl
 map_push f (y ∷ xs) x = ap (λ zs. f y ∷ zs) (map_push f xs x)
 
--- an item that does not pass is skipped
+-- an item that does not pass does not change what a filter keeps
 pub filter_skips : {X : Type 0} (p : X → Bool) (xs rest : List X) (x : X) → xs ≡ x ∷ rest → p x ≡ false → filter p rest ≡ filter p xs
 filter_skips p xs rest x is bad = sym (ap (filter p) is ∙ ap (λ b. cond b (x ∷ filter p rest) (filter p rest)) bad)

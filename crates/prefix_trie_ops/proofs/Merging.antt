@@ -1,4 +1,5 @@
--- The keys of either of two maps, as a map: its listing, and what it has at a key.
+-- The keys of either of two maps, as a map: its listing is the two listings merged, and its values are those of both:
+-- for `union`.
 use Rattle.std.proofs.Common.{◌≡◌, ◌∙◌, ◌&&◌, Bool, true, false, true≢false, cond, List, [], ◌∷◌, map, Option, Some, None, Ordering, Less, Equal, Greater, ap, ap₂, sym, subst, refl, T}
 use Rattle.std.specs.List.{Contains}
 use Rattle.std.specs.Ordering.{is_eq, is_lt, ordering_reverse}
@@ -13,11 +14,11 @@ use Rattle.prefix_trie_ops.proofs.Lists.{contains_here, contains_later}
 use Rattle.prefix_trie_ops.proofs.Sorted.{find_before, less_before, same_is, t_both, t_first, t_second, turned}
 
 module _ {X Y : Type 0} where
-  -- two lists of entries as one
+  -- two lists of entries, merged into one
   abbrev both : List (List Bool × X) → List (List Bool × Y) → List (List Bool × Side X Y)
   both xs ys = merged (λ s. s) xs ys
 
-  -- two merged lists that are not empty, by the order of their heads
+  -- two merged lists that are not empty, by the order of their first keys
   abbrev by_heads : Ordering → List Bool × X → List (List Bool × X) → List Bool × Y → List (List Bool × Y) → List (List Bool × Side X Y)
   by_heads o x xs y ys = elim o [
     | Less ↦ (x.0, Left x.1) ∷ both xs (y ∷ ys)
@@ -141,14 +142,14 @@ module _ {X Y : Type 0} where
           | Greater ↦ (back y.0, Right y.1) ∷ merged path (prefix_pairs back (x ∷ xs)) (prefix_pairs back ys)
         ]
 
-    -- two walks merged are the listing of the union
+    -- merging the walks over two maps gives the listing of the union
     pub union_shown : (m : Entries X) (n : Entries Y)
         → ((e : List Bool × X) → Contains (listing m) e → path (back e.0) ≡ e.0) → ((e : List Bool × Y) → Contains (listing n) e → path (back e.0) ≡ e.0)
         → merged path (prefix_pairs back (listing m)) (prefix_pairs back (listing n)) ≡ prefix_pairs back (listing (union_of m n))
     union_shown m n hx hy = both_shown (listing m) (listing n) hx hy ∙ sym (ap (prefix_pairs back) (union_listing m n))
 
 module _ {P X Y : Type 0} (path : P → List Bool) where
-  -- the prefixes of a merged list are the merged prefixes of the two lists
+  -- the prefixes of a merged list are the merged prefixes
   pub merged_prefixes : (xs : List (P × X)) (ys : List (P × Y)) → merged_keys path (map (λ e. e.0) xs) (map (λ e. e.0) ys) ≡ map (λ e. e.0) (merged path xs ys)
   merged_prefixes [] [] = refl
   merged_prefixes [] (y ∷ ys) = ap (λ zs. y.0 ∷ zs) (merged_prefixes [] ys)
@@ -174,7 +175,7 @@ module _ {P X Y : Type 0} (path : P → List Bool) where
         | Greater ↦ (y.0, Right y.1) ∷ merged path (x ∷ xs) ys
       ]
 
-  -- two walks over keys, merged, are the keys of the union
+  -- merging the walks over the keys of two maps gives the keys of the union
   pub keys_shown : (back : List Bool → P) (m : Entries X) (n : Entries Y)
       → ((e : List Bool × X) → Contains (listing m) e → path (back e.0) ≡ e.0) → ((e : List Bool × Y) → Contains (listing n) e → path (back e.0) ≡ e.0)
       → merged_keys path (map (λ e. back e.0) (listing m)) (map (λ e. back e.0) (listing n)) ≡ map (λ e. back e.0) (listing (union_of m n))

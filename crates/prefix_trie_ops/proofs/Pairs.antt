@@ -1,4 +1,4 @@
--- The keys that two maps have, as a map: its listing, and its values.
+-- The keys that two maps have, as a map: its listing and its values: for `intersection` of maps.
 use Rattle.std.proofs.Common.{◌≡◌, ◌∙◌, ◌&&◌, Bool, true, false, cond, List, [], ◌∷◌, map, filter, Option, Some, None, ap, sym, subst, refl, T}
 use Rattle.std.specs.List.{Contains, cons_option, filter_map}
 use Rattle.std.specs.Option.{option_map}
@@ -12,7 +12,7 @@ use Rattle.prefix_trie_ops.proofs.Lists.{contains_here, contains_later}
 use Rattle.prefix_trie_ops.proofs.Sorted.{same_is, t_both, t_first, t_second}
 
 module _ {X Y : Type 0} (n : Entries Y) where
-  -- the items with their partners
+  -- the items that have a partner, each with it
   abbrev pairs : List (List Bool × X) → List (List Bool × (X × Y))
   pairs es = filter_map (with_partner (λ s. s) n) es
 
@@ -83,7 +83,7 @@ module _ {X Y : Type 0} (n : Entries Y) where
         → filter_map (with_partner path n) (prefix_pairs back (listing m)) ≡ prefix_pairs back (listing (common m n))
     common_shown m known = pairs_shown (listing m) known ∙ sym (ap (prefix_pairs back) (common_listing m))
 
--- an item without a partner is skipped
+-- an item without a partner does not change the list
 pub pairs_skip : {P X Y : Type 0} (path : P → List Bool) (n : Entries Y) (xs rest : List (P × X)) (x : P × X) → xs ≡ x ∷ rest → None ≡ get n (path x.0)
     → filter_map (with_partner path n) rest ≡ filter_map (with_partner path n) xs
 pairs_skip path n xs rest x is none =

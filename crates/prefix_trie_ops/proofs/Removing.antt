@@ -1,4 +1,5 @@
--- Entries without those whose longest shorter key has an equal value: every question has the value that it had.
+-- Removing each entry whose longest shorter key has an equal value leaves every question the value that it had: for
+-- `aggregate_consistent` and `aggregate`.
 use Rattle.std.proofs.Common.{◌≡◌, ◌≢◌, ◌⊎◌, ◌+◌, ◌-◌, ◌<◌, ◌≤◌, eqb, ℕ, zero, suc, Bool, true, false, cond, not, filter, List, [], ◌∷◌, length, take, map, Option, Some, None, MatchOption, All, inl, inr, refl, sym, ap, subst, ◌∙◌, arith, rules, is_some, true≢false, eqb-true}
 use Rattle.std.proofs.lemmas.Bool.{eqb-false}
 use Rattle.std.proofs.lemmas.List.{take-take, length-take-le}
@@ -12,7 +13,7 @@ use Rattle.prefix_trie.specs.Laws.Lookups.{LookupLaws}
 use Rattle.prefix_trie_ops.specs.Values.{value_of, value_above, are_equal, is_redundant, stays, without_redundant}
 
 module _ {T : Type 0} where
-  -- a map has a longest match, or nothing covers the question
+  -- the question has a longest match, or no key covers it
   abbrev pub Looked : Entries T → List Bool → Type 0
   Looked m q = ((longest_match m q ≡ None) × IsUncovered m q) ⊎ ((e : List Bool × T) × (longest_match m q ≡ Some e) × IsLongestMatch m q e)
 
@@ -25,7 +26,7 @@ module _ {T : Type 0} where
   has : (m : Entries T) (s : List Bool) (v : T) → get m s ≡ Some v → contains_key m s ≡ true
   has m s v h = ap is_some h
 
-  -- an entry that is a longest match is the one that `longest_match` returns
+  -- an entry that is the longest match is the one that `longest_match` returns
   pub same_longest : {P : Type 0} → LookupLaws P T → (m : Entries T) (q : List Bool) (e : List Bool × T) → IsLongestMatch m q e → longest_match m q ≡ Some e
   same_longest laws m q e is = elim (looked laws m q) [
     | inl none ↦ absurd (true≢false (sym is.matches.begins_it ∙ none.1 e.0 (has m e.0 e.1 is.matches.stored)))
@@ -40,7 +41,7 @@ module _ {T : Type 0} where
   ]
 
   module _ (eq : T → T → Bool) (m n : Entries T) (left_as : (s : List Bool) → get n s ≡ cond (is_redundant eq m s) None (get m s)) where
-    -- what is left was there
+    -- each entry that is left was there before
     left_was : (s : List Bool) (v : T) → get n s ≡ Some v → get m s ≡ Some v
     left_was s v h = elim (is_redundant eq m s) as (λ b. get n s ≡ cond b None (get m s) → get m s ≡ Some v) [
       | true ↦ λ e. let no : None ≡ Some v = sym e ∙ h in cc
@@ -53,7 +54,7 @@ module _ {T : Type 0} where
       | false ↦ λ e. ap is_some (sym e) ∙ h
     ] (left_as s)
 
-    -- what is gone has a shorter key with its value
+    -- each entry that is removed has a shorter key with its value
     gone_above : ((x y : T) → eq x y ≡ true → x ≡ y) → (s : List Bool) (v : T) → get m s ≡ Some v → is_redundant eq m s ≡ true
         → (length s ≡ (length s - 1) + 1) × (value_of m (take (length s - 1) s) ≡ Some v)
     gone_above exact s v at h =
@@ -67,7 +68,7 @@ module _ {T : Type 0} where
         equal_is None w h = absurd (true≢false (sym h))
         equal_is (Some u) w h = ap Some (exact u w h)
 
-    -- a key that is left and begins the question begins the longest shorter part of one that is gone
+    -- if the longest match was removed, each remaining key that begins the question begins its longest shorter part
     begins_above : (q s : List Bool) (v : T) (j : ℕ) → IsLongestMatch m q (s, v) → is_redundant eq m s ≡ true → length s ≡ j + 1
         → (t : List Bool) → contains_key n t ≡ true → begins t q ≡ true → begins t (take j s) ≡ true
     begins_above q s v j is gone long t there front =
@@ -121,7 +122,7 @@ module _ {T : Type 0} where
           ∙ shorter (take (length s - 1) s) (omega arith) ∙ above.1 ∙ sym (ap (option_map (λ e. e.1)) found)
     ] refl
 
-    -- every question has the value that it had, if every shorter one has
+    -- a question keeps its value if every shorter question does
     step : {P : Type 0} → LookupLaws P T → ((x y : T) → eq x y ≡ true → x ≡ y) → (q : List Bool) → ((t : List Bool) → length t < length q → value_of n t ≡ value_of m t)
         → value_of n q ≡ value_of m q
     step laws exact q shorter = elim (looked laws m q) [
@@ -139,7 +140,7 @@ module _ {T : Type 0} where
     pub same_values : {P : Type 0} → LookupLaws P T → ((x y : T) → eq x y ≡ true → x ≡ y) → (q : List Bool) → value_of n q ≡ value_of m q
     same_values laws exact q = within laws exact (length q) q (omega arith)
 
-    -- and no entry is left whose longest shorter key has an equal value
+    -- no entry is left whose longest shorter key has an equal value
     pub none_left : {P : Type 0} → LookupLaws P T → ((x y : T) → eq x y ≡ true → x ≡ y) → (s : List Bool) → is_redundant eq n s ≡ false
     none_left laws exact s =
         let same : value_above n s ≡ value_above m s = ap (λ o. cond (eqb (length s) 0) None o) (same_values laws exact (take (length s - 1) s)) in
@@ -152,7 +153,7 @@ module _ {T : Type 0} where
         none_equal None = refl
         none_equal (Some v) = refl
 
-  -- a map whose listing has the marked entries
+  -- a map whose listing has exactly the marked entries
   pub gone_entries : (eq : T → T → Bool) (m n : Entries T) → listing n ≡ filter (stays eq m) (listing m) → n ≡ without_redundant eq m
   gone_entries eq m n h = same_entries_map n (without_redundant eq m) (h ∙ sym (entries-retained m (λ s. not (is_redundant eq m s))))
 

@@ -1,4 +1,5 @@
--- The items of a walk that pass a test are the listing of the entries that pass it.
+-- The items of a walk that pass a test are the listing of the entries that pass it: for the walks over differences and
+-- intersections.
 use Rattle.std.proofs.Common.{◌≡◌, ◌∙◌, Bool, cond, true, false, List, [], ◌∷◌, map, filter, ap, sym, refl, All}
 use Rattle.std.proofs.lemmas.List.Elements.{All-cons, All-head, All-nil, All-tail}
 use Rattle.std.specs.List.{Contains}

@@ -1,4 +1,4 @@
--- Lists of entries in listing order.
+-- Small facts on lists of entries in listing order.
 use Rattle.std.proofs.Common.{◌≡◌, ◌∙◌, ◌&&◌, Bool, true, false, true≢false, cond, List, [], ◌∷◌, Option, Some, None, Less, Equal, Greater, Ordering, ap, sym, subst, refl, T}
 use Rattle.std.specs.Ordering.{is_eq, is_lt, ordering_reverse}
 use Rattle.std.specs.FinMap.Entries.{below_all, find, is_sorted}
@@ -24,7 +24,7 @@ equal_is : (o : Ordering) → is_eq o ≡ true → o ≡ Equal
 equal_is Equal h = refl
 equal_is o h = absurd (true≢false (sym h))
 
--- strings that compare as equal are the same
+-- strings that compare as equal are equal
 pub same_is : (s t : List Bool) → same_string s t ≡ true → s ≡ t
 same_is s t h = listing_same s t (equal_is (listing_cmp s t) h)
 
@@ -39,7 +39,7 @@ module _ {X : Type 0} where
       let less = less_is (listing_cmp q e.0) (t_first (is_lt (listing_cmp q e.0)) (below_all listing_cmp q es) h) in
       ap (λ o. cond (is_eq o) (Some e.1) (find listing_cmp q es)) less ∙ find_before q es (t_second (is_lt (listing_cmp q e.0)) (below_all listing_cmp q es) h)
 
-  -- what is before a string is before all that it is before
+  -- a string before s is before all strings that s is before
   pub before_all : (q s : List Bool) (es : List (List Bool × X)) → listing_cmp q s ≡ Less → T (below_all listing_cmp s es) → T (below_all listing_cmp q es)
   before_all q s [] l h = tt
   before_all q s (e ∷ es) l h =

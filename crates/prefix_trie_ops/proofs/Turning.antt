@@ -1,4 +1,4 @@
--- The common keys of two maps, by a walk over either map.
+-- A walk over either of two maps finds their common keys, so `intersection` may walk over the smaller one.
 use Rattle.std.proofs.Common.{◌≡◌, ◌∙◌, ◌⊎◌, inl, inr, ◌++◌, ◌&&◌, Bool, true, false, cond, List, [], ◌∷◌, map, filter, Option, Some, None, All, is_some, ap, ap₂, sym, subst, refl, T}
 use Rattle.std.proofs.lemmas.List.Elements.{All-nil}
 use Rattle.std.specs.List.{Contains, filter_map}
@@ -20,7 +20,7 @@ none_after [] = refl
 none_after (x ∷ xs) = ap (λ ys. x ∷ ys) (none_after xs)
 
 module _ {X Y : Type 0} where
-  -- entries with exchanged pairs
+  -- the entries with the two values of each exchanged
   abbrev turned : List (List Bool × (Y × X)) → List (List Bool × (X × Y))
   turned es = map turned_item es
 
@@ -56,7 +56,7 @@ module _ {X Y : Type 0} where
     turned_shown [] = refl
     turned_shown (e ∷ es) = ap (λ zs. (back e.0, turned_pair e.1) ∷ zs) (turned_shown es)
 
-    -- a walk over either map has the common keys
+    -- a walk over either map gives the common keys
     pub common_either_way : (m : Entries X) (n : Entries Y)
         → ((e : List Bool × X) → Contains (listing m) e → path (back e.0) ≡ e.0) → ((e : List Bool × Y) → Contains (listing n) e → path (back e.0) ≡ e.0)
         → (xs : List (P × X)) (ys : List (P × Y)) → ((xs ≡ prefix_pairs back (listing m)) × (ys ≡ [])) ⊎ ((xs ≡ []) × (ys ≡ prefix_pairs back (listing n)))
@@ -69,7 +69,7 @@ module _ {X Y : Type 0} where
         ap₂ (λ s t. s ++ map turned_item t) (ea ∙ ap (filter_map (with_partner path n)) w.0) (eb ∙ ap (filter_map (with_partner path m)) w.1 ∙ common_shown m path back n hy)
         ∙ turned_shown (listing (common n m)) ∙ ap (prefix_pairs back) (turned_listing m n)
 
--- sets restricted to each other are the same
+-- two sets restricted to each other are equal
 restricted_either : (m n : Entries (Unit {0})) → restricted_to n m ≡ restricted_to m n
 restricted_either m n = same_map listing_total listing_same (restricted_to n m) (restricted_to m n) (λ q. retained_at n (contains_key m) q ∙ go (get m q) (get n q) ∙ sym (retained_at m (contains_key n) q))
   where
@@ -80,7 +80,7 @@ restricted_either m n = same_map listing_total listing_same (restricted_to n m) 
     go (Some v) (Some w) = refl
 
 module _ {P : Type 0} (path : P → List Bool) (back : List Bool → P) where
-  -- a walk over either set has the common keys
+  -- a walk over either set gives the common keys
   pub keys_either_way : (m n : Entries (Unit {0}))
       → ((e : List Bool × Unit {0}) → Contains (listing m) e → path (back e.0) ≡ e.0) → ((e : List Bool × Unit {0}) → Contains (listing n) e → path (back e.0) ≡ e.0)
       → (ps qs : List P) → ((ps ≡ map (λ e. back e.0) (listing m)) × (qs ≡ [])) ⊎ ((ps ≡ []) × (qs ≡ map (λ e. back e.0) (listing n)))
@@ -93,7 +93,7 @@ module _ {P : Type 0} (path : P → List Bool) (back : List Bool → P) where
       ap₂ (λ s t. s ++ t) (ea ∙ ap (filter (λ p. contains_key n (path p))) w.0) (eb ∙ ap (filter (λ p. contains_key m (path p))) w.1 ∙ selected_keys path back (contains_key m) n hn)
       ∙ ap (λ r. map (λ e. back e.0) (listing r)) (restricted_either m n)
 
--- two walks, one of which is at its end, have what holds for each
+-- if one of two walks is at its end, what holds of the items of each list holds of the items to come
 pub each_of_either : {X Y : Type 0} (F : X → Type 0) (G : Y → Type 0) (xs all_xs : List X) (ys all_ys : List Y)
     → ((xs ≡ all_xs) × (ys ≡ [])) ⊎ ((xs ≡ []) × (ys ≡ all_ys)) → All F all_xs → All G all_ys → All F xs × All G ys
 each_of_either F G xs all_xs ys all_ys (inl w) h k = (subst (All F) (sym w.0) h, subst (All G) (sym w.1) (All-nil G))

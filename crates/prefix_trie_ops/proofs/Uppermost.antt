@@ -1,4 +1,5 @@
--- A walk over a set that keeps the uppermost prefix above the last key read, and what is left of the set.
+-- A walk over a set that remembers the uppermost prefix above the last key read, and what it leaves of the set: for
+-- `aggregate_consistent` of sets.
 use Rattle.std.proofs.Common.{◌≡◌, ◌∙◌, ◌-◌, ◌++◌, not, eqb, Bool, true, false, true≢false, cond, List, [], ◌∷◌, length, take, map, filter, Option, Some, None, is_some, ap, sym, subst, refl, append_assoc, append-nil}
 use Rattle.std.specs.List.{Contains}
 use Rattle.std.specs.Option.{option_map}
@@ -16,12 +17,12 @@ use Rattle.prefix_trie_ops.proofs.Lists.{contains_middle, filter_agrees, filter_
 use Rattle.prefix_trie_ops.proofs.Removing.{none_left, same_values}
 
 module _ {T' : Type 0} where
-  -- an item that begins the string, or none
+  -- an entry if its key begins the string, or none
   abbrev pub if_begins : List Bool → Option (List Bool × T') → Option (List Bool × T')
   if_begins q None = None
   if_begins q (Some e) = cond (begins e.0 q) (Some e) None
 
-  -- the first cover begins the others
+  -- the first cover begins the other covers
   first_begins : MatchLaws T' → (m : Entries T') (q : List Bool) (head : List Bool × T') (rest : List (List Bool × T')) → covers m q ≡ head ∷ rest
       → (e : List Bool × T') → Contains (covers m q) e → begins head.0 e.0 ≡ true
   first_begins laws m q head rest split e at =
@@ -29,7 +30,7 @@ module _ {T' : Type 0} where
       let here = (laws.are_matches m q e).0 at in
       begins-linear head.0 e.0 q first.matches.begins_it here.begins_it (first.shortest e.0 (ap is_some here.stored) here.begins_it)
 
-  -- so it alone decides whether one of them begins another string
+  -- so the first cover alone decides whether some cover begins another string
   first_next : MatchLaws T' → (m : Entries T') (x y : List Bool) (head : List Bool × T') (rest : List (List Bool × T')) → covers m x ≡ head ∷ rest
       → first_item (filter (λ e. begins e.0 y) (covers m x)) ≡ if_begins y (Some head)
   first_next laws m x y head rest split =
@@ -62,7 +63,7 @@ module _ {T' : Type 0} where
         | false ↦ λ nz. ap (λ es. is_some (first_item es)) (covers_shorter m s nz)
       ] refl
 
-  -- the first of a list, after an item is put after it
+  -- adding an item at the end does not change the first item
   first_pushed : (xs : List (List Bool × T')) (x : List Bool × T') → is_some (first_item xs) ≡ true → first_item (xs ++ x ∷ []) ≡ first_item xs
   first_pushed [] x h = absurd (true≢false (sym h))
   first_pushed (y ∷ xs) x h = refl
@@ -87,7 +88,7 @@ module _ {T' : Type 0} where
         let same : path p ≡ e.0 = cc in
         ap (λ s. begins s q) same ∙ elim (begins e.0 q) as (λ b. b ≡ is_some (cond b (Some e) None)) [ true ↦ refl | false ↦ refl ]
 
-    -- the invariant: what was read is marked, and the prefix kept is the shortest cover of the last key read
+    -- the invariant: what was read is marked, and the remembered prefix is the shortest cover of the last key read
     pub record Uppermost (m : Entries T') (left : List P) (top : Option P) (marks : List Bool) : Type 0 where
       pub read : List (List Bool × T')
       pub raw : List (List Bool × T')
@@ -139,7 +140,7 @@ module _ {T' : Type 0} where
             ap (λ b. option_map path (cond b top (Some (back y.0)))) h ∙ ap Some here
             ∙ sym (ap (option_map (λ e. e.0)) (first_alone (shorter_covers m y.0) y (sym covered ∙ h)))
 
-    -- one more key
+    -- the invariant holds after one more key
     pub uppermost_on : MatchLaws T' → (m : Entries T') (left rest : List P) (x : P) (top top2 : Option P) (marks marks2 : List Bool) (r : Bool)
         → ((e : List Bool × T') → Contains (listing m) e → path (back e.0) ≡ e.0)
         → left ≡ x ∷ rest → r ≡ contains_path path top (path x) → marks2 ≡ marks ++ not r ∷ [] → top2 ≡ cond r top (Some x)
@@ -155,11 +156,11 @@ module _ {T' : Type 0} where
             (uppermost_next laws m is.read raw y top top2 marks marks2 r (known y (subst (λ es. Contains es y) (sym s) (contains_middle is.read raw y))) s is.marked is.top_is
             (tests ∙ ap (λ z. contains_path path top (path z)) first) adds (sets ∙ ap (λ z. cond r top (Some z)) first))
 
--- any two units are equal
+-- the equality of units, which all are equal
 abbrev always : Unit {0} → Unit {0} → Bool
 always x y = true
 
--- a set of which the uppermost keys are left
+-- a set in which exactly the uppermost keys are left
 pub uppermost_entries : {T' : Type 0} (m n : Entries T') → listing n ≡ filter (is_uppermost m) (listing m) → n ≡ without_covered m
 uppermost_entries m n h = same_entries_map n (without_covered m) (h ∙ sym (entries-retained m (λ s. not (is_below_another m s))))
 
@@ -192,13 +193,13 @@ left_get laws m n is s =
     go (Some u) None = refl
     go (Some u) (Some v) = refl
 
--- it covers what the whole set covers
+-- what is left covers what the whole set covers
 pub same_covered : {P : Type 0} → LookupLaws P (Unit {0}) → MatchLaws (Unit {0}) → (m n : Entries (Unit {0})) → n ≡ without_covered m
     → (q : List Bool) → is_some (shortest_match n q) ≡ is_some (shortest_match m q)
 same_covered lookups laws m n is q =
     sym (value_some laws n q) ∙ ap is_some (same_values always m n (left_get laws m n is) lookups (λ x y _. refl) q) ∙ value_some laws m q
 
--- and no shorter key covers a key of it
+-- no key that is left is covered by a shorter one
 pub none_covered : {P : Type 0} → LookupLaws P (Unit {0}) → MatchLaws (Unit {0}) → (m n : Entries (Unit {0})) → n ≡ without_covered m
     → (s : List Bool) → contains_key n s ≡ true → is_below_another n s ≡ false
 none_covered lookups laws m n is s there =

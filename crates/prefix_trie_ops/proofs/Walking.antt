@@ -1,4 +1,4 @@
--- A walk over a listing that keeps the prefixes above the last entry in a stack.
+-- A walk over a listing that keeps the prefixes above the last entry on a stack: for `aggregate_consistent` of maps.
 use Rattle.std.proofs.Common.{◌≡◌, ◌∙◌, ◌⊎◌, ◌+◌, ◌-◌, ◌<◌, ◌≤◌, ◌++◌, ◌&&◌, not, nat_lt, eqb, eqb-true, ◌≢◌, ltb-true, lt-ltb, ℕ, zero, suc, Bool, true, false, true≢false, cond, List, [], ◌∷◌, length, take, drop, map, filter, Option, Some, None, All, Bor, Less, is_lt, inl, inr, ap, sym, subst, refl, arith, append-nil, T}
 use Rattle.std.proofs.lemmas.List.Elements.{filter-append, All-head, All-tail, All-cons, All-nil}
 use Rattle.std.proofs.lemmas.List.{append_assoc, take-take, length-take-le}
@@ -17,7 +17,7 @@ use Rattle.prefix_trie_ops.proofs.Lists.{contains_here, contains_later, contains
 use Rattle.prefix_trie_ops.proofs.Covers.{shorter_covers, covers_push, next_covers, covers_of, above_is_last}
 
 module _ {T' P : Type 0} (path : P → List Bool) (back : List Bool → P) where
-  -- selecting by prefixes is the same as selecting by paths
+  -- selecting by prefixes is selecting by their paths
   filter_shown : (p : List Bool × T' → Bool) (q : List Bool) (es : List (List Bool × T')) → ((e : List Bool × T') → Contains es e → path (back e.0) ≡ e.0)
       → filter (λ d. begins (path d.0) q) (prefix_pairs back (filter p es)) ≡ prefix_pairs back (filter (λ e. begins e.0 q) (filter p es))
   filter_shown p q [] h = refl
@@ -34,7 +34,7 @@ module _ {T' P : Type 0} (path : P → List Bool) (back : List Bool → P) where
       pull true ys = refl
       pull false ys = refl
 
-  -- the invariant: what was read is marked, and the prefixes above are the covers of the last entry read
+  -- the invariant: what was read is marked, and the stack has the covers of the last entry read
   pub record Walks (eq : T' → T' → Bool) (m : Entries T') (left above : List (P × T')) (marks : List Bool) : Type 0 where
     pub read : List (List Bool × T')
     pub raw : List (List Bool × T')
@@ -58,7 +58,7 @@ module _ {T' P : Type 0} (path : P → List Bool) (back : List Bool → P) where
   last_shown (x ∷ []) = refl
   last_shown (x ∷ y ∷ es) = last_shown (y ∷ es)
 
-  -- one more entry
+  -- the invariant holds after one more entry
   walks_next : (eq : T' → T' → Bool) (m : Entries T') (read raw : List (List Bool × T')) (y : List Bool × T') (above above1 above2 : List (P × T')) (marks marks2 : List Bool) (r : Bool)
       → ((e : List Bool × T') → Contains (listing m) e → (path (back e.0) ≡ e.0) × (get m e.0 ≡ Some e.1))
       → listing m ≡ read ++ y ∷ raw → marks ≡ map (stays eq m) read → above ≡ prefix_pairs back (covers_of m (last_item read))

@@ -1,4 +1,4 @@
--- The values that walks over two maps lend.
+-- The values that walks over two maps lend. This project's own.
 use Rattle.std.specs.Borrow.{Bor}
 
 -- a prefix and the two values that are lent with it

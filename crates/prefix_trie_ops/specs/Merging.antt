@@ -1,4 +1,4 @@
--- Two listings as one.
+-- Two listings merged into one. This project's own.
 use Rattle.std.specs.Prelude.{List, [], ◌∷◌, Bool, Option, Some, None}
 use Rattle.std.proofs.Common.{Ordering, Less, Equal, Greater, Bor}
 use Rattle.std.specs.FinMap.{from_sorted}
@@ -7,7 +7,7 @@ use Rattle.prefix_trie_ops.specs.declared.map.sides.Side.{Side}
 use Rattle.prefix_trie_ops.specs.declared.map.sides.Side.TheVariants.{Left, Right, Both}
 
 module _ {P T U : Type 0} (path : P → List Bool) where
-  -- the items of two lists in listing order; two items of one prefix become one
+  -- the items of two lists in listing order; two items with the same prefix become one
   abbrev pub merged : List (P × T) → List (P × U) → List (P × Side T U)
   merged [] [] = []
   merged [] (y ∷ ys) = (y.0, Right y.1) ∷ merged [] ys
@@ -18,7 +18,7 @@ module _ {P T U : Type 0} (path : P → List Bool) where
     | Greater ↦ (y.0, Right y.1) ∷ merged (x ∷ xs) ys
   ]
 
-  -- which of two lists has the first item
+  -- which of two lists has the first item in listing order
   abbrev pub first_side_of : List (P × T) → List (P × U) → Option Ordering
   first_side_of [] [] = None
   first_side_of [] (y ∷ ys) = Some Greater
@@ -37,7 +37,7 @@ module _ {P : Type 0} (path : P → List Bool) where
     | Greater ↦ q ∷ merged_keys (p ∷ ps) qs
   ]
 
-  -- which of two lists has the first prefix
+  -- which of two lists has the first prefix in listing order
   abbrev pub first_key_of : List P → List P → Option Ordering
   first_key_of [] [] = None
   first_key_of [] (q ∷ qs) = Some Greater
@@ -54,12 +54,12 @@ lent_values (Both v w) = Both v.now w.now
 abbrev pub lent_side : {P T U : Type 0} → P × Side (Bor T) (Bor U) → P × Side T U
 lent_side x = (x.0, lent_values x.1)
 
--- the item that was read ahead, and those to come
+-- the item that was read ahead and the items still to come
 abbrev pub ahead : {P T : Type 0} → Option (P × Bor T) → List (P × T) → List (P × T)
 ahead None es = []
 ahead (Some x) es = lent_item x ∷ es
 
--- the prefix that was read ahead, and those to come
+-- the prefix that was read ahead and the prefixes still to come
 abbrev pub keys_ahead : {P : Type 0} → Option P → List P → List P
 keys_ahead None ps = []
 keys_ahead (Some p) ps = p ∷ ps
@@ -72,6 +72,6 @@ module _ {T U : Type 0} where
   sides (Some v) None = Some (Left v)
   sides (Some v) (Some w) = Some (Both v w)
 
-  -- the keys of either map, each with what both have there
+  -- the keys of either map, each with the values that the maps have there
   unfoldable pub union_of : Entries T → Entries U → Entries (Side T U)
   union_of m n = from_sorted (merged (λ s. s) (listing m) (listing n))

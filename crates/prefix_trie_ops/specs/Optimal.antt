@@ -7,7 +7,7 @@ use Rattle.prefix_trie.specs.Words.{Entries, begins, listing, listing_cmp}
 use Rattle.prefix_trie_ops.specs.Values.{are_equal}
 
 module _ {T : Type 0} where
-  -- the pairs whose keys are after s, without those that s begins
+  -- the pairs whose keys are after s and do not begin with s
   abbrev pub listing_past : Entries T → List Bool → List (List Bool × T)
   listing_past m s = filter (λ e. is_lt (listing_cmp s e.0) && not (begins s e.0)) (listing m)
 
@@ -15,18 +15,18 @@ module _ {T : Type 0} where
   abbrev pub HasNoneBelow : Entries T → List Bool → Type 0
   HasNoneBelow m s = (t : List Bool) → begins s t ≡ true → get m t ≡ None
 
-  -- the longest-match value of the question s ++ r, if `above` is the one that the keys shorter than s give
+  -- the longest-match value of the question s ++ r, if keys shorter than s give the value `above`
   abbrev pub value_along : (List Bool → Option T) → Option T → List Bool → List Bool → Option T
   value_along value above s [] = option_or (value s) above
   value_along value above s (b ∷ r) = value_along value (option_or (value s) above) (s ++ b ∷ []) r
 
-  -- whether the entry at s ++ r has the value that the shorter keys give
+  -- whether the entry at s ++ r has the value that the shorter keys give it
   abbrev pub is_repeated_along : (T → T → Bool) → (List Bool → Option T) → Option T → List Bool → List Bool → Bool
   is_repeated_along eq value above s [] = are_equal eq above (value s)
   is_repeated_along eq value above s (b ∷ r) = is_repeated_along eq value (option_or (value s) above) (s ++ b ∷ []) r
 
-  -- a map is changed only below s. There each full-width question has the longest-match value that it has in another map, and no entry has the
-  -- value that shorter keys give
+  -- A map is changed only under s. There each full-width question has the longest-match value that it has in another
+  -- map, and no entry has the value that shorter keys give it.
   pub record Rebuilds (eq : T → T → Bool) (width : ℕ) (source : Entries T) (s : List Bool) (inherited held : Option T) (before after : Entries T) : Type 0 where
     pub beside : (t : List Bool) → begins s t ≡ false → get after t ≡ get before t
     pub values : (r : List Bool) → length s + length r ≡ width → value_along (get after) held s r ≡ value_along (get source) inherited s r

@@ -12,9 +12,10 @@ use std::cmp::Ordering;
 ///
 /// # Examples
 ///
-/// ```text
-/// listing_order(&10.0.0.0/8, &10.1.0.0/16)   Less
-/// listing_order(&10.0.0.0/8, &9.0.0.0/8)     Greater
+/// ```rust
+/// let wide: Ipv4Prefix = "10.0.0.0/8".parse()?;
+/// listing_order(&wide, &"10.1.0.0/16".parse()?);      // Less
+/// listing_order(&wide, &"9.0.0.0/8".parse()?);        // Greater
 /// ```
 #[inline]
 pub fn listing_order<P: Prefix>(left: &P, right: &P) -> Ordering

@@ -1,4 +1,4 @@
--- Arrays that are cut into blocks.
+-- Arrays that are cut into blocks: what the calls on blocks leave, and that the blocks still tile the array.
 pub mod SevenTiers
 pub mod BySize
 pub mod Shifts

@@ -1,4 +1,4 @@
--- Counting nodes, entries and blocks.
+-- Counting nodes, entries and blocks: for `node_count`, `len` and the numbers of blocks.
 pub mod Counted
 pub mod EntryCounts
 pub mod NodeCounts

@@ -1,4 +1,4 @@
--- Calling a test on entries, as `retain` does.
+-- Calling a test on entries one after another: for `retain`.
 pub mod Asked
 pub mod AskedBelow
 pub mod Retained

@@ -1,4 +1,4 @@
--- Bit strings, chunks, paths and bitmaps, and plain facts.
+-- Bit strings and paths of chunks, bitmaps, and small facts on numbers and options.
 pub mod Digits
 pub mod Plain
 pub mod Bits

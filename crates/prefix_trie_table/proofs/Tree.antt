@@ -1,4 +1,4 @@
--- The tree in the two arrays, by path, and what contracts see of it.
+-- The tree in the two arrays, read by paths, and what contracts see of it.
 pub mod Trees
 pub mod Invariant
 pub mod Children

@@ -1,4 +1,4 @@
--- A loop that counts items by their sizes.
+-- A loop that counts items by their sizes: for `by_length`.
 use Rattle.std.proofs.Common.{◌≡◌, ℕ, suc, ◌+◌, ◌^◌, ◌<◌, eqb, cond, List, ◌∷◌, length, filter, get_or, set, sym, ap, subst, ◌∙◌, arith, inl, inr}
 use Rattle.std.proofs.lemmas.Bool.{cases_eq, eq-eqb, ne_eqb}
 use Rattle.std.proofs.lemmas.List.{get_or-set_other}
@@ -6,7 +6,7 @@ use Rattle.std.proofs.lemmas.List.Sums.{count_by-le-length, length-filter}
 use Rattle.std.proofs.lemmas.Grind.{get_or-set_at}
 
 module _ {X : Type 0} (size : X → ℕ) where
-  -- the counts after one more item
+  -- the counts are right after one more item
   pub counted_on : (counts : List ℕ) (x : X) (left rest : List X) (n : ℕ) (whole : ℕ → ℕ) → left ≡ x ∷ rest → n ≡ size x → n < length counts
       → (k : ℕ) → get_or counts k 0 + length (filter (λ p. eqb (size p) k) left) ≡ whole k
       → get_or (set counts n (get_or counts n 0 + 1)) k 0 + length (filter (λ p. eqb (size p) k) rest) ≡ whole k
@@ -26,7 +26,7 @@ module _ {X : Type 0} (size : X → ℕ) where
             omega arith
       ]
 
-  -- the number of one more item does not overflow
+  -- counting one more item does not overflow
   pub count_fits : (counts : List ℕ) (x : X) (left rest all : List X) (n : ℕ) → left ≡ x ∷ rest → n ≡ size x → length all < 2 ^ 64
       → get_or counts n 0 + length (filter (λ p. eqb (size p) n) left) ≡ length (filter (λ p. eqb (size p) n) all)
       → get_or counts n 0 + 1 < 2 ^ 64

@@ -1,4 +1,4 @@
--- The values of the networks that contain an address, and whether all values are rules.
+-- The values of the networks that contain an address, and whether all values are rules: for the access list.
 use Rattle.std.proofs.Common.{◌≡◌, ◌↔◌, ℕ, true, Bool, List, ◌∷◌, All, map, bytes_eq, subst, sym}
 use Rattle.std.proofs.lemmas.List.Elements.{All-cons}
 use Rattle.std.proofs.lemmas.Map.Views.{Contains-from_any, list_any-from_Contains}
@@ -11,7 +11,7 @@ use Rattle.route_tables.specs.Access.{IsCoveredBy, IsRule}
 use Rattle.route_tables.specs.Tables.{Values}
 use Rattle.route_tables.proofs.Lists.{from_map, in_map}
 
--- the value is among theirs exactly if some network with it contains the address
+-- a value is among them exactly if some network with that value contains the address
 pub any_covers : MatchLaws (List ℕ) → (m : Values) (q : List Bool) (value : List ℕ)
     → (list_any (bytes_eq value) (map (λ e. e.1) (covers m q)) ≡ true) ↔ IsCoveredBy m q value
 any_covers laws m q value = (
@@ -22,12 +22,12 @@ any_covers laws m q value = (
       (in_map (λ e. e.1) (covers m q) (covered.0, value) ((laws.are_matches m q (covered.0, value)).1 covered.1)),
 )
 
--- a loop over items goes on past one whose value is a rule
+-- the loop goes on after an item whose value is a rule
 pub rules_next : {P W : Type 0} (x : P × List ℕ) (rest left : List (P × List ℕ)) → (left ≡ x ∷ rest) → IsRule x.1
     → (All (λ e. IsRule e.1) left → W) → All (λ e. IsRule e.1) rest → W
 rules_next x rest left split rule old later = old (subst (All (λ e. IsRule e.1)) (sym split) (All-cons (λ e. IsRule e.1) x rest rule later))
 
--- if all values that are shown are rules, all stored ones are
+-- if all values that a walk gives are rules, all stored values are
 pub all_rules : {P : Type 0} (back : List Bool → P) (es : List (List Bool × List ℕ)) → All (λ e. IsRule e.1) (prefix_pairs back es)
     → (s : List Bool) (value : List ℕ) → Contains es (s, value) → IsRule value
 all_rules back es all s value at =

@@ -1,4 +1,4 @@
--- Lines and words by their ends, for the functions that split them off.
+-- Splitting a text into lines and words at the positions that the code finds: for `split_line` and `split_word`.
 use Rattle.std.proofs.Common.{◌≡◌, ℕ, suc, zero, ◌+◌, ◌-◌, ◌<◌, ◌≤◌, Bool, true, false, not, cond, List, [], ◌∷◌, length, take, drop, get_or, refl, sym, ap, ◌∙◌, arith, true≢false, nat_lt, Some, None, length-drop}
 use Rattle.std.proofs.lemmas.List.{take_all}
 use Rattle.std.proofs.lemmas.Bool.{ltb-false}
@@ -10,7 +10,7 @@ use Rattle.std.specs.Str.{IsTrimAsciiStart}
 use Rattle.std.specs.List.{onto_first, position, position_or_len}
 use Rattle.route_tables.specs.Lines.{begins_word, lines, words}
 
--- the index of the first byte that passes, or the length
+-- the index of the first byte that passes, or the length if none passes
 pub or_length : (p : ℕ → Bool) (bs : List ℕ) → unwrap_or (position p bs) (length bs) ≡ position_or_len p bs
 or_length p bs =
     let most = prefix_len-le-length (λ b. not (p b)) bs in
@@ -20,7 +20,7 @@ or_length p bs =
       | false ↦ λ less. let least = ltb-false (position_or_len p bs) (length bs) less in omega arith
     ] refl
 
--- the lines of a text with a line feed: the first line, and those of the rest
+-- the lines of a text with a line feed are the first line and the lines of the rest
 pub lines_first : (text : List ℕ) → position_or_len (λ b. b == 10) text < length text
     → lines text ≡ take (position_or_len (λ b. b == 10) text) text ∷ lines (drop (position_or_len (λ b. b == 10) text + 1) text)
 lines_first [] less = absurd (omega arith)
@@ -35,7 +35,7 @@ lines_first (b ∷ bs) less =
           rw later (rw here (ap (onto_first b) (lines_first bs (omega arith))))
     ] less
 
--- the last line
+-- a text without a line feed is one line
 pub lines_last : (text : List ℕ) → position_or_len (λ b. b == 10) text ≡ length text → 0 < length text → lines text ≡ text ∷ []
 lines_last [] is some = absurd (omega arith)
 lines_last (b ∷ []) is some =
@@ -50,7 +50,7 @@ lines_last (b ∷ c ∷ cs) is some =
       | false ↦ λ whole. ap (onto_first b) (lines_last (c ∷ cs) (omega arith) (omega arith))
     ] is
 
--- the same for the two parts that a split at the line feed gives
+-- the same for the two parts that the code makes at the line feed
 pub lines_cut : (text : List ℕ) (end : ℕ) → end ≡ position_or_len (λ b. b == 10) text → end < length text
     → lines text ≡ take end text ∷ lines (take (length text - (end + 1)) (drop (end + 1) text))
 lines_cut text end is less =
@@ -58,7 +58,7 @@ lines_cut text end is less =
     take_all _ _ (omega (arith, length-drop (end + 1) text)) in
     rw rest (rw is (lines_first text (omega arith)))
 
--- and for a text that is one line
+-- the same for a text that is one line
 pub lines_whole : (text : List ℕ) (end : ℕ) → end ≡ position_or_len (λ b. b == 10) text → length text ≤ end → 0 < length text → lines text ≡ text ∷ []
 lines_whole text end is most some =
     let within = prefix_len-le-length (λ b. not (b == 10)) text in
@@ -69,7 +69,7 @@ pub lines_none : (text : List ℕ) → length text ≡ 0 → lines text ≡ []
 lines_none [] none = refl
 lines_none (b ∷ bs) none = absurd (omega arith)
 
--- white space in front does not count
+-- white space at the front does not change the words
 pub words_after : (text : List ℕ) (n : ℕ) → ((i : ℕ) → i < n → is_ascii_whitespace (get_or text i 0) ≡ true) → words text ≡ words (drop n text)
 words_after text zero white = refl
 words_after [] (suc n) white = refl
@@ -77,12 +77,12 @@ words_after (b ∷ bs) (suc n) white =
     ap (λ v. cond v (words bs) (cond (begins_word bs) (onto_first b (words bs)) ((b ∷ []) ∷ words bs))) (white 0 (omega arith))
     ∙ words_after bs n (λ i less. white (suc i) (omega arith))
 
--- a text that does not begin inside a word has no bytes before its first white space
+-- a text that does not begin with a word begins with white space or is empty
 none_before : (text : List ℕ) → begins_word text ≡ false → position_or_len is_ascii_whitespace text ≡ 0
 none_before [] white = refl
 none_before (b ∷ bs) white = ap (λ v. cond v (1 + position_or_len is_ascii_whitespace bs) 0) white
 
--- the first word
+-- the words of a text that begins with a word are that word and the words of the rest
 pub words_first : (text : List ℕ) → begins_word text ≡ true
     → words text ≡ take (position_or_len is_ascii_whitespace text) text ∷ words (drop (position_or_len is_ascii_whitespace text) text)
 words_first [] begins = absurd (true≢false (sym begins))
@@ -99,16 +99,16 @@ words_first (b ∷ bs) begins =
       | false ↦ λ e. let here : 1 + n ≡ suc n = omega arith in rw here rest
     ] begins
 
--- what is left without the white space in front has the same words
+-- removing the white space at the front does not change the words
 pub words_trimmed : (text rest : List ℕ) → IsTrimAsciiStart text rest → words text ≡ words rest
 words_trimmed text rest (n, is, long, white, stops) = words_after text n white ∙ ap words (sym is)
 
--- and none if it is empty
+-- if nothing is left, there are no words
 pub words_none : (text rest : List ℕ) → IsTrimAsciiStart text rest → length rest ≡ 0 → words text ≡ []
 words_none text [] trims none = words_trimmed text [] trims
 words_none text (b ∷ bs) trims none = absurd (omega arith)
 
--- it begins with a word otherwise
+-- if something is left, it begins with a word
 begins_at : (text : List ℕ) (n : ℕ) → n < length text → is_ascii_whitespace (get_or text n 0) ≡ false → begins_word (drop n text) ≡ true
 begins_at [] n less stops = absurd (omega arith)
 begins_at (b ∷ bs) zero less stops = ap not stops

@@ -1,9 +1,9 @@
--- Host bits: a network has none exactly if its address is its first bits and then zeros.
+-- A network has no host bits exactly if its address is its first bits and then zeros: for parsing networks.
 use Rattle.std.proofs.Common.{◌≡◌, ℕ, ◌-◌, ◌^◌, ◌<◌, ◌++◌, take, sym, ap, ◌∙◌}
 use Rattle.prefix_trie_bits.specs.BitStrings.{number_of_digits}
 use Rattle.prefix_trie.specs.Words.{digits, lowest_address, number, zeros, HasNoHostBits}
 
--- the number of these bits is the lowest address
+-- the number of its first bits and then zeros is the lowest address
 lowest_is : (width : ℕ) (p : ℕ × ℕ) (mask : ℕ) → mask < 2 ^ width → digits width mask ≡ take p.1 (digits width p.0) ++ zeros (width - p.1) → lowest_address width p ≡ mask
 lowest_is width p mask less bits = sym (ap number bits) ∙ number_of_digits width mask less
 

@@ -1,9 +1,9 @@
--- Elements of lists that are mapped or filtered.
+-- Small facts on elements of lists that are mapped or filtered.
 use Rattle.std.proofs.Common.{◌≡◌, ◌⊎◌, zero, suc, Bool, true, false, cond, List, [], ◌∷◌, map, filter, refl, sym, ap, subst, ◌∙◌, inl, inr, arith}
 use Rattle.std.specs.List.{Contains}
 
 module _ {X : Type 0} where
-  -- an element of a list is its first, or one of the others
+  -- an element of a list is the first one or one of the others
   pub in_cons : (y : X) (ys : List X) (x : X) → Contains (y ∷ ys) x → (y ≡ x) ⊎ Contains ys x
   in_cons y ys x (zero, less, is) = inl is
   in_cons y ys x (suc k, less, is) = inr (k, omega arith, is)
@@ -14,7 +14,7 @@ module _ {X : Type 0} where
   pub in_later : (y : X) (ys : List X) (x : X) → Contains ys x → Contains (y ∷ ys) x
   in_later y ys x (k, less, is) = (suc k, omega arith, is)
 
-  -- of a filtered list
+  -- an element that passes is in the filtered list
   pub in_filter : (p : X → Bool) (xs : List X) (x : X) → p x ≡ true → Contains xs x → Contains (filter p xs) x
   in_filter p [] x passes (k, less, is) = absurd (omega arith)
   in_filter p (y ∷ ys) x passes at = elim (in_cons y ys x at) [
@@ -37,7 +37,7 @@ module _ {X : Type 0} where
       ] refl at
 
 module _ {X Y : Type 0} (f : X → Y) where
-  -- of a mapped list
+  -- the image of an element is in the mapped list
   pub in_map : (xs : List X) (x : X) → Contains xs x → Contains (map f xs) (f x)
   in_map [] x (k, less, is) = absurd (omega arith)
   in_map (y ∷ ys) x at = elim (in_cons y ys x at) [
@@ -52,7 +52,7 @@ module _ {X Y : Type 0} (f : X → Y) where
     | inr later ↦ let w = from_map ys z later in (w.0, in_later y ys w.0 w.1, w.2)
   ]
 
-  -- a filter and a map change places
+  -- filtering a mapped list is mapping a filtered one
   pub filter_of_map : (p : Y → Bool) (xs : List X) → filter p (map f xs) ≡ map f (filter (λ x. p (f x)) xs)
   filter_of_map p [] = refl
   filter_of_map p (y ∷ ys) =

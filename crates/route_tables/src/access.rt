@@ -17,6 +17,15 @@ pub const ALLOW: &str = "allow";
 pub const DENY: &str = "deny";
 
 /// Returns whether an address is allowed: some network with the value `allow` contains it, and none with the value `deny` does.
+///
+/// # Examples
+///
+/// ```rust
+/// let tables = load(b"10.0.0.0/8 allow\n10.1.0.0/16 deny\n", alloc)?.tables;
+/// is_allowed(&tables.ipv4, &"10.2.0.0/32".parse()?);      // true
+/// is_allowed(&tables.ipv4, &"10.1.0.0/32".parse()?);      // false: 10.1.0.0/16 denies it
+/// is_allowed(&tables.ipv4, &"11.0.0.0/32".parse()?);      // false
+/// ```
 pub fn is_allowed<P: Prefix>(table: &Table<P>, address: &P) -> bool
     requires { P.IsFitting address.now }
     ensures { IsTrue result ↔ (IsCoveredBy table.now.entries (P.path address.now) (codes "allow")
@@ -48,6 +57,13 @@ fn has_value<P: Prefix>(table: &Table<P>, address: &P, rule: &str) -> bool
 }
 
 /// Returns the first network whose value is neither `allow` nor `deny`, and that value, or `None` if there is none.
+///
+/// # Examples
+///
+/// ```rust
+/// let tables = load(b"10.0.0.0/8 allow\n10.1.0.0/16 maybe\n", alloc)?.tables;
+/// first_other(&tables.ipv4).map(|other| other.0);     // Some(10.1.0.0/16)
+/// ```
 pub fn first_other<P: Prefix>(table: &Table<P>) -> Option<(P, &Value)>
     ensures { MatchOption result ((s : List Bool) (value : List ℕ) → get table.now.entries s ≡ Some value → IsRule value)
         (λ found. ¬ (IsRule found.1.now)) }

@@ -45,6 +45,13 @@ impl<T: Drop> From<AllocFailed<T>> for AddressesError {
 /// # Errors
 ///
 /// Returns the number of the first line that is neither blank nor one address, or that an allocation failed.
+///
+/// # Examples
+///
+/// ```rust
+/// read_addresses(b"10.0.0.1\n# a comment\n10.0.0.2\n", alloc)?.iter();      // [10.0.0.1, 10.0.0.2]
+/// read_addresses(b"10.0.0.1\nten\n", alloc).err();                         // Some(Line(2))
+/// ```
 pub fn read_addresses(text: &[u8], alloc: Global) -> Result<Vec<IpAddr>, AddressesError> {
     let mut addresses = Vec::new(alloc);
     let mut number = 0;

@@ -22,6 +22,15 @@ pub type Values<'a> = Side<&'a Value, &'a Value>;
 /// # Errors
 ///
 /// Returns the allocator's error if an allocation fails.
+///
+/// # Examples
+///
+/// ```rust
+/// let old = load(b"10.0.0.0/8 core\n10.1.0.0/16 edge\n", alloc)?.tables;
+/// let new = load(b"10.0.0.0/8 core\n10.1.0.0/16 core\n", alloc)?.tables;
+/// let changes = diff(&old.ipv4, &new.ipv4, alloc)?;
+/// changes.iter().map(|change| change.0);      // [10.1.0.0/16]
+/// ```
 pub fn diff<'a, P: Prefix>(
     old: &'a Table<P>,
     new: &'a Table<P>,

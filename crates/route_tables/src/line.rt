@@ -43,6 +43,14 @@ impl Error for LineError {}
 /// # Errors
 ///
 /// Returns the first reason why the line is neither: of its network, then of its value, then of what follows.
+///
+/// # Examples
+///
+/// ```rust
+/// read_line(b"10.0.0.0/8 core # a comment");      // Ok(Some((V4(10.0.0.0/8), "core")))
+/// read_line(b"# a comment");                      // Ok(None)
+/// read_line(b"10.0.0.1/8 core");                  // Err(Network(HostBits))
+/// ```
 pub fn read_line(line: &[u8]) -> Result<Option<(Network, &str)>, LineError>
     ensures read { IfOk result (λ found. MatchOption found (fields line.now ≡ []) (λ route. IsRoute line.now (route.0, route.1.now))) }
     ensures bad { IfErr result (λ _. IsBad line.now) }

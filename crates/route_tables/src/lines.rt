@@ -36,6 +36,13 @@ fn word_end(text: &[u8]) -> Option<usize>
 }
 
 /// Splits off the first line of a text. The line feed that ends it belongs to neither part.
+///
+/// # Examples
+///
+/// ```rust
+/// split_line(b"one\ntwo\n") == (b"one", b"two\n");     // true
+/// split_line(b"one") == (b"one", b"");                 // true
+/// ```
 pub fn split_line(text: &[u8]) -> (&[u8], &[u8])
     requires { 0 < length text.now }
     ensures first { lines text.now ≡ result.0.now ∷ lines result.1.now }

@@ -97,6 +97,15 @@ impl<T: Drop> From<AllocFailed<T>> for LoadError {
 ///
 /// Returns the number of the first line that is not a line of a table, and the reason. Returns a refusal if an
 /// allocation fails or a table is full.
+///
+/// # Examples
+///
+/// ```rust
+/// let loaded = load(b"10.0.0.0/8 core\n10.1.0.0/16 edge\n10.0.0.0/8 edge\n", alloc)?;
+/// loaded.tables.ipv4.keys();                 // [10.0.0.0/8, 10.1.0.0/16]
+/// loaded.replaced[0].line;                   // 3
+/// load(b"10.0.0.0 core", alloc).err();       // Some(Line(1, Network(Text(MissingSlash))))
+/// ```
 pub fn load(text: &[u8], alloc: Global) -> Result<Loaded, LoadError>
     ensures tables { IfOk result (λ loaded. (routes : List Route) × HasRoutes (lines text.now) routes
         × (loaded.tables.ipv4.entries ≡ ipv4_with_all no_entries routes)

@@ -9,6 +9,14 @@ use prefix_trie::Prefix;
 use prefix_trie::laws::{listed_laws, lookup_laws};
 
 /// Returns the longest network of a table that contains an address, and its value, or `None` if there is none.
+///
+/// # Examples
+///
+/// ```rust
+/// let tables = load(b"10.0.0.0/8 core\n10.1.0.0/16 edge\n", alloc)?.tables;
+/// lookup(&tables.ipv4, &"10.1.2.3/32".parse()?).map(|found| found.1.as_str());       // Some("edge")
+/// lookup(&tables.ipv4, &"11.0.0.0/32".parse()?).is_none();                           // true
+/// ```
 pub fn lookup<'a, P: Prefix>(table: &'a Table<P>, address: &P) -> Option<(P, &'a Value)>
     requires { P.IsFitting address.now }
     ensures value { option_map lent_item result ≡ prefix_pair P.back (longest_match table.now.entries (P.path address.now)) }

@@ -17,6 +17,14 @@ use std::alloc::{AllocError, Global};
 /// # Errors
 ///
 /// Returns the allocator's error if an allocation fails. The table is unchanged then.
+///
+/// # Examples
+///
+/// ```rust
+/// let mut tables = load(b"10.0.0.0/8 core\n10.1.0.0/16 core\n10.2.0.0/16 edge\n", alloc)?.tables;
+/// minimise(&mut tables.ipv4, alloc)?;
+/// tables.ipv4.keys();     // [10.0.0.0/8, 10.2.0.0/16]
+/// ```
 pub fn minimise<P: Prefix>(table: &mut Table<P>, alloc: Global) -> Result<(), AllocError>
     ensures same { OnOk result ((q : List Bool) → value_of table.new.entries q ≡ value_of table.old.entries q) }
     ensures least { OnOk result ((s : List Bool) (v : List ℕ) → get table.new.entries s ≡ Some v → value_above table.new.entries s ≢ Some v) }

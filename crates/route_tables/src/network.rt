@@ -88,6 +88,14 @@ fn parse_ipv6(text: &str) -> Result<Ipv6Prefix, NetworkError>
 /// # Errors
 ///
 /// Returns why the text is not a network: as an IPv6 network if it has a colon, otherwise as an IPv4 network.
+///
+/// # Examples
+///
+/// ```rust
+/// parse_network("10.0.0.0/8");       // Ok(V4(10.0.0.0/8))
+/// parse_network("10.0.0.1/8");       // Err(HostBits)
+/// parse_network("ten");              // Err(Text(MissingSlash))
+/// ```
 pub fn parse_network(text: &str) -> Result<Network, NetworkError>
     ensures { MatchResult result (IsNetworkText text.now) (λ _. (network : Network) → ¬ (IsNetworkText text.now network)) }
 {

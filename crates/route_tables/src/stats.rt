@@ -14,6 +14,14 @@ use std::mem::size_of;
 /// # Errors
 ///
 /// Returns the allocator's error if an allocation fails.
+///
+/// # Examples
+///
+/// ```rust
+/// let tables = load(b"10.0.0.0/8 core\n10.1.0.0/16 edge\n", alloc)?.tables;
+/// let counts = by_length(&tables.ipv4, alloc)?;
+/// (counts[8], counts[16], counts.len());      // (1, 1, 33)
+/// ```
 pub fn by_length<P: Prefix>(table: &Table<P>, alloc: Global) -> Result<Vec<usize>, AllocError>
     ensures each { IfOk result (λ counts. (len : ℕ) → len ≤ P.R.bit_width
         → slice_index counts.items len ≡ length (filter (λ e. P.len_of e.0 == len) (prefix_pairs P.back (listing table.now.entries)))) }

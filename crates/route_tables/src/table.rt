@@ -41,6 +41,15 @@ impl Tables {
     /// # Errors
     ///
     /// Returns why the table of its family cannot have one more network. The entries are unchanged then.
+    ///
+    /// # Examples
+    ///
+    /// ```rust
+    /// let mut tables = Tables::new(alloc)?;
+    /// let network = parse_network("10.0.0.0/8")?;
+    /// tables.insert(network, Value::new("core", alloc)?)?;       // None
+    /// tables.insert(network, Value::new("edge", alloc)?)?;       // Some(V4(10.0.0.0/8))
+    /// ```
     pub fn insert(&mut self, network: Network, value: Value) -> Result<Option<Network>, Refusal>
         ensures ipv4 { OnOk result (self.new.ipv4.entries ≡ ipv4_with self.old.ipv4.entries (network, value)) }
         ensures ipv6 { OnOk result (self.new.ipv6.entries ≡ ipv6_with self.old.ipv6.entries (network, value)) }

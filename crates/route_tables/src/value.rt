@@ -25,6 +25,12 @@ impl Value {
     /// # Errors
     ///
     /// Returns the allocator's error if an allocation fails.
+    ///
+    /// # Examples
+    ///
+    /// ```rust
+    /// Value::new("core", alloc)?.as_str();        // "core"
+    /// ```
     pub fn new(text: &str, alloc: Global) -> Result<Value, AllocError>
         ensures { IfOk result (λ value. value ≡ text.now) }
     {

@@ -28,13 +28,13 @@ module _ {T : Type 0} (join : T → T → T) where
 
 -- no key is longer than the width, as in every map
 pub record JoinLaws {P : Type 0} (T : Type 0) (width : ℕ) (path : P → List Bool) (IsFitting : P → Type 0) (back : List Bool → P) : Type 0 where
-  -- a walk over a whole map leads to all its entries joined
+  -- a walk over a whole map leads to the map with all its entries joined
   pub starts : (join : T → T → T) (from to : Entries T) → AreWithin width from → (walk : List (P × T)) → walk ≡ prefix_pairs back (listing from)
       → Joins join path IsFitting walk to (join_all join path (prefix_pairs back (listing from)) to)
-  -- so the next prefix fits, and once its value is joined, the rest leads there still
+  -- then the next prefix fits, and after its value is joined the rest still leads there
   pub next_fits : (join : T → T → T) (now whole : Entries T) (item : P × T) (rest left : List (P × T)) → left ≡ item ∷ rest → Joins join path IsFitting left now whole → IsFitting item.0
   pub goes_on : (join : T → T → T) (now next whole : Entries T) (item : P × T) (rest left : List (P × T)) → left ≡ item ∷ rest
       → next ≡ with_entry now (path item.0) (with_value join (get now (path item.0)) item.1) → Joins join path IsFitting left now whole → Joins join path IsFitting rest next whole
-  -- each key has its two values joined, or the one that there is
+  -- each key has both values joined, or the only one that there is
   pub joined : (join : T → T → T) (from to : Entries T) → AreWithin width from → (s : List Bool)
       → get (join_all join path (prefix_pairs back (listing from)) to) s ≡ joined_by join (get to s) (get from s)

@@ -10,7 +10,7 @@ pub record PageLaws {P : Type 0} (T : Type 0) (width : ℕ) (path : P → List B
   -- the prefix of the last item that was read fits
   pub last_fits : (m : Entries T) → AreWithin width m → (read rest : List (P × T)) (last : P × T)
       → prefix_pairs back (listing m) ≡ read ++ rest → slice_get read (length read - 1) ≡ Some last → IsFitting last.0
-  -- and the rest comes after it
+  -- the rest comes after that item
   pub behind_last : (m : Entries T) → AreWithin width m → (read rest : List (P × T)) (last : P × T)
       → prefix_pairs back (listing m) ≡ read ++ rest → slice_get read (length read - 1) ≡ Some last → prefix_pairs back (listing_after m (path last.0)) ≡ rest
   -- there are as many items as entries

@@ -1,4 +1,5 @@
--- A loop that puts the entries of one map into another: what it leaves, and an invariant for it. This project's own.
+-- A loop that inserts the entries of one map into another: what it leaves, and an invariant for it. This project's
+-- own.
 use Rattle.std.specs.Prelude.{◌≡◌, ℕ, Bool, List, ◌∷◌, All}
 use Rattle.std.specs.Option.{option_or}
 use Rattle.std.specs.FinMap.{get}
@@ -6,24 +7,24 @@ use Rattle.prefix_trie_bits.specs.Model.Entries.{Entries, AreWithin, no_entries,
 use Rattle.prefix_trie_bits.specs.Model.Selections.{listing, prefix_pairs}
 
 module _ {P T : Type 0} (path : P → List Bool) (IsFitting : P → Type 0) where
-  -- the invariant: each prefix still to come fits, and with all of them put the map is whole
+  -- the invariant: each prefix still to come fits, and inserting all of them gives the whole map
   abbrev pub Leads : List (P × T) → Entries T → Entries T → Type 0
   Leads left now whole = All (λ e. IsFitting e.0) left × (put_all path left now ≡ whole)
 
 -- no key is longer than the width, as in every map
 pub record PutLaws {P : Type 0} (T : Type 0) (width : ℕ) (path : P → List Bool) (IsFitting : P → Type 0) (back : List Bool → P) : Type 0 where
-  -- a walk over a whole map leads to all its entries put
+  -- a walk over a whole map leads to the map with all its entries inserted
   pub starts : (from to : Entries T) → AreWithin width from → (walk : List (P × T)) → walk ≡ prefix_pairs back (listing from)
       → Leads path IsFitting walk to (put_all path (prefix_pairs back (listing from)) to)
-  -- and into an empty map to itself
+  -- into an empty map, a walk leads to the map that it walks over
   pub starts_empty : (from to : Entries T) → AreWithin width from → to ≡ no_entries → (walk : List (P × T)) → walk ≡ prefix_pairs back (listing from) → Leads path IsFitting walk to from
-  -- so the next prefix fits, and once it is put, the rest leads there still
+  -- then the next prefix fits, and after it is inserted the rest still leads there
   pub next_fits : (now whole : Entries T) (item : P × T) (rest left : List (P × T)) → left ≡ item ∷ rest → Leads path IsFitting left now whole → IsFitting item.0
   pub goes_on : (now next whole : Entries T) (item : P × T) (rest left : List (P × T)) → left ≡ item ∷ rest → next ≡ with_entry now (path item.0) item.1
       → Leads path IsFitting left now whole → Leads path IsFitting rest next whole
-  -- each key has its value of the map that was put, or else what it had
+  -- each key has its value from the map that was inserted, or the value that it had before
   pub put : (from to : Entries T) → AreWithin width from → (s : List Bool) → get (put_all path (prefix_pairs back (listing from)) to) s ≡ option_or (get from s) (get to s)
-  -- which is the same as its listed strings put as they are
+  -- inserting the prefixes is inserting the strings that are listed
   pub listed : (from to : Entries T) → AreWithin width from → put_all path (prefix_pairs back (listing from)) to ≡ put_all (λ s. s) (listing from) to
-  -- so put into an empty map it is itself
+  -- inserting a map into an empty one gives that map
   pub copied : (from : Entries T) → AreWithin width from → put_all path (prefix_pairs back (listing from)) no_entries ≡ from

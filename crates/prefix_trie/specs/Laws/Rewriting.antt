@@ -1,4 +1,4 @@
--- What loops over a walk for writing leave, one after another. This project's own.
+-- What loops over a writing walk leave, one after another. This project's own.
 use Rattle.std.specs.Prelude.{◌≡◌}
 use Rattle.std.specs.declared.cmp.PartialEq as partial
 use Rattle.std.specs.declared.fmt.Debug as debug

@@ -1,4 +1,4 @@
--- What is stored after a change.
+-- What is stored after a change: for `stored_laws`.
 use Rattle.std.specs.Prelude.{◌≡◌, ◌≢◌, Bool, List, Some, None}
 use Rattle.std.specs.FinMap.{get}
 use Rattle.prefix_trie_bits.specs.Model.Entries.{Entries, no_entries, with_entry, without_entry}
@@ -6,7 +6,7 @@ use Rattle.prefix_trie_bits.specs.Model.Entries.{Entries, no_entries, with_entry
 pub record StoredLaws (T : Type 0) : Type 0 where
   -- a new map has no value
   pub nothing : (s : List Bool) → get (no_entries {T = T}) s ≡ None
-  -- the key that was set has its value, and each other key what it had
+  -- the key that was set has its value, and each other key the value that it had
   pub set : (m : Entries T) (s : List Bool) (v : T) → get (with_entry m s v) s ≡ Some v
   pub beside_set : (m : Entries T) (s : List Bool) (v : T) (t : List Bool) → (t ≢ s) → get (with_entry m s v) t ≡ get m t
   -- the removed key has no value, and each other key has the value that it had

@@ -24,9 +24,9 @@ impl<P: Prefix, A: Allocator + Clone> PrefixSet<P, A> {
     ///
     /// # Examples
     ///
-    /// ```text
+    /// ```rust
     /// let networks = vec![in alloc; "10.1.0.0/16".parse::<Ipv4Prefix>()?, "10.1.255.255/16".parse()?]?;
-    /// PrefixSet::from_iter(alloc, networks)?.len();        // 1: both have one path
+    /// PrefixSet::from_iter(alloc, networks)?.len();       // 1: both have one path
     /// ```
     pub fn from_iter<I: IntoIterator<Item = P> + Drop>(alloc: A, items: I) -> Result<Self, Refusal>
         requires ends { (it : I.IntoIter) → I.into_iter_gives items it → I.IntoIter.can_next it × IsFinite (I.IntoIter.remaining it) }

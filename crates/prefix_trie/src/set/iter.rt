@@ -35,9 +35,9 @@ impl<P: Prefix, A: Allocator> PrefixSet<P, A> {
     ///
     /// # Examples
     ///
-    /// ```text
-    /// // 10.0.0.0/8, 10.1.0.0/16 and 9.0.0.0/8 are stored
-    /// set.iter();                         // 9.0.0.0/8, 10.0.0.0/8, 10.1.0.0/16
+    /// ```rust
+    /// // set = {10.0.0.0/8, 10.1.0.0/16, 9.0.0.0/8}
+    /// set.iter();     // [9.0.0.0/8, 10.0.0.0/8, 10.1.0.0/16]
     /// ```
     #[inline]
     pub fn iter(&self) -> Iter<'_, P, A>
@@ -57,11 +57,10 @@ impl<P: Prefix, A: Allocator> PrefixSet<P, A> {
     ///
     /// # Examples
     ///
-    /// ```text
-    /// // 10.0.0.0/8, 10.1.0.0/16, 10.1.1.0/24 and 10.2.0.0/16 are stored
-    /// let network = "10.1.0.0/16".parse()?;
-    /// set.iter_from(&network, true);      // 10.1.0.0/16, 10.1.1.0/24, 10.2.0.0/16
-    /// set.iter_from(&network, false);     // 10.1.1.0/24, 10.2.0.0/16
+    /// ```rust
+    /// // set = {10.0.0.0/8, 10.1.0.0/16, 10.1.1.0/24, 10.2.0.0/16}
+    /// set.iter_from(&"10.1.0.0/16".parse()?, true);       // [10.1.0.0/16, 10.1.1.0/24, 10.2.0.0/16]
+    /// set.iter_from(&"10.1.0.0/16".parse()?, false);      // [10.1.1.0/24, 10.2.0.0/16]
     /// ```
     #[inline]
     pub fn iter_from(&self, prefix: &P, inclusive: bool) -> Iter<'_, P, A>
@@ -82,9 +81,9 @@ impl<P: Prefix, A: Allocator> PrefixSet<P, A> {
     ///
     /// # Examples
     ///
-    /// ```text
-    /// // 10.0.0.0/8, 10.1.0.0/16, 10.1.1.0/24 and 10.2.0.0/16 are stored
-    /// set.children(&"10.1.0.0/16".parse()?);       // 10.1.0.0/16, 10.1.1.0/24
+    /// ```rust
+    /// // set = {10.0.0.0/8, 10.1.0.0/16, 10.1.1.0/24, 10.2.0.0/16}
+    /// set.children(&"10.1.0.0/16".parse()?);      // [10.1.0.0/16, 10.1.1.0/24]
     /// ```
     #[inline]
     pub fn children(&self, prefix: &P) -> Iter<'_, P, A>
@@ -101,9 +100,9 @@ impl<P: Prefix, A: Allocator> PrefixSet<P, A> {
     ///
     /// # Examples
     ///
-    /// ```text
-    /// // 10.0.0.0/8, 10.1.0.0/16 and 11.0.0.0/8 are stored
-    /// set.cover(&"10.1.1.0/24".parse()?);          // 10.0.0.0/8, 10.1.0.0/16
+    /// ```rust
+    /// // set = {10.0.0.0/8, 10.1.0.0/16, 11.0.0.0/8}
+    /// set.cover(&"10.1.1.0/24".parse()?);     // [10.0.0.0/8, 10.1.0.0/16]
     /// ```
     #[inline]
     pub fn cover(&self, prefix: &P) -> CoverKeys<'_, P, (), A>

@@ -13,11 +13,11 @@ impl<P: Prefix, A: Allocator> PrefixSet<P, A> {
     ///
     /// # Examples
     ///
-    /// ```text
-    /// // 10.1.0.0/16 is stored
-    /// set.contains(&"10.1.0.0/16".parse()?);       // true
-    /// set.contains(&"10.1.2.3/16".parse()?);       // true: only the first 16 bits count
-    /// set.contains(&"10.1.0.0/17".parse()?);       // false
+    /// ```rust
+    /// // set = {10.1.0.0/16}
+    /// set.contains(&"10.1.0.0/16".parse()?);      // true
+    /// set.contains(&"10.1.2.3/16".parse()?);      // true: only the first 16 bits count
+    /// set.contains(&"10.1.0.0/17".parse()?);      // false
     /// ```
     #[inline]
     pub fn contains(&self, prefix: &P) -> bool
@@ -31,10 +31,10 @@ impl<P: Prefix, A: Allocator> PrefixSet<P, A> {
     ///
     /// # Examples
     ///
-    /// ```text
-    /// // 10.0.0.0/8 is stored
-    /// set.is_covered(&"10.1.2.3/32".parse()?);     // true
-    /// set.is_covered(&"11.0.0.0/8".parse()?);      // false
+    /// ```rust
+    /// // set = {10.0.0.0/8}
+    /// set.is_covered(&"10.1.2.3/32".parse()?);    // true
+    /// set.is_covered(&"11.0.0.0/8".parse()?);     // false
     /// ```
     #[inline]
     pub fn is_covered(&self, prefix: &P) -> bool
@@ -48,9 +48,9 @@ impl<P: Prefix, A: Allocator> PrefixSet<P, A> {
     ///
     /// # Examples
     ///
-    /// ```text
-    /// // 10.1.0.0/16 is stored
-    /// set.get(&"10.1.2.3/16".parse()?);            // Some(10.1.0.0/16)
+    /// ```rust
+    /// // set = {10.1.0.0/16}
+    /// set.get(&"10.1.2.3/16".parse()?);       // Some(10.1.0.0/16)
     /// ```
     #[inline]
     pub fn get(&self, prefix: &P) -> Option<P>
@@ -69,11 +69,11 @@ impl<P: Prefix, A: Allocator> PrefixSet<P, A> {
     ///
     /// # Examples
     ///
-    /// ```text
-    /// // 10.0.0.0/8 and 10.1.0.0/16 are stored
-    /// set.get_lpm(&"10.1.2.3/32".parse()?);        // Some(10.1.0.0/16); get_spm returns Some(10.0.0.0/8)
-    /// set.get_lpm(&"10.2.0.0/16".parse()?);        // Some(10.0.0.0/8), as get_spm does
-    /// set.get_lpm(&"11.0.0.0/8".parse()?);         // None, as get_spm does
+    /// ```rust
+    /// // set = {10.0.0.0/8, 10.1.0.0/16}
+    /// set.get_lpm(&"10.1.2.3/32".parse()?);       // Some(10.1.0.0/16)
+    /// set.get_lpm(&"10.2.0.0/16".parse()?);       // Some(10.0.0.0/8)
+    /// set.get_lpm(&"11.0.0.0/8".parse()?);        // None
     /// ```
     #[inline]
     pub fn get_lpm(&self, prefix: &P) -> Option<P>
@@ -89,10 +89,10 @@ impl<P: Prefix, A: Allocator> PrefixSet<P, A> {
     ///
     /// # Examples
     ///
-    /// ```text
-    /// // 10.0.0.0/8 and 10.1.0.0/16 are stored
-    /// set.get_spm(&"10.1.2.3/32".parse()?);        // Some(10.0.0.0/8)
-    /// set.get_spm(&"11.0.0.0/8".parse()?);         // None
+    /// ```rust
+    /// // set = {10.0.0.0/8, 10.1.0.0/16}
+    /// set.get_spm(&"10.1.2.3/32".parse()?);       // Some(10.0.0.0/8)
+    /// set.get_spm(&"11.0.0.0/8".parse()?);        // None
     /// ```
     #[inline]
     pub fn get_spm(&self, prefix: &P) -> Option<P>

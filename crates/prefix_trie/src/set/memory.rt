@@ -19,9 +19,10 @@ impl<P: Prefix, A: Allocator> PrefixSet<P, A> {
     ///
     /// # Examples
     ///
-    /// ```text
-    /// set.insert("10.1.0.0/16".parse::<Ipv4Prefix>()?)?;
+    /// ```rust
+    /// // set = {10.1.0.0/16}
     /// set.shrink_to_fit()?;
+    /// set.len();                  // 1
     /// ```
     pub fn shrink_to_fit(&mut self) -> Result<(), AllocError>
         ensures { self.new ≡ self.old }
@@ -40,9 +41,11 @@ impl<P: Prefix, A: Allocator + Clone> PrefixSet<P, A> {
     ///
     /// # Examples
     ///
-    /// ```text
-    /// set.remove(&"10.1.2.0/24".parse::<Ipv4Prefix>()?);
+    /// ```rust
+    /// // set = {10.1.0.0/16, 10.1.2.0/24}
+    /// set.remove(&"10.1.2.0/24".parse()?);
     /// set.compact()?;
+    /// (set.node_slots(), set.cell_slots());       // (4, 1): as in a new set with 10.1.0.0/16 alone
     /// ```
     pub fn compact(&mut self) -> Result<(), Refusal>
         ensures entries { OnOk result (self.new.entries ≡ self.old.entries) }

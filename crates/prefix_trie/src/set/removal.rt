@@ -24,10 +24,10 @@ impl<P: Prefix, A: Allocator> PrefixSet<P, A> {
     ///
     /// # Examples
     ///
-    /// ```text
-    /// set.insert("10.1.0.0/16".parse::<Ipv4Prefix>()?)?;
-    /// set.remove(&"10.1.2.3/16".parse()?);         // true
-    /// set.remove(&"10.1.0.0/16".parse()?);         // false
+    /// ```rust
+    /// // set = {10.1.0.0/16}
+    /// set.remove(&"10.1.2.3/16".parse()?);    // true
+    /// set.remove(&"10.1.0.0/16".parse()?);    // false
     /// ```
     #[inline]
     pub fn remove(&mut self, prefix: &P) -> bool
@@ -48,11 +48,13 @@ impl<P: Prefix, A: Allocator> PrefixSet<P, A> {
     ///
     /// # Examples
     ///
-    /// ```text
-    /// let address = "0.0.0.0/32".parse::<Ipv4Prefix>()?;
-    /// set.insert(address)?;                        // true, and node_count is 7
-    /// set.remove_keep_tree(&address);              // true, and node_count is 7
-    /// set.remove(&address);                        // false, and node_count is 1
+    /// ```rust
+    /// // set = {0.0.0.0/32}
+    /// let address = "0.0.0.0/32".parse()?;
+    /// set.remove_keep_tree(&address);     // true
+    /// set.node_count();                   // 7: as before
+    /// set.remove(&address);               // false
+    /// set.node_count();                   // 1
     /// ```
     #[inline]
     pub fn remove_keep_tree(&mut self, prefix: &P) -> bool
@@ -76,10 +78,10 @@ impl<P: Prefix, A: Allocator> PrefixSet<P, A> {
     ///
     /// # Examples
     ///
-    /// ```text
-    /// // 10.1.0.0/16, 10.1.2.0/24 and 10.2.0.0/16 are stored
+    /// ```rust
+    /// // set = {10.1.0.0/16, 10.1.2.0/24, 10.2.0.0/16}
     /// set.drop_children(&"10.1.0.0/16".parse()?);
-    /// set.iter();                                  // 10.2.0.0/16
+    /// set.iter();     // [10.2.0.0/16]
     /// ```
     #[inline]
     pub fn drop_children(&mut self, prefix: &P)
@@ -97,7 +99,8 @@ impl<P: Prefix, A: Allocator> PrefixSet<P, A> {
     ///
     /// # Examples
     ///
-    /// ```text
+    /// ```rust
+    /// // set = {10.1.0.0/16}
     /// set.clear();
     /// (set.len(), set.node_count(), set.node_slots(), set.cell_slots());      // (0, 1, 1, 0)
     /// ```
@@ -122,10 +125,10 @@ impl<P: Prefix, A: Allocator> PrefixSet<P, A> {
     ///
     /// # Examples
     ///
-    /// ```text
-    /// // 10.0.0.0/8, 10.1.0.0/16 and 10.1.2.0/24 are stored
+    /// ```rust
+    /// // set = {10.0.0.0/8, 10.1.0.0/16, 10.1.2.0/24}
     /// set.retain(|prefix| prefix.prefix_len() < 20);
-    /// set.iter();                                  // 10.0.0.0/8, 10.1.0.0/16
+    /// set.iter();     // [10.0.0.0/8, 10.1.0.0/16]
     /// ```
     pub fn retain<F: FnMut(&P) -> bool>(&mut self, mut test: F)
         requires { CallableOnEachEntry (AsksKeyAt F.FnMut P.back) (TakesKeyAt F.FnMut P.back) test (listing self.old.entries) }

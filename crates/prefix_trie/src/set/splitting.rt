@@ -27,11 +27,11 @@ impl<P: Prefix, A: Allocator + Clone> PrefixSet<P, A> {
     ///
     /// # Examples
     ///
-    /// ```text
-    /// // 10.1.0.0/16, 10.1.2.0/24 and 10.2.0.0/16 are stored
+    /// ```rust
+    /// // set = {10.1.0.0/16, 10.1.2.0/24, 10.2.0.0/16}
     /// let part = set.remove_children(&"10.1.0.0/16".parse()?)?;
-    /// part.iter();                                 // 10.1.0.0/16, 10.1.2.0/24
-    /// set.iter();                                  // 10.2.0.0/16
+    /// part.iter();    // [10.1.0.0/16, 10.1.2.0/24]
+    /// set.iter();     // [10.2.0.0/16]
     /// ```
     pub fn remove_children(&mut self, prefix: &P) -> Result<Self, Refusal>
         requires { P.IsFitting prefix.now }

@@ -1,4 +1,4 @@
--- The laws of runs with counts: for `counted_laws` and the headline.
+-- The laws of runs that record how many nodes each call reads: for `counted_laws` and the headline.
 use Rattle.prefix_trie_bits.proofs.Prelude.{◌≡◌, ◌≢◌, ◌<◌, ◌≤◌, map, take, get_or, ℕ, ◌+◌, Bool, true, false, List, [], ◌∷◌, ◌++◌, length, Option, None, Some, MatchOption, refl, sym, ap, ◌∙◌, subst, true≢false, take_more, map-append, All-head, All-tail, All-nil, All-cons, State, Call, Insert, Get, Lpm, Spm, Remove, RemoveKeepTree, RemoveChildren, RetainAtLeast, Clear, ListFrom, Children, Cover, CallFits, Reply, Step, Runs, Storage, RunInStorage, tidy_after, tidy_after_all, TidyIf, CountsReads, CountedStep, CountedFrom, ReadsExactly, CountedLaws, IsMap}
 use Rattle.std.specs.List.{All}
 use Rattle.prefix_trie_bits.proofs.Model.Runs.{runs_join}
@@ -9,7 +9,7 @@ module _ {P T : Type 0} where
   keeps_tree (RemoveKeepTree q) = true
   keeps_tree call = false
 
-  -- if one fact of its prefix implies another, a call that fits by the one fits by the other
+  -- a call that fits by one condition on prefixes also fits by a weaker one
   fits_more : {Fits More : P → Type 0} → ((q : P) → Fits q → More q) → (call : Call P T) → CallFits Fits call → CallFits More call
   fits_more more (Insert q v) fit = more q fit
   fits_more more (Get q) fit = more q fit
@@ -23,7 +23,7 @@ module _ {P T : Type 0} where
   fits_more more (Cover q) fit = more q fit
   fits_more more call fit = tt
 
-  -- the same for each call in a list
+  -- the same for each call of a list
   pub all_fit_more : {Fits More : P → Type 0} {C' : Type 0} → ((q : P) → Fits q → More q) → (call_of : C' → Call P T) (calls : List C') → All (λ c. CallFits Fits (call_of c)) calls → All (CallFits More) (map call_of calls)
   all_fit_more {Fits} {More} more call_of [] fit = All-nil (CallFits More)
   all_fit_more {Fits} {More} more call_of (c ∷ cs) fit =
@@ -40,7 +40,7 @@ module _ {P T : Type 0} where
   still_known Clear other = refl
   still_known call other = refl
 
--- two numbers that are both one
+-- two counts that both are the exact number for q are equal
 alike : (q : List Bool) (n : ℕ) (read other : Option ℕ) → MatchOption read ⊥ (ReadsExactly q n) → MatchOption other ⊥ (ReadsExactly q n) → read ≡ other
 alike q n None other a b = absurd a
 alike q n read None a b = absurd b
@@ -54,24 +54,24 @@ module _ {P T : Type 0} (path : P → List Bool) where
   reads_alike s call read other a b = a ∙ sym b
 
 module _ {P T : Type 0} (path : P → List Bool) (back : List Bool → P) (width : ℕ) where
-  -- a call leaves a tidy map tidy if it is not `remove_keep_tree`
+  -- every call except `remove_keep_tree` leaves a tidy map tidy
   stays : (tidy : Bool) (s : State T) (call : Call P T) (reply : Reply P T) (t : State T) → keeps_tree call ≡ false → Step path back width s call reply t → IsMap width s → TidyIf tidy s → TidyIf tidy t
   stays tidy s call reply t off step good is_tidy is =
       ((step_laws P T).of_step path back width s call reply t step).stays_tidy (another call off) good (is_tidy is)
 
-  -- what is known after a step
+  -- the new state is a map again, and still tidy if no call kept empty nodes
   tidy_step : (tidy : Bool) (s : State T) (call : Call P T) (reply : Reply P T) (t : State T) → Step path back width s call reply t → IsMap width s → TidyIf tidy s → TidyIf (tidy_after tidy call) t
   tidy_step tidy s (RemoveKeepTree q) reply t step good is_tidy = λ is. absurd (true≢false (sym is))
   tidy_step tidy s (RetainAtLeast n) reply t step good is_tidy = λ _. ((step_laws P T).of_step path back width s (RetainAtLeast n) reply t step).retained_tidy n refl
   tidy_step tidy s Clear reply t step good is_tidy = λ _. ((step_laws P T).of_step path back width s Clear reply t step).cleared_tidy refl
   tidy_step tidy s call reply t step good is_tidy = stays tidy s call reply t refl step good is_tidy
 
-  -- steps with their counts, as a loop makes them, without tidiness
+  -- the steps so far with their counts, as the loop of `run` collects them; tidiness is left out
   abbrev pub StepsSoFar : State T × Storage → List (Call P T) → List (Reply P T) → List (Option ℕ) → State T × Storage → Type 0
   StepsSoFar s calls replies reads t =
       (answers : List (Reply P T × Option ℕ)) × (map (λ a. a.0) answers ≡ replies) × (map (λ a. a.1) answers ≡ reads) × Runs (CountedStep path back width) s calls answers t
 
-  -- one more, as at a turn of the loop
+  -- one more step, as in one iteration of the loop
   pub step_pushed : {C' R' : Type 0} (call_of : C' → Call P T) (reply_of : R' → Reply P T) (s t u : State T × Storage) (calls : List C') (replies pushed : List R') (reads more : List (Option ℕ)) (i : ℕ) (call : C') (reply : R') (read : Option ℕ)
       → i < length calls → call ≡ get_or calls i call → pushed ≡ replies ++ reply ∷ [] → more ≡ reads ++ read ∷ []
       → StepsSoFar s (map call_of (take i calls)) (map reply_of replies) reads t → CountedStep path back width t (call_of call) (reply_of reply, read) u
@@ -106,7 +106,7 @@ module _ {P T : Type 0} (path : P → List Bool) (back : List Bool → P) (width
         (tidy_step tidy s.0 c reply u.0 step.step.step good is_tidy) ran,
   )
 
-  -- from a map on, they are a run with its counts
+  -- if the run starts from a map, the collected steps are a run with its counts
   pub run_counted : (tidy : Bool) (s : State T × Storage) (calls : List (Call P T)) (replies : List (Reply P T)) (reads : List (Option ℕ)) (t : State T × Storage) → All (CallFits (λ q. length (path q) ≤ width)) calls → IsMap width s.0 → TidyIf tidy s.0
       → StepsSoFar s calls replies reads t → CountedFrom path back width tidy s calls replies reads t
   run_counted tidy s calls replies reads t fit good is_tidy (answers, e, f, ran) =

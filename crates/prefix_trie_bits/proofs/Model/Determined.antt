@@ -1,4 +1,4 @@
--- A step is determined up to refusal, and each call has one.
+-- A call that is not refused has one possible reply and one possible new state: for the laws of steps and of storage.
 use Rattle.prefix_trie_bits.proofs.Prelude.{◌≡◌, ◌↔◌, ℕ, Bool, true, false, not, cond, List, refl, sym, ap, ◌∙◌, inl, inr, true≢false, get, contains_key, with_entry, with_needed, State, Call, Insert, ListAll, ListFrom, Children, Cover, Reply, Value, Items, Refused, Refusal, Memory, IndexRange, Lists, Step, is_memory, is_refusal, may_refuse, DeterminedLaws}
 use Rattle.prefix_trie_bits.proofs.Model.Members.{from-not, not-true}
 
@@ -11,15 +11,15 @@ module _ {P T : Type 0} where
   cause_of (Refused cause) = cause
   cause_of reply = Memory
 
-  -- a refusal is no other reply
+  -- a reply that is a refusal differs from each reply that is not
   pub no_refusal : {A : Type 0} (reply other : Reply P T) → is_refusal reply ≡ true → is_refusal other ≡ false → reply ≡ other → A
   no_refusal reply other e f g = absurd (true≢false (sym e ∙ ap is_refusal g ∙ f))
 
-  -- both replies are this one, and both states that one
+  -- two replies that equal a third are equal, and so are the states
   both : (reply other is : Reply P T) (t u to : State T) → (reply ≡ is) × (t ≡ to) → (other ≡ is) × (u ≡ to) → (reply ≡ other) × (t ≡ u)
   both reply other is t u to (r, e) (o, f) = (r ∙ sym o, e ∙ sym f)
 
-  -- a list that is not refused
+  -- a listing that is not refused gives all its items and changes nothing
   given : (s : State T) (items : List (P × T)) (reply : Reply P T) (t : State T) → is_refusal reply ≡ false → Lists s items reply t → (reply ≡ Items items) × (t ≡ s)
   given s items reply t answers (inl r, e) = (r, e)
   given s items reply t answers (inr r, e) = no_refusal (Refused Memory) reply refl answers (sym r)
@@ -33,12 +33,12 @@ module _ {P T : Type 0} where
     refusal s items cause t (inl r, e) = no_refusal (Refused cause) (Items items) refl refl r
     refusal s items cause t (inr r, e) = (ap (λ x. is_memory (cause_of x)) r, e)
 
-  -- a call with one reply is not refused
+  -- a call that cannot be refused has one reply and one new state
   never : (s : State T) (cause : Refusal) (is : Reply P T) (t to : State T) → is_refusal is ≡ false → ((Refused cause ≡ is) × (t ≡ to)) ↔ ((false ≡ true) × (t ≡ s))
   never s cause is t to answers = (λ h. no_refusal (Refused cause) is refl answers h.0, λ h. absurd (true≢false (sym h.0)))
 
 module _ {P T : Type 0} (path : P → List Bool) (back : List Bool → P) (width : ℕ) where
-  -- what an insertion that is not refused leaves
+  -- the state that a successful insertion leaves
   abbrev pub set_to : State T → P → T → State T
   set_to s q v = record { entries = with_entry s.entries (path q) v; nodes = cond (contains_key s.entries (path q)) s.nodes (with_needed s.nodes (path q)) }
 

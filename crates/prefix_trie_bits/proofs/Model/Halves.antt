@@ -1,8 +1,8 @@
--- The strings of a length that begin with some string of a list, counted half by half: for
+-- The number of full strings that begin with some string of a list is the sum over the two first bits: for
 -- `address_laws`.
 use Rattle.prefix_trie_bits.proofs.Prelude.{◌≡◌, ◌≤◌, subst, ℕ, suc, zero, ◌+◌, ◌^◌, Bool, true, false, cond, ◌&&◌, ◌||◌, List, [], ◌∷◌, length, map, filter, refl, sym, ap, ap₂, ◌∙◌, arith, true≢false, length-append, filter-append, list_any, begins, same_bit, is_root, full_strings, covered}
 
--- the rests of the strings that begin with the bit b, without it; the empty string stays
+-- the strings of a list that begin with bit b, without that bit; an empty string stays
 abbrev pub tails : Bool → List (List Bool) → List (List Bool)
 tails b [] = []
 tails b ([] ∷ ks) = [] ∷ tails b ks
@@ -38,7 +38,7 @@ filter-tails b ks (s ∷ ss) =
       | false ↦ filter-tails b ks ss
     ]
 
--- each half by itself
+-- the number of covered strings is the sum of those that go on with 0 and with 1
 pub covered-suc : (w : ℕ) (ks : List (List Bool)) → covered (suc w) ks ≡ covered w (tails false ks) + covered w (tails true ks)
 unfolding covered full_strings
 covered-suc w ks =
@@ -67,7 +67,7 @@ one-key ks = ap (λ x. length {A = List Bool} (cond x ([] ∷ []) [])) (roots ks
 double : (w a b : ℕ) → a ≡ 2 ^ w → b ≡ 2 ^ w → a + b ≡ 2 ^ suc w
 double w a b e f = omega (arith, e, f)
 
--- a stored root covers everything
+-- if the empty string is in the list, all 2^w strings are covered
 pub covered-root : (w : ℕ) (ks : List (List Bool)) → list_any is_root ks ≡ true → covered w ks ≡ 2 ^ w
 covered-root zero ks e = one-key ks ∙ ap (λ b. cond b 1 0) e
 covered-root (suc w) ks e =

@@ -1,8 +1,9 @@
--- The nodes on a search path, by level, and the first missing one.
+-- The nodes on a search path, one for each five bits, and the first of them that is missing: for visits and
+-- insertions.
 use Rattle.prefix_trie_bits.proofs.Prelude.{◌≡◌, ℕ, zero, suc, ◌+◌, ◌*◌, ◌/◌, ◌%◌, ◌<◌, ◌≤◌, ◌==◌, ◌⊎◌, inl, inr, Bool, true, false, cond, ◌&&◌, List, [], ◌∷◌, length, take, filter, nat_lt, refl, sym, ap, ◌∙◌, subst, arith, true≢false, length-take-le, cases_Bool, cases_eq, list_any, contains_key-keys, keys, take-begins, begins-linear, begins, same_string, child_count, own_entries, Entries, Nodes, has_node, AreNodes}
 use Rattle.prefix_trie_bits.proofs.Model.Members.{or-left, or-right, is-same_string, needs}
 
--- all nodes of a path are there, or those down to a level and none below it
+-- either all nodes of the path exist, or those down to some level exist and none under it does
 module _ (there : ℕ → Bool) where
   pub split_at : (k : ℕ) → ((i j : ℕ) → i ≤ j → j ≤ k → there j ≡ true → there i ≡ true) → there 0 ≡ true →
       ((i : ℕ) → i ≤ k → there i ≡ true)
@@ -24,7 +25,7 @@ module _ (there : ℕ → Bool) where
     ]
   ]
 
--- no item passes a test that none of them passes
+-- if no string of the list passes a test, the number that pass is 0
 pub none_pass : (test : List Bool → Bool) (ks : List (List Bool)) → ((k : List Bool) → list_any (same_string k) ks ≡ true → test k ≡ false) → length (filter test ks) ≡ 0
 none_pass test [] h = refl
 none_pass test (k ∷ ks) h =
@@ -37,7 +38,7 @@ five_times i k l h e = omega (arith, h, e)
 pub depth_of : (i l : ℕ) → l ≡ 5 * i → l % 5 ≡ 0
 depth_of i l e = omega (arith, e)
 
--- the string of the node i levels down on the search path of q
+-- the first 5 * i bits of q, which are the string of the node at level i of q's search path
 abbrev pub at_level : List Bool → ℕ → List Bool
 at_level q i = take (5 * i) q
 
@@ -45,7 +46,7 @@ pub level-length : (q : List Bool) (i : ℕ) → i ≤ length q / 5 → length (
 level-length q i h = length-take-le (5 * i) q (five_times i (length q / 5) (length q) h refl)
 
 module _ {T : Type 0} (width : ℕ) (m : Entries T) (n : Nodes) (are : AreNodes width m n) where
-  -- a node that is missing has no children and no entries
+  -- a missing node has no children and no entries
   pub no_children : (p : List Bool) → length p % 5 ≡ 0 → has_node n p ≡ false → child_count n p ≡ 0
   no_children p depth missing = none_pass (λ t. begins p t && (length t == length p + 5)) (keys n) (λ t listed.
       elim (cases_Bool (begins p t)) as (λ _. (begins p t && (length t == length p + 5)) ≡ false) [
@@ -60,7 +61,7 @@ module _ {T : Type 0} (width : ℕ) (m : Entries T) (n : Nodes) (are : AreNodes 
         | inr other ↦ ap (λ b. b && nat_lt (length t) (length p + 5)) other
       ])
 
-  -- the search path of q
+  -- if a node of q's search path exists, so do those above it
   module _ (q : List Bool) where
     pub closed : (i j : ℕ) → i ≤ j → j ≤ length q / 5 → has_node n (at_level q j) ≡ true → has_node n (at_level q i) ≡ true
     closed i j h inside there =

@@ -7,7 +7,7 @@ use Rattle.prefix_trie_bits.proofs.Model.Ordered.{t-true, true-t, lt-less, not_i
 use Rattle.prefix_trie_bits.proofs.Model.NodeListings.{listing_by_places}
 use Rattle.prefix_trie_bits.proofs.Model.Pruning.{begins-nil}
 
--- the order in words
+-- a string is listed before the strings that it begins, and otherwise the first differing bit decides
 begins-cons : (b : Bool) (s t : List Bool) → begins s t ≡ true → begins (b ∷ s) (b ∷ t) ≡ true
 unfolding begins
 begins-cons true s t e = e
@@ -45,13 +45,13 @@ back : (s t : List Bool) → listing_cmp s t ≡ Less → listing_cmp t s ≡ Gr
 back s t e = listing_total.antisymm t s ∙ ap ordering_reverse e
 
 module _ {X : Type 0} where
-  -- what comes before the last item of a sorted list is before it
+  -- in a sorted list, each item before the last one has a lesser key
   heads-before : (x : List Bool × X) (read : List (List Bool × X)) (last : List Bool × X) (rest : List (List Bool × X)) → T (below_all listing_cmp x.0 (read ++ last ∷ rest)) → listing_cmp x.0 last.0 ≡ Less
   heads-before x [] last rest h = lt-less (listing_cmp x.0 last.0) (and-first (is_lt (listing_cmp x.0 last.0)) (below_all listing_cmp x.0 rest) (t-true (is_lt (listing_cmp x.0 last.0) && below_all listing_cmp x.0 rest) h))
   heads-before x (r ∷ read) last rest h =
       heads-before x read last rest (true-t (below_all listing_cmp x.0 (read ++ last ∷ rest)) (and-second (is_lt (listing_cmp x.0 r.0)) (below_all listing_cmp x.0 (read ++ last ∷ rest)) (t-true (is_lt (listing_cmp x.0 r.0) && below_all listing_cmp x.0 (read ++ last ∷ rest)) h)))
 
--- what comes after an item, with or without it, by a test of the order
+-- what comes after an item, with or without the item itself, is what a test of the order keeps
 module _ {X : Type 0} (test : Ordering → Bool) (less : test Less ≡ true) (greater : test Greater ≡ false) where
   abbrev those : List Bool → List (List Bool × X) → List (List Bool × X)
   those s es = filter (λ e. test (listing_cmp s e.0)) es

@@ -1,4 +1,4 @@
--- The covers of a bit string, with the first and the last of them as its matches: for `match_laws`.
+-- The covers of a bit string in order: the first is its shortest match, the last its longest: for `match_laws`.
 use Rattle.prefix_trie_bits.proofs.Prelude.{◌≡◌, ◌⊎◌, ◌≤◌, ◌<◌, Bool, true, false, cond, T, List, [], ◌∷◌, ◌++◌, length, is_some, Less, Option, Some, None, refl, sym, ap, ◌∙◌, subst, arith, inl, inr, true≢false, Contains-append_left, Contains-append_right, Contains-push, list_any, same_Some, entries, entries_sorted, get, contains_key, keys, get-entries, is_sorted, find, is_sorted-where_key, find-where_key, begins, begins-linear, begins-same-length, same_bool, listing_cmp, listing_same, same_string, Entries, first_item, last_item, covers, IsMatch, IsLongestMatch, IsShortestMatch, longest_match, shortest_match, MatchLaws}
 use lib.Dec.{T as IsT}
 use Rattle.std.specs.List.{Contains}
@@ -13,7 +13,7 @@ shorter-or-same q s t e f (inl same) = omega (arith, ap length same)
 shorter-or-same q s t e f (inr less) = omega (arith, shorter-first q s t e f less)
 
 module _ {X : Type 0} where
-  -- the first comes before each other
+  -- the first item of a sorted list is found in it, and precedes each other item
   first-found : (es : List (List Bool × X)) (e : List Bool × X) → first_item es ≡ Some e → find listing_cmp e.0 es ≡ Some e.1
   first-found [] e h = absurd (true≢false (sym (ap is_some h)))
   first-found (x ∷ es) e h = subst (λ y. find listing_cmp y.0 (x ∷ es) ≡ Some y.1) (same_Some x e h) (found_first x es)
@@ -27,7 +27,7 @@ module _ {X : Type 0} where
         | false ↦ λ _ e. inr (each-behind x.0 es k v (sorted-head x es h) e)
       ] refl g)
 
-  -- the last comes after each other
+  -- the last item of a sorted list is found in it, and follows each other item
   last-found : (es : List (List Bool × X)) (e : List Bool × X) → T (is_sorted listing_cmp es) → last_item es ≡ Some e → find listing_cmp e.0 es ≡ Some e.1
   last-found [] e h f = absurd (true≢false (sym (ap is_some f)))
   last-found (x ∷ []) e h f = subst (λ y. find listing_cmp y.0 (x ∷ []) ≡ Some y.1) (same_Some x e f) (found_first x [])

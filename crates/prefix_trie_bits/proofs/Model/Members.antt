@@ -1,4 +1,4 @@
--- What entries or nodes of a given shape contain, and when two of them are equal.
+-- Which keys a changed entry map or node set has, and that two of them with the same keys and values are equal.
 use Rattle.prefix_trie_bits.proofs.Prelude.{◌≡◌, ◌⊎◌, ◌%◌, Bool, true, false, cond, not, ◌&&◌, ◌||◌, List, [], ◌∷◌, ◌++◌, length, map, filter, flat_map, is_some, is_eq, Option, Some, None, refl, sym, ap, ◌∙◌, subst, inl, inr, true≢false, eqb-true, eq-eqb, ℕ, nat_le, Equal-is, list_any, list_all, FinMap, empty, get, contains_key, insert, remove, retain_keys, keys, get-empty, get-insert, get-remove, get-retain_keys, contains_key-keys, same_map, begins, same_bit, listing_cmp, listing_total, listing_same, listing-refl, same_string, same_bool, Entries, with_entry, without_entry, without_below, part_below, part_at_least, Nodes, has_node, root_alone, with_nodes, beginnings, is_node_depth, nodes_above, needed, and_parts, or-false, or_assoc, and-false, and-or_distrib_left}
 pub use Rattle.std.proofs.lemmas.Bool.{or_cases as or-cases, or_left as or-left, or_right as or-right, and_from as and-join, not_from_false as not-true, not-true as from-not}
 
@@ -14,19 +14,19 @@ same_string-is s t e = listing_same s t ((Equal-is (listing_cmp s t)).0 e)
 pub is-same_string : (s t : List Bool) → s ≡ t → same_string s t ≡ true
 is-same_string s t e = subst (λ x. same_string s x ≡ true) e (ap is_eq (listing-refl s))
 
--- the value of an option that has one
+-- an option that has a value is `Some` of it
 pub some-value : {A : Type 0} (o : Option A) → is_some o ≡ true → (v : A) × (o ≡ Some v)
 some-value None e = absurd (true≢false (sym e))
 some-value (Some v) e = (v, refl)
 
--- the value at a member of a set
+-- two members of a node set have the same mark
 marks : (o p : Option (Unit {0})) → is_some o ≡ is_some p → o ≡ p
 marks None None e = refl
 marks None (Some u) e = absurd (true≢false (sym e))
 marks (Some u) None e = absurd (true≢false e)
 marks (Some u) (Some v) e = refl
 
--- a test that some string of a list passes
+-- if some string of a list passes a test, one can be named
 some-string : (p : List Bool → Bool) (ks : List (List Bool)) → list_any p ks ≡ true → (k : List Bool) × (list_any (same_string k) ks ≡ true) × (p k ≡ true)
 some-string p [] e = absurd (true≢false (sym e))
 some-string p (k ∷ ks) e =
@@ -59,7 +59,7 @@ all-strings p (x ∷ ks) each =
     (all-strings p ks (λ k e. each k (or-right (same_string k x) (list_any (same_string k) ks) e)))
 
 module _ {X : Type 0} where
-  -- some key passes, and a key passes
+  -- if some key of a map passes a test, one can be named, and the other way round
   pub some-key : (m : FinMap listing_cmp X) (p : List Bool → Bool) → list_any p (keys m) ≡ true → (k : List Bool) × (contains_key m k ≡ true) × (p k ≡ true)
   some-key m p e =
       let r = some-string p (keys m) e in
@@ -180,7 +180,6 @@ module _ {T : Type 0} where
         | inr h ↦ inl (same_string-is q [] h)
       ]
 
--- what an entry map has at each key after a change
 pub turned : {X : Type 0} (b : Bool) (x y : X) → cond (not b) x y ≡ cond b y x
 turned true x y = refl
 turned false x y = refl
@@ -204,11 +203,11 @@ module _ {T : Type 0} where
   pub get-part_at_least : (m : Entries T) (n : ℕ) (t : List Bool) → get (part_at_least m n) t ≡ cond (nat_le n (length t)) (get m t) None
   get-part_at_least m n t = get-retained m (λ s. nat_le n (length s)) t
 
-  -- two entry maps with the same value at each key are equal
+  -- two entry maps are equal if each lookup returns the same
   pub same_entries : (m n : Entries T) → ((s : List Bool) → get m s ≡ get n s) → m ≡ n
   same_entries m n same = same_map listing_total listing_same m n same
 
--- two sets of nodes with the same members are equal
+-- two node sets are equal if they have the same members
 pub same_members : (n k : Nodes) → ((s : List Bool) → has_node n s ≡ has_node k s) → n ≡ k
 same_members n k same = same_map listing_total listing_same n k (λ s. marks _ _ (same s))
 

@@ -1,4 +1,5 @@
--- The listing under a node is the listing of its places, one after another.
+-- The entries under a node are those of its places, one place after another: for `iter`, `children` and the counted
+-- walks.
 use Rattle.prefix_trie_bits.proofs.Prelude.{◌≡◌, ℕ, zero, suc, ◌<◌, ◌≤◌, Bool, true, false, cond, ◌&&◌, ◌||◌, nat_lt, ltb-true, List, [], ◌∷◌, ◌++◌, length, map, filter, flat_map, is_lt, is_some, Less, Option, Some, None, refl, sym, ap, ap₂, ◌∙◌, arith, append-nil, append_assoc, length-append, lt-ltb, le-ltb, flat_map-append, flat_map-map, entries, entries_sorted, get, contains_key, get-empty, get-entries, find, is_sorted, below_all, begins, same_bool, begins-append, begins-length, begins-trans, listing_cmp, listing-extension, same_string, strings, is_in, places, Entries, part_below, no_entries, listing, listing_below, pair_of, listing_at_place, listing_at_places}
 use lib.Dec.{T as IsT}
 use Rattle.prefix_trie_bits.proofs.Checks.{both, each}
@@ -8,7 +9,7 @@ use Rattle.prefix_trie_bits.proofs.Model.Ordered.{t-true, true-t, lt-less, not_l
 
 -- ---- strings
 
--- a string that s begins is s, or goes on with 0, or goes on with 1
+-- s begins t if t is s, or if t goes on after s with 0 or with 1
 begins-parts : (s t : List Bool) → begins s t ≡ (same_string s t || (begins (s ++ false ∷ []) t || begins (s ++ true ∷ []) t))
 unfolding begins
 begins-parts [] (true ∷ t) = refl
@@ -16,7 +17,7 @@ begins-parts (true ∷ s) (true ∷ t) = begins-parts s t
 begins-parts (false ∷ s) (false ∷ t) = begins-parts s t
 begins-parts s t = refl
 
--- what goes on with 0 is before what goes on with 1
+-- strings that go on with 0 are listed before those that go on with 1
 zero-before-one : (s t u : List Bool) → begins (s ++ false ∷ []) t ≡ true → begins (s ++ true ∷ []) u ≡ true → listing_cmp t u ≡ Less
 unfolding begins
 zero-before-one [] (false ∷ t) (true ∷ u) e f = refl
@@ -24,7 +25,7 @@ zero-before-one (true ∷ s) (true ∷ t) (true ∷ u) e f = zero-before-one s t
 zero-before-one (false ∷ s) (false ∷ t) (false ∷ u) e f = zero-before-one s t u e f
 zero-before-one s t u e f = cc
 
--- a string is before those that extend it
+-- a string is listed before the longer strings that it begins
 before-longer : (b : Bool) (s t : List Bool) → begins (s ++ b ∷ []) t ≡ true → listing_cmp s t ≡ Less
 before-longer b s t e =
     listing-extension s t (begins-trans s (s ++ b ∷ []) t (begins-append s (b ∷ [])) e)
@@ -61,8 +62,8 @@ module _ {X : Type 0} where
         | false ↦ λ _. rest
       ] refl
 
-  -- if what passes one test is before what passes another, a filter by either is the one filter
-  -- followed by the other
+  -- if all strings that pass p are before all that pass q, the pairs that pass either are those that pass p, and then
+  -- those that pass q
   pub two-tests : (p q : List Bool → Bool) → ((s t : List Bool) → p s ≡ true → q t ≡ true → listing_cmp s t ≡ Less) → (es : List (List Bool × X)) → IsT (is_sorted listing_cmp es) → those (λ s. p s || q s) es ≡ those p es ++ those q es
   two-tests p q apart [] h = refl
   two-tests p q apart (x ∷ es) h =
@@ -81,7 +82,7 @@ module _ {X : Type 0} where
             ]
       ] refl
 
-  -- of one key there is the pair that a look-up finds
+  -- the pairs with key s are the one that a lookup of s finds, or none
   of-one-key : (s : List Bool) (es : List (List Bool × X)) → IsT (is_sorted listing_cmp es) → those (same_string s) es ≡ pair_of s (find listing_cmp s es)
   of-one-key s [] h = refl
   of-one-key s (x ∷ es) h =
@@ -94,15 +95,14 @@ module _ {X : Type 0} where
         | false ↦ λ _. of-one-key s es (sorted-tail x es h)
       ] refl
 
-  -- the pairs below s: its own, those that go on with 0, and those that go on with 1
+  -- the pairs whose keys begin with s: its own, then those that go on with 0, then those that go on with 1
   in-parts : (s : List Bool) (es : List (List Bool × X)) → IsT (is_sorted listing_cmp es) → those (begins s) es ≡ pair_of s (find listing_cmp s es) ++ (those (begins (s ++ false ∷ [])) es ++ those (begins (s ++ true ∷ [])) es)
   in-parts s es h =
       (λ i. those (λ t. begins-parts s t i) es)
       ∙ two-tests (same_string s) (λ t. begins (s ++ false ∷ []) t || begins (s ++ true ∷ []) t) (before-both s) es h
       ∙ ap₂ (λ xs ys. xs ++ ys) (of-one-key s es h) (two-tests (begins (s ++ false ∷ [])) (begins (s ++ true ∷ [])) (zero-before-one s) es h)
 
-  -- what there is at the string t under s: the entry there, and, if t has n bits, all entries under
-  -- it
+  -- what is listed for the place t under s: the entry of that string, or all entries under it if t has n bits
   abbrev at-string : ℕ → List (List Bool × X) → List Bool → List Bool → List (List Bool × X)
   at-string n es s t =
       cond (nat_lt (length t) n) (pair_of (s ++ t) (find listing_cmp (s ++ t) es)) (those (begins (s ++ t)) es)
@@ -136,7 +136,7 @@ module _ {X : Type 0} where
   all-begin [] = refl
   all-begin (x ∷ es) = ap (λ ys. x ∷ ys) (all-begin es)
 
-  -- strings at which there is nothing can be left out
+  -- places with nothing to list can be left out
   left-out : (f : List Bool → List (List Bool × X)) (test : List Bool → Bool) → ((t : List Bool) → length t ≤ 5 → test t ≡ false → f t ≡ []) → (ts : List (List Bool)) → each (λ t. nat_lt (length t) 6) ts ≡ true → flat_map f (filter test ts) ≡ flat_map f ts
   unfolding each
   left-out f test none [] h = refl
@@ -157,26 +157,26 @@ no-value None false h = refl
 no-value (Some v) b h = ap (λ c. cond c (Some v) None) (h refl)
 
 module _ {T : Type 0} where
-  -- all pairs below s, place by place
+  -- all pairs under s, place by place
   pub listing_by_places : (m : Entries T) (s : List Bool) → listing_below m s ≡ listing_at_places m s (strings 5)
   listing_by_places m s =
       by-strings 5 s (entries m) (entries_sorted m)
       ∙ (λ i. flat_map (λ t. cond (nat_lt (length t) 5) (pair_of (s ++ t) (sym (get-entries m (s ++ t)) i)) (listing_below m (s ++ t))) (strings 5))
 
-  -- places at which there is nothing can be left out
+  -- places with nothing to list can be left out
   pub listing_by_some_places : (m : Entries T) (s : List Bool) (test : List Bool → Bool) → ((t : List Bool) → length t ≤ 5 → test t ≡ false → listing_at_place m s t ≡ []) → listing_at_places m s (filter test (strings 5)) ≡ listing_below m s
   listing_by_some_places m s test none =
       left-out (listing_at_place m s) test none (strings 5) strings-short ∙ sym (listing_by_places m s)
 
-  -- and so can those that are not in a node's bitmaps
+  -- only the places in the node's two bitmaps have something to list
   pub listing_by_node_places : (m : Entries T) (s : List Bool) (values children : ℕ) → ((t : List Bool) → length t ≤ 5 → is_in values children t ≡ false → listing_at_place m s t ≡ []) → listing_at_places m s (places values children) ≡ listing_below m s
   listing_by_node_places m s values children none = listing_by_some_places m s (is_in values children) none
 
-  -- below the root is everything
+  -- everything is under the root
   pub listing_of_root : (m : Entries T) → listing_below m [] ≡ listing m
   listing_of_root m = all-begin (listing m)
 
-  -- at a place of less than five bits there is the entry of that string
+  -- a place of at most four bits lists the entry of its string
   pub listing_at_inner : (m : Entries T) (s t : List Bool) → length t ≤ 4 → listing_at_place m s t ≡ pair_of (s ++ t) (get m (s ++ t))
   listing_at_inner m s t short =
       ap (λ c. cond c (pair_of (s ++ t) (get m (s ++ t))) (listing_below m (s ++ t))) (lt-ltb (length t) 5 (omega arith))
@@ -187,12 +187,12 @@ module _ {T : Type 0} where
   pub listing_at_no_value : (m : Entries T) (s t : List Bool) → length t ≤ 4 → get m (s ++ t) ≡ None → listing_at_place m s t ≡ []
   listing_at_no_value m s t short e = listing_at_inner m s t short ∙ ap (pair_of (s ++ t)) e
 
-  -- at a place of five bits there are all entries of that child
+  -- a place of five bits lists all entries under that child
   pub listing_at_child : (m : Entries T) (s t : List Bool) → length t ≡ 5 → listing_at_place m s t ≡ listing_below m (s ++ t)
   listing_at_child m s t five =
       ap (λ c. cond c (pair_of (s ++ t) (get m (s ++ t))) (listing_below m (s ++ t))) (le-ltb (length t) 5 (omega arith))
 
-  -- below what begins no stored key is nothing
+  -- a string that begins no stored key has nothing under it
   pub listing_below_none : (m : Entries T) (q : List Bool) → ((k : List Bool) → contains_key m k ≡ true → begins q k ≡ false) → listing_below m q ≡ []
   listing_below_none m q none =
       sym (entries-retained m (begins q))

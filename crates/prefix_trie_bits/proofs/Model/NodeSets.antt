@@ -4,7 +4,7 @@ use Rattle.prefix_trie_bits.proofs.Model.Homes.{home-begins, home-depth, home-lo
 use Rattle.prefix_trie_bits.proofs.Model.Members.{or-cases, or-left, or-right, and-first, and-second, and-join, same_string-is, is-same_string, has-inserted, has-with_nodes, has-root_alone, any-node_above, needs, needs_root, needed_for, same_nodes}
 use Rattle.prefix_trie_bits.proofs.Model.Pruning.{for_fewer, removed_fewer, too_long}
 
--- the nodes with those that a key needs
+-- after an insertion the nodes are the old ones and those on the key's search path
 pub has-with_needed : (n : Nodes) (s t : List Bool) → has_node (with_needed n s) t ≡ (has_node n t || (begins t s && is_node_depth t))
 has-with_needed n s t =
     has-with_nodes n (nodes_above s) t
@@ -29,7 +29,7 @@ which n s q e =
     ]
 
 module _ {T : Type 0} where
-  -- a key of the map with s is s, or was there before
+  -- each key of the map with s is s or was there before
   pub key_cases : (m : Entries T) (s k : List Bool) (v : T) → contains_key (with_entry m s v) k ≡ true → (k ≡ s) ⊎ (contains_key m k ≡ true)
   key_cases m s k v e =
       elim (or-cases (same_string k s) (contains_key m k) (sym (has-inserted m s v k) ∙ e)) [
@@ -43,7 +43,7 @@ module _ {T : Type 0} where
   new_key : (m : Entries T) (s : List Bool) (v : T) → contains_key (with_entry m s v) s ≡ true
   new_key m s v = has-inserted m s v s ∙ or-left (same_string s s) (contains_key m s) (is-same_string s s refl)
 
-  -- what the map with s needs
+  -- each node that the map with s needs is on the search path of s or was needed before
   needed_with : (m : Entries T) (s q : List Bool) (v : T) → has_node (needed (with_entry m s v)) q ≡ true → (OnPath s q) ⊎ (has_node (needed m) q ≡ true)
   needed_with m s q v e =
       elim (needed_for (with_entry m s v) q e) [
@@ -54,7 +54,7 @@ module _ {T : Type 0} where
         ]
       ]
 
-  -- a set of nodes stays one when a key is set
+  -- the node set stays correct when a key is set and its missing nodes are added
   pub AreNodes-with_entry : (width : ℕ) (m : Entries T) (n : Nodes) (s : List Bool) (v : T) → AreNodes width m n → length s ≤ width → AreNodes width (with_entry m s v) (with_needed n s)
   AreNodes-with_entry width m n s v good short = record {
     within = λ q e. elim (which n s q e) [ inl w ↦ omega (arith, begins-length q s w.begins_it, short) | inr h ↦ good.within q h ];
@@ -73,11 +73,11 @@ module _ {T : Type 0} where
   stored_same : (m : Entries T) (s q : List Bool) (v : T) → contains_key m s ≡ true → has_node (needed (with_entry m s v)) q ≡ true → has_node (needed m) q ≡ true
   stored_same m s q v has e = elim (needed_with m s q v e) [ inl w ↦ needs m q s w.five has w.begins_it | inr h ↦ h ]
 
-  -- and when a stored key is set again, with the same nodes
+  -- the node set stays correct when a stored key is set again and no node is added
   pub AreNodes-stored : (width : ℕ) (m : Entries T) (n : Nodes) (s : List Bool) (v : T) → AreNodes width m n → contains_key m s ≡ true → AreNodes width (with_entry m s v) n
   AreNodes-stored width m n s v good has = record { within = good.within; depths = good.depths; rooted = good.rooted; closed = good.closed; hold_needed = λ q e. good.hold_needed q (stored_same m s q v has e) }
 
-  -- and when a key is removed and no node goes
+  -- the node set stays correct when a key is removed and no node is
   pub AreNodes-without_entry : (width : ℕ) (m : Entries T) (n : Nodes) (s : List Bool) → AreNodes width m n → AreNodes width (without_entry m s) n
   AreNodes-without_entry width m n s good = for_fewer width m (without_entry m s) n (removed_fewer m s) good
 
@@ -97,7 +97,7 @@ module _ {T : Type 0} where
   pub needed_stored : (m : Entries T) (s : List Bool) (v : T) → contains_key m s ≡ true → needed m ≡ needed (with_entry m s v)
   needed_stored m s v has = same_nodes (needed m) (needed (with_entry m s v)) (λ q. more_needed m s q v) (λ q. stored_same m s q v has)
 
-  -- the nodes that keys within the width need are a set of nodes
+  -- the nodes that the keys need are a correct node set, if all keys are within the width
   pub AreNodes-needed : (width : ℕ) (m : Entries T) → AreWithin width m → AreNodes width m (needed m)
   AreNodes-needed width m within = record {
     within = λ s e. elim (needed_for m s e) [
@@ -120,7 +120,7 @@ module _ {T : Type 0} where
       only_root [] t b e = refl
       only_root (x ∷ s) t b e = absurd (too_long x s (subst (λ y. begins (x ∷ s) y ≡ true) e b))
 
-  -- tidy, in words
+  -- in a tidy map, each node except the root has a stored key at or under it
   tidy_reason : (m : Entries T) (n : Nodes) → IsTidy m n → (s : List Bool) → has_node n s ≡ true → s ≢ [] → BeginsKey m s
   tidy_reason m n tidy s e other =
       elim (needed_for m s (subst (λ x. has_node x s ≡ true) tidy e)) [

@@ -1,4 +1,4 @@
--- Lists of entries in listing order, and how each operation changes the listing.
+-- Lists of entries in listing order, and the listing after each operation on entry maps.
 use Rattle.prefix_trie_bits.proofs.Prelude.{◌≡◌, ◌≤◌, ◌<◌, Bool, true, false, cond, not, ◌&&◌, nat_lt, T, List, [], ◌∷◌, ◌++◌, length, filter, is_lt, Ordering, Less, Equal, Some, None, is_some, refl, sym, ap, ◌∙◌, subst, arith, true≢false, inl, inr, unwrap_or, Contains-append_left, Contains-append_right, Contains-append_cases, Contains-push, Contains-push_cases, nat_tests, ordering_reverse, FinMap, entries, entries_sorted, empty, get, remove, retain_keys, from_sorted, len-entries, len-empty, entries-from_sorted, get-from_sorted, get-retain_keys, get-remove, get-entries, same_map, find, is_sorted, below_all, where_key, is_sorted-where_key, find-where_key, begins, begins-linear, begins-same-length, listing_cmp, listing_total, listing_same, listing-refl, listing-extension, same_string}
 use Rattle.std.specs.List.{Contains}
 use Rattle.prefix_trie_bits.proofs.Model.Members.{and-first, and-second, same_string-is, is-same_string, turned}
@@ -21,7 +21,7 @@ not_less s t e f =
 pub not_itself : (s t : List Bool) → listing_cmp s t ≡ Less → s ≡ t → ⊥
 not_itself s t e is = true≢false (ap is_lt (sym e ∙ subst (λ x. listing_cmp s x ≡ Equal) is (listing-refl s)))
 
--- of two beginnings of one string, the one that comes first is the shorter
+-- of two beginnings of one string, the one that is listed first is the shorter
 pub shorter-first : (q s t : List Bool) → begins s q ≡ true → begins t q ≡ true → listing_cmp s t ≡ Less → length s < length t
 shorter-first q s t e f l =
     elim (nat_lt (length s) (length t)) as (λ b. nat_lt (length s) (length t) ≡ b → length s < length t) [
@@ -36,7 +36,7 @@ shorter-first q s t e f l =
     ] refl
 
 module _ {X : Type 0} where
-  -- a list's keys all come after s
+  -- if s is before all keys of a list, it is before each key found there
   pub each-behind : (s : List Bool) (es : List (List Bool × X)) (k : List Bool) (v : X) → T (below_all listing_cmp s es) → find listing_cmp k es ≡ Some v → listing_cmp s k ≡ Less
   each-behind s [] k v h e = absurd (true≢false (sym (ap is_some e)))
   each-behind s (x ∷ es) k v h e =
@@ -52,11 +52,11 @@ module _ {X : Type 0} where
   pub sorted-head : (x : List Bool × X) (es : List (List Bool × X)) → T (is_sorted listing_cmp (x ∷ es)) → T (below_all listing_cmp x.0 es)
   sorted-head x es h = true-t (below_all listing_cmp x.0 es) (and-first (below_all listing_cmp x.0 es) (is_sorted listing_cmp es) (t-true (below_all listing_cmp x.0 es && is_sorted listing_cmp es) h))
 
-  -- the value of an item that a sorted list has
+  -- a lookup of the first item's key finds its value
   pub found_first : (x : List Bool × X) (es : List (List Bool × X)) → find listing_cmp x.0 (x ∷ es) ≡ Some x.1
   found_first x es = ap (λ b. cond b (Some x.1) (find listing_cmp x.0 es)) (is-same_string x.0 x.0 refl)
 
-  -- an item further on is none before it
+  -- a lookup in the rest of a sorted list never finds the first item's key
   pub found_later : (x : List Bool × X) (es : List (List Bool × X)) (k : List Bool) (v : X) → T (is_sorted listing_cmp (x ∷ es)) → find listing_cmp k es ≡ Some v → find listing_cmp k (x ∷ es) ≡ Some v
   found_later x es k v h e =
       elim (same_string k x.0) as (λ b. same_string k x.0 ≡ b → cond b (Some x.1) (find listing_cmp k es) ≡ Some v) [
@@ -65,14 +65,14 @@ module _ {X : Type 0} where
         | false ↦ λ _. e
       ] refl
 
-  -- of two neighbours in a sorted list the first comes first
+  -- of two neighbours in a sorted list, the first is before the second
   pub sorted-neighbours : (front back : List (List Bool × X)) (d e : List Bool × X) → T (is_sorted listing_cmp (front ++ d ∷ e ∷ back)) → listing_cmp d.0 e.0 ≡ Less
   sorted-neighbours [] back d e h =
       let all = t-true (is_lt (listing_cmp d.0 e.0) && below_all listing_cmp d.0 back) (sorted-head d (e ∷ back) h) in
       lt-less (listing_cmp d.0 e.0) (and-first (is_lt (listing_cmp d.0 e.0)) (below_all listing_cmp d.0 back) all)
   sorted-neighbours (x ∷ front) back d e h = sorted-neighbours front back d e (sorted-tail x (front ++ d ∷ e ∷ back) h)
 
-  -- what a lookup finds in a list is in it, and a lookup in a sorted list finds each item
+  -- what a lookup finds is in the list
   pub Contains-from_find : (es : List (List Bool × X)) (k : List Bool) (v : X) → find listing_cmp k es ≡ Some v → Contains es (k, v)
   Contains-from_find [] k v e = absurd (true≢false (sym (ap is_some e)))
   Contains-from_find (x ∷ es) k v e =
@@ -100,7 +100,7 @@ module _ {X : Type 0} where
   no_items [] e = refl
   no_items (x ∷ es) e = absurd (omega (arith, e))
 
-  -- the listing after each operation
+  -- the listing after each operation on an entry map
   pub entries-retained : (m : FinMap listing_cmp X) (p : List Bool → Bool) → entries (retain_keys m p) ≡ filter (λ e. p e.0) (entries m)
   entries-retained m p =
       let sorted = is_sorted-where_key listing_cmp p (entries m) (entries_sorted m) in

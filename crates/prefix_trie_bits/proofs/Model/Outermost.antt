@@ -1,5 +1,5 @@
--- The number of covered addresses is the sum over the outermost keys, which begin with no other
--- stored key: for `address_count`.
+-- The number of covered addresses is the sum over the outermost keys, which are those that begin with no other stored
+-- key: for `address_count`.
 use Rattle.prefix_trie_bits.proofs.Prelude.{◌≡◌, ℕ, zero, suc, ◌+◌, ◌-◌, ◌^◌, ◌≤◌, ◌<◌, Bool, true, false, cond, not, ◌||◌, nat_le, nat_lt, List, [], ◌∷◌, length, map, filter, Some, None, is_some, refl, sym, ap, ap₂, ◌∙◌, subst, arith, inl, inr, eq-eqb, Less, ◌==◌, true≢false, ne_eqb, nat_tests, list_any, entries_sorted, is_sorted, keys, contains_key, get, get-entries, find, begins, same_bool, begins-refl, begins-trans, begins-linear, begins-length, begins-same-length, listing_cmp, listing-extension, same_string, Entries, without_below, listing, is_root, full_strings, covered, addresses, address_answer, AddressLaws}
 use Rattle.std.proofs.Common.{T as IsT}
 use Rattle.prefix_trie_bits.proofs.Model.Members.{or-cases, or-left, or-right, and-first, and-second, and-join, not-true, from-not, some-value, same_string-is, some-key, of-key, has-retained}
@@ -8,7 +8,7 @@ use Rattle.prefix_trie_bits.proofs.Model.Halves.{covered-suc, covered-root, cove
 
 -- ---- counting
 
--- how many pass one of two tests that none passes both
+-- if no element passes both tests, the number that pass either is the sum of the two numbers
 length-either : {X : Type 0} (p q r : X → Bool) → ((x : X) → p x ≡ (q x || r x)) → ((x : X) → q x ≡ true → r x ≡ false) → (xs : List X) → length (filter p xs) ≡ length (filter q xs) + length (filter r xs)
 length-either p q r either apart [] = refl
 length-either p q r either apart (x ∷ xs) =
@@ -21,7 +21,7 @@ length-either p q r either apart (x ∷ xs) =
     by false true f e = omega (arith, e)
     by false false f e = e
 
--- the full strings that one string begins
+-- 2^(w - length k) strings of w bits begin with k
 covered-one : (w : ℕ) (k : List Bool) → length k ≤ w → covered w (k ∷ []) ≡ 2 ^ (w - length k)
 covered-one w [] h = covered-root w ([] ∷ []) refl ∙ all w
   where
@@ -43,8 +43,7 @@ covered-one (suc w) (false ∷ k) h =
 
 -- ---- an outermost key
 
--- of two different beginnings of one string, if the second does not begin the first, the first
--- begins the second
+-- of two beginnings of one string, the first begins the second if the second does not begin it
 apart-beginnings : (k j f : List Bool) → begins k f ≡ true → begins j f ≡ true → (begins j k ≡ true → j ≡ k) → begins k j ≡ true
 apart-beginnings k j f e h outer =
     elim (nat_le (length k) (length j)) as (λ b. nat_le (length k) (length j) ≡ b → begins k j ≡ true) [
@@ -55,7 +54,7 @@ apart-beginnings k j f e h outer =
     ] refl
 
 module _ {T : Type 0} where
-  -- whether some key of m begins f
+  -- whether f begins with some key of m
   abbrev is_covered_in : Entries T → List Bool → Bool
   is_covered_in m f = list_any (λ j. begins j f) (keys m)
 
@@ -117,7 +116,7 @@ module _ {T : Type 0} where
 
   -- ---- the result
 
-  -- if all are covered, there is no number
+  -- if all addresses are covered, the result is `None`
   pub answer-all : (width : ℕ) (m : Entries T) → 2 ^ width ≤ addresses width m → address_answer width m ≡ None
   answer-all width m h =
       let all : addresses width m ≡ 2 ^ width = omega (arith, covered-most width (keys m)) in
@@ -130,7 +129,7 @@ module _ {T : Type 0} where
 
   -- ---- counting along a listing
 
-  -- no other key begins the first of a listing
+  -- no other key begins the first key of a listing
   first-outermost : (m : Entries T) (e : List Bool × T) (later : List (List Bool × T)) → listing m ≡ e ∷ later → (s : List Bool) → contains_key m s ≡ true → begins s e.0 ≡ true → s ≡ e.0
   first-outermost m e later is s has h =
       let v = some-value (get m s) has in
@@ -152,7 +151,7 @@ module _ {T : Type 0} where
                 begins-same-length s e.0 h (omega (arith, begins-length s e.0 h, longer))
           ] refl
 
-  -- the addresses of m are n, plus those of the items to come
+  -- the addresses that m covers are n, and those that the items still to come cover
   pub record IsCounted (width : ℕ) (m : Entries T) (es : List (List Bool × T)) (n : ℕ) : Type 0 where
     pub left : Entries T
     pub listed : listing left ≡ es
@@ -161,7 +160,7 @@ module _ {T : Type 0} where
   pub counted-start : (width : ℕ) (m : Entries T) (es : List (List Bool × T)) (n : ℕ) → es ≡ listing m → n ≡ 0 → IsCounted width m es n
   counted-start width m es n e zero_is = record { left = m; listed = sym e; sum_is = omega (arith, zero_is) }
 
-  -- the next item is outermost; those that its key begins cover nothing else
+  -- the next item is outermost, and the items that begin with its key cover nothing new
   pub counted-next : (width : ℕ) (m : Entries T) (es : List (List Bool × T)) (n : ℕ) (e : List Bool × T) (later : List (List Bool × T)) → es ≡ e ∷ later → length e.0 ≤ width → IsCounted width m es n → IsCounted width m (filter (λ x. not (begins e.0 x.0)) later) (n + 2 ^ (width - length e.0))
   counted-next width m es n e later is h c =
       let first : listing c.left ≡ e ∷ later = c.listed ∙ is in
@@ -180,7 +179,7 @@ module _ {T : Type 0} where
       let none : addresses width c.left ≡ 0 = ap (λ xs. covered width (map (λ x. x.0) xs)) (c.listed ∙ e) ∙ covered-none width in
       omega (arith, c.sum_is, none)
 
-  -- a sum that passes the width covers all
+  -- if the sum reaches 2^width, all addresses are covered
   pub counted-all : (width : ℕ) (m : Entries T) (es : List (List Bool × T)) (n : ℕ) → 2 ^ width ≤ n → IsCounted width m es n → address_answer width m ≡ None
   counted-all width m es n h c = answer-all width m (omega (arith, c.sum_is, h))
 

@@ -15,7 +15,7 @@ pub begins-nil : (s : List Bool) → begins [] s ≡ true
 unfolding begins
 begins-nil s = refl
 
--- an implication of two tests from its form as one test, and back
+-- an implication between two tests, as one test and as a function
 follows : (a b : Bool) → (not a || b) ≡ true → a ≡ true → b ≡ true
 follows true b h e = h
 follows false b h e = absurd (true≢false (sym e))
@@ -29,7 +29,7 @@ has-cond true n k s = refl
 has-cond false n k s = refl
 
 module _ {T : Type 0} where
-  -- the parts of the test
+  -- the conditions under which a node is pruned
   record Goes (n : Nodes) (m : Entries T) (h t : List Bool) : Type 0 where
     no_key : list_any (λ s. begins t s) (keys m) ≡ false
     on_path : begins t h ≡ true
@@ -54,7 +54,7 @@ module _ {T : Type 0} where
       let d = list_all (λ u. not (begins t u) || begins u h) (keys n) in
       and-join a (b && (c && d)) (not-true (list_any (λ s. begins t s) (keys m)) g.no_key) (and-join b (c && d) g.on_path (and-join c d g.not_root g.alone))
 
-  -- a node is left exactly if it was there and was not pruned
+  -- a node stays exactly if it was there and is not pruned
   stays : (n : Nodes) (m : Entries T) (q s : List Bool) → has_node n s ≡ true → (has_node n (home q) ≡ true → is_pruned n m (home q) s ≡ true → ⊥) → has_node (pruned n m q) s ≡ true
   stays n m q s e not_pruned =
       has-cond (has_node n (home q)) (retain_keys n (λ t. not (is_pruned n m (home q) t))) n s
@@ -82,7 +82,7 @@ module _ {T : Type 0} where
   no_root : (n : Nodes) (m : Entries T) (h : List Bool) → is_pruned n m h [] ≡ true → ⊥
   no_root n m h e = true≢false (sym (goes n m h [] e).not_root)
 
-  -- what is needed is not pruned
+  -- a needed node is not pruned
   needed_stays : (n : Nodes) (m : Entries T) (q s : List Bool) → has_node n s ≡ true → has_node (needed m) s ≡ true → has_node (pruned n m q) s ≡ true
   needed_stays n m q s e needs_it =
       stays n m q s e (λ _ gone. elim (needed_for m s needs_it) [
@@ -90,7 +90,7 @@ module _ {T : Type 0} where
         | inr why ↦ clash (list_any (λ k. begins s k) (keys m)) (of-key m (λ k. begins s k) why.key why.stored why.begins_it) (goes n m (home q) s gone).no_key
       ])
 
-  -- a set of nodes is one after pruning too
+  -- the node set is still correct after pruning
   are_nodes_pruned : (width : ℕ) (m : Entries T) (n : Nodes) (q : List Bool) → AreNodes width m n → AreNodes width m (pruned n m q)
   are_nodes_pruned width m n q good = record {
     within = λ s e. good.within s (stood n m q s e);
@@ -116,7 +116,7 @@ module _ {T : Type 0} where
       longer (a ∷ s) [] l e = absurd (omega (arith, l))
       longer (a ∷ s) (b ∷ t) l e = refl
 
-  -- fewer keys need nay more
+  -- a map with fewer keys needs no more nodes
   pub needed_fewer : (m left : Entries T) → ((k : List Bool) → contains_key left k ≡ true → contains_key m k ≡ true) → (s : List Bool) → has_node (needed left) s ≡ true → has_node (needed m) s ≡ true
   needed_fewer m left fewer s e =
       elim (needed_for left s e) [
@@ -124,7 +124,7 @@ module _ {T : Type 0} where
         | inr why ↦ needs m s why.key why.five (fewer why.key why.stored) why.begins_it
       ]
 
-  -- what pruning requires of the entries and of the nodes that are left before it
+  -- what pruning requires of the entries and nodes that a removal left
   record Removes (width : ℕ) (m left : Entries T) (n near_nodes : Nodes) (q : List Bool) : Type 0 where
     kept : (k : List Bool) → contains_key m k ≡ true → begins q k ≡ false → contains_key left k ≡ true
     sub : (s : List Bool) → has_node near_nodes s ≡ true → has_node n s ≡ true
@@ -174,7 +174,7 @@ module _ {T : Type 0} where
     are_nodes = are_nodes_pruned width left near_nodes q r.good;
   }
 
-  -- the same nodes, for fewer keys
+  -- the same nodes are a correct node set for fewer keys
   pub for_fewer : (width : ℕ) (m left : Entries T) (n : Nodes) → ((k : List Bool) → contains_key left k ≡ true → contains_key m k ≡ true) → AreNodes width m n → AreNodes width left n
   for_fewer width m left n fewer good = record { within = good.within; depths = good.depths; rooted = good.rooted; closed = good.closed; hold_needed = λ s e. good.hold_needed s (needed_fewer m left fewer s e) }
 
@@ -204,7 +204,7 @@ module _ {T : Type 0} where
   below_gone : (m : Entries T) (q k : List Bool) → contains_key m k ≡ true → contains_key (without_below m q) k ≡ false → begins q k ≡ true
   below_gone m q k has gone = elim (begins q k) as (λ x. begins q k ≡ x → x ≡ true) [ true ↦ λ _. refl | false ↦ λ nay. absurd (clash (contains_key (without_below m q) k) (below_kept m q k has nay) gone) ] refl
 
--- the nodes without those below q
+-- `nodes_not_below` keeps exactly the nodes that q does not begin, and q's own node
 near_stays : (n : Nodes) (q s : List Bool) → has_node n s ≡ true → (not (begins q s) || same_string s (home q)) ≡ true → has_node (nodes_not_below n q) s ≡ true
 near_stays n q s e h = has-retained n (λ t. not (begins q t) || same_string t (home q)) s ∙ and-join (not (begins q s) || same_string s (home q)) (has_node n s) h e
 
@@ -215,7 +215,7 @@ pub near_is : (n : Nodes) (q s : List Bool) → has_node (nodes_not_below n q) s
 near_is n q s e b = same_string-is s (home q) (follows (begins q s) (same_string s (home q))
     (and-first (not (begins q s) || same_string s (home q)) (has_node n s) (sym (has-retained n (λ t. not (begins q t) || same_string t (home q)) s) ∙ e)) b)
 
--- a beginning of q's own node that q begins is that node
+-- a beginning of q's own node that begins with q is that node
 home_only : (q s : List Bool) → begins q s ≡ true → begins s (home q) ≡ true → s ≡ home q
 home_only q s b e = begins-antisymm s (home q) e (begins-trans (home q) q s (home-begins q) b)
 
@@ -281,7 +281,7 @@ is_empty : (t : List Bool) → t ≡ [] → not (is_root t) ≡ true → ⊥
 is_empty t root e = clash (is_root t) (subst (λ x. is_root x ≡ true) (sym root) refl) (from-not (is_root t) e)
 
 module _ {T : Type 0} where
-  -- pruning, in words
+  -- a node is pruned by its conditions, as the contract states them
   taken-out : (n : Nodes) (m : Entries T) (q t : List Bool) → has_node n (home q) ≡ true → Goes n m (home q) t → IsTakenOut n m q t
   taken-out n m q t at g = record {
     home_there = at;

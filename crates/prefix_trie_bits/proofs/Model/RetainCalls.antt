@@ -1,4 +1,4 @@
--- Calls of a test on each entry in order: one turn of a loop, its end, and what is kept.
+-- `retain` calls its test on each entry in order: one iteration of its loop, the end, and which entries are kept.
 use Rattle.prefix_trie_bits.proofs.Prelude.{◌≡◌, ℕ, ◌+◌, ◌<◌, Bool, true, false, List, [], ◌∷◌, ◌++◌, length, take, get_or, ap, sym, ◌∙◌, subst, filter, cond, is_lt, ◌&&◌, take_more, below_all, listing_cmp, RetainsEntries, CallableOnEachEntry}
 use lib.Dec.{T as IsT}
 use Rattle.std.proofs.lemmas.List.{append_assoc}
@@ -10,12 +10,12 @@ take_entry es last at e l is =
     ap (λ x. take at es ++ x ∷ last) is ∙ sym (append_assoc (take at es) (get_or es at e ∷ []) last) ∙ ap (λ xs. xs ++ last) (sym (take_more es at e l))
 
 module _ {F T : Type 0} (asks : F → List Bool → T → Bool → F → Type 0) where
-  -- a test that may always be called may be called on each entry in order
+  -- a test that may be called in every state may be called on each entry in order
   pub may_ask_always : (accepts : F → List Bool → T → Type 0) (f : F) (es : List (List Bool × T)) → ((f' : F) (k : List Bool) (v : T) → accepts f' k v) → CallableOnEachEntry asks accepts f es
   may_ask_always accepts f [] always = tt
   may_ask_always accepts f (e ∷ es) always = (always f e.0 e.1, λ b f' called. may_ask_always accepts f' es always)
 
-  -- a test that returns p and does not change keeps what `filter p` keeps
+  -- a test that returns p of the entry and has no state keeps what `filter p` keeps
   pub keeps_filter : (p : List Bool × T → Bool) (f : F) (es kept : List (List Bool × T)) → ((e : List Bool × T) (b : Bool) (f' : F) → asks f e.0 e.1 b f' → (b ≡ p e) × (f' ≡ f))
       → RetainsEntries asks f es kept → kept ≡ filter p es
   keeps_filter p f [] kept answers h = h
@@ -24,7 +24,7 @@ module _ {F T : Type 0} (asks : F → List Bool → T → Bool → F → Type 0)
       let same = keeps_filter p f es later answers (subst (λ g. RetainsEntries asks g es later) says.1 rest) in
       is ∙ ap (λ x. cond x (e ∷ later) later) says.0 ∙ ap (λ xs. cond (p e) (e ∷ xs) xs) same
 
--- what is kept of a list in listing order is in listing order
+-- the entries that are kept of a sorted list are sorted
 module _ {F T : Type 0} (asks : F → List Bool → T → Bool → F → Type 0) where
   below_kept : (s : List Bool) (f : F) (es kept : List (List Bool × T)) → RetainsEntries asks f es kept → IsT (below_all listing_cmp s es) → IsT (below_all listing_cmp s kept)
   below_kept s f [] kept h b = subst (λ x. IsT (below_all listing_cmp s x)) (sym h) tt

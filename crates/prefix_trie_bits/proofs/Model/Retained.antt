@@ -1,4 +1,5 @@
--- What a test of lengths keeps of a map's entries: calling it is keeping by length.
+-- A test that compares the length of the prefix keeps the keys of at least that length: for `RetainAtLeast`, the call
+-- of a run.
 use Rattle.prefix_trie_bits.proofs.Prelude.{◌≡◌, ◌≤◌, ℕ, Bool, true, false, List, length, filter, cond, nat_le, is_some, Option, Some, None, ap, sym, ◌∙◌, refl, subst, get, find, retain_keys, get-entries, get-retain_keys, listing_cmp, listing_same, Entries, AreWithin, part_at_least, needed, listing, State, RetainAtLeast, Reply, Done, Refused, Storage, StepInStorage, RetainsInStorage}
 use Rattle.prefix_trie_bits.specs.declared.prefix.Refusal.{Refusal}
 use Rattle.prefix_trie_bits.proofs.Model.RetainCalls.{keeps_filter}
@@ -11,13 +12,13 @@ none_either false true = refl
 none_either a b = refl
 
 module _ {T : Type 0} where
-  -- two tests that agree at a stored key
+  -- two tests that agree at a stored key keep the same there
   same_test : (a b : Bool) (o o' : Option T) → o ≡ o' → (is_some o ≡ true → a ≡ b) → cond a o None ≡ cond b o None
   same_test a b o None e same = subst (λ x. cond a x None ≡ cond b x None) (sym e) (none_either a b)
   same_test a b o (Some v) e same = ap (λ t. cond t o None) (same (ap is_some e))
 
-  -- entries are those of a least length if their listing is what a test of prefix lengths keeps,
-  -- and these are the lengths of the keys
+  -- if the listing is what a test of shown lengths keeps, and a shown length is the length of the key, the entries are
+  -- those of at least that length
   part_from_listing : (width n : ℕ) (shown : List Bool → ℕ) (old new : Entries T) → AreWithin width old → ((s : List Bool) → length s ≤ width → shown s ≡ length s) →
       listing new ≡ filter (λ e. nat_le n (shown e.0)) (listing old) → new ≡ part_at_least old n
   part_from_listing width n shown old new within lengths kept =
@@ -32,8 +33,7 @@ module _ {P T : Type 0} (path : P → List Bool) (back : List Bool → P) (width
   not_refused : (cause : Refusal) → ◌≡◌ {A = Reply P T} Done (Refused cause) → ⊥
   not_refused cause e = cc
 
-  -- calling a test that returns by the prefix length is keeping by length, if these are the lengths
-  -- of the keys
+  -- calling a test that compares the shown length keeps the keys of at least that length
   pub at_least_step : {F : Type 0} (asks : F → List Bool → T → Bool → F → Type 0) (f : F) (n : ℕ) (shown : List Bool → ℕ) (s t : State T × Storage) →
       AreWithin width s.0.entries → ((k : List Bool) → length k ≤ width → shown k ≡ length k)
       → ((e : List Bool × T) (b : Bool) (f' : F) → asks f e.0 e.1 b f' → (b ≡ nat_le n (shown e.0)) × (f' ≡ f))

@@ -1,4 +1,4 @@
--- Runs of steps join, for any kind of step; a run with its storage is a run.
+-- Two runs one after another are one run, for any kind of step, and a run with its storage is a run of the model.
 use Rattle.prefix_trie_bits.proofs.Prelude.{ℕ, Bool, List, [], ◌∷◌, ◌++◌, sym, ap, subst, State, Call, Reply, Runs, Run, Storage, RunInStorage}
 
 module _ {S C R : Type 0} (OneStep : S → C → R → S → Type 0) where
@@ -9,7 +9,7 @@ module _ {S C R : Type 0} (OneStep : S → C → R → S → Type 0) where
       (reply, later ++ rest, mid, ap (λ rs. rs ++ rest) e, step, runs_join mid t u cs more later rest ran more_ran)
 
 module _ {P T : Type 0} (path : P → List Bool) (back : List Bool → P) (width : ℕ) where
-  -- a run that sees the storage is a run
+  -- a run that describes the storage too is a run of the model
   pub run_of_stored : (s t : State T × Storage) (calls : List (Call P T)) (replies : List (Reply P T)) → RunInStorage path back width s calls replies t → Run path back width s.0 calls replies t.0
   run_of_stored s t [] replies (none, e) = (none, ap (λ x. x.0) e)
   run_of_stored s t (c ∷ cs) replies (reply, later, mid, e, step, ran) =

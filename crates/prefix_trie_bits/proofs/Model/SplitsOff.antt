@@ -1,4 +1,4 @@
--- The map that is split off and what is left of the first are together the map that there was.
+-- After `remove_children`, the two maps together have the entries that the one map had: for the laws of splitting.
 use Rattle.prefix_trie_bits.proofs.Prelude.{◌≡◌, ℕ, ◌+◌, Bool, true, false, cond, not, List, [], ◌∷◌, length, Option, None, Some, is_some, refl, sym, ap, ap₂, ◌∙◌, subst, false≢true, length-filter_both, Contains-append_left, Contains-append_right, Contains-push, get, len, find, entries, len-entries, get-entries, entries_sorted, contains_key, begins, listing_cmp, same_string, Entries, with_entry, without_below, part_below, put_all, AreWithin, SplitsOff, AreNodes, needed, listing, State, Splits, HandingLaws, IsMap, Sizes, child_block_sizes, value_block_sizes, child_count, own_entries, ArePacked, SplitsOffInStorage, packed_node_slots, packed_cell_slots, Nodes, has_node, Storage, zero, suc, ◌<◌, ◌≤◌, lit<, Contains, HasBlock, NodesHaveBlocks, packed_block, IsStoredMap, RemoveChildren, Done}
 use Rattle.prefix_trie_bits.proofs.Model.Members.{and-second, has-retained, same_entries, same_string-is, get-with_entry, get-without_below, get-part_below}
 use Rattle.prefix_trie_bits.proofs.Model.NodeSets.{AreNodes-needed}
@@ -9,7 +9,7 @@ use Rattle.prefix_trie_bits.proofs.Model.Storage.Shrinking.{smallest_of}
 use Rattle.prefix_trie_bits.proofs.Model.Storage.Staying.{stays_stored}
 use Rattle.prefix_trie_bits.proofs.Model.Storage.Supplied.{children_most, entries_most}
 
--- the blocks of a packed array are determined by the nodes and their numbers of items
+-- a packed array is determined by its nodes and by how many items each has
 packed_alike : (sizes : List ℕ) (n : Nodes) (count : List Bool → ℕ) (a b : Sizes) → ArePacked sizes n count a → ArePacked sizes n count b → a ≡ b
 packed_alike sizes n count a b is also = same_entries a b (λ p. at p (has_node n p) refl)
   where
@@ -17,7 +17,7 @@ packed_alike sizes n count a b is also = same_entries a b (λ p. at p (has_node 
     at p true e = is.at_nodes p e ∙ sym (also.at_nodes p e)
     at p false e = is.elsewhere p e ∙ sym (also.elsewhere p e)
 
--- so the second map's storage is determined
+-- so the storage of the map that is split off is determined
 stored_alike : {T : Type 0} (before : State T × Storage) (q : List Bool) (second after other later : State T × Storage)
     → SplitsOffInStorage before q second after → SplitsOffInStorage before q other later → second ≡ other
 stored_alike {T} before q second after other later h g =
@@ -42,7 +42,7 @@ stored_alike {T} before q second after other later h g =
     )
 
 module _ {T : Type 0} where
-  -- items of a map, set in another that has all else of the map, make the map
+  -- putting the items that were split off back makes the map that there was
   put_back : (s m : Entries T) (es : List (List Bool × T)) → ((e : List Bool × T) → Contains es e → get s e.0 ≡ Some e.1) →
       ((k : List Bool) → is_some (find listing_cmp k es) ≡ false → get m k ≡ get s k) → put_all (λ k. k) es m ≡ s
   put_back s m [] each rest = same_entries m s (λ k. rest k refl)
@@ -124,7 +124,7 @@ module _ {T : Type 0} where
         },
       )
 
--- a packed list has its block, and so has each node
+-- in a packed array each node has the block that it needs
 packed_has : (sizes : List ℕ) → goes_up 0 sizes ≡ true → (top : ℕ) → Contains sizes top → (count : ℕ) → count ≤ top → HasBlock sizes count (packed_block sizes count)
 packed_has sizes up top largest zero most = refl
 packed_has sizes up top largest (suc n) most =
@@ -137,7 +137,7 @@ packed_have sizes up top largest n count most blocks packed = record {
   elsewhere = packed.elsewhere;
 }
 
--- so both maps are stored as every map is
+-- both maps are stored correctly
 stored : {T : Type 0} (width : ℕ) (before : State T × Storage) (q : List Bool) (second after : State T × Storage) → IsStoredMap width before → length q ≤ width
     → SplitsOffInStorage before q second after → IsStoredMap width second × IsStoredMap width after
 stored width before q second after whole short h = (

@@ -8,7 +8,7 @@ use Rattle.prefix_trie_bits.proofs.Model.Pruning.{remove_law, remove_children_la
 use Rattle.prefix_trie_bits.proofs.Model.NodeSets.{key_cases, needed_insert, needed_stored, AreNodes-with_entry, AreNodes-stored, AreNodes-without_entry, AreNodes-no_entries, AreNodes-needed, tidy-no_entries}
 
 module _ {T : Type 0} where
-  -- keys within the width stay so
+  -- keys within the width stay within it after an insertion
   insert_within : (width : ℕ) (m : Entries T) (s : List Bool) (v : T) → length s ≤ width → AreWithin width m → AreWithin width (with_entry m s v)
   insert_within width m s v short within k e = elim (key_cases m s k v e) [ inl is ↦ subst (λ x. length x ≤ width) (sym is) short | inr old ↦ within k old ]
 

@@ -1,4 +1,4 @@
--- Each fitting call has a step from every map, however it is stored: for `total_laws`.
+-- Each fitting call has a step from every map, whatever its storage: for `total_laws`.
 use Rattle.prefix_trie_bits.proofs.Prelude.{◌≡◌, ℕ, ◌+◌, ◌<◌, ◌≤◌, ◌⊎◌, inl, inr, Bool, true, false, cond, List, [], ◌∷◌, length, All, refl, sym, ap, ◌∙◌, subst, arith, true≢false, cases_Bool, cases_eq, cases_lt, All-head, All-tail, get, contains_key, len, empty_of_len, no_layout, with_entry, without_entry, without_below, part_at_least, no_entries, missing_node_slots, missing_cell_slots, has_node, with_needed, needed, root_alone, nodes_without, nodes_without_below, LeavesSpace, MayPassLimit, State, Call, Insert, Remove, RemoveKeepTree, RemoveChildren, RetainAtLeast, Clear, ListAll, ListFrom, Children, Cover, CallFits, Reply, Value, Done, Refused, Refusal, IndexRange, Step, Storage, empty_storage, HaveBlocks, LeavesStorage, InsertsInStorage, RefusesInStorage, StepInStorage, RunInStorage, is_memory, is_refusal, may_refuse, IsMap, IsStoredMap, GivesCause, TotalLaws, nil_from_length}
 use Rattle.prefix_trie_bits.proofs.Model.Determined.{cause_of, no_refusal, refused, set}
 use Rattle.prefix_trie_bits.proofs.Model.Storage.Gained.{gained, gained_inserts}
@@ -11,7 +11,7 @@ use Rattle.prefix_trie_bits.proofs.Model.Storage.Staying.{one_gone, longer_left,
 use Rattle.prefix_trie_bits.proofs.Model.Steps.{stays_map}
 use Rattle.prefix_trie_bits.proofs.Model.Storage.Supplied.{supplied, stored_have}
 
--- a map has a node, the root's
+-- a map has at least one node, the root
 some_node : {T : Type 0} (width : ℕ) (s : State T) → IsMap width s → 1 ≤ len s.nodes
 some_node width s map = elim (cases_eq (len s.nodes) 0) as (λ _. 1 ≤ len s.nodes) [
   | inl none ↦ absurd (true≢false (sym map.are_nodes.rooted ∙ ap (λ n. has_node n []) (empty_of_len s.nodes none) ∙ has-empty []))
@@ -19,11 +19,11 @@ some_node width s map = elim (cases_eq (len s.nodes) 0) as (λ _. 1 ≤ len s.no
 ]
 
 module _ {P T : Type 0} (path : P → List Bool) (back : List Bool → P) (width : ℕ) (s : State T × Storage) (whole : IsStoredMap width s) where
-  -- a step that is no refusal, and leaves such a map
+  -- the call has a step that is not a refusal, and it leads to a map with a correct storage
   abbrev Answers : Call P T → Type 0
   Answers call = (reply : Reply P T) × (t : State T × Storage) × StepInStorage path back width s call reply t × (is_refusal reply ≡ false) × IsStoredMap width t
 
-  -- an insertion of a new key whose missing blocks would exceed the limit
+  -- the call inserts a new key whose missing blocks would exceed the limit
   abbrev IsFull : Call P T → Type 0
   IsFull call = (q : P) × (v : T) × (call ≡ Insert q v) × (contains_key s.0.entries (path q) ≡ false) × GivesCause s (path q) IndexRange
 
@@ -36,7 +36,7 @@ module _ {P T : Type 0} (path : P → List Bool) (back : List Bool → P) (width
     cells_grow = omega arith;
   }
 
-  -- a call that leaves all as it was
+  -- a call that changes nothing has a step
   still : (call : Call P T) (reply : Reply P T) → Step path back width s.0 call reply s.0 → (reply ≡ Refused IndexRange → MayPassLimit s.1.space)
       → LeavesStorage path s.0 call reply s.0 s.1 s.1 → StepInStorage path back width s call reply s
   still call reply step range storage = record { step = step; space = same_space; index_range = range; storage = storage }
@@ -44,7 +44,7 @@ module _ {P T : Type 0} (path : P → List Bool) (back : List Bool → P) (width
   asks : (call : Call P T) (reply : Reply P T) → is_refusal reply ≡ false → Step path back width s.0 call reply s.0 → LeavesStorage path s.0 call reply s.0 s.1 s.1 → Answers call
   asks call reply answers step storage = (reply, s, still call reply step (λ is. no_refusal (Refused IndexRange) reply refl answers (sym is)) storage, answers, whole)
 
-  -- a call that changes the map and keeps the number of slots
+  -- a call that changes the map and keeps the number of slots has a step
   changes : (call : Call P T) (reply : Reply P T) (t : State T) (after : Storage) → CallFits (λ q. length (path q) ≤ width) call → is_refusal reply ≡ false
       → Step path back width s.0 call reply t → after.space ≡ s.1.space → LeavesStorage path s.0 call reply t s.1 after → HaveBlocks t after.layout → Answers call
   changes call reply t after fits answers step same storage have = (
@@ -66,7 +66,7 @@ module _ {P T : Type 0} (path : P → List Bool) (back : List Bool → P) (width
     },
   )
 
-  -- one that empties it
+  -- a call that empties the map has a step
   empties : (call : Call P T) (t : State T) → CallFits (λ q. length (path q) ≤ width) call → Step path back width s.0 call Done t
       → LeavesStorage path s.0 call Done t s.1 (empty_storage s.1) → HaveBlocks t no_layout → Answers call
   empties call t fits step storage have = (
@@ -120,7 +120,7 @@ module _ {P T : Type 0} (path : P → List Bool) (back : List Bool → P) (width
       let l = many_left width s.0 t left s.1 whole.have_blocks in
       changes (RetainAtLeast n) Done t l.0 tt refl (refl, refl) l.1 l.2 l.3
 
-  -- the state after the removal of all that q begins
+  -- the state after the removal of all entries that begin with q
   abbrev below : P → State T
   below q = record { entries = without_below s.0.entries (path q); nodes = nodes_without_below s.0.nodes s.0.entries (path q) }
 
@@ -140,7 +140,7 @@ module _ {P T : Type 0} (path : P → List Bool) (back : List Bool → P) (width
 
   -- ---- insertions
 
-  -- the state after one
+  -- the state after a stored key is set again
   abbrev set_again : P → T → State T
   set_again q v = record { entries = with_entry s.0.entries (path q) v; nodes = s.0.nodes }
 
@@ -212,7 +212,7 @@ module _ {P T : Type 0} (path : P → List Bool) (back : List Bool → P) (width
 
   -- ---- all calls
 
-  -- a call has a step that is not a refusal, or it is an insertion without space
+  -- each fitting call has a step that is not a refusal, or it inserts a new key without space
   decided : (call : Call P T) → width ≤ 128 → CallFits (λ q. length (path q) ≤ width) call → Answers call ⊎ IsFull call
   decided (Insert q v) short fits = inserts q v short fits
   decided (Remove q) short fits = inl (removes q fits)
@@ -265,7 +265,7 @@ module _ {P T : Type 0} (path : P → List Bool) (back : List Bool → P) (width
     | inr full ↦ absurd (space full.0 full.1 full.2 full.3 full.4)
   ]
 
-  -- so each call has a step
+  -- so each fitting call has a step
   stepped : (call : Call P T) → width ≤ 128 → CallFits (λ q. length (path q) ≤ width) call →
       (reply : Reply P T) × (t : State T × Storage) × StepInStorage path back width s call reply t × IsStoredMap width t
   stepped call short fits = elim (decided call short fits) as (λ _. (reply : Reply P T) × (t : State T × Storage) × StepInStorage path back width s call reply t × IsStoredMap width t) [
@@ -288,7 +288,7 @@ module _ {P T : Type 0} (path : P → List Bool) (back : List Bool → P) (width
       let rest = runs one.1 calls short one.3 (All-tail (CallFits (λ q. length (path q) ≤ width)) call calls fit) in
       (one.0 ∷ rest.0, rest.1, (one.0, rest.0, one.1, refl, one.2, rest.2), rest.3)
 
-  -- without space an insertion has no step except a refusal
+  -- an insertion without space has no step except a refusal
   full : (s : State T × Storage) (q : P) (v : T) (reply : Reply P T) (t : State T × Storage) → contains_key s.0.entries (path q) ≡ false → GivesCause s (path q) IndexRange →
       StepInStorage path back width s (Insert q v) reply t → is_refusal reply ≡ true
   full s q v reply t new cause h = elim (cases_Bool (is_refusal reply)) as (λ _. is_refusal reply ≡ true) [

@@ -1,4 +1,4 @@
--- The number of nodes on the search path of a bit string: for `visit_laws`.
+-- The number of nodes that a lookup reads, which are those on its search path: for `visit_laws`.
 use Rattle.prefix_trie_bits.proofs.Prelude.{◌≡◌, ℕ, zero, suc, ◌+◌, ◌*◌, ◌/◌, ◌%◌, ◌≤◌, ◌<◌, Bool, true, false, cond, ◌&&◌, ◌||◌, nat_le, List, [], ◌∷◌, length, filter, Some, None, refl, sym, ap, ◌∙◌, subst, arith, true≢false, Option, take, is_some, length-take-le, ◌⊎◌, inl, inr, leb-true, le-leb, contains_key, keys, retain_keys, empty, len, len-insert, len-empty, list_any, take-begins, begins-take, begins-linear, begins-trans, same_bool, begins-length, listing_cmp, listing_total, same_string, begins, home, Nodes, has_node, with_nodes, AreNodes, Entries, shortest_match, visits, visits_of_match, visits_to_match, VisitLaws, cases_lt, cases_eq, or-false, filter_agree, length-filter, sum_by-le-sum_by}
 use Rattle.prefix_trie_bits.proofs.Model.Levels.{at_level, depth_of}
 use Rattle.prefix_trie_bits.proofs.Model.Homes.{home-depth, home-begins}
@@ -10,7 +10,7 @@ use Rattle.prefix_trie_bits.proofs.Model.Storage.Counting.{passing-len, few_behi
 pub fives : (l : ℕ) → l % 5 ≡ 0 → 5 * (l / 5) ≡ l
 fives l e = omega (arith, e)
 
--- the beginnings of q of at most 5 * k bits at which a node can be
+-- the beginnings of q, one for each five bits, at which a node on its search path can be
 abbrev levels : List Bool → ℕ → List (List Bool)
 levels q zero = at_level q zero ∷ []
 levels q (suc k) = at_level q (suc k) ∷ levels q k
@@ -33,7 +33,7 @@ length-levels : (q : List Bool) (k : ℕ) → length (levels q k) ≡ k + 1
 length-levels q zero = refl
 length-levels q (suc k) = let r = length-levels q k in omega (arith, r)
 
--- the set of them
+-- the set of these beginnings
 abbrev level_set : List Bool → ℕ → Nodes
 level_set q k = with_nodes empty (levels q k)
 
@@ -55,7 +55,7 @@ len-levels q (suc k) short =
     absurd (omega (arith, same, long, other, within))))
     ∙ (let rest = len-levels q k (omega (arith, short)) in omega (arith, rest))
 
--- a node whose string begins q is one of them
+-- a node that begins q is one of them
 at_its_level : (n : Nodes) (q s : List Bool) → ((s : List Bool) → has_node n s ≡ true → length s % 5 ≡ 0) → contains_key (retain_keys n (λ t. begins t q)) s ≡ true
     → (begins s q ≡ true) × (has_node n s ≡ true) × (length s % 5 ≡ 0) × (at_level q (length s / 5) ≡ s)
 at_its_level n q s depths has =
@@ -72,7 +72,7 @@ visits-bound n q depths =
     (begins-nil s, subst (λ x. list_any (same_string x) (levels q (length q / 5)) ≡ true) h.3 (in_levels q (length q / 5) (length s / 5) (omega (arith, short))))) in
     omega (arith, few, passing-len (λ s. begins s q) n, length-levels q (length q / 5))
 
--- a narrower test passes no more
+-- a test with one more condition is passed by no more strings
 fewer : (p r : List Bool → Bool) (ss : List (List Bool)) → length (filter (λ s. p s && r s) ss) ≤ length (filter p ss)
 fewer p r ss =
     omega (arith, length-filter (λ s. p s && r s) ss, length-filter p ss, sum_by-le-sum_by (λ s. cond (p s && r s) 1 0) (λ s. cond (p s) 1 0) ss (λ s. less (p s) (r s)))
@@ -98,7 +98,8 @@ module _ {T : Type 0} where
   by_match n q None = omega arith
   by_match n q (Some e) = fewer (λ s. begins s q) (λ s. nat_le (length s) (length e.0)) (keys n)
 
--- the number for a set of nodes that is closed: what the descent of a lookup counts
+-- in a node set with the nodes above each of its nodes, the number of nodes that begin q is what a lookup counts on
+-- its way down
 pub visits-exact : (n : Nodes) (q : List Bool) (k : ℕ) → ((s : List Bool) → has_node n s ≡ true → length s % 5 ≡ 0) → ((s t : List Bool) → has_node n t ≡ true → begins s t ≡ true → length s % 5 ≡ 0 → has_node n s ≡ true)
     → 5 * k ≤ length q → has_node n (take (5 * k) q) ≡ true → (length q < 5 * (k + 1)) ⊎ (has_node n (take (5 * (k + 1)) q) ≡ false) → visits n q ≡ k + 1
 visits-exact n q k depths closed short there ends =
@@ -131,7 +132,7 @@ visits-exact n q k depths closed short there ends =
           ]
     ]
 
--- a beginning of q that is no longer than another one begins that one
+-- of two beginnings of q, the shorter begins the longer
 pub begins-within : (k q s : List Bool) → begins k q ≡ true → (begins s q && nat_le (length s) (length k)) ≡ begins s k
 begins-within k q s e =
     same_bool (begins s q && nat_le (length s) (length k)) (begins s k)

@@ -1,4 +1,4 @@
--- The worked rows, examples and facts of the model, proved by a plain model that computes.
+-- The worked rows, examples and facts of the model, which the plain model proves by computing.
 pub mod Plain
 pub mod Played
 pub mod Rows

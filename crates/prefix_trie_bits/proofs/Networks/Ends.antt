@@ -1,9 +1,9 @@
--- The lowest and the highest address of a network, as numbers.
+-- The lowest and the highest address of a network, as numbers: for `network` and `last`.
 use Rattle.std.proofs.Common.{◌≡◌, ℕ, zero, suc, ◌+◌, ◌-◌, ◌*◌, ◌/◌, ◌^◌, ◌<◌, ◌≤◌, Bool, true, List, [], ◌∷◌, ◌++◌, take, refl, sym, ap, ap₂, ◌∙◌, arith, pow-suc, pow_pos, one-add}
 use Rattle.prefix_trie_bits.specs.Bits.{number, digits, zeros, ones}
 use Rattle.prefix_trie_bits.specs.BitStrings.{digits-keep, digits-cat, take-digits, number-bits, extend-below}
 
--- the number that known bits write
+-- a number is what its digits write
 pub number_is : (w n : ℕ) (s : List Bool) → n < 2 ^ w → digits w n ≡ s → n ≡ number s
 number_is w n s fits e = sym (number-bits w n fits) ∙ ap number e
 
@@ -11,7 +11,7 @@ one : digits 1 1 ≡ true ∷ []
 unfolding digits
 one = refl
 
--- the digits of 2^k - 1
+-- the k digits of 2^k - 1 are ones
 ones_digits : (k : ℕ) → digits k (2 ^ k - 1) ≡ ones k
 unfolding digits
 ones_digits zero = refl
@@ -24,7 +24,7 @@ ones_digits (suc k) =
     let whole : digits (suc k) (2 ^ suc k - 1) ≡ digits 1 1 ++ digits k low = ap₂ digits (sym (one-add k)) parts ∙ cut in
     whole ∙ ap₂ ◌++◌ one (ones_digits k)
 
--- the path and then zeros, plus 2^(w - k) - 1, is the path and then ones
+-- adding 2^(w - k) - 1 to a path followed by zeros gives the path followed by ones
 pub last_is : (w v k n host : ℕ) → k ≤ w → v < 2 ^ w → n < 2 ^ w → digits w n ≡ take k (digits w v) ++ zeros (w - k) → host ≡ 2 ^ (w - k) - 1 → (n + host < 2 ^ w) × (n + host ≡ number (take k (digits w v) ++ ones (w - k)))
 last_is w v k n host h small fits e is =
     let b = w - k in

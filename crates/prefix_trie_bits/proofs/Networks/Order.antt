@@ -21,14 +21,14 @@ equal x = grind (arith, nat_tests)
 greater : (x y : ℕ) → y < x → nat_cmp x y ≡ Greater
 greater x y h = grind (arith, nat_tests)
 
--- a number that is added on both sides changes nothing
+-- adding the same number on both sides does not change a comparison
 shifted : (c x y : ℕ) → nat_cmp (c + x) (c + y) ≡ nat_cmp x y
 shifted c x y = grind (arith, nat_tests)
 
 longer : (m n : ℕ) → nat_cmp (suc m) (suc n) ≡ nat_cmp m n
 longer m n = grind (arith, nat_tests)
 
--- the number of a path and then zeros
+-- the number whose digits are a path and then zeros
 abbrev filled : ℕ → List Bool → ℕ
 filled w s = number (s ++ zeros (w - length s))
 
@@ -65,7 +65,7 @@ nothing_after x y m none = elim (cases_lt y x) [
       ap (λ o. ordering_then o (nat_cmp (suc m) 0)) (equal x) ∙ greater (suc m) 0 (omega arith)
 ]
 
--- by the numbers, and then by the lengths
+-- the order by address and then by length
 abbrev by_numbers : ℕ → List Bool → List Bool → Ordering
 by_numbers w s t = ordering_then (nat_cmp (filled w s) (filled w t)) (nat_cmp (length s) (length t))
 

@@ -1,4 +1,4 @@
--- The parent of a network: its path is one bit shorter, and the rest are zeros.
+-- The parent of a network: the path is one bit shorter, and the other bits are zeros: for `parent`.
 use Rattle.std.proofs.Common.{◌≡◌, ℕ, ◌-◌, ◌^◌, ◌<◌, ◌≤◌, Bool, List, ◌++◌, length, take, sym, ap, ap₂, ◌∙◌, arith}
 use Rattle.std.proofs.lemmas.List.{take-take}
 use Rattle.prefix_trie_bits.specs.Bits.{number, digits, zeros}

@@ -1,4 +1,4 @@
--- The number of an address and its bytes determine each other.
+-- The number of an address and its bytes determine each other: for `text_laws`.
 use Rattle.std.proofs.Common.{◌≡◌, ℕ, zero, suc, ◌-◌, ◌+◌, ◌*◌, ◌/◌, ◌%◌, ◌^◌, ◌<◌, List, [], ◌∷◌, length, get_or, refl, sym, ap, ◌∙◌, arith}
 use Rattle.std.specs.Int.{w32, w128, to_be_bytes, from_be_bytes, bytes_high_first, byte_at}
 use Rattle.std.specs.Net.Addr.{segments_of, octets_of, ipv4_bits, ipv6_bits}
@@ -24,7 +24,7 @@ digits_sum : (q0 q1 q2 q3 q4 q5 q6 q7 q8 q9 q10 q11 q12 q13 q14 q15 r0 r1 r2 r3 
     → r15 * 256 ^ 15 + r14 * 256 ^ 14 + r13 * 256 ^ 13 + r12 * 256 ^ 12 + r11 * 256 ^ 11 + r10 * 256 ^ 10 + r9 * 256 ^ 9 + r8 * 256 ^ 8 + r7 * 256 ^ 7 + r6 * 256 ^ 6 + r5 * 256 ^ 5 + r4 * 256 ^ 4 + r3 * 256 ^ 3 + r2 * 256 ^ 2 + r1 * 256 ^ 1 + r0 ≡ q0
 digits_sum q0 q1 q2 q3 q4 q5 q6 q7 q8 q9 q10 q11 q12 q13 q14 q15 r0 r1 r2 r3 r4 r5 r6 r7 r8 r9 r10 r11 r12 r13 r14 r15 h0 h1 h2 h3 h4 h5 h6 h7 h8 h9 h10 h11 h12 h13 h14 h15 = omega arith
 
--- sixteen bytes and back: each byte is a remainder of a division by 256
+-- the sixteen bytes of a number make the number again, where each byte is a remainder of a division by 256
 pub from_be_bytes-to_be_bytes_16 : (n : ℕ) → n < 2 ^ 128 → from_be_bytes w128 (to_be_bytes w128 n) ≡ n
 from_be_bytes-to_be_bytes_16 n fits =
     let s0 : n ≡ n / 256 * 256 + n % 256 = omega arith in
@@ -58,7 +58,7 @@ bytes-below (suc k) n i =
     byte-below zero n = omega arith
     byte-below (suc k) n = omega arith
 
--- two octets make a segment
+-- the segments made of octets are below 2^16
 pub segments-below : (bs : List ℕ) → ((i : ℕ) → get_or bs i 0 < 256) → (i : ℕ) → get_or (segments_of bs) i 0 < 2 ^ 16
 segments-below [] h i = omega arith
 segments-below (a ∷ []) h i = omega arith
@@ -67,7 +67,7 @@ segments-below (a ∷ b ∷ bs) h i =
     let first : a * 256 + b < 2 ^ 16 = omega (arith, h 0, h 1) in
     elim i as (λ j. get_or ((a * 256 + b) ∷ segments_of bs) j 0 < 2 ^ 16) [ zero ↦ first | suc j ↦ later j ]
 
--- a segment makes two octets
+-- the octets of segments made of octets are these octets
 pub octets-segments : (k : ℕ) (bs : List ℕ) → length bs ≡ k + k → ((i : ℕ) → get_or bs i 0 < 256) → octets_of (segments_of bs) ≡ bs
 octets-segments k [] even h = refl
 octets-segments k (a ∷ []) even h = absurd (omega (arith, even))
@@ -77,7 +77,7 @@ octets-segments k (a ∷ b ∷ bs) even h =
     let later = octets-segments (k - 1) bs (omega (arith, even)) (λ j. h (suc (suc j))) in
     rw (high, low, later) refl
 
--- the number of the address of a number
+-- a number is the number of the address with its bytes
 pub bits_of_ipv4 : (n : ℕ) → n < 2 ^ 32 → n ≡ ipv4_bits (record { octets = to_be_bytes w32 n })
 unfolding ipv4_bits
 bits_of_ipv4 n fits = sym (from_be_bytes-to_be_bytes_4 n fits)

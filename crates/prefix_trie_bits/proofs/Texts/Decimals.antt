@@ -1,4 +1,5 @@
--- A number in plain decimal, with no sign and no leading zero, is what `read_decimal` reads.
+-- `read_decimal` reads exactly the numbers in plain decimal, with no sign and no leading zero: for `parse` of lengths
+-- and of `Narrow`.
 use Rattle.std.proofs.Common.{◌≡◌, ◌≢◌, ℕ, ◌^◌, ◌<◌, ◌≤◌, List, length, get_or, Result, Ok, decimal, sym, ◌∙◌, ap, arith, inl, inr}
 use Rattle.std.specs.Str.Parse.{AllDigits, digits_value, ParsesUnsigned}
 use Rattle.std.proofs.lemmas.Bool.{cases_lt}
@@ -9,7 +10,7 @@ use Rattle.std.proofs.lemmas.Str.Parse.{IsNumeralModel, numerals_by_value, tells
 own : IsNumeralModel (AllDigits 10) (digits_value 10)
 own = numerals_by_value _ tells_digits
 
--- the text has no sign and no leading zero
+-- a text without a sign and without a leading zero
 pub record IsPlain (text : List ℕ) : Type 0 where
   pub some : 0 < length text
   pub no_plus : get_or text 0 0 ≢ 43
@@ -28,17 +29,17 @@ decimal-plain text n small e =
       ];
     })
 
--- the number that `parse` reads of a plain text is the one that the text writes
+-- if `parse` reads a number from a plain text, the text is that number in decimal
 pub read : {E : Type 0} (text : List ℕ) (n : ℕ) (r : Result ℕ E) → IsPlain text → r ≡ Ok n → ParsesUnsigned 64 10 text r → text ≡ decimal n
 read text n r plain is parsed =
     let h = rw is at (parse_plain own 64 text r parsed plain.no_plus) in
     let small : digits_value 10 text < 2 ^ 64 = omega (arith, h.0.2) in
     sym (ap decimal h.1 ∙ decimal-digits_value own text h.0.0 h.0.1 plain.no_zero small)
 
--- `parse` reads each number in plain decimal
+-- `parse` reads each number that is written in plain decimal
 pub reads : {E : Type 0} (text : List ℕ) (n : ℕ) (r : Result ℕ E) → n < 2 ^ 64 → text ≡ decimal n → ParsesUnsigned 64 10 text r → r ≡ Ok n
 reads text n r fits e = parse-decimal 64 n text r fits (omega arith) e
 
--- a number of at most 63 bits fits in 64
+-- a number of at most 63 bits is below 2^64
 pub narrow_fits : (width n : ℕ) → width ≤ 63 → n < 2 ^ width → n < 2 ^ 64
 narrow_fits width n within h = omega (arith, pow_below width 64 (omega arith))

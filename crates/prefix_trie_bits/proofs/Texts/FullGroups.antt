@@ -1,4 +1,4 @@
--- Eight groups of four digits each are the text of an IPv6 address.
+-- Eight groups of four digits are a text of an IPv6 address: for `text_laws` and the `Debug` text.
 use Rattle.std.proofs.Common.{◌≡◌, ℕ, suc, ◌/◌, ◌%◌, ◌^◌, ◌<◌, List, [], ◌∷◌, length, get_or, flat_map, true, refl, arith, inl}
 use Rattle.std.proofs.lemmas.Bool.Decides.{nat_tests}
 use Rattle.std.specs.Char.{digit_value, digit_char}

@@ -1,4 +1,4 @@
--- The content of an `InlineText` after some writes.
+-- The content of an `InlineText` after some writes: for padded texts.
 use Rattle.std.proofs.Common.{◌≡◌, ℕ, List, [], ◌∷◌, ◌++◌, sym, ap, ◌∙◌, subst, Option, Some, None, IfSome, append-nil, append_assoc}
 use Rattle.std.specs.Option.{option_map}
 use Rattle.std.specs.List.{FoldsTo, concat}

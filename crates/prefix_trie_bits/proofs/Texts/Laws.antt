@@ -1,4 +1,5 @@
--- What is written is read back, since a text denotes at most one network: for `text_laws`.
+-- A text that is written is read back as the same network, since a text is that of at most one network: for
+-- `text_laws`.
 use Rattle.std.proofs.Common.{◌≡◌, ℕ, ◌^◌, ◌<◌, ◌≤◌, List, Result, Ok, refl, sym, ap, ◌∙◌, subst, arith, zero, suc, [], ◌∷◌, get_or, ◌++◌, decimal}
 use Rattle.std.proofs.lemmas.Fmt.{decimal_injective}
 use Rattle.std.proofs.lemmas.Nat.{be_bytes_4}

@@ -1,4 +1,4 @@
--- What `parse` returns for a text, in each of its four cases.
+-- What `parse` returns for a text, in each of its four cases: for `from_str` of networks.
 use Rattle.std.proofs.Common.{◌≡◌, ◌≢◌, ℕ, ◌≤◌, List, [], ◌∷◌, ◌++◌, Option, Some, None, Ok, Err, decimal, Bor, refl, sym, ap, ◌∙◌, subst, arith, append_assoc}
 use Rattle.std.proofs.lemmas.Str.Pattern.{IsSplitOnceResult, split_parts, split_once_first}
 use Rattle.prefix_trie_bits.specs.Texts.{IsNetworkText, ParsesNetwork, before_slash, after_slash}
@@ -25,7 +25,7 @@ module _ {A : Type 0} (Spells : List ℕ → A → Type 0) (bits : A → ℕ) (w
     parts : (x.0.now ≡ before_slash Spells bits width text) × (x.1.now ≡ after_slash Spells bits width text)
     parts = let h = split_once_first 47 text (Some x) split (omega arith) in (h.1, h.2)
 
-    -- the first slash of a network's text ends its address
+    -- the text before the first slash is the address, and the text after it is the length
     cut : (p : ℕ × ℕ) (h : IsNetworkText Spells bits width text p) → (x.0.now ≡ h.front) × (x.1.now ≡ decimal p.1)
     cut p h = same_cut _ _ _ _ front_free (free _ _ h.spells) (sym whole ∙ spelled p h)
 

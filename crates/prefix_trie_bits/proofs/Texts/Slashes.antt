@@ -1,4 +1,4 @@
--- No text of an address has a slash, so the first slash of a network's text ends its address.
+-- The text of an address has no slash, so the first slash of a network's text ends its address: for `from_str`.
 use Rattle.std.proofs.Common.{◌≡◌, ◌≢◌, ℕ, ◌<◌, ◌≤◌, inl, inr, Bool, true, false, List, [], ◌∷◌, ◌++◌, length, get_or, decimal, Contains, refl, sym, ap, ◌∙◌, arith, suc}
 use Rattle.std.proofs.lemmas.List.{get_or_default}
 use Rattle.std.proofs.lemmas.Fmt.{decimal_is_IsNumeral}
@@ -6,7 +6,7 @@ use Rattle.std.specs.Char.{digit_value}
 use Rattle.std.specs.Str.Parse.{AllDigits}
 use Rattle.std.specs.Net.Grammar.{IsDotted, IsGroupsAfter, IsColonHex}
 
--- no byte is a slash
+-- a text without a slash
 abbrev pub Free : List ℕ → Type 0
 Free [] = Unit {0}
 Free (c ∷ cs) = (c ≢ 47) × Free cs
@@ -56,7 +56,7 @@ Free-colon_hex text segments h =
           rw some.spelled (Free-append _ _ (Free-append _ _ front ((λ e. omega arith), ((λ e. omega arith), tt))) back)
     ]
 
--- the parts before and after the first slash
+-- two texts with the same first slash have the same parts before and after it
 pub same_cut : (xs ys xs' ys' : List ℕ) → Free xs → Free xs' → xs ++ 47 ∷ ys ≡ xs' ++ 47 ∷ ys' → (xs ≡ xs') × (ys ≡ ys')
 same_cut [] ys [] ys' h k e = (refl, ap (λ t. tail t) e)
   where

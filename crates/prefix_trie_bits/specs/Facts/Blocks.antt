@@ -5,14 +5,14 @@ use Rattle.prefix_trie_bits.specs.Model.Blocks.{value_block_sizes, child_block_s
 use Rattle.prefix_trie_bits.specs.Model.Insertion.{block_needed, slots_of_missing}
 use Rattle.prefix_trie_bits.specs.Model.Space.{Space, MayPassLimit, LeavesSpace}
 
--- no block is free, and one of each size but the largest
+-- no free block of any size, and one free block of each size except the largest
 abbrev pub none_free : List ℕ
 none_free = 0 ∷ 0 ∷ 0 ∷ 0 ∷ 0 ∷ 0 ∷ 0 ∷ []
 
 abbrev pub six_free : List ℕ
 six_free = 1 ∷ 1 ∷ 1 ∷ 1 ∷ 1 ∷ 1 ∷ 0 ∷ []
 
--- a list of three has a block of four or a larger one
+-- a list of three items has a block of four slots or a larger one
 pub record HasBlockFacts : Type 0 where
   pub three_in_four : HasBlock value_block_sizes 3 (Some 4)
   pub three_in_larger : HasBlock value_block_sizes 3 (Some 24)
@@ -22,21 +22,21 @@ pub record HasBlockFacts : Type 0 where
   pub not_in_none : ¬ (HasBlock value_block_sizes 3 None)
   pub not_none_in_one : ¬ (HasBlock value_block_sizes 0 (Some 1))
 
--- the block that a list needs before it grows by one: row 14's root at each size, a block with a
--- free slot, row 17's last insertion, and row 15's root with 24 children
+-- the block that a list needs for one more item: row 14's root at each size, a block with a free slot, row 17's last
+-- insertion, and row 15's root with 24 children
 pub record BlockNeededFacts : Type 0 where
   pub in_turn : map (λ (e : Option ℕ × ℕ). block_needed value_block_sizes e.0 e.1)
       ((None, 0) ∷ (Some 1, 1) ∷ (Some 2, 2) ∷ (Some 4, 4) ∷ (Some 8, 8) ∷ (Some 16, 16) ∷ (Some 24, 24) ∷ [])
       ≡ Some 1 ∷ Some 2 ∷ Some 4 ∷ Some 8 ∷ Some 16 ∷ Some 24 ∷ Some 31 ∷ []
   pub with_space : block_needed value_block_sizes (Some 4) 3 ≡ None
   pub children : block_needed child_block_sizes (Some 24) 24 ≡ Some 32
-  -- two blocks of one and one of two are needed; none is free, one of one is free, and more are
-  -- free than needed
+  -- two blocks of one slot and one of two are needed: with none free, with one of one slot free, and with more free
+  -- than needed
   pub lacking : map (λ free. slots_of_missing child_block_sizes free (1 ∷ 2 ∷ 1 ∷ []))
       (none_free ∷ (1 ∷ 0 ∷ 0 ∷ 0 ∷ 0 ∷ 0 ∷ 0 ∷ []) ∷ (3 ∷ 2 ∷ 0 ∷ 0 ∷ 0 ∷ 0 ∷ 0 ∷ []) ∷ []) ≡ 4 ∷ 3 ∷ 0 ∷ []
   pub free : map (free_of child_block_sizes (3 ∷ 1 ∷ 4 ∷ 1 ∷ 5 ∷ 9 ∷ 2 ∷ [])) (1 ∷ 8 ∷ 24 ∷ 32 ∷ 31 ∷ []) ≡ 3 ∷ 1 ∷ 9 ∷ 2 ∷ 0 ∷ []
 
--- a block of 31 whose list falls from 25 to 24, as in row 17: it must step down if one of 24 is
+-- a block of 31 slots whose list shrinks from 25 to 24 items, as in row 17: it must step down if a block of 24 is
 -- free, and may stay otherwise
 pub record StepsDownFacts : Type 0 where
   pub onto_free : StepsDown value_block_sizes six_free 25 24 (Some 31) (Some 24)
@@ -49,7 +49,7 @@ pub record StepsDownFacts : Type 0 where
   pub not_left_over : ¬ (StepsDown value_block_sizes none_free 1 0 (Some 1) (Some 1))
   pub not_more : ¬ (StepsDown value_block_sizes none_free 1 2 (Some 1) (Some 2))
 
--- one of 31 whose list falls to nine in several removals: it has 31, 24 or 16
+-- a block of 31 slots whose list shrinks to nine items in several removals: it has 31, 24 or 16 slots then
 pub record StepsBetweenFacts : Type 0 where
   pub stays : StepsBetween value_block_sizes 31 9 (Some 31) (Some 31)
   pub half_way : StepsBetween value_block_sizes 31 9 (Some 31) (Some 24)
@@ -84,7 +84,7 @@ pub record SpaceFacts : Type 0 where
   pub not_cells_past_limit : ¬ (LeavesSpace 1 (space_of 100 1 60) (space_of 100 1 101))
   pub not_57_for_nodes : ¬ (LeavesSpace 1 (space_of 100 1 0) (space_of 100 58 0))
   pub not_57_for_cells : ¬ (LeavesSpace 1 (space_of 100 1 0) (space_of 100 1 57))
-  -- the most that an insertion may need passes the limit by nodes, by cells, and by neither
+  -- the most slots that an insertion may need exceed the limit for nodes, for values, and for neither
   pub by_nodes : MayPassLimit (space_of 100 45 0)
   pub by_cells : MayPassLimit (space_of 100 1 70)
   pub by_neither : ¬ (MayPassLimit (space_of 100 44 69))
@@ -93,7 +93,8 @@ pub record SpaceFacts : Type 0 where
 abbrev pub at_slot : ℕ → ℕ → Block
 at_slot start size = record { start = start; size = size }
 
--- blocks that tile an array of nodes, and some that do not; and in-use blocks that leave a slot without an owner, or give it two
+-- blocks that tile an array of nodes, blocks that do not, and used blocks that leave a slot without an owner or give
+-- it two
 pub record TilesFacts : Type 0 where
   pub tiled : Tiles child_block_sizes 1 (at_slot 1 2 ∷ at_slot 3 1 ∷ []) 4
   pub not_with_gap : ¬ (Tiles child_block_sizes 1 (at_slot 1 2 ∷ at_slot 4 1 ∷ []) 5)

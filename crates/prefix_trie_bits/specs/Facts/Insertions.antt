@@ -1,5 +1,5 @@
--- Worked facts on the blocks that an insertion needs and those that are missing, on the maps of
--- rows; and on holders. They are this project's own.
+-- Worked facts on the blocks that an insertion needs and those that are missing, on the maps of rows, and on nodes
+-- with values. They are this project's own.
 use Rattle.std.specs.Prelude.{◌≡◌, ℕ, ◌++◌, true, false, Bool, List, [], ◌∷◌, map, take, Some, None}
 use Rattle.std.specs.FinMap.{from_sorted}
 use Rattle.prefix_trie_bits.specs.Model.Blocks.{Sizes, Layout, own_entries, child_count, no_layout}
@@ -21,7 +21,7 @@ by_path width b = (path_at width b.0, b.1)
 abbrev pub sizes_at : ℕ → Blocks → Sizes
 sizes_at width blocks = from_sorted (map (by_path width) blocks)
 
--- the layout with these child blocks and value blocks in use, and so many free
+-- the layout with these used blocks of children and of values, and these numbers of free blocks
 abbrev pub layout_at : ℕ → Blocks → Blocks → List ℕ → List ℕ → Layout
 layout_at width children vals free_children free_values = record {
   child_blocks = sizes_at width children;
@@ -39,7 +39,7 @@ lacking width t layout q = (missing_node_slots t.nodes layout (path_at width q),
 abbrev pub with_one : ℕ × ℕ → (ℕ × ℕ) × ℕ
 with_one p = (p, 1)
 
--- so many blocks of one slot free
+-- n free blocks of one slot
 abbrev pub ones_free : ℕ → List ℕ
 ones_free n = n ∷ 0 ∷ 0 ∷ 0 ∷ 0 ∷ 0 ∷ 0 ∷ []
 
@@ -68,7 +68,8 @@ abbrev pub three_slots : Layout
 three_slots = layout_at 8 (((0, 0), 1) ∷ []) (((0, 0), 2) ∷ ((0, 5), 1) ∷ []) none_free none_free
 
 pub record InsertionsHold : Type 0 where
-  -- row 37 and row 13: the first key needs six child blocks and a value block. It passes a limit of 4, and a short key does not
+  -- rows 37 and 13: the first key needs six child blocks and a value block, which exceeds a limit of 4; a short key
+  -- does not
   pub first_key : LeadsTo 32 [] (λ t.
       (lacking 32 t no_layout (0, 32) ≡ (6, 1))
       × (lacking 32 t no_layout (0, 4) ≡ (0, 1))
@@ -95,7 +96,7 @@ pub record InsertionsHold : Type 0 where
       ≡ Some 2 ∷ Some 1 ∷ None ∷ [])
       × (map (λ p. value_block_needed t.entries far_layout.value_blocks (path_at 32 (0, 32)) (path_at 32 p)) ((0, 30) ∷ (0, 0) ∷ (0, 25) ∷ [])
       ≡ Some 1 ∷ None ∷ None ∷ [])
-      -- its neighbour has its node already: no node gets a child, and that node needs a block of two
+      -- its neighbour has a node already: no node gets a child, and that node needs a block of two slots
       × (gains_child t.nodes (path_at 32 (0xfffffffe, 32)) (path_at 32 (0xffffff80, 25)) ≡ false)
       × (lacking 32 t far_layout (0xfffffffe, 32) ≡ (0, 2)))
   -- row 14: with 24 entries the root's block of 24 is full and one of 31 is missing; with 23
@@ -104,7 +105,7 @@ pub record InsertionsHold : Type 0 where
       lacking 8 t (layout_at 8 [] (((0, 0), 24) ∷ []) none_free (1 ∷ 1 ∷ 1 ∷ 1 ∷ 1 ∷ 0 ∷ 0 ∷ [])) (192, 2) ≡ (0, 31))
   pub with_space : LeadsTo 8 (sets (counted (take 23 short_pairs))) (λ t.
       lacking 8 t (layout_at 8 [] (((0, 0), 24) ∷ []) none_free (1 ∷ 1 ∷ 1 ∷ 1 ∷ 1 ∷ 0 ∷ 0 ∷ [])) (176, 4) ≡ (0, 0))
-  -- row 17: the block of 24 is full again, and the free one of 31 serves
+  -- row 17: the block of 24 is full again, and the free block of 31 is taken
   pub free_serves : LeadsTo 8 seven_removed (λ t.
       (own_entries t.entries [] ≡ 24)
       × (lacking 8 t (layout_at 8 [] (((0, 0), 24) ∷ []) none_free (1 ∷ 1 ∷ 1 ∷ 1 ∷ 1 ∷ 0 ∷ 1 ∷ [])) (240, 4) ≡ (0, 0)))

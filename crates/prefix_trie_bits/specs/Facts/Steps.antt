@@ -1,4 +1,4 @@
--- Worked facts on storages that no step leaves, all of row 38's map as first filled. They are this project's own.
+-- Worked facts on storages to which no step leads, all from row 38's map as first filled. They are this project's own.
 use Rattle.std.specs.Prelude.{◌≡◌, ℕ, List, [], ◌∷◌}
 use Rattle.std.specs.FinMap.{empty}
 use Rattle.prefix_trie_bits.specs.Model.Blocks.{Layout, KeepsBlocks, NodesHaveBlocks, value_block_sizes, own_entries}
@@ -9,11 +9,11 @@ use Rattle.prefix_trie_bits.specs.Rows.Examples.{path_at, back_at, LeadsTo, sets
 use Rattle.prefix_trie_bits.specs.Facts.Blocks.{none_free, space_of}
 use Rattle.prefix_trie_bits.specs.Facts.Insertions.{Blocks, sizes_at, layout_at, ones_free, three_slots}
 
--- a storage of a map of eight bits under a limit of 10, with so many slots for nodes and for values
+-- the storage of a map of eight bits with a limit of 10, and with these numbers of slots for nodes and for values
 abbrev pub storage_with : ℕ → ℕ → Layout → Storage
 storage_with nodes cells layout = record { space = space_of 10 nodes cells; layout = layout }
 
--- the storage of row 38's map as first filled: a child block of one; value blocks of two and of one
+-- the storage of row 38's map as first filled: a child block of one slot, and value blocks of two and of one
 abbrev pub filled : Storage
 filled = storage_with 2 3 three_slots
 
@@ -21,19 +21,19 @@ filled = storage_with 2 3 three_slots
 abbrev pub CannotLead : State ℕ → Storage → Call (ℕ × ℕ) ℕ → Storage → Type 0
 CannotLead t before call after = (reply : Reply (ℕ × ℕ) ℕ) (u : State ℕ) → ¬ (StepInStorage (path_at 8) (back_at 8) 8 (t, before) call reply (u, after))
 
--- none leads from the map as first filled to this storage
+-- no step of the call leads from the map as first filled to this storage
 abbrev pub CannotLeave : State ℕ → Call (ℕ × ℕ) ℕ → Storage → Type 0
 CannotLeave t = CannotLead t filled
 
--- an insertion is not refused for the cause with the storage left that is named last
+-- the insertion is not refused for this cause and with this storage afterwards
 abbrev pub CannotRefuse : State ℕ → Storage → ℕ × ℕ → Refusal → Storage → Type 0
 CannotRefuse t before q cause after = (u : State ℕ) → ¬ (StepInStorage (path_at 8) (back_at 8) 8 (t, before) (Insert q 5) (Refused cause) (u, after))
 
--- these are the value blocks once the key (64, 2) has those that it needs
+-- the value blocks after the key (64, 2) got those that it needs
 abbrev pub Takes : State ℕ → Blocks → Type 0
 Takes t blocks = TakesBlocks (value_block_needed t.entries three_slots.value_blocks (path_at 8 (64, 2))) three_slots.value_blocks (sizes_at 8 blocks)
 
--- blocks of two and of four free, and of both one and two
+-- free blocks: one of two slots, one of four, and one each of one and two
 abbrev pub two_free : List ℕ
 two_free = 0 ∷ 1 ∷ 0 ∷ 0 ∷ 0 ∷ 0 ∷ 0 ∷ []
 
@@ -66,13 +66,13 @@ pub record RemoveFacts (t : State ℕ) : Type 0 where
   pub not_children : CannotLeave t (Remove (0, 1)) (storage_with 4 3 (layout_at 8 (((0, 0), 2) ∷ []) (root_value 2) (ones_free 1) none_free))
   pub not_limit : CannotLeave t (Remove (0, 1)) (record { space = space_of 11 2 3; layout = three_slots })
 
--- a node that goes leaves its value block and its parent's child block free
+-- a node that is removed leaves its value block and its parent's child block free
 pub record PruneFacts (t : State ℕ) : Type 0 where
   pub not_with_values : CannotLeave t (Remove (0, 5)) (storage_with 2 3 (layout_at 8 [] (root_value 2) (ones_free 1) none_free))
   pub not_with_children : CannotLeave t (Remove (0, 5)) (storage_with 2 3 (layout_at 8 root_child (((0, 0), 2) ∷ []) none_free (ones_free 1)))
   pub not_lost : CannotLeave t (Remove (0, 5)) (storage_with 2 3 (layout_at 8 [] (((0, 0), 2) ∷ []) none_free (ones_free 1)))
 
--- `remove_keep_tree` leaves the array of nodes alone
+-- `remove_keep_tree` does not change the array of nodes
 pub record KeepTreeFacts (t : State ℕ) : Type 0 where
   pub not_children : CannotLeave t (RemoveKeepTree (0, 5)) (storage_with 2 3 (layout_at 8 (((0, 0), 1) ∷ ((0, 5), 1) ∷ []) (((0, 0), 2) ∷ []) none_free (ones_free 1)))
   pub not_freed : CannotLeave t (RemoveKeepTree (0, 5)) (storage_with 2 3 (layout_at 8 root_child (((0, 0), 2) ∷ []) (ones_free 1) (ones_free 1)))
@@ -133,7 +133,7 @@ pub record TakenFacts (t : State ℕ) : Type 0 where
   pub not_of_eight : ¬ (Takes t (root_value 8))
   pub not_another : ¬ (Takes t (((0, 0), 4) ∷ ((0, 5), 2) ∷ []))
 
--- a block that is taken is not lost, whichever array it is of and whether it was free
+-- a block that is taken is not lost, in either array, whether it was free or not
 pub record KeepsFacts : Type 0 where
   pub grown : KeepsBlocks three_slots (layout_at 8 root_child (root_value 4) none_free two_free)
   pub not_values_lost : ¬ (KeepsBlocks three_slots (layout_at 8 root_child (root_value 4) none_free none_free))
@@ -153,7 +153,7 @@ pub record FilledFacts (t : State ℕ) : Type 0 where
   pub not_elsewhere : ¬ (NodesHaveBlocks value_block_sizes t.nodes (own_entries t.entries) (layout_at 8 [] (((0, 0), 2) ∷ ((0, 5), 1) ∷ ((128, 5), 1) ∷ []) [] []).value_blocks)
 
 pub record StepsHold : Type 0 where
-  -- what is left of a storage when all goes
+  -- the storage after everything is removed
   pub all_gone : empty_storage filled ≡ record {
     space = space_of 10 1 0;
     layout = record { child_blocks = empty; value_blocks = empty; free_child_blocks = none_free; free_value_blocks = none_free };

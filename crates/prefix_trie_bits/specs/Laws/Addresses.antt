@@ -1,4 +1,4 @@
--- How many addresses a map covers.
+-- How many addresses a map covers: for `address_laws`.
 use Rattle.std.specs.Prelude.{◌≡◌, ℕ, ◌+◌, ◌-◌, ◌^◌, ◌≤◌, Bool, true, List, [], None, length}
 use Rattle.std.specs.FinMap.{contains_key}
 use Rattle.prefix_trie_bits.specs.Bits.{begins}
@@ -6,7 +6,7 @@ use Rattle.prefix_trie_bits.specs.Model.Entries.{Entries, no_entries, without_be
 use Rattle.prefix_trie_bits.specs.Model.Addresses.{addresses, address_answer}
 
 pub record AddressLaws (T : Type 0) : Type 0 where
-  -- no more than there are
+  -- no map covers more than all addresses
   pub at_most : (width : ℕ) (m : Entries T) → addresses width m ≤ 2 ^ width
   -- a map without entries covers none
   pub of_no_entries : (width : ℕ) → addresses width (no_entries {T = T}) ≡ 0

@@ -1,4 +1,4 @@
--- The listing and its selections.
+-- The listing order, the listing, and what walks select of it: for `listing_laws`.
 use Rattle.std.specs.Prelude.{◌≡◌, ◌≢◌, ◌↔◌, ◌⊎◌, ℕ, ◌-◌, ◌≤◌, Bool, true, not, List, ◌∷◌, ◌++◌, length, filter, Some, Contains, All}
 use Rattle.std.proofs.Common.{Less, is_le}
 use Rattle.std.specs.FinMap.{get, retain_keys}
@@ -15,7 +15,7 @@ module _ {T : Type 0} where
   pub record Resumes (m : Entries T) (last : List Bool × T) (rest : List (List Bool × T)) : Type 0 where
     -- a walk that starts after the last item read gives the rest
     pub behind : listing_after m last.0 ≡ rest
-    -- one that starts at it gives it once more
+    -- a walk that starts at the last item read gives it once more
     pub at : listing_from m last.0 ≡ last ∷ rest
 
   -- the key of one entry is before that of another in listing order
@@ -23,14 +23,14 @@ module _ {T : Type 0} where
   IsListedBefore d e = listing_cmp d.0 e.0 ≡ Less
 
 pub record ListingLaws (T : Type 0) : Type 0 where
-  -- the order in words
+  -- the listing order in words
   pub order : (s t : List Bool) → (listing_cmp s t ≡ Less) ↔ IsBefore s t
   pub order_or_same : (s t : List Bool) → (is_le (listing_cmp s t) ≡ true) ↔ ((s ≡ t) ⊎ IsBefore s t)
   -- no two strings are each before the other, and none is before itself
   pub one_way : (s t : List Bool) → listing_cmp s t ≡ Less → listing_cmp t s ≡ Less → ⊥
   pub not_itself : (s t : List Bool) → listing_cmp s t ≡ Less → s ≢ t
-  -- strings of one length are in the order of their numbers. Others are in the order of the numbers that they are once filled with zeros to one
-  -- length, and if these are the same the shorter is first
+  -- Strings of the same length are ordered as their numbers. Others are ordered as the numbers that they are when
+  -- filled with zeros to one length; if those are equal, the shorter is first.
   pub by_numbers : (s t : List Bool) → length s ≡ length t → listing_cmp s t ≡ nat_cmp (number s) (number t)
   pub by_filled : (width : ℕ) (s t : List Bool) → length s ≤ width → length t ≤ width
       → listing_cmp s t ≡ ordering_then (listing_cmp (s ++ zeros (width - length s)) (t ++ zeros (width - length t))) (nat_cmp (length s) (length t))
@@ -44,7 +44,7 @@ pub record ListingLaws (T : Type 0) : Type 0 where
       → listing m ≡ front ++ e ∷ back → All (λ d. IsListedBefore d e) front
   pub all_after : (m : Entries T) (front back : List (List Bool × T)) (e : List Bool × T)
       → listing m ≡ front ++ e ∷ back → All (λ d. IsListedBefore e d) back
-  -- the entries whose keys pass a test are listed in the order in which they were
+  -- keeping the entries whose keys pass a test does not change their order in the listing
   pub retained : (m : Entries T) (test : List Bool → Bool) → listing (retain_keys m test) ≡ filter (λ e. test e.0) (listing m)
   -- a walk can be resumed after the last item read
   pub resumes : (m : Entries T) (read : List (List Bool × T)) (last : List Bool × T) (rest : List (List Bool × T))
@@ -52,5 +52,5 @@ pub record ListingLaws (T : Type 0) : Type 0 where
   -- `remove_children` removes exactly what `children` lists, and returns it
   pub removed : (m : Entries T) (q : List Bool) → listing (without_below m q) ≡ filter (λ e. not (begins q e.0)) (listing m)
   pub split_off : (m : Entries T) (q : List Bool) → listing (part_below m q) ≡ listing_below m q
-  -- the pairs below a string are those at the places of a node there, in the order of the places
+  -- the pairs under a string are those at the places of a node there, in the order of the places
   pub by_places : (m : Entries T) (s : List Bool) → listing_below m s ≡ listing_at_places m s (strings 5)

@@ -1,4 +1,4 @@
--- The stored keys that a bit string begins with: covers and matches.
+-- The stored keys that a bit string begins with, which are its covers and matches: for `match_laws`.
 use Rattle.std.specs.Prelude.{◌≡◌, ◌↔◌, ◌<◌, Bool, true, List, [], ◌∷◌, ◌++◌, length, Some, is_some, Contains}
 use Rattle.std.specs.List.{list_any}
 use Rattle.std.specs.FinMap.{keys}
@@ -7,7 +7,7 @@ use Rattle.prefix_trie_bits.specs.Model.Entries.{Entries}
 use Rattle.prefix_trie_bits.specs.Model.Matches.{covers, IsMatch, IsLongestMatch, IsShortestMatch, longest_match, shortest_match}
 
 pub record MatchLaws (T : Type 0) : Type 0 where
-  -- of each length q begins with at most one string
+  -- q begins with at most one string of each length
   pub one_of_length : (q s t : List Bool) → begins s q ≡ true → begins t q ≡ true → length s ≡ length t → s ≡ t
   -- the covers are the entries whose keys q begins with, each longer than the one before
   pub are_matches : (m : Entries T) (q : List Bool) (e : List Bool × T) → Contains (covers m q) e ↔ IsMatch m q e
@@ -21,6 +21,6 @@ pub record MatchLaws (T : Type 0) : Type 0 where
   -- the longest and the shortest match in words
   pub longest_is : (m : Entries T) (q : List Bool) (e : List Bool × T) → (longest_match m q ≡ Some e) ↔ IsLongestMatch m q e
   pub shortest_is : (m : Entries T) (q : List Bool) (e : List Bool × T) → (shortest_match m q ≡ Some e) ↔ IsShortestMatch m q e
-  -- there is one exactly if q begins with some key
+  -- there is a match exactly if q begins with some key
   pub some_longest : (m : Entries T) (q : List Bool) → is_some (longest_match m q) ≡ list_any (λ s. begins s q) (keys m)
   pub some_shortest : (m : Entries T) (q : List Bool) → is_some (shortest_match m q) ≡ list_any (λ s. begins s q) (keys m)

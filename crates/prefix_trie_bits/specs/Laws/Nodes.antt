@@ -1,4 +1,4 @@
--- Sets of nodes, and the nodes that keys need.
+-- Sets of nodes, and the nodes that keys need: for `node_laws`.
 use Rattle.std.specs.Prelude.{◌≡◌, ◌≢◌, ◌↔◌, ◌⊎◌, ℕ, ◌%◌, ◌≤◌, Bool, true, ◌&&◌, ◌||◌, List, [], length}
 use Rattle.std.specs.FinMap.{contains_key}
 use Rattle.prefix_trie_bits.specs.Bits.{begins}
@@ -22,18 +22,19 @@ pub record NodeLaws (T : Type 0) : Type 0 where
   -- the needed nodes in words: the root, and each beginning of a key whose length is a multiple of five
   pub needed_in_words : (m : Entries T) (s : List Bool)
       → (has_node (needed m) s ≡ true) ↔ ((s ≡ []) ⊎ ((length s % 5 ≡ 0) × BeginsKey m s))
-  -- tidy in words: each node but the root has an entry in it or below it
+  -- tidy in words: each node except the root has an entry in it or under it
   pub tidy_in_words : (width : ℕ) (m : Entries T) (n : Nodes) → AreNodes width m n
       → IsTidy m n ↔ ((s : List Bool) → has_node n s ≡ true → s ≢ [] → BeginsKey m s)
-  -- what a key adds to the nodes: its beginnings whose lengths are multiples of five
+  -- what an insertion adds to the nodes: the beginnings of the key whose lengths are multiples of five
   pub has_with_needed : (n : Nodes) (s t : List Bool)
       → has_node (with_needed n s) t ≡ (has_node n t || (begins t s && is_node_depth t))
-  -- the nodes that keys within the width need are a set of nodes
+  -- the nodes that keys within the width need can be the nodes of a map
   pub needed_are_nodes : (width : ℕ) (m : Entries T) → AreWithin width m → AreNodes width m (needed m)
-  -- so are the root alone without entries, which is tidy
+  -- so can the root alone without entries, and that map is tidy
   pub of_no_entries : (width : ℕ) → AreNodes width (no_entries {T = T}) root_alone
   pub no_entries_tidy : IsTidy (no_entries {T = T}) root_alone
-  -- the nodes stay such a set when a key is set, when a stored key is set again, and when a key is removed and no node goes
+  -- the nodes can still be those of a map after a new key is set, after a stored key is set again, and after a key is
+  -- removed and all nodes stay
   pub key_set : (width : ℕ) (m : Entries T) (n : Nodes) (s : List Bool) (v : T) → AreNodes width m n → length s ≤ width
       → AreNodes width (with_entry m s v) (with_needed n s)
   pub key_set_again : (width : ℕ) (m : Entries T) (n : Nodes) (s : List Bool) (v : T) → AreNodes width m n

@@ -1,4 +1,4 @@
--- What a removal leaves of the nodes.
+-- Which nodes a removal leaves: for `pruning_laws`.
 use Rattle.std.specs.Prelude.{◌≡◌, ◌≢◌, ◌↔◌, ℕ, Bool, true, false, List, []}
 use Rattle.std.specs.FinMap.{contains_key}
 use Rattle.prefix_trie_bits.specs.Bits.{begins}
@@ -29,7 +29,7 @@ pub record PruningLaws (T : Type 0) : Type 0 where
   pub in_words : (n : Nodes) (m : Entries T) (q t : List Bool) → has_node n t ≡ true
       → (has_node (pruned n m q) t ≡ false) ↔ IsTakenOut n m q t
   pub none_added : (n : Nodes) (m : Entries T) (q t : List Bool) → has_node (pruned n m q) t ≡ true → has_node n t ≡ true
-  -- of `remove` and of `remove_children`
+  -- `remove` and `remove_children` prune in this sense
   pub of_remove : (width : ℕ) (m : Entries T) (n : Nodes) (q : List Bool) → AreNodes width m n
       → IsPruning width m (without_entry m q) n (nodes_without n m q)
   pub of_remove_children : (width : ℕ) (m : Entries T) (n : Nodes) (q : List Bool) → AreNodes width m n

@@ -1,4 +1,5 @@
--- The map that is split off and what is left of the first are together the map that there was.
+-- The map that is split off and what is left of the first together are the map before: for the laws of
+-- `remove_children`.
 use Rattle.std.specs.Prelude.{◌≡◌, ℕ, ◌+◌, ◌≤◌, Bool, true, false, List, length, None}
 use Rattle.std.specs.FinMap.{get, len}
 use Rattle.prefix_trie_bits.specs.Bits.{begins}
@@ -12,12 +13,12 @@ use Rattle.prefix_trie_bits.specs.Laws.Steps.{IsMap}
 use Rattle.prefix_trie_bits.specs.Laws.Total.{IsStoredMap}
 
 module _ {T : Type 0} where
-  -- each entry there was is in one of the two maps, and neither has another
+  -- each entry of the map before is in exactly one of the two maps, and neither has another entry
   pub record Splits (before : State T) (q : List Bool) (second after : State T) : Type 0 where
     pub begun : (k : List Bool) → begins q k ≡ true → (get second.entries k ≡ get before.entries k) × (get after.entries k ≡ None)
     pub others : (k : List Bool) → begins q k ≡ false → (get second.entries k ≡ None) × (get after.entries k ≡ get before.entries k)
     pub number : len second.entries + len after.entries ≡ len before.entries
-    -- the entries of the second set in the first again make what there was
+    -- setting the entries of the second map in the first again gives the map before
     pub merged : put_all (λ k. k) (listing second.entries) after.entries ≡ before.entries
 
 pub record HandingLaws (T : Type 0) : Type 0 where
@@ -28,6 +29,6 @@ pub record HandingLaws (T : Type 0) : Type 0 where
   -- the entries, the nodes and the storage of the second map are determined
   pub stored_alike : (before : State T × Storage) (q : List Bool) (second after other later : State T × Storage)
       → SplitsOffInStorage before q second after → SplitsOffInStorage before q other later → second ≡ other
-  -- and each map is stored as every map is: each node has its blocks, and neither array passes the limit
+  -- each of the two maps has a correct storage: each node has its blocks, and neither array exceeds the limit
   pub are_stored : (width : ℕ) (before : State T × Storage) (q : List Bool) (second after : State T × Storage) → IsStoredMap width before → length q ≤ width
       → SplitsOffInStorage before q second after → IsStoredMap width second × IsStoredMap width after

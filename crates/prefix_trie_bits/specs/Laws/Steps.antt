@@ -1,4 +1,4 @@
--- What every step of the model keeps.
+-- What every step of the model keeps: for `step_laws`.
 use Rattle.std.specs.Prelude.{◌≡◌, ◌≢◌, ℕ, ◌≤◌, Bool, true, false, not, nat_le, List, length, ◌++◌, None, All}
 use Rattle.std.specs.FinMap.{get, len}
 use Rattle.prefix_trie_bits.specs.Bits.{begins}
@@ -7,7 +7,7 @@ use Rattle.prefix_trie_bits.specs.Model.Entries.{Entries, AreWithin, with_entry,
 use Rattle.prefix_trie_bits.specs.Model.Nodes.{AreNodes, IsTidy, needed, with_needed, nodes_without}
 use Rattle.prefix_trie_bits.specs.Model.Step.{State, Call, Insert, Remove, RemoveKeepTree, RemoveChildren, RetainAtLeast, Clear, NodeCount, CallFits, Reply, Count, Refused, Refusal, Step, Run}
 
--- what holds of every map: keys within the width, and a set of nodes for them
+-- what holds of every map: its keys are within the width, and its nodes can be those of a map with these keys
 pub record IsMap {T : Type 0} (width : ℕ) (s : State T) : Type 0 where
   pub keys_within : AreWithin width s.entries
   pub are_nodes : AreNodes width s.entries s.nodes
@@ -45,13 +45,13 @@ pub record StepLaws (P T : Type 0) : Type 0 where
   -- a run from a map leads to a map
   pub run_stays_map : (path : P → List Bool) (back : List Bool → P) (width : ℕ) (s : State T) (calls : List (Call P T)) (replies : List (Reply P T)) (t : State T)
       → All (CallFits (λ q. length (path q) ≤ width)) calls → Run path back width s calls replies t → IsMap width s → IsMap width t
-  -- and from a tidy map to a tidy one, if no call is `remove_keep_tree`
+  -- a run from a tidy map leads to a tidy map, if no call is `remove_keep_tree`
   pub run_stays_tidy : (path : P → List Bool) (back : List Bool → P) (width : ℕ) (s : State T) (calls : List (Call P T)) (replies : List (Reply P T)) (t : State T)
       → All (CallFits (λ q. length (path q) ≤ width)) calls → All (λ call. (q : P) → call ≢ RemoveKeepTree q) calls
       → Run path back width s calls replies t → IsMap width s → IsTidy s.entries s.nodes → IsTidy t.entries t.nodes
-  -- two runs, the second from the end of the first, join to one
+  -- two runs, the second from the end of the first, are one run
   pub runs_join : (path : P → List Bool) (back : List Bool → P) (width : ℕ) (s t u : State T) (calls more : List (Call P T)) (replies rest : List (Reply P T))
       → Run path back width s calls replies t → Run path back width t more rest u → Run path back width s (calls ++ more) (replies ++ rest) u
-  -- a new key set in a tidy map and removed again leaves its entries and its nodes as they were
+  -- setting a new key in a tidy map and removing it again restores its entries and its nodes
   pub set_and_removed : (width : ℕ) (m : Entries T) (s : List Bool) (v : T) → AreWithin width m → length s ≤ width → get m s ≡ None
       → (without_entry (with_entry m s v) s ≡ m) × (nodes_without (with_needed (needed m) s) (with_entry m s v) s ≡ needed m)

@@ -1,4 +1,4 @@
--- What a step fixes of the storage.
+-- What a step determines about the storage: for `storage_laws`.
 use Rattle.std.specs.Prelude.{◌≡◌, ℕ, Bool, true, false, List, length, nat_le}
 use Rattle.std.specs.FinMap.{contains_key}
 use Rattle.prefix_trie_bits.specs.Model.Nodes.{is_root}
@@ -18,16 +18,15 @@ module _ {P T : Type 0} where
   may_change Clear = true
   may_change call = false
 
--- two storages have the same slots, and the same blocks in use
+-- two storages have the same slots and the same used blocks
 pub record UseAlike (a b : Storage) : Type 0 where
   pub space : a.space ≡ b.space
   pub child_blocks : a.layout.child_blocks ≡ b.layout.child_blocks
   pub value_blocks : a.layout.value_blocks ≡ b.layout.value_blocks
 
 module _ {P T : Type 0} (path : P → List Bool) (back : List Bool → P) (width : ℕ) where
-  -- what is fixed of a step from s to t: the storage after a call that changes nothing, after the
-  -- insertion of a stored key, and after one that empties the map; and the used blocks after a
-  -- refusal
+  -- what is determined of a step from s to t: the storage after a call that changes nothing, after the insertion of a
+  -- stored key and after a call that empties the map, and the used blocks after a refusal
   pub record LeavesFixed (s : State T × Storage) (call : Call P T) (reply : Reply P T) (t : State T × Storage) : Type 0 where
     pub unchanged : may_change call ≡ false → t ≡ s
     pub set_again : (q : P) (v : T) → call ≡ Insert q v → contains_key s.0.entries (path q) ≡ true → t.1 ≡ s.1
@@ -53,5 +52,5 @@ pub record StorageLaws (P T : Type 0) : Type 0 where
       → StepInStorage path back width s (Insert q v) reply t → StepInStorage path back width s (Insert q v) other u → UseAlike t.1 u.1
   -- if the missing blocks for an insertion were made before it, it is not refused
   pub granted : (s : State T) (q : List Bool) (before mid after : Storage) (cause : Refusal) → PreparesInStorage s q before mid → RefusesInStorage s q cause mid after → ⊥
-  -- and both together are one insertion
+  -- making the blocks and then inserting is one insertion
   pub readied : (s : State T) (q : List Bool) (before mid after : Storage) → PreparesInStorage s q before mid → InsertsInStorage s q mid after → InsertsInStorage s q before after

@@ -1,5 +1,5 @@
--- Each fitting call has a step from every map, however it is stored; so each list of fitting calls
--- has a run.
+-- Each fitting call has a step from every map, whatever its storage, so each list of fitting calls has a run: for
+-- `total_laws`.
 use Rattle.std.specs.Prelude.{◌≡◌, ℕ, ◌≤◌, ◌<◌, Bool, true, false, List, length, All}
 use Rattle.std.specs.FinMap.{contains_key}
 use Rattle.prefix_trie_bits.specs.Model.Insertion.{PassesLimit, MissingFitsLimit}
@@ -33,11 +33,10 @@ pub record TotalLaws (P T : Type 0) : Type 0 where
       → width ≤ 128 → IsStoredMap width s → CallFits (λ q. length (path q) ≤ width) call
       → ((q : P) (v : T) → call ≡ Insert q v → contains_key s.0.entries (path q) ≡ false → GivesCause s (path q) IndexRange → ⊥)
       → (reply : Reply P T) × (t : State T × Storage) × StepInStorage path back width s call reply t × (is_refusal reply ≡ false) × IsStoredMap width t
-  -- that insertion has only refusals
+  -- such an insertion has only refusals
   pub full : (path : P → List Bool) (back : List Bool → P) (width : ℕ) (s : State T × Storage) (q : P) (v : T) (reply : Reply P T) (t : State T × Storage)
       → contains_key s.0.entries (path q) ≡ false → GivesCause s (path q) IndexRange → StepInStorage path back width s (Insert q v) reply t → is_refusal reply ≡ true
-  -- if a call may be refused, and an insertion with cause, it has a refusal that leaves everything
-  -- unchanged
+  -- a call that may be refused, and an insertion that has cause, has a refusal that leaves everything unchanged
   pub refused : (path : P → List Bool) (back : List Bool → P) (width : ℕ) (s : State T × Storage) (call : Call P T) (cause : Refusal)
       → width ≤ 128 → IsStoredMap width s → CallFits (λ q. length (path q) ≤ width) call → may_refuse path s.0 call cause ≡ true
       → ((q : P) (v : T) → call ≡ Insert q v → GivesCause s (path q) cause) → StepInStorage path back width s call (Refused cause) s

@@ -1,4 +1,4 @@
--- How many nodes a lookup reads.
+-- How many nodes a lookup reads: for `visit_laws`.
 use Rattle.std.specs.Prelude.{◌≡◌, ◌⊎◌, ℕ, ◌+◌, ◌*◌, ◌/◌, ◌<◌, ◌≤◌, Bool, true, false, List, length, take, Some}
 use Rattle.prefix_trie_bits.specs.Model.Entries.{Entries}
 use Rattle.prefix_trie_bits.specs.Model.Matches.{shortest_match}
@@ -6,11 +6,11 @@ use Rattle.prefix_trie_bits.specs.Model.Nodes.{Nodes, has_node, AreNodes}
 use Rattle.prefix_trie_bits.specs.Model.Visits.{visits, visits_to_match}
 
 pub record VisitLaws (T : Type 0) : Type 0 where
-  -- at most one for each five bits of q, plus one
+  -- a lookup reads at most one node for each five bits of q, plus one
   pub at_most : (width : ℕ) (m : Entries T) (n : Nodes) (q : List Bool) → AreNodes width m n → visits n q ≤ length q / 5 + 1
-  -- at least the root
+  -- it reads at least the root
   pub at_least_root : (width : ℕ) (m : Entries T) (n : Nodes) (q : List Bool) → AreNodes width m n → 1 ≤ visits n q
-  -- exactly k + 1, if the node k levels down is there and the next one is missing or would be
+  -- it reads exactly k + 1 nodes, if the node k levels under the root exists and the next one is missing or would be
   -- longer than q
   pub exact : (width : ℕ) (m : Entries T) (n : Nodes) (q : List Bool) (k : ℕ) → AreNodes width m n
       → 5 * k ≤ length q → has_node n (take (5 * k) q) ≡ true

@@ -14,9 +14,10 @@ use std::marker::Model;
 ///
 /// The later bits of the key do not matter.
 ///
-/// ```text
-/// BitString::new(0xd4000000_u32, 6)   110101
-/// its below()                         1
+/// # Examples
+///
+/// ```rust
+/// BitString::new(0xd4000000_u32, 6).len();    // 6: the bits are 110101
 /// ```
 #[derive(Drop)]
 pub struct BitString<K: Key> {

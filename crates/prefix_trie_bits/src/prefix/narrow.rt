@@ -22,11 +22,14 @@ pub use text::ParseNarrowError;
 ///
 /// # Examples
 ///
-/// ```text
-/// let vlan = Narrow::<12>::new(100)    Some(100), whose bits are 0000 0110 0100
-/// map.insert((vlan, 10), "office")     VLANs 100 to 103
-/// "100".parse::<Narrow<12>>()          Ok(100)
-/// "4096".parse::<Narrow<12>>()         Err(ParseNarrowError), as for "0100", "+100" and ""
+/// ```rust
+/// let mut map = PrefixMap::new(alloc)?;
+/// if let Some(vlan) = Narrow::<12>::new(100) {
+///     map.insert((vlan, 10), "office")?;      // None: VLANs 100 to 103, since the bits are 0000 0110 0100
+/// }
+/// "100".parse::<Narrow<12>>();                // Ok(100)
+/// "4096".parse::<Narrow<12>>();               // Err(ParseNarrowError): it has 13 bits
+/// "0100".parse::<Narrow<12>>();               // Err(ParseNarrowError): "+100" and "" are errors too
 /// ```
 #[derive(Clone, Copy, PartialEq, Eq)]
 pub struct Narrow<const W: u32> {
@@ -49,9 +52,9 @@ impl<const W: u32> Narrow<W> {
     ///
     /// # Examples
     ///
-    /// ```text
-    /// Narrow::<5>::new(31)   Some(31)
-    /// Narrow::<5>::new(32)   None
+    /// ```rust
+    /// Narrow::<5>::new(31);       // Some(31)
+    /// Narrow::<5>::new(32);       // None
     /// ```
     #[inline]
     pub fn new(value: u64) -> Option<Self>
@@ -68,8 +71,8 @@ impl<const W: u32> Narrow<W> {
     ///
     /// # Examples
     ///
-    /// ```text
-    /// Narrow::<5>::new(31)?.get()   31
+    /// ```rust
+    /// Narrow::<5>::new(31).map(|key| key.get());      // Some(31)
     /// ```
     #[inline]
     pub fn get(self) -> u64

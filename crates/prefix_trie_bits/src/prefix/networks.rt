@@ -23,12 +23,12 @@ pub use text::ParseNetworkError;
 ///
 /// # Examples
 ///
-/// ```text
+/// ```rust
 /// let network: Ipv4Prefix = "10.1.2.3/8".parse()?;
-/// network.network()   10.0.0.0
-/// network.last()      10.255.255.255
-/// network.parent()    Some(10.0.0.0/7)
-/// "10.1.2.3".parse::<Ipv4Prefix>()   Err(ParseNetworkError::MissingSlash)
+/// network.network();                      // 10.0.0.0
+/// network.last();                         // 10.255.255.255
+/// network.parent();                       // Some(10.0.0.0/7)
+/// "10.1.2.3".parse::<Ipv4Prefix>();       // Err(MissingSlash)
 /// ```
 #[derive(Clone, Copy, PartialEq, Eq, PartialOrd, Ord, Hash)]
 pub struct Ipv4Prefix {
@@ -52,9 +52,9 @@ impl Ipv4Prefix {
     ///
     /// # Examples
     ///
-    /// ```text
-    /// Ipv4Prefix::new(0x0a010203, 16)   Some(10.1.2.3/16), which is the same key of a map as 10.1.0.0/16
-    /// Ipv4Prefix::new(0, 33)            None
+    /// ```rust
+    /// Ipv4Prefix::new(0x0a010203, 16);    // Some(10.1.2.3/16): in a map the same key as 10.1.0.0/16
+    /// Ipv4Prefix::new(0, 33);             // None
     /// ```
     #[inline]
     pub fn new(addr: u32, len: u8) -> Option<Self>
@@ -71,8 +71,8 @@ impl Ipv4Prefix {
     ///
     /// # Examples
     ///
-    /// ```text
-    /// Ipv4Prefix::host(0x0a010203)   10.1.2.3/32
+    /// ```rust
+    /// Ipv4Prefix::host(0x0a010203);       // 10.1.2.3/32
     /// ```
     #[inline]
     pub fn host(addr: u32) -> Self
@@ -95,9 +95,9 @@ impl Ipv4Prefix {
     ///
     /// # Examples
     ///
-    /// ```text
-    /// of 10.1.2.3/16   Some(10.0.0.0/15)
-    /// of 0.0.0.0/0     None
+    /// ```rust
+    /// "10.1.2.3/16".parse::<Ipv4Prefix>()?.parent();      // Some(10.0.0.0/15)
+    /// "0.0.0.0/0".parse::<Ipv4Prefix>()?.parent();        // None
     /// ```
     #[inline]
     pub fn parent(&self) -> Option<Self>
@@ -175,12 +175,12 @@ impl Prefix for Ipv4Prefix {
 ///
 /// # Examples
 ///
-/// ```text
+/// ```rust
 /// let network: Ipv6Prefix = "2001:db8::1/32".parse()?;
-/// network.network()   2001:db8::
-/// network.last()      2001:db8:ffff:ffff:ffff:ffff:ffff:ffff
-/// network.parent()    Some(2001:db8::/31)
-/// "::/129".parse::<Ipv6Prefix>()   Err(ParseNetworkError::Length)
+/// network.network();                  // 2001:db8::
+/// network.last();                     // 2001:db8:ffff:ffff:ffff:ffff:ffff:ffff
+/// network.parent();                   // Some(2001:0db8:0000:0000:0000:0000:0000:0000/31)
+/// "::/129".parse::<Ipv6Prefix>();     // Err(Length)
 /// ```
 #[derive(Clone, Copy, PartialEq, Eq, PartialOrd, Ord, Hash)]
 pub struct Ipv6Prefix {
@@ -204,9 +204,9 @@ impl Ipv6Prefix {
     ///
     /// # Examples
     ///
-    /// ```text
-    /// Ipv6Prefix::new(0x2001_0db8 << 96, 32)   Some(2001:db8::/32)
-    /// Ipv6Prefix::new(0, 129)                  None
+    /// ```rust
+    /// Ipv6Prefix::new(0x2001_0db8 << 96, 32);     // Some(2001:0db8:0000:0000:0000:0000:0000:0000/32)
+    /// Ipv6Prefix::new(0, 129);                    // None
     /// ```
     #[inline]
     pub fn new(addr: u128, len: u8) -> Option<Self>
@@ -223,8 +223,8 @@ impl Ipv6Prefix {
     ///
     /// # Examples
     ///
-    /// ```text
-    /// Ipv6Prefix::host(1)   ::1/128
+    /// ```rust
+    /// Ipv6Prefix::host(1);    // 0000:0000:0000:0000:0000:0000:0000:0001/128
     /// ```
     #[inline]
     pub fn host(addr: u128) -> Self
@@ -247,9 +247,9 @@ impl Ipv6Prefix {
     ///
     /// # Examples
     ///
-    /// ```text
-    /// of 2001:db8::1/32   Some(2001:db8::/31)
-    /// of ::/0             None
+    /// ```rust
+    /// "2001:db8::1/32".parse::<Ipv6Prefix>()?.parent();       // Some(2001:0db8:0000:0000:0000:0000:0000:0000/31)
+    /// "::/0".parse::<Ipv6Prefix>()?.parent();                 // None
     /// ```
     #[inline]
     pub fn parent(&self) -> Option<Self>

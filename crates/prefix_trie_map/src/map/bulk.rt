@@ -23,10 +23,11 @@ impl<P: Prefix, T: Drop, A: Allocator> PrefixMap<P, T, A> {
     ///
     /// # Examples
     ///
-    /// ```text
-    /// 10.0.0.0/8 is stored with 1, and 10.1.0.0/16 with 2
-    /// map.get_lpm_bulk(&[10.1.2.3/32, 11.0.0.0/8, 10.2.0.0/16], &mut out)
-    /// out == [Some((10.1.0.0/16, &2)), None, Some((10.0.0.0/8, &1))]
+    /// ```rust
+    /// // map = {10.0.0.0/8: 1, 10.1.0.0/16: 2}
+    /// let mut out = [None, None];
+    /// map.get_lpm_bulk(&["10.1.2.3/32".parse()?, "11.0.0.0/8".parse()?], &mut out);
+    /// out.iter();     // [Some((10.1.0.0/16, 2)), None]
     /// ```
     #[inline]
     pub fn get_lpm_bulk<'a>(&'a self, prefixes: &[P], out: &mut [Option<(P, &'a T)>])
@@ -65,10 +66,11 @@ impl<P: Prefix, T: Drop, A: Allocator> PrefixMap<P, T, A> {
     /// # Examples
     ///
     ///
-    /// ```text
-    /// 10.0.0.0/8 is stored with 1, and 10.1.0.0/16 with 2
-    /// map.get_lpm_value_bulk(&[10.1.2.3/32, 11.0.0.0/8, 10.2.0.0/16], &mut out)
-    /// out == [Some(&2), None, Some(&1)]
+    /// ```rust
+    /// // map = {10.0.0.0/8: 1, 10.1.0.0/16: 2}
+    /// let mut out = [None, None];
+    /// map.get_lpm_value_bulk(&["10.1.2.3/32".parse()?, "11.0.0.0/8".parse()?], &mut out);
+    /// out.iter();     // [Some(2), None]
     /// ```
     #[inline]
     pub fn get_lpm_value_bulk<'a>(&'a self, prefixes: &[P], out: &mut [Option<&'a T>])

@@ -19,11 +19,11 @@ impl<P: Prefix, T: Clone, A: Allocator + Clone> PrefixMap<P, T, A> {
     ///
     /// # Examples
     ///
-    /// ```text
-    /// map.insert(10.1.0.0/16, 1)        Ok(None)
+    /// ```rust
+    /// // map = {10.1.0.0/16: 1}
     /// let mut copy = map.clone()?;
-    /// copy.insert(10.1.0.0/16, 2)       Ok(Some(1))
-    /// map.get(&10.1.0.0/16)             Some(&1), since it shares nothing with its copy
+    /// copy.insert("10.1.0.0/16".parse()?, 2)?;    // Some(1)
+    /// map.get(&"10.1.0.0/16".parse()?);           // Some(1): the two share nothing
     /// ```
     pub fn clone(&self) -> Result<Self, AllocError>
         ensures entries { IfOk result (λ copy. AreCloned T.is_clone self.now.entries copy.entries) }

@@ -26,9 +26,9 @@ impl<P: Prefix, T: Drop, A: Allocator + Clone> PrefixMap<P, T, A> {
     ///
     /// # Examples
     ///
-    /// ```text
-    /// PrefixMap::from_iter(alloc, vec![in alloc; (10.1.0.0/16, 1), (10.1.255.255/16, 2)]?)?
-    ///     has one entry, 2 at 10.1.0.0/16, since both have one path
+    /// ```rust
+    /// let routes = vec![in alloc; ("10.1.0.0/16".parse::<Ipv4Prefix>()?, 1), ("10.1.255.255/16".parse()?, 2)]?;
+    /// PrefixMap::from_iter(alloc, routes)?.iter();        // [(10.1.0.0/16, 2)]: both have one path
     /// ```
     pub fn from_iter<I: IntoIterator<Item = (P, T)> + Drop>(
         alloc: A,

@@ -21,9 +21,9 @@ impl<P: Prefix, T: Drop, A: Allocator> PrefixMap<P, T, A> {
     ///
     /// # Examples
     ///
-    /// ```text
-    /// map.insert(0.0.0.0/32, 1)   Ok(None), in a new map
-    /// map.node_count()            7: the root, and a node for each five bits
+    /// ```rust
+    /// // map = {0.0.0.0/32: 1}
+    /// map.node_count();       // 7: the root, and a node for each five bits
     /// ```
     #[inline]
     pub fn node_count(&self) -> usize
@@ -42,11 +42,11 @@ impl<P: Prefix, T: Drop, A: Allocator> PrefixMap<P, T, A> {
     ///
     /// # Examples
     ///
-    /// ```text
-    /// 192.0.2.0/24, 192.0.2.128/25 and 198.51.100.0/24 are stored
-    /// map.address_count()   Some(512)
-    /// 0.0.0.0/0 is stored beside them
-    /// map.address_count()   None: 2^32 is no u32
+    /// ```rust
+    /// // map = {192.0.2.0/24: 1, 192.0.2.128/25: 2, 198.51.100.0/24: 3}
+    /// map.address_count();                        // Some(512)
+    /// map.insert("0.0.0.0/0".parse()?, 4)?;
+    /// map.address_count();                        // None: 2^32 is no u32
     /// ```
     #[inline]
     pub fn address_count(&self) -> Option<P::R>

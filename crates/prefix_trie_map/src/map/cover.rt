@@ -25,9 +25,9 @@ impl<P: Prefix, T: Drop, A: Allocator> PrefixMap<P, T, A> {
     ///
     /// # Examples
     ///
-    /// ```text
-    /// 10.0.0.0/8, 10.1.0.0/16, 10.1.1.0/24, 10.1.1.0/25 and 11.0.0.0/8 are stored
-    /// map.cover(&10.1.1.0/24)   gives 10.0.0.0/8, 10.1.0.0/16 and 10.1.1.0/24
+    /// ```rust
+    /// // map = {10.0.0.0/8: 1, 10.1.1.0/24: 2, 10.1.1.0/25: 3, 11.0.0.0/8: 4}
+    /// map.cover(&"10.1.1.0/24".parse()?);     // [(10.0.0.0/8, 1), (10.1.1.0/24, 2)]
     /// ```
     #[inline]
     pub fn cover(&self, prefix: &P) -> Cover<'_, P, T, A>
@@ -47,9 +47,9 @@ impl<P: Prefix, T: Drop, A: Allocator> PrefixMap<P, T, A> {
     ///
     /// # Examples
     ///
-    /// ```text
-    /// 10.0.0.0/8, 10.1.0.0/16 and 11.0.0.0/8 are stored
-    /// map.cover_keys(&10.1.1.0/24)   gives 10.0.0.0/8 and 10.1.0.0/16
+    /// ```rust
+    /// // map = {10.0.0.0/8: 1, 10.1.0.0/16: 2, 11.0.0.0/8: 3}
+    /// map.cover_keys(&"10.1.1.0/24".parse()?);    // [10.0.0.0/8, 10.1.0.0/16]
     /// ```
     #[inline]
     pub fn cover_keys(&self, prefix: &P) -> CoverKeys<'_, P, T, A>
@@ -67,9 +67,9 @@ impl<P: Prefix, T: Drop, A: Allocator> PrefixMap<P, T, A> {
     ///
     /// # Examples
     ///
-    /// ```text
-    /// 10.0.0.0/8, 10.1.0.0/16 and 11.0.0.0/8 are stored with 1, 2 and 3
-    /// map.cover_values(&10.1.1.0/24)   gives &1 and &2
+    /// ```rust
+    /// // map = {10.0.0.0/8: 1, 10.1.0.0/16: 2, 11.0.0.0/8: 3}
+    /// map.cover_values(&"10.1.1.0/24".parse()?);      // [1, 2]
     /// ```
     #[inline]
     pub fn cover_values(&self, prefix: &P) -> CoverValues<'_, P, T, A>

@@ -119,12 +119,11 @@ impl<P: Prefix, T: Drop, A: Allocator> PrefixMap<P, T, A> {
     ///
     /// # Examples
     ///
-    /// ```text
-    /// 10.1.0.0/16 is stored with 1
-    /// map.entry(10.1.2.3/16)                          Occupied, with the key 10.1.0.0/16
-    /// map.entry(10.2.2.3/16)                          Vacant, with the key 10.2.2.3/16
-    /// *map.entry(10.1.0.0/16).or_insert(9)? += 1      the value is 2
-    /// *map.entry(10.2.0.0/16).or_insert(9)? += 1      the value is 10
+    /// ```rust
+    /// // map = {10.1.0.0/16: 1}
+    /// *map.entry("10.1.0.0/16".parse()?).or_insert(9)? += 1;
+    /// *map.entry("10.2.0.0/16".parse()?).or_insert(9)? += 1;
+    /// map.iter();     // [(10.1.0.0/16, 2), (10.2.0.0/16, 10)]
     /// ```
     #[inline]
     pub fn entry(&mut self, prefix: P) -> Entry<'_, P, T, A>
@@ -158,10 +157,10 @@ impl<'a, P: Prefix, T: Drop, A: Allocator> Entry<'a, P, T, A> {
     ///
     /// # Examples
     ///
-    /// ```text
-    /// 10.1.0.0/16 is stored, and 10.2.0.0/16 is not
-    /// map.entry(10.1.2.3/16).key()   &10.1.0.0/16
-    /// map.entry(10.2.2.3/16).key()   &10.2.2.3/16
+    /// ```rust
+    /// // map = {10.1.0.0/16: 1}
+    /// map.entry("10.1.2.3/16".parse()?).key();    // 10.1.0.0/16: the stored prefix
+    /// map.entry("10.2.2.3/16".parse()?).key();    // 10.2.2.3/16: as it was passed
     /// ```
     #[inline]
     pub fn key(&self) -> &P
@@ -177,10 +176,10 @@ impl<'a, P: Prefix, T: Drop, A: Allocator> Entry<'a, P, T, A> {
     ///
     /// # Examples
     ///
-    /// ```text
-    /// 10.1.0.0/16 is stored with 1
-    /// map.entry(10.1.0.0/16).get()   Some(&1)
-    /// map.entry(10.2.0.0/16).get()   None
+    /// ```rust
+    /// // map = {10.1.0.0/16: 1}
+    /// map.entry("10.1.0.0/16".parse()?).get();    // Some(1)
+    /// map.entry("10.2.0.0/16".parse()?).get();    // None
     /// ```
     #[inline]
     pub fn get(&self) -> Option<&T>
@@ -199,11 +198,11 @@ impl<'a, P: Prefix, T: Drop, A: Allocator> Entry<'a, P, T, A> {
     ///
     /// # Examples
     ///
-    /// ```text
-    /// 10.1.0.0/16 is stored with 1
-    /// let mut entry = map.entry(10.1.0.0/16);
+    /// ```rust
+    /// // map = {10.1.0.0/16: 1}
+    /// let mut entry = map.entry("10.1.0.0/16".parse()?);
     /// if let Some(value) = entry.get_mut() { *value = 2; }
-    /// entry.get()                                            Some(&2)
+    /// entry.get();    // Some(2)
     /// ```
     #[inline]
     pub fn get_mut(&mut self) -> Option<&mut T>
@@ -221,10 +220,10 @@ impl<'a, P: Prefix, T: Drop, A: Allocator> Entry<'a, P, T, A> {
     ///
     /// # Examples
     ///
-    /// ```text
-    /// 10.1.0.0/16 is stored with 1
-    /// map.entry(10.1.0.0/16).and_modify(|n| *n += 1).or_insert(1)    lends 2
-    /// map.entry(10.2.0.0/16).and_modify(|n| *n += 1).or_insert(1)    lends 1
+    /// ```rust
+    /// // map = {10.1.0.0/16: 1}
+    /// map.entry("10.1.0.0/16".parse()?).and_modify(|n| *n += 1).or_insert(1)?;    // 2
+    /// map.entry("10.2.0.0/16".parse()?).and_modify(|n| *n += 1).or_insert(1)?;    // 1
     /// ```
     #[inline]
     pub fn and_modify<F: FnOnce(&mut T) + Drop>(self, f: F) -> Self
@@ -252,10 +251,10 @@ impl<'a, P: Prefix, T: Drop, A: Allocator> Entry<'a, P, T, A> {
     ///
     /// # Examples
     ///
-    /// ```text
-    /// 10.1.0.0/16 is stored with 1
-    /// map.entry(10.1.0.0/16).or_insert(9)   Ok(&mut 1)
-    /// map.entry(10.2.0.0/16).or_insert(9)   Ok(&mut 9)
+    /// ```rust
+    /// // map = {10.1.0.0/16: 1}
+    /// map.entry("10.1.0.0/16".parse()?).or_insert(9)?;    // 1
+    /// map.entry("10.2.0.0/16".parse()?).or_insert(9)?;    // 9
     /// ```
     #[inline]
     pub fn or_insert(self, value: T) -> Result<&'a mut T, Refused<T>>
@@ -282,10 +281,10 @@ impl<'a, P: Prefix, T: Drop, A: Allocator> Entry<'a, P, T, A> {
     ///
     /// # Examples
     ///
-    /// ```text
-    /// 10.1.0.0/16 is stored with 1
-    /// map.entry(10.1.0.0/16).or_insert_with(|| 9)   Ok(&mut 1)
-    /// map.entry(10.2.0.0/16).or_insert_with(|| 9)   Ok(&mut 9)
+    /// ```rust
+    /// // map = {10.1.0.0/16: 1}
+    /// map.entry("10.1.0.0/16".parse()?).or_insert_with(|| 9)?;    // 1
+    /// map.entry("10.2.0.0/16".parse()?).or_insert_with(|| 9)?;    // 9
     /// ```
     #[inline]
     pub fn or_insert_with<F: FnOnce() -> T + Drop>(self, f: F) -> Result<&'a mut T, Refusal>
@@ -310,10 +309,10 @@ impl<'a, P: Prefix, T: Drop, A: Allocator> Entry<'a, P, T, A> {
     ///
     /// # Examples
     ///
-    /// ```text
-    /// 10.1.0.0/16 is stored with 1
-    /// map.entry(10.1.0.0/16).or_default()   Ok(&mut 1)
-    /// map.entry(10.2.0.0/16).or_default()   Ok(&mut 0)
+    /// ```rust
+    /// // map = {10.1.0.0/16: 1}
+    /// map.entry("10.1.0.0/16".parse()?).or_default()?;    // 1
+    /// map.entry("10.2.0.0/16".parse()?).or_default()?;    // 0
     /// ```
     #[inline]
     pub fn or_default(self) -> Result<&'a mut T, Refusal>

@@ -15,11 +15,12 @@ use std::alloc::Allocator;
 ///
 /// # Examples
 ///
-/// ```text
-/// a has 10.0.0.0/8 = 1 and 11.0.0.0/8 = 2, inserted in this order, b the same in the other order
-/// a == b      true
-/// b.insert(11.0.0.0/8, 3)?
-/// a == b      false
+/// ```rust
+/// // left = {10.0.0.0/8: 1, 11.0.0.0/8: 2}
+/// // right = {11.0.0.0/8: 2, 10.0.0.0/8: 1}
+/// left == right;                              // true: the order of insertion does not matter
+/// right.insert("11.0.0.0/8".parse()?, 3)?;
+/// left == right;                              // false
 /// ```
 impl<P: Prefix + PartialEq, T: PartialEq + Drop, A: Allocator> PartialEq for PrefixMap<P, T, A> {
     ghost eq = { λ a b. pointwise (λ x y. P.PartialEq.eq x.0 y.0 && T.PartialEq.eq x.1 y.1) (prefix_pairs P.back (listing a.entries)) (prefix_pairs P.back (listing b.entries)) };

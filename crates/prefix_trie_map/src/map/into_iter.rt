@@ -27,9 +27,9 @@ impl<P: Prefix, T: Drop, A: Allocator> PrefixMap<P, T, A> {
     ///
     /// # Examples
     ///
-    /// ```text
-    /// 10.0.0.0/8, 10.1.0.0/16, 10.1.1.0/24 and 10.2.0.0/16 are stored with 1, 2, 3 and 4
-    /// map.into_children(&10.1.0.0/16)    gives (10.1.0.0/16, 2) and (10.1.1.0/24, 3)
+    /// ```rust
+    /// // map = {10.0.0.0/8: 1, 10.1.0.0/16: 2, 10.1.1.0/24: 3, 10.2.0.0/16: 4}
+    /// map.into_children(&"10.1.0.0/16".parse()?);     // [(10.1.0.0/16, 2), (10.1.1.0/24, 3)]
     /// ```
     #[inline]
     pub fn into_children(self, prefix: &P) -> IntoIter<P, T, A>
@@ -52,10 +52,9 @@ impl<P: Prefix, T: Drop, A: Allocator> PrefixMap<P, T, A> {
     ///
     /// # Examples
     ///
-    /// ```text
-    /// 10.0.0.0/8, 10.1.0.0/16 and 9.0.0.0/8 are stored with 1, 2 and 3
-    /// map.into_keys()      gives 9.0.0.0/8, 10.0.0.0/8 and 10.1.0.0/16
-    /// map.into_values()    gives 3, 1 and 2
+    /// ```rust
+    /// // map = {10.0.0.0/8: 1, 10.1.0.0/16: 2, 9.0.0.0/8: 3}
+    /// map.into_keys();        // [9.0.0.0/8, 10.0.0.0/8, 10.1.0.0/16]
     /// ```
     #[inline]
     pub fn into_keys(self) -> IntoKeys<P, T, A>
@@ -72,9 +71,9 @@ impl<P: Prefix, T: Drop, A: Allocator> PrefixMap<P, T, A> {
     ///
     /// # Examples
     ///
-    /// ```text
-    /// 10.0.0.0/8, 10.1.0.0/16 and 9.0.0.0/8 are stored with 1, 2 and 3
-    /// map.into_values()   gives 3, 1 and 2
+    /// ```rust
+    /// // map = {10.0.0.0/8: 1, 10.1.0.0/16: 2, 9.0.0.0/8: 3}
+    /// map.into_values();      // [3, 1, 2]
     /// ```
     #[inline]
     pub fn into_values(self) -> IntoValues<P, T, A>
@@ -111,9 +110,9 @@ impl<P: Prefix, T: Drop, A: Allocator> IntoIterator for PrefixMap<P, T, A> {
 ///
 /// # Examples
 ///
-/// ```text
-/// 10.0.0.0/8, 10.1.0.0/16 and 9.0.0.0/8 are stored with 1, 2 and 3
-/// for (prefix, value) in map {}    goes over (9.0.0.0/8, 3), (10.0.0.0/8, 1) and (10.1.0.0/16, 2)
+/// ```rust
+/// // map = {10.0.0.0/8: 1, 10.1.0.0/16: 2, 9.0.0.0/8: 3}
+/// map.into_iter();        // [(9.0.0.0/8, 3), (10.0.0.0/8, 1), (10.1.0.0/16, 2)]
 /// ```
 #[derive(Drop)]
 pub struct IntoIter<P: Prefix, T: Drop, A: Allocator> {
@@ -152,10 +151,12 @@ impl<P: Prefix, T: Clone, A: Allocator + Clone> IntoIter<P, T, A> {
     ///
     /// # Examples
     ///
-    /// ```text
-    /// a walk has (10.0.0.0/8, 1) and (10.1.0.0/16, 2) to come
-    /// walk.clone()                         Ok(copy)
-    /// walk.next()                          Some((10.0.0.0/8, 1)), and copy still has both to come
+    /// ```rust
+    /// // map = {10.0.0.0/8: 1, 10.1.0.0/16: 2}
+    /// let mut walk = map.into_iter();
+    /// let copy = walk.clone()?;
+    /// walk.next();        // Some((10.0.0.0/8, 1))
+    /// copy;               // [(10.0.0.0/8, 1), (10.1.0.0/16, 2)]
     /// ```
     pub fn clone(&self) -> Result<Self, AllocError>
         ensures items { IfOk result (λ copy. AllZip (IsPairCloned T.is_clone) self.now copy) }

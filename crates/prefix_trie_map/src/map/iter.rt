@@ -26,11 +26,11 @@ impl<P: Prefix, T: Drop, A: Allocator> PrefixMap<P, T, A> {
     ///
     /// # Examples
     ///
-    /// ```text
-    /// 10.0.0.0/8, 10.1.0.0/16 and 9.0.0.0/8 are stored with 1, 2 and 3
-    /// map.iter()     gives (9.0.0.0/8, &3), (10.0.0.0/8, &1) and (10.1.0.0/16, &2)
-    /// map.keys()     gives 9.0.0.0/8, 10.0.0.0/8 and 10.1.0.0/16
-    /// map.values()   gives &3, &1 and &2
+    /// ```rust
+    /// // map = {10.0.0.0/8: 1, 10.1.0.0/16: 2, 9.0.0.0/8: 3}
+    /// map.iter();         // [(9.0.0.0/8, 3), (10.0.0.0/8, 1), (10.1.0.0/16, 2)]
+    /// map.keys();         // [9.0.0.0/8, 10.0.0.0/8, 10.1.0.0/16]
+    /// map.values();       // [3, 1, 2]
     /// ```
     #[inline]
     pub fn iter(&self) -> Iter<'_, P, T, A>
@@ -49,9 +49,9 @@ impl<P: Prefix, T: Drop, A: Allocator> PrefixMap<P, T, A> {
     ///
     /// # Examples
     ///
-    /// ```text
-    /// 10.0.0.0/8, 10.1.0.0/16 and 9.0.0.0/8 are stored
-    /// map.keys()   gives 9.0.0.0/8, 10.0.0.0/8 and 10.1.0.0/16
+    /// ```rust
+    /// // map = {10.0.0.0/8: 1, 10.1.0.0/16: 2, 9.0.0.0/8: 3}
+    /// map.keys();     // [9.0.0.0/8, 10.0.0.0/8, 10.1.0.0/16]
     /// ```
     #[inline]
     pub fn keys(&self) -> Keys<'_, P, T, A>
@@ -68,9 +68,9 @@ impl<P: Prefix, T: Drop, A: Allocator> PrefixMap<P, T, A> {
     ///
     /// # Examples
     ///
-    /// ```text
-    /// 10.0.0.0/8, 10.1.0.0/16 and 9.0.0.0/8 are stored with 1, 2 and 3
-    /// map.values()   gives &3, &1 and &2
+    /// ```rust
+    /// // map = {10.0.0.0/8: 1, 10.1.0.0/16: 2, 9.0.0.0/8: 3}
+    /// map.values();       // [3, 1, 2]
     /// ```
     #[inline]
     pub fn values(&self) -> Values<'_, P, T, A>

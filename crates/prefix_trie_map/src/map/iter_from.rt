@@ -20,11 +20,11 @@ impl<P: Prefix, T: Drop, A: Allocator> PrefixMap<P, T, A> {
     ///
     /// # Examples
     ///
-    /// ```text
-    /// 10.0.0.0/8, 10.1.0.0/16, 10.1.1.0/24 and 10.2.0.0/16 are stored with 1, 2, 3 and 4
-    /// map.iter_from(&10.1.0.0/16, true)     gives those with 2, 3 and 4
-    /// map.iter_from(&10.1.0.0/16, false)    gives those with 3 and 4
-    /// map.iter_from(&10.1.128.0/17, true)   gives that with 4
+    /// ```rust
+    /// // map = {10.0.0.0/8: 1, 10.1.0.0/16: 2, 10.1.1.0/24: 3, 10.2.0.0/16: 4}
+    /// map.iter_from(&"10.1.0.0/16".parse()?, true);       // [(10.1.0.0/16, 2), (10.1.1.0/24, 3), (10.2.0.0/16, 4)]
+    /// map.iter_from(&"10.1.0.0/16".parse()?, false);      // [(10.1.1.0/24, 3), (10.2.0.0/16, 4)]
+    /// map.iter_from(&"10.1.128.0/17".parse()?, true);     // [(10.2.0.0/16, 4)]
     /// ```
     #[inline]
     pub fn iter_from(&self, prefix: &P, inclusive: bool) -> Iter<'_, P, T, A>
@@ -50,10 +50,10 @@ impl<P: Prefix, T: Drop, A: Allocator> PrefixMap<P, T, A> {
     ///
     /// # Examples
     ///
-    /// ```text
-    /// 10.0.0.0/8, 10.1.0.0/16, 10.1.1.0/24 and 10.2.0.0/16 are stored with 1, 2, 3 and 4
-    /// map.children(&10.1.0.0/16)    gives those with 2 and 3
-    /// map.children(&10.1.0.0/17)    gives that with 3
+    /// ```rust
+    /// // map = {10.0.0.0/8: 1, 10.1.0.0/16: 2, 10.1.1.0/24: 3, 10.2.0.0/16: 4}
+    /// map.children(&"10.1.0.0/16".parse()?);      // [(10.1.0.0/16, 2), (10.1.1.0/24, 3)]
+    /// map.children(&"10.1.0.0/17".parse()?);      // [(10.1.1.0/24, 3)]
     /// ```
     #[inline]
     pub fn children(&self, prefix: &P) -> Iter<'_, P, T, A>

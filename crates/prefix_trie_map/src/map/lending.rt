@@ -22,10 +22,10 @@ impl<P: Prefix, T: Drop, A: Allocator> PrefixMap<P, T, A> {
     ///
     /// # Examples
     ///
-    /// ```text
-    /// 10.1.0.0/16 is stored with 1
-    /// if let Some(value) = map.get_mut(&10.1.0.0/16) { *value = 2; }
-    /// map.get(&10.1.0.0/16)                             Some(&2)
+    /// ```rust
+    /// // map = {10.1.0.0/16: 1}
+    /// if let Some(value) = map.get_mut(&"10.1.0.0/16".parse()?) { *value = 2; }
+    /// map.get(&"10.1.0.0/16".parse()?);       // Some(2)
     /// ```
     #[inline]
     pub fn get_mut(&mut self, prefix: &P) -> Option<&mut T>
@@ -71,10 +71,10 @@ impl<P: Prefix, T: Drop, A: Allocator> PrefixMap<P, T, A> {
     ///
     /// # Examples
     ///
-    /// ```text
-    /// 10.0.0.0/8 is stored with 1
-    /// if let Some(value) = map.get_lpm_value_mut(&10.2.0.0/16) { *value = 2; }
-    /// map.get(&10.0.0.0/8)                                         Some(&2)
+    /// ```rust
+    /// // map = {10.0.0.0/8: 1}
+    /// if let Some(value) = map.get_lpm_value_mut(&"10.2.0.0/16".parse()?) { *value = 2; }
+    /// map.get(&"10.0.0.0/8".parse()?);    // Some(2)
     /// ```
     #[inline]
     pub fn get_lpm_value_mut(&mut self, prefix: &P) -> Option<&mut T>
@@ -93,9 +93,10 @@ impl<P: Prefix, T: Drop, A: Allocator> PrefixMap<P, T, A> {
     ///
     /// # Examples
     ///
-    /// ```text
-    /// 10.0.0.0/8 is stored with 1
-    /// map.get_lpm_mut(&10.2.0.0/16)   Some((10.0.0.0/8, value)), with `value` at 1, for writing
+    /// ```rust
+    /// // map = {10.0.0.0/8: 1}
+    /// if let Some((_network, value)) = map.get_lpm_mut(&"10.2.0.0/16".parse()?) { *value = 2; }
+    /// map.iter();     // [(10.0.0.0/8, 2)]
     /// ```
     #[inline]
     pub fn get_lpm_mut(&mut self, prefix: &P) -> Option<(P, &mut T)>

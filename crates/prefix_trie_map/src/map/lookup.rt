@@ -23,11 +23,11 @@ impl<P: Prefix, T: Drop, A: Allocator> PrefixMap<P, T, A> {
     ///
     /// # Examples
     ///
-    /// ```text
-    /// 10.1.0.0/16 is stored with 1
-    /// map.get(&10.1.0.0/16)     Some(&1)
-    /// map.get(&10.1.2.3/16)     Some(&1), since host bits do not count
-    /// map.get(&10.1.0.0/17)     None
+    /// ```rust
+    /// // map = {10.1.0.0/16: 1}
+    /// map.get(&"10.1.0.0/16".parse()?);       // Some(1)
+    /// map.get(&"10.1.2.3/16".parse()?);       // Some(1): host bits do not count
+    /// map.get(&"10.1.0.0/17".parse()?);       // None
     /// ```
     #[inline]
     pub fn get(&self, prefix: &P) -> Option<&T>
@@ -44,9 +44,9 @@ impl<P: Prefix, T: Drop, A: Allocator> PrefixMap<P, T, A> {
     ///
     /// # Examples
     ///
-    /// ```text
-    /// map.insert(10.1.0.0/16, 1)      Ok(None), in a new map
-    /// map.get_counted(&10.1.0.0/16)   (Some(&1), visits), with `visits` at 4: lengths 0, 5, 10 and 15
+    /// ```rust
+    /// // map = {10.1.0.0/16: 1}
+    /// map.get_counted(&"10.1.0.0/16".parse()?).0;     // Some(1): the call reads 4 nodes, of lengths 0, 5, 10 and 15
     /// ```
     #[inline]
     pub fn get_counted(&self, prefix: &P) -> (Option<&T>, Visits)
@@ -63,10 +63,10 @@ impl<P: Prefix, T: Drop, A: Allocator> PrefixMap<P, T, A> {
     ///
     /// # Examples
     ///
-    /// ```text
-    /// 10.1.0.0/16 is stored
-    /// map.contains_key(&10.1.2.3/16)   true
-    /// map.contains_key(&10.1.0.0/17)   false
+    /// ```rust
+    /// // map = {10.1.0.0/16: 1}
+    /// map.contains_key(&"10.1.2.3/16".parse()?);      // true
+    /// map.contains_key(&"10.1.0.0/17".parse()?);      // false
     /// ```
     #[inline]
     pub fn contains_key(&self, prefix: &P) -> bool
@@ -93,9 +93,9 @@ impl<P: Prefix, T: Drop, A: Allocator> PrefixMap<P, T, A> {
     ///
     /// # Examples
     ///
-    /// ```text
-    /// 10.1.0.0/16 is stored with 1
-    /// map.get_key_value(&10.1.2.3/16)   Some((10.1.0.0/16, &1))
+    /// ```rust
+    /// // map = {10.1.0.0/16: 1}
+    /// map.get_key_value(&"10.1.2.3/16".parse()?);     // Some((10.1.0.0/16, 1))
     /// ```
     #[inline]
     pub fn get_key_value(&self, prefix: &P) -> Option<(P, &T)>
@@ -130,11 +130,11 @@ impl<P: Prefix, T: Drop, A: Allocator> PrefixMap<P, T, A> {
     ///
     /// # Examples
     ///
-    /// ```text
-    /// 10.0.0.0/8 is stored with 1, and 10.1.0.0/16 with 2
-    /// map.get_lpm(&10.1.2.3/32)   Some((10.1.0.0/16, &2)), and get_spm gives Some((10.0.0.0/8, &1))
-    /// map.get_lpm(&10.2.0.0/16)   Some((10.0.0.0/8, &1)), as get_spm
-    /// map.get_lpm(&11.0.0.0/8)    None, as get_spm
+    /// ```rust
+    /// // map = {10.0.0.0/8: 1, 10.1.0.0/16: 2}
+    /// map.get_lpm(&"10.1.2.3/32".parse()?);       // Some((10.1.0.0/16, 2))
+    /// map.get_lpm(&"10.2.0.0/16".parse()?);       // Some((10.0.0.0/8, 1))
+    /// map.get_lpm(&"11.0.0.0/8".parse()?);        // None
     /// ```
     #[inline]
     pub fn get_lpm(&self, prefix: &P) -> Option<(P, &T)>
@@ -150,9 +150,9 @@ impl<P: Prefix, T: Drop, A: Allocator> PrefixMap<P, T, A> {
     ///
     /// # Examples
     ///
-    /// ```text
-    /// map.insert(10.1.0.0/16, 1)          Ok(None), in a new map
-    /// map.get_lpm_counted(&10.1.2.3/32)   (Some((10.1.0.0/16, &1)), visits), with `visits` at 4
+    /// ```rust
+    /// // map = {10.1.0.0/16: 1}
+    /// map.get_lpm_counted(&"10.1.2.3/32".parse()?).0;     // Some((10.1.0.0/16, 1)): the call reads 4 nodes
     /// ```
     #[inline]
     pub fn get_lpm_counted(&self, prefix: &P) -> (Option<(P, &T)>, Visits)
@@ -172,10 +172,10 @@ impl<P: Prefix, T: Drop, A: Allocator> PrefixMap<P, T, A> {
     ///
     /// # Examples
     ///
-    /// ```text
-    /// 10.0.0.0/8 is stored with 1, and 10.1.0.0/16 with 2
-    /// map.get_lpm_value(&10.1.2.3/32)   Some(&2)
-    /// map.get_lpm_value(&11.0.0.0/8)    None
+    /// ```rust
+    /// // map = {10.0.0.0/8: 1, 10.1.0.0/16: 2}
+    /// map.get_lpm_value(&"10.1.2.3/32".parse()?);     // Some(2)
+    /// map.get_lpm_value(&"11.0.0.0/8".parse()?);      // None
     /// ```
     #[inline]
     pub fn get_lpm_value(&self, prefix: &P) -> Option<&T>
@@ -190,10 +190,10 @@ impl<P: Prefix, T: Drop, A: Allocator> PrefixMap<P, T, A> {
     ///
     /// # Examples
     ///
-    /// ```text
-    /// 10.0.0.0/8 and 10.1.0.0/16 are stored
-    /// map.get_lpm_prefix(&10.1.2.3/32)   Some(10.1.0.0/16)
-    /// map.get_lpm_prefix(&11.0.0.0/8)    None
+    /// ```rust
+    /// // map = {10.0.0.0/8: 1, 10.1.0.0/16: 2}
+    /// map.get_lpm_prefix(&"10.1.2.3/32".parse()?);    // Some(10.1.0.0/16)
+    /// map.get_lpm_prefix(&"11.0.0.0/8".parse()?);     // None
     /// ```
     #[inline]
     pub fn get_lpm_prefix(&self, prefix: &P) -> Option<P>
@@ -222,10 +222,10 @@ impl<P: Prefix, T: Drop, A: Allocator> PrefixMap<P, T, A> {
     ///
     /// # Examples
     ///
-    /// ```text
-    /// 10.0.0.0/8 is stored with 1, and 10.1.0.0/16 with 2
-    /// map.get_spm(&10.1.2.3/32)   Some((10.0.0.0/8, &1))
-    /// map.get_spm(&11.0.0.0/8)    None
+    /// ```rust
+    /// // map = {10.0.0.0/8: 1, 10.1.0.0/16: 2}
+    /// map.get_spm(&"10.1.2.3/32".parse()?);       // Some((10.0.0.0/8, 1))
+    /// map.get_spm(&"11.0.0.0/8".parse()?);        // None
     /// ```
     #[inline]
     pub fn get_spm(&self, prefix: &P) -> Option<(P, &T)>
@@ -241,9 +241,9 @@ impl<P: Prefix, T: Drop, A: Allocator> PrefixMap<P, T, A> {
     ///
     /// # Examples
     ///
-    /// ```text
-    /// 10.0.0.0/8 is stored with 1, and 10.1.0.0/16 with 2
-    /// map.get_spm_counted(&10.1.2.3/32)   (Some((10.0.0.0/8, &1)), visits), with `visits` at 2: lengths 0 and 5
+    /// ```rust
+    /// // map = {10.0.0.0/8: 1, 10.1.0.0/16: 2}
+    /// map.get_spm_counted(&"10.1.2.3/32".parse()?).0;     // Some((10.0.0.0/8, 1)): the call reads 2 nodes, of lengths 0 and 5
     /// ```
     #[inline]
     pub fn get_spm_counted(&self, prefix: &P) -> (Option<(P, &T)>, Visits)
@@ -261,10 +261,10 @@ impl<P: Prefix, T: Drop, A: Allocator> PrefixMap<P, T, A> {
     ///
     /// # Examples
     ///
-    /// ```text
-    /// 10.0.0.0/8 and 10.1.0.0/16 are stored
-    /// map.get_spm_prefix(&10.1.2.3/32)   Some(10.0.0.0/8)
-    /// map.get_spm_prefix(&11.0.0.0/8)    None
+    /// ```rust
+    /// // map = {10.0.0.0/8: 1, 10.1.0.0/16: 2}
+    /// map.get_spm_prefix(&"10.1.2.3/32".parse()?);    // Some(10.0.0.0/8)
+    /// map.get_spm_prefix(&"11.0.0.0/8".parse()?);     // None
     /// ```
     #[inline]
     pub fn get_spm_prefix(&self, prefix: &P) -> Option<P>
@@ -291,10 +291,10 @@ impl<P: Prefix, T: Drop, A: Allocator> PrefixMap<P, T, A> {
     ///
     /// # Examples
     ///
-    /// ```text
-    /// 10.0.0.0/8 is stored
-    /// map.is_covered(&10.1.2.3/32)   true
-    /// map.is_covered(&11.0.0.0/8)    false
+    /// ```rust
+    /// // map = {10.0.0.0/8: 1}
+    /// map.is_covered(&"10.1.2.3/32".parse()?);    // true
+    /// map.is_covered(&"11.0.0.0/8".parse()?);     // false
     /// ```
     #[inline]
     pub fn is_covered(&self, prefix: &P) -> bool

@@ -22,10 +22,10 @@ impl<P: Prefix, T: Drop, A: Allocator> PrefixMap<P, T, A> {
     ///
     /// # Examples
     ///
-    /// ```text
-    /// let mut map = PrefixMap::new(alloc)?;
-    /// map.insert(10.1.0.0/16, 1)?;
+    /// ```rust
+    /// // map = {10.1.0.0/16: 1}
     /// map.shrink_to_fit()?;
+    /// map.len();                  // 1
     /// ```
     pub fn shrink_to_fit(&mut self) -> Result<(), AllocError>
         ensures { self.new ≡ self.old }
@@ -48,9 +48,11 @@ impl<P: Prefix, T: Drop, A: Allocator + Clone> PrefixMap<P, T, A> {
     ///
     /// # Examples
     ///
-    /// ```text
-    /// map.remove(&10.1.2.0/24);     // its node's block of values may stay larger than needed, and others stay free
+    /// ```rust
+    /// // map = {10.1.0.0/16: 1, 10.1.2.0/24: 2}
+    /// map.remove(&"10.1.2.0/24".parse()?);
     /// map.compact()?;
+    /// (map.node_slots(), map.cell_slots());       // (4, 1): as in a new map with 10.1.0.0/16 alone
     /// ```
     pub fn compact(&mut self) -> Result<(), Refusal>
         ensures entries { OnOk result (self.new.entries ≡ self.old.entries) }

@@ -21,10 +21,10 @@ impl<P: Prefix, T: Drop, A: Allocator> PrefixMap<P, T, A> {
     ///
     /// # Examples
     ///
-    /// ```text
-    /// map.insert(10.1.0.0/16, 1)   Ok(None)
-    /// map.remove(&10.1.2.3/16)     Some(1)
-    /// map.remove(&10.1.0.0/16)     None
+    /// ```rust
+    /// // map = {10.1.0.0/16: 1}
+    /// map.remove(&"10.1.2.3/16".parse()?);        // Some(1)
+    /// map.remove(&"10.1.0.0/16".parse()?);        // None
     /// ```
     #[inline]
     pub fn remove(&mut self, prefix: &P) -> Option<T>
@@ -46,10 +46,13 @@ impl<P: Prefix, T: Drop, A: Allocator> PrefixMap<P, T, A> {
     ///
     /// # Examples
     ///
-    /// ```text
-    /// map.insert(0.0.0.0/32, 1)              Ok(None), and node_count is 7
-    /// map.remove_keep_tree(&0.0.0.0/32)      Some(1), and node_count is 7
-    /// map.remove(&0.0.0.0/32)                None, and node_count is 1
+    /// ```rust
+    /// // map = {0.0.0.0/32: 1}
+    /// let address = "0.0.0.0/32".parse()?;
+    /// map.remove_keep_tree(&address);     // Some(1)
+    /// map.node_count();                   // 7: as before
+    /// map.remove(&address);               // None
+    /// map.node_count();                   // 1
     /// ```
     #[inline]
     pub fn remove_keep_tree(&mut self, prefix: &P) -> Option<T>
@@ -74,13 +77,10 @@ impl<P: Prefix, T: Drop, A: Allocator> PrefixMap<P, T, A> {
     /// # Examples
     ///
     ///
-    /// ```text
-    /// map.insert(10.1.0.0/16, 1)       Ok(None)
-    /// map.insert(10.1.2.0/24, 2)       Ok(None)
-    /// map.insert(10.2.0.0/16, 3)       Ok(None)
-    /// map.drop_children(&10.1.0.0/16)
-    /// map.get(&10.1.2.0/24)            None
-    /// map.len()                        1
+    /// ```rust
+    /// // map = {10.1.0.0/16: 1, 10.1.2.0/24: 2, 10.2.0.0/16: 3}
+    /// map.drop_children(&"10.1.0.0/16".parse()?);
+    /// map.iter();     // [(10.2.0.0/16, 3)]
     /// ```
     #[inline]
     pub fn drop_children(&mut self, prefix: &P)
@@ -101,9 +101,10 @@ impl<P: Prefix, T: Drop, A: Allocator> PrefixMap<P, T, A> {
     ///
     /// # Examples
     ///
-    /// ```text
-    /// map.clear()
-    /// (map.len(), map.node_count(), map.node_slots(), map.cell_slots())   (0, 1, 1, 0)
+    /// ```rust
+    /// // map = {10.1.0.0/16: 1}
+    /// map.clear();
+    /// (map.len(), map.node_count(), map.node_slots(), map.cell_slots());      // (0, 1, 1, 0)
     /// ```
     #[inline]
     pub fn clear(&mut self)

@@ -60,10 +60,10 @@ impl<P: Prefix, T: Drop, A: Allocator> PrefixMap<P, T, A> {
     ///
     /// # Examples
     ///
-    /// ```text
-    /// 10.0.0.0/8, 10.1.0.0/16 and 10.1.2.0/24 are stored with 1, 2 and 3
-    /// map.retain(|prefix, value| prefix.prefix_len() < 20 && *value != 1)
-    /// map.keys()                                                            gives 10.1.0.0/16
+    /// ```rust
+    /// // map = {10.0.0.0/8: 1, 10.1.0.0/16: 2, 10.1.2.0/24: 3}
+    /// map.retain(|prefix, value| prefix.prefix_len() < 20 && *value != 1);
+    /// map.keys();     // [10.1.0.0/16]
     /// ```
     pub fn retain<F: FnMut(&P, &T) -> bool>(&mut self, test: F)
         requires { CallableOnEachEntry (CalledAtEntry F.FnMut P.back) (TakesEntry F.FnMut P.back) test (listing self.old.entries) }

@@ -24,10 +24,10 @@ impl<P: Prefix, T: Drop, A: Allocator + Clone> PrefixMap<P, T, A> {
     /// # Examples
     ///
     ///
-    /// ```text
-    /// let mut map = PrefixMap::with_slot_limit(alloc, 4)?;
-    /// map.insert(0.0.0.0/32, 1)   Err(Refused { cause: IndexRange, value: 1 }), since it needs six nodes more
-    /// map.insert(0.0.0.0/4, 2)    Ok(None)
+    /// ```rust
+    /// let mut map: PrefixMap<Ipv4Prefix, u32, Global> = PrefixMap::with_slot_limit(alloc, 4)?;
+    /// map.insert("0.0.0.0/32".parse()?, 1);       // Err(Refused { cause: IndexRange, value: 1 }): it needs six more nodes
+    /// map.insert("0.0.0.0/4".parse()?, 2);        // Ok(None)
     /// ```
     #[inline]
     pub fn with_slot_limit(alloc: A, limit: u32) -> Result<Self, Refusal>
@@ -53,9 +53,9 @@ impl<P: Prefix, T: Drop, A: Allocator> PrefixMap<P, T, A> {
     ///
     /// # Examples
     ///
-    /// ```text
-    /// map.insert(10.1.0.0/16, 1)   Ok(None), in a new map
-    /// map.node_slots()             4: the root, and three blocks of one slot
+    /// ```rust
+    /// // map = {10.1.0.0/16: 1}
+    /// map.node_slots();       // 4: the root, and three blocks of one slot
     /// ```
     #[inline]
     pub fn node_slots(&self) -> usize
@@ -72,9 +72,9 @@ impl<P: Prefix, T: Drop, A: Allocator> PrefixMap<P, T, A> {
     ///
     /// # Examples
     ///
-    /// ```text
-    /// map.insert(10.1.0.0/16, 1)   Ok(None), in a new map
-    /// map.cell_slots()             1
+    /// ```rust
+    /// // map = {10.1.0.0/16: 1}
+    /// map.cell_slots();       // 1
     /// ```
     #[inline]
     pub fn cell_slots(&self) -> usize
@@ -92,10 +92,10 @@ impl<P: Prefix, T: Drop, A: Allocator> PrefixMap<P, T, A> {
     ///
     /// # Examples
     ///
-    /// ```text
-    /// map.insert(10.1.0.0/16, 1)   Ok(None), with nodes of lengths 0, 5, 10 and 15
-    /// map.node_blocks()[0]         BlockCount { size: 1, used: 3, free: 0 }
-    /// map.cell_blocks()[0]         BlockCount { size: 1, used: 1, free: 0 }
+    /// ```rust
+    /// // map = {10.1.0.0/16: 1}
+    /// let blocks = map.node_blocks()[0];              // those of the nodes of lengths 5, 10 and 15
+    /// (blocks.size, blocks.used, blocks.free);        // (1, 3, 0)
     /// ```
     #[inline]
     pub fn node_blocks(&self) -> [BlockCount; 7]
@@ -114,9 +114,10 @@ impl<P: Prefix, T: Drop, A: Allocator> PrefixMap<P, T, A> {
     ///
     /// # Examples
     ///
-    /// ```text
-    /// map.insert(10.1.0.0/16, 1)   Ok(None), in a new map
-    /// map.cell_blocks()[0]         BlockCount { size: 1, used: 1, free: 0 }
+    /// ```rust
+    /// // map = {10.1.0.0/16: 1}
+    /// let blocks = map.cell_blocks()[0];
+    /// (blocks.size, blocks.used, blocks.free);        // (1, 1, 0)
     /// ```
     #[inline]
     pub fn cell_blocks(&self) -> [BlockCount; 7]

@@ -29,11 +29,11 @@ impl<P: Prefix, T: Drop, A: Allocator + Clone> PrefixMap<P, T, A> {
     ///
     /// # Examples
     ///
-    /// ```text
-    /// 10.1.0.0/16, 10.1.2.0/24 and 10.2.0.0/16 are stored with 1, 2 and 3
-    /// let part = map.remove_children(&10.1.0.0/16)?;
-    /// part.iter()    gives (10.1.0.0/16, 1) and (10.1.2.0/24, 2)
-    /// map.iter()     gives (10.2.0.0/16, 3)
+    /// ```rust
+    /// // map = {10.1.0.0/16: 1, 10.1.2.0/24: 2, 10.2.0.0/16: 3}
+    /// let part = map.remove_children(&"10.1.0.0/16".parse()?)?;
+    /// part.iter();    // [(10.1.0.0/16, 1), (10.1.2.0/24, 2)]
+    /// map.iter();     // [(10.2.0.0/16, 3)]
     /// ```
     pub fn remove_children(&mut self, prefix: &P) -> Result<Self, Refusal>
         requires { P.IsFitting prefix.now }

@@ -34,10 +34,10 @@ impl Model for Tally {
 ///
 /// # Examples
 ///
-/// ```text
-/// map.insert(10.1.0.0/16, 1)                Ok(None)
-/// map.get_counted(&10.1.0.0/16)             (Some(&1), visits), with `visits` at 4: lengths 0, 5, 10 and 15
-/// map.get_counted(&11.0.0.0/8)              (None, visits), with `visits` at 2, the nodes on the search path
+/// ```rust
+/// // map = {10.1.0.0/16: 1}
+/// let (value, _visits) = map.get_counted(&"10.1.0.0/16".parse()?);
+/// value;      // Some(1): `_visits` is 4 in contracts, the nodes of lengths 0, 5, 10 and 15
 /// ```
 #[derive(Drop)]
 pub struct Visits {

@@ -70,10 +70,11 @@ impl<C: Source> WalkOf<C> {
     ///
     /// # Examples
     ///
-    /// ```text
-    /// 10.0.0.0/8 and 10.1.0.0/16 are stored with 1 and 2
+    /// ```rust
+    /// // map = {10.0.0.0/8: 1, 10.1.0.0/16: 2}
     /// let mut walk = map.iter_mut();
-    /// if let Some((prefix, stop)) = walk.step() { *walk.value(stop) = 3; }    sets the value of 10.0.0.0/8
+    /// if let Some((_network, stop)) = walk.step() { *walk.value(stop) = 3; }
+    /// map.values();       // [3, 2]
     /// ```
     #[inline]
     pub fn step(&mut self) -> Option<(C::Prefix, C::CursorItem)>
@@ -103,12 +104,12 @@ impl<C: Source> WalkOf<C> {
     ///
     /// # Examples
     ///
-    /// ```text
-    /// 10.0.0.0/8 and 10.1.0.0/16 are stored with 1 and 2
+    /// ```rust
+    /// // map = {10.0.0.0/8: 1, 10.1.0.0/16: 2}
     /// let mut walk = map.iter_mut();
-    /// walk.next_value()                 Some(&mut 1)
-    /// walk.next()                       Some((10.1.0.0/16, &mut 2))
-    /// walk.next_value()                 None
+    /// walk.next_value();      // Some(1)
+    /// walk.next();            // Some((10.1.0.0/16, 2))
+    /// walk.next_value();      // None
     /// ```
     #[inline]
     pub fn next_value(&mut self) -> Option<&mut C::Value>
@@ -125,12 +126,12 @@ impl<C: Source> WalkOf<C> {
     ///
     /// # Examples
     ///
-    /// ```text
-    /// 10.0.0.0/8 and 10.1.0.0/16 are stored with 1 and 2
+    /// ```rust
+    /// // map = {10.0.0.0/8: 1, 10.1.0.0/16: 2}
     /// let mut walk = map.iter_mut();
-    /// walk.next()                      Some((10.0.0.0/8, &mut 1))
-    /// walk.next()                      Some((10.1.0.0/16, &mut 2))
-    /// walk.next()                      None
+    /// walk.next();    // Some((10.0.0.0/8, 1))
+    /// walk.next();    // Some((10.1.0.0/16, 2))
+    /// walk.next();    // None
     /// ```
     #[inline]
     pub fn next(&mut self) -> Option<(C::Prefix, &mut C::Value)>
@@ -196,12 +197,12 @@ impl<C: Source> ValuesOf<C> {
     ///
     /// # Examples
     ///
-    /// ```text
-    /// 10.0.0.0/8 and 10.1.0.0/16 are stored with 1 and 2
+    /// ```rust
+    /// // map = {10.0.0.0/8: 1, 10.1.0.0/16: 2}
     /// let mut walk = map.values_mut();
-    /// walk.next()                        Some(&mut 1)
-    /// walk.next()                        Some(&mut 2)
-    /// walk.next()                        None
+    /// walk.next();    // Some(1)
+    /// walk.next();    // Some(2)
+    /// walk.next();    // None
     /// ```
     #[inline]
     pub fn next(&mut self) -> Option<&mut C::Value>

@@ -1,4 +1,4 @@
--- The longest-match value of a question, bit by bit from the top.
+-- The longest-match value of a question, computed bit by bit from the top: for `aggregate`.
 use Rattle.std.proofs.Common.{◌≡◌, ◌≢◌, ◌∙◌, ◌+◌, ◌-◌, ◌++◌, ◌&&◌, nat_lt, eqb, eqb-true, ℕ, Bool, true, false, true≢false, cond, List, [], ◌∷◌, length, take, Option, Some, None, is_some, ap, sym, refl, arith, append-nil, length-append}
 use Rattle.std.proofs.lemmas.List.{append_assoc, take_at}
 use Rattle.std.specs.Option.{option_map, option_or}
@@ -16,7 +16,7 @@ use Rattle.prefix_trie_ops.proofs.Lists.{filter_agrees}
 use Rattle.prefix_trie_ops.proofs.Removing.{same_longest}
 
 module _ {X : Type 0} where
-  -- values that agree below a string
+  -- entries that agree under a string give the same values there
   pub along_agrees : (f g : List Bool → Option X) (h : Option X) (s r : List Bool) → ((t : List Bool) → begins s t ≡ true → f t ≡ g t) → value_along f h s r ≡ value_along g h s r
   along_agrees f g h s [] same = ap (λ o. option_or o h) (same s (begins-refl s))
   along_agrees f g h s (b ∷ r) same =
@@ -28,7 +28,7 @@ module _ {X : Type 0} where
   along_none f h s (b ∷ r) none =
       ap (λ o. value_along f (option_or o h) (s ++ b ∷ []) r) (none s (begins-refl s)) ∙ along_none f h (s ++ b ∷ []) r (λ t at. none t (above s t b at))
 
-  -- no key is longer than a string and begins with it
+  -- if no longer key begins with the string, the value there is its own entry's, or the inherited one
   pub along_leaf : (f : List Bool → Option X) (h : Option X) (s r : List Bool) → ((t : List Bool) → begins s t ≡ true → t ≢ s → f t ≡ None) → value_along f h s r ≡ option_or (f s) h
   along_leaf f h s [] none = refl
   along_leaf f h s (b ∷ r) none = along_none f (option_or (f s) h) (s ++ b ∷ []) r (λ t at. none t (above s t b at) (is_other s t b at))
@@ -49,7 +49,7 @@ module _ {X : Type 0} where
   repeated_none eq f h s [] none = ap (are_equal eq h) (none s (begins-refl s)) ∙ none_equal eq h
   repeated_none eq f h s (b ∷ r) none = repeated_none eq f (option_or (f s) h) (s ++ b ∷ []) r (λ t at. none t (above s t b at))
 
-  -- the value of a question is its own entry's, or else that of the shorter keys
+  -- the value of a question is that of its own entry, or else that of the shorter keys
   here : {P : Type 0} → LookupLaws P X → (m : Entries X) (s : List Bool) → value_of m s ≡ option_or (get m s) (value_above m s)
   here laws m s = elim (get m s) as (λ o. get m s ≡ o → value_of m s ≡ option_or o (value_above m s)) [
     | Some v ↦ λ h. ap (option_map (λ e. e.1)) (same_longest laws m s (s, v) (record {
@@ -99,6 +99,6 @@ module _ {X : Type 0} where
       ap (λ o. is_repeated_along eq (get m) o (s ++ b ∷ []) r) (sym (here laws m s) ∙ sym (above_push m s b))
       ∙ along_redundant laws eq m (s ++ b ∷ []) r ∙ ap (is_redundant eq m) (append_assoc s (b ∷ []) r)
 
-  -- and an entry on it repeats the value above it if it is redundant
+  -- an entry repeats the value above it exactly if it is redundant
   pub along_is_redundant : {P : Type 0} → LookupLaws P X → (eq : X → X → Bool) (m : Entries X) (s : List Bool) → is_repeated_along eq (get m) None [] s ≡ is_redundant eq m s
   along_is_redundant laws eq m s = along_redundant laws eq m [] s

@@ -1,4 +1,4 @@
--- What the next item of a walk over a sorted listing tells of the map at and below a string.
+-- What the next item of a walk over a sorted listing says about the map at a string and under it: for `aggregate`.
 use Rattle.std.proofs.Common.{◌≡◌, ◌≢◌, ◌∙◌, ◌&&◌, not, nat_lt, ltb-true, Bool, true, false, true≢false, cond, List, [], ◌∷◌, ◌++◌, length, filter, Some, None, Less, Equal, Greater, is_eq, is_le, is_lt, inl, inr, ap, sym, subst, refl, T}
 use Rattle.std.specs.List.{Contains}
 use Rattle.std.specs.FinMap.{entries_sorted, get, get-entries}
@@ -22,12 +22,12 @@ module _ {X : Type 0} where
         | Greater ↦ λ _ bad. absurd (true≢false (sym bad))
       ] refl le
 
-  -- after an item that is not before the string, no item is the string's own
+  -- if the first item is not before the string, the later items are not at the string
   same_behind : (s : List Bool) (x : List Bool × X) (es : List (List Bool × X)) → T (is_sorted listing_cmp (x ∷ es)) → is_le (listing_cmp s x.0) ≡ true
       → filter (λ e. is_le (listing_cmp s e.0)) es ≡ filter (λ e. is_lt (listing_cmp s e.0)) es
   same_behind s x es h le = filter_agrees (λ e. is_le (listing_cmp s e.0)) (λ e. is_lt (listing_cmp s e.0)) es (λ e at. ap is_le (later s x es h le e at) ∙ sym (ap is_lt (later s x es h le e at)))
 
-  -- the first pair that is not before a string is that of the string, if there is one
+  -- the first pair that is not before a string is the string's pair, if it has one
   front : (s : List Bool) (es : List (List Bool × X)) → T (is_sorted listing_cmp es)
       → (find listing_cmp s es ≡ first_value_at (λ t. t) s (filter (λ e. is_le (listing_cmp s e.0)) es))
       × (filter (λ e. is_lt (listing_cmp s e.0)) es ≡ items_after (λ t. t) s (filter (λ e. is_le (listing_cmp s e.0)) es))
@@ -50,7 +50,7 @@ module _ {X : Type 0} where
       less_only : listing_cmp s x.0 ≡ Less → T (below_all listing_cmp s es)
       less_only l = before_all s x.0 es l (sorted-head x es h)
 
-  -- if the first pair after a string is not below it, none is
+  -- if the first pair after a string is not under it, none is
   none_below : (s : List Bool) (es : List (List Bool × X)) → T (is_sorted listing_cmp es) → is_first_below (λ t. t) s (filter (λ e. is_lt (listing_cmp s e.0)) es) ≡ false
       → (e : List Bool × X) → Contains es e → listing_cmp s e.0 ≡ Less → begins s e.0 ≡ false
   none_below s [] h none e at less = absurd (contains_none e at)
@@ -85,7 +85,7 @@ module _ {X : Type 0} where
           second true h = h
           second false h = refl
 
--- the same of a map, and of a walk over its pairs by prefixes
+-- the same for a map, and for a walk over its pairs by prefixes
 module _ {P X : Type 0} (path : P → List Bool) (back : List Bool → P) (m : Entries X) (known : (e : List Bool × X) → Contains (listing m) e → path (back e.0) ≡ e.0) where
   kept : (p : List Bool × X → Bool) (es : List (List Bool × X)) (x : List Bool × X) (xs : List (List Bool × X)) → filter p es ≡ x ∷ xs → Contains es x
   kept p [] x xs is = cc
@@ -110,7 +110,7 @@ module _ {P X : Type 0} (path : P → List Bool) (back : List Bool → P) (m : E
   shown_below s p [] is = refl
   shown_below s p (x ∷ xs) is = ap (λ t. nat_lt (length s) (length t) && begins s t) (known x (kept p (listing m) x xs is))
 
-  -- the walk's next item at a string is the map's value there, and what is left comes after it
+  -- the next item of the walk gives the map's value at the string, and what is left comes after the string
   pub value_here : (s : List Bool) (walk : List (P × X)) → walk ≡ prefix_pairs back (listing_from m s) → first_value_at path s walk ≡ get m s
   value_here s walk is =
       ap (first_value_at path s) is ∙ shown_value s (λ e. is_le (listing_cmp s e.0)) (listing_from m s) refl ∙ sym (front s (listing m) (entries_sorted m)).0 ∙ sym (get-entries m s)
@@ -119,7 +119,7 @@ module _ {P X : Type 0} (path : P → List Bool) (back : List Bool → P) (m : E
   left_after s walk is =
       ap (items_after path s) is ∙ shown_after s (λ e. is_le (listing_cmp s e.0)) (listing_from m s) refl ∙ ap (prefix_pairs back) (sym (front s (listing m) (entries_sorted m)).1)
 
-  -- if the next item is not below the string, no key is
+  -- if the next item is not under the string, no key is
   pub no_key_below : (s : List Bool) (walk : List (P × X)) → walk ≡ prefix_pairs back (listing_after m s) → is_first_below path s walk ≡ false
       → (t : List Bool) → begins s t ≡ true → t ≢ s → get m t ≡ None
   no_key_below s walk is none t at other = elim (get m t) as (λ o. get m t ≡ o → o ≡ None) [
@@ -135,7 +135,7 @@ module _ {P X : Type 0} (path : P → List Bool) (back : List Bool → P) (m : E
         | false ↦ λ l. absurd (other (sym (no_shorter s t at l)))
       ] refl
 
-  -- and the walk is past the string
+  -- so the walk is past the string
   pub past_leaf : (s : List Bool) (walk : List (P × X)) → walk ≡ prefix_pairs back (listing_after m s) → is_first_below path s walk ≡ false → walk ≡ prefix_pairs back (listing_past m s)
   past_leaf s walk is none = is ∙ ap (prefix_pairs back) (filter_agrees (λ e. is_lt (listing_cmp s e.0)) (λ e. is_lt (listing_cmp s e.0) && not (begins s e.0)) (listing m) (λ e at.
       elim (listing_cmp s e.0) as (λ o. listing_cmp s e.0 ≡ o → is_lt o ≡ (is_lt o && not (begins s e.0))) [
@@ -144,7 +144,7 @@ module _ {P X : Type 0} (path : P → List Bool) (back : List Bool → P) (m : E
         | Greater ↦ λ _. refl
       ] refl))
 
--- a walk goes on from a string to its two extensions, and is then past it
+-- a walk goes on from a string to its two extensions, and is past the string afterwards
 module _ {P X : Type 0} (back : List Bool → P) (m : Entries X) (s : List Bool) where
   pub to_left : (walk : List (P × X)) → walk ≡ prefix_pairs back (listing_after m s) → walk ≡ prefix_pairs back (listing_from m (s ++ false ∷ []))
   to_left walk is = is ∙ ap (prefix_pairs back) (filter_agrees (λ e. is_lt (listing_cmp s e.0)) (λ e. is_le (listing_cmp (s ++ false ∷ []) e.0)) (listing m) (λ e _. after_is_from s e.0))

@@ -1,4 +1,4 @@
--- What the tests of the entry read ahead tell of a walk, and what taking it leaves.
+-- What the tests on the entry read ahead say about the walk, and what is left after it is taken: for `aggregate`.
 use Rattle.std.proofs.Common.{◌≡◌, ◌∙◌, ◌+◌, ◌++◌, ◌&&◌, ℕ, nat_lt, Bool, true, false, cond, List, [], ◌∷◌, length, take, Option, Some, None, Bor, is_eq, ap, sym, refl, length-append}
 use Rattle.std.proofs.lemmas.List.{take_at}
 use Rattle.prefix_trie_bits.specs.Bits.{digits}
@@ -41,7 +41,7 @@ module _ {P T' : Type 0} (path : P → List Bool) (s : List Bool) where
   pub end_items : (es : List (P × T')) → es ≡ [] → items_after path s es ≡ []
   end_items es is = ap (items_after path s) is
 
--- the path of a half
+-- the path of a half is the path with one bit more
 pub half_path : (path whole : List Bool) (longer bits rest : List Bool) (n : ℕ) (tail : List Bool) → path ≡ take n whole → length path ≡ n → length tail ≡ 1
     → bits ≡ take n whole ++ tail ++ rest → longer ≡ take (n + 1) bits → longer ≡ path ++ tail
 half_path path whole longer bits rest n tail is l one b long =

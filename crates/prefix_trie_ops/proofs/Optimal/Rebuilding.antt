@@ -1,4 +1,4 @@
--- A part of a map that is rebuilt from its two halves.
+-- A part of a map is rebuilt correctly if its two halves are: for `aggregate`.
 use Rattle.std.proofs.Common.{◌≡◌, ◌≢◌, ◌∙◌, ◌+◌, ◌<◌, ◌++◌, ℕ, Bool, true, false, true≢false, List, [], ◌∷◌, length, Option, None, ap, sym, refl, arith, length-append}
 use Rattle.std.specs.Option.{option_or}
 use Rattle.std.specs.FinMap.{get}
@@ -9,11 +9,11 @@ use Rattle.prefix_trie_ops.specs.Values.{are_equal}
 use Rattle.prefix_trie_ops.proofs.Optimal.Along.{along_agrees, along_leaf, repeated_agrees, repeated_none}
 use Rattle.prefix_trie_ops.proofs.Optimal.Order.{above, apart, is_other}
 
--- what a string does not begin is not it
+-- a string that s does not begin is not s
 differs : (s t : List Bool) → begins s t ≡ false → t ≢ s
 differs s t off same = true≢false (sym (begins-refl s) ∙ ap (begins s) (sym same) ∙ off)
 
--- what it does not begin, no extension begins
+-- a string that s does not begin is not begun by an extension of s
 not_above : (s t : List Bool) (b : Bool) → begins s t ≡ false → begins (s ++ b ∷ []) t ≡ false
 not_above s t b off = elim (begins (s ++ b ∷ []) t) as (λ c. begins (s ++ b ∷ []) t ≡ c → c ≡ false) [
   | true ↦ λ at. absurd (true≢false (sym (above s t b at) ∙ off))
@@ -32,7 +32,7 @@ not_right s t l = elim (begins (s ++ true ∷ []) t) as (λ c. begins (s ++ true
   | false ↦ λ _. refl
 ] refl
 
--- a string is not begun by its extensions
+-- no extension of a string begins it
 not_itself_below : (s : List Bool) (b : Bool) → begins (s ++ b ∷ []) s ≡ false
 not_itself_below s b = elim (begins (s ++ b ∷ []) s) as (λ c. begins (s ++ b ∷ []) s ≡ c → c ≡ false) [
   | true ↦ λ at. absurd (is_other s s b at refl)
@@ -41,7 +41,7 @@ not_itself_below s b = elim (begins (s ++ b ∷ []) s) as (λ c. begins (s ++ b 
 
 module _ {X : Type 0} (eq : X → X → Bool) (width : ℕ) (source before settled : Entries X) (s : List Bool) (inherited held wanted : Option X)
     (empty_below : HasNoneBelow before s) (others_stay : (t : List Bool) → t ≢ s → get settled t ≡ get before t) (gives : option_or (get settled s) held ≡ wanted) (fresh : are_equal eq held (get settled s) ≡ false) where
-  -- a part without longer keys
+  -- a part that has no longer keys is rebuilt by its own value
   pub leaf : ((t : List Bool) → begins s t ≡ true → t ≢ s → get source t ≡ None) → wanted ≡ option_or (get source s) inherited → Rebuilds eq width source s inherited held before settled
   leaf none is = record {
     beside = λ t off. others_stay t (differs s t off);
@@ -54,14 +54,14 @@ module _ {X : Type 0} (eq : X → X → Bool) (width : ℕ) (source before settl
       alone [] = fresh
       alone (b ∷ r) = repeated_none eq (get settled) (option_or (get settled s) held) (s ++ b ∷ []) r (λ t at. others_stay t (is_other s t b at) ∙ empty_below t (above s t b at))
 
-  -- below its halves nothing is stored yet
+  -- nothing is stored under its halves yet
   pub none_left : HasNoneBelow settled (s ++ false ∷ [])
   none_left t at = others_stay t (is_other s t false at) ∙ empty_below t (above s t false at)
 
   pub none_right : (middle : Entries X) → ((t : List Bool) → begins (s ++ false ∷ []) t ≡ false → get middle t ≡ get settled t) → HasNoneBelow middle (s ++ true ∷ [])
   none_right middle beside t at = beside t (not_left s t at) ∙ others_stay t (is_other s t true at) ∙ empty_below t (above s t true at)
 
-  -- a part with both halves rebuilt
+  -- a part whose two halves are rebuilt
   module _ (middle after : Entries X) (here : Option X) (short : length s < width) (is : here ≡ option_or (get source s) inherited)
       (left : Rebuilds eq width source (s ++ false ∷ []) here wanted settled middle) (right : Rebuilds eq width source (s ++ true ∷ []) here wanted middle after) where
     top : option_or (get after s) held ≡ wanted

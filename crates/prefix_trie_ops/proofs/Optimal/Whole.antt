@@ -1,4 +1,5 @@
--- A whole map is what is below the empty string, and a selection of its entries has no more of them.
+-- The whole map is what is under the empty string, and a selection of its entries has at most as many: for
+-- `aggregate`.
 use Rattle.std.proofs.Common.{◌≡◌, ◌∙◌, ◌≤◌, Bool, true, false, cond, List, [], ◌∷◌, length, filter, is_le, ap, sym, subst, refl, arith}
 use Rattle.std.specs.FinMap.{len, len-entries, retain_keys}
 use Rattle.prefix_trie_bits.proofs.Model.Ordered.{entries-retained}
@@ -13,7 +14,7 @@ module _ {X : Type 0} where
       is_first [] = refl
       is_first (b ∷ t) = refl
 
-  -- all keys are at or after the empty string
+  -- all keys are at the empty string or after it
   pub all_from_root : (m : Entries X) → listing m ≡ listing_from m []
   all_from_root m = from_first (listing m)
 

@@ -19,10 +19,10 @@ use std::alloc::{AllocError, Allocator};
 ///
 /// # Examples
 ///
-/// ```text
-/// 10.0.0.0/8, 10.1.0.0/16, 10.1.2.0/24 and 10.1.2.4/32 are stored with 1, 1, 2 and 1
-/// aggregate_consistent(&mut map, alloc)?
-/// map.iter()                               gives (10.0.0.0/8, &1), (10.1.2.0/24, &2) and (10.1.2.4/32, &1)
+/// ```rust
+/// // map = {10.0.0.0/8: 1, 10.1.0.0/16: 1, 10.1.2.0/24: 2, 10.1.2.4/32: 1}
+/// aggregate_consistent(&mut map, alloc)?;
+/// map.iter();     // [(10.0.0.0/8, 1), (10.1.2.0/24, 2), (10.1.2.4/32, 1)]
 /// ```
 pub fn aggregate_consistent<P: Prefix, T: PartialEq + Drop, A: Allocator, B: Allocator + Clone>(
     table: &mut PrefixMap<P, T, A>,

@@ -39,9 +39,13 @@ impl<'a, P: Prefix, T: Drop, U: Drop, A: Allocator, B: Allocator> Model
 ///
 /// # Examples
 ///
-/// ```text
-/// left has 10.0.0.0/8 and 10.1.0.0/16 with 1 and 2, and right has 10.1.0.0/16 and 10.2.0.0/16 with 8 and 9
-/// union(&left, &right)    gives (10.0.0.0/8, Left(&1)), (10.1.0.0/16, Both(&2, &8)) and (10.2.0.0/16, Right(&9))
+/// ```rust
+/// // left = {10.0.0.0/8: 1, 10.1.0.0/16: 2}
+/// // right = {10.1.0.0/16: 8, 10.2.0.0/16: 9}
+/// let mut walk = union(&left, &right);
+/// matches!(walk.next(), Some((_, Side::Left(1))));        // true: 10.0.0.0/8
+/// matches!(walk.next(), Some((_, Side::Both(2, 8))));     // true: 10.1.0.0/16
+/// matches!(walk.next(), Some((_, Side::Right(9))));       // true: 10.2.0.0/16
 /// ```
 pub fn union<'a, P: Prefix, T: Drop, U: Drop, A: Allocator, B: Allocator>(
     left: &'a PrefixMap<P, T, A>,

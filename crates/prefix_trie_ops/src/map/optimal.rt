@@ -38,10 +38,10 @@ use std::alloc::Allocator;
 ///
 /// # Examples
 ///
-/// ```text
-/// 10.0.0.0/9, 10.128.0.0/9 and 10.64.0.0/10 are stored with 1, 1 and 2
-/// aggregate(&mut map, alloc)?
-/// map.iter()                       gives (10.0.0.0/8, &1) and (10.64.0.0/10, &2)
+/// ```rust
+/// // map = {10.0.0.0/9: 1, 10.128.0.0/9: 1, 10.64.0.0/10: 2}
+/// aggregate(&mut map, alloc)?;
+/// map.iter();     // [(10.0.0.0/8, 1), (10.64.0.0/10, 2)]
 /// ```
 pub fn aggregate<P: Prefix, T: Copy + Ord, A: Allocator + Clone, B: Allocator>(
     table: &mut PrefixMap<P, T, A>,

@@ -77,9 +77,10 @@ impl<'a, P: Prefix, T: Drop, U: Drop, A: Allocator, B: Allocator> Model
 ///
 /// # Examples
 ///
-/// ```text
-/// left has 10.0.0.0/8 and 10.1.0.0/16 with 1 and 2, and right has 10.1.0.0/16 and 10.2.0.0/16 with 8 and 9
-/// intersection(&left, &right)    gives (10.1.0.0/16, &2, &8)
+/// ```rust
+/// // left = {10.0.0.0/8: 1, 10.1.0.0/16: 2}
+/// // right = {10.1.0.0/16: 8, 10.2.0.0/16: 9}
+/// intersection(&left, &right);    // [(10.1.0.0/16, 2, 8)]
 /// ```
 pub fn intersection<'a, P: Prefix, T: Drop, U: Drop, A: Allocator, B: Allocator>(
     left: &'a PrefixMap<P, T, A>,

@@ -36,9 +36,10 @@ impl<'a, P: Prefix, U: Drop, B: Allocator> PathTest<P> for Missing<'a, P, U, B> 
 ///
 /// # Examples
 ///
-/// ```text
-/// left has 10.0.0.0/8, 10.1.0.0/16 and 10.2.0.0/16 with 1, 2 and 3, and right has 10.1.0.0/16 with 9
-/// difference(&left, &right)    gives (10.0.0.0/8, &1) and (10.2.0.0/16, &3)
+/// ```rust
+/// // left = {10.0.0.0/8: 1, 10.1.0.0/16: 2, 10.2.0.0/16: 3}
+/// // right = {10.1.0.0/16: 9}
+/// difference(&left, &right);      // [(10.0.0.0/8, 1), (10.2.0.0/16, 3)]
 /// ```
 pub fn difference<'a, P: Prefix, T: Drop, U: Drop, A: Allocator, B: Allocator>(
     left: &'a PrefixMap<P, T, A>,

@@ -20,10 +20,10 @@ use std::alloc::{AllocError, Allocator};
 ///
 /// # Examples
 ///
-/// ```text
-/// 10.0.0.0/8, 10.1.0.0/16, 10.1.2.0/24 and 11.0.0.0/8 are stored
-/// aggregate_consistent(&mut set, alloc)?
-/// set.iter()                               gives 10.0.0.0/8 and 11.0.0.0/8
+/// ```rust
+/// // set = {10.0.0.0/8, 10.1.0.0/16, 10.1.2.0/24, 11.0.0.0/8}
+/// aggregate_consistent(&mut set, alloc)?;
+/// set.iter();     // [10.0.0.0/8, 11.0.0.0/8]
 /// ```
 pub fn aggregate_consistent<P: Prefix, A: Allocator, B: Allocator>(
     set: &mut PrefixSet<P, A>,

@@ -12,10 +12,11 @@ use std::alloc::Allocator;
 ///
 /// # Examples
 ///
-/// ```text
-/// left has 10.1.0.0/16, and right has 10.0.0.0/8 and 10.1.0.0/16
-/// is_subset(&left, &right)    true
-/// is_subset(&right, &left)    false
+/// ```rust
+/// // left = {10.1.0.0/16}
+/// // right = {10.0.0.0/8, 10.1.0.0/16}
+/// is_subset(&left, &right);       // true
+/// is_subset(&right, &left);       // false
 /// ```
 pub fn is_subset<P: Prefix, A: Allocator, B: Allocator>(
     left: &PrefixSet<P, A>,
@@ -31,9 +32,10 @@ pub fn is_subset<P: Prefix, A: Allocator, B: Allocator>(
 ///
 /// # Examples
 ///
-/// ```text
-/// left has 10.1.0.0/16, and right has 10.0.0.0/8
-/// is_disjoint(&left, &right)    true
+/// ```rust
+/// // left = {10.1.0.0/16}
+/// // right = {10.0.0.0/8}
+/// is_disjoint(&left, &right);     // true
 /// ```
 pub fn is_disjoint<P: Prefix, A: Allocator, B: Allocator>(
     left: &PrefixSet<P, A>,
@@ -49,9 +51,10 @@ pub fn is_disjoint<P: Prefix, A: Allocator, B: Allocator>(
 ///
 /// # Examples
 ///
-/// ```text
-/// left has 10.0.0.0/8 and 10.1.0.0/16, and right has 10.1.0.0/16
-/// intersects(&left, &right)    true
+/// ```rust
+/// // left = {10.0.0.0/8, 10.1.0.0/16}
+/// // right = {10.1.0.0/16}
+/// intersects(&left, &right);      // true
 /// ```
 pub fn intersects<P: Prefix, A: Allocator, B: Allocator>(
     left: &PrefixSet<P, A>,

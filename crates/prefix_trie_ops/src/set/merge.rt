@@ -39,9 +39,10 @@ impl<'a, P: Prefix, A: Allocator, B: Allocator> Model for UnionWalk<'a, P, A, B>
 ///
 /// # Examples
 ///
-/// ```text
-/// left has 10.0.0.0/8 and 10.1.0.0/16, and right has 10.1.0.0/16 and 10.2.0.0/16
-/// union(&left, &right)    gives 10.0.0.0/8, 10.1.0.0/16 and 10.2.0.0/16
+/// ```rust
+/// // left = {10.0.0.0/8, 10.1.0.0/16}
+/// // right = {10.1.0.0/16, 10.2.0.0/16}
+/// union(&left, &right);       // [10.0.0.0/8, 10.1.0.0/16, 10.2.0.0/16]
 /// ```
 pub fn union<'a, P: Prefix, A: Allocator, B: Allocator>(
     left: &'a PrefixSet<P, A>,

@@ -37,9 +37,10 @@ impl<'a, P: Prefix, A: Allocator, B: Allocator> Model for IntersectionWalk<'a, P
 ///
 /// # Examples
 ///
-/// ```text
-/// left has 10.0.0.0/8 and 10.1.0.0/16, and right has 10.1.0.0/16 and 10.2.0.0/16
-/// intersection(&left, &right)    gives 10.1.0.0/16
+/// ```rust
+/// // left = {10.0.0.0/8, 10.1.0.0/16}
+/// // right = {10.1.0.0/16, 10.2.0.0/16}
+/// intersection(&left, &right);    // [10.1.0.0/16]
 /// ```
 pub fn intersection<'a, P: Prefix, A: Allocator, B: Allocator>(
     left: &'a PrefixSet<P, A>,

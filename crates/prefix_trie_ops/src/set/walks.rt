@@ -22,9 +22,10 @@ pub type CoveringDifferenceWalk<'a, P, A, B> = SelectedKeys<'a, P, A, Uncovered<
 ///
 /// # Examples
 ///
-/// ```text
-/// left has 10.0.0.0/8, 10.1.0.0/16 and 10.2.0.0/16, and right has 10.1.0.0/16
-/// difference(&left, &right)    gives 10.0.0.0/8 and 10.2.0.0/16
+/// ```rust
+/// // left = {10.0.0.0/8, 10.1.0.0/16, 10.2.0.0/16}
+/// // right = {10.1.0.0/16}
+/// difference(&left, &right);      // [10.0.0.0/8, 10.2.0.0/16]
 /// ```
 pub fn difference<'a, P: Prefix, A: Allocator, B: Allocator>(
     left: &'a PrefixSet<P, A>,
@@ -46,9 +47,10 @@ pub fn difference<'a, P: Prefix, A: Allocator, B: Allocator>(
 ///
 /// # Examples
 ///
-/// ```text
-/// left has 10.0.0.0/8, 10.1.2.0/24 and 10.2.0.0/16, and right has 10.1.0.0/16
-/// covering_difference(&left, &right)    gives 10.0.0.0/8 and 10.2.0.0/16
+/// ```rust
+/// // left = {10.0.0.0/8, 10.1.2.0/24, 10.2.0.0/16}
+/// // right = {10.1.0.0/16}
+/// covering_difference(&left, &right);     // [10.0.0.0/8, 10.2.0.0/16]
 /// ```
 pub fn covering_difference<'a, P: Prefix, A: Allocator, B: Allocator>(
     left: &'a PrefixSet<P, A>,

@@ -1,11 +1,11 @@
--- Numbers of blocks by size, if the sizes of the tiers ascend.
+-- Numbers of blocks by size instead of by tier, since the sizes of the tiers increase.
 use Rattle.prefix_trie_table.proofs.Prelude.{◌≡◌, ◌≢◌, ℕ, zero, suc, ◌+◌, ◌-◌, ◌*◌, ◌<◌, ◌≤◌, ◌==◌, inl, inr, true, false, cond, nat_lt, nat_le, List, [], ◌∷◌, length, set, map, Option, None, Some, refl, sym, ap, ap₂, ◌∙◌, subst, arith, eqb-true, eq-eqb, mul-add, mul-le-mul_left, cases_eq, cases_lt, false_from_ne_true, le-ltb, nat_tests, same_Some, length-map, get_or_default, Contains, free_of, smallest_size, missing_of, slots_of_missing, goes_up, above, free_here, free_later, in_cases, first_in, later_in, IsSmallest, smallest_of, how_many, HasSizes, node_sizes, cell_sizes, Tier, tier_at, tier_sizes, size_in, free_in, made_in, size_if_any, list_need, many_of, slots_of}
 use Rattle.std.proofs.lemmas.Bool.{lt-ltb}
 use Rattle.std.proofs.lemmas.List.{length-set, get_or-set_same}
 use Rattle.std.specs.Prelude.{find}
 use Rattle.prefix_trie_bits.proofs.Model.Storage.Readied.{both}
 
--- a tier's size is that of the list of sizes
+-- the size of tier k is entry k of the list of sizes
 pub size_at : (ts : List Tier) (k : ℕ) → (tier_at ts k).size ≡ size_in (tier_sizes ts) k
 size_at [] k = refl
 size_at (t ∷ ts) zero = refl
@@ -17,18 +17,18 @@ sizes_set [] k t e = refl
 sizes_set (u ∷ ts) zero t e = ap (λ n. n ∷ tier_sizes ts) e
 sizes_set (u ∷ ts) (suc k) t e = ap (λ ns. u.size ∷ ns) (sizes_set ts k t e)
 
--- each size is one of them
+-- each entry of a list of sizes is one of the sizes
 pub size_among : (sizes : List ℕ) (k : ℕ) → k < length sizes → Contains sizes (size_in sizes k)
 size_among sizes k inside = (k, inside, get_or_default sizes k (size_in sizes k) 0 inside)
 
 pub tiers_long : (ts : List Tier) (sizes : List ℕ) → tier_sizes ts ≡ sizes → length ts ≡ length sizes
 tiers_long ts sizes e = sym (length-map ts (λ t. t.size)) ∙ ap (λ ns. length ns) e
 
--- a tier's size is one of the sizes
+-- the size of a tier is one of the sizes
 pub has_size : (ts : List Tier) (k : ℕ) → k < length ts → Contains (tier_sizes ts) (tier_at ts k).size
 has_size ts k inside = subst (Contains (tier_sizes ts)) (sym (size_at ts k)) (size_among (tier_sizes ts) k (let e = tiers_long ts (tier_sizes ts) refl in omega (arith, e, inside)))
 
--- the sizes of nodes and of values go up
+-- the sizes of the blocks of nodes increase, and so do those of values
 pub sizes_up : (ts : List Tier) → HasSizes ts → goes_up 0 (tier_sizes ts) ≡ true
 unfolding HasSizes
 sizes_up ts (inl e) = ap (goes_up 0) e
@@ -56,7 +56,7 @@ module _ (f : Tier → ℕ) where
       ap (λ b. cond b (f t) (number ts size)) no ∙ sym (ap (λ b. cond b (f u) (number ts size)) (ap (λ n. n == size) (sym same) ∙ no))
   number_other (u ∷ ts) (suc k) t size same ne = ap (λ n. cond (u.size == size) (f u) n) (number_other ts k t size same ne)
 
-  -- before and after one tier was set
+  -- what changes by size if one tier is replaced
   pub number_set : (P : ℕ → ℕ → ℕ → Type 0) (ts : List Tier) (k : ℕ) (t : Tier) → goes_up 0 (tier_sizes ts) ≡ true → k < length ts → t.size ≡ (tier_at ts k).size →
       P t.size (f (tier_at ts k)) (f t) → ((size n : ℕ) → t.size ≢ size → P size n n) → (size : ℕ) →
       P size (free_of (tier_sizes ts) (map f ts) size) (free_of (tier_sizes (set ts k t)) (map f (set ts k t)) size)
@@ -70,11 +70,11 @@ module _ (f : Tier → ℕ) where
     | inr ne ↦ subst (P size (number ts size)) (sym (number_other ts k t size same ne)) (other size (number ts size) ne)
   ]
 
--- as many blocks of a tier's size are free as of the tier
+-- the free blocks of the size of tier k are those of tier k
 pub free_at : (ts : List Tier) (k : ℕ) → HasSizes ts → k < length ts → free_in ts (size_in (tier_sizes ts) k) ≡ length (tier_at ts k).starts
 free_at ts k has inside = ap (free_in ts) (sym (size_at ts k)) ∙ number_here (λ t. length t.starts) 0 ts k (sizes_up ts has) inside
 
--- and as many are in the array
+-- the blocks of the size of tier k in the array are those of tier k
 pub made_at : (ts : List Tier) (k : ℕ) → HasSizes ts → k < length ts → made_in ts (size_in (tier_sizes ts) k) ≡ (tier_at ts k).made
 made_at ts k has inside = ap (made_in ts) (sym (size_at ts k)) ∙ number_here (λ t. t.made) 0 ts k (sizes_up ts has) inside
 
@@ -89,7 +89,7 @@ many_other n m size ne = ap (λ b. cond b m 0) (false_from_ne_true (n == size) (
 pub many-none : (n m size : ℕ) → m ≡ 0 → many_of n m size ≡ 0
 many-none n m size e = elim (n == size) as (λ b. cond b m 0 ≡ 0) [ true ↦ e | false ↦ refl ]
 
--- what is needed of a size beyond the free ones
+-- how many blocks of a size are needed beyond the free ones
 pub many-sub : (n m : ℕ) (f : ℕ → ℕ) (size : ℕ) → many_of n (m - f n) size ≡ many_of n m size - f size
 many-sub n m f size = elim (cases_eq n size) as (λ _. many_of n (m - f n) size ≡ many_of n m size - f size) [
   | inl e ↦ subst (λ s. many_of n (m - f n) s ≡ many_of n m s - f s) e (many_here n (m - f n) ∙ ap (λ x. x - f n) (sym (many_here n m)))
@@ -135,7 +135,7 @@ slots_of-many below (size ∷ sizes) up s m at =
           omega (arith, none, slots_of-many size sizes later s m there)
     ]
 
--- the slots of the missing blocks, size by size
+-- the missing slots are the sum over the sizes of the missing blocks
 pub slots_lack : (below : ℕ) (sizes free needed : List ℕ) → goes_up below sizes ≡ true → length free ≡ length sizes →
     slots_of_missing sizes free needed ≡ slots_of sizes (missing_of sizes free needed)
 slots_lack below [] free needed up long = refl
@@ -149,7 +149,7 @@ slots_lack below (size ∷ sizes) (f ∷ free) needed up long =
 
 -- ---- the smallest size for so many
 
--- it is one of the sizes, and holds them
+-- the smallest size for n items is one of the sizes, and holds n items
 pub smallest_holds : (sizes : List ℕ) (n size : ℕ) → smallest_size sizes n ≡ Some size → Contains sizes size × (n ≤ size)
 smallest_holds [] n size e = absurd (let h : ◌≡◌ {A = Option ℕ} None (Some size) = e in cc)
 smallest_holds (s ∷ sizes) n size e = elim (cases_lt s n) as (λ _. Contains (s ∷ sizes) size × (n ≤ size)) [
@@ -162,13 +162,13 @@ smallest_holds (s ∷ sizes) n size e = elim (cases_lt s n) as (λ _. Contains (
       (subst (Contains (s ∷ sizes)) is (first_in s sizes), omega (arith, is, fits))
 ]
 
--- if one of them holds the items, there is a smallest one
+-- if some size holds n items, there is a smallest one
 pub smallest_there : (ts : List Tier) (n k : ℕ) → HasSizes ts → k < length ts → n ≤ size_in (tier_sizes ts) k → IsSmallest (tier_sizes ts) n (size_in (tier_sizes ts) k)
 smallest_there ts n k has inside fits =
     smallest_of 0 (tier_sizes ts) (sizes_up ts has) n (size_in (tier_sizes ts) k)
     (size_among (tier_sizes ts) k (let e = tiers_long ts (tier_sizes ts) refl in omega (arith, e, inside))) fits
 
--- the sizes go up with the tiers
+-- a higher tier has a larger size
 pub sizes_rise : (below : ℕ) (sizes : List ℕ) → goes_up below sizes ≡ true → (j k : ℕ) → j < k → k < length sizes → size_in sizes j < size_in sizes k
 sizes_rise below [] up j k less inside = absurd (omega (arith, inside))
 sizes_rise below (s ∷ sizes) up zero zero less inside = absurd (omega (arith, less))
@@ -183,8 +183,8 @@ pub size_some : (count size : ℕ) → 0 < count → size_if_any count size ≡ 
 size_some zero size h = absurd (omega (arith, h))
 size_some (suc n) size h = refl
 
--- the block that a list needs: for its first item, none if its own has a free slot, else the
--- smallest that holds them all
+-- a list with no items needs a block of the smallest size, a list whose block has a free slot needs none, and each
+-- other list needs the smallest that holds one more item
 pub need_first : (ts : List Tier) (k count : ℕ) → count ≡ 0 → list_need ts k count ≡ smallest_size (tier_sizes ts) 1
 need_first ts k zero e = refl
 need_first ts k (suc n) e = absurd (omega (arith, e))
@@ -197,7 +197,7 @@ pub need_full : (ts : List Tier) (k count : ℕ) → 0 < count → size_in (tier
 need_full ts k zero some full = absurd (omega (arith, some))
 need_full ts k (suc n) some full = ap (λ b. cond b None (smallest_size (tier_sizes ts) (suc n + 1))) (le-ltb (suc n) (size_in (tier_sizes ts) k) full)
 
--- the tiers of nodes, and of values
+-- which sizes the tiers of nodes and those of values have
 pub node_sized : (ts : List Tier) → tier_sizes ts ≡ node_sizes → HasSizes ts
 unfolding HasSizes
 node_sized ts e = inr e
@@ -206,7 +206,7 @@ pub cell_sized : (ts : List Tier) → tier_sizes ts ≡ cell_sizes → HasSizes 
 unfolding HasSizes
 cell_sized ts e = inl e
 
--- the first size is 1
+-- the smallest size is 1
 pub first_size : (ts : List Tier) → HasSizes ts → (smallest_size (tier_sizes ts) 1 ≡ Some 1) × (size_in (tier_sizes ts) 0 ≡ 1) × (0 < length ts)
 unfolding HasSizes
 first_size ts (inl e) = (ap (λ ns. smallest_size ns 1) e, ap (λ ns. size_in ns 0) e, (let l = tiers_long ts cell_sizes e in omega (arith, l)))

@@ -1,11 +1,11 @@
--- How the capacity of an array grows over several steps; no fact on its blocks depends on it.
+-- How the capacity of an array grows over several steps. No fact about its blocks depends on it.
 use Rattle.prefix_trie_table.proofs.Prelude.{◌≡◌, ℕ, ◌+◌, ◌/◌, ◌≤◌, ◌⊎◌, inl, inr, ⊎_elim, List, Option, refl, subst, arith, Node, Store, UsedBlock, Sound, NodesHold, CellsHold, node_sizes, cell_sizes, State, IsTable, IsTrie}
 use Rattle.prefix_trie_table.specs.Growth.{Reserves}
 
 pub Reserves-same : (before needed : ℕ) → Reserves before needed before
 Reserves-same before needed = record { kept = λ h. refl; least = inl refl; most = omega arith }
 
--- it never falls
+-- the capacity never falls
 pub never_falls : (before needed after : ℕ) → Reserves before needed after → before ≤ after
 never_falls before needed after r =
     ⊎_elim (λ (same : after ≡ before). omega (arith, same)) (λ (more : before + before / 2 ≤ after). omega (arith, more)) r.least

@@ -1,4 +1,4 @@
--- Arrays whose values are clones of those of others: for `clone`.
+-- Arrays whose values are clones of those of other arrays: for `clone`.
 use Rattle.prefix_trie_table.proofs.Prelude.{◌≡◌, ℕ, zero, suc, ◌+◌, ◌-◌, ◌<◌, Bool, true, false, eqb, cond, List, [], ◌∷◌, ◌++◌, length, get_or, map, flat_map, replicate, take, drop, Option, None, Some, is_some, refl, sym, ap, ◌∙◌, subst, arith, length-append, drop-drop, range_with_len, take-add, ext_get_or, get_or-replicate, length-replicate, length-map, length_push, drop-take, drop_at, map-append, All-map, All-weaker, fill_by_all, length-map-range_with_len, map-range_with_len_more, Node, has_bit, if_set, bits_below, bits, rank, run, AreBlocksOf, Store, UsedBlock, Sound, IsOfTier, HoldsItems, IsVacant, tier_at, tier_sizes, extent, of_size, free_extents, held, size_in, cell_sizes, value_blocks, value_blocks_of, value_in, value_of}
 use Rattle.std.proofs.lemmas.List.{append-nil}
 use Rattle.prefix_trie_bits.specs.Model.Blocks.{Block as Extent}
@@ -9,7 +9,7 @@ use Rattle.prefix_trie_table.proofs.Blocks.Tilings.{Within, All-append_left, All
 use Rattle.prefix_trie_table.proofs.Tree.Shapes.{value_in-there}
 use Rattle.prefix_trie_table.proofs.Tree.Trees.{is_none-None}
 
--- what is at the set bits is what is at their ranks, in order
+-- the items at the set bits of a bitmap are those at the ranks of the bits, in order
 ranked : {Y : Type 0} (g f : ℕ → Y) (bitmap n : ℕ) → ((b : ℕ) → has_bit bitmap b ≡ true → g b ≡ f (rank bitmap b)) →
     map g (bits_below bitmap n) ≡ map f (range_with_len 0 (length (bits_below bitmap n)))
 unfolding rank
@@ -27,11 +27,11 @@ ranked g f bitmap (suc n) same = map-append g (bits_below bitmap n) (if_set (has
         ∙ map-range_with_len_more f 0 (length (bits_below bitmap n)) (length (bits_below bitmap n)) (omega arith))
 
 module _ {T : Type 0} (ys : List (Option T)) where
-  -- so many items from a place on
+  -- n items from a slot on
   abbrev read_items : ℕ → ℕ → List (Option T)
   read_items start n = map (λ i. get_or ys (start + i) None) (range_with_len 0 n)
 
-  -- a block with the items at its slots
+  -- a block with the items that the copy has in its slots
   abbrev pub read_block : UsedBlock (Option T) → UsedBlock (Option T)
   read_block b = record b { items = read_items b.start (length b.items) }
 
@@ -50,7 +50,7 @@ module _ {T : Type 0} (ys : List (Option T)) where
         listed [] zs is = ap (held n.value_tier n.value_block (size_in cell_sizes n.value_tier)) is
         listed (u ∷ us) zs is = ap (held n.value_tier n.value_block (size_in cell_sizes n.value_tier)) is
 
-    -- the blocks of the values, read by path
+    -- the blocks of all values, read from the copy
     pub paths_read : (paths : List (List ℕ)) →
         flat_map (value_blocks cell_sizes reading (λ q b. value_of ys (reading q) b)) paths ≡ map read_block (flat_map (value_blocks cell_sizes reading values) paths)
     paths_read [] = refl
@@ -58,7 +58,7 @@ module _ {T : Type 0} (ys : List (Option T)) where
         (λ i. node_read p (reading p) refl i ++ paths_read paths i)
         ∙ sym (map-append read_block (value_blocks cell_sizes reading values p) (flat_map (value_blocks cell_sizes reading values) paths))
 
--- ys has a value at each index at which the array has one
+-- the copy has a value at exactly the slots where the array has one
 module _ {T : Type 0} (v : Store (Option T)) (ys : List (Option T)) (long : length ys ≡ length v.slots)
     (kept : (i : ℕ) → is_some (get_or ys i None) ≡ is_some (get_or v.slots i None)) where
   vacant_stays : (first : ℕ) (e : Extent) → Within first (length v.slots) e → IsVacant None v.slots e → IsVacant None ys e
@@ -72,7 +72,7 @@ module _ {T : Type 0} (v : Store (Option T)) (ys : List (Option T)) (long : leng
       get_or-run ys e.start e.size i None small ∙ is_none-None (get_or ys (e.start + i) None) (kept (e.start + i) ∙ ap is_some none)
       ∙ sym (get_or-replicate e.size i None None small))
 
-  -- the block holds the items of the copy
+  -- the block in the copy holds the copied items
   items_read : (first : ℕ) (b : UsedBlock (Option T)) → Within first (length v.slots) (extent b) → HoldsItems None v.slots b → HoldsItems None ys (read_block ys b)
   items_read first b inside h =
       let c : ℕ = length b.items in
@@ -86,7 +86,7 @@ module _ {T : Type 0} (v : Store (Option T)) (ys : List (Option T)) (long : leng
       ap (run ys b.start) (sym fits) ∙ take-add c m (drop b.start ys) ∙ (λ i. front i ++ (ap (take m) (drop-drop c b.start ys) ∙ back) i)
       ∙ ap (λ k. read_items ys b.start c ++ replicate (b.size - k) None) (sym (length-map-range_with_len (λ i. get_or ys (b.start + i) None) 0 c))
 
-  -- the copy is sound with blocks that hold its items
+  -- the copy is sound, with blocks that hold the copied items
   pub Sound-read : (live : List (UsedBlock (Option T))) → Sound None live v → Sound None (map (read_block ys) live) (record v { slots = ys })
   Sound-read live s =
       let inside = all_inside None live v s in

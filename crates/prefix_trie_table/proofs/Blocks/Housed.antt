@@ -1,5 +1,5 @@
--- The children of each node and the values of each node are in a block of one of the sizes that
--- holds them.
+-- The children of each node, and the values of each node, are in a block of one of the sizes that holds them: for the
+-- invariant.
 use Rattle.prefix_trie_table.proofs.Prelude.{◌≡◌, ℕ, zero, suc, ◌<◌, inl, inr, Bool, true, cond, ◌&&◌, List, length, map, flat_map, Option, None, Some, is_some, refl, sym, ap, ◌∙◌, subst, arith, cases_Bool, get_or_default, get, Sizes, HasBlock, NodesHaveBlocks, child_block_sizes, value_block_sizes, child_count, own_entries, Nodes, has_node, is_node_depth, State, and-first, Node, rank, bits, blank_node, node_sizes, cell_sizes, chunks_of, Holds, read, own_count, without, value_blocks, AreSizesBy, Sized, own_children, child_block_size, value_block_size, IsShapeOf, Store, HasList, size_in, tier_sizes, size_if_any}
 use Rattle.prefix_trie_table.proofs.Insertion.Adding.{children_list}
 use Rattle.prefix_trie_table.proofs.Strings.BitLists.{rank-all}
@@ -9,7 +9,7 @@ use Rattle.prefix_trie_table.proofs.Removal.Stepped.{size_read, own_is, children
 use Rattle.prefix_trie_table.proofs.Tree.Trees.{is_none-None}
 use Rattle.prefix_trie_table.proofs.Tree.Values.{values_first}
 
--- a list of so many items in a block of tier k has its block
+-- a list in a block of tier k has a block that holds it
 list_housed : {S : Type 0} (vacant : S) (v : Store S) (k start : ℕ) (sizes : List ℕ) → tier_sizes v.tiers ≡ sizes →
     length sizes ≡ 7 → (count : ℕ) → HasList vacant v k start count → HasBlock sizes count (size_if_any count (size_in sizes k))
 list_housed vacant v k start sizes are seven zero list = refl
@@ -18,7 +18,7 @@ list_housed vacant v k start sizes are seven (suc n) list =
     let inside : k < length sizes = (let f = fits.0 in omega arith) in
     (size_in sizes k, refl, (k, inside, get_or_default sizes k (size_in sizes k) 0 inside), fits.1)
 
--- what each node by its path has, each has by its string
+-- what holds of each node by its path holds of it by its string
 module _ (size : Option Node → Option ℕ) (count : Option Node → ℕ) (sizes : List ℕ) (reading : List ℕ → Option Node)
     (housed : (x : List ℕ) → HasBlock sizes (count (reading x)) (size (reading x))) (none : size None ≡ None) (nodes : List Node)
     (reads : (x : List ℕ) → read nodes x ≡ reading x) (n : Nodes)
@@ -70,14 +70,14 @@ module _ {T : Type 0} (reading : List ℕ → Option Node) (values : List ℕ �
           list_housed None w n.value_tier n.value_block cell_sizes holds.cells.sizes_are refl (rank n.value_bitmap 32) (list n e)
 
   module _ (s : State T) (is : IsShapeOf v.slots w.slots s) (sized : Sized v.slots) where
-    -- each node has the block of its children
+    -- each node has a block that holds its children
     pub child_blocks_housed : NodesHaveBlocks child_block_sizes s.nodes (child_count s.nodes) sized.0
     child_blocks_housed =
         nodes_housed child_block_size own_children child_block_sizes reading children_housed refl v.slots
         (reads_node reading values paths v w holds) s.nodes (shape_nodes reading values paths v w holds s is) (child_count s.nodes)
         (children_is reading values paths v w holds s is) sized.0 sized.1.1.0
 
-    -- and the block of its values
+    -- each node has a block that holds its values
     pub value_blocks_housed : NodesHaveBlocks value_block_sizes s.nodes (own_entries s.entries) sized.1.0
     value_blocks_housed =
         nodes_housed value_block_size own_count value_block_sizes reading values_housed refl v.slots

@@ -1,14 +1,14 @@
--- Of each size, the used and the free blocks are all that the array has, and none is lost.
+-- The blocks of each size in an array are the used and the free ones, and no change loses one.
 use Rattle.prefix_trie_table.proofs.Prelude.{◌≡◌, ℕ, ◌+◌, ◌<◌, List, Option, length, refl, sym, ap, ◌∙◌, subst, arith, Contains, get_or_default, Sizes, used_of, free_of, MakesBlocks, MakesAtMost, KeepsBlocks, Node, HasSizes, node_sizes, cell_sizes, SomeTable, Sized, Store, KeepsMade, tier_at, tier_sizes, size_in, free_counts, free_in, made_in}
 use Rattle.prefix_trie_table.proofs.Blocks.BySize.{tiers_long, free_at, made_at, node_sized, cell_sized}
 use Rattle.prefix_trie_table.proofs.Blocks.Sizing.{layout_of}
 use Rattle.prefix_trie_table.proofs.Counts.BlockCounts.{nodes_made, cells_made}
 
--- of each size the blocks of the array are the used and the free ones
+-- for each size, the blocks of the array are the used ones and the free ones
 abbrev pub IsCut : {S : Type 0} → List ℕ → Store S → Sizes → Type 0
 IsCut sizes v used = (size : ℕ) → Contains sizes size → made_in v.tiers size ≡ used_of used size + free_of sizes (free_counts v.tiers) size
 
--- it is so if it is so for each tier
+-- this holds for each size if it holds for each tier
 cut_by_tiers : {S : Type 0} (sizes : List ℕ) (v : Store S) (used : Sizes) → length sizes ≡ 7 → tier_sizes v.tiers ≡ sizes → HasSizes v.tiers →
     ((k : ℕ) → k < 7 → (tier_at v.tiers k).made ≡ length (tier_at v.tiers k).starts + used_of used (size_in sizes k)) → IsCut sizes v used
 cut_by_tiers sizes v used seven are has made size (k, inside, is) =
@@ -20,7 +20,7 @@ cut_by_tiers sizes v used seven are has made size (k, inside, is) =
     let all = made k (omega (arith, inside, seven)) in omega (arith, m, f, all)))
 
 module _ {S : Type 0} (sizes : List ℕ) (v v2 : Store S) (used later : Sizes) (cut : IsCut sizes v used) (cut2 : IsCut sizes v2 later) (made : ℕ → ℕ) where
-  -- what is made in the array is made of those in use and free
+  -- the blocks made in the array are added to the used and the free ones
   pub blocks_made : MakesBlocks sizes made (made_in v.tiers) (made_in v2.tiers) →
       MakesBlocks sizes made (λ size. used_of used size + free_of sizes (free_counts v.tiers) size) (λ size. used_of later size + free_of sizes (free_counts v2.tiers) size)
   blocks_made m = λ size there. (let a = cut size there in let b = cut2 size there in let c = m size there in omega (arith, a, b, c))
@@ -41,7 +41,7 @@ module _ {T : Type 0} (v : Store Node) (w : Store (Option T)) (t : SomeTable v w
       cut_by_tiers cell_sizes w sized.1.0 refl are (cell_sized w.tiers are) (cells_made t.reading t.paths v t.holds.hold t.values w t.holds.cells sized)
 
 module _ {T : Type 0} (v v2 : Store Node) (w w2 : Store (Option T)) (before : SomeTable v w) (after : SomeTable v2 w2) (x : Sized v.slots) (y : Sized v2.slots) where
-  -- if the arrays have at least as many blocks, no block is lost
+  -- if both arrays have at least as many blocks, no block is lost
   pub kept_blocks : KeepsMade v v2 → KeepsMade w w2 → KeepsBlocks (layout_of v.slots v.tiers w.tiers x) (layout_of v2.slots v2.tiers w2.tiers y)
   kept_blocks nodes cells = (
     λ size there. (let a = nodes_cut v w before x size there in let b = nodes_cut v2 w2 after y size there in let m = nodes size in omega (arith, a, b, m)),

@@ -1,4 +1,4 @@
--- A whole list is written into a block that held none: for `lay` and `lay_vacant`.
+-- A whole list is written into a new block: for `lay` and `lay_vacant`.
 use Rattle.prefix_trie_table.proofs.Prelude.{◌≡◌, ℕ, zero, suc, ◌+◌, ◌-◌, ◌<◌, ◌≤◌, true, List, [], ◌∷◌, ◌++◌, length, take, drop, replicate, None, Some, take-append-drop, refl, sym, ap, ◌∙◌, subst, arith, Contains, smallest_size, packed_slots, goes_up, length-replicate, drop-replicate, replicate-append-replicate, BlockRef, run, put_run, Store, Tier, UsedBlock, Sound, Turnover, block, filled, tier_at, tier_sizes, free_in, many_of, none_of, NoneFree, LaysList}
 use Rattle.prefix_trie_table.proofs.Blocks.BySize.{size_at, smallest_holds, many-le, slots_of-le, slots_of-none, slots_of-many}
 use Rattle.prefix_trie_table.proofs.Blocks.RunLemmas.{length-put_run, get_or-put_run_out, put_run_part, put_run_self}
@@ -7,13 +7,13 @@ use Rattle.prefix_trie_table.proofs.Blocks.Turnovers.{Keeps-then, Turnover-writt
 use Rattle.prefix_trie_table.proofs.Tree.Trees.{held_some}
 
 module _ {S : Type 0} (vacant : S) where
-  -- vacant items are what an empty list leaves
+  -- a block filled with vacant items is a block with an empty list
   filled_vacant : (n count : ℕ) → count ≤ n → filled vacant n (replicate count vacant) ≡ filled vacant n []
   filled_vacant n count few =
       replicate-append-replicate count (n - length (replicate count vacant)) vacant
       ∙ ap (λ k. replicate k vacant) (let l = length-replicate count vacant in let e : count + (n - length (replicate count vacant)) ≡ n - 0 = omega (arith, l, few) in e)
 
-  -- a block that holds nothing holds so many vacant items
+  -- a block without items can be seen as one with vacant items
   pub Sound-vacant : (k start size count : ℕ) (live : List (UsedBlock S)) (v : Store S) → count ≤ size → Sound vacant (block k start size [] ∷ live) v →
       Sound vacant (block k start size (replicate count vacant) ∷ live) v
   Sound-vacant k start size count live v few s =
@@ -22,7 +22,7 @@ module _ {S : Type 0} (vacant : S) where
       subst (λ xs. Sound vacant (block k start size (replicate count vacant) ∷ live) (record v { slots = xs })) same
       (Sound-written vacant (block k start size []) live v (replicate count vacant) (let l = length-replicate count vacant in omega (arith, l, few)) s)
 
-  -- a list written over vacant items from the block's first slot on is the block's
+  -- after a list is written over vacant items from the first slot on, the block holds that list
   pub Sound-laid : (k start size : ℕ) (items : List S) (live : List (UsedBlock S)) (v : Store S) → length items ≤ size →
       Sound vacant (block k start size (replicate (length items) vacant) ∷ live) v →
       Sound vacant (block k start size items ∷ live) (record v { slots = put_run v.slots start items })
@@ -35,20 +35,20 @@ module _ {S : Type 0} (vacant : S) where
       let slots : put_run v.slots start items ≡ put_run v.slots start (filled vacant size items) = put_run_part v.slots start size items (let i = inside.before in omega (arith, i)) few ∙ ap (λ ys. put_run v.slots start (items ++ ys)) rest in
       subst (λ ys. Sound vacant (block k start size items ∷ live) (record v { slots = ys })) (sym slots) (Sound-written vacant b live v items few s)
 
-  -- what a block that was made, if none was free, and then taken leaves
+  -- what is left after a block is made, if none was free, and then taken
   module _ (v u w : Store S) (size : ℕ) (made : Turnover v u (many_of size (1 - free_in v.tiers size)) None None) (took : Turnover u w none_of None (Some size)) where
     pub laid_none_free : NoneFree v → NoneFree w
     laid_none_free none n =
         let all : many_of size (1 - free_in v.tiers size) n ≡ many_of size 1 n = ap (λ f. many_of size (1 - f) n) (none size) in
         omega (arith, made.free_is n, took.free_is n, all, none n)
 
-    -- at most a block is made
+    -- at most one block is made
     pub laid_longer : goes_up 0 (tier_sizes v.tiers) ≡ true → Contains (tier_sizes v.tiers) size → length w.slots ≤ length v.slots + size
     laid_longer up among =
         let less = slots_of-le (tier_sizes v.tiers) (many_of size (1 - free_in v.tiers size)) (many_of size 1) (λ n. many-le size (1 - free_in v.tiers size) 1 n (omega arith)) in
         omega (arith, made.longer, took.longer, slots_of-none (tier_sizes u.tiers) none_of (λ n. refl), less, slots_of-many 0 (tier_sizes v.tiers) up size 1 among)
 
-  -- items written over so many vacant ones
+  -- items are written over as many vacant ones
   module _ (v u : Store S) (at : BlockRef) (live : List (UsedBlock S)) (s : Sound vacant live v) where
     block_laid : (items : List S) → 0 < length items → LaysList vacant v u (replicate (length items) vacant) at →
         (live2 : List (UsedBlock S)) → Sound vacant live2 v →
@@ -96,7 +96,7 @@ module _ {S : Type 0} (vacant : S) where
           none_free = laid.none_free;
         }
 
--- the smallest block for so many items has their slots
+-- the smallest block for n items has the slots of a packed list
 pub slots_found : (sizes : List ℕ) (n size : ℕ) → smallest_size sizes (suc n) ≡ Some size → packed_slots sizes (suc n) ≡ size
 slots_found sizes n size e = ap (λ o. elim o as (λ _. ℕ) [ None ↦ 0 | Some m ↦ m ]) e
 

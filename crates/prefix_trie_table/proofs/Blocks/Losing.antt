@@ -1,16 +1,15 @@
--- A list that loses an item: its block steps down, and the new one is made if none of its size is
--- free.
+-- A list that loses an item: its block steps down, and the new block is made if none of its size is free.
 use Rattle.prefix_trie_table.proofs.Prelude.{◌≡◌, ◌≢◌, ℕ, ◌-◌, ◌<◌, ◌≤◌, ◌↔◌, inl, inr, List, length, Option, None, Some, IsSome, is_some, refl, sym, ap, ◌∙◌, subst, arith, false≢true, cases_eq, cases_lt, same_Some, option_map, StepsDown, free_of, made_of, smallest_size, BlockRef, HasSizes, LosesOne, Tier, Store, tier_sizes, size_in, size_if_any, list_size, free_counts, free_in, many_of}
 use Rattle.prefix_trie_table.proofs.Blocks.BySize.{sizes_up, sizes_rise, tiers_long, smallest_there, size_some, many_here, many_other}
 
--- no block is made if no item is left or the list stays
+-- no block is made if no item is left or the list keeps its block
 pub none_made : (sizes free : List ℕ) (old : Option ℕ) (size : ℕ) → made_of sizes free old None size ≡ 0
 none_made sizes free old size = omega arith
 
 pub same_made : (sizes free : List ℕ) (old : Option ℕ) (size : ℕ) → made_of sizes free old old size ≡ 0
 same_made sizes free old size = omega arith
 
--- one of another size is made if none is free
+-- one block of another size is made if none of it is free
 pub one_made : (sizes free : List ℕ) (o n size : ℕ) → o ≢ n → many_of n (1 - free_of sizes free n) size ≡ made_of sizes free (Some o) (Some n) size
 one_made sizes free o n size differ = elim (cases_eq n size) as (λ _. many_of n (1 - free_of sizes free n) size ≡ made_of sizes free (Some o) (Some n) size) [
   | inl e ↦ subst (λ s. many_of n (1 - free_of sizes free n) s ≡ made_of sizes free (Some o) (Some n) s) e
@@ -19,7 +18,7 @@ one_made sizes free o n size differ = elim (cases_eq n size) as (λ _. many_of n
 ]
 
 module _ (ts : List Tier) (k count : ℕ) (some : 0 < count) where
-  -- none is left
+  -- a list that lost its last item has no block
   pub steps_gone : count ≡ 1 → StepsDown (tier_sizes ts) (free_counts ts) count (count - 1) (Some (size_in (tier_sizes ts) k)) None
   steps_gone one = record {
     fewer = omega (arith, some);
@@ -40,7 +39,7 @@ module _ (ts : List Tier) (k count : ℕ) (some : 0 < count) where
     smallest = λ size less left is free. sym found ∙ is;
   }
 
-  -- the list stayed if its block is the smallest that holds it, or no block of that size is free
+  -- the list kept its block, because it is the smallest that holds it or no block of that size is free
   pub steps_stayed : 1 < count → ((size : ℕ) → smallest_size (tier_sizes ts) (count - 1) ≡ Some size → 0 < free_in ts size → size_in (tier_sizes ts) k ≡ size) →
       StepsDown (tier_sizes ts) (free_counts ts) count (count - 1) (Some (size_in (tier_sizes ts) k)) (Some (size_in (tier_sizes ts) k))
   steps_stayed more stays = record {
@@ -51,7 +50,7 @@ module _ (ts : List Tier) (k count : ℕ) (some : 0 < count) where
     smallest = λ size less left is free. ap Some (stays size is free);
   }
 
-  -- the smallest is of no higher tier
+  -- the smallest block that holds the rest is of the same tier or a lower one
   pub smallest_low : (to : ℕ) → HasSizes ts → k < length ts → count ≤ size_in (tier_sizes ts) k → to < length ts →
       smallest_size (tier_sizes ts) (count - 1) ≡ Some (size_in (tier_sizes ts) to) → to ≤ k
   smallest_low to has inside fits within found = elim (cases_lt k to) as (λ _. to ≤ k) [
@@ -65,7 +64,7 @@ module _ (ts : List Tier) (k count : ℕ) (some : 0 < count) where
 -- ---- the list afterwards
 
 module _ {S : Type 0} (v w : Store S) (k count : ℕ) where
-  -- where the other items are, if any are left
+  -- the other items are in a block, if any are left
   module _ (o : Option BlockRef) (none : IsSome o ↔ (1 < count)) (left : LosesOne v w count (Some (size_in (tier_sizes v.tiers) k)) (option_map (λ (p : BlockRef). size_in (tier_sizes v.tiers) p.tier) o)) where
     pub left_some : (p : BlockRef) → o ≡ Some p → LosesOne v w count (list_size v.tiers k count) (list_size v.tiers p.tier (count - 1))
     left_some p is =

@@ -1,11 +1,11 @@
--- A list that moves to a block with no items.
+-- A list moves from its block to an empty one.
 use Rattle.prefix_trie_table.proofs.Prelude.{◌≡◌, ℕ, ◌+◌, ◌-◌, ◌<◌, ◌≤◌, ◌⊎◌, inl, inr, cases_lt, get_or, List, [], ◌∷◌, ◌++◌, length, map, take, drop, replicate, Option, sym, ap, ◌∙◌, subst, arith, length-replicate, take-take, take_at, drop_at, take-replicate, drop-replicate, replicate-append-replicate, All-head, run, put_run, swap_runs, Store, UsedBlock, Sound, Turnover, none_of, extent, free_extents, filled}
 use Rattle.prefix_trie_table.proofs.Blocks.Tilings.{Disjoint}
 use Rattle.prefix_trie_table.proofs.Blocks.Soundness.{Sound-exchanged, Sound-written, block_inside, fits_block, block_slots, filled_none, others}
 use Rattle.prefix_trie_table.proofs.Blocks.Turnovers.{Turnover-written}
 use Rattle.prefix_trie_table.proofs.Blocks.RunLemmas.{Apart, length-put_run, get_or-put_run_out, put_run_part, swap_runs_is, exchanged, length-swap_runs, vacant_at}
 
--- a block in use, and another that holds none
+-- a used block, and another one without items
 module _ {S : Type 0} (vacant : S) (a b : UsedBlock S) (live : List (UsedBlock S)) (v : Store S) (none : b.items ≡ []) (s : Sound vacant (a ∷ b ∷ live) v) where
   slots_none : run v.slots b.start b.size ≡ replicate b.size vacant
   slots_none = block_slots vacant b (a ∷ live) v (Sound-exchanged vacant a b live v s) ∙ ap (λ xs. filled vacant b.size xs) none ∙ filled_none vacant b.size
@@ -20,7 +20,7 @@ module _ {S : Type 0} (vacant : S) (a b : UsedBlock S) (live : List (UsedBlock S
   pub run_none : (c : ℕ) → c ≤ b.size → run v.slots b.start c ≡ replicate c vacant
   run_none c space = sym (take-take c b.size (drop b.start v.slots) space) ∙ ap (λ xs. take c xs) slots_none ∙ take-replicate c b.size vacant space
 
-  -- the first is left empty, and the second holds these
+  -- the first block is emptied, and the second then holds these items
   pub Sound-put_over : (c : ℕ) (items zs : List S) → length a.items ≡ c → length items ≤ b.size → zs ≡ put_run (put_run v.slots a.start (replicate c vacant)) b.start items →
       Sound vacant (record a { items = [] } ∷ record b { items = items } ∷ live) (record v { slots = zs })
   Sound-put_over c items zs is_count space is =
@@ -41,7 +41,7 @@ module _ {S : Type 0} (vacant : S) (a b : UsedBlock S) (live : List (UsedBlock S
       let b' : UsedBlock S = record b { items = items } in
       subst (λ xs. Sound vacant (a' ∷ b' ∷ live) (record v { slots = xs })) (sym (is ∙ ap (λ xs. put_run xs b.start items) first ∙ second)) (Sound-exchanged vacant b' a' live (record u { slots = put_run ys b.start (filled vacant b.size items) }) (Sound-written vacant b (a' ∷ live) u items (omega arith) su))
 
-  -- its items move to the front of the other
+  -- the items of the first block move to the front of the second
   pub Sound-moved : (count : ℕ) → length a.items ≡ count → count ≤ b.size → Sound vacant (record a { items = [] } ∷ record b { items = a.items } ∷ live) (record v { slots = swap_runs v.slots a.start b.start count })
   Sound-moved c is_count space =
       let wa = block_inside vacant a (b ∷ live) v s in
@@ -53,7 +53,7 @@ module _ {S : Type 0} (vacant : S) (a b : UsedBlock S) (live : List (UsedBlock S
 
 module _ {S : Type 0} (vacant : S) (a b : UsedBlock S) (live : List (UsedBlock S)) (v : Store S) (count : ℕ) (sound : Sound vacant (b ∷ a ∷ live) v)
     (is_count : length a.items ≡ count) (space : count ≤ b.size) where
-  -- both runs are within the array
+  -- both runs of slots are within the array
   pub runs_within : (a.start + count ≤ length v.slots) × (b.start + count ≤ length v.slots)
   runs_within =
       let s = Sound-exchanged vacant b a live v sound in (
@@ -61,7 +61,7 @@ module _ {S : Type 0} (vacant : S) (a b : UsedBlock S) (live : List (UsedBlock S
         omega (arith, (block_inside vacant b (a ∷ live) v sound).before, space),
       )
 
-  -- and they have no slot in common
+  -- the two runs have no slot in common
   pub runs_apart : (a.start + count ≤ b.start) ⊎ (b.start + count ≤ a.start)
   runs_apart =
       let s = Sound-exchanged vacant b a live v sound in
@@ -71,11 +71,11 @@ module _ {S : Type 0} (vacant : S) (a b : UsedBlock S) (live : List (UsedBlock S
         | inr h ↦ inl h
       ]
 
-  -- the second is vacant, if it holds none
+  -- the second run is vacant, if the second block has no items
   pub second_vacant : b.items ≡ [] → (k : ℕ) → k < count → get_or v.slots (b.start + k) vacant ≡ vacant
   second_vacant none = vacant_at v.slots b.start count vacant (run_none vacant a b live v none (Sound-exchanged vacant b a live v sound) count space)
 
-  -- and no block is taken if the second then holds these items
+  -- no block is taken or freed if items are written to the second block
   pub put_over_turned : (w : Store S) (items : List S) → length items ≤ b.size → w ≡ record v { slots = put_run (put_run v.slots a.start (replicate count vacant)) b.start items } → (o : Option ℕ) → Turnover v w none_of o o
   put_over_turned w items fits e =
       let nb : length (replicate count vacant) ≡ count = length-replicate count vacant in
@@ -87,7 +87,7 @@ module _ {S : Type 0} (vacant : S) (a b : UsedBlock S) (live : List (UsedBlock S
       (λ i d h. get_or-put_run_out (put_run v.slots a.start (replicate count vacant)) b.start items i d (omega (arith, wb.before)) (λ _. omega (arith, wb.after))
       ∙ get_or-put_run_out v.slots a.start (replicate count vacant) i d (omega (arith, runs_within.0)) (λ _. omega (arith, wa.after)))
 
-  -- nor if its items are exchanged for those of the other
+  -- no block is taken or freed if the two runs are exchanged
   pub moved_turned : (w : Store S) → w ≡ record v { slots = swap_runs v.slots a.start b.start count } → (o : Option ℕ) → Turnover v w none_of o o
   moved_turned w e =
       let s = Sound-exchanged vacant b a live v sound in

@@ -1,4 +1,4 @@
--- The nodes of two arrays of node parts of one length.
+-- Nodes are stored in two arrays, one of their tiers packed into a byte and one of their other fields.
 use Rattle.prefix_trie_table.proofs.Prelude.{◌≡◌, ℕ, zero, suc, ◌+◌, ◌*◌, ◌/◌, ◌%◌, ◌<◌, ⊎_elim, subst, List, [], ◌∷◌, ◌++◌, length, get_or, set, take, insert, remove, refl, sym, ap, ◌∙◌, arith, Node}
 use Rattle.prefix_trie_table.specs.NodeArrays.{FitsByte, FitsOver, node_of, nodes_of}
 use Rattle.prefix_trie_table.specs.declared.allocator.node_array.Head.{Head}
@@ -49,7 +49,7 @@ get_or-nodes (g ∷ hs) [] i h n d e w = absurd (omega (arith, e))
 get_or-nodes (g ∷ hs) (m ∷ ns) zero h n d e w = refl
 get_or-nodes (g ∷ hs) (m ∷ ns) (suc i) h n d e w = get_or-nodes hs ns i h n d (omega (arith, e)) (omega (arith, w))
 
--- a node is the join of its other fields and its byte
+-- a node is made of its other fields and its byte
 pub rejoined : (hs : List Head) (ns : List ℕ) (i m : ℕ) (d n : Node) → length hs ≡ length ns → i < length hs → n ≡ get_or (nodes_of hs ns) i d
     → node_of (record { value_bitmap = n.value_bitmap; child_bitmap = n.child_bitmap; value_block = n.value_block; child_block = n.child_block }) (get_or ns i m) ≡ n
 rejoined hs ns i m d n e w is =
@@ -57,7 +57,7 @@ rejoined hs ns i m d n e w is =
     let at : node_of (get_or hs i head) (get_or ns i m) ≡ n = get_or-nodes hs ns i head m d e w ∙ sym is in
     λ j. record { value_bitmap = n.value_bitmap; child_bitmap = n.child_bitmap; value_block = n.value_block; child_block = n.child_block; value_tier = (at j).value_tier; child_tier = (at j).child_tier }
 
--- both sizes come back from one byte
+-- packing the two tiers of a node into a byte and unpacking them gives the node
 pub packed : (n : Node) → FitsByte n → node_of (record { value_bitmap = n.value_bitmap; child_bitmap = n.child_bitmap; value_block = n.value_block; child_block = n.child_block }) (n.value_tier + 8 * n.child_tier) ≡ n
 packed n fits =
     let low : (n.value_tier + 8 * n.child_tier) % 8 ≡ n.value_tier = omega (arith, fits.value_tier) in
@@ -67,11 +67,11 @@ packed n fits =
 pub unpacked : (h : Head) (n : ℕ) → n < 256 → FitsByte (node_of h n)
 unpacked h n small = record { value_tier = omega arith; child_tier = omega arith }
 
--- the sizes of each node fit
+-- the tiers of each stored node fit a byte
 pub nodes_fit : (hs : List Head) (ns : List ℕ) (i : ℕ) (h : Head) (d : Node) → length hs ≡ length ns → ((k : ℕ) → get_or ns k 0 < 256) → i < length hs → FitsByte (get_or (nodes_of hs ns) i d)
 nodes_fit hs ns i h d e small within = subst FitsByte (get_or-nodes hs ns i h 0 d e within) (unpacked (get_or hs i h) (get_or ns i 0) (small i))
 
--- a node that is written over another has sizes that fit
+-- the tiers of a node that was written over another fit a byte
 pub fits_over : (old new : Node) → FitsByte old → FitsOver old new → FitsByte new
 fits_over old new fits over = record {
   value_tier = ⊎_elim (λ (h : new.value_tier < 8). h) (λ (e : new.value_tier ≡ old.value_tier). (let f = fits.value_tier in omega (arith, f, e))) over.value_tier;

@@ -9,23 +9,23 @@ how_many-ones (suc n) size =
     let e : many_of 1 (1 + n) size ≡ many_of 1 (suc n) size = ap (λ k. many_of 1 k size) (let f : 1 + n ≡ suc n = omega arith in f) in
     omega (arith, how_many-more size 1 (replicate n 1), how_many-ones n size, many-add 1 1 n size, e)
 
--- how many of what a list needs, and so many others, have a size
+-- how many of the needed blocks have a size: the one that the list needs, and one of one slot for each new list
 pub how_many-needs : (o : Option ℕ) (lists size : ℕ) → how_many size (needs o lists) ≡ one_of o size + many_of 1 lists size
 how_many-needs None lists size = omega (arith, how_many-ones lists size)
 how_many-needs (Some n) lists size = omega (arith, how_many-more size n (replicate lists 1), how_many-ones lists size)
 
 module _ {S : Type 0} where
-  -- the missing slots, size by size
+  -- the missing slots are the sum over the sizes of the missing blocks
   pub missing_slots-are : (v : Store S) (needed : List ℕ) → goes_up 0 (tier_sizes v.tiers) ≡ true → missing_slots v needed ≡ slots_of (tier_sizes v.tiers) (missing_in v needed)
   missing_slots-are v needed up = slots_lack 0 (tier_sizes v.tiers) (free_counts v.tiers) needed up (length-map v.tiers (λ t. length t.starts) ∙ sym (length-map v.tiers (λ t. t.size)))
 
-  -- some of the missing blocks were made, and n of the size s must still be free
+  -- some of the missing blocks were made, and n blocks of the size s must still be free
   pub record PartlyMade (v w : Store S) (needed : List ℕ) (s n : ℕ) : Type 0 where
     pub made : ℕ → ℕ
     pub turnover : Turnover v w made None None
     pub rest : (size : ℕ) → made size + many_of s (n - free_in w.tiers s) size ≤ missing_in v needed size
 
-  -- and no others are missing
+  -- the same, and no other blocks are missing
   pub record LastMade (v w : Store S) (needed : List ℕ) (s n : ℕ) : Type 0 where
     pub partly_made : PartlyMade v w needed s n
     pub all : (size : ℕ) → missing_in v needed size ≤ partly_made.made size + many_of s (n - free_in w.tiers s) size
@@ -69,14 +69,14 @@ module _ {S : Type 0} where
           ]
 
   module _ (v w x : Store S) (needed : List ℕ) (s n : ℕ) (up : goes_up 0 (tier_sizes v.tiers) ≡ true) (among : Contains (tier_sizes v.tiers) s) (partly_made : PartlyMade v w needed s n) where
-    -- they were made, and no others are missing
+    -- those blocks were made too, and so no block is missing
     obtained_all : ((size : ℕ) → missing_in v needed size ≤ partly_made.made size + many_of s (n - free_in w.tiers s) size) →
         Turnover w x (many_of s (n - free_in w.tiers s)) None None → Turnover v x (missing_in v needed) None None
     obtained_all all t =
         Turnover-as v x _ (missing_in v needed) None None (λ size. (let a = partly_made.rest size in let b = all size in omega (arith, a, b)))
         (Turnover-then v w x partly_made.made (many_of s (n - free_in w.tiers s)) None None None None None None (λ size. refl) partly_made.turnover t)
 
-    -- some were made, and the next was refused
+    -- some of the missing blocks were made, and making the next one was refused
     pub obtained_part : {X : Type 0} (e : Refusal) (m : ℕ) → free_in w.tiers s + m < n → Turnover w x (many_of s m) None None → ((e ≡ IndexRange) ↔ (x.limit < length x.slots + s)) →
         Obtains {X = X} (λ e. e ≡ IndexRange) (λ e. e ≡ Memory) (Err e) v x needed
     obtained_part e m less t range =
@@ -106,7 +106,7 @@ module _ {S : Type 0} where
         other Memory a b = absurd cc
         other IndexRange a b = absurd cc
 
-    -- what the last call leaves
+    -- what the last call of `obtain` leaves, by its result
     pub obtained : {X : Type 0} (r : Result X Refusal) → ((size : ℕ) → missing_in v needed size ≤ partly_made.made size + many_of s (n - free_in w.tiers s) size) →
         OnOk r (Turnover w x (many_of s (n - free_in w.tiers s)) None None) → OnErr r ((m : ℕ) × (free_in w.tiers s + m < n) × Turnover w x (many_of s m) None None) →
         IfErr r (λ e. (e ≡ IndexRange) ↔ (x.limit < length x.slots + s)) → Obtains (λ e. e ≡ IndexRange) (λ e. e ≡ Memory) r v x needed

@@ -1,13 +1,13 @@
--- A write to one run of a list leaves each run that is apart from it.
+-- Runs of consecutive items in a list: writing one run leaves each run that is apart from it.
 use Rattle.prefix_trie_table.proofs.Prelude.{set, ◌≡◌, ◌≢◌, ℕ, zero, suc, ◌+◌, ◌-◌, ◌<◌, ◌≤◌, ◌⊎◌, inl, inr, ⊎_elim, List, [], ◌∷◌, ◌++◌, length, get_or, take, drop, insert, remove, swap, refl, sym, ap, ◌∙◌, subst, arith, append_assoc, length-append, length-take, length-drop, take-append-drop, drop-drop, replicate, take_at, drop_at, take-append-le, drop-append-le, set-append_left, set-append_right, drop-set-lt, get_or-take, get_or-drop, ext_get_or, length-replicate, get_or-set_other, insert-append_left, insert-append_right, remove-append_left, remove-append_right, length-insert, length-remove, length-swap, Swapped, swapped_from_swap, get_or-insert_below, get_or-insert_at, get_or-insert_above, cases_lt, cases_eq, drop-append-drop, run, put_run, swap_runs, get_or-replicate}
 use Rattle.std.proofs.lemmas.List.{length-take-le, length-set, take_all, get_or-set_same}
 use Rattle.std.proofs.lemmas.List.Edits.{swap_is}
 
--- the m places from a on and the n from b on have none in common
+-- the m places from a on and the n places from b on have none in common
 abbrev pub Apart : ℕ → ℕ → ℕ → ℕ → Type 0
 Apart a m b n = b < a + m → b + n ≤ a
 
--- a place of a run, or none
+-- a place is in a run or outside it
 within : (a n k : ℕ) → ((a ≤ k) × (k < a + n)) ⊎ (k < a + n → k < a)
 within a n k = elim (cases_lt k a) as (λ _. ((a ≤ k) × (k < a + n)) ⊎ (k < a + n → k < a)) [
   | inl h ↦ inr (λ _. h)
@@ -21,18 +21,18 @@ module _ {X : Type 0} where
   pub length-put_run : (xs : List X) (a : ℕ) (ys : List X) → a + length ys ≤ length xs → length (put_run xs a ys) ≡ length xs
   length-put_run xs a ys inside = omega (arith, length-append (take a xs) (ys ++ drop (a + length ys) xs), length-append ys (drop (a + length ys) xs), length-take a xs, length-drop (a + length ys) xs)
 
-  -- a run of the first of two appended lists
+  -- a run within the first of two appended lists is a run of that list
   pub run-append_left : (xs ys : List X) (a n : ℕ) → a + n ≤ length xs → run (xs ++ ys) a n ≡ run xs a n
   run-append_left xs ys a n inside = rw (drop-append-le a xs ys (omega arith)) (take-append-le n (drop a xs) ys (omega (arith, length-drop a xs)))
 
   pub run-append_right : (xs ys : List X) (n : ℕ) → n ≡ length ys → run (xs ++ ys) (length xs) n ≡ ys
   run-append_right xs ys n e = rw (drop_at xs ys (length xs) refl) (ap (λ m. take m ys) e ∙ take_all (length ys) ys (omega arith))
 
-  -- a list round its run
+  -- a list is what is before a run, the run, and what is after it
   pub round_run : (xs : List X) (a n : ℕ) → xs ≡ take a xs ++ (run xs a n ++ drop (a + n) xs)
   round_run xs a n = sym (take-append-drop a xs) ∙ ap (λ ys. take a xs ++ ys) (sym (take-append-drop n (drop a xs)) ∙ ap (λ ys. run xs a n ++ ys) (drop-drop n a xs))
 
-  -- a run written over itself
+  -- writing a run over itself changes nothing
   pub put_run_self : (xs : List X) (a n : ℕ) → a + n ≤ length xs → put_run xs a (run xs a n) ≡ xs
   put_run_self xs a n inside = ap (λ k. take a xs ++ (run xs a n ++ drop (a + k) xs)) (length-run xs a n inside) ∙ sym (round_run xs a n)
 
@@ -54,7 +54,7 @@ module _ {X : Type 0} where
       let less : length (remove ys i) + 1 ≡ length ys = length-remove ys i hi in
       omega (arith, length-insert (remove ys i) j x (omega arith))
 
-  -- one index of a run removed and another inserted: the rest of the list stays
+  -- removing an item of a run and inserting another in it leaves the rest of the list
   pub moved_in_run : (xs : List X) (a n i j : ℕ) (x : X) → a + n ≤ length xs → i < n → j < n → insert (remove xs (a + i)) (a + j) x ≡ put_run xs a (insert (remove (run xs a n) i) j x)
   moved_in_run xs a n i j x inside hi hj =
       let mid : length (run xs a n) ≡ n = length-run xs a n inside in
@@ -64,14 +64,14 @@ module _ {X : Type 0} where
       let back : insert (take a xs ++ (remove (run xs a n) i ++ drop (a + n) xs)) (a + j) x ≡ take a xs ++ (insert (remove (run xs a n) i) j x ++ drop (a + n) xs) = insert-append_right (take a xs) (remove (run xs a n) i ++ drop (a + n) xs) a (a + j) x front (omega arith) ∙ ap (λ zs. take a xs ++ zs) (ap (λ k. insert (remove (run xs a n) i ++ drop (a + n) xs) k x) (let e : a + j - a ≡ j = omega arith in e) ∙ insert-append_left (remove (run xs a n) i) (drop (a + n) xs) j x (omega arith)) in
       ap (λ zs. insert zs (a + j) x) out ∙ back ∙ ap (λ k. take a xs ++ (insert (remove (run xs a n) i) j x ++ drop (a + k) xs)) (sym (length-moved (run xs a n) i j x (omega arith) (omega arith) ∙ mid))
 
-  -- a write to the front of a run is a write of the whole run
+  -- writing the front of a run is writing the whole run with its old tail
   pub put_run_part : (xs : List X) (a n : ℕ) (ys : List X) → a + n ≤ length xs → length ys ≤ n → put_run xs a ys ≡ put_run xs a (ys ++ drop (length ys) (run xs a n))
   put_run_part xs a n ys inside fits =
       let whole : length (ys ++ drop (length ys) (run xs a n)) ≡ n = (let r = length-run xs a n inside in omega (arith, length-append ys (drop (length ys) (run xs a n)), length-drop (length ys) (run xs a n))) in
       let rest : drop (length ys) (run xs a n) ++ drop (a + n) xs ≡ drop (a + length ys) xs = sym (drop-append-le (length ys) (run xs a n) (drop (a + n) xs) (let r = length-run xs a n inside in omega arith)) ∙ ap (λ zs. drop (length ys) (run xs a n ++ zs)) (sym (drop-drop n a xs)) ∙ ap (λ zs. drop (length ys) zs) (take-append-drop n (drop a xs)) ∙ drop-drop (length ys) a xs in
       ap (λ zs. take a xs ++ zs) (ap (λ zs. ys ++ zs) (sym rest) ∙ sym (append_assoc ys (drop (length ys) (run xs a n)) (drop (a + n) xs)) ∙ ap (λ k. (ys ++ drop (length ys) (run xs a n)) ++ drop (a + k) xs) (sym whole))
 
-  -- an item of a list, and of a run of it
+  -- an item of a run is an item of the list
   pub get_or-run : (xs : List X) (a n i : ℕ) (d : X) → i < n → get_or (run xs a n) i d ≡ get_or xs (a + i) d
   get_or-run xs a n i d h = get_or-take n (drop a xs) i d h ∙ get_or-drop a xs i d
 
@@ -83,7 +83,7 @@ module _ {X : Type 0} where
       let one : (zs : List X) → get_or zs k d ≡ get_or (run zs k 1) 0 d = λ zs. ap (λ m. get_or zs m d) (let e : k ≡ k + 0 = omega arith in e) ∙ sym (get_or-run zs k 1 0 d (omega arith)) in
       one (put_run xs a ys) ∙ ap (λ zs. get_or zs 0 d) (run-put_run_other xs a ys k 1 inside (λ h. let q = out h in omega arith)) ∙ sym (one xs)
 
-  -- two slots are written in either order
+  -- two different slots can be written in either order
   pub set-comm : (xs : List X) (i j : ℕ) (x y : X) → i ≢ j → set (set xs i x) j y ≡ set (set xs j y) i x
   set-comm [] i j x y ne = refl
   set-comm (z ∷ xs) zero zero x y ne = absurd (ne refl)
@@ -91,12 +91,12 @@ module _ {X : Type 0} where
   set-comm (z ∷ xs) (suc i) zero x y ne = refl
   set-comm (z ∷ xs) (suc i) (suc j) x y ne = ap (λ ys. z ∷ ys) (set-comm xs i j x y (λ e. ne (ap suc e)))
 
-  -- moving an item to a vacant slot is exchanging the two
+  -- moving an item to a vacant slot exchanges the two slots
   pub moved_is : (xs : List X) (a b : ℕ) (v : X) → a < length xs → b < length xs → a ≢ b → get_or xs b v ≡ v → set (set xs b (get_or xs a v)) a v ≡ swap xs a b
   moved_is xs a b v in_a in_b ne none =
       set-comm xs b a (get_or xs a v) v (λ e. ne (sym e)) ∙ ap (λ w. set (set xs a w) b (get_or xs a v)) (sym none) ∙ swap_is xs a b v in_a in_b
 
-  -- the slots of a vacant run are vacant
+  -- each slot of a vacant run is vacant
   pub vacant_at : (xs : List X) (b n : ℕ) (v : X) → run xs b n ≡ replicate n v → (k : ℕ) → k < n → get_or xs (b + k) v ≡ v
   vacant_at xs b n v empty k h = sym (get_or-run xs b n k v h) ∙ ap (λ zs. get_or zs k v) empty ∙ get_or-replicate n k v v h
 
@@ -131,7 +131,7 @@ module _ {X : Type 0} where
         elsewhere = λ k out_a out_b. step.2 k (λ e. grind arith) (λ e. grind arith) ∙ before.elsewhere k (λ h. grind arith) (λ h. grind arith);
       }
 
-  -- lists that are the same at the places of two runs, and at all others, are the same
+  -- two lists are equal if they have the same items in two runs and everywhere else
   pub same_zones : (xs ys : List X) (d : X) (a m b n : ℕ) → length xs ≡ length ys → ((j : ℕ) → j < m → get_or xs (a + j) d ≡ get_or ys (a + j) d) →
       ((j : ℕ) → j < n → get_or xs (b + j) d ≡ get_or ys (b + j) d) →
       ((k : ℕ) → (k < a + m → k < a) → (k < b + n → k < b) → get_or xs k d ≡ get_or ys k d) → xs ≡ ys
@@ -143,7 +143,7 @@ module _ {X : Type 0} where
     ]
   ])
 
-  -- two runs that are apart are exchanged: each holds what the other held, and the rest stays
+  -- exchanging two runs that are apart gives each the items of the other, and leaves the rest
   pub swap_runs_is : (xs : List X) (a b n : ℕ) (d : X) → a + n ≤ length xs → b + n ≤ length xs → Apart a n b n → swap_runs xs a b n ≡ put_run (put_run xs a (run xs b n)) b (run xs a n)
   swap_runs_is xs a b n d ha hb apart =
       let na : length (run xs a n) ≡ n = length-run xs a n ha in
@@ -157,7 +157,7 @@ module _ {X : Type 0} where
       (λ i h. m.at_b i h ∙ sym (get_or-put_run_in ys b (run xs a n) i d (omega arith) (omega arith) ∙ get_or-run xs a n i d h))
       (λ k oa ob. m.elsewhere k oa ob ∙ sym (out_b k ob ∙ get_or-put_run_out xs a (run xs b n) k d (omega arith) (λ h. oa (omega arith))))
 
-  -- one place of a run is written
+  -- writing one slot of a run
   pub set_in_run : (xs : List X) (a n i : ℕ) (x : X) → a + n ≤ length xs → i < n → set xs (a + i) x ≡ put_run xs a (set (run xs a n) i x)
   set_in_run xs a n i x inside h =
       let mid : length (run xs a n) ≡ n = length-run xs a n inside in
@@ -165,7 +165,7 @@ module _ {X : Type 0} where
       let whole : length (set (run xs a n) i x) ≡ n = length-set (run xs a n) i x ∙ mid in
       ap (λ zs. set zs (a + i) x) (round_run xs a n) ∙ set-append_right (take a xs) (run xs a n ++ drop (a + n) xs) a (a + i) x front (omega arith) ∙ ap (λ zs. take a xs ++ zs) (ap (λ k. set (run xs a n ++ drop (a + n) xs) k x) (let e : a + i - a ≡ i = omega arith in e) ∙ set-append_left (run xs a n) (drop (a + n) xs) i x (omega arith)) ∙ ap (λ k. take a xs ++ (set (run xs a n) i x ++ drop (a + k) xs)) (sym whole)
 
-  -- a place before a run is written
+  -- writing a slot before a run leaves the run
   pub run-set_before : (xs : List X) (a n i : ℕ) (x : X) → i < a → run (set xs i x) a n ≡ run xs a n
   run-set_before xs a n i x h = ap (λ zs. take n zs) (drop-set-lt a xs i x h)
 
@@ -174,7 +174,7 @@ module _ {X : Type 0} where
 
 module _ {X : Type 0} (vacant x : X) (xs : List X) (a b n i : ℕ) (from_within : a + n ≤ length xs) (to_within : b + n < length xs)
     (apart : b < a + n → b + n < a) (offset : i ≤ n) (empty : run xs b (n + 1) ≡ replicate (n + 1) vacant) where
-  -- what is left at last
+  -- the list after both parts were moved
   abbrev both_parts : List X
   both_parts = swap_runs (set (swap_runs xs a b i) (b + i) x) (a + i) (b + i + 1) (n - i)
 
@@ -203,13 +203,13 @@ module _ {X : Type 0} (vacant x : X) (xs : List X) (a b n i : ℕ) (from_within 
   wrote : (k : ℕ) → k ≢ b + i → get_or (set (swap_runs xs a b i) (b + i) x) k vacant ≡ get_or (swap_runs xs a b i) k vacant
   wrote k ne = get_or-set_other (swap_runs xs a b i) (b + i) k x vacant ne
 
-  -- the slots of those after it are vacant until they move there
+  -- the slots for the items after the inserted one are vacant until those items move there
   pub still_none : (k : ℕ) → k < n - i → get_or (set (swap_runs xs a b i) (b + i) x) (b + i + 1 + k) vacant ≡ vacant
   still_none k h =
       wrote (b + i + 1 + k) (λ e. omega arith) ∙ one.elsewhere (b + i + 1 + k) (λ p. grind (arith, apart, offset)) (λ p. omega arith)
       ∙ ap (λ m. get_or xs m vacant) (let e : b + i + 1 + k ≡ b + (i + 1 + k) = omega arith in e) ∙ none (i + 1 + k) (omega (arith, h, offset))
 
-  -- nothing is left where the items were
+  -- the old run is vacant
   left : (j : ℕ) → j < n → get_or both_parts (a + j) vacant ≡ vacant
   left j h = elim (cases_lt j i) as (λ _. get_or both_parts (a + j) vacant ≡ vacant) [
     | inl q ↦
@@ -221,7 +221,7 @@ module _ {X : Type 0} (vacant x : X) (xs : List X) (a b n i : ℕ) (from_within 
         ∙ ap (λ m. get_or xs m vacant) (let e : b + i + 1 + (j - i) ≡ b + (j + 1) = omega arith in e) ∙ none (j + 1) (omega arith))
   ]
 
-  -- and they are around the inserted item
+  -- the new run has the old items around the inserted one
   moved : (j : ℕ) → j < n + 1 → get_or both_parts (b + j) vacant ≡ get_or (insert (run xs a n) i x) j vacant
   moved j h = elim (cases_lt j i) as (λ _. get_or both_parts (b + j) vacant ≡ get_or (insert (run xs a n) i x) j vacant) [
     | inl q ↦

@@ -1,4 +1,4 @@
--- A fact about each of the seven tiers.
+-- What holds of each of the seven tiers holds of all tiers of an array.
 use Rattle.prefix_trie_table.proofs.Prelude.{ℕ, zero, suc, ◌<◌, arith}
 
 pub at_seven : (P : ℕ → Type 0) → P 0 → P 1 → P 2 → P 3 → P 4 → P 5 → P 6 → (k : ℕ) → k < 7 → P k

@@ -1,4 +1,4 @@
--- The sizes of the blocks of the nodes in an array, by the strings of the nodes.
+-- The sizes of the blocks of nodes, by the strings of the nodes: the layout that contracts see.
 use Rattle.prefix_trie_table.proofs.Prelude.{◌≡◌, ℕ, ◌+◌, Bool, true, false, cond, sum_by, arith, ◌&&◌, ◌||◌, List, [], ◌∷◌, map, length, Option, None, Some, is_some, refl, sym, ap, ◌∙◌, subst, ap₂, option_or, list_any, get, empty, get-insert, get-empty, entries, values, contains_key, sum_by-cons, entries-empty, listing_total, same_string, Sizes, Layout, no_layout, is_node_depth, Storage, same_string-is, Node, chunks_of, node_sizes, cell_sizes, Store, Tier, no_blocks, size_in, size_if_any, free_counts, NodesHold, Holds, SomeTable, of_any, AreSizesBy, Sized, Sized-prop, child_block_size, value_block_size}
 use Rattle.std.specs.FinMap.{insert}
 use Rattle.prefix_trie_table.proofs.Strings.Filling.{sum-fresh}
@@ -8,12 +8,12 @@ use Rattle.prefix_trie_table.proofs.Strings.BitLists.{rank-zero-all}
 use Rattle.prefix_trie_table.proofs.Tree.Shapes.{root_reading, no_values, root_here}
 use Rattle.prefix_trie_table.proofs.Tree.Trees.{reads}
 
--- the sizes with one more at a string, if there is one
+-- the sizes with that of one more string, if it has one
 abbrev pub with_size : Sizes → List Bool → Option ℕ → Sizes
 with_size m s None = m
 with_size m s (Some n) = insert m s n
 
--- the sizes that a function gives for these paths, by their strings
+-- the sizes that a function gives for a list of paths, by their strings
 abbrev pub sizes_at : (List ℕ → Option ℕ) → List (List ℕ) → Sizes
 sizes_at size [] = empty
 sizes_at size (p ∷ ps) = with_size (sizes_at size ps) (string_at p) (size p)
@@ -28,7 +28,7 @@ here_or false None = refl
 here_or b (Some n) = refl
 
 module _ (size : List ℕ → Option ℕ) where
-  -- each string of a listed path has the size of this path
+  -- a string has the size of its path if the path is listed
   pub get-sizes_at : (paths : List (List ℕ)) → AreSteps paths → (s : List Bool) →
       get (sizes_at size paths) s ≡ cond (list_any (same_string s) (map string_at paths)) (size (chunks_of s)) None
   get-sizes_at [] steps s = get-empty _ s
@@ -43,7 +43,7 @@ module _ (size : List ℕ → Option ℕ) where
           ap₂ option_or (ap size (sym path)) rest ∙ here_or (list_any (same_string s) (map string_at paths)) (size (chunks_of s))
       by false miss rest = rest
 
--- counting by size counts the paths, each of which occurs once
+-- counting the sizes counts the paths, since each path is listed once
 module _ (f : ℕ → ℕ) (size : List ℕ → Option ℕ) where
   more_sized : (m : Sizes) (s : List Bool) (o : Option ℕ) → contains_key m s ≡ false →
       sum_by (λ (e : List Bool × ℕ). f e.1) (entries (with_size m s o)) ≡ of_any f o + sum_by (λ (e : List Bool × ℕ). f e.1) (entries m)
@@ -64,7 +64,7 @@ module _ (f : ℕ → ℕ) (size : List ℕ → Option ℕ) where
   sizes_sum paths steps once = sum_by-mapped f (λ (e : List Bool × ℕ). e.1) (entries (sizes_at size paths)) ∙ entries_sum paths steps once
 
 module _ (sizes : List ℕ) (nodes : List ℕ → Option Node) (paths : List (List ℕ)) (v : Store Node) (hold : NodesHold sizes nodes paths v) where
-  -- the sizes at the paths of the nodes are those of the nodes
+  -- the sizes at the paths of nodes are the sizes of the nodes
   pub sizes_are : (size : Option Node → Option ℕ) → size None ≡ None → AreSizesBy size v.slots (sizes_at (λ p. size (nodes p)) paths)
   sizes_are size none s =
       get-sizes_at (λ p. size (nodes p)) paths (paths_steps sizes nodes paths v hold) s
@@ -84,7 +84,7 @@ module _ (sizes : List ℕ) (nodes : List ℕ → Option Node) (paths : List (Li
     (sizes_at (λ p. value_block_size (nodes p)) paths, (sizes_are child_block_size refl, sizes_are value_block_size refl)),
   )
 
-  -- and no others
+  -- the nodes have no other sizes
   pub sizes_only : (x : Sized v.slots) →
       (x.0 ≡ sizes_at (λ p. child_block_size (nodes p)) paths) × (x.1.0 ≡ sizes_at (λ p. value_block_size (nodes p)) paths)
   unfolding sizes_of
@@ -92,7 +92,7 @@ module _ (sizes : List ℕ) (nodes : List ℕ → Option Node) (paths : List (Li
       let same : x ≡ sizes_of = Sized-prop v.slots x sizes_of in
       (ap (λ (y : Sized v.slots). y.0) same, ap (λ (y : Sized v.slots). y.1.0) same)
 
--- a table's nodes have sizes
+-- the nodes of a table have sizes
 pub table_sizes : {T : Type 0} (v : Store Node) (w : Store (Option T)) → SomeTable v w → Sized v.slots
 table_sizes v w t = sizes_of node_sizes t.reading t.paths v t.holds.hold
 
@@ -100,14 +100,14 @@ table_sizes v w t = sizes_of node_sizes t.reading t.paths v t.holds.hold
 abbrev pub layout_of : (nodes : List Node) → List Tier → List Tier → Sized nodes → Layout
 layout_of nodes ts us sized = record { child_blocks = sized.0; value_blocks = sized.1.0; free_child_blocks = free_counts ts; free_value_blocks = free_counts us }
 
--- how arrays with such a layout are stored
+-- the storage of arrays with such a layout
 abbrev pub storage_of : {T : Type 0} (v : Store Node) → Store (Option T) → Sized v.slots → Storage
 storage_of v w sized = record {
   space = record { limit = v.limit; node_slots = length v.slots; cell_slots = length w.slots };
   layout = layout_of v.slots v.tiers w.tiers sized;
 }
 
--- the same nodes and tiers have the same layout
+-- arrays with the same nodes and tiers have the same layout
 pub same_layout : (nodes later : List Node) (ts ts2 us us2 : List Tier) (x : Sized nodes) (y : Sized later) → later ≡ nodes → ts2 ≡ ts → us2 ≡ us →
     layout_of later ts2 us2 y ≡ layout_of nodes ts us x
 same_layout nodes later ts ts2 us us2 x y same tiers cells =
@@ -118,7 +118,7 @@ same_layout nodes later ts ts2 us us2 x y same tiers cells =
 root_sizes : (size : Option Node → Option ℕ) → size (root_reading []) ≡ None → sizes_at (λ p. size (root_reading p)) ([] ∷ []) ≡ empty
 root_sizes size none = ap (λ o. with_size empty [] o) none
 
--- nor has a table with only the root, and no block is made
+-- a table with the root alone has no block, used or free
 pub root_layout : {T : Type 0} (v : Store Node) (w : Store (Option T)) → Holds root_reading no_values ([] ∷ []) v w → v.tiers ≡ map no_blocks node_sizes →
     w.tiers ≡ map no_blocks cell_sizes → (x : Sized v.slots) → layout_of v.slots v.tiers w.tiers x ≡ no_layout
 root_layout v w holds tiers cell_tiers x =

@@ -1,15 +1,15 @@
--- A sum over the slots of an array is the sum over the slots before its blocks and over the items
--- of the used blocks.
+-- A sum over the slots of an array is the sum over the slots before its blocks and over the items of the used blocks:
+-- for counting nodes.
 use Rattle.prefix_trie_table.proofs.Prelude.{◌≡◌, ℕ, ◌+◌, ◌-◌, ◌*◌, List, [], ◌∷◌, length, take, drop, map, flat_map, replicate, sum_by, All, refl, sym, ap, ap₂, ◌∙◌, arith, drop-drop, drop_all, All-head, All-tail, sum_by-replicate, sum_by-cons, sum_by-append, sum_by-take-drop, Tiles, run, Store, UsedBlock, Sound, HoldsItems, IsVacant, tier_sizes, extent, free_extents, filled}
 use Rattle.prefix_trie_bits.specs.Model.Blocks.{Block as Extent}
 use Rattle.prefix_trie_table.proofs.Blocks.Tilings.{blocks_sum}
 
--- a sum over lists joined end to end
+-- the sum over joined lists is the sum of their sums
 pub sum_by-flat_map : {X Y : Type 0} (h : Y → ℕ) (g : X → List Y) (xs : List X) → sum_by h (flat_map g xs) ≡ sum_by (λ x. sum_by h (g x)) xs
 sum_by-flat_map h g [] = refl
 sum_by-flat_map h g (x ∷ xs) = sum_by-append h (g x) (flat_map g xs) ∙ ap (λ n. sum_by h (g x) + n) (sum_by-flat_map h g xs) ∙ sym (sum_by-cons (λ y. sum_by h (g y)) x xs)
 
--- terms that are the same have the same sum
+-- equal terms have equal sums
 pub sum_by-same : {X : Type 0} (f g : X → ℕ) (xs : List X) → ((x : X) → g x ≡ f x) → sum_by g xs ≡ sum_by f xs
 sum_by-same f g [] same = refl
 sum_by-same f g (x ∷ xs) same = sum_by-cons g x xs ∙ ap₂ (λ a b. a + b) (same x) (sum_by-same f g xs same) ∙ sym (sum_by-cons f x xs)
@@ -19,7 +19,7 @@ sum_by-mapped h g [] = refl
 sum_by-mapped h g (x ∷ xs) = sum_by-cons h (g x) (map g xs) ∙ ap (λ n. h (g x) + n) (sum_by-mapped h g xs) ∙ sym (sum_by-cons (λ y. h (g y)) x xs)
 
 module _ {S : Type 0} (f : S → ℕ) where
-  -- the sum of an extent, and of what a block holds
+  -- the sum over the slots of a block, and over its items
   abbrev extent_sum : List S → Extent → ℕ
   extent_sum slots e = sum_by f (run slots e.start e.size)
 
@@ -53,7 +53,7 @@ module _ {S : Type 0} (f : S → ℕ) where
     live_sum slots (b ∷ bs) h =
         omega (arith, sum_by-cons (extent_sum slots) (extent b) (map extent bs), sum_by-cons items_sum b bs, block_sum slots b (All-head (HoldsItems vacant slots) b bs h), live_sum slots bs (All-tail (HoldsItems vacant slots) b bs h))
 
-    -- a function that is 0 at vacant slots
+    -- for a function that is 0 at vacant slots
     pub slots_sum : (live : List (UsedBlock S)) (v : Store S) → Sound vacant live v →
         sum_by f v.slots ≡ sum_by f (take v.first v.slots) + sum_by items_sum live
     slots_sum live v s =

@@ -1,4 +1,4 @@
--- Which changes keep a store sound: its blocks tile the array, and no two overlap.
+-- Which changes keep a store sound: its blocks tile the array, no two overlap, and each used block holds its list.
 use Rattle.prefix_trie_table.proofs.Prelude.{◌≡◌, ◌≢◌, ℕ, zero, suc, ◌+◌, ◌-◌, ◌*◌, ◌<◌, ◌≤◌, ⊎_elim, cond, eqb, List, [], ◌∷◌, ◌++◌, length, get_or, set, drop, map, replicate, insert, remove, sum_by, count_by, All, IsPermutation, refl, sym, ap, ◌∙◌, subst, arith, append_assoc, length-append, get_or-set_other, set-set, set-get_or, length-replicate, map-append, get_or-take, get_or-drop, get_or_append_left, set-append_left, insert-append_left, insert-append_right, remove-append_left, remove-append_right, length-insert, length-remove, All-nil, All-cons, All-head, All-tail, All-weaker, All-same, All-map, sum_by-cons, sum_by-set, All-permutation, IsPermutation-refl, IsPermutation-sym, IsPermutation-trans, IsPermutation-cons, IsPermutation-to_front, IsPermutation-middle, IsPermutation-append_left, IsPermutation-append_right, IsPermutation-map, sum_by-IsPermutation, cases_eq, nat_tests, Tiles, AreBlocksOf, run, put_run, Tier, Store, UsedBlock, Sound, IsOfTier, HoldsItems, IsVacant, tier_at, tier_sizes, slots_made, extent, of_size, free_extents, with_tier, filled, block, held, no_blocks}
 use Rattle.std.proofs.lemmas.List.{get_or-set_same, length-set}
 use Rattle.prefix_trie_bits.specs.Model.Blocks.{Block as Extent}
@@ -6,7 +6,7 @@ use Rattle.prefix_trie_table.proofs.Blocks.RunLemmas.{Apart, length-run, length-
 use Rattle.prefix_trie_table.proofs.Blocks.BySize.{sizes_set, has_size}
 use Rattle.prefix_trie_table.proofs.Blocks.Tilings.{Disjoint, Within, Tiles-push, others_apart, each_within, first_inside, blocks_moved, All-append_left, All-append_right}
 
--- one more free block of a tier
+-- a tier gets one more free block
 free_pushed : (ts : List Tier) (k : ℕ) (t : Tier) (s : ℕ) (d : Tier) → k < length ts → t.size ≡ (get_or ts k d).size → t.starts ≡ (get_or ts k d).starts ++ s ∷ [] → IsPermutation (of_size t.size s ∷ free_extents ts) (free_extents (set ts k t))
 free_pushed [] k t s d inside same_size pushed = absurd (omega arith)
 free_pushed (u ∷ ts) zero t s d inside same_size pushed =
@@ -16,21 +16,21 @@ free_pushed (u ∷ ts) zero t s d inside same_size pushed =
 free_pushed (u ∷ ts) (suc k) t s d inside same_size pushed =
     IsPermutation-trans _ _ _ (IsPermutation-sym _ _ (IsPermutation-middle (map (of_size u.size) u.starts) (of_size t.size s) (free_extents ts))) (IsPermutation-append_right (map (of_size u.size) u.starts) _ _ (free_pushed ts k t s d (omega arith) same_size pushed))
 
--- what a change of one tier leaves
+-- replacing one tier by one of the same size keeps the sizes
 sizes_stay : (ts : List Tier) (k : ℕ) (t : Tier) (j : ℕ) → k < length ts → t.size ≡ (tier_at ts k).size → (tier_at (set ts k t) j).size ≡ (tier_at ts j).size
 sizes_stay ts k t j inside same =
     ⊎_elim (λ (e : j ≡ k). subst (λ i. (tier_at (set ts k t) i).size ≡ (tier_at ts i).size) (sym e) (ap (λ (u : Tier). u.size) (get_or-set_same ts k t _ inside) ∙ same)) (λ (n : j ≢ k). ap (λ (u : Tier). u.size) (get_or-set_other ts k j t _ n)) (cases_eq j k)
 
--- two facts of each element
+-- two facts of each element give a third
 pub All-both : {Y : Type 0} (P Q R : Y → Type 0) (ys : List Y) → ((y : Y) → P y → Q y → R y) → All P ys → All Q ys → All R ys
 All-both P Q R ys f p q k d inside = f (get_or ys k d) (p k d inside) (q k d inside)
 
--- the tier that is changed, and the others
+-- a fact of each tier, for the tier that is changed and for the others
 tier_changed : (P : ℕ → Tier → Type 0) (ts : List Tier) (k : ℕ) (t : Tier) → k < length ts → P k t → ((j : ℕ) → j < length ts → j ≢ k → P j (tier_at ts j)) → (j : ℕ) → j < length (set ts k t) → P j (tier_at (set ts k t) j)
 tier_changed P ts k t inside here there j within =
     ⊎_elim (λ (e : j ≡ k). subst (λ i. P i (tier_at (set ts k t) i)) (sym e) (subst (P k) (sym (get_or-set_same ts k t _ inside)) here)) (λ (n : j ≢ k). subst (P j) (sym (get_or-set_other ts k j t _ n)) (there j (let e = length-set ts k t in omega arith) n)) (cases_eq j k)
 
--- a tier that lost its last free block
+-- a tier loses its last free block
 free_popped : (ts : List Tier) (k : ℕ) (t : Tier) (x : ℕ) → k < length ts → t.size ≡ (tier_at ts k).size → (tier_at ts k).starts ≡ t.starts ++ x ∷ [] → IsPermutation (free_extents ts) (of_size (tier_at ts k).size x ∷ free_extents (set ts k t))
 free_popped ts k t x inside same popped =
     let there : k < length (set ts k t) = (let n = length-set ts k t in omega arith) in
@@ -44,23 +44,23 @@ module _ {S : Type 0} where
   of_tier_stays ts k t live inside same =
       All-weaker (IsOfTier ts) (IsOfTier (set ts k t)) (λ b h. record { within = (let n = length-set ts k t in omega (arith, h.within)); size_is = h.size_is ∙ sym (sizes_stay ts k t b.tier inside same) }) live
 
-  -- every block in use or free lies in the array
+  -- each block, used or free, is within the array
   pub all_inside : (vacant : S) (live : List (UsedBlock S)) (v : Store S) → Sound vacant live v → All (Within v.first (length v.slots)) (map extent live ++ free_extents v.tiers)
   all_inside vacant live v s = each_within (tier_sizes v.tiers) v.first (length v.slots) (map extent live) (free_extents v.tiers) s.blocks
 
-  -- the place of the first block lies in the array
+  -- the first block begins within the array
   pub first_place : (vacant : S) (live : List (UsedBlock S)) (v : Store S) → Sound vacant live v → v.first ≤ length v.slots
   first_place vacant live v s = first_inside (tier_sizes v.tiers) v.first (length v.slots) (map extent live) (free_extents v.tiers) s.blocks
 
-  -- the slots of a block lie in the array
+  -- the slots of a block are within the array
   pub block_inside : (vacant : S) (b : UsedBlock S) (live : List (UsedBlock S)) (v : Store S) → Sound vacant (b ∷ live) v → Within v.first (length v.slots) (extent b)
   block_inside vacant b live v s = All-head (Within v.first (length v.slots)) (extent b) (map extent live ++ free_extents v.tiers) (all_inside vacant (b ∷ live) v s)
 
-  -- all other blocks are apart from the first
+  -- all other blocks are apart from the first one
   pub others : (vacant : S) (b : UsedBlock S) (live : List (UsedBlock S)) (v : Store S) → Sound vacant (b ∷ live) v → All (Disjoint (extent b)) (map extent live ++ free_extents v.tiers)
   others vacant b live v s = others_apart (tier_sizes v.tiers) v.first (length v.slots) (extent b) (map extent live) (free_extents v.tiers) s.blocks
 
-  -- a fact of each extent is one of each block
+  -- a fact of each extent is a fact of each block
   pub All-extent : (P : Extent → Type 0) (live : List (UsedBlock S)) → All P (map extent live) → All (λ b. P (extent b)) live
   All-extent P [] all = All-nil (λ b. P (extent b))
   All-extent P (b ∷ live) all = All-cons (λ b. P (extent b)) b live (All-head P (extent b) (map extent live) all) (All-extent P live (All-tail P (extent b) (map extent live) all))
@@ -70,7 +70,7 @@ module _ {S : Type 0} where
       let r = length-replicate (n - length xs) vacant in
       omega (arith, length-append xs (replicate (n - length xs) vacant))
 
-  -- the blocks of an array of the same length, one tier of which has other free blocks
+  -- the array has the same blocks if one tier has other free ones and the used ones change accordingly
   retiered : (live : List (UsedBlock S)) (v : Store S) (k : ℕ) (t : Tier) (live2 : List (UsedBlock S)) → t.size ≡ (tier_at v.tiers k).size →
       IsPermutation (map extent live2 ++ free_extents (set v.tiers k t)) (map extent live ++ free_extents v.tiers) →
       AreBlocksOf (tier_sizes v.tiers) v.first (map extent live) (free_extents v.tiers) (length v.slots) →
@@ -95,15 +95,15 @@ module _ {S : Type 0} where
         vacated = All-both (Disjoint (extent b)) (IsVacant vacant v.slots) (IsVacant vacant (put_run v.slots b.start ys)) (free_extents v.tiers) (λ e d h. run-put_run_other v.slots b.start ys e.start e.size inside (subst (λ n. Apart b.start n e.start e.size) (sym fits) d) ∙ h) (All-append_right (Disjoint (extent b)) (map extent live) (free_extents v.tiers) apart) s.vacated;
       }
 
-  -- the first block's slots
+  -- what is in the slots of the first block
   pub block_slots : (vacant : S) (b : UsedBlock S) (live : List (UsedBlock S)) (v : Store S) → Sound vacant (b ∷ live) v → run v.slots b.start b.size ≡ filled vacant b.size b.items
   block_slots vacant b live v s = All-head (HoldsItems vacant v.slots) b live s.held
 
-  -- a list of vacant items holds nothing
+  -- a block of an empty list has only vacant slots
   pub filled_none : (vacant : S) (n : ℕ) → filled vacant n [] ≡ replicate n vacant
   filled_none vacant n = ap (λ m. replicate m vacant) (let e : n - 0 ≡ n = omega arith in e)
 
-  -- the blocks in use may be named in any order
+  -- the used blocks may be listed in any order
   pub Sound-permuted : (vacant : S) (live moved : List (UsedBlock S)) (v : Store S) → IsPermutation live moved → Sound vacant live v → Sound vacant moved v
   Sound-permuted vacant live moved v p s =
       record {
@@ -115,7 +115,7 @@ module _ {S : Type 0} where
         vacated = s.vacated;
       }
 
-  -- a free block was made at the array's end
+  -- a free block is made at the end of the array
   pub Sound-grown : (vacant : S) (live : List (UsedBlock S)) (v : Store S) (k : ℕ) → k < length v.tiers → Sound vacant live v → Sound vacant live (record v { slots = v.slots ++ replicate (tier_at v.tiers k).size vacant; tiers = set v.tiers k (record (tier_at v.tiers k) { made = (tier_at v.tiers k).made + 1; starts = (tier_at v.tiers k).starts ++ length v.slots ∷ [] }) })
   Sound-grown vacant live v k inside s =
       let t = tier_at v.tiers k in
@@ -139,7 +139,7 @@ module _ {S : Type 0} where
         vacated = All-permutation (IsVacant vacant (v.slots ++ replicate t.size vacant)) (e ∷ free_extents v.tiers) (free_extents (set v.tiers k new)) pushed (All-cons (IsVacant vacant (v.slots ++ replicate t.size vacant)) e (free_extents v.tiers) (run-append_right v.slots (replicate t.size vacant) t.size (sym (length-replicate t.size vacant))) (All-both (Within v.first (length v.slots)) (IsVacant vacant v.slots) (IsVacant vacant (v.slots ++ replicate t.size vacant)) (free_extents v.tiers) (λ f w h. run-append_left v.slots (replicate t.size vacant) f.start f.size w.before ∙ h) (All-append_right (Within v.first (length v.slots)) (map extent live) (free_extents v.tiers) within) s.vacated));
       }
 
-  -- 1 for a block of tier k
+  -- 1 for a block of tier k, and 0 for another
   abbrev one_of : ℕ → UsedBlock S → ℕ
   one_of k b = cond (eqb b.tier k) 1 0
 
@@ -149,7 +149,7 @@ module _ {S : Type 0} where
   count_other : (b : UsedBlock S) (k : ℕ) → b.tier ≢ k → one_of k b ≡ 0
   count_other b k e = grind (arith, nat_tests)
 
-  -- how many blocks are of tier k
+  -- how many of the blocks are of tier k
   abbrev pub count_of : ℕ → List (UsedBlock S) → ℕ
   count_of k live = count_by (λ (b : UsedBlock S). eqb b.tier k) live
 
@@ -174,7 +174,7 @@ module _ {S : Type 0} where
         vacated = All-tail (IsVacant vacant v.slots) (extent b) (free_extents (set v.tiers k t)) empty;
       }
 
-  -- a block that holds nothing is given back
+  -- a block without items becomes free
   pub Sound-given : (vacant : S) (b : UsedBlock S) (live : List (UsedBlock S)) (v : Store S) (t : Tier) → b.items ≡ [] → t.size ≡ (tier_at v.tiers b.tier).size → t.made ≡ (tier_at v.tiers b.tier).made → t.starts ≡ (tier_at v.tiers b.tier).starts ++ b.start ∷ [] → Sound vacant (b ∷ live) v → Sound vacant live (with_tier v b.tier t)
   Sound-given vacant b live v t empty same_size same_made pushed s =
       let of : IsOfTier v.tiers b = All-head (IsOfTier v.tiers) b live s.of_tier in
@@ -189,13 +189,13 @@ module _ {S : Type 0} where
         vacated = All-permutation (IsVacant vacant v.slots) (extent b ∷ free_extents v.tiers) (free_extents (set v.tiers b.tier t)) moved (All-cons (IsVacant vacant v.slots) (extent b) (free_extents v.tiers) (All-head (HoldsItems vacant v.slots) b live s.held ∙ ap (λ xs. filled vacant b.size xs) empty ∙ filled_none vacant b.size) s.vacated);
       }
 
-  -- a tier with a used block has capacity for it in its free list
+  -- the free list of a tier with a used block has capacity for one more
   pub has_place : (vacant : S) (b : UsedBlock S) (live : List (UsedBlock S)) (v : Store S) → Sound vacant (b ∷ live) v → (b.tier < length v.tiers) × (length (tier_at v.tiers b.tier).starts < (tier_at v.tiers b.tier).made)
   has_place vacant b live v s =
       let of : IsOfTier v.tiers b = All-head (IsOfTier v.tiers) b live s.of_tier in
       (of.within, omega (arith, s.counted b.tier of.within, count-cons_same b live b.tier refl))
 
--- a tier counts one more block: the slots that the tiers take
+-- the slots of all tiers after one tier counts one more block
 pub made_fits : (ts : List Tier) (k : ℕ) (old new : Tier) (starts : List ℕ) (first len : ℕ) → k < length ts → old ≡ get_or ts k old → new ≡ record { size = old.size; made = old.made + 1; starts = starts } → first + slots_made ts ≡ len → first + slots_made (set ts k new) ≡ len + old.size
 made_fits ts k old new starts first len inside read new_is total =
     let f : Tier → ℕ = λ t. t.size * t.made in
@@ -204,13 +204,13 @@ made_fits ts k old new starts first len inside read new_is total =
     omega (arith, sum_by-set f ts k new old inside, had, has)
 
 module _ {S : Type 0} where
-  -- `Sound-grown`, stated as the calls state what they wrote
+  -- `Sound-grown`, in the form in which the calls state what they wrote
   pub Sound-grown_as : (vacant : S) (live : List (UsedBlock S)) (v : Store S) (k n x : ℕ) (t : Tier) (items : List S) → k < length v.tiers → items ≡ v.slots ++ replicate n vacant → n ≡ (tier_at v.tiers k).size → x ≡ length v.slots → t ≡ record (tier_at v.tiers k) { made = (tier_at v.tiers k).made + 1; starts = (tier_at v.tiers k).starts ++ x ∷ [] } → Sound vacant live v → Sound vacant live (record v { slots = items; tiers = set v.tiers k t })
   Sound-grown_as vacant live v k n x t items inside items_is n_is x_is t_is s =
       let old = tier_at v.tiers k in
       subst (λ ys. Sound vacant live (record v { slots = ys; tiers = set v.tiers k t })) (sym (items_is ∙ ap (λ m. v.slots ++ replicate m vacant) n_is)) (subst (λ u. Sound vacant live (record v { slots = v.slots ++ replicate old.size vacant; tiers = set v.tiers k u })) (sym (t_is ∙ ap (λ y. record old { made = old.made + 1; starts = old.starts ++ y ∷ [] }) x_is)) (Sound-grown vacant live v k inside s))
 
-  -- a list in a block gains an item
+  -- the slots of a block after an item is inserted into its list
   filled_insert : (vacant : S) (n : ℕ) (xs : List S) (i : ℕ) (x : S) → length xs < n → i ≤ length xs → insert (remove (filled vacant n xs) (length xs)) i x ≡ filled vacant n (insert xs i x)
   filled_insert vacant n xs i x space within =
       let rest : List S = replicate (n - length xs) vacant in
@@ -221,7 +221,7 @@ module _ {S : Type 0} where
       let more : n - length (insert xs i x) ≡ n - length xs - 1 = (let k = length-insert xs i x within in omega arith) in
       ap (λ ys. insert ys i x) (one ∙ ap (λ ys. xs ++ ys) less) ∙ insert-append_left xs (replicate (n - length xs - 1) vacant) i x within ∙ ap (λ k. insert xs i x ++ replicate k vacant) (sym more)
 
-  -- a list in a block loses an item
+  -- the slots of a block after an item is removed from its list
   filled_remove : (vacant : S) (n : ℕ) (xs : List S) (i : ℕ) → length xs ≤ n → i < length xs → insert (remove (filled vacant n xs) i) (length xs - 1) vacant ≡ filled vacant n (remove xs i)
   filled_remove vacant n xs i fits within =
       let less : length (remove xs i) + 1 ≡ length xs = length-remove xs i within in
@@ -231,7 +231,7 @@ module _ {S : Type 0} where
       let more : suc (n - length xs) ≡ n - length (remove xs i) = omega arith in
       ap (λ ys. insert ys (length xs - 1) vacant) out ∙ insert-append_right (remove xs i) rest (length (remove xs i)) (length xs - 1) vacant refl (omega arith) ∙ ap (λ k. remove xs i ++ insert rest k vacant) offset ∙ ap (λ k. remove xs i ++ replicate k vacant) more
 
-  -- a list that a block holds has no more items than the block has slots
+  -- the list of a block has at most as many items as the block has slots
   pub fits_block : (vacant : S) (b : UsedBlock S) (live : List (UsedBlock S)) (v : Store S) → Sound vacant (b ∷ live) v → length b.items ≤ b.size
   fits_block vacant b live v s =
       let w = block_inside vacant b live v s in
@@ -255,21 +255,21 @@ module _ {S : Type 0} where
       let less = length-remove b.items offset (omega arith) in
       subst (λ ys. Sound vacant (record b { items = remove b.items offset } ∷ live) (record v { slots = ys })) (sym slots) (Sound-written vacant b live v (remove b.items offset) (omega arith) s)
 
-  -- a slot of a block is an item of its list
+  -- a slot of a block has an item of its list
   pub slot_of_block : (vacant : S) (b : UsedBlock S) (live : List (UsedBlock S)) (v : Store S) (offset : ℕ) (d : S) → offset < length b.items → Sound vacant (b ∷ live) v → get_or v.slots (b.start + offset) d ≡ get_or b.items offset d
   slot_of_block vacant b live v offset d within s =
       let fits = fits_block vacant b live v s in
       sym (get_or-drop b.start v.slots offset d) ∙ sym (get_or-take b.size (drop b.start v.slots) offset d (omega arith)) ∙ ap (λ ys. get_or ys offset d) (block_slots vacant b live v s) ∙ get_or_append_left b.items (replicate (b.size - length b.items) vacant) d offset within
 
-  -- the first two blocks change places
+  -- the first two blocks in the list change places
   pub Sound-exchanged : (vacant : S) (a b : UsedBlock S) (live : List (UsedBlock S)) (v : Store S) → Sound vacant (a ∷ b ∷ live) v → Sound vacant (b ∷ a ∷ live) v
   Sound-exchanged vacant a b live v s = Sound-permuted vacant (a ∷ b ∷ live) (b ∷ a ∷ live) v (IsPermutation-middle (a ∷ []) b live) s
 
-  -- the tier of a block in use
+  -- the tier of a used block has its size
   pub tier_of_block : (vacant : S) (b : UsedBlock S) (live : List (UsedBlock S)) (v : Store S) → Sound vacant (b ∷ live) v → IsOfTier v.tiers b
   tier_of_block vacant b live v s = All-head (IsOfTier v.tiers) b live s.of_tier
 
-  -- a list with items is in a block
+  -- a list with items has a block
   pub list_block : (vacant : S) (k start n : ℕ) (xs : List S) (live : List (UsedBlock S)) (v : Store S) → 0 < length xs → Sound vacant (held k start n xs ++ live) v → Sound vacant (block k start n xs ∷ live) v
   list_block vacant k start n [] live v h s = absurd (omega arith)
   list_block vacant k start n (x ∷ xs) live v h s = s
@@ -282,7 +282,7 @@ module _ {S : Type 0} where
   no_list vacant k start n [] live v h s = s
   no_list vacant k start n (x ∷ xs) live v h s = absurd (omega arith)
 
--- no block is made
+-- tiers without blocks take no slots
 pub no_slots_made : (ts : List Tier) → All (λ t. (t.made ≡ 0) × (t.starts ≡ [])) ts → slots_made ts ≡ 0
 no_slots_made [] none = refl
 no_slots_made (t ∷ ts) none =
@@ -292,7 +292,7 @@ no_slots_made (t ∷ ts) none =
     let rest : sum_by f ts ≡ 0 = no_slots_made ts (All-tail (λ u. (u.made ≡ 0) × (u.starts ≡ [])) t ts none) in
     omega (arith, sum_by-cons f t ts, zero_here, rest)
 
--- no block is made if all are dropped
+-- no block is left after all are dropped
 pub none_made : (ts : List Tier) → All (λ t. (t.made ≡ 0) × (t.starts ≡ [])) (map (λ t. no_blocks t.size) ts)
 none_made ts = All-map (λ t. (t.made ≡ 0) × (t.starts ≡ [])) (λ (t : Tier). no_blocks t.size) ts (λ k d h. (refl, refl))
 
@@ -312,7 +312,7 @@ module _ {S : Type 0} where
       }
 
 module _ {S : Type 0} where
-  -- one item of a block is written
+  -- one item of a block is overwritten
   pub Sound-set : (vacant : S) (b : UsedBlock S) (live : List (UsedBlock S)) (v : Store S) (i : ℕ) (x : S) → i < length b.items → Sound vacant (b ∷ live) v → Sound vacant (record b { items = set b.items i x } ∷ live) (record v { slots = set v.slots (b.start + i) x })
   Sound-set vacant b live v i x within s =
       let w = block_inside vacant b live v s in
@@ -321,7 +321,7 @@ module _ {S : Type 0} where
       let slots : set v.slots (b.start + i) x ≡ put_run v.slots b.start (filled vacant b.size (set b.items i x)) = set_in_run v.slots b.start b.size i x w.before (omega arith) ∙ ap (λ ys. put_run v.slots b.start (set ys i x)) (block_slots vacant b live v s) ∙ ap (λ ys. put_run v.slots b.start ys) (set-append_left b.items (replicate (b.size - length b.items) vacant) i x within ∙ ap (λ n. set b.items i x ++ replicate (b.size - n) vacant) (sym same)) in
       subst (λ ys. Sound vacant (record b { items = set b.items i x } ∷ live) (record v { slots = ys })) (sym slots) (Sound-written vacant b live v (set b.items i x) (omega arith) s)
 
-  -- a slot before the first block is written
+  -- a slot before the first block is overwritten
   pub Sound-set_before : (vacant : S) (live : List (UsedBlock S)) (v : Store S) (i : ℕ) (x : S) → i < v.first → Sound vacant live v → Sound vacant live (record v { slots = set v.slots i x })
   Sound-set_before vacant live v i x before s =
       let within = all_inside vacant live v s in

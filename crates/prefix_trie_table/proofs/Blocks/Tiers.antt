@@ -1,4 +1,4 @@
--- The sizes of the two arrays: kept when a tier changes otherwise, and in one table by count.
+-- The sizes of the tiers stay the same in every call, and a table gives the tier for each number of items.
 use Rattle.prefix_trie_table.proofs.Prelude.{◌≡◌, ℕ, zero, suc, ◌+◌, ◌*◌, ◌<◌, ◌≤◌, inl, inr, ⊎_elim, Bool, true, ◌&&◌, nat_lt, List, [], ◌∷◌, length, Option, None, Some, IsSome, get_or, set, map, nat_eq, eqb-true, ltb-true, refl, sym, ap, ◌∙◌, subst, arith, length-map, get_or_default, sum_by-set, get_or-le-sum_by, and_parts, smallest_size, at_below, Tier, tier_at, tier_sizes, size_in, slots_made, no_blocks, cell_sizes, node_sizes, HasSizes, TIERS}
 use Rattle.prefix_trie_bits.proofs.Checks.{below}
 use Rattle.prefix_trie_table.proofs.Blocks.SevenTiers.{at_seven}
@@ -8,7 +8,7 @@ pub sizes_kept : (ts : List Tier) (k : ℕ) (t : Tier) → HasSizes ts → t.siz
 unfolding HasSizes
 sizes_kept ts k t has same = ⊎_elim (λ (e : tier_sizes ts ≡ cell_sizes). inl (sizes_set ts k t same ∙ e)) (λ (e : tier_sizes ts ≡ node_sizes). inr (sizes_set ts k t same ∙ e)) has
 
--- a tier of which a block is taken or freed: the slots of the tiers, and their sizes
+-- if a block of a tier is taken or freed, the slots and the sizes of the tiers stay
 pub tier_turned : (ts : List Tier) (k first len : ℕ) (t old : Tier) → k < length ts → old ≡ get_or ts k old → t.size ≡ old.size → t.made ≡ old.made →
     first + slots_made ts ≡ len → HasSizes ts → (first + slots_made (set ts k t) ≡ len) × HasSizes (set ts k t)
 tier_turned ts k first len t old inside read size made total has =
@@ -17,7 +17,7 @@ tier_turned ts k first len t old inside read size made total has =
     let at_k : tier_at ts k ≡ old = get_or_default ts k _ old inside ∙ sym read in
     (omega (arith, sum_by-set f ts k t old inside, same, total), sizes_kept ts k t has (size ∙ ap (λ (u : Tier). u.size) (sym at_k)))
 
--- no block of any of them
+-- dropping all blocks keeps the sizes
 pub none_sizes : (ts : List Tier) → tier_sizes (map (λ t. no_blocks t.size) ts) ≡ tier_sizes ts
 none_sizes [] = refl
 none_sizes (t ∷ ts) = ap (λ ns. t.size ∷ ns) (none_sizes ts)
@@ -34,7 +34,7 @@ pub cleared_sizes : (ts : List Tier) → HasSizes ts → HasSizes (map (λ t. no
 unfolding HasSizes
 cleared_sizes ts has = ⊎_elim (λ (e : tier_sizes ts ≡ cell_sizes). inl (none_sizes ts ∙ e)) (λ (e : tier_sizes ts ≡ node_sizes). inr (none_sizes ts ∙ e)) has
 
--- each size of the two arrays
+-- what holds of each size of the two arrays holds of each tier
 module _ (P : ℕ → Type 0) (cells : (k : ℕ) → k < 7 → P (size_in cell_sizes k)) (nodes : (k : ℕ) → k < 7 → P (size_in node_sizes k)) where
   pub each_size : (ts : List Tier) → HasSizes ts → (k : ℕ) → k < length ts → P (tier_at ts k).size
   unfolding HasSizes
@@ -50,7 +50,7 @@ sizes_positive =
     each_size (λ n. 0 < n) (at_seven (λ k. 0 < size_in cell_sizes k) (omega arith) (omega arith) (omega arith) (omega arith) (omega arith) (omega arith) (omega arith))
     (at_seven (λ k. 0 < size_in node_sizes k) (omega arith) (omega arith) (omega arith) (omega arith) (omega arith) (omega arith) (omega arith))
 
--- the slots that the tiers take are no fewer than the blocks of one of them
+-- a tier has at most as many blocks as the tiers have slots
 pub made_within : (ts : List Tier) (k : ℕ) → HasSizes ts → k < length ts → (tier_at ts k).made ≤ slots_made ts
 made_within ts k has inside =
     le_times (tier_at ts k).size (tier_at ts k).made (slots_made ts) (sizes_positive ts has k inside) (get_or-le-sum_by (λ t. t.size * t.made) ts k (record { size = 0; made = 0; starts = [] }) inside)
@@ -64,7 +64,7 @@ sizes_small =
     each_size (λ n. n < 33) (at_seven (λ k. size_in cell_sizes k < 33) (omega arith) (omega arith) (omega arith) (omega arith) (omega arith) (omega arith) (omega arith))
     (at_seven (λ k. size_in node_sizes k < 33) (omega arith) (omega arith) (omega arith) (omega arith) (omega arith) (omega arith) (omega arith))
 
--- the tier by the table, if one holds so many
+-- the table has the right tier for n items, if some size holds them
 abbrev is_size : Option ℕ → ℕ → Bool
 is_size None n = true
 is_size (Some k) n = nat_eq k n
@@ -84,7 +84,7 @@ nodes-right : below (is_in_table node_sizes) 33 ≡ true
 unfolding below is_in_table
 nodes-right = refl
 
--- a count that some tier holds is in the table
+-- a number of items that some size holds is below 33, so it is in the table
 pub held_small : (ts : List Tier) (n : ℕ) → HasSizes ts → IsSome (smallest_size (tier_sizes ts) n) → n < 33
 held_small ts n has some =
     let found = some_is (smallest_size (tier_sizes ts) n) some in
@@ -97,7 +97,7 @@ held_small ts n has some =
     some_is None h = absurd cc
     some_is (Some k) h = (k, refl)
 
--- and its tier is the one there
+-- the tier that the table gives is the right one
 pub tier_in_table : (ts : List Tier) (n : ℕ) → HasSizes ts → IsSome (smallest_size (tier_sizes ts) n) →
     (get_or TIERS n 0 < length ts) × (smallest_size (tier_sizes ts) n ≡ Some (size_in (tier_sizes ts) (get_or TIERS n 0)))
 unfolding is_in_table HasSizes

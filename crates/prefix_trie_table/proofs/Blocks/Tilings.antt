@@ -1,4 +1,4 @@
--- Blocks that tile an array have no slot in common.
+-- Blocks that tile an array have no slot in common: for `Sound`.
 use Rattle.prefix_trie_table.proofs.Prelude.{◌≡◌, ℕ, zero, suc, ◌+◌, ◌<◌, ◌≤◌, inl, inr, cond, leb, List, [], ◌∷◌, ◌++◌, length, get_or, remove, sum_by, All, IsPermutation, refl, sym, ap, ◌∙◌, subst, arith, length-append, Contains, sum_by-cons, sum_by-append, get_or-le-sum_by, cases_lt, All-nil, All-cons, All-head, All-tail, All-weaker, All-contains_itself, get_or_append_left, get_or-append-add, sum_by-IsPermutation, All-permutation, IsPermutation-sym, IsPermutation-trans, IsPermutation-remove, nat_tests, Tiles, AreBlocksOf}
 use Rattle.prefix_trie_bits.specs.Model.Blocks.{Block as Extent}
 use Rattle.prefix_trie_table.proofs.Blocks.RunLemmas.{Apart}
@@ -12,14 +12,14 @@ pub record Within (first end : ℕ) (e : Extent) : Type 0 where
   pub after : first ≤ e.start
   pub before : e.start + e.size ≤ end
 
--- as each block of a tiling does
+-- each block of a tiling is within the array
 all_within : (sizes : List ℕ) (first end : ℕ) (es : List Extent) → Tiles sizes first es end → All (Within first end) es × (first ≤ end)
 all_within sizes first end [] t = (All-nil (Within first end), omega (arith, t))
 all_within sizes first end (e ∷ es) t =
     let rest : All (Within (first + e.size) end) es × (first + e.size ≤ end) = all_within sizes (first + e.size) end es t.2 in
     (All-cons (Within first end) e es (record { after = omega (arith, t.1); before = omega (arith, t.1, rest.1) }) (All-weaker (Within (first + e.size) end) (Within first end) (λ f w. record { after = omega (arith, w.after); before = w.before }) es rest.0), omega (arith, rest.1))
 
--- one more block at the end
+-- adding a block at the end keeps the tiling
 pub Tiles-push : (sizes : List ℕ) (first end : ℕ) (es : List Extent) (e : Extent) → Tiles sizes first es end → Contains sizes e.size → e.start ≡ end →
     Tiles sizes first (es ++ e ∷ []) (end + e.size)
 Tiles-push sizes first end [] e t sized at = (sized, at ∙ t, ap (λ m. m + e.size) t)
@@ -35,7 +35,7 @@ all_apart sizes first end (x ∷ es) (suc i) d t inside =
     All-cons (Disjoint (get_or es i d)) x (remove es i) (λ _. omega (arith, t.1, later.after))
     (all_apart sizes (first + x.size) end es i d t.2 (omega arith))
 
--- 0 if two blocks are apart
+-- 0 if two blocks are apart, and 1 otherwise
 abbrev overlap : Extent → Extent → ℕ
 overlap e f = cond (leb (e.start + e.size) f.start) 0 (cond (leb (f.start + f.size) e.start) 0 1)
 
@@ -56,7 +56,7 @@ no_overlap e [] all = refl
 no_overlap e (f ∷ fs) all = omega (arith, sum_by-cons (overlap e) f fs, apart-overlap e f (All-head (Disjoint e) f fs all), no_overlap e fs (All-tail (Disjoint e) f fs all))
 
 module _ (sizes : List ℕ) (first end : ℕ) where
-  -- a block in use is apart from all others, in use and free
+  -- a used block is apart from all others, used and free
   pub others_apart : (e : Extent) (live free : List Extent) → AreBlocksOf sizes first (e ∷ live) free end → All (Disjoint e) (live ++ free)
   others_apart e live free b k d inside =
       let there : Contains b.blocks e = All-head (Contains b.blocks) e (live ++ free) (All-permutation (Contains b.blocks) b.blocks (e ∷ (live ++ free)) (IsPermutation-sym (e ∷ (live ++ free)) b.blocks b.rearranged) (All-contains_itself b.blocks)) in
@@ -68,23 +68,23 @@ module _ (sizes : List ℕ) (first end : ℕ) where
       (omega (arith, same, cut, one, no_overlap e (remove b.blocks there.0) apart, sum_by-cons (overlap e) e (live ++ free), sum_by-cons (overlap e) e (remove b.blocks there.0)))
 
   module _ (live free : List Extent) (b : AreBlocksOf sizes first live free end) where
-    -- each block lies in the array
+    -- each block is within the array
     pub each_within : All (Within first end) (live ++ free)
     each_within = All-permutation (Within first end) b.blocks (live ++ free) (IsPermutation-sym (live ++ free) b.blocks b.rearranged) (all_within sizes first end b.blocks b.tiles).0
 
-    -- and so does the place of the first
+    -- the first block begins within the array
     pub first_inside : first ≤ end
     first_inside = (all_within sizes first end b.blocks b.tiles).1
 
-    -- a sum over all blocks
+    -- a sum over all blocks is the sum over the used ones and the free ones
     pub blocks_sum : (f : Extent → ℕ) → sum_by f b.blocks ≡ sum_by f live + sum_by f free
     blocks_sum f = sum_by-IsPermutation f (live ++ free) b.blocks b.rearranged ∙ sum_by-append f live free
 
-    -- the same blocks in another order, some of those in use free, or free ones in use
+    -- the blocks may be listed in another order, and used ones may become free or free ones used
     pub blocks_moved : (live2 free2 : List Extent) → IsPermutation (live2 ++ free2) (live ++ free) → AreBlocksOf sizes first live2 free2 end
     blocks_moved live2 free2 moved = record { blocks = b.blocks; tiles = b.tiles; rearranged = IsPermutation-trans (live2 ++ free2) (live ++ free) b.blocks moved b.rearranged }
 
--- the parts of a fact of each element
+-- a fact of each element of two joined lists is one of each element of either list
 pub All-append_left : {X : Type 0} (P : X → Type 0) (xs ys : List X) → All P (xs ++ ys) → All P xs
 All-append_left P xs ys all k d inside = subst P (get_or_append_left xs ys d k inside) (all k d (omega (arith, length-append xs ys)))
 

@@ -1,4 +1,4 @@
--- Which blocks the calls on blocks make, take and free, and that the others stay.
+-- Turnovers: which blocks a call makes, takes and frees, by size, and that everything else stays.
 use Rattle.prefix_trie_table.proofs.Prelude.{◌≡◌, ◌≢◌, ℕ, ◌+◌, ◌*◌, ◌<◌, ◌≤◌, true, List, ◌++◌, length, get_or, set, insert, remove, replicate, Option, None, Some, refl, sym, ap, ◌∙◌, subst, arith, length-append, length-replicate, get_or_append_left, get_or-insert_below, get_or-remove_below, length-insert, length-remove, Contains, option_or, one_of, goes_up, Tier, Store, Turnover, Keeps, KeepsMade, MakesNone, SameMade, SameSpace, AreFree, tier_at, with_tier, tier_sizes, size_in, free_in, made_in, many_of, none_of, slots_of, missing_in}
 use Rattle.std.proofs.lemmas.List.{length-set}
 use Rattle.prefix_trie_table.specs.Growth.{Reserves}
@@ -26,25 +26,25 @@ module _ {S : Type 0} where
   pub made_turned : (v w : Store S) (m : ℕ → ℕ) (o p : Option ℕ) → Turnover v w m o p → KeepsMade v w
   made_turned v w m o p t = λ size. (let e = t.made_is size in omega (arith, e))
 
-  -- if none is made the array keeps its length
+  -- if no block is made, the array keeps its length
   pub space_kept : (v w : Store S) (m : ℕ → ℕ) (o p : Option ℕ) → ((size : ℕ) → m size ≡ 0) → Turnover v w m o p → SameSpace v w
   space_kept v w m o p none t = ((let l = t.longer in let n = slots_of-none (tier_sizes v.tiers) m none in omega (arith, l, n)), t.keeps.first_is, t.keeps.limit_is)
 
-  -- and has as many
+  -- if no block is made, the array has as many of each size
   pub none_turned : (v w : Store S) (o p : Option ℕ) → Turnover v w none_of o p → MakesNone v w
   none_turned v w o p t = record { space = space_kept v w none_of o p (λ size. refl) t; made = λ size. (let e = t.made_is size in omega (arith, e)) }
 
   pub made_kept : (v w : Store S) → SameMade v w → KeepsMade v w
   made_kept v w same = λ size. (let e = same size in omega (arith, e))
 
-  -- nor do the same tiers
+  -- the same tiers have the same blocks
   pub made_same : (v w : Store S) → w.tiers ≡ v.tiers → KeepsMade v w
   made_same v w e = λ size. (let h : made_in w.tiers size ≡ made_in v.tiers size = ap (λ ts. made_in ts size) e in omega (arith, h))
 
   pub made_then : (v w x : Store S) → KeepsMade v w → KeepsMade w x → KeepsMade v x
   made_then v w x a b = λ size. (let p = a size in let q = b size in omega (arith, p, q))
 
-  -- the tiers have the sizes that they had
+  -- the tiers keep their sizes
   pub size_kept : (v w : Store S) (k : ℕ) → tier_sizes w.tiers ≡ tier_sizes v.tiers → (tier_at w.tiers k).size ≡ (tier_at v.tiers k).size
   size_kept v w k e = size_at w.tiers k ∙ ap (λ ns. size_in ns k) e ∙ sym (size_at v.tiers k)
 
@@ -58,7 +58,7 @@ module _ {S : Type 0} where
     longer = t.longer ∙ ap (λ s. length v.slots + s) (slots_of-same (tier_sizes v.tiers) m n (λ size at. same size));
   }
 
-  -- one after another: the blocks that lists left and entered add up
+  -- two turnovers one after another: the blocks that lists left and entered add up
   pub Turnover-then : (v w x : Store S) (m n : ℕ → ℕ) (a b c d o p : Option ℕ) →
       ((size : ℕ) → one_of a size + one_of c size + one_of p size ≡ one_of b size + one_of d size + one_of o size) →
       Turnover v w m a b → Turnover w x n c d → Turnover v x (λ size. m size + n size) o p
@@ -70,13 +70,13 @@ module _ {S : Type 0} where
         let e : slots_of (tier_sizes w.tiers) n ≡ slots_of (tier_sizes v.tiers) n = ap (λ ns. slots_of ns n) first.keeps.sizes in omega (arith, f, s, r, e));
   }
 
-  -- a list moved from a block of the size `old` to one of the size `new`
+  -- a list moves from a block of the size `old` to one of the size `new`
   pub Turnover-moved : (v u w x : Store S) (m : ℕ → ℕ) (old new : Option ℕ) → Turnover v u m None new → Turnover u w none_of None None → Turnover w x none_of old None → Turnover v x m old new
   Turnover-moved v u w x m old new a b c =
       Turnover-as v x _ m old new (λ size. omega arith)
       (Turnover-then v w x _ none_of None new old None old new (λ size. omega arith) (Turnover-then v u w m none_of None new None None None new (λ size. omega arith) a b) c)
 
-  -- slots after the first block's start are written
+  -- writing slots after the start of the first block takes and frees no block
   pub Turnover-written : (v w : Store S) (xs : List S) → w ≡ record v { slots = xs } → length xs ≡ length v.slots →
       ((i : ℕ) (d : S) → i < v.first → get_or xs i d ≡ get_or v.slots i d) → (o : Option ℕ) → Turnover v w none_of o o
   Turnover-written v w xs e len same o = subst (λ x. Turnover v x none_of o o) (sym e) (record {
@@ -89,7 +89,7 @@ module _ {S : Type 0} where
   pub Turnover-same : (v w : Store S) → w ≡ v → (o : Option ℕ) → Turnover v w none_of o o
   Turnover-same v w e o = Turnover-written v w v.slots e refl (λ i d h. refl) o
 
-  -- no block is made, and memory for one may have been reserved
+  -- reserving memory makes no block
   pub Turnover-reserved : (v w : Store S) (space n : ℕ) → w ≡ record v { capacity = space } → Reserves v.capacity (length v.slots + n) space → n ≤ 32 → Turnover v w none_of None None
   Turnover-reserved v w space n e reserves few = subst (λ x. Turnover v x none_of None None) (sym e) (record {
     keeps = record {
@@ -106,7 +106,7 @@ module _ {S : Type 0} where
     longer = (let none = slots_of-none (tier_sizes v.tiers) none_of (λ j. refl) in omega (arith, none));
   })
 
-  -- one item is removed and another inserted
+  -- removing an item and inserting another takes and frees no block
   pub Turnover-shifted : (v w : Store S) (a b : ℕ) (x : S) → w ≡ record v { slots = insert (remove v.slots a) b x } → v.first ≤ a → v.first ≤ b → a < length v.slots →
       b < length v.slots → (o : Option ℕ) → Turnover v w none_of o o
   Turnover-shifted v w a b x e behind_a behind_b in_a in_b =
@@ -118,7 +118,8 @@ module _ {S : Type 0} where
   -- ---- one tier is set
 
   module _ (v : Store S) (k : ℕ) (t : Tier) (up : goes_up 0 (tier_sizes v.tiers) ≡ true) (inside : k < length v.tiers) (same : t.size ≡ (tier_at v.tiers k).size) where
-    -- m blocks of its size were made, by whose slots the array is longer, and one of its free ones is used by a list, or was
+    -- m blocks of its size are made, which lengthen the array, and one of its free blocks goes to a list or comes from
+    -- one
     turned : (slots : List S) (space m : ℕ) (old new : Option ℕ) → t.made ≡ (tier_at v.tiers k).made + m →
         length t.starts + one_of new t.size ≡ length (tier_at v.tiers k).starts + m + one_of old t.size → ((size : ℕ) → t.size ≢ size → one_of new size ≡ one_of old size) →
         Keeps v (record v { slots = slots; tiers = set v.tiers k t; capacity = space }) → length slots ≡ length v.slots + t.size * m →
@@ -144,14 +145,14 @@ module _ {S : Type 0} where
           (Turnover-as v (with_tier v k t) (many_of t.size 0) none_of None (Some t.size) (λ n. many-none t.size 0 n refl)
           (turned v.slots v.capacity 0 None (Some t.size) (omega (arith, made)) (let h = many_here t.size 1 in omega (arith, starts, h)) (λ size ne. many_other t.size 1 size ne) keeps_slots (omega arith)))
 
-      -- a block is given back
+      -- a block is freed
       pub Turnover-given : t.made ≡ (tier_at v.tiers k).made → length t.starts ≡ length (tier_at v.tiers k).starts + 1 → Turnover v (with_tier v k t) none_of (Some s) None
       Turnover-given made starts =
           subst (λ n. Turnover v (with_tier v k t) none_of (Some n) None) (same ∙ is)
           (Turnover-as v (with_tier v k t) (many_of t.size 0) none_of (Some t.size) None (λ n. many-none t.size 0 n refl)
           (turned v.slots v.capacity 0 (Some t.size) None (omega (arith, made)) (let h = many_here t.size 1 in omega (arith, starts, h)) (λ size ne. sym (many_other t.size 1 size ne)) keeps_slots (omega arith)))
 
-      -- a block is made at the array's end
+      -- a block is made at the end of the array
       pub Turnover-grown : (vacant : S) (slots : List S) (space : ℕ) → slots ≡ v.slots ++ replicate s vacant → Reserves v.capacity (length v.slots + s) space → v.first ≤ length v.slots → length v.slots + s ≤ v.limit → t.made ≡ (tier_at v.tiers k).made + 1 →
           length t.starts ≡ length (tier_at v.tiers k).starts + 1 → Turnover v (record v { slots = slots; tiers = set v.tiers k t; capacity = space }) (many_of s 1) None None
       Turnover-grown vacant slots space slots_are reserves low fits made starts =
@@ -167,11 +168,11 @@ module _ {S : Type 0} where
             grown = Reserves-more v.capacity (length v.slots + s) (length slots + 32) space reserves (omega (arith, long));
           }) (omega (arith, long, size)))
 
-  -- once the missing blocks were made, all that are needed are free
+  -- after the missing blocks were made, all needed blocks are free
   pub free_obtained : (v w : Store S) (needed : List ℕ) → Turnover v w (missing_in v needed) None None → AreFree w.tiers needed
   free_obtained v w needed t = λ size. (let e = t.free_is size in omega (arith, e))
 
-  -- a list that took its block left the others free
+  -- after a list took its block, the other needed blocks are still free
   pub free_entered : (v w : Store S) (need own after : Option ℕ) → after ≡ option_or need own → Turnover v w none_of own after → (size : ℕ) →
       free_in v.tiers size ≤ free_in w.tiers size + one_of need size
   free_entered v w need own after e t size =
@@ -182,7 +183,7 @@ module _ {S : Type 0} where
       either None own = omega arith
       either (Some n) own = omega arith
 
-  -- nor does writing a slot make one
+  -- writing a slot makes no block
   pub none_written : (v w u : Store S) (i : ℕ) (x : S) → MakesNone v w → u ≡ record w { slots = set w.slots i x } → MakesNone v u
   none_written v w u i x none e = subst (λ y. MakesNone v y) (sym e) (record { space = (length-set w.slots i x ∙ none.space.0, none.space.1, none.space.2); made = none.made })
 

@@ -21,11 +21,11 @@ seven_tiers (a ∷ b ∷ c ∷ d ∷ m ∷ n ∷ []) e = absurd (omega (arith, e
 seven_tiers (a ∷ b ∷ c ∷ d ∷ m ∷ n ∷ o ∷ []) e = refl
 seven_tiers (a ∷ b ∷ c ∷ d ∷ m ∷ n ∷ o ∷ p ∷ ts) e = absurd (omega (arith, e))
 
--- how often a size occurs
+-- 1 if this is the size, and 0 otherwise
 abbrev has_size : ℕ → Option ℕ → ℕ
 has_size n = of_any (λ m. cond (m == n) 1 0)
 
--- the blocks of a tier are as many as the sizes that are its size
+-- the used blocks of a tier are as many as the used sizes that are its size
 module _ {S : Type 0} (g : List ℕ → Option ℕ) (f : List ℕ → List (UsedBlock S)) (k n : ℕ) (ts : List Tier)
     (each : (p : List ℕ) → All (IsOfTier ts) (f p) → count_by (λ b. b.tier == k) (f p) ≡ has_size n (g p)) where
   blocks_by_path : (paths : List (List ℕ)) → All (IsOfTier ts) (flat_map f paths) → count_by (λ b. b.tier == k) (flat_map f paths) ≡ sum_by (λ p. has_size n (g p)) paths
@@ -36,12 +36,12 @@ module _ {S : Type 0} (g : List ℕ → Option ℕ) (f : List ℕ → List (Used
       (blocks_by_path paths (All-append_right (IsOfTier ts) (f x) (flat_map f paths) of))
       ∙ sym (sum_by-cons (λ p. has_size n (g p)) x paths)
 
-  -- of this size are as many values as blocks are of this tier
+  -- there are as many blocks of this tier as values of this size
   pub blocks_of_size : (paths : List (List ℕ)) → AreSteps paths → AreOnce paths → All (IsOfTier ts) (flat_map f paths) →
       count_by (λ b. b.tier == k) (flat_map f paths) ≡ count_by (λ m. m == n) (values (sizes_at g paths))
   blocks_of_size paths steps once of = blocks_by_path paths of ∙ sym (sizes_sum (λ m. cond (m == n) 1 0) g paths steps once)
 
--- the sizes differ: each is found at its own place
+-- the sizes differ, so each is found at its own place
 abbrev AreApart : List ℕ → Type 0
 AreApart sizes = (i : ℕ) → i < 7 → position (λ m. m == size_in sizes i) sizes ≡ Some i
 
@@ -57,7 +57,7 @@ module _ (sizes : List ℕ) (apart : AreApart sizes) where
       (λ e. eq-eqb _ _ (ap (size_in sizes) (eqb-true t k e)))
       (λ e. eq-eqb t k (some_same t k (sym (apart t h) ∙ ap (λ n. position (λ m. m == n) sizes) (eqb-true (size_in sizes t) (size_in sizes k) e) ∙ apart k j)))
 
-  -- a list has a block of its tier if it has items
+  -- a list with items has one block, which is of its tier
   module _ {S : Type 0} (ts : List Tier) (seven : length ts ≡ 7) (k : ℕ) (inside : k < 7) where
     held_sized : (t start : ℕ) (xs : List S) → All (IsOfTier ts) (held t start (size_in sizes t) xs) →
         count_by (λ b. b.tier == k) (held t start (size_in sizes t) xs) ≡ has_size (size_in sizes k) (size_if_any (length xs) (size_in sizes t))
@@ -67,7 +67,7 @@ module _ (sizes : List ℕ) (apart : AreApart sizes) where
         let small : t < 7 = (let w = own.within in omega (arith, w, seven)) in
         ap (λ b. 0 + cond b 1 0) (same_tier t k small inside) ∙ (let e : 0 + cond (size_in sizes t == size_in sizes k) 1 0 ≡ cond (size_in sizes t == size_in sizes k) 1 0 = omega arith in e)
 
--- the counts of the tiers are those of the used sizes and the free ones
+-- the counts of the tiers are the numbers of used and free blocks of their sizes
 counts_are : (ts : List Tier) (m : Sizes) →
     ((k : ℕ) → k < length ts → (tier_at ts k).made ≡ length (tier_at ts k).starts + count_by (λ x. x == size_in (tier_sizes ts) k) (values m)) →
     map tier_count ts ≡ block_counts (tier_sizes ts) m (free_counts ts)
@@ -77,7 +77,7 @@ counts_are (t ∷ ts) m h =
     let rest = counts_are ts m (λ k inside. h (suc k) (omega arith)) in
     λ i. record { size = t.size; used = here i; free = length t.starts } ∷ rest i
 
--- the slots of the blocks in use and free are those that were made
+-- the slots of the used and free blocks are those that were made
 pub slots_are : (ts : List Tier) → ((k : ℕ) → k < length ts → length (tier_at ts k).starts ≤ (tier_at ts k).made) → slots_counted (map tier_count ts) ≡ slots_made ts
 slots_are [] h = refl
 slots_are (t ∷ ts) h =
@@ -86,7 +86,7 @@ slots_are (t ∷ ts) h =
     ∙ ap₂ (λ a b. t.size * a + b) all (slots_are ts (λ k inside. h (suc k) (omega arith)))
     ∙ sym (sum_by-cons (λ u. u.size * u.made) t ts)
 
--- fewer are free than were made
+-- at most the blocks that were made are free
 pub free_within : {S : Type 0} (vacant : S) (live : List (UsedBlock S)) (v : Store S) → Sound vacant live v → (k : ℕ) → k < length v.tiers →
     length (tier_at v.tiers k).starts ≤ (tier_at v.tiers k).made
 free_within vacant live v s k inside = let e = s.counted k inside in omega (arith, e)
@@ -106,7 +106,7 @@ module _ (reading : List ℕ → Option Node) (paths : List (List ℕ)) (v : Sto
           held_sized node_sizes node_sizes_apart v.tiers seven_nodes k inside n.child_tier n.child_block (child_items reading p n.child_bitmap) of
           ∙ ap (λ r. has_size (size_in node_sizes k) (size_if_any r (size_in node_sizes n.child_tier))) (rank-all _ n.child_bitmap)
 
-  -- the blocks of a tier are the free ones and the used ones of its size
+  -- the blocks of a tier of nodes are the free ones and the used ones of its size
   pub nodes_made : (x : Sized v.slots) (k : ℕ) → k < 7 → (tier_at v.tiers k).made ≡ length (tier_at v.tiers k).starts + used_of x.0 (size_in node_sizes k)
   nodes_made x k inside =
       hold.sound.counted k (let s = seven_nodes in omega (arith, inside, s))
@@ -115,7 +115,7 @@ module _ (reading : List ℕ → Option Node) (paths : List (List ℕ)) (v : Sto
       (child_each k inside) paths (paths_steps node_sizes reading paths v hold) (paths_once node_sizes reading paths v hold) hold.sound.of_tier)
       ∙ ap (λ (m : Sizes). length (tier_at v.tiers k).starts + used_of m (size_in node_sizes k)) (sym (sizes_only node_sizes reading paths v hold x).0)
 
-  -- the counts of the array of nodes
+  -- the counts of the array of nodes are right
   pub node_counts : (x : Sized v.slots) → map tier_count v.tiers ≡ block_counts node_sizes x.0 (free_counts v.tiers)
   node_counts x =
       counts_are v.tiers x.0 (λ k inside.
@@ -138,7 +138,7 @@ module _ (reading : List ℕ → Option Node) (paths : List (List ℕ)) (v : Sto
             held_sized cell_sizes cell_sizes_apart w.tiers seven_cells k inside n.value_tier n.value_block (map (values_at p) (bits n.value_bitmap)) of
             ∙ ap (λ r. has_size (size_in cell_sizes k) (size_if_any r (size_in cell_sizes n.value_tier))) (rank-all _ n.value_bitmap)
 
-    -- the same for a tier of values
+    -- the blocks of a tier of values are the free ones and the used ones of its size
     pub cells_made : (x : Sized v.slots) (k : ℕ) → k < 7 → (tier_at w.tiers k).made ≡ length (tier_at w.tiers k).starts + used_of x.1.0 (size_in cell_sizes k)
     cells_made x k inside =
         cells.sound.counted k (let s = seven_cells in omega (arith, inside, s))
@@ -147,7 +147,7 @@ module _ (reading : List ℕ → Option Node) (paths : List (List ℕ)) (v : Sto
         (value_each k inside) paths (paths_steps node_sizes reading paths v hold) (paths_once node_sizes reading paths v hold) cells.sound.of_tier)
         ∙ ap (λ (m : Sizes). length (tier_at w.tiers k).starts + used_of m (size_in cell_sizes k)) (sym (sizes_only node_sizes reading paths v hold x).1)
 
-    -- the counts of the array of values
+    -- the counts of the array of values are right
     pub cell_counts : (x : Sized v.slots) → map tier_count w.tiers ≡ block_counts cell_sizes x.1.0 (free_counts w.tiers)
     cell_counts x =
         counts_are w.tiers x.1.0 (λ k inside.

@@ -1,4 +1,5 @@
--- There are as many used blocks as nodes with children, and as nodes with values of their own.
+-- There are as many used blocks as nodes with children, and as nodes with values of their own: for `node_blocks` and
+-- `cell_blocks`.
 use Rattle.prefix_trie_table.proofs.Prelude.{◌≡◌, ◌≢◌, ℕ, zero, suc, ◌+◌, ◌-◌, ◌%◌, ◌<◌, Bool, true, false, cond, ◌==◌, ◌&&◌, ◌||◌, List, [], ◌∷◌, length, map, filter, flat_map, count_by, sum_by, nat_lt, All, Option, None, Some, is_some, refl, sym, ap, ap₂, ◌∙◌, arith, eq-eqb, lt-ltb, list_any, nat_tests, All-head, All-tail, length-flat_map, sum_by-cons, length-filter, entries, keys, get, Entries, Nodes, has_node, is_node_depth, is_parent, is_holder, parents, holders, entries-empty, Node, tier_count, used_blocks, bits, blank_node, node_sizes, cell_sizes, chunks_of, bit_of, Tier, UsedBlock, Sound, Store, IsOfTier, tier_at, held, NodesHold, CellsHold, times, has_child, has_value, child_items, child_blocks, child_blocks_of, value_blocks, value_blocks_of, node_or_blank}
 use Rattle.prefix_trie_table.specs.Forest.{size_in}
 use Rattle.prefix_trie_table.proofs.Counts.OwnCounts.{children_counted, values_counted}
@@ -9,7 +10,7 @@ use Rattle.prefix_trie_table.proofs.Strings.PathStrings.{string_at, string_path,
 use Rattle.prefix_trie_table.proofs.Blocks.SlotSums.{sum_by-mapped}
 use Rattle.prefix_trie_table.proofs.Tree.Trees.{is_some-Some}
 
--- the sum of so many numbers
+-- the sum of f over the numbers below n
 abbrev total : ℕ → (ℕ → ℕ) → ℕ
 total zero f = 0
 total (suc n) f = f 0 + total n (λ j. f (suc j))
@@ -22,7 +23,7 @@ total-sum : (n : ℕ) (f a b : ℕ → ℕ) → ((k : ℕ) → f k ≡ a k + b k
 total-sum zero f a b both = refl
 total-sum (suc n) f a b both = omega (arith, both 0, total-sum n (λ j. f (suc j)) (λ j. a (suc j)) (λ j. b (suc j)) (λ k. both (suc k)))
 
--- one of them is 1, and the others are none
+-- if f is 1 at one number and 0 at all others, the sum is 1
 total-one : (n t : ℕ) (f : ℕ → ℕ) → t < n → f t ≡ 1 → ((k : ℕ) → k ≢ t → f k ≡ 0) → total n f ≡ 1
 total-one zero t f h one others = absurd (omega (arith, h))
 total-one (suc n) zero f h one others =
@@ -39,7 +40,7 @@ used_total (t ∷ ts) f h =
     sum_by-cons (λ b. b.used) (tier_count t) (map tier_count ts)
     ∙ ap₂ (λ a b. a + b) here (used_total ts (λ j. f (suc j)) (λ k inside. h (suc k) (omega arith)))
 
--- some key passes if any are left
+-- some key passes exactly if the filtered list is not empty
 any_filtered : (test : List Bool → Bool) (ks : List (List Bool)) → list_any test ks ≡ nat_lt 0 (length (filter test ks))
 any_filtered test [] = refl
 any_filtered test (k ∷ ks) = elim (test k) as (λ b. (b || list_any test ks) ≡ nat_lt 0 (length (cond b (k ∷ filter test ks) (filter test ks)))) [
@@ -54,7 +55,7 @@ module _ {S : Type 0} where
   is_tier-other : (b : UsedBlock S) (k : ℕ) → k ≢ b.tier → ◌≡◌ {A = ℕ} (cond (b.tier == k) 1 0) 0
   is_tier-other b k e = grind (arith, nat_tests)
 
-  -- each block is of one tier
+  -- each block is of one tier, so the tiers have all blocks
   blocks_total : (ts : List Tier) (live : List (UsedBlock S)) → All (IsOfTier ts) live → total (length ts) (λ k. count_by (λ b. b.tier == k) live) ≡ length live
   blocks_total ts [] of = total-none (length ts) _ (λ k. refl)
   blocks_total ts (b ∷ live) of =
@@ -65,17 +66,17 @@ module _ {S : Type 0} where
       (blocks_total ts live (All-tail (IsOfTier ts) b live of))
       ∙ (let e : 1 + length live ≡ suc (length live) = omega arith in e)
 
-  -- the blocks in use are all counted
+  -- the used blocks are all counted
   used_live : (vacant : S) (live : List (UsedBlock S)) (v : Store S) → Sound vacant live v → used_blocks (map tier_count v.tiers) ≡ length live
   used_live vacant live v s = used_total v.tiers (λ k. count_by (λ b. b.tier == k) live) s.counted ∙ blocks_total v.tiers live s.of_tier
 
-  -- a list with as many items as keys pass a test has one block, if any pass
+  -- a list with one item for each key that passes a test has one block if some key passes
   held_length : (k start size : ℕ) (xs : List S) (test : List Bool → Bool) (ks : List (List Bool)) → length (filter test ks) ≡ length xs →
       cond (list_any test ks) 1 0 ≡ length (held k start size xs)
   held_length k start size [] test ks e = ap (λ c. cond c 1 0) (any_filtered test ks ∙ ap (nat_lt 0) e)
   held_length k start size (x ∷ xs) test ks e = ap (λ c. cond c 1 0) (any_filtered test ks ∙ ap (nat_lt 0) e ∙ lt-ltb 0 (suc (length xs)) (omega arith))
 
--- a sum over the nodes is one over their paths
+-- a sum over the nodes is the sum over their paths
 pub nodes_sum : (h : List Bool × Unit {0} → ℕ) (paths : List (List ℕ)) → AreSteps paths → AreOnce paths →
     sum_by h (entries (nodes_at paths)) ≡ sum_by (λ p. h (string_at p, tt)) paths
 nodes_sum h [] steps once = ap (sum_by h) (entries-empty (Unit {0}))
@@ -86,7 +87,7 @@ nodes_sum h (x ∷ paths) steps once =
 
 module _ (reading : List ℕ → Option Node) (paths : List (List ℕ)) (v : Store Node) (hold : NodesHold node_sizes reading paths v) (n : Nodes)
     (are : (s : List Bool) → has_node n s ≡ (is_node_depth s && is_some (reading (chunks_of s)))) where
-  -- how many nodes pass a test, by the blocks of each
+  -- the nodes that pass a test are as many as the blocks, if each such node has one block
   counted_by_blocks : {S : Type 0} (test : List Bool → Bool) (f : List ℕ → List (UsedBlock S)) →
       ((p : List ℕ) → 0 < times p paths → cond (test (string_at p)) 1 0 ≡ length (f p)) → length (filter test (keys n)) ≡ length (flat_map f paths)
   counted_by_blocks test f each =
@@ -114,7 +115,7 @@ module _ (reading : List ℕ → Option Node) (paths : List (List ℕ)) (v : Sto
         ∙ sym (rank-all _ m.child_bitmap))
         ∙ ap (λ o. length (child_blocks_of node_sizes reading p o)) (sym e)
 
-  -- the parents are as many as the blocks of children
+  -- there are as many nodes with children as used blocks of children
   pub parents_used : length (parents n) ≡ used_blocks (map tier_count v.tiers)
   parents_used =
       counted_by_blocks (λ p. is_parent n p) (child_blocks node_sizes reading) (λ p listed. parent_counted p listed (node_or_blank (reading p)) (own_node p listed))
@@ -130,7 +131,7 @@ module _ (reading : List ℕ → Option Node) (paths : List (List ℕ)) (v : Sto
         (λ b. ap (λ o. has_value o b) (ap reading (own_path p listed) ∙ e)) ∙ sym (rank-all _ x.value_bitmap))
         ∙ ap (λ o. length (value_blocks_of cell_sizes values p o)) (sym e)
 
-    -- the holders are as many as the blocks of values
+    -- there are as many nodes with values as used blocks of values
     pub holders_used : length (holders m n) ≡ used_blocks (map tier_count w.tiers)
     holders_used =
         counted_by_blocks (λ p. is_holder m p) (value_blocks cell_sizes reading values) (λ p listed. holder_counted p listed (node_or_blank (reading p)) (own_node p listed))

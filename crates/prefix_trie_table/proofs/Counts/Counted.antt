@@ -1,4 +1,4 @@
--- How many nodes a descent meets, and how many entries a table can have.
+-- How many nodes a descent reads, and how many entries a table can have: for the counted lookups and `len`.
 use Rattle.prefix_trie_table.proofs.Prelude.{◌≡◌, ℕ, ◌+◌, ◌*◌, ◌/◌, ◌%◌, ◌<◌, ◌≤◌, ◌⊎◌, inl, inr, Bool, true, false, ◌&&◌, List, length, take, Option, is_some, sym, ap₂, ◌∙◌, arith, nat_lt, eqb-true, eq-eqb, ltb-true, cases_Bool, nat_tests, begins, Nodes, has_node, is_node_depth, visits, and-first, and-second, and-join, visits-exact, Node, node_sizes, chunks_of, Store, NodesHold, IsEnd}
 use Rattle.std.proofs.lemmas.List.{length-take-le}
 use Rattle.prefix_trie_table.proofs.Strings.Plain.{fifths, whole_levels}
@@ -9,30 +9,30 @@ use Rattle.prefix_trie_table.proofs.Lookup.Finding.{prefix_some}
 past-five : (k n l : ℕ) → n ≤ k → n ≡ l / 5 → l < 5 * (k + 1)
 past-five k n l h e = omega (arith, h, e)
 
--- the nodes are at the strings whose chunks lead to nodes
+-- the nodes are the strings whose chunks lead to nodes
 module _ (reading : List ℕ → Option Node) (paths : List (List ℕ)) (v : Store Node) (hold : NodesHold node_sizes reading paths v) (n : Nodes)
     (are : (s : List Bool) → has_node n s ≡ (is_node_depth s && is_some (reading (chunks_of s)))) where
-  -- nodes are at multiples of five bits
+  -- the length of a node's string is a multiple of five
   pub nodes_depths : (s : List Bool) → has_node n s ≡ true → length s % 5 ≡ 0
   nodes_depths s h = eqb-true (length s % 5) 0 (and-first (is_node_depth s) (is_some (reading (chunks_of s))) (sym (are s) ∙ h))
 
   nodes_some : (s : List Bool) → has_node n s ≡ true → is_some (reading (chunks_of s)) ≡ true
   nodes_some s h = and-second (is_node_depth s) (is_some (reading (chunks_of s))) (sym (are s) ∙ h)
 
-  -- above each node there are all nodes of its path
+  -- all nodes on the path to a node exist
   pub nodes_closed : (s t : List Bool) → has_node n t ≡ true → begins s t ≡ true → length s % 5 ≡ 0 → has_node n s ≡ true
   nodes_closed s t h b five =
       are s ∙ and-join (is_node_depth s) (is_some (reading (chunks_of s))) (eq-eqb (length s % 5) 0 five)
       (prefix_some node_sizes reading paths v hold (chunks_of s) (chunks_of t) (nodes_some t h) (begins-way s t five ∙ b))
 
-  -- the string of so many steps of q
+  -- a node of the search path exists exactly if its chunks lead to a node
   node_on_path : (q : List Bool) (k : ℕ) → k ≤ length (chunks_of q) → has_node n (take (5 * k) q) ≡ is_some (reading (take k (chunks_of q)))
   node_on_path q k h =
       let within : 5 * k ≤ length q = fifths (length q) k (length (chunks_of q)) h (path-length q) in
       let five : length (take (5 * k) q) % 5 ≡ 0 = whole_levels (length (take (5 * k) q)) k (length-take-le (5 * k) q within) in
       are (take (5 * k) q) ∙ ap₂ (λ a p. a && is_some (reading p)) (eq-eqb (length (take (5 * k) q) % 5) 0 five) (path-take k q within)
 
-  -- the nodes met on the search path of q
+  -- the number of nodes on the search path is the level at which the search ends, plus one
   pub visits_counted : (q : List Bool) (level : ℕ) → IsEnd reading (chunks_of q) level → visits n q ≡ level + 1
   visits_counted q level end =
       visits-exact n q level nodes_depths nodes_closed (fifths (length q) level (length (chunks_of q)) end.within (path-length q))

@@ -1,5 +1,4 @@
--- The number of entries of the nodes: how a change of one node changes it, and that the cells bound
--- it.
+-- The number of entries of all nodes: how a change of one node changes it, and that the slots for values bound it.
 use Rattle.prefix_trie_table.proofs.Prelude.{◌≡◌, ◌≢◌, ℕ, ◌+◌, ◌-◌, ◌<◌, ◌≤◌, ◌⊎◌, inl, inr, List, [], ◌∷◌, ◌++◌, length, length-append, length-take, take, drop, map, flat_map, replicate, sum_by, All, Option, None, Some, refl, sym, ap, ap₂, ◌∙◌, subst, arith, All-head, All-tail, sum_by-cons, Tiles, Node, bits, rank, blank_node, cell_sizes, run, Store, UsedBlock, Sound, HoldsItems, tier_sizes, extent, free_extents, filled, held, size_in, times, without, own_count, entry_count, CellsHold, with_node, with_child, value_blocks, value_blocks_of}
 use Rattle.prefix_trie_bits.specs.Model.Blocks.{Block as Extent}
 use Rattle.prefix_trie_table.proofs.Blocks.Tilings.{blocks_sum}
@@ -8,22 +7,22 @@ use Rattle.prefix_trie_table.proofs.Strings.PathSums.{sum_out, sum_same}
 use Rattle.prefix_trie_table.proofs.Tree.Trees.{times_out_same}
 use Rattle.prefix_trie_table.proofs.Tree.Children.{same_or, with_here, with_other, changed_below, changed_here, changed_other}
 
--- which is a sum over the paths
+-- the number of entries is a sum over the paths
 pub count_sum : (f : List ℕ → Option Node) (paths : List (List ℕ)) → entry_count f paths ≡ sum_by (λ q. own_count (f q)) paths
 count_sum f [] = refl
 count_sum f (x ∷ paths) = ap (λ k. own_count (f x) + k) (count_sum f paths) ∙ sym (sum_by-cons (λ q. own_count (f q)) x paths)
 
--- one node's own first
+-- the entries of one node can be counted first
 count_out : (f : List ℕ → Option Node) (p : List ℕ) (paths : List (List ℕ)) → 0 < times p paths →
     entry_count f paths ≡ own_count (f p) + entry_count f (without p paths)
 count_out f p paths there = count_sum f paths ∙ sum_out (λ q. own_count (f q)) p paths there ∙ ap (λ k. own_count (f p) + k) (sym (count_sum f (without p paths)))
 
--- nodes with as many values each have as many in all
+-- if each node has as many values as before, there are as many entries
 count_same : (f g : List ℕ → Option Node) (paths : List (List ℕ)) → ((q : List ℕ) → 0 < times q paths → own_count (g q) ≡ own_count (f q)) →
     entry_count g paths ≡ entry_count f paths
 count_same f g paths same = count_sum g paths ∙ sum_same (λ q. own_count (f q)) (λ q. own_count (g q)) paths same ∙ sym (count_sum f paths)
 
--- the node at p becomes m
+-- how the number changes if the node at p becomes m
 pub count_with_node : (f : List ℕ → Option Node) (p : List ℕ) (m : Node) (paths : List (List ℕ)) → times p paths ≡ 1 →
     entry_count (with_node f p m) paths + own_count (f p) ≡ entry_count f paths + own_count (Some m)
 count_with_node f p m paths once =
@@ -35,7 +34,7 @@ count_with_node f p m paths once =
     (λ q h. ap own_count (with_other f p m q (λ e. let z : times q (without p paths) ≡ 0 = ap (λ y. times y (without p paths)) e ∙ none_p in omega arith))) in
     omega (arith, before, after, here, rest)
 
--- the node n at p becomes m, which has as many values, and has a blank child more
+-- it stays if the node n at p becomes m, which has as many values and one more blank child
 pub count_with_child : (f : List ℕ → Option Node) (p : List ℕ) (n m : Node) (c : ℕ) (paths : List (List ℕ)) → f p ≡ Some n →
     m.value_bitmap ≡ n.value_bitmap → times (p ++ c ∷ []) paths ≡ 0 → entry_count (with_child f p m c) ((p ++ c ∷ []) ∷ paths) ≡ entry_count f paths
 count_with_child f p n m c paths is same none =
@@ -58,11 +57,11 @@ items_count-append : {S : Type 0} (xs ys : List (UsedBlock S)) → items_count (
 items_count-append [] ys = omega arith
 items_count-append (x ∷ xs) ys = omega (arith, items_count-append xs ys)
 
--- how many slots a block has
+-- the number of slots of a block
 abbrev pub size_of_extent : Extent → ℕ
 size_of_extent e = e.size
 
--- the blocks that tile an array take all slots from the first on
+-- the blocks that tile an array have all slots after the first block's start
 pub tiling-sum : (sizes : List ℕ) (first end : ℕ) (es : List Extent) → Tiles sizes first es end → first + sum_by size_of_extent es ≡ end
 tiling-sum sizes first end [] t = omega (arith, t)
 tiling-sum sizes first end (e ∷ es) t =
@@ -84,7 +83,7 @@ module _ {S : Type 0} (vacant : S) (slots : List S) where
   items-sum (b ∷ bs) h =
       omega (arith, sum_by-cons size_of_extent (extent b) (map extent bs), items-sum bs (All-tail (HoldsItems vacant slots) b bs h), item_fits b (All-head (HoldsItems vacant slots) b bs h))
 
--- the blocks in use hold no more items than there are slots
+-- the used blocks hold at most as many items as there are slots
 pub items_bound : {S : Type 0} (vacant : S) (live : List (UsedBlock S)) (v : Store S) → Sound vacant live v → items_count live ≤ length v.slots
 items_bound vacant live v s =
     omega (
@@ -110,7 +109,7 @@ module _ {T : Type 0} (nodes : List ℕ → Option Node) (values : List ℕ → 
       items_count-append (value_blocks cell_sizes nodes values p) (flat_map (value_blocks cell_sizes nodes values) paths)
       ∙ ap₂ (λ a b. a + b) (own_items p (nodes p)) (all_items paths)
 
--- there are no more entries than cells
+-- there are at most as many entries as slots for values
 pub entries_bound : {T : Type 0} (nodes : List ℕ → Option Node) (values : List ℕ → ℕ → Option T) (paths : List (List ℕ)) (w : Store (Option T)) →
     CellsHold cell_sizes nodes values paths w → entry_count nodes paths ≤ length w.slots
 entries_bound nodes values paths w cells = subst (λ n. n ≤ length w.slots) (all_items nodes values paths) (items_bound None (flat_map (value_blocks cell_sizes nodes values) paths) w cells.sound)

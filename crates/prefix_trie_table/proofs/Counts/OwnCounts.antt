@@ -1,4 +1,4 @@
--- A node has as many children, and as many values of its own, as bits are set in its bitmaps.
+-- The numbers of children and values that contracts see of a node are the numbers of bits set in its bitmaps.
 use Rattle.prefix_trie_table.proofs.Prelude.{◌≡◌, ℕ, zero, suc, ◌+◌, ◌-◌, ◌*◌, ◌/◌, ◌%◌, ◌<◌, ◌≤◌, inl, inr, Bool, true, false, cond, ◌&&◌, nat_lt, ◌==◌, T, List, [], ◌∷◌, ◌++◌, length, length-append, length-drop, drop, map, filter, Option, None, Some, is_some, refl, sym, ap, ap₂, ◌∙◌, subst, arith, eqb-true, eq-eqb, ltb-true, ◌^◌, drop_at, false≢true, cases_Bool, cases_lt, cases_eq, false_from_ne_true, FinMap, empty, get, contains_key, keys, len, entries, entries_sorted, retain_keys, find, is_sorted, get-entries, len-empty, len-insert, len-remove, get-retain_keys, empty_of_len, begins, number, digits, digits-number, length-digits, number-lt, number-bits, same_bool, begins-append, begins-rest, listing_cmp, listing_total, listing_same, same_string, value_bit, child_count, own_entries, Entries, Nodes, has_node, is_node_depth, same_members, same_string-is, is-same_string, has-empty, has-inserted, get-without_entry, and-first, and-second, and-join, or-cases, or-left, or-right, entries-retained, sorted-tail, sorted-head, each-behind, not_itself, value_bit-injective, Node, has_bit, rank, chunks_of, bit_of, Store, NodesHold, CellsHold, has_child, has_value}
 use Rattle.std.proofs.lemmas.Bool.{lt-ltb}
 use Rattle.std.specs.FinMap.{insert, remove}
@@ -19,7 +19,7 @@ some-len n q has = elim (cases_eq (len n) 0) as (λ _. 0 < len n) [
 ]
 
 module _ {X : Type 0} where
-  -- a sorted list has as many entries as a set of the same keys has members
+  -- a sorted list of entries has as many items as a set with the same keys
   same-number : (es : List (List Bool × X)) (n : Nodes) → T (is_sorted listing_cmp es) → ((q : List Bool) → has_node n q ≡ is_some (find listing_cmp q es)) →
       len n ≡ length es
   same-number [] n sorted same = none-find n same
@@ -49,7 +49,7 @@ module _ {X : Type 0} where
         | false ↦ filter-keys test es
       ]
 
--- the items at the set bits of a bitmap below n
+-- the items at the set bits of a bitmap, each different
 module _ (f : ℕ → List Bool) (bitmap : ℕ) (apart : (i j : ℕ) → has_bit bitmap i ≡ true → has_bit bitmap j ≡ true → f i ≡ f j → i ≡ j) where
   abbrev at_bits : ℕ → Nodes
   at_bits zero = empty
@@ -98,7 +98,7 @@ module _ (f : ℕ → List Bool) (bitmap : ℕ) (apart : (i j : ℕ) → has_bit
           len-insert listing_total (at_bits n) (f n) tt ∙ ap (λ b. cond b (len (at_bits n)) (len (at_bits n) + 1)) new ∙ ap (λ k. k + 1) ih
       more false clear ih = omega (arith, ih)
 
-  -- there are as many keys that pass a test as set bits, if they are the items at these bits
+  -- if the keys that pass a test are the items at the set bits, there are as many as bits
   counted : {X : Type 0} (m : FinMap listing_cmp X) (test : List Bool → Bool)
       → ((i : ℕ) → has_bit bitmap i ≡ true → (contains_key m (f i) ≡ true) × (test (f i) ≡ true))
       → ((s : List Bool) → contains_key m s ≡ true → test s ≡ true → (i : ℕ) × (has_bit bitmap i ≡ true) × (s ≡ f i))
@@ -128,25 +128,25 @@ five_more l k e f = omega (arith, e, f)
 cancel : (p s t : List Bool) → p ++ s ≡ p ++ t → s ≡ t
 cancel p s t e = sym (drop_at p s (length p) refl) ∙ ap (drop (length p)) e ∙ drop_at p t (length p) refl
 
--- the rest after p of a string that begins with p
+-- a string that begins with p is p and the rest
 behind : (p s : List Bool) (n : ℕ) → begins p s ≡ true → length s ≡ length p + n → (s ≡ p ++ drop (length p) s) × (length (drop (length p) s) ≡ n)
 behind p s n b l = (begins-rest p s b, (let e = length-drop (length p) s in omega arith))
 
--- the string of a value bit
+-- each value bit is that of a string
 named : (b : ℕ) → (r : List Bool) × (b < 31 → (length r ≤ 4) × (value_bit r ≡ b))
 named b = elim (cases_lt b 31) as (λ _. (r : List Bool) × (b < 31 → (length r ≤ 4) × (value_bit r ≡ b))) [
   | inl small ↦ let r = string_at b small in (r.0, λ _. (r.1, r.2))
   | inr big ↦ ([], λ small. absurd (omega arith))
 ]
 
--- a string p at which a node can be, in a tree
+-- p is the string of a node in a tree
 module _ (sizes : List ℕ) (nodes : List ℕ → Option Node) (paths : List (List ℕ)) (v : Store Node) (hold : NodesHold sizes nodes paths v)
     (p : List Bool) (depth : is_node_depth p ≡ true) where
   long : length p ≡ 5 * (length p / 5)
   long = five_times (length p) (length p / 5) (eqb-true (length p % 5) 0 depth) refl
 
   module _ (n : Nodes) (are : (s : List Bool) → has_node n s ≡ (is_node_depth s && is_some (nodes (chunks_of s)))) where
-    -- it has as many children as bits are set, if the bits are those of its node
+    -- p has as many children as bits are set in its node's bitmap of children
     pub children_counted : (bitmap : ℕ) → ((c : ℕ) → has_child (nodes (chunks_of p)) c ≡ has_bit bitmap c) → child_count n p ≡ rank bitmap 32
     children_counted bitmap bits_are =
         counted (λ c. p ++ digits 5 c) bitmap apart n (λ s. begins p s && (length s == length p + 5)) into from
@@ -184,7 +184,7 @@ module _ (sizes : List ℕ) (nodes : List ℕ → Option Node) (paths : List (Li
 
   module _ {T : Type 0} (values : List ℕ → ℕ → Option T) (w : Store (Option T)) (of : List ℕ) (cells : CellsHold of nodes values paths w) (m : Entries T)
       (are : (s : List Bool) → get m s ≡ values (chunks_of s) (bit_of s)) where
-    -- it has as many values as bits are set, if the bits are those of its node
+    -- p has as many values as bits are set in its node's bitmap of values
     pub values_counted : (bitmap : ℕ) → ((b : ℕ) → has_value (nodes (chunks_of p)) b ≡ has_bit bitmap b) → own_entries m p ≡ rank bitmap 32
     values_counted bitmap bits_are =
         counted (λ b. p ++ (named b).0) bitmap apart m (λ s. begins p s && nat_lt (length s) (length p + 5)) into from

@@ -1,5 +1,5 @@
--- Calling a test on the entries of some places of a node and then of others is calling it on those
--- of all of them.
+-- Calling a test on the entries of some places of a node, and then on those of others, is calling it on the entries of
+-- all of them.
 use Rattle.prefix_trie_table.proofs.Prelude.{◌≡◌, ◌+◌, ◌≤◌, take, drop, length-drop, take-append-drop, Bool, true, false, cond, ◌||◌, nat_lt, List, [], ◌∷◌, ◌++◌, length, None, is_some, refl, sym, ap, ap₂, ◌∙◌, subst, arith, inl, inr, append_assoc, length-append, Less, AllByRecursion, All-head, All-tail, IsStrictlySortedBy, false≢true, cases_lt, le-ltb, append_cancel_left, list_any-append, get, entries, begins, begins-append, begins-refl, begins-rest, begins-from-rest, begins-length, begins-trans, begins-linear, begins-same-length, listing_cmp, same_string, RetainsEntries, CallableOnEachEntry, Entries, part_below, listing_below, pair_of, listing_at_place, listing_at_places, State, or-cases, or-left, or-right, same_string-is, is-same_string, get-part_below, same_entries, entries-retained, not_itself, is_at, is_at_some, is_under, is_under_some, Needs, AsksUpTo, Retains, or_parts}
 use Rattle.std.specs.List.{All}
 use Rattle.std.proofs.lemmas.Bool.{lt-ltb}
@@ -7,7 +7,7 @@ use Rattle.std.proofs.lemmas.Grind.{flat_map-append}
 use Rattle.std.proofs.lemmas.List.{length-take-le}
 use Rattle.prefix_trie_table.proofs.Strings.Plain.{no_or_yes}
 
--- one of one is that one
+-- `b || false` is true only if b is
 pub only_one : (b : Bool) → (b || false) ≡ true → b ≡ true
 only_one true h = refl
 only_one false h = h
@@ -26,7 +26,7 @@ under_value s t q short = ap (λ c. cond c false (begins (s ++ t) q)) (lt-ltb (l
 pub under_child : (s t q : List Bool) → length t ≡ 5 → is_under s t q ≡ begins (s ++ t) q
 under_child s t q five = ap (λ c. cond c false (begins (s ++ t) q)) (le-ltb (length t) 5 (omega arith))
 
--- what goes on from what is under a place is at it
+-- what begins with a string under a place is at the place
 under_at : (s t q k : List Bool) → is_under s t q ≡ true → begins q k ≡ true → is_at s t k ≡ true
 under_at s t q k = go (nat_lt (length t) 5)
   where
@@ -45,7 +45,7 @@ under_at_some s (t ∷ ts) q k h e = elim (or-cases (is_under s t q) (is_under_s
     later true h = refl
     later false h = h
 
--- what is at a place goes on from its string, and so from the node
+-- what is at a place begins with the place's string, and so with the node's
 pub at_goes_on : (s t k : List Bool) → is_at s t k ≡ true → begins (s ++ t) k ≡ true
 at_goes_on s t k = go (nat_lt (length t) 5)
   where
@@ -56,7 +56,7 @@ at_goes_on s t k = go (nat_lt (length t) 5)
 pub at_begins : (s t q : List Bool) → is_at s t q ≡ true → begins s q ≡ true
 at_begins s t q h = begins-trans s (s ++ t) q (begins-append s t) (at_goes_on s t q h)
 
--- what is at one of some places is at a place of them
+-- what is at some places is at one of them
 pub at_some_one : (P : List Bool → Type 0) (s : List Bool) (ts : List (List Bool)) (q : List Bool) → All P ts → is_at_some s ts q ≡ true →
     (t : List Bool) × P t × (is_at s t q ≡ true)
 at_some_one P s [] q all h = absurd (false≢true h)
@@ -65,7 +65,7 @@ at_some_one P s (t ∷ ts) q all h = elim (or-cases (is_at s t q) (is_at_some s 
   | inr later ↦ at_some_one P s ts q (All-tail P t ts all) later
 ]
 
--- the five bits with which a string goes on from another
+-- the five bits that follow c in a longer string q
 pub five_further : (c q : List Bool) → begins c q ≡ true → length c + 5 ≤ length q →
     (length (take 5 (drop (length c) q)) ≡ 5) × (begins (c ++ take 5 (drop (length c) q)) q ≡ true)
 five_further c q below longer = (
@@ -75,7 +75,7 @@ five_further c q below longer = (
       ∙ sym (append_assoc c (take 5 (drop (length c) q)) (drop 5 (drop (length c) q)))),
 )
 
--- a string is at one place of a node
+-- a string is at one place of a node only
 pub one_place : (s t u q : List Bool) → length t ≤ 5 → length u ≤ 5 → is_at s t q ≡ true → is_at s u q ≡ true → t ≡ u
 one_place s t u q short_t short_u ht hu = append_cancel_left s t u (elim (cases_lt (length t) 5) as (λ _. s ++ t ≡ s ++ u) [
   | inl lt ↦
@@ -103,7 +103,7 @@ one_place s t u q short_t short_u ht hu = append_cancel_left s t u (elim (cases_
       ]
 ])
 
--- no string is at the first of some places in listing order and at a later one
+-- no string is at the first of some places in listing order and also at a later one
 less_apart : (s t : List Bool) (ts : List (List Bool)) (q : List Bool) → length t ≤ 5 → All (λ u. length u ≤ 5) ts → AllByRecursion (λ u. listing_cmp t u ≡ Less) ts →
     is_at s t q ≡ true → is_at_some s ts q ≡ true → ⊥
 less_apart s t [] q short all less here later = false≢true later
@@ -120,7 +120,7 @@ apart_first s t ts q short all sorted = less_apart s t ts q short all sorted.0
 -- ---- what the listing has at places
 
 module _ {T : Type 0} where
-  -- below a string the listing depends on the entries there
+  -- what is listed under a string depends only on the entries there
   pub below_same : (m n : Entries T) (q : List Bool) → ((k : List Bool) → begins q k ≡ true → get m k ≡ get n k) → listing_below m q ≡ listing_below n q
   below_same m n q same =
       sym (entries-retained m (begins q))
@@ -131,7 +131,7 @@ module _ {T : Type 0} where
       by k true e = same k e
       by k false e = refl
 
-  -- and at a place on those at the place
+  -- what is listed at a place depends only on the entries there
   pub place_same : (m n : Entries T) (s t : List Bool) → ((k : List Bool) → is_at s t k ≡ true → get m k ≡ get n k) → listing_at_place m s t ≡ listing_at_place n s t
   place_same m n s t = go (nat_lt (length t) 5)
     where
@@ -150,7 +150,7 @@ module _ {T : Type 0} where
 -- ---- the calls
 
 module _ {F T : Type 0} (asks : F → List Bool → T → Bool → F → Type 0) (accepts : F → List Bool → T → Type 0) where
-  -- for no place there are no calls
+  -- for no places there are no calls
   pub none_asked : (s : List Bool) (f : F) (x : State T) → Retains asks accepts s [] f x f x
   none_asked s f x = record {
     kept = [];
@@ -164,12 +164,12 @@ module _ {F T : Type 0} (asks : F → List Bool → T → Bool → F → Type 0)
     needed = λ q h. absurd (false≢true h);
   }
 
-  -- the calls on some entries and then on others are the calls on all
+  -- the calls on some entries and then on others are the calls on all of them
   up_to_both : (f g h : F) (es rest : List (List Bool × T)) → AsksUpTo asks f es g → AsksUpTo asks g rest h → AsksUpTo asks f (es ++ rest) h
   up_to_both f g h [] rest first second = subst (λ x. AsksUpTo asks x rest h) first second
   up_to_both f g h (e ∷ es) rest first second = (first.0, first.1, first.2, up_to_both first.1 g h es rest first.3 second)
 
-  -- if it may be called on some and then on others, it may be called on the first
+  -- if the test may be called on some entries and then on others, it may be called on the first ones
   pub may_ask_first : (f : F) (es rest : List (List Bool × T)) → CallableOnEachEntry asks accepts f (es ++ rest) → CallableOnEachEntry asks accepts f es
   may_ask_first f [] rest h = tt
   may_ask_first f (e ∷ es) rest h = (h.0, λ b g called. may_ask_first g es rest (h.1 b g called))
@@ -210,7 +210,7 @@ module _ {F T : Type 0} (asks : F → List Bool → T → Bool → F → Type 0)
       goes_on = n.goes_on;
     }
 
-    -- what was done at some places and then at others was done at all
+    -- what was done at some places and then at others was done at all of them
     pub asked_both : Retains asks accepts s (ts ++ us) f x h z
     asked_both = record {
       kept = first.kept ++ second.kept;
@@ -238,7 +238,7 @@ module _ {F T : Type 0} (asks : F → List Bool → T → Bool → F → Type 0)
           ];
     }
 
-  -- if it may be called on all, it may be called on the others after the first
+  -- if the test may be called on all entries, it may be called on the others after the first ones
   pub may_ask_then : (s : List Bool) (ts us : List (List Bool)) (f g : F) (x y : State T) → Retains asks accepts s ts f x g y →
       ((q : List Bool) → is_at_some s ts q ≡ true → is_at_some s us q ≡ true → ⊥) →
       CallableOnEachEntry asks accepts f (listing_at_places x.entries s (ts ++ us)) → CallableOnEachEntry asks accepts g (listing_at_places y.entries s us)

@@ -1,4 +1,4 @@
--- Calling a test on one value, on all places of a node, and under a child.
+-- Calling a test on one value, on all places of a node, and on what is under a child: for the loop of `retain`.
 use Rattle.prefix_trie_table.proofs.Prelude.{◌≡◌, ℕ, ◌+◌, ◌%◌, ◌≤◌, Bool, true, false, cond, ◌||◌, List, [], ◌∷◌, ◌++◌, length, take, drop, get_or, None, Some, refl, sym, ap, ◌∙◌, subst, arith, inl, inr, append-nil, false≢true, cases_Bool, true_from_ne_false, Contains-get_or, list_any_at, get, begins, begins-refl, begins-append, begins-length, begins-same-length, same_string, is_in, places, RetainsEntries, CallableOnEachEntry, Entries, without_entry, listing, listing_below, listing_at_place, listing_at_places, Nodes, AreNodes, has_node, needed, State, get-without_entry, same_string-is, is-same_string, same_nodes, needs_root, listing_by_node_places, listing_at_value, listing_at_no_value, listing_at_child, listing_of_root, is_at, is_at_some, is_under, is_under_some, Needs, AsksUpTo, Retains, or_parts}
 use Rattle.std.specs.List.{All, Contains}
 use Rattle.prefix_trie_bits.proofs.Model.Members.{needs}
@@ -12,11 +12,11 @@ module _ {F T : Type 0} (asks : F → List Bool → T → Bool → F → Type 0)
   value_here : listing_at_places x.entries s (t ∷ []) ≡ (s ++ t, v) ∷ []
   value_here = append-nil (listing_at_place x.entries s t) ∙ listing_at_value x.entries s t v short stored
 
-  -- it may be called on the value
+  -- the test may be called on the value
   pub may_ask_value : (f : F) → CallableOnEachEntry asks accepts f (listing_at_places x.entries s (t ∷ [])) → accepts f (s ++ t) v
   may_ask_value f may = (subst (CallableOnEachEntry asks accepts f) value_here may).0
 
-  -- the value stays
+  -- if the test returns true, the value stays
   pub value_stays : (f g : F) → asks f (s ++ t) v true g → Retains asks accepts s (t ∷ []) f x g x
   value_stays f g called = record {
     kept = (s ++ t, v) ∷ [];
@@ -30,7 +30,7 @@ module _ {F T : Type 0} (asks : F → List Bool → T → Bool → F → Type 0)
     needed = λ q under there. absurd (false≢true (sym (ap (λ b. b || false) (under_value s t q short)) ∙ under));
   }
 
-  -- the value goes
+  -- if the test returns false, the value is removed
   pub value_goes : (f g : F) → asks f (s ++ t) v false g → Retains asks accepts s (t ∷ []) f x g (record { entries = without_entry x.entries (s ++ t); nodes = x.nodes })
   value_goes f g called = record {
     kept = [];
@@ -65,7 +65,7 @@ module _ {F T : Type 0} (asks : F → List Bool → T → Bool → F → Type 0)
   below_before : listing_at_places x.entries c ts ≡ listing_below x.entries c
   below_before = ap (listing_at_places x.entries c) all ∙ listing_by_node_places x.entries c values children unset
 
-  -- what is at a place that is not among these is as it was
+  -- what is at other places of the node is unchanged
   at_other : (u k : List Bool) → length u ≤ 5 → is_in values children u ≡ false → is_at c u k ≡ true → get y.entries k ≡ get x.entries k
   at_other u k short clear at = retains.others k (no_or_yes (is_at_some c ts k) (λ some.
       let one = at_some_one (λ u. (length u ≤ 5) × (is_in values children u ≡ true)) c ts k each_place some in
@@ -88,7 +88,7 @@ module _ {F T : Type 0} (asks : F → List Bool → T → Bool → F → Type 0)
   off_nodes : (q : List Bool) → begins c q ≡ false → has_node y.nodes q ≡ has_node x.nodes q
   off_nodes q off = retains.off q (no_or_yes (is_under_some c ts q) (λ some. off_at q off (under_at_some c ts q q some (begins-refl q))))
 
-  -- each node below is needed
+  -- each node under the child is needed
   pub needed_below : (q : List Bool) → begins c q ≡ true → (q ≡ c → ⊥) → has_node y.nodes q ≡ true → Needs y.entries q
   needed_below q below ne there = retains.needed q under there
     where
@@ -110,8 +110,8 @@ module _ {F T : Type 0} (asks : F → List Bool → T → Bool → F → Type 0)
           list_any_at (λ t. is_under c t q) ts h.0 (take 5 (drop (length c) q)) h.1
           (ap (λ t. is_under c t q) h.2 ∙ under_child c (take 5 (drop (length c) q)) q further.0 ∙ further.1)
 
-  -- so the calls on all of them are the calls under the child at a place of the node above; the
-  -- child goes unless it is needed
+  -- so the calls on all places of the child are the calls at its place in the node above, and the child is removed
+  -- unless it is needed
   module _ (s t : List Bool) (five : length t ≡ 5) (is : c ≡ s ++ t) (later : Nodes) (fewer : (q : List Bool) → has_node later q ≡ true → has_node y.nodes q ≡ true)
       (stays : (q : List Bool) → (q ≡ c → ⊥) → has_node later q ≡ has_node y.nodes q) (own : has_node later c ≡ true → Needs y.entries c) where
     place_is : (m : Entries T) → listing_at_places m s (t ∷ []) ≡ listing_below m c

@@ -1,4 +1,5 @@
--- Calling a test under a child of the current node, and removing the child if nothing is left.
+-- Calling a test under a child of the current node, and removing the child if nothing is left in it: for the loop of
+-- `retain`.
 use Rattle.prefix_trie_table.proofs.Prelude.{◌≡◌, ◌↔◌, ℕ, ◌+◌, ◌-◌, ◌/◌, ◌%◌, ◌<◌, ◌≤◌, Bool, true, false, not, ◌&&◌, List, [], ◌∷◌, ◌++◌, length, take, Option, None, Some, is_some, refl, sym, ap, ◌∙◌, subst, arith, inl, inr, length-append, append-nil, eqb-true, false≢true, begins, number, digits, zeros, begins-append, begins-trans, digits-number, length-digits, number-bits, take-extend, same_string, has, ones_below, is_in, places, Place, CallableOnEachEntry, listing_at_place, listing_at_places, listing_below, has_node, is_node_depth, State, and-second, same_string-is, is-same_string, has-removed, listing_at_child, Node, Site, has_bit, rank, node_at, node_sizes, chunks_of, Store, read, child_slot, Holds, SomeTable, IsSlot, at_child, NodesHold, entry_count, without, with_child_removed, IsBare, IsStocked, ChildDropped, Drops, none, more, IsPlaceOf, HasPlace, IsSite, Needs, RetainsTo, PreservesBelow, BlocksBetween, IsTrie, Grows, IsShapeOf}
 use Rattle.std.specs.List.{Contains}
 use Rattle.std.specs.FinMap.{remove}
@@ -74,7 +75,7 @@ module _ {K T : Type 0} (IsKey : K → Type 0) (bits : K → List Bool) (width :
       ap (λ u. chunks_of (take p.depth (bits p.key) ++ u)) (sym (digits-number t) ∙ (λ i. digits (five i) (sym c_is i)))
       ∙ step_below (p.depth / 5) (take p.depth (bits p.key)) c (here_levels IsKey bits width v p n at long) child_small
 
-  -- the child's bit
+  -- the bit of the child is set
   pub child_there : has_bit n.child_bitmap c ≡ true
   child_there = has_bit-is n.child_bitmap c child_small ∙ set
 
@@ -109,7 +110,7 @@ module _ {K T : Type 0} (IsKey : K → Type 0) (bits : K → List Bool) (width :
           (at_child (chunks_of (take p.depth (bits p.key))) c n at.stands child_there));
     }
 
-    -- all that is at the place is below the child
+    -- everything at the place is under the child
     pub may_ask_lower : {F : Type 0} (asks : F → List Bool → T → Bool → F → Type 0) (accepts : F → List Bool → T → Type 0) (f : F) (ts : List (List Bool)) →
         ts ≡ places lower.value_bitmap lower.child_bitmap → CallableOnEachEntry asks accepts f (listing_at_places s.entries (take p.depth (bits p.key)) (t ∷ [])) →
         CallableOnEachEntry asks accepts f (listing_at_places s.entries (take b.depth (bits b.key)) ts)
@@ -120,7 +121,7 @@ module _ {K T : Type 0} (IsKey : K → Type 0) (bits : K → List Bool) (width :
         ∙ sym (all_places width v (record { count = count; cells = w; shape = s }) trie (take b.depth (bits b.key)) lower (here_whole IsKey bits width v b lower lower_site long_b) lower_site.stands)
         ∙ ap (listing_at_places s.entries (take b.depth (bits b.key))) (sym all)) may
 
-    -- what the calls under it left
+    -- what the calls under the child left
     module _ {F : Type 0} (asks : F → List Bool → T → Bool → F → Type 0) (accepts : F → List Bool → T → Type 0) (ts : List (List Bool))
         (all : ts ≡ places lower.value_bitmap lower.child_bitmap) (each : (u : List Bool) → Contains ts u ↔ IsPlaceOf lower u)
         (f g : F) (count2 : ℕ) (v2 : Store Node) (w2 : Store (Option T)) (to : RetainsTo asks accepts width (take b.depth (bits b.key)) ts f s g count2 v2 w2)
@@ -134,7 +135,7 @@ module _ {K T : Type 0} (IsKey : K → Type 0) (bits : K → List Bool) (width :
           site_stays IsKey bits width v p n at long v2 n (λ q less. preserves.above q (omega (arith, less, deeper)))
           (preserves.above (chunks_of (take p.depth (bits p.key))) (omega (arith, path_levels IsKey bits width v p n at long, deeper)) ∙ at.stands)
 
-      -- no array is shorter, and the nodes above are as they were
+      -- no array is shorter, and the nodes above are unchanged
       pub still_preserved : PreservesBelow (p.depth / 5) v v2 w w2
       still_preserved = record {
         above = λ q less. preserves.above q (omega (arith, less, deeper));
@@ -157,7 +158,7 @@ module _ {K T : Type 0} (IsKey : K → Type 0) (bits : K → List Bool) (width :
       below_needed =
           needed_below asks accepts (take b.depth (bits b.key)) lower.value_bitmap lower.child_bitmap ts all (λ u m. (each u).0 m) (λ u h k. (each u).1 (h, k)) f g s to.after to.retains unset_b bare_b whole_b trie.nodes.depths
 
-      -- a child with a value or a child of its own is needed
+      -- a child with a value or with a child of its own is needed
       stocked_needed : IsStocked left → Needs to.after.entries (take b.depth (bits b.key))
       stocked_needed (inl some) =
           let bit = some_bit left.value_bitmap some in
@@ -188,7 +189,7 @@ module _ {K T : Type 0} (IsKey : K → Type 0) (bits : K → List Bool) (width :
             goes_on = begins-trans (take b.depth (bits b.key)) (take b.depth (bits b.key) ++ digits 5 bit.0) need.key (begins-append (take b.depth (bits b.key)) (digits 5 bit.0)) need.goes_on;
           }
 
-      -- if it is needed it stays
+      -- such a child stays
       pub child_stays : IsStocked left → RetainsTo asks accepts width (take p.depth (bits p.key)) (t ∷ []) f s g count2 v2 w2
       child_stays some = record {
         after = to.after;
@@ -198,7 +199,7 @@ module _ {K T : Type 0} (IsKey : K → Type 0) (bits : K → List Bool) (width :
             (take p.depth (bits p.key)) t five lower_string to.after.nodes (λ q h. h) (λ q ne. refl) (λ there. stocked_needed some);
       }
 
-      -- if it is bare it goes
+      -- a child with neither is removed
       module _ (bare : IsBare left) (m : Node) (v3 : Store Node)
           (dropped : (reading : List ℕ → Option Node) (paths : List (List ℕ)) (q : List ℕ) (k leaf : Node) → NodesHold node_sizes reading paths v2 →
           IsSlot reading q (p.slot.start + p.slot.offset) → reading q ≡ Some k → reading (q ++ c ∷ []) ≡ Some leaf → rank leaf.child_bitmap 32 ≡ 0 →

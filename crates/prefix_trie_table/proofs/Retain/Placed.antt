@@ -1,4 +1,4 @@
--- The places of the current node, as its table has them, and one turn of the calls on them.
+-- The places of the current node, and one iteration of the loop over them: for `retain`.
 use Rattle.prefix_trie_table.proofs.Prelude.{◌≡◌, ℕ, ◌/◌, ◌≤◌, Bool, true, false, cond, ◌&&◌, ◌==◌, List, [], ◌∷◌, ◌++◌, length, take, Option, is_some, refl, sym, ap, ap₂, ◌∙◌, subst, arith, inl, inr, append-nil, length-append, Less, IsStrictlySortedBy, false≢true, cases_lt, le-ltb, All-head, All-tail, All-weaker, All-from_recursion, list_any-append, get, begins, number, digits, digits-number, listing_cmp, has, value_bit, is_in, place_of, Child, CallableOnEachEntry, listing_at_place, listing_at_places, has_node, is_node_depth, State, value_bit-injective, value_bit-small, or-cases, or-left, or-right, is-same_string, not_itself, begins-refl, Node, Site, chunks_of, bit_of, Store, read, has_value, has_child, same_shape, IsPlaceOf, is_at, is_at_some, is_under_some, IsSite, Retains, RetainsIn, MayAskAt, PreservesBelow, IsTrie, Value}
 use Rattle.std.specs.List.{All}
 use Rattle.std.proofs.lemmas.Bool.{lt-ltb}
@@ -15,7 +15,7 @@ use Rattle.prefix_trie_table.proofs.Tree.Shapes.{shape_entries, shape_nodes, rea
 use Rattle.prefix_trie_table.proofs.Walk.Spots.{place-value, place-child}
 use Rattle.prefix_trie_table.proofs.Tree.Subtrees.{unset, is_in-value, is_in-child, number-small}
 
--- a place is that of one string
+-- strings with the same place are equal
 pub same_place : (s t : List Bool) → length s ≤ 5 → length t ≤ 5 → place_of s ≡ place_of t → s ≡ t
 same_place s t short_s short_t e = elim (cases_lt (length s) 5) as (λ _. s ≡ t) [
   | inl less ↦
@@ -59,11 +59,11 @@ module _ {K T : Type 0} (IsKey : K → Type 0) (bits : K → List Bool) (width :
       ∙ ap (λ o. has_child o (number t)) (sym (reads_node h.reading h.values h.paths v w h.holds (chunks_of (take p.depth (bits p.key)))) ∙ at.stands)
       ∙ has_bit-is n.child_bitmap (number t) small
 
-  -- at a place that the node does not have is nothing
+  -- nothing is listed at a place whose bit is clear
   pub nothing_at : (u : List Bool) → length u ≤ 5 → is_in n.value_bitmap n.child_bitmap u ≡ false → listing_at_place s.entries (take p.depth (bits p.key)) u ≡ []
   nothing_at = unset width v (record { count = count; cells = w; shape = s }) trie (take p.depth (bits p.key)) n (here_whole IsKey bits width v p n at long) at.stands
 
-  -- and there is no node under it
+  -- there is no node under such a place
   pub none_below_it : (u q : List Bool) → length u ≡ 5 → is_in n.value_bitmap n.child_bitmap u ≡ false → begins (take p.depth (bits p.key) ++ u) q ≡ true → has_node s.nodes q ≡ true → ⊥
   none_below_it u q five clear begun there =
       false≢true (sym clear ∙ is_in-child n.value_bitmap n.child_bitmap u five ∙ sym (child_iff u five)
@@ -82,7 +82,7 @@ module _ {K T F : Type 0} (IsKey : K → Type 0) (bits : K → List Bool) (width
   not_under t q short ne here = no_or_yes (is_under_some (take p.depth (bits p.key)) (u ∷ []) q) (λ e.
       false≢true (sym (not_there t q short ne here) ∙ under_at_some (take p.depth (bits p.key)) (u ∷ []) q q e (begins-refl q)))
 
-  -- after the calls on one of its places the node still has its others
+  -- after the calls at one of its places, the node still has its other places
   pub place_kept : (t : List Bool) → (t ≡ u → ⊥) → IsPlaceOf n t → IsPlaceOf m t
   place_kept t ne is = (
     is.0,
@@ -109,7 +109,7 @@ module _ {K T F : Type 0} (IsKey : K → Type 0) (bits : K → List Bool) (width
 
 -- ---- one turn
 
--- if the places done and those to come are apart, they are so with one more done
+-- if the places that are done and those to come are apart, they are so after one more is done
 pub apart_more : (s u : List Bool) (before rest : List (List Bool)) → length u ≤ 5 → All (λ t. length t ≤ 5) rest → IsStrictlySortedBy listing_cmp (u ∷ rest) →
     ((q : List Bool) → is_at_some s before q ≡ true → is_at_some s (u ∷ rest) q ≡ true → ⊥) →
     (q : List Bool) → is_at_some s (before ++ u ∷ []) q ≡ true → is_at_some s rest q ≡ true → ⊥
@@ -150,7 +150,7 @@ module _ {K T F : Type 0} (IsKey : K → Type 0) (bits : K → List Bool) (width
       (All-weaker (IsPlaceOf n) (λ t. length t ≤ 5) (λ t h. h.0) rest (All-tail (IsPlaceOf n) u rest each_now)) sorted_now apart_now
 
   module _ (s : State T) (trie : IsTrie width count0 v0 w0 s) where
-    -- the test may be called on the next place
+    -- the test may be called at the next place
     pub may_ask_this : MayAskAt asks accepts width (take p.depth (bits p.key)) (before ++ ts) f0 count0 v0 w0 → (t : List Bool) → length t ≤ 5 → place_of u ≡ place_of t →
         MayAskAt asks accepts width (take p.depth (bits p.key)) (t ∷ []) f count v w
     may_ask_this may t few same x is =
@@ -166,7 +166,7 @@ module _ {K T F : Type 0} (IsKey : K → Type 0) (bits : K → List Bool) (width
 
     module _ (at : IsSite IsKey bits width v p n) (m : Node) (g : F) (count2 : ℕ) (v2 : Store Node) (w2 : Store (Option T)) (later : IsSite IsKey bits width v2 p m)
         (turn : RetainsIn asks accepts width (take p.depth (bits p.key)) (u ∷ []) f count v w g count2 v2 w2) where
-      -- the node has the places that are still to come
+      -- the node still has the places to come
       pub each_next : All (IsPlaceOf m) rest
       each_next =
           let one = done s trie in
@@ -175,7 +175,7 @@ module _ {K T F : Type 0} (IsKey : K → Type 0) (bits : K → List Bool) (width
           (λ t here ne. place_kept IsKey bits width asks accepts p long v n at count w one.after one.trie v2 m later count2 w2 two.after two.trie f g u short two.retains t ne here)
           (All-tail (IsPlaceOf n) u rest each_now) (not_in_rest u rest sorted_now)
 
-  -- one more is done
+  -- one more place is done
   pub done_next : (g : F) (count2 : ℕ) (v2 : Store Node) (w2 : Store (Option T)) →
       RetainsIn asks accepts width (take p.depth (bits p.key)) (u ∷ []) f count v w g count2 v2 w2 →
       RetainsIn asks accepts width (take p.depth (bits p.key)) (before ++ u ∷ []) f0 count0 v0 w0 g count2 v2 w2
@@ -188,7 +188,7 @@ module _ {K T F : Type 0} (IsKey : K → Type 0) (bits : K → List Bool) (width
         retains = asked_both asks accepts (take p.depth (bits p.key)) before (u ∷ []) f0 f g s one.after two.after one.retains two.retains apart_this;
       }
 
--- arrays that last twice last
+-- two calls that preserve the arrays preserve them together
 pub preserves_both : {T : Type 0} (level : ℕ) (v v2 v3 : Store Node) (w w2 w3 : Store (Option T)) → PreservesBelow level v v2 w w2 → PreservesBelow level v2 v3 w2 w3 → PreservesBelow level v v3 w w3
 preserves_both level v v2 v3 w w2 w3 a b = record {
   above = λ q less. b.above q less ∙ a.above q less;

@@ -1,4 +1,4 @@
--- What a table is after a test was called on a place of a node.
+-- What the table is after a test was called at a place of a node: for `retain`.
 use Rattle.prefix_trie_table.proofs.Prelude.{◌≡◌, ℕ, ◌+◌, ◌-◌, ◌*◌, ◌/◌, ◌%◌, ◌<◌, ◌≤◌, Bool, true, ◌==◌, List, [], ◌++◌, length, take, drop, Option, None, Some, is_some, refl, sym, ap, ap₂, ◌∙◌, subst, arith, inl, inr, eqb-true, get, false≢true, true_from_ne_false, begins, begins-rest, has, value_bit, without_entry, AreNodes, has_node, is_node_depth, State, and-first, and-second, needed_for, AreNodes-without_entry, removed_fewer, value_bit-small, Node, Site, has_bit, node_at, node_sizes, cell_sizes, chunks_of, bit_of, Store, read, value_of, has_value, one_if, Holds, SomeTable, IsSlot, NodesHold, CellsHold, SomeNodes, IsNodeAt, with_node, ValueTaken, EntryTaken, IsShapeOf, ForHeld, Grows, IsSite, BlocksBetween, IsTrie}
 use Rattle.std.proofs.lemmas.List.{length-take-le}
 use Rattle.prefix_trie_table.proofs.Strings.Plain.{both_true}
@@ -16,19 +16,19 @@ use Rattle.prefix_trie_table.proofs.Tree.Trees.{is_none-None, read-nil, reads, s
 
 -- ---- nodes and their slots
 
--- if a node is there, so are those above it
+-- if a node exists, so do those above it
 pub read_up : (nodes : List Node) (q k : List Bool) → length q % 5 ≡ 0 → begins q k ≡ true → is_some (read nodes (chunks_of k)) ≡ true → is_some (read nodes (chunks_of q)) ≡ true
 read_up nodes q k whole begun there = true_from_ne_false (is_some (read nodes (chunks_of q))) (λ miss.
     let way : chunks_of k ≡ chunks_of q ++ chunks_of (drop (length q) k) = ap chunks_of (begins-rest q k begun) ∙ path-append q (drop (length q) k) whole in
     false≢true (sym (ap is_some (ap (read nodes) way ∙ read-missing nodes (chunks_of q) (chunks_of (drop (length q) k)) (is_none-None (read nodes (chunks_of q)) miss))) ∙ there))
 
 module _ {T : Type 0} where
-  -- a value is in a node
+  -- a value is in a node that exists
   pub value_reads : (cells : List (Option T)) (o : Option Node) (b : ℕ) → is_some (value_of cells o b) ≡ true → is_some o ≡ true
   value_reads cells None b h = h
   value_reads cells (Some n) b h = refl
 
-  -- the nodes of an array are a set of nodes
+  -- the nodes of an array can be those of a map
   pub are_nodes : (width : ℕ) (v : Store Node) (w : Store (Option T)) (s : State T) → IsShapeOf v.slots w.slots s →
       ((q : List Bool) → has_node s.nodes q ≡ true → length q ≤ width) → AreNodes width s.entries s.nodes
   are_nodes width v w s is within = record {
@@ -50,7 +50,7 @@ module _ {T : Type 0} where
       stand : (q : List Bool) → length q % 5 ≡ 0 → is_some (read v.slots (chunks_of q)) ≡ true → has_node s.nodes q ≡ true
       stand q whole there = is.0 q ∙ both_true (is_node_depth q) (is_some (read v.slots (chunks_of q))) (ap (λ k. k == 0) whole) there
 
-  -- the table read by the array itself
+  -- the nodes and values that the array itself gives are those that it holds
   pub read_held : (reading : List ℕ → Option Node) (values : List ℕ → ℕ → Option T) (paths : List (List ℕ)) (v : Store Node) (w : Store (Option T)) →
       Holds reading values paths v w → Holds (read v.slots) values paths v w
   read_held reading values paths v w holds = subst (λ (f : List ℕ → Option Node). Holds f values paths v w) (λ i q. sym (reads_node reading values paths v w holds q) i) holds
@@ -71,7 +71,7 @@ module _ {K : Type 0} (IsKey : K → Type 0) (bits : K → List Bool) (width : �
   pub path_levels : length (chunks_of (take p.depth (bits p.key))) ≡ p.depth / 5
   path_levels = let w = at.within in steps-all (bits p.key) p.depth (omega (arith, w, long))
 
-  -- it stays the current node while the nodes above it stay
+  -- the current node stays the current node if the nodes above it stay
   pub site_stays : (v2 : Store Node) (m : Node) → ((q : List ℕ) → length q < p.depth / 5 → read v2.slots q ≡ read v.slots q) →
       read v2.slots (chunks_of (take p.depth (bits p.key))) ≡ Some m → IsSite IsKey bits width v2 p m
   site_stays v2 m above stands = record {
@@ -133,7 +133,7 @@ module _ {K : Type 0} (IsKey : K → Type 0) (bits : K → List Bool) (width : �
             holds.cells.set_where (chunks_of (take p.depth (bits p.key) ++ t)) (bit_of (take p.depth (bits p.key) ++ t))
             ∙ ap₂ has_value node_there key_bit ∙ bit_set
 
-      -- what it leaves if it is removed
+      -- what is left if the value is removed
       module _ (removed : Option T) (m : Node) (v2 : Store Node) (w2 : Store (Option T)) (count2 : ℕ)
           (gives : (reading : List ℕ → Option Node) (paths : List (List ℕ)) (values : List ℕ → ℕ → Option T) (q : List ℕ) (k : Node) → NodesHold node_sizes reading paths v →
           CellsHold cell_sizes reading values paths w → IsSlot reading q (p.slot.start + p.slot.offset) → reading q ≡ Some k → removed ≡ values q (value_bit t))
@@ -156,13 +156,13 @@ module _ {K : Type 0} (IsKey : K → Type 0) (bits : K → List Bool) (width : �
             (value_taken reading values paths v w holds (chunks_of (take p.depth (bits p.key) ++ t)) (bit_of (take p.depth (bits p.key) ++ t)) n m v2 w2
             (node_there reading paths values holds) (some_there reading paths values holds) (taken_with reading paths values holds)).0
 
-        -- the nodes: this one changed, and no other
+        -- this node changed, and no other node did
         read_after : (q : List ℕ) → read v2.slots q ≡ with_node (read v.slots) (chunks_of (take p.depth (bits p.key) ++ t)) m q
         read_after q =
             let a = taken_with (read v.slots) held_table.paths held_table.values read_table in
             reads node_sizes (with_node (read v.slots) (chunks_of (take p.depth (bits p.key) ++ t)) m) held_table.paths v2 a.hold q
 
-        -- what becomes of the sizes of blocks
+        -- how the sizes of blocks changed
         pub blocks_after : (q : List ℕ) → BlocksBetween (read v.slots q) (read v2.slots q)
         blocks_after q =
             subst (BlocksBetween (read v.slots q)) (sym (read_after q))
@@ -180,7 +180,7 @@ module _ {K : Type 0} (IsKey : K → Type 0) (bits : K → List Bool) (width : �
             read_after (chunks_of (take p.depth (bits p.key)))
             ∙ with_here (read v.slots) (chunks_of (take p.depth (bits p.key) ++ t)) m (chunks_of (take p.depth (bits p.key))) (sym key_path)
 
-        -- there was one
+        -- there was a value
         pub some_counted : 0 < count
         some_counted =
             let a = taken held_table.reading held_table.paths held_table.values held_table.holds in

@@ -1,5 +1,4 @@
--- The value at a bit of the current node: its cell, its key, and what calling the test on it
--- leaves.
+-- The value at a bit of the current node: its slot, its key, and what calling the test on it leaves.
 use Rattle.prefix_trie_table.proofs.Prelude.{◌≡◌, ℕ, ◌+◌, ◌-◌, ◌/◌, ◌<◌, ◌≤◌, Bool, true, false, cond, List, [], ◌∷◌, ◌++◌, length, take, get_or, Option, None, Some, is_some, sym, ap, ap₂, ◌∙◌, subst, arith, get_or_default, get, digits, zeros, length-digits, take-extend, has, ones_below, value_bit, CallableOnEachEntry, without_entry, listing_at_places, State, Node, Site, rank, Store, Grows, IsTrie, read, value_in, value_of, NodesHold, CellsHold, IsSlot, node_sizes, cell_sizes, ValueTaken, IsSite, RetainsTo, BlocksBetween}
 use Rattle.prefix_trie_table.proofs.Tree.Invariant.{some_table}
 use Rattle.prefix_trie_table.proofs.Retain.AskedBelow.{may_ask_value, value_stays, value_goes}
@@ -39,14 +38,14 @@ module _ {K T : Type 0} (IsKey : K → Type 0) (bits : K → List Bool) (width :
       ∙ ap (λ b. cond b (get_or w.slots (node.value_block + rank node.value_bitmap (value_bit (digits n x))) None) None)
       (bit_set IsKey bits width v p node at long count w s trie (digits n x) short set_there)
 
-  -- what the cell holds is stored
+  -- the value in the slot is the stored one
   pub value_got : (offset : ℕ) (o : Option T) → offset ≡ ones_below bit node.value_bitmap → o ≡ get_or w.slots (node.value_block + offset) o →
       get s.entries (take p.depth (bits p.key) ++ digits n x) ≡ o
   value_got offset o is held =
       cell_is ∙ ap (λ k. get_or w.slots (node.value_block + k) None) (place_rank offset is)
       ∙ get_or_default w.slots (node.value_block + offset) None o (value_slot offset is) ∙ sym held
 
-  -- and there is one
+  -- there is a value
   pub value_some : is_some (get s.entries (take p.depth (bits p.key) ++ digits n x)) ≡ true
   value_some =
       ap is_some (shape_entries trie.table.reading trie.table.values trie.table.paths v w (some_table trie.table).holds s trie.shaped (take p.depth (bits p.key) ++ digits n x))
@@ -72,7 +71,7 @@ module _ {K T : Type 0} (IsKey : K → Type 0) (bits : K → List Bool) (width :
       may_ask_here may =
           subst (λ k. accepts f k value) (sym key_taken) (may_ask_value asks accepts (take p.depth (bits p.key)) (digits n x) short s value got f may)
 
-      -- if the result is true everything stays
+      -- if the result is true, everything stays
       pub stays_here : (g : F) (b : Bool) → asks f (take (p.depth + n) (bits key)) value b g → b ≡ true →
           RetainsTo asks accepts width (take p.depth (bits p.key)) (digits n x ∷ []) f s g count v w
       stays_here g b called is = record {
@@ -83,7 +82,7 @@ module _ {K T : Type 0} (IsKey : K → Type 0) (bits : K → List Bool) (width :
             (subst (λ k. asks f k value true g) key_taken (subst (λ c. asks f (take (p.depth + n) (bits key)) value c g) is called));
       }
 
-      -- if it is false the entry goes
+      -- if the result is false, the entry is removed
       pub goes_here : (g : F) (b : Bool) (count2 : ℕ) (v2 : Store Node) (w2 : Store (Option T)) → asks f (take (p.depth + n) (bits key)) value b g → b ≡ false →
           IsTrie width count2 v2 w2 (record { entries = without_entry s.entries (take p.depth (bits p.key) ++ digits n x); nodes = s.nodes }) →
           RetainsTo asks accepts width (take p.depth (bits p.key)) (digits n x ∷ []) f s g count2 v2 w2
@@ -95,7 +94,7 @@ module _ {K T : Type 0} (IsKey : K → Type 0) (bits : K → List Bool) (width :
             (subst (λ k. asks f k value false g) key_taken (subst (λ c. asks f (take (p.depth + n) (bits key)) value c g) is called));
       }
 
-  -- the entry that is taken
+  -- the value that is removed from its slot
   module _ (removed : Option T) (m : Node) (v2 : Store Node) (w2 : Store (Option T))
       (gives : (reading : List ℕ → Option Node) (paths : List (List ℕ)) (values : List ℕ → ℕ → Option T) (q : List ℕ) (k : Node) → NodesHold node_sizes reading paths v →
       CellsHold cell_sizes reading values paths w → IsSlot reading q (p.slot.start + p.slot.offset) → reading q ≡ Some k → removed ≡ values q bit)
@@ -115,7 +114,7 @@ module _ {K T : Type 0} (IsKey : K → Type 0) (bits : K → List Bool) (width :
     pub counted_here : 0 < count
     counted_here = some_counted IsKey bits width v p node at long count w s trie (digits n x) short set_there removed m v2 w2 0 gives_here takes_here
 
-    -- it is the value there
+    -- it is the stored value
     pub taken_here : get s.entries (take p.depth (bits p.key) ++ digits n x) ≡ removed
     taken_here = removed_is IsKey bits width v p node at long count w s trie (digits n x) short set_there removed m v2 w2 0 gives_here takes_here
 

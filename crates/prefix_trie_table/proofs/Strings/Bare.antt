@@ -1,10 +1,10 @@
--- Bitmaps that lose a bit, and those without any.
+-- Bitmaps that lose a bit, and bitmaps without bits: for removals.
 use Rattle.prefix_trie_table.proofs.Prelude.{◌≡◌, ◌≢◌, ℕ, zero, suc, ◌+◌, ◌<◌, inl, inr, true, false, ◌||◌, length, length-append, sym, ap, ◌∙◌, arith, cases_Bool, Sets, has_bit, if_set, bits_below, rank}
 use Rattle.prefix_trie_table.proofs.Strings.Bits.{has_bit-is, has_bit-sets, has_bit-below}
 use Rattle.prefix_trie_table.proofs.Strings.BitLists.{rank-below, rank-more-one}
 use Rattle.prefix_trie_table.proofs.Tree.Children.{other_number}
 
--- a bitmap that has lost the bit b
+-- the bitmap `left` is `old` without bit b
 module _ (left old b : ℕ) (sets : Sets left b old) (small : b < 32) where
   pub cleared : has_bit left b ≡ false
   cleared = has_bit-is left b small ∙ sets.clear
@@ -34,7 +34,7 @@ some_below bitmap (suc n) h = elim (cases_Bool (has_bit bitmap n)) as (λ _. (i 
       some_below bitmap n (omega (arith, h, none, length-append (bits_below bitmap n) (if_set (has_bit bitmap n) n)))
 ]
 
--- and any other has one
+-- each other bitmap has a bit
 pub some_bit : (bitmap : ℕ) → 0 < rank bitmap 32 → (i : ℕ) × (has_bit bitmap i ≡ true)
 unfolding rank
 some_bit bitmap h = some_below bitmap 32 h

@@ -1,9 +1,9 @@
--- The items for the set bits of a bitmap when one bit is set or cleared.
+-- The list of items at the set bits of a bitmap, when one bit is set or cleared: for the blocks of nodes and values.
 use Rattle.prefix_trie_table.proofs.Prelude.{◌≡◌, ◌≢◌, ℕ, zero, suc, ◌+◌, ◌-◌, ◌<◌, ◌≤◌, ⊎_elim, Bool, true, false, cond, List, [], ◌∷◌, ◌++◌, length, get_or, set, map, insert, remove, refl, sym, ap, ◌∙◌, subst, arith, append_assoc, length-append, map-append, length-map, get_or_at, set_at, cases_eq, insert-append_right, remove-append_right, length-insert, has_bit, if_set, bits_below, bits, rank}
 use Rattle.std.proofs.lemmas.List.{append-nil}
 use Rattle.prefix_trie_table.proofs.Strings.Bits.{has_bit-zero, if_set-length}
 
--- the set bits among the k from b on
+-- the set bits among the k bits from b on
 abbrev bits_from : ℕ → ℕ → ℕ → List ℕ
 bits_from bitmap b zero = []
 bits_from bitmap b (suc k) = bits_from bitmap b k ++ if_set (has_bit bitmap (b + k)) (b + k)
@@ -15,7 +15,7 @@ bits_cut bitmap b (suc k) =
     ap (λ n. bits_below bitmap n) e ∙ ap (λ xs. xs ++ if_set (has_bit bitmap (b + k)) (b + k)) (bits_cut bitmap b k)
     ∙ append_assoc (bits_below bitmap b) (bits_from bitmap b k) (if_set (has_bit bitmap (b + k)) (b + k))
 
--- the set bits below b, b if it is set, and those above
+-- the set bits are those below b, b itself if it is set, and those above b
 bits_round : (bitmap b : ℕ) → b < 32 → bits bitmap ≡ bits_below bitmap b ++ (if_set (has_bit bitmap b) b ++ bits_from bitmap (suc b) (31 - b))
 unfolding bits
 bits_round bitmap b h =
@@ -56,7 +56,7 @@ module _ {Y : Type 0} where
       map-append g (bits_from new b n) (if_set (has_bit new (b + n)) (b + n)) ∙ (λ i. first i ++ last i)
       ∙ sym (map-append f (bits_from old b n) (if_set (has_bit old (b + n)) (b + n)))
 
-  -- the items under b, at b and above
+  -- the items at the bits below b, at b and above b
   abbrev under : (ℕ → Y) → ℕ → ℕ → List Y
   under f bitmap b = map f (bits_below bitmap b)
 
@@ -79,7 +79,7 @@ module _ {Y : Type 0} where
   unfolding rank
   rank_is f bitmap b = sym (length-map (bits_below bitmap b) f)
 
-  -- the item for a bit
+  -- the item at a set bit is at the bit's rank
   pub map_get : (f : ℕ → Y) (bitmap b : ℕ) (d : Y) → b < 32 → has_bit bitmap b ≡ true → (rank bitmap b < length (map f (bits bitmap))) ×
       (get_or (map f (bits bitmap)) (rank bitmap b) d ≡ f b)
   map_get f bitmap b d h s =
@@ -89,7 +89,7 @@ module _ {Y : Type 0} where
         ap (λ xs. get_or xs (rank bitmap b) d) is ∙ get_or_at (under f bitmap b) (f b) (over f bitmap b) d (rank bitmap b) (sym (rank_is f bitmap b)),
       )
 
-  -- one bit more
+  -- setting a bit inserts its item at its rank
   pub map_insert : (f g : ℕ → Y) (old new b : ℕ) → b < 32 → has_bit old b ≡ false → has_bit new b ≡ true →
       ((i : ℕ) → i ≢ b → has_bit new i ≡ has_bit old i) → ((i : ℕ) → i ≢ b → g i ≡ f i)
       → (rank old b ≤ length (map f (bits old))) × (map g (bits new) ≡ insert (map f (bits old)) (rank old b) (g b))
@@ -103,7 +103,7 @@ module _ {Y : Type 0} where
             ∙ sym (ap (λ xs. insert xs (rank old b) (g b)) before ∙ insert_at (under f old b) (over f old b) (g b) (rank old b) (rank_is f old b)),
       )
 
-  -- one bit less
+  -- clearing a bit removes its item
   pub map_remove : (f g : ℕ → Y) (old new b : ℕ) → b < 32 → has_bit old b ≡ true → has_bit new b ≡ false →
       ((i : ℕ) → i ≢ b → has_bit new i ≡ has_bit old i) → ((i : ℕ) → i ≢ b → g i ≡ f i)
       → map g (bits new) ≡ remove (map f (bits old)) (rank old b)
@@ -114,7 +114,7 @@ module _ {Y : Type 0} where
       ∙ sym (ap (λ xs. remove xs (rank old b)) (map_with f old b h was)
       ∙ remove_at (under f old b) (over f old b) (f b) (rank old b) (rank_is f old b))
 
-  -- one bit gets another item
+  -- changing the item at a set bit overwrites it at the bit's rank
   pub map_set : (f g : ℕ → Y) (bitmap b : ℕ) → b < 32 → has_bit bitmap b ≡ true → ((i : ℕ) → i ≢ b → g i ≡ f i) →
       map g (bits bitmap) ≡ set (map f (bits bitmap)) (rank bitmap b) (g b)
   map_set f g bitmap b h is eq =
@@ -124,7 +124,7 @@ module _ {Y : Type 0} where
       ∙ sym (ap (λ xs. set xs (rank bitmap b) (g b)) (map_with f bitmap b h is)
       ∙ set_at (under f bitmap b) (f b) (over f bitmap b) (g b) (rank bitmap b) (sym (rank_is f bitmap b)))
 
-  -- the same bits, and the same for each
+  -- the same bits with the same items give the same list
   pub map_same : (f g : ℕ → Y) (old new : ℕ) → ((i : ℕ) → has_bit new i ≡ has_bit old i) → ((i : ℕ) → g i ≡ f i) → map g (bits new) ≡ map f (bits old)
   unfolding bits
   map_same f g old new same eq = map_below f g old new 32 (λ i h. same i) (λ i h. eq i)
@@ -163,7 +163,7 @@ rank-same old new b same = rank_is (λ x. x) new b ∙ ap (λ (xs : List ℕ). l
 pub rank-within : (bitmap b : ℕ) → b < 32 → rank bitmap b ≤ rank bitmap 32
 rank-within bitmap b h = let e : 32 ≡ b + (32 - b) = omega arith in subst (λ n. rank bitmap b ≤ rank bitmap n) (sym e) (rank-mono bitmap b (32 - b))
 
--- fewer than n bits are set below n if one is not
+-- if a bit below n is clear, fewer than n bits are set below n
 pub rank-lacks : (bitmap n b : ℕ) → b < n → has_bit bitmap b ≡ false → rank bitmap n < n
 rank-lacks bitmap zero b h lacks = absurd (omega arith)
 rank-lacks bitmap (suc n) b h lacks =
@@ -188,7 +188,7 @@ rank-below bitmap b h set =
     let up : rank bitmap (b + 1) ≤ rank bitmap 32 = subst (λ n. rank bitmap (b + 1) ≤ rank bitmap n) (sym e) (rank-mono bitmap (b + 1) (31 - b)) in
     omega (arith, rank-more bitmap b, one, up)
 
--- no bit is set
+-- if no bit is set, the list is empty
 pub bits_below-none : (bitmap n : ℕ) → ((i : ℕ) → has_bit bitmap i ≡ false) → bits_below bitmap n ≡ []
 bits_below-none bitmap zero none = refl
 bits_below-none bitmap (suc n) none = ap (λ xs. xs ++ if_set (has_bit bitmap n) n) (bits_below-none bitmap n none) ∙ ap (λ s. if_set s n) (none n)
@@ -197,7 +197,7 @@ pub rank-zero-all : rank 0 32 ≡ 0
 unfolding rank
 rank-zero-all = ap (λ xs. length xs) (bits_below-none 0 32 has_bit-zero)
 
--- one bit more is one more set
+-- setting a bit raises the rank of the whole bitmap by one
 pub rank-more-one : (old new b : ℕ) → b < 32 → has_bit old b ≡ false → has_bit new b ≡ true → ((i : ℕ) → i ≢ b → has_bit new i ≡ has_bit old i) →
     rank new 32 ≡ rank old 32 + 1
 rank-more-one old new b h was is same =

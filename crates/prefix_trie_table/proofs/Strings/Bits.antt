@@ -14,7 +14,7 @@ pub has_bit-zero : (b : ℕ) → has_bit 0 b ≡ false
 unfolding has_bit
 has_bit-zero b = elim (ltb b 32) as (λ v. cond v (eqb (bit_at 0 b) 1) false ≡ false) [ true ↦ ap (λ n. eqb n 1) (bit_at-zero b) | false ↦ refl ]
 
--- within 32 bits it is the bit of the bitmap
+-- for a bit below 32, `has_bit` is the bit of the bitmap
 pub has_bit-is : (n b : ℕ) → b < 32 → has_bit n b ≡ has n b
 unfolding has_bit
 has_bit-is n b h = ap (λ t. cond t (has n b) false) (lt-ltb b 32 h)
@@ -23,7 +23,7 @@ pub has_bit-past : (n b : ℕ) → ltb b 32 ≡ false → has_bit n b ≡ false
 unfolding has_bit
 has_bit-past n b h = ap (λ t. cond t (has n b) false) h
 
--- a bit set beside the others
+-- which bits are set after one bit was set
 pub has_bit-sets : (m k m' i : ℕ) → Sets m k m' → k < 32 → has_bit m' i ≡ (nat_eq i k || has_bit m i)
 has_bit-sets m k m' i sets h =
     elim (eqb_tells i k) as (λ _. has_bit m' i ≡ (nat_eq i k || has_bit m i)) [
@@ -39,7 +39,7 @@ pub if_set-length : (s : Bool) (b : ℕ) → length (if_set s b) ≡ cond s 1 0
 if_set-length true b = refl
 if_set-length false b = refl
 
--- the rank that the calls of `node` compute
+-- the rank is the number that the calls of `node` compute
 pub rank-ones : (m b : ℕ) → b ≤ 32 → rank m b ≡ ones_below b m
 unfolding rank ones_below
 rank-ones m zero h = refl

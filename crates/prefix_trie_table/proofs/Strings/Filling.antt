@@ -1,4 +1,4 @@
--- Counting the entries of a finite map when a key is added.
+-- A sum over the entries of a finite map when a key is added: for counting entries.
 use Rattle.prefix_trie_table.proofs.Prelude.{◌≡◌, ℕ, ◌+◌, Bool, false, cond, List, [], ◌∷◌, sum_by, None, Some, is_some, Ordering, Less, Equal, Greater, sym, ap, ◌∙◌, arith, false≢true, sum_by-cons, is_eq, FinMap, entries, get, get-entries, entries-insert, find, put, contains_key, by_order, listing_cmp, listing_total}
 use Rattle.std.specs.FinMap.{insert}
 use Rattle.prefix_trie_table.proofs.Tree.Trees.{is_none-None}
@@ -17,7 +17,7 @@ module _ {K X : Type 0} (R : K → K → Ordering) (h : K × X → ℕ) where
       later : (q : K) (a b all rest more end : ℕ) → all ≡ a + more → more ≡ b + rest → end ≡ a + rest → all ≡ b + end
       later q a b all rest more end e f g = omega (arith, e, f, g)
 
--- a key that comes in adds what its own entry has
+-- adding a new key adds the term of its entry
 pub sum-fresh : {X : Type 0} (h : List Bool × X → ℕ) (m : FinMap listing_cmp X) (k : List Bool) (v : X) → contains_key m k ≡ false →
     sum_by h (entries (insert m k v)) ≡ h (k, v) + sum_by h (entries m)
 sum-fresh h m k v fresh =

@@ -1,10 +1,10 @@
--- Lists with the same paths; the paths of all nodes are the root's and those of all children.
+-- Lists of paths: the paths of all nodes are that of the root and those of all children.
 use Rattle.prefix_trie_table.proofs.Prelude.{◌≡◌, ◌≢◌, ℕ, zero, suc, ◌+◌, ◌<◌, ◌≤◌, inl, inr, Bool, true, false, cond, List, [], ◌∷◌, ◌++◌, map, flat_map, Option, None, Some, is_some, IsPermutation, refl, sym, ap, ◌∙◌, subst, arith, false≢true, cases_lt, cases_eq, false_from_ne_true, map-append, IsPermutation-refl, IsPermutation-trans, IsPermutation-sym, IsPermutation-cons, Node, has_bit, if_set, bits_below, bits, Store, same_path, one_if, times, without, has_child, NodesHold}
 use Rattle.prefix_trie_table.proofs.Strings.Bits.{has_bit-below}
 use Rattle.prefix_trie_table.proofs.Strings.Paths.{same_path-itself, same_path-equal, same_path-not, snoc_ind, snoc_inj, snoc_not_nil, times_without, flat_map_out}
 use Rattle.prefix_trie_table.proofs.Tree.Children.{same_or}
 
--- one path put first
+-- one path can be listed first
 pub first_out : (p : List ℕ) (paths : List (List ℕ)) → 0 < times p paths → IsPermutation paths (p ∷ without p paths)
 first_out p paths h = subst (λ ys. IsPermutation ys (p ∷ without p paths)) (itself paths)
     (subst (λ ys. IsPermutation (flat_map (λ q. q ∷ []) paths) (p ∷ ys)) (itself (without p paths)) (flat_map_out (λ q. q ∷ []) p paths h))
@@ -13,7 +13,7 @@ first_out p paths h = subst (λ ys. IsPermutation ys (p ∷ without p paths)) (i
     itself [] = refl
     itself (q ∷ ps) = ap (λ qs. q ∷ qs) (itself ps)
 
--- lists that have each path equally often have the same paths
+-- lists that have each path equally often are permutations of each other
 pub same_paths : (ps qs : List (List ℕ)) → ((r : List ℕ) → times r ps ≡ times r qs) → IsPermutation ps qs
 same_paths [] [] same = IsPermutation-refl []
 same_paths [] (q ∷ qs) same = absurd (let e = same q in let one : one_if (same_path q q) ≡ 1 = ap one_if (same_path-itself q) in omega arith)
@@ -28,11 +28,11 @@ pub times-append : (q : List ℕ) (xs ys : List (List ℕ)) → times q (xs ++ y
 times-append q [] ys = omega arith
 times-append q (x ∷ xs) ys = omega (arith, times-append q xs ys)
 
--- a path with a step more
+-- a path with one more step
 abbrev pub step : List ℕ → ℕ → List ℕ
 step p c = p ++ c ∷ []
 
--- the paths of a node's children
+-- the child numbers of a node
 abbrev child_bits : Option Node → List ℕ
 child_bits None = []
 child_bits (Some n) = bits n.child_bitmap
@@ -55,8 +55,7 @@ below_more p c bitmap n =
     ap (times (step p c)) (map-append (step p) (bits_below bitmap n) (if_set (has_bit bitmap n) n))
     ∙ times-append (step p c) (map (step p) (bits_below bitmap n)) (map (step p) (if_set (has_bit bitmap n) n))
 
--- the child c of p is not among those below c, and occurs once among those of a higher bound if it
--- is there
+-- the child c of p is not among the children below c, and is once among those below a higher bound if it exists
 none_below : (p : List ℕ) (c bitmap n : ℕ) → n ≤ c → times (step p c) (map (step p) (bits_below bitmap n)) ≡ 0
 none_below p c bitmap zero h = refl
 none_below p c bitmap (suc n) h = omega (arith, below_more p c bitmap n, none_below p c bitmap n (omega arith), step_once p c (has_bit bitmap n) n (λ e. omega arith))
@@ -72,7 +71,7 @@ one_below p c bitmap (suc n) h = elim (cases_eq n c) as (λ _. times (step p c) 
       omega (arith, below_more p c bitmap n, one_below p c bitmap n (omega arith), step_once p c (has_bit bitmap n) n ne)
 ]
 
--- the children of another path
+-- the child c of p is not among the children of another path
 other_below : (p x : List ℕ) (c : ℕ) (ds : List ℕ) → p ≢ x → times (step p c) (map (step x) ds) ≡ 0
 other_below p x c [] ne = refl
 other_below p x c (d ∷ ds) ne =
@@ -121,7 +120,7 @@ module _ (nodes : List ℕ → Option Node) where
       ] in
       omega (arith, times-append (step p c) (children_of x (nodes x)) (children paths), here, children_step p c false e paths)
 
-  -- each path is the root's or that of one child
+  -- each listed path is the root's, or that of exactly one child
   pub listed_below : (sizes : List ℕ) (paths : List (List ℕ)) (v : Store Node) → NodesHold sizes nodes paths v →
       IsPermutation paths ([] ∷ children paths)
   listed_below sizes paths v hold = same_paths paths ([] ∷ children paths) (snoc_ind (λ q. times q paths ≡ times q ([] ∷ children paths)) root more)

@@ -1,16 +1,16 @@
--- The string of the node at a path; there are as many nodes as paths.
+-- The string of the node at a path, and that there are as many nodes as paths: for `node_count`.
 use Rattle.prefix_trie_table.proofs.Prelude.{◌≡◌, ℕ, suc, ◌+◌, ◌%◌, ◌^◌, ◌<◌, ◌≤◌, inl, inr, Bool, true, false, cond, ◌&&◌, ◌||◌, List, [], ◌∷◌, ◌++◌, length, length-append, map, Option, None, Some, is_some, refl, sym, ap, ap₂, ◌∙◌, subst, arith, eqb-true, eq-eqb, false≢true, cases_Bool, false_from_ne_true, All-nil, All-push, All-head, All-tail, All, list_any, empty, len, contains_key, len-empty, len-insert, number, digits, length-digits, number-digits, same_bool, listing_cmp, listing_total, same_string, Nodes, has_node, with_nodes, is_node_depth, or-cases, or-left, or-right, and-first, and-second, and-join, same_string-is, is-same_string, has-empty, has-with_nodes, same_members, Node, chunks_of, Store, same_path, one_if, times, has_child, NodesHold, or-false}
 use Rattle.prefix_trie_table.proofs.Strings.Plain.{needs_node}
 use Rattle.prefix_trie_table.proofs.Strings.Bits.{has_bit-below}
 use Rattle.prefix_trie_table.proofs.Strings.Keys.{same_above}
 use Rattle.prefix_trie_table.proofs.Strings.Paths.{same_path-true, same_path-itself, snoc_ind}
 
--- the string to which a path leads: five bits for each step
+-- the string to which a path leads, with five bits for each step
 abbrev pub string_at : List ℕ → List Bool
 string_at [] = []
 string_at (c ∷ path) = digits 5 c ++ string_at path
 
--- it is as long as a node's
+-- its length is a multiple of five
 pub string_depth : (path : List ℕ) → length (string_at path) % 5 ≡ 0
 string_depth [] = refl
 string_depth (c ∷ path) = omega (arith, string_depth path, length-append (digits 5 c) (string_at path), length-digits 5 c)
@@ -26,7 +26,7 @@ small c n h e = omega (arith, h, e)
 abbrev pub IsStep : ℕ → Type 0
 IsStep c = c < 32
 
--- and it has that path
+-- its chunks are the path
 pub string_path : (path : List ℕ) → All IsStep path → chunks_of (string_at path) ≡ path
 string_path [] h = refl
 string_path (c ∷ path) h =
@@ -59,26 +59,26 @@ has-nodes_at : (paths : List (List ℕ)) (s : List Bool) → has_node (nodes_at 
 has-nodes_at paths s = has-with_nodes empty (map string_at paths) s ∙ ap (λ b. list_any (same_string s) (map string_at paths) || b) (has-empty s)
     ∙ or-false (list_any (same_string s) (map string_at paths))
 
--- each of these paths leads to a string
+-- all steps of these paths are below 32
 abbrev pub AreSteps : List (List ℕ) → Type 0
 AreSteps paths = (p : List ℕ) → 0 < times p paths → All IsStep p
 
--- no path is there twice
+-- no path is listed twice
 abbrev pub AreOnce : List (List ℕ) → Type 0
 AreOnce paths = (p : List ℕ) → times p paths ≤ 1
 
--- so the first one leads to a string, and the others do
+-- so the steps of the first path are below 32, and those of the others are
 pub first_steps : (x : List ℕ) (paths : List (List ℕ)) → AreSteps (x ∷ paths) → All IsStep x
 first_steps x paths steps = steps x (let e : one_if (same_path x x) ≡ 1 = ap one_if (same_path-itself x) in omega arith)
 
 pub other_steps : (x : List ℕ) (paths : List (List ℕ)) → AreSteps (x ∷ paths) → AreSteps paths
 other_steps x paths steps = λ p h. steps p (omega arith)
 
--- and the others are there once
+-- the other paths are listed at most once
 pub other_once : (x : List ℕ) (paths : List (List ℕ)) → AreOnce (x ∷ paths) → AreOnce paths
 other_once x paths once = λ p. let o = once p in omega arith
 
--- the string of the first path is that of no other
+-- no other path has the string of the first one
 pub fresh_string : (x : List ℕ) (paths : List (List ℕ)) → AreSteps (x ∷ paths) → AreOnce (x ∷ paths) →
     list_any (same_string (string_at x)) (map string_at paths) ≡ false
 fresh_string x paths steps once =
@@ -90,11 +90,11 @@ fresh_string x paths steps once =
     let none : times r.0 paths ≡ 0 = ap (λ p. times p paths) (sym same) ∙ gone in
     let m = r.1 in absurd (omega arith))
 
--- nor one of the set of theirs
+-- so the string of the first path is not in the set of the others
 pub new_string : (x : List ℕ) (paths : List (List ℕ)) → AreSteps (x ∷ paths) → AreOnce (x ∷ paths) → contains_key (nodes_at paths) (string_at x) ≡ false
 new_string x paths steps once = has-nodes_at paths (string_at x) ∙ fresh_string x paths steps once
 
--- it has as many as there are paths, if each occurs once and leads to a string
+-- the set has as many strings as there are paths, if each path is listed once
 len-nodes_at : (paths : List (List ℕ)) → AreSteps paths → AreOnce paths → len (nodes_at paths) ≡ length paths
 len-nodes_at [] steps once = len-empty listing_cmp (Unit {0})
 len-nodes_at (x ∷ paths) steps once =
@@ -112,7 +112,7 @@ from-one true t e h = refl
 from-one false t e h = absurd (omega (arith, e, h))
 
 module _ (sizes : List ℕ) (nodes : List ℕ → Option Node) (paths : List (List ℕ)) (v : Store Node) (hold : NodesHold sizes nodes paths v) where
-  -- a path to a node has steps of five bits
+  -- the steps of a path to a node are below 32
   steps_small : (q : List ℕ) → is_some (nodes q) ≡ true → All IsStep q
   steps_small = snoc_ind (λ q. is_some (nodes q) ≡ true → All IsStep q) (λ h. All-nil IsStep)
       (λ q c ih h. let has : has_child (nodes q) c ≡ true = sym (hold.linked q c) ∙ h in All-push IsStep q c (ih (needs_node (nodes q) c has)) (within (nodes q) c has))
@@ -125,7 +125,7 @@ module _ (sizes : List ℕ) (nodes : List ℕ → Option Node) (paths : List (Li
   pub listed_some : (p : List ℕ) → 0 < times p paths → is_some (nodes p) ≡ true
   listed_some p h = from-one (is_some (nodes p)) (times p paths) (hold.listed p) h
 
-  -- the strings of the listed paths are those of the nodes
+  -- the strings of the listed paths are the strings of the nodes
   pub listed_at : (s : List Bool) → list_any (same_string s) (map string_at paths) ≡ (is_node_depth s && is_some (nodes (chunks_of s)))
   listed_at s = sym (same_bool _ _ (into s) (out s))
     where
@@ -145,7 +145,7 @@ module _ (sizes : List ℕ) (nodes : List ℕ → Option Node) (paths : List (Li
           and-join (is_node_depth s) (is_some (nodes (chunks_of s)))
           (eq-eqb (length s % 5) 0 (ap (λ t. length t % 5) r.2 ∙ string_depth r.0)) (ap (λ p. is_some (nodes p)) path ∙ some)
 
-  -- all paths lead to strings, and each is there once
+  -- all steps are below 32, and each path is listed once
   pub paths_steps : AreSteps paths
   paths_steps = λ p h. steps_small p (listed_some p h)
 
@@ -153,11 +153,11 @@ module _ (sizes : List ℕ) (nodes : List ℕ → Option Node) (paths : List (Li
   paths_once = λ p. one-at-most (is_some (nodes p)) (times p paths) (hold.listed p)
 
   module _ (n : Nodes) (are : (s : List Bool) → has_node n s ≡ (is_node_depth s && is_some (nodes (chunks_of s)))) where
-    -- the nodes are those at the strings of the paths
+    -- the nodes are the strings of the paths
     pub same_nodes : n ≡ nodes_at paths
     same_nodes = same_members n (nodes_at paths) (λ s. are s ∙ sym (listed_at s) ∙ sym (has-nodes_at paths s))
 
-    -- the nodes are as many as their paths
+    -- there are as many nodes as paths
     pub paths_counted : len n ≡ length paths
     paths_counted =
         ap (λ m. len m) same_nodes

@@ -1,15 +1,15 @@
--- Sums over paths.
+-- Sums over the paths of nodes: for counting entries and children.
 use Rattle.prefix_trie_table.proofs.Prelude.{◌≡◌, ◌≢◌, ℕ, ◌+◌, ◌<◌, List, [], ◌∷◌, ◌++◌, length, sum_by, Option, None, Some, refl, sym, ap, ap₂, ◌∙◌, arith, length-append, sum_by-cons, sum_by-IsPermutation, Node, one_if, same_path, times, without, with_child_removed}
 use Rattle.prefix_trie_table.proofs.Strings.Paths.{same_path-itself}
 use Rattle.prefix_trie_table.proofs.Tree.Trees.{times_out, times_out_same}
 use Rattle.prefix_trie_table.proofs.Tree.Children.{changed_here, changed_other}
 use Rattle.prefix_trie_table.proofs.Strings.PathLists.{first_out}
 
--- one path's own first
+-- the term of one path can be taken first
 pub sum_out : (f : List ℕ → ℕ) (p : List ℕ) (paths : List (List ℕ)) → 0 < times p paths → sum_by f paths ≡ f p + sum_by f (without p paths)
 sum_out f p paths there = sym (sum_by-IsPermutation f paths (p ∷ without p paths) (first_out p paths there)) ∙ sum_by-cons f p (without p paths)
 
--- terms that are the same for each item of the list
+-- equal terms for each listed path have equal sums
 pub sum_same : (f g : List ℕ → ℕ) (paths : List (List ℕ)) → ((q : List ℕ) → 0 < times q paths → g q ≡ f q) → sum_by g paths ≡ sum_by f paths
 sum_same f g [] same = refl
 sum_same f g (x ∷ paths) same =
@@ -17,7 +17,7 @@ sum_same f g (x ∷ paths) same =
     let rest : sum_by g paths ≡ sum_by f paths = sum_same f g paths (λ q h. same q (omega arith)) in
     sum_by-cons g x paths ∙ ap₂ (λ a b. a + b) here rest ∙ sym (sum_by-cons f x paths)
 
--- the node n at p becomes m, and loses its child c
+-- how the sum changes if the node n at p becomes m and loses its child c
 pub sum_lacking : (g : Option Node → ℕ) (nodes : List ℕ → Option Node) (paths : List (List ℕ)) (p : List ℕ) (c : ℕ) (n m leaf : Node) →
     nodes p ≡ Some n → nodes (p ++ c ∷ []) ≡ Some leaf → times p paths ≡ 1 → times (p ++ c ∷ []) paths ≡ 1 →
     sum_by (λ q. g (with_child_removed nodes p m c q)) (without (p ++ c ∷ []) paths) + g (Some n) + g (Some leaf) ≡ sum_by (λ q. g (nodes q)) paths + g (Some m)

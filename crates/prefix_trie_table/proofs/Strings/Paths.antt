@@ -1,4 +1,4 @@
--- Lists of paths.
+-- Lists of paths: how often a path occurs, and removing one.
 use Rattle.prefix_trie_table.proofs.Prelude.{◌≡◌, ℕ, ◌+◌, ◌<◌, inl, inr, true, false, cond, List, [], ◌∷◌, ◌++◌, length, flat_map, IsPermutation, refl, sym, ap, subst, arith, append_assoc, append-nil, length-append, cases_Bool, false_from_ne_true, tied_itself, nat_list_cmp_total, Equal-is, nat_cmp, is_eq, slice_cmp, slice_cmp-IsAntisymmetric, nat_cmp-IsAntisymmetric, IsPermutation-refl, IsPermutation-trans, IsPermutation-append_comm, IsPermutation-append_left, IsPermutation-append_right, same_path, one_if, times, without}
 
 pub same_path-true : (q k : List ℕ) → same_path q k ≡ true → q ≡ k
@@ -13,7 +13,7 @@ same_path-equal q k e = subst (λ x. same_path x k ≡ true) (sym e) (same_path-
 pub same_path-not : (q k : List ℕ) → (q ≡ k → ⊥) → same_path q k ≡ false
 same_path-not q k miss = false_from_ne_true (same_path q k) (λ h. miss (same_path-true q k h))
 
--- induction on a list from its end
+-- induction on a path from its end
 along : (P : List ℕ → Type 0) → ((path : List ℕ) (c : ℕ) → P path → P (path ++ c ∷ [])) → (path more : List ℕ) → P path → P (path ++ more)
 along P step path [] h = subst P (sym (append-nil path)) h
 along P step path (c ∷ more) h = subst P (append_assoc path (c ∷ []) more) (along P step (path ++ c ∷ []) more (step path c h))

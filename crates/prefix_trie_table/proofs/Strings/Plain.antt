@@ -1,4 +1,4 @@
--- Facts on plain numbers, Booleans and options.
+-- Small facts on numbers, Booleans and options.
 use Rattle.prefix_trie_table.proofs.Prelude.{◌≡◌, ℕ, ◌+◌, ◌*◌, ◌/◌, ◌%◌, ◌≤◌, Bool, true, false, ◌&&◌, Option, None, Some, is_some, refl, arith, false≢true, Node, has_child, has_value}
 
 pub no_or_yes : (b : Bool) → (b ≡ true → ⊥) → b ≡ false
@@ -12,7 +12,7 @@ both_true false b h k = absurd (false≢true h)
 pub some_same : (a b : ℕ) → Some a ≡ Some b → a ≡ b
 some_same a b e = cc
 
--- lengths that are whole levels
+-- a multiple of five has no rest
 pub whole_levels : (d l : ℕ) → d ≡ 5 * l → d % 5 ≡ 0
 whole_levels d l e = omega (arith, e)
 
@@ -28,12 +28,12 @@ five_times l k e f = omega (arith, e, f)
 pub fifths : (l k n : ℕ) → k ≤ n → n ≡ l / 5 → 5 * k ≤ l
 fifths l k n h e = omega (arith, h, e)
 
--- a node that has a child is there
+-- a node that has a child exists
 pub needs_node : (o : Option Node) (c : ℕ) → has_child o c ≡ true → is_some o ≡ true
 needs_node None c h = absurd (false≢true h)
 needs_node (Some n) c h = refl
 
--- and so is one that has a value
+-- a node that has a value exists
 pub some_node : (o : Option Node) (b : ℕ) → has_value o b ≡ true → is_some o ≡ true
 some_node None b h = absurd (false≢true h)
 some_node (Some n) b h = refl

@@ -29,7 +29,7 @@ pub or_either : (a b : Bool) → (a || b) ≡ true → (a ≡ true) ⊎ (b ≡ t
 or_either true b e = inl refl
 or_either false b e = inr e
 
--- a beginning is the first steps
+-- a path is each of its beginnings and some more steps
 pub is_start-is : (q p : List ℕ) → is_start q p ≡ true → (r : List ℕ) × (p ≡ q ++ r)
 is_start-is q = snoc_ind (λ p. is_start q p ≡ true → (r : List ℕ) × (p ≡ q ++ r))
     (λ h. ⊎_elim (λ (e : same_path q [] ≡ true). let f : q ≡ [] = same_path-true q [] e in ([], sym f ∙ sym (append-nil q)))

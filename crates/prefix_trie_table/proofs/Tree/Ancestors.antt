@@ -1,7 +1,7 @@
--- The slots of the nodes on a search path.
+-- The slots of the nodes on a search path, as a descent collects them: for removals.
 use Rattle.prefix_trie_table.proofs.Prelude.{◌≡◌, ℕ, ◌+◌, inl, inr, Bool, List, [], ◌∷◌, ◌++◌, length, length-append, get_or, take, Option, sym, ap, ◌∙◌, subst, arith, get_or-append_seam, get_or_append_left, cases_lt, Node, NodeSlot, Reached, Store, chunks_of, IsSlot, IsAlong, slot_in, AreAbove, AreAncestors}
 
--- a step more
+-- going one step down adds the slot of the node above
 ancestors_more : (reading : List ℕ → Option Node) (path : List ℕ) (ancestors : List NodeSlot) (level : ℕ) (s : NodeSlot) → AreAncestors reading path ancestors level →
     length ancestors ≡ level → IsSlot reading (take level path) (s.start + s.offset) → AreAncestors reading path (ancestors ++ s ∷ []) (level + 1)
 ancestors_more reading path ancestors level s is long next k h = elim (cases_lt k level) as (λ _. IsSlot reading (take k path) (slot_in (ancestors ++ s ∷ []) k)) [

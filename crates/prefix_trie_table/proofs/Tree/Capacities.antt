@@ -1,4 +1,4 @@
--- A table whose arrays have other capacities is the same to contracts.
+-- Contracts see the same table if its arrays have other capacities: for `shrink_to_fit`.
 use Rattle.prefix_trie_table.proofs.Prelude.{◌≡◌, ℕ, Option, sym, ap₂, subst, State, Node, Store, IsTable, Shaped, same_shape, Sized, Sized-prop}
 use Rattle.prefix_trie_table.proofs.Blocks.Capacity.{IsTable-capacity}
 use Rattle.prefix_trie_table.proofs.Lookup.Lending.{seen_of}

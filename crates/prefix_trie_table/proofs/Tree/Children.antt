@@ -1,4 +1,4 @@
--- The nodes after one of them gains a child, loses one, or changes.
+-- The nodes of a tree after one of them gets a child, loses one, or changes.
 use Rattle.prefix_trie_table.proofs.Prelude.{◌≡◌, ◌≢◌, ℕ, ◌+◌, ◌<◌, ◌⊎◌, inl, inr, ⊎_elim, true, false, cond, ◌||◌, nat_eq, List, [], ◌∷◌, ◌++◌, length, set, insert, remove, map, flat_map, Option, None, Some, is_some, IsPermutation, refl, sym, ap, ◌∙◌, subst, arith, length-append, false≢true, cases_Bool, eqb_tells, get_or-set_other, length-insert, Node, has_bit, bits, rank, Store, UsedBlock, Sound, block, child_slot, same_path, one_if, times, without, node_or_blank, has_child, child_items, child_blocks_of, child_blocks, IsSlot, at_root, at_child, NodesHold, with_child, with_child_removed, with_node, blank_node, node_at, IsPermutation-append_right}
 use Rattle.std.proofs.lemmas.List.{get_or-set_same}
 use Rattle.prefix_trie_table.specs.Forest.{held, size_in, tier_sizes}
@@ -21,11 +21,11 @@ pub blank_blocks : (sizes : List ℕ) (nodes : List ℕ → Option Node) (q : Li
 blank_blocks sizes nodes q e = ap (child_blocks_of sizes nodes q) e ∙ ap (λ cs. held 0 0 (size_in sizes 0) (map (λ c. node_or_blank (nodes (q ++ c ∷ []))) cs)) bits-zero
 
 module _ (nodes : List ℕ → Option Node) (p : List ℕ) (m : Node) (c : ℕ) (o : Option Node) where
-  -- the nodes with two changed
+  -- the nodes after two of them changed
   abbrev pub changed : List ℕ → Option Node
   changed q = cond (same_path q (p ++ c ∷ [])) o (cond (same_path q p) (Some m) (nodes q))
 
-  -- the nodes with a child c of p changed to o: at the child, at p, and elsewhere
+  -- the changed nodes, at the child, at its parent p, and elsewhere
   pub changed_below : (q : List ℕ) → q ≡ p ++ c ∷ [] → changed q ≡ o
   changed_below q e = ap (λ b. cond b o (cond (same_path q p) (Some m) (nodes q))) (same_path-equal q (p ++ c ∷ []) e)
 
@@ -54,7 +54,7 @@ same_or q k = elim (cases_Bool (same_path q k)) as (λ _. (q ≡ k) ⊎ (q ≢ k
 pub number_or : (i j : ℕ) → (i ≡ j) ⊎ (i ≢ j)
 number_or i j = elim (eqb_tells i j) as (λ _. (i ≡ j) ⊎ (i ≢ j)) [ inl t ↦ inl t.1 | inr t ↦ inr t.1 ]
 
--- which paths lead to nodes, but the one below
+-- every other path leads to a node exactly if it did before
 pub some_stays : (nodes : List ℕ → Option Node) (p : List ℕ) (n m : Node) (c : ℕ) (o : Option Node) → nodes p ≡ Some n → (q : List ℕ) →
     q ≢ p ++ c ∷ [] → is_some (changed nodes p m c o q) ≡ is_some (nodes q)
 some_stays nodes p n m c o is q nr = ⊎_elim
@@ -83,7 +83,7 @@ module _ (sizes : List ℕ) (nodes : List ℕ → Option Node) (paths : List (Li
       by_p (inr ne) =
           some_stays nodes p n m c o is (q ++ d ∷ []) (λ f. ne (snoc_inj q p d c f).0) ∙ by_r (same_or q (p ++ c ∷ [])) ne
 
-  -- the parent of a node is listed beside it
+  -- if the path of a node is removed from the list, its parent is still listed
   pub parents : (p : List ℕ) (n : Node) → nodes p ≡ Some n → (q : List ℕ) (c : ℕ) → q ++ c ∷ [] ≡ p → times q (without p paths) ≡ 1
   parents p n is q c e =
       let once : times p paths ≡ 1 = listed_once sizes nodes paths v hold p n is in
@@ -91,12 +91,12 @@ module _ (sizes : List ℕ) (nodes : List ℕ → Option Node) (paths : List (Li
       let some : is_some (nodes q) ≡ true = needs_node (nodes q) c there in
       times_out p q paths (omega arith) (λ f. snoc_not_same q c (e ∙ sym f)) ∙ hold.listed q ∙ ap one_if some
 
--- a path that is listed is not one that is not
+-- a path that is listed differs from one that is not
 pub not_listed : (p : List ℕ) (paths : List (List ℕ)) → times p paths ≡ 0 → (q : List ℕ) → 0 < times q paths → q ≢ p
 not_listed p paths none q some e = (let same = ap (λ y. times y paths) e in omega arith)
 
 module _ (sizes : List ℕ) (nodes : List ℕ → Option Node) (paths : List (List ℕ)) (v : Store Node) (hold : NodesHold sizes nodes paths v) where
-  -- the root after a write to a node's slot
+  -- the root after a write to the slot of a node
   pub root_after : (p : List ℕ) (s : ℕ) (m : Node) (later : List ℕ → Option Node) (u : Store Node) → IsSlot nodes p s → 0 < length u.slots →
       node_at u.slots 0 ≡ node_at v.slots 0
       → later p ≡ Some m → ([] ≢ p → later [] ≡ nodes []) → later [] ≡ Some (node_at (set u.slots s m) 0)
@@ -106,8 +106,8 @@ module _ (sizes : List ℕ) (nodes : List ℕ → Option Node) (paths : List (Li
       other (λ e. snoc_not_nil q c (sym e)) ∙ hold.rooted
       ∙ ap Some (sym kept ∙ sym (get_or-set_other u.slots (child_slot n c) 0 m blank_node (λ e. omega arith)))
 
-  -- the node n at p becomes m, and its child c becomes o: the block of the children of p has
-  -- others, and those of other nodes stay
+  -- the node n at p becomes m, and its child c becomes o: the block of p's children changes, and the blocks of other
+  -- nodes stay
   pub child_changed : (p : List ℕ) (s : ℕ) (n m : Node) (c : ℕ) (o : Option Node) (u : Store Node) (own : List (UsedBlock Node)) (rest after : List (List ℕ))
       → IsSlot nodes p s → nodes p ≡ Some n → has_bit m.child_bitmap c ≡ is_some o →
       ((i : ℕ) → i ≢ c → has_bit m.child_bitmap i ≡ has_bit n.child_bitmap i) → ((d : ℕ) → is_some (nodes ((p ++ c ∷ []) ++ d ∷ [])) ≡ has_child o d)
@@ -136,7 +136,7 @@ module _ (sizes : List ℕ) (nodes : List ℕ → Option Node) (paths : List (Li
         sizes_are = sizes_are;
       }
 
-  -- the node n at p becomes m, which has the blank child c more
+  -- the node n at p becomes m, which has one more child c, a blank node
   pub child_added : (p : List ℕ) (s : ℕ) (n m : Node) (c : ℕ) (u : Store Node)
       → IsSlot nodes p s → nodes p ≡ Some n → c < 32 → has_bit n.child_bitmap c ≡ false →
       ((i : ℕ) → has_bit m.child_bitmap i ≡ (nat_eq i c || has_bit n.child_bitmap i))
@@ -183,14 +183,14 @@ module _ (sizes : List ℕ) (nodes : List ℕ → Option Node) (paths : List (Li
           let b = hold.listed q in omega arith
 
 module _ (nodes : List ℕ → Option Node) (p : List ℕ) (m : Node) where
-  -- a node that was replaced, and the others
+  -- the node that was replaced, and the other nodes
   pub with_here : (q : List ℕ) → q ≡ p → with_node nodes p m q ≡ Some m
   with_here q e = ap (λ b. cond b (Some m) (nodes q)) (same_path-equal q p e)
 
   pub with_other : (q : List ℕ) → q ≢ p → with_node nodes p m q ≡ nodes q
   with_other q ne = ap (λ b. cond b (Some m) (nodes q)) (same_path-not q p ne)
 
--- a list without two paths, whichever goes first
+-- removing two paths from a list in either order gives the same list
 pub without_both : (p r : List ℕ) (paths : List (List ℕ)) → p ≢ r → without p (without r paths) ≡ without r (without p paths)
 without_both p r [] ne = refl
 without_both p r (x ∷ paths) ne = by_p (without_both p r paths ne) (same_or p x) (same_or r x)
@@ -249,7 +249,7 @@ module _ (sizes : List ℕ) (nodes : List ℕ → Option Node) (paths : List (Li
           is_some (with_node nodes p m (q ++ d ∷ [])) ≡ has_child (with_node nodes p m q) d
       link q d below at = some_same (q ++ d ∷ []) below ∙ hold.linked q d ∙ sym (has_same q d at)
 
-  -- the node n at p becomes m, which has the child c less, a node without children
+  -- the node n at p becomes m, which has lost its child c, a node without children
   pub child_removed : (p : List ℕ) (s : ℕ) (n m leaf : Node) (c : ℕ) (u : Store Node)
       → IsSlot nodes p s → nodes p ≡ Some n → c < 32 → nodes (p ++ c ∷ []) ≡ Some leaf → ((i : ℕ) → has_bit leaf.child_bitmap i ≡ false)
       → has_bit m.child_bitmap c ≡ false → ((i : ℕ) → i ≢ c → has_bit m.child_bitmap i ≡ has_bit n.child_bitmap i)

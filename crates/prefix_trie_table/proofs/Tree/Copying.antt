@@ -1,4 +1,4 @@
--- Contracts see the copy of a table as the table: for `clone`.
+-- Contracts see a copy of a table as the table, with clones of its values: for `clone`.
 use Rattle.prefix_trie_table.proofs.Prelude.{◌≡◌, ℕ, ◌+◌, Bool, true, false, cond, List, [], ◌∷◌, length, get_or, map, flat_map, Option, None, Some, is_some, ◌<◌, ◌≤◌, ◌⊎◌, inl, inr, refl, sym, ap, ap₂, ◌∙◌, subst, arith, eq_by_cmp, AllZip, get, len, entries, entries_sorted, from_sorted, entries-from_sorted, get-from_sorted, get-entries, len-entries, is_sorted, find, length-map, get_or_past, AllZip-get_or, length_all_zip, false≢true, cases_lt, listing_cmp, Layout, Entries, State, same_entries, same_string-is, Node, has_bit, rank, node_sizes, cell_sizes, IsCloned, AreCloned, chunks_of, bit_of, Sized, Sized-prop, Store, Tier, free_counts, Sound, SomeTable, CellsHold, read, value_in, value_of, value_blocks, IsShapeOf, Shaped, same_shape, IsTable}
 use lib.Dec.{T as IsT}
 use Rattle.std.specs.Option.{unwrap_or}
@@ -11,7 +11,7 @@ use Rattle.prefix_trie_table.proofs.Tree.Shapes.{reads_node, reads_value}
 use Rattle.prefix_trie_table.proofs.Tree.Trees.{is_none-None}
 
 module _ {T : Type 0} where
-  -- a relation of two values that may be missing, by cases
+  -- a relation between two optional values, by cases
   pub option_pairs : (R : Option T → Option T → Type 0) → R None None → ((y : T) → R None (Some y)) → ((x : T) → R (Some x) None) →
       ((x y : T) → R (Some x) (Some y)) → (x y : Option T) → R x y
   option_pairs R none no_first no_second both None None = none
@@ -19,7 +19,7 @@ module _ {T : Type 0} where
   option_pairs R none no_first no_second both (Some x) None = no_second x
   option_pairs R none no_first no_second both (Some x) (Some y) = both x y
 
-  -- of two lists whose items are clones, those at each place are
+  -- if the items of two lists are clones, so are those at each place
   pub clones_at : (C : T → T → Type 0) (R : Option T → Option T → Type 0) → ((x y : Option T) → R x y → IsCloned C x y) → (xs ys : List (Option T)) →
       AllZip R xs ys → (i : ℕ) → IsCloned C (get_or xs i None) (get_or ys i None)
   clones_at C R means xs ys z i = at (cases_lt i (length xs))
@@ -30,7 +30,7 @@ module _ {T : Type 0} where
           let l = length_all_zip R xs ys z in
           subst (λ o. IsCloned C o (get_or ys i None)) (sym (get_or_past xs i None past)) (get_or_past ys i None (omega arith))
 
-  -- there is a clone exactly if there is its source
+  -- there is a clone exactly if there is a source
   pub cloned_there : (C : T → T → Type 0) (x y : Option T) → IsCloned C x y → is_some y ≡ is_some x
   cloned_there C None y h = ap is_some h
   cloned_there C (Some x) None h = absurd h
@@ -83,7 +83,7 @@ module _ {T : Type 0} where
         len-entries (put_in m) ∙ ap (λ es. length es) (entries-from_sorted listing_cmp (map put (entries m)) (sorted_in m))
         ∙ length-map (entries m) put ∙ sym (len-entries m)
 
--- of two arrays whose items are clones, those of a node are
+-- if the items of two arrays are clones, so are the values of each node
 module _ {T : Type 0} (C : T → T → Type 0) (xs ys : List (Option T)) (cloned : (i : ℕ) → IsCloned C (get_or xs i None) (get_or ys i None)) where
   in_cloned : (n : Node) (b : ℕ) → IsCloned C (value_in xs n b) (value_in ys n b)
   unfolding value_in
@@ -98,7 +98,7 @@ module _ {T : Type 0} (C : T → T → Type 0) (xs ys : List (Option T)) (cloned
   cells_cloned None b = refl
   cells_cloned (Some n) b = in_cloned n b
 
--- of a table in v and w there is a copy in v2 and w2, whose values are clones
+-- v2 and w2 are a copy of the table in v and w, with clones of its values
 module _ {T : Type 0} (C : T → T → Type 0) (R : Option T → Option T → Type 0) (means : (x y : Option T) → R x y → IsCloned C x y)
     (v v2 : Store Node) (w w2 : Store (Option T)) (count : ℕ) (s : Shaped v.slots w.slots) (is : IsTable v w count s.0)
     (nodes : v2 ≡ record v { capacity = v2.capacity }) (rest : w2 ≡ record w { slots = w2.slots; capacity = w2.capacity }) (clones : AllZip R w.slots w2.slots) where
@@ -135,7 +135,7 @@ module _ {T : Type 0} (C : T → T → Type 0) (R : Option T → Option T → Ty
     within = λ p b h. table.holds.cells.within p b (sym (value_there p b) ∙ h);
   }
 
-  -- the value at a bit string
+  -- the value of the copy at a bit string
   abbrev value_at : List Bool → Option T
   value_at q = value_of w2.slots (read v.slots (chunks_of q)) (bit_of q)
 
@@ -172,14 +172,14 @@ module _ {T : Type 0} (C : T → T → Type 0) (R : Option T → Option T → Ty
     cells_within = (let h = is.cells_within in let l = long in omega (arith, l, h));
   }
 
-  -- and is a table
+  -- the copy is a table
   pub copied_table : (t : Shaped v2.slots w2.slots) → IsTable v2 w2 count t.0
   copied_table t =
       subst (λ (y : State T). IsTable v2 w2 count y) (sym (copied_only t))
       (subst (λ (y : Store Node). IsTable y w2 count state) (sym nodes)
       (subst (λ (y : Store (Option T)). IsTable (record v { capacity = v2.capacity }) y count state) (sym rest) state_held))
 
-  -- each value is a clone
+  -- the values of the copy are clones
   pub copied_entries : (t : Shaped v2.slots w2.slots) → AreCloned C s.0.entries t.0.entries
   copied_entries t q =
       let before : get s.0.entries q ≡ value_of w.slots (read v.slots (chunks_of q)) (bit_of q) = s.1.1 q in
@@ -187,28 +187,28 @@ module _ {T : Type 0} (C : T → T → Type 0) (R : Option T → Option T → Ty
       subst (λ o. IsCloned C o (get t.0.entries q)) (sym before)
       (subst (λ o. IsCloned C (value_of w.slots (read v.slots (chunks_of q)) (bit_of q)) o) (sym after) (of_cloned (read v.slots (chunks_of q)) (bit_of q)))
 
-  -- the nodes are the same
+  -- the copy has the same nodes
   pub copied_nodes : (t : Shaped v2.slots w2.slots) → t.0.nodes ≡ s.0.nodes
   copied_nodes t = ap (λ (y : State T). y.nodes) (copied_only t)
 
-  -- and so are the slots
+  -- the copy has as many slots
   pub copied_space : (z : Sized v.slots) (t : Shaped v2.slots w2.slots) (k : Sized v2.slots) → (seen_of v2 w2 t.0 k).space ≡ (seen_of v w s.0 z).space
   copied_space z t k = ap₂ (λ (y : Store Node) (n : ℕ). record { limit = y.limit; node_slots = length y.slots; cell_slots = n }) nodes long
 
-  -- the blocks have the same sizes
+  -- the blocks of the copy have the same sizes
   pub copied_sizes : Sized v.slots → Sized v2.slots
   copied_sizes z = subst (λ (y : Store Node). Sized y.slots) (sym nodes) z
 
   abbrev laid_out : (y : Store Node) → List Tier → Sized y.slots → Layout
   laid_out y ts k = record { child_blocks = k.0; value_blocks = k.1.0; free_child_blocks = free_counts y.tiers; free_value_blocks = free_counts ts }
 
-  -- and so is the layout
+  -- the copy has the same layout
   pub copied_layout : (z : Sized v.slots) (t : Shaped v2.slots w2.slots) (k : Sized v2.slots) → (seen_of v2 w2 t.0 k).layout ≡ (seen_of v w s.0 z).layout
   copied_layout z t k =
       ap (λ (y : Store (Option T)). laid_out v2 y.tiers k) rest
       ∙ subst (λ (y : Store Node). (k : Sized y.slots) → laid_out y w.tiers k ≡ laid_out v w.tiers z) (sym nodes) (λ k. ap (laid_out v w.tiers) (Sized-prop v.slots k z)) k
 
-  -- if a clone is equal to its source, contracts see the same
+  -- if clones are equal to their sources, contracts see the same
   pub copied_same : (z : Sized v.slots) → ((x y : T) → C x y → y ≡ x) → (t : Shaped v2.slots w2.slots) (k : Sized v2.slots) →
       seen_of v2 w2 t.0 k ≡ seen_of v w s.0 z
   copied_same z law t k =

@@ -1,4 +1,4 @@
--- The nodes of a search path are added one chunk at a time: for insertions.
+-- An insertion adds the missing nodes of the search path one level at a time: the invariant of its loop.
 use Rattle.prefix_trie_table.proofs.Prelude.{◌≡◌, ◌≢◌, ℕ, ◌+◌, ◌<◌, ◌≤◌, ◌⊎◌, inl, inr, ⊎_elim, Bool, true, false, cond, not, nat_lt, ◌&&◌, ◌||◌, List, [], ◌∷◌, ◌++◌, length, get_or, take, Option, None, Some, is_some, refl, sym, ap, ap₂, ◌∙◌, subst, arith, length-take-le, take_more, take_at, take-take, false≢true, cases_lt, cases_eq, le-ltb, option_or, child_block_sizes, value_block_sizes, block_needed, child_need, value_need, Node, has_bit, rank, one_of, how_many, Tier, Store, AreFree, free_in, size_in, size_if_any, many_of, needs, same_path, is_start, gains, size_gained, one_if, IsSlot, NodesHold, CellsHold, Holds, Walked, EntryAdded, Deepest, ChildAdded, ValueSet, with_child, with_node, has_child, blank_node, node_at, node_sizes, cell_sizes}
 use Rattle.std.proofs.lemmas.List.{take_all}
 use Rattle.std.proofs.lemmas.Bool.{lt-ltb}
@@ -29,7 +29,7 @@ or_old true b = refl
 or_old false true = refl
 or_old false false = refl
 
--- nothing that a false test accepts, and everything else that a true one does
+-- a conjunction with a false test is false
 and_false : (a b : Bool) → (a && (b && false)) ≡ false
 and_false true true = refl
 and_false true false = refl
@@ -40,7 +40,7 @@ and_none true b = refl
 and_none false b = refl
 
 module _ (reading : List ℕ → Option Node) (path : List ℕ) where
-  -- a node deep enough gets no child, nor does one whose next node is there
+  -- a node at the depth of the loop or under it gets no child yet, and neither does a node whose next node exists
   gains_deep : (depth : ℕ) (q : List ℕ) → depth ≤ length q → gains reading path depth q ≡ false
   gains_deep depth q h =
       ap (λ b. is_start q path && (b && not (is_some (reading (take (length q + 1) path))))) (le-ltb (length q) depth h)
@@ -49,7 +49,7 @@ module _ (reading : List ℕ → Option Node) (path : List ℕ) where
   gains_there : (depth : ℕ) (q : List ℕ) → is_some (reading (take (length q + 1) path)) ≡ true → gains reading path depth q ≡ false
   gains_there depth q some = ap (λ b. is_start q path && (nat_lt (length q) depth && not b)) some ∙ and_false (is_start q path) (nat_lt (length q) depth)
 
-  -- the node where the search ends gets one
+  -- the node at which the search ends gets a child
   gains_here : (depth : ℕ) → depth < length path → is_some (reading (take (depth + 1) path)) ≡ false → gains reading path (depth + 1) (take depth path) ≡ true
   gains_here depth inside missing =
       let long : length (take depth path) ≡ depth = length-take-le depth path (omega arith) in
@@ -62,7 +62,7 @@ module _ (reading : List ℕ → Option Node) (path : List ℕ) where
       let r = is_start-is q path h in
       sym (ap (take (length q)) r.1 ∙ take_at q r.0 (length q) refl)
 
-  -- the others get one if they did before
+  -- each other node gets a child if it did before
   gains_other : (depth : ℕ) (q : List ℕ) → q ≢ take depth path → gains reading path (depth + 1) q ≡ gains reading path depth q
   gains_other depth q other = ⊎_elim (λ (e : length q ≡ depth). by_start e (is_start q path) refl)
       (λ (ne : length q ≢ depth). ap (λ b. is_start q path && (b && not (is_some (reading (take (length q + 1) path))))) (same_lt (length q) depth ne)) (cases_eq (length q) depth)
@@ -81,7 +81,7 @@ module _ (reading : List ℕ → Option Node) (path : List ℕ) where
         | inr more ↦ le-ltb n (d + 1) (omega arith) ∙ sym (le-ltb n d more)
       ]
 
-  -- the size that a node has which gets none, and one which gets one
+  -- the size of a node's block, if it gets a child and if it does not
   size_kept : (depth : ℕ) (q : List ℕ) → gains reading path depth q ≡ false → size_gained reading path depth q ≡ child_block_size (reading q)
   size_kept depth q e = ap (λ b. option_or (cond b (child_need (reading q)) None) (child_block_size (reading q))) e
 
@@ -89,7 +89,7 @@ module _ (reading : List ℕ → Option Node) (path : List ℕ) where
       size_gained reading path depth q ≡ option_or (child_need (reading q)) (child_block_size (reading q))
   size_new depth q e = ap (λ b. option_or (cond b (child_need (reading q)) None) (child_block_size (reading q))) e
 
--- a blank node has no block, and needs what a missing one needs
+-- a blank node has no block, and needs what a missing node needs
 blank_children : child_block_size (Some blank_node) ≡ None
 blank_children = ap (λ n. size_if_any n (size_in node_sizes 0)) rank-zero-all
 
@@ -107,7 +107,7 @@ or_none true b e = absurd (false≢true e)
 or_none false b e = refl
 
 module _ {T : Type 0} where
-  -- before the first step nothing was added
+  -- the invariant holds before the first level
   pub walked_start : (reading : List ℕ → Option Node) (values : List ℕ → ℕ → Option T) (paths : List (List ℕ)) (path : List ℕ) (depth slot : ℕ)
       (v : Store Node) (w : Store (Option T)) → Holds reading values paths v w → Deepest reading path depth slot v →
       Walked reading values paths path depth slot v w
@@ -132,7 +132,7 @@ module _ {T : Type 0} where
         | inr deep_enough ↦ gains_deep reading path depth q deep_enough
       ]
 
--- a child added is a step more
+-- adding a child keeps the invariant, one level further down
 module _ {T : Type 0} (reading : List ℕ → Option Node) (values : List ℕ → ℕ → Option T) (before : List (List ℕ)) (path : List ℕ) (depth slot c slot2 : ℕ)
     (v v2 : Store Node) (w : Store (Option T)) (a : Walked reading values before path depth slot v w) (inside : depth < length path)
     (digit : c ≡ get_or path depth 0) (missing : has_bit (node_at v.slots slot).child_bitmap c ≡ false)
@@ -218,7 +218,7 @@ module _ {T : Type 0} (reading : List ℕ → Option Node) (values : List ℕ �
     (slot_holds node_sizes more ((way ++ c ∷ []) ∷ a.paths) v2 one.hold (way ++ c ∷ []) slot2 blank_node one.stands (is_new (way ++ c ∷ []) refl)).0,
   )
 
--- a value put at the end of the path adds the entry
+-- storing the value at the end of the path adds the entry
 module _ {T : Type 0} (reading : List ℕ → Option Node) (values : List ℕ → ℕ → Option T) (before : List (List ℕ)) (path : List ℕ) (depth slot b : ℕ) (x : Option T)
     (v v2 : Store Node) (w u : Store (Option T)) (a : Walked reading values before path depth slot v w) (all : depth ≡ length path)
     (put : (nodes : List ℕ → Option Node) (paths : List (List ℕ)) (p : List ℕ) (n : Node) → NodesHold node_sizes nodes paths v →
@@ -266,19 +266,19 @@ module _ {T : Type 0} (reading : List ℕ → Option Node) (values : List ℕ �
     sized = λ none q. value_grows none q (same_or q path);
   }
 
--- what is left free once one list took its block
+-- the blocks that are still free after one list took its block
 pub free_next : (ts us : List Tier) (o : Option ℕ) (lists : ℕ) → AreFree ts (needs o lists) → ((size : ℕ) → free_in ts size ≤ free_in us size + one_of o size) → lists ≤ free_in us 1
 free_next ts us o lists free left =
     let d = many_here 1 lists in omega (arith, free 1, left 1, how_many-needs o lists 1, d)
 
--- what a blank node needs
+-- a blank node needs a block of one slot for its child
 pub blank_child : (n : Node) → n ≡ blank_node → child_need (Some n) ≡ Some 1
 blank_child n e = ap (λ (k : Node). child_need (Some k)) e ∙ blank_needs
 
 pub blank_value : (n : Node) → n ≡ blank_node → value_need (Some n) ≡ Some 1
 blank_value n e = ap (λ (k : Node). value_need (Some k)) e ∙ blank_value_needs
 
--- it is free if some of one slot are
+-- it is free if some block of one slot is
 pub free_one : (ts : List Tier) (o : Option ℕ) → o ≡ Some 1 → 0 < free_in ts 1 → AreFree ts (needs o 0)
 free_one ts o e some = λ size.
     let a = how_many-needs o 0 size in

@@ -1,4 +1,4 @@
--- A table after a call that only makes free blocks.
+-- A table after a call that only makes free blocks: for `reserve`.
 use Rattle.prefix_trie_table.proofs.Prelude.{◌≡◌, ℕ, false, Bool, List, Option, Result, MatchResult, sym, ap, ◌∙◌, subst, contains_key, Refusal, Memory, IndexRange, State, PreparesInStorage, RefusesInStorage, Node, Reached, SearchEnd, IsLast, ObtainsBoth, nodes_needed, cells_needed, Holds, Sized, EndsAt, seat_of, IsSearchEnd, Shaped, same_shape, Store, IsTable, ForHeld, Grows}
 use Rattle.std.specs.FinMap.{len as number_of}
 use Rattle.prefix_trie_table.proofs.Insertion.PredictedNeeds.{obtained}
@@ -12,7 +12,7 @@ use Rattle.prefix_trie_table.proofs.Tree.Shapes.{shape_kept}
 use Rattle.prefix_trie_table.proofs.Blocks.Sizing.{storage_of}
 use Rattle.prefix_trie_table.proofs.Tree.Trees.{is_none-None}
 
--- the search path that a table has for a missing string
+-- the search path of a string that is not stored
 module _ {T : Type 0} (v : Store Node) (w : Store (Option T)) (count : ℕ) (s : Shaped v.slots w.slots) (is : IsTable v w count s.0) (q : List Bool)
     (end : SearchEnd) (build : List Node) (same : v.slots ≡ build) where
   -- its end is the last node on it
@@ -29,15 +29,15 @@ module _ {T : Type 0} (v v2 : Store Node) (w w2 : Store (Option T)) (count : ℕ
   pub kept_holds : Holds is.reading is.values is.paths v2 w2
   kept_holds = kept is.reading is.paths is.values (some_table is).holds
 
-  -- they have the shape that there was
+  -- the arrays have the same shape
   abbrev pub kept_shape : Shaped v2.slots w2.slots
   kept_shape = (s.0, shape_kept is.reading is.values is.paths v v2 w w2 (some_table is).holds s.0 s.1 kept_holds)
 
-  -- and no other
+  -- they have no other shape
   pub kept_same : (t : Shaped v2.slots w2.slots) → t.0 ≡ s.0
   kept_same t = same_shape v2.slots w2.slots t.0 s.0 t.1 kept_shape.1
 
-  -- and are a table
+  -- the arrays are a table
   pub kept_table : Grows v v2 56 → Grows w w2 31 → (t : Shaped v2.slots w2.slots) → IsTable v2 w2 count t.0
   kept_table more_nodes more_cells t = record {
     reading = is.reading;
@@ -53,7 +53,7 @@ module _ {T : Type 0} (v v2 : Store Node) (w w2 : Store (Option T)) (count : ℕ
     cells_within = more_cells.within is.cells_within;
   }
 
-  -- with blocks of the sizes that there were
+  -- the used blocks have the sizes that they had
   pub kept_sizes : (sized : Sized v.slots) (later : Sized v2.slots) → (later.0 ≡ sized.0) × (later.1.0 ≡ sized.1.0)
   kept_sizes sized later = sizes_kept is.reading is.values is.paths v w (some_table is).holds s.0 s.1 sized v2 w2 later kept_holds
 
@@ -64,7 +64,7 @@ module _ {T : Type 0} (v v2 : Store Node) (w w2 : Store (Option T)) (count : ℕ
         let t = some_table is in
         last_ends v2 t.reading t.paths kept_holds.hold q here (last_still q here v at v2 t.reading t.paths t.holds.hold kept_holds.hold)
 
-    -- and what was obtained for it readies its insertion
+    -- what was made for the string is what its insertion needs
     pub kept_readies : {X : Type 0} (sized : Sized v.slots) (later : Sized v2.slots) (r : Result X Refusal) → Grows v v2 56 → Grows w w2 31 →
         ObtainsBoth (λ cause. cause ≡ IndexRange) (λ cause. cause ≡ Memory) r v v2 w w2 (nodes_needed here q) (cells_needed here q) →
         MatchResult r (λ _. PreparesInStorage s.0 q (storage_of v w sized) (storage_of v2 w2 later))

@@ -1,4 +1,4 @@
--- What contracts see of a table, before and after an insertion.
+-- The shape of the arrays, which is what contracts see of them, before and after an insertion.
 use Rattle.prefix_trie_table.proofs.Prelude.{◌≡◌, ℕ, ◌+◌, ◌<◌, ◌%◌, Bool, true, false, cond, ◌&&◌, ◌||◌, List, [], ◌∷◌, ◌++◌, length, get_or, map, Option, None, Some, is_some, Result, Ok, Err, MatchResult, IfOk, refl, sym, ap, ap₂, ◌∙◌, subst, arith, inl, inr, eqb-true, false≢true, cases_Bool, cases_lt, and_parts, get, get-insert, get-empty, len-insert, len-empty, contains_key, len, begins, same_bool, listing_total, same_string, no_entries, with_entry, has_node, is_node_depth, nodes_above, root_alone, with_needed, State, has-with_nodes, any-node_above, has-root_alone, same_string-is, is-same_string, Node, has_bit, rank, blank_node, node_at, node_sizes, cell_sizes, chunks_of, bit_of, Store, Sound, no_blocks, tier_sizes, read, value_in, value_of, same_path, one_if, is_start, Holds, EntryAdded, value_blocks_of, has_child, has_value, with_value, entry_count, SomeTable, IsShapeOf, Shaped, same_shape, IsTable, Grows}
 use Rattle.prefix_trie_table.specs.Forest.{held, size_in}
 use Rattle.prefix_trie_table.proofs.Tree.Invariant.{some_table}
@@ -29,15 +29,15 @@ module _ {T : Type 0} where
       | inr miss ↦ value_in-missing w.slots n b miss ∙ sym (is_none-None (values q b) (holds.cells.set_where q b ∙ ap (λ o. has_value o b) e ∙ miss))
     ]
 
-    -- each path reads its own node
+    -- reading along a path gives its node
     pub reads_node : (q : List ℕ) → read v.slots q ≡ reading q
     reads_node q = reads node_sizes reading paths v holds.hold q
 
-    -- each value is read by its path
+    -- reading a value along its path gives the value
     pub reads_value : (q : List ℕ) (b : ℕ) → value_of w.slots (read v.slots q) b ≡ values q b
     reads_value q b = ap (λ o. value_of w.slots o b) (reads_node q) ∙ value_at_node q b (reading q) refl
 
-    -- what the readings give is the shape of the arrays
+    -- nodes and entries that agree with the readings are the shape of the arrays
     pub shape_of : (s : State T) → ((q : List Bool) → has_node s.nodes q ≡ (is_node_depth q && is_some (reading (chunks_of q)))) →
         ((q : List Bool) → get s.entries q ≡ values (chunks_of q) (bit_of q)) → IsShapeOf v.slots w.slots s
     shape_of s nodes entries = (
@@ -46,11 +46,11 @@ module _ {T : Type 0} where
           ∙ sym (reads_value (chunks_of q) (bit_of q)),
     )
 
-    -- and the shape has these nodes
+    -- the shape has exactly the nodes that are read
     pub shape_nodes : (s : State T) → IsShapeOf v.slots w.slots s → (q : List Bool) → has_node s.nodes q ≡ (is_node_depth q && is_some (reading (chunks_of q)))
     shape_nodes s is q = is.0 q ∙ ap (λ o. is_node_depth q && is_some o) (reads_node (chunks_of q))
 
-    -- and these entries
+    -- the shape has exactly the values that are read
     pub shape_entries : (s : State T) → IsShapeOf v.slots w.slots s → (q : List Bool) → get s.entries q ≡ values (chunks_of q) (bit_of q)
     shape_entries s is q = is.1 q ∙ reads_value (chunks_of q) (bit_of q)
 
@@ -82,28 +82,28 @@ module _ {T : Type 0} where
         at_depth q true e = both (begins q key) (is_some (reading (chunks_of q))) (is_start (chunks_of q) (chunks_of key))
             (sym (begins-way q key (eqb-true (length q % 5) 0 e)))
 
-    -- and if nothing was
+    -- the shape if nothing was added
     pub shape_kept : (s : State T) → IsShapeOf v.slots w.slots s → Holds reading values paths v2 w2 → IsShapeOf v2.slots w2.slots s
     shape_kept s is later = shape_of reading values paths v2 w2 later s (shape_nodes reading values paths v w holds s is)
         (shape_entries reading values paths v w holds s is)
 
--- the table with the root alone
+-- the readings of a table with the root alone
 abbrev pub root_reading : List ℕ → Option Node
 root_reading q = cond (same_path q []) (Some blank_node) None
 
 root_below : (q : List ℕ) (c : ℕ) → root_reading (q ++ c ∷ []) ≡ None
 root_below q c = ap (λ b. cond b (Some blank_node) None) (same_path-not (q ++ c ∷ []) [] (snoc_not_nil q c))
 
--- there the root is blank
+-- the root of such a table is blank
 pub root_here : root_reading [] ≡ Some blank_node
 root_here = ap (λ b. cond b (Some blank_node) None) (same_path-itself [])
 
--- the root alone has no values
+-- such a table has no entries
 pub root_counted : entry_count root_reading ([] ∷ []) ≡ 0
 root_counted = omega (arith, rank-zero-all)
 
 module _ {T : Type 0} where
-  -- no values at all
+  -- the readings of no values
   abbrev pub no_values : List ℕ → ℕ → Option T
   no_values q b = None
 
@@ -141,11 +141,11 @@ module _ {T : Type 0} where
       count true = refl
       count false = refl
 
-  -- the shape of the root alone
+  -- the shape of a table with the root alone
   abbrev pub root_shape : State T
   root_shape = record { entries = no_entries; nodes = root_alone }
 
-  -- it is that of two new arrays
+  -- it is the shape of two new arrays
   pub shaped_root : (v : Store Node) (w : Store (Option T)) → Holds root_reading no_values ([] ∷ []) v w → IsShapeOf v.slots w.slots root_shape
   shaped_root v w holds = shape_of root_reading no_values ([] ∷ []) v w holds root_shape
       (λ q. has-root_alone q ∙ at_root q ∙ ap (λ b. is_node_depth q && b) (either (same_path (chunks_of q) [])))
@@ -161,7 +161,7 @@ module _ {T : Type 0} where
           (λ h. let w = and_parts (is_node_depth q) (same_path (chunks_of q) []) h in
           is-same_string q [] (same_above q [] (eqb-true (length q % 5) 0 w.0) refl (same_path-true (chunks_of q) [] w.1)))
 
--- a limit that is not none is one slot at least
+-- a limit that is not 0 is at least 1
 pub some_limit : (limit : ℕ) → (limit ≡ 0 → ⊥) → 0 < limit
 some_limit limit h = elim (cases_lt 0 limit) as (λ _. 0 < limit) [
   | inl some ↦ some
@@ -172,21 +172,21 @@ some_limit limit h = elim (cases_lt 0 limit) as (λ _. 0 < limit) [
 module _ {T : Type 0} (v : Store Node) (w : Store (Option T)) (limit : ℕ)
     (v_is : v ≡ record { slots = blank_node ∷ []; first = 1; tiers = map no_blocks node_sizes; limit = limit; capacity = v.capacity }) (v_sound : Sound blank_node [] v)
     (w_is : w ≡ record { slots = []; first = 0; tiers = map no_blocks cell_sizes; limit = limit; capacity = w.capacity }) (w_sound : Sound None [] w) where
-  -- two new arrays hold the root alone
+  -- its arrays hold the root alone
   pub new_holds : Holds root_reading no_values ([] ∷ []) v w
   new_holds =
       root_holds v w (ap (λ (x : Store Node). x.slots) v_is) (ap (λ (x : Store Node). x.first) v_is) (ap (λ (x : Store Node). x.tiers) v_is) v_sound
       (ap (λ (x : Store (Option T)). x.tiers) w_is) w_sound
 
-  -- they have the shape of the root alone
+  -- its shape is that of the root alone
   pub new_shape : IsShapeOf v.slots w.slots root_shape
   new_shape = shaped_root v w new_holds
 
-  -- and no other
+  -- it has no other shape
   pub new_only : (s : Shaped v.slots w.slots) → s.0 ≡ root_shape
   new_only s = same_shape v.slots w.slots s.0 root_shape s.1 new_shape
 
-  -- and are a table without entries
+  -- it is a table without entries
   pub new_table : 0 < limit → (s : Shaped v.slots w.slots) → IsTable v w 0 s.0
   new_table some s = record {
     reading = root_reading;
@@ -202,12 +202,12 @@ module _ {T : Type 0} (v : Store Node) (w : Store (Option T)) (limit : ℕ)
     cells_within = (let n = ap (λ (x : Store (Option T)). length x.slots) w_is in omega (arith, n));
   }
 
--- one entry more, or as many
+-- the number of entries after an insertion, which is one more or the same
 one_more : (c n l : ℕ) (b : Bool) → c ≡ l → n + one_if b ≡ c + 1 → n ≡ cond b l (l + 1)
 one_more c n l true e f = omega (arith, e, f)
 one_more c n l false e f = omega (arith, e, f)
 
--- an insertion: what it leaves of the table
+-- an insertion, and what it leaves of the table
 module _ {T : Type 0} (key : List Bool) (x : T) (v v2 : Store Node) (w w2 : Store (Option T)) (count count2 : ℕ) (s : Shaped v.slots w.slots)
     (is : IsTable v w count s.0) where
   held_by : Holds is.reading is.values is.paths v w
@@ -217,34 +217,34 @@ module _ {T : Type 0} (key : List Bool) (x : T) (v v2 : Store Node) (w w2 : Stor
   entry_is = shape_entries is.reading is.values is.paths v w held_by s.0 s.1 key
 
   module _ {E : Type 0} where
-    -- what the call says of the values and the nodes of the old arrays
+    -- what the insertion says about the nodes and values of the old arrays
     abbrev pub Leaves : Result (Option T) E → Type 0
     Leaves r =
         (reading : List ℕ → Option Node) (paths : List (List ℕ)) (values : List ℕ → ℕ → Option T) → Holds reading values paths v w
         → MatchResult r (λ before. (before ≡ values (chunks_of key) (bit_of key)) ×
         EntryAdded reading values paths (chunks_of key) (bit_of key) (Some x) v2 w2) (λ _. Holds reading values paths v2 w2)
 
-    -- what an insertion leaves of the count
+    -- how the insertion changes the number of entries
     abbrev pub Counts : Result (Option T) E → Type 0
     Counts r = MatchResult r (λ before. count2 + one_if (is_some before) ≡ count + 1) (λ _. count2 ≡ count)
 
-    -- the shape that is left
+    -- the shape that the insertion leaves
     abbrev pub shape_left : Result (Option T) E → State T
     shape_left (Ok before) = shape_with s.0 key x
     shape_left (Err e) = s.0
 
-    -- what an insertion leaves is the shape of what it leaves of the arrays
+    -- the arrays have that shape
     pub left_is : (r : Result (Option T) E) → Leaves r → IsShapeOf v2.slots w2.slots (shape_left r)
     left_is (Ok before) left = shape_added is.reading is.values is.paths v v2 w w2 held_by key x s.0 s.1
         (left is.reading is.paths is.values held_by).1
     left_is (Err e) left = shape_kept is.reading is.values is.paths v v2 w w2 held_by s.0 s.1
         (left is.reading is.paths is.values held_by)
 
-    -- so these have a shape
+    -- so the arrays have a shape
     pub left_shape : (r : Result (Option T) E) → Leaves r → Shaped v2.slots w2.slots
     left_shape r left = (shape_left r, left_is r left)
 
-    -- and no other
+    -- they have no other shape
     pub left_only : (r : Result (Option T) E) → Leaves r → (t : Shaped v2.slots w2.slots) → t.0 ≡ shape_left r
     left_only r left t = same_shape v2.slots w2.slots t.0 (shape_left r) t.1 (left_is r left)
 
@@ -268,7 +268,7 @@ module _ {T : Type 0} (key : List Bool) (x : T) (v v2 : Store Node) (w w2 : Stor
         ∙ sym (len-insert listing_total s.0.entries key x)
     sized_left (Err e) left counts = counts ∙ is.sized
 
-    -- and are a table
+    -- they are a table
     pub table_left : (r : Result (Option T) E) → Leaves r → Counts r → Grows v v2 56 → Grows w w2 31 → (t : Shaped v2.slots w2.slots) →
         IsTable v2 w2 count2 t.0
     table_left r left counts nodes cells t = let held = counted_left r left counts in record {

@@ -1,4 +1,4 @@
--- A call that changes a table is a step of the model.
+-- A call that changes a table is a step of the model, including its storage: for each call.
 use Rattle.prefix_trie_table.proofs.Prelude.{◌≡◌, ℕ, ◌+◌, ◌<◌, ◌≤◌, inl, inr, Bool, true, false, cond, List, [], ◌∷◌, length, Option, Result, Ok, Err, IfErr, MatchResult, is_some, refl, sym, ap, ◌∙◌, true≢false, subst, arith, get, contains_key, len, Refused, Refusal, IndexRange, RetainsEntries, no_entries, without_entry, without_below, root_alone, with_needed, nodes_without, nodes_without_below, needed, AreNodes, MayPassLimit, LeavesSpace, listing, State, Reply, Step, Insert, Remove, RemoveKeepTree, RemoveChildren, Clear, Done, Storage, empty_storage, InsertsInStorage, RefusesInStorage, RemovesValueInStorage, PrunesInStorage, RemovesManyInStorage, LeavesStorage, StepByPath, RetainsInStorage, Node, Sized, PreservesBelow, Shaped, insert_reply, BoundsStorageGrowth, Store, free_counts, IsTable, Grows, MayPass}
 use Rattle.prefix_trie_bits.specs.Model.Step.{Value}
 use Rattle.prefix_trie_table.proofs.Tree.Invariant.{some_table}
@@ -10,7 +10,7 @@ use Rattle.prefix_trie_table.proofs.Blocks.Sizing.{storage_of}
 use Rattle.prefix_trie_table.proofs.Removal.Stepped.{retained_values, retained_children}
 use Rattle.prefix_trie_table.proofs.Removal.Still.{nodes_bounded, cells_bounded, still}
 
--- what the empty string begins is all
+-- every string begins with the empty string, so removing all that begins with it is a `Clear`
 pub all_step : {T : Type 0} (key_width : ℕ) (s t : State T × Storage) (q : List Bool) → length q ≡ 0 → AreNodes key_width s.0.entries s.0.nodes →
     ((width : ℕ) → StepByPath width s Clear Done t) → (width : ℕ) → StepByPath width s (RemoveChildren q) Done t
 all_step key_width s t [] none are h width = record {
@@ -38,7 +38,7 @@ module _ {T : Type 0} (v v2 : Store Node) (w w2 : Store (Option T)) (count count
   cells_within : length w2.slots ≤ v2.limit
   cells_within = (let h = left.cells_within in let e = left.one_limit in omega (arith, h, e))
 
-  -- so 56 slots at most are no more than 56 for each node
+  -- at most 56 new slots are at most 56 for each node
   few_slots : v2.limit ≡ v.limit → length v2.slots ≤ length v.slots + 56 → length w2.slots ≤ length w.slots + 56 →
       LeavesSpace (len s.0.nodes) (storage_of v w z).space (storage_of v2 w2 z2).space
   few_slots limit nodes cells = record {
@@ -151,7 +151,7 @@ module _ {T : Type 0} (v v2 : Store Node) (w w2 : Store (Option T)) (count count
   -- ---- one is added
 
   module _ (q : List Bool) (x : T) where
-    -- what the insertion of a missing key says of the arrays
+    -- what the insertion of a missing key says about the arrays
     pub record Inserts (r : Result (Option T) (Refused T)) : Type 0 where
       pub leaves : Leaves q x v v2 w w2 count count2 s is r
       pub absent : contains_key s.0.entries q ≡ false

@@ -1,4 +1,4 @@
--- What a table has at the places of a node and under them.
+-- What a table has at the places of a node and under them: for walks and `retain`.
 use Rattle.prefix_trie_table.proofs.Prelude.{◌≡◌, ℕ, ◌+◌, ◌%◌, ◌^◌, ◌<◌, ◌≤◌, Bool, true, false, cond, List, [], ◌∷◌, ◌++◌, length, drop, get_or, Option, None, Some, is_some, refl, sym, ap, ap₂, ◌∙◌, subst, arith, inl, inr, append-nil, length-append, ◌==◌, false≢true, cases_lt, le-ltb, get, number, begins, begins-rest, number-lt, has, value_bit, is_in, places, has_node, is_node_depth, listing_below, listing_at_place, listing_at_places, value_bit-small, listing_by_node_places, listing_at_value, listing_at_no_value, listing_at_child, listing_below_none, Node, has_bit, rank, node_at, node_sizes, cell_sizes, chunks_of, bit_of, Store, read, read_from, below, child, child_slot, has_value, value_of, at_root, Tree, IsTrie}
 use Rattle.std.proofs.lemmas.Bool.{lt-ltb}
 use Rattle.prefix_trie_table.proofs.Strings.Plain.{both_true, no_or_yes}
@@ -12,7 +12,7 @@ use Rattle.prefix_trie_table.proofs.Strings.Digits.{short_path, five_path}
 pub use Rattle.prefix_trie_table.proofs.Strings.Digits.{path-append}
 use Rattle.prefix_trie_table.proofs.Strings.Digits.{ways-append}
 
--- no step leads anywhere from nowhere
+-- from a missing node, every path leads to nothing
 pub read_from-none : (nodes : List Node) (p : List ℕ) → read_from nodes None p ≡ None
 read_from-none nodes [] = refl
 read_from-none nodes (c ∷ p) = read_from-none nodes p
@@ -36,19 +36,19 @@ is_in-value values children s h = ap (λ c. cond c (has values (value_bit s)) (h
 pub is_in-child : (values children : ℕ) (s : List Bool) → length s ≡ 5 → is_in values children s ≡ has children (number s)
 is_in-child values children s h = ap (λ c. cond c (has values (value_bit s)) (has children (number s))) (le-ltb (length s) 5 (omega arith))
 
--- a child's number is one of 32
+-- the number of a child is below 32
 pub number-small : (s : List Bool) → length s ≡ 5 → number s < 32
 number-small s h = subst (λ n. number s < 2 ^ n) h (number-lt s)
 
 module _ {T : Type 0} (width : ℕ) (v : Store Node) (t : Tree T) (tree : IsTrie width t.count v t.cells t.shape) where
-  -- under a string without nodes nothing is stored
+  -- nothing is stored under a string without a node
   pub nothing_below : (q : List Bool) → length q % 5 ≡ 0 → read v.slots (chunks_of q) ≡ None → listing_below t.shape.entries q ≡ []
   nothing_below q whole missing = listing_below_none t.shape.entries q (λ k has. no_or_yes (begins q k) (λ e.
       let way : chunks_of k ≡ chunks_of q ++ chunks_of (drop (length q) k) = ap chunks_of (begins-rest q k e) ∙ path-append q (drop (length q) k) whole in
       let none : read v.slots (chunks_of k) ≡ None = ap (read v.slots) way ∙ read-missing v.slots (chunks_of q) (chunks_of (drop (length q) k)) missing in
       absurd (false≢true (sym (ap is_some (tree.shaped.1 k ∙ ap (λ o. value_of t.cells.slots o (bit_of k)) none)) ∙ has))))
 
-  -- a node that is there has no value bit 31
+  -- no node has value bit 31
   pub few_at : (p : List ℕ) (n : Node) → read v.slots p ≡ Some n → has_bit n.value_bitmap 31 ≡ false
   few_at p n is =
       let h = has_nodes v t.cells (some_table tree.table) in h.1 p n (sym (reads node_sizes h.0.reading h.0.paths v h.0.hold p) ∙ is)
@@ -81,12 +81,12 @@ module _ {T : Type 0} (width : ℕ) (v : Store Node) (t : Tree T) (tree : IsTrie
           tree.table.cells.set_where (chunks_of q) (value_bit s) ∙ ap (λ o. has_value o (value_bit s)) node_is
           ∙ has_bit-is n.value_bitmap (value_bit s) bit_small
 
-      -- if it is not set nothing is stored
+      -- if the bit is clear, nothing is stored
       no_value_there : has n.value_bitmap (value_bit s) ≡ false → get t.shape.entries (q ++ s) ≡ None
       no_value_there clear = value_is ∙ is_none-None (tree.table.values (chunks_of q) (value_bit s)) (has_value_is ∙ clear)
 
       module _ (set : has n.value_bitmap (value_bit s) ≡ true) where
-        -- if it is set a value is stored
+        -- if the bit is set, a value is stored
         value_there : (x : T) × (get t.shape.entries (q ++ s) ≡ Some x)
         value_there = some-is (get t.shape.entries (q ++ s)) (ap is_some value_is ∙ has_value_is ∙ set)
 
@@ -96,7 +96,7 @@ module _ {T : Type 0} (width : ℕ) (v : Store Node) (t : Tree T) (tree : IsTrie
             let h = value_stands cell_sizes node_sizes tree.table.reading tree.table.paths v tree.table.nodes tree.table.values t.cells tree.table.cells (chunks_of q) n (value_bit s) node_is (has_bit-is n.value_bitmap (value_bit s) bit_small ∙ set) in
             (h.1, h.2)
 
-        -- the value that is stored
+        -- the stored value
         pub stored_value : T
         stored_value = value_there.0
 
@@ -107,12 +107,12 @@ module _ {T : Type 0} (width : ℕ) (v : Store Node) (t : Tree T) (tree : IsTrie
         pub value_inside : n.value_block + rank n.value_bitmap (value_bit s) < length t.cells.slots
         value_inside = cell_there.1
 
-        -- the listing has it at this place
+        -- the listing has the value at this place
         pub value_listed : listing_at_place t.shape.entries q s ≡ (q ++ s, stored_value) ∷ []
         unfolding stored_value
         value_listed = listing_at_value t.shape.entries q s value_there.0 short value_there.1
 
-        -- and its key is no longer than the width
+        -- the key is within the width
         pub value_fits : length q + length s ≤ width
         value_fits =
             let h = tree.within (q ++ s) (ap is_some value_there.1) in omega (arith, h, length-append q s)
@@ -140,18 +140,18 @@ module _ {T : Type 0} (width : ℕ) (v : Store Node) (t : Tree T) (tree : IsTrie
         child_set : has_bit n.child_bitmap (number s) ≡ true
         child_set = has_bit-is n.child_bitmap (number s) child_small ∙ set
 
-        -- if it is set there is a node
+        -- if the bit is set, there is a child
         pub child_is : read v.slots (chunks_of (q ++ s)) ≡ Some (node_at v.slots (child_slot n (number s)))
         child_is = child_read ∙ child-there v.slots n (number s) child_set
 
         pub child_inside : child_slot n (number s) < length v.slots
         child_inside = (child_stands node_sizes tree.table.reading tree.table.paths v tree.table.nodes (chunks_of q) n (number s) node_is child_set).2
 
-        -- which has no value bit 31
+        -- the child has no value bit 31
         pub child_few : has_bit (node_at v.slots (child_slot n (number s))).value_bitmap 31 ≡ false
         child_few = few_at (chunks_of (q ++ s)) (node_at v.slots (child_slot n (number s))) child_is
 
-        -- and its string is no longer than the width
+        -- the string of the child is within the width
         pub child_fits : length q + 5 ≤ width
         child_fits =
             let there : has_node t.shape.nodes (q ++ s) ≡ true = tree.shaped.0 (q ++ s) ∙ both_true (is_node_depth (q ++ s)) _ (ap (λ k. k == 0) longer) (ap is_some child_is) in
@@ -169,6 +169,6 @@ module _ {T : Type 0} (width : ℕ) (v : Store Node) (t : Tree T) (tree : IsTrie
           listing_at_child t.shape.entries q s five ∙ no_child_there s five (sym (is_in-child n.value_bitmap n.child_bitmap s five) ∙ clear)
     ]
 
-    -- what is under a node is at its places
+    -- what is under a node is what is at its places
     pub all_places : listing_at_places t.shape.entries q (places n.value_bitmap n.child_bitmap) ≡ listing_below t.shape.entries q
     all_places = listing_by_node_places t.shape.entries q n.value_bitmap n.child_bitmap unset

@@ -1,4 +1,4 @@
--- The node array read by paths.
+-- The nodes of an array, read by paths: each block of children holds the children of its node.
 use Rattle.prefix_trie_table.proofs.Prelude.{◌≡◌, ◌≢◌, ℕ, ◌<◌, ◌≤◌, inl, inr, true, false, cond, List, [], ◌∷◌, ◌++◌, length, set, flat_map, Option, None, Some, is_some, IsPermutation, refl, sym, ap, ◌∙◌, subst, arith, false≢true, cases_Bool, IsPermutation-sym, IsPermutation-trans, IsPermutation-append_right, Node, has_bit, rank, Store, UsedBlock, Sound, block, child_slot, child, below, read_from, read, same_path, one_if, times, without, node_or_blank, has_child, child_items, child_blocks_of, child_blocks, IsSlot, at_root, at_child, NodesHold, blank_node, node_at}
 use Rattle.prefix_trie_table.specs.Forest.{held, size_in}
 use Rattle.prefix_trie_table.proofs.Blocks.Soundness.{Sound-permuted, first_place, Sound-set, Sound-set_before, slot_of_block, block_inside, fits_block}
@@ -7,7 +7,7 @@ use Rattle.std.proofs.lemmas.List.{length-set}
 use Rattle.prefix_trie_table.proofs.Strings.BitLists.{map_get, map_set, map_same}
 use Rattle.prefix_trie_table.proofs.Strings.Paths.{same_path-itself, same_path-not, snoc_ind, snoc_inj, snoc_not_nil, times_without, swap_fronts, flat_map_out, flat_map_same}
 
--- what a list that is not empty is held in
+-- a list with items is held in one block
 pub held_some : {S : Type 0} (k start size : ℕ) (xs : List S) → 0 < length xs → held k start size xs ≡ block k start size xs ∷ []
 held_some k start size [] h = absurd (omega arith)
 held_some k start size (x ∷ xs) h = refl
@@ -22,7 +22,7 @@ module _ (nodes : List Node) where
   unfolding read
   read-nil = refl
 
-  -- a step more leads to a child
+  -- one more step leads to a child
   pub read-snoc : (p : List ℕ) (c : ℕ) → read nodes (p ++ c ∷ []) ≡ below nodes (read nodes p) c
   unfolding read
   read-snoc p c = read_from-snoc nodes (Some (node_at nodes 0)) p c
@@ -45,12 +45,12 @@ is_some-Some (Some x) h = refl
 
 -- the blocks of all nodes, with those of one node first
 module _ (sizes : List ℕ) (nodes : List ℕ → Option Node) (paths : List (List ℕ)) where
-  -- the blocks of one node can be put first
+  -- the blocks of one node can be listed first
   pub node_first : {S : Type 0} (vacant : S) (f : List ℕ → List (UsedBlock S)) (v : Store S) (p : List ℕ) → 0 < times p paths →
       Sound vacant (flat_map f paths) v → Sound vacant (f p ++ flat_map f (without p paths)) v
   node_first vacant f v p h s = Sound-permuted vacant (flat_map f paths) (f p ++ flat_map f (without p paths)) v (flat_map_out f p paths h) s
 
-  -- and back
+  -- and back in their place
   pub node_back : {S : Type 0} (vacant : S) (f : List ℕ → List (UsedBlock S)) (v : Store S) (p : List ℕ) → 0 < times p paths →
       Sound vacant (f p ++ flat_map f (without p paths)) v → Sound vacant (flat_map f paths) v
   node_back vacant f v p h s = Sound-permuted vacant (f p ++ flat_map f (without p paths)) (flat_map f paths) v
@@ -65,7 +65,7 @@ module _ (sizes : List ℕ) (nodes : List ℕ → Option Node) (paths : List (Li
   abbrev block_of : List ℕ → Node → UsedBlock Node
   block_of p n = block n.child_tier n.child_block (size_in sizes n.child_tier) (child_items nodes p n.child_bitmap)
 
-  -- a node's own blocks first
+  -- the blocks of one node are listed first
   pub own_first : (p : List ℕ) (n : Node) → nodes p ≡ Some n →
       Sound blank_node (held n.child_tier n.child_block (size_in sizes n.child_tier) (child_items nodes p n.child_bitmap) ++ flat_map
       (child_blocks sizes nodes) (without p paths)) v
@@ -74,14 +74,14 @@ module _ (sizes : List ℕ) (nodes : List ℕ → Option Node) (paths : List (Li
       subst (λ o. Sound blank_node (child_blocks_of sizes nodes p o ++ flat_map (child_blocks sizes nodes) (without p paths)) v) e
       (node_first sizes nodes paths blank_node (child_blocks sizes nodes) v p h hold.sound)
 
-  -- the children's block of one node, first among all
+  -- the block of the children of one node is listed first
   pub block_first : (p : List ℕ) (n : Node) → nodes p ≡ Some n → 0 < length (child_items nodes p n.child_bitmap) →
       Sound blank_node (block_of p n ∷ flat_map (child_blocks sizes nodes) (without p paths)) v
   block_first p n e h =
       subst (λ bs. Sound blank_node (bs ++ flat_map (child_blocks sizes nodes) (without p paths)) v)
       (held_some n.child_tier n.child_block (size_in sizes n.child_tier) (child_items nodes p n.child_bitmap) h) (own_first p n e)
 
-  -- where a child is
+  -- in which slot a child is
   pub child_stands : (p : List ℕ) (n : Node) (c : ℕ) → nodes p ≡ Some n → has_bit n.child_bitmap c ≡ true
       → (rank n.child_bitmap c < length (child_items nodes p n.child_bitmap)) ×
       (node_at v.slots (child_slot n c) ≡ node_or_blank (nodes (p ++ c ∷ []))) × (child_slot n c < length v.slots) × (0 < child_slot n c)
@@ -111,14 +111,14 @@ module _ (sizes : List ℕ) (nodes : List ℕ → Option Node) (paths : List (Li
   reads = snoc_ind (λ q. read v.slots q ≡ nodes q) (read-nil v.slots ∙ sym hold.rooted)
       (λ q c ih. read-snoc v.slots q c ∙ ap (λ o. below v.slots o c) ih ∙ reads_below q c (nodes q) refl)
 
-  -- what is in a slot
+  -- what the slot of a node holds
   pub slot_holds : (p : List ℕ) (s : ℕ) (n : Node) → IsSlot nodes p s → nodes p ≡ Some n → (node_at v.slots s ≡ n) × (s < length v.slots)
   slot_holds p s n (at_root) e =
       let z : Some (node_at v.slots 0) ≡ Some n = sym hold.rooted ∙ e in
       (ap node_or_blank z, (let w = first_place blank_node _ v hold.sound in let f = hold.first_is in omega arith))
   slot_holds p s n (at_child q c m is bit) e = let w = child_stands q m c is bit in (w.1 ∙ ap node_or_blank e, w.2)
 
--- a node whose children are the same
+-- a node with the same children has the same block of children
 child_blocks_of-same : (sizes : List ℕ) (nodes later : List ℕ → Option Node) (q : List ℕ) (o : Option Node) →
     ((c : ℕ) → later (q ++ c ∷ []) ≡ nodes (q ++ c ∷ [])) → child_blocks_of sizes later q o ≡ child_blocks_of sizes nodes q o
 child_blocks_of-same sizes nodes later q None below = refl
@@ -127,12 +127,12 @@ child_blocks_of-same sizes nodes later q (Some n) below =
     (map_same (λ c. node_or_blank (nodes (q ++ c ∷ []))) (λ c. node_or_blank (later (q ++ c ∷ []))) n.child_bitmap n.child_bitmap (λ i. refl)
     (λ c. ap node_or_blank (below c)))
 
--- the same node and the same children have the same block
+-- the same node with the same children has the same block
 pub child_blocks-same : (sizes : List ℕ) (nodes later : List ℕ → Option Node) (q : List ℕ) → later q ≡ nodes q →
     ((c : ℕ) → later (q ++ c ∷ []) ≡ nodes (q ++ c ∷ [])) → child_blocks sizes later q ≡ child_blocks sizes nodes q
 child_blocks-same sizes nodes later q here below = ap (child_blocks_of sizes later q) here ∙ child_blocks_of-same sizes nodes later q (nodes q) below
 
--- a list's first p is out
+-- removing p from a list of paths leaves the other paths
 pub times_out : (p q : List ℕ) (paths : List (List ℕ)) → 0 < times p paths → q ≢ p → times q (without p paths) ≡ times q paths
 times_out p q paths h other =
     let e = times_without p q paths h in
@@ -144,7 +144,7 @@ times_out_same p paths h =
     let z : one_if (same_path p p) ≡ 1 = ap one_if (same_path-itself p) in omega arith
 
 module _ (sizes : List ℕ) (nodes : List ℕ → Option Node) (paths : List (List ℕ)) (v : Store Node) (hold : NodesHold sizes nodes paths v) where
-  -- the node at p becomes m, in the block of its parent or before the first block
+  -- the node at p becomes m, in the block of its parent or, for the root, before the first block
   pub node_set : (rest : List (List ℕ)) (p : List ℕ) (s : ℕ) (n m : Node) (later : List ℕ → Option Node) (own : List (UsedBlock Node)) (u : Store Node)
       → ((q : List ℕ) (c : ℕ) → q ++ c ∷ [] ≡ p → times q rest ≡ 1)
       → IsSlot nodes p s → nodes p ≡ Some n → u.first ≡ 1

@@ -1,4 +1,4 @@
--- The cells read by paths, after changes of nodes and of values.
+-- The values of an array, read by paths, after changes of nodes and of values.
 use Rattle.prefix_trie_table.proofs.Prelude.{◌≡◌, ◌≢◌, ℕ, ◌+◌, ◌<◌, ◌≤◌, ◌⊎◌, inl, inr, true, false, cond, List, [], ◌∷◌, ◌++◌, length, get_or, set, insert, remove, map, flat_map, Option, None, Some, is_some, refl, sym, ap, ◌∙◌, subst, arith, length-insert, Node, has_bit, bits, rank, Store, UsedBlock, Sound, block, one_if, times, without, has_value, has_child, NodesHold, CellsHold, value_blocks, value_blocks_of, with_child, with_child_removed, with_node, with_value, blank_node}
 use Rattle.std.proofs.lemmas.List.{length-set}
 use Rattle.prefix_trie_table.specs.Forest.{held, size_in, tier_sizes}
@@ -9,7 +9,7 @@ use Rattle.prefix_trie_table.proofs.Strings.Paths.{same_path-equal, same_path-no
 use Rattle.prefix_trie_table.proofs.Tree.Trees.{is_none-None, held_some, node_first, node_back, listed_once, times_out_same}
 use Rattle.prefix_trie_table.proofs.Tree.Children.{bits-zero, bits-none, same_or, number_or, changed_below, changed_here, changed_other, with_here, with_other, changed, not_listed}
 
--- a value that was replaced, and the others
+-- the value that was replaced, and the other values
 module _ {T : Type 0} (values : List ℕ → ℕ → Option T) (p : List ℕ) (b : ℕ) (x : Option T) where
   value_here : (q : List ℕ) (i : ℕ) → q ++ i ∷ [] ≡ p ++ b ∷ [] → with_value values p b x q i ≡ x
   value_here q i e = ap (λ t. cond t x (values q i)) (same_path-equal (q ++ i ∷ []) (p ++ b ∷ []) e)
@@ -32,7 +32,7 @@ module _ {T : Type 0} (sizes node_sizes : List ℕ) (nodes : List ℕ → Option
   abbrev block_of : List ℕ → Node → UsedBlock (Option T)
   block_of p n = block n.value_tier n.value_block (size_in sizes n.value_tier) (items_of p n)
 
-  -- a node's own values first
+  -- the values of one node are listed first
   held_first : (w : Store (Option T)) → Sound None (flat_map (value_blocks sizes nodes values) paths) w → (p : List ℕ) (n : Node) → nodes p ≡ Some n →
       Sound None (held n.value_tier n.value_block (size_in sizes n.value_tier) (items_of p n) ++ flat_map (value_blocks sizes nodes values) (without p paths)) w
   held_first w sound p n e =
@@ -40,14 +40,14 @@ module _ {T : Type 0} (sizes node_sizes : List ℕ) (nodes : List ℕ → Option
       subst (λ o. Sound None (value_blocks_of sizes values p o ++ flat_map (value_blocks sizes nodes values) (without p paths)) w) e
       (node_first sizes nodes paths None (value_blocks sizes nodes values) w p h sound)
 
-  -- which are one block if there are any
+  -- they are in one block, if the node has any
   block_first : (w : Store (Option T)) → Sound None (flat_map (value_blocks sizes nodes values) paths) w → (p : List ℕ) (n : Node) → nodes p ≡ Some n →
       0 < length (items_of p n) → Sound None (block_of p n ∷ flat_map (value_blocks sizes nodes values) (without p paths)) w
   block_first w sound p n e some =
       subst (λ bs. Sound None (bs ++ flat_map (value_blocks sizes nodes values) (without p paths)) w)
       (held_some n.value_tier n.value_block (size_in sizes n.value_tier) (items_of p n) some) (held_first w sound p n e)
 
-  -- what the node at p holds is another list, and all others hold what they held
+  -- the node at p holds another list, and all other nodes hold what they held
   pub cells_changed : (p : List ℕ) (n : Node) (own : List (UsedBlock (Option T))) (later : List ℕ → Option Node) (after : List ℕ → ℕ → Option T)
       (u : Store (Option T))
       → nodes p ≡ Some n → value_blocks sizes later after p ≡ own →
@@ -61,7 +61,7 @@ module _ {T : Type 0} (sizes node_sizes : List ℕ) (nodes : List ℕ → Option
       (subst (λ bs. Sound None (bs ++ flat_map (value_blocks sizes later after) (without p paths)) u) (sym own_is)
       (subst (λ bs. Sound None (own ++ bs) u) (sym rest) sound))
 
-  -- a value that is set is another: its block has it
+  -- a stored value is replaced in its block
   pub value_put : (w : Store (Option T)) → Sound None (flat_map (value_blocks sizes nodes values) paths) w → (p : List ℕ) (n : Node) (b : ℕ) (x : Option T)
       (later : List ℕ → Option Node) → nodes p ≡ Some n → has_bit n.value_bitmap b ≡ true → later p ≡ Some n → ((q : List ℕ) → q ≢ p → later q ≡ nodes q)
       → Sound None (flat_map (value_blocks sizes later (with_value values p b x)) paths) (record w { slots = set w.slots (n.value_block + rank n.value_bitmap b) x })
@@ -82,13 +82,13 @@ module _ {T : Type 0} (sizes node_sizes : List ℕ) (nodes : List ℕ → Option
       (block_first w sound p n is (let y = g.0 in omega arith)))
 
   module _ (w : Store (Option T)) (cells : CellsHold sizes nodes values paths w) where
-    -- a node's own values first
+    -- the values of one node are listed first
     pub values_first : (p : List ℕ) (n : Node) → nodes p ≡ Some n →
         Sound None (held n.value_tier n.value_block (size_in sizes n.value_tier) (map (values p) (bits n.value_bitmap)) ++ flat_map
         (value_blocks sizes nodes values) (without p paths)) w
     values_first p n e = held_first w cells.sound p n e
 
-    -- where a value is
+    -- in which slot a value is
     pub value_stands : (p : List ℕ) (n : Node) (b : ℕ) → nodes p ≡ Some n → has_bit n.value_bitmap b ≡ true
         → (rank n.value_bitmap b < length (map (values p) (bits n.value_bitmap))) ×
         (get_or w.slots (n.value_block + rank n.value_bitmap b) None ≡ values p b) × (n.value_block + rank n.value_bitmap b < length w.slots)
@@ -103,7 +103,7 @@ module _ {T : Type 0} (sizes node_sizes : List ℕ) (nodes : List ℕ → Option
           (let x = g.0 in let y = at.before in omega arith),
         )
 
-    -- the node n at p becomes m, which has the same values, and a node without values comes or goes below it
+    -- the node n at p becomes m, which has the same values, and a child without values is added or removed
     module _ (p : List ℕ) (n m : Node) (is : nodes p ≡ Some n) (same_bits : m.value_bitmap ≡ n.value_bitmap)
         (same_block : m.value_block ≡ n.value_block) (same_tier : m.value_tier ≡ n.value_tier) where
       own_same : value_blocks_of sizes values p (Some m) ≡ value_blocks sizes nodes values p
@@ -113,7 +113,7 @@ module _ {T : Type 0} (sizes node_sizes : List ℕ) (nodes : List ℕ → Option
       has_same : (b : ℕ) → has_value (Some m) b ≡ has_value (nodes p) b
       has_same b = ap (λ k. has_bit k b) same_bits ∙ sym (ap (λ o. has_value o b) is)
 
-      -- the child c becomes o, and neither it nor the one before has values
+      -- the child c becomes o, and neither has values
       module _ (c : ℕ) (o : Option Node) (bare : (b : ℕ) → has_value o b ≡ has_value (nodes (p ++ c ∷ [])) b) where
         blocks_same : (q : List ℕ) → q ≢ p ++ c ∷ [] → (q ≡ p) ⊎ (q ≢ p) → value_blocks sizes (changed nodes p m c o) values q ≡ value_blocks sizes nodes values q
         blocks_same q nr (inl e) = ap (value_blocks_of sizes values q) (changed_here nodes p m c o q e)
@@ -125,7 +125,7 @@ module _ {T : Type 0} (sizes node_sizes : List ℕ) (nodes : List ℕ → Option
         values_same q b (inr nr) (inl e) = ap (λ x. has_value x b) (changed_here nodes p m c o q e) ∙ has_same b ∙ ap (λ y. has_value (nodes y) b) (sym e)
         values_same q b (inr nr) (inr ne) = ap (λ x. has_value x b) (changed_other nodes p m c o q ne nr)
 
-        -- all others have the blocks that they had
+        -- all other nodes have the blocks that they had
         rest_same : (ps : List (List ℕ)) → times (p ++ c ∷ []) ps ≡ 0 →
             flat_map (value_blocks sizes (changed nodes p m c o) values) ps ≡ flat_map (value_blocks sizes nodes values) ps
         rest_same ps none = flat_map_same (value_blocks sizes nodes values) (value_blocks sizes (changed nodes p m c o) values) ps
@@ -140,7 +140,7 @@ module _ {T : Type 0} (sizes node_sizes : List ℕ) (nodes : List ℕ → Option
           within = cells.within;
         }
 
-      -- a blank child more leaves the values as they were
+      -- adding a blank child leaves the values
       pub cells_with_child : (c : ℕ) → has_bit n.child_bitmap c ≡ false → CellsHold sizes (with_child nodes p m c) values ((p ++ c ∷ []) ∷ paths) w
       cells_with_child c missing =
           let gone : nodes (p ++ c ∷ []) ≡ None = is_none-None (nodes (p ++ c ∷ [])) (hold.linked p c ∙ ap (λ o. has_child o c) is ∙ missing) in
@@ -150,7 +150,7 @@ module _ {T : Type 0} (sizes node_sizes : List ℕ) (nodes : List ℕ → Option
           let rest = rest_same c (Some blank_node) bare paths (hold.listed (p ++ c ∷ []) ∙ ap (λ o. one_if (is_some o)) gone) in
           cells_around c (Some blank_node) bare ((p ++ c ∷ []) ∷ paths) (subst (λ bs. Sound None bs w) (sym (λ i. new i ++ rest i)) cells.sound)
 
-      -- and so does a child less that had none
+      -- removing a child that has no values leaves the values
       pub cells_lacking_child : (c : ℕ) (leaf : Node) → nodes (p ++ c ∷ []) ≡ Some leaf → ((i : ℕ) → has_bit leaf.value_bitmap i ≡ false) →
           CellsHold sizes (with_child_removed nodes p m c) values (without (p ++ c ∷ []) paths) w
       cells_lacking_child c leaf there bare =
@@ -163,7 +163,7 @@ module _ {T : Type 0} (sizes node_sizes : List ℕ) (nodes : List ℕ → Option
           cells_around c None gone (without (p ++ c ∷ []) paths) (subst (λ bs. Sound None bs w) (λ i. none i ++ sym rest i)
           (node_first sizes nodes paths None (value_blocks sizes nodes values) w (p ++ c ∷ []) (omega arith) cells.sound))
 
-    -- the node n at p becomes m, and its values change at the bit b alone
+    -- the node n at p becomes m, and its values change only at bit b
     module _ (p : List ℕ) (n m : Node) (b : ℕ) (x : Option T) (is : nodes p ≡ Some n)
         (bits_stay : (i : ℕ) → i ≢ b → has_bit m.value_bitmap i ≡ has_bit n.value_bitmap i) (bit : has_bit m.value_bitmap b ≡ is_some x)
         (small : b < 31) where
@@ -198,7 +198,7 @@ module _ {T : Type 0} (sizes node_sizes : List ℕ) (nodes : List ℕ → Option
       changed_to own u same own_is sound = changed_in u same (cells_changed p n own (with_node nodes p m) (with_value values p b x) u is
           (ap (value_blocks_of sizes (with_value values p b x) p) (with_here nodes p m p refl) ∙ own_is) others_same sound)
 
-      -- a value comes
+      -- a value is added
       pub value_added : (u : Store (Option T)) → b < 32 → has_bit n.value_bitmap b ≡ false → is_some x ≡ true → tier_sizes u.tiers ≡ sizes
           → Sound None (block m.value_tier m.value_block (size_in sizes m.value_tier)
           (insert (map (values p) (bits n.value_bitmap)) (rank n.value_bitmap b) x) ∷ flat_map (value_blocks sizes nodes values) (without p paths))
@@ -216,7 +216,7 @@ module _ {T : Type 0} (sizes node_sizes : List ℕ) (nodes : List ℕ → Option
           (insert (map (values p) (bits n.value_bitmap)) (rank n.value_bitmap b) x)
           (let l = length-insert (map (values p) (bits n.value_bitmap)) (rank n.value_bitmap b) x grown.0 in omega arith)) sound
 
-      -- a value goes
+      -- a value is removed
       pub value_removed : (u : Store (Option T)) → b < 32 → has_bit n.value_bitmap b ≡ true → is_some x ≡ false → tier_sizes u.tiers ≡ sizes
           → Sound None (held m.value_tier m.value_block (size_in sizes m.value_tier)
           (remove (map (values p) (bits n.value_bitmap)) (rank n.value_bitmap b)) ++ flat_map (value_blocks sizes nodes values) (without p paths)) u
@@ -227,7 +227,7 @@ module _ {T : Type 0} (sizes node_sizes : List ℕ) (nodes : List ℕ → Option
           (map_remove (values p) (with_value values p b x p) n.value_bitmap m.value_bitmap b digit there (bit ∙ none) bits_stay
           (λ i ne. value_other values p b x p i (λ e. ne (snoc_inj p p i b e).1)))) sound
 
-    -- a value is another
+    -- a value is replaced
     pub value_replaced : (p : List ℕ) (n : Node) (b : ℕ) (x : Option T) → nodes p ≡ Some n → has_bit n.value_bitmap b ≡ true → is_some x ≡ true
         → CellsHold sizes (with_node nodes p n) (with_value values p b x) paths (record w { slots = set w.slots (n.value_block + rank n.value_bitmap b) x })
     value_replaced p n b x is bit some =

@@ -1,3 +1,4 @@
+-- Each call of a run is a counted step of the model: one answer for each kind of call.
 use Rattle.prefix_trie.proofs.Prelude.{refl, ap, call_of, stored_state, reply_of}
 use Rattle.prefix_trie.proofs.CountedSteps.{answered, carried_out, listed}
 use Rattle.prefix_trie.proofs.replay.answer.Goals as goal

@@ -1,3 +1,5 @@
+-- The loop of a run: the calls so far are counted steps, and each has one reply. If memory for replies is missing, no
+-- call was carried out.
 use Rattle.prefix_trie.proofs.Prelude.{List, [], refl, sym, ap, subst, err_from_is_err_and, arith, take_all, path_within, step_pushed, run_counted, StepsSoFar, all_fit_more, stored_state, call_of, reply_of, calls_of, replies_of}
 use Rattle.prefix_trie.specs.Replay.{IsFittingCall}
 use Rattle.prefix_trie.specs.declared.replay.Call.{Call}

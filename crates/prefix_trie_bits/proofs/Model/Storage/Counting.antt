@@ -1,5 +1,5 @@
--- The number of keys that pass a test when entries are added or removed, and the number of used
--- blocks of a size.
+-- How many keys pass a test after entries are added or removed, and how many blocks of a size are used: for the laws
+-- of storage.
 use Rattle.prefix_trie_bits.proofs.Prelude.{◌≡◌, ℕ, suc, ◌+◌, ◌-◌, ◌≤◌, ◌==◌, Bool, true, false, cond, not, ◌&&◌, List, [], ◌∷◌, ◌++◌, length, filter, map, drop, Option, None, Some, Less, Equal, Greater, is_some, refl, sym, ap, ◌∙◌, subst, arith, inl, inr, true≢false, count_by-le-length, length-filter, sum_by-cons, count_by, list_any, FinMap, get, insert, remove, retain_keys, contains_key, keys, entries, len, empty, get-empty, get-insert, len-entries, len-empty, len-insert, len-remove, entries-insert, by_order, begins-rest, begins, listing_cmp, listing_total, same_string, Sizes, used_of, one_of}
 use Rattle.std.specs.FinMap.Entries.{put}
 use Rattle.prefix_trie_bits.proofs.Model.Members.{from-not, is-same_string, or-cases, and-first, and-second, same_string-is, same_entries, has-retained, has-removed}
@@ -9,7 +9,7 @@ pub use Rattle.prefix_trie_bits.proofs.Model.Members.{get-retained as get-kept}
 -- ---- keys that pass a test
 
 module _ {X : Type 0} where
-  -- how many
+  -- how many keys of a map pass a test
   abbrev pub passing : (List Bool → Bool) → FinMap listing_cmp X → ℕ
   passing test m = length (filter test (keys m))
 
@@ -22,7 +22,7 @@ module _ {X : Type 0} where
         | false ↦ of_keys test es
       ]
 
-  -- they are the entries of the map that the test keeps
+  -- as many as the entries of the map that keeps what passes
   pub passing-len : (test : List Bool → Bool) (m : FinMap listing_cmp X) → passing test m ≡ len (retain_keys m test)
   passing-len test m = of_keys test (entries m) ∙ ap (λ es. length es) (sym (entries-retained m test)) ∙ sym (len-entries (retain_keys m test))
 
@@ -42,7 +42,7 @@ module _ {X : Type 0} where
       let all = len-entries m in
       omega (arith, kept, counted, few, all)
 
-  -- if entries are removed, no more pass
+  -- removing entries does not raise the number
   pub passing-fewer : (test r : List Bool → Bool) (m : FinMap listing_cmp X) → passing test (retain_keys m r) ≤ passing test m
   passing-fewer test r m =
       let same : retain_keys (retain_keys m r) test ≡ retain_keys (retain_keys m test) r =
@@ -57,14 +57,14 @@ module _ {X : Type 0} where
   same_kept true false (Some x) h = absurd (true≢false (sym (h refl refl)))
   same_kept a b o h = refl
 
-  -- and as many pass if all that pass stay
+  -- the number stays if no entry that passes is removed
   pub passing-same : (test r : List Bool → Bool) (m : FinMap listing_cmp X) → ((k : List Bool) → contains_key m k ≡ true → test k ≡ true → r k ≡ true) →
       passing test (retain_keys m r) ≡ passing test m
   passing-same test r m stay =
       passing-len test (retain_keys m r) ∙ ap (λ x. len x) (same_entries (retain_keys (retain_keys m r) test) (retain_keys m test)
       (λ q. get-kept_both m r test q ∙ same_kept (test q) (r q) (get m q) (stay q) ∙ sym (get-kept m test q))) ∙ sym (passing-len test m)
 
-  -- a new key that passes adds one
+  -- a new key that passes raises the number by one
   pub passing-inserted : (test : List Bool → Bool) (m : FinMap listing_cmp X) (k : List Bool) (v : X) →
       passing test (insert m k v) ≡ passing test m + cond (test k && not (contains_key m k)) 1 0
   passing-inserted test m k v = passing-len test (insert m k v) ∙ grown (test k) refl ∙ ap (λ n. n + cond (test k && not (contains_key m k)) 1 0) (sym (passing-len test m))
@@ -107,8 +107,7 @@ module _ {X : Type 0} where
               ap (λ b. cond b (Some v) None) fails ∙ sym (ap (λ b. cond b (get m q) None) fails)
           away q false s = refl
 
-  -- a map whose keys are each p followed by one of the strings `rs` has no more keys than there are
-  -- strings
+  -- a map whose keys are p followed by strings of a list has at most as many keys as the list
   pub few_behind : (p : List Bool) (rs : List (List Bool)) (m : FinMap listing_cmp X)
       → ((k : List Bool) → contains_key m k ≡ true → (begins p k ≡ true) × (list_any (same_string (drop (length p) k)) rs ≡ true)) → len m ≤ length rs
   few_behind p [] m each =
@@ -162,13 +161,13 @@ put_values f k v (e ∷ es) = let more = at_more f e es in elim (listing_cmp k e
   | Greater ↦ omega (arith, more, put_values f k v es, at_more f e (put listing_cmp k v es))
 ]
 
--- no more blocks are used if nodes are removed
+-- removing nodes does not raise the number of used blocks of a size
 pub used-kept : (m : Sizes) (r : List Bool → Bool) (size : ℕ) → used_of (retain_keys m r) size ≤ used_of m size
 used-kept m r size =
     let f : ℕ → Bool = λ n. n == size in
     subst (λ es. at_values f es ≤ at_values f (entries m)) (sym (entries-retained m r)) (kept_values f r (entries m))
 
--- and at most one more if a block is taken
+-- taking one block raises the number for its size by at most one
 pub used-taken : (m : Sizes) (k : List Bool) (v size : ℕ) → used_of (insert m k v) size ≤ used_of m size + one_of (Some v) size
 used-taken m k v size =
     let f : ℕ → Bool = λ n. n == size in

@@ -1,5 +1,5 @@
--- What the insertion of a new key may leave of the storage: each list that needs a block gets it,
--- and the missing blocks are made.
+-- A possible storage after the insertion of a new key: each list gets the block that it needs, and missing blocks are
+-- made. It shows that a step exists.
 use Rattle.prefix_trie_bits.proofs.Prelude.{◌≡◌, ℕ, ◌+◌, ◌≤◌, Bool, true, false, cond, not, ◌&&◌, ◌||◌, nat_lt, List, [], ◌∷◌, length, take, Option, None, Some, refl, sym, ap, ◌∙◌, subst, arith, filter_map, option_to_list, option_or, list_any, cons_option, get, same_string, Sizes, child_block_sizes, value_block_sizes, free_of, used_of, one_of, gains_child, child_block_needed, value_block_needed, child_blocks_needed, value_blocks_needed, missing_child_blocks, missing_value_blocks, missing_node_slots, missing_cell_slots, missing_of, TakesBlocks, has_node, home, nodes_above, State, Storage, InsertsInStorage}
 use Rattle.prefix_trie_bits.proofs.Model.Members.{same_string-is, any-node_above}
 use Rattle.prefix_trie_bits.proofs.Model.Storage.Shrinking.{rest_free, as_many, with_taken, with_taken_at, with_taken_used}
@@ -7,7 +7,7 @@ use Rattle.prefix_trie_bits.proofs.Model.Storage.Slots.{how_many, how_many-more}
 
 -- ---- blocks that are taken
 
--- each of these nodes takes the block that it needs
+-- each node of the list takes the block that it needs
 abbrev pub take_all : (List Bool → Option ℕ) → List (List Bool) → Sizes → Sizes
 take_all needed [] blocks = blocks
 take_all needed (p ∷ ps) blocks = with_taken (take_all needed ps blocks) p (needed p)
@@ -43,7 +43,7 @@ take_all-used needed (x ∷ ps) blocks size =
     counted None xs = omega arith
     counted (Some n) xs = how_many-more size n xs
 
--- those that are needed nowhere else are all that are needed
+-- the nodes outside the list need no block, so all needed blocks are taken
 takes_all : (needed : List Bool → Option ℕ) (ps : List (List Bool)) (blocks : Sizes) → ((p : List Bool) → list_any (same_string p) ps ≡ false → needed p ≡ None) →
     TakesBlocks needed blocks (take_all needed ps blocks)
 takes_all needed ps blocks nowhere p = take_all-at needed ps blocks p ∙ elim (list_any (same_string p) ps) as
@@ -52,7 +52,7 @@ takes_all needed ps blocks nowhere p = take_all-at needed ps blocks p ∙ elim (
       | false ↦ λ e. sym (ap (λ o. option_or o (get blocks p)) (nowhere p e))
     ] refl
 
--- of each size at most the missing blocks are added to the used ones
+-- for each size, the blocks taken are at most the free ones and the missing ones together
 few_lack : (sizes free : List ℕ) (needed : List ℕ) (used old size : ℕ) → used ≤ old + how_many size needed →
     used ≤ old + free_of sizes free size + missing_of sizes free needed size
 few_lack sizes free needed used old size h = omega (arith, h)
@@ -86,7 +86,7 @@ module _ {T : Type 0} (s : State T) (q : List Bool) (before : Storage) where
       (subst (λ xs. used_of values size ≤ used_of before.layout.value_blocks size + how_many size xs) (one_list (value_block_needed s.entries before.layout.value_blocks q (home q)))
       (take_all-used (value_block_needed s.entries before.layout.value_blocks q) (home q ∷ []) before.layout.value_blocks size))
 
-  -- each missing block is made
+  -- the storage in which each missing block is made
   abbrev pub gained : Storage
   gained = record {
     space = record {

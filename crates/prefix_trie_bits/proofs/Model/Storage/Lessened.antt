@@ -1,5 +1,5 @@
--- What a removal may leave of the storage: every block as it was, except that of the shrunken list,
--- which steps down if a smaller one is free.
+-- A possible storage after a removal: every block stays except the one whose list got shorter, which steps down if a
+-- smaller block is free. It shows that a step exists.
 use Rattle.prefix_trie_bits.proofs.Prelude.{◌≡◌, ℕ, ◌+◌, ◌*◌, ◌/◌, ◌%◌, ◌<◌, ◌≤◌, ◌==◌, ◌⊎◌, inl, inr, Bool, true, false, not, ◌&&◌, nat_lt, List, [], length, take, None, is_some, refl, sym, ap, ◌∙◌, subst, arith, eqb-true, ltb-true, true≢false, cases_Bool, cases_eq, cases_lt, false_from_ne_true, Contains, get, retain_keys, contains_key, contains_key-keys, keys, get-empty, begins-length, begins-take, begins-trans, begins, listing_cmp, same_string, IsMap, Sizes, no_layout, child_block_sizes, value_block_sizes, child_count, own_entries, free_of, used_of, made_of, SizesStepDown, SizesStepBetween, NodesHaveBlocks, Entries, without_entry, Nodes, has_node, root_alone, home, AreNodes, nodes_without, State, Storage, HaveBlocks, RemovesValueInStorage, PrunesInStorage, RemovesManyInStorage, and-false}
 use Rattle.prefix_trie_bits.specs.Model.Entries.{no_entries as new_entries}
 use Rattle.prefix_trie_bits.proofs.Model.Storage.Counting.{passing-fewer, passing-same, get-kept, used-kept}
@@ -13,7 +13,7 @@ use Rattle.prefix_trie_bits.proofs.Model.Visits.{fives}
 
 -- ---- one array
 
--- blocks that many removals may leave
+-- the blocks of one array that a removal of many entries may leave
 pub record LeavesMany (sizes free : List ℕ) (n left : Nodes) (before after : List Bool → ℕ) (old : Sizes) : Type 0 where
   pub new : Sizes
   pub others : List ℕ
@@ -21,7 +21,7 @@ pub record LeavesMany (sizes free : List ℕ) (n left : Nodes) (before after : L
   pub have : NodesHaveBlocks sizes left after new
   pub as_many : (size : ℕ) → Contains sizes size → used_of new size + free_of sizes others size ≡ used_of old size + free_of sizes free size
 
--- blocks that a removal at one node may leave
+-- the blocks of one array that a removal at one node may leave
 pub record LeavesOne (sizes free : List ℕ) (n left : Nodes) (before after : List Bool → ℕ) (old : Sizes) (at : List Bool) : Type 0 where
   pub new : Sizes
   pub others : List ℕ
@@ -56,7 +56,7 @@ module _ (sizes free : List ℕ) (up : goes_up 0 sizes ≡ true) (n left : Nodes
 
 -- ---- what is left of a map
 
--- nodes that were all there before are those that a test keeps
+-- nodes that all existed before are those that a test keeps
 subset : (n left : Nodes) → ((p : List Bool) → has_node left p ≡ true → has_node n p ≡ true) → left ≡ retain_keys n (λ p. has_node left p)
 subset n left stood = same_members left (retain_keys n (λ p. has_node left p)) (λ p. within (has_node left p) (has_node n p) (stood p) ∙ sym (has-retained n (λ s. has_node left s) p))
   where
@@ -65,7 +65,7 @@ subset n left stood = same_members left (retain_keys n (λ p. has_node left p)) 
     within false b h = refl
 
 module _ {T : Type 0} where
-  -- what is left of a map if a test kept some of its entries, and all its nodes were there before
+  -- a state after a test kept some of the entries, whose nodes all existed before
   pub record IsLeft (width : ℕ) (s t : State T) : Type 0 where
     pub was : IsMap width s
     pub is : IsMap width t
@@ -124,7 +124,7 @@ module _ {T : Type 0} (width : ℕ) (s t : State T) (left : IsLeft width s t) wh
 
 -- ---- all entries
 
--- a state without entries and without nodes but the root needs no blocks
+-- a state without entries and with the root alone needs no blocks
 pub bare_have : {T : Type 0} (t : State T) → ((k : List Bool) → contains_key t.entries k ≡ true → ⊥) → ((k : List Bool) → has_node t.nodes k ≡ true → k ≡ []) → HaveBlocks t no_layout
 bare_have t none root = record {
   child_blocks = record {
@@ -142,14 +142,14 @@ bare_have t none root = record {
     short : (k p : List Bool) → k ≡ [] → (length k == length p + 5) ≡ false
     short k p e = false_from_ne_true (length k == length p + 5) (λ same. let h = eqb-true (length k) (length p + 5) same in let l = ap (λ s. length s) e in omega (arith, h, l))
 
--- nor does a new map
+-- a new map needs no blocks
 pub new_have : (T : Type 0) → HaveBlocks (record { entries = new_entries {T = T}; nodes = root_alone }) no_layout
 new_have T = bare_have (record { entries = new_entries; nodes = root_alone }) (λ k has. true≢false (sym has ∙ ap is_some (get-empty listing_cmp k)))
     (λ k there. same_string-is k [] (sym (has-root_alone k) ∙ there))
 
 -- ---- one entry
 
--- a string on the search path of q is that of its level
+-- a node on the search path of q is the one of its level
 on_path : (p q : List Bool) → length p % 5 ≡ 0 → begins p q ≡ true → at_level q (length p / 5) ≡ p
 on_path p q depth b = ap (λ n. take n q) (fives (length p) depth) ∙ begins-take p q b
 
@@ -158,7 +158,7 @@ module _ {T : Type 0} where
   removed_is m q = same_entries (without_entry m q) (retain_keys m (λ k. not (same_string k q)))
       (λ k. get-without_entry m q k ∙ sym (turned (same_string k q) (get m k) None) ∙ sym (get-kept m (λ s. not (same_string s q)) k))
 
-  -- if one entry is removed, only its own node has fewer
+  -- removing one entry changes the number of own entries of its own node alone
   entries_alone : (m : Entries T) (q p : List Bool) → length p % 5 ≡ 0 → same_string p (home q) ≡ false → own_entries (without_entry m q) p ≡ own_entries m p
   entries_alone m q p depth other = ap (λ x. own_entries x p) (removed_is m q)
       ∙ passing-same (λ k. begins p k && nat_lt (length k) (length p + 5)) (λ k. not (same_string k q)) m
@@ -168,8 +168,7 @@ module _ {T : Type 0} where
       let less = subst (λ x. length x < length p + 5) is (ltb-true (length k) (length p + 5) (and-second (begins p k) (nat_lt (length k) (length p + 5)) own)) in
       true≢false (sym (is-same_string p (home q) (own_home p q depth b less)) ∙ other))))
 
-  -- the node that loses a child when nodes on the search path of q are removed: the last one on it
-  -- that stays
+  -- when nodes on the search path of q are removed, only the last one that stays loses a child
   last_left : (width : ℕ) (m : Entries T) (n : Nodes) (q : List Bool) → AreNodes width m n → (at : List Bool)
       × ((i : ℕ) → i + 1 ≤ length q / 5 → has_node n (at_level q i) ≡ true → has_node n (at_level q (i + 1)) ≡ false → at_level q i ≡ at)
   last_left width m n q are = elim (split_at (λ i. has_node n (at_level q i)) (length q / 5) (closed width m n are q) are.rooted) [
@@ -187,7 +186,7 @@ module _ {T : Type 0} where
   ]
 
 module _ {T : Type 0} (width : ℕ) (s t : State T) (left : IsLeft width s t) (q : List Bool) where
-  -- a node on the path whose child is removed is the last that stays
+  -- a node on the path that loses a child is the last one that stays
   lost_child : (at : List Bool)
       → ((i : ℕ) → i + 1 ≤ length q / 5 → has_node t.nodes (at_level q i) ≡ true → has_node t.nodes (at_level q (i + 1)) ≡ false → at_level q i ≡ at)
       → (p c : List Bool) → length p % 5 ≡ 0 → has_node t.nodes p ≡ true → has_node t.nodes c ≡ false → begins p c ≡ true → length c ≡ length p + 5 →
@@ -231,7 +230,7 @@ module _ {T : Type 0} (width : ℕ) (s t : State T) (left : IsLeft width s t) (q
               (children_fewer width s t left) left.stood (children_bare width s t left) last.0 (children_alone nodes last.0 last.1),
         )
 
-    -- the value alone goes, and no node
+    -- a value is removed, and all nodes stay
     pub value_left : t.nodes ≡ s.nodes → (after : Storage) × (after.space ≡ before.space) × RemovesValueInStorage s t q before after
         × (after.layout.child_blocks ≡ before.layout.child_blocks) × (after.layout.free_child_blocks ≡ before.layout.free_child_blocks) × HaveBlocks t after.layout
     value_left same = let values = values_one in (
@@ -243,7 +242,7 @@ module _ {T : Type 0} (width : ℕ) (s t : State T) (left : IsLeft width s t) (q
       record { child_blocks = subst (λ n. NodesHaveBlocks child_block_sizes n (child_count n) before.layout.child_blocks) (sym same) have.child_blocks; value_blocks = values.have },
     )
 
-    -- and nodes go with it
+    -- a value is removed, and nodes of its search path with it
     pub one_left : t.nodes ≡ nodes_without s.nodes s.entries q → (after : Storage) × (after.space ≡ before.space) × RemovesValueInStorage s t q before after
         × PrunesInStorage s t before after × HaveBlocks t after.layout
     one_left nodes = let values = values_one in let children = (children_one nodes).1 in (

@@ -24,7 +24,7 @@ module _ {X : Type 0} where
         | false ↦ rest
       ]
 
-  -- what is at the root, and then what is further on
+  -- what is collected along a search path is what the root gives, and then what the rest of the path gives
   first_five : (h : List Bool → Option X) (a b c d e : Bool) (s : List Bool) →
       filter_map h (nodes_above (a ∷ b ∷ c ∷ d ∷ e ∷ s)) ≡ cons_option (h []) (filter_map (λ t. h (a ∷ b ∷ c ∷ d ∷ e ∷ t)) (nodes_above s))
   first_five h a b c d e s = ap (cons_option (h [])) (behind_five h a b c d e (beginnings s))
@@ -34,7 +34,7 @@ module _ {X : Type 0} where
   each_short x s h k short is last =
       ap (filter_map h) short ∙ ap (λ o. cons_option o []) (ap (λ n. h (take (5 * n) s)) (sym is) ∙ last) ∙ ap (λ n. replicate n x) (sym is)
 
-  -- the same at each node but the string's own
+  -- if each node except the string's own gives x, the collected list has x once for each of these nodes
   each_but_last : (x : X) (s : List Bool) (h : List Bool → Option X) (k : ℕ) → k ≡ length s / 5
       → ((i : ℕ) → i < k → h (take (5 * i) s) ≡ Some x) → h (take (5 * k) s) ≡ None → filter_map h (nodes_above s) ≡ replicate k x
   each_but_last x (a ∷ b ∷ c ∷ d ∷ e ∷ s) h zero is each last = absurd (let n = five_next 0 (length s) is in omega arith)
@@ -60,7 +60,8 @@ module _ {X : Type 0} where
   cons_list None xs = refl
   cons_list (Some x) xs = refl
 
-  -- nothing above a level, one thing at it, the same at each node further on, and nothing at the string's own
+  -- if the nodes above a level give nothing, the one at it gives o, and those under it give x, except the string's
+  -- own, the list is o and then x for each of them
   pub from_level : (x : X) (s : List Bool) (h : List Bool → Option X) (k level : ℕ) (o : Option X) → k ≡ length s / 5 → level ≤ k
       → ((i : ℕ) → i < level → h (take (5 * i) s) ≡ None) → h (take (5 * level) s) ≡ o
       → ((i : ℕ) → level < i → i < k → h (take (5 * i) s) ≡ Some x) → (level < k → h (take (5 * k) s) ≡ None)
@@ -86,8 +87,7 @@ module _ (n : Nodes) (blocks : Sizes) (q : List Bool) (k : ℕ) (is : k ≡ leng
   long : (i : ℕ) → i ≤ k → length (take (5 * i) q) ≡ 5 * i
   long i h = length-take-le (5 * i) q (five_times i k (length q) h is)
 
-  -- a node on the search path of q gets a child exactly if it is not q's own and the next one is
-  -- missing
+  -- a node on the search path of q gets a child exactly if it is not q's own node and the next node is missing
   pub gains_at : (i : ℕ) → i ≤ k → gains_child n q (take (5 * i) q) ≡ (nat_lt (5 * i) (5 * k) && not (has_node n (take (5 * (i + 1)) q)))
   gains_at i h =
       ap₂ (λ a b. (a && b) && (nat_lt (length (take (5 * i) q)) (length (home q)) && not (has_node n (take (length (take (5 * i) q) + 5) q))))
@@ -108,14 +108,15 @@ module _ (n : Nodes) (blocks : Sizes) (q : List Bool) (k : ℕ) (is : k ≡ leng
   gains_next : (i : ℕ) → i < k → has_node n (take (5 * (i + 1)) q) ≡ false → gains_child n q (take (5 * i) q) ≡ true
   gains_next i h missing = gains_at i (omega arith) ∙ ap₂ (λ a b. a && not b) (lt-ltb (5 * i) (5 * k) (omega arith)) missing
 
-  -- if q's own node is there, no child block is needed
+  -- no child block is needed if q's own node exists
   pub none_needed : ((i : ℕ) → i ≤ k → has_node n (take (5 * i) q) ≡ true) → filter_map (child_block_needed n blocks q) (nodes_above q) ≡ []
   none_needed there =
       from_level 1 q (child_block_needed n blocks q) k k None is (omega arith)
       (λ i less. needed_at i false (gains_not i (omega arith) (there (i + 1) (omega arith)))) (needed_at k false gains_last)
       (λ i more less. absurd (omega arith)) (λ less. absurd (omega arith)) ∙ ap (λ m. replicate m 1) (let e : k - (k + 1) ≡ 0 = omega arith in e)
 
-  -- and else one for the deepest node that is there, if its block is full, and one of one slot for each node that is missing but q's own
+  -- otherwise the deepest node that exists needs a block if its own is full, and each missing node except q's own
+  -- needs a block of one slot
   pub blocks_needed : (level : ℕ) → level < k → ((i : ℕ) → i ≤ level → has_node n (take (5 * i) q) ≡ true)
       → ((i : ℕ) → level < i → i ≤ k → has_node n (take (5 * i) q) ≡ false)
       → ((i : ℕ) → level < i → i ≤ k → (get blocks (take (5 * i) q) ≡ None) × (child_count n (take (5 * i) q) ≡ 0))

@@ -1,8 +1,8 @@
--- What an insertion finds and leaves if its missing blocks were made before it.
+-- An insertion whose missing blocks are made first cannot be refused, and the two steps together are one insertion.
 use Rattle.prefix_trie_bits.proofs.Prelude.{◌≡◌, ℕ, zero, suc, ◌+◌, ◌-◌, ◌*◌, ◌<◌, Bool, true, cond, ◌&&◌, ◌==◌, List, [], ◌∷◌, length, nat_lt, refl, sym, ap, ◌∙◌, subst, arith, eq-eqb, eqb-true, ltb-true, false_from_ne_true, Contains, filter, Sizes, free_of, used_of, child_block_sizes, value_block_sizes, child_block_count, value_block_count, missing_of, slots_of_missing, TakesBlocks, child_block_needed, value_block_needed, child_blocks_needed, value_blocks_needed, missing_child_blocks, missing_value_blocks, missing_node_slots, missing_cell_slots, State, Refusal, Storage, InsertsInStorage, PreparesInStorage, RefusesInStorage}
 pub use Rattle.std.proofs.lemmas.Bool.{and_parts as both}
 
--- whether the numbers go up, from s on
+-- whether the numbers of a list increase, from s on
 abbrev pub goes_up : ℕ → List ℕ → Bool
 goes_up s [] = true
 goes_up s (t ∷ ts) = nat_lt s t && goes_up t ts
@@ -27,7 +27,7 @@ pub free_later : (s : ℕ) (sizes : List ℕ) (f : ℕ) (free : List ℕ) (x : �
 free_later s sizes f free x less =
     ap (λ b. cond b f (free_of sizes free x)) (false_from_ne_true (s == x) (λ h. let e = eqb-true s x h in omega (arith, less, e)))
 
--- if no block of any size is missing, no slots are
+-- if no block of any size is missing, no slots are missing
 none_lack : (s : ℕ) (sizes free needed : List ℕ) → goes_up s sizes ≡ true → ((x : ℕ) → Contains sizes x → missing_of sizes free needed x ≡ 0) →
     slots_of_missing sizes free needed ≡ 0
 none_lack s [] free needed up each = refl
@@ -43,13 +43,13 @@ none_lack s (t ∷ sizes) (f ∷ free) needed up each =
     (let e = each x (suc there.0, (let i = there.1 in omega arith), there.2) in let z = free_later t sizes f free x (above t sizes go x there) in omega (arith, e, z))) in
     ap (λ n. t * n + slots_of_missing sizes free needed) here ∙ omega (arith, rest)
 
--- blocks that were made and not taken are free
+-- a block that was made and is not used yet is free
 made_free : (sizes : List ℕ) (needed : List ℕ) (used : Sizes) (free free2 : List ℕ) (x : ℕ) →
     used_of used x + free_of sizes free2 x ≡ used_of used x + free_of sizes free x + missing_of sizes free needed x → missing_of sizes free2 needed x ≡ 0
 made_free sizes needed used free free2 x made = omega (arith, made)
 
 module _ {T : Type 0} (s : State T) (q : List Bool) (before mid : Storage) (readied : PreparesInStorage s q before mid) where
-  -- no block is missing then
+  -- once the missing blocks are made, no block is missing
   pub no_child_block_lacks : (size : ℕ) → Contains child_block_sizes size → missing_child_blocks s.nodes mid.layout q size ≡ 0
   no_child_block_lacks size there =
       subst (λ b. missing_of child_block_sizes mid.layout.free_child_blocks (child_blocks_needed s.nodes (record mid.layout { child_blocks = b }) q) size ≡ 0) (sym readied.child_blocks)
@@ -64,7 +64,7 @@ module _ {T : Type 0} (s : State T) (q : List Bool) (before mid : Storage) (read
       (subst (λ b. used_of b size + free_of value_block_sizes mid.layout.free_value_blocks size
       ≡ value_block_count before.layout size + missing_value_blocks s.entries before.layout q size) readied.value_blocks (readied.value_blocks_made size there)))
 
-  -- and so no slots
+  -- so no slots are missing
   pub no_node_slots_lack : missing_node_slots s.nodes mid.layout q ≡ 0
   no_node_slots_lack = none_lack 0 child_block_sizes mid.layout.free_child_blocks (child_blocks_needed s.nodes mid.layout q) refl no_child_block_lacks
 
@@ -76,7 +76,7 @@ module _ {T : Type 0} (s : State T) (q : List Bool) (before mid : Storage) (read
   readied_not_refused cause after refused =
       (let l = refused.lacks in let n = no_node_slots_lack in let c = no_cell_slots_lack in omega (arith, l, n, c))
 
-  -- and with it both are one insertion
+  -- making the blocks and then inserting is one insertion
   pub readied_inserts : (after : Storage) → InsertsInStorage s q mid after → InsertsInStorage s q before after
   readied_inserts after inserted = record {
     node_slots = (let a = readied.node_slots in let b = inserted.node_slots in let n = no_node_slots_lack in omega (arith, a, b, n));

@@ -1,4 +1,5 @@
--- An insertion with a missing block may be refused and leave everything unchanged.
+-- If a needed block is missing, the insertion may be refused and leave everything as it was. It shows that a step
+-- exists.
 use Rattle.prefix_trie_bits.proofs.Prelude.{◌≡◌, ℕ, ◌+◌, ◌-◌, ◌*◌, ◌<◌, ◌≤◌, ◌==◌, inl, inr, Bool, true, false, cond, nat_lt, nat_le, List, [], ◌∷◌, Option, None, Some, refl, sym, ap, subst, arith, ltb-true, eqb-true, cases_eq, false_from_ne_true, none-some, same_Some, mul-le-mul_left, Contains, filter_map, cons_option, get, same_string, free_of, smallest_size, child_block_sizes, value_block_sizes, child_count, own_entries, block_needed, gains_child, child_block_needed, value_block_needed, child_blocks_needed, value_blocks_needed, missing_child_blocks, missing_value_blocks, missing_node_slots, missing_cell_slots, missing_of, slots_of_missing, home, nodes_above, State, Refusal, Memory, IndexRange, Storage, RefusesInStorage, GivesCause}
 use Rattle.std.specs.Prelude.{find}
 use Rattle.prefix_trie_bits.proofs.Model.Storage.Gained.{one_list}
@@ -26,7 +27,7 @@ if_needed : (sizes : List ℕ) (b : Bool) (block : Option ℕ) (count x : ℕ) �
 if_needed sizes true block count x e = needed_among sizes block count x e
 if_needed sizes false block count x e = absurd (none-some x e)
 
--- if each needed block has one of the sizes, so has each in the list
+-- if each node needs a block of one of the sizes, so does each entry of the list
 listed_among : (sizes : List ℕ) (needed : List Bool → Option ℕ) → ((p : List Bool) (x : ℕ) → needed p ≡ Some x → Contains sizes x) → (ps : List (List Bool)) (x : ℕ) →
     0 < how_many x (filter_map needed ps) → Contains sizes x
 listed_among sizes needed each [] x some = absurd (omega (arith, some))
@@ -90,7 +91,7 @@ module _ {T : Type 0} (s : State T × Storage) (q : List Bool) (within : s.1.spa
   lacks Memory (inl one) = (let some = nodes_lack one.0 one.1 in omega (arith, some))
   lacks Memory (inr one) = (let some = cells_lack one.0 one.1 in omega (arith, some))
 
-  -- with cause all may stay as it was
+  -- given a cause, the refusal that changes nothing is a step
   pub refuses : (cause : Refusal) → GivesCause s q cause → RefusesInStorage s.0 q cause s.1 s.1
   refuses cause given = record {
     lacks = lacks cause given;

@@ -1,5 +1,5 @@
--- The blocks that a removal may leave: the old ones if items are left, and at one node the smaller
--- one if such a block is free.
+-- Blocks that a removal may leave: a list with items left keeps its block, except that one list may step down to a
+-- smaller free block.
 use Rattle.prefix_trie_bits.proofs.Prelude.{◌≡◌, ℕ, zero, suc, ◌+◌, ◌-◌, ◌<◌, ◌≤◌, ◌==◌, ◌⊎◌, inl, inr, Bool, true, false, cond, ◌&&◌, nat_lt, nat_le, List, [], ◌∷◌, map, Option, None, Some, refl, sym, ap, ◌∙◌, subst, arith, eqb-true, eq-eqb, ltb-true, true≢false, cases_Bool, cases_lt, cases_eq, lt-ltb, le-ltb, nat_tests, none-some, same_Some, Contains, option_or, get, insert, retain_keys, get-insert, listing_total, same_string, Sizes, StepsDown, StepsBetween, SizesStepDown, SizesStepBetween, HasBlock, NodesHaveBlocks, free_of, used_of, one_of, made_of, smallest_size, Nodes, has_node}
 use Rattle.std.specs.Prelude.{find}
 use Rattle.prefix_trie_bits.proofs.Model.Storage.Counting.{get-kept, used-kept, used-taken}
@@ -18,7 +18,7 @@ pub in_cases : (s : ℕ) (sizes : List ℕ) (x : ℕ) → Contains (s ∷ sizes)
 in_cases s sizes x (zero, inside, e) = inl (let is = e in omega (arith, is))
 in_cases s sizes x (suc k, inside, e) = inr (k, omega (arith, inside), e)
 
--- free counts can be any numbers
+-- there are free counts with any given number for each size
 pub free_as : (sizes : List ℕ) (f : ℕ → ℕ) (size : ℕ) → Contains sizes size → free_of sizes (map f sizes) size ≡ f size
 free_as [] f size at = absurd (let i = at.1 in omega arith)
 free_as (s ∷ sizes) f size at = elim (cases_Bool (s == size)) as (λ _. cond (s == size) (f s) (free_of sizes (map f sizes) size) ≡ f size) [
@@ -29,7 +29,7 @@ free_as (s ∷ sizes) f size at = elim (cases_Bool (s == size)) as (λ _. cond (
   ]
 ]
 
--- the free blocks beside the used ones, given how many of each size there are in all
+-- the free blocks, if the number of all blocks of each size is given
 abbrev pub rest_free : List ℕ → (ℕ → ℕ) → Sizes → List ℕ
 rest_free sizes all new = map (λ size. all size - used_of new size) sizes
 
@@ -37,7 +37,7 @@ pub as_many : (sizes : List ℕ) (all : ℕ → ℕ) (new : Sizes) (size : ℕ) 
     used_of new size + free_of sizes (rest_free sizes all new) size ≡ all size
 as_many sizes all new size few at = let free = free_as sizes (λ x. all x - used_of new x) size at in omega (arith, few, free)
 
--- the smallest of the sizes for a list that one of them holds
+-- the smallest size that holds n items
 pub record IsSmallest (sizes : List ℕ) (n o : ℕ) : Type 0 where
   pub size : ℕ
   pub found : smallest_size sizes n ≡ Some size
@@ -85,7 +85,7 @@ pub has_some : (sizes : List ℕ) (count : ℕ) (block : Option ℕ) (size : ℕ
 has_some sizes zero block size some is at h = absurd (omega (arith, some))
 has_some sizes (suc n) block size some is at h = (size, is, at, h)
 
--- an empty list has none, and any other one of the sizes
+-- a list with items has a block of one of the sizes, and an empty list has none
 pub record Holds (sizes : List ℕ) (count : ℕ) (block : Option ℕ) : Type 0 where
   pub size : ℕ
   pub is : block ≡ Some size
@@ -114,14 +114,14 @@ abbrev pub if_free : List ℕ → List ℕ → Option ℕ → Option ℕ
 if_free sizes free None = None
 if_free sizes free (Some size) = cond (nat_lt 0 (free_of sizes free size)) (Some size) None
 
--- the free block that is taken if some items are left and others are removed
+-- the free block that a list takes if it lost some of its items and has some left
 abbrev pub taken_block : List ℕ → List ℕ → ℕ → ℕ → Option ℕ
 taken_block sizes free before after = cond (nat_lt 0 after && nat_lt after before) (if_free sizes free (smallest_size sizes after)) None
 
 abbrev pub lower_block : List ℕ → List ℕ → ℕ → ℕ → Option ℕ → Option ℕ
 lower_block sizes free before after old = option_or (taken_block sizes free before after) (kept_block after old)
 
--- one of that size is free
+-- a block is taken only if one of its size is free
 taken_free : (sizes free : List ℕ) (before after size : ℕ) → taken_block sizes free before after ≡ Some size → 0 < free_of sizes free size
 taken_free sizes free before after size e = elim (nat_lt 0 after && nat_lt after before) as (λ b. cond b (if_free sizes free (smallest_size sizes after)) None ≡ Some size → 0 < free_of sizes free size) [
   | true ↦ of_smallest (smallest_size sizes after)
@@ -135,7 +135,7 @@ taken_free sizes free before after size e = elim (nat_lt 0 after && nat_lt after
       | inr none ↦ absurd (none-some size (sym (ap (λ b. cond b (Some x) None) none) ∙ h))
     ]
 
--- so no more than those free are taken
+-- so at most the free blocks are taken
 few_taken : (sizes free : List ℕ) (o : Option ℕ) (size : ℕ) → ((x : ℕ) → o ≡ Some x → 0 < free_of sizes free x) → one_of o size ≤ free_of sizes free size
 few_taken sizes free None size h = omega arith
 few_taken sizes free (Some x) size h = elim (cases_Bool (x == size)) as (λ _. cond (x == size) 1 0 ≤ free_of sizes free size) [
@@ -143,7 +143,7 @@ few_taken sizes free (Some x) size h = elim (cases_Bool (x == size)) as (λ _. c
   | inr e ↦ subst (λ b. cond b 1 0 ≤ free_of sizes free size) (sym e) (omega arith)
 ]
 
--- and none is made
+-- so no block is made
 none_made : (sizes free : List ℕ) (before after size : ℕ) (old new : Option ℕ) → new ≡ lower_block sizes free before after old → made_of sizes free old new size ≡ 0
 none_made sizes free before after size old new is =
     ap (λ o. made_of sizes free old o size) is
@@ -284,7 +284,7 @@ with_taken_used blocks at (Some x) size = used-taken blocks at x size
 abbrev pub taken_if : List ℕ → List ℕ → Nodes → (List Bool → ℕ) → (List Bool → ℕ) → List Bool → Option ℕ
 taken_if sizes free n before after at = cond (has_node n at) (taken_block sizes free (before at) (after at)) None
 
--- and the node `at` takes a smaller one, if it is free
+-- the node `at` takes a smaller block if one is free
 abbrev pub lowered_at_one : List ℕ → List ℕ → Nodes → (List Bool → ℕ) → (List Bool → ℕ) → Sizes → List Bool → Sizes
 lowered_at_one sizes free n before after old at = with_taken (keeping_all after old) at (taken_if sizes free n before after at)
 
@@ -315,7 +315,7 @@ module _ (sizes : List ℕ) (up : goes_up 0 sizes ≡ true) (n : Nodes) (before 
       ];
     }
 
-  -- the others lose none of their items or all
+  -- each other node loses none or all of its items
   module _ (free : List ℕ) (at : List Bool) (alone : (p : List Bool) → has_node n p ≡ true → same_string p at ≡ false → (after p ≡ before p) ⊎ (after p ≡ 0)) where
     abbrev taken_at : Option ℕ
     taken_at = taken_if sizes free n before after at
@@ -354,11 +354,11 @@ module _ (sizes : List ℕ) (up : goes_up 0 sizes ≡ true) (n : Nodes) (before 
       | false ↦ λ h. absurd (none-some x h)
     ] e
 
-    -- no more blocks are in use than there were with the free ones
+    -- the used blocks of a size are at most those that were used or free
     pub lowered_few : (size : ℕ) → used_of lowered size ≤ used_of old size + free_of sizes free size
     lowered_few size = (let few = with_taken_used keeping at taken_at size in let kept = used-kept old (λ p. nat_lt 0 (after p)) size in let free_ones = few_taken sizes free taken_at size (few_at size) in omega (arith, few, kept, free_ones))
 
-    -- and none is made there
+    -- no block is made at that node
     pub lowered_makes_none : (size : ℕ) → made_of sizes free (get old at) (get lowered at) size ≡ 0
     lowered_makes_none size = elim (cases_Bool (has_node n at)) as (λ _. made_of sizes free (get old at) (get lowered at) size ≡ 0) [
       | inl there ↦ none_made sizes free (before at) (after at) size (get old at) (get lowered at) (lowered_at at there)

@@ -1,4 +1,4 @@
--- Upper bounds on the slots that a call for one key makes: for `slot_laws`.
+-- Upper bounds on the slots that a call for one key makes, 56 for nodes and 31 for values: for `slot_laws`.
 use Rattle.prefix_trie_bits.proofs.Prelude.{◌≡◌, ◌≢◌, ℕ, zero, suc, ◌+◌, ◌-◌, ◌/◌, ◌<◌, ◌≤◌, ◌==◌, ◌⊎◌, inl, inr, Bool, true, false, cond, ◌&&◌, nat_lt, nat_le, List, [], ◌∷◌, ◌++◌, length, filter, replicate, Option, None, Some, All, refl, sym, ap, ◌∙◌, subst, arith, lit≤, append-nil, eqb-true, eq-eqb, ltb-true, cases_eq, cases_Bool, cases_lt, nat_tests, All-nil, All-cons, All-head, All-tail, All-contains, mul-add, mul-le-mul_left, option_to_list, get, contains_key, same_string, MakesSlots, SlotLaws, IsMap, Layout, child_block_sizes, value_block_sizes, smallest_size, child_count, own_entries, Sizes, StepsDown, SizesStepDown, LongerByOne, HasBlock, NodesHaveBlocks, block_needed, slots_of_missing, child_blocks_needed, value_block_needed, missing_node_slots, missing_cell_slots, Nodes, has_node, home, AreNodes, State, Insert, Remove, RemoveKeepTree, Reply, Storage, HaveBlocks, RemovesValueInStorage, StepInStorage, same_Some}
 use Rattle.std.specs.Prelude.{find}
 use Rattle.prefix_trie_bits.proofs.Model.Members.{and-first, and-second}
@@ -7,7 +7,7 @@ use Rattle.prefix_trie_bits.proofs.Model.Storage.Paths.{none_needed, blocks_need
 
 -- ---- the slots of needed blocks are no more than these have
 
--- the sizes go up, from above this one
+-- whether the sizes increase, from above `least` on
 abbrev pub rising : ℕ → List ℕ → Bool
 rising least [] = true
 rising least (size ∷ sizes) = nat_lt least size && rising size sizes
@@ -16,7 +16,7 @@ abbrev pub total : List ℕ → ℕ
 total [] = 0
 total (x ∷ xs) = x + total xs
 
--- how many of the needed blocks have a size
+-- how many of the needed blocks have this size
 abbrev pub how_many : ℕ → List ℕ → ℕ
 how_many size needed = length (filter (λ s. s == size) needed)
 
@@ -77,7 +77,7 @@ slots_most sizes free up needed = (let a = free_fewer sizes free needed in let b
 
 -- ---- sizes
 
--- the sizes of one array, whose largest is `top`
+-- the block sizes of one array, whose largest is `top`
 abbrev pub sizes_to : ℕ → List ℕ
 sizes_to top = 1 ∷ 2 ∷ 4 ∷ 8 ∷ 16 ∷ 24 ∷ top ∷ []
 
@@ -97,11 +97,11 @@ module _ (P : ℕ → Type 0) where
 sizes_most : (top : ℕ) → 24 ≤ top → All (λ size. size ≤ top) (sizes_to top)
 sizes_most top h = seven (λ size. size ≤ top) top (omega (arith, h)) (omega (arith, h)) (omega (arith, h)) (omega (arith, h)) (omega (arith, h)) h (omega arith)
 
--- each size is 24 at most, or the largest
+-- each size is at most 24 or the largest
 sizes_or_top : (top : ℕ) → All (λ size. (size ≤ 24) ⊎ (size ≡ top)) (sizes_to top)
 sizes_or_top top = seven (λ size. (size ≤ 24) ⊎ (size ≡ top)) top (inl (lit≤ tt)) (inl (lit≤ tt)) (inl (lit≤ tt)) (inl (lit≤ tt)) (inl (lit≤ tt)) (inl (lit≤ tt)) (inr refl)
 
--- the block that a list needs is no larger than the largest
+-- the block that a list needs has at most the largest size
 pub needed_most : (top : ℕ) → 24 ≤ top → (block : Option ℕ) (count x : ℕ) → block_needed (sizes_to top) block count ≡ Some x → x ≤ top
 needed_most top h None count x e = found_in (λ size. size ≤ top) (λ size. nat_le (count + 1) size) (sizes_to top) x (sizes_most top h) e
 needed_most top h (Some size) count x e = elim (nat_lt count size) as (λ b. cond b None (smallest_size (sizes_to top) (count + 1)) ≡ Some x → x ≤ top) [
@@ -158,7 +158,7 @@ last_of prev [] = prev
 last_of prev (s ∷ small) = last_of s small
 
 module _ (top : ℕ) where
-  -- what needs a size above 24 has more than 24 items
+  -- a list that needs a block of more than 24 slots has more than 24 items
   over_others : (prev : ℕ) (small : List ℕ) (n x : ℕ) → prev < n → All (λ size. size ≤ 24) small → last_of prev small ≡ 24 →
       find (λ size. nat_le n size) (small ++ top ∷ []) ≡ Some x → 24 < x → 24 < n
   over_others prev [] n x less all last found more = omega (arith, last, less)
@@ -177,7 +177,7 @@ module _ (top : ℕ) where
       All-cons P 1 (2 ∷ 4 ∷ 8 ∷ 16 ∷ 24 ∷ []) (lit≤ tt) (All-cons P 2 (4 ∷ 8 ∷ 16 ∷ 24 ∷ []) (lit≤ tt) (All-cons P 4 (8 ∷ 16 ∷ 24 ∷ []) (lit≤ tt)
       (All-cons P 8 (16 ∷ 24 ∷ []) (lit≤ tt) (All-cons P 16 (24 ∷ []) (lit≤ tt) (All-cons P 24 [] (lit≤ tt) (All-nil P))))))
 
-  -- a block of 24 slots at most, or the one that the list had
+  -- a list that shrinks moves to a block of at most 24 slots or keeps its own
   same_block : (before after size : ℕ) (old : Option ℕ) → HasBlock (sizes_to top) before old → after < before → 0 < after →
       smallest_size (sizes_to top) after ≡ Some size → 24 < size → old ≡ Some size
   same_block zero after size old has less some is more = absurd (omega (arith, less))

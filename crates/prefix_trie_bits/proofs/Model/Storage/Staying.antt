@@ -1,4 +1,4 @@
--- A step from a stored map leads to a stored map: for `total_laws`.
+-- A step from a map with a correct storage leads to a map with a correct storage: for `total_laws`.
 use Rattle.prefix_trie_bits.proofs.Prelude.{◌≡◌, ℕ, ◌<◌, ◌≤◌, inl, inr, Bool, true, false, cond, not, ◌&&◌, nat_le, List, [], length, Option, None, refl, sym, ap, ◌∙◌, subst, arith, true≢false, cases_Bool, cases_eq, nil_from_length, get, contains_key, begins, same_string, Sizes, no_layout, StepsDown, SizesStepDown, StepsBetween, SizesStepBetween, HasBlock, NodesHaveBlocks, child_block_sizes, value_block_sizes, child_count, own_entries, Entries, with_entry, without_entry, without_below, part_at_least, no_entries, Nodes, has_node, root_alone, with_needed, pruned, nodes_not_below, nodes_without_below, State, Call, Insert, Remove, RemoveKeepTree, RemoveChildren, RetainAtLeast, Clear, CallFits, Reply, Step, Storage, empty_storage, HaveBlocks, RemovesManyInStorage, StepInStorage, IsMap, may_change, IsStoredMap}
 use Rattle.prefix_trie_bits.proofs.Model.Storage.Lessened.{IsLeft, removed_is, bare_have, new_have, entries_bare, children_bare}
 use Rattle.prefix_trie_bits.proofs.Model.Members.{has-retained}
@@ -32,7 +32,7 @@ step_has sizes free up before after old new step has = elim (cases_eq after 0) a
   ]
 ]
 
--- and so has each node that is left
+-- so has each node that is left
 steps_have : (sizes free : List ℕ) → goes_up 0 sizes ≡ true → (n left : Nodes) (before after : List Bool → ℕ) (old new : Sizes) → NodesHaveBlocks sizes n before old
     → SizesStepDown sizes free n before after old new → ((p : List Bool) → has_node left p ≡ true → has_node n p ≡ true)
     → ((p : List Bool) → has_node n p ≡ true → has_node left p ≡ false → after p ≡ 0) → NodesHaveBlocks sizes left after new
@@ -44,7 +44,7 @@ steps_have sizes free up n left before after old new have steps stood bare = rec
   ];
 }
 
--- the same if items were lost in several steps
+-- the same if the items were lost in several steps
 between_has : (sizes : List ℕ) → goes_up 0 sizes ≡ true → (before after : ℕ) (old new : Option ℕ) → StepsBetween sizes before after old new → HasBlock sizes before old → HasBlock sizes after new
 between_has sizes up before after old new step has = elim (cases_eq after 0) as (λ _. HasBlock sizes after new) [
   | inl none ↦ has_none sizes after new none (step.none none)
@@ -78,7 +78,7 @@ all_between sizes up n left before after old new have steps stood bare = record 
 }
 
 module _ {T : Type 0} where
-  -- at the root all entries and all other nodes go
+  -- at the root, all entries and all other nodes are removed
   all_below : (m : Entries T) (n : Nodes) (k : List Bool) → has_node n [] ≡ true → has_node (nodes_without_below n m []) k ≡ true → k ≡ []
   all_below m n k rooted there = near_is n [] k ((pruning_laws T).none_added (nodes_not_below n []) (without_below m []) [] k
       (sym (ap (λ b. has_node (cond b (pruned (nodes_not_below n []) (without_below m []) []) n) k) rooted) ∙ there)) (begins-nil k)
@@ -93,7 +93,7 @@ module _ {T : Type 0} where
       bare_have _ (λ k has. no_keys s.entries k (ap (λ p. contains_key (without_below s.entries p) k) (sym root) ∙ has))
       (λ k there. all_below s.entries s.nodes k rooted (ap (λ p. has_node (nodes_without_below s.nodes s.entries p) k) (sym root) ∙ there))
 
-  -- the blocks of an equal state
+  -- an equal state with the same layout has its blocks
   have_same : (s t : State T) (before after : Storage) → t ≡ s → after.layout.child_blocks ≡ before.layout.child_blocks → after.layout.value_blocks ≡ before.layout.value_blocks →
       HaveBlocks s before.layout → HaveBlocks t after.layout
   have_same s t before after same children values have = subst (λ x. HaveBlocks x after.layout) (sym same) (record {
@@ -127,7 +127,7 @@ module _ {P T : Type 0} (path : P → List Bool) (back : List Bool → P) (width
     ]
   ]
 
-  -- what is left if one entry is removed
+  -- the state after one entry is removed is what is left of the map
   pub one_gone : (q : P) (t : State T) → IsMap width t → t.entries ≡ without_entry s.0.entries (path q)
       → ((p : List Bool) → has_node t.nodes p ≡ true → has_node s.0.nodes p ≡ true) → IsLeft width s.0 t
   one_gone q t is entries stood = record {
@@ -138,7 +138,7 @@ module _ {P T : Type 0} (path : P → List Bool) (back : List Bool → P) (width
     stood = stood;
   }
 
-  -- if the keys of n bits or more stay
+  -- so is the state after `RetainAtLeast`
   pub longer_left : (n : ℕ) (reply : Reply P T) (t : State T) → Step path back width s.0 (RetainAtLeast n) reply t → IsLeft width s.0 t
   longer_left n reply t h = record {
     was = whole.is_map;
@@ -149,7 +149,7 @@ module _ {P T : Type 0} (path : P → List Bool) (back : List Bool → P) (width
         (needed_fewer s.0.entries (part_at_least s.0.entries n) (part_fewer s.0.entries n) p (sym (ap (λ x. has_node x.nodes p) h.1) ∙ there));
   }
 
-  -- if those stay that do not begin with q
+  -- so is the state after `RemoveChildren`
   pub outside_left : (q : P) (reply : Reply P T) (t : State T) → length (path q) ≤ width → Step path back width s.0 (RemoveChildren q) reply t → IsLeft width s.0 t
   outside_left q reply t fits h = record {
     was = whole.is_map;
@@ -159,7 +159,7 @@ module _ {P T : Type 0} (path : P → List Bool) (back : List Bool → P) (width
     stood = λ p there. (remove_children_law width s.0.entries s.0.nodes (path q) whole.is_map.are_nodes).none_new p (sym (ap (λ x. has_node x.nodes p) h.1) ∙ there);
   }
 
-  -- several entries gone
+  -- after many entries are removed, each list has its block
   many_gone : (t : State T × Storage) → IsLeft width s.0 t.0 → RemovesManyInStorage s.0 t.0 s.1 t.1 → HaveBlocks t.0 t.1.layout
   many_gone t left storage = record {
     child_blocks = all_between child_block_sizes refl s.0.nodes t.0.nodes _ _ s.1.layout.child_blocks t.1.layout.child_blocks whole.have_blocks.child_blocks

@@ -1,4 +1,4 @@
--- What a step fixes of the storage: for `storage_laws`.
+-- A step of the model that describes the storage fixes what may change in it: for `storage_laws`.
 use Rattle.prefix_trie_bits.proofs.Prelude.{◌≡◌, ℕ, Bool, true, false, List, [], ◌∷◌, length, Option, refl, sym, ap, ◌∙◌, subst, true≢false, contains_key, Sizes, Space, TakesBlocks, is_root, State, Call, Insert, Remove, RemoveKeepTree, RemoveChildren, RetainAtLeast, Clear, Reply, Refused, Refusal, Storage, InsertsInStorage, StepInStorage, is_refusal, asks_length, may_change, UseAlike, LeavesFixed, StorageLaws}
 use Rattle.prefix_trie_bits.proofs.Model.Determined.{no_refusal, set}
 use Rattle.prefix_trie_bits.proofs.Model.Members.{same_entries}
@@ -19,7 +19,7 @@ alike : (a b : Storage) → a ≡ b → UseAlike a b
 alike a b e = record { space = ap (λ x. x.space) e; child_blocks = ap (λ x. x.layout.child_blocks) e; value_blocks = ap (λ x. x.layout.value_blocks) e }
 
 module _ {T : Type 0} where
-  -- both the state and the storage are as they were
+  -- if state and storage are both as they were, so is the pair
   unchanged_pair : (s t : State T × Storage) → t.0 ≡ s.0 → t.1 ≡ s.1 → t ≡ s
   unchanged_pair s t e f = λ i. (e i, f i)
 

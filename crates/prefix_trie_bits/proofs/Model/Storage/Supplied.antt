@@ -1,4 +1,4 @@
--- After an insertion each node has its blocks again: for `total_laws`.
+-- After an insertion each list has its block again: for `total_laws`.
 use Rattle.prefix_trie_bits.proofs.Prelude.{◌≡◌, ℕ, ◌+◌, ◌%◌, ◌<◌, ◌≤◌, ◌==◌, inl, inr, Bool, true, false, cond, not, ◌&&◌, ◌||◌, nat_lt, List, length, take, drop, filter, Option, None, Some, refl, sym, ap, ◌∙◌, subst, arith, eqb-true, eq-eqb, ltb-true, true≢false, length-take-le, length-drop, cases_Bool, lt-ltb, Contains, option_or, list_any, get, insert, retain_keys, contains_key, len, same_bool, begins-length, begins-linear, begins-take, begins-trans, take-begins, begins, same_string, strings, IsMap, Sizes, child_block_sizes, value_block_sizes, child_count, own_entries, smallest_size, HasBlock, NodesHaveBlocks, Entries, with_entry, block_needed, gains_child, TakesBlocks, Nodes, has_node, home, is_node_depth, with_needed, State, Storage, HaveBlocks, InsertsInStorage, and-true, and_assoc, or_comm}
 use Rattle.prefix_trie_bits.proofs.Checks.{each, at_string}
 use Rattle.prefix_trie_bits.proofs.Model.Storage.Counting.{passing-len, passing-inserted, few_behind}
@@ -11,7 +11,7 @@ use Rattle.prefix_trie_bits.proofs.Model.Storage.Shrinking.{has_none, has_some, 
 
 -- ---- one more item
 
--- a list that takes the block that it needs for one more has its block
+-- a list that gets one more item and takes the block that it then needs has its block
 needed_has : (sizes : List ℕ) → goes_up 0 sizes ≡ true → (top : ℕ) → Contains sizes top → (count : ℕ) (block : Option ℕ) → count + 1 ≤ top → HasBlock sizes count block →
     HasBlock sizes (count + 1) (option_or (block_needed sizes block count) block)
 needed_has sizes up top largest count block most has = let small = smallest_of 0 sizes up (count + 1) top largest most in elim (has_cases sizes count block has) as (λ _. HasBlock sizes (count + 1) (option_or (block_needed sizes block count) block)) [
@@ -27,7 +27,7 @@ needed_has sizes up top largest count block most has = let small = smallest_of 0
   ]
 ]
 
--- nodes and counts after nodes came and some lists took one more item
+-- the counts of all nodes after nodes were added and some lists got one more item
 record Grows (n later : Nodes) (count count_later : List Bool → ℕ) (gains : List Bool → Bool) (top : ℕ) : Type 0 where
   counts : (p : List Bool) → has_node later p ≡ true → count_later p ≡ count p + cond (gains p) 1 0
   most : (p : List Bool) → has_node later p ≡ true → count_later p ≤ top
@@ -120,7 +120,7 @@ module _ (n : Nodes) (q p : List Bool) (depth : length p % 5 ≡ 0) where
   abbrev is_child : List Bool → Bool
   is_child k = begins p k && (length k == length p + 5)
 
-  -- of the strings on the search path, p has one as its child
+  -- the only child of p on the search path is the next node of the path
   child_on_path : (k : List Bool) → is_child k ≡ true → (begins k q && is_node_depth k) ≡ same_string k next
   child_on_path k child =
       let long = eqb-true (length k) (length p + 5) (and-second (begins p k) (length k == length p + 5) child) in
@@ -156,7 +156,7 @@ module _ (n : Nodes) (q p : List Bool) (depth : length p % 5 ≡ 0) where
       (begins-linear p next q (and-first (begins p q) (nat_lt (length p) (length (home q))) on) (take-begins (length p + 5) q) (omega (arith, long)))
       (eq-eqb (length next) (length p + 5) long))
 
-  -- a node that gains a child has one more
+  -- a node that gets a child has one more
   pub children_grow : child_count (with_needed n q) p ≡ child_count n p + cond (gains_child n q p) 1 0
   children_grow = children_as_one ∙ passing-inserted is_child n next tt
       ∙ ap (λ b. child_count n p + cond (b && not (has_node n next)) 1 0) next_child
@@ -173,7 +173,7 @@ module _ {T : Type 0} (m : Entries T) (q p : List Bool) (v : T) (depth : length 
       let less : length q < length p + 5 = (let e = ap (λ s. length s) is ∙ home-length q in omega (arith, e)) in
       and-join (begins p q) (nat_lt (length q) (length p + 5)) (subst (λ x. begins x q ≡ true) (sym is) (home-begins q)) (lt-ltb (length q) (length p + 5) less))
 
-  -- the own node of a new key has one entry more
+  -- the node of a new key has one more entry of its own
   pub entries_grow : own_entries (with_entry m q v) p ≡ own_entries m p + cond (same_string p (home q) && not (contains_key m q)) 1 0
   entries_grow = passing-inserted (λ k. begins p k && nat_lt (length k) (length p + 5)) m q v ∙ ap (λ b. own_entries m p + cond (b && not (contains_key m q)) 1 0) own_is_home
 
@@ -214,7 +214,7 @@ module _ {T : Type 0} (width : ℕ) (s : State T) (q : List Bool) (v : T) where
       on_path p h = has-with_needed s.nodes q p ∙ or-right (has_node s.nodes p) (begins p q && is_node_depth p)
           (and-join (begins p q) (is_node_depth p) (and-second (is_node_depth p) (begins p q) h) (and-first (is_node_depth p) (begins p q) h))
 
-  -- a key that is set again changes no count
+  -- setting a stored key again changes no number of items
   pub stored_have : (before : Storage) → IsMap width s → contains_key s.entries q ≡ true → HaveBlocks s before.layout →
       HaveBlocks (record { entries = with_entry s.entries q v; nodes = s.nodes }) before.layout
   stored_have before is stored have = record {

@@ -14,7 +14,7 @@ size_in (s ∷ sizes) size (suc k) l e = or-right (s == size) _ (size_in sizes s
 not_size : (sizes : List ℕ) (size : ℕ) → list_any (λ s. s == size) sizes ≡ false → Contains sizes size → ⊥
 not_size sizes size answers (k, l, e) = true≢false (sym (size_in sizes size k l e) ∙ answers)
 
--- a block that is too small, or of no size
+-- a block that is too small, or has none of the sizes, is no block of the list
 pub not_in : (sizes : List ℕ) (n m : ℕ) → m < suc n → HasBlock sizes (suc n) (Some m) → ⊥
 not_in sizes n m l (size, e, c, fits) = let is = some_is m size e in absurd (omega arith)
 
@@ -24,7 +24,7 @@ no_size sizes n m answers (size, e, c, fits) = not_size sizes m answers (subst (
 no_block : (sizes : List ℕ) (n : ℕ) → HasBlock sizes (suc n) None → ⊥
 no_block sizes n (size, e, c, fits) = not_some size e
 
--- one number is neither of two others
+-- a number that differs from two others equals neither
 neither : (a b c : ℕ) → (a == b) ≡ false → (a == c) ≡ false → (Some a ≡ Some b) ⊎ (Some a ≡ Some c) → ⊥
 neither a b c p q (inl e) = true≢false (sym (eq-eqb a b (some_is a b e)) ∙ p)
 neither a b c p q (inr e) = true≢false (sym (eq-eqb a c (some_is a c e)) ∙ q)
@@ -35,7 +35,7 @@ unlike a b p e = true≢false (sym (eq-eqb a b (some_is a b e)) ∙ p)
 pub differ : {A : Type 0} (a b : ℕ) → (a == b) ≡ false → a ≡ b → A
 differ a b p e = absurd (true≢false (sym (eq-eqb a b e) ∙ p))
 
--- a block of a size between 16 and 31 is right for nine items of 31
+-- any size from 16 to 31 is allowed for nine items left of 31
 may_be : (n : ℕ) → 16 ≤ n → n ≤ 31 → Contains value_block_sizes n → StepsBetween value_block_sizes 31 9 (Some 31) (Some n)
 may_be n low high among = record {
   fewer = lit≤ tt;

@@ -1,11 +1,11 @@
--- Proves the worked facts that no reply contains.
+-- Proves the worked facts that are not about replies.
 use Rattle.prefix_trie_bits.proofs.Prelude.{◌≡◌, ℕ, ◌+◌, ◌%◌, ◌==◌, ◌&&◌, Bool, true, false, not, cond, List, [], ◌∷◌, map, filter, length, nat_lt, nat_le, is_lt, is_some, sum_by, Option, Some, None, refl, ap, ap₂, ◌∙◌, lit<, list_any, entries, len-entries, entries-insert, find, put, digits, number, begins, listing_cmp, listing_total, Entries, with_entry, part_below, without_below, listing_after, prefix_pairs, first_item, Nodes, home, needed, nodes_without_below, child_block_sizes, value_block_sizes, packed_slots, visits_of_match, visits_to_match, WritingWalk, walk_over, State, path_at, back_at, FactsHold, at_slot, RetainsEntries}
 use Rattle.prefix_trie_bits.proofs.Model.Worked.Plain.{keys_of, Shows, Marks, needed-is, needed_marks, pruned_marks, marks_not_below, nodes_without_below-is}
 use Rattle.prefix_trie_bits.proofs.Model.Ordered.{entries-retained}
 use Rattle.prefix_trie_bits.proofs.Model.Worked.Played.{leads}
 use Rattle.prefix_trie_bits.proofs.Model.Worked.Blocks.{differ}
 
--- a fact about the lists of a state's entries and nodes
+-- a fact about the lists of entries and nodes holds of a state that has these lists
 pub said : {A : Type 0} (f : List (List Bool × ℕ) → Marks → A) (t : State ℕ) {es : List (List Bool × ℕ)} {ns : Marks} → Shows t es ns → f (entries t.entries) (entries t.nodes) ≡ f es ns
 said f t s = ap₂ f s.of_entries s.of_nodes
 
@@ -46,7 +46,7 @@ node_slots_in ns = 1 + sum_by (λ p. packed_slots child_block_sizes (children_in
 abbrev cell_slots_in : List (List Bool × ℕ) → Marks → ℕ
 cell_slots_in es ns = sum_by (λ p. packed_slots value_block_sizes (own_in p es)) (keys_of ns)
 
--- a block at the front goes to the end
+-- the first block of a list, moved to its end
 abbrev to_end : List (ℕ × ℕ)
 to_end = (5, 6) ∷ (4, 5) ∷ (3, 4) ∷ (2, 3) ∷ (1, 2) ∷ (0, 1) ∷ []
 
@@ -56,7 +56,7 @@ behind_in es = keys_of (filter (λ e. is_lt (listing_cmp (path_at 8 (5, 8)) e.0)
 abbrev left_marks : List Bool → List (List Bool × ℕ) → Marks → Marks
 left_marks q es ns = cond (is_some (find listing_cmp (home q) ns)) (pruned_marks (marks_not_below ns q) (keys_of (filter (λ e. not (begins q e.0)) es)) q) ns
 
--- a test that is true at every other call is not true twice in a row
+-- a test that returns true at every other call does not return true twice in a row
 not_twice : RetainsEntries (λ (f : ℕ) (_ : List Bool) (_ : ℕ) b (f' : ℕ). (b ≡ (f % 2 == 0)) × (f' ≡ f + 1)) 0
     ((false ∷ [], 1) ∷ (true ∷ [], 2) ∷ []) ((false ∷ [], 1) ∷ (true ∷ [], 2) ∷ []) → ⊥
 not_twice (b, f, later, asked, (c, g, last, again, ends, is), kept) =

@@ -1,4 +1,4 @@
--- Proves the worked facts on the blocks that an insertion needs and on the missing ones.
+-- Proves the worked facts on the blocks that an insertion needs, and on those that are missing.
 use Rattle.prefix_trie_bits.proofs.Prelude.{◌≡◌, ◌⊎◌, ℕ, ◌+◌, ◌-◌, ◌<◌, ◌≤◌, ◌==◌, ◌&&◌, Bool, not, cond, List, [], ◌∷◌, map, take, filter, filter_map, length, nat_lt, is_some, Option, None, refl, sym, ap, ap₂, ◌∙◌, inl, inr, arith, eqb-true, lit<, lit≤, cases_Bool, option_to_list, entries, entries-from_sorted, get-entries, find, is_sorted, digits, number, begins, listing_cmp, same_string, Entries, Nodes, is_node_depth, nodes_above, home, Sizes, Layout, value_block_sizes, child_block_sizes, free_of, no_layout, own_entries, child_count, block_needed, gains_child, child_block_needed, value_block_needed, child_blocks_needed, value_blocks_needed, missing_of, slots_of_missing, missing_node_slots, missing_cell_slots, MissingFitsLimit, Space, State, path_at, full_pairs, none_free, space_of, Blocks, by_path, sizes_at, layout_at, with_one, ones_free, lacking, far_children, far_layout, three_slots, InsertionsHold}
 use lib.Dec.{T as IsT}
 use Rattle.prefix_trie_bits.proofs.Model.Worked.Plain.{Shows, Marks}
@@ -9,7 +9,7 @@ use Rattle.prefix_trie_bits.proofs.Model.Worked.Examples.{said, holders_in, pare
 abbrev pub Sized : Type 0
 Sized = List (List Bool × ℕ)
 
--- the same words of lists, which compute
+-- the same definitions on plain lists, where they compute
 abbrev pub gains_in : Marks → List Bool → List Bool → Bool
 gains_in ns q p =
     (is_node_depth p && begins p q) && (nat_lt (length p) (length (home q)) && not (is_some (find listing_cmp (take (length p + 5) q) ns)))
@@ -41,7 +41,7 @@ missing_nodes-is n layout q = λ i. slots_of_missing child_block_sizes layout.fr
 missing_cells-is : (m : Entries ℕ) (layout : Layout) (q : List Bool) → missing_cell_slots m layout q ≡ missing_cells_in (entries m) (entries layout.value_blocks) layout.free_value_blocks q
 missing_cells-is m layout q = λ i. slots_of_missing value_block_sizes layout.free_value_blocks (option_to_list (value-is m layout.value_blocks q (home q) i))
 
--- the same for several strings
+-- they agree for each string of a list
 gains-all : (n : Nodes) (q : List Bool) (ps : List (ℕ × ℕ)) → map (λ p. gains_child n q (path_at 32 p)) ps ≡ map (λ p. gains_in (entries n) q (path_at 32 p)) ps
 gains-all n q ps = λ i. map (λ p. gains-is n q (path_at 32 p) i) ps
 
@@ -51,7 +51,7 @@ children-all n blocks q ps = λ i. map (λ p. child-is n blocks q (path_at 32 p)
 values-all : (m : Entries ℕ) (blocks : Sizes) (q : List Bool) (ps : List (ℕ × ℕ)) → map (λ p. value_block_needed m blocks q (path_at 32 p)) ps ≡ map (λ p. value_needed_in (entries m) (entries blocks) q (path_at 32 p)) ps
 values-all m blocks q ps = λ i. map (λ p. value-is m blocks q (path_at 32 p) i) ps
 
--- blocks by the strings of their nodes, in order
+-- the blocks, each with the string of its node, in order
 abbrev pub listed : ℕ → Blocks → Sized
 listed width blocks = map (by_path width) blocks
 
@@ -76,7 +76,7 @@ lacks_new : (width : ℕ) (t : State ℕ) (q : ℕ × ℕ) {es : Sized} {ns : Ma
     → lacking width t no_layout q ≡ (missing_nodes_in ns [] none_free (path_at width q), missing_cells_in es [] none_free (path_at width q))
 lacks_new width t q s = lacks_in width t no_layout q s (entries-empty ℕ) (entries-empty ℕ)
 
--- whether missing slots exceed a limit
+-- if the missing slots would exceed the limit, a refusal is allowed
 more : (limit slots lack n : ℕ) → lack ≡ n → limit < slots + n → limit < slots + lack
 more limit slots lack n e l = rw e l
 
@@ -84,7 +84,7 @@ pub neither_more : (limit a b lack_a lack_b n m : ℕ) → lack_a ≡ n → lack
 neither_more limit a b lack_a lack_b n m e f p q (inl l) = absurd (omega arith)
 neither_more limit a b lack_a lack_b n m e f p q (inr l) = absurd (omega arith)
 
--- the sizes of the blocks that are needed
+-- the sizes of the child blocks that the insertion needs
 pub children_needed : (t : State ℕ) (layout : Layout) (q : List Bool) {es cs : Sized} {ns : Marks} → Shows t es ns → entries layout.child_blocks ≡ cs
     → child_blocks_needed t.nodes layout q ≡ filter_map (child_needed_in ns cs q) (nodes_above q)
 children_needed t layout q s c =
@@ -95,7 +95,7 @@ pub values_needed : (t : State ℕ) (layout : Layout) (q : List Bool) {es vs : S
 values_needed t layout q s v =
     ap option_to_list (value-is t.entries layout.value_blocks q (home q) ∙ ap₂ (λ es bs. value_needed_in es bs q (home q)) s.of_entries v)
 
--- if one block is needed, none of another size is missing
+-- if one block is needed, no block of another size is missing
 pub lacks_one : (sizes free needed : List ℕ) (n size : ℕ) → needed ≡ n ∷ [] → 0 < missing_of sizes free needed size → size ≡ n
 lacks_one sizes free needed n size e l = elim (cases_Bool (n == size)) as (λ _. size ≡ n) [
   | inl is ↦ sym (eqb-true n size is)
@@ -111,11 +111,11 @@ lacks_none sizes free needed size e l =
     let some : 0 < length (filter (λ s. s == size) needed) - free_of sizes free size = l in
     absurd (omega (arith, none, some))
 
--- and that one does, if none of its size is free
+-- that block is missing if none of its size is free
 lacks_that : (sizes free needed : List ℕ) (n : ℕ) → needed ≡ n ∷ [] → missing_of sizes free (n ∷ []) n ≡ 1 → 0 < missing_of sizes free needed n
 lacks_that sizes free needed n e one = let is : missing_of sizes free needed n ≡ 1 = ap (λ ns. missing_of sizes free ns n) e ∙ one in omega (arith, is)
 
--- neither the block of children nor that of values fits
+-- neither the child block nor the value block fits
 neither_within : (t : State ℕ) (space : Space) (layout : Layout) (q : List Bool) (n m : ℕ) → child_blocks_needed t.nodes layout q ≡ n ∷ [] → value_blocks_needed t.entries layout q ≡ m ∷ []
     → space.limit < space.node_slots + n → space.limit < space.cell_slots + m → MissingFitsLimit t.entries t.nodes space layout q → ⊥
 neither_within t space layout q n m e f past_nodes past_cells (inl (size, lacks, fits)) =
@@ -123,7 +123,7 @@ neither_within t space layout q n m e f past_nodes past_cells (inl (size, lacks,
 neither_within t space layout q n m e f past_nodes past_cells (inr (size, lacks, fits)) =
     let is = lacks_one value_block_sizes layout.free_value_blocks _ m size f lacks in absurd (omega (arith, is, fits, past_cells))
 
--- if no block of children is needed, that of values does not fit
+-- no child block is needed, and the value block does not fit
 not_within : (t : State ℕ) (space : Space) (layout : Layout) (q : List Bool) (m : ℕ) → child_blocks_needed t.nodes layout q ≡ [] → value_blocks_needed t.entries layout q ≡ m ∷ []
     → space.limit < space.cell_slots + m → MissingFitsLimit t.entries t.nodes space layout q → ⊥
 not_within t space layout q m e f past (inl (size, lacks, fits)) = lacks_none child_block_sizes layout.free_child_blocks _ size e lacks

@@ -1,5 +1,4 @@
--- A plain, slow model that computes: the entries and the nodes as sorted lists. Each of its steps
--- is a step of the definitions.
+-- A plain, slow model that computes, on sorted lists of entries and nodes. Each of its steps is a step of the model.
 use Rattle.prefix_trie_bits.proofs.Prelude.{◌≡◌, true≢false, ℕ, ◌^◌, ◌==◌, Bool, true, false, cond, not, ◌&&◌, ◌||◌, List, [], ◌∷◌, length, map, filter, flat_map, nat_le, Option, Some, None, is_some, is_lt, is_le, refl, sym, ap, ap₂, ◌∙◌, subst, inl, inr, list_any, list_all, FinMap, entries, contains_key, retain_keys, keys, empty, get-entries, len-entries, entries-insert, find, put, begins, listing_cmp, listing_total, same_string, Entries, no_entries, with_entry, without_entry, without_below, part_at_least, prefix_pairs, first_item, last_item, prefix_pair, Nodes, has_node, is_root, root_alone, with_nodes, nodes_above, home, needed, is_pruned, pruned, nodes_not_below, nodes_without, nodes_without_below, State, Call, Insert, Get, Lpm, Spm, Remove, RemoveKeepTree, RemoveChildren, RetainAtLeast, Clear, Len, NodeCount, AddressCount, ListAll, ListFrom, Children, Cover, Reply, Value, Match, Done, Count, Addresses, Items, Refused, Refusal, Step, Run}
 use Rattle.prefix_trie_bits.proofs.Model.Ordered.{entries-retained, entries-removed, entries-empty}
 use Rattle.prefix_trie_bits.proofs.Model.Halves.{halves, covered-halves}
@@ -44,8 +43,8 @@ module _ {P T : Type 0} (path : P → List Bool) (back : List Bool → P) (width
   abbrev pub answered : Reply P T → List (List Bool × T) → Marks → Played P T
   answered r es ns = record { reply = r; entries = es; nodes = ns }
 
-  -- the reply to a call and the state that it leaves; with a cause, the insertion of a new key is
-  -- refused for it
+  -- the reply to a call and the state that it leaves; if a cause is given, the insertion of a new key is refused for
+  -- it
   abbrev pub play : List (List Bool × T) → Marks → Option Refusal → Call P T → Played P T
   play es ns fate (Insert q v) =
       elim (is_some (find listing_cmp (path q) es)) as (λ _. Played P T) [
@@ -78,7 +77,7 @@ module _ {P T : Type 0} (path : P → List Bool) (back : List Bool → P) (width
   play es ns fate (Children q) = answered (Items (prefix_pairs back (filter (λ e. begins (path q) e.0) es))) es ns
   play es ns fate (Cover q) = answered (Items (prefix_pairs back (filter (λ e. begins e.0 (path q)) es))) es ns
 
-  -- the replies to calls, each with its fate, and the state that they lead to
+  -- the replies to a list of calls, each with its cause of refusal if it has one, and the last state
   abbrev pub play_all : List (List Bool × T) → Marks → List (Call P T × Option Refusal) → List (Reply P T) × List (List Bool × T) × Marks
   play_all es ns [] = ([], es, ns)
   play_all es ns (c ∷ cs) = let r = play es ns c.1 c.0 in let rest = play_all r.entries r.nodes cs in (r.reply ∷ rest.0, rest.1, rest.2)
@@ -213,7 +212,7 @@ module _ {P T : Type 0} (path : P → List Bool) (back : List Bool → P) (width
   step_at s fate AddressCount = stays s _ _ AddressCount _ (here s) (ap (λ n. Addresses (cond (n == 2 ^ width) None (Some n))) (sym (covered-halves width (keys s.entries))), refl)
   step_at s fate call = stays s _ _ call _ (here s) (inl refl, refl)
 
-  -- the plain model's replies to a list of calls are a run that leads to its last state
+  -- the plain model's replies to a list of calls are a run of the model that leads to its last state
   abbrev pub Ran : State T → List (Call P T × Option Refusal) → List (List Bool × T) × Marks → Type 0
   Ran s cs p =
       (t : State T) × Run path back width s (calls_of path back width cs) (play_all path back width p.0 p.1 cs).0 t × Shows t (play_all path back width p.0 p.1 cs).1 (play_all path back width p.0 p.1 cs).2
@@ -226,7 +225,7 @@ module _ {P T : Type 0} (path : P → List Bool) (back : List Bool → P) (width
       let rest : Ran one.next cs (r.entries, r.nodes) = subst (Ran one.next cs) (λ i. (one.shows.of_entries i, one.shows.of_nodes i)) (run_at one.next cs) in
       (rest.0, (r.reply, (play_all path back width r.entries r.nodes cs).0, one.next, refl, one.step, rest.1), rest.2)
 
-  -- on a new map
+  -- the same from a new map
   pub from_new : (cs : List (Call P T × Option Refusal)) → Ran (record { entries = no_entries; nodes = root_alone }) cs ([], root_mark)
   from_new cs =
       let new : State T = record { entries = no_entries; nodes = root_alone } in

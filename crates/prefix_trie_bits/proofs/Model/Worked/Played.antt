@@ -1,13 +1,13 @@
--- A worked row holds if the plain model gives its replies.
+-- A worked row holds if the plain model gives its replies: for the worked rows.
 use Rattle.prefix_trie_bits.proofs.Prelude.{◌≡◌, ℕ, Bool, List, [], ◌∷◌, map, Option, Some, None, refl, ap, subst, State, Call, Reply, Refused, Refusal, Run, path_at, back_at, new_map, Row, calls, replies, Gives, LeadsTo}
 use Rattle.prefix_trie_bits.proofs.Model.Worked.Plain.{from_new, Shows, Marks, root_mark, calls_of, play_all}
 
--- why a call is refused, if it is
+-- the cause of a refusal, `None` for another reply
 abbrev fate_of : Reply (ℕ × ℕ) ℕ → Option Refusal
 fate_of (Refused cause) = Some cause
 fate_of reply = None
 
--- the calls of a row, each with its fate
+-- the calls of a row, each with the cause of its refusal
 abbrev pub fated : Row → List (Call (ℕ × ℕ) ℕ × Option Refusal)
 fated row = map (λ c. (c.0, fate_of c.1)) row
 

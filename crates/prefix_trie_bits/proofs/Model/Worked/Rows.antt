@@ -1,4 +1,4 @@
--- Proves the worked rows, by the plain model.
+-- Proves the worked rows: the plain model computes the reply of each call.
 use Rattle.prefix_trie_bits.proofs.Prelude.{refl, digits, number, begins, LookupsHold, WalksHold, RemovalsHold, LimitsHold, WidthsHold, AddressesHold}
 use Rattle.prefix_trie_bits.proofs.Model.Halves.{halves}
 use Rattle.prefix_trie_bits.proofs.Model.Worked.Played.{gives}

@@ -1,4 +1,4 @@
--- Proves the worked facts on storages that no step leaves.
+-- Proves the worked facts on storages to which no step leads.
 use Rattle.prefix_trie_bits.proofs.Prelude.{◌≡◌, ℕ, zero, suc, ◌+◌, ◌-◌, ◌<◌, ◌≤◌, ◌==◌, Bool, false, List, [], ◌∷◌, map, length, get_or, is_some, Option, Some, None, refl, sym, ap, ap₂, ◌∙◌, subst, inl, inr, arith, le_of_eq, lit<, lit≤, slice_index_or, Contains, count_by, option_or, entries, get, contains_key, values, entries-from_sorted, get-from_sorted, find, digits, number, begins, listing_cmp, has_node, value_block_sizes, child_block_sizes, free_of, own_entries, used_of, HasBlock, LongerByOne, LosesNoBlock, value_block_needed, value_blocks_needed, missing_child_blocks, missing_of, missing_value_blocks, made_of, one_of, home, State, Call, Remove, RemoveKeepTree, RetainAtLeast, Reply, Memory, IndexRange, Step, is_refusal, path_at, back_at, sets, none_free, both_free, Blocks, layout_at, ones_free, sizes_at, three_slots, two_free, four_free, root_child, root_value, child_value, Takes, KeepsFacts, FilledFacts, StepsHold}
 use Rattle.prefix_trie_bits.proofs.Model.Worked.Plain.{Shows, Marks, play, step_at, has-is}
 use Rattle.prefix_trie_bits.proofs.Model.Worked.Played.{last_entries, last_marks, leads}
@@ -7,7 +7,7 @@ use Rattle.prefix_trie_bits.proofs.Model.Determined.{same}
 use Rattle.prefix_trie_bits.proofs.Model.Worked.Blocks.{some_is, not_some, unlike, differ, not_in}
 use Rattle.prefix_trie_bits.proofs.Model.Worked.Insertions.{children_needed, lacks_one, lacks_none, value_needed_in, value-is, values_needed, sizes-is, Sized, listed, InOrder, lacks, neither_more}
 
--- the entries and the nodes of the map, as lists
+-- the entries and the nodes of the worked map, as lists
 abbrev es8 : Sized
 es8 = last_entries 8 (sets (((0, 1), 1) ∷ ((128, 1), 2) ∷ ((0, 5), 3) ∷ []))
 
@@ -26,7 +26,7 @@ left_entries call = (play (path_at 8) (back_at 8) 8 es8 ns8 None call).entries
 abbrev left_nodes : Called → Marks
 left_nodes call = (play (path_at 8) (back_at 8) 8 es8 ns8 None call).nodes
 
--- what a step that is not refused leaves, as lists
+-- the lists that a step that is not refused leaves
 after : (t u : State ℕ) (call : Called) (reply : Replied) → Shows t es8 ns8 → is_refusal reply ≡ false
     → is_refusal (play (path_at 8) (back_at 8) 8 (entries t.entries) (entries t.nodes) None call).reply ≡ false
     → Step (path_at 8) (back_at 8) 8 t call reply u → Shows u (left_entries call) (left_nodes call)
@@ -44,7 +44,7 @@ has t p s = has-is t.nodes p ∙ ap (λ ns. is_some (find listing_cmp p ns)) s.o
 stored_key : (t : State ℕ) (p : List Bool) → Shows t es8 ns8 → contains_key t.entries p ≡ is_some (find listing_cmp p es8)
 stored_key t p s = has-is t.entries p ∙ ap (λ es. is_some (find listing_cmp p es)) s.of_entries
 
--- the size of the block at a string, and the sizes of all blocks
+-- the size of the block of a string, and the number of blocks of each size
 block_at : (blocks : Blocks) (p : List Bool) → InOrder 8 blocks → get (sizes_at 8 blocks) p ≡ find listing_cmp p (listed 8 blocks)
 block_at blocks p h = get-from_sorted listing_cmp (listed 8 blocks) p h
 
@@ -60,7 +60,7 @@ never a b l m = absurd (omega arith)
 abbrev number_of : List ℕ → List ℕ → List ℕ → ℕ → ℕ
 number_of sizes used free size = count_by (λ n. n == size) used + free_of sizes free size
 
--- blocks of a size of which there are fewer afterwards
+-- a step in which blocks of some size disappear is impossible
 lost : (sizes : List ℕ) (old new : Blocks) (f g : List ℕ) (size : ℕ) → InOrder 8 old → InOrder 8 new
     → Contains sizes size → number_of sizes (sizes_of new) g size < number_of sizes (sizes_of old) f size
     → LosesNoBlock sizes (sizes_at 8 old) f (sizes_at 8 new) g → ⊥
@@ -70,7 +70,7 @@ lost sizes old new f g size h k c fewer keeps =
     (subst (λ y. number_of sizes (values (sizes_at 8 old)) f size ≤ number_of sizes y g size) (all_sizes new k) (keeps size c)) in
     never _ _ fewer l
 
--- blocks of a size that were made although none of it lacked
+-- a step in which blocks of a size are made although none of it is missing is impossible
 made : (sizes : List ℕ) (old new : Blocks) (f g : List ℕ) (size lack : ℕ) → InOrder 8 old → InOrder 8 new → lack ≡ 0 → number_of sizes (sizes_of old) f size < number_of sizes (sizes_of new) g size
     → used_of (sizes_at 8 new) size + free_of sizes g size ≤ used_of (sizes_at 8 old) size + free_of sizes f size + lack → ⊥
 made sizes old new f g size lack h k none more most =
@@ -82,8 +82,8 @@ made sizes old new f g size lack h k none more most =
     above : (a b n : ℕ) → n ≡ 0 → a < b → b ≤ a + n → ⊥
     above a b n e l m = absurd (omega arith)
 
--- an array that grows by another number of slots than those of its new block, or although no block
--- changed
+-- an array that grows by another number of slots than its new block has, or that grows without a changed block, is
+-- impossible
 by_wrong : (sizes free : List ℕ) (old new : Option ℕ) (before now size : ℕ) → new ≡ Some size → (now == before) ≡ false → (now == before + size) ≡ false → LongerByOne sizes free old new before now → ⊥
 by_wrong sizes free old new before now size is p q (inl e) = differ now before p e
 by_wrong sizes free old new before now size is p q (inr (n, e, o, f, g)) = differ now (before + size) q (g ∙ ap (λ x. before + x) (some_is n size (sym e ∙ is)))
@@ -92,18 +92,18 @@ by_none : (sizes free : List ℕ) (block : Option ℕ) (before now : ℕ) → (n
 by_none sizes free block before now p (inl e) = differ now before p e
 by_none sizes free block before now p (inr (n, e, o, f, g)) = o e
 
--- a block that is there is not gone, and one of a size is not of another
+-- a block that exists is not missing, and has one size
 there : (o : Option ℕ) (size : ℕ) → o ≡ Some size → o ≡ None → ⊥
 there o size e f = not_some size (sym f ∙ e)
 
 other : (o p : Option ℕ) (a b : ℕ) → o ≡ Some a → p ≡ Some b → (a == b) ≡ false → o ≡ p → ⊥
 other o p a b e f answers is = unlike a b answers (sym e ∙ is ∙ f)
 
--- with those that were made there are no fewer
+-- the blocks afterwards are at least those before
 no_fewer : (before after made : ℕ) → after ≡ before + made → before ≤ after
 no_fewer before after made e = omega arith
 
--- more slots than were there and lacked
+-- an array with more slots than it had and needed is impossible
 too_many : (now before lack n : ℕ) → lack ≡ n → before + n < now → now ≤ before + lack → ⊥
 too_many now before lack n e l m = absurd (omega arith)
 
@@ -121,14 +121,14 @@ none_made block sizes free size = gone (one_of block size) (free_of sizes free s
     gone : (a f : ℕ) → a - (a + f) ≡ 0
     gone a f = omega arith
 
--- what the root needs for its third entry
+-- the block that the root needs for its third entry has four slots
 needs : (t : State ℕ) → Shows t es8 ns8 → value_block_needed t.entries three_slots.value_blocks (path_at 8 (64, 2)) [] ≡ Some 4
 unfolding digits number begins
 needs t s =
     value-is t.entries three_slots.value_blocks (path_at 8 (64, 2)) []
     ∙ ap₂ (λ es bs. value_needed_in es bs (path_at 8 (64, 2)) []) s.of_entries (entries-from_sorted listing_cmp (listed 8 (root_value 2)) tt)
 
--- the root takes a block of four, and each other string has the block that it had
+-- the root takes a block of four slots, and each other node keeps its block
 taken : (t : State ℕ) → Shows t es8 ns8 → Takes t (root_value 4)
 unfolding digits number begins
 taken t s [] =
@@ -136,7 +136,7 @@ taken t s [] =
     ∙ sym (ap (λ o. option_or o (get three_slots.value_blocks [])) (needs t s))
 taken t s (b ∷ p) = block_at (root_value 4) (b ∷ p) tt ∙ sym (block_at (root_value 2) (b ∷ p) tt)
 
--- of each of some sizes
+-- what holds of each of some sizes
 abbrev Each : (ℕ → Type 0) → List ℕ → Type 0
 Each P [] = Unit {0}
 Each P (n ∷ ns) = P n × Each P ns

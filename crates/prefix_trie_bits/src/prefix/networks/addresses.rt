@@ -12,8 +12,8 @@ impl Ipv4Prefix {
     ///
     /// # Examples
     ///
-    /// ```text
-    /// Ipv4Prefix::from_address(Ipv4Addr::new(10, 1, 2, 3), 8)   Some(10.1.2.3/8)
+    /// ```rust
+    /// Ipv4Prefix::from_address(Ipv4Addr::new(10, 1, 2, 3), 8);    // Some(10.1.2.3/8)
     /// ```
     #[inline]
     pub fn from_address(address: Ipv4Addr, len: u8) -> Option<Self>
@@ -35,8 +35,8 @@ impl Ipv4Prefix {
     ///
     /// # Examples
     ///
-    /// ```text
-    /// of 10.1.2.3/8   10.0.0.0
+    /// ```rust
+    /// "10.1.2.3/8".parse::<Ipv4Prefix>()?.network();      // 10.0.0.0
     /// ```
     #[inline]
     pub fn network(&self) -> Ipv4Addr
@@ -49,8 +49,8 @@ impl Ipv4Prefix {
     ///
     /// # Examples
     ///
-    /// ```text
-    /// of 10.1.2.3/8   10.255.255.255
+    /// ```rust
+    /// "10.1.2.3/8".parse::<Ipv4Prefix>()?.last();     // 10.255.255.255
     /// ```
     #[inline]
     pub fn last(&self) -> Ipv4Addr
@@ -77,8 +77,8 @@ impl Ipv6Prefix {
     ///
     /// # Examples
     ///
-    /// ```text
-    /// Ipv6Prefix::from_address(Ipv6Addr::LOCALHOST, 64)   Some(::1/64)
+    /// ```rust
+    /// Ipv6Prefix::from_address(Ipv6Addr::LOCALHOST, 64);      // Some(0000:0000:0000:0000:0000:0000:0000:0001/64)
     /// ```
     #[inline]
     pub fn from_address(address: Ipv6Addr, len: u8) -> Option<Self>
@@ -100,8 +100,8 @@ impl Ipv6Prefix {
     ///
     /// # Examples
     ///
-    /// ```text
-    /// of 2001:db8::1/32   2001:db8::
+    /// ```rust
+    /// "2001:db8::1/32".parse::<Ipv6Prefix>()?.network();      // 2001:db8::
     /// ```
     #[inline]
     pub fn network(&self) -> Ipv6Addr
@@ -114,8 +114,8 @@ impl Ipv6Prefix {
     ///
     /// # Examples
     ///
-    /// ```text
-    /// of 2001:db8::1/32   2001:db8:ffff:ffff:ffff:ffff:ffff:ffff
+    /// ```rust
+    /// "2001:db8::1/32".parse::<Ipv6Prefix>()?.last();     // 2001:db8:ffff:ffff:ffff:ffff:ffff:ffff
     /// ```
     #[inline]
     pub fn last(&self) -> Ipv6Addr

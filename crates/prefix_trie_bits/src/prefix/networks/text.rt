@@ -15,10 +15,10 @@ use std::str::{self, FromStr};
 ///
 /// # Examples
 ///
-/// ```text
-/// "10.0.0.0".parse::<Ipv4Prefix>()      Err(ParseNetworkError::MissingSlash)
-/// "10.0.0/8".parse::<Ipv4Prefix>()      Err(ParseNetworkError::Address)
-/// "10.0.0.0/33".parse::<Ipv4Prefix>()   Err(ParseNetworkError::Length)
+/// ```rust
+/// "10.0.0.0".parse::<Ipv4Prefix>();       // Err(MissingSlash)
+/// "10.0.0/8".parse::<Ipv4Prefix>();       // Err(Address)
+/// "10.0.0.0/33".parse::<Ipv4Prefix>();    // Err(Length)
 /// ```
 #[derive(Clone, Copy, Debug, PartialEq, Eq)]
 pub enum ParseNetworkError {

@@ -46,10 +46,10 @@ impl<'a, P: Prefix, T: Drop, A: Allocator> Entry<'a, P, T, A> {
     ///
     /// # Examples
     ///
-    /// ```text
-    /// 10.1.0.0/16 is stored with 1
-    /// map.entry(10.1.0.0/16).put(2).answer()   Ok(Some(1))
-    /// map.entry(10.2.0.0/16).put(3).answer()   Ok(None)
+    /// ```rust
+    /// // map = {10.1.0.0/16: 1}
+    /// map.entry("10.1.0.0/16".parse()?).put(2).answer();      // Ok(Some(1))
+    /// map.entry("10.2.0.0/16".parse()?).put(3).answer();      // Ok(None)
     /// ```
     pub fn put(self, value: T) -> Put<'a, P, T, A>
         ensures same_map { result.map.ghost_name ≡ (entry_map_ref self.entry).ghost_name }

@@ -21,9 +21,11 @@ impl<'a, P: Prefix, T: Drop, A: Allocator> OccupiedEntry<'a, P, T, A> {
     ///
     /// # Examples
     ///
-    /// ```text
-    /// `entry` is the occupied entry of 10.1.2.3/16
-    /// entry.key()   &10.1.0.0/16
+    /// ```rust
+    /// // map = {10.1.0.0/16: 1}
+    /// if let Entry::Occupied(entry) = map.entry("10.1.2.3/16".parse()?) {
+    ///     entry.key();    // 10.1.0.0/16
+    /// }
     /// ```
     #[inline]
     pub fn key(&self) -> &P
@@ -36,9 +38,11 @@ impl<'a, P: Prefix, T: Drop, A: Allocator> OccupiedEntry<'a, P, T, A> {
     ///
     /// # Examples
     ///
-    /// ```text
-    /// `entry` is an occupied entry with the value 1
-    /// entry.get()   &1
+    /// ```rust
+    /// // map = {10.1.0.0/16: 1}
+    /// if let Entry::Occupied(entry) = map.entry("10.1.0.0/16".parse()?) {
+    ///     entry.get();    // 1
+    /// }
     /// ```
     #[inline]
     pub fn get(&self) -> &T
@@ -51,10 +55,12 @@ impl<'a, P: Prefix, T: Drop, A: Allocator> OccupiedEntry<'a, P, T, A> {
     ///
     /// # Examples
     ///
-    /// ```text
-    /// `entry` is an occupied entry with the value 1
-    /// *entry.get_mut() += 1
-    /// entry.get()             &2
+    /// ```rust
+    /// // map = {10.1.0.0/16: 1}
+    /// if let Entry::Occupied(mut entry) = map.entry("10.1.0.0/16".parse()?) {
+    ///     *entry.get_mut() += 1;
+    ///     entry.get();    // 2
+    /// }
     /// ```
     #[inline]
     pub fn get_mut(&mut self) -> &mut T
@@ -70,10 +76,10 @@ impl<'a, P: Prefix, T: Drop, A: Allocator> OccupiedEntry<'a, P, T, A> {
     ///
     /// # Examples
     ///
-    /// ```text
-    /// 10.1.0.0/16 is stored with 1
-    /// if let Entry::Occupied(entry) = map.entry(10.1.0.0/16) { *entry.into_mut() += 1; }
-    /// map.get(&10.1.0.0/16)                                                                Some(&2)
+    /// ```rust
+    /// // map = {10.1.0.0/16: 1}
+    /// if let Entry::Occupied(entry) = map.entry("10.1.0.0/16".parse()?) { *entry.into_mut() += 1; }
+    /// map.get(&"10.1.0.0/16".parse()?);       // Some(2)
     /// ```
     #[inline]
     pub fn into_mut(self) -> &'a mut T
@@ -92,8 +98,12 @@ impl<'a, P: Prefix, T: Drop, A: Allocator> OccupiedEntry<'a, P, T, A> {
     ///
     /// # Examples
     ///
-    /// ```text
-    /// if let Entry::Occupied(entry) = map.entry(10.1.0.0/16).and_modify(|n| *n += 1) { entry.release(); }
+    /// ```rust
+    /// // map = {10.1.0.0/16: 1}
+    /// if let Entry::Occupied(entry) = map.entry("10.1.0.0/16".parse()?).and_modify(|n| *n += 1) {
+    ///     entry.release();
+    /// }
+    /// map.get(&"10.1.0.0/16".parse()?);       // Some(2)
     /// ```
     #[inline]
     pub fn release(self)
@@ -110,10 +120,12 @@ impl<'a, P: Prefix, T: Drop, A: Allocator> OccupiedEntry<'a, P, T, A> {
     ///
     /// # Examples
     ///
-    /// ```text
-    /// `entry` is the occupied entry of 10.1.0.0/16, with the value 1
-    /// entry.insert(2)         1
-    /// map.get(&10.1.0.0/16)   Some(&2)
+    /// ```rust
+    /// // map = {10.1.0.0/16: 1}
+    /// if let Entry::Occupied(entry) = map.entry("10.1.0.0/16".parse()?) {
+    ///     entry.insert(2);                    // 1
+    /// }
+    /// map.get(&"10.1.0.0/16".parse()?);       // Some(2)
     /// ```
     #[inline]
     pub fn insert(self, value: T) -> T
@@ -131,10 +143,12 @@ impl<'a, P: Prefix, T: Drop, A: Allocator> OccupiedEntry<'a, P, T, A> {
     ///
     /// # Examples
     ///
-    /// ```text
-    /// `entry` is the occupied entry of 10.1.0.0/16, with the value 1
-    /// entry.remove()          1
-    /// map.get(&10.1.0.0/16)   None
+    /// ```rust
+    /// // map = {10.1.0.0/16: 1}
+    /// if let Entry::Occupied(entry) = map.entry("10.1.0.0/16".parse()?) {
+    ///     entry.remove();     // 1
+    /// }
+    /// map.len();              // 0
     /// ```
     #[inline]
     pub fn remove(self) -> T

@@ -14,9 +14,11 @@ impl<'a, P: Prefix, T: Drop, A: Allocator> VacantEntry<'a, P, T, A> {
     ///
     /// # Examples
     ///
-    /// ```text
-    /// `entry` is the vacant entry of 10.2.2.3/16
-    /// entry.key()   &10.2.2.3/16
+    /// ```rust
+    /// // map = {10.1.0.0/16: 1}
+    /// if let Entry::Vacant(entry) = map.entry("10.2.2.3/16".parse()?) {
+    ///     entry.key();    // 10.2.2.3/16
+    /// }
     /// ```
     #[inline]
     pub fn key(&self) -> &P
@@ -33,9 +35,10 @@ impl<'a, P: Prefix, T: Drop, A: Allocator> VacantEntry<'a, P, T, A> {
     ///
     /// # Examples
     ///
-    /// ```text
-    /// if let Entry::Vacant(entry) = map.entry(10.2.0.0/16) { *entry.insert(3)? += 1; }
-    /// map.get(&10.2.0.0/16)                                                            Some(&4), if it was not stored
+    /// ```rust
+    /// // map = {}
+    /// if let Entry::Vacant(entry) = map.entry("10.2.0.0/16".parse()?) { *entry.insert(3)? += 1; }
+    /// map.get(&"10.2.0.0/16".parse()?);       // Some(4)
     /// ```
     #[inline]
     pub fn insert(self, value: T) -> Result<&'a mut T, Refused<T>>
@@ -59,9 +62,10 @@ impl<'a, P: Prefix, T: Drop, A: Allocator> VacantEntry<'a, P, T, A> {
     ///
     /// # Examples
     ///
-    /// ```text
-    /// if let Entry::Vacant(entry) = map.entry(10.2.0.0/16) { *entry.insert_with(|| 3)? += 1; }
-    /// map.get(&10.2.0.0/16)                                                                      Some(&4), if it was not stored
+    /// ```rust
+    /// // map = {}
+    /// if let Entry::Vacant(entry) = map.entry("10.2.0.0/16".parse()?) { *entry.insert_with(|| 3)? += 1; }
+    /// map.get(&"10.2.0.0/16".parse()?);       // Some(4)
     /// ```
     #[inline]
     pub fn insert_with<F: FnOnce() -> T + Drop>(self, f: F) -> Result<&'a mut T, Refusal>
@@ -88,9 +92,10 @@ impl<'a, P: Prefix, T: Drop, A: Allocator> VacantEntry<'a, P, T, A> {
     ///
     /// # Examples
     ///
-    /// ```text
-    /// if let Entry::Vacant(entry) = map.entry(10.2.0.0/16) { *entry.default()? += 1; }
-    /// map.get(&10.2.0.0/16)                                                              Some(&1), if it was not stored
+    /// ```rust
+    /// // map = {}
+    /// if let Entry::Vacant(entry) = map.entry("10.2.0.0/16".parse()?) { *entry.default()? += 1; }
+    /// map.get(&"10.2.0.0/16".parse()?);       // Some(1)
     /// ```
     #[inline]
     pub fn default(self) -> Result<&'a mut T, Refusal>

@@ -20,11 +20,11 @@ impl<P: Prefix, T: Drop, A: Allocator> PrefixMap<P, T, A> {
     ///
     /// # Examples
     ///
-    /// ```text
-    /// 10.0.0.0/8 and 10.1.0.0/16 are stored with 1 and 2
+    /// ```rust
+    /// // map = {10.0.0.0/8: 1, 10.1.0.0/16: 2}
     /// let mut walk = map.iter_mut();
-    /// while let Some((prefix, value)) = walk.next() { *value += 1; }
-    /// map.get(&10.1.0.0/16)                                             Some(&3)
+    /// while let Some((_network, value)) = walk.next() { *value += 1; }
+    /// map.values();       // [2, 3]
     /// ```
     #[inline]
     pub fn iter_mut(&mut self) -> IterMut<'_, P, T, A>
@@ -38,10 +38,11 @@ impl<P: Prefix, T: Drop, A: Allocator> PrefixMap<P, T, A> {
     ///
     /// # Examples
     ///
-    /// ```text
-    /// 10.0.0.0/8, 10.1.0.0/16 and 10.2.0.0/16 are stored with 1, 2 and 3
-    /// map.iter_from_mut(&10.1.0.0/16, true)     lends those with 2 and 3
-    /// map.iter_from_mut(&10.1.0.0/16, false)    lends that with 3
+    /// ```rust
+    /// // map = {10.0.0.0/8: 1, 10.1.0.0/16: 2, 10.2.0.0/16: 3}
+    /// let mut walk = map.iter_from_mut(&"10.1.0.0/16".parse()?, false);
+    /// while let Some((_network, value)) = walk.next() { *value += 10; }
+    /// map.values();       // [1, 2, 13]: with `true` it would be [1, 12, 13]
     /// ```
     #[inline]
     pub fn iter_from_mut(&mut self, prefix: &P, inclusive: bool) -> IterMut<'_, P, T, A>
@@ -59,9 +60,11 @@ impl<P: Prefix, T: Drop, A: Allocator> PrefixMap<P, T, A> {
     ///
     /// # Examples
     ///
-    /// ```text
-    /// 10.0.0.0/8, 10.1.0.0/16, 10.1.1.0/24 and 10.2.0.0/16 are stored with 1, 2, 3 and 4
-    /// map.children_mut(&10.1.0.0/16)    lends those with 2 and 3
+    /// ```rust
+    /// // map = {10.0.0.0/8: 1, 10.1.0.0/16: 2, 10.1.1.0/24: 3, 10.2.0.0/16: 4}
+    /// let mut walk = map.children_mut(&"10.1.0.0/16".parse()?);
+    /// while let Some((_network, value)) = walk.next() { *value += 10; }
+    /// map.values();       // [1, 12, 13, 4]
     /// ```
     #[inline]
     pub fn children_mut(&mut self, prefix: &P) -> IterMut<'_, P, T, A>
@@ -76,11 +79,11 @@ impl<P: Prefix, T: Drop, A: Allocator> PrefixMap<P, T, A> {
     ///
     /// # Examples
     ///
-    /// ```text
-    /// 10.0.0.0/8 and 10.1.0.0/16 are stored with 1 and 2
+    /// ```rust
+    /// // map = {10.0.0.0/8: 1, 10.1.0.0/16: 2}
     /// let mut walk = map.values_mut();
     /// while let Some(value) = walk.next() { *value *= 10; }
-    /// map.get(&10.1.0.0/16)                                     Some(&20)
+    /// map.values();       // [10, 20]
     /// ```
     #[inline]
     pub fn values_mut(&mut self) -> ValuesMut<'_, P, T, A>

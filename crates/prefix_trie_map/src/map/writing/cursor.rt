@@ -46,11 +46,13 @@ impl<'a, P: Prefix, T: Drop, A: Allocator> WalkOf<MapCursor<'a, P, T, A>> {
     ///
     /// # Examples
     ///
-    /// ```text
-    /// 10.0.0.0/8 and 10.1.0.0/16 are stored with 1 and 2
+    /// ```rust
+    /// // map = {10.0.0.0/8: 1, 10.1.0.0/16: 2}
     /// let mut walk = map.iter_mut();
-    /// if let Some((prefix, value)) = walk.next() { *value = 3; }
-    /// walk.into_map()                                              Some(map), with the values 3 and 2
+    /// if let Some((_network, value)) = walk.next() { *value = 3; }
+    /// if let Some(map) = walk.into_map() {
+    ///     map.values();       // [3, 2]
+    /// }
     /// ```
     #[inline]
     pub fn into_map(self) -> Option<&'a mut PrefixMap<P, T, A>>
@@ -73,11 +75,13 @@ impl<'a, P: Prefix, T: Drop, A: Allocator> ValuesOf<MapCursor<'a, P, T, A>> {
     ///
     /// # Examples
     ///
-    /// ```text
-    /// 10.0.0.0/8 and 10.1.0.0/16 are stored with 1 and 2
+    /// ```rust
+    /// // map = {10.0.0.0/8: 1, 10.1.0.0/16: 2}
     /// let mut walk = map.values_mut();
     /// if let Some(value) = walk.next() { *value = 3; }
-    /// walk.into_map()                                     Some(map), with the values 3 and 2
+    /// if let Some(map) = walk.into_map() {
+    ///     map.values();       // [3, 2]
+    /// }
     /// ```
     #[inline]
     pub fn into_map(self) -> Option<&'a mut PrefixMap<P, T, A>>

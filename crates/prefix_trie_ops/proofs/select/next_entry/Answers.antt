@@ -1,3 +1,4 @@
+-- The loop skips the entries that do not pass the test, which changes nothing in the filtered walk.
 use Rattle.std.proofs.Common.{◌∙◌, All, ap, subst, sym}
 use Rattle.std.proofs.lemmas.List.Elements.{All-head, All-rest}
 use Rattle.prefix_trie_ops.proofs.Lists.{filter_skips}

@@ -1,3 +1,4 @@
+-- The loop over the lines of a text: the tables have the routes so far, and an error names the first bad line.
 use Rattle.std.proofs.Common.{rules, arith}
 use Rattle.std.proofs.lemmas.Result.{err_from_is_err_and}
 use Rattle.route_tables.specs.Lines.{lines}

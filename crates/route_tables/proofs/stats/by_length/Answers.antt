@@ -1,3 +1,4 @@
+-- The loop that counts networks by length: each count is right for the networks so far, and none overflows.
 use Rattle.std.proofs.Common.{rules, arith, ◌≡◌, ◌<◌, ◌≤◌, ◌+◌, ◌^◌, ◌∙◌, All, eqb, filter, get_or, length, subst}
 use Rattle.std.proofs.Math.ListN.{length-set}
 use Rattle.std.proofs.lemmas.List.{get_or_read}

@@ -1,3 +1,4 @@
+-- A set made from an iterator has the paths of its items: the map gets each item with a unit.
 use Rattle.prefix_trie.proofs.Prelude.{rules, of_calls, ◌∙◌, ◌+◌, ◌-◌, ◌*◌, ◌^◌, ◌<◌, All, length, sym, ap, subst, length-map, err_from_is_err_and, HoldsAlong, Yields, Drains, map_source, no_entries, put_all, as_item}
 use Rattle.prefix_trie.proofs.WalkItems.{come_copied, all_copied, copies_hold}
 use Rattle.prefix_trie.proofs.set.PrefixSet.from_iter.Goals as goal

@@ -1,3 +1,4 @@
+-- Inserting into a set is inserting a unit into its map: a key is new if there was no previous value.
 use Rattle.prefix_trie.proofs.Prelude.{◌≡◌, Bool, false, true, false≢true, true≢false, List, Option, None, Some, Ok, is_some, not, refl, sym, ap, ◌∙◌, subst, Reply, Insert, Value, StepByPath, stored_state}
 use Rattle.prefix_trie.specs.Sets.{put_in}
 use Rattle.prefix_trie.proofs.set.PrefixSet.insert.Goals as goal

@@ -1,3 +1,4 @@
+-- The loop of `Places::new` brings the bits of both bitmaps into listing order, one bit in each iteration.
 use Rattle.prefix_trie_bits.proofs.Prelude.{◌≡◌, ◌<◌, ◌≤◌, ◌↔◌, true, length, sym, subst, arith, Contains, is_in}
 use Rattle.prefix_trie_bits.proofs.Listing.{low_positive, moved_fits, still_even, moved_bits, all_moved, listing_places}
 use Rattle.prefix_trie_bits.proofs.Ordered.{in_places, walk_sorted}

@@ -1,3 +1,4 @@
+-- The value bit of the first bits of a key is computed from one window of five bits.
 use Rattle.prefix_trie_bits.proofs.Prelude.{◌≡◌, ◌<◌, length, take, arith}
 use Rattle.prefix_trie_bits.proofs.Strings.{value_bit_from_five, value_bit-small, window-small}
 use Rattle.std.proofs.lemmas.List.{length-take-le}

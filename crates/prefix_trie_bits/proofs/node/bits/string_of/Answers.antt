@@ -1,3 +1,4 @@
+-- The string of a value bit: its length and bits are read from the bit's number plus one.
 use Rattle.prefix_trie_bits.proofs.Prelude.{◌+◌, ◌-◌, arith, leading_zeros, w32}
 use Rattle.prefix_trie_bits.proofs.Strings.{top_length, length-short, rest-sub, rest-fits, string-bit, string-only}
 use Rattle.prefix_trie_bits.proofs.node.bits.string_of.Goals as goal

@@ -1,3 +1,4 @@
+-- The loop of `behind` copies the bits after the first n, five at a time.
 use Rattle.prefix_trie_bits.proofs.Prelude.{◌≡◌, ◌+◌, ◌≤◌, length, arith, zeros, window_small, window_joined}
 use Rattle.prefix_trie_bits.proofs.prefix.Key.behind.Goals as goal
 use Rattle.prefix_trie_bits.proofs.prefix.Key.behind.Goals.{After-window}

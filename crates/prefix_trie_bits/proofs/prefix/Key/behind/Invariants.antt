@@ -1,7 +1,7 @@
 use Rattle.prefix_trie_bits.proofs.Prelude.{◌≡◌, ◌+◌, ◌-◌, ◌≤◌, ◌++◌, take, drop, zeros}
 use Rattle.prefix_trie_bits.proofs.prefix.Key.behind.Given as goal
 
--- the bits after the first n, as many as were read so far
+-- the bits read so far, of those after the first n
 abbrev pub invariant-loop-depth : goal.invariant-loop-depth
 invariant-loop-depth g l = record {
   wide : l.width ≡ g.Self.Key.bit_width;

@@ -1,3 +1,4 @@
+-- The first windows that differ decide the order of two keys.
 use Rattle.prefix_trie_bits.proofs.Prelude.{◌≡◌, ◌+◌, ◌≤◌, ◌∙◌, length, sym, arith, order-here, order-later}
 use Rattle.prefix_trie_bits.proofs.prefix.Key.compare.Goals as goal
 use Rattle.prefix_trie_bits.proofs.prefix.Key.compare.Goals.{After-window}

@@ -1,3 +1,4 @@
+-- The checks of `read_decimal` leave exactly the plain decimal numbers up to the limit.
 use Rattle.std.proofs.Common.{◌≡◌, ◌<◌, length, get_or, sym, ◌∙◌, inl, inr, arith}
 use Rattle.std.proofs.lemmas.Grind.{common_steps}
 use Rattle.prefix_trie_bits.proofs.Texts.Decimals.{IsPlain, decimal-plain, read, reads}

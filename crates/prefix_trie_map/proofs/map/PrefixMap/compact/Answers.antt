@@ -1,3 +1,4 @@
+-- After `compact` the nodes are the needed ones, so the map keeps its invariant.
 use Rattle.std.proofs.Common.{Result, Ok, Err, OnOk, OnErr, sym, subst}
 use Rattle.prefix_trie_bits.proofs.Model.NodeSets.{AreNodes-needed}
 use Rattle.prefix_trie_bits.specs.Laws.Steps.{IsMap}

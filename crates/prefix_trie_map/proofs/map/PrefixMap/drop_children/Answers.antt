@@ -1,3 +1,5 @@
+-- Removing all that a prefix contains is a step of the model, since it is one of the table, and bounds how far the
+-- arrays grow.
 use Rattle.prefix_trie_map.proofs.Prelude.{◌<◌, ap, length, BoundsStorageGrowth, State, storage, RemoveChildren, Done, StepByPath, stored_state}
 use Rattle.prefix_trie_map.proofs.Steps.{by_key, stays}
 use Rattle.prefix_trie_map.proofs.map.PrefixMap.drop_children.Goals as goal

@@ -1,3 +1,4 @@
+-- A map made from an iterator has the entries of inserting its items in order, and a new map is tidy.
 use Rattle.prefix_trie_map.proofs.Prelude.{◌∙◌, ap, err_from_is_err_and, put_all}
 use Rattle.prefix_trie_map.proofs.Collected.{many_pass, tidy_of}
 use Rattle.prefix_trie_map.proofs.Refusals.{memory_alone}

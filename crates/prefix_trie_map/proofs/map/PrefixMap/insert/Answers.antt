@@ -1,3 +1,4 @@
+-- An insertion is a step of the model, since it is one of the table, and the map keeps its invariant.
 use Rattle.prefix_trie_map.proofs.Prelude.{Insert, StepByPath, state, stored_state, insert_reply}
 use Rattle.prefix_trie_map.proofs.Insertions.{Inserts, inserts_are}
 use Rattle.prefix_trie_map.proofs.Steps.{by_key, is_map, stays}

@@ -1,3 +1,4 @@
+-- A map is still a map after the value at a path is overwritten.
 use borrow.Follows.Closed.{read_of}
 use Rattle.prefix_trie_map.proofs.Prelude.{◌≡◌, ◌+◌, ap, ◌∙◌, subst, arith, get, ghost_name_of, visits, visits-bound, with_value_at, with_stored_at}
 use Rattle.prefix_trie_map.proofs.Steps.{is_map}

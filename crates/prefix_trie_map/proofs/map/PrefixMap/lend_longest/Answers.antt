@@ -1,3 +1,4 @@
+-- A map is still a map after the value of the longest match is overwritten.
 use borrow.Follows.Closed.{read_of}
 use Rattle.prefix_trie_map.proofs.Prelude.{◌≡◌, ◌+◌, ◌≤◌, List, Bool, Some, None, length, take, MatchOption, IfSome, refl, ap, ◌∙◌, subst, arith, ghost_name_of, Entries, longest_match, visits, visits-bound, with_longest_at}
 use Rattle.prefix_trie_map.proofs.Steps.{is_map}

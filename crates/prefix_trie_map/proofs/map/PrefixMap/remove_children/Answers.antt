@@ -1,3 +1,4 @@
+-- Splitting off a map is a step of the model, since it is one of the table. Both maps keep the invariant.
 use Rattle.prefix_trie_map.proofs.Prelude.{◌<◌, length, sym, subst, BoundsStorageGrowth, storage, err_from_is_err_and, IsMap, State, Storage, SplitsOffInStorage, handing_laws, state, stored_state}
 use Rattle.prefix_trie_map.proofs.Steps.{by_key}
 use Rattle.prefix_trie_map.proofs.map.PrefixMap.remove_children.Goals as goal

@@ -1,3 +1,4 @@
+-- The loop that turns the matches of a group of lookups into results: each result is right for its prefix.
 use Rattle.prefix_trie_map.proofs.Prelude.{◌≡◌, ◌+◌, ◌<◌, None, length, get_or, refl, sym, subst, arith, get_or_default, IsAnswer, AreAnswered, right_for}
 use Rattle.prefix_trie_map.proofs.Lookups.{found_within}
 use Rattle.prefix_trie_map.proofs.Bulk.{answered_more, right_match}

@@ -1,3 +1,4 @@
+-- The loop over groups of lookups: all results so far are right, and the nodes read are counted.
 use Rattle.prefix_trie_map.proofs.Prelude.{refl, arith, right_for}
 use Rattle.prefix_trie_map.proofs.Bulk.{answered_all, read_all}
 use Rattle.prefix_trie_map.proofs.map.bulk.answer_in_groups.Goals as goal

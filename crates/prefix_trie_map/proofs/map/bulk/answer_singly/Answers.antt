@@ -1,3 +1,4 @@
+-- The loop of lookups one by one: each result is right for its prefix, and the nodes read are counted.
 use Rattle.prefix_trie_map.proofs.Prelude.{◌<◌, length, refl, sym, subst, arith, right_for}
 use Rattle.prefix_trie_map.proofs.Bulk.{answered_all, answered_more, read_all, reads_one, right_match}
 use Rattle.prefix_trie_map.proofs.Lookups.{found_within}

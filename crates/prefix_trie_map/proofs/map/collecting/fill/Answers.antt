@@ -1,3 +1,4 @@
+-- The loop of `from_iter`: the map has the items inserted so far, and an error is that of the item that was refused.
 use Rattle.prefix_trie_map.proofs.Prelude.{Some, [], ◌∷◌, ◌++◌, refl, arith, Yields-more, All-pop, err_from_is_err_and}
 use Rattle.prefix_trie_map.proofs.Collected.{puts_more, may_pass}
 use Rattle.prefix_trie_map.proofs.map.collecting.fill.Goals as goal

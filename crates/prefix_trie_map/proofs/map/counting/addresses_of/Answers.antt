@@ -1,3 +1,4 @@
+-- The loop over the outermost entries: the sum is the number of addresses so far, until it exceeds the width.
 use Rattle.prefix_trie_map.proofs.Prelude.{◌≡◌, ◌^◌, ◌≤◌, None, ap, ◌∙◌, subst, rules, option_map, number}
 use Rattle.prefix_trie_map.proofs.Addresses.{adds-none, adds-more, adds-on, adds-past, adds-root, adds-up, sum-with-power}
 use Rattle.prefix_trie_map.proofs.map.counting.addresses_of.Goals as goal

@@ -1,3 +1,4 @@
+-- The loop that marks the entries to keep: the stack has the covers of the last entry read.
 use Rattle.std.proofs.Common.{rules, ◌≡◌, ◌∙◌, ◌++◌, [], ◌∷◌, not, map, All, ap, sym, subst, is_some}
 use Rattle.std.proofs.lemmas.List.Elements.{All-nil, All-head, All-rest}
 use Rattle.prefix_trie.specs.Words.{begins, lent_item, listing}

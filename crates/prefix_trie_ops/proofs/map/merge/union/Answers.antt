@@ -1,3 +1,4 @@
+-- Merging two maps gives the listing of the union, which has at most the items of both.
 use Rattle.std.proofs.Common.{◌∙◌, ◌+◌, All, ap, is_some, subst, sym}
 use Rattle.std.specs.FinMap.{len}
 use Rattle.prefix_trie.specs.Words.{listing, prefix_pairs}

@@ -1,3 +1,5 @@
+-- The rebuilt map has the old value for each full-width lookup, and no redundant entry, since it is rebuilt from the
+-- root.
 use Rattle.std.proofs.Common.{◌≡◌, ◌∙◌, [], None, ap, sym, subst, arith}
 use Rattle.std.specs.FinMap.{get}
 use Rattle.prefix_trie.specs.Words.{listing_from, prefix_pairs}

@@ -1,3 +1,4 @@
+-- The walk over the smaller map gives the keys that both maps have, each with both values.
 use Rattle.std.proofs.Common.{rules, ◌^◌, ◌++◌, All, ap, is_some, map, subst, sym}
 use Rattle.std.specs.FinMap.{len}
 use Rattle.prefix_trie.specs.Words.{listing, prefix_pairs}

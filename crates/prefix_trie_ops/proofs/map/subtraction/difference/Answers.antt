@@ -1,3 +1,4 @@
+-- The entries of the left map whose keys the right one does not have are the listing of the difference.
 use Rattle.std.proofs.Common.{◌∙◌, ◌^◌, All, not, filter, ap, is_some, subst, sym}
 use Rattle.std.specs.FinMap.{contains_key, len}
 use Rattle.prefix_trie.specs.Words.{listing}

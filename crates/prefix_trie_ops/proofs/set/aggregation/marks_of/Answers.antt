@@ -1,3 +1,4 @@
+-- The loop that marks the keys to keep: the remembered prefix is the shortest cover of the last key read.
 use Rattle.std.proofs.Common.{rules, ◌≡◌, ◌∙◌, ◌++◌, [], ◌∷◌, true, false, not, cond, Some, map, All, ap, sym, subst, is_some}
 use Rattle.std.proofs.lemmas.List.Elements.{All-head, All-rest}
 use Rattle.prefix_trie.specs.Words.{listing}

@@ -1,3 +1,4 @@
+-- Merging the keys of two sets gives the listing of the union, which has at most the keys of both.
 use Rattle.std.proofs.Common.{◌∙◌, ◌+◌, All, ap, ap₂, is_some, subst, sym}
 use Rattle.std.specs.FinMap.{len}
 use Rattle.prefix_trie.specs.Words.{listing}

@@ -1,3 +1,4 @@
+-- The walk over the smaller set gives the keys that both sets have, whichever set is smaller.
 use Rattle.std.proofs.Common.{rules, ◌^◌, ◌++◌, All, ap, is_some, map, subst, sym}
 use Rattle.std.specs.FinMap.{contains_key, len}
 use Rattle.prefix_trie.specs.Words.{listing}

@@ -1,3 +1,4 @@
+-- The keys of the left set that no key of the right one covers are the listing of the covering difference.
 use Rattle.std.proofs.Common.{◌∙◌, ◌^◌, not, filter, All, ap, is_some, subst, sym}
 use Rattle.std.specs.FinMap.{len}
 use Rattle.prefix_trie.specs.Words.{listing, shortest_match}

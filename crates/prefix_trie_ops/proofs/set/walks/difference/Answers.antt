@@ -1,3 +1,4 @@
+-- The keys of the left set that the right one does not have are the listing of the difference.
 use Rattle.std.proofs.Common.{◌∙◌, ◌^◌, not, filter, All, ap, is_some, subst, sym}
 use Rattle.std.specs.FinMap.{contains_key, len}
 use Rattle.prefix_trie.specs.Words.{listing}

@@ -1,3 +1,4 @@
+-- Two runs are moved around a new item: the slots that they are moved to are vacant and apart.
 use Rattle.prefix_trie_table.proofs.Prelude.{◌+◌, ◌-◌, ◌<◌, ◌≤◌, inl, inr, ⊎_elim, get_or, set, ap, ◌∙◌, arith, swap_runs}
 use Rattle.prefix_trie_table.proofs.Blocks.RunLemmas.{moved_in, still_none, vacant_at}
 use Rattle.prefix_trie_table.proofs.allocator.slots.move_in.Goals as goal

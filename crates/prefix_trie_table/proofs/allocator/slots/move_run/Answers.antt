@@ -1,3 +1,4 @@
+-- The loop that moves a run of items into vacant slots: after i iterations the first i items are exchanged.
 use Rattle.prefix_trie_table.proofs.Prelude.{◌≡◌, ◌≢◌, suc, ◌+◌, ◌<◌, ◌≤◌, ⊎_elim, length, get_or, set, swap_runs, ap, ◌∙◌, arith}
 use Rattle.prefix_trie_table.proofs.Blocks.RunLemmas.{exchanged, length-swap_runs, moved_is}
 use Rattle.prefix_trie_table.proofs.allocator.slots.move_run.Goals as goal

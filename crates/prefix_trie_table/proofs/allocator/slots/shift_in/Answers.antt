@@ -1,3 +1,4 @@
+-- The loop that inserts by carrying each item one slot further.
 use Rattle.prefix_trie_table.proofs.Prelude.{◌+◌, ◌<◌, length, insert, remove, get_or, set, sym, ap, ◌∙◌, arith, rules}
 use Rattle.prefix_trie_table.proofs.Blocks.Shifts.{carried_in, carried_on, carried_next}
 use Rattle.prefix_trie_table.proofs.allocator.slots.shift_in.Goals as goal

@@ -1,3 +1,4 @@
+-- The loop that removes by carrying each later item one slot back.
 use Rattle.prefix_trie_table.proofs.Prelude.{◌≡◌, suc, ◌-◌, ◌<◌, insert, remove, get_or, set, sym, ap, ◌∙◌, arith, rules}
 use Rattle.prefix_trie_table.proofs.Blocks.Shifts.{carried_in, carried_back, carried_before}
 use Rattle.prefix_trie_table.proofs.allocator.slots.shift_out.Goals as goal

@@ -1,3 +1,4 @@
+-- The loop that writes a run of items: after i iterations the first i items are written.
 use Rattle.std.proofs.lemmas.List.Elements.{All-get_or}
 use Rattle.prefix_trie_table.proofs.Prelude.{subst, ◌+◌, ◌≡◌, [], ◌++◌, length, length-set, set, take, drop, take_all, put_run, sym, ap, ◌∙◌, arith, rules, take-append-drop}
 use Rattle.prefix_trie_table.proofs.Blocks.Shifts.{put_run_more}

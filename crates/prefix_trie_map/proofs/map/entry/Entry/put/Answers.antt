@@ -1,3 +1,4 @@
+-- Filling an entry: an occupied one is overwritten in place, and a vacant one is inserted.
 use Rattle.prefix_trie_map.proofs.Prelude.{◌≡◌, IfOk, sym, subst, refl, get, is_none-None, Occupied, Vacant, Fills, entry_value}
 use Rattle.std.proofs.lemmas.Result.{IfErr-weaker}
 use Rattle.prefix_trie_map.proofs.Entries.{Fills-stored}

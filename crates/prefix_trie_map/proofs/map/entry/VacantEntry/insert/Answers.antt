@@ -1,3 +1,4 @@
+-- Inserting through a vacant entry fills the entry, with the value that is written through the borrow last.
 use Rattle.prefix_trie_map.proofs.Prelude.{refl, sym, ap, ◌∙◌, subst, false≢true, err_from_is_err_and, get, contains_key, IsSearchEnd, seat_of}
 use Rattle.prefix_trie_map.proofs.Entries.{Fills-lent, Refuses-handed}
 use Rattle.prefix_trie_map.proofs.Placing.{entry_only}

@@ -1,3 +1,4 @@
+-- Inserting through a vacant entry fills the entry, or is refused.
 use Rattle.prefix_trie_map.proofs.Prelude.{refl, sym, ap, ◌∙◌, subst, contains_key, IsSearchEnd}
 use Rattle.prefix_trie_map.proofs.Entries.{Fills-handed, Refuses-handed}
 use Rattle.prefix_trie_map.proofs.map.entry.VacantEntry.put.Goals as goal

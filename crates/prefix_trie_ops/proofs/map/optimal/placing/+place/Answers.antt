@@ -1,3 +1,5 @@
+-- The recursion of `aggregate`: a part without entries under it gets its own value, and another part is rebuilt from
+-- its two halves.
 use Rattle.std.proofs.Common.{rules, ◌≡◌, ◌∙◌, ◌<◌, ◌++◌, Bool, true, false, List, [], ◌∷◌, length, is_some, ap, sym, subst, arith}
 use Rattle.std.specs.List.{Contains}
 use Rattle.std.specs.Option.{option_or}

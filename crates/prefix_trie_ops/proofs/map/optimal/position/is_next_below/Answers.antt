@@ -1,3 +1,4 @@
+-- The test on the entry read ahead: it is under a position exactly if it is longer and the position contains it.
 use Rattle.std.proofs.Common.{rules, ◌≡◌, ◌∙◌, ◌≤◌, ◌<◌, ◌&&◌, nat_lt, lt-ltb, false, Some, ap, sym, arith}
 use Rattle.std.proofs.lemmas.Bool.Decides.{nat_tests}
 use Rattle.prefix_trie.specs.Words.{begins}

@@ -5,7 +5,7 @@ use Rattle.prefix_trie_table.proofs.Blocks.Tiers.{cleared_sizes}
 use Rattle.prefix_trie_table.proofs.allocator.blocks.Blocks.clear.Given as given
 use Rattle.prefix_trie_table.proofs.allocator.blocks.Blocks.clear.Goals as goal
 
--- what is before the first block is left
+-- after the blocks are dropped, only the slots before the first block are left
 length_left : (g : given.Over) (c : goal.After-clear_all g) → length (g.R.SlotArray.list c.cut.new.self) ≡ c.self.inside.first
 length_left g c = ap (λ xs. length xs) c.cut.ensures.list ∙ length-take-le c.self.inside.first (g.R.SlotArray.list c.self.inside.slots) (omega (arith, c.self.invariant.1))
 

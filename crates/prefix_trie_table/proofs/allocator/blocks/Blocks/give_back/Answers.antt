@@ -1,3 +1,4 @@
+-- Freeing an empty block is pushing it to the free list of its tier, which has capacity for it.
 use Rattle.prefix_trie_table.proofs.Prelude.{◌≡◌, ◌<◌, ◌∷◌, [], ◌++◌, length, length-append, refl, sym, ap, ◌∙◌, get_or_default, Tier, tier_at, block}
 use Rattle.prefix_trie_table.proofs.Blocks.BySize.{size_at, sizes_up}
 use Rattle.prefix_trie_table.proofs.Blocks.Turnovers.{Turnover-given}

@@ -1,3 +1,5 @@
+-- Inserting an item into a list: a first item takes a block of one slot, and a later one goes where `insert_into` puts
+-- it.
 use Rattle.prefix_trie_table.proofs.Prelude.{◌≡◌, ◌+◌, ◌<◌, ◌++◌, [], length, None, Some, refl, sym, ap, ◌∙◌, arith, subst, option_or, nil_from_length, none-some, one_of, Sound, Turnover, tier_at, tier_sizes, size_in, free_in, size_if_any, none_of, list_size, list_need, block, held}
 use Rattle.prefix_trie_table.proofs.Blocks.BySize.{size_at, size_some, need_first, first_size, many_here}
 use Rattle.prefix_trie_table.proofs.Blocks.Preparing.{how_many-needs}
@@ -17,7 +19,7 @@ take-new-requires-clause-ready g c =
     let one : one_of (list_need ts c.args.k c.args.count) 1 ≡ 1 = ap (λ o. one_of o 1) need ∙ many_here 1 1 in
     subst (λ n. 0 < free_in ts n) (sym first.1) (omega (arith, c.requires.ready.1 1, how_many-needs (list_need ts c.args.k c.args.count) 0 1, one))
 
--- ---- a list that takes its first item
+-- ---- the first item of a list
 
 pub insert_within-requires-clause-space : goal.insert_within-requires-clause-space
 insert_within-requires-clause-space g c =
@@ -65,7 +67,7 @@ returns-then-count-eq0-clause-sound g c = λ n xs live s count.
     let put = c.insert_within.ensures.sound (block 0 c.take-new.result (tier_at c.args.self.now.tiers 0).size []) live taken refl refl (omega (arith, first.1, size_at c.args.self.now.tiers 0)) in
     rw (none, at) put
 
--- ---- another
+-- ---- a later item
 
 pub returns-clause-sound : goal.returns-clause-sound
 returns-clause-sound g c = λ n xs live s count.

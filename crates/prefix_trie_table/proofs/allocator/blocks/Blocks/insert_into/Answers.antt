@@ -1,3 +1,5 @@
+-- Inserting an item into a list that has a block: in place if the block has a free slot, and otherwise in the smallest
+-- larger block.
 use Rattle.prefix_trie_table.proofs.Prelude.{◌≡◌, ℕ, ◌+◌, ◌<◌, ◌∷◌, insert, Some, refl, sym, ap, ◌∙◌, arith, subst, option_or, none-some, one_of, Sound, Turnover, tier_at, tier_sizes, size_in, none_of, list_size, list_need, block}
 use Rattle.prefix_trie_table.proofs.Blocks.BySize.{size_at, size_some, need_none, need_full, smallest_holds, many_here}
 use Rattle.prefix_trie_table.proofs.Blocks.Soundness.{block_inside, tier_of_block}
@@ -50,7 +52,7 @@ returns-then-count-size_of-clause-sound g c = λ n xs live sound count.
     subst (λ m. Sound g.S.Slot.vacant (block c.args.k c.args.start m (insert xs c.args.offset c.args.value) ∷ live) c.insert_within.new.self) size
     (c.insert_within.ensures.sound b live sound refl count (omega (arith, size, c.if-count-size_of.true, c.size_of.ensures, size_at c.args.self.now.tiers c.args.k)))
 
--- ---- a full one
+-- ---- a full block
 
 pub insert_moving-start-requires-clause-ready : goal.insert_moving-start-requires-clause-ready
 insert_moving-start-requires-clause-ready g c =

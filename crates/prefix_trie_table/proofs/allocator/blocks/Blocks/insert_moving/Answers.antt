@@ -1,3 +1,4 @@
+-- A list in a full block moves to a larger one with the new item in its place, and its old block is freed.
 use Rattle.prefix_trie_table.proofs.Prelude.{◌≡◌, ◌<◌, ◌∷◌, [], insert, None, Some, ap, ◌∙◌, subst, refl, arith, length-insert, run, Turnover, tier_at, tier_sizes, size_in, none_of, block}
 use Rattle.prefix_trie_table.proofs.Blocks.BySize.{size_at}
 use Rattle.prefix_trie_table.proofs.Blocks.Soundness.{Sound-exchanged, has_place}

@@ -1,3 +1,4 @@
+-- Moving a list into another block, with a new item in its place, keeps the store sound.
 use Rattle.prefix_trie_table.proofs.Prelude.{◌≡◌, ◌+◌, ◌∷◌, inl, inr, replicate, insert, sym, ap, ◌∙◌, arith, cases_lt, length-insert, run, put_run}
 use Rattle.prefix_trie_table.proofs.Blocks.Capacity.{Sound-capacity}
 use Rattle.prefix_trie_table.proofs.Blocks.Soundness.{Sound-exchanged, block_inside, fits_block}

@@ -1,3 +1,4 @@
+-- The loop of `obtain` makes blocks of a tier until as many are free as are needed: each iteration makes one.
 use Rattle.prefix_trie_table.proofs.Prelude.{◌≡◌, ℕ, ◌+◌, ◌-◌, None, refl, sym, ap, ◌∙◌, subst, arith, err_from_is_err_and, Turnover, tier_sizes, size_in, free_in, many_of, none_of}
 use Rattle.prefix_trie_table.proofs.Blocks.BySize.{tiers_long, many-add, many-none, slots_of-none}
 use Rattle.prefix_trie_table.proofs.Blocks.Turnovers.{Turnover-as, Turnover-then, Turnover-same}

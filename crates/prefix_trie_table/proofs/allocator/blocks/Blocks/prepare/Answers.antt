@@ -1,3 +1,5 @@
+-- `prepare` makes exactly the blocks that are needed and not free. If one is refused, it has made some of them, and
+-- the used blocks are unchanged.
 use Rattle.prefix_trie_table.proofs.Prelude.{◌≡◌, ℕ, List, UsedBlock, Sound, SameSlots, ◌+◌, ◌-◌, ◌<◌, ◌≤◌, ◌↔◌, Option, None, Some, OnOk, OnErr, IfErr, length, refl, sym, ap, ◌∙◌, subst, arith, option_map, Contains, err_from_is_err_and, IndexRange, one_of, Store, Turnover, free_in, many_of, needs, list_need, tier_sizes, size_in}
 use Rattle.prefix_trie_table.proofs.Blocks.BySize.{sizes_up, size_among, tiers_long, first_size, sizes_rise, many_here}
 use Rattle.prefix_trie_table.proofs.Blocks.Preparing.{LastMade, partly_made_same, partly_made_own, partly_made_first, partly_made_second, how_many-needs, obtained, obtained_part}
@@ -9,7 +11,7 @@ use Rattle.prefix_trie_table.proofs.allocator.blocks.Blocks.prepare.Goals.{in-So
 need_is : (g : given.Over) (c : goal.After-from_residual g) → list_need c.args.self.now.tiers c.args.k c.args.count ≡ Some (size_in (tier_sizes c.args.self.now.tiers) c.in-Some.tier)
 need_is g c = c.lacking.ensures.size ∙ ap (option_map (size_in (tier_sizes c.args.self.now.tiers))) c.in-Some.is
 
--- what is left to make before the last call
+-- which blocks are still to be made before the last call of `obtain`
 last : (g : given.Over) (c : goal.After-obtain-2 g) → LastMade c.args.self.now c.match-lacking.self (needs (list_need c.args.self.now.tiers c.args.k c.args.count) c.args.lists) 1 c.match-lacking.singles
 last g c =
     let v = c.args.self.now in
@@ -30,7 +32,7 @@ last g c =
       | in_default w ↦ seen None v (need None w.in_default.is) w.self-is (partly_made_same v None c.args.lists c.match-lacking.singles (λ size. omega (arith, ap (λ n. many_of 1 n size) w.singles-is)))
     ]
 
--- what was in use before the last call is as it was
+-- the used blocks are unchanged before the last call of `obtain`
 held : (g : given.Over) (c : goal.After-obtain-2 g) → SameSlots c.args.self.now c.match-lacking.self × ((live : List (UsedBlock g.row.S.Denot)) → Sound g.S.Slot.vacant live c.args.self.now → Sound g.S.Slot.vacant live c.match-lacking.self)
 held g c =
     let stays = λ (u : Store g.row.S.Denot) (is : c.match-lacking.self ≡ u) (kept : SameSlots c.args.self.now u) (sound : (live : List (UsedBlock g.row.S.Denot)) → Sound g.S.Slot.vacant live c.args.self.now → Sound g.S.Slot.vacant live u).
@@ -85,7 +87,7 @@ returns-in_err-obtain-clause-obtains g c =
     (partly_made_first v s c.args.lists) c.in_err-obtain.field-0.0 some.0 some.1 some.2 c.in_err-obtain.ensures.range in
     rw (p.1, p.2, need) all
 
--- if what is needed is free, nothing is made
+-- if all needed blocks are free, nothing is made
 pub returns-clause-unchanged : goal.returns-clause-unchanged
 returns-clause-unchanged g c = λ free.
     let v = c.args.self.now in

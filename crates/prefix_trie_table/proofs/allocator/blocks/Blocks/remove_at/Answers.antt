@@ -1,3 +1,5 @@
+-- Removing an item from a list, in terms of the list instead of its block: what `remove_from` returns if items are
+-- left, and if none is.
 use Rattle.prefix_trie_table.proofs.Prelude.{◌≡◌, ◌<◌, ◌∷◌, List, Option, Some, MatchOption, is_some, remove, refl, sym, ap, ◌∙◌, subst, arith, false≢true, length-remove, BlockRef, Store, UsedBlock, Sound, tier_at, tier_sizes, block}
 use Rattle.prefix_trie_table.proofs.Blocks.BySize.{first_size, tiers_long}
 use Rattle.prefix_trie_table.proofs.Blocks.Losing.{left_some, none_left, left_none}
@@ -9,7 +11,7 @@ remove_from-value-requires-clause-in_use g c =
     let u = c.requires.holds in
     record { live = u.live; size = u.size; items = u.items; is_count = u.is_count; sound = list_block g.S.Slot.vacant c.args.k c.args.start u.size u.items u.live _ (omega (arith, u.is_count, c.requires.offset)) u.sound }
 
--- ---- some are left
+-- ---- items are left
 
 pub returns-in-Some-clause-value : goal.returns-in-Some-clause-value
 returns-in-Some-clause-value g c = λ n xs live s count.
@@ -20,7 +22,7 @@ returns-in-Some-clause-loses g c =
     let e = c.remove_from-value.ensures in
     left_some c.args.self.now c.remove_from-value.new.self c.args.k c.args.count c.remove_from-value.result.1 e.none e.loses c.in-Some.rest c.in-Some.is
 
--- the block of the rest
+-- the block of the items that are left
 rest : {S : Type 0} (vacant : S) (v w : Store S) (xs : List S) (live : List (UsedBlock S)) (o : Option BlockRef) (p : BlockRef) → o ≡ Some p →
     MatchOption o (Sound vacant live w) (λ p. Sound vacant (block p.tier p.start (tier_at v.tiers p.tier).size xs ∷ live) w) → Sound vacant (block p.tier p.start (tier_at v.tiers p.tier).size xs ∷ live) w
 rest {S} vacant v w xs live o p is = subst (λ (q : Option BlockRef). MatchOption q (Sound vacant live w) (λ p. Sound vacant (block p.tier p.start (tier_at v.tiers p.tier).size xs ∷ live) w)) is
@@ -41,7 +43,7 @@ returns-in-Some-clause-tier g c =
     let m = tiers_long c.remove_from-value.new.self.tiers (tier_sizes c.args.self.now.tiers) c.remove_from-value.ensures.loses.turnover.keeps.sizes in
     omega (arith, (tier_of_block g.S.Slot.vacant _ _ _ one).within, tiers_long c.args.self.now.tiers (tier_sizes c.args.self.now.tiers) refl, m)
 
--- ---- none is left
+-- ---- no item is left
 
 pub returns-in-None-clause-value : goal.returns-in-None-clause-value
 returns-in-None-clause-value g c = λ n xs live s count.

@@ -1,3 +1,5 @@
+-- Removing an item from a block: the block is freed if no item is left, or the list moves to a smaller block, or it
+-- keeps its block.
 use Rattle.prefix_trie_table.proofs.Prelude.{◌≡◌, ℕ, ◌+◌, ◌-◌, ◌<◌, ◌≤◌, ◌∷◌, [], List, None, Some, IsSome, IfNone, MatchOption, is_some, length, insert, remove, refl, sym, ap, ◌∙◌, subst, arith, false≢true, same_Some, nil_from_length, length-remove, smallest_size, Store, Tier, UsedBlock, Sound, Turnover, tier_at, tier_sizes, size_in, free_in, free_counts, many_of, none_of, block}
 use Rattle.prefix_trie_table.proofs.Blocks.BySize.{size_at, sizes_up, sizes_rise, tiers_long, smallest_holds, smallest_there}
 use Rattle.prefix_trie_table.proofs.Blocks.Losing.{none_made, same_made, one_made, steps_gone, steps_moved, steps_stayed, smallest_low}
@@ -13,7 +15,7 @@ remove_within-value-requires-clause-within g c =
     let b = block c.args.k c.args.start u.size u.items in
     omega (arith, u.is_count, (block_inside g.S.Slot.vacant b u.live _ u.sound).before, fits_block g.S.Slot.vacant b u.live _ u.sound)
 
--- an item less in the block
+-- the block after one item is removed from its list
 cut : {S : Type 0} (vacant : S) (v w : Store S) (k start count offset size : ℕ) (xs : List S) (live : List (UsedBlock S)) (x : S) → Sound vacant (block k start size xs ∷ live) v →
     length xs ≡ count → offset < count → w ≡ record v { slots = insert (remove v.slots (start + offset)) (start + count - 1) x } → Turnover v w none_of None None
 cut vacant v w k start count offset size xs live x sound is_count inside is =
@@ -23,7 +25,7 @@ cut vacant v w k start count offset size xs live x sound is_count inside is =
     Turnover-shifted v w (start + offset) (start + count - 1) x is (omega (arith, at.after)) (omega (arith, at.after, inside)) (omega (arith, is_count, at.before, fits, inside))
     (omega (arith, is_count, at.before, fits, inside)) None
 
--- ---- none is left
+-- ---- no item is left
 
 pub give_back-requires-clause-within : goal.give_back-requires-clause-within
 give_back-requires-clause-within g c =
@@ -60,7 +62,7 @@ returns-then-rest-eq0-clause-loses g c = record {
       steps_gone c.args.self.now.tiers c.args.k c.args.count (omega (arith, c.requires.offset)) (omega (arith, c.if-rest-eq0.true, c.requires.offset)));
 }
 
--- ---- the rest is in a smaller block
+-- ---- the items that are left move to a smaller block
 
 pub tier_holding-tier-requires : goal.tier_holding-tier-requires
 tier_holding-tier-requires g c =
@@ -136,7 +138,7 @@ returns-in-Some-clause-loses g c = record {
       (subst (λ ts. smallest_size (tier_sizes ts) (c.args.count - 1) ≡ Some (size_in (tier_sizes ts) c.tier_holding-tier.result)) tiers c.tier_holding-tier.ensures.size));
 }
 
--- ---- it stays
+-- ---- the list keeps its block
 
 pub returns-clause-value : goal.returns-clause-value
 returns-clause-value g c = λ n xs live sound count.
@@ -145,7 +147,7 @@ returns-clause-value g c = λ n xs live sound count.
 pub returns-clause-none : goal.returns-clause-none
 returns-clause-none g c = (λ _. (let z = c.if-rest-eq0.false in omega (arith, z)), λ _. refl)
 
--- no block was taken
+-- in this case no block was taken or freed
 nothing_moved : (g : given.Over) (c : goal.Joined-tier-k g) → Turnover c.remove_within-value.new.self c.if-tier-k.self none_of None None
 nothing_moved g c = elim c.if-tier-k.branch [
   | then-tier-k+in_default w ↦ subst (λ v. Turnover c.remove_within-value.new.self v none_of None None) (sym w.self-is)

@@ -1,3 +1,4 @@
+-- A list moves to a smaller block and frees its old one. If the smaller block is refused, the list keeps its block.
 use Rattle.prefix_trie_table.proofs.Prelude.{ℕ, ◌+◌, ◌-◌, ◌<◌, ◌≤◌, ◌∷◌, [], None, Some, refl, sym, ap, ◌∙◌, subst, arith, Sound, Turnover, tier_at, tier_sizes, size_in, free_in, many_of, none_of, block}
 use Rattle.prefix_trie_table.proofs.Blocks.BySize.{size_at, tiers_long, many_here, many-none}
 use Rattle.prefix_trie_table.proofs.Blocks.Soundness.{Sound-exchanged, has_place}
@@ -7,7 +8,7 @@ use Rattle.prefix_trie_table.proofs.Blocks.Turnovers.{size_kept, Turnover-as, Tu
 use Rattle.prefix_trie_table.proofs.allocator.blocks.Blocks.step_down.Given as given
 use Rattle.prefix_trie_table.proofs.allocator.blocks.Blocks.step_down.Goals as goal
 
--- ---- refused
+-- ---- the smaller block was refused
 
 pub returns-then-is_err-clause-kept : goal.returns-then-is_err-clause-kept
 returns-then-is_err-clause-kept g c =
@@ -27,7 +28,7 @@ pub returns-then-is_err-clause-sound : goal.returns-then-is_err-clause-sound
 returns-then-is_err-clause-sound g c = λ n xs live sound count.
     c.obtain.ensures.sound (block c.args.k c.args.start n xs ∷ live) sound
 
--- ---- moved
+-- ---- the list moves
 
 pub obtain-requires : goal.obtain-requires
 obtain-requires g c = c.requires.within
@@ -76,7 +77,7 @@ give_back-requires g c =
     let reserved = has_place g.S.Slot.vacant _ _ _ (c.move_items.ensures.sound a b u.live s refl refl u.is_count refl space) in
     record { within = reserved.0; reserved = reserved.1 }
 
--- the block was obtained, and holds the list
+-- the new block was obtained, and holds the list
 obtained : (g : given.Over) (c : goal.After-give_back g) → Turnover c.args.self.now c.obtain.new.self (many_of (size_in (tier_sizes c.args.self.now.tiers) c.args.to)
     (1 - free_in c.args.self.now.tiers (size_in (tier_sizes c.args.self.now.tiers) c.args.to))) None None
 obtained g c = told_ok c.obtain.result c.if-is_err.ensures.value c.obtain.ensures.made

@@ -1,3 +1,4 @@
+-- Taking a free block of a tier is popping its free list. The block was free, so no other list has it.
 use Rattle.prefix_trie_table.proofs.Prelude.{◌≡◌, ◌<◌, [], ◌∷◌, ◌++◌, length, length-append, sym, ap, ◌∙◌, arith, get_or_default, Tier, tier_at, tier_sizes, size_in, free_in}
 use Rattle.prefix_trie_table.proofs.Blocks.BySize.{size_at, sizes_up, free_at}
 use Rattle.prefix_trie_table.proofs.Blocks.Turnovers.{Turnover-taken}

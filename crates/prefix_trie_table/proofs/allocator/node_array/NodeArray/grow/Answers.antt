@@ -1,3 +1,4 @@
+-- Growing both parts of a node array reserves what growing a list of nodes would.
 use Rattle.prefix_trie_table.proofs.Prelude.{◌≡◌, ◌+◌, ◌<◌, ◌≤◌, refl, length, Result, Ok, Err, OnOk, OnErr, sym, ap, ◌∙◌, arith, vec_len, vec_capacity, on_ok_weaker}
 use Rattle.std.specs.Prelude.{max}
 use Rattle.prefix_trie_table.specs.NodeArrays.{nodes_of}

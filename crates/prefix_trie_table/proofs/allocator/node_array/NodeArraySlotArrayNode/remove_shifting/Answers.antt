@@ -1,3 +1,4 @@
+-- Removing a node is removing its two parts, in the list of whole nodes.
 use Rattle.prefix_trie_table.proofs.Prelude.{◌≡◌, ◌<◌, length, length-remove, get_or, blank_node, Node, insert, remove, ap, ◌∙◌, arith}
 use Rattle.prefix_trie_table.specs.NodeArrays.{NodeList, node_of, nodes_of}
 use Rattle.prefix_trie_table.proofs.Blocks.NodeLists.{length-nodes, nodes-insert, nodes-remove, get_or-nodes}

@@ -1,3 +1,4 @@
+-- Reserving memory for both parts of a node array succeeds if the capacity is there, and otherwise grows both.
 use Rattle.prefix_trie_table.proofs.Prelude.{◌+◌, ◌<◌, ◌≤◌, length, subst, arith, vec_capacity}
 use Rattle.prefix_trie_table.specs.NodeArrays.{NodeList, nodes_of}
 use Rattle.prefix_trie_table.proofs.Blocks.NodeLists.{length-nodes}

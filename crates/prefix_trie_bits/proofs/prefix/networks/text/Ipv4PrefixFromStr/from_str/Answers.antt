@@ -1,3 +1,4 @@
+-- The four ways in which `parse` of an IPv4 network ends, and why each is right for the text.
 use Rattle.std.proofs.Common.{List, ℕ, Ok, subst, sym}
 use Rattle.std.specs.declared.net.ipv4_addr.Ipv4Addr.{Ipv4Addr}
 use Rattle.std.specs.Net.Addr.{ipv4_octets, ipv4_bits}

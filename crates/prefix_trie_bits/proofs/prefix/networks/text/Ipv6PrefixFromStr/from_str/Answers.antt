@@ -1,3 +1,4 @@
+-- The four ways in which `parse` of an IPv6 network ends, and why each is right for the text.
 use Rattle.std.proofs.Common.{List, ℕ, Ok, subst, sym}
 use Rattle.std.specs.declared.net.ipv6_addr.Ipv6Addr.{Ipv6Addr}
 use Rattle.std.specs.Net.Addr.{ipv6_segments, ipv6_bits}
