@@ -52,20 +52,23 @@ module _ {T : Type 0} (q : List Bool) (before v : Store Node) (w : Store (Option
     lacks : has_bit (node_at v.slots slot).child_bitmap x ≡ false
     lacks = ap (λ (n : Node). has_bit n.child_bitmap x) (sym is) ∙ missing
 
-    pub extended_blank : node_at v2.slots to ≡ blank_node
-    extended_blank = (walked_more t.reading t.values t.paths (chunks_of q) level slot x to v v2 w now (rest_inside q r level at.rest_is more) step lacks added).1
-
-    pub extended_more : IsExtended q before w (drop 5 r) (level + 1) to v2
-    extended_more = record {
-      whole = omega (arith, left_length q r level at.rest_is, more);
-      rest_is = ap (drop 5) at.rest_is ∙ drop-drop 5 (5 * level) q ∙ ap (λ n. drop n q) deeper;
-      walked = λ reading paths values holds.
-          (walked_more reading values paths (chunks_of q) level slot x to v v2 w (at.walked reading paths values holds) (rest_inside q r level at.rest_is more) step lacks added).0;
-      none = none_then before v v2 at.none none;
-    }
+    pub extended_more : IsExtended q before w (drop 5 r) (level + 1) to v2 × (node_at v2.slots to ≡ blank_node)
+    extended_more = (
+      record {
+        whole = omega (arith, left_length q r level at.rest_is, more);
+        rest_is = ap (drop 5) at.rest_is ∙ drop-drop 5 (5 * level) q ∙ ap (λ n. drop n q) deeper;
+        walked = λ reading paths values holds. (walks reading paths values (at.walked reading paths values holds)).0;
+        none = none_then before v v2 at.none none;
+      },
+      (walks t.reading t.paths t.values now).1,
+    )
       where
         deeper : 5 * level + 5 ≡ 5 * (level + 1)
         deeper = omega arith
+
+        walks : (reading : List ℕ → Option Node) (paths : List (List ℕ)) (values : List ℕ → ℕ → Option T) → Walked reading values paths (chunks_of q) level slot v w →
+            Walked reading values paths (chunks_of q) (level + 1) to v2 w × (node_at v2.slots to ≡ blank_node)
+        walks reading paths values walked = walked_more reading values paths (chunks_of q) level slot x to v v2 w walked (rest_inside q r level at.rest_is more) step lacks added
 
   -- the value at the end
   module _ (v2 : Store Node) (u : Store (Option T)) (short : length r < 5) (bit : ℕ) (read : bit ≡ value_bit r) (x : Option T)

@@ -110,8 +110,7 @@ impl<T: Drop, A: Allocator, V: Tick> Table<T, A, V> {
         requires end { IsSearchEnd self.old.build path end }
         ensures seat { IfOk result (λ seat. seat_of self.new.build path ≡ Some seat) }
         ensures returned { IfErr result (λ refused. refused.value ≡ value) }
-        ensures step { (width : ℕ) → StepByPath width (stored_state self.old) (Insert path value) (insert_new_reply result)
-            (stored_state self.new) }
+        ensures step { (width : ℕ) → StepByPath width (stored_state self.old) (Insert path value) (insert_new_reply result) (stored_state self.new) }
     {
         insert_entry(
             &mut self.nodes,

@@ -7,7 +7,7 @@ use Rattle.prefix_trie_table.proofs.Insertion.Asks.{nodes_below, cells_below}
 use Rattle.prefix_trie_table.proofs.Lookup.SearchPaths.{above_own, at_own, rest_bit, step_left, none_left}
 use Rattle.prefix_trie_table.proofs.Tree.Growing.{free_next, free_one, blank_child, blank_value}
 use Rattle.prefix_trie_table.proofs.Insertion.Spaces.{none_then}
-use Rattle.prefix_trie_table.proofs.Insertion.Paths.{extended_start, extended_there, extended_more, extended_blank, next_missing, end_added, end_seat}
+use Rattle.prefix_trie_table.proofs.Insertion.Paths.{extended_start, extended_there, extended_more, next_missing, end_added, end_seat}
 use Rattle.prefix_trie_table.proofs.table.insertion.add_entry.Goals as goal
 
 -- ---- a value in a node that is there
@@ -68,11 +68,11 @@ loop-level-init g c =
     let five = step_left q r here.level (c.len-last.result / 5) c.after-rest.ensures (ap (λ n. n / 5) c.len-last.ensures.len) more.0 in
     let start = extended_start q here v w r at c.after-rest.ensures in
     let lacks = next_missing q here v r at c.after-rest.ensures five bit.result bit.ensures.value in
+    let next = extended_more q v v w c.requires.table r here.level (slot_at here) start added.new.nodes bit.result _ five bit.ensures.value here.node at.along.node_is lacks
+    added.ensures.stays added.ensures.added in
     rw c.below-rest.ensures (record {
-      extended = extended_more q v v w c.requires.table r here.level (slot_at here) start added.new.nodes bit.result _ five bit.ensures.value here.node at.along.node_is lacks
-          added.ensures.stays added.ensures.added;
-      blank = extended_blank q v v w c.requires.table r here.level (slot_at here) start added.new.nodes bit.result _ five bit.ensures.value here.node at.along.node_is lacks
-          added.ensures.stays added.ensures.added;
+      extended = next.0;
+      blank = next.1;
       enough = free_next v.tiers added.new.nodes.tiers (child_need (Some here.node)) (length q / 5 - (here.level + 1))
           (subst (AreFree v.tiers) (nodes_below here q more.1) c.requires.space.0) added.ensures.free;
       within = omega (arith, more.0, c.len-last.ensures.len);
@@ -104,11 +104,11 @@ loop-level-preserved g c =
     let inside = c.loop-level-test.true in
     let five = step_left q old.rest old._level (c.len-last.result / 5) inv.extended.rest_is (ap (λ n. n / 5) c.len-last.ensures.len) inside in
     let lacks = ap (λ (k : Node). has_bit k.child_bitmap bit.result) c.blank.ensures ∙ has_bit-zero bit.result in
+    let next = extended_more q v old.nodes w c.requires.table old.rest old._level _ inv.extended added.new.nodes bit.result _ five bit.ensures.value c.blank.result (c.blank.ensures ∙ sym inv.blank) lacks
+    added.ensures.stays added.ensures.added in
     rw c.below-rest-in-loop-level.ensures (record {
-      extended = extended_more q v old.nodes w c.requires.table old.rest old._level _ inv.extended added.new.nodes bit.result _ five bit.ensures.value c.blank.result (c.blank.ensures ∙ sym inv.blank) lacks
-          added.ensures.stays added.ensures.added;
-      blank = extended_blank q v old.nodes w c.requires.table old.rest old._level _ inv.extended added.new.nodes bit.result _ five bit.ensures.value c.blank.result (c.blank.ensures ∙ sym inv.blank) lacks
-          added.ensures.stays added.ensures.added;
+      extended = next.0;
+      blank = next.1;
       enough =
           let free = inv.enough in
           let left = added.ensures.free 1 in
