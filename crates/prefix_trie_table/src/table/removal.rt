@@ -171,10 +171,11 @@ pub fn descend_keeping_ancestors<K: Key, A: Allocator, V: Tick>(
     let mut here = root(nodes, counter);
     let mut rest = path.again();
     while here.level < last {
+        // Pushed before the next node is read, so that a node's values and sizes are loaded at the last one alone.
+        above.push(here.at);
         let Some(next) = step_down(nodes, here, &rest, last, counter) else {
             return None;
         };
-        above.push(here.at);
         here = next;
         rest = rest.below();
     }
