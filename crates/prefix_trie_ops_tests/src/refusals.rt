@@ -51,7 +51,9 @@ fn collected<A: Allocator + Copy>(
 ) -> Result<Map<A>, Refusal> {
     let mut map = PrefixMap::new(alloc)?;
     for (prefix, value, _) in intersection(left, right) {
-        map.insert(prefix, *value)?;
+        if prefix.fits() {
+            map.insert(prefix, *value)?;
+        }
     }
     Ok(map)
 }
