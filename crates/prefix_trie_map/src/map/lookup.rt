@@ -1,9 +1,9 @@
 //! Lookups by exact prefix, by longest match and by shortest match.
 //!
 //! Each lookup except `get_lpm_value` has a `*_counted` variant, which also returns how many nodes it read.
-//! `get_counted`, `get_lpm_counted` and `get_spm_counted` make one counter and pass it to one call of the table. The
-//! other variants call one of these three and return its counter. The plain lookups call their variants and drop the
-//! counter, which costs nothing: `Visits` has no bytes.
+//! `get_counted`, `contains_key_counted`, `get_lpm_counted` and `get_spm_counted` make one counter and pass it to one
+//! call of the table. The other variants call one of these four and return its counter. The plain lookups call their
+//! variants and drop the counter, which costs nothing: `Visits` has no bytes.
 ghost use Rattle.std.specs.Prelude.{◌≡◌, ◌≤◌, take, length, IfSome};
 ghost use Rattle.std.specs.Option.{option_copied, option_map, is_some};
 ghost use Rattle.std.specs.FinMap.{get, contains_key};
@@ -14,6 +14,7 @@ ghost use Rattle.prefix_trie_map.specs.Walks.{lent_item};
 use crate::map::PrefixMap;
 use crate::map::visits::Visits;
 use prefix_trie_bits::prefix::{BitString, Key, Prefix};
+use prefix_trie_table::table::seat::Location;
 use std::alloc::Allocator;
 
 impl<P: Prefix, T: Drop, A: Allocator> PrefixMap<P, T, A> {
@@ -78,15 +79,18 @@ impl<P: Prefix, T: Drop, A: Allocator> PrefixMap<P, T, A> {
 
     /// Returns the result of `contains_key` and the number of nodes read.
     ///
-    /// It reads the same nodes as `get_counted`.
+    /// It reads the same nodes as `get_counted`, and no value.
     #[inline]
     pub fn contains_key_counted(&self, prefix: &P) -> (bool, Visits)
         requires { P.IsFitting prefix.now }
         ensures value { result.0 ≡ contains_key self.now.entries (P.path prefix.now) }
         ensures reads { ReadsPath self.now.nodes (P.path prefix.now) result.1 }
     {
-        let (value, visits) = self.get_counted(prefix);
-        (value.is_some(), visits)
+        let mut visits = Visits::new();
+        match self.table.locate(prefix.path(), &mut visits) {
+            Location::Stored(_) => (true, visits),
+            Location::Missing(_) => (false, visits),
+        }
     }
 
     /// Returns this prefix without its host bits, and the value stored for exactly this prefix.
