@@ -1,13 +1,12 @@
 //! Samples of a node's tables, each call of a node once, and the size of a node.
-ghost use Rattle.std.specs.Prelude.{◌+◌, ◌<◌, ◌≤◌, IsTrue};
+ghost use Rattle.std.specs.Prelude.{◌<◌, length, IfSome};
 
 use self::Sample::{Child, ChildCovers, Covers, Matches, Value};
 use prefix_trie::Key;
 use prefix_trie_bits::node::{
-    Place, Places, behind_child, child_bit_of, child_cover_mask, count, from_value, has_bit,
-    longest_match, match_mask, rank, shortest_match, string_of, value_bit_of, value_cover_mask,
-    with_bit, without_bit,
+    Place, Places, behind_child, count, from_value, has_bit, rank, string_of, with_bit, without_bit,
 };
+use prefix_trie_bits::prefix::BitString;
 use prefix_trie_table::allocator::node::Node;
 use std::mem::size_of;
 
@@ -25,35 +24,51 @@ enum Sample<K> {
     ChildCovers(K, u32, u32, u32),
 }
 
-/// Returns whether a key has a string of fewer than five bits at a depth.
-fn is_within<K: Key>(key: K, depth: u32, len: u32) -> bool
-    ensures { IsTrue result → K.IsKey key × (depth ≤ len) × (len < depth + 5) × (len ≤ K.bit_width) }
+/// Returns the bits of a key from a depth to a length, if there are such bits.
+fn bits_at<K: Key>(key: K, depth: u32, len: u32) -> Option<BitString<K>> {
+    if !key.is_key() || depth > len || len > K::width() {
+        return None;
+    }
+    Some(BitString::new(key, len).after(depth))
+}
+
+/// Returns the bits of a key from a depth to a length, if they are fewer than five.
+fn few_bits_at<K: Key>(key: K, depth: u32, len: u32) -> Option<BitString<K>>
+    ensures { IfSome result (λ bits. length bits < 5) }
 {
-    key.is_key() && depth <= len && len - depth < 5 && len <= K::width()
+    let bits = bits_at(key, depth, len)?;
+    if bits.len() < 5 { Some(bits) } else { None }
+}
+
+/// Returns the bit or the mask that a sample asks for, and the expected one.
+fn sampled<K: Key>(sample: &Sample<K>) -> Option<(u32, u32)> {
+    match sample {
+        Sample::Value(key, depth, len, bit) => {
+            Some((few_bits_at(*key, *depth, *len)?.value_bit(), *bit))
+        }
+        Sample::Child(key, depth, bit) => {
+            let bits = bits_at(*key, *depth, depth.saturating_add(5))?;
+            if bits.len() < 5 {
+                return None;
+            }
+            Some((bits.child_bit(), *bit))
+        }
+        Sample::Matches(key, depth, len, mask) => {
+            Some((bits_at(*key, *depth, *len)?.match_mask(), *mask))
+        }
+        Sample::Covers(key, depth, len, mask) => {
+            Some((few_bits_at(*key, *depth, *len)?.value_cover_mask(), *mask))
+        }
+        Sample::ChildCovers(key, depth, len, mask) => {
+            Some((few_bits_at(*key, *depth, *len)?.child_cover_mask(), *mask))
+        }
+    }
 }
 
 fn is_sampled<K: Key>(sample: &Sample<K>) -> bool {
-    match sample {
-        Sample::Value(key, depth, len, bit) => {
-            is_within(*key, *depth, *len) && value_bit_of(*key, *depth, *len) == *bit
-        }
-        Sample::Child(key, depth, bit) => {
-            key.is_key()
-                && depth.saturating_add(5) <= K::width()
-                && child_bit_of(*key, *depth) == *bit
-        }
-        Sample::Matches(key, depth, len, mask) => {
-            key.is_key()
-                && depth <= len
-                && *len <= K::width()
-                && match_mask(*key, *depth, *len) == *mask
-        }
-        Sample::Covers(key, depth, len, mask) => {
-            is_within(*key, *depth, *len) && value_cover_mask(*key, *depth, *len) == *mask
-        }
-        Sample::ChildCovers(key, depth, len, mask) => {
-            is_within(*key, *depth, *len) && child_cover_mask(*key, *depth, *len) == *mask
-        }
+    match sampled(sample) {
+        Some((found, expected)) => found == expected,
+        None => false,
     }
 }
 
@@ -174,9 +189,10 @@ const MATCHES: [(u32, u32, Option<u32>, Option<u32>); 5] = [
 /// Returns whether these are the longest and the shortest match.
 fn is_matched(key: u32, len: u32, longest: Option<u32>, shortest: Option<u32>) -> bool {
     let bitmap = 1 << 1 | 1 << 4 | 1 << 28;
-    len <= 32
-        && longest_match(bitmap, key, 0, len) == longest
-        && shortest_match(bitmap, key, 0, len) == shortest
+    let Some(path) = bits_at(key, 0, len) else {
+        return false;
+    };
+    path.longest_match(bitmap) == longest && path.shortest_match(bitmap) == shortest
 }
 
 #[test]
