@@ -88,12 +88,12 @@ pub(super) fn move_part<K: Key, T: Drop, A: Allocator, V: Tick>(
     ensures cells { result.1 ≡ record vacant { slots = result.1.slots } }
 {
     let path = BitString::new(key, len);
-    let start = start_at::<K, T, A, V>(&laid, path, Start::Below, counter);
+    let stack = start_at::<K, T, A, V>(&laid, key, path, Start::Below, counter);
     let mut seats = Seats {
         nodes: laid,
         cells: vacant,
-        key: start.key,
-        stack: start.stack,
+        key,
+        stack,
     };
     remove_part(nodes, cells, entries, &mut seats, key, len, counter);
     (seats.nodes, seats.cells)
