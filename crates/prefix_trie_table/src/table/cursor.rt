@@ -19,8 +19,8 @@ use std::alloc::Allocator;
 #[derive(Drop)]
 pub struct Cursor<K: Key> {
     // The path of each spot begins this key.
-    pub(super) key: K,
-    pub(super) stack: ArrayVec<Spot, 26>,
+    key: K,
+    stack: ArrayVec<Spot, 26>,
 }
 
 impl<T: Drop, A: Allocator, V: Tick> Table<T, A, V> {
@@ -46,7 +46,9 @@ impl<T: Drop, A: Allocator, V: Tick> Table<T, A, V> {
         ensures keys { keys_to_come K.bits self.now.entries result
             ≡ map (λ e. e.0) (selected from self.now.entries path) }
     {
-        start_at::<K, T, A, V>(&self.nodes, path, from, counter)
+        let key = path.key();
+        let stack = start_at::<K, T, A, V>(&self.nodes, key, path, from, counter);
+        Cursor { key, stack }
     }
 
     /// Advances to the next entry, and returns its key, the key's length in bits, and the seat of its value.

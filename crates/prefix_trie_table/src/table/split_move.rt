@@ -83,12 +83,14 @@ pub(super) fn move_part<K: Key, T: Drop, A: Allocator, V: Tick>(
     ensures nodes { result.0 ≡ laid }
     ensures cells { result.1 ≡ record vacant { slots = result.1.slots } }
 {
-    let start = start_at::<K, T, A, V>(&laid, path.again(), Start::Below, counter);
+    let key = path.key();
+    let from = path.again();
+    let stack = start_at::<K, T, A, V>(&laid, key, from, Start::Below, counter);
     let mut seats = Seats {
         nodes: laid,
         cells: vacant,
-        key: start.key,
-        stack: start.stack,
+        key,
+        stack,
     };
     remove_part(nodes, cells, entries, &mut seats, path, counter);
     (seats.nodes, seats.cells)

@@ -127,12 +127,13 @@ impl<T: Drop, A: Allocator, V: Tick> Table<T, A, V> {
         requires nodes { AreNodes K.bit_width self.entries self.nodes }
         ensures { result ≡ listing_below self.entries path }
     {
-        let start = start_at::<K, T, A, V>(&self.nodes, path, Start::Below, counter);
+        let key = path.key();
+        let stack = start_at::<K, T, A, V>(&self.nodes, key, path, Start::Below, counter);
         IntoWalk {
             nodes: self.nodes,
             cells: self.cells,
-            key: start.key,
-            stack: start.stack,
+            key,
+            stack,
         }
     }
 }

@@ -1,5 +1,5 @@
 //! Walks that start at a bit string. One descent builds the stack of each of them.
-ghost use Rattle.std.specs.Prelude.{◌≡◌, ◌<◌, List, Bool, length};
+ghost use Rattle.std.specs.Prelude.{◌≡◌, ◌<◌, List, Bool, length, take};
 ghost use Rattle.std.specs.FinMap.{len as size};
 ghost use Rattle.prefix_trie_bits.specs.Bits.{number};
 ghost use Rattle.prefix_trie_bits.specs.Places.{HoldsPlaces};
@@ -12,8 +12,7 @@ ghost use Rattle.prefix_trie_table.specs.Walking.Starts.{selected, behind, kept}
 use crate::allocator::blocks::Cells;
 use crate::allocator::node::NodeSlot;
 use crate::allocator::nodes::{NodeAllocator, Tick};
-use crate::table::cursor::Cursor;
-use crate::table::spot::spot_in;
+use crate::table::spot::{Spot, spot_in};
 use crate::table::walk::Walk;
 use arrayvec::ArrayVec;
 use prefix_trie_bits::node::{behind_child, from_value, has_bit, without_bit};
@@ -42,30 +41,34 @@ pub fn walk_at<'a, K: Key, T: Drop, A: Allocator, V: Tick>(
     requires tree { (s : State T) × IsTrie K.bit_width (size s.entries) nodes.now cells.now s }
     ensures { (s : State T) → IsShapeOf nodes.now.slots cells.now.slots s → result ≡ selected from s.entries path }
 {
-    let start = start_at::<K, T, A, V>(nodes, path, from, counter);
+    let key = path.key();
+    let stack = start_at::<K, T, A, V>(nodes, key, path, from, counter);
     Walk {
         arrays: Some((nodes, cells)),
-        key: start.key,
-        stack: start.stack,
+        key,
+        stack,
     }
 }
 
-/// Goes down the search path of a bit string, and returns the start of a walk of the selected entries.
+/// Goes down the search path of a bit string that begins a key, and returns the stack of a walk of the selected entries.
 ///
 /// The spot of each node has what is selected there, except what is below the next node of the path.
 pub(super) fn start_at<K: Key, T: Drop, A: Allocator, V: Tick>(
     nodes: &NodeAllocator<A, V>,
+    key: K,
     path: BitString<K>,
     from: Start,
     counter: &mut V,
-) -> Cursor<K>
+) -> ArrayVec<Spot, 26>
+    requires begun { take (length path) (K.bits key) ≡ path }
     requires tree { (t : Tree T) × IsTrie K.bit_width t.count nodes.now t.cells t.shape }
-    ensures stack { IsStack K.bit_width nodes.now.slots (K.bits result.key) result.stack.items }
-    ensures passed { ArePassed (K.bits result.key) result.stack.items }
+    ensures stack { IsStack K.bit_width nodes.now.slots (K.bits key) result.items }
+    ensures passed { ArePassed (K.bits key) result.items }
     ensures rest { (t : Tree T) → IsTrie K.bit_width t.count nodes.now t.cells t.shape
-        → pending t.shape.entries (K.bits result.key) result.stack.items ≡ selected from t.shape.entries path }
+        → pending t.shape.entries (K.bits key) result.items ≡ selected from t.shape.entries path }
 {
-    let key = path.key();
+    // Needed only for the proof: the number is a key.
+    let _ = key.is_key();
     let len = path.len();
     let mut stack = ArrayVec::new();
     let mut node = nodes.visit(NodeSlot::ROOT, counter);
@@ -75,7 +78,7 @@ pub(super) fn start_at<K: Key, T: Drop, A: Allocator, V: Tick>(
         let child = rest.child_bit();
         stack.push(spot_in(node, depth, places_behind(from, child)));
         if !has_bit(node.child_bitmap, child) {
-            return Cursor { key, stack };
+            return stack;
         }
         node = nodes.visit(node.child_slot(child), counter);
         depth += 5;
@@ -84,7 +87,7 @@ pub(super) fn start_at<K: Key, T: Drop, A: Allocator, V: Tick>(
     // All bits that are left. Their number comes from the depth, so that the loop counts one of the two.
     let rest = rest.first(len - depth);
     stack.push(spot_in(node, depth, places_kept(from, &rest)));
-    Cursor { key, stack }
+    stack
 }
 
 /// Returns masks of what is selected at a node above the last, except what is below this child.

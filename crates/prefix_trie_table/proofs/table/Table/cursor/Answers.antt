@@ -2,9 +2,10 @@ use Rattle.prefix_trie_table.proofs.Prelude.{map, ap, Tree}
 use Rattle.prefix_trie_table.proofs.Tree.Invariant.{trie_of}
 use Rattle.prefix_trie_table.proofs.table.Table.cursor.Goals as goal
 
-pub start_at-requires : goal.start_at-requires
-start_at-requires g c =
+pub start_at-stack-requires : goal.start_at-stack-requires
+start_at-stack-requires g c =
     let i = c.self.inside in record {
+      begun = c.key-key.ensures.bits;
       tree = (
         record { count = i.count; cells = i.cells; shape = i.shape.0 },
         trie_of g.K.Key.bit_width i.count i.nodes i.cells i.shape c.self.invariant c.args.self.now c.self.view_is c.requires.within c.requires.nodes,
@@ -17,6 +18,6 @@ returns g c =
     let t : Tree g.row.T.Denot = record { count = i.count; cells = i.cells; shape = i.shape.0 } in
     let tree = trie_of g.K.Key.bit_width i.count i.nodes i.cells i.shape c.self.invariant c.args.self.now c.self.view_is c.requires.within c.requires.nodes in
     record {
-      stands = rw (← c.self.view_is) c.start_at.ensures.stack;
-      keys = rw (← c.self.view_is) (ap (map (λ e. e.0)) (c.start_at.ensures.rest t tree));
+      stands = rw (← c.self.view_is) c.start_at-stack.ensures.stack;
+      keys = rw (← c.self.view_is) (ap (map (λ e. e.0)) (c.start_at-stack.ensures.rest t tree));
     }

@@ -4,9 +4,9 @@ use Rattle.prefix_trie_table.proofs.Walk.Walking.{tree_of}
 use Rattle.prefix_trie_table.proofs.Walk.Taking.{seated, walk_below, below_given}
 use Rattle.prefix_trie_table.proofs.table.Table.into_walk_below.Goals as goal
 
-pub start_at-start-requires : goal.start_at-start-requires
-start_at-start-requires g c =
-    let t = sized_trie _ _ _ _ c.self.inside.shape c.self.invariant _ c.self.view_is c.requires.within c.requires.nodes in record { tree = (tree_of c.self.inside.cells t.0, t.1) }
+pub start_at-stack-requires : goal.start_at-stack-requires
+start_at-stack-requires g c =
+    let t = sized_trie _ _ _ _ c.self.inside.shape c.self.invariant _ c.self.view_is c.requires.within c.requires.nodes in record { begun = c.key-key.ensures.bits; tree = (tree_of c.self.inside.cells t.0, t.1) }
 
 pub invariant_of-result : goal.invariant_of-result
 invariant_of-result g c =
@@ -17,13 +17,13 @@ pub invariant_of-result-2 : goal.invariant_of-result-2
 invariant_of-result-2 g c =
     let i = c.self.inside in
     let t = sized_trie _ _ _ _ i.shape c.self.invariant _ c.self.view_is c.requires.within c.requires.nodes in
-    walk_below g.K.Key.bit_width i.nodes i.cells t.0 t.1 c.result-1.given.0 (g.K.Key.bits c.start_at-start.result.key) c.start_at-start.result.stack.items c.args.path
-    (c.start_at-start.ensures.rest (tree_of i.cells t.0) t.1) c.start_at-start.ensures.stack
+    walk_below g.K.Key.bit_width i.nodes i.cells t.0 t.1 c.result-1.given.0 (g.K.Key.bits c.key-key.result) c.start_at-stack.result.items c.args.path
+    (c.start_at-stack.ensures.rest (tree_of i.cells t.0) t.1) c.start_at-stack.ensures.stack
 
 pub returns : goal.returns
 returns g c =
     let i = c.self.inside in
     let t = sized_trie _ _ _ _ i.shape c.self.invariant _ c.self.view_is c.requires.within c.requires.nodes in
-    below_given g.K.Key.bit_width i.nodes i.cells t.0 t.1 c.result-1.given.0 (g.K.Key.bits c.start_at-start.result.key) c.start_at-start.result.stack.items c.args.path
-    (c.start_at-start.ensures.rest (tree_of i.cells t.0) t.1) i.shape.0 i.shape.1
+    below_given g.K.Key.bit_width i.nodes i.cells t.0 t.1 c.result-1.given.0 (g.K.Key.bits c.key-key.result) c.start_at-stack.result.items c.args.path
+    (c.start_at-stack.ensures.rest (tree_of i.cells t.0) t.1) i.shape.0 i.shape.1
     ∙ ap (λ (s : Contents g.row.T.Denot). listing_below s.entries c.args.path) c.self.view_is

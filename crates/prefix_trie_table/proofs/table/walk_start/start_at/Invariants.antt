@@ -5,7 +5,7 @@ use Rattle.prefix_trie_table.proofs.table.walk_start.start_at.Given as goal
 abbrev pub invariant-loop-depth : goal.invariant-loop-depth
 invariant-loop-depth g l =
     record {
-      laid : IsLaid g.K.Key.bit_width l.nodes (g.K.Key.bits l.key) l.fn.path l.from g.row.T.Denot l.depth l.node l.stack.items;
+      laid : IsLaid g.K.Key.bit_width l.nodes (g.K.Key.bits l.fn.key) l.fn.path l.from g.row.T.Denot l.depth l.node l.stack.items;
       rest_is : l.rest ≡ drop l.depth l.fn.path;
       left : length l.rest + l.depth ≡ l.len;
     }
