@@ -12,4 +12,3 @@ pub mod Lending
 pub mod Located
 pub mod Bulk
 pub mod Rounds
-pub mod Continued

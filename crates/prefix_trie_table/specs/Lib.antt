@@ -26,4 +26,3 @@ pub mod Retaining
 pub mod Copies
 pub mod Walking
 pub mod NodeArrays
-pub mod Continued

@@ -9,7 +9,6 @@
 mod block_counts;
 pub mod bulk;
 mod children;
-pub mod continued;
 mod copying;
 mod counting;
 mod cover;
