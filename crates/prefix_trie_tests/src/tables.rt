@@ -15,7 +15,7 @@ static EACH_REQUEST: [&[Table<'static, u32>]; 9] = [
     &growth::NEW_MAPS,
     &growth::GROWTHS,
     &growth::LIMITS,
-    &lookups::NO_MATCH,
+    &lookups::ONE_NETWORK,
     &walks::ROUTES,
     &entries::VACANT,
     &copies::INDEPENDENT,

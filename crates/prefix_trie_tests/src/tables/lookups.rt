@@ -42,8 +42,8 @@ fn all_lookups_read_and_write(rt: HostRuntime) {
     );
 }
 
-/// Looks up a network in an empty map, beside a stored network, and around it.
-pub const NO_MATCH: [Table<'static, u32>; 1] = [(
+/// Looks up a network in an empty map, and networks beside and around it once it is stored.
+pub const ONE_NETWORK: [Table<'static, u32>; 1] = [(
     &[],
     &[
         Finds(v4!(192, 168, 0, 0; 23), None, None, None),
