@@ -123,7 +123,6 @@ pub use Rattle.prefix_trie_table.specs.Walking.Walks.{ArePassed, EndsLast, Gives
 pub use Rattle.prefix_trie_table.specs.declared.allocator.blocks.BlockRef.{BlockRef}
 pub use Rattle.prefix_trie_table.specs.declared.allocator.blocks.tiers.TheConstants.{TIERS}
 pub use Rattle.prefix_trie_table.specs.declared.allocator.node.Node.{Node}
-pub use Rattle.prefix_trie_table.specs.declared.allocator.node.NodeSlot.{NodeSlot}
 pub use Rattle.prefix_trie_table.specs.declared.table.bulk.Found.{Found}
 pub use Rattle.prefix_trie_table.specs.declared.table.bulk.Descent.{Descent}
 pub use Rattle.prefix_trie_table.specs.declared.table.walk_start.Start.{Start}

@@ -30,7 +30,7 @@ HasFound v s n found = (reading : List ℕ → Option Node) (paths : List (List 
 
 -- a descent at the root that has found nothing yet
 abbrev pub new_descent : ℕ → Descent
-new_descent i = record { question = i; at = record { start = 0; offset = 0 }; best = None }
+new_descent i = record { question = i; at = 0; best = None }
 
 -- the index of the question of a descent
 abbrev pub question_of : Descent → ℕ
@@ -38,7 +38,7 @@ question_of w = w.question
 
 -- the slot of the node ahead
 abbrev pub slot_of : Descent → ℕ
-slot_of w = w.at.start + w.at.offset
+slot_of w = w.at
 
 -- a node is the one that the descent of this index has reached
 abbrev pub IsAhead : List Node → List Descent → ℕ → Node → Type 0

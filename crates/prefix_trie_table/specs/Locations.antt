@@ -22,7 +22,7 @@ use Rattle.prefix_trie_table.specs.Store.{Store}
 
 -- where the value at bit b of a node is stored
 abbrev pub value_seat : Node → ℕ → Seat
-value_seat n b = record { start = n.value_block; offset = rank n.value_bitmap b }
+value_seat n b = record { slot = n.value_block + rank n.value_bitmap b }
 
 -- the same, if there is such a value
 abbrev pub seat_in : Option Node → ℕ → Option Seat
@@ -44,8 +44,8 @@ pub record IsSearchEnd (nodes : List Node) (q : List Bool) (end : SearchEnd) : T
   pub within : end.reached.level ≤ length (chunks_of q)
   pub stands : is_some (read nodes (take end.reached.level (chunks_of q))) ≡ true
   pub stops : end.reached.level < length (chunks_of q) → is_some (read nodes (take (end.reached.level + 1) (chunks_of q))) ≡ false
-  pub slot_is : end.reached.at.start + end.reached.at.offset ≡ slot_from nodes 0 (take end.reached.level (chunks_of q))
-  pub node_is : end.reached.node ≡ node_at nodes (end.reached.at.start + end.reached.at.offset)
+  pub slot_is : end.reached.at ≡ slot_from nodes 0 (take end.reached.level (chunks_of q))
+  pub node_is : end.reached.node ≡ node_at nodes end.reached.at
 
 -- a bit string has no value, and this node is the last on its search path
 abbrev pub EndsAt : Store Node → List Bool → Reached → Type 0
@@ -63,7 +63,7 @@ IsLocation s q (Stored seat) = (contains_key s.entries q ≡ true) × (seat_of s
 IsLocation s q (Missing end) = (contains_key s.entries q ≡ false) × IsSearchEnd s.build q end
 
 coded_seat : Coded Seat
-coded_seat = code_by (ℕ × ℕ) (coded× coded_ℕ coded_ℕ) (λ s. (s.start, s.offset)) (λ p. record { start = p.0; offset = p.1 }) (λ _. refl)
+coded_seat = code_by ℕ coded_ℕ (λ s. s.slot) (λ n. record { slot = n }) (λ _. refl)
 
 -- that a seat is that of a bit string has at most one proof
 pub is_seat-prop : (nodes : List Node) (q : List Bool) (seat : Seat) → IsProp (seat_of nodes q ≡ Some seat)

@@ -29,7 +29,7 @@ cell_slot m = m.node.value_block + rank m.node.value_bitmap m.bit
 
 -- where the value of a match is stored
 abbrev pub match_seat : Match → Seat
-match_seat m = record { start = m.node.value_block; offset = rank m.node.value_bitmap m.bit }
+match_seat m = record { slot = m.node.value_block + rank m.node.value_bitmap m.bit }
 
 -- the seat of a match and the length of its string, if there is one
 abbrev pub SeatAt : Option Match → Option Seat → ℕ → Type 0

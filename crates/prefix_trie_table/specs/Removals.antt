@@ -1,7 +1,6 @@
 -- What the calls that remove values leave, by path. This project's own.
 use Rattle.std.specs.Prelude.{◌≡◌, ◌≢◌, ℕ, ◌+◌, ◌<◌, ◌≤◌, ◌⊎◌, Bool, true, false, List, [], ◌∷◌, ◌++◌, length, take, slice_index_or, Option, None, Some, is_some}
 use Rattle.prefix_trie_table.specs.declared.allocator.node.Node.{Node}
-use Rattle.prefix_trie_table.specs.declared.allocator.node.NodeSlot.{NodeSlot}
 use Rattle.prefix_trie_table.specs.Bitmaps.{rank}
 use Rattle.prefix_trie_table.specs.Cells.{node_sizes, cell_sizes}
 use Rattle.prefix_trie_table.specs.Digits.{chunks_of}
@@ -92,15 +91,15 @@ pub record GivesBack {S : Type 0} (v w : Store S) : Type 0 where
   pub free : (size : ℕ) → free_in v.tiers size ≤ free_in w.tiers size
 
 -- the slot of the k-th node on a search path
-abbrev pub slot_in : List NodeSlot → ℕ → ℕ
-slot_in ancestors k = let s = slice_index_or ancestors k (record { start = 0; offset = 0 }) in s.start + s.offset
+abbrev pub slot_in : List ℕ → ℕ → ℕ
+slot_in ancestors k = slice_index_or ancestors k 0
 
 -- these are the slots of the nodes on the search path of a node, above this level
-abbrev pub AreAncestors : (List ℕ → Option Node) → List ℕ → List NodeSlot → ℕ → Type 0
+abbrev pub AreAncestors : (List ℕ → Option Node) → List ℕ → List ℕ → ℕ → Type 0
 AreAncestors reading path ancestors level = (k : ℕ) → k < level → IsSlot reading (take k path) (slot_in ancestors k)
 
 -- these are the slots of the nodes on the search path of a bit string, above this level
-pub record AreAbove (q : List Bool) (level : ℕ) (ancestors : List NodeSlot) (v : Store Node) : Type 0 where
+pub record AreAbove (q : List Bool) (level : ℕ) (ancestors : List ℕ) (v : Store Node) : Type 0 where
   pub long : length ancestors ≡ level
   pub slots : (reading : List ℕ → Option Node) (paths : List (List ℕ)) → NodesHold node_sizes reading paths v → AreAncestors reading (chunks_of q) ancestors level
 
@@ -145,7 +144,7 @@ pub record Pruned (reading : List ℕ → Option Node) (paths : List (List ℕ))
   pub stops : (level ≡ 0) ⊎ IsStocked node
 
 -- there is a node at the end of a search path, and these are the slots of the nodes above it
-pub record StandsAtEnd (path : List ℕ) (ancestors : List NodeSlot) (node : Node) (v : Store Node) : Type 0 where
+pub record StandsAtEnd (path : List ℕ) (ancestors : List ℕ) (node : Node) (v : Store Node) : Type 0 where
   pub reading : List ℕ → Option Node
   pub paths : List (List ℕ)
   pub hold : NodesHold node_sizes reading paths v

@@ -80,7 +80,7 @@ pub record IsSite {K : Type 0} (IsKey : K → Type 0) (bits : K → List Bool) (
   pub depth_is : p.depth ≡ 5 * level
   pub within : p.depth ≤ width
   pub stands : read v.slots (chunks_of (take p.depth (bits p.key))) ≡ Some n
-  pub slot_is : IsSlot (read v.slots) (chunks_of (take p.depth (bits p.key))) (p.slot.start + p.slot.offset)
+  pub slot_is : IsSlot (read v.slots) (chunks_of (take p.depth (bits p.key))) p.slot
 
 module _ {F T : Type 0} (asks : F → List Bool → T → Bool → F → Type 0) where
   -- called once on each entry in order from the state f, the test can be left as g

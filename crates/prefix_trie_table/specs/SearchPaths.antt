@@ -10,7 +10,7 @@ use Rattle.prefix_trie_table.specs.Forest.{NodesHold, Deepest, IsEnd}
 
 -- the slot of a node that was reached
 abbrev pub slot_at : Reached → ℕ
-slot_at here = here.at.start + here.at.offset
+slot_at here = here.at
 
 -- this node is on the search path of a bit string
 pub record IsAlong (q : List Bool) (here : Reached) (v : Store Node) : Type 0 where

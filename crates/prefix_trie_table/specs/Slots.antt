@@ -14,19 +14,19 @@ with_slot v i x = record v { slots = slice_set v.slots i x }
 -- the array with the value x at a seat, if there is one
 abbrev pub with_cell : {T : Type 0} → Store (Option T) → Option Seat → T → Store (Option T)
 with_cell w None x = w
-with_cell w (Some seat) x = with_slot w (seat.start + seat.offset) (Some x)
+with_cell w (Some seat) x = with_slot w seat.slot (Some x)
 
 -- there is a value at this seat
 pub record HasValue {T : Type 0} (w : Store (Option T)) (seat : Seat) : Type 0 where
-  pub stands : seat.start + seat.offset < length w.slots
-  pub stored : IsSome (slice_index_or w.slots (seat.start + seat.offset) None)
+  pub stands : seat.slot < length w.slots
+  pub stored : IsSome (slice_index_or w.slots seat.slot None)
 
 -- the value at bit b of the node with a path is at this seat
 pub record IsSeat (reading : List ℕ → Option Node) (path : List ℕ) (b : ℕ) (seat : Seat) : Type 0 where
   pub node : Node
   pub is : reading path ≡ Some node
   pub set : has_bit node.value_bitmap b ≡ true
-  pub slot_is : seat.start + seat.offset ≡ node.value_block + rank node.value_bitmap b
+  pub slot_is : seat.slot ≡ node.value_block + rank node.value_bitmap b
 
 -- the seat of the value at a bit string, if there is one
 abbrev pub SeatOf : (List ℕ → Option Node) → List Bool → Option Seat → Type 0

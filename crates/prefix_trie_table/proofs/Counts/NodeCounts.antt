@@ -65,9 +65,9 @@ module _ (sizes : List ℕ) (nodes : List ℕ → Option Node) (paths : List (Li
 
 -- the loop over the slots: the number so far, and the children in the next slot
 module _ (slots : List Node) (i number n : ℕ) (m : Node) (inside : i < length slots) (so_far : number ≡ 1 + sum_by child_count (take i slots))
-    (is : m ≡ node_at slots (i + 0)) (ones : n ≡ ones_below 32 m.child_bitmap) where
+    (is : m ≡ node_at slots i) (ones : n ≡ ones_below 32 m.child_bitmap) where
   next_count : n ≡ child_count (node_at slots i)
-  next_count = ones ∙ sym (rank-ones m.child_bitmap 32 (omega arith)) ∙ ap child_count (is ∙ ap (node_at slots) (let e : i + 0 ≡ i = omega arith in e))
+  next_count = ones ∙ sym (rank-ones m.child_bitmap 32 (omega arith)) ∙ ap child_count is
 
   pub children_more : number + n ≡ 1 + sum_by child_count (take (i + 1) slots)
   children_more = omega (arith, sum_by_more child_count slots i blank_node inside, so_far, next_count)

@@ -1,5 +1,5 @@
 -- Lookups that descend side by side, round by round: for `find_longest_each`.
-use Rattle.prefix_trie_table.proofs.Prelude.{◌≡◌, ℕ, ◌+◌, ◌*◌, ◌<◌, ◌≤◌, ◌⊎◌, inl, inr, Bool, List, [], ◌∷◌, ◌++◌, Option, None, Some, IfSome, MatchOption, Contains, option_map, map, take, drop, length, length-drop, get_or, set, sum_by, refl, sym, ap, ◌∙◌, subst, arith, option_or, add-mul, one-mul, cases_eq, length-map, map-append, length_push, take_more, take_more_set, get_or_default, get_or-map, get_or-drop, get_or-take, get_or-set_other, All-nil, All-push, Contains-append_cases, Contains-append_left, Contains-append_right, Contains-push_cases, sum_by_push, Node, NodeSlot, Found, Descent, Match, AreAnswered, AreRead, GoOn, HasFound, cost_of, found_of, question_of, reached_by, slot_of, node_at, chunks_of, IsEnd, SomeNodes, Reached, IsAlong, IsLast, LongestHeld, Store}
+use Rattle.prefix_trie_table.proofs.Prelude.{◌≡◌, ℕ, ◌+◌, ◌*◌, ◌<◌, ◌≤◌, ◌⊎◌, inl, inr, Bool, List, [], ◌∷◌, ◌++◌, Option, None, Some, IfSome, MatchOption, Contains, option_map, map, take, drop, length, length-drop, get_or, set, sum_by, refl, sym, ap, ◌∙◌, subst, arith, option_or, add-mul, one-mul, cases_eq, length-map, map-append, length_push, take_more, take_more_set, get_or_default, get_or-map, get_or-drop, get_or-take, get_or-set_other, All-nil, All-push, Contains-append_cases, Contains-append_left, Contains-append_right, Contains-push_cases, sum_by_push, Node, Found, Descent, Match, AreAnswered, AreRead, GoOn, HasFound, cost_of, found_of, question_of, reached_by, slot_of, node_at, chunks_of, IsEnd, SomeNodes, Reached, IsAlong, IsLast, LongestHeld, Store}
 use Rattle.std.proofs.lemmas.List.{append_assoc, length-take-le, drop-drop, get_or-set_same}
 use Rattle.prefix_trie_table.specs.Bulk.{IsDescent}
 use Rattle.prefix_trie_table.proofs.Lookup.SearchPaths.{path_end}
@@ -160,8 +160,8 @@ module _ (v : Store Node) (questions : List (List Bool)) where
       one_more d = take_more descents j d (omega (arith, inside, long)) ∙ ap (λ w. take j descents ++ w ∷ []) (sym (now_at d))
 
       -- the descent one node further
-      pub descent_next : (d : Descent) (q : List Bool) → q ≡ get_or questions (get_or now j d).question q → (at : NodeSlot) (best : Option Found)
-          → IsAlong q (record { at = at; node = node_at v.slots (at.start + at.offset); level = level + 1 }) v → HasFound v q (5 * level + 5) best
+      pub descent_next : (d : Descent) (q : List Bool) → q ≡ get_or questions (get_or now j d).question q → (at : ℕ) (best : Option Found)
+          → IsAlong q (record { at = at; node = node_at v.slots at; level = level + 1 }) v → HasFound v q (5 * level + 5) best
           → IsDescent v questions (level + 1) (record { question = (get_or now j d).question; at = at; best = best })
       descent_next d q is at best along has = record {
         question = q;

@@ -13,7 +13,7 @@ use Rattle.prefix_trie_table.proofs.Tree.Values.{value_stands, value_replaced}
 module _ {T : Type 0} (v : Store Node) (w : Store (Option T)) (t : SomeTable v w) (q : List Bool) where
   -- the cell of a seat
   module _ (seat : Seat) (at : IsSeat t.reading (chunks_of q) (bit_of q) seat) where
-    pub cell_there : (seat.start + seat.offset < length w.slots) × (get_or w.slots (seat.start + seat.offset) None ≡ t.values (chunks_of q) (bit_of q))
+    pub cell_there : (seat.slot < length w.slots) × (get_or w.slots seat.slot None ≡ t.values (chunks_of q) (bit_of q))
     cell_there =
         let there = value_stands cell_sizes node_sizes t.reading t.paths v t.holds.hold t.values w t.holds.cells (chunks_of q) at.node (bit_of q) at.is at.set in
         (let x = there.2 in let e = at.slot_is in omega arith, ap (λ i. get_or w.slots i None) at.slot_is ∙ there.1)
@@ -89,7 +89,7 @@ module _ {T : Type 0} (v : Store Node) (w : Store (Option T)) (count : ℕ) (s :
         ∙ sym (len-insert listing_total s.0.entries q x);
     one_limit = is.one_limit;
     nodes_within = is.nodes_within;
-    cells_within = (let l = length-set w.slots (seat.start + seat.offset) (Some x) in let h = is.cells_within in omega (arith, l, h));
+    cells_within = (let l = length-set w.slots seat.slot (Some x) in let h = is.cells_within in omega (arith, l, h));
     cells_first = is.cells_first;
   }
 
@@ -114,14 +114,14 @@ module _ {T : Type 0} (v : Store Node) (w : Store (Option T)) (count : ℕ) (s :
       λ i. record {
         entries = (left i).entries;
         nodes = (left i).nodes;
-        space = record { limit = v.limit; node_slots = length v.slots; cell_slots = length-set w.slots (there.start + there.offset) (Some x) i };
+        space = record { limit = v.limit; node_slots = length v.slots; cell_slots = length-set w.slots there.slot (Some x) i };
         layout = layout_of v.slots v.tiers w.tiers (Sized-prop v.slots y z i);
         build = v.slots;
       }
 
   -- if a value is lent only at a seat, the table ends with another value at q, or unchanged
   pub lender_left : (z : Sized v.slots) (o : Option Seat) → IfSome o (λ seat. IsSeat table.reading (chunks_of q) (bit_of q) seat) → (r : Option (MutBor T)) (G : T → Contents T) →
-      MatchOption o (r ≡ None) (λ seat. option_copied_mut r ≡ get_or w.slots (seat.start + seat.offset) None) →
+      MatchOption o (r ≡ None) (λ seat. option_copied_mut r ≡ get_or w.slots seat.slot None) →
       ((seat : Seat) (x : T) → o ≡ Some seat → with_value_at (seen_of v w s.0 z) q x ≡ G x) →
       (t : (x : T) → Shaped v.slots (with_cell w o x).slots) (y : T → Sized v.slots) (u : Shaped v.slots w.slots) (k : Sized v.slots) →
       read_of (ghost_name_of r) (λ x. seen_of v (with_cell w o x) (t x).0 (y x)) (seen_of v w u.0 k) ≡ read_of (ghost_name_of r) G (seen_of v w s.0 z)
@@ -174,13 +174,13 @@ module _ {T : Type 0} (v : Store Node) (w : Store (Option T)) (t : SomeTable v w
 
   -- the value lent is that of the longest match
   pub longest_lent : (longest : Option Match) (o : Option Seat) → SeatAt longest o n → LongestHeld t.reading q 0 (length q + 1) longest →
-      (r : Option (MutBor T)) → MatchOption o (r ≡ None) (λ seat. option_copied_mut r ≡ get_or w.slots (seat.start + seat.offset) None) →
+      (r : Option (MutBor T)) → MatchOption o (r ≡ None) (λ seat. option_copied_mut r ≡ get_or w.slots seat.slot None) →
       MatchOption r (longest_match s.entries q ≡ None) (λ x. (n ≤ length q) × (longest_match s.entries q ≡ Some (take n q, x.now)))
   longest_lent None o at held r e =
-      let none : r ≡ None = subst (λ y. MatchOption y (r ≡ None) (λ seat. option_copied_mut r ≡ get_or w.slots (seat.start + seat.offset) None)) at e in
+      let none : r ≡ None = subst (λ y. MatchOption y (r ≡ None) (λ seat. option_copied_mut r ≡ get_or w.slots seat.slot None)) at e in
       subst (λ y. MatchOption y (longest_match s.entries q ≡ None) (λ x. (n ≤ length q) × (longest_match s.entries q ≡ Some (take n q, x.now)))) (sym none)
       (longest_none v w t s is q held)
-  longest_lent (Some m) o at held r e = split_off_map m held.0 held.1 at.1 r (subst (λ y. MatchOption y (r ≡ None) (λ seat. option_copied_mut r ≡ get_or w.slots (seat.start + seat.offset) None)) at.0 e)
+  longest_lent (Some m) o at held r e = split_off_map m held.0 held.1 at.1 r (subst (λ y. MatchOption y (r ≡ None) (λ seat. option_copied_mut r ≡ get_or w.slots seat.slot None)) at.0 e)
 
 -- the bit of a match is one of a node's
 pub longest_small : (reading : List ℕ → Option Node) (q : List Bool) (end : ℕ) (longest : Option Match) → LongestHeld reading q 0 end longest → IfSome longest (λ m. m.bit < 31)

@@ -27,14 +27,14 @@ module _ {T : Type 0} (v : Store Node) (w : Store (Option T)) (count : ℕ) (s :
     seat_found = is_seat v is.reading is.paths is.nodes q seat (ap (λ nodes. seat_of nodes q) same ∙ found)
 
     -- it is a cell
-    pub found_inside : seat.start + seat.offset < length w.slots
+    pub found_inside : seat.slot < length w.slots
     found_inside = (cell_there v w (some_table is) q seat seat_found).0
 
     -- what is read there is the value of the string
-    pub found_value : (x : Option T) → x ≡ get_or w.slots (seat.start + seat.offset) x → get s.0.entries q ≡ x
+    pub found_value : (x : Option T) → x ≡ get_or w.slots seat.slot x → get s.0.entries q ≡ x
     found_value x read =
         stored_is v w count s is q ∙ sym (cell_there v w (some_table is) q seat seat_found).1
-        ∙ get_or_default w.slots (seat.start + seat.offset) None x found_inside ∙ sym read
+        ∙ get_or_default w.slots seat.slot None x found_inside ∙ sym read
 
     -- and there is one
     pub found_some : is_some (get s.0.entries q) ≡ true

@@ -26,12 +26,12 @@ pub seat_there : (n : Node) (b : ℕ) → has_bit n.value_bitmap b ≡ true → 
 seat_there n b e = ap (λ t. cond t (Some (value_seat n b)) None) e
 
 pub seat_slot : (n : Node) (b : ℕ) (t : Bool) (seat : Seat) → cond t (Some (value_seat n b)) None ≡ Some seat →
-    (t ≡ true) × (seat.start + seat.offset ≡ n.value_block + rank n.value_bitmap b)
+    (t ≡ true) × (seat.slot ≡ n.value_block + rank n.value_bitmap b)
 seat_slot n b true seat e = (refl, sym (ap slot_of e))
   where
     slot_of : Option Seat → ℕ
     slot_of None = 0
-    slot_of (Some s) = s.start + s.offset
+    slot_of (Some s) = s.slot
 seat_slot n b false seat e = absurd (false≢true (ap is_some e))
 
 -- the seat of a string of less than five bits below a node's
@@ -99,11 +99,11 @@ module _ (v v2 : Store Node) (slot offset b bitmap : ℕ) (k m : Node) (sets : S
   added_rank = rank-same k.value_bitmap m.value_bitmap b (λ i h. more i ∙ ap (λ t. t || has_bit k.value_bitmap i) (other_number i b (λ e. omega arith)))
 
   pub added_seat : offset ≡ rank k.value_bitmap b → slot < length v.slots → v2 ≡ record v { slots = set v.slots slot m } →
-      seat_in (Some (node_at v2.slots slot)) b ≡ Some (record { start = m.value_block; offset = offset })
+      seat_in (Some (node_at v2.slots slot)) b ≡ Some (record { slot = m.value_block + offset })
   added_seat place_is inside v2_is =
       let here : node_at v2.slots slot ≡ m = ap (λ (x : Store Node). node_at x.slots slot) v2_is ∙ get_or-set_same v.slots slot m blank_node inside in
       ap (λ n. seat_in (Some n) b) here ∙ seat_there m b (more b ∙ ap (λ t. t || has_bit k.value_bitmap b) (same_number b))
-      ∙ ap (λ i. Some (record { start = m.value_block; offset = i })) (added_rank ∙ sym place_is)
+      ∙ ap (λ i. Some (record { slot = m.value_block + i })) (added_rank ∙ sym place_is)
 
 -- the node is in its slot
 own_slot : (reading : List ℕ → Option Node) (p : List ℕ) (m : Node) (q : List ℕ) (s : ℕ) → IsSlot reading q s → q ≡ p → IsSlot (with_node reading p m) q s

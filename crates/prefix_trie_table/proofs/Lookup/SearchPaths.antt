@@ -137,7 +137,7 @@ module _ (q : List Bool) (here : Reached) (v : Store Node) (at : IsLast q here v
         node = here.node;
         is = path_own;
         set = ap (λ o. has_value o (bit_of q)) (sym path_own) ∙ own_value ∙ set;
-        slot_is = ap (λ s. s.start + s.offset) is ∙ ap (λ i. here.node.value_block + rank here.node.value_bitmap i) (sym (own_bit q here v at.along r left short x read));
+        slot_is = ap (λ s. s.slot) is ∙ ap (λ i. here.node.value_block + rank here.node.value_bitmap i) (sym (own_bit q here v at.along r left short x read));
       }
 
   -- there is a node

@@ -6,7 +6,7 @@ use Rattle.prefix_trie_table.specs.Walking.Walks.{slot_of}
 module _ {T : Type 0} where
   long_cell : (w : Store (Option T)) (o : Option Seat) (x : T) → length (with_cell w o x).slots ≡ length w.slots
   long_cell w None x = refl
-  long_cell w (Some seat) x = length-set w.slots (seat.start + seat.offset) (Some x)
+  long_cell w (Some seat) x = length-set w.slots seat.slot (Some x)
 
   -- there are as many cells
   pub long_cells : (nodes : List Node) (es : List (List Bool × T)) (w : Store (Option T)) → length (filled_with nodes es w).slots ≡ length w.slots

@@ -1,5 +1,5 @@
 -- An entry removed, and what contracts see of it.
-use Rattle.prefix_trie_table.proofs.Prelude.{◌≡◌, ◌≢◌, ℕ, ◌+◌, ◌-◌, ◌*◌, ◌<◌, ◌⊎◌, inl, inr, Bool, true, false, cond, ◌&&◌, List, [], ◌∷◌, ◌++◌, length, take, drop, Option, None, Some, is_some, refl, sym, ap, ap₂, ◌∙◌, subst, arith, false≢true, get, len, len-remove, listing_total, without_entry, is_node_depth, State, get-without_entry, value_bit, Node, NodeSlot, Reached, has_bit, rank, cell_sizes, chunks_of, bit_of, Store, one_if, Holds, IsSlot, at_root, at_child, child_slot, node_or_blank, own_count, has_value, with_node, with_value, SomeTable, entry_count, ShrinksList, ValueTaken, EntryTaken, AreAbove, StandsAtEnd, slot_in, MakesEntered, IsShapeOf, IsLast, Shaped, same_shape, slot_at, IsTable, Grows, ForHeld, own_children, child_block_size}
+use Rattle.prefix_trie_table.proofs.Prelude.{◌≡◌, ◌≢◌, ℕ, ◌+◌, ◌-◌, ◌*◌, ◌<◌, ◌⊎◌, inl, inr, Bool, true, false, cond, ◌&&◌, List, [], ◌∷◌, ◌++◌, length, take, drop, Option, None, Some, is_some, refl, sym, ap, ap₂, ◌∙◌, subst, arith, false≢true, get, len, len-remove, listing_total, without_entry, is_node_depth, State, get-without_entry, value_bit, Node, Reached, has_bit, rank, cell_sizes, chunks_of, bit_of, Store, one_if, Holds, IsSlot, at_root, at_child, child_slot, node_or_blank, own_count, has_value, with_node, with_value, SomeTable, entry_count, ShrinksList, ValueTaken, EntryTaken, AreAbove, StandsAtEnd, slot_in, MakesEntered, IsShapeOf, IsLast, Shaped, same_shape, slot_at, IsTable, Grows, ForHeld, own_children, child_block_size}
 use Rattle.prefix_trie_table.specs.OwnBlocks.{value_block_size}
 use Rattle.prefix_trie_table.proofs.Removal.ShrinkingLists.{shrinks_none, values_none, same_children}
 use Rattle.prefix_trie_table.proofs.Tree.Invariant.{some_table}
@@ -181,14 +181,14 @@ module _ {T : Type 0} (q rest : List Bool) (here : Reached) (v : Store Node) (at
       (taken reading paths values holds (chunks_of q) (path_slot q here v at reading paths holds.hold rest left short) (path_own q here v at reading paths holds.hold rest left short))
 
   -- that is at the end of the search path then
-  module _ (last : here.level ≡ length (chunks_of q)) (ancestors items : List NodeSlot) (same : ancestors ≡ items) (above : AreAbove q here.level items v)
+  module _ (last : here.level ≡ length (chunks_of q)) (ancestors items : List ℕ) (same : ancestors ≡ items) (above : AreAbove q here.level items v)
       (reading : List ℕ → Option Node) (paths : List (List ℕ)) (values : List ℕ → ℕ → Option T) (holds : Holds reading values paths v w) where
     abbrev pub own_end : StandsAtEnd (chunks_of q) ancestors m v2
     own_end = record {
       reading = (own_taken reading paths values holds).1.0.later;
       paths = paths;
       hold = (own_taken reading paths values holds).1.0.holds.hold;
-      long = ap (λ (xs : List NodeSlot). length xs) same ∙ above.long ∙ last;
+      long = ap (λ (xs : List ℕ). length xs) same ∙ above.long ∙ last;
       slots = λ k low.
           subst (λ xs. IsSlot (own_taken reading paths values holds).1.0.later (take k (chunks_of q)) (slot_in xs k)) (sym same)
           ((own_taken reading paths values holds).1.0.stands _ _ (above.slots reading paths holds.hold k (omega (arith, low, last))));

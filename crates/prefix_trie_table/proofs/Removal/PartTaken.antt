@@ -1,5 +1,5 @@
 -- What is left of a table after everything under a bit string is removed.
-use Rattle.prefix_trie_table.proofs.Prelude.{◌≡◌, ◌↔◌, ℕ, ◌*◌, ◌<◌, ◌≤◌, Bool, true, false, not, ◌||◌, List, [], ◌∷◌, ◌++◌, cond, length, take, drop, Option, None, Some, is_some, refl, sym, ap, ◌∙◌, subst, arith, inl, inr, bit_and, take-take, get, get-empty, begins, same_string, HoldsValues, HoldsChildren, is_in, places, PruningLaws, CallableOnEachEntry, Entries, AreWithin, no_entries, without_entry, without_below, Nodes, AreNodes, has_node, home, pruned, root_alone, nodes_not_below, nodes_without, nodes_without_below, listing_at_places, listing_below, State, and-first, and-second, get-without_below, has-retained, has-root_alone, same_entries, same_nodes, same_string-is, begins-nil, pruning_laws, removed_fewer, Node, NodeSlot, Reached, node_sizes, chunks_of, bit_of, Store, read, slot_at, Holds, NodesHold, IsOwn, IsSlot, EntryTaken, EntryRemoved, Pruned, AreAbove, AreAncestors, StandsAtEnd, slot_in, BoundsNodeGrowth, Contents, state, Shaped, ForHeld, Grows, IsTable, IsTrie, BlocksBetween, IsSite, PreservesBelow, Retains, RetainsTo}
+use Rattle.prefix_trie_table.proofs.Prelude.{◌≡◌, ◌↔◌, ℕ, ◌*◌, ◌<◌, ◌≤◌, Bool, true, false, not, ◌||◌, List, [], ◌∷◌, ◌++◌, cond, length, take, drop, Option, None, Some, is_some, refl, sym, ap, ◌∙◌, subst, arith, inl, inr, bit_and, take-take, get, get-empty, begins, same_string, HoldsValues, HoldsChildren, is_in, places, PruningLaws, CallableOnEachEntry, Entries, AreWithin, no_entries, without_entry, without_below, Nodes, AreNodes, has_node, home, pruned, root_alone, nodes_not_below, nodes_without, nodes_without_below, listing_at_places, listing_below, State, and-first, and-second, get-without_below, has-retained, has-root_alone, same_entries, same_nodes, same_string-is, begins-nil, pruning_laws, removed_fewer, Node, Reached, node_sizes, chunks_of, bit_of, Store, read, slot_at, Holds, NodesHold, IsOwn, IsSlot, EntryTaken, EntryRemoved, Pruned, AreAbove, AreAncestors, StandsAtEnd, slot_in, BoundsNodeGrowth, Contents, state, Shaped, ForHeld, Grows, IsTable, IsTrie, BlocksBetween, IsSite, PreservesBelow, Retains, RetainsTo}
 use Rattle.std.proofs.lemmas.List.{take-append-drop, length-take-le}
 use Rattle.std.specs.List.{Contains}
 use Rattle.prefix_trie_table.specs.Retaining.{SaysNo}
@@ -128,7 +128,7 @@ module _ {T : Type 0} (width : ℕ) (q : List Bool) (v v2 : Store Node) (w : Sto
 
 module _ {T : Type 0} (width : ℕ) (q : List Bool) (v v2 : Store Node) (w w2 : Store (Option T)) (count count2 : ℕ) (s : State T) (trie : IsTrie width count v w s)
     (emptied : IsTrie width count2 v2 w2 (record { entries = without_below s.entries q; nodes = nodes_not_below s.nodes q })) (level : ℕ) (last : level ≡ length (chunks_of q))
-    (preserves : PreservesBelow level v v2 w w2) (ancestors items : List NodeSlot) (same : ancestors ≡ items) (above : AreAbove q level items v) (n : Node)
+    (preserves : PreservesBelow level v v2 w w2) (ancestors items : List ℕ) (same : ancestors ≡ items) (above : AreAbove q level items v) (n : Node)
     (is : read v2.slots (chunks_of q) ≡ Some n) where
   -- the nodes on the path are unchanged
   pub ancestors_left : AreAncestors (read v2.slots) (chunks_of q) ancestors (length (chunks_of q))
@@ -145,7 +145,7 @@ module _ {T : Type 0} (width : ℕ) (q : List Bool) (v v2 : Store Node) (w w2 : 
     reading = read v2.slots;
     paths = paths;
     hold = hold;
-    long = ap (λ (xs : List NodeSlot). length xs) same ∙ above.long ∙ last;
+    long = ap (λ (xs : List ℕ). length xs) same ∙ above.long ∙ last;
     slots = ancestors_left;
     is = is;
   }

@@ -28,7 +28,7 @@ longer_not s u five e = absurd (omega (arith, ap length e, length-append s u, fi
 
 module _ {K T : Type 0} (IsKey : K → Type 0) (bits : K → List Bool) (width : ℕ) (bits_length : (k : K) → IsKey k → length (bits k) ≡ width) (v : Store Node) (p : Site K) (n : Node)
     (at : IsSite IsKey bits width v p n) (count : ℕ) (w : Store (Option T)) (s : State T) (trie : IsTrie width count v w s) {seat : Place} (held : HasPlace n seat)
-    (c : ℕ) (child : seat ≡ ChildPlace c) (offset : ℕ) (place_is : offset ≡ ones_below c n.child_bitmap) where
+    (c : ℕ) (child : seat ≡ ChildPlace c) (slot : ℕ) (slot_is : slot ≡ child_slot n c) where
   long : length (bits p.key) ≡ width
   long = bits_length p.key at.key
 
@@ -54,13 +54,13 @@ module _ {K T : Type 0} (IsKey : K → Type 0) (bits : K → List Bool) (width :
   pub child_small : c < 32
   child_small = let h = number-small t five in omega (arith, h, c_is)
 
-  slot_same : child_slot n (number t) ≡ n.child_block + offset
-  slot_same = ap (λ k. n.child_block + k) (ap (rank n.child_bitmap) (sym c_is) ∙ rank-ones n.child_bitmap c (let h = child_small in omega (arith, h)) ∙ sym place_is)
+  slot_same : child_slot n (number t) ≡ slot
+  slot_same = ap (child_slot n) (sym c_is) ∙ sym slot_is
 
-  pub lower_inside : n.child_block + offset < length v.slots
+  pub lower_inside : slot < length v.slots
   lower_inside = subst (λ k. k < length v.slots) slot_same (child_inside width v (record { count = count; cells = w; shape = s }) trie (take p.depth (bits p.key)) n whole at.stands t five set_there)
 
-  pub lower_few : has_bit (node_at v.slots (n.child_block + offset)).value_bitmap 31 ≡ false
+  pub lower_few : has_bit (node_at v.slots slot).value_bitmap 31 ≡ false
   lower_few =
       subst (λ k. has_bit (node_at v.slots k).value_bitmap 31 ≡ false) slot_same
       (child_few width v (record { count = count; cells = w; shape = s }) trie (take p.depth (bits p.key)) n whole at.stands t five set_there)
@@ -81,9 +81,9 @@ module _ {K T : Type 0} (IsKey : K → Type 0) (bits : K → List Bool) (width :
 
   -- the child, with its key
   module _ (key : K) (is_key : IsKey key) (extended : bits key ≡ take p.depth (bits p.key) ++ digits 5 c ++ zeros (width - (p.depth + 5)))
-      (lower : Node) (lower_is : lower ≡ node_at v.slots (n.child_block + offset)) where
+      (lower : Node) (lower_is : lower ≡ node_at v.slots slot) where
     abbrev b : Site K
-    b = record { slot = record { start = n.child_block; offset = offset }; key = key; depth = p.depth + 5 }
+    b = record { slot = slot; key = key; depth = p.depth + 5 }
 
     long_b : length (bits b.key) ≡ width
     long_b = bits_length key is_key
@@ -105,7 +105,7 @@ module _ {K T : Type 0} (IsKey : K → Type 0) (bits : K → List Bool) (width :
           ∙ ap (λ k. Some (node_at v.slots k)) slot_same ∙ ap Some (sym lower_is);
       slot_is =
           subst (λ k. IsSlot (read v.slots) (chunks_of (take b.depth (bits b.key))) k)
-          (ap (λ k. n.child_block + k) (rank-ones n.child_bitmap c (let h = child_small in omega (arith, h)) ∙ sym place_is))
+          (sym slot_is)
           (subst (λ q. IsSlot (read v.slots) q (child_slot n c)) (sym (ap chunks_of lower_string ∙ way))
           (at_child (chunks_of (take p.depth (bits p.key))) c n at.stands child_there));
     }
@@ -202,7 +202,7 @@ module _ {K T : Type 0} (IsKey : K → Type 0) (bits : K → List Bool) (width :
       -- a child with neither is removed
       module _ (bare : IsBare left) (m : Node) (v3 : Store Node)
           (dropped : (reading : List ℕ → Option Node) (paths : List (List ℕ)) (q : List ℕ) (k leaf : Node) → NodesHold node_sizes reading paths v2 →
-          IsSlot reading q (p.slot.start + p.slot.offset) → reading q ≡ Some k → reading (q ++ c ∷ []) ≡ Some leaf → rank leaf.child_bitmap 32 ≡ 0 →
+          IsSlot reading q p.slot → reading q ≡ Some k → reading (q ++ c ∷ []) ≡ Some leaf → rank leaf.child_bitmap 32 ≡ 0 →
           ChildDropped reading paths q c k m v2 v3)
           (space : Grows v2 v3 24) where
         abbrev table2 : SomeTable v2 w2

@@ -81,7 +81,7 @@ module _ {K : Type 0} (IsKey : K → Type 0) (bits : K → List Bool) (width : �
     within = at.within;
     stands = stands;
     slot_is =
-        slot_stays (read v.slots) (read v2.slots) (chunks_of (take p.depth (bits p.key))) (p.slot.start + p.slot.offset)
+        slot_stays (read v.slots) (read v2.slots) (chunks_of (take p.depth (bits p.key))) p.slot
         (λ q less. above q (omega (arith, less, path_levels))) at.slot_is;
   }
 
@@ -92,17 +92,17 @@ module _ {K : Type 0} (IsKey : K → Type 0) (bits : K → List Bool) (width : �
     pub read_table : Holds (read v.slots) held_table.values held_table.paths v w
     read_table = read_held held_table.reading held_table.values held_table.paths v w held_table.holds
 
-    pub site_holds : (node_at v.slots (p.slot.start + p.slot.offset) ≡ n) × (p.slot.start + p.slot.offset < length v.slots)
+    pub site_holds : (node_at v.slots p.slot ≡ n) × (p.slot < length v.slots)
     site_holds =
-        slot_holds node_sizes (read v.slots) held_table.paths v read_table.hold (chunks_of (take p.depth (bits p.key))) (p.slot.start + p.slot.offset) n at.slot_is at.stands
+        slot_holds node_sizes (read v.slots) held_table.paths v read_table.hold (chunks_of (take p.depth (bits p.key))) p.slot n at.slot_is at.stands
 
-    pub site_values : (t : SomeTable v w) × IsNodeAt t.reading (p.slot.start + p.slot.offset)
+    pub site_values : (t : SomeTable v w) × IsNodeAt t.reading p.slot
     site_values = (
       record { reading = read v.slots; values = held_table.values; paths = held_table.paths; holds = read_table },
       record { path = chunks_of (take p.depth (bits p.key)); node = n; stands = at.slot_is; is = at.stands },
     )
 
-    pub site_node : (t : SomeNodes v) × IsNodeAt t.reading (p.slot.start + p.slot.offset)
+    pub site_node : (t : SomeNodes v) × IsNodeAt t.reading p.slot
     site_node = (some_nodes site_values.0, site_values.1)
 
     -- ---- a value there
@@ -122,10 +122,10 @@ module _ {K : Type 0} (IsKey : K → Type 0) (bits : K → List Bool) (width : �
         node_there =
             ap reading key_path ∙ sym (reads_node reading values paths v w holds (chunks_of (take p.depth (bits p.key)))) ∙ at.stands
 
-        slot_there : IsSlot reading (chunks_of (take p.depth (bits p.key) ++ t)) (p.slot.start + p.slot.offset)
+        slot_there : IsSlot reading (chunks_of (take p.depth (bits p.key) ++ t)) p.slot
         slot_there =
-            subst (λ q. IsSlot reading q (p.slot.start + p.slot.offset)) (sym key_path)
-            (subst (λ (f : List ℕ → Option Node). IsSlot f (chunks_of (take p.depth (bits p.key))) (p.slot.start + p.slot.offset))
+            subst (λ q. IsSlot reading q p.slot) (sym key_path)
+            (subst (λ (f : List ℕ → Option Node). IsSlot f (chunks_of (take p.depth (bits p.key))) p.slot)
             (λ i q. reads_node reading values paths v w holds q i) at.slot_is)
 
         pub some_there : is_some (values (chunks_of (take p.depth (bits p.key) ++ t)) (bit_of (take p.depth (bits p.key) ++ t))) ≡ true
@@ -136,9 +136,9 @@ module _ {K : Type 0} (IsKey : K → Type 0) (bits : K → List Bool) (width : �
       -- what is left if the value is removed
       module _ (removed : Option T) (m : Node) (v2 : Store Node) (w2 : Store (Option T)) (count2 : ℕ)
           (gives : (reading : List ℕ → Option Node) (paths : List (List ℕ)) (values : List ℕ → ℕ → Option T) (q : List ℕ) (k : Node) → NodesHold node_sizes reading paths v →
-          CellsHold cell_sizes reading values paths w → IsSlot reading q (p.slot.start + p.slot.offset) → reading q ≡ Some k → removed ≡ values q (value_bit t))
+          CellsHold cell_sizes reading values paths w → IsSlot reading q p.slot → reading q ≡ Some k → removed ≡ values q (value_bit t))
           (takes : (reading : List ℕ → Option Node) (paths : List (List ℕ)) (values : List ℕ → ℕ → Option T) (q : List ℕ) (k : Node) → NodesHold node_sizes reading paths v →
-          CellsHold cell_sizes reading values paths w → IsSlot reading q (p.slot.start + p.slot.offset) → reading q ≡ Some k →
+          CellsHold cell_sizes reading values paths w → IsSlot reading q p.slot → reading q ≡ Some k →
           ValueTaken reading paths values q (value_bit t) k m v2 w w2) where
         before : ForHeld v w (λ reading paths values. removed ≡ values (chunks_of (take p.depth (bits p.key) ++ t)) (bit_of (take p.depth (bits p.key) ++ t)))
         before reading paths values holds =

@@ -8,7 +8,7 @@ use Rattle.prefix_trie_table.proofs.Tree.Trees.{read-nil}
 
 module _ {K : Type 0} (IsKey : K → Type 0) (bits : K → List Bool) (width : ℕ) (v : Store Node) (key : K) (is_key : IsKey key) (n : Node) (n_is : n ≡ node_at v.slots 0) where
   -- the root is in the first slot
-  pub root_site : IsSite IsKey bits width v (record { slot = record { start = 0; offset = 0 }; key = key; depth = 0 }) n
+  pub root_site : IsSite IsKey bits width v (record { slot = 0; key = key; depth = 0 }) n
   root_site = record { key = is_key; level = 0; depth_is = refl; within = omega arith; stands = read-nil v.slots ∙ ap Some (sym n_is); slot_is = at_root }
 
   module _ {T : Type 0} (long : length (bits key) ≡ width) (count : ℕ) (w : Store (Option T)) (s : State T) (trie : IsTrie width count v w s) (ts : List (List Bool)) (all : ts ≡ places n.value_bitmap n.child_bitmap) where
@@ -25,8 +25,8 @@ module _ {K : Type 0} (IsKey : K → Type 0) (bits : K → List Bool) (width : �
       pub root_asked : (each : (u : List Bool) → Contains ts u → IsPlaceOf n u) → (every : (u : List Bool) → IsPlaceOf n u → Contains ts u) → (g : F) (count2 : ℕ) (v2 : Store Node)
           (w2 : Store (Option T)) → RetainsTo asks accepts width [] ts f s g count2 v2 w2 → RetainsAll asks accepts width f s count2 v2 w2
       root_asked each every g count2 v2 w2 to =
-          let unset = nothing_at IsKey bits width v (record { slot = record { start = 0; offset = 0 }; key = key; depth = 0 }) n root_site long count w s trie in
-          let bare = none_below_it IsKey bits width v (record { slot = record { start = 0; offset = 0 }; key = key; depth = 0 }) n root_site long count w s trie in
+          let unset = nothing_at IsKey bits width v (record { slot = 0; key = key; depth = 0 }) n root_site long count w s trie in
+          let bare = none_below_it IsKey bits width v (record { slot = 0; key = key; depth = 0 }) n root_site long count w s trie in
           record {
             after = to.after;
             trie = to.trie;

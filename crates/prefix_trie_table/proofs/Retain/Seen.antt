@@ -19,12 +19,12 @@ module _ {K T : Type 0} (IsKey : K → Type 0) (bits : K → List Bool) (width :
   set_there : has node.value_bitmap (value_bit (digits n x)) ≡ true
   set_there = ap (has node.value_bitmap) bit_is ∙ set
 
-  place_rank : (offset : ℕ) → offset ≡ ones_below bit node.value_bitmap → rank node.value_bitmap (value_bit (digits n x)) ≡ offset
-  place_rank offset is = ap (rank node.value_bitmap) bit_is ∙ rank-ones node.value_bitmap bit (omega (arith, small)) ∙ sym is
+  slot_same : (slot : ℕ) → slot ≡ node.value_block + rank node.value_bitmap bit → node.value_block + rank node.value_bitmap (value_bit (digits n x)) ≡ slot
+  slot_same slot is = ap (λ b. node.value_block + rank node.value_bitmap b) bit_is ∙ sym is
 
-  pub value_slot : (offset : ℕ) → offset ≡ ones_below bit node.value_bitmap → node.value_block + offset < length w.slots
-  value_slot offset is =
-      subst (λ k. node.value_block + k < length w.slots) (place_rank offset is)
+  pub value_slot : (slot : ℕ) → slot ≡ node.value_block + rank node.value_bitmap bit → slot < length w.slots
+  value_slot slot is =
+      subst (λ k. k < length w.slots) (slot_same slot is)
       (value_inside width v (record { count = count; cells = w; shape = s }) trie (take p.depth (bits p.key)) node
       (here_whole IsKey bits width v p node at long) at.stands (digits n x) short set_there)
 
@@ -39,11 +39,11 @@ module _ {K T : Type 0} (IsKey : K → Type 0) (bits : K → List Bool) (width :
       (bit_set IsKey bits width v p node at long count w s trie (digits n x) short set_there)
 
   -- the value in the slot is the stored one
-  pub value_got : (offset : ℕ) (o : Option T) → offset ≡ ones_below bit node.value_bitmap → o ≡ get_or w.slots (node.value_block + offset) o →
+  pub value_got : (slot : ℕ) (o : Option T) → slot ≡ node.value_block + rank node.value_bitmap bit → o ≡ get_or w.slots slot o →
       get s.entries (take p.depth (bits p.key) ++ digits n x) ≡ o
-  value_got offset o is held =
-      cell_is ∙ ap (λ k. get_or w.slots (node.value_block + k) None) (place_rank offset is)
-      ∙ get_or_default w.slots (node.value_block + offset) None o (value_slot offset is) ∙ sym held
+  value_got slot o is held =
+      cell_is ∙ ap (λ k. get_or w.slots k None) (slot_same slot is)
+      ∙ get_or_default w.slots slot None o (value_slot slot is) ∙ sym held
 
   -- there is a value
   pub value_some : is_some (get s.entries (take p.depth (bits p.key) ++ digits n x)) ≡ true
@@ -97,16 +97,16 @@ module _ {K T : Type 0} (IsKey : K → Type 0) (bits : K → List Bool) (width :
   -- the value that is removed from its slot
   module _ (removed : Option T) (m : Node) (v2 : Store Node) (w2 : Store (Option T))
       (gives : (reading : List ℕ → Option Node) (paths : List (List ℕ)) (values : List ℕ → ℕ → Option T) (q : List ℕ) (k : Node) → NodesHold node_sizes reading paths v →
-      CellsHold cell_sizes reading values paths w → IsSlot reading q (p.slot.start + p.slot.offset) → reading q ≡ Some k → removed ≡ values q bit)
+      CellsHold cell_sizes reading values paths w → IsSlot reading q p.slot → reading q ≡ Some k → removed ≡ values q bit)
       (takes : (reading : List ℕ → Option Node) (paths : List (List ℕ)) (values : List ℕ → ℕ → Option T) (q : List ℕ) (k : Node) → NodesHold node_sizes reading paths v →
-      CellsHold cell_sizes reading values paths w → IsSlot reading q (p.slot.start + p.slot.offset) → reading q ≡ Some k →
+      CellsHold cell_sizes reading values paths w → IsSlot reading q p.slot → reading q ≡ Some k →
       ValueTaken reading paths values q bit k m v2 w w2) where
     gives_here : (reading : List ℕ → Option Node) (paths : List (List ℕ)) (values : List ℕ → ℕ → Option T) (q : List ℕ) (k : Node) → NodesHold node_sizes reading paths v →
-        CellsHold cell_sizes reading values paths w → IsSlot reading q (p.slot.start + p.slot.offset) → reading q ≡ Some k → removed ≡ values q (value_bit (digits n x))
+        CellsHold cell_sizes reading values paths w → IsSlot reading q p.slot → reading q ≡ Some k → removed ≡ values q (value_bit (digits n x))
     gives_here reading paths values q k hold cells slot is = gives reading paths values q k hold cells slot is ∙ ap (values q) (sym bit_is)
 
     takes_here : (reading : List ℕ → Option Node) (paths : List (List ℕ)) (values : List ℕ → ℕ → Option T) (q : List ℕ) (k : Node) → NodesHold node_sizes reading paths v →
-        CellsHold cell_sizes reading values paths w → IsSlot reading q (p.slot.start + p.slot.offset) → reading q ≡ Some k →
+        CellsHold cell_sizes reading values paths w → IsSlot reading q p.slot → reading q ≡ Some k →
         ValueTaken reading paths values q (value_bit (digits n x)) k m v2 w w2
     takes_here reading paths values q k hold cells slot is =
         subst (λ b. ValueTaken reading paths values q b k m v2 w w2) (sym bit_is) (takes reading paths values q k hold cells slot is)

@@ -64,7 +64,7 @@ module _ {T : Type 0} (v : Store Node) (w : Store (Option T)) (t : SomeTable v w
 
   -- so two strings have two seats
   pub seats_differ : (q s : List Bool) (x y : Seat) → IsSeat t.reading (chunks_of q) (bit_of q) x → IsSeat t.reading (chunks_of s) (bit_of s) y → q ≢ s →
-      x.start + x.offset ≢ y.start + y.offset
+      x.slot ≢ y.slot
   seats_differ q s x y a b ne same = at (same_or (chunks_of s) (chunks_of q))
     where
       at : (chunks_of s ≡ chunks_of q) ⊎ (chunks_of s ≢ chunks_of q) → ⊥

@@ -31,7 +31,7 @@ pub record Tree (T : Type 0) : Type 0 where
 
 -- the slot of a seat
 abbrev pub slot_of : Seat → ℕ
-slot_of seat = seat.start + seat.offset
+slot_of seat = seat.slot
 
 -- the node has this place
 abbrev pub IsPlaceOf : Node → List Bool → Type 0

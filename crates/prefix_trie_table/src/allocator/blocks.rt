@@ -7,7 +7,7 @@ mod moving;
 mod removal;
 mod tiers;
 
-ghost use Rattle.std.specs.Prelude.{◌≡◌, ◌+◌, ◌*◌, ◌^◌, ◌<◌, ◌≤◌, ◌↔◌, [], ◌∷◌, List, length, take, All, map, None, OnOk, IfOk, IsErr, IfErr, slice_index_or, slice_set};
+ghost use Rattle.std.specs.Prelude.{◌≡◌, ℕ, ◌+◌, ◌*◌, ◌^◌, ◌<◌, ◌≤◌, ◌↔◌, [], ◌∷◌, List, length, take, All, map, None, OnOk, IfOk, IsErr, IfErr, slice_index_or, slice_set};
 ghost use Rattle.prefix_trie_table.specs.Store.{Store, UsedBlock, Sound, tier_at, tier_sizes, size_in, free_in, slots_made, no_blocks};
 ghost use Rattle.prefix_trie_table.specs.BlockCounts.{tier_count};
 ghost use Rattle.prefix_trie_table.specs.Cells.{blank_node, cell_sizes, node_sizes, HasSizes};
@@ -127,18 +127,18 @@ impl<S: Slot, R: SlotArray<S>, A: Allocator> Blocks<S, R, A> {
 
     /// Writes a slot of a block in use, or one before the first block, and returns its previous value.
     #[inline]
-    pub fn put(&mut self, start: u32, offset: u32, value: S) -> S
-        requires within { start + offset < length self.old.slots }
+    pub fn put(&mut self, slot: usize, value: S) -> S
+        requires within { slot < length self.old.slots }
         requires value { R.can_hold value }
-        ensures slots { self.new ≡ record self.old { slots = slice_set self.old.slots (start + offset) value } }
-        ensures value { result ≡ slice_index_or self.old.slots (start + offset) result }
-        ensures sound { (b : UsedBlock S) (live : List (UsedBlock S)) → Sound S.vacant (b ∷ live) self.old
-            → b.start ≡ start → offset < length b.items
+        ensures slots { self.new ≡ record self.old { slots = slice_set self.old.slots slot value } }
+        ensures value { result ≡ slice_index_or self.old.slots slot result }
+        ensures sound { (b : UsedBlock S) (live : List (UsedBlock S)) (offset : ℕ) → Sound S.vacant (b ∷ live) self.old
+            → slot ≡ b.start + offset → offset < length b.items
             → Sound S.vacant (record b { items = slice_set b.items offset value } ∷ live) self.new }
-        ensures before { (live : List (UsedBlock S)) → start + offset < self.old.first
+        ensures before { (live : List (UsedBlock S)) → slot < self.old.first
             → Sound S.vacant live self.old → Sound S.vacant live self.new }
     {
-        self.slots.put(start as usize + offset as usize, value)
+        self.slots.put(slot, value)
     }
 
     /// Removes all blocks and drops their values. The slots before the first block stay.
@@ -192,29 +192,29 @@ impl<S: Slot, R: SlotArray<S>, A: Allocator> Blocks<S, R, A> {
 pub type Cells<T, A> = Blocks<Option<T>, Vec<Option<T>, A>, A>;
 
 impl<S: Slot, A: Allocator> Blocks<S, Vec<S, A>, A> {
-    /// Borrows the value at `offset` in the block that starts at `start`.
+    /// Borrows the value in a slot.
     #[inline]
-    pub fn at(&self, start: u32, offset: u32) -> &S
-        requires { start + offset < length self.now.slots }
-        ensures slot { result.now ≡ slice_index_or self.now.slots (start + offset) result.now }
-        ensures item { (b : UsedBlock S) (live : List (UsedBlock S)) → Sound S.vacant (b ∷ live) self.now
-            → b.start ≡ start → offset < length b.items
+    pub fn at(&self, slot: usize) -> &S
+        requires { slot < length self.now.slots }
+        ensures slot { result.now ≡ slice_index_or self.now.slots slot result.now }
+        ensures item { (b : UsedBlock S) (live : List (UsedBlock S)) (offset : ℕ) → Sound S.vacant (b ∷ live) self.now
+            → slot ≡ b.start + offset → offset < length b.items
             → result.now ≡ slice_index_or b.items offset result.now }
     {
-        &self.slots[start as usize + offset as usize]
+        &self.slots[slot]
     }
 
-    /// Borrows the value at `offset` in the block that starts at `start`, mutably.
+    /// Borrows the value in a slot mutably.
     #[inline]
-    pub fn at_mut(&mut self, start: u32, offset: u32) -> &mut S
-        requires { start + offset < length self.old.slots }
-        ensures* writes_back { sem 𝓛 (lends_slot S.row A.row S.Slot A.Allocator self.entry (start + offset) result) }
-        ensures slot { result.now ≡ slice_index_or self.old.slots (start + offset) result.now }
-        ensures sound { (value : S) (b : UsedBlock S) (live : List (UsedBlock S)) → Sound S.vacant (b ∷ live) self.old
-            → b.start ≡ start → offset < length b.items
-            → Sound S.vacant (record b { items = slice_set b.items offset value } ∷ live) (with_slot self.old (start + offset) value) }
+    pub fn at_mut(&mut self, slot: usize) -> &mut S
+        requires { slot < length self.old.slots }
+        ensures* writes_back { sem 𝓛 (lends_slot S.row A.row S.Slot A.Allocator self.entry slot result) }
+        ensures slot { result.now ≡ slice_index_or self.old.slots slot result.now }
+        ensures sound { (value : S) (b : UsedBlock S) (live : List (UsedBlock S)) (offset : ℕ) → Sound S.vacant (b ∷ live) self.old
+            → slot ≡ b.start + offset → offset < length b.items
+            → Sound S.vacant (record b { items = slice_set b.items offset value } ∷ live) (with_slot self.old slot value) }
     {
-        &mut self.slots[start as usize + offset as usize]
+        &mut self.slots[slot]
     }
 }
 
@@ -231,25 +231,24 @@ impl<A: Allocator> Blocks<Node, NodeArray<A>, A> {
         self.slots.sizes_fit();
     }
 
-    /// Returns the node at `offset` in the block that starts at `start`.
+    /// Returns the node in a slot.
     #[inline]
-    pub(super) fn node(&self, start: u32, offset: u32) -> Node
-        requires { start + offset < length self.now.slots }
-        ensures node { result ≡ node_at self.now.slots (start + offset) }
+    pub(super) fn node(&self, slot: usize) -> Node
+        requires { slot < length self.now.slots }
+        ensures node { result ≡ node_at self.now.slots slot }
         ensures fits { FitsByte result }
     {
-        self.slots.get(start as usize + offset as usize)
+        self.slots.get(slot)
     }
 
     /// Calls `NodeArray::with_sizes`.
     #[inline]
-    pub(super) fn with_sizes(&self, start: u32, offset: u32, node: Node) -> Node
-        requires within { start + offset < length self.now.slots }
-        requires node { node ≡ node_at self.now.slots (start + offset) }
+    pub(super) fn with_sizes(&self, slot: usize, node: Node) -> Node
+        requires within { slot < length self.now.slots }
+        requires node { node ≡ node_at self.now.slots slot }
         ensures { result ≡ node }
     {
-        self.slots
-            .with_sizes(start as usize + offset as usize, node)
+        self.slots.with_sizes(slot, node)
     }
 }
 

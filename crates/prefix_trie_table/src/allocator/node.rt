@@ -40,12 +40,9 @@ impl Node {
     #[inline]
     pub fn child_slot(self, child: u32) -> NodeSlot
         requires { child < 32 }
-        ensures { result.start + result.offset ≡ slot_of_child self child }
+        ensures { result ≡ slot_of_child self child }
     {
-        NodeSlot {
-            start: self.child_block,
-            offset: rank(self.child_bitmap, child),
-        }
+        self.child_block as usize + rank(self.child_bitmap, child) as usize
     }
 }
 
@@ -59,17 +56,8 @@ impl Slot for Node {
     }
 }
 
-/// The slot of a node: the first slot of its block, and its position in that block.
-#[derive(Clone, Copy, Default)]
-pub struct NodeSlot {
-    pub start: u32,
-    pub offset: u32,
-}
+/// The slot that a node is stored in.
+pub type NodeSlot = usize;
 
-impl NodeSlot {
-    /// The slot of the root, which is outside every block.
-    pub const ROOT: NodeSlot = NodeSlot {
-        start: 0,
-        offset: 0,
-    };
-}
+/// The slot of the root, which is outside every block.
+pub const ROOT: NodeSlot = 0;

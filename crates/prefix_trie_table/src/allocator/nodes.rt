@@ -13,7 +13,7 @@ ghost use Rattle.prefix_trie_bits.specs.declared.prefix.Refusal.TheVariants.{Mem
 
 use crate::allocator::block_count::BlockCount;
 use crate::allocator::blocks::{BlockRef, Blocks, node_blocks};
-use crate::allocator::node::{Node, NodeSlot};
+use crate::allocator::node::{Node, NodeSlot, ROOT};
 use crate::allocator::node_array::NodeArray;
 use prefix_trie_bits::prefix::Refusal;
 use std::alloc::{AllocError, Allocator};
@@ -99,24 +99,24 @@ impl<A: Allocator, V: Tick> NodeAllocator<A, V> {
     /// Returns the node in a slot, and counts the read.
     #[inline]
     pub fn visit(&self, at: NodeSlot, counter: &mut V) -> Node
-        requires { at.start + at.offset < length self.now.slots }
-        ensures node { result ≡ node_at self.now.slots (at.start + at.offset) }
+        requires { at < length self.now.slots }
+        ensures node { result ≡ node_at self.now.slots at }
         ensures fits { FitsByte result }
         ensures one_more { V.count counter.new ≡ V.count counter.old + 1 }
     {
         counter.tick();
-        self.blocks.node(at.start, at.offset)
+        self.blocks.node(at)
     }
 
     /// Returns a node that was visited in this slot. It reads only the sizes of its blocks.
     // A caller that takes the sizes from this result lets the compiler drop their read from `visit`.
     #[inline]
     pub fn with_sizes(&self, at: NodeSlot, node: Node) -> Node
-        requires within { at.start + at.offset < length self.now.slots }
-        requires node { node ≡ node_at self.now.slots (at.start + at.offset) }
+        requires within { at < length self.now.slots }
+        requires node { node ≡ node_at self.now.slots at }
         ensures { result ≡ node }
     {
-        self.blocks.with_sizes(at.start, at.offset, node)
+        self.blocks.with_sizes(at, node)
     }
 }
 
@@ -126,19 +126,19 @@ impl<A: Allocator, V: Drop> NodeAllocator<A, V> {
     /// Writes a node to a slot. The index of each size must be one of the seven, or that of the node in the slot.
     #[inline]
     pub fn put(&mut self, at: NodeSlot, node: Node)
-        requires within { at.start + at.offset < length self.old.slots }
-        requires tiers { FitsOver (node_at self.old.slots (at.start + at.offset)) node }
-        ensures slots { self.new ≡ record self.old { slots = slice_set self.old.slots (at.start + at.offset) node } }
-        ensures sound { (b : UsedBlock Node) (live : List (UsedBlock Node))
+        requires within { at < length self.old.slots }
+        requires tiers { FitsOver (node_at self.old.slots at) node }
+        ensures slots { self.new ≡ record self.old { slots = slice_set self.old.slots at node } }
+        ensures sound { (b : UsedBlock Node) (live : List (UsedBlock Node)) (offset : ℕ)
             → Sound blank_node (b ∷ live) self.old
-            → b.start ≡ at.start → at.offset < length b.items
-            → Sound blank_node (record b { items = slice_set b.items at.offset node } ∷ live) self.new }
-        ensures before { (live : List (UsedBlock Node)) → at.start + at.offset < self.old.first
+            → at ≡ b.start + offset → offset < length b.items
+            → Sound blank_node (record b { items = slice_set b.items offset node } ∷ live) self.new }
+        ensures before { (live : List (UsedBlock Node)) → at < self.old.first
             → Sound blank_node live self.old → Sound blank_node live self.new }
     {
         // Read for the proof alone: the sizes of the node in the slot fit.
-        let _old = self.blocks.node(at.start, at.offset);
-        self.blocks.put(at.start, at.offset, node);
+        let _old = self.blocks.node(at);
+        self.blocks.put(at, node);
     }
 
     /// Returns the number of slots: 1 for the root, and those of all blocks, used and free.
@@ -262,6 +262,6 @@ impl<A: Allocator, V: Drop> NodeAllocator<A, V> {
         ensures sound { Sound blank_node [] self.new }
     {
         self.blocks.clear();
-        self.blocks.put(0, 0, Node::blank());
+        self.blocks.put(ROOT, Node::blank());
     }
 }

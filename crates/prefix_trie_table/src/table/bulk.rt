@@ -15,7 +15,7 @@ ghost use Rattle.prefix_trie_table.specs.SearchPaths.{IsAlong, IsLast};
 ghost use Rattle.prefix_trie_table.specs.Store.{Store};
 
 use crate::allocator::blocks::Cells;
-use crate::allocator::node::{Node, NodeSlot};
+use crate::allocator::node::{Node, NodeSlot, ROOT};
 use crate::allocator::nodes::{NodeAllocator, Tick};
 use crate::table::Table;
 use crate::table::lookup::{Reached, next_slot};
@@ -53,7 +53,7 @@ impl Descent {
     {
         Descent {
             question,
-            at: NodeSlot::ROOT,
+            at: ROOT,
             best: None,
         }
     }
@@ -88,7 +88,7 @@ fn look<K: Key>(
     ensures next { (v : Store Node) → IsAlong path.now (reached_by descent node level) v
         → MatchOption result.1
         (IsLast path.now (reached_by descent node level) v)
-        (λ at. IsAlong path.now (record { at = at; node = node_at v.slots (at.start + at.offset); level = level + 1 }) v) }
+        (λ at. IsAlong path.now (record { at = at; node = node_at v.slots at; level = level + 1 }) v) }
     ensures found { (v : Store Node) → IsAlong path.now (reached_by descent node level) v
         → HasFound v path.now (5 * level) descent.best
         → HasFound v path.now (5 * level + 5) result.0 }
@@ -210,13 +210,13 @@ fn answer_each<P: Prefix, A: Allocator, V: Tick>(
 /// Returns the length of a match and its value.
 #[inline(always)]
 fn value_at<'a, T: Drop, A: Allocator>(cells: &'a Cells<T, A>, found: Found) -> Option<(u32, &'a T)>
-    requires stands { found.seat.start + found.seat.offset < length cells.now.slots }
+    requires stands { found.seat.slot < length cells.now.slots }
     ensures { MatchOption result
-        (slice_index_or cells.now.slots (found.seat.start + found.seat.offset) None ≡ None)
+        (slice_index_or cells.now.slots found.seat.slot None ≡ None)
         (λ r. (r.0 ≡ found.len)
-        × (slice_index_or cells.now.slots (found.seat.start + found.seat.offset) None ≡ Some r.1.now)) }
+        × (slice_index_or cells.now.slots found.seat.slot None ≡ Some r.1.now)) }
 {
-    let Some(value) = cells.at(found.seat.start, found.seat.offset).as_ref() else {
+    let Some(value) = cells.at(found.seat.slot).as_ref() else {
         return None;
     };
     Some((found.len, value))

@@ -5,7 +5,7 @@ ghost use Rattle.prefix_trie_table.specs.declared.allocator.node.Node.{Node};
 ghost use Rattle.prefix_trie_table.specs.Cells.{node_sizes};
 ghost use Rattle.prefix_trie_table.specs.Forest.{NodesHold, SomeNodes};
 
-use crate::allocator::node::NodeSlot;
+
 use crate::allocator::nodes::{NodeAllocator, Tick};
 use crate::table::Table;
 use prefix_trie_bits::node::count;
@@ -50,12 +50,8 @@ fn nodes_in<A: Allocator, V: Tick>(nodes: &NodeAllocator<A, V>, counter: &mut V)
     ensures visits { V.count counter.new ≡ V.count counter.old + length nodes.now.slots }
 {
     let mut number = 1;
-    for slot in 0..nodes.len() as u32 {
-        let at = NodeSlot {
-            start: slot,
-            offset: 0,
-        };
-        number += count(nodes.visit(at, counter).child_bitmap) as usize;
+    for slot in 0..nodes.len() {
+        number += count(nodes.visit(slot, counter).child_bitmap) as usize;
     }
     number
 }

@@ -36,16 +36,16 @@ fn add_child<A: Allocator, V: Tick>(
     child: u32,
 ) -> NodeSlot
     requires child { child < 32 }
-    requires stands { (n : SomeNodes nodes.old) × IsNodeAt n.reading (at.start + at.offset) }
-    requires node { node.now ≡ node_at nodes.old.slots (at.start + at.offset) }
+    requires stands { (n : SomeNodes nodes.old) × IsNodeAt n.reading at }
+    requires node { node.now ≡ node_at nodes.old.slots at }
     requires missing { is_set node.now.child_bitmap child ≡ false }
     requires ready { AreFree nodes.old.tiers (needs (child_need (Some node.now)) 0) }
     ensures stays { MakesNone nodes.old nodes.new }
     ensures free { (size : ℕ) → free_in nodes.old.tiers size ≤ free_in nodes.new.tiers size + one_of (child_need (Some node.now)) size }
     ensures added { (reading : List ℕ → Option Node) (paths : List (List ℕ)) (p : List ℕ) (n : Node)
         → NodesHold node_sizes reading paths nodes.old
-        → IsSlot reading p (at.start + at.offset) → reading p ≡ Some n
-        → ChildAdded reading paths p n child nodes.new (result.start + result.offset) }
+        → IsSlot reading p at → reading p ≡ Some n
+        → ChildAdded reading paths p n child nodes.new result }
 {
     let offset = rank(node.child_bitmap, child);
     let block = nodes.insert_blank(
@@ -66,10 +66,7 @@ fn add_child<A: Allocator, V: Tick>(
             child_tier: block.tier as u8,
         },
     );
-    NodeSlot {
-        start: block.start,
-        offset,
-    }
+    block.start as usize + offset as usize
 }
 
 /// Adds a missing value to the node in a slot, and returns the value's seat.
@@ -85,8 +82,8 @@ fn add_value<T: Drop, A: Allocator, V: Tick>(
     value: T,
 ) -> Seat
     requires bit { bit < 31 }
-    requires stands { (t : SomeTable nodes.old cells.old) × IsNodeAt t.reading (at.start + at.offset) }
-    requires node { node.now ≡ node_at nodes.old.slots (at.start + at.offset) }
+    requires stands { (t : SomeTable nodes.old cells.old) × IsNodeAt t.reading at }
+    requires node { node.now ≡ node_at nodes.old.slots at }
     requires missing { is_set node.now.value_bitmap bit ≡ false }
     requires ready { AreFree cells.old.tiers (needs (value_need (Some node.now)) 0) }
     ensures nodes { MakesNone nodes.old nodes.new }
@@ -95,9 +92,9 @@ fn add_value<T: Drop, A: Allocator, V: Tick>(
         (values : List ℕ → ℕ → Option T) (p : List ℕ) (n : Node)
         → NodesHold node_sizes reading paths nodes.old
         → CellsHold cell_sizes reading values paths cells.old
-        → IsSlot reading p (at.start + at.offset) → reading p ≡ Some n
+        → IsSlot reading p at → reading p ≡ Some n
         → ValueSet reading paths values p bit (Some value) nodes.new cells.new }
-    ensures seat { seat_in (Some (node_at nodes.new.slots (at.start + at.offset))) bit ≡ Some result }
+    ensures seat { seat_in (Some (node_at nodes.new.slots at)) bit ≡ Some result }
 {
     let offset = rank(node.value_bitmap, bit);
     let block = cells.insert_at(
@@ -120,8 +117,7 @@ fn add_value<T: Drop, A: Allocator, V: Tick>(
         },
     );
     Seat {
-        start: block.start,
-        offset,
+        slot: block.start as usize + offset as usize,
     }
 }
 

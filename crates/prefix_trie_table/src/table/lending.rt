@@ -36,9 +36,9 @@ fn held<T>(cell: &mut Option<T>) -> &mut T
 pub fn lend<T: Drop, A: Allocator>(cells: &mut Cells<T, A>, seat: Seat) -> &mut T
     requires { HasValue cells.old seat }
     ensures* writes_back { sem 𝓛 (lends_cell T.row A.row A.Allocator cells.entry seat result) }
-    ensures value { slice_index_or cells.old.slots (seat.start + seat.offset) None ≡ Some result.now }
+    ensures value { slice_index_or cells.old.slots seat.slot None ≡ Some result.now }
 {
-    held(cells.at_mut(seat.start, seat.offset))
+    held(cells.at_mut(seat.slot))
 }
 
 /// Returns the value at a seat, if there is one.
@@ -47,7 +47,7 @@ fn lend_if<T: Drop, A: Allocator>(cells: &mut Cells<T, A>, seat: Option<Seat>) -
     requires { IfSome seat (λ s. HasValue cells.old s) }
     ensures* writes_back { sem 𝓛 (lends_cell_if T.row A.row A.Allocator cells.entry seat result) }
     ensures value { MatchOption seat (result ≡ None)
-        (λ s. option_copied_mut result ≡ slice_index_or cells.old.slots (s.start + s.offset) None) }
+        (λ s. option_copied_mut result ≡ slice_index_or cells.old.slots s.slot None) }
 {
     let seat = seat?;
     Some(lend(cells, seat))

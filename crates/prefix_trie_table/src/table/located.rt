@@ -51,7 +51,7 @@ impl<T: Drop, A: Allocator, V: Tick> Table<T, A, V> {
         requires { seat_of self.now.build path ≡ Some seat }
         ensures { get self.now.entries path ≡ Some result.now }
     {
-        match self.cells.at(seat.start, seat.offset) {
+        match self.cells.at(seat.slot) {
             Some(value) => value,
             None => unreachable!(),
         }

@@ -7,7 +7,7 @@ ghost use Rattle.prefix_trie_table.specs.Locations.{Locates};
 ghost use Rattle.prefix_trie_table.specs.SearchPaths.{IsAlong, IsLast, ReadsAlong};
 ghost use Rattle.prefix_trie_table.specs.Store.{Store};
 
-use crate::allocator::node::{Node, NodeSlot};
+use crate::allocator::node::{Node, NodeSlot, ROOT};
 use crate::allocator::nodes::{NodeAllocator, Tick};
 use crate::table::seat::{Location, SearchEnd};
 use prefix_trie_bits::node::has_bit;
@@ -30,7 +30,7 @@ pub fn root<A: Allocator, V: Tick>(nodes: &NodeAllocator<A, V>, counter: &mut V)
     ensures along { (q : List Bool) → IsAlong q result nodes.now }
     ensures visits { V.count counter.new ≡ V.count counter.old + 1 }
 {
-    let at = NodeSlot::ROOT;
+    let at = ROOT;
     let node = nodes.visit(at, counter);
     Reached { at, node, level: 0 }
 }
@@ -44,7 +44,7 @@ pub fn next_slot<K: Key>(from: Reached, rest: &BitString<K>, last: u32) -> Optio
     requires { from.level < last → 5 ≤ length rest.now }
     ensures { (q : List Bool) (v : Store Node) → IsAlong q from v → rest.now ≡ drop (5 * from.level) q → last ≡ length q / 5
         → MatchOption result (IsLast q from v)
-        (λ at. IsAlong q (record { at = at; node = node_at v.slots (at.start + at.offset); level = from.level + 1 }) v) }
+        (λ at. IsAlong q (record { at = at; node = node_at v.slots at; level = from.level + 1 }) v) }
 {
     if from.level >= last {
         return None;

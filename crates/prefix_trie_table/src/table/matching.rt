@@ -148,7 +148,7 @@ pub fn value_of_match<'a, T: Drop, A: Allocator>(
         × (slice_index_or cells.now.slots (cell_slot found) None ≡ Some r.1.now)) }
 {
     let seat = found.seat();
-    let Some(value) = cells.at(seat.start, seat.offset).as_ref() else {
+    let Some(value) = cells.at(seat.slot).as_ref() else {
         return None;
     };
     Some((found.len, value))

@@ -61,8 +61,8 @@ pub fn take_value<T: Drop, A: Allocator, V: Tick>(
     bit: u32,
 ) -> (Option<T>, Node)
     requires bit { bit < 31 }
-    requires stands { (t : SomeTable nodes.old cells.old) × IsNodeAt t.reading (at.start + at.offset) }
-    requires node { node ≡ node_at nodes.old.slots (at.start + at.offset) }
+    requires stands { (t : SomeTable nodes.old cells.old) × IsNodeAt t.reading at }
+    requires node { node ≡ node_at nodes.old.slots at }
     requires there { is_set node.value_bitmap bit ≡ true }
     ensures node_blocks { SameBlocks nodes.old nodes.new }
     ensures cell_space { Grows cells.old cells.new 24 }
@@ -71,13 +71,13 @@ pub fn take_value<T: Drop, A: Allocator, V: Tick>(
         (values : List ℕ → ℕ → Option T) (p : List ℕ) (n : Node)
         → NodesHold node_sizes reading paths nodes.old
         → CellsHold cell_sizes reading values paths cells.old
-        → IsSlot reading p (at.start + at.offset) → reading p ≡ Some n
+        → IsSlot reading p at → reading p ≡ Some n
         → result.0 ≡ values p bit }
     ensures taken { (reading : List ℕ → Option Node) (paths : List (List ℕ))
         (values : List ℕ → ℕ → Option T) (p : List ℕ) (n : Node)
         → NodesHold node_sizes reading paths nodes.old
         → CellsHold cell_sizes reading values paths cells.old
-        → IsSlot reading p (at.start + at.offset) → reading p ≡ Some n
+        → IsSlot reading p at → reading p ≡ Some n
         → ValueTaken reading paths values p bit n result.1 nodes.new cells.old cells.new }
 {
     let (value, rest) = cells.remove_at(
@@ -200,15 +200,15 @@ pub fn drop_child<A: Allocator, V: Tick>(
     counter: &mut V,
 ) -> Node
     requires child { child < 32 }
-    requires stands { (n : SomeNodes nodes.old) × IsNodeAt n.reading (at.start + at.offset) }
-    requires there { is_set (node_at nodes.old.slots (at.start + at.offset)).child_bitmap child
+    requires stands { (n : SomeNodes nodes.old) × IsNodeAt n.reading at }
+    requires there { is_set (node_at nodes.old.slots at).child_bitmap child
         ≡ true }
     ensures space { Grows nodes.old nodes.new 24 }
     ensures last { rank_of result.child_bitmap 32 ≡ 0 → GivesBack nodes.old nodes.new }
     ensures dropped { (reading : List ℕ → Option Node) (paths : List (List ℕ)) (p : List ℕ)
         (n leaf : Node)
         → NodesHold node_sizes reading paths nodes.old
-        → IsSlot reading p (at.start + at.offset) → reading p ≡ Some n
+        → IsSlot reading p at → reading p ≡ Some n
         → reading (p ++ child ∷ []) ≡ Some leaf → rank_of leaf.child_bitmap 32 ≡ 0
         → ChildDropped reading paths p child n result nodes.old nodes.new }
 {

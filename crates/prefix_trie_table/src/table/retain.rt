@@ -13,10 +13,10 @@ ghost use Rattle.prefix_trie_table.specs.Retaining.{HasPlace, IsSite, PreservesB
 ghost use Rattle.prefix_trie_table.specs.Tables.{IsTrie};
 
 use crate::allocator::blocks::Cells;
-use crate::allocator::node::{Node, NodeSlot};
+use crate::allocator::node::{Node, NodeSlot, ROOT};
 use crate::allocator::nodes::{NodeAllocator, Tick};
 use crate::table::removal::{drop_child, is_bare, take_value};
-use prefix_trie_bits::node::{Place, Places, rank, string_of};
+use prefix_trie_bits::node::{Place, Places, string_of};
 use prefix_trie_bits::prefix::Key;
 use std::alloc::{AllocError, Allocator};
 
@@ -100,10 +100,7 @@ fn retain_value<K: Key, T: Drop, A: Allocator, V: Tick, F: Keep<K, T, V>>(
     ensures preserves { PreservesBelow (site.depth / 5) nodes.old nodes.new cells.old cells.new }
 {
     let (n, tail) = string_of(bit);
-    let Some(value) = cells
-        .at(node.value_block, rank(node.value_bitmap, bit))
-        .as_ref()
-    else {
+    let Some(value) = cells.at(node.value_seat(bit).slot).as_ref() else {
         unreachable!();
     };
     let key = site.key.extend(site.depth, n, tail);
@@ -148,10 +145,7 @@ fn retain_place<K: Key, T: Drop, A: Allocator, V: Tick, F: Keep<K, T, V>>(
     match place {
         Place::Value(bit) => retain_value(nodes, cells, entries, keep, site, node, bit, counter),
         Place::Child(child) => {
-            let slot = NodeSlot {
-                start: node.child_block,
-                offset: rank(node.child_bitmap, child),
-            };
+            let slot = node.child_slot(child);
             let below = Site {
                 slot,
                 key: site.key.extend(site.depth, 5, child),
@@ -219,11 +213,11 @@ pub fn retain_entries<K: Key, T: Drop, A: Allocator, V: Tick, F: Keep<K, T, V>>(
 {
     let mut keep = keep;
     let site = Site {
-        slot: NodeSlot::ROOT,
+        slot: ROOT,
         key: K::zero(),
         depth: 0,
     };
-    let root = nodes.visit(NodeSlot::ROOT, counter);
+    let root = nodes.visit(ROOT, counter);
     let places = Places::new(root.value_bitmap, root.child_bitmap);
     retain_places(
         nodes, cells, entries, &mut keep, site, root, places, counter,

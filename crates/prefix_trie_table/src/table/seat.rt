@@ -6,13 +6,12 @@ use crate::allocator::node::Node;
 use crate::table::lookup::Reached;
 use prefix_trie_bits::node::rank;
 
-/// Where a value is stored: the first slot of its block, and its offset in the block.
+/// Where a value is stored: the slot of its cell.
 ///
 /// It is right until the table changes.
 #[derive(Clone, Copy)]
 pub struct Seat {
-    pub(super) start: u32,
-    pub(super) offset: u32,
+    pub(super) slot: usize,
 }
 
 /// The deepest node on the search path of a bit string that has no value, as it was read.
@@ -40,8 +39,7 @@ impl Node {
         ensures { result ≡ seat_of_value self bit }
     {
         Seat {
-            start: self.value_block,
-            offset: rank(self.value_bitmap, bit),
+            slot: self.value_block as usize + rank(self.value_bitmap, bit) as usize,
         }
     }
 }

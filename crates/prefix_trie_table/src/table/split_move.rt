@@ -54,7 +54,7 @@ impl<K: Key, T: Drop, A: Allocator, V: Tick> Keep<K, T, V> for Seats<K, T, A, V>
         ) else {
             unreachable!();
         };
-        self.cells.put(seat.start, seat.offset, Some(value));
+        self.cells.put(seat.slot, Some(value));
     }
 }
 

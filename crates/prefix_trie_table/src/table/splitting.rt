@@ -12,7 +12,7 @@ ghost use Rattle.prefix_trie_table.specs.NodeArrays.{FitsByte};
 ghost use Rattle.prefix_trie_table.specs.Tables.{IsTrie};
 
 use crate::allocator::blocks::{self, Cells};
-use crate::allocator::node::{Node, NodeSlot};
+use crate::allocator::node::{Node, NodeSlot, ROOT};
 use crate::allocator::nodes::{NodeAllocator, Tick};
 use crate::table::removal::is_bare;
 use arrayvec::ArrayVec;
@@ -114,7 +114,7 @@ pub(super) fn lay_part<K: Key, T: Drop, A: Allocator + Clone, V: Tick>(
     let Ok(mut second_cells) = blocks::cells(cells.allocator(), cells.limit()) else {
         return Err(Refusal::Memory);
     };
-    let root = nodes.visit(NodeSlot::ROOT, counter);
+    let root = nodes.visit(ROOT, counter);
     let top = lay_node(
         nodes,
         root,
@@ -125,7 +125,7 @@ pub(super) fn lay_part<K: Key, T: Drop, A: Allocator + Clone, V: Tick>(
         counter,
     )?;
     if let Some(top) = top {
-        second_nodes.put(NodeSlot::ROOT, top);
+        second_nodes.put(ROOT, top);
     }
     Ok((second_nodes, second_cells))
 }

@@ -54,9 +54,9 @@ pub fn enter<A: Allocator, V: Tick>(
     depth: u32,
     counter: &mut V,
 ) -> Spot
-    requires stands { at.start + at.offset < length nodes.now.slots }
-    requires few { is_set (node_at nodes.now.slots (at.start + at.offset)).value_bitmap 31 ≡ false }
-    ensures node { result.node ≡ node_at nodes.now.slots (at.start + at.offset) }
+    requires stands { at < length nodes.now.slots }
+    requires few { is_set (node_at nodes.now.slots at).value_bitmap 31 ≡ false }
+    ensures node { result.node ≡ node_at nodes.now.slots at }
     ensures depth { result.depth ≡ depth }
     ensures places { to_come result.places ≡ places result.node.value_bitmap result.node.child_bitmap }
     ensures each { All (IsPlaceOf result.node) (to_come result.places) }
@@ -153,7 +153,7 @@ pub fn value_at<T: Drop, A: Allocator>(cells: &Cells<T, A>, seat: Seat) -> &T
     requires set { (v : T) × (slice_index_or cells.now.slots (slot_of seat) None ≡ Some v) }
     ensures { slice_index_or cells.now.slots (slot_of seat) None ≡ Some result.now }
 {
-    let Some(value) = cells.at(seat.start, seat.offset).as_ref() else {
+    let Some(value) = cells.at(seat.slot).as_ref() else {
         unreachable!();
     };
     value

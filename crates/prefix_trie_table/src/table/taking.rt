@@ -70,7 +70,7 @@ impl<K: Key, T: Drop, A: Allocator, V: Tick> IntoWalk<K, T, A, V> {
         ) else {
             return None;
         };
-        let Some(value) = self.cells.put(seat.start, seat.offset, None) else {
+        let Some(value) = self.cells.put(seat.slot, None) else {
             unreachable!();
         };
         Some((key, len, value))

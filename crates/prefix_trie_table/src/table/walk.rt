@@ -10,7 +10,7 @@ ghost use Rattle.prefix_trie_table.specs.Walking.Items.{GivesFilled, GivesOuterm
 ghost use Rattle.prefix_trie_table.specs.Walking.Walks.{Tree, ArePassed, EndsLast, IsStack, SkipsLast, pending, GivesSeat, ShapeOf, ShapeOf-prop};
 
 use crate::allocator::blocks::Cells;
-use crate::allocator::node::NodeSlot;
+use crate::allocator::node::ROOT;
 use crate::allocator::nodes::{NodeAllocator, Tick};
 use crate::table::seat::Seat;
 use crate::table::spot::{Spot, Step, enter, next_at, put_places, skip_below, value_at};
@@ -126,7 +126,7 @@ pub fn walk_of<'a, K: Key, T: Drop, A: Allocator, V: Tick>(
     ensures { (s : State T) → IsShapeOf nodes.now.slots cells.now.slots s → result ≡ listing s.entries }
 {
     let mut stack = ArrayVec::new();
-    stack.push(enter(nodes, NodeSlot::ROOT, 0, counter));
+    stack.push(enter(nodes, ROOT, 0, counter));
     Walk {
         arrays: Some((nodes, cells)),
         key: K::zero(),

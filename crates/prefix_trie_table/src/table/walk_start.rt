@@ -10,7 +10,7 @@ ghost use Rattle.prefix_trie_table.specs.Walking.Walks.{Tree, ArePassed, IsStack
 ghost use Rattle.prefix_trie_table.specs.Walking.Starts.{selected, behind, kept};
 
 use crate::allocator::blocks::Cells;
-use crate::allocator::node::NodeSlot;
+use crate::allocator::node::ROOT;
 use crate::allocator::nodes::{NodeAllocator, Tick};
 use crate::table::spot::{Spot, spot_in};
 use crate::table::walk::Walk;
@@ -71,7 +71,7 @@ pub(super) fn start_at<K: Key, T: Drop, A: Allocator, V: Tick>(
     let _ = key.is_key();
     let len = path.len();
     let mut stack = ArrayVec::new();
-    let mut node = nodes.visit(NodeSlot::ROOT, counter);
+    let mut node = nodes.visit(ROOT, counter);
     let mut depth = 0;
     let mut rest = path;
     while depth + 5 <= len {

@@ -65,7 +65,7 @@ loop-j-preserved g c =
             let descent : Descent = get_or c.loop-j.descents j (new_descent 0) in
             let node : Node = get_or c.args.read.now j blank_node in
             let has = c.look-best.ensures.found v on (descent_best v _ c.args.level descent (descent_is v _ c.args.level c.args.descents.now c.args.count c.args.read.now c.requires.count.0 given c.loop-j.descents j at.rest c.loop-j-test.true (new_descent 0)) q is) in
-            let next = subst (λ o. MatchOption o (IsLast q (reached_by descent node c.args.level) v) (λ at. IsAlong q (record { at = at; node = node_at v.slots (at.start + at.offset); level = c.args.level + 1 }) v)) w.in-Some.is (c.look-best.ensures.next v on) in
+            let next = subst (λ o. MatchOption o (IsLast q (reached_by descent node c.args.level) v) (λ at. IsAlong q (record { at = at; node = node_at v.slots at; level = c.args.level + 1 }) v)) w.in-Some.is (c.look-best.ensures.next v on) in
             round_on v _ c.args.level c.args.descents.now c.args.count c.args.read.now c.requires.count.0 given c.loop-j.descents j at.rest c.loop-j-test.true c.loop-j.kept c.args.found.now c.loop-j.found (at.go_on v given) (new_descent 0) c.match-next.descents c.match-next.kept c.match-next.found wide w.kept-is _ w.descents-is w.found-is refl
             (descent_next v _ c.args.level c.args.descents.now c.args.count c.args.read.now c.requires.count.0 given c.loop-j.descents j at.rest c.loop-j-test.true (new_descent 0) q is w.in-Some.at c.look-best.result.0 next has);
       }
@@ -77,7 +77,7 @@ loop-j-preserved g c =
             let descent : Descent = get_or c.loop-j.descents j (new_descent 0) in
             let node : Node = get_or c.args.read.now j blank_node in
             let has = c.look-best.ensures.found v on (descent_best v _ c.args.level descent (descent_is v _ c.args.level c.args.descents.now c.args.count c.args.read.now c.requires.count.0 given c.loop-j.descents j at.rest c.loop-j-test.true (new_descent 0)) q is) in
-            let next = subst (λ o. MatchOption o (IsLast q (reached_by descent node c.args.level) v) (λ at. IsAlong q (record { at = at; node = node_at v.slots (at.start + at.offset); level = c.args.level + 1 }) v)) w.in-None.is (c.look-best.ensures.next v on) in
+            let next = subst (λ o. MatchOption o (IsLast q (reached_by descent node c.args.level) v) (λ at. IsAlong q (record { at = at; node = node_at v.slots at; level = c.args.level + 1 }) v)) w.in-None.is (c.look-best.ensures.next v on) in
             round_end v _ c.args.level c.args.descents.now c.args.count c.args.read.now c.requires.count.0 given c.loop-j.descents j at.rest c.loop-j-test.true c.loop-j.kept c.args.found.now c.loop-j.found (at.go_on v given) (new_descent 0) c.match-next.descents c.match-next.kept c.match-next.found w.kept-is w.descents-is c.look-best.result.0 w.found-is
             (c.loop-j.auto.found ∙ c.requires.same_length ∙ sym (length-map c.args.prefixes.now g.P.Prefix.path)) q is (found_end q (reached_by descent node c.args.level) v next c.look-best.result.0 has)
             (λ n. path_end q (reached_by descent node c.args.level) v next n.reading n.paths n.hold);

@@ -10,7 +10,7 @@ use Rattle.prefix_trie_table.proofs.table.insertion.add_child.Goals as goal
 
 pub insert_blank-block-requires-clause-holds : goal.insert_blank-block-requires-clause-holds
 insert_blank-block-requires-clause-holds g c =
-    has_list c.args.nodes.now (c.args.at.start + c.args.at.offset) c.args.node.now c.count.result c.requires.stands c.requires.node
+    has_list c.args.nodes.now c.args.at c.args.node.now c.count.result c.requires.stands c.requires.node
     (c.count.ensures ∙ sym (rank-ones c.args.node.now.child_bitmap 32 (omega arith)))
 
 pub insert_blank-block-requires-clause-sizes : goal.insert_blank-block-requires-clause-sizes
@@ -42,7 +42,7 @@ with_bit-child_bitmap-requires-clause-clear g c = sym (has_bit-is c.args.node.no
 
 pub overflow_cast-block : goal.overflow_cast-block
 overflow_cast-block g c =
-    let h = has_list c.args.nodes.now (c.args.at.start + c.args.at.offset) c.args.node.now c.count.result c.requires.stands c.requires.node
+    let h = has_list c.args.nodes.now c.args.at c.args.node.now c.count.result c.requires.stands c.requires.node
     (c.count.ensures ∙ sym (rank-ones c.args.node.now.child_bitmap 32 (omega arith))) in
     let s = c.insert_blank-block.ensures.sound h.size h.items h.live h.sound h.is_count in
     let small : c.insert_blank-block.result.tier < 7 = tier_small blank_node _ h.live c.insert_blank-block.new.self node_sizes s
@@ -51,13 +51,13 @@ overflow_cast-block g c =
 
 pub put-requires : goal.put-requires
 put-requires g c =
-    let at = at_is c.args.nodes.now (c.args.at.start + c.args.at.offset) c.requires.stands in
-    let h = has_list c.args.nodes.now (c.args.at.start + c.args.at.offset) c.args.node.now c.count.result c.requires.stands c.requires.node
+    let at = at_is c.args.nodes.now c.args.at c.requires.stands in
+    let h = has_list c.args.nodes.now c.args.at c.args.node.now c.count.result c.requires.stands c.requires.node
     (c.count.ensures ∙ sym (rank-ones c.args.node.now.child_bitmap 32 (omega arith))) in
     let s = c.insert_blank-block.ensures.sound h.size h.items h.live h.sound h.is_count in
     let small : c.insert_blank-block.result.tier < 7 = tier_small blank_node _ h.live c.insert_blank-block.new.self node_sizes s
     (c.insert_blank-block.ensures.turnover.keeps.sizes ∙ c.requires.stands.0.hold.sizes_are) in
-    let fits = subst FitsByte (sym c.requires.node) (c.insert_blank-block.ensures.tiers (c.args.at.start + c.args.at.offset) at.1) in
+    let fits = subst FitsByte (sym c.requires.node) (c.insert_blank-block.ensures.tiers c.args.at at.1) in
     record {
       within = (let l = c.insert_blank-block.ensures.turnover.keeps.longer in omega (arith, at.1, l));
       tiers = record { value_tier = inl fits.value_tier; child_tier = inl (omega (arith, small)) };
@@ -65,7 +65,7 @@ put-requires g c =
 
 pub returns-clause-stays : goal.returns-clause-stays
 returns-clause-stays g c =
-    none_written c.args.nodes.now c.insert_blank-block.new.self _ (c.args.at.start + c.args.at.offset) _ (none_turned _ _ _ _ c.insert_blank-block.ensures.turnover) c.put.ensures.slots
+    none_written c.args.nodes.now c.insert_blank-block.new.self _ c.args.at _ (none_turned _ _ _ _ c.insert_blank-block.ensures.turnover) c.put.ensures.slots
 
 pub returns-clause-free : goal.returns-clause-free
 returns-clause-free g c = λ size.
@@ -83,7 +83,7 @@ returns-clause-added g c = λ reading paths p n hold stands is.
     let v = c.args.nodes.now in
     let tier = c.insert_blank-block.result.tier in
     let same : c.count.result ≡ rank c.args.node.now.child_bitmap 32 = c.count.ensures ∙ sym (rank-ones c.args.node.now.child_bitmap 32 (omega arith)) in
-    added c.args.nodes.now c.insert_blank-block.new.self c.put.new.self (c.args.at.start + c.args.at.offset) c.rank-offset.result c.args.child
+    added c.args.nodes.now c.insert_blank-block.new.self c.put.new.self c.args.at c.rank-offset.result c.args.child
     c.insert_blank-block.result.tier c.insert_blank-block.result.start c.with_bit-child_bitmap.result c.args.node.now _
     c.requires.node c.with_bit-child_bitmap.ensures.sets refl c.insert_blank-block.ensures.turnover.keeps
     (λ size xs live s count. c.insert_blank-block.ensures.sound size xs live s (count ∙ sym same))

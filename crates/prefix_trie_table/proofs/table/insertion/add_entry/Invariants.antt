@@ -4,8 +4,8 @@ use Rattle.prefix_trie_table.proofs.table.insertion.add_entry.Given as goal
 
 abbrev pub invariant-loop-level : goal.invariant-loop-level
 invariant-loop-level g l = record {
-  extended : IsExtended l.fn.path l.fn.nodes l.fn.cells l.rest l._level (l.at.start + l.at.offset) l.nodes;
-  blank : node_at l.nodes.slots (l.at.start + l.at.offset) ≡ blank_node;
+  extended : IsExtended l.fn.path l.fn.nodes l.fn.cells l.rest l._level l.at l.nodes;
+  blank : node_at l.nodes.slots l.at ≡ blank_node;
   enough : length l.fn.path / 5 - l._level ≤ free_in l.nodes.tiers 1;
   within : l._level ≤ length l.fn.path / 5;
   from : l.fn.reached.level < l._level;

@@ -11,11 +11,11 @@ use Rattle.prefix_trie_table.proofs.table.removal.drop_child.Given as given
 use Rattle.prefix_trie_table.proofs.table.removal.drop_child.Goals as goal
 
 pub visit-node-requires : goal.visit-node-requires
-visit-node-requires g c = (at_is c.args.nodes.now (c.args.at.start + c.args.at.offset) c.requires.stands).1
+visit-node-requires g c = (at_is c.args.nodes.now c.args.at c.requires.stands).1
 
 pub remove_at-rest-requires-clause-holds : goal.remove_at-rest-requires-clause-holds
 remove_at-rest-requires-clause-holds g c =
-    has_list c.args.nodes.now (c.args.at.start + c.args.at.offset) c.visit-node.result c.count.result c.requires.stands c.visit-node.ensures.node
+    has_list c.args.nodes.now c.args.at c.visit-node.result c.count.result c.requires.stands c.visit-node.ensures.node
     (c.count.ensures ∙ sym (rank-ones c.visit-node.result.child_bitmap 32 (omega arith)))
 
 pub remove_at-rest-requires-clause-sizes : goal.remove_at-rest-requires-clause-sizes
@@ -47,7 +47,7 @@ rank-requires g c = c.requires.child
 pub put-requires : goal.put-requires
 put-requires g c =
     record {
-      within = omega (arith, (at_is c.args.nodes.now (c.args.at.start + c.args.at.offset) c.requires.stands).1, c.remove_at-rest.ensures.loses.turnover.keeps.longer);
+      within = omega (arith, (at_is c.args.nodes.now c.args.at c.requires.stands).1, c.remove_at-rest.ensures.loses.turnover.keeps.longer);
       tiers = record {
         value_tier = inl c.visit-node.ensures.fits.value_tier;
         child_tier = inl (omega (arith, c.remove_at-rest.ensures.tier, tiers_long c.args.nodes.now.tiers node_sizes c.requires.stands.0.hold.sizes_are));
@@ -63,7 +63,7 @@ lost : (g : given.Over) (c : goal.After-put g) → Lost blank_node node_sizes c.
     c.remove_at-rest.result.tier c.remove_at-rest.result.start
 lost g c =
     let same : c.count.result ≡ rank c.visit-node.result.child_bitmap 32 = c.count.ensures ∙ sym (rank-ones c.visit-node.result.child_bitmap 32 (omega arith)) in
-    let list = has_list c.args.nodes.now (c.args.at.start + c.args.at.offset) c.visit-node.result c.count.result c.requires.stands c.visit-node.ensures.node same in
+    let list = has_list c.args.nodes.now c.args.at c.visit-node.result c.count.result c.requires.stands c.visit-node.ensures.node same in
     let left = c.remove_at-rest.ensures in
     lost_one blank_node c.args.nodes.now c.remove_at-rest.new.self c.visit-node.result.child_tier c.visit-node.result.child_block c.count.result c.rank.result
     c.remove_at-rest.result 32 c.requires.stands.0.hold.sizes_are refl node_spaces list
@@ -83,6 +83,6 @@ returns-clause-last g c = λ none.
 
 pub returns-clause-dropped : goal.returns-clause-dropped
 returns-clause-dropped g c =
-    children_dropped c.args.nodes.now c.remove_at-rest.new.self c.put.new.self (c.args.at.start + c.args.at.offset) c.args.child c.remove_at-rest.result.tier
+    children_dropped c.args.nodes.now c.remove_at-rest.new.self c.put.new.self c.args.at c.args.child c.remove_at-rest.result.tier
     c.remove_at-rest.result.start c.without_bit.result c.visit-node.result c.visit-node.ensures.node c.without_bit.ensures.clears (lost g c)
     c.requires.child c.put.ensures.slots

@@ -14,14 +14,14 @@ retain_place-retain_value-requires-clause-bit g t c =
     let place = c.requires.place in
     place-small place.string c.in-Value.bit place.short (sym c.in-Value.is ∙ place.is)
 
-pub retain_place-rank-requires : goal.retain_place-rank-requires
-retain_place-rank-requires g t c =
+pub retain_place-child_slot-slot-requires : goal.retain_place-child_slot-slot-requires
+retain_place-child_slot-slot-requires g t c =
     let place = c.requires.place in
     place-child-small place.string c.in-Child.child place.short (sym c.in-Child.is ∙ place.is)
 
 pub retain_place-extend-requires-clause-within : goal.retain_place-extend-requires-clause-within
 retain_place-extend-requires-clause-within g t c =
-    lower_fits g.K.Key.IsKey g.K.Key.bits g.K.Key.bit_width g.met.K.Key.key_laws.bits_length c.args.nodes.now c.args.site c.args.node c.requires.site c.args.entries.now c.args.cells.now c.requires.trie.0 c.requires.trie.1 c.requires.place c.in-Child.child c.in-Child.is c.rank.result c.rank.ensures
+    lower_fits g.K.Key.IsKey g.K.Key.bits g.K.Key.bit_width g.met.K.Key.key_laws.bits_length c.args.nodes.now c.args.site c.args.node c.requires.site c.args.entries.now c.args.cells.now c.requires.trie.0 c.requires.trie.1 c.requires.place c.in-Child.child c.in-Child.is c.child_slot-slot.result c.child_slot-slot.ensures
 
 pub retain_place-extend-requires-clause-fits : goal.retain_place-extend-requires-clause-fits
 retain_place-extend-requires-clause-fits g t c =
@@ -30,20 +30,20 @@ retain_place-extend-requires-clause-fits g t c =
 
 pub retain_place-visit-lower-requires : goal.retain_place-visit-lower-requires
 retain_place-visit-lower-requires g t c =
-    lower_inside g.K.Key.IsKey g.K.Key.bits g.K.Key.bit_width g.met.K.Key.key_laws.bits_length c.args.nodes.now c.args.site c.args.node c.requires.site c.args.entries.now c.args.cells.now c.requires.trie.0 c.requires.trie.1 c.requires.place c.in-Child.child c.in-Child.is c.rank.result c.rank.ensures
+    lower_inside g.K.Key.IsKey g.K.Key.bits g.K.Key.bit_width g.met.K.Key.key_laws.bits_length c.args.nodes.now c.args.site c.args.node c.requires.site c.args.entries.now c.args.cells.now c.requires.trie.0 c.requires.trie.1 c.requires.place c.in-Child.child c.in-Child.is c.child_slot-slot.result c.child_slot-slot.ensures
 
 pub retain_place-new-places-requires : goal.retain_place-new-places-requires
 retain_place-new-places-requires g t c =
-    clear-small c.visit-lower.result.value_bitmap (omega arith) (ap (λ n. has_bit n.value_bitmap 31) c.visit-lower.ensures.node ∙ lower_few g.K.Key.IsKey g.K.Key.bits g.K.Key.bit_width g.met.K.Key.key_laws.bits_length c.args.nodes.now c.args.site c.args.node c.requires.site c.args.entries.now c.args.cells.now c.requires.trie.0 c.requires.trie.1 c.requires.place c.in-Child.child c.in-Child.is c.rank.result c.rank.ensures)
+    clear-small c.visit-lower.result.value_bitmap (omega arith) (ap (λ n. has_bit n.value_bitmap 31) c.visit-lower.ensures.node ∙ lower_few g.K.Key.IsKey g.K.Key.bits g.K.Key.bit_width g.met.K.Key.key_laws.bits_length c.args.nodes.now c.args.site c.args.node c.requires.site c.args.entries.now c.args.cells.now c.requires.trie.0 c.requires.trie.1 c.requires.place c.in-Child.child c.in-Child.is c.child_slot-slot.result c.child_slot-slot.ensures)
 
 pub retain_place-retain_places-left-requires : goal.retain_place-retain_places-left-requires
 retain_place-retain_places-left-requires g t c κs within =
     let place = c.requires.place in
-    let fits = lower_fits g.K.Key.IsKey g.K.Key.bits g.K.Key.bit_width g.met.K.Key.key_laws.bits_length c.args.nodes.now c.args.site c.args.node c.requires.site c.args.entries.now c.args.cells.now c.requires.trie.0 c.requires.trie.1 c.requires.place c.in-Child.child c.in-Child.is c.rank.result c.rank.ensures in
-    let site = lower_site g.K.Key.IsKey g.K.Key.bits g.K.Key.bit_width g.met.K.Key.key_laws.bits_length c.args.nodes.now c.args.site c.args.node c.requires.site c.args.entries.now c.args.cells.now c.requires.trie.0 c.requires.trie.1 c.requires.place c.in-Child.child c.in-Child.is c.rank.result c.rank.ensures c.extend.result c.extend.ensures.key c.extend.ensures.value c.visit-lower.result c.visit-lower.ensures.node in
+    let fits = lower_fits g.K.Key.IsKey g.K.Key.bits g.K.Key.bit_width g.met.K.Key.key_laws.bits_length c.args.nodes.now c.args.site c.args.node c.requires.site c.args.entries.now c.args.cells.now c.requires.trie.0 c.requires.trie.1 c.requires.place c.in-Child.child c.in-Child.is c.child_slot-slot.result c.child_slot-slot.ensures in
+    let site = lower_site g.K.Key.IsKey g.K.Key.bits g.K.Key.bit_width g.met.K.Key.key_laws.bits_length c.args.nodes.now c.args.site c.args.node c.requires.site c.args.entries.now c.args.cells.now c.requires.trie.0 c.requires.trie.1 c.requires.place c.in-Child.child c.in-Child.is c.child_slot-slot.result c.child_slot-slot.ensures c.extend.result c.extend.ensures.key c.extend.ensures.value c.visit-lower.result c.visit-lower.ensures.node in
     let each : All (IsPlaceOf c.visit-lower.result) (to_come c.new-places.result) = All-weaker (Contains (to_come c.new-places.result)) (IsPlaceOf c.visit-lower.result) (λ u m. (c.new-places.ensures.each u).0 m) (to_come c.new-places.result) (All-contains_itself (to_come c.new-places.result)) in
     let may = λ (x : State g.row.T.Denot) (h : IsTrie g.K.Key.bit_width c.args.entries.now c.args.nodes.now c.args.cells.now x).
-    may_ask_lower g.K.Key.IsKey g.K.Key.bits g.K.Key.bit_width g.met.K.Key.key_laws.bits_length c.args.nodes.now c.args.site c.args.node c.requires.site c.args.entries.now c.args.cells.now x h c.requires.place c.in-Child.child c.in-Child.is c.rank.result c.rank.ensures c.extend.result c.extend.ensures.key c.extend.ensures.value c.visit-lower.result c.visit-lower.ensures.node g.F.Keep.asks g.F.Keep.accepts c.args.keep.now (to_come c.new-places.result) c.new-places.ensures.places (c.requires.may_ask place.string place.short place.is x h) in
+    may_ask_lower g.K.Key.IsKey g.K.Key.bits g.K.Key.bit_width g.met.K.Key.key_laws.bits_length c.args.nodes.now c.args.site c.args.node c.requires.site c.args.entries.now c.args.cells.now x h c.requires.place c.in-Child.child c.in-Child.is c.child_slot-slot.result c.child_slot-slot.ensures c.extend.result c.extend.ensures.key c.extend.ensures.value c.visit-lower.result c.visit-lower.ensures.node g.F.Keep.asks g.F.Keep.accepts c.args.keep.now (to_come c.new-places.result) c.new-places.ensures.places (c.requires.may_ask place.string place.short place.is x h) in
     (omega (arith, fits), (within.0, (within.1.0, (within.1.1.0, (within.1.1.1.0, (within.1.1.1.1, (c.requires.trie, (site, (each, may)))))))))
 
 pub retain_place-drop_child-requires : goal.retain_place-drop_child-requires
@@ -51,11 +51,11 @@ retain_place-drop_child-requires g t c =
     let place = c.requires.place in
     let long = g.met.K.Key.key_laws.bits_length c.args.site.key c.requires.site.key in
     let to = c.retain_places-left.ensures.retains c.requires.trie.0 c.requires.trie.1 in
-    let held = site_holds g.K.Key.IsKey g.K.Key.bits g.K.Key.bit_width c.retain_places-left.new.nodes c.args.site c.args.node (still_site g.K.Key.IsKey g.K.Key.bits g.K.Key.bit_width g.met.K.Key.key_laws.bits_length c.args.nodes.now c.args.site c.args.node c.requires.site c.args.entries.now c.args.cells.now c.requires.trie.0 c.requires.trie.1 c.requires.place c.in-Child.child c.in-Child.is c.rank.result c.rank.ensures c.extend.result c.extend.ensures.key c.extend.ensures.value c.visit-lower.result c.visit-lower.ensures.node g.F.Keep.asks g.F.Keep.accepts (to_come c.new-places.result) c.new-places.ensures.places c.new-places.ensures.each c.args.keep.now c.retain_places-left.new.keep c.retain_places-left.new.entries c.retain_places-left.new.nodes c.retain_places-left.new.cells (c.retain_places-left.ensures.retains c.requires.trie.0 c.requires.trie.1) c.retain_places-left.result c.retain_places-left.ensures.node c.retain_places-left.ensures.preserves) long c.retain_places-left.new.entries c.retain_places-left.new.cells to.after to.trie in
+    let held = site_holds g.K.Key.IsKey g.K.Key.bits g.K.Key.bit_width c.retain_places-left.new.nodes c.args.site c.args.node (still_site g.K.Key.IsKey g.K.Key.bits g.K.Key.bit_width g.met.K.Key.key_laws.bits_length c.args.nodes.now c.args.site c.args.node c.requires.site c.args.entries.now c.args.cells.now c.requires.trie.0 c.requires.trie.1 c.requires.place c.in-Child.child c.in-Child.is c.child_slot-slot.result c.child_slot-slot.ensures c.extend.result c.extend.ensures.key c.extend.ensures.value c.visit-lower.result c.visit-lower.ensures.node g.F.Keep.asks g.F.Keep.accepts (to_come c.new-places.result) c.new-places.ensures.places c.new-places.ensures.each c.args.keep.now c.retain_places-left.new.keep c.retain_places-left.new.entries c.retain_places-left.new.nodes c.retain_places-left.new.cells (c.retain_places-left.ensures.retains c.requires.trie.0 c.requires.trie.1) c.retain_places-left.result c.retain_places-left.ensures.node c.retain_places-left.ensures.preserves) long c.retain_places-left.new.entries c.retain_places-left.new.cells to.after to.trie in
     record {
       child = place-child-small place.string c.in-Child.child place.short (sym c.in-Child.is ∙ place.is);
-      stands = site_node g.K.Key.IsKey g.K.Key.bits g.K.Key.bit_width c.retain_places-left.new.nodes c.args.site c.args.node (still_site g.K.Key.IsKey g.K.Key.bits g.K.Key.bit_width g.met.K.Key.key_laws.bits_length c.args.nodes.now c.args.site c.args.node c.requires.site c.args.entries.now c.args.cells.now c.requires.trie.0 c.requires.trie.1 c.requires.place c.in-Child.child c.in-Child.is c.rank.result c.rank.ensures c.extend.result c.extend.ensures.key c.extend.ensures.value c.visit-lower.result c.visit-lower.ensures.node g.F.Keep.asks g.F.Keep.accepts (to_come c.new-places.result) c.new-places.ensures.places c.new-places.ensures.each c.args.keep.now c.retain_places-left.new.keep c.retain_places-left.new.entries c.retain_places-left.new.nodes c.retain_places-left.new.cells (c.retain_places-left.ensures.retains c.requires.trie.0 c.requires.trie.1) c.retain_places-left.result c.retain_places-left.ensures.node c.retain_places-left.ensures.preserves) long c.retain_places-left.new.entries c.retain_places-left.new.cells to.after to.trie;
-      there = ap (λ n. has_bit n.child_bitmap c.in-Child.child) held.0 ∙ child_there g.K.Key.IsKey g.K.Key.bits g.K.Key.bit_width g.met.K.Key.key_laws.bits_length c.args.nodes.now c.args.site c.args.node c.requires.site c.args.entries.now c.args.cells.now c.requires.trie.0 c.requires.trie.1 c.requires.place c.in-Child.child c.in-Child.is c.rank.result c.rank.ensures;
+      stands = site_node g.K.Key.IsKey g.K.Key.bits g.K.Key.bit_width c.retain_places-left.new.nodes c.args.site c.args.node (still_site g.K.Key.IsKey g.K.Key.bits g.K.Key.bit_width g.met.K.Key.key_laws.bits_length c.args.nodes.now c.args.site c.args.node c.requires.site c.args.entries.now c.args.cells.now c.requires.trie.0 c.requires.trie.1 c.requires.place c.in-Child.child c.in-Child.is c.child_slot-slot.result c.child_slot-slot.ensures c.extend.result c.extend.ensures.key c.extend.ensures.value c.visit-lower.result c.visit-lower.ensures.node g.F.Keep.asks g.F.Keep.accepts (to_come c.new-places.result) c.new-places.ensures.places c.new-places.ensures.each c.args.keep.now c.retain_places-left.new.keep c.retain_places-left.new.entries c.retain_places-left.new.nodes c.retain_places-left.new.cells (c.retain_places-left.ensures.retains c.requires.trie.0 c.requires.trie.1) c.retain_places-left.result c.retain_places-left.ensures.node c.retain_places-left.ensures.preserves) long c.retain_places-left.new.entries c.retain_places-left.new.cells to.after to.trie;
+      there = ap (λ n. has_bit n.child_bitmap c.in-Child.child) held.0 ∙ child_there g.K.Key.IsKey g.K.Key.bits g.K.Key.bit_width g.met.K.Key.key_laws.bits_length c.args.nodes.now c.args.site c.args.node c.requires.site c.args.entries.now c.args.cells.now c.requires.trie.0 c.requires.trie.1 c.requires.place c.in-Child.child c.in-Child.is c.child_slot-slot.result c.child_slot-slot.ensures;
     }
 
 pub retain_place-returns-in-Value : goal.retain_place-returns-in-Value
@@ -72,30 +72,30 @@ retain_place-returns-then-is_bare-clause-retains g t c = λ u few is x h.
     let place = c.requires.place in
     subst (λ r. RetainsTo g.F.Keep.asks g.F.Keep.accepts g.K.Key.bit_width (take c.args.site.depth (g.K.Key.bits c.args.site.key)) (r ∷ []) c.args.keep.now x c.retain_places-left.new.keep c.retain_places-left.new.entries c.drop_child.new.nodes c.retain_places-left.new.cells)
     (same_place place.string u place.short few (sym place.is ∙ is))
-    (child_goes g.K.Key.IsKey g.K.Key.bits g.K.Key.bit_width g.met.K.Key.key_laws.bits_length c.args.nodes.now c.args.site c.args.node c.requires.site c.args.entries.now c.args.cells.now x h c.requires.place c.in-Child.child c.in-Child.is c.rank.result c.rank.ensures c.extend.result c.extend.ensures.key c.extend.ensures.value c.visit-lower.result c.visit-lower.ensures.node g.F.Keep.asks g.F.Keep.accepts (to_come c.new-places.result) c.new-places.ensures.places c.new-places.ensures.each c.args.keep.now c.retain_places-left.new.keep c.retain_places-left.new.entries c.retain_places-left.new.nodes c.retain_places-left.new.cells (c.retain_places-left.ensures.retains x h) c.retain_places-left.result c.retain_places-left.ensures.node c.retain_places-left.ensures.preserves (c.is_bare.ensures.bare c.if-is_bare.true) c.drop_child.result c.drop_child.new.nodes c.drop_child.ensures.dropped c.drop_child.ensures.space)
+    (child_goes g.K.Key.IsKey g.K.Key.bits g.K.Key.bit_width g.met.K.Key.key_laws.bits_length c.args.nodes.now c.args.site c.args.node c.requires.site c.args.entries.now c.args.cells.now x h c.requires.place c.in-Child.child c.in-Child.is c.child_slot-slot.result c.child_slot-slot.ensures c.extend.result c.extend.ensures.key c.extend.ensures.value c.visit-lower.result c.visit-lower.ensures.node g.F.Keep.asks g.F.Keep.accepts (to_come c.new-places.result) c.new-places.ensures.places c.new-places.ensures.each c.args.keep.now c.retain_places-left.new.keep c.retain_places-left.new.entries c.retain_places-left.new.nodes c.retain_places-left.new.cells (c.retain_places-left.ensures.retains x h) c.retain_places-left.result c.retain_places-left.ensures.node c.retain_places-left.ensures.preserves (c.is_bare.ensures.bare c.if-is_bare.true) c.drop_child.result c.drop_child.new.nodes c.drop_child.ensures.dropped c.drop_child.ensures.space)
 
 pub retain_place-returns-then-is_bare-clause-node : goal.retain_place-returns-then-is_bare-clause-node
 retain_place-returns-then-is_bare-clause-node g t c =
-    site3 g.K.Key.IsKey g.K.Key.bits g.K.Key.bit_width g.met.K.Key.key_laws.bits_length c.args.nodes.now c.args.site c.args.node c.requires.site c.args.entries.now c.args.cells.now c.requires.trie.0 c.requires.trie.1 c.requires.place c.in-Child.child c.in-Child.is c.rank.result c.rank.ensures c.extend.result c.extend.ensures.key c.extend.ensures.value c.visit-lower.result c.visit-lower.ensures.node g.F.Keep.asks g.F.Keep.accepts (to_come c.new-places.result) c.new-places.ensures.places c.new-places.ensures.each c.args.keep.now c.retain_places-left.new.keep c.retain_places-left.new.entries c.retain_places-left.new.nodes c.retain_places-left.new.cells (c.retain_places-left.ensures.retains c.requires.trie.0 c.requires.trie.1) c.retain_places-left.result c.retain_places-left.ensures.node c.retain_places-left.ensures.preserves (c.is_bare.ensures.bare c.if-is_bare.true) c.drop_child.result c.drop_child.new.nodes c.drop_child.ensures.dropped c.drop_child.ensures.space
+    site3 g.K.Key.IsKey g.K.Key.bits g.K.Key.bit_width g.met.K.Key.key_laws.bits_length c.args.nodes.now c.args.site c.args.node c.requires.site c.args.entries.now c.args.cells.now c.requires.trie.0 c.requires.trie.1 c.requires.place c.in-Child.child c.in-Child.is c.child_slot-slot.result c.child_slot-slot.ensures c.extend.result c.extend.ensures.key c.extend.ensures.value c.visit-lower.result c.visit-lower.ensures.node g.F.Keep.asks g.F.Keep.accepts (to_come c.new-places.result) c.new-places.ensures.places c.new-places.ensures.each c.args.keep.now c.retain_places-left.new.keep c.retain_places-left.new.entries c.retain_places-left.new.nodes c.retain_places-left.new.cells (c.retain_places-left.ensures.retains c.requires.trie.0 c.requires.trie.1) c.retain_places-left.result c.retain_places-left.ensures.node c.retain_places-left.ensures.preserves (c.is_bare.ensures.bare c.if-is_bare.true) c.drop_child.result c.drop_child.new.nodes c.drop_child.ensures.dropped c.drop_child.ensures.space
 
 pub retain_place-returns-then-is_bare-clause-preserves : goal.retain_place-returns-then-is_bare-clause-preserves
 retain_place-returns-then-is_bare-clause-preserves g t c =
-    lasts3 g.K.Key.IsKey g.K.Key.bits g.K.Key.bit_width g.met.K.Key.key_laws.bits_length c.args.nodes.now c.args.site c.args.node c.requires.site c.args.entries.now c.args.cells.now c.requires.trie.0 c.requires.trie.1 c.requires.place c.in-Child.child c.in-Child.is c.rank.result c.rank.ensures c.extend.result c.extend.ensures.key c.extend.ensures.value c.visit-lower.result c.visit-lower.ensures.node g.F.Keep.asks g.F.Keep.accepts (to_come c.new-places.result) c.new-places.ensures.places c.new-places.ensures.each c.args.keep.now c.retain_places-left.new.keep c.retain_places-left.new.entries c.retain_places-left.new.nodes c.retain_places-left.new.cells (c.retain_places-left.ensures.retains c.requires.trie.0 c.requires.trie.1) c.retain_places-left.result c.retain_places-left.ensures.node c.retain_places-left.ensures.preserves (c.is_bare.ensures.bare c.if-is_bare.true) c.drop_child.result c.drop_child.new.nodes c.drop_child.ensures.dropped c.drop_child.ensures.space
+    lasts3 g.K.Key.IsKey g.K.Key.bits g.K.Key.bit_width g.met.K.Key.key_laws.bits_length c.args.nodes.now c.args.site c.args.node c.requires.site c.args.entries.now c.args.cells.now c.requires.trie.0 c.requires.trie.1 c.requires.place c.in-Child.child c.in-Child.is c.child_slot-slot.result c.child_slot-slot.ensures c.extend.result c.extend.ensures.key c.extend.ensures.value c.visit-lower.result c.visit-lower.ensures.node g.F.Keep.asks g.F.Keep.accepts (to_come c.new-places.result) c.new-places.ensures.places c.new-places.ensures.each c.args.keep.now c.retain_places-left.new.keep c.retain_places-left.new.entries c.retain_places-left.new.nodes c.retain_places-left.new.cells (c.retain_places-left.ensures.retains c.requires.trie.0 c.requires.trie.1) c.retain_places-left.result c.retain_places-left.ensures.node c.retain_places-left.ensures.preserves (c.is_bare.ensures.bare c.if-is_bare.true) c.drop_child.result c.drop_child.new.nodes c.drop_child.ensures.dropped c.drop_child.ensures.space
 
 pub retain_place-returns-else-is_bare-clause-retains : goal.retain_place-returns-else-is_bare-clause-retains
 retain_place-returns-else-is_bare-clause-retains g t c = λ u few is x h.
     let place = c.requires.place in
     subst (λ r. RetainsTo g.F.Keep.asks g.F.Keep.accepts g.K.Key.bit_width (take c.args.site.depth (g.K.Key.bits c.args.site.key)) (r ∷ []) c.args.keep.now x c.retain_places-left.new.keep c.retain_places-left.new.entries c.retain_places-left.new.nodes c.retain_places-left.new.cells)
     (same_place place.string u place.short few (sym place.is ∙ is))
-    (child_stays g.K.Key.IsKey g.K.Key.bits g.K.Key.bit_width g.met.K.Key.key_laws.bits_length c.args.nodes.now c.args.site c.args.node c.requires.site c.args.entries.now c.args.cells.now x h c.requires.place c.in-Child.child c.in-Child.is c.rank.result c.rank.ensures c.extend.result c.extend.ensures.key c.extend.ensures.value c.visit-lower.result c.visit-lower.ensures.node g.F.Keep.asks g.F.Keep.accepts (to_come c.new-places.result) c.new-places.ensures.places c.new-places.ensures.each c.args.keep.now c.retain_places-left.new.keep c.retain_places-left.new.entries c.retain_places-left.new.nodes c.retain_places-left.new.cells (c.retain_places-left.ensures.retains x h) c.retain_places-left.result c.retain_places-left.ensures.node c.retain_places-left.ensures.preserves (c.is_bare.ensures.stocked c.if-is_bare.false))
+    (child_stays g.K.Key.IsKey g.K.Key.bits g.K.Key.bit_width g.met.K.Key.key_laws.bits_length c.args.nodes.now c.args.site c.args.node c.requires.site c.args.entries.now c.args.cells.now x h c.requires.place c.in-Child.child c.in-Child.is c.child_slot-slot.result c.child_slot-slot.ensures c.extend.result c.extend.ensures.key c.extend.ensures.value c.visit-lower.result c.visit-lower.ensures.node g.F.Keep.asks g.F.Keep.accepts (to_come c.new-places.result) c.new-places.ensures.places c.new-places.ensures.each c.args.keep.now c.retain_places-left.new.keep c.retain_places-left.new.entries c.retain_places-left.new.nodes c.retain_places-left.new.cells (c.retain_places-left.ensures.retains x h) c.retain_places-left.result c.retain_places-left.ensures.node c.retain_places-left.ensures.preserves (c.is_bare.ensures.stocked c.if-is_bare.false))
 
 pub retain_place-returns-else-is_bare-clause-node : goal.retain_place-returns-else-is_bare-clause-node
 retain_place-returns-else-is_bare-clause-node g t c =
-    still_site g.K.Key.IsKey g.K.Key.bits g.K.Key.bit_width g.met.K.Key.key_laws.bits_length c.args.nodes.now c.args.site c.args.node c.requires.site c.args.entries.now c.args.cells.now c.requires.trie.0 c.requires.trie.1 c.requires.place c.in-Child.child c.in-Child.is c.rank.result c.rank.ensures c.extend.result c.extend.ensures.key c.extend.ensures.value c.visit-lower.result c.visit-lower.ensures.node g.F.Keep.asks g.F.Keep.accepts (to_come c.new-places.result) c.new-places.ensures.places c.new-places.ensures.each c.args.keep.now c.retain_places-left.new.keep c.retain_places-left.new.entries c.retain_places-left.new.nodes c.retain_places-left.new.cells (c.retain_places-left.ensures.retains c.requires.trie.0 c.requires.trie.1) c.retain_places-left.result c.retain_places-left.ensures.node c.retain_places-left.ensures.preserves
+    still_site g.K.Key.IsKey g.K.Key.bits g.K.Key.bit_width g.met.K.Key.key_laws.bits_length c.args.nodes.now c.args.site c.args.node c.requires.site c.args.entries.now c.args.cells.now c.requires.trie.0 c.requires.trie.1 c.requires.place c.in-Child.child c.in-Child.is c.child_slot-slot.result c.child_slot-slot.ensures c.extend.result c.extend.ensures.key c.extend.ensures.value c.visit-lower.result c.visit-lower.ensures.node g.F.Keep.asks g.F.Keep.accepts (to_come c.new-places.result) c.new-places.ensures.places c.new-places.ensures.each c.args.keep.now c.retain_places-left.new.keep c.retain_places-left.new.entries c.retain_places-left.new.nodes c.retain_places-left.new.cells (c.retain_places-left.ensures.retains c.requires.trie.0 c.requires.trie.1) c.retain_places-left.result c.retain_places-left.ensures.node c.retain_places-left.ensures.preserves
 
 pub retain_place-returns-else-is_bare-clause-preserves : goal.retain_place-returns-else-is_bare-clause-preserves
 retain_place-returns-else-is_bare-clause-preserves g t c =
-    still_preserved g.K.Key.IsKey g.K.Key.bits g.K.Key.bit_width g.met.K.Key.key_laws.bits_length c.args.nodes.now c.args.site c.args.node c.requires.site c.args.entries.now c.args.cells.now c.requires.trie.0 c.requires.trie.1 c.requires.place c.in-Child.child c.in-Child.is c.rank.result c.rank.ensures c.extend.result c.extend.ensures.key c.extend.ensures.value c.visit-lower.result c.visit-lower.ensures.node g.F.Keep.asks g.F.Keep.accepts (to_come c.new-places.result) c.new-places.ensures.places c.new-places.ensures.each c.args.keep.now c.retain_places-left.new.keep c.retain_places-left.new.entries c.retain_places-left.new.nodes c.retain_places-left.new.cells (c.retain_places-left.ensures.retains c.requires.trie.0 c.requires.trie.1) c.retain_places-left.result c.retain_places-left.ensures.node c.retain_places-left.ensures.preserves
+    still_preserved g.K.Key.IsKey g.K.Key.bits g.K.Key.bit_width g.met.K.Key.key_laws.bits_length c.args.nodes.now c.args.site c.args.node c.requires.site c.args.entries.now c.args.cells.now c.requires.trie.0 c.requires.trie.1 c.requires.place c.in-Child.child c.in-Child.is c.child_slot-slot.result c.child_slot-slot.ensures c.extend.result c.extend.ensures.key c.extend.ensures.value c.visit-lower.result c.visit-lower.ensures.node g.F.Keep.asks g.F.Keep.accepts (to_come c.new-places.result) c.new-places.ensures.places c.new-places.ensures.each c.args.keep.now c.retain_places-left.new.keep c.retain_places-left.new.entries c.retain_places-left.new.nodes c.retain_places-left.new.cells (c.retain_places-left.ensures.retains c.requires.trie.0 c.requires.trie.1) c.retain_places-left.result c.retain_places-left.ensures.node c.retain_places-left.ensures.preserves
 
 pub retain_places-loop-place-init : goal.retain_places-loop-place-init
 retain_places-loop-place-init g t c = record {

@@ -1,4 +1,4 @@
-use Rattle.prefix_trie_table.proofs.Prelude.{◌∷◌, ◌+◌, set, refl, subst, Sound, with_slot}
+use Rattle.prefix_trie_table.proofs.Prelude.{◌∷◌, set, refl, sym, subst, Sound, with_slot}
 use Rattle.prefix_trie_table.proofs.Blocks.Soundness.{Sound-set}
 use Rattle.prefix_trie_table.proofs.allocator.blocks.Blocks+S+Vec+S+A+A.at_mut.Goals as goal
 
@@ -9,8 +9,8 @@ returns g c =
       record {
         writes_back = tt;
         slot = rw (← c.self.view_is) c.index_mut.ensures.value;
-        sound = λ value b live s starts within.
-            subst (λ n. Sound g.S.Slot.vacant (record b { items = set b.items c.args.offset value } ∷ live) (with_slot v (n + c.args.offset) value)) starts
-            (Sound-set g.S.Slot.vacant b live v c.args.offset value within s);
+        sound = λ value b live offset s is within.
+            subst (λ n. Sound g.S.Slot.vacant (record b { items = set b.items offset value } ∷ live) (with_slot v n value)) (sym is)
+            (Sound-set g.S.Slot.vacant b live v offset value within s);
       },
     )
