@@ -3,7 +3,7 @@
 use Rattle.prefix_trie.proofs.Prelude.{◌≡◌, ℕ, Bool, true, false, cond, T, List, [], ◌∷◌, Some, refl, sym, ap, ◌∙◌, entries_sorted, get, get-entries, is_sorted, find, All-head, All-tail, All-same, PrefixLaws, listing_cmp, same_string, Entries, with_entry, listing, prefix_pairs, get-with_entry, same_string-is, sorted-tail, JoinLaws, join_all, joined_by, with_value, listed_fit, listed_paths}
 use lib.Dec.{T as IsT}
 use Rattle.std.specs.List.{All}
-use Rattle.prefix_trie.proofs.Putting.{fit_in_turn, not_behind}
+use Rattle.prefix_trie.proofs.Putting.{fit_in_order, not_behind}
 
 module _ {P T : Type 0} (join : T → T → T) (path : P → List Bool) (back : List Bool → P) where
   -- joining pairs in order joins the value of each key to its value among the pairs
@@ -27,9 +27,9 @@ pub join_laws : {K P : Type 0} {w : ℕ} {IsKey : K → Type 0} {bits : K → Li
 join_laws {path = path} {IsFitting = IsFitting} {back = back} laws T = record {
   starts = λ join from to within walk gives.
       (All-same (λ e. IsFitting e.0) walk (prefix_pairs back (listing from)) gives (listed_fit laws from within), ap (λ xs. join_all join path xs to) gives);
-  next_fits = λ join now whole item rest left first joins. (fit_in_turn IsFitting first joins.0).0;
+  next_fits = λ join now whole item rest left first joins. (fit_in_order IsFitting first joins.0).0;
   goes_on = λ join now next whole item rest left first put joins. (
-    (fit_in_turn IsFitting first joins.0).1,
+    (fit_in_order IsFitting first joins.0).1,
     ap (join_all join path rest) put ∙ ap (λ xs. join_all join path xs now) (sym first) ∙ joins.1,
   );
   joined = λ join from to within s.

@@ -37,30 +37,37 @@ pub use Rattle.prefix_trie_bits.proofs.Model.Runs.{run_of_stored}
 pub use Rattle.prefix_trie_bits.proofs.Model.Steps.{stays_map, stays_tidy, step_laws}
 pub use Rattle.prefix_trie_bits.specs.Begins.{begins-from-masked, begins-from-take, begins-length, begins-linear, begins-longer, begins-take, begins-trans, leb-past, length-first, masked-from-begins, same_bool, take-begins}
 pub use Rattle.prefix_trie_bits.specs.BitStrings.{bits-length, digits-keep, kept_of_none, length-digits, number-bits, number_of_digits, take-digits}
-pub use Rattle.prefix_trie_bits.specs.Bits.{begins, digits, number, zeros}
-pub use Rattle.prefix_trie_bits.specs.Keys.{PrefixLaws, fits_back, len_back, narrow_width, path_back, path_length, path_within}
+pub use Rattle.prefix_trie_bits.specs.Model.Bits.{begins, digits, number, zeros}
+pub use Rattle.prefix_trie_bits.specs.Model.Keys.{PrefixLaws}
+pub use Rattle.prefix_trie_bits.specs.Keys.{fits_back, len_back, narrow_width, path_back, path_length, path_within}
 pub use Rattle.prefix_trie_bits.specs.Laws.Nodes.{NodeLaws}
 pub use Rattle.prefix_trie_bits.specs.Laws.Pruning.{PruningLaws}
 pub use Rattle.prefix_trie_bits.specs.Laws.Steps.{IsMap}
-pub use Rattle.prefix_trie_bits.specs.Model.Retaining.{RetainsEntries, CallableOnEachEntry}
+pub use Rattle.prefix_trie_bits.specs.Calls.Retaining.{RetainsEntries, CallableOnEachEntry, RetainsInStorage}
 pub use Rattle.prefix_trie_bits.specs.Model.Counted.{CountedFrom, CountedRun}
-pub use Rattle.prefix_trie_bits.specs.Model.Entries.{AreWithin, Entries, no_entries, put_all, with_entry, without_entry}
-pub use Rattle.prefix_trie_bits.specs.Model.SplitsOff.{SplitsOffInStorage}
-pub use Rattle.prefix_trie_bits.specs.Model.Matches.{IsLongestMatch, shortest_match, prefix_pair}
-pub use Rattle.prefix_trie_bits.specs.Model.Nodes.{AreNodes, IsTidy, Nodes, needed, nodes_without, with_needed}
+pub use Rattle.prefix_trie_bits.specs.Calls.Entries.{AreWithin, put_all}
+pub use Rattle.prefix_trie_bits.specs.Model.Entries.{Entries, no_entries, with_entry, without_entry}
+pub use Rattle.prefix_trie_bits.specs.Calls.SplitsOff.{SplitsOffInStorage}
+pub use Rattle.prefix_trie_bits.specs.Calls.Matches.{IsLongestMatch}
+pub use Rattle.prefix_trie_bits.specs.Model.Matches.{shortest_match, prefix_pair}
+pub use Rattle.prefix_trie_bits.specs.Calls.Nodes.{AreNodes}
+pub use Rattle.prefix_trie_bits.specs.Model.Nodes.{IsTidy, Nodes, needed, nodes_without, with_needed}
 pub use Rattle.prefix_trie_bits.specs.Model.Space.{LeavesSpace}
 pub use Rattle.prefix_trie_bits.specs.Model.Selections.{listing, listing_after, listing_below, listing_from, prefix_pairs}
 pub use Rattle.prefix_trie_bits.specs.Model.Step.{Call, Clear, Count, Done, Insert, Lpm, Match, NodeCount, Remove, RemoveChildren, RemoveKeepTree, Reply, State, Step, Value}
-pub use Rattle.prefix_trie_bits.specs.Model.Storage.{RetainsInStorage, StepByPath, StepInStorage, Storage}
+pub use Rattle.prefix_trie_bits.specs.Calls.Storage.{StepByPath}
+pub use Rattle.prefix_trie_bits.specs.Model.Storage.{StepInStorage, Storage}
 pub use Rattle.prefix_trie_bits.specs.Model.Visits.{ReadsExactly, visits}
-pub use Rattle.prefix_trie_bits.specs.Order.{listing_cmp, listing_total, same_string}
+pub use Rattle.prefix_trie_bits.specs.Model.Order.{listing_cmp, same_string}
+pub use Rattle.prefix_trie_bits.specs.Order.{listing_total}
 pub use Rattle.prefix_trie_bits.specs.declared.prefix.Refusal.TheVariants.{IndexRange, Memory}
 pub use Rattle.prefix_trie_bits.specs.declared.prefix.Refused.{Refused}
 pub use Rattle.prefix_trie_table.proofs.Blocks.Tilings.{All-append_right}
 pub use Rattle.prefix_trie_table.proofs.Tree.Trees.{is_none-None}
 pub use Rattle.prefix_trie_table.proofs.Walk.KeySets.{bare, sorted_mapped}
 pub use Rattle.prefix_trie_table.specs.Copies.{AreCloned}
-pub use Rattle.prefix_trie_table.specs.Shape.{Contents, with_value_at}
+pub use Rattle.prefix_trie_table.specs.Model.Contents.{Contents}
+pub use Rattle.prefix_trie_table.specs.Shape.{with_value_at}
 pub use Rattle.prefix_trie_map.proofs.Listed.{listed_fit, listed_paths, may_ask_stored}
 pub use Rattle.prefix_trie_map.proofs.Placing.{entry_twice}
 pub use Rattle.prefix_trie_map.proofs.Resumed.{resume_laws}
@@ -84,7 +91,7 @@ pub use Rattle.prefix_trie.specs.Laws.Paging.{PageLaws}
 pub use Rattle.prefix_trie.specs.Laws.Paths.{PathLaws}
 pub use Rattle.prefix_trie.specs.Laws.Putting.{Leads, PutLaws}
 pub use Rattle.prefix_trie.specs.Laws.Stored.{StoredLaws}
-pub use Rattle.prefix_trie.specs.Replay.{IsFittingCall, call_of, calls_of, replies_of, reply_of}
+pub use Rattle.prefix_trie.specs.Model.Replay.{IsFittingCall, call_of, calls_of, replies_of, reply_of}
 pub use Rattle.prefix_trie.specs.Rewriting.{AreOrdered, OrderedIn, Rewrites, RewritesIn, is_left, keyed}
-pub use Rattle.prefix_trie.specs.Sets.{AsksKeyAt, TakesKeyAt, as_item, same_keys, same_parts}
+pub use Rattle.prefix_trie.specs.Sets.{CalledAtKey, TakesKey, as_item, same_keys, same_parts}
 pub use Rattle.prefix_trie.specs.Words.{Joins, covers, ipv4_address, ipv4_back, longest_match}

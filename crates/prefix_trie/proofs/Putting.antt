@@ -6,20 +6,20 @@ use Rattle.std.specs.List.{All}
 use Rattle.prefix_trie.proofs.Stored.{stored_laws}
 
 -- if all prefixes of a list fit, the first one does and the others do
-pub fit_in_turn : {P T : Type 0} (IsFitting : P → Type 0) {item : P × T} {rest left : List (P × T)} → left ≡ item ∷ rest → All (λ e. IsFitting e.0) left → IsFitting item.0 × All (λ e. IsFitting e.0) rest
-fit_in_turn IsFitting {item = item} {rest = rest} {left = left} first fit =
+pub fit_in_order : {P T : Type 0} (IsFitting : P → Type 0) {item : P × T} {rest left : List (P × T)} → left ≡ item ∷ rest → All (λ e. IsFitting e.0) left → IsFitting item.0 × All (λ e. IsFitting e.0) rest
+fit_in_order IsFitting {item = item} {rest = rest} {left = left} first fit =
     let both = All-same (λ e. IsFitting e.0) (item ∷ rest) left (sym first) fit in
     (All-head (λ e. IsFitting e.0) item rest both, All-tail (λ e. IsFitting e.0) item rest both)
 
 module _ {P T : Type 0} (path : P → List Bool) (IsFitting : P → Type 0) where
   -- the prefix to insert next fits
   pub next_fits : (now : Entries T) {item : P × T} {rest left : List (P × T)} {whole : Entries T} → left ≡ item ∷ rest → Leads path IsFitting left now whole → IsFitting item.0
-  next_fits now first leads = (fit_in_turn IsFitting first leads.0).0
+  next_fits now first leads = (fit_in_order IsFitting first leads.0).0
 
   -- after it is inserted, the rest still leads to the whole
   pub leads_on : (now : Entries T) {item : P × T} {rest left : List (P × T)} {then whole : Entries T} → left ≡ item ∷ rest → then ≡ with_entry now (path item.0) item.1 → Leads path IsFitting left now whole → Leads path IsFitting rest then whole
   leads_on now {rest = rest} first put leads =
-      ((fit_in_turn IsFitting first leads.0).1, ap (put_all path rest) put ∙ ap (λ xs. put_all path xs now) (sym first) ∙ leads.1)
+      ((fit_in_order IsFitting first leads.0).1, ap (put_all path rest) put ∙ ap (λ xs. put_all path xs now) (sym first) ∙ leads.1)
 
 module _ {P T : Type 0} (path : P → List Bool) (back : List Bool → P) where
   -- a string that is first in a sorted list is not found after it

@@ -1,6 +1,6 @@
 -- Addresses and networks as strings of bits, for the contracts of callers. This project's own.
 use Rattle.std.specs.Prelude.{ℕ, Bool, List}
-use Rattle.prefix_trie_bits.specs.Bits.{digits}
+use Rattle.prefix_trie_bits.specs.Model.Bits.{digits}
 use Rattle.prefix_trie_bits.specs.Networks.{network_path, network_back}
 
 -- the bits of an IPv4 address

@@ -7,31 +7,32 @@ use Rattle.std.specs.Fn.{Mut, Takes, Called}
 use Rattle.std.specs.Cmp.{IsEquivalence, on_equiv, eq_by_cmp_equiv}
 use Rattle.std.specs.Cmp.Lexicographic.{pointwise, lists_equiv}
 use Rattle.std.specs.Ordering.{on}
-use Rattle.prefix_trie_bits.specs.Order.{listing_total, same_string}
+use Rattle.prefix_trie_bits.specs.Order.{listing_total}
+use Rattle.prefix_trie_bits.specs.Model.Order.{same_string}
 use Rattle.prefix_trie_bits.specs.declared.prefix.Refusal.{Refusal}
 use Rattle.prefix_trie_bits.specs.Model.Entries.{Entries}
 use Rattle.prefix_trie_bits.specs.Model.Selections.{listing}
 use Rattle.prefix_trie_bits.specs.Model.Step.{Reply, Value, Refused}
 
 -- the reply to a removal: a unit if the key was in the set
-abbrev pub taken_out : {P : Type 0} → Bool → Reply P (Unit {0})
-taken_out was_in = Value (then_some was_in tt)
+abbrev pub set_remove_reply : {P : Type 0} → Bool → Reply P (Unit {0})
+set_remove_reply was_in = Value (then_some was_in tt)
 
 -- the reply to an insertion, which returns whether the key is new
-abbrev pub put_in : {P : Type 0} → Result Bool Refusal → Reply P (Unit {0})
-put_in (Ok is_new) = Value (then_some (not is_new) tt)
-put_in (Err cause) = Refused cause
+abbrev pub set_insert_reply : {P : Type 0} → Result Bool Refusal → Reply P (Unit {0})
+set_insert_reply (Ok is_new) = Value (then_some (not is_new) tt)
+set_insert_reply (Err cause) = Refused cause
 
 module _ {F P : Type 0} (g : Mut F (Bor P × Unit {0}) Bool) (back : List Bool → P) where
   -- a call of f on the prefix with the path k can return b and leave f as f'
-  pub record AsksKeyAt (f : F) (k : List Bool) (v : Unit {0}) (b : Bool) (f' : F) : Type 0 where
+  pub record CalledAtKey (f : F) (k : List Bool) (v : Unit {0}) (b : Bool) (f' : F) : Type 0 where
     pub prefix : Bor P
     pub shows : prefix.now ≡ back k
     pub called : Called g f (prefix, tt) b f'
 
   -- f may be called at the prefix with the path k
-  abbrev pub TakesKeyAt : F → List Bool → Unit {0} → Type 0
-  TakesKeyAt f k v = (p : Bor P) → p.now ≡ back k → Takes g f (p, tt)
+  abbrev pub TakesKey : F → List Bool → Unit {0} → Type 0
+  TakesKey f k v = (p : Bor P) → p.now ≡ back k → Takes g f (p, tt)
 
 -- whether two sets have the same keys
 abbrev pub same_keys : Entries (Unit {0}) → Entries (Unit {0}) → Bool

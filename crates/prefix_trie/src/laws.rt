@@ -15,13 +15,13 @@ ghost use Rattle.prefix_trie.specs.Laws.Rewriting.{RewriteLaws};
 ghost use Rattle.prefix_trie_bits.specs.Keys.{narrow_width};
 
 pub use prefix_trie_bits::laws::{
-    address_laws, counted_laws, determined_laws, handing_laws, listing_laws, match_laws,
-    network_order_laws, node_laws, pruning_laws, slot_laws, step_laws, storage_laws, text_laws,
-    total_laws, visit_laws,
+    address_laws, counted_laws, determined_laws, listing_laws, match_laws, network_order_laws,
+    node_laws, pruning_laws, slot_laws, split_laws, step_laws, storage_laws, text_laws, total_laws,
+    visit_laws,
 };
 use prefix_trie_bits::prefix::Prefix;
 pub use prefix_trie_map::laws::{
-    copy_laws, cover_laws, fill_laws, listed_laws, resume_laws, settling_laws, whole_laws,
+    copy_laws, cover_laws, fill_laws, growth_laws, listed_laws, resume_laws, whole_laws,
 };
 use std::alloc::Allocator;
 

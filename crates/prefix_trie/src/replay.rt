@@ -3,18 +3,19 @@ ghost use Rattle.std.specs.Prelude.{◌≡◌, ℕ, Bool, List, Option, All, IfO
 ghost use Rattle.std.specs.Borrow.{Bor};
 ghost use Rattle.std.specs.Iterator.{Drains, IsFinite};
 ghost use Rattle.std.specs.FinMap.{get, len};
-ghost use Rattle.prefix_trie_bits.specs.Model.Addresses.{address_answer};
+ghost use Rattle.prefix_trie_bits.specs.Model.Addresses.{address_total};
 ghost use Rattle.prefix_trie_bits.specs.Model.Counted.{CountedStep, CountedRun, CountsReads, TidyIf, tidy_after_all};
 ghost use Rattle.prefix_trie_bits.specs.Model.Matches.{covers, longest_match, shortest_match, prefix_pair};
 ghost use Rattle.prefix_trie_bits.specs.Model.Selections.{listing, listing_from, listing_after, listing_below, prefix_pairs};
 ghost use Rattle.prefix_trie_bits.specs.Model.Step.{Run, Insert, Get, Lpm, Spm, Remove, RemoveKeepTree, RemoveChildren, RetainAtLeast, Clear, Value, Match, Done, Count, Addresses, Items, Refused};
-ghost use Rattle.prefix_trie_bits.specs.Model.Storage.{StepInStorage, RunInStorage, RetainsInStorage};
+ghost use Rattle.prefix_trie_bits.specs.Model.Storage.{StepInStorage, RunInStorage};
+ghost use Rattle.prefix_trie_bits.specs.Calls.Retaining.{RetainsInStorage};
 ghost use Rattle.prefix_trie_bits.specs.declared.prefix.Refusal.TheVariants.{Memory};
 ghost use Rattle.prefix_trie_map.specs.Calling.{CalledAtEntry};
 ghost use Rattle.prefix_trie_map.specs.Steps.{state, stored_state};
 ghost use Rattle.prefix_trie_map.specs.Walks.{lent_item};
 ghost use Rattle.prefix_trie_map.specs.Whole.{IsWhole};
-ghost use Rattle.prefix_trie.specs.Replay.{IsFittingCall, call_of, calls_of, reply_of, replies_of};
+ghost use Rattle.prefix_trie.specs.Model.Replay.{IsFittingCall, call_of, calls_of, reply_of, replies_of};
 
 mod reads;
 
@@ -175,7 +176,7 @@ pub fn run_counted<P: Prefix, A: Allocator + Clone>(
     let mut replies = Vec::with_capacity(alloc.clone()?, calls.len())?;
     let mut reads = Reads::new();
     for call in calls {
-        let (reply, read) = answer(&alloc, map, call);
+        let (reply, read) = carry_out(&alloc, map, call);
         replies.push_reserved(reply);
         reads.push(read);
     }
@@ -183,7 +184,7 @@ pub fn run_counted<P: Prefix, A: Allocator + Clone>(
 }
 
 /// Carries out one call. Returns its reply, and the number of nodes read if it is a lookup.
-fn answer<P: Prefix, A: Allocator + Clone>(
+fn carry_out<P: Prefix, A: Allocator + Clone>(
     alloc: &A,
     map: &mut PrefixMap<P, u64, A>,
     call: &Call<P>,
@@ -314,7 +315,7 @@ fn count_nodes<P: Prefix, A: Allocator>(map: &PrefixMap<P, u64, A>) -> Reply<P, 
 
 /// Returns the number of addresses that the entries contain.
 fn count_addresses<P: Prefix, A: Allocator>(map: &PrefixMap<P, u64, A>) -> Reply<P, A>
-    ensures { reply_of P.R.bits result ≡ Addresses (address_answer P.R.bit_width map.now.entries) }
+    ensures { reply_of P.R.bits result ≡ Addresses (address_total P.R.bit_width map.now.entries) }
 {
     Reply::Addresses(map.address_count())
 }

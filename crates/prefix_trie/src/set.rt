@@ -7,16 +7,16 @@ ghost use Rattle.std.specs.Prelude.{◌≡◌, ◌-◌, ◌^◌, ◌↔◌, IfOk
 ghost use Rattle.std.specs.Option.{option_map};
 ghost use Rattle.std.specs.FinMap.{contains_key, len};
 ghost use Rattle.prefix_trie_bits.specs.declared.prefix.Refusal.TheVariants.{Memory, IndexRange};
-ghost use Rattle.prefix_trie_bits.specs.Bits.{number};
-ghost use Rattle.prefix_trie_bits.specs.Model.Addresses.{address_answer};
+ghost use Rattle.prefix_trie_bits.specs.Model.Bits.{number};
+ghost use Rattle.prefix_trie_bits.specs.Model.Addresses.{address_total};
 ghost use Rattle.prefix_trie_bits.specs.Model.Blocks.{no_layout};
 ghost use Rattle.prefix_trie_bits.specs.Model.Entries.{no_entries, with_entry};
 ghost use Rattle.prefix_trie_bits.specs.Model.Nodes.{root_alone, with_needed};
 ghost use Rattle.prefix_trie_bits.specs.Model.Step.{Insert};
-ghost use Rattle.prefix_trie_bits.specs.Model.Storage.{StepByPath};
+ghost use Rattle.prefix_trie_bits.specs.Calls.Storage.{StepByPath};
 ghost use Rattle.prefix_trie_map.specs.Steps.{stored_state};
 ghost use Rattle.prefix_trie_map.specs.Whole.{IsWhole};
-ghost use Rattle.prefix_trie.specs.Sets.{put_in};
+ghost use Rattle.prefix_trie.specs.Sets.{set_insert_reply};
 
 mod collecting;
 mod equality;
@@ -59,7 +59,8 @@ pub struct PrefixSet<P: Prefix, A: Allocator> {
 // Contracts see the map.
 impl<P: Prefix, A: Allocator> Model for PrefixSet<P, A> {
     ghost use base.Stored.{coded_unit};
-    ghost use Rattle.prefix_trie_table.specs.Shape.{Contents, contents_code};
+    ghost use Rattle.prefix_trie_table.specs.Model.Contents.{Contents};
+    ghost use Rattle.prefix_trie_table.specs.Shape.{contents_code};
 
     ghost Value = { Contents (Unit {0}) };
 
@@ -214,7 +215,7 @@ impl<P: Prefix, A: Allocator> PrefixSet<P, A> {
     #[inline]
     pub fn address_count(&self) -> Option<P::R>
         ensures key { IfSome result (λ r. P.R.IsKey r) }
-        ensures count { option_map (λ r. number (P.R.bits r)) result ≡ address_answer P.R.bit_width self.now.entries }
+        ensures count { option_map (λ r. number (P.R.bits r)) result ≡ address_total P.R.bit_width self.now.entries }
         ensures whole { IsWhole P.R.bit_width self.now }
     {
         self.map.address_count()
@@ -285,7 +286,7 @@ impl<P: Prefix, A: Allocator> PrefixSet<P, A> {
         ensures unchanged { OnErr result ((self.new.entries ≡ self.old.entries) × (self.new.nodes ≡ self.old.nodes)) }
 
         // It is a step of the model and its storage, on a map of units (as `PrefixMap::insert`).
-        ensures step { StepByPath P.R.bit_width (stored_state self.old) (Insert (P.path prefix) tt) (put_in result) (stored_state self.new) }
+        ensures step { StepByPath P.R.bit_width (stored_state self.old) (Insert (P.path prefix) tt) (set_insert_reply result) (stored_state self.new) }
     {
         match self.map.insert(prefix, ()) {
             Ok(before) => Ok(before.is_none()),

@@ -1,6 +1,6 @@
 -- The longest and the shortest string in a bitmap that begins a given string: for `longest_match` and
 -- `shortest_match`.
-use Rattle.prefix_trie_bits.proofs.Prelude.{◌≡◌, ℕ, suc, ◌+◌, ◌-◌, ◌*◌, ◌/◌, ◌%◌, ◌^◌, ◌<◌, ◌≤◌, Bool, true, ◌&&◌, List, length, take, sym, ap, ap₂, ◌∙◌, subst, arith, bit_and, pow_pos, pow-suc, inl, inr, bit_at, leading_zeros, trailing_zeros, w32, le-div, div_below, and_le_l, bit_at-zero, bit_at_above, bit_at-trailing_zeros, cases_lt, digits, begins, length-digits, begins-take, begins-length, take-begins, has, value_bit, stands, HoldsValues, NoneBegins, IsLongest, IsShortest}
+use Rattle.prefix_trie_bits.proofs.Prelude.{◌≡◌, ℕ, suc, ◌+◌, ◌-◌, ◌*◌, ◌/◌, ◌%◌, ◌^◌, ◌<◌, ◌≤◌, Bool, true, ◌&&◌, List, length, take, sym, ap, ap₂, ◌∙◌, subst, arith, bit_and, pow_pos, pow-suc, inl, inr, bit_at, leading_zeros, trailing_zeros, w32, le-div, div_below, and_le_l, bit_at-zero, bit_at_above, bit_at-trailing_zeros, cases_lt, digits, begins, length-digits, begins-take, begins-length, take-begins, has, value_bit, has_first, HoldsValues, NoneBegins, IsLongest, IsShortest}
 use Rattle.std.proofs.lemmas.List.{length-take-le}
 use Rattle.std.proofs.lemmas.Bool.{false_from_ne_true as not-true}
 use Rattle.prefix_trie_bits.proofs.Checks.{both}
@@ -31,7 +31,7 @@ in-each : (a b i : ℕ) → has (bit_and a b) i ≡ true → (has a i ≡ true) 
 in-each a b i h = both (has a i) (has b i) (sym (has-and a b i) ∙ h)
 
 module _ (bitmap mask : ℕ) (rest : List Bool) (small : bitmap < 2 ^ 31) (holds : HoldsValues mask (λ s. begins s rest)) where
-  in-both : (i : ℕ) → i ≤ 4 → i ≤ length rest → stands bitmap rest i ≡ true → has (bit_and bitmap mask) (value_bit (take i rest)) ≡ true
+  in-both : (i : ℕ) → i ≤ 4 → i ≤ length rest → has_first bitmap rest i ≡ true → has (bit_and bitmap mask) (value_bit (take i rest)) ≡ true
   in-both i short within h =
       let n : length (take i rest) ≡ i = length-take-le i rest within in
       has-and bitmap mask (value_bit (take i rest)) ∙ ap₂ (λ x y. x && y) h (holds.bits (take i rest) (omega arith) ∙ take-begins i rest)

@@ -29,8 +29,8 @@ pub use Rattle.std.specs.Ordering.{ordering_reverse}
 pub use Rattle.std.specs.Prelude.{Contains, count_by, option_to_list}
 pub use Rattle.prefix_trie_bits.specs.Begins.{begins-antisymm, begins-append, begins-from-masked, begins-from-take, begins-length, begins-linear, begins-longer, begins-refl, begins-rest, begins-same-length, begins-take, begins-trans, leb-past, length-first, masked-from-begins, same_bool, take-begins}
 pub use Rattle.prefix_trie_bits.specs.BitStrings.{bits-number, digits-extend, digits-number, extend-below, length-digits, number-below, number-digits, number-lt, number-power, number-window, number-window-inside, number-window-past, same-from-number, window-of-five}
-pub use Rattle.prefix_trie_bits.specs.Bits.{same_bit, zeros}
-unfoldable pub use Rattle.prefix_trie_bits.specs.Bits.{begins, digits, number}
+pub use Rattle.prefix_trie_bits.specs.Model.Bits.{same_bit, zeros}
+unfoldable pub use Rattle.prefix_trie_bits.specs.Model.Bits.{begins, digits, number}
 pub use Rattle.prefix_trie_bits.specs.Comparing.{order-filled, order-here, order-later, order-numbers}
 pub use Rattle.prefix_trie_bits.specs.Facts.{FactsHold}
 pub use Rattle.prefix_trie_bits.specs.Facts.Blocks.{BlocksHold, at_slot, none_free, space_of, six_free}
@@ -39,35 +39,41 @@ pub use Rattle.prefix_trie_bits.specs.Facts.Steps.{FilledFacts, KeepsFacts, Step
 pub use Rattle.prefix_trie_bits.specs.Laws.Addresses.{AddressLaws}
 pub use Rattle.prefix_trie_bits.specs.Laws.Counted.{CountedLaws}
 pub use Rattle.prefix_trie_bits.specs.Laws.Determined.{DeterminedLaws, is_memory, is_refusal, may_refuse}
-pub use Rattle.prefix_trie_bits.specs.Laws.SplitsOff.{HandingLaws, Splits}
+pub use Rattle.prefix_trie_bits.specs.Laws.SplitsOff.{SplitLaws, Splits}
 pub use Rattle.prefix_trie_bits.specs.Laws.Listings.{IsListedBefore, ListingLaws}
 pub use Rattle.prefix_trie_bits.specs.Laws.Matches.{MatchLaws}
 pub use Rattle.prefix_trie_bits.specs.Laws.Nodes.{BeginsKey, IsHome, NodeLaws}
-pub use Rattle.prefix_trie_bits.specs.Laws.Pruning.{IsPruning, IsTakenOut, PruningLaws}
+pub use Rattle.prefix_trie_bits.specs.Laws.Pruning.{IsPruning, IsPrunedNode, PruningLaws}
 pub use Rattle.prefix_trie_bits.specs.Laws.Slots.{MakesSlots, SlotLaws}
 pub use Rattle.prefix_trie_bits.specs.Laws.Steps.{IsMap, StepKeeps, StepLaws, touches}
 pub use Rattle.prefix_trie_bits.specs.Laws.Storage.{LeavesFixed, StorageLaws, UseAlike, asks_length, may_change}
 pub use Rattle.prefix_trie_bits.specs.Laws.Total.{GivesCause, IsStoredMap, TotalLaws}
 pub use Rattle.prefix_trie_bits.specs.Laws.Visits.{VisitLaws}
-pub use Rattle.prefix_trie_bits.specs.Model.Addresses.{address_answer, addresses}
+pub use Rattle.prefix_trie_bits.specs.Model.Addresses.{address_total, addresses}
 unfoldable pub use Rattle.prefix_trie_bits.specs.Model.Addresses.{covered, full_strings}
-pub use Rattle.prefix_trie_bits.specs.Model.Retaining.{RetainsEntries, CallableOnEachEntry}
-pub use Rattle.prefix_trie_bits.specs.Model.Blocks.{AreBlocksOf, Block, HasBlock, Layout, LongerByOne, LosesNoBlock, NodesHaveBlocks, Sizes, SizesStepBetween, SizesStepDown, StepsBetween, StepsDown, Tiles, child_block_count, child_block_sizes, child_count, free_of, made_of, no_layout, one_of, own_entries, smallest_size, used_of, value_block_count, value_block_sizes}
+pub use Rattle.prefix_trie_bits.specs.Calls.Retaining.{RetainsEntries, CallableOnEachEntry, RetainsInStorage}
+pub use Rattle.prefix_trie_bits.specs.Calls.Blocks.{AreBlocksOf, Block, HasBlock, NodesHaveBlocks, Tiles}
+pub use Rattle.prefix_trie_bits.specs.Model.Blocks.{Layout, LongerByOne, LosesNoBlock, Sizes, SizesStepBetween, SizesStepDown, StepsBetween, StepsDown, child_block_count, child_block_sizes, child_count, free_of, made_of, no_layout, one_of, own_entries, smallest_size, used_of, value_block_count, value_block_sizes}
 pub use Rattle.prefix_trie_bits.specs.Model.Counted.{CountedFrom, CountedStep, CountsReads, TidyIf, tidy_after, tidy_after_all}
-pub use Rattle.prefix_trie_bits.specs.Model.Entries.{AreWithin, Entries, no_entries, part_at_least, part_below, put_all, with_entry, without_below, without_entry}
-pub use Rattle.prefix_trie_bits.specs.Model.SplitsOff.{ArePacked, SplitsOff, SplitsOffInStorage, packed_block, packed_cell_slots, packed_node_slots, packed_slots}
+pub use Rattle.prefix_trie_bits.specs.Calls.Entries.{AreWithin, part_below, put_all}
+pub use Rattle.prefix_trie_bits.specs.Model.Entries.{Entries, no_entries, part_at_least, with_entry, without_below, without_entry}
+pub use Rattle.prefix_trie_bits.specs.Calls.SplitsOff.{ArePacked, SplitsOff, SplitsOffInStorage, packed_block, packed_cell_slots, packed_node_slots, packed_slots}
 pub use Rattle.prefix_trie_bits.specs.Model.Insertion.{MissingFitsLimit, TakesBlocks, block_needed, missing_cell_slots, child_block_needed, missing_child_blocks, child_blocks_needed, gains_child, missing_of, slots_of_missing, missing_node_slots, value_block_needed, missing_value_blocks, value_blocks_needed}
-pub use Rattle.prefix_trie_bits.specs.Model.Matches.{IsLongestMatch, IsMatch, IsShortestMatch, covers, first_item, last_item, longest_match, shortest_match, prefix_pair}
-pub use Rattle.prefix_trie_bits.specs.Model.NodeListings.{listing_at_place, listing_at_places, pair_of}
-pub use Rattle.prefix_trie_bits.specs.Model.Nodes.{AreNodes, IsTidy, Nodes, beginnings, has_node, home, is_node_depth, is_pruned, is_root, needed, nodes_above, nodes_not_below, nodes_without, nodes_without_below, pruned, root_alone, with_needed, with_nodes}
+pub use Rattle.prefix_trie_bits.specs.Calls.Matches.{IsLongestMatch, IsMatch, IsShortestMatch}
+pub use Rattle.prefix_trie_bits.specs.Model.Matches.{covers, first_item, last_item, longest_match, shortest_match, prefix_pair}
+pub use Rattle.prefix_trie_bits.specs.Calls.NodeListings.{listing_at_place, listing_at_places, pair_of}
+pub use Rattle.prefix_trie_bits.specs.Calls.Nodes.{AreNodes}
+pub use Rattle.prefix_trie_bits.specs.Model.Nodes.{IsTidy, Nodes, beginnings, has_node, home, is_node_depth, is_pruned, is_root, needed, nodes_above, nodes_not_below, nodes_without, nodes_without_below, pruned, root_alone, with_needed, with_nodes}
 pub use Rattle.prefix_trie_bits.specs.Model.Space.{LeavesSpace, MayPassLimit, Space}
 pub use Rattle.prefix_trie_bits.specs.Model.Selections.{listing, listing_after, listing_below, listing_from, prefix_pairs}
 pub use Rattle.prefix_trie_bits.specs.Model.Step.{AddressCount, Addresses, Call, CallFits, Children, Clear, Count, Cover, Done, Get, IndexRange, Insert, Items, Len, ListAll, ListFrom, Lists, Lpm, Match, Memory, NodeCount, Refusal, Refused, Remove, RemoveChildren, RemoveKeepTree, Reply, RetainAtLeast, Run, Runs, Spm, State, Step, Value}
-pub use Rattle.prefix_trie_bits.specs.Model.Storage.{HaveBlocks, InsertsInStorage, LeavesStorage, PrunesInStorage, PreparesInStorage, RefusesInStorage, RemovesManyInStorage, RemovesValueInStorage, RetainsInStorage, RunInStorage, StepInStorage, Storage, empty_storage}
+pub use Rattle.prefix_trie_bits.specs.Calls.Storage.{HaveBlocks, PreparesInStorage}
+pub use Rattle.prefix_trie_bits.specs.Model.Storage.{InsertsInStorage, LeavesStorage, PrunesInStorage, RefusesInStorage, RemovesManyInStorage, RemovesValueInStorage, RunInStorage, StepInStorage, Storage, empty_storage}
 pub use Rattle.prefix_trie_bits.specs.Model.Visits.{ReadsExactly, visits, visits_of_match, visits_to_match}
-pub use Rattle.prefix_trie_bits.specs.Model.WritingWalk.{WritingWalk, walk_over}
-pub use Rattle.prefix_trie_bits.specs.Order.{IsBefore, listing-common, listing-extension, listing-refl, listing_cmp, listing_same, listing_total, same_string}
-pub use Rattle.prefix_trie_bits.specs.Places.{HoldsChildren, HoldsPlaces, HoldsPositions, HoldsValues, IsLongest, IsShortest, NoneBegins, Sets, TakesPlace, has, heap_number, is_before, is_in, place_of, places, stands, value_bit}
+pub use Rattle.prefix_trie_bits.specs.Calls.WritingWalk.{WritingWalk, walk_over}
+pub use Rattle.prefix_trie_bits.specs.Order.{IsBefore, listing-common, listing-extension, listing-refl, listing_same, listing_total}
+pub use Rattle.prefix_trie_bits.specs.Model.Order.{listing_cmp, same_string}
+pub use Rattle.prefix_trie_bits.specs.Places.{HoldsChildren, HoldsPlaces, HoldsPositions, HoldsValues, IsLongest, IsShortest, NoneBegins, Sets, TakesPlace, has, heap_number, is_before, is_in, place_of, places, has_first, value_bit}
 unfoldable pub use Rattle.prefix_trie_bits.specs.Places.{ones_below, pick, strings}
 pub use Rattle.prefix_trie_bits.specs.Rows.Addresses.{AddressesHold}
 pub use Rattle.prefix_trie_bits.specs.Rows.Examples.{Gives, LeadsTo, Row, back_at, calls, full_pairs, new_map, path_at, replies, sets}
@@ -79,4 +85,4 @@ pub use Rattle.prefix_trie_bits.specs.Rows.Widths.{WidthsHold}
 pub use Rattle.prefix_trie_bits.specs.Windows.{length-window, window-inside, window-of-front, window_joined, window_small}
 pub use Rattle.prefix_trie_bits.specs.declared.node.Place.{Place}
 pub use Rattle.prefix_trie_bits.specs.declared.node.masks.TheConstants.{CHILDREN_COVERED, MATCHES, VALUES_COVERED}
-pub use Rattle.prefix_trie_bits.specs.declared.node.order.TheConstants.{BEHIND_CHILD, FROM_VALUE, LISTING, NOT_BELOW, POSITION}
+pub use Rattle.prefix_trie_bits.specs.declared.node.order.TheConstants.{AFTER_CHILD, FROM_VALUE, LISTING, NOT_BELOW, POSITION}

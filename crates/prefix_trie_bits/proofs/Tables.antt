@@ -1,5 +1,5 @@
 -- Each entry of the mask tables is right: a test over the whole table is computed, and shows what each entry holds.
-use Rattle.prefix_trie_bits.proofs.Prelude.{◌≡◌, ℕ, zero, suc, ◌+◌, ◌*◌, ◌/◌, ◌%◌, ◌<◌, ◌≤◌, Bool, true, ◌||◌, ◌&&◌, not, nat_eq, nat_lt, ltb-true, List, [], ◌∷◌, length, take, refl, subst, ◌∙◌, arith, get_or, beq, number, digits, begins, has, value_bit, strings, is_in, is_before, HoldsValues, HoldsChildren, HoldsPlaces, HoldsPositions, MATCHES, VALUES_COVERED, CHILDREN_COVERED, FROM_VALUE, BEHIND_CHILD, NOT_BELOW}
+use Rattle.prefix_trie_bits.proofs.Prelude.{◌≡◌, ℕ, zero, suc, ◌+◌, ◌*◌, ◌/◌, ◌%◌, ◌<◌, ◌≤◌, Bool, true, ◌||◌, ◌&&◌, not, nat_eq, nat_lt, ltb-true, List, [], ◌∷◌, length, take, refl, subst, ◌∙◌, arith, get_or, beq, number, digits, begins, has, value_bit, strings, is_in, is_before, HoldsValues, HoldsChildren, HoldsPlaces, HoldsPositions, MATCHES, VALUES_COVERED, CHILDREN_COVERED, FROM_VALUE, AFTER_CHILD, NOT_BELOW}
 use Rattle.prefix_trie_bits.proofs.Checks.{below, each, at_below, at_string, both, same}
 use Rattle.prefix_trie_bits.proofs.Ranks.{has-low, has-suc}
 
@@ -86,14 +86,14 @@ from-value-entry b t l e =
     subst (λ k. HoldsPlaces (get_or FROM_VALUE k (0, 0)).0 (get_or FROM_VALUE k (0, 0)).1 (λ s. not (is_before s t))) e
     (places-held _ _ _ (at_string 4 from_value_test refl t l))
 
-unfoldable behind_child_test : List Bool → Bool
-behind_child_test t = not (nat_eq (length t) 5) || places_hold (get_or BEHIND_CHILD (number t) (0, 0)).0 (get_or BEHIND_CHILD (number t) (0, 0)).1 (is_before t)
+unfoldable after_child_test : List Bool → Bool
+after_child_test t = not (nat_eq (length t) 5) || places_hold (get_or AFTER_CHILD (number t) (0, 0)).0 (get_or AFTER_CHILD (number t) (0, 0)).1 (is_before t)
 
-pub behind-child-entry : (b : ℕ) (t : List Bool) → length t ≡ 5 → number t ≡ b → HoldsPlaces (get_or BEHIND_CHILD b (0, 0)).0 (get_or BEHIND_CHILD b (0, 0)).1 (is_before t)
-unfolding behind_child_test places_hold each strings number
-behind-child-entry b t l e =
-    subst (λ k. HoldsPlaces (get_or BEHIND_CHILD k (0, 0)).0 (get_or BEHIND_CHILD k (0, 0)).1 (is_before t)) e
-    (places-held _ _ _ (of-five (length t) _ l (at_string 5 behind_child_test refl t (omega arith))))
+pub after-child-entry : (b : ℕ) (t : List Bool) → length t ≡ 5 → number t ≡ b → HoldsPlaces (get_or AFTER_CHILD b (0, 0)).0 (get_or AFTER_CHILD b (0, 0)).1 (is_before t)
+unfolding after_child_test places_hold each strings number
+after-child-entry b t l e =
+    subst (λ k. HoldsPlaces (get_or AFTER_CHILD k (0, 0)).0 (get_or AFTER_CHILD k (0, 0)).1 (is_before t)) e
+    (places-held _ _ _ (of-five (length t) _ l (at_string 5 after_child_test refl t (omega arith))))
 
 -- ---- what a value bit's string does not begin
 

@@ -3,9 +3,10 @@ use Rattle.std.proofs.Common.{◌≡◌, ℕ, zero, suc, ◌+◌, ◌-◌, ◌*�
 use Rattle.std.proofs.lemmas.List.{drop-drop, length-drop, length-replicate}
 use Rattle.std.specs.Cmp.{nat_cmp_is, ranks}
 use Rattle.std.specs.Ordering.{nat_cmp, is_ne, ordering_then, MatchOrdering}
-use Rattle.prefix_trie_bits.specs.Bits.{number, digits, zeros}
+use Rattle.prefix_trie_bits.specs.Model.Bits.{number, digits, zeros}
 use Rattle.prefix_trie_bits.specs.BitStrings.{length-digits, number-lt, number_of_digits}
-use Rattle.prefix_trie_bits.specs.Order.{listing_cmp, listing-refl}
+use Rattle.prefix_trie_bits.specs.Model.Order.{listing_cmp}
+use Rattle.prefix_trie_bits.specs.Order.{listing-refl}
 use Rattle.prefix_trie_bits.specs.Windows.{window-inside, length-window}
 
 -- adding the same number to both sides does not change a comparison

@@ -7,12 +7,13 @@ pub mod Steps
 use Rattle.std.specs.Prelude.{◌≡◌, ℕ, ◌+◌, ◌%◌, ◌==◌, true, false, [], ◌∷◌, length, Some, None}
 use Rattle.std.specs.FinMap.{len, values}
 use Rattle.prefix_trie_bits.specs.Model.Selections.{listing, listing_after, prefix_pairs}
-use Rattle.prefix_trie_bits.specs.Model.Nodes.{holders, parents}
+use Rattle.prefix_trie_bits.specs.Calls.Nodes.{holders, parents}
 use Rattle.prefix_trie_bits.specs.Model.Visits.{visits, visits_to_match}
-use Rattle.prefix_trie_bits.specs.Model.Retaining.{RetainsEntries}
-use Rattle.prefix_trie_bits.specs.Model.WritingWalk.{WritingWalk, walk_over, Next, Passes}
-use Rattle.prefix_trie_bits.specs.Model.Blocks.{AreBlocksOf, value_block_sizes, child_block_sizes, smallest_size, own_entries, child_count}
-use Rattle.prefix_trie_bits.specs.Model.SplitsOff.{SplitsOff, packed_block, packed_slots, packed_node_slots, packed_cell_slots}
+use Rattle.prefix_trie_bits.specs.Calls.Retaining.{RetainsEntries}
+use Rattle.prefix_trie_bits.specs.Calls.WritingWalk.{WritingWalk, walk_over, Next, Passes}
+use Rattle.prefix_trie_bits.specs.Calls.Blocks.{AreBlocksOf}
+use Rattle.prefix_trie_bits.specs.Model.Blocks.{value_block_sizes, child_block_sizes, smallest_size, own_entries, child_count}
+use Rattle.prefix_trie_bits.specs.Calls.SplitsOff.{SplitsOff, packed_block, packed_slots, packed_node_slots, packed_cell_slots}
 use Rattle.prefix_trie_bits.specs.Model.Step.{State, Insert, Remove, RemoveKeepTree, Value}
 use Rattle.prefix_trie_bits.specs.Facts.Blocks.{at_slot}
 use Rattle.prefix_trie_bits.specs.Rows.Examples.{path_at, back_at, Row, LeadsTo, sets}

@@ -1,4 +1,3 @@
-pub mod Bits
 pub mod BitStrings
 pub mod Begins
 pub mod Windows
@@ -14,3 +13,4 @@ pub mod Texts
 pub mod Laws
 pub mod Rows
 pub mod Facts
+pub mod Calls

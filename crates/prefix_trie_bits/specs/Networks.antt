@@ -1,8 +1,12 @@
 -- IP networks as pairs of an address and a length, by the width of an address in bits. This project's own.
-use Rattle.std.specs.Prelude.{◌≡◌, ℕ, ◌-◌, ◌++◌, Bool, List, length, take}
+use Rattle.std.specs.Prelude.{◌≡◌, ℕ, ◌-◌, ◌++◌, Bool, List, length, take, true, replicate}
 use Rattle.std.specs.declared.cmp.Ordering.{Ordering}
 use Rattle.std.specs.Ordering.{nat_cmp, on, then_cmp}
-use Rattle.prefix_trie_bits.specs.Bits.{number, digits, zeros, ones}
+use Rattle.prefix_trie_bits.specs.Model.Bits.{number, digits, zeros}
+
+-- n ones
+abbrev pub ones : ℕ → List Bool
+ones n = replicate n true
 
 -- the path: as many of the address's first bits as the length says
 abbrev pub network_path : ℕ → ℕ × ℕ → List Bool

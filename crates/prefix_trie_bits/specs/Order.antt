@@ -1,20 +1,11 @@
--- The order of a listing: a string comes before its extensions, and 0 before 1 at the first
--- difference.
--- From the Rust crate's documentation of its iterators: lexicographic order.
-use Rattle.std.proofs.Common.{◌≡◌, ◌≢◌, ◌⊎◌, is_eq, ◌<◌, Bool, true, false, List, [], ◌∷◌, ◌++◌, length, refl, arith, Ordering, Less, Equal}
+-- The order of a listing in words, and that it is total.
+use Rattle.std.proofs.Common.{◌≡◌, ◌≢◌, ◌⊎◌, ◌<◌, Bool, true, false, List, [], ◌∷◌, ◌++◌, length, refl, arith, Less, Equal}
 use Rattle.std.specs.Ordering.{bool_cmp}
 use Rattle.std.specs.Cmp.{IsTotalOrder, bool_cmp_total}
-use Rattle.std.specs.Cmp.Lexicographic.{slice_cmp, lists_total}
+use Rattle.std.specs.Cmp.Lexicographic.{lists_total}
 use Rattle.std.specs.FinMap.{IsAntisymmetric, slice_cmp-IsAntisymmetric}
-use Rattle.prefix_trie_bits.specs.Bits.{begins}
-
--- the order, as a comparison
-abbrev pub listing_cmp : List Bool → List Bool → Ordering
-listing_cmp = slice_cmp bool_cmp
-
--- whether two strings are equal
-abbrev pub same_string : List Bool → List Bool → Bool
-same_string s t = is_eq (listing_cmp s t)
+use Rattle.prefix_trie_bits.specs.Model.Bits.{begins}
+use Rattle.prefix_trie_bits.specs.Model.Order.{listing_cmp}
 
 -- the same order in words: s is before t if s begins t and is another string, or s has 0 and t has 1 at the first difference
 abbrev pub IsBefore : List Bool → List Bool → Type 0

@@ -4,8 +4,8 @@
 use Rattle.std.specs.Prelude.{◌≡◌, ◌≢◌, ℕ, zero, suc, ◌+◌, ◌-◌, ◌/◌, ◌%◌, ◌^◌, ◌<◌, ◌≤◌, Bool, true, false, cond, nat_lt, ◌==◌, List, [], ◌∷◌, ◌++◌, length, map, filter, take, slice_index_or}
 use Rattle.std.specs.Int.{bit_at}
 use Rattle.std.specs.Ordering.{is_lt}
-use Rattle.prefix_trie_bits.specs.Bits.{number}
-use Rattle.prefix_trie_bits.specs.Order.{listing_cmp}
+use Rattle.prefix_trie_bits.specs.Model.Bits.{number}
+use Rattle.prefix_trie_bits.specs.Model.Order.{listing_cmp}
 use Rattle.prefix_trie_bits.specs.declared.node.Place.{Place}
 use Rattle.prefix_trie_bits.specs.declared.node.Place.TheVariants.{Value, Child}
 
@@ -73,8 +73,8 @@ abbrev pub is_before : List Bool → List Bool → Bool
 is_before s t = is_lt (listing_cmp s t)
 
 -- the bitmap has a value at the first j bits of a string
-abbrev pub stands : ℕ → List Bool → ℕ → Bool
-stands bitmap rest j = has bitmap (value_bit (take j rest))
+abbrev pub has_first : ℕ → List Bool → ℕ → Bool
+has_first bitmap rest j = has bitmap (value_bit (take j rest))
 
 -- b is the value bit of the longest string in the bitmap that begins rest
 pub record IsLongest (bitmap : ℕ) (rest : List Bool) (b : ℕ) : Type 0 where
@@ -83,7 +83,7 @@ pub record IsLongest (bitmap : ℕ) (rest : List Bool) (b : ℕ) : Type 0 where
   pub within : len ≤ length rest
   pub bit_is : b ≡ value_bit (take len rest)
   pub set : has bitmap b ≡ true
-  pub none_longer : (i : ℕ) → len < i → i ≤ 4 → i ≤ length rest → stands bitmap rest i ≡ false
+  pub none_longer : (i : ℕ) → len < i → i ≤ 4 → i ≤ length rest → has_first bitmap rest i ≡ false
 
 -- b is the value bit of the shortest string in the bitmap that begins rest
 pub record IsShortest (bitmap : ℕ) (rest : List Bool) (b : ℕ) : Type 0 where
@@ -92,11 +92,11 @@ pub record IsShortest (bitmap : ℕ) (rest : List Bool) (b : ℕ) : Type 0 where
   pub within : len ≤ length rest
   pub bit_is : b ≡ value_bit (take len rest)
   pub set : has bitmap b ≡ true
-  pub none_shorter : (i : ℕ) → i < len → stands bitmap rest i ≡ false
+  pub none_shorter : (i : ℕ) → i < len → has_first bitmap rest i ≡ false
 
 -- no string in the bitmap begins rest
 abbrev pub NoneBegins : ℕ → List Bool → Type 0
-NoneBegins bitmap rest = (i : ℕ) → i ≤ 4 → i ≤ length rest → stands bitmap rest i ≡ false
+NoneBegins bitmap rest = (i : ℕ) → i ≤ 4 → i ≤ length rest → has_first bitmap rest i ≡ false
 
 -- the string at place p was the first of the list, and the others are left
 pub record TakesPlace (old new : List (List Bool)) (p : Place) : Type 0 where

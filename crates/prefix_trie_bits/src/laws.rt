@@ -7,7 +7,7 @@ ghost use Rattle.prefix_trie_bits.specs.Networks.{network_cmp};
 ghost use Rattle.prefix_trie_bits.specs.Laws.Addresses.{AddressLaws};
 ghost use Rattle.prefix_trie_bits.specs.Laws.Counted.{CountedLaws};
 ghost use Rattle.prefix_trie_bits.specs.Laws.Determined.{DeterminedLaws};
-ghost use Rattle.prefix_trie_bits.specs.Laws.SplitsOff.{HandingLaws};
+ghost use Rattle.prefix_trie_bits.specs.Laws.SplitsOff.{SplitLaws};
 ghost use Rattle.prefix_trie_bits.specs.Laws.Listings.{ListingLaws};
 ghost use Rattle.prefix_trie_bits.specs.Laws.Matches.{MatchLaws};
 ghost use Rattle.prefix_trie_bits.specs.Laws.NetworkOrder.{NetworkOrderLaws};
@@ -98,9 +98,9 @@ pub fn address_laws<T>()
 /// The second map has the entries whose keys begin with the prefix's path, and the first has the
 /// others. Setting the entries of the second in the first again makes the map that there was. Both
 /// are maps, and the second is tidy.
-#[tactic(auto, using(crate::proofs::Model::SplitsOff::handing_laws))]
-pub fn handing_laws<T>()
-    ensures { HandingLaws T }
+#[tactic(auto, using(crate::proofs::Model::SplitsOff::split_laws))]
+pub fn split_laws<T>()
+    ensures { SplitLaws T }
 {}
 
 /// Brings the laws of steps and runs into the proof.

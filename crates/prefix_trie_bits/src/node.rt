@@ -6,8 +6,8 @@
 //! fixed table.
 ghost use Rattle.std.specs.Prelude.{◌≡◌, ℕ, ◌^◌, ◌<◌, ◌≤◌, ◌↔◌, List, Bool, length, filter, not, true, [], MatchOption, Contains};
 ghost use Rattle.std.specs.List.Sorted.{IsStrictlySortedBy};
-ghost use Rattle.prefix_trie_bits.specs.Bits.{begins};
-ghost use Rattle.prefix_trie_bits.specs.Order.{listing_cmp};
+ghost use Rattle.prefix_trie_bits.specs.Model.Bits.{begins};
+ghost use Rattle.prefix_trie_bits.specs.Model.Order.{listing_cmp};
 ghost use Rattle.prefix_trie_bits.specs.Places.{is_in, places, value_bit, TakesPlace};
 
 mod bits;
@@ -16,7 +16,7 @@ mod order;
 
 pub use bits::{count, has_bit, rank, string_of, with_bit, without_bit};
 pub(crate) use masks::{child_cover_entry, match_entry, value_cover_entry};
-pub use order::{behind_child, from_value};
+pub use order::{after_child, from_value};
 use order::{not_below, place_at, position_of};
 
 /// A place of a node: a value bit, 0 to 30, or a child bit, 0 to 31.

@@ -1,8 +1,8 @@
 //! Keys and prefixes as strings of bits: numbers, pairs of a number and a length, and IP networks.
 ghost use Rattle.std.specs.Prelude.{◌≡◌, ℕ, ◌+◌, ◌-◌, ◌^◌, ◌<◌, ◌≤◌, ◌++◌, List, Bool, length, take, drop, IsTrue, MatchOption, true, ◌↔◌};
-ghost use Rattle.prefix_trie_bits.specs.Keys.{KeyLaws, PrefixLaws};
-ghost use Rattle.prefix_trie_bits.specs.Bits.{number, digits, zeros, begins};
-ghost use Rattle.prefix_trie_bits.specs.Order.{listing_cmp};
+ghost use Rattle.prefix_trie_bits.specs.Model.Keys.{KeyLaws, PrefixLaws};
+ghost use Rattle.prefix_trie_bits.specs.Model.Bits.{number, digits, zeros, begins};
+ghost use Rattle.prefix_trie_bits.specs.Model.Order.{listing_cmp};
 
 use std::cmp::Ordering;
 use std::fmt::Debug;

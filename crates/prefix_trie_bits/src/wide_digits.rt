@@ -2,7 +2,7 @@
 //!
 //! `digits` does the same for 64 bits, where shifts cost less.
 ghost use Rattle.std.specs.Prelude.{◌≡◌, ℕ, ◌+◌, ◌-◌, ◌*◌, ◌/◌, ◌%◌, ◌^◌, ◌<◌, ◌≤◌, ◌++◌, List, Bool, take, drop};
-ghost use Rattle.prefix_trie_bits.specs.Bits.{number, digits, zeros};
+ghost use Rattle.prefix_trie_bits.specs.Model.Bits.{number, digits, zeros};
 
 /// Returns the number of the n bits of value from depth on. Bits past the end are 0.
 #[inline]

@@ -1,6 +1,6 @@
 -- Summing the addresses of the outermost entries along a walk gives the number of covered addresses: for
 -- `address_count`.
-use Rattle.prefix_trie_map.proofs.Prelude.{◌≡◌, ℕ, ◌+◌, ◌-◌, ◌^◌, ◌<◌, ◌≤◌, Bool, not, List, [], length, take, Some, None, refl, sym, ap, ◌∙◌, subst, arith, pow_pos, length-take-le, length-filter_both, option_map, number, zeros, begins, zero_bits, number_of_digits, number-lt, KeyLaws, address_answer, Entries, listing, IsCounted, counted-start, counted-next, counted-end, counted-all, answer-number, GivesOutermost}
+use Rattle.prefix_trie_map.proofs.Prelude.{◌≡◌, ℕ, ◌+◌, ◌-◌, ◌^◌, ◌<◌, ◌≤◌, Bool, not, List, [], length, take, Some, None, refl, sym, ap, ◌∙◌, subst, arith, pow_pos, length-take-le, length-filter_both, option_map, number, zeros, begins, zero_bits, number_of_digits, number-lt, KeyLaws, address_total, Entries, listing, IsCounted, counted-start, counted-next, counted-end, counted-all, total-number, GivesOutermost}
 
 -- the sum so far and the addresses of one more entry, as numbers
 pub sum-with-power : (n p w width len : ℕ) → p ≡ 2 ^ (width - len) → width ≡ w → n + p ≡ n + 2 ^ (w - len)
@@ -32,17 +32,17 @@ module _ {K T : Type 0} {w : ℕ} {IsKey : K → Type 0} {bits : K → List Bool
       omega (arith, ap length g.first, ap length g.rest, both)
 
   -- if the sum exceeds the width, all addresses are covered
-  pub adds-past : (m : Entries T) (old new : List (List Bool × T)) (n : ℕ) (key : K) (len : ℕ) → GivesOutermost IsKey bits w key len old new → IsCounted w m old n → 2 ^ w ≤ n + 2 ^ (w - len) → None ≡ address_answer w m
+  pub adds-past : (m : Entries T) (old new : List (List Bool × T)) (n : ℕ) (key : K) (len : ℕ) → GivesOutermost IsKey bits w key len old new → IsCounted w m old n → 2 ^ w ≤ n + 2 ^ (w - len) → None ≡ address_total w m
   adds-past m old new n key len g c h = sym (counted-all w m new (n + 2 ^ (w - len)) h (adds-more m old new n (n + 2 ^ (w - len)) key len g c refl))
 
   -- an entry of length 0 covers all addresses
-  pub adds-root : (m : Entries T) (old new : List (List Bool × T)) (n : ℕ) (key : K) (len : ℕ) → GivesOutermost IsKey bits w key len old new → IsCounted w m old n → len ≡ 0 → None ≡ address_answer w m
+  pub adds-root : (m : Entries T) (old new : List (List Bool × T)) (n : ℕ) (key : K) (len : ℕ) → GivesOutermost IsKey bits w key len old new → IsCounted w m old n → len ≡ 0 → None ≡ address_total w m
   adds-root m old new n key len g c none =
       let whole : w ≡ w - len = omega (arith, none) in
       adds-past m old new n key len g c (omega (arith, ap (λ k. 2 ^ k) whole))
 
   -- after the last entry, the sum is the result
-  pub adds-up : (m : Entries T) (es : List (List Bool × T)) (total : K) → IsKey total → es ≡ [] → IsCounted w m es (number (bits total)) → option_map (λ r. number (bits r)) (Some total) ≡ address_answer w m
+  pub adds-up : (m : Entries T) (es : List (List Bool × T)) (total : K) → IsKey total → es ≡ [] → IsCounted w m es (number (bits total)) → option_map (λ r. number (bits r)) (Some total) ≡ address_total w m
   adds-up m es total is_key e c =
-      answer-number w m (number (bits total)) (counted-end w m es (number (bits total)) e c)
+      total-number w m (number (bits total)) (counted-end w m es (number (bits total)) e c)
       (subst (λ x. number (bits total) < 2 ^ x) (laws.bits_length total is_key) (number-lt (bits total)))

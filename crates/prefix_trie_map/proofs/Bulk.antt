@@ -1,6 +1,6 @@
 -- Many lookups in one call: what a group of them reads and finds, and how one more result is added. For
 -- `get_lpm_bulk`.
-use Rattle.prefix_trie_map.proofs.Prelude.{◌≡◌, ℕ, ◌+◌, ◌-◌, ◌<◌, ◌≤◌, Bool, List, [], ◌∷◌, ◌++◌, Option, None, Some, Bor, refl, map, set, take, drop, length, get_or, sum_by, slice_range, sym, ap, ap₂, ◌∙◌, subst, arith, add-sub_of_le, length-drop, option_map, drop-take, get_or_append_left, get_or-drop, get_or-map, get_or-take, length-map, length-take-le, map-append, take_more, take_more_set, take-take, sum_by-take-drop, sum_by_push, Entries, longest_match, Nodes, visits, Node, Found, AreAnswers, AreAnswered, AreFound, ReadsMore, visits_of_all, take_all}
+use Rattle.prefix_trie_map.proofs.Prelude.{◌≡◌, ℕ, ◌+◌, ◌-◌, ◌<◌, ◌≤◌, Bool, List, [], ◌∷◌, ◌++◌, Option, None, Some, Bor, refl, map, set, take, drop, length, get_or, sum_by, slice_range, sym, ap, ap₂, ◌∙◌, subst, arith, add-sub_of_le, length-drop, option_map, drop-take, get_or_append_left, get_or-drop, get_or-map, get_or-take, length-map, length-take-le, map-append, take_more, take_more_set, take-take, sum_by-take-drop, sum_by_push, Entries, longest_match, Nodes, visits, Node, Found, AreMatchesFound, HaveMatches, AreFound, ReadsMore, visits_of_all, take_all}
 use Rattle.prefix_trie_map.proofs.Lookups.{Finds, by_key_bits}
 
 -- reading the nodes for a group adds its visits to the count
@@ -25,22 +25,22 @@ reads_one path nodes prefixes n inside p is asked same start before after so_far
 
 -- the results of a group, followed by the results of the later groups
 pub found_more : {P : Type 0} (path : P → List Bool) (nodes : List Node) (prefixes : List P) (from n : ℕ) (found rest : List (Option Found))
-    → from + n ≤ length prefixes → length found ≡ n → AreAnswers nodes (map path (slice_range prefixes from (from + n))) found
+    → from + n ≤ length prefixes → length found ≡ n → AreMatchesFound nodes (map path (slice_range prefixes from (from + n))) found
     → AreFound path nodes prefixes from n (found ++ rest)
-found_more path nodes prefixes from n found rest space long answers i p a inside p_is a_is =
+found_more path nodes prefixes from n found rest space long results i p a inside p_is a_is =
     let many : from + n - from ≡ n = omega arith in
     let group : slice_range prefixes from (from + n) ≡ take n (drop from prefixes) = ap (λ k. take k (drop from prefixes)) many in
     let fits : i < length (take n (drop from prefixes)) = omega (arith, inside, length-take-le n (drop from prefixes) (omega (arith, length-drop from prefixes, space))) in
     let read : get_or (take n (drop from prefixes)) i p ≡ p = get_or-take n (drop from prefixes) i p inside ∙ get_or-drop from prefixes i p ∙ sym p_is in
     let q = path p in
-    subst (λ l. AreAnswers nodes (map path l) found) group answers i q a (omega (arith, fits, length-map (take n (drop from prefixes)) path))
+    subst (λ l. AreMatchesFound nodes (map path l) found) group results i q a (omega (arith, fits, length-map (take n (drop from prefixes)) path))
     (sym (get_or-map path (take n (drop from prefixes)) i p q fits ∙ ap path read)) (a_is ∙ get_or_append_left found rest a i (omega (arith, inside, long)))
 
 -- one more result is right
-pub answered_more : {P X Y : Type 0} (shows : X → Y) (answer : P → Y) (prefixes : List P) (out : List X) (n m : ℕ) → AreAnswered shows answer prefixes out n → m ≡ n + 1
-    → n < length out → n < length prefixes → (p : P) → p ≡ get_or prefixes n p → (x : X) → shows x ≡ answer p → AreAnswered shows answer prefixes (set out n x) m
-answered_more shows answer prefixes out n m so_far more space inside p is x shown =
-    subst (AreAnswered shows answer prefixes (set out n x)) (sym more)
+pub matched_more : {P X Y : Type 0} (shows : X → Y) (answer : P → Y) (prefixes : List P) (out : List X) (n m : ℕ) → HaveMatches shows answer prefixes out n → m ≡ n + 1
+    → n < length out → n < length prefixes → (p : P) → p ≡ get_or prefixes n p → (x : X) → shows x ≡ answer p → HaveMatches shows answer prefixes (set out n x) m
+matched_more shows answer prefixes out n m so_far more space inside p is x shown =
+    subst (HaveMatches shows answer prefixes (set out n x)) (sym more)
     (ap (map shows) (take_more_set out n x space) ∙ map-append shows (take n out) (x ∷ [])
     ∙ ap₂ (λ l y. l ++ y ∷ []) so_far (shown ∙ ap answer is)
     ∙ sym (ap (map answer) (take_more prefixes n p inside) ∙ map-append answer (take n prefixes) (get_or prefixes n p ∷ [])))
@@ -58,9 +58,9 @@ values_found key None = refl
 values_found key (Some f) = refl
 
 -- in the end all results are right
-pub answered_all : {P X Y : Type 0} (shows : X → Y) (answer : P → Y) (prefixes : List P) (out : List X) (n : ℕ) → AreAnswered shows answer prefixes out n → length prefixes ≤ n → length out ≤ n
+pub matched_all : {P X Y : Type 0} (shows : X → Y) (answer : P → Y) (prefixes : List P) (out : List X) (n : ℕ) → HaveMatches shows answer prefixes out n → length prefixes ≤ n → length out ≤ n
     → map shows out ≡ map answer prefixes
-answered_all shows answer prefixes out n so_far all space = sym (ap (map shows) (take_all n out space)) ∙ so_far ∙ ap (map answer) (take_all n prefixes all)
+matched_all shows answer prefixes out n so_far all space = sym (ap (map shows) (take_all n out space)) ∙ so_far ∙ ap (map answer) (take_all n prefixes all)
 
 -- in the end the nodes of all prefixes were read
 pub read_all : {P : Type 0} (path : P → List Bool) (nodes : Nodes) (prefixes : List P) (n start now : ℕ) → now ≡ start + visits_of_all path nodes (take n prefixes) → length prefixes ≤ n

@@ -36,9 +36,9 @@ module _ {P T A R : Type 0} {p : prefix.Ghosts P R} {shows : debug.Ghosts P} {k 
         (subst (λ y. StepByPath k.bit_width (stored_state e.map.now) (Insert (p.path y) v) (Value None) (stored_state new)) is step))
 
     -- the same with the value that was inserted
-    pub Fills-handed : (key : P) (v : T) → key ≡ e.key → new.entries ≡ with_entry e.map.now.entries (p.path key) v → new.nodes ≡ with_needed e.map.now.nodes (p.path key)
+    pub Fills-returned : (key : P) (v : T) → key ≡ e.key → new.entries ≡ with_entry e.map.now.entries (p.path key) v → new.nodes ≡ with_needed e.map.now.nodes (p.path key)
         → StepByPath k.bit_width (stored_state e.map.now) (Insert (p.path key) v) (Value None) (stored_state new) → Fills (Vacant e) new v
-    Fills-handed key v is entries nodes step = record {
+    Fills-returned key v is entries nodes step = record {
       entries = subst (λ y. new.entries ≡ with_entry e.map.now.entries (p.path y) v) is entries;
       nodes = subst (λ y. new.nodes ≡ with_needed e.map.now.nodes (p.path y)) is nodes;
       step = subst (λ x. StepByPath k.bit_width (stored_state e.map.now) (Insert (p.path e.key) v) (Value x) (stored_state new)) (sym (is_none-None (get e.map.now.entries (p.path e.key)) e.absent))
@@ -46,10 +46,10 @@ module _ {P T A R : Type 0} {p : prefix.Ghosts P R} {shows : debug.Ghosts P} {k 
     }
 
     -- the map after the insertion was refused
-    pub Refuses-handed : (key : P) (cause : Refusal) → key ≡ e.key → new.entries ≡ e.map.now.entries → new.nodes ≡ e.map.now.nodes
+    pub Refuses-returned : (key : P) (cause : Refusal) → key ≡ e.key → new.entries ≡ e.map.now.entries → new.nodes ≡ e.map.now.nodes
         → ((v : T) → StepByPath k.bit_width (stored_state e.map.now) (Insert (p.path key) v) (Refused cause) (stored_state new))
         → RefusesToFill (Vacant e) cause new
-    Refuses-handed key cause is entries nodes step = record {
+    Refuses-returned key cause is entries nodes step = record {
       entries = entries;
       nodes = nodes;
       step = λ v. subst (λ y. StepByPath k.bit_width (stored_state e.map.now) (Insert (p.path y) v) (Refused cause) (stored_state new)) is (step v);

@@ -7,8 +7,8 @@ module _ {T : Type 0} where
   pub IsMap-empty : (width : ℕ) → IsMap width (record { entries = no_entries {T = T}; nodes = root_alone })
   IsMap-empty width = record { keys_within = λ k e. absurd (true≢false (sym e ∙ ap is_some (get-empty listing_cmp k))); are_nodes = AreNodes-no_entries width }
 
-  stands : (width : ℕ) (m : Entries T) (n : Nodes) (s q : List Bool) → AreNodes width m n → contains_key m s ≡ true → has_node (with_needed n s) q ≡ true → has_node n q ≡ true
-  stands width m n s q good stored e =
+  is_there : (width : ℕ) (m : Entries T) (n : Nodes) (s q : List Bool) → AreNodes width m n → contains_key m s ≡ true → has_node (with_needed n s) q ≡ true → has_node n q ≡ true
+  is_there width m n s q good stored e =
       elim (or-cases (has_node n q) (begins q s && is_node_depth q) (sym (has-with_needed n s q) ∙ e)) [
         | inl before ↦ before
         | inr way ↦ good.hold_needed q (needs m q s (eqb-true (length q % 5) 0 (and-second (begins q s) (is_node_depth q) way)) stored (and-first (begins q s) (is_node_depth q) way))
@@ -17,7 +17,7 @@ module _ {T : Type 0} where
   -- all nodes that a stored key needs exist
   pub with_needed-stored : (width : ℕ) (m : Entries T) (n : Nodes) (s : List Bool) → AreNodes width m n → contains_key m s ≡ true → with_needed n s ≡ n
   with_needed-stored width m n s good stored =
-      same_nodes (with_needed n s) n (λ q. stands width m n s q good stored)
+      same_nodes (with_needed n s) n (λ q. is_there width m n s q good stored)
       (λ q e. has-with_needed n s q ∙ or-left (has_node n q) (begins q s && is_node_depth q) e)
 
   -- what an insertion at q returns and what it leaves

@@ -1,5 +1,5 @@
 -- Inserting a new key, or refusing it, is a step of the model: for entries and `insert`.
-use Rattle.prefix_trie_map.proofs.Prelude.{◌≡◌, ℕ, ◌+◌, ◌*◌, ◌≤◌, Bool, true, false, cond, List, Option, None, Some, inl, inr, refl, sym, ap, ◌∙◌, true≢false, subst, Result, Ok, Err, IfErr, OnOk, MatchResult, get, contains_key, len, Refusal, Refused, IndexRange, with_entry, with_needed, AreNodes, MayPassLimit, LeavesSpace, Reply, Step, Insert, Value, PreparesInStorage, InsertsInStorage, RefusesInStorage, StepByPath, get-with_entry, is-same_string, same_entries, same_string, Entries, Contents, with_value_at, is_none-None, state, storage, stored_state, insert_new_reply, readied_inserts}
+use Rattle.prefix_trie_map.proofs.Prelude.{◌≡◌, ℕ, ◌+◌, ◌*◌, ◌≤◌, Bool, true, false, cond, List, Option, None, Some, inl, inr, refl, sym, ap, ◌∙◌, true≢false, subst, Result, Ok, Err, IfErr, OnOk, MatchResult, get, contains_key, len, Refusal, Refused, IndexRange, with_entry, with_needed, AreNodes, MayPassLimit, LeavesSpace, Reply, Step, Insert, Value, PreparesInStorage, InsertsInStorage, RefusesInStorage, StepByPath, get-with_entry, is-same_string, same_entries, same_string, Entries, Contents, with_value_at, is_none-None, state, storage, stored_state, insert_new_reply, prepared_inserts}
 use Rattle.prefix_trie_map.proofs.Insertions.{inserts_are}
 
 module _ {T : Type 0} where
@@ -96,13 +96,13 @@ module _ {T : Type 0} (width : ℕ) (old middle new : Contents T) (q : List Bool
       subst (λ s. InsertsInStorage s q (storage middle) (storage new)) middle_is (step.storage.1 None (ap (λ m. contains_key m q) entries ∙ absent) refl)
 
   -- inserting after the blocks were made is the step that inserting before would have been
-  pub readied_step : LeavesSpace (len old.nodes) old.space middle.space → PreparesInStorage (state old) q (storage old) (storage middle)
+  pub prepared_step : LeavesSpace (len old.nodes) old.space middle.space → PreparesInStorage (state old) q (storage old) (storage middle)
       → new.entries ≡ with_entry middle.entries q v → new.nodes ≡ with_needed middle.nodes q
       → StepByPath width (stored_state middle) (Insert q v) (Value None) (stored_state new) → StepByPath width (stored_state old) (Insert q v) (Value None) (stored_state new)
-  readied_step space readies entries2 nodes2 step =
-      let made = readied_inserts (state old) q (storage old) (storage middle) readies (storage new) (inserted_then step) in
-      let node_slots : new.space.node_slots ≡ middle.space.node_slots = made.node_slots ∙ sym readies.node_slots in
-      let cell_slots : new.space.cell_slots ≡ middle.space.cell_slots = made.cell_slots ∙ sym readies.cell_slots in
+  prepared_step space prepares entries2 nodes2 step =
+      let made = prepared_inserts (state old) q (storage old) (storage middle) prepares (storage new) (inserted_then step) in
+      let node_slots : new.space.node_slots ≡ middle.space.node_slots = made.node_slots ∙ sym prepares.node_slots in
+      let cell_slots : new.space.cell_slots ≡ middle.space.cell_slots = made.cell_slots ∙ sym prepares.cell_slots in
       let after = step.space in
       let grown : LeavesSpace (len old.nodes) old.space new.space = record {
         same_limit = after.same_limit ∙ space.same_limit;

@@ -19,36 +19,41 @@ pub use Rattle.std.specs.Iterator.{ComparesItemsByEq, YieldsThen}
 pub use Rattle.std.specs.List.{All, AllZip, Contains}
 pub use Rattle.std.specs.Map.Iter.{GivesInOrder, ShowsInOrder, TakesFirst, deref}
 pub use Rattle.std.specs.Option.{UnwrapsOrElse, ghost_name_of, option_copied_mut, option_map, unwrap_or}
-pub use Rattle.prefix_trie_bits.proofs.Model.SplitsOff.{handing_laws}
+pub use Rattle.prefix_trie_bits.proofs.Model.SplitsOff.{split_laws}
 pub use Rattle.prefix_trie_bits.proofs.Model.Listings.{listing_laws}
 pub use Rattle.prefix_trie_bits.proofs.Model.Matches.{match_laws}
 pub use Rattle.prefix_trie_bits.proofs.Model.Members.{and-first, and-second, get-with_entry, is-same_string, needs, or-cases, or-left, same_entries, same_nodes}
 pub use Rattle.prefix_trie_bits.proofs.Model.NodeListings.{listing_of_root}
 pub use Rattle.prefix_trie_bits.proofs.Model.NodeSets.{AreNodes-needed, AreNodes-no_entries, AreNodes-stored, has-with_needed, key_cases, needed_insert, tidy-no_entries}
 pub use Rattle.prefix_trie_bits.proofs.Model.Ordered.{entries-retained, lt-less}
-pub use Rattle.prefix_trie_bits.proofs.Model.Outermost.{IsCounted, answer-number, counted-all, counted-end, counted-next, counted-start}
+pub use Rattle.prefix_trie_bits.proofs.Model.Outermost.{IsCounted, total-number, counted-all, counted-end, counted-next, counted-start}
 pub use Rattle.prefix_trie_bits.proofs.Model.Pruning.{needed_fewer}
 pub use Rattle.prefix_trie_bits.proofs.Model.Steps.{stays_map}
-pub use Rattle.prefix_trie_bits.proofs.Model.Storage.Readied.{no_cell_slots_lack, no_node_slots_lack, readied_inserts}
+pub use Rattle.prefix_trie_bits.proofs.Model.Storage.PreparedInsertions.{no_cell_slots_lack, no_node_slots_lack, prepared_inserts}
 pub use Rattle.prefix_trie_bits.proofs.Model.Storage.Slots.{slot_laws}
 pub use Rattle.prefix_trie_bits.proofs.Model.Visits.{visit_laws, visits-bound}
 pub use Rattle.prefix_trie_bits.specs.BitStrings.{number-lt, number_of_digits, zero_bits}
-pub use Rattle.prefix_trie_bits.specs.Bits.{begins, number, zeros}
-pub use Rattle.prefix_trie_bits.specs.Keys.{KeyLaws, PrefixLaws, back_from_bits, fits_back, path_back, path_within}
+pub use Rattle.prefix_trie_bits.specs.Model.Bits.{begins, number, zeros}
+pub use Rattle.prefix_trie_bits.specs.Model.Keys.{KeyLaws, PrefixLaws}
+pub use Rattle.prefix_trie_bits.specs.Keys.{back_from_bits, fits_back, path_back, path_within}
 pub use Rattle.prefix_trie_bits.specs.Laws.Steps.{IsMap}
-pub use Rattle.prefix_trie_bits.specs.Model.Addresses.{address_answer}
-pub use Rattle.prefix_trie_bits.specs.Model.Retaining.{CallableOnEachEntry}
-pub use Rattle.prefix_trie_bits.specs.Model.Entries.{AreWithin, Entries, no_entries, put_all, with_entry}
-pub use Rattle.prefix_trie_bits.specs.Model.SplitsOff.{SplitsOffInStorage}
+pub use Rattle.prefix_trie_bits.specs.Model.Addresses.{address_total}
+pub use Rattle.prefix_trie_bits.specs.Calls.Retaining.{CallableOnEachEntry, RetainsInStorage}
+pub use Rattle.prefix_trie_bits.specs.Calls.Entries.{AreWithin, put_all}
+pub use Rattle.prefix_trie_bits.specs.Model.Entries.{Entries, no_entries, with_entry}
+pub use Rattle.prefix_trie_bits.specs.Calls.SplitsOff.{SplitsOffInStorage}
 pub use Rattle.prefix_trie_bits.specs.Model.Insertion.{missing_cell_slots, missing_node_slots}
 pub use Rattle.prefix_trie_bits.specs.Model.Matches.{covers, first_item, last_item, longest_match, shortest_match, prefix_pair}
-pub use Rattle.prefix_trie_bits.specs.Model.Nodes.{AreNodes, IsTidy, Nodes, has_node, is_node_depth, needed, root_alone, with_needed}
+pub use Rattle.prefix_trie_bits.specs.Calls.Nodes.{AreNodes}
+pub use Rattle.prefix_trie_bits.specs.Model.Nodes.{IsTidy, Nodes, has_node, is_node_depth, needed, root_alone, with_needed}
 pub use Rattle.prefix_trie_bits.specs.Model.Space.{LeavesSpace, MayPassLimit}
 pub use Rattle.prefix_trie_bits.specs.Model.Selections.{listing, listing_after, listing_below, listing_from, prefix_pairs}
 pub use Rattle.prefix_trie_bits.specs.Model.Step.{Call, CallFits, Clear, Done, Insert, Remove, RemoveChildren, RemoveKeepTree, Reply, State, Step, Value}
-pub use Rattle.prefix_trie_bits.specs.Model.Storage.{InsertsInStorage, PreparesInStorage, RefusesInStorage, RetainsInStorage, StepByPath, Storage}
+pub use Rattle.prefix_trie_bits.specs.Model.Storage.{InsertsInStorage, RefusesInStorage, Storage}
+pub use Rattle.prefix_trie_bits.specs.Calls.Storage.{PreparesInStorage, StepByPath}
 pub use Rattle.prefix_trie_bits.specs.Model.Visits.{ReadsToMatch, ReadsPath, visits, visits_to_match}
-pub use Rattle.prefix_trie_bits.specs.Order.{listing_cmp, listing_same, listing_total, same_string}
+pub use Rattle.prefix_trie_bits.specs.Model.Order.{listing_cmp, same_string}
+pub use Rattle.prefix_trie_bits.specs.Order.{listing_same, listing_total}
 pub use Rattle.prefix_trie_bits.specs.declared.prefix.Refusal.{Refusal}
 pub use Rattle.prefix_trie_bits.specs.declared.prefix.Refusal.TheVariants.{IndexRange, Memory}
 pub use Rattle.prefix_trie_bits.specs.declared.prefix.Refused.{Refused}
@@ -56,11 +61,12 @@ pub use Rattle.prefix_trie_table.proofs.Lookup.Covered.{covers_few}
 pub use Rattle.prefix_trie_table.proofs.Tree.Copying.{cloned_there}
 pub use Rattle.prefix_trie_table.proofs.Tree.Trees.{is_none-None}
 pub use Rattle.prefix_trie_table.proofs.Walk.KeySets.{pending_again}
-pub use Rattle.prefix_trie_table.specs.Bulk.{AreAnswers, IsAnswer}
+pub use Rattle.prefix_trie_table.specs.Bulk.{AreMatchesFound, IsMatchFound}
 pub use Rattle.prefix_trie_table.specs.Copies.{AreCloned, IsCloned, IsPairCloned}
 pub use Rattle.prefix_trie_table.specs.Locations.{IsSearchEnd, is_seat-prop, seat_of}
 pub use Rattle.prefix_trie_table.specs.Steps.{BoundsStorageGrowth}
-pub use Rattle.prefix_trie_table.specs.Shape.{Contents, with_longest_at, with_match_at, with_stored_at, with_value_at}
+pub use Rattle.prefix_trie_table.specs.Model.Contents.{Contents}
+pub use Rattle.prefix_trie_table.specs.Shape.{with_longest_at, with_match_at, with_stored_at, with_value_at}
 pub use Rattle.prefix_trie_table.specs.Walking.Starts.{selected}
 pub use Rattle.prefix_trie_table.specs.Walking.Items.{GivesOutermost}
 pub use Rattle.prefix_trie_table.specs.Walking.Cursors.{GivesKey, IsCursorIn, IsCursorIn-prop, keys_to_come}
@@ -68,7 +74,7 @@ pub use Rattle.prefix_trie_table.specs.declared.allocator.node.Node.{Node}
 pub use Rattle.prefix_trie_table.specs.declared.table.bulk.Found.{Found}
 pub use Rattle.prefix_trie_table.specs.declared.table.cursor.Cursor.{Cursor}
 pub use Rattle.prefix_trie_map.specs.Calling.{CalledAtEntry, TakesEntry}
-pub use Rattle.prefix_trie_map.specs.Bulk.{AreAnswered, AreFound, ReadsMore, right_for, visits_of_all}
+pub use Rattle.prefix_trie_map.specs.Bulk.{HaveMatches, AreFound, ReadsMore, right_for, visits_of_all}
 pub use Rattle.prefix_trie_map.specs.Collected.{ManyMayPassLimit, Puts}
 pub use Rattle.prefix_trie_map.specs.Copied.{CopyLaws}
 pub use Rattle.prefix_trie_map.specs.Covers.{CoverLaws}

@@ -8,11 +8,11 @@ use Rattle.prefix_trie_bits.specs.declared.prefix.Prefix as prefix
 use Rattle.prefix_trie_bits.specs.declared.prefix.Key as key
 
 module _ {P T A R : Type 0} {p : prefix.Ghosts P R} {shows : debug.Ghosts P} {k : key.Ghosts R} {same : partial.Ghosts R} {writes : debug.Ghosts R}
-    (c : MapCursor P T A R p shows k same writes) (cursor : Cursor R) (stands : IsCursorIn k.bits k.bit_width c.map.now.build cursor) (item : CursorItem R) (key : R) (len : ℕ)
+    (c : MapCursor P T A R p shows k same writes) (cursor : Cursor R) (is_there : IsCursorIn k.bits k.bit_width c.map.now.build cursor) (item : CursorItem R) (key : R) (len : ℕ)
     (at : item.path ≡ take len (k.bits key)) (gives : GivesKey k.IsKey k.bits k.bit_width c.map.now.build key len item.seat (keys_left c) (keys_to_come k.bits c.map.now.entries cursor)) where
   -- the map's cursor, moved on to this cursor
   abbrev gone : MapCursor P T A R p shows k same writes
-  gone = record { map = c.map; cursor = cursor; stands = stands }
+  gone = record { map = c.map; cursor = cursor; is_there = is_there }
 
   pub stops_there : IsItemAt gone item
   stops_there = ap (seat_of c.map.now.build) at ∙ gives.seated
@@ -56,12 +56,12 @@ module _ {P T A R : Type 0} {p : prefix.Ghosts P R} {shows : debug.Ghosts P} {k 
 
 -- writing a value at an item changes only the map of the cursor
 pub written_there : {P T A R : Type 0} {p : prefix.Ghosts P R} {shows : debug.Ghosts P} {k : key.Ghosts R} {same : partial.Ghosts R} {writes : debug.Ghosts R}
-    (c : MapCursor P T A R p shows k same writes) (item : CursorItem R) (w : T) (stands : IsCursorIn k.bits k.bit_width c.map.now.build c.cursor) →
-    record { map = record c.map { now = with_value_at c.map.now item.path w }; cursor = c.cursor; stands = stands } ≡ with_written c item w
-written_there {k = k} c item w stands = λ i. record {
+    (c : MapCursor P T A R p shows k same writes) (item : CursorItem R) (w : T) (is_there : IsCursorIn k.bits k.bit_width c.map.now.build c.cursor) →
+    record { map = record c.map { now = with_value_at c.map.now item.path w }; cursor = c.cursor; is_there = is_there } ≡ with_written c item w
+written_there {k = k} c item w is_there = λ i. record {
   map = record c.map { now = with_value_at c.map.now item.path w };
   cursor = c.cursor;
-  stands = IsCursorIn-prop k.bits k.bit_width c.map.now.build c.cursor stands c.stands i;
+  is_there = IsCursorIn-prop k.bits k.bit_width c.map.now.build c.cursor is_there c.is_there i;
 }
 
 -- a step of what the walk goes over is a step of the walk

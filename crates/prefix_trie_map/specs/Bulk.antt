@@ -6,7 +6,7 @@ use Rattle.prefix_trie_bits.specs.Model.Nodes.{Nodes}
 use Rattle.prefix_trie_bits.specs.Model.Visits.{visits}
 use Rattle.prefix_trie_table.specs.declared.allocator.node.Node.{Node}
 use Rattle.prefix_trie_table.specs.declared.table.bulk.Found.{Found}
-use Rattle.prefix_trie_table.specs.Bulk.{IsAnswer}
+use Rattle.prefix_trie_table.specs.Bulk.{IsMatchFound}
 
 -- the number of nodes on the search paths of these prefixes; a node on several paths counts once
 -- for each
@@ -18,8 +18,8 @@ abbrev pub right_for : {P T Y : Type 0} → (Option (List Bool × T) → Y) → 
 right_for right path m p = right (longest_match m (path p))
 
 -- the first n results are right for the first n prefixes
-abbrev pub AreAnswered : {P X Y : Type 0} → (X → Y) → (P → Y) → List P → List X → ℕ → Type 0
-AreAnswered shows answer prefixes out n = map shows (take n out) ≡ map answer (take n prefixes)
+abbrev pub HaveMatches : {P X Y : Type 0} → (X → Y) → (P → Y) → List P → List X → ℕ → Type 0
+HaveMatches shows right prefixes out n = map shows (take n out) ≡ map right (take n prefixes)
 
 -- between the two counts, the nodes for the prefixes between the two indices were read
 abbrev pub ReadsMore : {P : Type 0} → (P → List Bool) → Nodes → List P → ℕ → ℕ → ℕ → ℕ → Type 0
@@ -29,4 +29,4 @@ ReadsMore path n prefixes from to before after =
 -- what the table found for these prefixes
 abbrev pub AreFound : {P : Type 0} → (P → List Bool) → List Node → List P → ℕ → ℕ → List (Option Found) → Type 0
 AreFound {P} path nodes prefixes from n found =
-    (i : ℕ) (p : P) (a : Option Found) → i < n → p ≡ slice_index_or prefixes (from + i) p → a ≡ slice_index_or found i a → IsAnswer nodes (path p) a
+    (i : ℕ) (p : P) (a : Option Found) → i < n → p ≡ slice_index_or prefixes (from + i) p → a ≡ slice_index_or found i a → IsMatchFound nodes (path p) a

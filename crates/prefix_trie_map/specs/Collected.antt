@@ -1,9 +1,9 @@
 -- Maps of items that were inserted in order. This project's own.
 use Rattle.std.specs.Prelude.{◌≡◌, ◌⊎◌, ℕ, ◌+◌, ◌*◌, ◌<◌, ◌≤◌, Bool, List, length}
-use Rattle.prefix_trie_bits.specs.Model.Entries.{put_all}
+use Rattle.prefix_trie_bits.specs.Calls.Entries.{put_all}
 use Rattle.prefix_trie_bits.specs.Model.Nodes.{IsTidy}
 use Rattle.prefix_trie_bits.specs.Model.Space.{Space}
-use Rattle.prefix_trie_table.specs.Shape.{Contents}
+use Rattle.prefix_trie_table.specs.Model.Contents.{Contents}
 
 -- what the insertions leave: a tidy map stays tidy, and each insertion makes at most 56 slots for nodes and 31 for
 -- values

@@ -15,8 +15,9 @@ use Rattle.prefix_trie_bits.specs.Model.Entries.{with_entry}
 use Rattle.prefix_trie_bits.proofs.Model.Members.{get-with_entry, is-same_string}
 use Rattle.prefix_trie_bits.specs.Model.Nodes.{with_needed}
 use Rattle.prefix_trie_bits.specs.Model.Step.{Insert, Value, Refused}
-use Rattle.prefix_trie_bits.specs.Model.Storage.{StepByPath}
-use Rattle.prefix_trie_table.specs.Shape.{Contents, with_value_at}
+use Rattle.prefix_trie_bits.specs.Calls.Storage.{StepByPath}
+use Rattle.prefix_trie_table.specs.Model.Contents.{Contents}
+use Rattle.prefix_trie_table.specs.Shape.{with_value_at}
 use Rattle.prefix_trie_map.specs.Steps.{stored_state}
 use Rattle.prefix_trie_map.specs.contracts.map.PrefixMap as map
 use Rattle.prefix_trie_map.specs.contracts.map.entry.OccupiedEntry as occupied

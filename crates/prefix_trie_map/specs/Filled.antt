@@ -7,7 +7,7 @@ use Rattle.prefix_trie_bits.specs.declared.prefix.Prefix as prefix
 use Rattle.prefix_trie_bits.specs.declared.prefix.Key as key
 use Rattle.prefix_trie_bits.specs.declared.prefix.Refusal.{Refusal}
 use Rattle.prefix_trie_bits.specs.Model.Storage.{InsertsInStorage, RefusesInStorage}
-use Rattle.prefix_trie_table.specs.Shape.{Contents}
+use Rattle.prefix_trie_table.specs.Model.Contents.{Contents}
 use Rattle.prefix_trie_map.specs.Entry.{Entry, Fills, RefusesToFill, entry_map, entry_path}
 use Rattle.prefix_trie_map.specs.Steps.{state, storage}
 

@@ -7,7 +7,8 @@ use Rattle.std.specs.declared.cmp.PartialEq as partial
 use Rattle.std.specs.declared.fmt.Debug as debug
 use Rattle.prefix_trie_bits.specs.declared.prefix.Prefix as prefix
 use Rattle.prefix_trie_bits.specs.declared.prefix.Key as key
-use Rattle.prefix_trie_table.specs.Shape.{Contents, with_value_at, with_longest_at}
+use Rattle.prefix_trie_table.specs.Model.Contents.{Contents}
+use Rattle.prefix_trie_table.specs.Shape.{with_value_at, with_longest_at}
 use Rattle.prefix_trie_map.specs.contracts.map.PrefixMap as map
 
 -- the borrow in a result that has a prefix beside it

@@ -12,7 +12,7 @@ pub mod Walks
 pub mod Lending
 pub mod Entry
 pub mod Filled
-pub mod GrowthLaws
 pub mod Resumed
 pub mod Writing
 pub mod WritingWalks
+pub mod Growth

@@ -1,7 +1,8 @@
 -- A walk of a map is resumed after the last item read. From the Rust crate's documentation of
 -- `iter_from`.
 use Rattle.std.specs.Prelude.{◌≡◌, ℕ, Bool, List, ◌∷◌, ◌++◌, cond}
-use Rattle.prefix_trie_bits.specs.Model.Entries.{Entries, AreWithin}
+use Rattle.prefix_trie_bits.specs.Model.Entries.{Entries}
+use Rattle.prefix_trie_bits.specs.Calls.Entries.{AreWithin}
 use Rattle.prefix_trie_bits.specs.Model.Selections.{listing, listing_from, listing_after, prefix_pairs}
 
 -- no key is longer than the width, as in every map

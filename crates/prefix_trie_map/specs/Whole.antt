@@ -2,8 +2,8 @@
 use Rattle.std.specs.Prelude.{ℕ, ◌<◌, ◌≤◌, ◌^◌}
 use Rattle.prefix_trie_bits.specs.Laws.Steps.{IsMap}
 use Rattle.prefix_trie_bits.specs.Laws.Total.{IsStoredMap}
-use Rattle.prefix_trie_bits.specs.Model.Storage.{HaveBlocks}
-use Rattle.prefix_trie_table.specs.Shape.{Contents}
+use Rattle.prefix_trie_bits.specs.Calls.Storage.{HaveBlocks}
+use Rattle.prefix_trie_table.specs.Model.Contents.{Contents}
 use Rattle.prefix_trie_map.specs.Steps.{state, stored_state}
 
 -- what holds of a map with this width: no key is longer, the nodes can be those of its keys, each node has its blocks,

@@ -7,9 +7,10 @@ use Rattle.std.specs.declared.cmp.PartialEq as partial
 use Rattle.std.specs.declared.fmt.Debug as debug
 use Rattle.prefix_trie_bits.specs.declared.prefix.Prefix as prefix
 use Rattle.prefix_trie_bits.specs.declared.prefix.Key as key
-use Rattle.prefix_trie_bits.specs.Model.WritingWalk.{WritingWalk, walk_over, Next, Passes, Leaves}
+use Rattle.prefix_trie_bits.specs.Calls.WritingWalk.{WritingWalk, walk_over, Next, Passes, Leaves}
 use Rattle.prefix_trie_table.specs.Locations.{seat_of}
-use Rattle.prefix_trie_table.specs.Shape.{Contents, with_value_at}
+use Rattle.prefix_trie_table.specs.Model.Contents.{Contents}
+use Rattle.prefix_trie_table.specs.Shape.{with_value_at}
 use Rattle.prefix_trie_table.specs.Walking.Cursors.{keys_to_come}
 use Rattle.prefix_trie_map.specs.declared.map.writing.cursor.MapCursor.{MapCursor}
 use Rattle.prefix_trie_map.specs.declared.map.writing.cursor.CursorItem.{CursorItem}

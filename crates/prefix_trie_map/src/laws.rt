@@ -7,7 +7,7 @@ ghost use Rattle.prefix_trie_map.specs.Covers.{CoverLaws};
 ghost use Rattle.prefix_trie_map.specs.Filled.{FillLaws};
 ghost use Rattle.prefix_trie_map.specs.Listed.{ListedLaws};
 ghost use Rattle.prefix_trie_map.specs.Resumed.{ResumeLaws};
-ghost use Rattle.prefix_trie_map.specs.GrowthLaws.{SettlingLaws};
+ghost use Rattle.prefix_trie_map.specs.Growth.{GrowthLaws};
 ghost use Rattle.prefix_trie_map.specs.Whole.{WholeLaws};
 
 use prefix_trie_bits::prefix::Prefix;
@@ -60,6 +60,6 @@ pub fn fill_laws<P: Prefix, T: Drop, A: Allocator>()
 ///
 /// `retain`, `drop_children` and `remove_children` have this clause. The bound is the headroom that the array's blocks
 /// had before the first call. The headroom of a block is the slots of one block of each smaller size.
-pub fn settling_laws()
-    ensures { SettlingLaws }
+pub fn growth_laws()
+    ensures { GrowthLaws }
 {}

@@ -14,7 +14,7 @@ ghost use Rattle.prefix_trie_bits.specs.Model.Blocks.{no_layout};
 ghost use Rattle.prefix_trie_bits.specs.Model.Entries.{no_entries, with_entry};
 ghost use Rattle.prefix_trie_bits.specs.Model.Nodes.{root_alone, with_needed};
 ghost use Rattle.prefix_trie_bits.specs.Model.Step.{Insert};
-ghost use Rattle.prefix_trie_bits.specs.Model.Storage.{StepByPath};
+ghost use Rattle.prefix_trie_bits.specs.Calls.Storage.{StepByPath};
 ghost use Rattle.prefix_trie_map.specs.Steps.{stored_state, insert_reply};
 ghost use Rattle.prefix_trie_map.specs.Whole.{IsWhole};
 
@@ -77,7 +77,8 @@ pub struct PrefixMap<P: Prefix, T: Drop, A: Allocator> {
 
 // Contracts see what they see of the table. No key is longer than the width of P, and the nodes are such as keys need.
 impl<P: Prefix, T: Drop, A: Allocator> Model for PrefixMap<P, T, A> {
-    ghost use Rattle.prefix_trie_table.specs.Shape.{Contents, contents_code};
+    ghost use Rattle.prefix_trie_table.specs.Model.Contents.{Contents};
+    ghost use Rattle.prefix_trie_table.specs.Shape.{contents_code};
     ghost use Rattle.prefix_trie_bits.specs.Laws.Steps.{IsMap};
     ghost use Rattle.prefix_trie_map.specs.Steps.{state};
 

@@ -3,13 +3,14 @@ use Rattle.std.proofs.Common.{◌≡◌, ◌∙◌, not, Bool, true, false, true
 use Rattle.std.specs.Option.{option_map, option_or}
 use Rattle.std.specs.FinMap.{contains_key, empty, get, get-empty, get-retain_keys, retain_keys, same_map}
 use Rattle.prefix_trie_bits.specs.Begins.{begins-refl}
-use Rattle.prefix_trie_bits.specs.Order.{listing_cmp, listing_same, listing_total}
+use Rattle.prefix_trie_bits.specs.Model.Order.{listing_cmp}
+use Rattle.prefix_trie_bits.specs.Order.{listing_same, listing_total}
 use Rattle.prefix_trie.specs.Laws.Lookups.{LookupLaws}
 use Rattle.prefix_trie.specs.Words.{Entries, no_entries, shortest_match}
 use Rattle.prefix_trie_ops.specs.Combining.{both_values, common, minus, not_covered, restricted_to}
 use Rattle.prefix_trie_ops.specs.Laws.{CombiningLaws}
 use Rattle.prefix_trie_ops.specs.Merging.{sides, union_of}
-use Rattle.prefix_trie_ops.specs.Turned.{turned_pair, turned_side}
+use Rattle.prefix_trie_ops.specs.Swapped.{swapped_pair, swapped_side}
 use Rattle.prefix_trie_ops.proofs.Merging.{get_union}
 use Rattle.prefix_trie_ops.proofs.Pairs.{get_common}
 
@@ -27,19 +28,19 @@ module _ {T U : Type 0} where
   pub minus_at : (m : Entries T) (n : Entries U) (s : List Bool) → get (minus m n) s ≡ cond (contains_key n s) None (get m s)
   minus_at m n s = refused_at m (contains_key n) s
 
-  union_commutes : (m : Entries T) (n : Entries U) (s : List Bool) → get (union_of n m) s ≡ option_map turned_side (get (union_of m n) s)
-  union_commutes m n s = get_union n m s ∙ go (get m s) (get n s) ∙ sym (ap (option_map turned_side) (get_union m n s))
+  union_commutes : (m : Entries T) (n : Entries U) (s : List Bool) → get (union_of n m) s ≡ option_map swapped_side (get (union_of m n) s)
+  union_commutes m n s = get_union n m s ∙ go (get m s) (get n s) ∙ sym (ap (option_map swapped_side) (get_union m n s))
     where
-      go : (v : Option T) (w : Option U) → sides w v ≡ option_map turned_side (sides v w)
+      go : (v : Option T) (w : Option U) → sides w v ≡ option_map swapped_side (sides v w)
       go None None = refl
       go None (Some w) = refl
       go (Some v) None = refl
       go (Some v) (Some w) = refl
 
-  pub common_commutes : (m : Entries T) (n : Entries U) (s : List Bool) → get (common n m) s ≡ option_map turned_pair (get (common m n) s)
-  common_commutes m n s = get_common m n s ∙ go (get m s) (get n s) ∙ sym (ap (option_map turned_pair) (get_common n m s))
+  pub common_commutes : (m : Entries T) (n : Entries U) (s : List Bool) → get (common n m) s ≡ option_map swapped_pair (get (common m n) s)
+  common_commutes m n s = get_common m n s ∙ go (get m s) (get n s) ∙ sym (ap (option_map swapped_pair) (get_common n m s))
     where
-      go : (v : Option T) (w : Option U) → both_values w v ≡ option_map turned_pair (both_values v w)
+      go : (v : Option T) (w : Option U) → both_values w v ≡ option_map swapped_pair (both_values v w)
       go None None = refl
       go None (Some w) = refl
       go (Some v) None = refl

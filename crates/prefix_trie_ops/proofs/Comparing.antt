@@ -3,7 +3,7 @@
 use Rattle.std.proofs.Common.{◌≡◌, ◌∙◌, Bool, true, false, true≢false, cond, List, [], ◌∷◌, map, Option, Some, None, MatchOption, is_some, ap, sym, refl}
 use Rattle.std.specs.FinMap.{contains_key, get, get-entries, retain_keys}
 use Rattle.std.specs.FinMap.Entries.{find}
-use Rattle.prefix_trie_bits.specs.Order.{listing_cmp}
+use Rattle.prefix_trie_bits.specs.Model.Order.{listing_cmp}
 use Rattle.prefix_trie_bits.proofs.Model.Ordered.{found_first}
 use Rattle.prefix_trie.specs.Words.{Entries, listing}
 use Rattle.prefix_trie_ops.proofs.Combining.{retained_at}

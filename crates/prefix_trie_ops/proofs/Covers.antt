@@ -8,7 +8,8 @@ use Rattle.std.specs.Option.{option_map}
 use Rattle.std.specs.FinMap.{get, contains_key, entries, entries_sorted}
 use Rattle.std.specs.FinMap.Entries.{is_sorted, below_all}
 use Rattle.prefix_trie_bits.specs.Begins.{begins-trans, begins-length, begins-refl, begins-same-length, begins-rest, begins-take, begins-from-take, take-begins, same_bool}
-use Rattle.prefix_trie_bits.specs.Order.{listing_cmp, listing-extension, listing-apart, listing-refl}
+use Rattle.prefix_trie_bits.specs.Model.Order.{listing_cmp}
+use Rattle.prefix_trie_bits.specs.Order.{listing-extension, listing-apart, listing-refl}
 use Rattle.prefix_trie_bits.proofs.Model.Ordered.{not_itself, not_less, sorted-head, sorted-tail, lt-less, t-true, true-t}
 use Rattle.prefix_trie_bits.proofs.Model.Members.{and-first, and-second}
 use Rattle.prefix_trie.specs.Words.{Entries, begins, covers, last_item, lent_item, listing, prefix_pairs}

@@ -12,6 +12,6 @@ pub mod Pairs
 pub mod Reading
 pub mod Removing
 pub mod Selecting
-pub mod Turning
 pub mod Uppermost
 pub mod Walking
+pub mod Swapping

@@ -5,7 +5,8 @@ use Rattle.std.specs.List.{Contains}
 use Rattle.std.specs.Ordering.{is_eq, is_lt, ordering_reverse}
 use Rattle.std.specs.FinMap.{entries_sorted, entries-from_sorted, get, get-entries, get-from_sorted}
 use Rattle.std.specs.FinMap.Entries.{below_all, find, is_sorted}
-use Rattle.prefix_trie_bits.specs.Order.{listing_cmp, listing_same, listing_total, same_string}
+use Rattle.prefix_trie_bits.specs.Model.Order.{listing_cmp, same_string}
+use Rattle.prefix_trie_bits.specs.Order.{listing_same, listing_total}
 use Rattle.prefix_trie.specs.Words.{Entries, listing, prefix_pairs}
 use Rattle.prefix_trie_ops.specs.Merging.{merged, merged_keys, sides, union_of}
 use Rattle.prefix_trie_ops.specs.declared.map.sides.Side.{Side}

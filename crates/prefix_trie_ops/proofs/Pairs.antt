@@ -5,7 +5,7 @@ use Rattle.std.specs.Option.{option_map}
 use Rattle.std.specs.Ordering.{is_lt}
 use Rattle.std.specs.FinMap.{entries_sorted, entries-from_sorted, get, get-entries, get-from_sorted}
 use Rattle.std.specs.FinMap.Entries.{below_all, find, is_sorted}
-use Rattle.prefix_trie_bits.specs.Order.{listing_cmp, same_string}
+use Rattle.prefix_trie_bits.specs.Model.Order.{listing_cmp, same_string}
 use Rattle.prefix_trie.specs.Words.{Entries, listing, prefix_pairs}
 use Rattle.prefix_trie_ops.specs.Combining.{both_values, common, with_partner}
 use Rattle.prefix_trie_ops.proofs.Lists.{contains_here, contains_later}

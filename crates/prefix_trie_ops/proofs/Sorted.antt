@@ -2,7 +2,8 @@
 use Rattle.std.proofs.Common.{◌≡◌, ◌∙◌, ◌&&◌, Bool, true, false, true≢false, cond, List, [], ◌∷◌, Option, Some, None, Less, Equal, Greater, Ordering, ap, sym, subst, refl, T}
 use Rattle.std.specs.Ordering.{is_eq, is_lt, ordering_reverse}
 use Rattle.std.specs.FinMap.Entries.{below_all, find, is_sorted}
-use Rattle.prefix_trie_bits.specs.Order.{listing_cmp, listing_same, listing_total, same_string}
+use Rattle.prefix_trie_bits.specs.Model.Order.{listing_cmp, same_string}
+use Rattle.prefix_trie_bits.specs.Order.{listing_same, listing_total}
 
 pub t_both : (a b : Bool) → T a → T b → T (a && b)
 t_both true b h k = k

@@ -4,5 +4,5 @@ pub mod Laws
 pub mod Lending
 pub mod Merging
 pub mod Optimal
-pub mod Turned
 pub mod Values
+pub mod Swapped

@@ -4,7 +4,8 @@ use Rattle.std.specs.List.{Contains, cons_option, filter_map}
 use Rattle.std.specs.Option.{option_map}
 use Rattle.std.specs.FinMap.{entries_sorted, get, get-entries}
 use Rattle.std.specs.FinMap.Entries.{below_all, find, is_sorted}
-use Rattle.prefix_trie_bits.specs.Order.{listing_cmp, listing-refl, same_string}
+use Rattle.prefix_trie_bits.specs.Model.Order.{listing_cmp, same_string}
+use Rattle.prefix_trie_bits.specs.Order.{listing-refl}
 use Rattle.std.specs.Ordering.{is_eq}
 use Rattle.prefix_trie.specs.Laws.Stored.{StoredLaws}
 use Rattle.prefix_trie.specs.Words.{Entries, listing, prefix_pairs, with_entry, without_entry}
@@ -12,7 +13,7 @@ use Rattle.prefix_trie_ops.specs.Merging.{sides, union_of}
 use Rattle.prefix_trie_ops.specs.declared.map.sides.Side.{Side}
 use Rattle.prefix_trie_ops.specs.declared.map.sides.Side.TheVariants.{Left, Right, Both}
 use Rattle.prefix_trie_ops.proofs.Lists.{contains_here, contains_later}
-use Rattle.prefix_trie_ops.proofs.Turning.{none_after}
+use Rattle.prefix_trie_ops.proofs.Swapping.{none_after}
 use Rattle.prefix_trie_ops.proofs.Sorted.{find_before, same_is, t_first, t_second}
 use Rattle.prefix_trie_ops_tests.specs.Updates.{change_of, with_messages}
 

@@ -10,12 +10,12 @@ pub mod Tiers
 pub mod Capacity
 pub mod Turnovers
 pub mod ResultCases
-pub mod Laying
 pub mod Losing
 pub mod Preparing
 pub mod SlotSums
 pub mod Sizing
 pub mod Copies
 pub mod KeptBlocks
-pub mod Housed
 pub mod NodeLists
+pub mod ListBlocks
+pub mod Building

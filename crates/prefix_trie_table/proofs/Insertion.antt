@@ -5,6 +5,6 @@ pub mod Inserted
 pub mod Inserting
 pub mod Spaces
 pub mod Placements
-pub mod Asks
 pub mod PredictedNeeds
 pub mod Resized
+pub mod Needs

@@ -1,9 +1,9 @@
 -- The second table of a split, while values come to it.
-pub mod Coming
 pub mod Putting
-pub mod Valued
 pub mod Counting
 pub mod Second
 pub mod Moved
 pub mod Packed
 pub mod SplitOff
+pub mod NextValue
+pub mod SecondValues

@@ -36,7 +36,7 @@ pub use Rattle.prefix_trie_bits.proofs.Bitmaps.{has-and, has-zero}
 pub use Rattle.prefix_trie_bits.proofs.Checks.{at_below, both}
 unfoldable pub use Rattle.prefix_trie_bits.proofs.Checks.{each}
 pub use Rattle.prefix_trie_bits.proofs.Listing.{count-strings, strings-short}
-pub use Rattle.prefix_trie_bits.proofs.Model.SplitsOff.{handing_laws}
+pub use Rattle.prefix_trie_bits.proofs.Model.SplitsOff.{split_laws}
 pub use Rattle.prefix_trie_bits.proofs.Model.Homes.{home-begins, home-depth, home-length, home-longest, own_home}
 pub use Rattle.prefix_trie_bits.proofs.Model.Matches.{IsMatch-from_covers, covers-from_IsMatch, match_laws, one_of_length}
 pub use Rattle.prefix_trie_bits.proofs.Model.Members.{and-first, and-join, and-second, any-node_above, get-part_below, get-without_below, get-without_entry, has-empty, has-inserted, has-removed, has-retained, has-root_alone, has-with_nodes, is-same_string, needed_for, needs_root, or-cases, or-left, or-right, same_entries, same_members, same_nodes, same_string-is, some-value}
@@ -44,7 +44,7 @@ pub use Rattle.prefix_trie_bits.proofs.Model.NodeListings.{listing_at_child, lis
 pub use Rattle.prefix_trie_bits.proofs.Model.NodeSets.{AreNodes-needed, AreNodes-without_entry}
 pub use Rattle.prefix_trie_bits.proofs.Model.Ordered.{each-behind, entries-empty, entries-retained, find-from_Contains, lt-less, not_itself, shorter-first, sorted-head, sorted-tail, t-true, true-t}
 pub use Rattle.prefix_trie_bits.proofs.Model.Pruning.{begins-nil, pruning_laws, removed_fewer}
-pub use Rattle.prefix_trie_bits.proofs.Model.Storage.Readied.{above, free_here, free_later, goes_up}
+pub use Rattle.prefix_trie_bits.proofs.Model.Storage.PreparedInsertions.{above, free_here, free_later, goes_up}
 pub use Rattle.prefix_trie_bits.proofs.Model.Storage.Shrinking.{IsSmallest, first_in, has_cases, has_some, in_cases, later_in, smallest_of}
 pub use Rattle.prefix_trie_bits.proofs.Model.Storage.Slots.{how_many, how_many-more, needed_most, shrinks_few, sizes_to, slots_most, total_most}
 pub use Rattle.prefix_trie_bits.proofs.Model.Storage.Paths.{blocks_needed, none_needed}
@@ -54,24 +54,30 @@ pub use Rattle.prefix_trie_bits.proofs.Selecting.{is_in-and}
 pub use Rattle.prefix_trie_bits.proofs.Strings.{length-short, string-bit, top_length, value_bit-injective, value_bit-longer, value_bit-small}
 pub use Rattle.prefix_trie_bits.specs.Begins.{begins-append, begins-from-rest, begins-from-take, begins-length, begins-linear, begins-longer, begins-refl, begins-rest, begins-same-length, begins-take, begins-trans, same_bool, take-begins}
 pub use Rattle.prefix_trie_bits.specs.BitStrings.{digits-number, length-digits, number-bits, number-digits, number-lt, same-from-number}
-pub use Rattle.prefix_trie_bits.specs.Bits.{number, same_bit, zeros}
-unfoldable pub use Rattle.prefix_trie_bits.specs.Bits.{begins, digits}
-pub use Rattle.prefix_trie_bits.specs.Laws.Pruning.{IsTakenOut, PruningLaws}
-pub use Rattle.prefix_trie_bits.specs.Model.Retaining.{RetainsEntries, CallableOnEachEntry}
-pub use Rattle.prefix_trie_bits.specs.Model.Blocks.{AreBlocksOf, HasBlock, KeepsBlocks, Layout, LongerByOne, MakesAtMost, MakesBlocks, NodesHaveBlocks, Sizes, SizesStepBetween, SizesStepDown, StepsBetween, StepsDown, Tiles, child_block_count, child_block_sizes, child_count, free_of, made_of, no_layout, one_of, own_entries, smallest_size, used_of, value_block_count, value_block_sizes}
-pub use Rattle.prefix_trie_bits.specs.Model.Entries.{AreWithin, Entries, no_entries, part_below, with_entry, without_below, without_entry}
-pub use Rattle.prefix_trie_bits.specs.Model.SplitsOff.{SplitsOffInStorage, IsPacked, packed_block, packed_cell_slots, packed_slots}
+pub use Rattle.prefix_trie_bits.specs.Model.Bits.{number, same_bit, zeros}
+unfoldable pub use Rattle.prefix_trie_bits.specs.Model.Bits.{begins, digits}
+pub use Rattle.prefix_trie_bits.specs.Laws.Pruning.{IsPrunedNode, PruningLaws}
+pub use Rattle.prefix_trie_bits.specs.Calls.Retaining.{RetainsEntries, CallableOnEachEntry, RetainsInStorage}
+pub use Rattle.prefix_trie_bits.specs.Calls.Blocks.{AreBlocksOf, HasBlock, NodesHaveBlocks, Tiles}
+pub use Rattle.prefix_trie_bits.specs.Model.Blocks.{KeepsBlocks, Layout, LongerByOne, MakesAtMost, MakesBlocks, Sizes, SizesStepBetween, SizesStepDown, StepsBetween, StepsDown, child_block_count, child_block_sizes, child_count, free_of, made_of, no_layout, one_of, own_entries, smallest_size, used_of, value_block_count, value_block_sizes}
+pub use Rattle.prefix_trie_bits.specs.Calls.Entries.{AreWithin, part_below}
+pub use Rattle.prefix_trie_bits.specs.Model.Entries.{Entries, no_entries, with_entry, without_below, without_entry}
+pub use Rattle.prefix_trie_bits.specs.Calls.SplitsOff.{SplitsOffInStorage, IsPacked, packed_block, packed_cell_slots, packed_slots}
 pub use Rattle.prefix_trie_bits.specs.Model.Insertion.{TakesBlocks, block_needed, missing_cell_slots, child_block_needed, missing_child_blocks, child_blocks_needed, gains_child, missing_of, slots_of_missing, missing_node_slots, value_block_needed, missing_value_blocks, value_blocks_needed}
-pub use Rattle.prefix_trie_bits.specs.Model.Matches.{IsMatch, covers, longest_match, shortest_match}
-pub use Rattle.prefix_trie_bits.specs.Model.NodeListings.{listing_at_place, listing_at_places, pair_of}
-pub use Rattle.prefix_trie_bits.specs.Model.Nodes.{AreNodes, Nodes, has_node, holders, home, is_holder, is_node_depth, is_parent, is_pruned, needed, nodes_above, nodes_not_below, nodes_without, nodes_without_below, parents, pruned, root_alone, with_needed, with_nodes}
+pub use Rattle.prefix_trie_bits.specs.Calls.Matches.{IsMatch}
+pub use Rattle.prefix_trie_bits.specs.Model.Matches.{covers, longest_match, shortest_match}
+pub use Rattle.prefix_trie_bits.specs.Calls.NodeListings.{listing_at_place, listing_at_places, pair_of}
+pub use Rattle.prefix_trie_bits.specs.Calls.Nodes.{AreNodes, holders, is_holder, is_parent, parents}
+pub use Rattle.prefix_trie_bits.specs.Model.Nodes.{Nodes, has_node, home, is_node_depth, is_pruned, needed, nodes_above, nodes_not_below, nodes_without, nodes_without_below, pruned, root_alone, with_needed, with_nodes}
 pub use Rattle.prefix_trie_bits.specs.Model.Space.{LeavesSpace, MayPassLimit, Space}
 pub use Rattle.prefix_trie_bits.specs.Model.Selections.{listing, listing_after, listing_below, listing_from}
 pub use Rattle.prefix_trie_bits.specs.Model.Step.{Clear, Done, Insert, Remove, RemoveChildren, RemoveKeepTree, Reply, State, Step}
-pub use Rattle.prefix_trie_bits.specs.Model.Storage.{HaveBlocks, InsertsInStorage, LeavesStorage, PrunesInStorage, PreparesInStorage, RefusesInStorage, RemovesManyInStorage, RemovesValueInStorage, RetainsInStorage, StepByPath, Storage, empty_storage}
+pub use Rattle.prefix_trie_bits.specs.Calls.Storage.{HaveBlocks, PreparesInStorage, StepByPath}
+pub use Rattle.prefix_trie_bits.specs.Model.Storage.{InsertsInStorage, LeavesStorage, PrunesInStorage, RefusesInStorage, RemovesManyInStorage, RemovesValueInStorage, Storage, empty_storage}
 pub use Rattle.prefix_trie_bits.specs.Model.Visits.{visits, visits_of_match, visits_to_match}
-pub use Rattle.prefix_trie_bits.specs.Order.{listing-apart, listing-common, listing-refl, listing_cmp, listing_same, listing_total, same_string}
-pub use Rattle.prefix_trie_bits.specs.Places.{HoldsChildren, HoldsPlaces, HoldsValues, IsLongest, IsShortest, NoneBegins, Sets, has, is_before, is_in, place_of, places, stands, strings, value_bit}
+pub use Rattle.prefix_trie_bits.specs.Order.{listing-apart, listing-common, listing-refl, listing_same, listing_total}
+pub use Rattle.prefix_trie_bits.specs.Model.Order.{listing_cmp, same_string}
+pub use Rattle.prefix_trie_bits.specs.Places.{HoldsChildren, HoldsPlaces, HoldsValues, IsLongest, IsShortest, NoneBegins, Sets, has, is_before, is_in, place_of, places, has_first, strings, value_bit}
 unfoldable pub use Rattle.prefix_trie_bits.specs.Places.{ones_below}
 pub use Rattle.prefix_trie_bits.specs.Walks.{to_come}
 pub use Rattle.prefix_trie_bits.specs.Windows.{take-extend, window-of-front}
@@ -84,35 +90,36 @@ pub use Rattle.prefix_trie_bits.specs.declared.prefix.Refused.{Refused}
 pub use Rattle.prefix_trie_table.specs.Needs.{Made, MadeAtMost, Makes, ObtainsBoth, cells_needed, nodes_needed}
 pub use Rattle.prefix_trie_table.specs.Bitmaps.{bits_below, if_set}
 unfoldable pub use Rattle.prefix_trie_table.specs.Bitmaps.{bits, has_bit, rank}
-pub use Rattle.prefix_trie_table.specs.BlockCounts.{block_counts, slots_counted, tier_count, used_blocks}
-pub use Rattle.prefix_trie_table.specs.Bulk.{AreAnswered, AreAnswers, AreCosts, AreRead, EachOf, GoOn, HasFound, IsAhead, IsAnswer, IsLongestFound, IsNew, cost_of, found_of, new_descent, question_of, reached_by, slot_of}
-pub use Rattle.prefix_trie_table.specs.Cells.{blank_node, cell_sizes, node_at, node_sizes}
-unfoldable pub use Rattle.prefix_trie_table.specs.Cells.{HasSizes}
+pub use Rattle.prefix_trie_table.specs.Blocks.BlockCounts.{block_counts, slots_counted, tier_count, used_blocks}
+pub use Rattle.prefix_trie_table.specs.Bulk.{HaveMatches, AreMatchesFound, AreCosts, AreRead, EachOf, GoOn, HasFound, IsAhead, IsMatchFound, IsLongestFound, IsNew, cost_of, found_of, new_descent, question_of, reached_by, slot_of}
+pub use Rattle.prefix_trie_table.specs.Blocks.Cells.{blank_node, cell_sizes, node_at, node_sizes}
+unfoldable pub use Rattle.prefix_trie_table.specs.Blocks.Cells.{HasSizes}
 pub use Rattle.prefix_trie_table.specs.Copies.{AreCloned, IsCloned, IsPairCloned}
 pub use Rattle.prefix_trie_table.specs.Digits.{bit_of, chunks_of, rest_of}
 pub use Rattle.prefix_trie_table.specs.Forest.{CellsHold, ChildAdded, Deepest, EntryAdded, Holds, IsEnd, IsNodeAt, IsSlot, NodesHold, SomeNodes, SomeTable, ValueSet, Walked, at_child, at_root, child_blocks, child_blocks_of, child_items, child_slot, entry_count, gains, has_child, has_value, is_start, with_child_removed, node_or_blank, one_if, own_count, read_from, same_path, size_gained, starts, times, value_blocks, value_blocks_of, value_of, with_child, with_node, with_value, without}
 unfoldable pub use Rattle.prefix_trie_table.specs.Forest.{below, child, read, value_in}
-pub use Rattle.prefix_trie_table.specs.Splitting.Laid.{Hangs, IsSubtree, IsLaid, IsPackedNode, IsPart, IsSource, LaysNode, NothingLaid, SomeValue, child_slots, in_child, in_part, no_value, slots_at_child, slots_below, value_slots}
-unfoldable pub use Rattle.prefix_trie_table.specs.Splitting.Laid.{sum_to}
-pub use Rattle.prefix_trie_table.specs.Splitting.Laying.{CanLay, Lays, LaysList, NoneFree}
+pub use Rattle.prefix_trie_table.specs.Splitting.Built.{AreNodesFrom, IsSubtree, IsBuilt, IsPackedNode, IsPart, IsSource, BuildsNode, NothingBuilt, SomeValue, child_slots, in_child, in_part, no_value, slots_at_child, slots_below, value_slots}
+unfoldable pub use Rattle.prefix_trie_table.specs.Splitting.Built.{sum_to}
+pub use Rattle.prefix_trie_table.specs.Splitting.Building.{CanBuild, Builds, BuildsList, NoneFree}
 pub use Rattle.prefix_trie_table.specs.Splitting.Moving.{Awaits, AwaitsNext, HasCome, filled_with, split_off}
 pub use Rattle.prefix_trie_table.specs.Splitting.Skeleton.{IsSecond, IsSkeleton}
 pub use Rattle.prefix_trie_table.specs.Layouts.{AreSizesBy, Sized, Sized-prop, child_block_size, own_children, value_block_size}
 pub use Rattle.prefix_trie_table.specs.Locations.{EndsAt, IsLocation, IsSearchEnd, Locates, seat_in, slot_from, value_seat}
 unfoldable pub use Rattle.prefix_trie_table.specs.Locations.{seat_of}
-pub use Rattle.prefix_trie_table.specs.Losing.{LosesOne}
+pub use Rattle.prefix_trie_table.specs.Blocks.Losing.{LosesOne}
 pub use Rattle.prefix_trie_table.specs.Matching.{IsHeld, LackLastBit, LongestHeld, NoneHeld, SeatAt, ShortestHeld, cell_slot, holds_value, match_seat}
 pub use Rattle.prefix_trie_table.specs.OwnBlocks.{child_need, value_need}
-pub use Rattle.prefix_trie_table.specs.Removals.{AreAbove, ChildDropped, Drops, EntryRemoved, EntryTaken, GivesBack, GrowsBy, IsBare, IsStocked, AreAncestors, ShrinksList, MakesEntered, MakesFew, Pruned, PrunedTo, SameBlock, SameChildren, SameValues, StandsAtEnd, ValueTaken, more, none, slot_in}
+pub use Rattle.prefix_trie_table.specs.Removals.{AreAbove, ChildDropped, Drops, EntryRemoved, EntryTaken, GivesBack, GrowsBy, IsBare, IsStocked, AreAncestors, ShrinksList, MakesEntered, MakesFew, Pruned, PrunedTo, SameBlock, SameChildren, SameValues, IsAtEnd, ValueTaken, more, none, slot_in}
 pub use Rattle.prefix_trie_table.specs.Retaining.{AsksUpTo, BlocksBetween, HasPlace, IsSite, PreservesBelow, MayAskAt, Needs, Retains, RetainsAll, RetainsIn, RetainsTo, Stays, is_at, is_at_some, is_under, is_under_some}
-pub use Rattle.prefix_trie_table.specs.Runs.{put_run, run, swap_runs}
+pub use Rattle.prefix_trie_table.specs.Blocks.Runs.{put_run, run, swap_runs}
 pub use Rattle.prefix_trie_table.specs.SearchPaths.{IsAlong, IsLast, IsOwn, ReadsAlong, slot_at}
 pub use Rattle.prefix_trie_table.specs.GrowthBounds.{BoundsNodeGrowth, BoundsGrowth, BoundsGrowthBy, child_headroom, headroom_if_any, headroom_of, of_any, smaller_sizes, value_headroom}
 unfoldable pub use Rattle.prefix_trie_table.specs.GrowthBounds.{headroom}
-pub use Rattle.prefix_trie_table.specs.Shape.{Contents, IsShapeOf, Shaped, Shaped-prop, same_shape, state, with_longest_at, with_match_at, with_stored_at, with_value_at}
-pub use Rattle.prefix_trie_table.specs.Slots.{HasValue, IsSeat, SeatOf, with_cell, with_slot}
-pub use Rattle.prefix_trie_table.specs.Steps.{BoundsStorageGrowth, insert_reply, insert_new_reply, stored_state}
-pub use Rattle.prefix_trie_table.specs.Store.{AreFree, HasList, HoldsItems, IsOfTier, IsVacant, Keeps, KeepsMade, MakesNone, Obtains, SameMade, SameSpace, SameSlots, Sound, Store, Tier, Turnover, UsedBlock, block, extent, filled, free_counts, free_extents, free_in, held, missing_in, list_need, list_size, made_in, many_of, needs, no_blocks, none_of, of_size, size_if_any, size_in, missing_slots, slots_made, slots_of, tier_at, tier_sizes, with_tier}
+pub use Rattle.prefix_trie_table.specs.Model.Contents.{Contents, state, stored_state}
+pub use Rattle.prefix_trie_table.specs.Shape.{IsShapeOf, Shaped, Shaped-prop, same_shape, with_longest_at, with_match_at, with_stored_at, with_value_at}
+pub use Rattle.prefix_trie_table.specs.Blocks.Slots.{HasValue, IsSeat, SeatOf, with_cell, with_slot}
+pub use Rattle.prefix_trie_table.specs.Steps.{BoundsStorageGrowth, insert_reply, insert_new_reply}
+pub use Rattle.prefix_trie_table.specs.Blocks.Store.{AreFree, HasList, HoldsItems, IsOfTier, IsVacant, Keeps, KeepsMade, MakesNone, Obtains, SameMade, SameSpace, SameSlots, Sound, Store, Tier, Turnover, UsedBlock, block, extent, filled, free_counts, free_extents, free_in, held, missing_in, list_need, list_size, made_in, many_of, needs, no_blocks, none_of, of_size, size_if_any, size_in, missing_slots, slots_made, slots_of, tier_at, tier_sizes, with_tier}
 pub use Rattle.prefix_trie_table.specs.Tables.{ForHeld, Grows, GrowsBoth, IsReached, IsTable, IsTrie, MayPass, own_value}
 pub use Rattle.prefix_trie_table.specs.Walking.Covers.{AreLeft, GoesOn, IsCover, IsCovering, NextHeld, TakesMatch, TakesShortest, is_ahead, still_covering}
 pub use Rattle.prefix_trie_table.specs.Walking.Starts.{behind, kept, places_in, selected}

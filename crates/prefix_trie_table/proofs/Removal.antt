@@ -10,7 +10,7 @@ pub mod GrowthBounds
 pub mod AllBelow
 pub mod Listed
 pub mod PartTaken
-pub mod Stepping
-pub mod Stepped
-pub mod Still
 pub mod Between
+pub mod GrowthOfArrays
+pub mod ModelSizes
+pub mod BlockSizes

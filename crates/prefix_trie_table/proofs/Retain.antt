@@ -2,7 +2,7 @@
 pub mod Asked
 pub mod AskedBelow
 pub mod Retained
-pub mod Seen
-pub mod Placed
-pub mod Lowered
-pub mod Rooted
+pub mod CurrentValue
+pub mod CurrentPlaces
+pub mod CurrentChild
+pub mod FromRoot

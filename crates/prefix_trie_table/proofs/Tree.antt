@@ -11,4 +11,4 @@ pub mod Subtrees
 pub mod Kept
 pub mod Copying
 pub mod Capacities
-pub mod Stated
+pub mod ModelSteps

@@ -5,12 +5,12 @@ use Rattle.prefix_trie_table.specs.declared.table.bulk.Found.{Found}
 use Rattle.prefix_trie_table.specs.declared.table.bulk.Descent.{Descent}
 use Rattle.prefix_trie_table.specs.declared.table.lookup.Reached.{Reached}
 use Rattle.prefix_trie_table.specs.declared.table.matching.Match.{Match}
-use Rattle.prefix_trie_table.specs.Cells.{node_at, node_sizes}
+use Rattle.prefix_trie_table.specs.Blocks.Cells.{node_at, node_sizes}
 use Rattle.prefix_trie_table.specs.Digits.{chunks_of}
 use Rattle.prefix_trie_table.specs.Forest.{NodesHold, IsEnd, SomeNodes, read}
 use Rattle.prefix_trie_table.specs.Matching.{LackLastBit, LongestHeld, match_seat}
 use Rattle.prefix_trie_table.specs.SearchPaths.{IsAlong}
-use Rattle.prefix_trie_table.specs.Store.{Store}
+use Rattle.prefix_trie_table.specs.Blocks.Store.{Store}
 
 -- P holds of each of the first n items and its index
 abbrev pub EachOf : {X : Type 0} → (ℕ → X → Type 0) → ℕ → List X → Type 0
@@ -61,13 +61,13 @@ abbrev pub reached_by : Descent → Node → ℕ → Reached
 reached_by w n level = record { at = w.at; node = n; level = level }
 
 -- what was found is the match of a question, in these nodes
-abbrev pub IsAnswer : List Node → List Bool → Option Found → Type 0
-IsAnswer nodes q found = IsLongestFound (read nodes) q (length q + 1) found
+abbrev pub IsMatchFound : List Node → List Bool → Option Found → Type 0
+IsMatchFound nodes q found = IsLongestFound (read nodes) q (length q + 1) found
 
 -- each question has its match
-abbrev pub AreAnswers : List Node → List (List Bool) → List (Option Found) → Type 0
-AreAnswers nodes questions found =
-    (i : ℕ) (q : List Bool) (a : Option Found) → i < length questions → q ≡ slice_index_or questions i q → a ≡ slice_index_or found i a → IsAnswer nodes q a
+abbrev pub AreMatchesFound : List Node → List (List Bool) → List (Option Found) → Type 0
+AreMatchesFound nodes questions found =
+    (i : ℕ) (q : List Bool) (a : Option Found) → i < length questions → q ≡ slice_index_or questions i q → a ≡ slice_index_or found i a → IsMatchFound nodes q a
 
 module _ (v : Store Node) (questions : List (List Bool)) where
   -- the search for a question is at the next node, and the longest match above that node is known
@@ -79,8 +79,8 @@ module _ (v : Store Node) (questions : List (List Bool)) where
     pub best : HasFound v question (5 * level) w.best
 
   -- a question whose search has ended has its match
-  abbrev pub AreAnswered : List ℕ → List (Option Found) → Type 0
-  AreAnswered under_way found =
+  abbrev pub HaveMatches : List ℕ → List (Option Found) → Type 0
+  HaveMatches under_way found =
       (i : ℕ) (q : List Bool) (a : Option Found) → i < length questions → q ≡ slice_index_or questions i q → a ≡ slice_index_or found i a
       → Contains under_way i ⊎ HasFound v q (length q + 1) a
 
@@ -100,5 +100,5 @@ module _ (v : Store Node) (questions : List (List Bool)) where
   -- of these searches some go on, and the questions of the others have their matches
   pub record GoOn (level : ℕ) (descents next : List Descent) (before after : List (Option Found)) : Type 0 where
     pub descents_are : All (IsDescent (level + 1)) next
-    pub answered : (others : List ℕ) → AreAnswered (map question_of descents ++ others) before → AreAnswered (map question_of next ++ others) after
+    pub matched : (others : List ℕ) → HaveMatches (map question_of descents ++ others) before → HaveMatches (map question_of next ++ others) after
     pub counted : (costs : List ℕ) → AreCosts costs → sum_by (cost_of costs) descents + length next * (level + 1) ≡ sum_by (cost_of costs) next + length descents * (level + 1)

@@ -1,7 +1,7 @@
 -- The chunks of a bit string: the search path from the root to its own node, five bits at a time;
 -- and its place in that node. The five levels are those of the Rust crate.
 use Rattle.std.specs.Prelude.{ℕ, Bool, List, [], ◌∷◌}
-use Rattle.prefix_trie_bits.specs.Bits.{number}
+use Rattle.prefix_trie_bits.specs.Model.Bits.{number}
 use Rattle.prefix_trie_bits.specs.Places.{value_bit}
 
 -- the string's five-bit chunks as numbers: the path of its own node

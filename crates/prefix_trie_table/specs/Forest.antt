@@ -7,9 +7,9 @@ use Rattle.std.specs.Cmp.Lexicographic.{slice_cmp}
 use Rattle.std.specs.List.{list_any}
 use Rattle.prefix_trie_table.specs.declared.allocator.node.Node.{Node}
 use Rattle.prefix_trie_table.specs.Bitmaps.{has_bit, rank, bits}
-use Rattle.prefix_trie_table.specs.Cells.{blank_node, node_at, node_sizes, cell_sizes}
-pub use Rattle.prefix_trie_table.specs.Store.{held, size_in, tier_sizes}
-use Rattle.prefix_trie_table.specs.Store.{Store, UsedBlock, Sound}
+use Rattle.prefix_trie_table.specs.Blocks.Cells.{blank_node, node_at, node_sizes, cell_sizes}
+pub use Rattle.prefix_trie_table.specs.Blocks.Store.{held, size_in, tier_sizes}
+use Rattle.prefix_trie_table.specs.Blocks.Store.{Store, UsedBlock, Sound}
 
 -- the slot of the child c of a node
 abbrev pub child_slot : Node → ℕ → ℕ
@@ -142,14 +142,14 @@ module _ {T : Type 0} where
 pub record IsNodeAt (nodes : List ℕ → Option Node) (slot : ℕ) : Type 0 where
   pub path : List ℕ
   pub node : Node
-  pub stands : IsSlot nodes path slot
+  pub is_there : IsSlot nodes path slot
   pub is : nodes path ≡ Some node
 
 -- the node n at p gets a blank child c, in this slot
 pub record ChildAdded (reading : List ℕ → Option Node) (paths : List (List ℕ)) (p : List ℕ) (n : Node) (c : ℕ) (w : Store Node) (slot : ℕ) : Type 0 where
   pub node : Node
   pub hold : NodesHold node_sizes (with_child reading p node c) ((p ++ c ∷ []) ∷ paths) w
-  pub stands : IsSlot (with_child reading p node c) (p ++ c ∷ []) slot
+  pub is_there : IsSlot (with_child reading p node c) (p ++ c ∷ []) slot
   pub value_bitmap : node.value_bitmap ≡ n.value_bitmap
   pub value_block : node.value_block ≡ n.value_block
   pub value_tier : node.value_tier ≡ n.value_tier
@@ -178,13 +178,13 @@ pub record ValueSet {T : Type 0} (reading : List ℕ → Option Node) (paths : L
 -- the search path ends at this depth: there is a node at it, and no next one, or the path is over
 pub record IsEnd (nodes : List ℕ → Option Node) (path : List ℕ) (depth : ℕ) : Type 0 where
   pub within : depth ≤ length path
-  pub stands : is_some (nodes (take depth path)) ≡ true
+  pub is_there : is_some (nodes (take depth path)) ≡ true
   pub stops : depth < length path → is_some (nodes (take (depth + 1) path)) ≡ false
 
 -- the deepest node on a path is in this slot
 pub record Deepest (reading : List ℕ → Option Node) (path : List ℕ) (depth slot : ℕ) (v : Store Node) : Type 0 where
   pub node : Node
-  pub stands : IsSlot reading (take depth path) slot
+  pub is_there : IsSlot reading (take depth path) slot
   pub is : reading (take depth path) ≡ Some node
 
 -- all starts of a path, itself among them

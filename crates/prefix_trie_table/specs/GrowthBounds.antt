@@ -5,7 +5,7 @@ use Rattle.std.specs.FinMap.{values}
 use Rattle.prefix_trie_bits.specs.Model.Blocks.{Sizes}
 use Rattle.prefix_trie_table.specs.declared.allocator.node.Node.{Node}
 use Rattle.prefix_trie_table.specs.OwnBlocks.{child_block_size, value_block_size}
-use Rattle.prefix_trie_table.specs.Store.{Store}
+use Rattle.prefix_trie_table.specs.Blocks.Store.{Store}
 
 -- the sizes of blocks but the largest, of nodes and of values alike
 abbrev pub smaller_sizes : List ℕ

@@ -1,15 +1,8 @@
-pub mod Runs
-pub mod Growth
-pub mod Store
-pub mod Losing
-pub mod Cells
 pub mod Bitmaps
 pub mod Digits
 pub mod OwnBlocks
 pub mod Forest
-pub mod Slots
 pub mod Lending
-pub mod BlockCounts
 pub mod Layouts
 pub mod Shape
 pub mod Tables
@@ -25,4 +18,5 @@ pub mod Splitting
 pub mod Retaining
 pub mod Copies
 pub mod Walking
-pub mod NodeArrays
+pub mod Blocks
+pub mod Model

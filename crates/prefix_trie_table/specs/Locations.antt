@@ -13,12 +13,13 @@ use Rattle.prefix_trie_table.specs.declared.table.seat.SearchEnd.{SearchEnd}
 use Rattle.prefix_trie_table.specs.declared.table.seat.Location.{Location}
 use Rattle.prefix_trie_table.specs.declared.table.seat.Location.TheVariants.{Stored, Missing}
 use Rattle.prefix_trie_table.specs.Bitmaps.{has_bit, rank}
-use Rattle.prefix_trie_table.specs.Cells.{node_at}
+use Rattle.prefix_trie_table.specs.Blocks.Cells.{node_at}
 use Rattle.prefix_trie_table.specs.Digits.{chunks_of, bit_of}
 use Rattle.prefix_trie_table.specs.Forest.{child_slot, read}
-use Rattle.prefix_trie_table.specs.Shape.{Contents, coded_node}
+use Rattle.prefix_trie_table.specs.Model.Contents.{Contents}
+use Rattle.prefix_trie_table.specs.Shape.{coded_node}
 use Rattle.prefix_trie_table.specs.SearchPaths.{IsLast}
-use Rattle.prefix_trie_table.specs.Store.{Store}
+use Rattle.prefix_trie_table.specs.Blocks.Store.{Store}
 
 -- where the value at bit b of a node is stored
 abbrev pub value_seat : Node → ℕ → Seat
@@ -42,7 +43,7 @@ slot_from nodes at (c ∷ cs) = slot_from nodes (child_slot (node_at nodes at) c
 -- is in this slot
 pub record IsSearchEnd (nodes : List Node) (q : List Bool) (end : SearchEnd) : Type 0 where
   pub within : end.reached.level ≤ length (chunks_of q)
-  pub stands : is_some (read nodes (take end.reached.level (chunks_of q))) ≡ true
+  pub is_there : is_some (read nodes (take end.reached.level (chunks_of q))) ≡ true
   pub stops : end.reached.level < length (chunks_of q) → is_some (read nodes (take (end.reached.level + 1) (chunks_of q))) ≡ false
   pub slot_is : end.reached.at ≡ slot_from nodes 0 (take end.reached.level (chunks_of q))
   pub node_is : end.reached.node ≡ node_at nodes end.reached.at
@@ -73,7 +74,7 @@ is_seat-prop nodes q seat = Coded-set (coded_option coded_seat) _ _
 pub IsSearchEnd-prop : (nodes : List Node) (q : List Bool) (end : SearchEnd) → IsProp (IsSearchEnd nodes q end)
 IsSearchEnd-prop nodes q end = λ x y i. record {
   within = le_prop x.within y.within i;
-  stands = Coded-set coded_bool _ _ x.stands y.stands i;
+  is_there = Coded-set coded_bool _ _ x.is_there y.is_there i;
   stops = Π_prop (λ _. Coded-set coded_bool _ _) x.stops y.stops i;
   slot_is = Coded-set coded_ℕ _ _ x.slot_is y.slot_is i;
   node_is = Coded-set coded_node _ _ x.node_is y.node_is i;

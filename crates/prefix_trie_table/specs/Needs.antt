@@ -3,7 +3,7 @@ use Rattle.std.specs.Prelude.{◌≡◌, ◌⊎◌, ℕ, ◌+◌, ◌-◌, ◌*�
 use Rattle.prefix_trie_table.specs.declared.allocator.node.Node.{Node}
 use Rattle.prefix_trie_table.specs.declared.table.lookup.Reached.{Reached}
 use Rattle.prefix_trie_table.specs.OwnBlocks.{child_need, value_need}
-use Rattle.prefix_trie_table.specs.Store.{Store, AreFree, made_in, needs, missing_in, missing_slots}
+use Rattle.prefix_trie_table.specs.Blocks.Store.{Store, AreFree, made_in, needs, missing_in, missing_slots}
 
 -- the sizes of the node blocks that a bit string needs, if this node is the last on its search path
 abbrev pub nodes_needed : Reached → List Bool → List ℕ
@@ -47,4 +47,4 @@ pub record ObtainsBoth {T X E : Type 0} (for_limit for_memory : E → Type 0) (r
   pub cells_made : Makes r w w2 cells
   pub range : IfErr r (λ e. for_limit e → Passes v nodes ⊎ Passes w cells)
   pub memory : IfErr r (λ e. for_memory e → MissingFits v2 nodes ⊎ MissingFits w2 cells)
-  pub lacks : OnErr r (0 < missing_slots v nodes + missing_slots w cells)
+  pub some_missing : OnErr r (0 < missing_slots v nodes + missing_slots w cells)

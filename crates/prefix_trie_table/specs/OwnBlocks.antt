@@ -5,8 +5,8 @@ use Rattle.prefix_trie_bits.specs.Model.Blocks.{child_block_sizes, value_block_s
 use Rattle.prefix_trie_bits.specs.Model.Insertion.{block_needed}
 use Rattle.prefix_trie_table.specs.declared.allocator.node.Node.{Node}
 use Rattle.prefix_trie_table.specs.Bitmaps.{rank}
-use Rattle.prefix_trie_table.specs.Cells.{node_sizes, cell_sizes}
-use Rattle.prefix_trie_table.specs.Store.{size_if_any, size_in}
+use Rattle.prefix_trie_table.specs.Blocks.Cells.{node_sizes, cell_sizes}
+use Rattle.prefix_trie_table.specs.Blocks.Store.{size_if_any, size_in}
 
 -- the size of the block of a node's children, if it has children
 abbrev pub child_block_size : Option Node → Option ℕ

@@ -2,10 +2,11 @@
 use Rattle.std.specs.Prelude.{◌≡◌, ◌≢◌, ℕ, ◌+◌, ◌<◌, ◌≤◌, ◌⊎◌, Bool, true, false, List, [], ◌∷◌, ◌++◌, length, take, slice_index_or, Option, None, Some, is_some}
 use Rattle.prefix_trie_table.specs.declared.allocator.node.Node.{Node}
 use Rattle.prefix_trie_table.specs.Bitmaps.{rank}
-use Rattle.prefix_trie_table.specs.Cells.{node_sizes, cell_sizes}
+use Rattle.prefix_trie_table.specs.Blocks.Cells.{node_sizes, cell_sizes}
 use Rattle.prefix_trie_table.specs.Digits.{chunks_of}
-use Rattle.prefix_trie_table.specs.Store.{Store, SameSpace, MakesNone, tier_sizes, free_in, made_in, free_counts}
-use Rattle.prefix_trie_bits.specs.Model.Blocks.{HasBlock, StepsDown, LongerByOne, MakesBlocks, MakesAtMost, made_of}
+use Rattle.prefix_trie_table.specs.Blocks.Store.{Store, SameSpace, MakesNone, tier_sizes, free_in, made_in, free_counts}
+use Rattle.prefix_trie_bits.specs.Calls.Blocks.{HasBlock}
+use Rattle.prefix_trie_bits.specs.Model.Blocks.{StepsDown, LongerByOne, MakesBlocks, MakesAtMost, made_of}
 use Rattle.prefix_trie_table.specs.Layouts.{own_children, child_block_size, value_block_size}
 use Rattle.prefix_trie_table.specs.GrowthBounds.{BoundsNodeGrowth}
 use Rattle.prefix_trie_table.specs.Forest.{NodesHold, CellsHold, Holds, IsSlot, with_child_removed, without, is_start, with_node, with_value, own_count, entry_count, one_if}
@@ -64,7 +65,7 @@ module _ {T : Type 0} where
     pub holds : Holds later (with_value values path b None) paths v after
     pub same : (q : List ℕ) → is_some (later q) ≡ is_some (reading q)
     pub others : (q : List ℕ) → q ≢ path → later q ≡ reading q
-    pub stands : (q : List ℕ) (slot : ℕ) → IsSlot reading q slot → IsSlot later q slot
+    pub is_there : (q : List ℕ) (slot : ℕ) → IsSlot reading q slot → IsSlot later q slot
     pub counted : entry_count later paths + one_if (is_some (values path b)) ≡ entry_count reading paths
     pub kept : is_some (values path b) ≡ false → later path ≡ reading path
     pub children : SameBlock own_children child_block_size (reading path) (later path)
@@ -144,7 +145,7 @@ pub record Pruned (reading : List ℕ → Option Node) (paths : List (List ℕ))
   pub stops : (level ≡ 0) ⊎ IsStocked node
 
 -- there is a node at the end of a search path, and these are the slots of the nodes above it
-pub record StandsAtEnd (path : List ℕ) (ancestors : List ℕ) (node : Node) (v : Store Node) : Type 0 where
+pub record IsAtEnd (path : List ℕ) (ancestors : List ℕ) (node : Node) (v : Store Node) : Type 0 where
   pub reading : List ℕ → Option Node
   pub paths : List (List ℕ)
   pub hold : NodesHold node_sizes reading paths v

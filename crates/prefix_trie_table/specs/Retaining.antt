@@ -3,25 +3,25 @@
 use Rattle.std.specs.Prelude.{◌≡◌, ℕ, ◌+◌, ◌*◌, ◌<◌, ◌≤◌, Bool, true, false, cond, nat_lt, List, [], ◌∷◌, ◌++◌, length, take, Option, Some}
 use Rattle.std.specs.List.{list_any}
 use Rattle.std.specs.FinMap.{get, contains_key}
-use Rattle.prefix_trie_bits.specs.Bits.{begins}
-use Rattle.prefix_trie_bits.specs.Order.{same_string}
+use Rattle.prefix_trie_bits.specs.Model.Bits.{begins}
+use Rattle.prefix_trie_bits.specs.Model.Order.{same_string}
 use Rattle.prefix_trie_bits.specs.Places.{is_in, place_of}
 use Rattle.prefix_trie_bits.specs.declared.node.Place.{Place}
-use Rattle.prefix_trie_bits.specs.Model.Retaining.{RetainsEntries, CallableOnEachEntry}
+use Rattle.prefix_trie_bits.specs.Calls.Retaining.{RetainsEntries, CallableOnEachEntry}
 use Rattle.prefix_trie_bits.specs.Model.Entries.{Entries, without_below}
-use Rattle.prefix_trie_bits.specs.Model.NodeListings.{listing_at_places}
+use Rattle.prefix_trie_bits.specs.Calls.NodeListings.{listing_at_places}
 use Rattle.prefix_trie_bits.specs.Model.Nodes.{Nodes, has_node, needed}
 use Rattle.prefix_trie_bits.specs.Model.Selections.{listing, listing_below}
 use Rattle.prefix_trie_bits.specs.Model.Step.{State}
 use Rattle.prefix_trie_table.specs.declared.allocator.node.Node.{Node}
 use Rattle.prefix_trie_table.specs.declared.table.retain.Site.{Site}
 use Rattle.prefix_trie_bits.specs.Model.Blocks.{StepsBetween}
-use Rattle.prefix_trie_table.specs.Cells.{node_sizes, cell_sizes}
+use Rattle.prefix_trie_table.specs.Blocks.Cells.{node_sizes, cell_sizes}
 use Rattle.prefix_trie_table.specs.Digits.{chunks_of}
 use Rattle.prefix_trie_table.specs.Forest.{IsSlot, own_count, read}
 use Rattle.prefix_trie_table.specs.Layouts.{own_children, child_block_size, value_block_size}
 use Rattle.prefix_trie_table.specs.GrowthBounds.{BoundsGrowth}
-use Rattle.prefix_trie_table.specs.Store.{Store, KeepsMade}
+use Rattle.prefix_trie_table.specs.Blocks.Store.{Store, KeepsMade}
 use Rattle.prefix_trie_table.specs.Tables.{IsTrie}
 
 -- whether a string is at the place t of the node at s, or under the child at that place
@@ -79,7 +79,7 @@ pub record IsSite {K : Type 0} (IsKey : K → Type 0) (bits : K → List Bool) (
   pub level : ℕ
   pub depth_is : p.depth ≡ 5 * level
   pub within : p.depth ≤ width
-  pub stands : read v.slots (chunks_of (take p.depth (bits p.key))) ≡ Some n
+  pub is_there : read v.slots (chunks_of (take p.depth (bits p.key))) ≡ Some n
   pub slot_is : IsSlot (read v.slots) (chunks_of (take p.depth (bits p.key))) p.slot
 
 module _ {F T : Type 0} (asks : F → List Bool → T → Bool → F → Type 0) where
@@ -89,8 +89,8 @@ module _ {F T : Type 0} (asks : F → List Bool → T → Bool → F → Type 0)
   AsksUpTo f (e ∷ es) g = (b : Bool) × (f' : F) × asks f e.0 e.1 b f' × AsksUpTo f' es g
 
   -- it returns false each time
-  abbrev pub SaysNo : Type 0
-  SaysNo = (f : F) (k : List Bool) (x : T) (b : Bool) (g : F) → asks f k x b g → b ≡ false
+  abbrev pub ReturnsFalse : Type 0
+  ReturnsFalse = (f : F) (k : List Bool) (x : T) (b : Bool) (g : F) → asks f k x b g → b ≡ false
 
 module _ {F T : Type 0} (asks : F → List Bool → T → Bool → F → Type 0) (accepts : F → List Bool → T → Type 0) where
   -- the test was called on each entry of these places of the node at s, in listing order, and the

@@ -1,4 +1,5 @@
--- What contracts see of a table, and that the nodes and the cells determine it. This project's own.
+-- The contents of a table with a value set, and that its nodes and cells determine its entries and
+-- nodes. This project's own.
 use Rattle.std.specs.Prelude.{◌≡◌, ℕ, Bool, List, ◌&&◌, is_some, Option, None, Some, if◌then◌else◌, refl}
 use Rattle.std.proofs.Common.{sym, ◌∙◌}
 use Rattle.std.specs.Coded.{Coded, code_by, coded×, coded_list, coded_ℕ, coded_bool, coded_option, Coded-set}
@@ -9,31 +10,13 @@ use Rattle.prefix_trie_bits.specs.Model.Entries.{Entries, with_entry}
 use Rattle.prefix_trie_bits.specs.Model.Matches.{longest_match}
 use Rattle.prefix_trie_bits.specs.Model.Nodes.{Nodes, has_node, is_node_depth}
 use Rattle.prefix_trie_bits.specs.Model.Step.{State}
-use Rattle.prefix_trie_bits.specs.Model.Storage.{Storage}
-use Rattle.prefix_trie_bits.specs.Model.Space.{Space}
 use Rattle.prefix_trie_bits.specs.Model.Blocks.{Layout}
 use Rattle.prefix_trie_bits.proofs.Model.Members.{same_entries, same_members}
 use Rattle.prefix_trie_table.specs.declared.allocator.node.Node.{Node}
 use Rattle.prefix_trie_table.specs.Digits.{chunks_of, bit_of}
 use Rattle.prefix_trie_table.specs.Forest.{read, value_of}
 use Rattle.prefix_trie_table.specs.Layouts.{coded_layout}
-
--- what contracts see of a table: its entries, its nodes, its slots, its layout, and the nodes in
--- their slots; only clauses on seats mention the last
-pub record Contents (T : Type 0) : Type 0 where
-  pub entries : Entries T
-  pub nodes : Nodes
-  pub space : Space
-  pub layout : Layout
-  pub build : List Node
-
--- the entries and the nodes, as a state of the model
-abbrev pub state : {T : Type 0} → Contents T → State T
-state contents = record { entries = contents.entries; nodes = contents.nodes }
-
--- how they are stored
-abbrev pub storage : {T : Type 0} → Contents T → Storage
-storage contents = record { space = contents.space; layout = contents.layout }
+use Rattle.prefix_trie_table.specs.Model.Contents.{Contents}
 
 -- the contents with x at a bit string, and otherwise unchanged
 abbrev pub with_value_at : {T : Type 0} → Contents T → List Bool → T → Contents T

@@ -1,5 +1,5 @@
 -- The second table of a split, from the lists that are built for it to its last value.
-pub mod Laying
-pub mod Laid
 pub mod Skeleton
 pub mod Moving
+pub mod Building
+pub mod Built

@@ -1,17 +1,12 @@
--- A table as a state of the model with its storage, and the results of its changing calls as
--- replies. This project's own.
+-- The results of a table's changing calls as replies of the model, and a bound on how its arrays
+-- grow. This project's own.
 use Rattle.std.specs.Prelude.{◌+◌, ◌≤◌, Option, None, Result, Ok, Err}
 use Rattle.prefix_trie_bits.specs.declared.prefix.Refused.{Refused}
-use Rattle.prefix_trie_bits.specs.Model.Step.{State, Reply}
+use Rattle.prefix_trie_bits.specs.Model.Step.{Reply}
 use Rattle.prefix_trie_bits.specs.Model.Storage.{Storage}
 use Rattle.prefix_trie_table.specs.GrowthBounds.{headroom_of}
-use Rattle.prefix_trie_table.specs.Shape.{Contents, state, storage}
 
 module _ {T : Type 0} where
-  -- the entries and nodes, and how they are stored
-  abbrev pub stored_state : Contents T → State T × Storage
-  stored_state contents = (state contents, storage contents)
-
   -- the result of an insertion, as a reply of the model
   abbrev pub insert_reply : {P : Type 0} → Result (Option T) (Refused T) → Reply P T
   insert_reply (Ok before) = Reply.Value before

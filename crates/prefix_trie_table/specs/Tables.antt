@@ -1,14 +1,14 @@
 -- What holds of the fields of every table, and of a descent. This project's own.
 use Rattle.std.specs.Prelude.{◌≡◌, ℕ, ◌+◌, ◌*◌, ◌<◌, ◌≤◌, ◌⊎◌, Bool, false, List, Option, length, take, slice_index_or, Result, IfErr}
 use Rattle.std.specs.FinMap.{len}
-use Rattle.prefix_trie_bits.specs.Model.Entries.{AreWithin}
-use Rattle.prefix_trie_bits.specs.Model.Nodes.{AreNodes}
+use Rattle.prefix_trie_bits.specs.Calls.Entries.{AreWithin}
+use Rattle.prefix_trie_bits.specs.Calls.Nodes.{AreNodes}
 use Rattle.prefix_trie_bits.specs.Model.Step.{State}
 use Rattle.prefix_trie_table.specs.declared.allocator.node.Node.{Node}
 use Rattle.prefix_trie_table.specs.Bitmaps.{has_bit}
-use Rattle.prefix_trie_table.specs.Cells.{node_at, node_sizes, cell_sizes}
+use Rattle.prefix_trie_table.specs.Blocks.Cells.{node_at, node_sizes, cell_sizes}
 use Rattle.prefix_trie_table.specs.Digits.{chunks_of, bit_of}
-use Rattle.prefix_trie_table.specs.Store.{Store, KeepsMade}
+use Rattle.prefix_trie_table.specs.Blocks.Store.{Store, KeepsMade}
 use Rattle.prefix_trie_table.specs.Forest.{NodesHold, CellsHold, Holds, Deepest, entry_count}
 use Rattle.prefix_trie_table.specs.Shape.{IsShapeOf}
 

@@ -32,20 +32,23 @@ pub mod walk_start;
 ghost use Rattle.std.specs.Prelude.{◌≡◌, ◌+◌, ◌^◌, ◌<◌, ◌≤◌, ℕ, cond, take, length, IfOk, IfErr, IsErr, ◌↔◌, MatchOption, None, Some};
 ghost use Rattle.std.specs.Option.{option_copied};
 ghost use Rattle.std.specs.FinMap.{get, len};
-ghost use Rattle.prefix_trie_bits.specs.Model.Retaining.{CallableOnEachEntry};
-ghost use Rattle.prefix_trie_bits.specs.Model.Entries.{no_entries, AreWithin};
-ghost use Rattle.prefix_trie_bits.specs.Model.SplitsOff.{SplitsOffInStorage};
+ghost use Rattle.prefix_trie_bits.specs.Calls.Retaining.{CallableOnEachEntry, RetainsInStorage};
+ghost use Rattle.prefix_trie_bits.specs.Model.Entries.{no_entries};
+ghost use Rattle.prefix_trie_bits.specs.Calls.Entries.{AreWithin};
+ghost use Rattle.prefix_trie_bits.specs.Calls.SplitsOff.{SplitsOffInStorage};
 ghost use Rattle.prefix_trie_bits.specs.Model.Matches.{longest_match, shortest_match};
-ghost use Rattle.prefix_trie_bits.specs.Model.Nodes.{root_alone, AreNodes};
+ghost use Rattle.prefix_trie_bits.specs.Model.Nodes.{root_alone};
+ghost use Rattle.prefix_trie_bits.specs.Calls.Nodes.{AreNodes};
 ghost use Rattle.prefix_trie_bits.specs.Model.Selections.{listing, listing_from, listing_after, listing_below};
 ghost use Rattle.prefix_trie_bits.specs.Model.Visits.{visits, visits_to_match};
 ghost use Rattle.prefix_trie_bits.specs.Model.Blocks.{no_layout};
 ghost use Rattle.prefix_trie_bits.specs.Model.Step.{Insert, Remove, RemoveKeepTree, RemoveChildren, Clear, Done, Value};
-ghost use Rattle.prefix_trie_bits.specs.Model.Storage.{HaveBlocks, StepByPath, RetainsInStorage};
+ghost use Rattle.prefix_trie_bits.specs.Calls.Storage.{HaveBlocks, StepByPath};
 ghost use Rattle.prefix_trie_bits.specs.declared.prefix.Refusal.TheVariants.{IndexRange, Memory};
 ghost use Rattle.prefix_trie_table.specs.Layouts.{Sized, Sized-prop};
-ghost use Rattle.prefix_trie_table.specs.Shape.{Shaped, Shaped-prop, state, storage};
-ghost use Rattle.prefix_trie_table.specs.Steps.{stored_state, insert_reply, BoundsStorageGrowth};
+ghost use Rattle.prefix_trie_table.specs.Shape.{Shaped, Shaped-prop};
+ghost use Rattle.prefix_trie_table.specs.Model.Contents.{state, storage, stored_state};
+ghost use Rattle.prefix_trie_table.specs.Steps.{insert_reply, BoundsStorageGrowth};
 
 use crate::allocator::blocks::{Cells, cells};
 use crate::allocator::nodes::{NodeAllocator, Tick};
@@ -55,7 +58,7 @@ use crate::table::removal::{clear_entries, remove_entry, remove_value};
 use crate::table::retain::{Keep, retain_entries};
 use crate::table::seat::Location;
 use crate::table::split_move::move_part;
-use crate::table::splitting::lay_part;
+use crate::table::splitting::build_part;
 use crate::table::walk::walk_of;
 use crate::table::walk_start::{Start, walk_at};
 pub use cover::Cover;
@@ -78,14 +81,15 @@ pub struct Table<T: Drop, A: Allocator, V: Tick> {
 
 // Clauses see the entries, the nodes, the space, the layout, and for seats the nodes in their slots.
 impl<T: Drop, A: Allocator, V: Tick> Model for Table<T, A, V> {
-    ghost use Rattle.prefix_trie_table.specs.Shape.{Contents, contents_code};
+    ghost use Rattle.prefix_trie_table.specs.Model.Contents.{Contents};
+    ghost use Rattle.prefix_trie_table.specs.Shape.{contents_code};
 
     ghost Value = { Contents T };
 
     ghost coded = { contents_code T.code };
 
     ghost use Rattle.std.specs.Prelude.{length};
-    ghost use Rattle.prefix_trie_table.specs.Store.{free_counts};
+    ghost use Rattle.prefix_trie_table.specs.Blocks.Store.{free_counts};
     ghost use Rattle.prefix_trie_table.specs.Tables.{IsTable};
 
     ghost view = { λ t. record {
@@ -163,14 +167,14 @@ impl<T: Drop, A: Allocator + Clone, V: Tick> Table<T, A, V> {
         ensures kept { IfErr result (λ _. stored_state self.new ≡ stored_state self.old) }
         ensures memory { IfErr result (λ cause. cause ≡ Memory) }
     {
-        let (laid, vacant) = lay_part(&self.nodes, &self.cells, &path, counter)?;
+        let (built, vacant) = build_part(&self.nodes, &self.cells, &path, counter)?;
         let len = path.len();
         let before = self.count;
         let (nodes, cells) = move_part(
             &mut self.nodes,
             &mut self.cells,
             &mut self.count,
-            laid,
+            built,
             vacant,
             path,
             counter,

@@ -20,11 +20,12 @@ pub use Rattle.prefix_trie_bits.proofs.Model.Ordered.{found_first}
 pub use Rattle.prefix_trie_bits.proofs.Model.Steps.{stays_map, stays_tidy, step_laws}
 pub use Rattle.prefix_trie_bits.specs.Begins.{begins-from-masked, begins-longer, leb-past, length-first, masked-from-begins, same_bool}
 pub use Rattle.prefix_trie_bits.specs.BitStrings.{bits-length, digits-keep, kept_of_none, length-digits, number-bits}
-pub use Rattle.prefix_trie_bits.specs.Bits.{begins, digits, number, zeros}
+pub use Rattle.prefix_trie_bits.specs.Model.Bits.{begins, digits, number, zeros}
 pub use Rattle.prefix_trie_bits.specs.Keys.{fits_back, path_within}
 pub use Rattle.prefix_trie_bits.specs.Laws.Steps.{IsMap}
 pub use Rattle.prefix_trie_bits.specs.Model.Counted.{CountedFrom, CountedRun}
-pub use Rattle.prefix_trie_bits.specs.Model.Entries.{Entries, no_entries, put_all, with_entry, without_entry}
+pub use Rattle.prefix_trie_bits.specs.Model.Entries.{Entries, no_entries, with_entry, without_entry}
+pub use Rattle.prefix_trie_bits.specs.Calls.Entries.{put_all}
 pub use Rattle.prefix_trie_bits.specs.Model.Matches.{prefix_pair}
 pub use Rattle.prefix_trie_bits.specs.Model.Nodes.{IsTidy, needed, nodes_without, with_needed}
 pub use Rattle.prefix_trie_bits.specs.Model.Space.{LeavesSpace}
@@ -32,12 +33,14 @@ pub use Rattle.prefix_trie_bits.specs.Model.Selections.{listing, prefix_pairs}
 pub use Rattle.prefix_trie_bits.specs.Model.Step.{Clear, Count, Done, Insert, Lpm, Match, NodeCount, Remove, Reply, State, Step, Value}
 pub use Rattle.prefix_trie_bits.specs.Model.Storage.{Storage}
 pub use Rattle.prefix_trie_bits.specs.Model.Visits.{ReadsExactly, visits}
-pub use Rattle.prefix_trie_bits.specs.Order.{listing_cmp, listing_total}
+pub use Rattle.prefix_trie_bits.specs.Model.Order.{listing_cmp}
+pub use Rattle.prefix_trie_bits.specs.Order.{listing_total}
 pub use Rattle.prefix_trie_bits.specs.declared.prefix.Refused.{Refused}
 pub use Rattle.prefix_trie_table.proofs.Blocks.Tilings.{All-append_right}
 pub use Rattle.prefix_trie_table.proofs.Tree.Trees.{is_none-None}
 pub use Rattle.prefix_trie_table.specs.Copies.{AreCloned}
-pub use Rattle.prefix_trie_table.specs.Shape.{Contents, with_value_at}
+pub use Rattle.prefix_trie_table.specs.Model.Contents.{Contents}
+pub use Rattle.prefix_trie_table.specs.Shape.{with_value_at}
 pub use Rattle.prefix_trie_map.proofs.Listed.{listed_fit, listed_paths, may_ask_stored}
 pub use Rattle.prefix_trie_map.proofs.Writing.{left_at_start, left_behind}
 pub use Rattle.prefix_trie_map.specs.Copied.{CopyLaws}
@@ -48,5 +51,5 @@ pub use Rattle.prefix_trie_map.specs.WritingWalks.{EndsIn, FirstIn, IsOverIn, Pa
 pub use Rattle.prefix_trie_map.specs.declared.map.entry.Entry.{Entry}
 pub use Rattle.prefix_trie_map.specs.declared.map.writing.cursor.MapCursor.{MapCursor}
 pub use Rattle.prefix_trie.specs.Laws.Putting.{Leads}
-pub use Rattle.prefix_trie.specs.Replay.{IsFittingCall}
+pub use Rattle.prefix_trie.specs.Model.Replay.{IsFittingCall}
 pub use Rattle.prefix_trie.specs.Words.{Joins, covers, ipv4_address, ipv4_back, longest_match}

@@ -22,7 +22,6 @@ mod entry_callers;
 #[cfg(test)]
 mod examples;
 #[cfg(test)]
-mod key_order;
 #[cfg(test)]
 mod networks;
 #[cfg(test)]
@@ -30,7 +29,6 @@ mod node;
 #[cfg(test)]
 mod on_new;
 #[cfg(test)]
-mod own_key;
 #[cfg(test)]
 mod prefix;
 #[cfg(test)]

@@ -4,7 +4,7 @@ ghost use Rattle.std.specs.Prelude.{◌<◌, length, IfSome};
 use self::Sample::{Child, ChildCovers, Covers, Matches, Value};
 use prefix_trie::Key;
 use prefix_trie_bits::node::{
-    Place, Places, behind_child, count, from_value, has_bit, rank, string_of, with_bit, without_bit,
+    Place, Places, after_child, count, from_value, has_bit, rank, string_of, with_bit, without_bit,
 };
 use prefix_trie_bits::prefix::BitString;
 use prefix_trie_table::allocator::node::Node;
@@ -222,7 +222,7 @@ fn bits_after_a_place_are_masked(rt: HostRuntime) {
         assert!(rt; bit < 31 && from_value(bit) == places);
     }
     for (bit, places) in AFTER_CHILDREN {
-        assert!(rt; bit < 32 && behind_child(bit) == places);
+        assert!(rt; bit < 32 && after_child(bit) == places);
     }
 }
 

@@ -2,9 +2,11 @@
 ghost use Rattle.std.specs.Prelude.{ℕ, ◌-◌, ◌^◌, ◌<◌, ◌≤◌, ◌++◌, length, take, refl};
 ghost use Rattle.std.proofs.Common.{lit≤};
 ghost use Rattle.prefix_trie_bits.specs.Keys.{number_keys};
-ghost use Rattle.prefix_trie_bits.specs.Bits.{number, digits, zeros};
+ghost use Rattle.prefix_trie_bits.specs.Model.Bits.{number, digits, zeros};
 
 mod edges;
+mod key_order;
+mod own_key;
 
 use self::Sample::{Keep, Width, Window};
 use prefix_trie::{Ipv4Prefix, Ipv6Prefix, Key, Prefix, Refusal, Refused};

@@ -1,7 +1,8 @@
 -- Two maps that `==` finds equal have the same entries. This project's own.
 use Rattle.std.specs.Prelude.{◌≡◌, ◌↔◌, ℕ, ◌&&◌, Bool, true, List}
 use Rattle.std.specs.Cmp.Lexicographic.{pointwise}
-use Rattle.prefix_trie_bits.specs.Model.Entries.{Entries, AreWithin}
+use Rattle.prefix_trie_bits.specs.Model.Entries.{Entries}
+use Rattle.prefix_trie_bits.specs.Calls.Entries.{AreWithin}
 use Rattle.prefix_trie_bits.specs.Model.Selections.{listing, prefix_pairs}
 
 -- `==` of prefixes and of values decides whether they are the same; no key is longer than the

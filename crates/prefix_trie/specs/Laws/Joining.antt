@@ -2,7 +2,8 @@
 -- project's own.
 use Rattle.std.specs.Prelude.{◌≡◌, ℕ, Bool, List, [], ◌∷◌, Option, None, Some, All}
 use Rattle.std.specs.FinMap.{get}
-use Rattle.prefix_trie_bits.specs.Model.Entries.{Entries, AreWithin, with_entry}
+use Rattle.prefix_trie_bits.specs.Model.Entries.{Entries, with_entry}
+use Rattle.prefix_trie_bits.specs.Calls.Entries.{AreWithin}
 use Rattle.prefix_trie_bits.specs.Model.Selections.{listing, prefix_pairs}
 
 module _ {T : Type 0} (join : T → T → T) where

@@ -2,9 +2,10 @@
 use Rattle.std.specs.Prelude.{◌≡◌, ◌≢◌, ℕ, ◌+◌, ◌<◌, ◌≤◌, Bool, true, false, List, [], length, take, Option, Some, None, IfSome, MatchOption, is_some}
 use Rattle.std.specs.Option.{option_map}
 use Rattle.std.specs.FinMap.{contains_key}
-use Rattle.prefix_trie_bits.specs.Bits.{begins}
+use Rattle.prefix_trie_bits.specs.Model.Bits.{begins}
 use Rattle.prefix_trie_bits.specs.Model.Entries.{Entries, no_entries, with_entry, without_entry}
-use Rattle.prefix_trie_bits.specs.Model.Matches.{IsLongestMatch, longest_match, shortest_match, prefix_pair}
+use Rattle.prefix_trie_bits.specs.Calls.Matches.{IsLongestMatch}
+use Rattle.prefix_trie_bits.specs.Model.Matches.{longest_match, shortest_match, prefix_pair}
 
 -- q begins with no stored key
 abbrev pub IsUncovered : {T : Type 0} → Entries T → List Bool → Type 0

@@ -1,7 +1,7 @@
 -- The paths of IP networks, as numbers: for `network_laws`. This project's own.
 use Rattle.std.specs.Prelude.{◌≡◌, ℕ, ◌-◌, ◌^◌, ◌/◌, ◌<◌, ◌≤◌, Option, IfSome, nat_eq}
 use Rattle.std.specs.Option.{option_map}
-use Rattle.prefix_trie_bits.specs.Bits.{begins, number}
+use Rattle.prefix_trie_bits.specs.Model.Bits.{begins, number}
 use Rattle.prefix_trie.specs.Networks.{ipv4_address, ipv4_path, ipv6_address, ipv6_path}
 
 pub record NetworkLaws : Type 0 where

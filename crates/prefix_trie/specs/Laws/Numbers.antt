@@ -1,7 +1,7 @@
 -- The paths of pairs of a number and a length, as numbers of any width: for `narrow_laws`. This project's own.
 use Rattle.std.specs.Prelude.{◌≡◌, ℕ, ◌-◌, ◌^◌, ◌/◌, ◌<◌, ◌≤◌, Option, IfSome, length, nat_eq, take}
 use Rattle.std.specs.Option.{option_map}
-use Rattle.prefix_trie_bits.specs.Bits.{begins, digits, number}
+use Rattle.prefix_trie_bits.specs.Model.Bits.{begins, digits, number}
 
 pub record NumberLaws (width : ℕ) : Type 0 where
   -- a path has the length of its pair

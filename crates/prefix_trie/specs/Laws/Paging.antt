@@ -2,7 +2,8 @@
 -- crate's documentation of `iter_from`.
 use Rattle.std.specs.Prelude.{◌≡◌, ℕ, Bool, List, Some, ◌++◌, ◌-◌, length, slice_get}
 use Rattle.std.specs.FinMap.{len}
-use Rattle.prefix_trie_bits.specs.Model.Entries.{Entries, AreWithin}
+use Rattle.prefix_trie_bits.specs.Model.Entries.{Entries}
+use Rattle.prefix_trie_bits.specs.Calls.Entries.{AreWithin}
 use Rattle.prefix_trie_bits.specs.Model.Selections.{listing, listing_after, prefix_pairs}
 
 -- no key is longer than the width, as in every map

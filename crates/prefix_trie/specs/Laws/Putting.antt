@@ -3,7 +3,8 @@
 use Rattle.std.specs.Prelude.{◌≡◌, ℕ, Bool, List, ◌∷◌, All}
 use Rattle.std.specs.Option.{option_or}
 use Rattle.std.specs.FinMap.{get}
-use Rattle.prefix_trie_bits.specs.Model.Entries.{Entries, AreWithin, no_entries, put_all, with_entry}
+use Rattle.prefix_trie_bits.specs.Model.Entries.{Entries, no_entries, with_entry}
+use Rattle.prefix_trie_bits.specs.Calls.Entries.{AreWithin, put_all}
 use Rattle.prefix_trie_bits.specs.Model.Selections.{listing, prefix_pairs}
 
 module _ {P T : Type 0} (path : P → List Bool) (IsFitting : P → Type 0) where

@@ -2,7 +2,8 @@
 ghost use Rattle.std.specs.Prelude.{◌≡◌, List, ◌+◌, ◌-◌, ◌*◌, ◌^◌, ◌<◌, length, map, All, IfOk, IfErr};
 ghost use Rattle.std.specs.Iterator.{IsFinite, HoldsAlong, Yields, Drains};
 ghost use Rattle.prefix_trie_bits.specs.declared.prefix.Refusal.TheVariants.{IndexRange};
-ghost use Rattle.prefix_trie_bits.specs.Model.Entries.{no_entries, put_all};
+ghost use Rattle.prefix_trie_bits.specs.Model.Entries.{no_entries};
+ghost use Rattle.prefix_trie_bits.specs.Calls.Entries.{put_all};
 ghost use Rattle.prefix_trie_bits.specs.Model.Nodes.{IsTidy};
 ghost use Rattle.prefix_trie.specs.Sets.{as_item};
 

@@ -19,7 +19,7 @@ impl<P: Prefix, A: Allocator> PartialEq for PrefixSet<P, A> {
         ensures eq { result ≡ same_keys self.now.entries other.now.entries }
         ensures same { IsTrue result ↔ (self.now.entries ≡ other.now.entries) }
     {
-        give_alike(self.iter(), other.iter())
+        yield_same(self.iter(), other.iter())
     }
 }
 
@@ -28,7 +28,7 @@ impl<P: Prefix, A: Allocator> Eq for PrefixSet<P, A> {
 }
 
 /// Returns whether two walks give the same prefixes in the same order.
-fn give_alike<P: Prefix, A: Allocator>(left: Iter<'_, P, A>, mut right: Iter<'_, P, A>) -> bool
+fn yield_same<P: Prefix, A: Allocator>(left: Iter<'_, P, A>, mut right: Iter<'_, P, A>) -> bool
     ensures { result ≡ pointwise (same_parts P.R.eq P.repr_of P.len_of) left.entry right.entry }
 {
     for prefix in left {

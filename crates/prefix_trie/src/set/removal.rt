@@ -1,15 +1,15 @@
 //! Removing keys of a set.
 ghost use Rattle.std.specs.Prelude.{◌≡◌};
 ghost use Rattle.std.specs.FinMap.{contains_key};
-ghost use Rattle.prefix_trie_bits.specs.Model.Retaining.{RetainsEntries, CallableOnEachEntry};
+ghost use Rattle.prefix_trie_bits.specs.Calls.Retaining.{RetainsEntries, CallableOnEachEntry, RetainsInStorage};
 ghost use Rattle.prefix_trie_bits.specs.Model.Entries.{no_entries, without_entry, without_below};
 ghost use Rattle.prefix_trie_bits.specs.Model.Nodes.{root_alone, needed, nodes_without, nodes_without_below};
 ghost use Rattle.prefix_trie_bits.specs.Model.Selections.{listing};
 ghost use Rattle.prefix_trie_bits.specs.Model.Step.{Remove, RemoveKeepTree, RemoveChildren, Clear, Done};
-ghost use Rattle.prefix_trie_bits.specs.Model.Storage.{StepByPath, RetainsInStorage};
+ghost use Rattle.prefix_trie_bits.specs.Calls.Storage.{StepByPath};
 ghost use Rattle.prefix_trie_map.specs.Steps.{stored_state};
 ghost use Rattle.prefix_trie_map.specs.Whole.{IsWhole};
-ghost use Rattle.prefix_trie.specs.Sets.{taken_out, AsksKeyAt, TakesKeyAt};
+ghost use Rattle.prefix_trie.specs.Sets.{set_remove_reply, CalledAtKey, TakesKey};
 
 use crate::set::PrefixSet;
 use prefix_trie_bits::prefix::Prefix;
@@ -37,7 +37,7 @@ impl<P: Prefix, A: Allocator> PrefixSet<P, A> {
         ensures nodes { self.new.nodes ≡ nodes_without self.old.nodes self.old.entries (P.path prefix.now) }
 
         // It is a step of the model and its storage, on a map of units.
-        ensures step { StepByPath P.R.bit_width (stored_state self.old) (Remove (P.path prefix.now)) (taken_out result) (stored_state self.new) }
+        ensures step { StepByPath P.R.bit_width (stored_state self.old) (Remove (P.path prefix.now)) (set_remove_reply result) (stored_state self.new) }
     {
         self.map.remove(prefix).is_some()
     }
@@ -64,7 +64,7 @@ impl<P: Prefix, A: Allocator> PrefixSet<P, A> {
         ensures nodes { self.new.nodes ≡ self.old.nodes }
 
         // It is a step of the model and its storage; the array of nodes is unchanged.
-        ensures step { StepByPath P.R.bit_width (stored_state self.old) (RemoveKeepTree (P.path prefix.now)) (taken_out result) (stored_state self.new) }
+        ensures step { StepByPath P.R.bit_width (stored_state self.old) (RemoveKeepTree (P.path prefix.now)) (set_remove_reply result) (stored_state self.new) }
     {
         self.map.remove_keep_tree(prefix).is_some()
     }
@@ -131,13 +131,13 @@ impl<P: Prefix, A: Allocator> PrefixSet<P, A> {
     /// set.iter();     // [10.0.0.0/8, 10.1.0.0/16]
     /// ```
     pub fn retain<F: FnMut(&P) -> bool>(&mut self, mut test: F)
-        requires { CallableOnEachEntry (AsksKeyAt F.FnMut P.back) (TakesKeyAt F.FnMut P.back) test (listing self.old.entries) }
+        requires { CallableOnEachEntry (CalledAtKey F.FnMut P.back) (TakesKey F.FnMut P.back) test (listing self.old.entries) }
         ensures whole { IsWhole P.R.bit_width self.old }
-        ensures kept { RetainsEntries (AsksKeyAt F.FnMut P.back) test (listing self.old.entries) (listing self.new.entries) }
+        ensures kept { RetainsEntries (CalledAtKey F.FnMut P.back) test (listing self.old.entries) (listing self.new.entries) }
         ensures nodes { self.new.nodes ≡ needed self.new.entries }
 
         // It is a step of the model and its storage, on a map of units.
-        ensures step { RetainsInStorage (AsksKeyAt F.FnMut P.back) test (stored_state self.old) (stored_state self.new) }
+        ensures step { RetainsInStorage (CalledAtKey F.FnMut P.back) test (stored_state self.old) (stored_state self.new) }
     {
         self.map.retain(
             move |prefix: &P, _value: &()|

@@ -1,8 +1,9 @@
 //! Splitting keys off as a second set.
 ghost use Rattle.std.specs.Prelude.{◌≡◌, IfOk, OnOk, IfErr, OnErr};
 ghost use Rattle.prefix_trie_bits.specs.declared.prefix.Refusal.TheVariants.{Memory};
-ghost use Rattle.prefix_trie_bits.specs.Model.Entries.{without_below, part_below};
-ghost use Rattle.prefix_trie_bits.specs.Model.SplitsOff.{SplitsOffInStorage};
+ghost use Rattle.prefix_trie_bits.specs.Model.Entries.{without_below};
+ghost use Rattle.prefix_trie_bits.specs.Calls.Entries.{part_below};
+ghost use Rattle.prefix_trie_bits.specs.Calls.SplitsOff.{SplitsOffInStorage};
 ghost use Rattle.prefix_trie_bits.specs.Model.Nodes.{needed, nodes_without_below};
 ghost use Rattle.prefix_trie_map.specs.Steps.{stored_state};
 

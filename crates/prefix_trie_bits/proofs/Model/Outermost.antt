@@ -1,6 +1,6 @@
 -- The number of covered addresses is the sum over the outermost keys, which are those that begin with no other stored
 -- key: for `address_count`.
-use Rattle.prefix_trie_bits.proofs.Prelude.{◌≡◌, ℕ, zero, suc, ◌+◌, ◌-◌, ◌^◌, ◌≤◌, ◌<◌, Bool, true, false, cond, not, ◌||◌, nat_le, nat_lt, List, [], ◌∷◌, length, map, filter, Some, None, is_some, refl, sym, ap, ap₂, ◌∙◌, subst, arith, inl, inr, eq-eqb, Less, ◌==◌, true≢false, ne_eqb, nat_tests, list_any, entries_sorted, is_sorted, keys, contains_key, get, get-entries, find, begins, same_bool, begins-refl, begins-trans, begins-linear, begins-length, begins-same-length, listing_cmp, listing-extension, same_string, Entries, without_below, listing, is_root, full_strings, covered, addresses, address_answer, AddressLaws}
+use Rattle.prefix_trie_bits.proofs.Prelude.{◌≡◌, ℕ, zero, suc, ◌+◌, ◌-◌, ◌^◌, ◌≤◌, ◌<◌, Bool, true, false, cond, not, ◌||◌, nat_le, nat_lt, List, [], ◌∷◌, length, map, filter, Some, None, is_some, refl, sym, ap, ap₂, ◌∙◌, subst, arith, inl, inr, eq-eqb, Less, ◌==◌, true≢false, ne_eqb, nat_tests, list_any, entries_sorted, is_sorted, keys, contains_key, get, get-entries, find, begins, same_bool, begins-refl, begins-trans, begins-linear, begins-length, begins-same-length, listing_cmp, listing-extension, same_string, Entries, without_below, listing, is_root, full_strings, covered, addresses, address_total, AddressLaws}
 use Rattle.std.proofs.Common.{T as IsT}
 use Rattle.prefix_trie_bits.proofs.Model.Members.{or-cases, or-left, or-right, and-first, and-second, and-join, not-true, from-not, some-value, same_string-is, some-key, of-key, has-retained}
 use Rattle.prefix_trie_bits.proofs.Model.Ordered.{sorted-head, each-behind, found_first, not_less, entries-empty, entries-retained}
@@ -117,13 +117,13 @@ module _ {T : Type 0} where
   -- ---- the result
 
   -- if all addresses are covered, the result is `None`
-  pub answer-all : (width : ℕ) (m : Entries T) → 2 ^ width ≤ addresses width m → address_answer width m ≡ None
-  answer-all width m h =
+  pub total-all : (width : ℕ) (m : Entries T) → 2 ^ width ≤ addresses width m → address_total width m ≡ None
+  total-all width m h =
       let all : addresses width m ≡ 2 ^ width = omega (arith, covered-most width (keys m)) in
       ap (λ b. cond b None (Some (addresses width m))) (eq-eqb (addresses width m) (2 ^ width) all)
 
-  pub answer-number : (width : ℕ) (m : Entries T) (n : ℕ) → addresses width m ≡ n → n < 2 ^ width → Some n ≡ address_answer width m
-  answer-number width m n e h =
+  pub total-number : (width : ℕ) (m : Entries T) (n : ℕ) → addresses width m ≡ n → n < 2 ^ width → Some n ≡ address_total width m
+  total-number width m n e h =
       let less : (addresses width m == 2 ^ width) ≡ false = ne_eqb (addresses width m) (2 ^ width) (λ same. absurd (omega (arith, e, same, h))) in
       ap Some (sym e) ∙ ap (λ b. cond b None (Some (addresses width m))) (sym less)
 
@@ -180,13 +180,13 @@ module _ {T : Type 0} where
       omega (arith, c.sum_is, none)
 
   -- if the sum reaches 2^width, all addresses are covered
-  pub counted-all : (width : ℕ) (m : Entries T) (es : List (List Bool × T)) (n : ℕ) → 2 ^ width ≤ n → IsCounted width m es n → address_answer width m ≡ None
-  counted-all width m es n h c = answer-all width m (omega (arith, c.sum_is, h))
+  pub counted-all : (width : ℕ) (m : Entries T) (es : List (List Bool × T)) (n : ℕ) → 2 ^ width ≤ n → IsCounted width m es n → address_total width m ≡ None
+  counted-all width m es n h c = total-all width m (omega (arith, c.sum_is, h))
 
 pub address_laws : (T : Type 0) → AddressLaws T
 address_laws T = record {
   at_most = λ width m. covered-most width (keys m);
   of_no_entries = λ width. ap (covered width) (ap (map (λ e. e.0)) (entries-empty T)) ∙ covered-none width;
-  of_root = λ width m has. answer-all width m (subst (λ n. 2 ^ width ≤ n) (sym (covered-root width (keys m) (of-key m is_root [] has refl))) (omega arith));
+  of_root = λ width m has. total-all width m (subst (λ n. 2 ^ width ≤ n) (sym (covered-root width (keys m) (of-key m is_root [] has refl))) (omega arith));
   of_outermost = addresses-outermost;
 }

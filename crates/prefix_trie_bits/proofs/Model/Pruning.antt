@@ -1,5 +1,5 @@
 -- Which nodes removals leave: for `pruning_laws`.
-use Rattle.prefix_trie_bits.proofs.Prelude.{◌≡◌, ◌≢◌, ℕ, ◌%◌, ◌≤◌, Bool, true, false, cond, not, ◌&&◌, ◌||◌, nat_lt, List, [], ◌∷◌, length, refl, sym, ◌∙◌, subst, arith, inl, inr, true≢false, list_any, list_all, contains_key, keys, retain_keys, nat_tests, begins, begins-trans, begins-refl, begins-linear, begins-antisymm, begins-length, same_string, Entries, without_entry, without_below, Nodes, has_node, home, needed, AreNodes, IsTidy, is_root, is_pruned, pruned, nodes_not_below, nodes_without, nodes_without_below, IsTakenOut, IsPruning, PruningLaws}
+use Rattle.prefix_trie_bits.proofs.Prelude.{◌≡◌, ◌≢◌, ℕ, ◌%◌, ◌≤◌, Bool, true, false, cond, not, ◌&&◌, ◌||◌, nat_lt, List, [], ◌∷◌, length, refl, sym, ◌∙◌, subst, arith, inl, inr, true≢false, list_any, list_all, contains_key, keys, retain_keys, nat_tests, begins, begins-trans, begins-refl, begins-linear, begins-antisymm, begins-length, same_string, Entries, without_entry, without_below, Nodes, has_node, home, needed, AreNodes, IsTidy, is_root, is_pruned, pruned, nodes_not_below, nodes_without, nodes_without_below, IsPrunedNode, IsPruning, PruningLaws}
 use Rattle.prefix_trie_bits.proofs.Model.Members.{or-right, and-first, and-second, and-join, not-true, from-not, same_string-is, is-same_string, some-key, of-key, each-key, all-keys, has-retained, has-removed, needs, needs_root, needed_for, same_nodes}
 use Rattle.prefix_trie_bits.proofs.Model.Homes.{home-begins, home-depth, home-longest}
 pub use Rattle.std.proofs.lemmas.Bool.{false_from_ne_true as not-so}
@@ -282,7 +282,7 @@ is_empty t root e = clash (is_root t) (subst (λ x. is_root x ≡ true) (sym roo
 
 module _ {T : Type 0} where
   -- a node is pruned by its conditions, as the contract states them
-  taken-out : (n : Nodes) (m : Entries T) (q t : List Bool) → has_node n (home q) ≡ true → Goes n m (home q) t → IsTakenOut n m q t
+  taken-out : (n : Nodes) (m : Entries T) (q t : List Bool) → has_node n (home q) ≡ true → Goes n m (home q) t → IsPrunedNode n m q t
   taken-out n m q t at g = record {
     home_there = at;
     on_path = g.on_path;
@@ -291,7 +291,7 @@ module _ {T : Type 0} where
     alone = λ u has. follows (begins t u) (begins u (home q)) (each-key n (λ x. not (begins t x) || begins x (home q)) u g.alone has);
   }
 
-  goes-out : (n : Nodes) (m : Entries T) (q t : List Bool) → IsTakenOut n m q t → Goes n m (home q) t
+  goes-out : (n : Nodes) (m : Entries T) (q t : List Bool) → IsPrunedNode n m q t → Goes n m (home q) t
   goes-out n m q t out = record {
     no_key = not-so (list_any (λ s. begins t s) (keys m)) (λ some.
         let k = some-key m (λ s. begins t s) some in
@@ -301,17 +301,17 @@ module _ {T : Type 0} where
     alone = all-keys n (λ u. not (begins t u) || begins u (home q)) (λ u at. implied (begins t u) (begins u (home q)) (out.alone u at));
   }
 
-  gone-taken : (n : Nodes) (m : Entries T) (q t : List Bool) → has_node n t ≡ true → has_node (pruned n m q) t ≡ false → IsTakenOut n m q t
+  gone-taken : (n : Nodes) (m : Entries T) (q t : List Bool) → has_node n t ≡ true → has_node (pruned n m q) t ≡ false → IsPrunedNode n m q t
   gone-taken n m q t at gone =
-      elim (has_node n (home q)) as (λ a. has_node n (home q) ≡ a → IsTakenOut n m q t) [
-        | true ↦ λ there. elim (is_pruned n m (home q) t) as (λ b. is_pruned n m (home q) t ≡ b → IsTakenOut n m q t) [
+      elim (has_node n (home q)) as (λ a. has_node n (home q) ≡ a → IsPrunedNode n m q t) [
+        | true ↦ λ there. elim (is_pruned n m (home q) t) as (λ b. is_pruned n m (home q) t ≡ b → IsPrunedNode n m q t) [
           | true ↦ λ out. taken-out n m q t there (goes n m (home q) t out)
           | false ↦ λ left. absurd (clash (has_node (pruned n m q) t) (stays n m q t at (λ _ out. clash (is_pruned n m (home q) t) out left)) gone)
         ] refl
         | false ↦ λ away. absurd (clash (has_node (pruned n m q) t) (stays n m q t at (λ there _. clash (has_node n (home q)) there away)) gone)
       ] refl
 
-  taken-gone : (n : Nodes) (m : Entries T) (q t : List Bool) → IsTakenOut n m q t → has_node (pruned n m q) t ≡ false
+  taken-gone : (n : Nodes) (m : Entries T) (q t : List Bool) → IsPrunedNode n m q t → has_node (pruned n m q) t ≡ false
   taken-gone n m q t out = not-so (has_node (pruned n m q) t) (λ left. spared n m q t left out.home_there (goes_from n m (home q) t (goes-out n m q t out)))
 
 pub pruning_laws : (T : Type 0) → PruningLaws T

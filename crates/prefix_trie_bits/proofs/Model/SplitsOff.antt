@@ -1,13 +1,13 @@
 -- After `remove_children`, the two maps together have the entries that the one map had: for the laws of splitting.
-use Rattle.prefix_trie_bits.proofs.Prelude.{◌≡◌, ℕ, ◌+◌, Bool, true, false, cond, not, List, [], ◌∷◌, length, Option, None, Some, is_some, refl, sym, ap, ap₂, ◌∙◌, subst, false≢true, length-filter_both, Contains-append_left, Contains-append_right, Contains-push, get, len, find, entries, len-entries, get-entries, entries_sorted, contains_key, begins, listing_cmp, same_string, Entries, with_entry, without_below, part_below, put_all, AreWithin, SplitsOff, AreNodes, needed, listing, State, Splits, HandingLaws, IsMap, Sizes, child_block_sizes, value_block_sizes, child_count, own_entries, ArePacked, SplitsOffInStorage, packed_node_slots, packed_cell_slots, Nodes, has_node, Storage, zero, suc, ◌<◌, ◌≤◌, lit<, Contains, HasBlock, NodesHaveBlocks, packed_block, IsStoredMap, RemoveChildren, Done}
+use Rattle.prefix_trie_bits.proofs.Prelude.{◌≡◌, ℕ, ◌+◌, Bool, true, false, cond, not, List, [], ◌∷◌, length, Option, None, Some, is_some, refl, sym, ap, ap₂, ◌∙◌, subst, false≢true, length-filter_both, Contains-append_left, Contains-append_right, Contains-push, get, len, find, entries, len-entries, get-entries, entries_sorted, contains_key, begins, listing_cmp, same_string, Entries, with_entry, without_below, part_below, put_all, AreWithin, SplitsOff, AreNodes, needed, listing, State, Splits, SplitLaws, IsMap, Sizes, child_block_sizes, value_block_sizes, child_count, own_entries, ArePacked, SplitsOffInStorage, packed_node_slots, packed_cell_slots, Nodes, has_node, Storage, zero, suc, ◌<◌, ◌≤◌, lit<, Contains, HasBlock, NodesHaveBlocks, packed_block, IsStoredMap, RemoveChildren, Done}
 use Rattle.prefix_trie_bits.proofs.Model.Members.{and-second, has-retained, same_entries, same_string-is, get-with_entry, get-without_below, get-part_below}
 use Rattle.prefix_trie_bits.proofs.Model.NodeSets.{AreNodes-needed}
 use Rattle.prefix_trie_bits.proofs.Model.Ordered.{entries-retained, find-from_Contains}
 use Rattle.prefix_trie_bits.proofs.Model.Pruning.{remove_children_law, below_fewer}
-use Rattle.prefix_trie_bits.proofs.Model.Storage.Readied.{goes_up}
+use Rattle.prefix_trie_bits.proofs.Model.Storage.PreparedInsertions.{goes_up}
 use Rattle.prefix_trie_bits.proofs.Model.Storage.Shrinking.{smallest_of}
-use Rattle.prefix_trie_bits.proofs.Model.Storage.Staying.{stays_stored}
-use Rattle.prefix_trie_bits.proofs.Model.Storage.Supplied.{children_most, entries_most}
+use Rattle.prefix_trie_bits.proofs.Model.Storage.StoredMaps.{stays_stored}
+use Rattle.prefix_trie_bits.proofs.Model.Storage.InsertedBlocks.{children_most, entries_most}
 
 -- a packed array is determined by its nodes and by how many items each has
 packed_alike : (sizes : List ℕ) (n : Nodes) (count : List Bool → ℕ) (a b : Sizes) → ArePacked sizes n count a → ArePacked sizes n count b → a ≡ b
@@ -156,5 +156,5 @@ stored width before q second after whole short h = (
   stays_stored (λ s. s) (λ s. s) width before whole (RemoveChildren q) Done after short (h.drops width),
 )
 
-pub handing_laws : (T : Type 0) → HandingLaws T
-handing_laws T = record { splits = splits; are_maps = maps; stored_alike = stored_alike; are_stored = stored }
+pub split_laws : (T : Type 0) → SplitLaws T
+split_laws T = record { splits = splits; are_maps = maps; stored_alike = stored_alike; are_stored = stored }

@@ -1,15 +1,15 @@
 -- Each fitting call has a step from every map, whatever its storage: for `total_laws`.
 use Rattle.prefix_trie_bits.proofs.Prelude.{◌≡◌, ℕ, ◌+◌, ◌<◌, ◌≤◌, ◌⊎◌, inl, inr, Bool, true, false, cond, List, [], ◌∷◌, length, All, refl, sym, ap, ◌∙◌, subst, arith, true≢false, cases_Bool, cases_eq, cases_lt, All-head, All-tail, get, contains_key, len, empty_of_len, no_layout, with_entry, without_entry, without_below, part_at_least, no_entries, missing_node_slots, missing_cell_slots, has_node, with_needed, needed, root_alone, nodes_without, nodes_without_below, LeavesSpace, MayPassLimit, State, Call, Insert, Remove, RemoveKeepTree, RemoveChildren, RetainAtLeast, Clear, ListAll, ListFrom, Children, Cover, CallFits, Reply, Value, Done, Refused, Refusal, IndexRange, Step, Storage, empty_storage, HaveBlocks, LeavesStorage, InsertsInStorage, RefusesInStorage, StepInStorage, RunInStorage, is_memory, is_refusal, may_refuse, IsMap, IsStoredMap, GivesCause, TotalLaws, nil_from_length}
 use Rattle.prefix_trie_bits.proofs.Model.Determined.{cause_of, no_refusal, refused, set}
-use Rattle.prefix_trie_bits.proofs.Model.Storage.Gained.{gained, gained_inserts}
-use Rattle.prefix_trie_bits.proofs.Model.Storage.Lessened.{new_have, many_left, value_left, one_left}
+use Rattle.prefix_trie_bits.proofs.Model.Storage.Insertions.{gained, gained_inserts}
+use Rattle.prefix_trie_bits.proofs.Model.Storage.Removals.{new_have, many_left, value_left, one_left}
 use Rattle.prefix_trie_bits.proofs.Model.Members.{from-not, has-empty}
 use Rattle.prefix_trie_bits.proofs.Model.Pruning.{remove_law}
 use Rattle.prefix_trie_bits.proofs.Model.Storage.Refusing.{refuses}
 use Rattle.prefix_trie_bits.proofs.Model.Storage.Slots.{nodes_most, cells_most}
-use Rattle.prefix_trie_bits.proofs.Model.Storage.Staying.{one_gone, longer_left, outside_left, emptied_have, stays_stored}
+use Rattle.prefix_trie_bits.proofs.Model.Storage.StoredMaps.{one_gone, longer_left, outside_left, emptied_have, stays_stored}
 use Rattle.prefix_trie_bits.proofs.Model.Steps.{stays_map}
-use Rattle.prefix_trie_bits.proofs.Model.Storage.Supplied.{supplied, stored_have}
+use Rattle.prefix_trie_bits.proofs.Model.Storage.InsertedBlocks.{supplied, stored_have}
 
 -- a map has at least one node, the root
 some_node : {T : Type 0} (width : ℕ) (s : State T) → IsMap width s → 1 ≤ len s.nodes

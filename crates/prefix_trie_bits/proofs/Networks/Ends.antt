@@ -1,6 +1,7 @@
 -- The lowest and the highest address of a network, as numbers: for `network` and `last`.
 use Rattle.std.proofs.Common.{◌≡◌, ℕ, zero, suc, ◌+◌, ◌-◌, ◌*◌, ◌/◌, ◌^◌, ◌<◌, ◌≤◌, Bool, true, List, [], ◌∷◌, ◌++◌, take, refl, sym, ap, ap₂, ◌∙◌, arith, pow-suc, pow_pos, one-add}
-use Rattle.prefix_trie_bits.specs.Bits.{number, digits, zeros, ones}
+use Rattle.prefix_trie_bits.specs.Model.Bits.{number, digits, zeros}
+use Rattle.prefix_trie_bits.specs.Networks.{ones}
 use Rattle.prefix_trie_bits.specs.BitStrings.{digits-keep, digits-cat, take-digits, number-bits, extend-below}
 
 -- a number is what its digits write

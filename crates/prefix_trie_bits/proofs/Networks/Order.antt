@@ -4,11 +4,11 @@ use Rattle.std.proofs.Common.{◌≡◌, ℕ, zero, suc, ◌+◌, ◌-◌, ◌*�
 use Rattle.std.proofs.lemmas.Bool.{cases_lt}
 use Rattle.std.proofs.lemmas.Bool.Decides.{nat_tests}
 use Rattle.std.specs.Ordering.{nat_cmp, ordering_then}
-use Rattle.prefix_trie_bits.specs.Bits.{bit, number, digits, zeros}
+use Rattle.prefix_trie_bits.specs.Model.Bits.{bit, number, digits, zeros}
 use Rattle.prefix_trie_bits.specs.BitStrings.{number-lt, length-digits, zero_bits, number_of_digits}
 use Rattle.prefix_trie_bits.specs.Begins.{length-first}
 use Rattle.prefix_trie_bits.specs.Windows.{length-filled}
-use Rattle.prefix_trie_bits.specs.Order.{listing_cmp}
+use Rattle.prefix_trie_bits.specs.Model.Order.{listing_cmp}
 use Rattle.prefix_trie_bits.specs.Networks.{network_path, network_cmp, HasNoHostBits}
 use Rattle.prefix_trie_bits.specs.Laws.NetworkOrder.{FamilyOrderLaws, NetworkOrderLaws}
 

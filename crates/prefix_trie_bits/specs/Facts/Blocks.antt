@@ -1,7 +1,8 @@
 -- Worked facts on blocks, growth and space, and for each an example that the definition excludes.
 -- They are this project's own.
 use Rattle.std.specs.Prelude.{◌≡◌, ℕ, List, [], ◌∷◌, map, Option, Some, None}
-use Rattle.prefix_trie_bits.specs.Model.Blocks.{value_block_sizes, child_block_sizes, free_of, HasBlock, StepsDown, StepsBetween, LongerByOne, Tiles, AreBlocksOf, Block}
+use Rattle.prefix_trie_bits.specs.Model.Blocks.{value_block_sizes, child_block_sizes, free_of, StepsDown, StepsBetween, LongerByOne}
+use Rattle.prefix_trie_bits.specs.Calls.Blocks.{HasBlock, Tiles, AreBlocksOf, Block}
 use Rattle.prefix_trie_bits.specs.Model.Insertion.{block_needed, slots_of_missing}
 use Rattle.prefix_trie_bits.specs.Model.Space.{Space, MayPassLimit, LeavesSpace}
 

@@ -4,7 +4,7 @@ use Rattle.std.specs.Prelude.{◌≡◌, ℕ, ◌++◌, true, false, Bool, List,
 use Rattle.std.specs.FinMap.{from_sorted}
 use Rattle.prefix_trie_bits.specs.Model.Blocks.{Sizes, Layout, own_entries, child_count, no_layout}
 use Rattle.prefix_trie_bits.specs.Model.Insertion.{gains_child, child_block_needed, value_block_needed, missing_node_slots, missing_cell_slots, PassesLimit, MissingFitsLimit}
-use Rattle.prefix_trie_bits.specs.Model.Nodes.{holders, parents}
+use Rattle.prefix_trie_bits.specs.Calls.Nodes.{holders, parents}
 use Rattle.prefix_trie_bits.specs.Model.Step.{State, Insert, Remove, Value}
 use Rattle.prefix_trie_bits.specs.Facts.Blocks.{none_free, space_of}
 use Rattle.prefix_trie_bits.specs.Rows.Examples.{path_at, Row, LeadsTo, counted, full_pairs, sets}

@@ -1,7 +1,8 @@
 -- Worked facts on storages to which no step leads, all from row 38's map as first filled. They are this project's own.
 use Rattle.std.specs.Prelude.{◌≡◌, ℕ, List, [], ◌∷◌}
 use Rattle.std.specs.FinMap.{empty}
-use Rattle.prefix_trie_bits.specs.Model.Blocks.{Layout, KeepsBlocks, NodesHaveBlocks, value_block_sizes, own_entries}
+use Rattle.prefix_trie_bits.specs.Model.Blocks.{Layout, KeepsBlocks, value_block_sizes, own_entries}
+use Rattle.prefix_trie_bits.specs.Calls.Blocks.{NodesHaveBlocks}
 use Rattle.prefix_trie_bits.specs.Model.Insertion.{value_block_needed, TakesBlocks}
 use Rattle.prefix_trie_bits.specs.Model.Step.{State, Call, Insert, Remove, RemoveKeepTree, RemoveChildren, RetainAtLeast, Reply, Refused, Refusal, Memory, IndexRange}
 use Rattle.prefix_trie_bits.specs.Model.Storage.{Storage, empty_storage, StepInStorage}

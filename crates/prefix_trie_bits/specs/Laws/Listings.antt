@@ -3,12 +3,14 @@ use Rattle.std.specs.Prelude.{◌≡◌, ◌≢◌, ◌↔◌, ◌⊎◌, ℕ, �
 use Rattle.std.proofs.Common.{Less, is_le}
 use Rattle.std.specs.FinMap.{get, retain_keys}
 use Rattle.std.specs.Ordering.{nat_cmp, ordering_then}
-use Rattle.prefix_trie_bits.specs.Bits.{begins, number, zeros}
-use Rattle.prefix_trie_bits.specs.Order.{listing_cmp, IsBefore}
-use Rattle.prefix_trie_bits.specs.Model.Entries.{Entries, without_below, part_below}
+use Rattle.prefix_trie_bits.specs.Model.Bits.{begins, number, zeros}
+use Rattle.prefix_trie_bits.specs.Model.Order.{listing_cmp}
+use Rattle.prefix_trie_bits.specs.Order.{IsBefore}
+use Rattle.prefix_trie_bits.specs.Model.Entries.{Entries, without_below}
+use Rattle.prefix_trie_bits.specs.Calls.Entries.{part_below}
 use Rattle.prefix_trie_bits.specs.Model.Selections.{listing, listing_from, listing_after, listing_below}
 use Rattle.prefix_trie_bits.specs.Places.{strings}
-use Rattle.prefix_trie_bits.specs.Model.NodeListings.{listing_at_places}
+use Rattle.prefix_trie_bits.specs.Calls.NodeListings.{listing_at_places}
 
 module _ {T : Type 0} where
   -- a walk that has read `read` and then `last` has `rest` still to come

@@ -2,9 +2,10 @@
 use Rattle.std.specs.Prelude.{◌≡◌, ◌↔◌, ◌<◌, Bool, true, List, [], ◌∷◌, ◌++◌, length, Some, is_some, Contains}
 use Rattle.std.specs.List.{list_any}
 use Rattle.std.specs.FinMap.{keys}
-use Rattle.prefix_trie_bits.specs.Bits.{begins}
+use Rattle.prefix_trie_bits.specs.Model.Bits.{begins}
 use Rattle.prefix_trie_bits.specs.Model.Entries.{Entries}
-use Rattle.prefix_trie_bits.specs.Model.Matches.{covers, IsMatch, IsLongestMatch, IsShortestMatch, longest_match, shortest_match}
+use Rattle.prefix_trie_bits.specs.Model.Matches.{covers, longest_match, shortest_match}
+use Rattle.prefix_trie_bits.specs.Calls.Matches.{IsMatch, IsLongestMatch, IsShortestMatch}
 
 pub record MatchLaws (T : Type 0) : Type 0 where
   -- q begins with at most one string of each length

@@ -1,6 +1,6 @@
 -- The order of networks is the order in which a map lists them: for `network_order_laws`.
 use Rattle.std.specs.Prelude.{◌≡◌, ℕ, ◌≤◌, Bool, List, length}
-use Rattle.prefix_trie_bits.specs.Order.{listing_cmp}
+use Rattle.prefix_trie_bits.specs.Model.Order.{listing_cmp}
 use Rattle.prefix_trie_bits.specs.Networks.{network_path, network_back, network_cmp, HasNoHostBits}
 
 pub record FamilyOrderLaws (width : ℕ) : Type 0 where

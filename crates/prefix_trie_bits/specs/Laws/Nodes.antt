@@ -1,9 +1,11 @@
 -- Sets of nodes, and the nodes that keys need: for `node_laws`.
 use Rattle.std.specs.Prelude.{◌≡◌, ◌≢◌, ◌↔◌, ◌⊎◌, ℕ, ◌%◌, ◌≤◌, Bool, true, ◌&&◌, ◌||◌, List, [], length}
 use Rattle.std.specs.FinMap.{contains_key}
-use Rattle.prefix_trie_bits.specs.Bits.{begins}
-use Rattle.prefix_trie_bits.specs.Model.Entries.{Entries, AreWithin, no_entries, with_entry, without_entry}
-use Rattle.prefix_trie_bits.specs.Model.Nodes.{Nodes, has_node, root_alone, is_node_depth, home, needed, with_needed, AreNodes, IsTidy}
+use Rattle.prefix_trie_bits.specs.Model.Bits.{begins}
+use Rattle.prefix_trie_bits.specs.Model.Entries.{Entries, no_entries, with_entry, without_entry}
+use Rattle.prefix_trie_bits.specs.Calls.Entries.{AreWithin}
+use Rattle.prefix_trie_bits.specs.Model.Nodes.{Nodes, has_node, root_alone, is_node_depth, home, needed, with_needed, IsTidy}
+use Rattle.prefix_trie_bits.specs.Calls.Nodes.{AreNodes}
 
 -- s is the longest beginning of q whose length is a multiple of five
 pub record IsHome (q s : List Bool) : Type 0 where

@@ -2,7 +2,8 @@
 use Rattle.std.specs.Prelude.{ℕ, ◌+◌, ◌≤◌, Bool, List, length}
 use Rattle.prefix_trie_bits.specs.Laws.Steps.{IsMap}
 use Rattle.prefix_trie_bits.specs.Model.Step.{State, Insert, Remove, RemoveKeepTree, Reply}
-use Rattle.prefix_trie_bits.specs.Model.Storage.{Storage, HaveBlocks, StepInStorage}
+use Rattle.prefix_trie_bits.specs.Model.Storage.{Storage, StepInStorage}
+use Rattle.prefix_trie_bits.specs.Calls.Storage.{HaveBlocks}
 
 -- a step makes at most this many slots for nodes and for values
 pub record MakesSlots (nodes cells : ℕ) (before after : Storage) : Type 0 where

@@ -2,9 +2,9 @@
 -- `remove_children`.
 use Rattle.std.specs.Prelude.{◌≡◌, ℕ, ◌+◌, ◌≤◌, Bool, true, false, List, length, None}
 use Rattle.std.specs.FinMap.{get, len}
-use Rattle.prefix_trie_bits.specs.Bits.{begins}
-use Rattle.prefix_trie_bits.specs.Model.Entries.{put_all}
-use Rattle.prefix_trie_bits.specs.Model.SplitsOff.{SplitsOff, SplitsOffInStorage}
+use Rattle.prefix_trie_bits.specs.Model.Bits.{begins}
+use Rattle.prefix_trie_bits.specs.Calls.Entries.{put_all}
+use Rattle.prefix_trie_bits.specs.Calls.SplitsOff.{SplitsOff, SplitsOffInStorage}
 use Rattle.prefix_trie_bits.specs.Model.Nodes.{IsTidy}
 use Rattle.prefix_trie_bits.specs.Model.Selections.{listing}
 use Rattle.prefix_trie_bits.specs.Model.Step.{State}
@@ -21,7 +21,7 @@ module _ {T : Type 0} where
     -- setting the entries of the second map in the first again gives the map before
     pub merged : put_all (λ k. k) (listing second.entries) after.entries ≡ before.entries
 
-pub record HandingLaws (T : Type 0) : Type 0 where
+pub record SplitLaws (T : Type 0) : Type 0 where
   pub splits : (before : State T) (q : List Bool) (second after : State T) → SplitsOff before q second after → Splits before q second after
   -- both are maps, and the second is tidy
   pub are_maps : (width : ℕ) (before : State T) (q : List Bool) (second after : State T) → IsMap width before → SplitsOff before q second after

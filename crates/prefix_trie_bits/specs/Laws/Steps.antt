@@ -1,10 +1,12 @@
 -- What every step of the model keeps: for `step_laws`.
 use Rattle.std.specs.Prelude.{◌≡◌, ◌≢◌, ℕ, ◌≤◌, Bool, true, false, not, nat_le, List, length, ◌++◌, None, All}
 use Rattle.std.specs.FinMap.{get, len}
-use Rattle.prefix_trie_bits.specs.Bits.{begins}
-use Rattle.prefix_trie_bits.specs.Order.{same_string}
-use Rattle.prefix_trie_bits.specs.Model.Entries.{Entries, AreWithin, with_entry, without_entry}
-use Rattle.prefix_trie_bits.specs.Model.Nodes.{AreNodes, IsTidy, needed, with_needed, nodes_without}
+use Rattle.prefix_trie_bits.specs.Model.Bits.{begins}
+use Rattle.prefix_trie_bits.specs.Model.Order.{same_string}
+use Rattle.prefix_trie_bits.specs.Model.Entries.{Entries, with_entry, without_entry}
+use Rattle.prefix_trie_bits.specs.Calls.Entries.{AreWithin}
+use Rattle.prefix_trie_bits.specs.Calls.Nodes.{AreNodes}
+use Rattle.prefix_trie_bits.specs.Model.Nodes.{IsTidy, needed, with_needed, nodes_without}
 use Rattle.prefix_trie_bits.specs.Model.Step.{State, Call, Insert, Remove, RemoveKeepTree, RemoveChildren, RetainAtLeast, Clear, NodeCount, CallFits, Reply, Count, Refused, Refusal, Step, Run}
 
 -- what holds of every map: its keys are within the width, and its nodes can be those of a map with these keys

@@ -3,7 +3,9 @@ use Rattle.std.specs.Prelude.{◌≡◌, ℕ, Bool, true, false, List, length, n
 use Rattle.std.specs.FinMap.{contains_key}
 use Rattle.prefix_trie_bits.specs.Model.Nodes.{is_root}
 use Rattle.prefix_trie_bits.specs.Model.Step.{State, Call, Insert, Remove, RemoveKeepTree, RemoveChildren, RetainAtLeast, Clear, Reply, Done, Refused, Refusal}
-use Rattle.prefix_trie_bits.specs.Model.Storage.{Storage, PreparesInStorage, InsertsInStorage, RefusesInStorage, StepInStorage, RetainsInStorage, empty_storage}
+use Rattle.prefix_trie_bits.specs.Model.Storage.{Storage, InsertsInStorage, RefusesInStorage, StepInStorage, empty_storage}
+use Rattle.prefix_trie_bits.specs.Calls.Storage.{PreparesInStorage}
+use Rattle.prefix_trie_bits.specs.Calls.Retaining.{RetainsInStorage}
 use Rattle.prefix_trie_bits.specs.Laws.Determined.{is_refusal}
 use Rattle.prefix_trie_bits.specs.Laws.Steps.{IsMap}
 
@@ -53,4 +55,4 @@ pub record StorageLaws (P T : Type 0) : Type 0 where
   -- if the missing blocks for an insertion were made before it, it is not refused
   pub granted : (s : State T) (q : List Bool) (before mid after : Storage) (cause : Refusal) → PreparesInStorage s q before mid → RefusesInStorage s q cause mid after → ⊥
   -- making the blocks and then inserting is one insertion
-  pub readied : (s : State T) (q : List Bool) (before mid after : Storage) → PreparesInStorage s q before mid → InsertsInStorage s q mid after → InsertsInStorage s q before after
+  pub prepared : (s : State T) (q : List Bool) (before mid after : Storage) → PreparesInStorage s q before mid → InsertsInStorage s q mid after → InsertsInStorage s q before after

@@ -4,7 +4,8 @@ use Rattle.std.specs.Prelude.{◌≡◌, ℕ, ◌≤◌, ◌<◌, Bool, true, fa
 use Rattle.std.specs.FinMap.{contains_key}
 use Rattle.prefix_trie_bits.specs.Model.Insertion.{PassesLimit, MissingFitsLimit}
 use Rattle.prefix_trie_bits.specs.Model.Step.{State, Call, Insert, CallFits, Reply, Refused, Refusal, Memory, IndexRange}
-use Rattle.prefix_trie_bits.specs.Model.Storage.{Storage, HaveBlocks, StepInStorage, RunInStorage}
+use Rattle.prefix_trie_bits.specs.Model.Storage.{Storage, StepInStorage, RunInStorage}
+use Rattle.prefix_trie_bits.specs.Calls.Storage.{HaveBlocks}
 use Rattle.prefix_trie_bits.specs.Laws.Determined.{is_refusal, may_refuse}
 use Rattle.prefix_trie_bits.specs.Laws.Steps.{IsMap}
 

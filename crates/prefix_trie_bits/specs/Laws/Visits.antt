@@ -2,7 +2,8 @@
 use Rattle.std.specs.Prelude.{◌≡◌, ◌⊎◌, ℕ, ◌+◌, ◌*◌, ◌/◌, ◌<◌, ◌≤◌, Bool, true, false, List, length, take, Some}
 use Rattle.prefix_trie_bits.specs.Model.Entries.{Entries}
 use Rattle.prefix_trie_bits.specs.Model.Matches.{shortest_match}
-use Rattle.prefix_trie_bits.specs.Model.Nodes.{Nodes, has_node, AreNodes}
+use Rattle.prefix_trie_bits.specs.Model.Nodes.{Nodes, has_node}
+use Rattle.prefix_trie_bits.specs.Calls.Nodes.{AreNodes}
 use Rattle.prefix_trie_bits.specs.Model.Visits.{visits, visits_to_match}
 
 pub record VisitLaws (T : Type 0) : Type 0 where

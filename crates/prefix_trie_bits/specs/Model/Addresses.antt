@@ -3,7 +3,7 @@
 use Rattle.std.specs.Prelude.{ℕ, zero, suc, ◌^◌, ◌==◌, cond, Bool, true, false, List, [], ◌∷◌, ◌++◌, map, length, filter, Option, Some, None}
 use Rattle.std.specs.List.{list_any}
 use Rattle.std.specs.FinMap.{keys}
-use Rattle.prefix_trie_bits.specs.Bits.{begins}
+use Rattle.prefix_trie_bits.specs.Model.Bits.{begins}
 use Rattle.prefix_trie_bits.specs.Model.Entries.{Entries}
 
 -- all bit strings of a length, in listing order
@@ -22,5 +22,5 @@ module _ {T : Type 0} where
   addresses width m = covered width (keys m)
 
   -- the result of `address_count`: the number of covered addresses, or None if all are covered
-  abbrev pub address_answer : ℕ → Entries T → Option ℕ
-  address_answer width m = cond (addresses width m == 2 ^ width) None (Some (addresses width m))
+  abbrev pub address_total : ℕ → Entries T → Option ℕ
+  address_total width m = cond (addresses width m == 2 ^ width) None (Some (addresses width m))

@@ -2,10 +2,10 @@
 -- are this project's own.
 -- `sizes` lists the sizes of one array, smallest first. `free : List ℕ` has the number of free
 -- blocks of each of them.
-use Rattle.std.specs.Prelude.{◌≡◌, ◌≢◌, ℕ, zero, suc, ◌+◌, ◌-◌, ◌<◌, ◌≤◌, ◌⊎◌, Bool, true, false, cond, ◌==◌, ◌&&◌, List, [], ◌∷◌, ◌++◌, Option, None, Some, length, filter, find, count_by, Contains, IsPermutation, nat_le, nat_lt}
+use Rattle.std.specs.Prelude.{◌≡◌, ◌≢◌, ℕ, ◌+◌, ◌-◌, ◌<◌, ◌≤◌, ◌⊎◌, Bool, true, false, cond, ◌==◌, ◌&&◌, List, [], ◌∷◌, Option, None, Some, length, filter, find, count_by, Contains, nat_le, nat_lt}
 use Rattle.std.specs.FinMap.{FinMap, empty, get, keys, values}
-use Rattle.prefix_trie_bits.specs.Bits.{begins}
-use Rattle.prefix_trie_bits.specs.Order.{listing_cmp}
+use Rattle.prefix_trie_bits.specs.Model.Bits.{begins}
+use Rattle.prefix_trie_bits.specs.Model.Order.{listing_cmp}
 use Rattle.prefix_trie_bits.specs.Model.Entries.{Entries}
 use Rattle.prefix_trie_bits.specs.Model.Nodes.{Nodes, has_node}
 
@@ -20,23 +20,6 @@ child_block_sizes = 1 ∷ 2 ∷ 4 ∷ 8 ∷ 16 ∷ 24 ∷ 32 ∷ []
 -- the smallest size that holds n items, if there is one
 abbrev pub smallest_size : List ℕ → ℕ → Option ℕ
 smallest_size sizes n = find (λ size. nat_le n size) sizes
-
--- a block: its first slot and its number of slots
-pub record Block : Type 0 where
-  pub start : ℕ
-  pub size : ℕ
-
--- blocks of these sizes lie end to end, from the slot `first` up to, but not including, the slot
--- `end`
-abbrev pub Tiles : List ℕ → ℕ → List Block → ℕ → Type 0
-Tiles sizes first [] end = end ≡ first
-Tiles sizes first (b ∷ bs) end = Contains sizes b.size × (b.start ≡ first) × Tiles sizes (first + b.size) bs end
-
--- the used and the free blocks together tile the array, in any order
-pub record AreBlocksOf (sizes : List ℕ) (first : ℕ) (live free : List Block) (end : ℕ) : Type 0 where
-  pub blocks : List Block
-  pub tiles : Tiles sizes first blocks end
-  pub rearranged : IsPermutation (live ++ free) blocks
 
 -- the sizes of blocks, by the bit strings of the nodes that own them
 abbrev pub Sizes : Type 0
@@ -114,16 +97,6 @@ module _ {T : Type 0} where
 -- longer
 abbrev pub child_count : Nodes → List Bool → ℕ
 child_count n p = length (filter (λ s. begins p s && (length s == length p + 5)) (keys n))
-
--- a list of `count` items has a block that holds it; the empty list has none
-abbrev pub HasBlock : List ℕ → ℕ → Option ℕ → Type 0
-HasBlock sizes zero block = block ≡ None
-HasBlock sizes (suc n) block = (size : ℕ) × (block ≡ Some size) × Contains sizes size × (suc n ≤ size)
-
--- each node p has a block for its list of `count p` items; only nodes have blocks
-pub record NodesHaveBlocks (sizes : List ℕ) (n : Nodes) (count : List Bool → ℕ) (blocks : Sizes) : Type 0 where
-  pub at_nodes : (p : List Bool) → has_node n p ≡ true → HasBlock sizes (count p) (get blocks p)
-  pub elsewhere : (p : List Bool) → has_node n p ≡ false → get blocks p ≡ None
 
 -- the number of used blocks of a size
 abbrev pub used_of : Sizes → ℕ → ℕ

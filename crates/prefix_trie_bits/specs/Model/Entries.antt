@@ -1,10 +1,10 @@
 -- The entries of a map, and how calls change them.
 -- From the Rust crate's documentation of `PrefixMap`. A key is the path of a prefix, so two
 -- prefixes with the same path are one key.
-use Rattle.std.specs.Prelude.{◌≡◌, ℕ, ◌≤◌, Bool, true, not, List, [], ◌∷◌, length, nat_le}
-use Rattle.std.specs.FinMap.{FinMap, empty, contains_key, insert, remove, retain_keys}
-use Rattle.prefix_trie_bits.specs.Bits.{begins}
-use Rattle.prefix_trie_bits.specs.Order.{listing_cmp}
+use Rattle.std.specs.Prelude.{ℕ, Bool, not, List, length, nat_le}
+use Rattle.std.specs.FinMap.{FinMap, empty, insert, remove, retain_keys}
+use Rattle.prefix_trie_bits.specs.Model.Bits.{begins}
+use Rattle.prefix_trie_bits.specs.Model.Order.{listing_cmp}
 
 -- a finite map from bit strings to values, in listing order
 abbrev pub Entries : Type 0 → Type 0
@@ -27,20 +27,6 @@ module _ {T : Type 0} where
   abbrev pub without_below : Entries T → List Bool → Entries T
   without_below m q = retain_keys m (λ s. not (begins q s))
 
-  -- the entries whose keys begin with q
-  abbrev pub part_below : Entries T → List Bool → Entries T
-  part_below m q = retain_keys m (λ s. begins q s)
-
   -- the entries whose keys have at least n bits
   abbrev pub part_at_least : Entries T → ℕ → Entries T
   part_at_least m n = retain_keys m (λ s. nat_le n (length s))
-
-  -- the entries after all items are set in order, each under its path; of two with the same path
-  -- the later one stays
-  abbrev pub put_all : {P : Type 0} → (P → List Bool) → List (P × T) → Entries T → Entries T
-  put_all path [] m = m
-  put_all path (x ∷ xs) m = put_all path xs (with_entry m (path x.0) x.1)
-
-  -- no key is longer than the width
-  abbrev pub AreWithin : ℕ → Entries T → Type 0
-  AreWithin width m = (s : List Bool) → contains_key m s ≡ true → length s ≤ width

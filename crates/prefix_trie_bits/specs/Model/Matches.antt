@@ -1,8 +1,7 @@
 -- The stored keys that a bit string begins with, and the longest and the shortest of them.
 -- From the Rust crate's documentation of `get_lpm`, `get_spm` and `cover`.
-use Rattle.std.specs.Prelude.{◌≡◌, ◌≤◌, Bool, true, List, [], ◌∷◌, length, filter, Option, Some, None}
-use Rattle.std.specs.FinMap.{get, contains_key}
-use Rattle.prefix_trie_bits.specs.Bits.{begins}
+use Rattle.std.specs.Prelude.{Bool, List, [], ◌∷◌, filter, Option, Some, None}
+use Rattle.prefix_trie_bits.specs.Model.Bits.{begins}
 use Rattle.prefix_trie_bits.specs.Model.Entries.{Entries}
 use Rattle.prefix_trie_bits.specs.Model.Selections.{listing}
 
@@ -22,21 +21,6 @@ module _ {T : Type 0} where
   -- the entries whose keys q begins with, in listing order, so the shortest key comes first
   abbrev pub covers : Entries T → List Bool → List (List Bool × T)
   covers m q = filter (λ e. begins e.0 q) (listing m)
-
-  -- e is an entry of the map, and q begins with its key
-  pub record IsMatch (m : Entries T) (q : List Bool) (e : List Bool × T) : Type 0 where
-    pub stored : get m e.0 ≡ Some e.1
-    pub begins_it : begins e.0 q ≡ true
-
-  -- e is the match of q with the longest key
-  pub record IsLongestMatch (m : Entries T) (q : List Bool) (e : List Bool × T) : Type 0 where
-    pub matches : IsMatch m q e
-    pub longest : (s : List Bool) → contains_key m s ≡ true → begins s q ≡ true → length s ≤ length e.0
-
-  -- e is the match of q with the shortest key
-  pub record IsShortestMatch (m : Entries T) (q : List Bool) (e : List Bool × T) : Type 0 where
-    pub matches : IsMatch m q e
-    pub shortest : (s : List Bool) → contains_key m s ≡ true → begins s q ≡ true → length e.0 ≤ length s
 
   -- the entry with the longest key that q begins with, if there is one
   abbrev pub longest_match : Entries T → List Bool → Option (List Bool × T)

@@ -2,11 +2,11 @@
 -- The node at s holds the entries whose keys begin with s and are fewer than five bits longer.
 -- From Eatherton, Dittia and Varghese's tree bitmap. Which nodes a removal leaves is this project's
 -- own rule.
-use Rattle.std.specs.Prelude.{◌≡◌, ℕ, ◌+◌, ◌*◌, ◌/◌, ◌%◌, ◌≤◌, ◌==◌, Bool, true, false, cond, not, ◌&&◌, ◌||◌, List, [], ◌∷◌, take, length, map, filter, flat_map, nat_lt}
+use Rattle.std.specs.Prelude.{◌≡◌, ◌*◌, ◌/◌, ◌%◌, ◌==◌, Bool, true, false, cond, not, ◌&&◌, ◌||◌, List, [], ◌∷◌, take, length, map, filter, flat_map}
 use Rattle.std.specs.List.{list_any, list_all}
 use Rattle.std.specs.FinMap.{FinMap, empty, insert, contains_key, retain_keys, keys}
-use Rattle.prefix_trie_bits.specs.Bits.{begins}
-use Rattle.prefix_trie_bits.specs.Order.{listing_cmp, same_string}
+use Rattle.prefix_trie_bits.specs.Model.Bits.{begins}
+use Rattle.prefix_trie_bits.specs.Model.Order.{listing_cmp, same_string}
 use Rattle.prefix_trie_bits.specs.Model.Entries.{Entries, without_entry, without_below}
 
 -- a finite set of bit strings
@@ -58,16 +58,6 @@ module _ {T : Type 0} where
   abbrev pub needed : Entries T → Nodes
   needed m = with_nodes root_alone (flat_map nodes_above (keys m))
 
-  -- n can be the nodes of a map with the entries m
-  -- No string is longer than the width, all lengths are multiples of five, the root is there, each
-  -- node has all nodes above it, and all needed nodes are there.
-  pub record AreNodes (width : ℕ) (m : Entries T) (n : Nodes) : Type 0 where
-    pub within : (s : List Bool) → has_node n s ≡ true → length s ≤ width
-    pub depths : (s : List Bool) → has_node n s ≡ true → length s % 5 ≡ 0
-    pub rooted : has_node n [] ≡ true
-    pub closed : (s t : List Bool) → has_node n t ≡ true → begins s t ≡ true → length s % 5 ≡ 0 → has_node n s ≡ true
-    pub hold_needed : (s : List Bool) → has_node (needed m) s ≡ true → has_node n s ≡ true
-
   -- a map is tidy if its nodes are exactly the needed ones, so each node except the root has an
   -- entry in it or under it
   abbrev pub IsTidy : Entries T → Nodes → Type 0
@@ -98,20 +88,3 @@ module _ {T : Type 0} where
   abbrev pub nodes_without_below : Nodes → Entries T → List Bool → Nodes
   nodes_without_below n m q =
       cond (has_node n (home q)) (pruned (nodes_not_below n q) (without_below m q) q) n
-
-  -- whether the node p holds an entry
-  abbrev pub is_holder : Entries T → List Bool → Bool
-  is_holder m p = list_any (λ s. begins p s && nat_lt (length s) (length p + 5)) (keys m)
-
--- whether the node p has a child
-abbrev pub is_parent : Nodes → List Bool → Bool
-is_parent n p = list_any (λ s. begins p s && (length s == length p + 5)) (keys n)
-
-module _ {T : Type 0} where
-  -- the nodes that hold entries, in listing order
-  abbrev pub holders : Entries T → Nodes → List (List Bool)
-  holders m n = filter (λ p. is_holder m p) (keys n)
-
--- the nodes that have a child, in listing order
-abbrev pub parents : Nodes → List (List Bool)
-parents n = filter (λ p. is_parent n p) (keys n)

@@ -4,8 +4,8 @@
 use Rattle.std.specs.Prelude.{Bool, List, map, filter}
 use Rattle.std.proofs.Common.{is_lt, is_le}
 use Rattle.std.specs.FinMap.{entries}
-use Rattle.prefix_trie_bits.specs.Bits.{begins}
-use Rattle.prefix_trie_bits.specs.Order.{listing_cmp}
+use Rattle.prefix_trie_bits.specs.Model.Bits.{begins}
+use Rattle.prefix_trie_bits.specs.Model.Order.{listing_cmp}
 use Rattle.prefix_trie_bits.specs.Model.Entries.{Entries}
 
 module _ {T : Type 0} where

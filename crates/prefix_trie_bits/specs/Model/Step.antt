@@ -9,7 +9,7 @@ use Rattle.prefix_trie_bits.specs.Model.Entries.{Entries, no_entries, with_entry
 use Rattle.prefix_trie_bits.specs.Model.Selections.{listing, listing_from, listing_after, listing_below, prefix_pairs}
 use Rattle.prefix_trie_bits.specs.Model.Matches.{covers, longest_match, shortest_match, prefix_pair}
 use Rattle.prefix_trie_bits.specs.Model.Nodes.{Nodes, root_alone, with_needed, needed, nodes_without, nodes_without_below}
-use Rattle.prefix_trie_bits.specs.Model.Addresses.{address_answer}
+use Rattle.prefix_trie_bits.specs.Model.Addresses.{address_total}
 
 -- what contracts see of a map: its entries and its nodes
 pub record State (T : Type 0) : Type 0 where
@@ -103,7 +103,7 @@ module _ {P T : Type 0} (path : P → List Bool) (back : List Bool → P) (width
   Step s Clear reply t = (reply ≡ Done) × (t ≡ record { entries = no_entries; nodes = root_alone })
   Step s Len reply t = (reply ≡ Count (len s.entries)) × (t ≡ s)
   Step s NodeCount reply t = (reply ≡ Count (len s.nodes)) × (t ≡ s)
-  Step s AddressCount reply t = (reply ≡ Addresses (address_answer width s.entries)) × (t ≡ s)
+  Step s AddressCount reply t = (reply ≡ Addresses (address_total width s.entries)) × (t ≡ s)
   Step s ListAll reply t = Lists s (prefix_pairs back (listing s.entries)) reply t
   Step s (ListFrom q inclusive) reply t =
       Lists s (prefix_pairs back (cond inclusive (listing_from s.entries (path q)) (listing_after s.entries (path q)))) reply t

@@ -1,12 +1,10 @@
 -- How a map is stored, steps that see the storage, and runs of such steps. This project's own.
 use Rattle.std.specs.Prelude.{◌≡◌, ℕ, ◌+◌, ◌≤◌, ◌<◌, Bool, true, false, Option, List, length}
 use Rattle.std.specs.FinMap.{get, contains_key, len}
-use Rattle.prefix_trie_bits.specs.Model.Retaining.{RetainsEntries}
-use Rattle.prefix_trie_bits.specs.Model.Blocks.{Layout, no_layout, NodesHaveBlocks, KeepsBlocks, MakesBlocks, MakesAtMost, made_of, child_block_count, value_block_count, SizesStepDown, SizesStepBetween, LongerByOne, value_block_sizes, child_block_sizes, own_entries, child_count}
+use Rattle.prefix_trie_bits.specs.Model.Blocks.{Layout, no_layout, KeepsBlocks, MakesBlocks, MakesAtMost, made_of, child_block_count, value_block_count, SizesStepDown, SizesStepBetween, LongerByOne, value_block_sizes, child_block_sizes, own_entries, child_count}
 use Rattle.prefix_trie_bits.specs.Model.Insertion.{PassesLimit, MissingFitsLimit, TakesBlocks, missing_node_slots, missing_cell_slots, missing_child_blocks, missing_value_blocks, child_block_needed, value_block_needed}
-use Rattle.prefix_trie_bits.specs.Model.Nodes.{home, needed}
+use Rattle.prefix_trie_bits.specs.Model.Nodes.{home}
 use Rattle.prefix_trie_bits.specs.Model.Space.{Space, MayPassLimit, LeavesSpace}
-use Rattle.prefix_trie_bits.specs.Model.Selections.{listing}
 use Rattle.prefix_trie_bits.specs.Model.Step.{State, Call, Insert, Remove, RemoveKeepTree, RemoveChildren, RetainAtLeast, Clear, Reply, Value, Refused, Refusal, Memory, IndexRange, Step, Runs}
 
 -- how a map is stored: the slots of its two arrays, and how they are cut into blocks
@@ -19,12 +17,6 @@ abbrev pub empty_storage : Storage → Storage
 empty_storage s = record { space = record { limit = s.space.limit; node_slots = 1; cell_slots = 0 }; layout = no_layout }
 
 module _ {T : Type 0} where
-  -- each node has a block for its children and a block for its values, or none if there are none;
-  -- only nodes have blocks
-  pub record HaveBlocks (s : State T) (layout : Layout) : Type 0 where
-    pub child_blocks : NodesHaveBlocks child_block_sizes s.nodes (child_count s.nodes) layout.child_blocks
-    pub value_blocks : NodesHaveBlocks value_block_sizes s.nodes (own_entries s.entries) layout.value_blocks
-
   -- how the insertion of the new key q changes the storage
   -- Each list that needed a block has it, and the others keep theirs. Of each size exactly the
   -- missing blocks were made, and the arrays grow by their slots. No block is lost: a block that a
@@ -37,22 +29,12 @@ module _ {T : Type 0} where
     pub child_blocks_made : MakesBlocks child_block_sizes (missing_child_blocks s.nodes before.layout q) (child_block_count before.layout) (child_block_count after.layout)
     pub value_blocks_made : MakesBlocks value_block_sizes (missing_value_blocks s.entries before.layout q) (value_block_count before.layout) (value_block_count after.layout)
 
-  -- how making the missing blocks for the new key q changes the storage, if q is not inserted yet:
-  -- the used blocks stay
-  pub record PreparesInStorage (s : State T) (q : List Bool) (before after : Storage) : Type 0 where
-    pub node_slots : after.space.node_slots ≡ before.space.node_slots + missing_node_slots s.nodes before.layout q
-    pub cell_slots : after.space.cell_slots ≡ before.space.cell_slots + missing_cell_slots s.entries before.layout q
-    pub child_blocks : after.layout.child_blocks ≡ before.layout.child_blocks
-    pub value_blocks : after.layout.value_blocks ≡ before.layout.value_blocks
-    pub child_blocks_made : MakesBlocks child_block_sizes (missing_child_blocks s.nodes before.layout q) (child_block_count before.layout) (child_block_count after.layout)
-    pub value_blocks_made : MakesBlocks value_block_sizes (missing_value_blocks s.entries before.layout q) (value_block_count before.layout) (value_block_count after.layout)
-
   -- when the insertion of the new key q is refused, and how that changes the storage
   -- It is refused only if a block is missing: with `IndexRange` only if the missing blocks would
   -- exceed the limit, and with `Memory` only if one that is still missing would fit. The used
   -- blocks stay. Of each size at most the missing blocks were made, and these are free.
   pub record RefusesInStorage (s : State T) (q : List Bool) (cause : Refusal) (before after : Storage) : Type 0 where
-    pub lacks : 0 < missing_node_slots s.nodes before.layout q + missing_cell_slots s.entries before.layout q
+    pub some_missing : 0 < missing_node_slots s.nodes before.layout q + missing_cell_slots s.entries before.layout q
     pub range : cause ≡ IndexRange → PassesLimit s.entries s.nodes before.space before.layout q
     pub memory : cause ≡ Memory → MissingFitsLimit s.entries s.nodes after.space after.layout q
     pub node_slots : (before.space.node_slots ≤ after.space.node_slots)
@@ -130,16 +112,3 @@ module _ {P T : Type 0} (path : P → List Bool) (back : List Bool → P) (width
   -- a run of such steps
   abbrev pub RunInStorage : State T × Storage → List (Call P T) → List (Reply P T) → State T × Storage → Type 0
   RunInStorage = Runs StepInStorage
-
-module _ {T : Type 0} where
-  -- a step by bit strings: the calls and replies have bit strings for prefixes
-  abbrev pub StepByPath : ℕ → State T × Storage → Call (List Bool) T → Reply (List Bool) T → State T × Storage → Type 0
-  StepByPath = StepInStorage (λ q. q) (λ q. q)
-
-  -- a step that calls the test f on each entry in listing order and keeps those for which it
-  -- returns true, with the nodes that they need
-  pub record RetainsInStorage {F : Type 0} (asks : F → List Bool → T → Bool → F → Type 0) (f : F) (s t : State T × Storage) : Type 0 where
-    pub kept : RetainsEntries asks f (listing s.0.entries) (listing t.0.entries)
-    pub nodes : t.0.nodes ≡ needed t.0.entries
-    pub space : LeavesSpace (len s.0.nodes) s.1.space t.1.space
-    pub storage : RemovesManyInStorage s.0 t.0 s.1 t.1

@@ -3,7 +3,7 @@
 -- project's own.
 use Rattle.std.specs.Prelude.{◌≡◌, ℕ, ◌+◌, ◌/◌, ◌≤◌, ◌&&◌, Bool, List, Option, Some, None, length, filter, nat_le}
 use Rattle.std.specs.FinMap.{keys}
-use Rattle.prefix_trie_bits.specs.Bits.{begins}
+use Rattle.prefix_trie_bits.specs.Model.Bits.{begins}
 use Rattle.prefix_trie_bits.specs.Model.Entries.{Entries}
 use Rattle.prefix_trie_bits.specs.Model.Matches.{shortest_match}
 use Rattle.prefix_trie_bits.specs.Model.Nodes.{Nodes}

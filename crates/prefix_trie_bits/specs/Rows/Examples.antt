@@ -2,7 +2,7 @@
 -- The rows are this project's own; many are taken over from the crate's documentation and tests.
 use Rattle.std.specs.Prelude.{ℕ, ◌-◌, ◌++◌, ◌^◌, Bool, List, map, take, length, replicate, None}
 use Rattle.std.specs.List.{enumerate_from}
-use Rattle.prefix_trie_bits.specs.Bits.{digits, number, zeros}
+use Rattle.prefix_trie_bits.specs.Model.Bits.{digits, number, zeros}
 use Rattle.prefix_trie_bits.specs.Model.Entries.{no_entries}
 use Rattle.prefix_trie_bits.specs.Model.Nodes.{root_alone}
 use Rattle.prefix_trie_bits.specs.Model.Step.{State, Call, Insert, Reply, Value, Run}

@@ -1,7 +1,7 @@
 //! The listing order of a node's places.
 ghost use Rattle.std.specs.Prelude.{◌≡◌, ℕ, ◌<◌, ◌≤◌, List, Bool, length, map, not, Some};
 ghost use Rattle.std.specs.List.{slice_get};
-ghost use Rattle.prefix_trie_bits.specs.Bits.{number, begins};
+ghost use Rattle.prefix_trie_bits.specs.Model.Bits.{number, begins};
 ghost use Rattle.prefix_trie_bits.specs.Places.{value_bit, heap_number, strings, place_of, HoldsPlaces, HoldsPositions, is_before};
 
 use crate::node::Place;
@@ -21,11 +21,11 @@ pub fn from_value(bit: u32) -> (u32, u32)
 ///
 /// For example, bit 30 is that of 11110: the masks have the child bit 31 alone.
 #[inline]
-pub fn behind_child(bit: u32) -> (u32, u32)
+pub fn after_child(bit: u32) -> (u32, u32)
     requires { bit < 32 }
     ensures { (t : List Bool) → length t ≡ 5 → number t ≡ bit → HoldsPlaces result.0 result.1 (is_before t) }
 {
-    BEHIND_CHILD[bit as usize]
+    AFTER_CHILD[bit as usize]
 }
 
 // Returns the place at a position of the listing.
@@ -93,7 +93,7 @@ static FROM_VALUE: [(u32, u32); 31] = [
 ];
 
 // For each child bit: the value bits and the child bits after it in listing order.
-static BEHIND_CHILD: [(u32, u32); 32] = [
+static AFTER_CHILD: [(u32, u32); 32] = [
     (0x7fff7f74, 0xfffffffe),
     (0x7fff7f74, 0xfffffffc),
     (0x7ffe7f74, 0xfffffff8),

@@ -1,6 +1,6 @@
 //! Bit strings as one value: the first bits of a key.
 ghost use Rattle.std.specs.Prelude.{◌≡◌, ℕ, ◌^◌, ◌<◌, ◌≤◌, take, drop, length, MatchOption};
-ghost use Rattle.prefix_trie_bits.specs.Bits.{number, digits, begins};
+ghost use Rattle.prefix_trie_bits.specs.Model.Bits.{number, digits, begins};
 ghost use Rattle.prefix_trie_bits.specs.Places.{HoldsValues, HoldsChildren, IsLongest, IsShortest, NoneBegins, value_bit as value_bit_in};
 
 use crate::node::{child_cover_entry, match_entry, value_cover_entry};

@@ -2,7 +2,7 @@
 ghost use Rattle.std.specs.Prelude.{◌≡◌, ℕ, ◌^◌, ◌<◌, ◌≤◌, MatchOption, Some};
 ghost use Rattle.std.specs.Fmt.{decimal};
 ghost use Rattle.std.proofs.Common.{eqb-true};
-ghost use Rattle.prefix_trie_bits.specs.Bits.{number, digits};
+ghost use Rattle.prefix_trie_bits.specs.Model.Bits.{number, digits};
 ghost use Rattle.prefix_trie_bits.specs.Keys.{narrow_width, narrow_keys};
 
 use crate::digits::{behind_of, extend_of, keep_of, window_of};

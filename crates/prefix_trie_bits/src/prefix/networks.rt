@@ -2,7 +2,7 @@
 ghost use Rattle.std.specs.Prelude.{◌≡◌, ℕ, ◌-◌, ◌^◌, ◌<◌, ◌≤◌, ◌++◌, length, take, IsTrue, MatchOption, ◌↔◌, refl};
 ghost use Rattle.std.proofs.Common.{lit≤};
 ghost use Rattle.prefix_trie_bits.specs.Keys.{number_keys};
-ghost use Rattle.prefix_trie_bits.specs.Bits.{number, digits, zeros};
+ghost use Rattle.prefix_trie_bits.specs.Model.Bits.{number, digits, zeros};
 ghost use Rattle.prefix_trie_bits.specs.Networks.{network_back, network_path};
 
 use crate::prefix::{Key, Prefix};

@@ -2,7 +2,7 @@
 ghost use Rattle.std.specs.Prelude.{ℕ, ◌^◌, ◌<◌, ◌≤◌};
 ghost use Rattle.std.proofs.Common.{lit≤, eqb-true};
 ghost use Rattle.prefix_trie_bits.specs.Keys.{number_keys};
-ghost use Rattle.prefix_trie_bits.specs.Bits.{number, digits};
+ghost use Rattle.prefix_trie_bits.specs.Model.Bits.{number, digits};
 
 use crate::digits::{extend_of, keep_of, short_window_of, window_of};
 use crate::prefix::Key;

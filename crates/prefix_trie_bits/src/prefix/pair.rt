@@ -1,6 +1,6 @@
 //! A pair of a number and a length as a prefix.
 ghost use Rattle.std.specs.Prelude.{◌-◌, ◌≤◌, ◌++◌, length, take, refl};
-ghost use Rattle.prefix_trie_bits.specs.Bits.{zeros};
+ghost use Rattle.prefix_trie_bits.specs.Model.Bits.{zeros};
 
 use crate::prefix::{Key, Prefix};
 

@@ -5,7 +5,7 @@
 ghost use Rattle.std.specs.Prelude.{◌≡◌, ℕ, ◌+◌, ◌<◌, ◌≤◌, All, Bool, IfSome, List, Option, length, map, take};
 ghost use Rattle.std.specs.Option.{option_copied, option_map};
 ghost use Rattle.prefix_trie_bits.specs.Model.Matches.{longest_match, prefix_pair};
-ghost use Rattle.prefix_trie_map.specs.Bulk.{AreAnswered, AreFound, ReadsMore, right_for, visits_of_all};
+ghost use Rattle.prefix_trie_map.specs.Bulk.{HaveMatches, AreFound, ReadsMore, right_for, visits_of_all};
 ghost use Rattle.prefix_trie_map.specs.Walks.{lent_item};
 
 use crate::map::PrefixMap;
@@ -54,7 +54,7 @@ impl<P: Prefix, T: Drop, A: Allocator> PrefixMap<P, T, A> {
         ensures reads { result ≡ visits_of_all P.path self.now.nodes prefixes.now }
     {
         let mut visits = Visits::new();
-        answer_all(&self.table, prefixes, out, &mut visits);
+        match_all(&self.table, prefixes, out, &mut visits);
         visits
     }
 
@@ -97,13 +97,13 @@ impl<P: Prefix, T: Drop, A: Allocator> PrefixMap<P, T, A> {
         ensures reads { result ≡ visits_of_all P.path self.now.nodes prefixes.now }
     {
         let mut visits = Visits::new();
-        answer_all(&self.table, prefixes, out, &mut visits);
+        match_all(&self.table, prefixes, out, &mut visits);
         visits
     }
 }
 
 /// What a bulk lookup returns for a match of the table.
-trait Answer<'a, P: Prefix, T>: Drop + Sized {
+trait BulkResult<'a, P: Prefix, T>: Drop + Sized {
     type Shown;
 
     // what clauses see of a result
@@ -119,7 +119,7 @@ trait Answer<'a, P: Prefix, T>: Drop + Sized {
 }
 
 /// The prefix of the match, and its value.
-impl<'a, P: Prefix, T> Answer<'a, P, T> for Option<(P, &'a T)> {
+impl<'a, P: Prefix, T> BulkResult<'a, P, T> for Option<(P, &'a T)> {
     type Shown = Option<(P, T)>;
 
     ghost shows = { option_map lent_item };
@@ -136,7 +136,7 @@ impl<'a, P: Prefix, T> Answer<'a, P, T> for Option<(P, &'a T)> {
 }
 
 /// The value of the match alone.
-impl<'a, P: Prefix, T> Answer<'a, P, T> for Option<&'a T> {
+impl<'a, P: Prefix, T> BulkResult<'a, P, T> for Option<&'a T> {
     type Shown = Option<T>;
 
     ghost shows = { option_copied };
@@ -151,7 +151,7 @@ impl<'a, P: Prefix, T> Answer<'a, P, T> for Option<&'a T> {
 
 /// Looks all prefixes up, one by one or in groups, whichever takes less time.
 #[inline]
-fn answer_all<'a, P: Prefix, T: Drop, A: Allocator, X: Answer<'a, P, T>>(
+fn match_all<'a, P: Prefix, T: Drop, A: Allocator, X: BulkResult<'a, P, T>>(
     table: &'a Table<T, A, Visits>,
     prefixes: &[P],
     out: &mut [X],
@@ -159,18 +159,18 @@ fn answer_all<'a, P: Prefix, T: Drop, A: Allocator, X: Answer<'a, P, T>>(
 )
     requires fit { All P.IsFitting prefixes.now }
     requires same_length { length out.old ≡ length prefixes.now }
-    ensures answers { map X.shows out.new ≡ map (right_for X.right P.path table.now.entries) prefixes.now }
+    ensures results { map X.shows out.new ≡ map (right_for X.right P.path table.now.entries) prefixes.now }
     ensures visits { visits.new ≡ visits.old + visits_of_all P.path table.now.nodes prefixes.now }
 {
     if table.node_slots() <= FEW_NODES {
-        answer_singly(table, prefixes, out, visits);
+        match_one_by_one(table, prefixes, out, visits);
     } else {
-        answer_in_groups(table, prefixes, out, visits);
+        match_in_groups(table, prefixes, out, visits);
     }
 }
 
 /// Looks the prefixes up one by one.
-fn answer_singly<'a, P: Prefix, T: Drop, A: Allocator, X: Answer<'a, P, T>>(
+fn match_one_by_one<'a, P: Prefix, T: Drop, A: Allocator, X: BulkResult<'a, P, T>>(
     table: &'a Table<T, A, Visits>,
     prefixes: &[P],
     out: &mut [X],
@@ -178,7 +178,7 @@ fn answer_singly<'a, P: Prefix, T: Drop, A: Allocator, X: Answer<'a, P, T>>(
 )
     requires fit { All P.IsFitting prefixes.now }
     requires same_length { length out.old ≡ length prefixes.now }
-    ensures answers { map X.shows out.new ≡ map (right_for X.right P.path table.now.entries) prefixes.now }
+    ensures results { map X.shows out.new ≡ map (right_for X.right P.path table.now.entries) prefixes.now }
     ensures visits { visits.new ≡ visits.old + visits_of_all P.path table.now.nodes prefixes.now }
 {
     for i in 0..prefixes.len() {
@@ -188,7 +188,7 @@ fn answer_singly<'a, P: Prefix, T: Drop, A: Allocator, X: Answer<'a, P, T>>(
 }
 
 /// Looks the prefixes up group by group.
-fn answer_in_groups<'a, P: Prefix, T: Drop, A: Allocator, X: Answer<'a, P, T>>(
+fn match_in_groups<'a, P: Prefix, T: Drop, A: Allocator, X: BulkResult<'a, P, T>>(
     table: &'a Table<T, A, Visits>,
     prefixes: &[P],
     out: &mut [X],
@@ -196,12 +196,12 @@ fn answer_in_groups<'a, P: Prefix, T: Drop, A: Allocator, X: Answer<'a, P, T>>(
 )
     requires fit { All P.IsFitting prefixes.now }
     requires same_length { length out.old ≡ length prefixes.now }
-    ensures answers { map X.shows out.new ≡ map (right_for X.right P.path table.now.entries) prefixes.now }
+    ensures results { map X.shows out.new ≡ map (right_for X.right P.path table.now.entries) prefixes.now }
     ensures visits { visits.new ≡ visits.old + visits_of_all P.path table.now.nodes prefixes.now }
 {
     let mut from = 0;
     'groups: while from < prefixes.len() {
-        from += answer_group(table, prefixes, from, out, visits);
+        from += match_group(table, prefixes, from, out, visits);
     }
 }
 
@@ -227,7 +227,7 @@ fn find_group<P: Prefix, T: Drop, A: Allocator>(
 }
 
 /// Writes the results of the next group of prefixes, from an index on, and returns the size of the group.
-fn answer_group<'a, P: Prefix, T: Drop, A: Allocator, X: Answer<'a, P, T>>(
+fn match_group<'a, P: Prefix, T: Drop, A: Allocator, X: BulkResult<'a, P, T>>(
     table: &'a Table<T, A, Visits>,
     prefixes: &[P],
     from: usize,
@@ -238,8 +238,8 @@ fn answer_group<'a, P: Prefix, T: Drop, A: Allocator, X: Answer<'a, P, T>>(
     requires same_length { length out.old ≡ length prefixes.now }
     requires some { from < length prefixes.now }
     ensures group { (0 < result) × (from + result ≤ length prefixes.now) }
-    ensures answers { AreAnswered X.shows (right_for X.right P.path table.now.entries) prefixes.now out.old from
-        → AreAnswered X.shows (right_for X.right P.path table.now.entries) prefixes.now out.new (from + result) }
+    ensures results { HaveMatches X.shows (right_for X.right P.path table.now.entries) prefixes.now out.old from
+        → HaveMatches X.shows (right_for X.right P.path table.now.entries) prefixes.now out.new (from + result) }
     ensures visits { ReadsMore P.path table.now.nodes prefixes.now from (from + result) visits.old visits.new }
     ensures length { length out.new ≡ length out.old }
 {

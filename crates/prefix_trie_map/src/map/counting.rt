@@ -2,8 +2,8 @@
 ghost use Rattle.std.specs.Prelude.{◌≡◌, IfSome};
 ghost use Rattle.std.specs.Option.{option_map};
 ghost use Rattle.std.specs.FinMap.{len};
-ghost use Rattle.prefix_trie_bits.specs.Bits.{number};
-ghost use Rattle.prefix_trie_bits.specs.Model.Addresses.{address_answer};
+ghost use Rattle.prefix_trie_bits.specs.Model.Bits.{number};
+ghost use Rattle.prefix_trie_bits.specs.Model.Addresses.{address_total};
 ghost use Rattle.prefix_trie_bits.specs.Model.Entries.{Entries};
 ghost use Rattle.prefix_trie_bits.specs.Model.Selections.{listing};
 ghost use Rattle.prefix_trie_map.specs.Whole.{IsWhole};
@@ -51,7 +51,7 @@ impl<P: Prefix, T: Drop, A: Allocator> PrefixMap<P, T, A> {
     #[inline]
     pub fn address_count(&self) -> Option<P::R>
         ensures key { IfSome result (λ r. P.R.IsKey r) }
-        ensures count { option_map (λ r. number (P.R.bits r)) result ≡ address_answer P.R.bit_width self.now.entries }
+        ensures count { option_map (λ r. number (P.R.bits r)) result ≡ address_total P.R.bit_width self.now.entries }
         ensures whole { IsWhole P.R.bit_width self.now }
     {
         self.known_valid();
@@ -68,7 +68,7 @@ fn addresses_of<K: Key, T: Drop, A: Allocator, V: Tick>(
 ) -> Option<K>
     ensures key { IfSome result (λ r. K.IsKey r) }
     ensures count { (m : Entries T) → walk.old ≡ listing m
-        → option_map (λ r. number (K.bits r)) result ≡ address_answer K.bit_width m }
+        → option_map (λ r. number (K.bits r)) result ≡ address_total K.bit_width m }
 {
     let mut total = K::zero();
     while let Some((_, len)) = walk.next_outermost(counter) {

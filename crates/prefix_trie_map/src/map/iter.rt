@@ -5,7 +5,7 @@ ghost use Rattle.std.specs.Prelude.{◌≡◌, ◌<◌, ◌≤◌, ◌^◌, ◌-
 ghost use Rattle.std.specs.FinMap.{len};
 ghost use Rattle.std.specs.Iterator.{at_most};
 ghost use Rattle.std.specs.Map.Iter.{TakesFirst, ShowsInOrder, GivesInOrder, deref};
-ghost use Rattle.prefix_trie_bits.specs.Bits.{zeros};
+ghost use Rattle.prefix_trie_bits.specs.Model.Bits.{zeros};
 ghost use Rattle.prefix_trie_bits.specs.Model.Selections.{listing, prefix_pairs};
 ghost use Rattle.prefix_trie_map.specs.Walks.{lent_item};
 ghost use Rattle.prefix_trie_map.specs.Whole.{IsWhole};

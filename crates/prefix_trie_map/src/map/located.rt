@@ -7,7 +7,7 @@ ghost use Rattle.prefix_trie_bits.specs.Model.Insertion.{missing_node_slots, mis
 ghost use Rattle.prefix_trie_bits.specs.Model.Nodes.{with_needed};
 ghost use Rattle.prefix_trie_bits.specs.Model.Space.{LeavesSpace};
 ghost use Rattle.prefix_trie_bits.specs.Model.Step.{Insert, RemoveKeepTree, Value, Refused as Refuses};
-ghost use Rattle.prefix_trie_bits.specs.Model.Storage.{PreparesInStorage, StepByPath};
+ghost use Rattle.prefix_trie_bits.specs.Calls.Storage.{PreparesInStorage, StepByPath};
 ghost use Rattle.prefix_trie_table.specs.Locations.{seat_of, IsSearchEnd, IsLocation};
 ghost use Rattle.prefix_trie_map.specs.Steps.{state, storage, stored_state};
 ghost use Rattle.prefix_trie_map.specs.Whole.{IsWhole};
@@ -57,7 +57,7 @@ impl<P: Prefix, T: Drop, A: Allocator> PrefixMap<P, T, A> {
     #[inline]
     pub(super) fn step(&self, cursor: &mut Cursor<P::R>) -> Option<(P::R, u32, Seat)>
         requires { IsCursorIn P.R.bits P.R.bit_width self.now.build cursor.old }
-        ensures stands { IsCursorIn P.R.bits P.R.bit_width self.now.build cursor.new }
+        ensures is_there { IsCursorIn P.R.bits P.R.bit_width self.now.build cursor.new }
         ensures key { MatchOption result
             ((keys_to_come P.R.bits self.now.entries cursor.old ≡ []) × (keys_to_come P.R.bits self.now.entries cursor.new ≡ []))
             (λ r. GivesKey P.R.IsKey P.R.bits P.R.bit_width self.now.build r.0 r.1 r.2
@@ -77,7 +77,7 @@ impl<P: Prefix, T: Drop, A: Allocator> PrefixMap<P, T, A> {
         ensures nodes { self.new.nodes ≡ self.old.nodes }
         ensures end { IsSearchEnd self.new.build (P.path prefix.now) end }
         ensures space { LeavesSpace (len self.old.nodes) self.old.space self.new.space }
-        ensures readies { OnOk result (PreparesInStorage (state self.old) (P.path prefix.now) (storage self.old) (storage self.new)) }
+        ensures prepares { OnOk result (PreparesInStorage (state self.old) (P.path prefix.now) (storage self.old) (storage self.new)) }
         ensures refuses { IfErr result (λ cause. (value : T) → StepByPath P.R.bit_width (stored_state self.old) (Insert (P.path prefix.now) value) (Refuses cause) (stored_state self.new)) }
     {
         self.table.reserve(prefix.path(), end)

@@ -1,10 +1,10 @@
 //! Giving memory back.
 ghost use Rattle.std.specs.Prelude.{◌≡◌, OnOk, OnErr, IfErr};
 ghost use Rattle.prefix_trie_bits.specs.declared.prefix.Refusal.TheVariants.{Memory};
-ghost use Rattle.prefix_trie_bits.specs.Model.SplitsOff.{IsPacked};
+ghost use Rattle.prefix_trie_bits.specs.Calls.SplitsOff.{IsPacked};
 ghost use Rattle.prefix_trie_bits.specs.Model.Nodes.{needed};
 ghost use Rattle.prefix_trie_map.specs.Steps.{state, stored_state};
-ghost use Rattle.prefix_trie_table.specs.Shape.{storage};
+ghost use Rattle.prefix_trie_table.specs.Model.Contents.{storage};
 
 use crate::map::{PrefixMap, Visits};
 use prefix_trie_bits::prefix::{Prefix, Refusal};

@@ -4,7 +4,7 @@ ghost use Rattle.std.specs.FinMap.{get};
 ghost use Rattle.prefix_trie_bits.specs.Model.Entries.{no_entries, without_entry, without_below};
 ghost use Rattle.prefix_trie_bits.specs.Model.Nodes.{root_alone, nodes_without, nodes_without_below};
 ghost use Rattle.prefix_trie_bits.specs.Model.Step.{Remove, RemoveKeepTree, RemoveChildren, Clear, Done, Value};
-ghost use Rattle.prefix_trie_bits.specs.Model.Storage.{StepByPath};
+ghost use Rattle.prefix_trie_bits.specs.Calls.Storage.{StepByPath};
 ghost use Rattle.prefix_trie_table.specs.Steps.{BoundsStorageGrowth};
 ghost use Rattle.prefix_trie_map.specs.Steps.{storage, stored_state};
 

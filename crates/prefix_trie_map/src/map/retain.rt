@@ -1,9 +1,8 @@
 //! Keeping the entries that pass a test.
 ghost use Rattle.std.specs.Prelude.{◌≡◌, false};
-ghost use Rattle.prefix_trie_bits.specs.Model.Retaining.{RetainsEntries, CallableOnEachEntry};
+ghost use Rattle.prefix_trie_bits.specs.Calls.Retaining.{RetainsEntries, CallableOnEachEntry, RetainsInStorage};
 ghost use Rattle.prefix_trie_bits.specs.Model.Nodes.{needed};
 ghost use Rattle.prefix_trie_bits.specs.Model.Selections.{listing};
-ghost use Rattle.prefix_trie_bits.specs.Model.Storage.{RetainsInStorage};
 ghost use Rattle.prefix_trie_map.specs.Calling.{CalledAtEntry, TakesEntry};
 ghost use Rattle.prefix_trie_table.specs.Steps.{BoundsStorageGrowth};
 ghost use Rattle.prefix_trie_map.specs.Steps.{storage, stored_state};
@@ -75,7 +74,7 @@ impl<P: Prefix, T: Drop, A: Allocator> PrefixMap<P, T, A> {
         // that holds the rest and its old one. No slot and no block is lost.
         ensures step { RetainsInStorage (CalledAtEntry F.FnMut P.back) test (stored_state self.old) (stored_state self.new) }
 
-        // Over any number of calls, the arrays grow by at most the headroom that their blocks had (`settling_laws`).
+        // Over any number of calls, the arrays grow by at most the headroom that their blocks had (`growth_laws`).
         ensures bounds_growth { BoundsStorageGrowth (storage self.old) (storage self.new) }
     {
         self.known_valid();

@@ -1,10 +1,12 @@
 //! The slots and blocks of the two arrays, and the limit of both.
 ghost use Rattle.std.specs.Prelude.{◌≡◌, ◌+◌, ◌≤◌, ◌↔◌, length, IfOk, IfErr, IsErr};
 ghost use Rattle.prefix_trie_bits.specs.declared.prefix.Refusal.TheVariants.{IndexRange};
-ghost use Rattle.prefix_trie_bits.specs.Model.Blocks.{NodesHaveBlocks, no_layout, child_block_sizes, value_block_sizes, child_count, own_entries};
+ghost use Rattle.prefix_trie_bits.specs.Calls.Blocks.{NodesHaveBlocks};
+ghost use Rattle.prefix_trie_bits.specs.Model.Blocks.{no_layout, child_block_sizes, value_block_sizes, child_count, own_entries};
 ghost use Rattle.prefix_trie_bits.specs.Model.Entries.{no_entries};
-ghost use Rattle.prefix_trie_bits.specs.Model.Nodes.{root_alone, parents, holders};
-ghost use Rattle.prefix_trie_table.specs.BlockCounts.{block_counts, slots_counted, used_blocks};
+ghost use Rattle.prefix_trie_bits.specs.Model.Nodes.{root_alone};
+ghost use Rattle.prefix_trie_bits.specs.Calls.Nodes.{parents, holders};
+ghost use Rattle.prefix_trie_table.specs.Blocks.BlockCounts.{block_counts, slots_counted, used_blocks};
 ghost use Rattle.prefix_trie_map.specs.Whole.{IsWhole};
 
 use crate::map::{BlockCount, PrefixMap};

@@ -1,8 +1,9 @@
 //! Splitting entries off as a second map.
 ghost use Rattle.std.specs.Prelude.{◌≡◌, ◌<◌, length, IfOk, OnOk, IfErr, OnErr};
 ghost use Rattle.prefix_trie_bits.specs.declared.prefix.Refusal.TheVariants.{Memory};
-ghost use Rattle.prefix_trie_bits.specs.Model.Entries.{without_below, part_below};
-ghost use Rattle.prefix_trie_bits.specs.Model.SplitsOff.{SplitsOffInStorage};
+ghost use Rattle.prefix_trie_bits.specs.Model.Entries.{without_below};
+ghost use Rattle.prefix_trie_bits.specs.Calls.Entries.{part_below};
+ghost use Rattle.prefix_trie_bits.specs.Calls.SplitsOff.{SplitsOffInStorage};
 ghost use Rattle.prefix_trie_bits.specs.Model.Nodes.{needed, nodes_without_below};
 ghost use Rattle.prefix_trie_table.specs.Steps.{BoundsStorageGrowth};
 ghost use Rattle.prefix_trie_map.specs.Steps.{storage, stored_state};

@@ -3,7 +3,8 @@ use Rattle.std.proofs.Common.{◌≡◌, ◌≢◌, ◌∙◌, ◌&&◌, not, na
 use Rattle.std.specs.List.{Contains}
 use Rattle.std.specs.FinMap.{entries_sorted, get, get-entries}
 use Rattle.std.specs.FinMap.Entries.{below_all, find, is_sorted}
-use Rattle.prefix_trie_bits.specs.Order.{listing_cmp, listing-extension, listing_same, listing_total}
+use Rattle.prefix_trie_bits.specs.Model.Order.{listing_cmp}
+use Rattle.prefix_trie_bits.specs.Order.{listing-extension, listing_same, listing_total}
 use Rattle.prefix_trie_bits.proofs.Model.Ordered.{Contains-from_find, not_itself, sorted-head, sorted-tail}
 use Rattle.prefix_trie.specs.Words.{Entries, begins, listing, listing_after, listing_from, prefix_pairs}
 use Rattle.prefix_trie_ops.specs.Optimal.{first_value_at, is_first_below, items_after, listing_past}

@@ -1,8 +1,8 @@
 -- The listing order around a string and its two extensions by one bit: for the walk of `aggregate`.
 use Rattle.std.proofs.Common.{◌≡◌, ◌≢◌, ◌&&◌, ◌++◌, not, Bool, true, false, true≢false, List, [], ◌∷◌, length, ap, sym, refl, arith, is_le, is_lt, length-append}
 use Rattle.prefix_trie_bits.specs.Begins.{begins-append, begins-length, begins-trans}
-use Rattle.prefix_trie_bits.specs.Order.{listing_cmp}
-use Rattle.prefix_trie_bits.specs.Bits.{begins}
+use Rattle.prefix_trie_bits.specs.Model.Order.{listing_cmp}
+use Rattle.prefix_trie_bits.specs.Model.Bits.{begins}
 
 -- what is after a string is at or after its extension by 0
 pub after_is_from : (s x : List Bool) → is_lt (listing_cmp s x) ≡ is_le (listing_cmp (s ++ false ∷ []) x)

@@ -1,7 +1,7 @@
 -- What the tests on the entry read ahead say about the walk, and what is left after it is taken: for `aggregate`.
 use Rattle.std.proofs.Common.{◌≡◌, ◌∙◌, ◌+◌, ◌++◌, ◌&&◌, ℕ, nat_lt, Bool, true, false, cond, List, [], ◌∷◌, length, take, Option, Some, None, Bor, is_eq, ap, sym, refl, length-append}
 use Rattle.std.proofs.lemmas.List.{take_at}
-use Rattle.prefix_trie_bits.specs.Bits.{digits}
+use Rattle.prefix_trie_bits.specs.Model.Bits.{digits}
 use Rattle.prefix_trie.specs.Words.{begins, listing_cmp}
 use Rattle.prefix_trie_ops.specs.Merging.{ahead}
 use Rattle.prefix_trie_ops.specs.Optimal.{first_value_at, is_first_at, is_first_below, items_after}

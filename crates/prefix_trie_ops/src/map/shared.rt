@@ -64,11 +64,11 @@ pub struct IntersectionWalk<'a, P: Prefix, T: Drop, U: Drop, A: Allocator, B: Al
 impl<'a, P: Prefix, T: Drop, U: Drop, A: Allocator, B: Allocator> Model
     for IntersectionWalk<'a, P, T, U, A, B> {
     ghost use Rattle.std.specs.Prelude.{List, map, ◌++◌};
-    ghost use Rattle.prefix_trie_ops.specs.Turned.{turned_item};
+    ghost use Rattle.prefix_trie_ops.specs.Swapped.{swapped_item};
 
     ghost Value = { List (P × (T × U)) };
 
-    ghost view = { λ w. w.by_left ++ map turned_item w.by_right };
+    ghost view = { λ w. w.by_left ++ map swapped_item w.by_right };
 }
 
 /// Returns a walk over the keys that both maps have, each with both values, in listing order.

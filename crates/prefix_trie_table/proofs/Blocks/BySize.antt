@@ -3,7 +3,7 @@ use Rattle.prefix_trie_table.proofs.Prelude.{◌≡◌, ◌≢◌, ℕ, zero, su
 use Rattle.std.proofs.lemmas.Bool.{lt-ltb}
 use Rattle.std.proofs.lemmas.List.{length-set, get_or-set_same}
 use Rattle.std.specs.Prelude.{find}
-use Rattle.prefix_trie_bits.proofs.Model.Storage.Readied.{both}
+use Rattle.prefix_trie_bits.proofs.Model.Storage.PreparedInsertions.{both}
 
 -- the size of tier k is entry k of the list of sizes
 pub size_at : (ts : List Tier) (k : ℕ) → (tier_at ts k).size ≡ size_in (tier_sizes ts) k

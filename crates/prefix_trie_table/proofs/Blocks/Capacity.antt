@@ -1,6 +1,6 @@
 -- How the capacity of an array grows over several steps. No fact about its blocks depends on it.
 use Rattle.prefix_trie_table.proofs.Prelude.{◌≡◌, ℕ, ◌+◌, ◌/◌, ◌≤◌, ◌⊎◌, inl, inr, ⊎_elim, List, Option, refl, subst, arith, Node, Store, UsedBlock, Sound, NodesHold, CellsHold, node_sizes, cell_sizes, State, IsTable, IsTrie}
-use Rattle.prefix_trie_table.specs.Growth.{Reserves}
+use Rattle.prefix_trie_table.specs.Blocks.Growth.{Reserves}
 
 pub Reserves-same : (before needed : ℕ) → Reserves before needed before
 Reserves-same before needed = record { kept = λ h. refl; least = inl refl; most = omega arith }

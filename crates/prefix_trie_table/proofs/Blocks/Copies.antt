@@ -1,7 +1,7 @@
 -- Arrays whose values are clones of those of other arrays: for `clone`.
 use Rattle.prefix_trie_table.proofs.Prelude.{◌≡◌, ℕ, zero, suc, ◌+◌, ◌-◌, ◌<◌, Bool, true, false, eqb, cond, List, [], ◌∷◌, ◌++◌, length, get_or, map, flat_map, replicate, take, drop, Option, None, Some, is_some, refl, sym, ap, ◌∙◌, subst, arith, length-append, drop-drop, range_with_len, take-add, ext_get_or, get_or-replicate, length-replicate, length-map, length_push, drop-take, drop_at, map-append, All-map, All-weaker, fill_by_all, length-map-range_with_len, map-range_with_len_more, Node, has_bit, if_set, bits_below, bits, rank, run, AreBlocksOf, Store, UsedBlock, Sound, IsOfTier, HoldsItems, IsVacant, tier_at, tier_sizes, extent, of_size, free_extents, held, size_in, cell_sizes, value_blocks, value_blocks_of, value_in, value_of}
 use Rattle.std.proofs.lemmas.List.{append-nil}
-use Rattle.prefix_trie_bits.specs.Model.Blocks.{Block as Extent}
+use Rattle.prefix_trie_bits.specs.Calls.Blocks.{Block as Extent}
 use Rattle.prefix_trie_table.proofs.Blocks.RunLemmas.{length-run, get_or-run}
 use Rattle.prefix_trie_table.proofs.Blocks.SlotSums.{sum_by-mapped}
 use Rattle.prefix_trie_table.proofs.Blocks.Soundness.{All-both, All-extent, all_inside}

@@ -99,7 +99,7 @@ module _ {S : Type 0} where
               | inr space ↦ space
             ],
           );
-          lacks = omega (arith, slots, most, parts, one, above 0 (tier_sizes v.tiers) up s among);
+          some_missing = omega (arith, slots, most, parts, one, above 0 (tier_sizes v.tiers) up s among);
         }
       where
         other : (e : Refusal) → e ≡ Memory → e ≡ IndexRange → ⊥
@@ -110,5 +110,5 @@ module _ {S : Type 0} where
     pub obtained : {X : Type 0} (r : Result X Refusal) → ((size : ℕ) → missing_in v needed size ≤ partly_made.made size + many_of s (n - free_in w.tiers s) size) →
         OnOk r (Turnover w x (many_of s (n - free_in w.tiers s)) None None) → OnErr r ((m : ℕ) × (free_in w.tiers s + m < n) × Turnover w x (many_of s m) None None) →
         IfErr r (λ e. (e ≡ IndexRange) ↔ (x.limit < length x.slots + s)) → Obtains (λ e. e ≡ IndexRange) (λ e. e ≡ Memory) r v x needed
-    obtained (Ok y) all done some range = record { made = obtained_all all done; range = tt; memory = tt; lacks = tt }
+    obtained (Ok y) all done some range = record { made = obtained_all all done; range = tt; memory = tt; some_missing = tt }
     obtained (Err e) all done some range = obtained_part e some.0 some.1 some.2 range

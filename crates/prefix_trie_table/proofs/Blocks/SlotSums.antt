@@ -1,7 +1,7 @@
 -- A sum over the slots of an array is the sum over the slots before its blocks and over the items of the used blocks:
 -- for counting nodes.
 use Rattle.prefix_trie_table.proofs.Prelude.{◌≡◌, ℕ, ◌+◌, ◌-◌, ◌*◌, List, [], ◌∷◌, length, take, drop, map, flat_map, replicate, sum_by, All, refl, sym, ap, ap₂, ◌∙◌, arith, drop-drop, drop_all, All-head, All-tail, sum_by-replicate, sum_by-cons, sum_by-append, sum_by-take-drop, Tiles, run, Store, UsedBlock, Sound, HoldsItems, IsVacant, tier_sizes, extent, free_extents, filled}
-use Rattle.prefix_trie_bits.specs.Model.Blocks.{Block as Extent}
+use Rattle.prefix_trie_bits.specs.Calls.Blocks.{Block as Extent}
 use Rattle.prefix_trie_table.proofs.Blocks.Tilings.{blocks_sum}
 
 -- the sum over joined lists is the sum of their sums

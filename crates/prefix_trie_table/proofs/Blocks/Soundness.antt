@@ -1,7 +1,7 @@
 -- Which changes keep a store sound: its blocks tile the array, no two overlap, and each used block holds its list.
 use Rattle.prefix_trie_table.proofs.Prelude.{◌≡◌, ◌≢◌, ℕ, zero, suc, ◌+◌, ◌-◌, ◌*◌, ◌<◌, ◌≤◌, ⊎_elim, cond, eqb, List, [], ◌∷◌, ◌++◌, length, get_or, set, drop, map, replicate, insert, remove, sum_by, count_by, All, IsPermutation, refl, sym, ap, ◌∙◌, subst, arith, append_assoc, length-append, get_or-set_other, set-set, set-get_or, length-replicate, map-append, get_or-take, get_or-drop, get_or_append_left, set-append_left, insert-append_left, insert-append_right, remove-append_left, remove-append_right, length-insert, length-remove, All-nil, All-cons, All-head, All-tail, All-weaker, All-same, All-map, sum_by-cons, sum_by-set, All-permutation, IsPermutation-refl, IsPermutation-sym, IsPermutation-trans, IsPermutation-cons, IsPermutation-to_front, IsPermutation-middle, IsPermutation-append_left, IsPermutation-append_right, IsPermutation-map, sum_by-IsPermutation, cases_eq, nat_tests, Tiles, AreBlocksOf, run, put_run, Tier, Store, UsedBlock, Sound, IsOfTier, HoldsItems, IsVacant, tier_at, tier_sizes, slots_made, extent, of_size, free_extents, with_tier, filled, block, held, no_blocks}
 use Rattle.std.proofs.lemmas.List.{get_or-set_same, length-set}
-use Rattle.prefix_trie_bits.specs.Model.Blocks.{Block as Extent}
+use Rattle.prefix_trie_bits.specs.Calls.Blocks.{Block as Extent}
 use Rattle.prefix_trie_table.proofs.Blocks.RunLemmas.{Apart, length-run, length-put_run, run-put_run_same, run-put_run_other, run-append_left, run-append_right, moved_in_run, set_in_run, run-set_before}
 use Rattle.prefix_trie_table.proofs.Blocks.BySize.{sizes_set, has_size}
 use Rattle.prefix_trie_table.proofs.Blocks.Tilings.{Disjoint, Within, Tiles-push, others_apart, each_within, first_inside, blocks_moved, All-append_left, All-append_right}

@@ -1,6 +1,6 @@
 -- Blocks that tile an array have no slot in common: for `Sound`.
 use Rattle.prefix_trie_table.proofs.Prelude.{◌≡◌, ℕ, zero, suc, ◌+◌, ◌<◌, ◌≤◌, inl, inr, cond, leb, List, [], ◌∷◌, ◌++◌, length, get_or, remove, sum_by, All, IsPermutation, refl, sym, ap, ◌∙◌, subst, arith, length-append, Contains, sum_by-cons, sum_by-append, get_or-le-sum_by, cases_lt, All-nil, All-cons, All-head, All-tail, All-weaker, All-contains_itself, get_or_append_left, get_or-append-add, sum_by-IsPermutation, All-permutation, IsPermutation-sym, IsPermutation-trans, IsPermutation-remove, nat_tests, Tiles, AreBlocksOf}
-use Rattle.prefix_trie_bits.specs.Model.Blocks.{Block as Extent}
+use Rattle.prefix_trie_bits.specs.Calls.Blocks.{Block as Extent}
 use Rattle.prefix_trie_table.proofs.Blocks.RunLemmas.{Apart}
 
 -- two blocks have no slot in common

@@ -1,7 +1,7 @@
 -- Turnovers: which blocks a call makes, takes and frees, by size, and that everything else stays.
 use Rattle.prefix_trie_table.proofs.Prelude.{◌≡◌, ◌≢◌, ℕ, ◌+◌, ◌*◌, ◌<◌, ◌≤◌, true, List, ◌++◌, length, get_or, set, insert, remove, replicate, Option, None, Some, refl, sym, ap, ◌∙◌, subst, arith, length-append, length-replicate, get_or_append_left, get_or-insert_below, get_or-remove_below, length-insert, length-remove, Contains, option_or, one_of, goes_up, Tier, Store, Turnover, Keeps, KeepsMade, MakesNone, SameMade, SameSpace, AreFree, tier_at, with_tier, tier_sizes, size_in, free_in, made_in, many_of, none_of, slots_of, missing_in}
 use Rattle.std.proofs.lemmas.List.{length-set}
-use Rattle.prefix_trie_table.specs.Growth.{Reserves}
+use Rattle.prefix_trie_table.specs.Blocks.Growth.{Reserves}
 use Rattle.prefix_trie_table.proofs.Blocks.Capacity.{Reserves-same, Reserves-more, Reserves-then}
 use Rattle.prefix_trie_table.proofs.Blocks.BySize.{size_at, sizes_set, has_size, number_set, many_here, many_other, many-none, slots_of-same, slots_of-add, slots_of-none, slots_of-many}
 

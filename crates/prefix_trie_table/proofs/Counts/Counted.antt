@@ -3,7 +3,7 @@ use Rattle.prefix_trie_table.proofs.Prelude.{◌≡◌, ℕ, ◌+◌, ◌*◌, �
 use Rattle.std.proofs.lemmas.List.{length-take-le}
 use Rattle.prefix_trie_table.proofs.Strings.Plain.{fifths, whole_levels}
 use Rattle.prefix_trie_table.proofs.Strings.Digits.{path-length, path-take}
-use Rattle.prefix_trie_table.proofs.Strings.Keys.{begins-way}
+use Rattle.prefix_trie_table.proofs.Strings.Keys.{begins-search_path}
 use Rattle.prefix_trie_table.proofs.Lookup.Finding.{prefix_some}
 
 past-five : (k n l : ℕ) → n ≤ k → n ≡ l / 5 → l < 5 * (k + 1)
@@ -23,7 +23,7 @@ module _ (reading : List ℕ → Option Node) (paths : List (List ℕ)) (v : Sto
   pub nodes_closed : (s t : List Bool) → has_node n t ≡ true → begins s t ≡ true → length s % 5 ≡ 0 → has_node n s ≡ true
   nodes_closed s t h b five =
       are s ∙ and-join (is_node_depth s) (is_some (reading (chunks_of s))) (eq-eqb (length s % 5) 0 five)
-      (prefix_some node_sizes reading paths v hold (chunks_of s) (chunks_of t) (nodes_some t h) (begins-way s t five ∙ b))
+      (prefix_some node_sizes reading paths v hold (chunks_of s) (chunks_of t) (nodes_some t h) (begins-search_path s t five ∙ b))
 
   -- a node of the search path exists exactly if its chunks lead to a node
   node_on_path : (q : List Bool) (k : ℕ) → k ≤ length (chunks_of q) → has_node n (take (5 * k) q) ≡ is_some (reading (take k (chunks_of q)))
@@ -36,7 +36,7 @@ module _ (reading : List ℕ → Option Node) (paths : List (List ℕ)) (v : Sto
   pub visits_counted : (q : List Bool) (level : ℕ) → IsEnd reading (chunks_of q) level → visits n q ≡ level + 1
   visits_counted q level end =
       visits-exact n q level nodes_depths nodes_closed (fifths (length q) level (length (chunks_of q)) end.within (path-length q))
-      (node_on_path q level end.within ∙ end.stands)
+      (node_on_path q level end.within ∙ end.is_there)
       (elim (cases_Bool (nat_lt level (length (chunks_of q)))) as (λ _. (length q < 5 * (level + 1)) ⊎ (has_node n (take (5 * (level + 1)) q) ≡ false)) [
         | inl e ↦ let inside : level < length (chunks_of q) = ltb-true level (length (chunks_of q)) e in
             inr (node_on_path q (level + 1) (omega arith) ∙ end.stops inside)

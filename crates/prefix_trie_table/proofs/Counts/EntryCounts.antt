@@ -1,6 +1,6 @@
 -- The number of entries of all nodes: how a change of one node changes it, and that the slots for values bound it.
 use Rattle.prefix_trie_table.proofs.Prelude.{◌≡◌, ◌≢◌, ℕ, ◌+◌, ◌-◌, ◌<◌, ◌≤◌, ◌⊎◌, inl, inr, List, [], ◌∷◌, ◌++◌, length, length-append, length-take, take, drop, map, flat_map, replicate, sum_by, All, Option, None, Some, refl, sym, ap, ap₂, ◌∙◌, subst, arith, All-head, All-tail, sum_by-cons, Tiles, Node, bits, rank, blank_node, cell_sizes, run, Store, UsedBlock, Sound, HoldsItems, tier_sizes, extent, free_extents, filled, held, size_in, times, without, own_count, entry_count, CellsHold, with_node, with_child, value_blocks, value_blocks_of}
-use Rattle.prefix_trie_bits.specs.Model.Blocks.{Block as Extent}
+use Rattle.prefix_trie_bits.specs.Calls.Blocks.{Block as Extent}
 use Rattle.prefix_trie_table.proofs.Blocks.Tilings.{blocks_sum}
 use Rattle.prefix_trie_table.proofs.Strings.BitLists.{rank-all, rank-zero-all}
 use Rattle.prefix_trie_table.proofs.Strings.PathSums.{sum_out, sum_same}

@@ -8,11 +8,11 @@ use Rattle.prefix_trie_table.proofs.Strings.Bits.{has_bit-sets}
 use Rattle.prefix_trie_table.proofs.Strings.BitLists.{rank-all, rank-same, rank-more-one}
 use Rattle.prefix_trie_table.proofs.Tree.Trees.{own_first, slot_holds}
 use Rattle.prefix_trie_table.proofs.Tree.Children.{child_added, changed_here, same_number, other_number, same_or, with_here, with_other, node_changed}
-use Rattle.prefix_trie_table.proofs.Tree.Values.{values_first, value_stands, value_added}
+use Rattle.prefix_trie_table.proofs.Tree.Values.{values_first, value_is_there, value_added}
 
 -- what the node at a slot is
 pub at_is : (v : Store Node) (slot : ℕ) (a : (n : SomeNodes v) × IsNodeAt n.reading slot) → (node_at v.slots slot ≡ a.1.node) × (slot < length v.slots)
-at_is v slot a = slot_holds node_sizes a.0.reading a.0.paths v a.0.hold a.1.path slot a.1.node a.1.stands a.1.is
+at_is v slot a = slot_holds node_sizes a.0.reading a.0.paths v a.0.hold a.1.path slot a.1.node a.1.is_there a.1.is
 
 -- the children of the node at a path are a list in their block
 pub children_list : (reading : List ℕ → Option Node) (paths : List (List ℕ)) (v : Store Node) → NodesHold node_sizes reading paths v → (p : List ℕ) (n : Node) →
@@ -50,9 +50,9 @@ tier_small vacant b live u sizes s e =
 block_after : (ts : List Tier) (sizes : List ℕ) → tier_sizes ts ≡ sizes → (k tier count more : ℕ) → more ≡ count + 1 →
     list_size ts tier (count + 1) ≡ option_or (list_need ts k count) (list_size ts k count) →
     size_if_any more (size_in sizes tier) ≡ option_or (block_needed sizes (size_if_any count (size_in sizes k)) count) (size_if_any count (size_in sizes k))
-block_after ts sizes are k tier count more e stands =
+block_after ts sizes are k tier count more e is_there =
     ap (λ n. size_if_any n (size_in sizes tier)) e
-    ∙ subst (λ ns. size_if_any (count + 1) (size_in ns tier) ≡ option_or (block_needed ns (size_if_any count (size_in ns k)) count) (size_if_any count (size_in ns k))) are stands
+    ∙ subst (λ ns. size_if_any (count + 1) (size_in ns tier) ≡ option_or (block_needed ns (size_if_any count (size_in ns k)) count) (size_if_any count (size_in ns k))) are is_there
 
 -- a blank child put into the list of children, and the node written with it, add the child
 pub added : (v u w : Store Node) (slot offset c tier start bitmap : ℕ) (k m : Node)
@@ -67,8 +67,8 @@ pub added : (v u w : Store Node) (slot offset c tier start bitmap : ℕ) (k m : 
     → (reading : List ℕ → Option Node) (paths : List (List ℕ)) (p : List ℕ) (n : Node) → NodesHold node_sizes reading paths v →
     IsSlot reading p slot → reading p ≡ Some n
     → ChildAdded reading paths p n c w (start + offset)
-added v u w slot offset c tier start bitmap k m read sets m_is keeps put entered place_is digit missing w_is reading paths p n hold stands is =
-    let at = slot_holds node_sizes reading paths v hold p slot n stands is in
+added v u w slot offset c tier start bitmap k m read sets m_is keeps put entered place_is digit missing w_is reading paths p n hold is_there is =
+    let at = slot_holds node_sizes reading paths v hold p slot n is_there is in
     let same : k ≡ n = read ∙ at.0 in
     let here : reading p ≡ Some k = is ∙ ap Some (sym same) in
     let size : (tier_at v.tiers tier).size ≡ size_in node_sizes tier = size_at v.tiers tier ∙ ap (λ ns. size_in ns tier) hold.sizes_are in
@@ -87,14 +87,14 @@ added v u w slot offset c tier start bitmap k m read sets m_is keeps put entered
     subst (λ (b : UsedBlock Node). Sound blank_node (b ∷ live) u)
     (λ i. block (sym tier_is i) (sym start_is i) ((size ∙ ap (size_in node_sizes) (sym tier_is)) i)
     (insert (child_items reading p k.child_bitmap) (place_is i) blank_node)) written in
-    let grown = child_added node_sizes reading paths v hold p slot k m c u stands here digit missing more (keeps.first_is ∙ hold.first_is)
+    let grown = child_added node_sizes reading paths v hold p slot k m c u is_there here digit missing more (keeps.first_is ∙ hold.first_is)
     (keeps.sizes ∙ hold.sizes_are) (keeps.before 0 blank_node (let f = hold.first_is in omega arith)) sound in
     let bit : has_bit m.child_bitmap c ≡ true = more c ∙ ap (λ b. b || has_bit k.child_bitmap c) (same_number c) in
     let rank_is : rank m.child_bitmap c ≡ rank k.child_bitmap c = rank-same k.child_bitmap m.child_bitmap c (λ i h. more i ∙ ap (λ b. b || has_bit k.child_bitmap i) (other_number i c (λ e. omega arith))) in
     record {
       node = m;
       hold = subst (λ x. NodesHold node_sizes (with_child reading p m c) ((p ++ c ∷ []) ∷ paths) x) (sym w_is) grown;
-      stands = subst (λ s. IsSlot (with_child reading p m c) (p ++ c ∷ []) s)
+      is_there = subst (λ s. IsSlot (with_child reading p m c) (p ++ c ∷ []) s)
           (let e : m.child_block + rank m.child_bitmap c ≡ start + offset = omega arith in e)
           (at_child p c m (changed_here reading p m c (Some blank_node) p refl) bit);
       value_bitmap = ap (λ (x : Node). x.value_bitmap) m_is ∙ ap (λ (x : Node). x.value_bitmap) same;
@@ -156,8 +156,8 @@ module _ {T : Type 0} where
       NodesHold node_sizes reading paths v → CellsHold cell_sizes reading values paths w → IsSlot reading p slot → reading p ≡ Some n
       → ValueSet reading paths values p b (Some x) v2 u
   values_added v v2 w u slot offset b tier start bitmap k m x read sets m_is keeps put entered place_is digit missing small v2_is reading paths values p n
-      hold cells stands is =
-      let at = slot_holds node_sizes reading paths v hold p slot n stands is in
+      hold cells is_there is =
+      let at = slot_holds node_sizes reading paths v hold p slot n is_there is in
       let same : k ≡ n = read ∙ at.0 in
       let here : reading p ≡ Some k = is ∙ ap Some (sym same) in
       let size : (tier_at w.tiers tier).size ≡ size_in cell_sizes tier = size_at w.tiers tier ∙ ap (λ ns. size_in ns tier) cells.sizes_are in
@@ -180,7 +180,7 @@ module _ {T : Type 0} where
       record {
         node = m;
         hold = subst (λ y. NodesHold node_sizes (with_node reading p m) paths y) (sym v2_is)
-            (node_changed node_sizes reading paths v hold p slot k m stands here (ap (λ (y : Node). y.child_bitmap) m_is)
+            (node_changed node_sizes reading paths v hold p slot k m is_there here (ap (λ (y : Node). y.child_bitmap) m_is)
             (ap (λ (y : Node). y.child_block) m_is) (ap (λ (y : Node). y.child_tier) m_is));
         cells = value_added cell_sizes node_sizes reading paths v hold values w cells p k m b (Some x) here stay bit small u digit missing refl
             (keeps.sizes ∙ cells.sizes_are) sound;
@@ -204,8 +204,8 @@ module _ {T : Type 0} where
       → (reading : List ℕ → Option Node) (paths : List (List ℕ)) (values : List ℕ → ℕ → Option T) (p : List ℕ) (n : Node) →
       NodesHold node_sizes reading paths v → CellsHold cell_sizes reading values paths w → IsSlot reading p slot → reading p ≡ Some n
       → (k.value_block + offset < length w.slots) × (get_or w.slots (k.value_block + offset) None ≡ values p b)
-  value_at v w slot offset b k read place_is bit reading paths values p n hold cells stands is =
-      let at = slot_holds node_sizes reading paths v hold p slot n stands is in
+  value_at v w slot offset b k read place_is bit reading paths values p n hold cells is_there is =
+      let at = slot_holds node_sizes reading paths v hold p slot n is_there is in
       let same : k ≡ n = read ∙ at.0 in
-      let there = value_stands cell_sizes node_sizes reading paths v hold values w cells p k b (is ∙ ap Some (sym same)) bit in
+      let there = value_is_there cell_sizes node_sizes reading paths v hold values w cells p k b (is ∙ ap Some (sym same)) bit in
       ((let x = there.2 in omega arith), ap (λ i. get_or w.slots (k.value_block + i) None) place_is ∙ there.1)

@@ -72,7 +72,7 @@ module _ {T : Type 0} (v v2 : Store Node) (w w2 : Store (Option T)) (count count
         let nodes_slots : missing_slots v (child_blocks_needed s.nodes (layout_of v.slots v.tiers w.tiers sized) q) ≡ missing_node_slots s.nodes (layout_of v.slots v.tiers w.tiers sized) q = slots node_sizes v v2 sized.0 later.0 node_are a b _ in
         let cells_slots : missing_slots w (value_blocks_needed s.entries (layout_of v.slots v.tiers w.tiers sized) q) ≡ missing_cell_slots s.entries (layout_of v.slots v.tiers w.tiers sized) q = slots cell_sizes w w2 sized.1.0 later.1.0 cell_are c d _ in
         record {
-          lacks = (let l = o.lacks in omega (arith, l, nodes_slots, cells_slots));
+          some_missing = (let l = o.some_missing in omega (arith, l, nodes_slots, cells_slots));
           range = λ for_limit. elim (o.range for_limit) [
             | inl nodes ↦ inl (omega (arith, nodes, nodes_slots))
             | inr cells ↦ inr (let same = is.one_limit in omega (arith, cells, cells_slots, same))
@@ -100,10 +100,10 @@ module _ {T : Type 0} (v v2 : Store Node) (w w2 : Store (Option T)) (count count
         }
 
     -- what it leaves if it does not insert
-    pub readied_in : (r : Result X E) → Foresees r → (later.0 ≡ sized.0) × (later.1.0 ≡ sized.1.0) →
+    pub prepared_in : (r : Result X E) → Foresees r → (later.0 ≡ sized.0) × (later.1.0 ≡ sized.1.0) →
         MatchResult r (λ _. PreparesInStorage s q (storage_of v w sized) (storage_of v2 w2 later))
         (λ e. RefusesInStorage s q (cause e) (storage_of v w sized) (storage_of v2 w2 later))
-    readied_in (Ok x) f sizes =
+    prepared_in (Ok x) f sizes =
         let made = made_in x f in
         record {
           node_slots = made.node_slots;
@@ -113,7 +113,7 @@ module _ {T : Type 0} (v v2 : Store Node) (w w2 : Store (Option T)) (count count
           child_blocks_made = made.child_blocks;
           value_blocks_made = made.value_blocks;
         }
-    readied_in (Err e) f sizes = refused_in e f sizes.0 sizes.1
+    prepared_in (Err e) f sizes = refused_in e f sizes.0 sizes.1
 
     -- what the insertion of a new key leaves
     pub inserted_in : (r : Result X E) → Foresees r →

@@ -2,7 +2,7 @@
 use Rattle.prefix_trie_table.proofs.Prelude.{◌*◌, ◌≡◌, ℕ, ◌+◌, ◌<◌, ◌≤◌, inl, inr, Bool, false, cond, List, ◌∷◌, ◌++◌, length, get_or, Option, None, Some, IsSome, is_some, sym, ap, ◌∙◌, subst, arith, cases_Bool, smallest_size, Node, Reached, has_bit, rank, Tier, Store, Sound, UsedBlock, block, HasList, Keeps, SameSlots, tier_sizes, size_in, NodesHold, CellsHold, Deepest, has_value, blank_node, node_sizes, cell_sizes, chunks_of, IsLast, slot_at}
 use Rattle.prefix_trie_table.proofs.Blocks.Soundness.{tier_of_block, first_place}
 use Rattle.prefix_trie_table.proofs.Blocks.BySize.{smallest_there, node_sized, cell_sized, tiers_long}
-use Rattle.prefix_trie_table.proofs.Strings.BitLists.{rank-more, rank-lacks}
+use Rattle.prefix_trie_table.proofs.Strings.BitLists.{rank-more, rank-missing}
 use Rattle.prefix_trie_table.proofs.Strings.Digits.{path-length, step-small}
 use Rattle.prefix_trie_table.proofs.Tree.Trees.{reads, slot_holds, held_some}
 
@@ -52,13 +52,13 @@ cell_fits ts count e few =
 pub few_values : {T : Type 0} (reading : List ℕ → Option Node) (values : List ℕ → ℕ → Option T) (paths : List (List ℕ)) (w : Store (Option T))
     (p : List ℕ) (n : Node) (b : ℕ) → CellsHold cell_sizes reading values paths w → reading p ≡ Some n → b < 31 → has_bit n.value_bitmap b ≡ false →
     rank n.value_bitmap 32 < 31
-few_values reading values paths w p n b cells is small lacks =
+few_values reading values paths w p n b cells is small some_missing =
     let m : ℕ = n.value_bitmap in
     let last : has_bit n.value_bitmap 31 ≡ false = (elim (cases_Bool (has_bit n.value_bitmap 31)) as (λ _. has_bit n.value_bitmap 31 ≡ false) [
       | inl e ↦ absurd (let h : 31 < 31 = cells.within p 31 (cells.set_where p 31 ∙ ap (λ o. has_value o 31) is ∙ e) in omega arith)
       | inr e ↦ e
     ]) in
-    let less : rank m 31 < 31 = rank-lacks m 31 b small lacks in
+    let less : rank m 31 < 31 = rank-missing m 31 b small some_missing in
     let up : rank m 32 ≡ rank m 31 + cond (has_bit m 31) 1 0 = rank-more m 31 in
     let none : ◌≡◌ {A = ℕ} (cond (has_bit m 31) 1 0) 0 = ap (λ s. cond s 1 0) last in
     omega (arith, less, up, none)
@@ -71,11 +71,11 @@ module _ (q : List Bool) (here : Reached) (v : Store Node) (at : IsLast q here v
       record {
         along = record {
           whole = at.along.whole;
-          node_is = at.along.node_is ∙ (slot_holds node_sizes reading paths v hold _ (slot_at here) deep.node deep.stands deep.is).0
-              ∙ sym (slot_holds node_sizes reading paths x later _ (slot_at here) deep.node deep.stands deep.is).0;
+          node_is = at.along.node_is ∙ (slot_holds node_sizes reading paths v hold _ (slot_at here) deep.node deep.is_there deep.is).0
+              ∙ sym (slot_holds node_sizes reading paths x later _ (slot_at here) deep.node deep.is_there deep.is).0;
           deepest = λ other ps h.
               let same : reading ≡ other = (λ i p. (sym (reads node_sizes reading paths x later p) ∙ reads node_sizes other ps x h p) i) in
-              subst (λ f. Deepest f (chunks_of q) here.level (slot_at here) x) same (record { node = deep.node; stands = deep.stands; is = deep.is });
+              subst (λ f. Deepest f (chunks_of q) here.level (slot_at here) x) same (record { node = deep.node; is_there = deep.is_there; is = deep.is });
         };
         missing = at.missing;
       }
@@ -83,4 +83,4 @@ module _ (q : List Bool) (here : Reached) (v : Store Node) (at : IsLast q here v
   -- a node without this child has a free bit for it
   pub few_children : 5 * here.level + 5 ≤ length q → rank here.node.child_bitmap 32 < 32
   few_children more =
-      rank-lacks here.node.child_bitmap 32 (get_or (chunks_of q) here.level 0) (step-small q here.level (omega (arith, path-length q, more))) (at.missing more)
+      rank-missing here.node.child_bitmap 32 (get_or (chunks_of q) here.level 0) (step-small q here.level (omega (arith, path-length q, more))) (at.missing more)

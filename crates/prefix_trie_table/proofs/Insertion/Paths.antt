@@ -49,8 +49,8 @@ module _ {T : Type 0} (q : List Bool) (before v : Store Node) (w : Store (Option
     step : x ≡ get_or (chunks_of q) level 0
     step = sym (rest_step q r level at.rest_is more x read)
 
-    lacks : has_bit (node_at v.slots slot).child_bitmap x ≡ false
-    lacks = ap (λ (n : Node). has_bit n.child_bitmap x) (sym is) ∙ missing
+    some_missing : has_bit (node_at v.slots slot).child_bitmap x ≡ false
+    some_missing = ap (λ (n : Node). has_bit n.child_bitmap x) (sym is) ∙ missing
 
     pub extended_more : IsExtended q before w (drop 5 r) (level + 1) to v2 × (node_at v2.slots to ≡ blank_node)
     extended_more = (
@@ -68,7 +68,7 @@ module _ {T : Type 0} (q : List Bool) (before v : Store Node) (w : Store (Option
 
         walks : (reading : List ℕ → Option Node) (paths : List (List ℕ)) (values : List ℕ → ℕ → Option T) → Walked reading values paths (chunks_of q) level slot v w →
             Walked reading values paths (chunks_of q) (level + 1) to v2 w × (node_at v2.slots to ≡ blank_node)
-        walks reading paths values walked = walked_more reading values paths (chunks_of q) level slot x to v v2 w walked (rest_inside q r level at.rest_is more) step lacks added
+        walks reading paths values walked = walked_more reading values paths (chunks_of q) level slot x to v v2 w walked (rest_inside q r level at.rest_is more) step some_missing added
 
   -- the value at the end
   module _ (v2 : Store Node) (u : Store (Option T)) (short : length r < 5) (bit : ℕ) (read : bit ≡ value_bit r) (x : Option T)
@@ -85,13 +85,13 @@ module _ {T : Type 0} (q : List Bool) (before v : Store Node) (w : Store (Option
     end_added = λ reading paths values holds.
         subst (λ i. EntryAdded reading values paths (chunks_of q) i x v2 u) (sym own)
         (entry_added reading values paths (chunks_of q) level slot bit x v v2 w u (at.walked reading paths values holds) (sym last)
-        (λ nodes ps p m h cells stands is. put nodes ps values p m h cells stands is))
+        (λ nodes ps p m h cells is_there is. put nodes ps values p m h cells is_there is))
 
     -- it is at the seat of its string
     pub end_seat : (seat : Seat) → seat_in (Some (node_at v2.slots slot)) bit ≡ Some seat → seat_of v2.slots q ≡ Some seat
     end_seat seat found =
         let path : List ℕ = chunks_of q in
         let whole : take level path ≡ path = take_all level path (omega (arith, last)) in
-        let stands : IsSlot now.later (chunks_of q) slot = subst (λ p. IsSlot now.later p slot) whole now.deep.stands in
-        entered_seat now.later t.values now.paths q slot bit x seat v2 u stands own
-        (put now.later now.paths t.values path now.deep.node now.holds.hold now.holds.cells stands (ap now.later (sym whole) ∙ now.deep.is)) found
+        let is_there : IsSlot now.later (chunks_of q) slot = subst (λ p. IsSlot now.later p slot) whole now.deep.is_there in
+        entered_seat now.later t.values now.paths q slot bit x seat v2 u is_there own
+        (put now.later now.paths t.values path now.deep.node now.holds.hold now.holds.cells is_there (ap now.later (sym whole) ∙ now.deep.is)) found

@@ -5,7 +5,7 @@ use Rattle.prefix_trie_table.proofs.Insertion.Inserted.{inserted_in}
 use Rattle.prefix_trie_table.proofs.Insertion.Resized.{sizes_left}
 use Rattle.prefix_trie_table.proofs.Tree.Shapes.{shape_entries, Leaves, Counts}
 use Rattle.prefix_trie_table.proofs.Blocks.Sizing.{storage_of}
-use Rattle.prefix_trie_table.proofs.Tree.Stated.{inserts_step}
+use Rattle.prefix_trie_table.proofs.Tree.ModelSteps.{inserts_step}
 use Rattle.prefix_trie_table.proofs.Tree.Trees.{is_none-None}
 
 -- a result as that of an insertion: there was no value before
@@ -17,8 +17,8 @@ inserting (Err e) = Err e
 obtaining : {T E : Type 0} (for_limit for_memory : E → Type 0) (v v2 : Store Node) (w w2 : Store (Option T)) (nodes cells : List ℕ) (r : Result Seat E) →
     ObtainsBoth for_limit for_memory r v v2 w w2 nodes cells → ObtainsBoth for_limit for_memory (inserting {T = T} r) v v2 w w2 nodes cells
 obtaining for_limit for_memory v v2 w w2 nodes cells (Ok seat) o =
-    record { nodes_made = o.nodes_made; cells_made = o.cells_made; range = tt; memory = tt; lacks = tt }
-obtaining for_limit for_memory v v2 w w2 nodes cells (Err e) o = record { nodes_made = o.nodes_made; cells_made = o.cells_made; range = o.range; memory = o.memory; lacks = o.lacks }
+    record { nodes_made = o.nodes_made; cells_made = o.cells_made; range = tt; memory = tt; some_missing = tt }
+obtaining for_limit for_memory v v2 w w2 nodes cells (Err e) o = record { nodes_made = o.nodes_made; cells_made = o.cells_made; range = o.range; memory = o.memory; some_missing = o.some_missing }
 
 module _ {T E : Type 0} (q : List Bool) (x : T) (v v2 : Store Node) (w w2 : Store (Option T)) (count count2 : ℕ) (s : Shaped v.slots w.slots)
     (is : IsTable v w count s.0) where
@@ -54,15 +54,15 @@ module _ {T : Type 0} (q : List Bool) (x : T) (v v2 : Store Node) (w w2 : Store 
   range_given (Ok seat) h = tt
   range_given (Err e) h = h
 
-  answered : (width : ℕ) (r : Result Seat (Refused T)) → StepByPath width (s.0, storage_of v w sized) (Insert q x) (insert_reply (inserting r)) (t.0, storage_of v2 w2 later) →
+  matched : (width : ℕ) (r : Result Seat (Refused T)) → StepByPath width (s.0, storage_of v w sized) (Insert q x) (insert_reply (inserting r)) (t.0, storage_of v2 w2 later) →
       StepByPath width (s.0, storage_of v w sized) (Insert q x) (insert_new_reply r) (t.0, storage_of v2 w2 later)
-  answered width (Ok seat) h = h
-  answered width (Err e) h = h
+  matched width (Ok seat) h = h
+  matched width (Err e) h = h
 
   pub placed_step : (r : Result Seat (Refused T)) → Leaves q x v v2 w w2 count count2 s is (inserting r) →
       ObtainsBoth (λ (e : Refused T). e.cause ≡ IndexRange) (λ (e : Refused T). e.cause ≡ Memory) r v v2 w w2 (nodes_needed here q) (cells_needed here q) → GrowsBoth (λ (e : Refused T). e.cause ≡ IndexRange) r v v2 w w2 →
       (width : ℕ) → StepByPath width (s.0, storage_of v w sized) (Insert q x) (insert_new_reply r) (t.0, storage_of v2 w2 later)
-  placed_step r leaves obtains grows width = answered width r (inserts_step v v2 w w2 count count2 s is sized t left later q x (inserting r) (record {
+  placed_step r leaves obtains grows width = matched width r (inserts_step v v2 w w2 count count2 s is sized t left later q x (inserting r) (record {
     leaves = leaves;
     absent = absent;
     takes = taken r leaves obtains;

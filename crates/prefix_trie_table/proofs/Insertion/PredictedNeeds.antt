@@ -3,7 +3,7 @@
 use Rattle.prefix_trie_table.proofs.Prelude.{◌≡◌, ℕ, ◌+◌, ◌-◌, ◌*◌, ◌/◌, ◌%◌, ◌<◌, ◌≤◌, inl, inr, Bool, true, cond, ◌&&◌, List, length, take, Option, None, Some, is_some, Result, refl, sym, ap, ap₂, ◌∙◌, subst, arith, eq-eqb, length-take-le, append-nil, false≢true, cases_Bool, cases_lt, take-take, option_to_list, get, child_block_sizes, value_block_sizes, child_count, own_entries, block_needed, child_blocks_needed, value_blocks_needed, has_node, is_node_depth, home, State, is-same_string, none_needed, blocks_needed, Node, Reached, nodes_needed, cells_needed, ObtainsBoth, IsTable, IsLast, slot_at, rank, node_sizes, cell_sizes, chunks_of, is_start, Holds, IsEnd, has_child, has_value, Sized, child_block_size, value_block_size, value_need, IsShapeOf, Shaped, Store, needs}
 use Rattle.prefix_trie_table.proofs.Strings.Plain.{whole_levels}
 use Rattle.prefix_trie_table.proofs.Tree.Invariant.{some_table}
-use Rattle.prefix_trie_table.proofs.Insertion.Asks.{nodes_here, nodes_below, cells_here, cells_below}
+use Rattle.prefix_trie_table.proofs.Insertion.Needs.{nodes_here, nodes_below, cells_here, cells_below}
 use Rattle.prefix_trie_table.proofs.Strings.Bits.{has_bit-zero}
 use Rattle.prefix_trie_table.proofs.Strings.BitLists.{rank-zero-all}
 use Rattle.prefix_trie_table.proofs.Strings.Digits.{path-length, path-take}
@@ -58,8 +58,8 @@ module _ {T : Type 0} (reading : List ℕ → Option Node) (values : List ℕ �
 
   module _ (q : List Bool) where
     -- the nodes on the search path of q, by their levels
-    pub way : (i : ℕ) → i ≤ length q / 5 → chunks_of (take (5 * i) q) ≡ take i (chunks_of q)
-    way i h = path-take i q (whole i (length q) h)
+    pub search_path : (i : ℕ) → i ≤ length q / 5 → chunks_of (take (5 * i) q) ≡ take i (chunks_of q)
+    search_path i h = path-take i q (whole i (length q) h)
 
     pub depth_is : (i : ℕ) → i ≤ length q / 5 → is_node_depth (take (5 * i) q) ≡ true
     depth_is i h = eq-eqb (length (take (5 * i) q) % 5) 0 (whole_levels (length (take (5 * i) q)) i (length-take-le (5 * i) q (whole i (length q) h)))
@@ -67,7 +67,7 @@ module _ {T : Type 0} (reading : List ℕ → Option Node) (values : List ℕ �
     pub node_is : (i : ℕ) → i ≤ length q / 5 → has_node s.nodes (take (5 * i) q) ≡ is_some (reading (take i (chunks_of q)))
     node_is i h =
         shape_nodes reading values paths v w holds s is (take (5 * i) q)
-        ∙ ap₂ (λ d p. d && is_some (reading p)) (depth_is i h) (way i h)
+        ∙ ap₂ (λ d p. d && is_some (reading p)) (depth_is i h) (search_path i h)
 
     module _ (here : Reached) (end : IsEnd reading (chunks_of q) here.level) (at : reading (take here.level (chunks_of q)) ≡ Some here.node) where
       deep : here.level ≤ length q / 5
@@ -87,10 +87,10 @@ module _ {T : Type 0} (reading : List ℕ → Option Node) (values : List ℕ �
       ]
 
       own : reading (chunks_of (take (5 * here.level) q)) ≡ Some here.node
-      own = ap reading (way here.level deep) ∙ at
+      own = ap reading (search_path here.level deep) ∙ at
 
       below_none : (i : ℕ) → here.level < i → i ≤ length q / 5 → reading (chunks_of (take (5 * i) q)) ≡ None
-      below_none i more h = ap reading (way i h) ∙ gone i more h
+      below_none i more h = ap reading (search_path i h) ∙ gone i more h
 
       -- the blocks for nodes
       children_needed : child_blocks_needed s.nodes (layout_of v.slots v.tiers w.tiers sized) q ≡ nodes_needed here q

@@ -7,7 +7,7 @@ use Rattle.prefix_trie_table.proofs.Strings.Plain.{five_times}
 use Rattle.prefix_trie_table.proofs.Tree.Invariant.{some_table}
 use Rattle.prefix_trie_table.proofs.Strings.Digits.{path-length, path-take}
 use Rattle.prefix_trie_table.proofs.Insertion.PredictedNeeds.{child_size, value_size, children_are, no_children, values_are, no_values, node_is}
-use Rattle.prefix_trie_table.proofs.Strings.Keys.{same_above, begins-way}
+use Rattle.prefix_trie_table.proofs.Strings.Keys.{same_above, begins-search_path}
 use Rattle.prefix_trie_table.proofs.Strings.Paths.{same_path-true, same_path-equal}
 use Rattle.prefix_trie_table.proofs.Tree.Shapes.{shape_entries}
 use Rattle.prefix_trie_table.proofs.Tree.Trees.{reads, is_none-None}
@@ -40,7 +40,7 @@ module _ {T : Type 0} (reading : List ℕ → Option Node) (values : List ℕ �
     gains_is : (q : List Bool) → gains_child s.nodes q p ≡ gains reading (chunks_of q) (length (chunks_of q)) (chunks_of p)
     gains_is q =
         ap₂ (λ d b. (d && b) && (nat_lt (length p) (length (home q)) && not (has_node s.nodes (take (length p + 5) q)))) depth
-        (sym (begins-way p q (eqb-true (length p % 5) 0 depth)))
+        (sym (begins-search_path p q (eqb-true (length p % 5) 0 depth)))
         ∙ ap (λ b. is_start (chunks_of p) (chunks_of q) && b) (elim (cases_lt (length (chunks_of p)) (length (chunks_of q))) as
         (λ _. (nat_lt (length p) (length (home q)) && not (has_node s.nodes (take (length p + 5) q)))
         ≡ (nat_lt (length (chunks_of p)) (length (chunks_of q)) && not (is_some (reading (take (length (chunks_of p) + 1) (chunks_of q)))))) [

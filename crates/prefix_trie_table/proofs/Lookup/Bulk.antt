@@ -1,5 +1,5 @@
 -- Lookups that descend side by side, round by round: for `find_longest_each`.
-use Rattle.prefix_trie_table.proofs.Prelude.{◌≡◌, ℕ, ◌+◌, ◌*◌, ◌<◌, ◌≤◌, ◌⊎◌, inl, inr, Bool, List, [], ◌∷◌, ◌++◌, Option, None, Some, IfSome, MatchOption, Contains, option_map, map, take, drop, length, length-drop, get_or, set, sum_by, refl, sym, ap, ◌∙◌, subst, arith, option_or, add-mul, one-mul, cases_eq, length-map, map-append, length_push, take_more, take_more_set, get_or_default, get_or-map, get_or-drop, get_or-take, get_or-set_other, All-nil, All-push, Contains-append_cases, Contains-append_left, Contains-append_right, Contains-push_cases, sum_by_push, Node, Found, Descent, Match, AreAnswered, AreRead, GoOn, HasFound, cost_of, found_of, question_of, reached_by, slot_of, node_at, chunks_of, IsEnd, SomeNodes, Reached, IsAlong, IsLast, LongestHeld, Store}
+use Rattle.prefix_trie_table.proofs.Prelude.{◌≡◌, ℕ, ◌+◌, ◌*◌, ◌<◌, ◌≤◌, ◌⊎◌, inl, inr, Bool, List, [], ◌∷◌, ◌++◌, Option, None, Some, IfSome, MatchOption, Contains, option_map, map, take, drop, length, length-drop, get_or, set, sum_by, refl, sym, ap, ◌∙◌, subst, arith, option_or, add-mul, one-mul, cases_eq, length-map, map-append, length_push, take_more, take_more_set, get_or_default, get_or-map, get_or-drop, get_or-take, get_or-set_other, All-nil, All-push, Contains-append_cases, Contains-append_left, Contains-append_right, Contains-push_cases, sum_by_push, Node, Found, Descent, Match, HaveMatches, AreRead, GoOn, HasFound, cost_of, found_of, question_of, reached_by, slot_of, node_at, chunks_of, IsEnd, SomeNodes, Reached, IsAlong, IsLast, LongestHeld, Store}
 use Rattle.std.proofs.lemmas.List.{append_assoc, length-take-le, drop-drop, get_or-set_same}
 use Rattle.prefix_trie_table.specs.Bulk.{IsDescent}
 use Rattle.prefix_trie_table.proofs.Lookup.SearchPaths.{path_end}
@@ -82,19 +82,19 @@ module _ (v : Store Node) (questions : List (List Bool)) where
 
     module _ (before : List (Option Found)) where
       pub go_on_none : GoOn v questions level [] [] before before
-      go_on_none = record { descents_are = All-nil (IsDescent v questions (level + 1)); answered = λ others h. h; counted = λ costs are. refl }
+      go_on_none = record { descents_are = All-nil (IsDescent v questions (level + 1)); matched = λ others h. h; counted = λ costs are. refl }
 
       module _ (ws next : List Descent) (after : List (Option Found)) (go : GoOn v questions level ws next before after) (w : Descent) where
-        answered_push : (others : List ℕ) → AreAnswered v questions (map question_of (ws ++ w ∷ []) ++ others) before
-            → AreAnswered v questions (map question_of next ++ (w.question ∷ others)) after
-        answered_push others h = go.answered (w.question ∷ others) (subst (λ l. AreAnswered v questions l before) (numbers_push ws w others) h)
+        matched_push : (others : List ℕ) → HaveMatches v questions (map question_of (ws ++ w ∷ []) ++ others) before
+            → HaveMatches v questions (map question_of next ++ (w.question ∷ others)) after
+        matched_push others h = go.matched (w.question ∷ others) (subst (λ l. HaveMatches v questions l before) (numbers_push ws w others) h)
 
         -- one more descent goes on
         pub go_on_more : (y : Descent) → y.question ≡ w.question → IsDescent v questions (level + 1) y → GoOn v questions level (ws ++ w ∷ []) (next ++ y ∷ []) before after
         go_on_more y same is = record {
           descents_are = All-push (IsDescent v questions (level + 1)) next y go.descents_are is;
-          answered = λ others h.
-              subst (λ l. AreAnswered v questions l after) (ap (λ n. map question_of next ++ (n ∷ others)) (sym same) ∙ sym (numbers_push next y others)) (answered_push others h);
+          matched = λ others h.
+              subst (λ l. HaveMatches v questions l after) (ap (λ n. map question_of next ++ (n ∷ others)) (sym same) ∙ sym (numbers_push next y others)) (matched_push others h);
           counted = λ costs are.
               sums_on _ _ _ _ _ _ _ _ (cost_of costs w) (level + 1) (go.counted costs are) (sum_by_push (cost_of costs) ws w)
               (sum_by_push (cost_of costs) next y ∙ ap (λ n. sum_by (cost_of costs) next + get_or costs n 0) same) (pushed_times next y (level + 1)) (pushed_times ws w (level + 1));
@@ -106,14 +106,14 @@ module _ (v : Store Node) (questions : List (List Bool)) where
             → GoOn v questions level (ws ++ w ∷ []) next before (set after w.question best)
         go_on_end q best inside long is found n end = record {
           descents_are = go.descents_are;
-          answered = λ others h i r a within r_is a_is.
+          matched = λ others h i r a within r_is a_is.
               elim (cases_eq i w.question) as (λ _. Contains (map question_of next ++ others) i ⊎ HasFound v r (length r + 1) a) [
                 | inl e ↦
                     let r_same : r ≡ q = same_question w.question q r inside is (r_is ∙ ap (λ k. get_or questions k r) e) in
                     let a_same : a ≡ best = a_is ∙ ap (λ k. get_or (set after w.question best) k a) e ∙ get_or-set_same after w.question best a (omega (arith, inside, long)) in
                     inr (subst (λ x. HasFound v r (length r + 1) x) (sym a_same) (subst (λ x. HasFound v x (length x + 1) best) (sym r_same) found))
                 | inr other ↦
-                    elim (answered_push others h i r a within r_is (a_is ∙ get_or-set_other after w.question i best a other)) as (λ _. Contains (map question_of next ++ others) i ⊎ HasFound v r (length r + 1) a) [
+                    elim (matched_push others h i r a within r_is (a_is ∙ get_or-set_other after w.question i best a other)) as (λ _. Contains (map question_of next ++ others) i ⊎ HasFound v r (length r + 1) a) [
                       | inl has ↦ inl (without (map question_of next) others w.question i other has)
                       | inr has ↦ inr has
                     ]

@@ -189,7 +189,7 @@ module _ {T : Type 0} where
     gives_none gone =
         let left = gone.next t.reading t.paths t.holds.hold in (
           none_ahead v w t s is q here matches first at left.0,
-          none_ahead v w t later later_is q next rest gone.later gone.stands left.1,
+          none_ahead v w t later later_is q next rest gone.later gone.is_there left.1,
         )
 
     -- the next entry is that of the match
@@ -203,7 +203,7 @@ module _ {T : Type 0} where
         ∙ next_left v w t s is q m first left.0 held left.3 x read
         ∙ ap (λ (z : State T). d ∷ from_length (m.len + 1) (covers z.entries q)) (same_shape v.slots w.slots s later is later_is)
         ∙ ap (λ n. d ∷ from_length n (covers later.entries q)) (sym left.1)
-        ∙ ap (λ es. d ∷ es) (sym (still_is v w t later later_is q next rest gone.later gone.stands))
+        ∙ ap (λ es. d ∷ es) (sym (still_is v w t later later_is q next rest gone.later gone.is_there))
 
     -- the match has its value
     pub match_there : (m : Match) → GoesOn q next rest first (Some m) v → (m.bit < 31) × (cell_slot m < length w.slots) × (is_some (cell_of w m) ≡ true)

@@ -1,5 +1,5 @@
 -- The matches to come of a cover walk, node by node.
-use Rattle.prefix_trie_table.proofs.Prelude.{◌≡◌, ℕ, ◌+◌, ◌-◌, ◌*◌, ◌^◌, ◌<◌, ◌≤◌, Bool, true, false, ◌&&◌, nat_le, List, length, take, drop, Option, None, Some, refl, sym, ap, ◌∙◌, subst, arith, inl, inr, leb-true, length-drop, bit_and, bit_at, le-leb, lt-leb, cases_lt, false≢true, and_le_r, bit_at_above, begins, digits, length-digits, same_bool, begins-take, begins-length, take-begins, has, value_bit, stands, Sets, HoldsValues, both, bit-set, has-zero, has-and, value_bit-longer, one_of_length, Node, Match, Store, node_sizes, NodesHold, NoneHeld, Reached, IsAlong, IsLast, AreLeft, TakesMatch, TakesShortest, NextHeld, IsCovering, GoesOn, IsCover}
+use Rattle.prefix_trie_table.proofs.Prelude.{◌≡◌, ℕ, ◌+◌, ◌-◌, ◌*◌, ◌^◌, ◌<◌, ◌≤◌, Bool, true, false, ◌&&◌, nat_le, List, length, take, drop, Option, None, Some, refl, sym, ap, ◌∙◌, subst, arith, inl, inr, leb-true, length-drop, bit_and, bit_at, le-leb, lt-leb, cases_lt, false≢true, and_le_r, bit_at_above, begins, digits, length-digits, same_bool, begins-take, begins-length, take-begins, has, value_bit, has_first, Sets, HoldsValues, both, bit-set, has-zero, has-and, value_bit-longer, one_of_length, Node, Match, Store, node_sizes, NodesHold, NoneHeld, Reached, IsAlong, IsLast, AreLeft, TakesMatch, TakesShortest, NextHeld, IsCovering, GoesOn, IsCover}
 use Rattle.std.proofs.lemmas.List.{length-take-le}
 use Rattle.prefix_trie_table.proofs.Strings.Plain.{no_or_yes}
 use Rattle.prefix_trie_table.proofs.Lookup.SearchPaths.{path_end}
@@ -33,7 +33,7 @@ module _ (level : ℕ) (node : Node) (matches first : ℕ) (q : List Bool) (deep
   rest-long = length-drop (5 * level) q
 
   -- what is in the node and to come has its match
-  match-of : (i : ℕ) → first ≤ i → i < 5 * level + 5 → i ≤ length q → stands node.value_bitmap (drop (5 * level) q) (i - 5 * level) ≡ true
+  match-of : (i : ℕ) → first ≤ i → i < 5 * level + 5 → i ≤ length q → has_first node.value_bitmap (drop (5 * level) q) (i - 5 * level) ≡ true
       → has matches (value_bit (take (i - 5 * level) (drop (5 * level) q))) ≡ true
   match-of i from last within st =
       let s = take (i - 5 * level) (drop (5 * level) q) in
@@ -132,34 +132,34 @@ all_left level bitmap mask q holds = record {
 -- ---- the descent
 
 -- a walk whose beginnings of `first` bits or more were still to come has passed those without a value
-pub record GoneTo (q : List Bool) (first : ℕ) (here : Reached) (matches : ℕ) (v : Store Node) : Type 0 where
+pub record HasReached (q : List Bool) (first : ℕ) (here : Reached) (matches : ℕ) (v : Store Node) : Type 0 where
   pub to : ℕ
-  pub stands : IsCovering q here matches to v
+  pub is_there : IsCovering q here matches to v
   pub low : first ≤ to
   pub none : (reading : List ℕ → Option Node) (paths : List (List ℕ)) → NodesHold node_sizes reading paths v → NoneHeld reading q first to
 
 -- so it has at its start
-pub gone_nowhere : (q : List Bool) (first : ℕ) (here : Reached) (matches : ℕ) (v : Store Node) → IsCovering q here matches first v → GoneTo q first here matches v
-gone_nowhere q first here matches v at = record { to = first; stands = at; low = omega arith; none = λ reading paths hold i from last within. absurd (omega arith) }
+pub reached_nowhere : (q : List Bool) (first : ℕ) (here : Reached) (matches : ℕ) (v : Store Node) → IsCovering q here matches first v → HasReached q first here matches v
+reached_nowhere q first here matches v at = record { to = first; is_there = at; low = omega arith; none = λ reading paths hold i from last within. absurd (omega arith) }
 
-module _ (q : List Bool) (first : ℕ) (here : Reached) (matches : ℕ) (v : Store Node) (gone : GoneTo q first here matches v)
+module _ (q : List Bool) (first : ℕ) (here : Reached) (matches : ℕ) (v : Store Node) (gone : HasReached q first here matches v)
     (new : ℕ) (o : Option Match) (takes : TakesShortest here.level here.node matches new o) where
   taken : TakesMatch here.level here.node new gone.to q o
-  taken = takes q gone.to gone.stands.along.whole gone.stands.low gone.stands.high gone.stands.left
+  taken = takes q gone.to gone.is_there.along.whole gone.is_there.low gone.is_there.high gone.is_there.left
 
   -- the walk is where it was, with the matches that are left
   stays : IsCovering q here new taken.later v
-  stays = record { along = gone.stands.along; low = (let l = gone.stands.low in let m = taken.low in omega (arith, l, m)); high = taken.high; left = taken.left }
+  stays = record { along = gone.is_there.along; low = (let l = gone.is_there.low in let m = taken.low in omega (arith, l, m)); high = taken.high; left = taken.left }
 
   taken_next : (reading : List ℕ → Option Node) (paths : List (List ℕ)) → NodesHold node_sizes reading paths v → NextHeld reading q (5 * here.level + 5) gone.to taken.later o
-  taken_next reading paths hold = taken.next reading (along_is q here v gone.stands.along reading paths hold)
+  taken_next reading paths hold = taken.next reading (along_is q here v gone.is_there.along reading paths hold)
 
 -- a match was taken
-pub gone_on : (q : List Bool) (first : ℕ) (here : Reached) (matches : ℕ) (v : Store Node) (gone : GoneTo q first here matches v)
+pub reached_match : (q : List Bool) (first : ℕ) (here : Reached) (matches : ℕ) (v : Store Node) (gone : HasReached q first here matches v)
     (new : ℕ) (m : Match) → TakesShortest here.level here.node matches new (Some m) → GoesOn q here new first (Some m) v
-gone_on q first here matches v gone new m takes = record {
+reached_match q first here matches v gone new m takes = record {
   later = (taken q first here matches v gone new (Some m) takes).later;
-  stands = stays q first here matches v gone new (Some m) takes;
+  is_there = stays q first here matches v gone new (Some m) takes;
   next = λ reading paths hold.
       let next = taken_next q first here matches v gone new (Some m) takes reading paths hold in
       let before = gone.low in
@@ -167,11 +167,11 @@ gone_on q first here matches v gone new m takes = record {
 }
 
 -- there is none, here and below
-pub gone_past : (q : List Bool) (first : ℕ) (here : Reached) (matches : ℕ) (v : Store Node) (gone : GoneTo q first here matches v)
+pub reached_end : (q : List Bool) (first : ℕ) (here : Reached) (matches : ℕ) (v : Store Node) (gone : HasReached q first here matches v)
     (new : ℕ) → TakesShortest here.level here.node matches new None → IsLast q here v → GoesOn q here new first None v
-gone_past q first here matches v gone new takes end = record {
+reached_end q first here matches v gone new takes end = record {
   later = (taken q first here matches v gone new None takes).later;
-  stands = stays q first here matches v gone new None takes;
+  is_there = stays q first here matches v gone new None takes;
   next = λ reading paths hold.
       let now = taken_next q first here matches v gone new None takes reading paths hold in
       let past = none_past reading paths v q here.level (length q + 1) hold (path_end q here v end reading paths hold) in (
@@ -181,13 +181,13 @@ gone_past q first here matches v gone new takes end = record {
 }
 
 -- there is none here, and the walk goes down
-pub gone_down : (q : List Bool) (first : ℕ) (here : Reached) (matches : ℕ) (v : Store Node) (gone : GoneTo q first here matches v)
+pub gone_down : (q : List Bool) (first : ℕ) (here : Reached) (matches : ℕ) (v : Store Node) (gone : HasReached q first here matches v)
     (new : ℕ) → TakesShortest here.level here.node matches new None → (next : Reached) (rest : ℕ) → next.level ≡ here.level + 1
-    → IsAlong q next v → AreLeft rest next.node.value_bitmap (5 * next.level) (5 * next.level) q → GoneTo q first next rest v
+    → IsAlong q next v → AreLeft rest next.node.value_bitmap (5 * next.level) (5 * next.level) q → HasReached q first next rest v
 gone_down q first here matches v gone new takes next rest down along left = record {
   to = 5 * next.level;
-  stands = record { along = along; low = omega arith; high = omega arith; left = left };
-  low = (let l = gone.low in let h = gone.stands.high in omega (arith, l, h, down));
+  is_there = record { along = along; low = omega arith; high = omega arith; left = left };
+  low = (let l = gone.low in let h = gone.is_there.high in omega (arith, l, h, down));
   none = λ reading paths hold.
       let now = taken_next q first here matches v gone new None takes reading paths hold in
       let more : 5 * here.level + 5 ≡ 5 * next.level = omega (arith, down) in
@@ -202,4 +202,4 @@ at_root q here matches v along left = record { along = along; low = omega arith;
 -- what holds of a walk's fields holds after a step
 pub cover_on : {T : Type 0} (q : List Bool) (here next : Reached) (matches rest : ℕ) (o : Option Match) (v : Store Node) (w : Store (Option T)) (at : IsCover q here matches v w)
     → GoesOn q next rest at.first o v → IsCover q next rest v w
-cover_on q here next matches rest o v w at gone = record { table = at.table; first = gone.later; stands = gone.stands }
+cover_on q here next matches rest o v w at gone = record { table = at.table; first = gone.later; is_there = gone.is_there }

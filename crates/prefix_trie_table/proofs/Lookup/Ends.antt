@@ -6,7 +6,7 @@ use Rattle.prefix_trie_table.proofs.Lookup.Going.{deepest_is}
 use Rattle.prefix_trie_table.proofs.Lookup.Locating.{no_seat, seat_reads, seat_there}
 use Rattle.prefix_trie_table.proofs.Lookup.SearchPaths.{path_end, path_own, own_bit, own_value}
 use Rattle.prefix_trie_table.proofs.Tree.Trees.{reads, is_some-Some}
-use Rattle.prefix_trie_table.proofs.Tree.SearchEnds.{slot_only, slot_stands}
+use Rattle.prefix_trie_table.proofs.Tree.SearchEnds.{slot_only, slot_is_there}
 
 module _ (v : Store Node) (reading : List ℕ → Option Node) (paths : List (List ℕ)) (hold : NodesHold node_sizes reading paths v) (q : List Bool) (here : Reached) where
   -- the last node reached is the end of the search path
@@ -15,9 +15,9 @@ module _ (v : Store Node) (reading : List ℕ → Option Node) (paths : List (Li
       let e = path_end q here v at reading paths hold in
       record {
         within = e.within;
-        stands = ap is_some (reads node_sizes reading paths v hold (take here.level (chunks_of q))) ∙ e.stands;
+        is_there = ap is_some (reads node_sizes reading paths v hold (take here.level (chunks_of q))) ∙ e.is_there;
         stops = λ inside. ap is_some (reads node_sizes reading paths v hold (take (here.level + 1) (chunks_of q))) ∙ e.stops inside;
-        slot_is = slot_only v reading paths hold (take here.level (chunks_of q)) (slot_at here) (at.along.deepest reading paths hold).stands;
+        slot_is = slot_only v reading paths hold (take here.level (chunks_of q)) (slot_at here) (at.along.deepest reading paths hold).is_there;
         node_is = at.along.node_is;
       }
 
@@ -38,10 +38,10 @@ module _ (v : Store Node) (reading : List ℕ → Option Node) (paths : List (Li
 
       deepest : (other : List ℕ → Option Node) (ps : List (List ℕ)) → NodesHold node_sizes other ps v → Deepest other (chunks_of q) here.level (slot_at here) v
       deepest other ps h =
-          let some = ap is_some (sym (reads node_sizes other ps v h (take here.level (chunks_of q)))) ∙ e.stands in
+          let some = ap is_some (sym (reads node_sizes other ps v h (take here.level (chunks_of q)))) ∙ e.is_there in
           record {
             node = node_or_blank (other (take here.level (chunks_of q)));
-            stands = subst (λ s. IsSlot other (take here.level (chunks_of q)) s) (sym e.slot_is) (slot_stands v other ps h (take here.level (chunks_of q)) some);
+            is_there = subst (λ s. IsSlot other (take here.level (chunks_of q)) s) (sym e.slot_is) (slot_is_there v other ps h (take here.level (chunks_of q)) some);
             is = is_some-Some (other (take here.level (chunks_of q))) some;
           }
 

@@ -31,17 +31,17 @@ module _ (b : List Bool) (len level : ℕ) (within : len ≤ length b) where
 -- the root is on every path
 pub deepest_root : (reading : List ℕ → Option Node) (paths : List (List ℕ)) (v : Store Node) (path : List ℕ) → NodesHold node_sizes reading paths v →
     Deepest reading path 0 0 v
-deepest_root reading paths v path hold = record { node = node_at v.slots 0; stands = at_root; is = hold.rooted }
+deepest_root reading paths v path hold = record { node = node_at v.slots 0; is_there = at_root; is = hold.rooted }
 
 module _ (reading : List ℕ → Option Node) (paths : List (List ℕ)) (v : Store Node) (path : List ℕ) (depth slot : ℕ)
     (hold : NodesHold node_sizes reading paths v) (deep : Deepest reading path depth slot v) where
   -- the slot is one of the array
   pub deepest_in : slot < length v.slots
-  deepest_in = (slot_holds node_sizes reading paths v hold (take depth path) slot deep.node deep.stands deep.is).1
+  deepest_in = (slot_holds node_sizes reading paths v hold (take depth path) slot deep.node deep.is_there deep.is).1
 
   -- the node in the slot is the one on the path
   pub deepest_is : (k : Node) → k ≡ node_at v.slots slot → reading (take depth path) ≡ Some k
-  deepest_is k read = deep.is ∙ ap Some (sym (slot_holds node_sizes reading paths v hold (take depth path) slot deep.node deep.stands deep.is).0 ∙ sym read)
+  deepest_is k read = deep.is ∙ ap Some (sym (slot_holds node_sizes reading paths v hold (take depth path) slot deep.node deep.is_there deep.is).0 ∙ sym read)
 
   -- a child that is there is one step deeper
   pub deepest_more : (offset : ℕ) (k : Node) → depth < length path → k ≡ node_at v.slots slot → has_bit k.child_bitmap (get_or path depth 0) ≡ true →
@@ -53,7 +53,7 @@ module _ (reading : List ℕ → Option Node) (paths : List (List ℕ)) (v : Sto
       let some : is_some (reading (take depth path ++ d ∷ [])) ≡ true = hold.linked (take depth path) d ∙ ap (λ o. has_child o d) here ∙ bit in
       record {
         node = node_or_blank (reading (take depth path ++ d ∷ []));
-        stands = subst (λ p. IsSlot reading p (k.child_block + offset)) (sym longer)
+        is_there = subst (λ p. IsSlot reading p (k.child_block + offset)) (sym longer)
             (subst (λ i. IsSlot reading (take depth path ++ d ∷ []) (k.child_block + i)) (sym place_is) (at_child (take depth path) d k here bit));
         is = ap reading longer ∙ is_some-Some (reading (take depth path ++ d ∷ [])) some;
       }
@@ -63,7 +63,7 @@ module _ (reading : List ℕ → Option Node) (paths : List (List ℕ)) (v : Sto
       (depth < length path → has_bit k.child_bitmap (get_or path depth 0) ≡ false) → IsEnd reading path depth
   deepest_end k within read missing = record {
     within = within;
-    stands = ap is_some deep.is;
+    is_there = ap is_some deep.is;
     stops = λ inside.
         let d : ℕ = get_or path depth 0 in
         ap (λ p. is_some (reading p)) (take_more path depth 0 inside) ∙ hold.linked (take depth path) d ∙ ap (λ o. has_child o d) (deepest_is k read)

@@ -8,21 +8,21 @@ use Rattle.prefix_trie_table.proofs.Insertion.Adding.{with_same}
 use Rattle.prefix_trie_table.proofs.Lookup.Matched.{cell_some, longest_at, longest_there, longest_none}
 use Rattle.prefix_trie_table.proofs.Blocks.Sizing.{layout_of}
 use Rattle.prefix_trie_table.proofs.Tree.Shapes.{shape_of, shape_nodes, shape_entries}
-use Rattle.prefix_trie_table.proofs.Tree.Values.{value_stands, value_replaced}
+use Rattle.prefix_trie_table.proofs.Tree.Values.{value_is_there, value_replaced}
 
 module _ {T : Type 0} (v : Store Node) (w : Store (Option T)) (t : SomeTable v w) (q : List Bool) where
   -- the cell of a seat
   module _ (seat : Seat) (at : IsSeat t.reading (chunks_of q) (bit_of q) seat) where
     pub cell_there : (seat.slot < length w.slots) × (get_or w.slots seat.slot None ≡ t.values (chunks_of q) (bit_of q))
     cell_there =
-        let there = value_stands cell_sizes node_sizes t.reading t.paths v t.holds.hold t.values w t.holds.cells (chunks_of q) at.node (bit_of q) at.is at.set in
+        let there = value_is_there cell_sizes node_sizes t.reading t.paths v t.holds.hold t.values w t.holds.cells (chunks_of q) at.node (bit_of q) at.is at.set in
         (let x = there.2 in let e = at.slot_is in omega arith, ap (λ i. get_or w.slots i None) at.slot_is ∙ there.1)
 
     pub value_there : is_some (t.values (chunks_of q) (bit_of q)) ≡ true
     value_there = t.holds.cells.set_where (chunks_of q) (bit_of q) ∙ ap (λ o. has_value o (bit_of q)) at.is ∙ at.set
 
     pub seat_has : HasValue w seat
-    seat_has = record { stands = cell_there.0; stored = ap is_some cell_there.1 ∙ value_there }
+    seat_has = record { is_there = cell_there.0; stored = ap is_some cell_there.1 ∙ value_there }
 
     -- the arrays with another value there
     pub written : (x : T) → Holds t.reading (with_value t.values (chunks_of q) (bit_of q) (Some x)) t.paths v (with_cell w (Some seat) x)

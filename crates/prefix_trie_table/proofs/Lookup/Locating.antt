@@ -38,10 +38,10 @@ seat_slot n b false seat e = absurd (false≢true (ap is_some e))
 pub seat_below : (nodes : List Node) (level : ℕ) (u s : List Bool) (n : Node) → length u ≡ 5 * level → length s ≤ 4 → read nodes (chunks_of u) ≡ Some n →
     has n.value_bitmap (value_bit s) ≡ true → seat_of nodes (u ++ s) ≡ Some (value_seat n (value_bit s))
 unfolding seat_of
-seat_below nodes level u s n long short stands set =
+seat_below nodes level u s n long short is_there set =
     let at = below_node level u s long short in
     let small = value_bit-small s short in
-    ap₂ (λ p r. seat_in (read nodes p) (value_bit r)) at.0 at.1 ∙ ap (λ o. seat_in o (value_bit s)) stands
+    ap₂ (λ p r. seat_in (read nodes p) (value_bit r)) at.0 at.1 ∙ ap (λ o. seat_in o (value_bit s)) is_there
     ∙ seat_there n (value_bit s) (has_bit-is n.value_bitmap (value_bit s) (omega (arith, small)) ∙ set)
 
 module _ (v : Store Node) (reading : List ℕ → Option Node) (paths : List (List ℕ)) (hold : NodesHold node_sizes reading paths v) (q : List Bool) where
@@ -114,10 +114,10 @@ own_slot reading p m q s (at_child r d k parent bit) e = at_child r d k (with_ot
 pub entered_seat : {T : Type 0} (reading : List ℕ → Option Node) (values : List ℕ → ℕ → Option T) (paths : List (List ℕ)) (q : List Bool) (slot b : ℕ) (x : Option T) (seat : Seat)
     (v2 : Store Node) (w2 : Store (Option T)) → IsSlot reading (chunks_of q) slot → bit_of q ≡ b → (one : ValueSet reading paths values (chunks_of q) b x v2 w2) →
     seat_in (Some (node_at v2.slots slot)) b ≡ Some seat → seat_of v2.slots q ≡ Some seat
-entered_seat reading values paths q slot b x seat v2 w2 stands bit one found =
+entered_seat reading values paths q slot b x seat v2 w2 is_there bit one found =
     let later : List ℕ → Option Node = with_node reading (chunks_of q) one.node in
     let is : later (chunks_of q) ≡ Some one.node = with_here reading (chunks_of q) one.node (chunks_of q) refl in
-    let at = slot_holds node_sizes later paths v2 one.hold (chunks_of q) slot one.node (own_slot reading (chunks_of q) one.node (chunks_of q) slot stands refl) is in
+    let at = slot_holds node_sizes later paths v2 one.hold (chunks_of q) slot one.node (own_slot reading (chunks_of q) one.node (chunks_of q) slot is_there refl) is in
     seat_reads v2 later paths one.hold q ∙ ap₂ (λ o i. seat_in o i) (is ∙ ap Some (sym at.0)) bit ∙ found
 
 -- a search ends where it ended if the nodes are the same

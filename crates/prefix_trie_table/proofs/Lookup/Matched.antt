@@ -4,7 +4,7 @@ use Rattle.std.proofs.lemmas.List.{length-take-le, take_all}
 use Rattle.prefix_trie_table.proofs.Strings.Plain.{no_or_yes}
 use Rattle.prefix_trie_table.proofs.Tree.Invariant.{some_nodes}
 use Rattle.prefix_trie_table.proofs.Strings.Digits.{path-length}
-use Rattle.prefix_trie_table.proofs.Tree.Values.{value_stands}
+use Rattle.prefix_trie_table.proofs.Tree.Values.{value_is_there}
 use Rattle.prefix_trie_table.proofs.Tree.Shapes.{shape_nodes, shape_entries}
 use Rattle.prefix_trie_table.proofs.Counts.Counted.{visits_counted}
 
@@ -59,16 +59,16 @@ module _ {T : Type 0} where
 
     -- a match, and its cell
     module _ (m : Match) (held : IsHeld t.reading q m.len m.bit m.node) where
-      stands_at : (get_or w.slots (cell_slot m) None ≡ t.values (chunks_of (take m.len q)) m.bit) × (cell_slot m < length w.slots)
-      stands_at =
-          let h = value_stands cell_sizes node_sizes t.reading t.paths v t.holds.hold t.values w t.holds.cells (chunks_of (take m.len q)) m.node m.bit held.is held.set in (h.1, h.2)
+      is_there_at : (get_or w.slots (cell_slot m) None ≡ t.values (chunks_of (take m.len q)) m.bit) × (cell_slot m < length w.slots)
+      is_there_at =
+          let h = value_is_there cell_sizes node_sizes t.reading t.paths v t.holds.hold t.values w t.holds.cells (chunks_of (take m.len q)) m.node m.bit held.is held.set in (h.1, h.2)
 
       pub cell_inside : cell_slot m < length w.slots
-      cell_inside = stands_at.1
+      cell_inside = is_there_at.1
 
       value_at : get s.entries (take m.len q) ≡ cell_of w m
       value_at =
-          shape_entries t.reading t.values t.paths v w t.holds s is (take m.len q) ∙ ap (t.values (chunks_of (take m.len q))) held.bit_is ∙ sym stands_at.0
+          shape_entries t.reading t.values t.paths v w t.holds s is (take m.len q) ∙ ap (t.values (chunks_of (take m.len q))) held.bit_is ∙ sym is_there_at.0
 
       -- the value is there
       pub cell_some : is_some (cell_of w m) ≡ true
@@ -112,7 +112,7 @@ module _ {T : Type 0} where
           let steps : length (chunks_of (take m.len q)) ≡ m.len / 5 = path-length (take m.len q) ∙ ap (λ n. n / 5) match_length in
           record {
             within = omega (arith, steps);
-            stands = ap (λ p. is_some (t.reading p)) (take_all (m.len / 5) (chunks_of (take m.len q)) (omega (arith, steps))) ∙ ap is_some held.is;
+            is_there = ap (λ p. is_some (t.reading p)) (take_all (m.len / 5) (chunks_of (take m.len q)) (omega (arith, steps))) ∙ ap is_some held.is;
             stops = λ more. absurd (omega (arith, steps));
           }
 
@@ -138,8 +138,8 @@ module _ {T : Type 0} where
         handed answer found (Some f) e =
             (omega (arith, e.0, held.within), found (now f.1) e.1 ∙ ap (λ n. Some (take n q, now f.1)) (sym e.0))
 
-        pub longest_handed : NoneHeld t.reading q (m.len + 1) (length q + 1) → (r : Option (ℕ × R)) → Hands r → Answers (longest_match s.entries q) r
-        longest_handed none = handed (longest_match s.entries q) (longest_at none)
+        pub longest_returned : NoneHeld t.reading q (m.len + 1) (length q + 1) → (r : Option (ℕ × R)) → Hands r → Answers (longest_match s.entries q) r
+        longest_returned none = handed (longest_match s.entries q) (longest_at none)
 
-        pub shortest_handed : NoneHeld t.reading q 0 m.len → (r : Option (ℕ × R)) → Hands r → Answers (shortest_match s.entries q) r
-        shortest_handed none = handed (shortest_match s.entries q) (shortest_at none)
+        pub shortest_returned : NoneHeld t.reading q 0 m.len → (r : Option (ℕ × R)) → Hands r → Answers (shortest_match s.entries q) r
+        shortest_returned none = handed (shortest_match s.entries q) (shortest_at none)

@@ -1,5 +1,5 @@
 -- Which beginnings of a bit string have values, node by node on its search path.
-use Rattle.prefix_trie_table.proofs.Prelude.{◌≡◌, ℕ, ◌+◌, ◌-◌, ◌*◌, ◌/◌, ◌^◌, ◌<◌, ◌≤◌, Bool, true, false, List, length, length-drop, take, drop, Option, None, Some, is_some, refl, sym, ap, ap₂, ◌∙◌, subst, arith, inl, inr, add-sub_of_le, bit_at, option_or, false≢true, cases_Bool, cases_lt, take-take, drop-take, digits, length-digits, has, value_bit, stands, IsLongest, IsShortest, NoneBegins, bit-clear, value_bit-small, Node, Match, has_bit, node_sizes, chunks_of, bit_of, Store, NodesHold, IsEnd, has_value, holds_value, NoneHeld, IsHeld, LongestHeld, ShortestHeld, Reached, IsAlong, slot_at}
+use Rattle.prefix_trie_table.proofs.Prelude.{◌≡◌, ℕ, ◌+◌, ◌-◌, ◌*◌, ◌/◌, ◌^◌, ◌<◌, ◌≤◌, Bool, true, false, List, length, length-drop, take, drop, Option, None, Some, is_some, refl, sym, ap, ap₂, ◌∙◌, subst, arith, inl, inr, add-sub_of_le, bit_at, option_or, false≢true, cases_Bool, cases_lt, take-take, drop-take, digits, length-digits, has, value_bit, has_first, IsLongest, IsShortest, NoneBegins, bit-clear, value_bit-small, Node, Match, has_bit, node_sizes, chunks_of, bit_of, Store, NodesHold, IsEnd, has_value, holds_value, NoneHeld, IsHeld, LongestHeld, ShortestHeld, Reached, IsAlong, slot_at}
 use Rattle.std.proofs.lemmas.List.{take_all, length-take-le}
 use Rattle.prefix_trie_table.proofs.Strings.Bits.{has_bit-is}
 use Rattle.prefix_trie_table.proofs.Strings.Digits.{path-length, path-take, rest-is}
@@ -21,16 +21,16 @@ bit-small n bit rest short within is = subst (λ x. x < 31) (sym is) (value_bit-
 
 module _ (q : List Bool) (level i : ℕ) (from : 5 * level ≤ i) (within : i ≤ length q) where
   -- it has the same path down to that node
-  pub take_way : take level (chunks_of (take i q)) ≡ take level (chunks_of q)
-  take_way = sym (path-take level (take i q) (omega (arith, length-take-le i q within))) ∙ ap chunks_of (take-take (5 * level) i q from) ∙ path-take level q (omega arith)
+  pub take_search_path : take level (chunks_of (take i q)) ≡ take level (chunks_of q)
+  take_search_path = sym (path-take level (take i q) (omega (arith, length-take-le i q within))) ∙ ap chunks_of (take-take (5 * level) i q from) ∙ path-take level q (omega arith)
 
   module _ (last : i < 5 * level + 5) where
     own_steps : length (chunks_of (take i q)) ≡ level
     own_steps = path-length (take i q) ∙ ap (λ n. n / 5) (length-take-le i q within) ∙ sym (level_past level i last from)
 
     -- the node is its own
-    pub own_way : chunks_of (take i q) ≡ take level (chunks_of q)
-    own_way = sym (take_all level (chunks_of (take i q)) (omega (arith, own_steps))) ∙ take_way
+    pub own_search_path : chunks_of (take i q) ≡ take level (chunks_of q)
+    own_search_path = sym (take_all level (chunks_of (take i q)) (omega (arith, own_steps))) ∙ take_search_path
 
     -- and its value bit there
     pub own_bit : bit_of (take i q) ≡ value_bit (take (i - 5 * level) (drop (5 * level) q))
@@ -38,9 +38,9 @@ module _ (q : List Bool) (level i : ℕ) (from : 5 * level ≤ i) (within : i �
         ap value_bit (rest-is (take i q) ∙ ap (λ n. drop (5 * n) (take i q)) own_steps ∙ ap (λ n. drop (5 * level) (take n q)) (sym (add-sub_of_le from)) ∙ drop-take (5 * level) (i - 5 * level) q)
 
     -- whether it has a value
-    pub held_is : (reading : List ℕ → Option Node) (node : Node) → reading (take level (chunks_of q)) ≡ Some node → holds_value reading q i ≡ stands node.value_bitmap (drop (5 * level) q) (i - 5 * level)
+    pub held_is : (reading : List ℕ → Option Node) (node : Node) → reading (take level (chunks_of q)) ≡ Some node → holds_value reading q i ≡ has_first node.value_bitmap (drop (5 * level) q) (i - 5 * level)
     held_is reading node e =
-        ap₂ (λ o b. has_value o b) (ap reading own_way ∙ e) own_bit ∙ has_bit-is node.value_bitmap (value_bit (take (i - 5 * level) (drop (5 * level) q))) (omega (arith, bit-small (i - 5 * level) _ (drop (5 * level) q) (omega arith) (omega (arith, length-drop (5 * level) q)) refl))
+        ap₂ (λ o b. has_value o b) (ap reading own_search_path ∙ e) own_bit ∙ has_bit-is node.value_bitmap (value_bit (take (i - 5 * level) (drop (5 * level) q))) (omega (arith, bit-small (i - 5 * level) _ (drop (5 * level) q) (omega arith) (omega (arith, length-drop (5 * level) q)) refl))
 
 pub none_join : (reading : List ℕ → Option Node) (q : List Bool) (a b c : ℕ) → NoneHeld reading q a b → NoneHeld reading q b c → NoneHeld reading q a c
 none_join reading q a b c low high i from to within = elim (cases_lt i b) [
@@ -65,7 +65,7 @@ module _ (q : List Bool) (level : ℕ) (whole : 5 * level ≤ length q) (reading
       let small : bit < 31 = bit-small n bit (drop (5 * level) q) short within bit_is in
       record {
         within = inside;
-        is = ap reading (own_way q level (5 * level + n) (omega arith) inside (omega arith)) ∙ is;
+        is = ap reading (own_search_path q level (5 * level + n) (omega arith) inside (omega arith)) ∙ is;
         bit_is = own;
         small = small;
         set = has_bit-is node.value_bitmap bit (omega arith) ∙ set;
@@ -106,9 +106,9 @@ shortest-small bitmap bit rest l = bit-small l.len bit rest l.short l.within l.b
 pub none_past : (reading : List ℕ → Option Node) (paths : List (List ℕ)) (v : Store Node) (q : List Bool) (level end : ℕ) → NodesHold node_sizes reading paths v → IsEnd reading (chunks_of q) level → NoneHeld reading q (5 * level + 5) end
 none_past reading paths v q level end hold at i from last within =
     let inside : level < length (chunks_of q) = further level i (length q) (length (chunks_of q)) from within (path-length q) in
-    let way : take (level + 1) (chunks_of (take i q)) ≡ take (level + 1) (chunks_of q) = take_way q (level + 1) i (omega arith) within in
+    let search_path : take (level + 1) (chunks_of (take i q)) ≡ take (level + 1) (chunks_of q) = take_search_path q (level + 1) i (omega arith) within in
     elim (cases_Bool (is_some (reading (chunks_of (take i q))))) as (λ _. holds_value reading q i ≡ false) [
-      | inl e ↦ absurd (false≢true (sym (at.stops inside) ∙ ap (λ p. is_some (reading p)) (sym way) ∙ prefix_some node_sizes reading paths v hold (take (level + 1) (chunks_of (take i q))) (chunks_of (take i q)) e (is_start_take (level + 1) (chunks_of (take i q)))))
+      | inl e ↦ absurd (false≢true (sym (at.stops inside) ∙ ap (λ p. is_some (reading p)) (sym search_path) ∙ prefix_some node_sizes reading paths v hold (take (level + 1) (chunks_of (take i q))) (chunks_of (take i q)) e (is_start_take (level + 1) (chunks_of (take i q)))))
       | inr e ↦ ap (λ o. has_value o (bit_of (take i q))) (is_none-None (reading (chunks_of (take i q))) e)
     ]
   where

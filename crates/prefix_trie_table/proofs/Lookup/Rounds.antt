@@ -1,5 +1,5 @@
 -- Questions that go down side by side: before the first round, from one to the next, and after the last.
-use Rattle.prefix_trie_table.proofs.Prelude.{◌≡◌, ℕ, zero, suc, ◌+◌, ◌*◌, ◌<◌, ◌≤◌, inl, inr, Bool, List, [], ◌∷◌, Option, None, Some, is_some, Contains, All, map, take, length, get_or, sum, sum_by, refl, sym, ap, ap₂, ◌∙◌, subst, arith, mul-zero, mul-add, mul-one, zero-mul, false≢true, length-map, take_more, get_or_default, get_or-map, get_or-take, All-map, map-map, sum_by_push, sum-map, Node, Found, Descent, Match, AreAnswered, AreAnswers, AreCosts, AreRead, EachOf, GoOn, IsAhead, IsAnswer, IsLongestFound, IsNew, cost_of, found_of, new_descent, question_of, slot_of, node_sizes, chunks_of, IsEnd, NodesHold, SomeNodes, SomeTable, read, IsHeld, NoneHeld, IsShapeOf, Store, Nodes, State, visits}
+use Rattle.prefix_trie_table.proofs.Prelude.{◌≡◌, ℕ, zero, suc, ◌+◌, ◌*◌, ◌<◌, ◌≤◌, inl, inr, Bool, List, [], ◌∷◌, Option, None, Some, is_some, Contains, All, map, take, length, get_or, sum, sum_by, refl, sym, ap, ap₂, ◌∙◌, subst, arith, mul-zero, mul-add, mul-one, zero-mul, false≢true, length-map, take_more, get_or_default, get_or-map, get_or-take, All-map, map-map, sum_by_push, sum-map, Node, Found, Descent, Match, HaveMatches, AreMatchesFound, AreCosts, AreRead, EachOf, GoOn, IsAhead, IsMatchFound, IsLongestFound, IsNew, cost_of, found_of, new_descent, question_of, slot_of, node_sizes, chunks_of, IsEnd, NodesHold, SomeNodes, SomeTable, read, IsHeld, NoneHeld, IsShapeOf, Store, Nodes, State, visits}
 use Rattle.std.proofs.lemmas.List.{append-nil, length-take-le}
 use Rattle.prefix_trie_table.specs.Bulk.{IsDescent}
 use Rattle.prefix_trie_table.proofs.Counts.Counted.{visits_counted}
@@ -98,10 +98,10 @@ sums_next C C' S S' Z L l A B e c s b = omega (arith, e, c, s, b)
 
 module _ (v : Store Node) (questions : List (List Bool)) (level : ℕ) (descents next : List Descent) (before after : List (Option Found))
     (go : GoOn v questions level descents next before after) where
-  pub answered_next : AreAnswered v questions (map question_of descents) before → AreAnswered v questions (map question_of next) after
-  answered_next h =
-      subst (λ l. AreAnswered v questions l after) (append-nil (map question_of next))
-      (go.answered [] (subst (λ l. AreAnswered v questions l before) (sym (append-nil (map question_of descents))) h))
+  pub matched_next : HaveMatches v questions (map question_of descents) before → HaveMatches v questions (map question_of next) after
+  matched_next h =
+      subst (λ l. HaveMatches v questions l after) (append-nil (map question_of next))
+      (go.matched [] (subst (λ l. HaveMatches v questions l before) (sym (append-nil (map question_of descents))) h))
 
   pub counted_next : (costs : List ℕ) → AreCosts v questions costs → (l k count later start : ℕ) → length descents ≡ l → length next ≡ k
       → count + sum_by (cost_of costs) descents ≡ start + l * level → later ≡ count + l → later + sum_by (cost_of costs) next ≡ start + k * (level + 1)
@@ -119,13 +119,13 @@ module _ (v : Store Node) (reading : List ℕ → Option Node) (paths : List (Li
   reading_is = λ i p. reads node_sizes reading paths v hold p i
       -- a question without a descent has its result
 
-  pub are_answers : (questions : List (List Bool)) (found : List (Option Found)) → AreAnswered v questions [] found → AreAnswers v.slots questions found
-  are_answers questions found answered i q a inside q_is a_is = elim (answered i q a inside q_is a_is) as (λ _. IsAnswer v.slots q a) [
+  pub are_matches_found : (questions : List (List Bool)) (found : List (Option Found)) → HaveMatches v questions [] found → AreMatchesFound v.slots questions found
+  are_matches_found questions found matched i q a inside q_is a_is = elim (matched i q a inside q_is a_is) as (λ _. IsMatchFound v.slots q a) [
     | inl none ↦ absurd (omega (arith, none.1))
     | inr has ↦ subst (λ r. IsLongestFound r q (length q + 1) a) (sym reading_is) (has reading paths hold)
   ]
 
-  pub answer_is : (q : List Bool) (a : Option Found) → IsAnswer v.slots q a → IsLongestFound reading q (length q + 1) a
+  pub answer_is : (q : List Bool) (a : Option Found) → IsMatchFound v.slots q a → IsLongestFound reading q (length q + 1) a
   answer_is q a is = subst (λ r. IsLongestFound r q (length q + 1) a) reading_is is
 
 module _ {T : Type 0} (v : Store Node) (w : Store (Option T)) (t : SomeTable v w) (s : State T) (shaped : IsShapeOf v.slots w.slots s) where

@@ -125,7 +125,7 @@ module _ (q : List Bool) (here : Reached) (v : Store Node) (at : IsLast q here v
         ∙ deepest_is reading paths v (chunks_of q) here.level (slot_at here) hold (at.along.deepest reading paths hold) here.node at.along.node_is
 
     pub path_slot : IsSlot reading (chunks_of q) (slot_at here)
-    path_slot = subst (λ p. IsSlot reading p (slot_at here)) (take_all here.level (chunks_of q) steps) (at.along.deepest reading paths hold).stands
+    path_slot = subst (λ p. IsSlot reading p (slot_at here)) (take_all here.level (chunks_of q) steps) (at.along.deepest reading paths hold).is_there
 
     -- and the value bit tells whether there is one
     module _ (x : ℕ) (small : x < 31) (read : x ≡ value_bit r) where

@@ -4,7 +4,7 @@ use Rattle.std.proofs.lemmas.Bool.{lt-ltb}
 use Rattle.std.specs.List.{All, Contains}
 use Rattle.prefix_trie_table.proofs.Counts.EntryCounts.{count_sum}
 use Rattle.prefix_trie_table.proofs.Removal.NodesLeft.{home_path}
-use Rattle.prefix_trie_table.proofs.Removal.Stepped.{own_is}
+use Rattle.prefix_trie_table.proofs.Removal.ModelSizes.{own_is}
 use Rattle.prefix_trie_table.proofs.Tree.Shapes.{shape_entries}
 use Rattle.prefix_trie_table.proofs.Strings.Keys.{same_above}
 use Rattle.prefix_trie_table.proofs.Strings.Paths.{same_path-equal, same_path-true}
@@ -35,8 +35,8 @@ all_listed paths [] each = none paths
 all_listed paths (k ∷ ks) each = omega (arith, one_more k ks paths, All-head (λ x. times (chunks_of x) paths ≡ 1) k ks each, all_listed paths ks (All-tail (λ x. times (chunks_of x) paths ≡ 1) k ks each))
 
 -- the strings of a node's own values are those whose chunks lead there
-own_way : (p : List ℕ) → All IsStep p → (k : List Bool) → (begins (string_at p) k && nat_lt (length k) (length (string_at p) + 5)) ≡ same_path (chunks_of k) p
-own_way p steps k =
+own_search_path : (p : List ℕ) → All IsStep p → (k : List Bool) → (begins (string_at p) k && nat_lt (length k) (length (string_at p) + 5)) ≡ same_path (chunks_of k) p
+own_search_path p steps k =
     let s = string_at p in
     let five : length (string_at p) % 5 ≡ 0 = string_depth p in
     same_bool _ _
@@ -56,10 +56,10 @@ module _ {T : Type 0} (reading : List ℕ → Option Node) (values : List ℕ �
   own_of p listed =
       let steps = paths_steps node_sizes reading paths v holds.hold p listed in
       sym (own_is reading values paths v w holds s is (string_at p) (eq-eqb (length (string_at p) % 5) 0 (string_depth p)) ∙ ap (λ q. own_count (reading q)) (string_path p steps))
-      ∙ ap (λ test. length (filter test (keys m))) (λ i k. own_way p steps k i)
+      ∙ ap (λ test. length (filter test (keys m))) (λ i k. own_search_path p steps k i)
 
-  stands_once : (k : List Bool) → contains_key m k ≡ true → times (chunks_of k) paths ≡ 1
-  stands_once k stored =
+  is_there_once : (k : List Bool) → contains_key m k ≡ true → times (chunks_of k) paths ≡ 1
+  is_there_once k stored =
       holds.hold.listed (chunks_of k)
       ∙ ap one_if (some_node (reading (chunks_of k)) (bit_of k) (sym (holds.cells.set_where (chunks_of k) (bit_of k)) ∙ ap is_some (sym (shape_entries reading values paths v w holds s is k)) ∙ stored))
 
@@ -71,5 +71,5 @@ module _ {T : Type 0} (reading : List ℕ → Option Node) (values : List ℕ �
       ∙ all_listed paths (keys m)
       (All-map (λ k. times (chunks_of k) paths ≡ 1) (λ e. e.0) (entries m)
       (All-weaker (Contains (entries m)) (λ e. times (chunks_of e.0) paths ≡ 1)
-      (λ e h. stands_once e.0 (ap is_some (get-entries m e.0 ∙ find-from_Contains (entries m) e (entries_sorted m) h))) (entries m) (All-contains_itself (entries m))))
+      (λ e h. is_there_once e.0 (ap is_some (get-entries m e.0 ∙ find-from_Contains (entries m) e (entries_sorted m) h))) (entries m) (All-contains_itself (entries m))))
       ∙ length-map (entries m) (λ e. e.0) ∙ sym (len-entries m)

@@ -23,38 +23,38 @@ module _ {T : Type 0} (m : Entries T) (q : List Bool) where
 
 module _ {K T : Type 0} (IsKey : K → Type 0) (bits : K → List Bool) (width : ℕ) where
   -- the arrays are those that were built, with the values that have come, and wait for the rest
-  pub record Fills (shape : State T) (laid : Store Node) (vacant : Store (Option T)) (v : Store Node) (w : Store (Option T)) (key : K) (ps : List Spot)
+  pub record Fills (shape : State T) (built : Store Node) (vacant : Store (Option T)) (v : Store Node) (w : Store (Option T)) (key : K) (ps : List Spot)
       (rest : List (List Bool × T)) : Type 0 where
-    pub nodes : v ≡ laid
+    pub nodes : v ≡ built
     pub cells : w ≡ record vacant { slots = w.slots }
     pub awaits : Awaits IsKey bits width shape v w key ps rest
 
   -- one value more
-  pub fills_next : (shape : State T) (laid : Store Node) (vacant : Store (Option T)) (v v2 : Store Node) (w w2 : Store (Option T)) (key : K) (ps : List Spot) (key2 : K) (ps2 : List Spot)
-      (e : List Bool × T) (rest : List (List Bool × T)) → Fills shape laid vacant v w key ps (e ∷ rest) → HasCome IsKey bits width v v2 w w2 key ps key2 ps2 e.0 e.1 →
-      Fills shape laid vacant v2 w2 key2 ps2 rest
-  fills_next shape laid vacant v v2 w w2 key ps key2 ps2 e rest h came = record {
+  pub fills_next : (shape : State T) (built : Store Node) (vacant : Store (Option T)) (v v2 : Store Node) (w w2 : Store (Option T)) (key : K) (ps : List Spot) (key2 : K) (ps2 : List Spot)
+      (e : List Bool × T) (rest : List (List Bool × T)) → Fills shape built vacant v w key ps (e ∷ rest) → HasCome IsKey bits width v v2 w w2 key ps key2 ps2 e.0 e.1 →
+      Fills shape built vacant v2 w2 key2 ps2 rest
+  fills_next shape built vacant v v2 w w2 key ps key2 ps2 e rest h came = record {
     nodes = came.nodes ∙ h.nodes;
     cells = came.cells ∙ ap (λ (x : Store (Option T)). record x { slots = w2.slots }) h.cells;
     awaits = came.goes_on shape rest h.awaits;
   }
 
   -- before the first
-  fills_start : (count : ℕ) (v : Store Node) (w : Store (Option T)) (s : State T) → IsTrie width count v w s → (q : List Bool) (laid : Store Node) (vacant : Store (Option T)) →
-      IsSecond q v laid vacant → (key : K) (ps : List Spot) → IsStack width laid.slots (bits key) ps →
-      ((t : Tree T) → IsTrie width t.count laid t.cells t.shape → pending t.shape.entries (bits key) ps ≡ listing_below t.shape.entries q) →
-      Fills (split_off s q) laid vacant laid vacant key ps (listing_below s.entries q)
-  fills_start count v w s trie q laid vacant second key ps stack rest =
-      let whole = second_trie width count v w s trie q laid vacant second in
+  fills_start : (count : ℕ) (v : Store Node) (w : Store (Option T)) (s : State T) → IsTrie width count v w s → (q : List Bool) (built : Store Node) (vacant : Store (Option T)) →
+      IsSecond q v built vacant → (key : K) (ps : List Spot) → IsStack width built.slots (bits key) ps →
+      ((t : Tree T) → IsTrie width t.count built t.cells t.shape → pending t.shape.entries (bits key) ps ≡ listing_below t.shape.entries q) →
+      Fills (split_off s q) built vacant built vacant key ps (listing_below s.entries q)
+  fills_start count v w s trie q built vacant second key ps stack rest =
+      let whole = second_trie width count v w s trie q built vacant second in
       record {
         nodes = refl;
         cells = refl;
         awaits = record {
-          trie = subst (λ es. IsTrie width (len (part_below s.entries q)) laid (filled_with laid.slots es vacant) (split_off s q)) (part_listed s.entries q) whole;
+          trie = subst (λ es. IsTrie width (len (part_below s.entries q)) built (filled_with built.slots es vacant) (split_off s q)) (part_listed s.entries q) whole;
           stack = stack;
           come = rest (record {
             count = len (part_below s.entries q);
-            cells = filled_with laid.slots (entries (part_below s.entries q)) vacant;
+            cells = filled_with built.slots (entries (part_below s.entries q)) vacant;
             shape = split_off s q;
           }) whole ∙ all_below s.entries q;
         };
@@ -69,9 +69,9 @@ module _ {K T : Type 0} (IsKey : K → Type 0) (bits : K → List Bool) (width :
     abbrev Takes : F → List Bool → T → Bool → F → Type 0
     Takes f q x answer g = (answer ≡ false) × HasCome IsKey bits width (nodes f) (nodes g) (cells f) (cells g) (key f) (spots f) (key g) (spots g) q x
 
-    module _ (shape : State T) (laid : Store Node) (vacant : Store (Option T)) where
+    module _ (shape : State T) (built : Store Node) (vacant : Store (Option T)) where
       abbrev FillsFrom : F → List (List Bool × T) → Type 0
-      FillsFrom f rest = Fills shape laid vacant (nodes f) (cells f) (key f) (spots f) rest
+      FillsFrom f rest = Fills shape built vacant (nodes f) (cells f) (key f) (spots f) rest
 
       -- it may be called on each
       may_fill : (f : F) (es : List (List Bool × T)) → FillsFrom f es → CallableOnEachEntry Takes Waits f es
@@ -79,7 +79,7 @@ module _ {K T : Type 0} (IsKey : K → Type 0) (bits : K → List Bool) (width :
       may_fill f (e ∷ es) h = (
         record { shape = shape; later = es; awaits = h.awaits },
         λ b g asked. may_fill g es
-            (fills_next shape laid vacant (nodes f) (nodes g) (cells f) (cells g) (key f) (spots f) (key g) (spots g) e es h asked.1),
+            (fills_next shape built vacant (nodes f) (nodes g) (cells f) (cells g) (key f) (spots f) (key g) (spots g) e es h asked.1),
       )
 
       -- and once it was, no value is missing
@@ -87,7 +87,7 @@ module _ {K T : Type 0} (IsKey : K → Type 0) (bits : K → List Bool) (width :
       all_filled f g [] h same = subst (λ x. FillsFrom x []) (sym same) h
       all_filled f g (e ∷ es) h asked =
           all_filled asked.1 g es
-          (fills_next shape laid vacant (nodes f) (nodes asked.1) (cells f) (cells asked.1) (key f) (spots f) (key asked.1) (spots asked.1) e es h asked.2.1) asked.3
+          (fills_next shape built vacant (nodes f) (nodes asked.1) (cells f) (cells asked.1) (key f) (spots f) (key asked.1) (spots asked.1) e es h asked.2.1) asked.3
 
     -- from the start, where nothing has come and everything that begins with q is to come
     module _ (count : ℕ) (v : Store Node) (w : Store (Option T)) (s : State T) (trie : IsTrie width count v w s) (q : List Bool) (f : F)

@@ -3,13 +3,13 @@
 use Rattle.prefix_trie_table.proofs.Prelude.{◌≡◌, ℕ, zero, suc, ◌+◌, ◌<◌, Bool, true, ◌&&◌, List, [], ◌∷◌, ◌++◌, length, map, flat_map, replicate, sum_by, Option, None, Some, is_some, refl, sym, ap, ap₂, ◌∙◌, arith, eq-eqb, ◌%◌, length-map, nil_from_length, get, entries, keys, Sizes, child_block_sizes, value_block_sizes, child_count, own_entries, packed_block, packed_slots, packed_cell_slots, IsPacked, Nodes, has_node, is_node_depth, State, and-first, Node, rank, bits, blank_node, node_sizes, cell_sizes, HasSizes, chunks_of, read, own_count, child_items, child_blocks, child_blocks_of, value_blocks, value_blocks_of, Holds, NodesHold, IsPackedNode, NoneFree, AreSizesBy, Sized, own_children, child_block_size, value_block_size, IsShapeOf, Store, Tier, UsedBlock, Sound, of_size, free_extents, tier_at, tier_sizes, size_in, size_if_any, free_counts}
 use Rattle.prefix_trie_table.proofs.Blocks.BySize.{free_at, node_sized, cell_sized}
 use Rattle.prefix_trie_table.specs.Forest.{held, size_in}
-use Rattle.prefix_trie_table.proofs.Blocks.Housed.{child_blocks_housed, value_blocks_housed}
+use Rattle.prefix_trie_table.proofs.Blocks.ListBlocks.{child_blocks_housed, value_blocks_housed}
 use Rattle.prefix_trie_table.proofs.Blocks.Sizing.{storage_of}
 use Rattle.prefix_trie_table.proofs.Blocks.SlotSums.{sum_by-mapped}
 use Rattle.prefix_trie_table.proofs.Counts.BlockUsers.{nodes_sum}
 use Rattle.prefix_trie_table.proofs.Counts.EntryCounts.{size_of_extent}
 use Rattle.prefix_trie_table.proofs.Splitting.RootSpace.{slots_told}
-use Rattle.prefix_trie_table.proofs.Removal.Stepped.{size_read, own_is, children_is}
+use Rattle.prefix_trie_table.proofs.Removal.ModelSizes.{size_read, own_is, children_is}
 use Rattle.prefix_trie_table.proofs.Strings.BitLists.{rank-all}
 use Rattle.prefix_trie_table.proofs.Strings.PathStrings.{string_at, string_depth, string_path, paths_steps, paths_once, same_nodes}
 use Rattle.prefix_trie_table.proofs.Strings.PathSums.{sum_same}

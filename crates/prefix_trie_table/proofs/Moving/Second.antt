@@ -3,11 +3,11 @@ use Rattle.prefix_trie_table.proofs.Prelude.{◌≡◌, ℕ, ◌/◌, ◌%◌, �
 use Rattle.std.specs.List.{All, Contains}
 use Rattle.prefix_trie_bits.proofs.Model.Members.{needs}
 use Rattle.prefix_trie_table.proofs.Lookup.Finding.{prefix_some}
-use Rattle.prefix_trie_table.proofs.Moving.Coming.{long_cells}
+use Rattle.prefix_trie_table.proofs.Moving.NextValue.{long_cells}
 use Rattle.prefix_trie_table.proofs.Moving.Counting.{values_all}
 use Rattle.prefix_trie_table.proofs.Moving.Putting.{HasPlace, put_all, filled_same}
-use Rattle.prefix_trie_table.proofs.Moving.Valued.{entry_values, entry_there, none_there}
-use Rattle.prefix_trie_table.proofs.Strings.Keys.{same_above, begins-way}
+use Rattle.prefix_trie_table.proofs.Moving.SecondValues.{entry_values, entry_there, none_there}
+use Rattle.prefix_trie_table.proofs.Strings.Keys.{same_above, begins-search_path}
 use Rattle.prefix_trie_table.proofs.Strings.PathStrings.{string_at, string_depth, string_path, paths_steps}
 use Rattle.prefix_trie_table.proofs.Strings.Placing.{below_node, string_at as string_of}
 use Rattle.prefix_trie_table.proofs.Strings.Plain.{five_times, some_node}
@@ -94,7 +94,7 @@ module _ {T : Type 0} (width count : ℕ) (v : Store Node) (w : Store (Option T)
         | inr why ↦
             and-join (is_node_depth t) (is_some (k.reading (chunks_of t))) (eq-eqb (length t % 5) 0 why.five)
             (prefix_some node_sizes k.reading k.paths v2 k.nodes (chunks_of t) (chunks_of why.key)
-            (some_node (k.reading (chunks_of why.key)) (bit_of why.key) (sym (placed why.key) ∙ why.stored)) (begins-way t why.key why.five ∙ why.begins_it))
+            (some_node (k.reading (chunks_of why.key)) (bit_of why.key) (sym (placed why.key) ∙ why.stored)) (begins-search_path t why.key why.five ∙ why.begins_it))
       ]
 
       from : (x : List ℕ) → chunks_of t ≡ x → is_node_depth t ≡ true → is_some (k.reading (chunks_of t)) ≡ true → has_node (needed (part_below s.entries q)) t ≡ true
@@ -107,7 +107,7 @@ module _ {T : Type 0} (width count : ℕ) (v : Store Node) (w : Store (Option T)
           let five = eqb-true (length t % 5) 0 depth in
           needs (part_below s.entries q) t key.0 five
           (placed key.0 ∙ ap₂ (λ x i. has_value (k.reading x) i) key.1 key.2 ∙ why.is)
-          (sym (begins-way t key.0 five)
+          (sym (begins-search_path t key.0 five)
           ∙ ap₂ is_start (e ∙ sym (take_at (c ∷ p) why.below (length (c ∷ p)) refl)) key.1
           ∙ is_start_take (length (c ∷ p)) ((c ∷ p) ++ why.below))
 

@@ -1,5 +1,5 @@
 -- A table split along a bit string, as contracts see both parts.
-use Rattle.prefix_trie_table.proofs.Prelude.{◌≡◌, ℕ, ◌+◌, ◌-◌, ◌<◌, ◌≤◌, Bool, List, Option, refl, sym, ap, ◌∙◌, subst, arith, len, IndexRange, no_layout, without_below, part_below, IsPacked, SplitsOffInStorage, needed, nodes_without_below, State, Reply, RemoveChildren, Clear, Done, Storage, StepByPath, handing_laws, Node, node_sizes, read, NoneFree, Sized, Shaped, same_shape, IsSecond, Store, free_in, IsTable, IsTrie}
+use Rattle.prefix_trie_table.proofs.Prelude.{◌≡◌, ℕ, ◌+◌, ◌-◌, ◌<◌, ◌≤◌, Bool, List, Option, refl, sym, ap, ◌∙◌, subst, arith, len, IndexRange, no_layout, without_below, part_below, IsPacked, SplitsOffInStorage, needed, nodes_without_below, State, Reply, RemoveChildren, Clear, Done, Storage, StepByPath, split_laws, Node, node_sizes, read, NoneFree, Sized, Shaped, same_shape, IsSecond, Store, free_in, IsTable, IsTrie}
 use Rattle.prefix_trie_table.proofs.Blocks.Sizing.{storage_of}
 use Rattle.prefix_trie_table.proofs.Moving.Packed.{is_packed}
 use Rattle.prefix_trie_table.proofs.Tree.Invariant.{some_table}
@@ -10,7 +10,7 @@ module _ {T : Type 0} where
   -- the two parts have the entries of the whole, each once
   pub parts_counted : (s : State T) (q : List Bool) → len (part_below s.entries q) + len (without_below s.entries q) ≡ len s.entries
   parts_counted s q =
-      ((handing_laws T).splits s q (record { entries = part_below s.entries q; nodes = needed (part_below s.entries q) })
+      ((split_laws T).splits s q (record { entries = part_below s.entries q; nodes = needed (part_below s.entries q) })
       (record { entries = without_below s.entries q; nodes = nodes_without_below s.nodes s.entries q })
       (record { split_off = refl; split_nodes = refl; left = refl; left_nodes = refl })).number
 
@@ -72,13 +72,13 @@ module _ {T : Type 0} where
       }
 
   -- the second table's arrays, once all values have come
-  module _ (width count : ℕ) (q : List Bool) (v laid v2 : Store Node) (vacant w2 : Store (Option T)) (second : IsSecond q v laid vacant) (s : State T)
-      (trie : IsTrie width count v2 w2 s) (nodes : v2 ≡ laid) (cells : w2 ≡ record vacant { slots = w2.slots }) where
+  module _ (width count : ℕ) (q : List Bool) (v built v2 : Store Node) (vacant w2 : Store (Option T)) (second : IsSecond q v built vacant) (s : State T)
+      (trie : IsTrie width count v2 w2 s) (nodes : v2 ≡ built) (cells : w2 ≡ record vacant { slots = w2.slots }) where
     same_node : (p : List ℕ) → trie.table.reading p ≡ second.skeleton.reading p
     same_node p =
         let t = some_table trie.table in
         sym (reads_node t.reading t.values t.paths v2 w2 t.holds p) ∙ ap (λ (x : Store Node). read x.slots p) nodes
-        ∙ reads node_sizes second.skeleton.reading second.skeleton.paths laid second.skeleton.nodes p
+        ∙ reads node_sizes second.skeleton.reading second.skeleton.paths built second.skeleton.nodes p
 
     pub second_packed : (z : Sized v2.slots) → IsPacked s (storage_of v2 w2 z)
     second_packed z =

@@ -98,8 +98,8 @@ module _ {F T : Type 0} (asks : F → List Bool → T → Bool → F → Type 0)
         ]
         go false off = retains.others k (are.apart k off)
 
-    none_stands : (t : List Bool) → begins q t ≡ true → same_string t (home q) ≡ false → has_node after.nodes t ≡ true → ⊥
-    none_stands t goes_on other there = elim (cases_Bool (is_under_some (home q) ts t)) as (λ _. ⊥) [
+    none_is_there : (t : List Bool) → begins q t ≡ true → same_string t (home q) ≡ false → has_node after.nodes t ≡ true → ⊥
+    none_is_there t goes_on other there = elim (cases_Bool (is_under_some (home q) ts t)) as (λ _. ⊥) [
       | inl under ↦
           let n = retains.needed t under there in
           false≢true (sym (ap is_some (none_there n.key (under_at_some (home q) ts t n.key under n.goes_on))) ∙ n.stored)
@@ -115,7 +115,7 @@ module _ {F T : Type 0} (asks : F → List Bool → T → Bool → F → Type 0)
         go false own off which = retains.off t (are.nodes_apart t off)
         go true true goes_on same =
             retains.off t (subst (λ u. is_under_some (home q) ts u ≡ false) (sym (same_string-is t (home q) same)) (not_under_itself (home q) ts))
-        go true false goes_on other = no_or_yes (has_node after.nodes t) (none_stands t goes_on other)
+        go true false goes_on other = no_or_yes (has_node after.nodes t) (none_is_there t goes_on other)
 
     -- the entries below q go, and the nodes below it
     pub emptied : IsEmptied q before after
@@ -168,7 +168,7 @@ module _ (q : List Bool) where
 -- ---- the places that two masks leave
 
 module _ {T : Type 0} (width count : ℕ) (v : Store Node) (w : Store (Option T)) (before : State T) (trie : IsTrie width count v w before) (q rest : List Bool)
-    (is : q ≡ home q ++ rest) (n : Node) (stands : read v.slots (chunks_of (home q)) ≡ Some n) (values children : ℕ) (holds_values : HoldsValues values (begins rest))
+    (is : q ≡ home q ++ rest) (n : Node) (is_there : read v.slots (chunks_of (home q)) ≡ Some n) (values children : ℕ) (holds_values : HoldsValues values (begins rest))
     (holds_children : HoldsChildren children (begins rest)) (ts : List (List Bool))
     (each : (u : List Bool) → Contains ts u ↔ ((length u ≤ 5) × (is_in (bit_and n.value_bitmap values) (bit_and n.child_bitmap children) u ≡ true))) where
   in_masks : (u : List Bool) → length u ≤ 5 → is_in values children u ≡ begins rest u
@@ -204,7 +204,7 @@ module _ {T : Type 0} (width count : ℕ) (v : Store Node) (w : Store (Option T)
         absurd (false≢true (sym off ∙ list_any_at (λ t. is_at (home q) t k) ts m.0 u m.1 (ap (λ t. is_at (home q) t k) m.2 ∙ at)))
     | inr miss ↦
         place_none before.entries (home q) u k
-        (unset width v (record { count = count; cells = w; shape = before }) trie (home q) n (home-depth q) stands u most miss) at
+        (unset width v (record { count = count; cells = w; shape = before }) trie (home q) n (home-depth q) is_there u most miss) at
   ]
 
   entries_among : (k : List Bool) → begins q k ≡ true → is_at_some (home q) ts k ≡ false → get before.entries k ≡ None
@@ -232,7 +232,7 @@ module _ {T : Type 0} (width count : ℕ) (v : Store Node) (w : Store (Option T)
       missing =
           ap (λ x. read v.slots (chunks_of (home q ++ x))) (sym (digits-number u) ∙ ap (λ k. digits k (number u)) five)
           ∙ ap (read v.slots) (step_below (length q / 5) (home q) (number u) (home-length q) small)
-          ∙ read-snoc v.slots (chunks_of (home q)) (number u) ∙ ap (λ o. below v.slots o (number u)) stands
+          ∙ read-snoc v.slots (chunks_of (home q)) (number u) ∙ ap (λ o. below v.slots o (number u)) is_there
           ∙ child-missing v.slots n (number u) (has_bit-is n.child_bitmap (number u) small ∙ sym (is_in-child n.value_bitmap n.child_bitmap u five) ∙ clear)
 
   nodes_among : (t : List Bool) → begins q t ≡ true → same_string t (home q) ≡ false → is_under_some (home q) ts t ≡ false → has_node before.nodes t ≡ true → ⊥
@@ -288,9 +288,9 @@ module _ {T : Type 0} where
       away = trie.shaped.0 (home q) ∙ ap (λ o. is_node_depth (home q) && is_some o) missing ∙ and-false (is_node_depth (home q))
 
   -- and a node that is there is one of the set
-  pub home_stands : (width count : ℕ) (v : Store Node) (w : Store (Option T)) (s : State T) (q : List Bool) (n : Node) → IsTrie width count v w s → read v.slots (chunks_of (home q)) ≡ Some n →
+  pub home_is_there : (width count : ℕ) (v : Store Node) (w : Store (Option T)) (s : State T) (q : List Bool) (n : Node) → IsTrie width count v w s → read v.slots (chunks_of (home q)) ≡ Some n →
       has_node s.nodes (home q) ≡ true
-  home_stands width count v w s q n trie stands = trie.shaped.0 (home q) ∙ ap₂ (λ d o. d && is_some o) (ap (λ k. k == 0) (home-depth q)) stands
+  home_is_there width count v w s q n trie is_there = trie.shaped.0 (home q) ∙ ap₂ (λ d o. d && is_some o) (ap (λ k. k == 0) (home-depth q)) is_there
 
   -- once all below q is gone, q itself is not stored
   pub own_gone : (m : Entries T) (q : List Bool) → get (without_below m q) q ≡ None

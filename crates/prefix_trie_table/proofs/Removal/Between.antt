@@ -6,7 +6,7 @@ use Rattle.prefix_trie_table.proofs.Blocks.Turnovers.{made_then}
 use Rattle.prefix_trie_table.proofs.Strings.Plain.{some_same}
 use Rattle.prefix_trie_table.proofs.Tree.Children.{same_or, with_here, with_other, changed_below, changed_here, changed_other}
 use Rattle.prefix_trie_table.proofs.Removal.ShrinkingLists.{steps_between, shrinks_between, values_none, children_none, same_children}
-use Rattle.prefix_trie_table.proofs.Removal.Stepping.{same_values, drops_values, pruned_children}
+use Rattle.prefix_trie_table.proofs.Removal.BlockSizes.{same_values, drops_values, pruned_children}
 
 -- ---- by numbers
 

@@ -117,8 +117,8 @@ pub values_taken : {T : Type 0} (v v2 : Store Node) (w u : Store (Option T)) (sl
     → (reading : List ℕ → Option Node) (paths : List (List ℕ)) (values : List ℕ → ℕ → Option T) (p : List ℕ) (n : Node) →
     NodesHold node_sizes reading paths v → CellsHold cell_sizes reading values paths w → IsSlot reading p slot → reading p ≡ Some n
     → ValueTaken reading paths values p b n (with_values k bitmap start tier) v2 w u
-values_taken {T} v v2 w u slot b tier start bitmap k read sets lost small there v2_is reading paths values p n hold cells stands is =
-    let at = slot_holds node_sizes reading paths v hold p slot n stands is in
+values_taken {T} v v2 w u slot b tier start bitmap k read sets lost small there v2_is reading paths values p n hold cells is_there is =
+    let at = slot_holds node_sizes reading paths v hold p slot n is_there is in
     let same : k ≡ n = read ∙ at.0 in
     let here : reading p ≡ Some k = is ∙ ap Some (sym same) in
     let size : (tier_at w.tiers tier).size ≡ size_in cell_sizes tier = size_at w.tiers tier ∙ ap (λ ns. size_in ns tier) cells.sizes_are in
@@ -129,7 +129,7 @@ values_taken {T} v v2 w u slot b tier start bitmap k read sets lost small there 
     (values_first cell_sizes node_sizes reading paths v hold values w cells p k here) (rank-all (values p) k.value_bitmap) in
     record {
       hold = subst (λ y. NodesHold node_sizes (with_node reading p (with_values k bitmap start tier)) paths y) (sym v2_is)
-          (node_changed node_sizes reading paths v hold p slot k (with_values k bitmap start tier) stands here refl refl refl);
+          (node_changed node_sizes reading paths v hold p slot k (with_values k bitmap start tier) is_there here refl refl refl);
       cells = value_removed cell_sizes node_sizes reading paths v hold values w cells p k (with_values k bitmap start tier) b None here
           (others_stay bitmap k.value_bitmap b sets digit) (cleared bitmap k.value_bitmap b sets digit) small u digit there refl (lost.keeps.sizes ∙ cells.sizes_are)
           (subst (λ size. Sound None (held tier start size (remove (map (values p) (bits k.value_bitmap)) (rank k.value_bitmap b)) ++ live) u) size left);
@@ -149,8 +149,8 @@ pub children_dropped : (v u v2 : Store Node) (slot c tier start bitmap : ℕ) (k
     NodesHold node_sizes reading paths v → IsSlot reading p slot → reading p ≡ Some n → reading (p ++ c ∷ []) ≡ Some leaf →
     rank leaf.child_bitmap 32 ≡ 0
     → ChildDropped reading paths p c n (with_children k bitmap start tier) v v2
-children_dropped v u v2 slot c tier start bitmap k read sets lost digit v2_is reading paths p n leaf hold stands is below bare =
-    let at = slot_holds node_sizes reading paths v hold p slot n stands is in
+children_dropped v u v2 slot c tier start bitmap k read sets lost digit v2_is reading paths p n leaf hold is_there is below bare =
+    let at = slot_holds node_sizes reading paths v hold p slot n is_there is in
     let same : k ≡ n = read ∙ at.0 in
     let here : reading p ≡ Some k = is ∙ ap Some (sym same) in
     let size : (tier_at v.tiers tier).size ≡ size_in node_sizes tier = size_at v.tiers tier ∙ ap (λ ns. size_in ns tier) hold.sizes_are in
@@ -160,7 +160,7 @@ children_dropped v u v2 slot c tier start bitmap k read sets lost digit v2_is re
     let fewer_here : rank bitmap 32 + 1 ≡ rank k.child_bitmap 32 = one_fewer bitmap k.child_bitmap c sets digit in
     let long : length v2.slots ≡ length u.slots = ap (λ (y : Store Node). length y.slots) v2_is ∙ length-set u.slots slot (with_children k bitmap start tier) in
     let later = subst (λ y. NodesHold node_sizes (with_child_removed reading p (with_children k bitmap start tier) c) (without (p ++ c ∷ []) paths) y) (sym v2_is)
-    (child_removed node_sizes reading paths v hold p slot k (with_children k bitmap start tier) leaf c u stands here digit below (λ i. no_bit leaf.child_bitmap i bare)
+    (child_removed node_sizes reading paths v hold p slot k (with_children k bitmap start tier) leaf c u is_there here digit below (λ i. no_bit leaf.child_bitmap i bare)
     (cleared bitmap k.child_bitmap c sets digit) (others_stay bitmap k.child_bitmap c sets digit)
     (lost.keeps.first_is ∙ hold.first_is) (lost.keeps.sizes ∙ hold.sizes_are) (lost.keeps.before 0 blank_node (let f = hold.first_is in omega arith))
     (subst (λ size. Sound blank_node (held tier start size (remove (child_items reading p k.child_bitmap) (rank k.child_bitmap c)) ++ live) u) size left)) in

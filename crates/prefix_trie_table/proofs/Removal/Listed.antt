@@ -16,7 +16,7 @@ both_tests false true h = absurd (false≢true (h refl))
 both_tests false false h = refl
 
 module _ {T : Type 0} (width count : ℕ) (v : Store Node) (w : Store (Option T)) (before : State T) (trie : IsTrie width count v w before) (q rest : List Bool)
-    (is : q ≡ home q ++ rest) (n : Node) (stands : read v.slots (chunks_of (home q)) ≡ Some n) (values children : ℕ) (holds_values : HoldsValues values (begins rest))
+    (is : q ≡ home q ++ rest) (n : Node) (is_there : read v.slots (chunks_of (home q)) ≡ Some n) (values children : ℕ) (holds_values : HoldsValues values (begins rest))
     (holds_children : HoldsChildren children (begins rest)) (ts : List (List Bool))
     (each : (u : List Bool) → Contains ts u ↔ ((length u ≤ 5) × (is_in (bit_and n.value_bitmap values) (bit_and n.child_bitmap children) u ≡ true)))
     (all : ts ≡ places (bit_and n.value_bitmap values) (bit_and n.child_bitmap children)) where
@@ -30,8 +30,8 @@ module _ {T : Type 0} (width count : ℕ) (v : Store Node) (w : Store (Option T)
   listed_below =
       ap (listing_at_places before.entries (home q)) all
       ∙ at_some_places before.entries (home q) (begins rest) (is_in (bit_and n.value_bitmap values) (bit_and n.child_bitmap children)) (is_in n.value_bitmap n.child_bitmap)
-      (in_both width count v w before trie q rest is n stands values children holds_values holds_children ts each)
-      (unset width v (record { count = count; cells = w; shape = before }) trie (home q) n (home-depth q) stands)
+      (in_both width count v w before trie q rest is n is_there values children holds_values holds_children ts each)
+      (unset width v (record { count = count; cells = w; shape = before }) trie (home q) n (home-depth q) is_there)
       ∙ sym (wanted_ended Below before.entries (home q) rest short)
       ∙ ap (λ p. filter (λ e. begins (home q) e.0 && begins p e.0) (listing before.entries)) (sym is)
       ∙ filter_alike (λ e. begins (home q) e.0 && begins q e.0) (λ e. begins q e.0) (λ e. both_tests (begins (home q) e.0) (begins q e.0) (home_goes_on q e.0)) (listing before.entries)

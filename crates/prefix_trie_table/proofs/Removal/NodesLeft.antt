@@ -1,5 +1,5 @@
 -- What contracts see of a removal that prunes: the nodes left are those of the model.
-use Rattle.prefix_trie_table.proofs.Prelude.{◌≡◌, ℕ, ◌+◌, ◌*◌, ◌/◌, ◌%◌, ◌≤◌, ◌⊎◌, inl, inr, Bool, true, false, cond, not, ◌&&◌, ◌||◌, List, [], ◌∷◌, ◌++◌, length, take, Option, None, Some, is_some, refl, sym, ap, ap₂, ◌∙◌, subst, arith, eqb-true, eq-eqb, length-append, false≢true, cases_Bool, cases_lt, true_from_ne_false, false_from_ne_true, nil_from_length, take_at, take-take, contains_key, retain_keys, begins-trans, begins, digits, length-digits, IsTakenOut, PruningLaws, without_entry, has_node, is_node_depth, home, is_pruned, nodes_without, State, value_bit, home-begins, home-depth, home-longest, and-first, and-second, and-join, pruning_laws, Node, has_bit, node_sizes, chunks_of, bit_of, Store, is_start, same_path, one_if, entry_count, SomeTable, Holds, has_child, has_value, with_value, EntryTaken, Pruned, EntryRemoved, IsShapeOf, Shaped, IsTable, ForHeld}
+use Rattle.prefix_trie_table.proofs.Prelude.{◌≡◌, ℕ, ◌+◌, ◌*◌, ◌/◌, ◌%◌, ◌≤◌, ◌⊎◌, inl, inr, Bool, true, false, cond, not, ◌&&◌, ◌||◌, List, [], ◌∷◌, ◌++◌, length, take, Option, None, Some, is_some, refl, sym, ap, ap₂, ◌∙◌, subst, arith, eqb-true, eq-eqb, length-append, false≢true, cases_Bool, cases_lt, true_from_ne_false, false_from_ne_true, nil_from_length, take_at, take-take, contains_key, retain_keys, begins-trans, begins, digits, length-digits, IsPrunedNode, PruningLaws, without_entry, has_node, is_node_depth, home, is_pruned, nodes_without, State, value_bit, home-begins, home-depth, home-longest, and-first, and-second, and-join, pruning_laws, Node, has_bit, node_sizes, chunks_of, bit_of, Store, is_start, same_path, one_if, entry_count, SomeTable, Holds, has_child, has_value, with_value, EntryTaken, Pruned, EntryRemoved, IsShapeOf, Shaped, IsTable, ForHeld}
 use Rattle.std.proofs.lemmas.List.{take_all, length-take-le}
 use Rattle.prefix_trie_table.proofs.Strings.Plain.{fifths}
 use Rattle.prefix_trie_table.proofs.Tree.Invariant.{some_table}
@@ -8,7 +8,7 @@ use Rattle.prefix_trie_table.proofs.Strings.Bits.{has_bit-below}
 use Rattle.prefix_trie_table.proofs.Strings.Digits.{path-length, path-take}
 use Rattle.prefix_trie_table.proofs.Removal.OneEntry.{TakenOut, left_without, entries_without, shape_taken}
 use Rattle.prefix_trie_table.proofs.Lookup.Finding.{prefix_some}
-use Rattle.prefix_trie_table.proofs.Strings.Keys.{begins-way}
+use Rattle.prefix_trie_table.proofs.Strings.Keys.{begins-search_path}
 use Rattle.prefix_trie_table.proofs.Strings.Placing.{below_node, step_below, string_at}
 use Rattle.prefix_trie_table.proofs.Removal.Pruning.{drops_cells, drops_count}
 use Rattle.prefix_trie_table.proofs.Tree.Shapes.{shape_of, shape_nodes}
@@ -92,14 +92,14 @@ module _ {T : Type 0} (q : List Bool) (reading : List ℕ → Option Node) (valu
 
     -- q's own string begins with a string on the path
     begins_home : (u : List Bool) → length u % 5 ≡ 0 → is_start (chunks_of u) (chunks_of q) ≡ true → begins u (home q) ≡ true
-    begins_home u five on = home-longest u q (sym (begins-way u q five) ∙ on) five
+    begins_home u five on = home-longest u q (sym (begins-search_path u q five) ∙ on) five
 
     on_path_of : (u : List Bool) → length u % 5 ≡ 0 → begins u (home q) ≡ true → is_start (chunks_of u) (chunks_of q) ≡ true
-    on_path_of u five h = begins-way u q five ∙ begins-trans u (home q) q h (home-begins q)
+    on_path_of u five h = begins-search_path u q five ∙ begins-trans u (home q) q h (home-begins q)
 
     -- a node that is not left was removed as the model states
     pub gone_out : (u : List Bool) → has_node s.nodes u ≡ true → is_some (p.to.later (chunks_of u)) ≡ false →
-        IsTakenOut s.nodes (without_entry s.entries q) q u
+        IsPrunedNode s.nodes (without_entry s.entries q) q u
     gone_out u h gone =
         let five = five_of u h in
         record {
@@ -112,10 +112,10 @@ module _ {T : Type 0} (q : List Bool) (reading : List ℕ → Option Node) (valu
           no_key = λ k has. false_from_ne_true (begins u k) (λ hit.
               let value : is_some (with_value values (chunks_of q) (bit_of q) None (chunks_of k) (bit_of k)) ≡ true = ap is_some (sym (entries_without reading values paths v w holds q s is k)) ∙ has in
               let node : is_some (p.to.later (chunks_of k)) ≡ true = needs (p.to.later (chunks_of k)) (bit_of k) (sym (pruned_holds.cells.set_where (chunks_of k) (bit_of k)) ∙ value) in
-              clash _ gone (above_left (chunks_of u) (chunks_of k) node (begins-way u k five ∙ hit)));
+              clash _ gone (above_left (chunks_of u) (chunks_of k) node (begins-search_path u k five ∙ hit)));
           alone = λ x there_x below. elim (cases_Bool (is_start (chunks_of x) (chunks_of q))) as (λ _. begins x (home q) ≡ true) [
             | inl on ↦ begins_home x (five_of x there_x) on
-            | inr off ↦ absurd (clash _ gone (above_left (chunks_of u) (chunks_of x) (off_path (chunks_of x) off ∙ stood x there_x) (begins-way u x five ∙ below)))
+            | inr off ↦ absurd (clash _ gone (above_left (chunks_of u) (chunks_of x) (off_path (chunks_of x) off ∙ stood x there_x) (begins-search_path u x five ∙ below)))
           ];
         }
 
@@ -142,7 +142,7 @@ module _ {T : Type 0} (q : List Bool) (reading : List ℕ → Option Node) (valu
         let stored : contains_key (without_entry s.entries q) (take (5 * p.level) q ++ r.0) ≡ true = ap is_some (entries_without reading values paths v w holds q s is (take (5 * p.level) q ++ r.0))
         ∙ ap₂ (λ x i. is_some (with_value values (chunks_of q) (bit_of q) None x i)) key_path key_bit ∙ value in
         clash (begins u (take (5 * p.level) q ++ r.0)) (none (take (5 * p.level) q ++ r.0) stored)
-        (sym (begins-way u (take (5 * p.level) q ++ r.0) five) ∙ ap (is_start (chunks_of u)) key_path ∙ start)
+        (sym (begins-search_path u (take (5 * p.level) q ++ r.0) five) ∙ ap (is_start (chunks_of u)) key_path ∙ start)
 
     -- a child of that node is a node off the path, which begins with each string on the path above
     child_left : (u : List Bool) (c : ℕ) → length u % 5 ≡ 0 → is_start (chunks_of u) (take p.level (chunks_of q) ++ c ∷ []) ≡ true → has_bit p.node.child_bitmap c ≡ true →
@@ -157,7 +157,7 @@ module _ {T : Type 0} (q : List Bool) (reading : List ℕ → Option Node) (valu
         ∙ and-join (is_node_depth (take (5 * p.level) q ++ digits 5 c)) (is_some (reading (chunks_of (take (5 * p.level) q ++ digits 5 c))))
         (eq-eqb (length (take (5 * p.level) q ++ digits 5 c) % 5) 0 five_child)
         (ap (λ x. is_some (reading x)) child_path ∙ only_old (take p.level (chunks_of q) ++ c ∷ []) some) in
-        let begun : begins u (take (5 * p.level) q ++ digits 5 c) ≡ true = sym (begins-way u (take (5 * p.level) q ++ digits 5 c) five) ∙ ap (is_start (chunks_of u)) child_path ∙ start in
+        let begun : begins u (take (5 * p.level) q ++ digits 5 c) ≡ true = sym (begins-search_path u (take (5 * p.level) q ++ digits 5 c) five) ∙ ap (is_start (chunks_of u)) child_path ∙ start in
         let on : is_start (take p.level (chunks_of q) ++ c ∷ []) (chunks_of q) ≡ true = ap (λ x. is_start x (chunks_of q)) (sym child_path) ∙ on_path_of (take (5 * p.level) q ++ digits 5 c) five_child (alone (take (5 * p.level) q ++ digits 5 c) node begun) in
         let at = start_is (take p.level (chunks_of q) ++ c ∷ []) (chunks_of q) on in
         let deep : length (take p.level (chunks_of q) ++ c ∷ []) ≡ p.level + 1 = length-append (take p.level (chunks_of q)) (c ∷ []) ∙ ap (λ n. n + 1) (length-take-le p.level (chunks_of q) p.to.within) in
@@ -165,7 +165,7 @@ module _ {T : Type 0} (q : List Bool) (reading : List ℕ → Option Node) (valu
         clash (is_some (p.to.later (take p.level (chunks_of q) ++ c ∷ []))) (ap is_some none) some
 
     -- what the model removes is gone
-    out_gone : (u : List Bool) → has_node s.nodes u ≡ true → IsTakenOut s.nodes (without_entry s.entries q) q u → is_some (p.to.later (chunks_of u)) ≡ true → ⊥
+    out_gone : (u : List Bool) → has_node s.nodes u ≡ true → IsPrunedNode s.nodes (without_entry s.entries q) q u → is_some (p.to.later (chunks_of u)) ≡ true → ⊥
     out_gone u h out left =
         let five = five_of u h in
         let on : is_start (chunks_of u) (chunks_of q) ≡ true = on_path_of u five out.on_path in
@@ -190,10 +190,10 @@ module _ {T : Type 0} (q : List Bool) (reading : List ℕ → Option Node) (valu
     nodes_are : (u : List Bool) → has_node (nodes_without s.nodes s.entries q) u ≡ (is_node_depth u && is_some (p.to.later (chunks_of u)))
     nodes_are u = elim (cases_Bool (has_node s.nodes u)) as
         (λ _. has_node (nodes_without s.nodes s.entries q) u ≡ (is_node_depth u && is_some (p.to.later (chunks_of u)))) [
-          | inl stands ↦ with_depth u stands (cases_Bool (is_some (p.to.later (chunks_of u))))
-          | inr lacks ↦
-              false_from_ne_true _ (λ h. clash (has_node s.nodes u) lacks (laws.none_added s.nodes (without_entry s.entries q) q u h))
-              ∙ sym (false_from_ne_true _ (λ h. clash (has_node s.nodes u) lacks
+          | inl is_there ↦ with_depth u is_there (cases_Bool (is_some (p.to.later (chunks_of u))))
+          | inr some_missing ↦
+              false_from_ne_true _ (λ h. clash (has_node s.nodes u) some_missing (laws.none_added s.nodes (without_entry s.entries q) q u h))
+              ∙ sym (false_from_ne_true _ (λ h. clash (has_node s.nodes u) some_missing
               (shape_nodes reading values paths v w holds s is u
               ∙ and-join (is_node_depth u) (is_some (reading (chunks_of u))) (and-first (is_node_depth u) (is_some (p.to.later (chunks_of u))) h)
               (only_old (chunks_of u) (and-second (is_node_depth u) (is_some (p.to.later (chunks_of u))) h)))))
@@ -204,13 +204,13 @@ module _ {T : Type 0} (q : List Bool) (reading : List ℕ → Option Node) (valu
 
         with_depth : (u : List Bool) → has_node s.nodes u ≡ true → (is_some (p.to.later (chunks_of u)) ≡ true) ⊎ (is_some (p.to.later (chunks_of u)) ≡ false) →
             has_node (nodes_without s.nodes s.entries q) u ≡ (is_node_depth u && is_some (p.to.later (chunks_of u)))
-        with_depth u stands (inl left) =
+        with_depth u is_there (inl left) =
             true_from_ne_false (has_node (nodes_without s.nodes s.entries q) u)
-            (λ out. out_gone u stands ((laws.in_words s.nodes (without_entry s.entries q) q u stands).0 out) left)
-            ∙ sym (and-join (is_node_depth u) (is_some (p.to.later (chunks_of u))) (depth_of u stands) left)
-        with_depth u stands (inr gone) =
-            (laws.in_words s.nodes (without_entry s.entries q) q u stands).1 (gone_out u stands gone)
-            ∙ sym (ap₂ (λ a b. a && b) (depth_of u stands) gone)
+            (λ out. out_gone u is_there ((laws.in_words s.nodes (without_entry s.entries q) q u is_there).0 out) left)
+            ∙ sym (and-join (is_node_depth u) (is_some (p.to.later (chunks_of u))) (depth_of u is_there) left)
+        with_depth u is_there (inr gone) =
+            (laws.in_words s.nodes (without_entry s.entries q) q u is_there).1 (gone_out u is_there gone)
+            ∙ sym (ap₂ (λ a b. a && b) (depth_of u is_there) gone)
 
     -- the shape that is left
     pub shape_pruned : IsShapeOf v2.slots w2.slots (record { entries = without_entry s.entries q; nodes = nodes_without s.nodes s.entries q })

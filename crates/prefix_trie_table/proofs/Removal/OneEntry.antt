@@ -1,5 +1,5 @@
 -- An entry removed, and what contracts see of it.
-use Rattle.prefix_trie_table.proofs.Prelude.{◌≡◌, ◌≢◌, ℕ, ◌+◌, ◌-◌, ◌*◌, ◌<◌, ◌⊎◌, inl, inr, Bool, true, false, cond, ◌&&◌, List, [], ◌∷◌, ◌++◌, length, take, drop, Option, None, Some, is_some, refl, sym, ap, ap₂, ◌∙◌, subst, arith, false≢true, get, len, len-remove, listing_total, without_entry, is_node_depth, State, get-without_entry, value_bit, Node, Reached, has_bit, rank, cell_sizes, chunks_of, bit_of, Store, one_if, Holds, IsSlot, at_root, at_child, child_slot, node_or_blank, own_count, has_value, with_node, with_value, SomeTable, entry_count, ShrinksList, ValueTaken, EntryTaken, AreAbove, StandsAtEnd, slot_in, MakesEntered, IsShapeOf, IsLast, Shaped, same_shape, slot_at, IsTable, Grows, ForHeld, own_children, child_block_size}
+use Rattle.prefix_trie_table.proofs.Prelude.{◌≡◌, ◌≢◌, ℕ, ◌+◌, ◌-◌, ◌*◌, ◌<◌, ◌⊎◌, inl, inr, Bool, true, false, cond, ◌&&◌, List, [], ◌∷◌, ◌++◌, length, take, drop, Option, None, Some, is_some, refl, sym, ap, ap₂, ◌∙◌, subst, arith, false≢true, get, len, len-remove, listing_total, without_entry, is_node_depth, State, get-without_entry, value_bit, Node, Reached, has_bit, rank, cell_sizes, chunks_of, bit_of, Store, one_if, Holds, IsSlot, at_root, at_child, child_slot, node_or_blank, own_count, has_value, with_node, with_value, SomeTable, entry_count, ShrinksList, ValueTaken, EntryTaken, AreAbove, IsAtEnd, slot_in, MakesEntered, IsShapeOf, IsLast, Shaped, same_shape, slot_at, IsTable, Grows, ForHeld, own_children, child_block_size}
 use Rattle.prefix_trie_table.specs.OwnBlocks.{value_block_size}
 use Rattle.prefix_trie_table.proofs.Removal.ShrinkingLists.{shrinks_none, values_none, same_children}
 use Rattle.prefix_trie_table.proofs.Tree.Invariant.{some_table}
@@ -36,7 +36,7 @@ module _ {T : Type 0} (reading : List ℕ → Option Node) (values : List ℕ �
     holds = subst (λ f. Holds reading f paths v w) (λ i q j. unchanged q j (same_or (q ++ j ∷ []) (path ++ b ∷ [])) i) holds;
     same = λ q. refl;
     others = λ q ne. refl;
-    stands = λ q slot at. at;
+    is_there = λ q slot at. at;
     counted = (let z : one_if (is_some (values path b)) ≡ 0 = ap (λ o. one_if (is_some o)) none in omega arith);
     kept = λ none. refl;
     children = (refl, refl);
@@ -75,7 +75,7 @@ module _ {T : Type 0} (reading : List ℕ → Option Node) (values : List ℕ �
       holds = record { hold = a.hold; cells = a.cells };
       same = λ q. stays q (same_or q path);
       others = λ q ne. with_other reading path m q ne;
-      stands = λ q slot at. slots_same reading path n m q slot at is a.children.bitmap a.children.block;
+      is_there = λ q slot at. slots_same reading path n m q slot at is a.children.bitmap a.children.block;
       counted =
           (let c = count_with_node reading path m paths (holds.hold.listed path ∙ ap (λ o. one_if (is_some o)) is) in
           let o : own_count (reading path) ≡ own_count (Some n) = ap own_count is in
@@ -183,7 +183,7 @@ module _ {T : Type 0} (q rest : List Bool) (here : Reached) (v : Store Node) (at
   -- that is at the end of the search path then
   module _ (last : here.level ≡ length (chunks_of q)) (ancestors items : List ℕ) (same : ancestors ≡ items) (above : AreAbove q here.level items v)
       (reading : List ℕ → Option Node) (paths : List (List ℕ)) (values : List ℕ → ℕ → Option T) (holds : Holds reading values paths v w) where
-    abbrev pub own_end : StandsAtEnd (chunks_of q) ancestors m v2
+    abbrev pub own_end : IsAtEnd (chunks_of q) ancestors m v2
     own_end = record {
       reading = (own_taken reading paths values holds).1.0.later;
       paths = paths;
@@ -191,6 +191,6 @@ module _ {T : Type 0} (q rest : List Bool) (here : Reached) (v : Store Node) (at
       long = ap (λ (xs : List ℕ). length xs) same ∙ above.long ∙ last;
       slots = λ k low.
           subst (λ xs. IsSlot (own_taken reading paths values holds).1.0.later (take k (chunks_of q)) (slot_in xs k)) (sym same)
-          ((own_taken reading paths values holds).1.0.stands _ _ (above.slots reading paths holds.hold k (omega (arith, low, last))));
+          ((own_taken reading paths values holds).1.0.is_there _ _ (above.slots reading paths holds.hold k (omega (arith, low, last))));
       is = (own_taken reading paths values holds).1.1;
     }

@@ -1,14 +1,14 @@
 -- What is left of a table after everything under a bit string is removed.
-use Rattle.prefix_trie_table.proofs.Prelude.{◌≡◌, ◌↔◌, ℕ, ◌*◌, ◌<◌, ◌≤◌, Bool, true, false, not, ◌||◌, List, [], ◌∷◌, ◌++◌, cond, length, take, drop, Option, None, Some, is_some, refl, sym, ap, ◌∙◌, subst, arith, inl, inr, bit_and, take-take, get, get-empty, begins, same_string, HoldsValues, HoldsChildren, is_in, places, PruningLaws, CallableOnEachEntry, Entries, AreWithin, no_entries, without_entry, without_below, Nodes, AreNodes, has_node, home, pruned, root_alone, nodes_not_below, nodes_without, nodes_without_below, listing_at_places, listing_below, State, and-first, and-second, get-without_below, has-retained, has-root_alone, same_entries, same_nodes, same_string-is, begins-nil, pruning_laws, removed_fewer, Node, Reached, node_sizes, chunks_of, bit_of, Store, read, slot_at, Holds, NodesHold, IsOwn, IsSlot, EntryTaken, EntryRemoved, Pruned, AreAbove, AreAncestors, StandsAtEnd, slot_in, BoundsNodeGrowth, Contents, state, Shaped, ForHeld, Grows, IsTable, IsTrie, BlocksBetween, IsSite, PreservesBelow, Retains, RetainsTo}
+use Rattle.prefix_trie_table.proofs.Prelude.{◌≡◌, ◌↔◌, ℕ, ◌*◌, ◌<◌, ◌≤◌, Bool, true, false, not, ◌||◌, List, [], ◌∷◌, ◌++◌, cond, length, take, drop, Option, None, Some, is_some, refl, sym, ap, ◌∙◌, subst, arith, inl, inr, bit_and, take-take, get, get-empty, begins, same_string, HoldsValues, HoldsChildren, is_in, places, PruningLaws, CallableOnEachEntry, Entries, AreWithin, no_entries, without_entry, without_below, Nodes, AreNodes, has_node, home, pruned, root_alone, nodes_not_below, nodes_without, nodes_without_below, listing_at_places, listing_below, State, and-first, and-second, get-without_below, has-retained, has-root_alone, same_entries, same_nodes, same_string-is, begins-nil, pruning_laws, removed_fewer, Node, Reached, node_sizes, chunks_of, bit_of, Store, read, slot_at, Holds, NodesHold, IsOwn, IsSlot, EntryTaken, EntryRemoved, Pruned, AreAbove, AreAncestors, IsAtEnd, slot_in, BoundsNodeGrowth, Contents, state, Shaped, ForHeld, Grows, IsTable, IsTrie, BlocksBetween, IsSite, PreservesBelow, Retains, RetainsTo}
 use Rattle.std.proofs.lemmas.List.{take-append-drop, length-take-le}
 use Rattle.std.specs.List.{Contains}
-use Rattle.prefix_trie_table.specs.Retaining.{SaysNo}
+use Rattle.prefix_trie_table.specs.Retaining.{ReturnsFalse}
 use Rattle.prefix_trie_table.proofs.Tree.Invariant.{some_table}
 use Rattle.prefix_trie_table.proofs.Removal.Between.{blocks_then, pruned_between, stays_grown, stays_then}
 use Rattle.prefix_trie_table.proofs.Tree.Children.{same_or}
 use Rattle.prefix_trie_table.proofs.Strings.Digits.{path-length}
 use Rattle.prefix_trie_table.proofs.Removal.OneEntry.{nothing_taken}
-use Rattle.prefix_trie_table.proofs.Removal.AllBelow.{covers_below, emptied, no_node_there, home_stands, own_gone, removed_alike, pruned_alike}
+use Rattle.prefix_trie_table.proofs.Removal.AllBelow.{covers_below, emptied, no_node_there, home_is_there, own_gone, removed_alike, pruned_alike}
 use Rattle.prefix_trie_table.proofs.Removal.Listed.{listed_below, none_listed}
 use Rattle.prefix_trie_table.proofs.Lookup.SearchPaths.{own_node, own_slot}
 use Rattle.prefix_trie_table.proofs.Removal.NodesLeft.{home_path, removed_without}
@@ -37,8 +37,8 @@ module _ {K T : Type 0} (IsKey : K → Type 0) (bits : K → List Bool) (width :
       let t = some_table trie.table in
       read_held t.reading t.values t.paths v w t.holds
 
-  stands : read v.slots (chunks_of q) ≡ Some here.node
-  stands = own_node q here v own (read v.slots) trie.table.paths read_table.hold
+  is_there : read v.slots (chunks_of q) ≡ Some here.node
+  is_there = own_node q here v own (read v.slots) trie.table.paths read_table.hold
 
   pub own_site : IsSite IsKey bits width v (record { slot = here.at; key = key; depth = 5 * here.level }) here.node
   own_site = record {
@@ -46,7 +46,7 @@ module _ {K T : Type 0} (IsKey : K → Type 0) (bits : K → List Bool) (width :
     level = here.level;
     depth_is = refl;
     within = (let whole = own.along.whole in omega (arith, whole, short));
-    stands = ap (read v.slots) home_steps ∙ stands;
+    is_there = ap (read v.slots) home_steps ∙ is_there;
     slot_is = subst (λ p. IsSlot (read v.slots) p (slot_at here)) (sym home_steps) (own_slot q here v own (read v.slots) trie.table.paths read_table.hold);
   }
 
@@ -57,7 +57,7 @@ module _ {K T : Type 0} (IsKey : K → Type 0) (bits : K → List Bool) (width :
     home_rest = sym ((λ i. take (5 * (sym (own.last ∙ path-length q) i)) q ++ left i) ∙ take-append-drop (5 * here.level) q)
 
     home_read : read v.slots (chunks_of (home q)) ≡ Some here.node
-    home_read = ap (read v.slots) (home_path q) ∙ stands
+    home_read = ap (read v.slots) (home_path q) ∙ is_there
 
     -- they list what is there
     pub part_listed : ts ≡ places (bit_and here.node.value_bitmap values) (bit_and here.node.child_bitmap children) →
@@ -67,7 +67,7 @@ module _ {K T : Type 0} (IsKey : K → Type 0) (bits : K → List Bool) (width :
         ∙ listed_below width count v w s trie q rest home_rest here.node home_read values children holds_values holds_children ts each all
 
     -- and nothing else goes when they are emptied
-    pub part_emptied : {F : Type 0} (asks : F → List Bool → T → Bool → F → Type 0) → SaysNo asks → (accepts : F → List Bool → T → Type 0) (f g : F) (count2 : ℕ) (v2 : Store Node) (w2 : Store (Option T)) →
+    pub part_emptied : {F : Type 0} (asks : F → List Bool → T → Bool → F → Type 0) → ReturnsFalse asks → (accepts : F → List Bool → T → Type 0) (f g : F) (count2 : ℕ) (v2 : Store Node) (w2 : Store (Option T)) →
         RetainsTo asks accepts width (take (5 * here.level) (bits key)) ts f s g count2 v2 w2 →
         IsTrie width count2 v2 w2 (record { entries = without_below s.entries q; nodes = nodes_not_below s.nodes q })
     part_emptied asks says_no accepts f g count2 v2 w2 to =
@@ -140,7 +140,7 @@ module _ {T : Type 0} (width : ℕ) (q : List Bool) (v v2 : Store Node) (w w2 : 
       (λ p less. let m = length-take-le k (chunks_of q) (omega (arith, low)) in preserves.above p (omega (arith, m, less, high)))
       (above.slots (read v.slots) t.paths (read_held t.reading t.values t.paths v w t.holds).hold k high))
 
-  abbrev pub end_left : (paths : List (List ℕ)) → NodesHold node_sizes (read v2.slots) paths v2 → StandsAtEnd (chunks_of q) ancestors n v2
+  abbrev pub end_left : (paths : List (List ℕ)) → NodesHold node_sizes (read v2.slots) paths v2 → IsAtEnd (chunks_of q) ancestors n v2
   end_left paths hold = record {
     reading = read v2.slots;
     paths = paths;
@@ -153,18 +153,18 @@ module _ {T : Type 0} (width : ℕ) (q : List Bool) (v v2 : Store Node) (w w2 : 
   pub held : NodesHold node_sizes (read v2.slots) emptied.table.paths v2
   held = let t = some_table emptied.table in (read_held t.reading t.values t.paths v2 w2 t.holds).hold
 
-  abbrev pub some_end : StandsAtEnd (chunks_of q) ancestors n v2
+  abbrev pub some_end : IsAtEnd (chunks_of q) ancestors n v2
   some_end = end_left emptied.table.paths held
 
   -- the node of the string was there
   home_stood : has_node s.nodes (home q) ≡ true
   home_stood =
-      let left = home_stands width count2 v2 w2 _ q n emptied (ap (read v2.slots) (home_path q) ∙ is) in
+      let left = home_is_there width count2 v2 w2 _ q n emptied (ap (read v2.slots) (home_path q) ∙ is) in
       and-second (not (begins q (home q)) || same_string (home q) (home q)) (has_node s.nodes (home q))
       (sym (has-retained s.nodes (λ u. not (begins q u) || same_string u (home q)) (home q)) ∙ left)
 
   -- after the path is pruned too
-  module _ (v3 : Store Node) (space : Grows v2 v3 24) (prunes : (e : StandsAtEnd (chunks_of q) ancestors n v2) → Pruned e.reading e.paths (chunks_of q) v2 v3) where
+  module _ (v3 : Store Node) (space : Grows v2 v3 24) (prunes : (e : IsAtEnd (chunks_of q) ancestors n v2) → Pruned e.reading e.paths (chunks_of q) v2 v3) where
     pub part_taken : IsTrie width count2 v3 w2 (record { entries = without_below s.entries q; nodes = nodes_without_below s.nodes s.entries q })
     part_taken =
         let entries = removed_alike s.entries q in

@@ -1,5 +1,5 @@
 -- A search path pruned from its end upward.
-use Rattle.prefix_trie_table.proofs.Prelude.{◌≡◌, ◌≢◌, ℕ, ◌+◌, ◌<◌, ◌≤◌, inl, inr, true, List, [], ◌∷◌, ◌++◌, length, get_or, take, Option, None, Some, is_some, refl, sym, ap, ◌∙◌, subst, arith, length-append, false≢true, cases_lt, take_more, Node, has_bit, rank, node_at, node_sizes, cell_sizes, Store, tier_sizes, free_counts, NodesHold, CellsHold, IsSlot, at_root, at_child, has_child, is_start, without, own_count, entry_count, with_child_removed, node_or_blank, ShrinksList, MakesEntered, MakesFew, SameValues, IsBare, AreAncestors, GivesBack, ChildDropped, Drops, none, more, PrunedTo, StandsAtEnd, slot_in, LongerByOne, free_of, own_children, child_block_size}
+use Rattle.prefix_trie_table.proofs.Prelude.{◌≡◌, ◌≢◌, ℕ, ◌+◌, ◌<◌, ◌≤◌, inl, inr, true, List, [], ◌∷◌, ◌++◌, length, get_or, take, Option, None, Some, is_some, refl, sym, ap, ◌∙◌, subst, arith, length-append, false≢true, cases_lt, take_more, Node, has_bit, rank, node_at, node_sizes, cell_sizes, Store, tier_sizes, free_counts, NodesHold, CellsHold, IsSlot, at_root, at_child, has_child, is_start, without, own_count, entry_count, with_child_removed, node_or_blank, ShrinksList, MakesEntered, MakesFew, SameValues, IsBare, AreAncestors, GivesBack, ChildDropped, Drops, none, more, PrunedTo, IsAtEnd, slot_in, LongerByOne, free_of, own_children, child_block_size}
 use Rattle.std.proofs.lemmas.List.{take_all, length-take-le}
 use Rattle.prefix_trie_table.proofs.Removal.ShrinkingLists.{shrinks_none, children_none}
 use Rattle.prefix_trie_table.proofs.Strings.Bare.{no_bit}
@@ -30,7 +30,7 @@ pub record Pruning (reading : List ℕ → Option Node) (paths : List (List ℕ)
   pub slots : AreAncestors to.later path ancestors level
 
 -- at first nothing is pruned
-pub pruning_first : (path : List ℕ) (ancestors : List ℕ) (level : ℕ) (node : Node) (v : Store Node) (s : StandsAtEnd path ancestors node v) → level ≡ length path →
+pub pruning_first : (path : List ℕ) (ancestors : List ℕ) (level : ℕ) (node : Node) (v : Store Node) (s : IsAtEnd path ancestors node v) → level ≡ length path →
     Pruning s.reading s.paths path ancestors level node v v
 pruning_first path ancestors level node v s all = record {
   to = record {

@@ -79,27 +79,27 @@ shrinks_none Makes sizes v w count block empty long made = record {
 
 -- ---- the headroom of sizes
 
-unfoldable pub test_room : List ℕ → ℕ → ℕ → Bool
-test_room sizes t j = not (nat_lt (size_in sizes j) (size_in sizes t)) || nat_le (headroom (size_in sizes j) + size_in sizes j) (headroom (size_in sizes t))
+unfoldable pub test_space : List ℕ → ℕ → ℕ → Bool
+test_space sizes t j = not (nat_lt (size_in sizes j) (size_in sizes t)) || nat_le (headroom (size_in sizes j) + size_in sizes j) (headroom (size_in sizes t))
 
 unfoldable pub all_spaces : List ℕ → Bool
-all_spaces sizes = below (λ t. below (test_room sizes t) 7) 7
+all_spaces sizes = below (λ t. below (test_space sizes t) 7) 7
 
 pub node_spaces : all_spaces node_sizes ≡ true
-unfolding all_spaces test_room below headroom
+unfolding all_spaces test_space below headroom
 node_spaces = refl
 
 pub cell_spaces : all_spaces cell_sizes ≡ true
-unfolding all_spaces test_room below headroom
+unfolding all_spaces test_space below headroom
 cell_spaces = refl
 
 -- a smaller block is one of those below a block, beside those below its own
 space_step : (sizes : List ℕ) → all_spaces sizes ≡ true → length sizes ≡ 7 → (n o : ℕ) → Contains sizes n → Contains sizes o → n < o → headroom n + n ≤ headroom o
-unfolding all_spaces test_room
+unfolding all_spaces test_space
 space_step sizes all seven n o (j, j_inside, j_is) (t, t_inside, t_is) less =
     let n_is : size_in sizes j ≡ n = get_or_default sizes j 0 n j_inside ∙ j_is in
     let o_is : size_in sizes t ≡ o = get_or_default sizes t 0 o t_inside ∙ t_is in
-    let test = at_below (test_room sizes t) 7 (at_below (λ t. below (test_room sizes t) 7) 7 all t (omega (arith, t_inside, seven))) j (omega (arith, j_inside, seven)) in
+    let test = at_below (test_space sizes t) 7 (at_below (λ t. below (test_space sizes t) 7) 7 all t (omega (arith, t_inside, seven))) j (omega (arith, j_inside, seven)) in
     let step : headroom (size_in sizes j) + size_in sizes j ≤ headroom (size_in sizes t) = elim (or-cases (not (nat_lt (size_in sizes j) (size_in sizes t))) (nat_le (headroom (size_in sizes j) + size_in sizes j) (headroom (size_in sizes t))) test)
     as (λ _. headroom (size_in sizes j) + size_in sizes j ≤ headroom (size_in sizes t)) [
       | inl lost ↦ absurd (true≢false (sym lost ∙ ap not (lt-ltb (size_in sizes j) (size_in sizes t) (omega (arith, n_is, o_is, less)))))

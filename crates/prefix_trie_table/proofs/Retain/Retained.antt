@@ -19,8 +19,8 @@ use Rattle.prefix_trie_table.proofs.Tree.Trees.{is_none-None, read-nil, reads, s
 -- if a node exists, so do those above it
 pub read_up : (nodes : List Node) (q k : List Bool) → length q % 5 ≡ 0 → begins q k ≡ true → is_some (read nodes (chunks_of k)) ≡ true → is_some (read nodes (chunks_of q)) ≡ true
 read_up nodes q k whole begun there = true_from_ne_false (is_some (read nodes (chunks_of q))) (λ miss.
-    let way : chunks_of k ≡ chunks_of q ++ chunks_of (drop (length q) k) = ap chunks_of (begins-rest q k begun) ∙ path-append q (drop (length q) k) whole in
-    false≢true (sym (ap is_some (ap (read nodes) way ∙ read-missing nodes (chunks_of q) (chunks_of (drop (length q) k)) (is_none-None (read nodes (chunks_of q)) miss))) ∙ there))
+    let search_path : chunks_of k ≡ chunks_of q ++ chunks_of (drop (length q) k) = ap chunks_of (begins-rest q k begun) ∙ path-append q (drop (length q) k) whole in
+    false≢true (sym (ap is_some (ap (read nodes) search_path ∙ read-missing nodes (chunks_of q) (chunks_of (drop (length q) k)) (is_none-None (read nodes (chunks_of q)) miss))) ∙ there))
 
 module _ {T : Type 0} where
   -- a value is in a node that exists
@@ -74,12 +74,12 @@ module _ {K : Type 0} (IsKey : K → Type 0) (bits : K → List Bool) (width : �
   -- the current node stays the current node if the nodes above it stay
   pub site_stays : (v2 : Store Node) (m : Node) → ((q : List ℕ) → length q < p.depth / 5 → read v2.slots q ≡ read v.slots q) →
       read v2.slots (chunks_of (take p.depth (bits p.key))) ≡ Some m → IsSite IsKey bits width v2 p m
-  site_stays v2 m above stands = record {
+  site_stays v2 m above is_there = record {
     key = at.key;
     level = at.level;
     depth_is = at.depth_is;
     within = at.within;
-    stands = stands;
+    is_there = is_there;
     slot_is =
         slot_stays (read v.slots) (read v2.slots) (chunks_of (take p.depth (bits p.key))) p.slot
         (λ q less. above q (omega (arith, less, path_levels))) at.slot_is;
@@ -94,12 +94,12 @@ module _ {K : Type 0} (IsKey : K → Type 0) (bits : K → List Bool) (width : �
 
     pub site_holds : (node_at v.slots p.slot ≡ n) × (p.slot < length v.slots)
     site_holds =
-        slot_holds node_sizes (read v.slots) held_table.paths v read_table.hold (chunks_of (take p.depth (bits p.key))) p.slot n at.slot_is at.stands
+        slot_holds node_sizes (read v.slots) held_table.paths v read_table.hold (chunks_of (take p.depth (bits p.key))) p.slot n at.slot_is at.is_there
 
     pub site_values : (t : SomeTable v w) × IsNodeAt t.reading p.slot
     site_values = (
       record { reading = read v.slots; values = held_table.values; paths = held_table.paths; holds = read_table },
-      record { path = chunks_of (take p.depth (bits p.key)); node = n; stands = at.slot_is; is = at.stands },
+      record { path = chunks_of (take p.depth (bits p.key)); node = n; is_there = at.slot_is; is = at.is_there },
     )
 
     pub site_node : (t : SomeNodes v) × IsNodeAt t.reading p.slot
@@ -120,7 +120,7 @@ module _ {K : Type 0} (IsKey : K → Type 0) (bits : K → List Bool) (width : �
       module _ (reading : List ℕ → Option Node) (paths : List (List ℕ)) (values : List ℕ → ℕ → Option T) (holds : Holds reading values paths v w) where
         node_there : reading (chunks_of (take p.depth (bits p.key) ++ t)) ≡ Some n
         node_there =
-            ap reading key_path ∙ sym (reads_node reading values paths v w holds (chunks_of (take p.depth (bits p.key)))) ∙ at.stands
+            ap reading key_path ∙ sym (reads_node reading values paths v w holds (chunks_of (take p.depth (bits p.key)))) ∙ at.is_there
 
         slot_there : IsSlot reading (chunks_of (take p.depth (bits p.key) ++ t)) p.slot
         slot_there =

@@ -1,5 +1,5 @@
 -- A subtree that was built on its own is attached to a node, with its blocks.
-use Rattle.prefix_trie_table.proofs.Prelude.{◌≡◌, ◌≢◌, ℕ, ◌+◌, ◌<◌, inl, inr, true, false, cond, nat_eq, List, [], ◌∷◌, ◌++◌, length, map, flat_map, Option, None, Some, is_some, refl, sym, ap, ap₂, ◌∙◌, arith, Node, has_bit, node_sizes, cell_sizes, same_path, one_if, times, has_child, node_or_blank, child_blocks_of, child_blocks, value_blocks_of, value_blocks, Hangs, no_value, UsedBlock, held, size_in}
+use Rattle.prefix_trie_table.proofs.Prelude.{◌≡◌, ◌≢◌, ℕ, ◌+◌, ◌<◌, inl, inr, true, false, cond, nat_eq, List, [], ◌∷◌, ◌++◌, length, map, flat_map, Option, None, Some, is_some, refl, sym, ap, ap₂, ◌∙◌, arith, Node, has_bit, node_sizes, cell_sizes, same_path, one_if, times, has_child, node_or_blank, child_blocks_of, child_blocks, value_blocks_of, value_blocks, AreNodesFrom, no_value, UsedBlock, held, size_in}
 use Rattle.prefix_trie_table.proofs.Strings.PathStrings.{from-one}
 use Rattle.prefix_trie_table.proofs.Strings.BitLists.{map_same}
 use Rattle.prefix_trie_table.proofs.Strings.Paths.{same_path-itself, same_path-equal, same_path-not, snoc_ind, flat_map_same}
@@ -55,7 +55,7 @@ module _ (m : Node) (c : ℕ) (sub branch : List ℕ → Option Node) where
   pub attach_other : (d : ℕ) (p : List ℕ) → d ≢ c → attached m c branch sub (d ∷ p) ≡ sub (d ∷ p)
   attach_other d p ne = ap (λ b. cond b (branch p) (sub (d ∷ p))) (other_number d c ne)
 
-module _ (n m top : Node) (c : ℕ) (sub branch : List ℕ → Option Node) (rest paths : List (List ℕ)) (h : Hangs n sub ([] ∷ rest)) (k : Hangs top branch paths)
+module _ (n m top : Node) (c : ℕ) (sub branch : List ℕ → Option Node) (rest paths : List (List ℕ)) (h : AreNodesFrom n sub ([] ∷ rest)) (k : AreNodesFrom top branch paths)
     (gone : (p : List ℕ) → sub (c ∷ p) ≡ None) (set : has_bit m.child_bitmap c ≡ true)
     (others : (i : ℕ) → i ≢ c → has_bit m.child_bitmap i ≡ has_bit n.child_bitmap i) where
   linked : (p : List ℕ) (e : ℕ) → is_some (attached m c branch sub (p ++ e ∷ [])) ≡ has_child (attached m c branch sub p) e
@@ -88,8 +88,8 @@ module _ (n m top : Node) (c : ℕ) (sub branch : List ℕ → Option Node) (res
             omega (arith, away, was, both, times-front_other c d p paths ne, now)
       ]
 
-  pub attach_hangs : Hangs m (attached m c branch sub) ([] ∷ (map (λ p. c ∷ p) paths ++ rest))
-  attach_hangs = record { top = refl; linked = linked; listed = listed }
+  pub attach_nodes_from : AreNodesFrom m (attached m c branch sub) ([] ∷ (map (λ p. c ∷ p) paths ++ rest))
+  attach_nodes_from = record { top = refl; linked = linked; listed = listed }
 
 -- ---- blocks of a graft
 
@@ -127,15 +127,15 @@ module _ {T : Type 0} where
 
 -- ---- the paths after the first
 
-module _ (n : Node) (sub : List ℕ → Option Node) (rest : List (List ℕ)) (h : Hangs n sub ([] ∷ rest)) where
+module _ (n : Node) (sub : List ℕ → Option Node) (rest : List (List ℕ)) (h : AreNodesFrom n sub ([] ∷ rest)) where
   not_first : times [] rest ≡ 0
   not_first =
       let own : one_if (same_path [] []) ≡ 1 = ap one_if (same_path-itself []) in
       let was : one_if (same_path [] []) + times [] rest ≡ 1 = h.listed [] ∙ ap (λ o. one_if (is_some o)) h.top in
       omega (arith, own, was)
 
-  stands_there : (c : ℕ) (p : List ℕ) → 0 < times (c ∷ p) rest → is_some (sub (c ∷ p)) ≡ true
-  stands_there c p there = from-one (is_some (sub (c ∷ p))) (times (c ∷ p) ([] ∷ rest)) (h.listed (c ∷ p)) (omega (arith, there))
+  is_there_too : (c : ℕ) (p : List ℕ) → 0 < times (c ∷ p) rest → is_some (sub (c ∷ p)) ≡ true
+  is_there_too c p there = from-one (is_some (sub (c ∷ p))) (times (c ∷ p) ([] ∷ rest)) (h.listed (c ∷ p)) (omega (arith, there))
 
   -- what is the same at each path after the first
   pub rest_same : {Y : Type 0} (f g : List ℕ → List Y) → ((c : ℕ) (p : List ℕ) → is_some (sub (c ∷ p)) ≡ true → g (c ∷ p) ≡ f (c ∷ p)) →
@@ -144,7 +144,7 @@ module _ (n : Node) (sub : List ℕ → Option Node) (rest : List (List ℕ)) (h
     where
       by : (q : List ℕ) → 0 < times q rest → g q ≡ f q
       by [] there = absurd (omega (arith, there, not_first))
-      by (c ∷ p) there = same c p (stands_there c p there)
+      by (c ∷ p) there = same c p (is_there_too c p there)
 
   -- nothing is below a child that is not there
   pub none_below : (c : ℕ) → has_bit n.child_bitmap c ≡ false → (p : List ℕ) → sub (c ∷ p) ≡ None

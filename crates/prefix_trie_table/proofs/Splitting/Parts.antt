@@ -80,8 +80,8 @@ clear_has : (d : ℕ) → d < 32 → has 0 d ≡ false
 clear_has d small = sym (has_bit-is 0 d small) ∙ has_bit-zero d
 
 -- on the search path to it
-pub masks_way : (t : List Bool) → 5 ≤ length t → HoldsValues 0 (begins t)
-masks_way t long = record {
+pub masks_search_path : (t : List Bool) → 5 ≤ length t → HoldsValues 0 (begins t)
+masks_search_path t long = record {
   bits = λ s few. clear_has (value_bit s) (let h = value_bit-small s few in omega (arith, h)) ∙ sym (begins-longer t s (omega (arith, long, few)));
   small = lit< tt;
 }

@@ -1,11 +1,11 @@
 -- A second table never needs more slots than the first has.
-use Rattle.prefix_trie_table.proofs.Prelude.{same_Some, ◌≡◌, ℕ, zero, suc, ◌+◌, ◌≤◌, true, List, [], ◌∷◌, length, map, flat_map, sum_by, Option, None, Some, refl, sym, ap, ◌∙◌, arith, sum_by-le-sum_by, HasBlock, packed_slots, State, goes_up, smallest_of, Node, rank, bits, blank_node, node_at, node_sizes, cell_sizes, own_count, child_items, child_blocks, child_blocks_of, value_blocks, value_blocks_of, CanLay, child_slots, value_slots, slots_below, own_children, Store, UsedBlock, Sound, extent, free_extents, held, size_in, tier_sizes, size_if_any, IsTrie}
+use Rattle.prefix_trie_table.proofs.Prelude.{same_Some, ◌≡◌, ℕ, zero, suc, ◌+◌, ◌≤◌, true, List, [], ◌∷◌, length, map, flat_map, sum_by, Option, None, Some, refl, sym, ap, ◌∙◌, arith, sum_by-le-sum_by, HasBlock, packed_slots, State, goes_up, smallest_of, Node, rank, bits, blank_node, node_at, node_sizes, cell_sizes, own_count, child_items, child_blocks, child_blocks_of, value_blocks, value_blocks_of, CanBuild, child_slots, value_slots, slots_below, own_children, Store, UsedBlock, Sound, extent, free_extents, held, size_in, tier_sizes, size_if_any, IsTrie}
 use Rattle.prefix_trie_table.specs.OwnBlocks.{child_block_size, value_block_size}
-use Rattle.prefix_trie_table.proofs.Blocks.Housed.{children_housed, values_housed}
+use Rattle.prefix_trie_table.proofs.Blocks.ListBlocks.{children_housed, values_housed}
 use Rattle.prefix_trie_table.proofs.Blocks.SlotSums.{sum_by-flat_map, sum_by-mapped}
 use Rattle.prefix_trie_table.proofs.Blocks.Tilings.{blocks_sum}
 use Rattle.prefix_trie_table.proofs.Counts.EntryCounts.{size_of_extent, tiling-sum}
-use Rattle.prefix_trie_table.proofs.Blocks.Laying.{slots_found}
+use Rattle.prefix_trie_table.proofs.Blocks.Building.{slots_found}
 use Rattle.prefix_trie_table.proofs.Splitting.WholeTree.{own_of, whole_tree}
 use Rattle.prefix_trie_table.proofs.Strings.BitLists.{rank-all}
 use Rattle.prefix_trie_table.proofs.Tree.Invariant.{some_table}
@@ -73,7 +73,7 @@ module _ {T : Type 0} (width count : ℕ) (v : Store Node) (w : Store (Option T)
 
     -- new arrays under the same limit have space for all
     pub root_nodes : (v1 : Store Node) → Sound blank_node [] v1 → tier_sizes v1.tiers ≡ node_sizes → length v1.slots ≡ 1 → v1.limit ≡ v.limit →
-        CanLay blank_node node_sizes (slots_below child_slots v.slots levels n) v1
+        CanBuild blank_node node_sizes (slots_below child_slots v.slots levels n) v1
     root_nodes v1 sound are one limit = record {
       live = [];
       sound = sound;
@@ -84,7 +84,7 @@ module _ {T : Type 0} (width count : ℕ) (v : Store Node) (w : Store (Option T)
     }
 
     pub root_cells : (w1 : Store (Option T)) → Sound None [] w1 → tier_sizes w1.tiers ≡ cell_sizes → length w1.slots ≡ 0 → w1.limit ≡ v.limit →
-        CanLay None cell_sizes (slots_below value_slots v.slots levels n) w1
+        CanBuild None cell_sizes (slots_below value_slots v.slots levels n) w1
     root_cells w1 sound are none limit = record {
       live = [];
       sound = sound;

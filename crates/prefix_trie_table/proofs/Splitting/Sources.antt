@@ -1,16 +1,16 @@
 -- A node of the first table, and its children.
 use Rattle.prefix_trie_table.proofs.Prelude.{◌≡◌, ℕ, ◌+◌, ◌<◌, true, [], ◌∷◌, ◌++◌, length, Some, is_some, sym, ap, ◌∙◌, arith, append_assoc, append-nil, Node, has_bit, node_at, node_sizes, child_slot, has_child, has_value, IsSource, Store}
-use Rattle.prefix_trie_table.proofs.Tree.Trees.{child_stands, is_some-Some}
+use Rattle.prefix_trie_table.proofs.Tree.Trees.{child_is_there, is_some-Some}
 
 -- a child of a source
 module _ (v : Store Node) (n : Node) (levels : ℕ) (s : IsSource v n levels) (c : ℕ) (there : has_bit n.child_bitmap c ≡ true) where
   child_is : s.reading (s.path ++ c ∷ []) ≡ Some (node_at v.slots (child_slot n c))
   child_is =
       is_some-Some (s.reading (s.path ++ c ∷ [])) (s.hold.linked s.path c ∙ ap (λ o. has_child o c) s.is ∙ there)
-      ∙ ap Some (sym (child_stands node_sizes s.reading s.paths v s.hold s.path n c s.is there).1)
+      ∙ ap Some (sym (child_is_there node_sizes s.reading s.paths v s.hold s.path n c s.is there).1)
 
   pub child_inside : child_slot n c < length v.slots
-  child_inside = (child_stands node_sizes s.reading s.paths v s.hold s.path n c s.is there).2
+  child_inside = (child_is_there node_sizes s.reading s.paths v s.hold s.path n c s.is there).2
 
   pub some_level : 0 < levels
   some_level = let h = s.few (c ∷ []) (ap is_some child_is) in omega (arith, h)

@@ -1,9 +1,9 @@
 -- An upper bound on the slots that a node needs with everything under it.
-use Rattle.prefix_trie_table.proofs.Prelude.{◌≡◌, ◌≢◌, ℕ, zero, suc, ◌+◌, ◌-◌, ◌<◌, ◌≤◌, inl, inr, Bool, true, false, cond, List, [], ◌∷◌, length, refl, sym, ap, ◌∙◌, subst, arith, cases_lt, false≢true, get_or_default, Memory, IndexRange, the_data, packed_slots, goes_up, smallest_of, Node, has_bit, rank, node_at, node_sizes, cell_sizes, child_slot, child_slots, value_slots, sum_to, slots_below, slots_at_child, Store, size_in, tier_sizes, BlockRef, LaysList}
+use Rattle.prefix_trie_table.proofs.Prelude.{◌≡◌, ◌≢◌, ℕ, zero, suc, ◌+◌, ◌-◌, ◌<◌, ◌≤◌, inl, inr, Bool, true, false, cond, List, [], ◌∷◌, length, refl, sym, ap, ◌∙◌, subst, arith, cases_lt, false≢true, get_or_default, Memory, IndexRange, the_data, packed_slots, goes_up, smallest_of, Node, has_bit, rank, node_at, node_sizes, cell_sizes, child_slot, child_slots, value_slots, sum_to, slots_below, slots_at_child, Store, size_in, tier_sizes, BlockRef, BuildsList}
 use Rattle.std.specs.List.{Contains}
 use Rattle.prefix_trie_table.proofs.Blocks.BySize.{tiers_long}
-use Rattle.prefix_trie_table.proofs.Blocks.Laying.{slots_found}
-use Rattle.prefix_trie_table.proofs.Strings.BitLists.{rank-lacks, rank-le, rank-more, rank-zero}
+use Rattle.prefix_trie_table.proofs.Blocks.Building.{slots_found}
+use Rattle.prefix_trie_table.proofs.Strings.BitLists.{rank-missing, rank-le, rank-more, rank-zero}
 use Rattle.prefix_trie_table.proofs.Strings.Plain.{no_or_yes}
 
 -- a refusal that is not for the slot limit
@@ -12,15 +12,15 @@ for_memory Memory other = refl
 for_memory IndexRange other = absurd (other refl)
 
 -- the tier of a list that was built
-pub laid_tier : {S : Type 0} (vacant : S) (v w : Store S) (items : List S) (at : BlockRef) (sizes : List ℕ) → tier_sizes v.tiers ≡ sizes → 0 < length sizes →
-    LaysList vacant v w items at → at.tier < length sizes
-laid_tier vacant v w [] at sizes are some laid = let e = ap (λ (r : BlockRef). r.tier) (laid.none refl) in omega (arith, e, some)
-laid_tier vacant v w (x ∷ xs) at sizes are some laid = (let h = laid.tier (omega arith) in let l = tiers_long v.tiers sizes are in omega (arith, h, l))
+pub built_tier : {S : Type 0} (vacant : S) (v w : Store S) (items : List S) (at : BlockRef) (sizes : List ℕ) → tier_sizes v.tiers ≡ sizes → 0 < length sizes →
+    BuildsList vacant v w items at → at.tier < length sizes
+built_tier vacant v w [] at sizes are some built = let e = ap (λ (r : BlockRef). r.tier) (built.none refl) in omega (arith, e, some)
+built_tier vacant v w (x ∷ xs) at sizes are some built = (let h = built.tier (omega arith) in let l = tiers_long v.tiers sizes are in omega (arith, h, l))
 
 -- a node has at most 31 values
 pub values_few : (bitmap : ℕ) → ((b : ℕ) → has_bit bitmap b ≡ true → b < 31) → rank bitmap 32 ≤ 31
 values_few bitmap within =
-    let lacks = rank-lacks bitmap 32 31 (omega arith) (no_or_yes (has_bit bitmap 31) (λ set. let h = within 31 set in omega (arith, h))) in omega (arith, lacks)
+    let some_missing = rank-missing bitmap 32 31 (omega arith) (no_or_yes (has_bit bitmap 31) (λ set. let h = within 31 set in omega (arith, h))) in omega (arith, some_missing)
 
 -- ---- sums
 

@@ -1,9 +1,9 @@
 -- A node that is built with everything under it: the start, each child in order, and the end.
-use Rattle.prefix_trie_table.proofs.Prelude.{◌≡◌, ◌≢◌, ℕ, zero, suc, ◌+◌, ◌<◌, ◌≤◌, inl, inr, ⊎_elim, Bool, true, false, ◌&&◌, List, [], ◌∷◌, drop, ◌++◌, length, map, flat_map, replicate, Option, None, Some, is_some, refl, sym, ap, ap₂, ◌∙◌, subst, arith, append_assoc, append-nil, false≢true, length-map, length-replicate, flat_map-append, packed_block, Node, BlockRef, has_bit, bits, rank, blank_node, node_sizes, cell_sizes, one_if, times, has_child, has_value, node_or_blank, child_items, child_blocks, value_blocks_of, in_part, in_child, SomeValue, child_slots, value_slots, sum_to, slots_below, slots_at_child, IsPackedNode, no_value, IsLaid, IsSubtree, NothingLaid, LaysList, Lays, chunks_of, bit_of, begins, number, number-lt, value_bit, IsBare, IsStocked, Store, UsedBlock, Sound, held, size_in, tier_sizes, size_if_any, smallest_size}
-use Rattle.prefix_trie_table.proofs.Splitting.FreshArrays.{Lays-none, Lays-then, Lays-list}
+use Rattle.prefix_trie_table.proofs.Prelude.{◌≡◌, ◌≢◌, ℕ, zero, suc, ◌+◌, ◌<◌, ◌≤◌, inl, inr, ⊎_elim, Bool, true, false, ◌&&◌, List, [], ◌∷◌, drop, ◌++◌, length, map, flat_map, replicate, Option, None, Some, is_some, refl, sym, ap, ap₂, ◌∙◌, subst, arith, append_assoc, append-nil, false≢true, length-map, length-replicate, flat_map-append, packed_block, Node, BlockRef, has_bit, bits, rank, blank_node, node_sizes, cell_sizes, one_if, times, has_child, has_value, node_or_blank, child_items, child_blocks, value_blocks_of, in_part, in_child, SomeValue, child_slots, value_slots, sum_to, slots_below, slots_at_child, IsPackedNode, no_value, IsBuilt, IsSubtree, NothingBuilt, BuildsList, Builds, chunks_of, bit_of, begins, number, number-lt, value_bit, IsBare, IsStocked, Store, UsedBlock, Sound, held, size_in, tier_sizes, size_if_any, smallest_size}
+use Rattle.prefix_trie_table.proofs.Splitting.FreshArrays.{Builds-none, Builds-then, Builds-list}
 use Rattle.prefix_trie_table.proofs.Splitting.Space.{sum_to_next, slots_split}
 use Rattle.prefix_trie_table.proofs.Blocks.Soundness.{Sound-permuted}
-use Rattle.prefix_trie_table.proofs.Splitting.Attaching.{attached, attach_here, attach_other, attach_hangs, branch_blocks, cells_of, branch_cells, rest_same, none_below, no_rest}
+use Rattle.prefix_trie_table.proofs.Splitting.Attaching.{attached, attach_here, attach_other, attach_nodes_from, branch_blocks, cells_of, branch_cells, rest_same, none_below, no_rest}
 use Rattle.prefix_trie_table.proofs.Splitting.Pushed.{map-pushed, map-nothing}
 use Rattle.prefix_trie_table.proofs.Strings.Bare.{no_bit, some_bit}
 use Rattle.prefix_trie_table.proofs.Strings.Bits.{has_bit-zero}
@@ -20,11 +20,11 @@ alone n [] = Some n
 alone n (c ∷ p) = None
 
 -- the block of a list that was built has the smallest size that holds it
-laid_packed : {S : Type 0} (vacant : S) (v w : Store S) (sizes : List ℕ) (items : List S) (at : BlockRef) → tier_sizes v.tiers ≡ sizes →
-    LaysList vacant v w items at → (count : ℕ) → length items ≡ count → size_if_any count (size_in sizes at.tier) ≡ packed_block sizes count
-laid_packed vacant v w sizes items at are laid zero e = refl
-laid_packed vacant v w sizes items at are laid (suc n) e =
-    sym (subst (λ ns. smallest_size ns (suc n) ≡ Some (size_in ns at.tier)) are (ap (smallest_size (tier_sizes v.tiers)) (sym e) ∙ laid.size (omega (arith, e))))
+built_packed : {S : Type 0} (vacant : S) (v w : Store S) (sizes : List ℕ) (items : List S) (at : BlockRef) → tier_sizes v.tiers ≡ sizes →
+    BuildsList vacant v w items at → (count : ℕ) → length items ≡ count → size_if_any count (size_in sizes at.tier) ≡ packed_block sizes count
+built_packed vacant v w sizes items at are built zero e = refl
+built_packed vacant v w sizes items at are built (suc n) e =
+    sym (subst (λ ns. smallest_size ns (suc n) ≡ Some (size_in ns at.tier)) are (ap (smallest_size (tier_sizes v.tiers)) (sym e) ∙ built.size (omega (arith, e))))
 
 -- the nodes with another first one
 abbrev pub topped : Node → (List ℕ → Option Node) → List ℕ → Option Node
@@ -46,13 +46,13 @@ module _ {T : Type 0} {array : List Node} {levels : ℕ} {n : Node} {t : List Bo
   -- its values have their block
   pub subtree_start : (values : ℕ) (at : BlockRef) (w2 : Store (Option T)) →
       ((s : List Bool) → length s ≤ 4 → has_bit values (value_bit s) ≡ (begins t s && has_bit n.value_bitmap (value_bit s))) →
-      ((b : ℕ) → has_bit values b ≡ true → b < 31) → tier_sizes w.tiers ≡ cell_sizes → LaysList None w w2 (replicate (rank values 32) None) at →
+      ((b : ℕ) → has_bit values b ≡ true → b < 31) → tier_sizes w.tiers ≡ cell_sizes → BuildsList None w w2 (replicate (rank values 32) None) at →
       length w2.slots ≤ length w.slots + value_slots n → IsSubtree array levels n t v w 0 (first values at) [] v w2
-  subtree_start values at w2 own small are laid longer = record {
+  subtree_start values at w2 own small are built longer = record {
     sub = alone (first values at);
     rest = [];
-    hangs = record { top = refl; linked = linked; listed = listed };
-    own_block = laid_packed None w w2 cell_sizes (replicate (rank values 32) None) at are laid (rank values 32) (length-replicate (rank values 32) None);
+    nodes_from = record { top = refl; linked = linked; listed = listed };
+    own_block = built_packed None w w2 cell_sizes (replicate (rank values 32) None) at are built (rank values 32) (length-replicate (rank values 32) None);
     own = own;
     values = λ u s long h. absurd (omega (arith, h));
     within = within;
@@ -61,9 +61,9 @@ module _ {T : Type 0} {array : List Node} {levels : ℕ} {n : Node} {t : List Bo
     needed = λ c p e. absurd (false≢true e);
     kept = λ c set. absurd (false≢true (sym (has_bit-zero c) ∙ set));
     children = sym (ap (λ cs. map (λ c. node_or_blank (alone (first values at) ([] ++ c ∷ []))) cs) bits-zero);
-    nodes = Lays-none blank_node v (of_nodes array levels n 0);
-    cells = subst (λ bs. Lays None bs (of_cells array levels n 0) w w2) same
-        (Lays-list None w w2 cell_sizes (replicate (rank values 32) None) at (of_cells array levels n 0) are laid (omega (arith, longer)));
+    nodes = Builds-none blank_node v (of_nodes array levels n 0);
+    cells = subst (λ bs. Builds None bs (of_cells array levels n 0) w w2) same
+        (Builds-list None w w2 cell_sizes (replicate (rank values 32) None) at (of_cells array levels n 0) are built (omega (arith, longer)));
   }
     where
       linked : (p : List ℕ) (c : ℕ) → is_some (alone (first values at) (p ++ c ∷ [])) ≡ has_child (alone (first values at) p) c
@@ -98,16 +98,16 @@ module _ {T : Type 0} {array : List Node} {levels : ℕ} {n : Node} {t : List Bo
 
     -- it has none of those that are not built yet
     pub subtree_clear : (c : ℕ) → i ≤ c → has_bit m.child_bitmap c ≡ false
-    subtree_clear c h = sym (b.hangs.linked [] c ∙ ap (λ o. has_child o c) b.hangs.top) ∙ ap is_some (b.later c [] h)
+    subtree_clear c h = sym (b.nodes_from.linked [] c ∙ ap (λ o. has_child o c) b.nodes_from.top) ∙ ap is_some (b.later c [] h)
 
     -- a child below which there is nothing is passed over
     pub subtree_passed : (v3 : Store Node) (w3 : Store (Option T)) → ((u s : List Bool) → length u ≡ 5 → number u ≡ i → in_child array n t u s ≡ false) →
-        Lays blank_node [] (slots_at_child child_slots array levels n i) v2 v3 → Lays None [] (slots_at_child value_slots array levels n i) w2 w3 →
+        Builds blank_node [] (slots_at_child child_slots array levels n i) v2 v3 → Builds None [] (slots_at_child value_slots array levels n i) w2 w3 →
         IsSubtree array levels n t v w (i + 1) m below v3 w3
     subtree_passed v3 w3 none nodes cells = record {
       sub = b.sub;
       rest = b.rest;
-      hangs = b.hangs;
+      nodes_from = b.nodes_from;
       own_block = b.own_block;
       own = b.own;
       values = λ u s long h. ⊎_elim
@@ -119,12 +119,12 @@ module _ {T : Type 0} {array : List Node} {levels : ℕ} {n : Node} {t : List Bo
       needed = b.needed;
       kept = b.kept;
       children = b.children;
-      nodes = Lays-then blank_node v v2 v3 _ [] _ _ _ _ b.nodes nodes (λ live s. s) nodes_next;
-      cells = Lays-then None w w2 w3 _ [] _ _ _ _ b.cells cells (λ live s. s) cells_next;
+      nodes = Builds-then blank_node v v2 v3 _ [] _ _ _ _ b.nodes nodes (λ live s. s) nodes_next;
+      cells = Builds-then None w w2 w3 _ [] _ _ _ _ b.cells cells (λ live s. s) cells_next;
     }
 
     -- what is built under a child is attached
-    module _ (top : Node) (bitmap fewer : ℕ) (lower : Node) (v3 : Store Node) (w3 : Store (Option T)) (l : IsLaid array fewer lower (drop 5 t) v2 v3 w2 w3 top)
+    module _ (top : Node) (bitmap fewer : ℕ) (lower : Node) (v3 : Store Node) (w3 : Store (Option T)) (l : IsBuilt array fewer lower (drop 5 t) v2 v3 w2 w3 top)
         (small : i < 32) (there : has_bit n.child_bitmap i ≡ true)
         (same : (u s : List Bool) → length u ≡ 5 → number u ≡ i → in_child array n t u s ≡ in_part array lower (drop 5 t) s)
         (amount : (own : Node → ℕ) → slots_at_child own array levels n i ≡ slots_below own array fewer lower)
@@ -145,7 +145,7 @@ module _ {T : Type 0} {array : List Node} {levels : ℕ} {n : Node} {t : List Bo
       apart c p there e = false≢true (sym (ap is_some (b.later c p (omega (arith, e)))) ∙ there)
 
       within : (p : List ℕ) (bit : ℕ) → has_value (new p) bit ≡ true → bit < 31
-      within [] bit has = b.within [] bit (ap (λ o. has_value o bit) b.hangs.top ∙ has)
+      within [] bit has = b.within [] bit (ap (λ o. has_value o bit) b.nodes_from.top ∙ has)
       within (c ∷ p) bit has = ⊎_elim
           (λ (is : c ≡ i). l.part.within p bit (sym (ap (λ o. has_value o bit) (here c p is)) ∙ has))
           (λ (ne : c ≢ i). b.within (c ∷ p) bit (sym (ap (λ o. has_value o bit) (other c p ne)) ∙ has)) (number_or c i)
@@ -159,7 +159,7 @@ module _ {T : Type 0} {array : List Node} {levels : ℕ} {n : Node} {t : List Bo
 
       all_children : below ++ top ∷ [] ≡ child_items new [] bitmap
       all_children =
-          ap₂ (λ xs y. xs ++ y ∷ []) b.children (sym (ap node_or_blank (here i [] refl ∙ l.hangs.top)))
+          ap₂ (λ xs y. xs ++ y ∷ []) b.children (sym (ap node_or_blank (here i [] refl ∙ l.nodes_from.top)))
           ∙ sym (map-pushed (λ c. node_or_blank (b.sub ([] ++ c ∷ []))) (λ c. node_or_blank (new ([] ++ c ∷ []))) m.child_bitmap bitmap i small subtree_clear set others
           (λ c ne. ap node_or_blank (other c [] ne)))
 
@@ -168,7 +168,7 @@ module _ {T : Type 0} {array : List Node} {levels : ℕ} {n : Node} {t : List Bo
       node_blocks =
           flat_map-append (child_blocks node_sizes new) (map (λ p. i ∷ p) l.paths) b.rest
           ∙ ap₂ (λ xs ys. xs ++ ys) (branch_blocks grown i b.sub l.sub l.paths)
-          (rest_same m b.sub b.rest b.hangs (child_blocks node_sizes b.sub) (child_blocks node_sizes new)
+          (rest_same m b.sub b.rest b.nodes_from (child_blocks node_sizes b.sub) (child_blocks node_sizes new)
           (λ c p there. child_blocks-same node_sizes b.sub new (c ∷ p) (other c p (apart c p there)) (λ e. other c (p ++ e ∷ []) (apart c p there))))
 
       abbrev own : List (UsedBlock (Option T))
@@ -182,10 +182,10 @@ module _ {T : Type 0} {array : List Node} {levels : ℕ} {n : Node} {t : List Bo
 
       cell_blocks : flat_map (cells_of {T = T} new) ([] ∷ (map (λ p. i ∷ p) l.paths ++ b.rest)) ≡ own ++ (branches ++ mine)
       cell_blocks =
-          ap₂ (λ xs ys. xs ++ ys) (sym (ap (value_blocks_of cell_sizes no_value []) b.hangs.top))
+          ap₂ (λ xs ys. xs ++ ys) (sym (ap (value_blocks_of cell_sizes no_value []) b.nodes_from.top))
           (flat_map-append (cells_of new) (map (λ p. i ∷ p) l.paths) b.rest
           ∙ ap₂ (λ xs ys. xs ++ ys) (branch_cells grown i b.sub l.sub l.paths)
-          (rest_same m b.sub b.rest b.hangs (cells_of b.sub) (cells_of new)
+          (rest_same m b.sub b.rest b.nodes_from (cells_of b.sub) (cells_of new)
           (λ c p there. ap (value_blocks_of cell_sizes no_value (c ∷ p)) (other c p (apart c p there)))))
 
       turned : (live : List (UsedBlock (Option T))) → Sound None (branches ++ ((own ++ mine) ++ live)) w3 →
@@ -200,7 +200,7 @@ module _ {T : Type 0} {array : List Node} {levels : ℕ} {n : Node} {t : List Bo
       subtree_attached = record {
         sub = new;
         rest = map (λ p. i ∷ p) l.paths ++ b.rest;
-        hangs = attach_hangs m grown top i b.sub l.sub b.rest l.paths b.hangs l.hangs (λ p. b.later i p (omega arith)) set others;
+        nodes_from = attach_nodes_from m grown top i b.sub l.sub b.rest l.paths b.nodes_from l.nodes_from (λ p. b.later i p (omega arith)) set others;
         own_block = b.own_block;
         own = b.own;
         values = λ u s long h. ⊎_elim
@@ -213,11 +213,11 @@ module _ {T : Type 0} {array : List Node} {levels : ℕ} {n : Node} {t : List Bo
         needed = needed;
         kept = λ c has. ⊎_elim (λ (is : c ≡ i). ap (has_bit n.child_bitmap) is ∙ there) (λ (ne : c ≢ i). b.kept c (sym (others c ne) ∙ has)) (number_or c i);
         children = all_children;
-        nodes = Lays-then blank_node v v2 v3 _ _ _ _ _ _ b.nodes l.nodes
+        nodes = Builds-then blank_node v v2 v3 _ _ _ _ _ _ b.nodes l.nodes
             (λ live s. subst (λ bs. Sound blank_node bs v3)
             (sym (append_assoc (flat_map (child_blocks node_sizes l.sub) l.paths) (flat_map (child_blocks node_sizes b.sub) b.rest) live) ∙ ap (λ bs. bs ++ live) (sym node_blocks)) s)
             (omega (arith, nodes_next, amount child_slots));
-        cells = Lays-then None w w2 w3 _ _ _ _ _ _ b.cells l.cells turned (omega (arith, cells_next, amount value_slots));
+        cells = Builds-then None w w2 w3 _ _ _ _ _ _ b.cells l.cells turned (omega (arith, cells_next, amount value_slots));
       }
 
     -- all its children are built
@@ -225,11 +225,11 @@ module _ {T : Type 0} {array : List Node} {levels : ℕ} {n : Node} {t : List Bo
       -- so it has its part
       value_is : (s : List Bool) → has_value (b.sub (chunks_of s)) (bit_of s) ≡ in_part array n t s
       value_is (a ∷ x ∷ c ∷ d ∷ e ∷ s) = b.values (a ∷ x ∷ c ∷ d ∷ e ∷ []) s refl (let h = number-lt (a ∷ x ∷ c ∷ d ∷ e ∷ []) in omega (arith, h, all))
-      value_is (a ∷ x ∷ c ∷ d ∷ []) = ap (λ o. has_value o (bit_of (a ∷ x ∷ c ∷ d ∷ []))) b.hangs.top ∙ b.own (a ∷ x ∷ c ∷ d ∷ []) (omega arith)
-      value_is (a ∷ x ∷ c ∷ []) = ap (λ o. has_value o (bit_of (a ∷ x ∷ c ∷ []))) b.hangs.top ∙ b.own (a ∷ x ∷ c ∷ []) (omega arith)
-      value_is (a ∷ x ∷ []) = ap (λ o. has_value o (bit_of (a ∷ x ∷ []))) b.hangs.top ∙ b.own (a ∷ x ∷ []) (omega arith)
-      value_is (a ∷ []) = ap (λ o. has_value o (bit_of (a ∷ []))) b.hangs.top ∙ b.own (a ∷ []) (omega arith)
-      value_is [] = ap (λ o. has_value o (bit_of [])) b.hangs.top ∙ b.own [] (omega arith)
+      value_is (a ∷ x ∷ c ∷ d ∷ []) = ap (λ o. has_value o (bit_of (a ∷ x ∷ c ∷ d ∷ []))) b.nodes_from.top ∙ b.own (a ∷ x ∷ c ∷ d ∷ []) (omega arith)
+      value_is (a ∷ x ∷ c ∷ []) = ap (λ o. has_value o (bit_of (a ∷ x ∷ c ∷ []))) b.nodes_from.top ∙ b.own (a ∷ x ∷ c ∷ []) (omega arith)
+      value_is (a ∷ x ∷ []) = ap (λ o. has_value o (bit_of (a ∷ x ∷ []))) b.nodes_from.top ∙ b.own (a ∷ x ∷ []) (omega arith)
+      value_is (a ∷ []) = ap (λ o. has_value o (bit_of (a ∷ []))) b.nodes_from.top ∙ b.own (a ∷ []) (omega arith)
+      value_is [] = ap (λ o. has_value o (bit_of [])) b.nodes_from.top ∙ b.own [] (omega arith)
 
       nodes_all : of_nodes array levels n i + child_slots n ≤ slots_below child_slots array levels n
       nodes_all = let e = slots_split child_slots array levels n in let f = ap (of_nodes array levels n) all in omega (arith, e, f)
@@ -238,7 +238,7 @@ module _ {T : Type 0} {array : List Node} {levels : ℕ} {n : Node} {t : List Bo
       cells_all = let e = slots_split value_slots array levels n in let f = ap (of_cells array levels n) all in omega (arith, e, f)
 
       -- its block is built, and it is whole
-      module _ (v3 : Store Node) (at : BlockRef) (are : tier_sizes v2.tiers ≡ node_sizes) (laid : LaysList blank_node v2 v3 below at)
+      module _ (v3 : Store Node) (at : BlockRef) (are : tier_sizes v2.tiers ≡ node_sizes) (built : BuildsList blank_node v2 v3 below at)
           (longer : length v3.slots ≤ length v2.slots + child_slots n) (stocked : IsStocked m) where
         abbrev whole : Node
         whole = record m { child_block = at.start; child_tier = at.tier }
@@ -251,29 +251,29 @@ module _ {T : Type 0} {array : List Node} {levels : ℕ} {n : Node} {t : List Bo
 
         rest_blocks : flat_map (child_blocks node_sizes closed) b.rest ≡ flat_map (child_blocks node_sizes b.sub) b.rest
         rest_blocks =
-            rest_same m b.sub b.rest b.hangs (child_blocks node_sizes b.sub) (child_blocks node_sizes closed)
+            rest_same m b.sub b.rest b.nodes_from (child_blocks node_sizes b.sub) (child_blocks node_sizes closed)
             (λ c p there. child_blocks-same node_sizes b.sub closed (c ∷ p) refl (λ e. refl))
 
         rest_cells : flat_map (cells_of {T = T} closed) b.rest ≡ flat_map (cells_of b.sub) b.rest
-        rest_cells = rest_same m b.sub b.rest b.hangs (cells_of b.sub) (cells_of closed) (λ c p there. refl)
+        rest_cells = rest_same m b.sub b.rest b.nodes_from (cells_of b.sub) (cells_of closed) (λ c p there. refl)
 
         linked : (p : List ℕ) (c : ℕ) → is_some (closed (p ++ c ∷ [])) ≡ has_child (closed p) c
-        linked [] c = b.hangs.linked [] c ∙ ap (λ o. has_child o c) b.hangs.top
-        linked (d ∷ p) c = b.hangs.linked (d ∷ p) c
+        linked [] c = b.nodes_from.linked [] c ∙ ap (λ o. has_child o c) b.nodes_from.top
+        linked (d ∷ p) c = b.nodes_from.linked (d ∷ p) c
 
         listed : (q : List ℕ) → times q ([] ∷ b.rest) ≡ one_if (is_some (closed q))
-        listed [] = b.hangs.listed [] ∙ ap (λ o. one_if (is_some o)) b.hangs.top
-        listed (c ∷ p) = b.hangs.listed (c ∷ p)
+        listed [] = b.nodes_from.listed [] ∙ ap (λ o. one_if (is_some o)) b.nodes_from.top
+        listed (c ∷ p) = b.nodes_from.listed (c ∷ p)
 
         packed : (p : List ℕ) (k : Node) → closed p ≡ Some k → IsPackedNode k
         packed [] k e = subst IsPackedNode (ap node_or_blank e) (record {
           values = b.own_block;
-          children = laid_packed blank_node v2 v3 node_sizes below at are laid (rank m.child_bitmap 32) subtree_few;
+          children = built_packed blank_node v2 v3 node_sizes below at are built (rank m.child_bitmap 32) subtree_few;
         })
         packed (c ∷ p) k e = b.packed c p k e
 
         same_value : (p : List ℕ) (bit : ℕ) → has_value (closed p) bit ≡ has_value (b.sub p) bit
-        same_value [] bit = sym (ap (λ o. has_value o bit) b.hangs.top)
+        same_value [] bit = sym (ap (λ o. has_value o bit) b.nodes_from.top)
         same_value (c ∷ p) bit = refl
 
         needed_below : (c : ℕ) (p : List ℕ) → is_some (b.sub (c ∷ p)) ≡ true → SomeValue closed (c ∷ p)
@@ -283,30 +283,30 @@ module _ {T : Type 0} {array : List Node} {levels : ℕ} {n : Node} {t : List Bo
         some_value (inl some) = let bit = some_bit m.value_bitmap some in record { below = []; bit = bit.0; is = bit.1 }
         some_value (inr some) =
             let child = some_bit m.child_bitmap some in
-            let s = needed_below child.0 [] (b.hangs.linked [] child.0 ∙ ap (λ o. has_child o child.0) b.hangs.top ∙ child.1) in
+            let s = needed_below child.0 [] (b.nodes_from.linked [] child.0 ∙ ap (λ o. has_child o child.0) b.nodes_from.top ∙ child.1) in
             record { below = child.0 ∷ s.below; bit = s.bit; is = s.is }
 
         needed_all : (p : List ℕ) → is_some (closed p) ≡ true → SomeValue closed p
         needed_all [] e = some_value stocked
         needed_all (c ∷ p) e = needed_below c p e
 
-        pub subtree_closed : IsLaid array levels n t v v3 w w2 (record m { child_block = at.start; child_tier = at.tier })
+        pub subtree_closed : IsBuilt array levels n t v v3 w w2 (record m { child_block = at.start; child_tier = at.tier })
         subtree_closed = record {
           sub = closed;
           paths = [] ∷ b.rest;
-          hangs = record { top = refl; linked = linked; listed = listed };
+          nodes_from = record { top = refl; linked = linked; listed = listed };
           part = record {
             values = λ s. same_value (chunks_of s) (bit_of s) ∙ value_is s;
             within = λ p bit h. b.within p bit (sym (same_value p bit) ∙ h);
             packed = packed;
           };
           needed = needed_all;
-          nodes = Lays-then blank_node v v2 v3 _ _ _ _ (child_slots n) _ b.nodes (Lays-list blank_node v2 v3 node_sizes below at (child_slots n) are laid longer)
+          nodes = Builds-then blank_node v v2 v3 _ _ _ _ (child_slots n) _ b.nodes (Builds-list blank_node v2 v3 node_sizes below at (child_slots n) are built longer)
               (λ live s. subst (λ bs. Sound blank_node bs v3)
               (sym (append_assoc (held at.tier at.start (size_in node_sizes at.tier) below) (flat_map (child_blocks node_sizes b.sub) b.rest) live)
               ∙ ap₂ (λ xs ys. (xs ++ ys) ++ live) own_is (sym rest_blocks)) s) nodes_all;
-          cells = Lays-then None w w2 w2 _ [] _ _ 0 _ b.cells (Lays-none None w2 0) (λ live s. subst (λ bs. Sound None (bs ++ live) w2)
-              (ap₂ (λ xs ys. xs ++ ys) (ap (value_blocks_of cell_sizes no_value []) b.hangs.top) (sym rest_cells)) s) cells_all;
+          cells = Builds-then None w w2 w2 _ [] _ _ 0 _ b.cells (Builds-none None w2 0) (λ live s. subst (λ bs. Sound None (bs ++ live) w2)
+              (ap₂ (λ xs ys. xs ++ ys) (ap (value_blocks_of cell_sizes no_value []) b.nodes_from.top) (sym rest_cells)) s) cells_all;
         }
 
       -- nothing of it was built
@@ -315,20 +315,20 @@ module _ {T : Type 0} {array : List Node} {levels : ℕ} {n : Node} {t : List Bo
         no_child c = no_bit m.child_bitmap c bare.no_children
 
         no_paths : b.rest ≡ []
-        no_paths = no_rest m b.sub b.rest b.hangs no_child
+        no_paths = no_rest m b.sub b.rest b.nodes_from no_child
 
         no_values : (p : List ℕ) (bit : ℕ) → has_value (b.sub p) bit ≡ false
-        no_values [] bit = ap (λ o. has_value o bit) b.hangs.top ∙ no_bit m.value_bitmap bit bare.no_values
-        no_values (c ∷ p) bit = ap (λ o. has_value o bit) (none_below m b.sub b.rest b.hangs c (no_child c) p)
+        no_values [] bit = ap (λ o. has_value o bit) b.nodes_from.top ∙ no_bit m.value_bitmap bit bare.no_values
+        no_values (c ∷ p) bit = ap (λ o. has_value o bit) (none_below m b.sub b.rest b.nodes_from c (no_child c) p)
 
-        pub subtree_bare : NothingLaid array levels n t v v2 w w2
+        pub subtree_bare : NothingBuilt array levels n t v v2 w w2
         subtree_bare = record {
           none = λ s. sym (value_is s) ∙ no_values (chunks_of s) (bit_of s);
-          nodes = Lays-then blank_node v v2 v2 _ [] _ _ 0 _ b.nodes (Lays-none blank_node v2 0)
+          nodes = Builds-then blank_node v v2 v2 _ [] _ _ 0 _ b.nodes (Builds-none blank_node v2 0)
               (λ live s. subst (λ ps. Sound blank_node (flat_map (child_blocks node_sizes b.sub) ps ++ live) v2) no_paths s) (omega (arith, nodes_all));
-          cells = Lays-then None w w2 w2 _ [] _ _ 0 _ b.cells (Lays-none None w2 0) (λ live s. subst (λ bs. Sound None (bs ++ live) w2)
+          cells = Builds-then None w w2 w2 _ [] _ _ 0 _ b.cells (Builds-none None w2 0) (λ live s. subst (λ bs. Sound None (bs ++ live) w2)
               (ap₂ (λ xs ps. xs ++ flat_map (cells_of b.sub) ps)
-              (ap (value_blocks_of cell_sizes no_value []) b.hangs.top
+              (ap (value_blocks_of cell_sizes no_value []) b.nodes_from.top
               ∙ ap (λ bs. held m.value_tier m.value_block (size_in cell_sizes m.value_tier) (map (no_value []) bs))
               (bits-none m.value_bitmap (λ bit. no_bit m.value_bitmap bit bare.no_values))) no_paths) s) cells_all;
         }

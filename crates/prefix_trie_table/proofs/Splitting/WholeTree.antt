@@ -6,7 +6,7 @@ use Rattle.prefix_trie_table.proofs.Strings.PathSums.{sum_out}
 use Rattle.prefix_trie_table.proofs.Strings.Plain.{no_or_yes}
 use Rattle.prefix_trie_table.proofs.Strings.Starts.{is_start-is, is_start_take}
 use Rattle.prefix_trie_table.proofs.Tree.Children.{number_or}
-use Rattle.prefix_trie_table.proofs.Tree.Trees.{child_stands, is_some-Some}
+use Rattle.prefix_trie_table.proofs.Tree.Trees.{child_is_there, is_some-Some}
 
 -- ---- sums of the first numbers
 
@@ -131,7 +131,7 @@ module _ (own : Node → ℕ) (reading : List ℕ → Option Node) (paths : List
   child_within levels p n is ih c = elim (cases_Bool (has_bit n.child_bitmap c)) as (λ _. at_child levels n c ≤ all_under (p ++ c ∷ [])) [
     | inl set ↦
         let child_is : reading (p ++ c ∷ []) ≡ Some (node_at v.slots (child_slot n c)) = is_some-Some (reading (p ++ c ∷ [])) (hold.linked p c ∙ ap (λ o. has_child o c) is ∙ set)
-        ∙ ap Some (sym (child_stands node_sizes reading paths v hold p n c is set).1) in
+        ∙ ap Some (sym (child_is_there node_sizes reading paths v hold p n c is set).1) in
         subst (λ b. cond b (slots_below own v.slots levels (node_at v.slots (child_slot n c))) 0 ≤ all_under (p ++ c ∷ [])) (sym set)
         (ih (p ++ c ∷ []) (node_at v.slots (child_slot n c)) child_is)
     | inr clear ↦ subst (λ b. cond b (slots_below own v.slots levels (node_at v.slots (child_slot n c))) 0 ≤ all_under (p ++ c ∷ [])) (sym clear) (omega arith)

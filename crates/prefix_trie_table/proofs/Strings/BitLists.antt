@@ -164,17 +164,17 @@ pub rank-within : (bitmap b : ℕ) → b < 32 → rank bitmap b ≤ rank bitmap 
 rank-within bitmap b h = let e : 32 ≡ b + (32 - b) = omega arith in subst (λ n. rank bitmap b ≤ rank bitmap n) (sym e) (rank-mono bitmap b (32 - b))
 
 -- if a bit below n is clear, fewer than n bits are set below n
-pub rank-lacks : (bitmap n b : ℕ) → b < n → has_bit bitmap b ≡ false → rank bitmap n < n
-rank-lacks bitmap zero b h lacks = absurd (omega arith)
-rank-lacks bitmap (suc n) b h lacks =
+pub rank-missing : (bitmap n b : ℕ) → b < n → has_bit bitmap b ≡ false → rank bitmap n < n
+rank-missing bitmap zero b h some_missing = absurd (omega arith)
+rank-missing bitmap (suc n) b h some_missing =
     let e : n + 1 ≡ suc n = omega arith in
     let more = rank-more bitmap n in
     let up : rank bitmap (suc n) ≡ rank bitmap n + cond (has_bit bitmap n) 1 0 = ap (rank bitmap) (sym e) ∙ more in
     ⊎_elim (λ (same : b ≡ n).
-    let none : ◌≡◌ {A = ℕ} (cond (has_bit bitmap n) 1 0) 0 = ap (λ s. cond s 1 0) (ap (has_bit bitmap) (sym same) ∙ lacks) in
+    let none : ◌≡◌ {A = ℕ} (cond (has_bit bitmap n) 1 0) 0 = ap (λ s. cond s 1 0) (ap (has_bit bitmap) (sym same) ∙ some_missing) in
     let le = rank-le bitmap n in omega (arith, up, none, le))
     (λ (other : b ≢ n).
-    let ih : rank bitmap n < n = rank-lacks bitmap n b (omega arith) lacks in
+    let ih : rank bitmap n < n = rank-missing bitmap n b (omega arith) some_missing in
     let one : cond (has_bit bitmap n) 1 0 ≤ 1 = at_most_one (has_bit bitmap n) in omega (arith, up, one, ih)) (cases_eq b n)
   where
     at_most_one : (s : Bool) → cond s 1 0 ≤ 1

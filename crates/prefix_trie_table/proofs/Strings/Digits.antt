@@ -84,8 +84,8 @@ five_path = by_steps (λ r. length r ≡ 5 → chunks_of r ≡ number r ∷ []) 
     (λ a b c d e s ih five. subst (λ t. chunks_of (a ∷ b ∷ c ∷ d ∷ e ∷ t) ≡ number (a ∷ b ∷ c ∷ d ∷ e ∷ t) ∷ []) (sym (nil_from_length s (omega (arith, five)))) refl)
 
 -- appending a string to a node's string appends its chunks, and its rest is the rest
-pub ways-append : (s t : List Bool) → length s % 5 ≡ 0 → (chunks_of (s ++ t) ≡ chunks_of s ++ chunks_of t) × (rest_of (s ++ t) ≡ rest_of t)
-ways-append s t = by_steps (λ s. length s % 5 ≡ 0 → (chunks_of (s ++ t) ≡ chunks_of s ++ chunks_of t) × (rest_of (s ++ t) ≡ rest_of t))
+pub search_paths-append : (s t : List Bool) → length s % 5 ≡ 0 → (chunks_of (s ++ t) ≡ chunks_of s ++ chunks_of t) × (rest_of (s ++ t) ≡ rest_of t)
+search_paths-append s t = by_steps (λ s. length s % 5 ≡ 0 → (chunks_of (s ++ t) ≡ chunks_of s ++ chunks_of t) × (rest_of (s ++ t) ≡ rest_of t))
     (λ r h whole. subst (λ x. (chunks_of (x ++ t) ≡ chunks_of x ++ chunks_of t) × (rest_of (x ++ t) ≡ rest_of t)) (sym (nil_from_length r (omega (arith, h, whole)))) (refl, refl))
     (λ a b c d e s ih whole. let more = ih (less (length s) whole) in (ap (λ p. number (a ∷ b ∷ c ∷ d ∷ e ∷ []) ∷ p) more.0, more.1)) s
   where
@@ -93,4 +93,4 @@ ways-append s t = by_steps (λ s. length s % 5 ≡ 0 → (chunks_of (s ++ t) ≡
     less n h = omega (arith, h)
 
 pub path-append : (s t : List Bool) → length s % 5 ≡ 0 → chunks_of (s ++ t) ≡ chunks_of s ++ chunks_of t
-path-append s t h = (ways-append s t h).0
+path-append s t h = (search_paths-append s t h).0

@@ -21,8 +21,8 @@ pub same_above : (s t : List Bool) → length s % 5 ≡ 0 → length t % 5 ≡ 0
 same_above s t h k e = string_is s t e (ap value_bit (no_rest s h ∙ sym (no_rest t k)))
 
 -- a string begins with a node's string exactly if its chunks begin with the node's chunks
-pub begins-way : (t s : List Bool) → length t % 5 ≡ 0 → is_start (chunks_of t) (chunks_of s) ≡ begins t s
-begins-way t s h = same_bool _ _
+pub begins-search_path : (t s : List Bool) → length t % 5 ≡ 0 → is_start (chunks_of t) (chunks_of s) ≡ begins t s
+begins-search_path t s h = same_bool _ _
     (λ e.
     let r = is_start-is (chunks_of t) (chunks_of s) e in
     let k : ℕ = length (chunks_of t) in

@@ -1,6 +1,6 @@
 -- The chunks of a string under a node, by the node's chunks and the place in the node.
 use Rattle.prefix_trie_table.proofs.Prelude.{◌≡◌, ℕ, ◌+◌, ◌-◌, ◌*◌, ◌^◌, ◌%◌, ◌<◌, ◌≤◌, Bool, List, [], ◌∷◌, ◌++◌, length, ap, ◌∙◌, arith, w32, leading_zeros, number, digits, length-digits, number-bits, value_bit, top_length, length-short, string-bit, chunks_of, rest_of}
-use Rattle.prefix_trie_table.proofs.Strings.Digits.{short_path, five_path, path-append, ways-append}
+use Rattle.prefix_trie_table.proofs.Strings.Digits.{short_path, five_path, path-append, search_paths-append}
 use Rattle.prefix_trie_table.proofs.Strings.Plain.{whole_levels}
 use Rattle.std.proofs.lemmas.List.{append-nil}
 
@@ -9,7 +9,7 @@ pub below_node : (k : ℕ) (s r : List Bool) → length s ≡ 5 * k → length r
 below_node k s r long h =
     let whole = whole_levels (length s) k long in (
       path-append s r whole ∙ ap (λ p. chunks_of s ++ p) (short_path r h).0 ∙ append-nil (chunks_of s),
-      (ways-append s r whole).1 ∙ (short_path r h).1,
+      (search_paths-append s r whole).1 ∙ (short_path r h).1,
     )
 
 -- five bits more add one chunk

@@ -27,5 +27,5 @@ pub above_next : (q : List Bool) (here : Reached) (ancestors more : List ℕ) (v
     more ≡ ancestors ++ here.at ∷ [] → AreAbove q next more v
 above_next q here ancestors more v next up along deeper is = record {
   long = (let l = up.long in omega (arith, l, deeper, ap (λ (xs : List ℕ). length xs) is, length-append ancestors (here.at ∷ [])));
-  slots = λ reading paths hold. rw deeper (rw is (ancestors_more reading (chunks_of q) ancestors here.level here.at (up.slots reading paths hold) up.long (along.deepest reading paths hold).stands));
+  slots = λ reading paths hold. rw deeper (rw is (ancestors_more reading (chunks_of q) ancestors here.level here.at (up.slots reading paths hold) up.long (along.deepest reading paths hold).is_there));
 }

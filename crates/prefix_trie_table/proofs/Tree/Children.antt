@@ -7,7 +7,7 @@ use Rattle.prefix_trie_table.proofs.Strings.Bits.{has_bit-zero}
 use Rattle.prefix_trie_table.proofs.Strings.BitLists.{map_same, map_insert, map_remove, bits_below-none}
 use Rattle.prefix_trie_table.proofs.Strings.Paths.{same_path-true, same_path-equal, same_path-not, snoc_inj, snoc_not_nil, snoc_not_same, flat_map_out}
 use Rattle.prefix_trie_table.proofs.Blocks.Soundness.{Sound-permuted, first_place}
-use Rattle.prefix_trie_table.proofs.Tree.Trees.{is_none-None, held_some, node_back, listed_once, own_first, child_stands, times_out, times_out_same, node_set}
+use Rattle.prefix_trie_table.proofs.Tree.Trees.{is_none-None, held_some, node_back, listed_once, own_first, child_is_there, times_out, times_out_same, node_set}
 
 pub bits-none : (bitmap : ℕ) → ((i : ℕ) → has_bit bitmap i ≡ false) → bits bitmap ≡ []
 unfolding bits
@@ -102,7 +102,7 @@ module _ (sizes : List ℕ) (nodes : List ℕ → Option Node) (paths : List (Li
       → later p ≡ Some m → ([] ≢ p → later [] ≡ nodes []) → later [] ≡ Some (node_at (set u.slots s m) 0)
   root_after p s m later u (at_root) some kept here other = here ∙ ap Some (sym (get_or-set_same u.slots 0 m blank_node some))
   root_after p s m later u (at_child q c n is bit) some kept here other =
-      let away : 0 < child_slot n c = (child_stands sizes nodes paths v hold q n c is bit).3 in
+      let away : 0 < child_slot n c = (child_is_there sizes nodes paths v hold q n c is bit).3 in
       other (λ e. snoc_not_nil q c (sym e)) ∙ hold.rooted
       ∙ ap Some (sym kept ∙ sym (get_or-set_other u.slots (child_slot n c) 0 m blank_node (λ e. omega arith)))
 
@@ -119,15 +119,15 @@ module _ (sizes : List ℕ) (nodes : List ℕ → Option Node) (paths : List (Li
       Sound blank_node (flat_map (child_blocks sizes (changed nodes p m c o)) after) w)
       → Sound blank_node (own ++ flat_map (child_blocks sizes nodes) rest) u
       → NodesHold sizes (changed nodes p m c o) after (record u { slots = set u.slots s m })
-  child_changed p s n m c o u own rest after stands is bit bits_stay below first sizes_are kept none_p none_r parents listed own_is gather sound =
+  child_changed p s n m c o u own rest after is_there is bit bits_stay below first sizes_are kept none_p none_r parents listed own_is gather sound =
       let later : List ℕ → Option Node = changed nodes p m c o in
       let w : Store Node = record u { slots = set u.slots s m } in
       let here : later p ≡ Some m = changed_here nodes p m c o p refl in
-      let written : Sound blank_node (own ++ flat_map (child_blocks sizes later) rest) w = node_set sizes nodes paths v hold rest p s n m later own u parents stands is first
+      let written : Sound blank_node (own ++ flat_map (child_blocks sizes later) rest) w = node_set sizes nodes paths v hold rest p s n m later own u parents is_there is first
       (λ q h. changed_other nodes p m c o q (not_listed p rest none_p q h) (not_listed (p ++ c ∷ []) rest none_r q h))
       (λ q d h not_p. changed_other nodes p m c o (q ++ d ∷ []) not_p (λ e. not_listed p rest none_p q h (snoc_inj q p d c e).0)) here sound in
       record {
-        rooted = root_after p s m later u stands (let x = first_place blank_node _ u sound in omega arith) kept here
+        rooted = root_after p s m later u is_there (let x = first_place blank_node _ u sound in omega arith) kept here
             (λ ne. changed_other nodes p m c o [] ne (λ e. snoc_not_nil p c (sym e)));
         linked = linked_changed sizes nodes paths v hold p n m c o is bit bits_stay below;
         listed = listed;
@@ -144,7 +144,7 @@ module _ (sizes : List ℕ) (nodes : List ℕ → Option Node) (paths : List (Li
       → Sound blank_node (block m.child_tier m.child_block (size_in sizes m.child_tier)
       (insert (child_items nodes p n.child_bitmap) (rank n.child_bitmap c) blank_node) ∷ flat_map (child_blocks sizes nodes) (without p paths)) u
       → NodesHold sizes (with_child nodes p m c) ((p ++ c ∷ []) ∷ paths) (record u { slots = set u.slots s m })
-  child_added p s n m c u stands is digit missing more first sizes_are kept sound =
+  child_added p s n m c u is_there is digit missing more first sizes_are kept sound =
       let later : List ℕ → Option Node = with_child nodes p m c in
       let gone : nodes (p ++ c ∷ []) ≡ None = is_none-None (nodes (p ++ c ∷ [])) (hold.linked p c ∙ ap (λ o. has_child o c) is ∙ missing) in
       let once : times p paths ≡ 1 = listed_once sizes nodes paths v hold p n is in
@@ -161,7 +161,7 @@ module _ (sizes : List ℕ) (nodes : List ℕ → Option Node) (paths : List (Li
       (changed_below nodes p m c (Some blank_node) (p ++ c ∷ []) refl) in
       let none : child_blocks sizes later (p ++ c ∷ []) ≡ [] = blank_blocks sizes later (p ++ c ∷ []) (changed_below nodes p m c (Some blank_node) (p ++ c ∷ []) refl) in
       child_changed p s n m c (Some blank_node) u (block m.child_tier m.child_block (size_in sizes m.child_tier) put ∷ []) (without p paths) ((p ++ c ∷ []) ∷ paths)
-      stands is bit_c bit_i (λ d. hold.linked (p ++ c ∷ []) d ∙ ap (λ o. has_child o d) gone ∙ sym (has_bit-zero d)) first sizes_are kept
+      is_there is bit_c bit_i (λ d. hold.linked (p ++ c ∷ []) d ∙ ap (λ o. has_child o d) gone ∙ sym (has_bit-zero d)) first sizes_are kept
       (times_out_same p paths once) (times_out p (p ++ c ∷ []) paths (omega arith) (snoc_not_same p c) ∙ none_r) (parents sizes nodes paths v hold p n is)
       (λ q. list q (same_or q (p ++ c ∷ [])))
       (ap (held m.child_tier m.child_block (size_in sizes m.child_tier)) items ∙ held_some m.child_tier m.child_block (size_in sizes m.child_tier) put
@@ -211,14 +211,14 @@ module _ (sizes : List ℕ) (nodes : List ℕ → Option Node) (paths : List (Li
   pub node_changed : (p : List ℕ) (s : ℕ) (n m : Node) → IsSlot nodes p s → nodes p ≡ Some n → m.child_bitmap ≡ n.child_bitmap →
       m.child_block ≡ n.child_block → m.child_tier ≡ n.child_tier
       → NodesHold sizes (with_node nodes p m) paths (record v { slots = set v.slots s m })
-  node_changed p s n m stands is same_bits same_block same_tier =
+  node_changed p s n m is_there is same_bits same_block same_tier =
       let later : List ℕ → Option Node = with_node nodes p m in
       let w : Store Node = record v { slots = set v.slots s m } in
       let once : times p paths ≡ 1 = listed_once sizes nodes paths v hold p n is in
       let not_p = not_listed p (without p paths) (times_out_same p paths once) in
       let own : List (UsedBlock Node) = held n.child_tier n.child_block (size_in sizes n.child_tier) (child_items nodes p n.child_bitmap) in
       let here : later p ≡ Some m = with_here nodes p m p refl in
-      let written : Sound blank_node (own ++ flat_map (child_blocks sizes later) (without p paths)) w = node_set sizes nodes paths v hold (without p paths) p s n m later own v (parents sizes nodes paths v hold p n is) stands is hold.first_is
+      let written : Sound blank_node (own ++ flat_map (child_blocks sizes later) (without p paths)) w = node_set sizes nodes paths v hold (without p paths) p s n m later own v (parents sizes nodes paths v hold p n is) is_there is hold.first_is
       (λ q h. with_other nodes p m q (not_p q h)) (λ q d h other. with_other nodes p m (q ++ d ∷ []) other) here
       (own_first sizes nodes paths v hold p n is) in
       let items : child_items later p m.child_bitmap ≡ child_items nodes p n.child_bitmap = map_same (λ d. node_or_blank (nodes (p ++ d ∷ []))) (λ d. node_or_blank (later (p ++ d ∷ []))) n.child_bitmap m.child_bitmap
@@ -226,7 +226,7 @@ module _ (sizes : List ℕ) (nodes : List ℕ → Option Node) (paths : List (Li
       let own_is : child_blocks sizes later p ≡ own = ap (child_blocks_of sizes later p) here
       ∙ (λ i. held (same_tier i) (same_block i) (size_in sizes (same_tier i)) (items i)) in
       record {
-        rooted = root_after sizes nodes paths v hold p s m later v stands
+        rooted = root_after sizes nodes paths v hold p s m later v is_there
             (let x = first_place blank_node _ v hold.sound in let y = hold.first_is in omega arith) refl here (λ ne. with_other nodes p m [] ne);
         linked = λ q d. ap is_some refl ∙ link q d (same_or (q ++ d ∷ []) p) (same_or q p);
         listed = λ q. hold.listed q ∙ ap one_if (sym (some_same q (same_or q p)));
@@ -257,7 +257,7 @@ module _ (sizes : List ℕ) (nodes : List ℕ → Option Node) (paths : List (Li
       → Sound blank_node (held m.child_tier m.child_block (size_in sizes m.child_tier)
       (remove (child_items nodes p n.child_bitmap) (rank n.child_bitmap c)) ++ flat_map (child_blocks sizes nodes) (without p paths)) u
       → NodesHold sizes (with_child_removed nodes p m c) (without (p ++ c ∷ []) paths) (record u { slots = set u.slots s m })
-  child_removed p s n m leaf c u stands is digit there bare cleared bit_i first sizes_are kept sound =
+  child_removed p s n m leaf c u is_there is digit there bare cleared bit_i first sizes_are kept sound =
       let later : List ℕ → Option Node = with_child_removed nodes p m c in
       let rest : List (List ℕ) = without (p ++ c ∷ []) (without p paths) in
       let once : times p paths ≡ 1 = listed_once sizes nodes paths v hold p n is in
@@ -280,7 +280,7 @@ module _ (sizes : List ℕ) (nodes : List ℕ → Option Node) (paths : List (Li
       cleared bit_i (λ i ne. ap node_or_blank
       (changed_other nodes p m c None (p ++ i ∷ []) (snoc_not_same p i) (λ e. ne (snoc_inj p p i c e).1))) in
       let still = times_out (p ++ c ∷ []) p paths (omega arith) apart in
-      child_changed sizes nodes paths v hold p s n m c None u own rest (without (p ++ c ∷ []) paths) stands is cleared bit_i
+      child_changed sizes nodes paths v hold p s n m c None u own rest (without (p ++ c ∷ []) paths) is_there is cleared bit_i
       (λ d. hold.linked (p ++ c ∷ []) d ∙ ap (λ o. has_child o d) there ∙ bare d) first sizes_are kept
       none_p (times_out_same (p ++ c ∷ []) (without p paths) in_p)
       (λ q d e. times_out (p ++ c ∷ []) q (without p paths) (omega arith) (λ f. longer q d e f) ∙ parents sizes nodes paths v hold p n is q d e)

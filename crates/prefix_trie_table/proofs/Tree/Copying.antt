@@ -199,14 +199,14 @@ module _ {T : Type 0} (C : T → T → Type 0) (R : Option T → Option T → Ty
   pub copied_sizes : Sized v.slots → Sized v2.slots
   copied_sizes z = subst (λ (y : Store Node). Sized y.slots) (sym nodes) z
 
-  abbrev laid_out : (y : Store Node) → List Tier → Sized y.slots → Layout
-  laid_out y ts k = record { child_blocks = k.0; value_blocks = k.1.0; free_child_blocks = free_counts y.tiers; free_value_blocks = free_counts ts }
+  abbrev built_out : (y : Store Node) → List Tier → Sized y.slots → Layout
+  built_out y ts k = record { child_blocks = k.0; value_blocks = k.1.0; free_child_blocks = free_counts y.tiers; free_value_blocks = free_counts ts }
 
   -- the copy has the same layout
   pub copied_layout : (z : Sized v.slots) (t : Shaped v2.slots w2.slots) (k : Sized v2.slots) → (seen_of v2 w2 t.0 k).layout ≡ (seen_of v w s.0 z).layout
   copied_layout z t k =
-      ap (λ (y : Store (Option T)). laid_out v2 y.tiers k) rest
-      ∙ subst (λ (y : Store Node). (k : Sized y.slots) → laid_out y w.tiers k ≡ laid_out v w.tiers z) (sym nodes) (λ k. ap (laid_out v w.tiers) (Sized-prop v.slots k z)) k
+      ap (λ (y : Store (Option T)). built_out v2 y.tiers k) rest
+      ∙ subst (λ (y : Store Node). (k : Sized y.slots) → built_out y w.tiers k ≡ built_out v w.tiers z) (sym nodes) (λ k. ap (built_out v w.tiers) (Sized-prop v.slots k z)) k
 
   -- if clones are equal to their sources, contracts see the same
   pub copied_same : (z : Sized v.slots) → ((x y : T) → C x y → y ≡ x) → (t : Shaped v2.slots w2.slots) (k : Sized v2.slots) →

@@ -138,84 +138,84 @@ module _ {T : Type 0} (reading : List ℕ → Option Node) (values : List ℕ �
     (digit : c ≡ get_or path depth 0) (missing : has_bit (node_at v.slots slot).child_bitmap c ≡ false)
     (added : (nodes : List ℕ → Option Node) (paths : List (List ℕ)) (p : List ℕ) (n : Node) → NodesHold node_sizes nodes paths v → IsSlot nodes p slot →
     nodes p ≡ Some n → ChildAdded nodes paths p n c v2 slot2) where
-  abbrev way : List ℕ
-  way = take depth path
+  abbrev search_path : List ℕ
+  search_path = take depth path
 
   abbrev one : ChildAdded a.later a.paths (take depth path) a.deep.node c v2 slot2
-  one = added a.later a.paths (take depth path) a.deep.node a.holds.hold a.deep.stands a.deep.is
+  one = added a.later a.paths (take depth path) a.deep.node a.holds.hold a.deep.is_there a.deep.is
 
   abbrev more : List ℕ → Option Node
-  more = with_child a.later way one.node c
+  more = with_child a.later search_path one.node c
 
-  lacks : has_bit a.deep.node.child_bitmap c ≡ false
-  lacks =
-      let at = slot_holds node_sizes a.later a.paths v a.holds.hold way slot a.deep.node a.deep.stands a.deep.is in
+  some_missing : has_bit a.deep.node.child_bitmap c ≡ false
+  some_missing =
+      let at = slot_holds node_sizes a.later a.paths v a.holds.hold search_path slot a.deep.node a.deep.is_there a.deep.is in
       ap (λ (k : Node). has_bit k.child_bitmap c) (sym at.0) ∙ missing
 
-  gone : is_some (a.later (way ++ c ∷ [])) ≡ false
-  gone = a.holds.hold.linked way c ∙ ap (λ o. has_child o c) a.deep.is ∙ lacks
+  gone : is_some (a.later (search_path ++ c ∷ [])) ≡ false
+  gone = a.holds.hold.linked search_path c ∙ ap (λ o. has_child o c) a.deep.is ∙ some_missing
 
-  longer : take (depth + 1) path ≡ way ++ c ∷ []
-  longer = take_more path depth 0 inside ∙ ap (λ d. way ++ d ∷ []) (sym digit)
+  longer : take (depth + 1) path ≡ search_path ++ c ∷ []
+  longer = take_more path depth 0 inside ∙ ap (λ d. search_path ++ d ∷ []) (sym digit)
 
-  is_new : (q : List ℕ) → q ≡ way ++ c ∷ [] → more q ≡ Some blank_node
-  is_new q e = changed_below a.later way one.node c (Some blank_node) q e
+  is_new : (q : List ℕ) → q ≡ search_path ++ c ∷ [] → more q ≡ Some blank_node
+  is_new q e = changed_below a.later search_path one.node c (Some blank_node) q e
 
-  was_none : (q : List ℕ) → q ≡ way ++ c ∷ [] → reading q ≡ None
-  was_none q e = is_none-None (reading q) (or_none (is_some (reading q)) (is_start q way) (sym (ap (λ p. is_some (a.later p)) e ∙ gone) ∙ a.grown q))
+  was_none : (q : List ℕ) → q ≡ search_path ++ c ∷ [] → reading q ≡ None
+  was_none q e = is_none-None (reading q) (or_none (is_some (reading q)) (is_start q search_path) (sym (ap (λ p. is_some (a.later p)) e ∙ gone) ∙ a.grown q))
 
-  child_sizes : (q : List ℕ) → (q ≡ way ++ c ∷ []) ⊎ (q ≢ way ++ c ∷ []) → (q ≡ way) ⊎ (q ≢ way) →
+  child_sizes : (q : List ℕ) → (q ≡ search_path ++ c ∷ []) ⊎ (q ≢ search_path ++ c ∷ []) → (q ≡ search_path) ⊎ (q ≢ search_path) →
       child_block_size (more q) ≡ size_gained reading path (depth + 1) q
   child_sizes q (inl e) at =
       let deep : depth + 1 ≤ length q = (let l = ap (λ (xs : List ℕ). length xs) (e ∙ sym longer) in let f = length-take-le (depth + 1) path (omega arith) in omega arith) in
       ap child_block_size (is_new q e) ∙ blank_children
       ∙ sym (size_kept reading path (depth + 1) q (gains_deep reading path (depth + 1) q deep) ∙ ap child_block_size (was_none q e))
   child_sizes q (inr ne) (inl e) =
-      let old : child_block_size (Some a.deep.node) ≡ child_block_size (reading way) = ap child_block_size (sym a.deep.is) ∙ a.children way
-      ∙ size_kept reading path depth way (gains_deep reading path depth way (let l = length-take-le depth path (omega arith) in omega arith)) in
-      ap child_block_size (changed_here a.later way one.node c (Some blank_node) q e) ∙ one.children ∙ ap₂ option_or (ap child_need (sym a.deep.is) ∙ a.needs.0) old
-      ∙ sym (size_new reading path (depth + 1) way (gains_here reading path depth inside (ap is_some (was_none (take (depth + 1) path) longer))))
+      let old : child_block_size (Some a.deep.node) ≡ child_block_size (reading search_path) = ap child_block_size (sym a.deep.is) ∙ a.children search_path
+      ∙ size_kept reading path depth search_path (gains_deep reading path depth search_path (let l = length-take-le depth path (omega arith) in omega arith)) in
+      ap child_block_size (changed_here a.later search_path one.node c (Some blank_node) q e) ∙ one.children ∙ ap₂ option_or (ap child_need (sym a.deep.is) ∙ a.needs.0) old
+      ∙ sym (size_new reading path (depth + 1) search_path (gains_here reading path depth inside (ap is_some (was_none (take (depth + 1) path) longer))))
       ∙ ap (size_gained reading path (depth + 1)) (sym e)
   child_sizes q (inr ne) (inr other) =
-      ap child_block_size (changed_other a.later way one.node c (Some blank_node) q other ne) ∙ a.children q
+      ap child_block_size (changed_other a.later search_path one.node c (Some blank_node) q other ne) ∙ a.children q
       ∙ ap (λ b. option_or (cond b (child_need (reading q)) None) (child_block_size (reading q))) (sym (gains_other reading path depth q other))
 
-  value_sizes : (q : List ℕ) → (q ≡ way ++ c ∷ []) ⊎ (q ≢ way ++ c ∷ []) → (q ≡ way) ⊎ (q ≢ way) → value_block_size (more q) ≡ value_block_size (reading q)
+  value_sizes : (q : List ℕ) → (q ≡ search_path ++ c ∷ []) ⊎ (q ≢ search_path ++ c ∷ []) → (q ≡ search_path) ⊎ (q ≢ search_path) → value_block_size (more q) ≡ value_block_size (reading q)
   value_sizes q (inl e) at = ap value_block_size (is_new q e) ∙ blank_values ∙ sym (ap value_block_size (was_none q e))
   value_sizes q (inr ne) (inl e) =
-      ap value_block_size (changed_here a.later way one.node c (Some blank_node) q e)
+      ap value_block_size (changed_here a.later search_path one.node c (Some blank_node) q e)
       ∙ (λ i. size_if_any (rank (one.value_bitmap i) 32) (size_in cell_sizes (one.value_tier i)))
-      ∙ ap value_block_size (sym a.deep.is) ∙ a.sized way ∙ ap (λ p. value_block_size (reading p)) (sym e)
-  value_sizes q (inr ne) (inr other) = ap value_block_size (changed_other a.later way one.node c (Some blank_node) q other ne) ∙ a.sized q
+      ∙ ap value_block_size (sym a.deep.is) ∙ a.sized search_path ∙ ap (λ p. value_block_size (reading p)) (sym e)
+  value_sizes q (inr ne) (inr other) = ap value_block_size (changed_other a.later search_path one.node c (Some blank_node) q other ne) ∙ a.sized q
 
-  grow : (q : List ℕ) → (q ≡ way ++ c ∷ []) ⊎ (q ≢ way ++ c ∷ []) →
-      is_some (more q) ≡ (is_some (reading q) || (is_start q way || (same_path q (way ++ c ∷ []) || false)))
-  grow q (inl e) = ap is_some (is_new q e) ∙ or_new (is_some (reading q)) (is_start q way)
-      ∙ ap (λ s. is_some (reading q) || (is_start q way || (s || false))) (sym (same_path-equal q (way ++ c ∷ []) e))
-  grow q (inr ne) = some_stays a.later way a.deep.node one.node c (Some blank_node) a.deep.is q ne ∙ a.grown q ∙ or_old (is_some (reading q)) (is_start q way)
-      ∙ ap (λ s. is_some (reading q) || (is_start q way || (s || false))) (sym (same_path-not q (way ++ c ∷ []) ne))
+  grow : (q : List ℕ) → (q ≡ search_path ++ c ∷ []) ⊎ (q ≢ search_path ++ c ∷ []) →
+      is_some (more q) ≡ (is_some (reading q) || (is_start q search_path || (same_path q (search_path ++ c ∷ []) || false)))
+  grow q (inl e) = ap is_some (is_new q e) ∙ or_new (is_some (reading q)) (is_start q search_path)
+      ∙ ap (λ s. is_some (reading q) || (is_start q search_path || (s || false))) (sym (same_path-equal q (search_path ++ c ∷ []) e))
+  grow q (inr ne) = some_stays a.later search_path a.deep.node one.node c (Some blank_node) a.deep.is q ne ∙ a.grown q ∙ or_old (is_some (reading q)) (is_start q search_path)
+      ∙ ap (λ s. is_some (reading q) || (is_start q search_path || (s || false))) (sym (same_path-not q (search_path ++ c ∷ []) ne))
 
   pub walked_more : Walked reading values before path (depth + 1) slot2 v2 w × (node_at v2.slots slot2 ≡ blank_node)
   walked_more = (
     record {
       later = more;
-      paths = (way ++ c ∷ []) ∷ a.paths;
+      paths = (search_path ++ c ∷ []) ∷ a.paths;
       holds = record {
         hold = one.hold;
-        cells = cells_with_child cell_sizes node_sizes a.later a.paths v a.holds.hold values w a.holds.cells way a.deep.node one.node
-            a.deep.is one.value_bitmap one.value_block one.value_tier c lacks;
+        cells = cells_with_child cell_sizes node_sizes a.later a.paths v a.holds.hold values w a.holds.cells search_path a.deep.node one.node
+            a.deep.is one.value_bitmap one.value_block one.value_tier c some_missing;
       };
-      deep = record { node = blank_node; stands = subst (λ q. IsSlot more q slot2) (sym longer) one.stands; is = is_new (take (depth + 1) path) longer };
-      grown = λ q. grow q (same_or q (way ++ c ∷ [])) ∙ sym (ap (λ b. is_some (reading q) || b) (ap (is_start q) longer ∙ is_start-snoc q way c));
-      counted = count_with_child a.later way a.deep.node one.node c a.paths a.deep.is one.value_bitmap (a.holds.hold.listed (way ++ c ∷ []) ∙ ap one_if gone) ∙ a.counted;
-      children = λ q. child_sizes q (same_or q (way ++ c ∷ [])) (same_or q way);
-      sized = λ q. value_sizes q (same_or q (way ++ c ∷ [])) (same_or q way);
+      deep = record { node = blank_node; is_there = subst (λ q. IsSlot more q slot2) (sym longer) one.is_there; is = is_new (take (depth + 1) path) longer };
+      grown = λ q. grow q (same_or q (search_path ++ c ∷ [])) ∙ sym (ap (λ b. is_some (reading q) || b) (ap (is_start q) longer ∙ is_start-snoc q search_path c));
+      counted = count_with_child a.later search_path a.deep.node one.node c a.paths a.deep.is one.value_bitmap (a.holds.hold.listed (search_path ++ c ∷ []) ∙ ap one_if gone) ∙ a.counted;
+      children = λ q. child_sizes q (same_or q (search_path ++ c ∷ [])) (same_or q search_path);
+      sized = λ q. value_sizes q (same_or q (search_path ++ c ∷ [])) (same_or q search_path);
       needs =
           let new = is_new (take (depth + 1) path) longer in
           let old = was_none (take (depth + 1) path) longer in
           (ap child_need new ∙ blank_needs ∙ sym (ap child_need old), ap value_need new ∙ blank_value_needs ∙ sym (ap value_need old));
     },
-    (slot_holds node_sizes more ((way ++ c ∷ []) ∷ a.paths) v2 one.hold (way ++ c ∷ []) slot2 blank_node one.stands (is_new (way ++ c ∷ []) refl)).0,
+    (slot_holds node_sizes more ((search_path ++ c ∷ []) ∷ a.paths) v2 one.hold (search_path ++ c ∷ []) slot2 blank_node one.is_there (is_new (search_path ++ c ∷ []) refl)).0,
   )
 
 -- storing the value at the end of the path adds the entry
@@ -230,7 +230,7 @@ module _ {T : Type 0} (reading : List ℕ → Option Node) (values : List ℕ �
   end_is = ap a.later (sym whole) ∙ a.deep.is
 
   abbrev set_there : ValueSet a.later a.paths values path b x v2 u
-  set_there = put a.later a.paths path a.deep.node a.holds.hold a.holds.cells (subst (λ p. IsSlot a.later p slot) whole a.deep.stands) end_is
+  set_there = put a.later a.paths path a.deep.node a.holds.hold a.holds.cells (subst (λ p. IsSlot a.later p slot) whole a.deep.is_there) end_is
 
   abbrev changed_nodes : List ℕ → Option Node
   changed_nodes = with_node a.later path set_there.node

@@ -3,7 +3,7 @@ use Rattle.prefix_trie_table.proofs.Prelude.{◌≡◌, ℕ, List, Option, sym, 
 
 -- the deepest node of a path is in its slot
 abbrev pub deepest_there : {nodes : List ℕ → Option Node} {path : List ℕ} {depth slot : ℕ} {v : Store Node} → Deepest nodes path depth slot v → IsNodeAt nodes slot
-deepest_there deep = record { path = _; node = deep.node; stands = deep.stands; is = deep.is }
+deepest_there deep = record { path = _; node = deep.node; is_there = deep.is_there; is = deep.is }
 
 module _ {T : Type 0} {v : Store Node} {w : Store (Option T)} where
   -- the arrays of a table hold its nodes and values

@@ -2,7 +2,7 @@
 use Rattle.prefix_trie_table.proofs.Prelude.{◌≡◌, ℕ, false, Bool, List, Option, Result, MatchResult, sym, ap, ◌∙◌, subst, contains_key, Refusal, Memory, IndexRange, State, PreparesInStorage, RefusesInStorage, Node, Reached, SearchEnd, IsLast, ObtainsBoth, nodes_needed, cells_needed, Holds, Sized, EndsAt, seat_of, IsSearchEnd, Shaped, same_shape, Store, IsTable, ForHeld, Grows}
 use Rattle.std.specs.FinMap.{len as number_of}
 use Rattle.prefix_trie_table.proofs.Insertion.PredictedNeeds.{obtained}
-use Rattle.prefix_trie_table.proofs.Insertion.Inserted.{readied_in}
+use Rattle.prefix_trie_table.proofs.Insertion.Inserted.{prepared_in}
 use Rattle.prefix_trie_table.proofs.Insertion.Inserting.{last_still}
 use Rattle.prefix_trie_table.proofs.Tree.Invariant.{some_table}
 use Rattle.prefix_trie_table.proofs.Lookup.Ends.{last_ends, ends_last}
@@ -65,11 +65,11 @@ module _ {T : Type 0} (v v2 : Store Node) (w w2 : Store (Option T)) (count : ℕ
         last_ends v2 t.reading t.paths kept_holds.hold q here (last_still q here v at v2 t.reading t.paths t.holds.hold kept_holds.hold)
 
     -- what was made for the string is what its insertion needs
-    pub kept_readies : {X : Type 0} (sized : Sized v.slots) (later : Sized v2.slots) (r : Result X Refusal) → Grows v v2 56 → Grows w w2 31 →
+    pub kept_prepares : {X : Type 0} (sized : Sized v.slots) (later : Sized v2.slots) (r : Result X Refusal) → Grows v v2 56 → Grows w w2 31 →
         ObtainsBoth (λ cause. cause ≡ IndexRange) (λ cause. cause ≡ Memory) r v v2 w w2 (nodes_needed here q) (cells_needed here q) →
         MatchResult r (λ _. PreparesInStorage s.0 q (storage_of v w sized) (storage_of v2 w2 later))
         (λ cause. RefusesInStorage s.0 q cause (storage_of v w sized) (storage_of v2 w2 later))
-    kept_readies sized later r more_nodes more_cells obtains =
-        readied_in v v2 w w2 count count s.0 s.0 is (kept_table more_nodes more_cells kept_shape) sized later q (λ cause. cause) r
+    kept_prepares sized later r more_nodes more_cells obtains =
+        prepared_in v v2 w w2 count count s.0 s.0 is (kept_table more_nodes more_cells kept_shape) sized later q (λ cause. cause) r
         (obtained (λ cause. cause ≡ IndexRange) (λ cause. cause ≡ Memory) q here v v2 w w2 count s is sized r at obtains)
         (kept_sizes sized later)

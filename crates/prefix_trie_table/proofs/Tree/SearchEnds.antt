@@ -10,8 +10,8 @@ slot_from-snoc nodes at (x ∷ p) c = slot_from-snoc nodes (child_slot (node_at 
 
 module _ (v : Store Node) (reading : List ℕ → Option Node) (paths : List (List ℕ)) (hold : NodesHold node_sizes reading paths v) where
   -- a node that exists is in the slot to which its path leads
-  pub slot_stands : (p : List ℕ) → is_some (reading p) ≡ true → IsSlot reading p (slot_from v.slots 0 p)
-  slot_stands = snoc_ind (λ p. is_some (reading p) ≡ true → IsSlot reading p (slot_from v.slots 0 p)) (λ some. at_root)
+  pub slot_is_there : (p : List ℕ) → is_some (reading p) ≡ true → IsSlot reading p (slot_from v.slots 0 p)
+  slot_is_there = snoc_ind (λ p. is_some (reading p) ≡ true → IsSlot reading p (slot_from v.slots 0 p)) (λ some. at_root)
       (λ p c ih some. below p c ih (sym (hold.linked p c) ∙ some))
     where
       below : (p : List ℕ) (c : ℕ) → (is_some (reading p) ≡ true → IsSlot reading p (slot_from v.slots 0 p)) → has_child (reading p) c ≡ true →
@@ -28,5 +28,5 @@ module _ (v : Store Node) (reading : List ℕ → Option Node) (paths : List (Li
   pub slot_only : (p : List ℕ) (slot : ℕ) → IsSlot reading p slot → slot ≡ slot_from v.slots 0 p
   slot_only p slot (at_root) = refl
   slot_only p slot (at_child q c n is bit) =
-      let at = slot_holds node_sizes reading paths v hold q (slot_from v.slots 0 q) n (slot_stands q (ap is_some is)) is in
+      let at = slot_holds node_sizes reading paths v hold q (slot_from v.slots 0 q) n (slot_is_there q (ap is_some is)) is in
       ap (λ (k : Node). child_slot k c) (sym at.0) ∙ sym (slot_from-snoc v.slots 0 q c)

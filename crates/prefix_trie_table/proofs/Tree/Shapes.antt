@@ -5,10 +5,10 @@ use Rattle.prefix_trie_table.proofs.Tree.Invariant.{some_table}
 use Rattle.prefix_trie_table.proofs.Strings.Bits.{has_bit-zero}
 use Rattle.prefix_trie_table.proofs.Strings.BitLists.{rank-zero-all}
 use Rattle.prefix_trie_table.proofs.Strings.Paths.{same_path-itself, same_path-not, same_path-true, snoc_not_nil}
-use Rattle.prefix_trie_table.proofs.Strings.Keys.{same_key, same_above, begins-way}
+use Rattle.prefix_trie_table.proofs.Strings.Keys.{same_key, same_above, begins-search_path}
 use Rattle.prefix_trie_table.proofs.Tree.Trees.{reads, is_none-None}
 use Rattle.prefix_trie_table.proofs.Tree.Children.{blank_blocks, bits-zero}
-use Rattle.prefix_trie_table.proofs.Tree.Values.{value_stands}
+use Rattle.prefix_trie_table.proofs.Tree.Values.{value_is_there}
 
 module _ {T : Type 0} where
   pub value_in-there : (cells : List (Option T)) (n : Node) (b : ℕ) → has_bit n.value_bitmap b ≡ true →
@@ -25,7 +25,7 @@ module _ {T : Type 0} where
     value_at_node : (q : List ℕ) (b : ℕ) (o : Option Node) → reading q ≡ o → value_of w.slots o b ≡ values q b
     value_at_node q b None e = sym (is_none-None (values q b) (holds.cells.set_where q b ∙ ap (λ o. has_value o b) e))
     value_at_node q b (Some n) e = elim (cases_Bool (has_bit n.value_bitmap b)) as (λ _. value_in w.slots n b ≡ values q b) [
-      | inl hit ↦ value_in-there w.slots n b hit ∙ (value_stands cell_sizes node_sizes reading paths v holds.hold values w holds.cells q n b e hit).1
+      | inl hit ↦ value_in-there w.slots n b hit ∙ (value_is_there cell_sizes node_sizes reading paths v holds.hold values w holds.cells q n b e hit).1
       | inr miss ↦ value_in-missing w.slots n b miss ∙ sym (is_none-None (values q b) (holds.cells.set_where q b ∙ ap (λ o. has_value o b) e ∙ miss))
     ]
 
@@ -80,7 +80,7 @@ module _ {T : Type 0} where
             (chunks_of key)))
         at_depth q false e = refl
         at_depth q true e = both (begins q key) (is_some (reading (chunks_of q))) (is_start (chunks_of q) (chunks_of key))
-            (sym (begins-way q key (eqb-true (length q % 5) 0 e)))
+            (sym (begins-search_path q key (eqb-true (length q % 5) 0 e)))
 
     -- the shape if nothing was added
     pub shape_kept : (s : State T) → IsShapeOf v.slots w.slots s → Holds reading values paths v2 w2 → IsShapeOf v2.slots w2.slots s

@@ -4,13 +4,12 @@ use Rattle.std.proofs.lemmas.Bool.{lt-ltb}
 use Rattle.prefix_trie_table.proofs.Strings.Plain.{both_true, no_or_yes}
 use Rattle.prefix_trie_table.proofs.Tree.Invariant.{some_table}
 use Rattle.prefix_trie_table.proofs.Strings.Bits.{has_bit-is}
-use Rattle.prefix_trie_table.proofs.Tree.Trees.{is_none-None, reads, slot_holds, read-snoc, child-there, child-missing, child_stands}
-use Rattle.prefix_trie_table.proofs.Tree.Values.{value_stands}
+use Rattle.prefix_trie_table.proofs.Tree.Trees.{is_none-None, reads, slot_holds, read-snoc, child-there, child-missing, child_is_there}
+use Rattle.prefix_trie_table.proofs.Tree.Values.{value_is_there}
 use Rattle.prefix_trie_table.proofs.Tree.Shapes.{reads_node, shape_entries}
 use Rattle.prefix_trie_table.proofs.Lookup.Matched.{has_nodes}
-use Rattle.prefix_trie_table.proofs.Strings.Digits.{short_path, five_path}
+use Rattle.prefix_trie_table.proofs.Strings.Digits.{short_path, five_path, search_paths-append}
 pub use Rattle.prefix_trie_table.proofs.Strings.Digits.{path-append}
-use Rattle.prefix_trie_table.proofs.Strings.Digits.{ways-append}
 
 -- from a missing node, every path leads to nothing
 pub read_from-none : (nodes : List Node) (p : List ℕ) → read_from nodes None p ≡ None
@@ -44,8 +43,8 @@ module _ {T : Type 0} (width : ℕ) (v : Store Node) (t : Tree T) (tree : IsTrie
   -- nothing is stored under a string without a node
   pub nothing_below : (q : List Bool) → length q % 5 ≡ 0 → read v.slots (chunks_of q) ≡ None → listing_below t.shape.entries q ≡ []
   nothing_below q whole missing = listing_below_none t.shape.entries q (λ k has. no_or_yes (begins q k) (λ e.
-      let way : chunks_of k ≡ chunks_of q ++ chunks_of (drop (length q) k) = ap chunks_of (begins-rest q k e) ∙ path-append q (drop (length q) k) whole in
-      let none : read v.slots (chunks_of k) ≡ None = ap (read v.slots) way ∙ read-missing v.slots (chunks_of q) (chunks_of (drop (length q) k)) missing in
+      let search_path : chunks_of k ≡ chunks_of q ++ chunks_of (drop (length q) k) = ap chunks_of (begins-rest q k e) ∙ path-append q (drop (length q) k) whole in
+      let none : read v.slots (chunks_of k) ≡ None = ap (read v.slots) search_path ∙ read-missing v.slots (chunks_of q) (chunks_of (drop (length q) k)) missing in
       absurd (false≢true (sym (ap is_some (tree.shaped.1 k ∙ ap (λ o. value_of t.cells.slots o (bit_of k)) none)) ∙ has))))
 
   -- no node has value bit 31
@@ -59,9 +58,9 @@ module _ {T : Type 0} (width : ℕ) (v : Store Node) (t : Tree T) (tree : IsTrie
       let h = tree.table.nodes in
       (slot_holds node_sizes tree.table.reading tree.table.paths v h [] 0 (node_at v.slots 0) at_root h.rooted).1
 
-  module _ (q : List Bool) (n : Node) (whole : length q % 5 ≡ 0) (stands : read v.slots (chunks_of q) ≡ Some n) where
+  module _ (q : List Bool) (n : Node) (whole : length q % 5 ≡ 0) (is_there : read v.slots (chunks_of q) ≡ Some n) where
     node_is : tree.table.reading (chunks_of q) ≡ Some n
-    node_is = sym (reads_node tree.table.reading tree.table.values tree.table.paths v t.cells (some_table tree.table).holds (chunks_of q)) ∙ stands
+    node_is = sym (reads_node tree.table.reading tree.table.values tree.table.paths v t.cells (some_table tree.table).holds (chunks_of q)) ∙ is_there
 
     -- ---- a place of less than five bits
 
@@ -74,7 +73,7 @@ module _ {T : Type 0} (width : ℕ) (v : Store Node) (t : Tree T) (tree : IsTrie
           shape_entries tree.table.reading tree.table.values tree.table.paths v t.cells (some_table tree.table).holds t.shape tree.shaped (q ++ s)
           ∙ ap₂ tree.table.values
           (path-append q s whole ∙ ap (λ p. chunks_of q ++ p) (short_path s short).0 ∙ append-nil (chunks_of q))
-          (ap value_bit ((ways-append q s whole).1 ∙ (short_path s short).1))
+          (ap value_bit ((search_paths-append q s whole).1 ∙ (short_path s short).1))
 
       has_value_is : is_some (tree.table.values (chunks_of q) (value_bit s)) ≡ has n.value_bitmap (value_bit s)
       has_value_is =
@@ -93,7 +92,7 @@ module _ {T : Type 0} (width : ℕ) (v : Store Node) (t : Tree T) (tree : IsTrie
         cell_there : (get_or t.cells.slots (n.value_block + rank n.value_bitmap (value_bit s)) None ≡ tree.table.values (chunks_of q) (value_bit s))
             × (n.value_block + rank n.value_bitmap (value_bit s) < length t.cells.slots)
         cell_there =
-            let h = value_stands cell_sizes node_sizes tree.table.reading tree.table.paths v tree.table.nodes tree.table.values t.cells tree.table.cells (chunks_of q) n (value_bit s) node_is (has_bit-is n.value_bitmap (value_bit s) bit_small ∙ set) in
+            let h = value_is_there cell_sizes node_sizes tree.table.reading tree.table.paths v tree.table.nodes tree.table.values t.cells tree.table.cells (chunks_of q) n (value_bit s) node_is (has_bit-is n.value_bitmap (value_bit s) bit_small ∙ set) in
             (h.1, h.2)
 
         -- the stored value
@@ -129,7 +128,7 @@ module _ {T : Type 0} (width : ℕ) (v : Store Node) (t : Tree T) (tree : IsTrie
       child_read : read v.slots (chunks_of (q ++ s)) ≡ child v.slots n (number s)
       child_read =
           ap (read v.slots) (path-append q s whole ∙ ap (λ p. chunks_of q ++ p) (five_path s five)) ∙ read-snoc v.slots (chunks_of q) (number s)
-          ∙ ap (λ o. below v.slots o (number s)) stands
+          ∙ ap (λ o. below v.slots o (number s)) is_there
 
       no_child_there : has n.child_bitmap (number s) ≡ false → listing_below t.shape.entries (q ++ s) ≡ []
       no_child_there clear =
@@ -145,7 +144,7 @@ module _ {T : Type 0} (width : ℕ) (v : Store Node) (t : Tree T) (tree : IsTrie
         child_is = child_read ∙ child-there v.slots n (number s) child_set
 
         pub child_inside : child_slot n (number s) < length v.slots
-        child_inside = (child_stands node_sizes tree.table.reading tree.table.paths v tree.table.nodes (chunks_of q) n (number s) node_is child_set).2
+        child_inside = (child_is_there node_sizes tree.table.reading tree.table.paths v tree.table.nodes (chunks_of q) n (number s) node_is child_set).2
 
         -- the child has no value bit 31
         pub child_few : has_bit (node_at v.slots (child_slot n (number s))).value_bitmap 31 ≡ false

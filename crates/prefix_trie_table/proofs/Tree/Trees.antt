@@ -82,10 +82,10 @@ module _ (sizes : List ℕ) (nodes : List ℕ → Option Node) (paths : List (Li
       (held_some n.child_tier n.child_block (size_in sizes n.child_tier) (child_items nodes p n.child_bitmap) h) (own_first p n e)
 
   -- in which slot a child is
-  pub child_stands : (p : List ℕ) (n : Node) (c : ℕ) → nodes p ≡ Some n → has_bit n.child_bitmap c ≡ true
+  pub child_is_there : (p : List ℕ) (n : Node) (c : ℕ) → nodes p ≡ Some n → has_bit n.child_bitmap c ≡ true
       → (rank n.child_bitmap c < length (child_items nodes p n.child_bitmap)) ×
       (node_at v.slots (child_slot n c) ≡ node_or_blank (nodes (p ++ c ∷ []))) × (child_slot n c < length v.slots) × (0 < child_slot n c)
-  child_stands p n c e bit =
+  child_is_there p n c e bit =
       let f : ℕ → Node = λ d. node_or_blank (nodes (p ++ d ∷ [])) in
       let g = map_get f n.child_bitmap c blank_node (has_bit-below n.child_bitmap c bit) bit in
       let s : Sound blank_node (block_of p n ∷ flat_map (child_blocks sizes nodes) (without p paths)) v = block_first p n e (let x = g.0 in omega arith) in
@@ -101,7 +101,7 @@ module _ (sizes : List ℕ) (nodes : List ℕ → Option Node) (paths : List (Li
   reads_below : (q : List ℕ) (c : ℕ) (o : Option Node) → nodes q ≡ o → below v.slots o c ≡ nodes (q ++ c ∷ [])
   reads_below q c None e = sym (is_none-None (nodes (q ++ c ∷ [])) (hold.linked q c ∙ ap (λ o. has_child o c) e))
   reads_below q c (Some n) e = elim (cases_Bool (has_bit n.child_bitmap c)) as (λ _. child v.slots n c ≡ nodes (q ++ c ∷ [])) [
-    | inl hit ↦ child-there v.slots n c hit ∙ ap Some (child_stands q n c e hit).1
+    | inl hit ↦ child-there v.slots n c hit ∙ ap Some (child_is_there q n c e hit).1
         ∙ sym (is_some-Some (nodes (q ++ c ∷ [])) (hold.linked q c ∙ ap (λ o. has_child o c) e ∙ hit))
     | inr miss ↦ child-missing v.slots n c miss ∙ sym (is_none-None (nodes (q ++ c ∷ [])) (hold.linked q c ∙ ap (λ o. has_child o c) e ∙ miss))
   ]
@@ -116,7 +116,7 @@ module _ (sizes : List ℕ) (nodes : List ℕ → Option Node) (paths : List (Li
   slot_holds p s n (at_root) e =
       let z : Some (node_at v.slots 0) ≡ Some n = sym hold.rooted ∙ e in
       (ap node_or_blank z, (let w = first_place blank_node _ v hold.sound in let f = hold.first_is in omega arith))
-  slot_holds p s n (at_child q c m is bit) e = let w = child_stands q m c is bit in (w.1 ∙ ap node_or_blank e, w.2)
+  slot_holds p s n (at_child q c m is bit) e = let w = child_is_there q m c is bit in (w.1 ∙ ap node_or_blank e, w.2)
 
 -- a node with the same children has the same block of children
 child_blocks_of-same : (sizes : List ℕ) (nodes later : List ℕ → Option Node) (q : List ℕ) (o : Option Node) →
@@ -162,7 +162,7 @@ module _ (sizes : List ℕ) (nodes : List ℕ → Option Node) (paths : List (Li
       let twice : List (List ℕ) = without q rest in
       let in_rest : times q rest ≡ 1 = parents q c refl in
       let there : 0 < times q rest = omega arith in
-      let start = child_stands sizes nodes paths v hold q k c parent bit in
+      let start = child_is_there sizes nodes paths v hold q k c parent bit in
       let b : UsedBlock Node = block k.child_tier k.child_block (size_in sizes k.child_tier) (child_items nodes q k.child_bitmap) in
       let b' : UsedBlock Node = block k.child_tier k.child_block (size_in sizes k.child_tier)
       (set (child_items nodes q k.child_bitmap) (rank k.child_bitmap c) m) in

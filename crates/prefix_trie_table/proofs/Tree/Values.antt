@@ -89,10 +89,10 @@ module _ {T : Type 0} (sizes node_sizes : List ℕ) (nodes : List ℕ → Option
     values_first p n e = held_first w cells.sound p n e
 
     -- in which slot a value is
-    pub value_stands : (p : List ℕ) (n : Node) (b : ℕ) → nodes p ≡ Some n → has_bit n.value_bitmap b ≡ true
+    pub value_is_there : (p : List ℕ) (n : Node) (b : ℕ) → nodes p ≡ Some n → has_bit n.value_bitmap b ≡ true
         → (rank n.value_bitmap b < length (map (values p) (bits n.value_bitmap))) ×
         (get_or w.slots (n.value_block + rank n.value_bitmap b) None ≡ values p b) × (n.value_block + rank n.value_bitmap b < length w.slots)
-    value_stands p n b e bit =
+    value_is_there p n b e bit =
         let g = map_get (values p) n.value_bitmap b None (has_bit-below n.value_bitmap b bit) bit in
         let s = block_first w cells.sound p n e (let x = g.0 in omega arith) in
         let at = block_inside None (block_of p n) (flat_map (value_blocks sizes nodes values) (without p paths)) w s in

@@ -66,11 +66,11 @@ module _ {T : Type 0} where
         ap₂ (λ xs ys. xs ++ ys) (place_bare s t) (places_bare s ts) ∙ sym (map-append bare (listing_at_place m s t) (listing_at_places m s ts))
 
     -- the strings to come are those of the entries
-    pub pending_bare : (way : List Bool) (ps : List Spot) → pending keys way ps ≡ map bare (pending m way ps)
-    pending_bare way [] = refl
-    pending_bare way (p ∷ ps) =
-        ap₂ (λ xs ys. xs ++ ys) (pending_bare way ps) (places_bare (take p.depth way) (to_come p.places))
-        ∙ sym (map-append bare (pending m way ps) (still m way p))
+    pub pending_bare : (search_path : List Bool) (ps : List Spot) → pending keys search_path ps ≡ map bare (pending m search_path ps)
+    pending_bare search_path [] = refl
+    pending_bare search_path (p ∷ ps) =
+        ap₂ (λ xs ys. xs ++ ys) (pending_bare search_path ps) (places_bare (take p.depth search_path) (to_come p.places))
+        ∙ sym (map-append bare (pending m search_path ps) (still m search_path p))
 
 -- writing a value that is stored leaves the keys still to come
 module _ {X : Type 0} (m : Entries X) (k : List Bool) (v : X) (stored : contains_key m k ≡ true) where
@@ -81,10 +81,10 @@ module _ {X : Type 0} (m : Entries X) (k : List Bool) (v : X) (stored : contains
       at true is = sym (ap (contains_key m) (same_string-is q k is) ∙ stored)
       at false is = refl
 
-  pub pending_again : (way : List Bool) (ps : List Spot) →
-      map (λ e. e.0) (pending (with_entry m k v) way ps) ≡ map (λ e. e.0) (pending m way ps)
-  pending_again way ps =
-      sym (map-map (λ e. e.0) bare (pending (with_entry m k v) way ps))
-      ∙ ap (map (λ e. e.0)) (sym (pending_bare (with_entry m k v) (strings_of m) (λ q. has-strings_of m q ∙ stored_again q) way ps)
-      ∙ pending_bare m (strings_of m) (has-strings_of m) way ps)
-      ∙ map-map (λ e. e.0) bare (pending m way ps)
+  pub pending_again : (search_path : List Bool) (ps : List Spot) →
+      map (λ e. e.0) (pending (with_entry m k v) search_path ps) ≡ map (λ e. e.0) (pending m search_path ps)
+  pending_again search_path ps =
+      sym (map-map (λ e. e.0) bare (pending (with_entry m k v) search_path ps))
+      ∙ ap (map (λ e. e.0)) (sym (pending_bare (with_entry m k v) (strings_of m) (λ q. has-strings_of m q ∙ stored_again q) search_path ps)
+      ∙ pending_bare m (strings_of m) (has-strings_of m) search_path ps)
+      ∙ map-map (λ e. e.0) bare (pending m search_path ps)

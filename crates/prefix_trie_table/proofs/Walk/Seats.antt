@@ -68,10 +68,10 @@ module _ {T : Type 0} (v : Store Node) (w : Store (Option T)) (t : SomeTable v w
   seats_differ q s x y a b ne same = at (same_or (chunks_of s) (chunks_of q))
     where
       at : (chunks_of s ≡ chunks_of q) ⊎ (chunks_of s ≢ chunks_of q) → ⊥
-      at (inl way) =
-          let both : Some b.node ≡ Some a.node = sym b.is ∙ ap t.reading way ∙ a.is in
+      at (inl search_path) =
+          let both : Some b.node ≡ Some a.node = sym b.is ∙ ap t.reading search_path ∙ a.is in
           let node : b.node ≡ a.node = cc in
-          let bits_differ : bit_of q ≢ bit_of s = (λ e. ne (string_is q s (sym way) e)) in
+          let bits_differ : bit_of q ≢ bit_of s = (λ e. ne (string_is q s (sym search_path) e)) in
           let slots : a.node.value_block + rank a.node.value_bitmap (bit_of q) ≡ a.node.value_block + rank a.node.value_bitmap (bit_of s) = sym a.slot_is ∙ same ∙ b.slot_is ∙ ap (λ (n : Node). n.value_block + rank n.value_bitmap (bit_of s)) node in
           ranks_differ a.node.value_bitmap (bit_of q) (bit_of s) a.set (subst (λ (n : Node). has_bit n.value_bitmap (bit_of s) ≡ true) node b.set) bits_differ
           (omega (arith, slots))

@@ -146,11 +146,11 @@ module _ {X : Type 0} where
   keep false false x ys zs e h = h
 
   -- if a test has one result for all that pass another, all of them are kept or none
-  pub one-answer : (g p : X → Bool) (b : Bool) → ((x : X) → p x ≡ true → g x ≡ b) → (xs : List X) → filter g (filter p xs) ≡ cond b (filter p xs) []
-  one-answer g p b h [] = cond-none b
-  one-answer g p b h (x ∷ xs) = elim (p x) as (λ c. p x ≡ c → filter g (cond c (x ∷ filter p xs) (filter p xs)) ≡ cond b (cond c (x ∷ filter p xs) (filter p xs)) []) [
-    | true ↦ λ e. keep (g x) b x (filter p xs) (filter g (filter p xs)) (h x e) (one-answer g p b h xs)
-    | false ↦ λ _. one-answer g p b h xs
+  pub one-match : (g p : X → Bool) (b : Bool) → ((x : X) → p x ≡ true → g x ≡ b) → (xs : List X) → filter g (filter p xs) ≡ cond b (filter p xs) []
+  one-match g p b h [] = cond-none b
+  one-match g p b h (x ∷ xs) = elim (p x) as (λ c. p x ≡ c → filter g (cond c (x ∷ filter p xs) (filter p xs)) ≡ cond b (cond c (x ∷ filter p xs) (filter p xs)) []) [
+    | true ↦ λ e. keep (g x) b x (filter p xs) (filter g (filter p xs)) (h x e) (one-match g p b h xs)
+    | false ↦ λ _. one-match g p b h xs
   ] refl
 
 first-bits : (s t u : List Bool) → length t ≡ 5 → take 5 (drop (length s) ((s ++ t) ++ u)) ≡ t
@@ -172,7 +172,7 @@ module _ {T : Type 0} (m : Entries T) (s : List Bool) (passes : List Bool × T �
     | inr g ↦
         let five : length t ≡ 5 = omega arith in
         subst (λ es. filter passes es ≡ cond (test t) es []) (sym (listing_at_child m s t five))
-        (one-answer passes (λ e. begins (s ++ t) e.0) (test t) (child t five) (listing m))
+        (one-match passes (λ e. begins (s ++ t) e.0) (test t) (child t five) (listing m))
   ]
 
   module _ (some inside : List Bool → Bool) (is : (t : List Bool) → length t ≤ 5 → some t ≡ (inside t && test t))

@@ -51,18 +51,18 @@ place-child-small s b h e =
 
 -- ---- a spot
 
-module _ (width : ℕ) (v : Store Node) (way : List Bool) (p : Spot) (at : IsSpot width v.slots way p) (long : length way ≡ width) where
-  pub string-length : length (take p.depth way) ≡ p.depth
-  string-length = length-take-le p.depth way at.long
+module _ (width : ℕ) (v : Store Node) (search_path : List Bool) (p : Spot) (at : IsSpot width v.slots search_path p) (long : length search_path ≡ width) where
+  pub string-length : length (take p.depth search_path) ≡ p.depth
+  string-length = length-take-le p.depth search_path at.long
 
-  whole : length (take p.depth way) % 5 ≡ 0
-  whole = whole_levels (length (take p.depth way)) at.level (string-length ∙ at.depth_is)
+  whole : length (take p.depth search_path) % 5 ≡ 0
+  whole = whole_levels (length (take p.depth search_path)) at.level (string-length ∙ at.depth_is)
 
   -- a key that begins with the spot's path
-  pub same_above : (key s rest : List Bool) → key ≡ take p.depth way ++ s ++ rest → take p.depth key ≡ take p.depth way
+  pub same_above : (key s rest : List Bool) → key ≡ take p.depth search_path ++ s ++ rest → take p.depth key ≡ take p.depth search_path
   same_above key s rest e =
-      ap (take p.depth) (e ∙ append_assoc (take p.depth way) s rest)
-      ∙ take-append-le p.depth (take p.depth way) (s ++ rest) (omega (arith, string-length)) ∙ take-take p.depth p.depth way (omega arith)
+      ap (take p.depth) (e ∙ append_assoc (take p.depth search_path) s rest)
+      ∙ take-append-le p.depth (take p.depth search_path) (s ++ rest) (omega (arith, string-length)) ∙ take-take p.depth p.depth search_path (omega arith)
 
   module _ (s : List Bool) (later : Places) (first : to_come p.places ≡ s ∷ to_come later) where
     -- the spot afterwards
@@ -72,8 +72,8 @@ module _ (width : ℕ) (v : Store Node) (way : List Bool) (p : Spot) (at : IsSpo
     here : IsPlaceOf p.node s
     here = All-head (IsPlaceOf p.node) s (to_come later) (subst (All (IsPlaceOf p.node)) first at.each)
 
-    pub goes_on : IsSpot width v.slots way (record p { places = later })
-    goes_on = spot_as at refl at.long at.stands (All-tail (IsPlaceOf p.node) s (to_come later) (subst (All (IsPlaceOf p.node)) first at.each))
+    pub goes_on : IsSpot width v.slots search_path (record p { places = later })
+    goes_on = spot_as at refl at.long at.is_there (All-tail (IsPlaceOf p.node) s (to_come later) (subst (All (IsPlaceOf p.node)) first at.each))
 
     weight_is : weight p ≡ 2 ^ (2 * (130 - p.depth)) + weight after
     weight_is =
@@ -85,8 +85,8 @@ module _ (width : ℕ) (v : Store Node) (way : List Bool) (p : Spot) (at : IsSpo
     lighter = omega (arith, weight_is, pow_pos (2 * (130 - p.depth)))
 
     module _ {T : Type 0} (t : Tree T) (tree : IsTrie width t.count v t.cells t.shape) where
-      still_is : still t.shape.entries way p ≡ listing_at_place t.shape.entries (take p.depth way) s ++ still t.shape.entries way after
-      still_is = ap (listing_at_places t.shape.entries (take p.depth way)) first
+      still_is : still t.shape.entries search_path p ≡ listing_at_place t.shape.entries (take p.depth search_path) s ++ still t.shape.entries search_path after
+      still_is = ap (listing_at_places t.shape.entries (take p.depth search_path)) first
 
       -- the next place is that of a value
       module _ (short : length s ≤ 4) where
@@ -95,49 +95,49 @@ module _ (width : ℕ) (v : Store Node) (way : List Bool) (p : Spot) (at : IsSpo
 
         pub value_space : p.depth + length s ≤ width
         value_space =
-            let h = value_fits width v t tree (take p.depth way) p.node whole at.stands s short set in omega (arith, h, string-length)
+            let h = value_fits width v t tree (take p.depth search_path) p.node whole at.is_there s short set in omega (arith, h, string-length)
 
         module _ {K : Type 0} (IsKey : K → Type 0) (bits : K → List Bool) (key : K) (is_key : IsKey key) (n x : ℕ) (is : s ≡ digits n x)
-            (extended : bits key ≡ take p.depth way ++ digits n x ++ zeros (width - (p.depth + n))) where
+            (extended : bits key ≡ take p.depth search_path ++ digits n x ++ zeros (width - (p.depth + n))) where
           n_is : length s ≡ n
           n_is = ap length is ∙ length-digits n x
 
           fits : p.depth + n ≤ width
           fits = let h = value_space in omega (arith, h, n_is)
 
-          taken : take (p.depth + n) (bits key) ≡ take p.depth way ++ s
-          taken = take-extend way (bits key) width p.depth n x long fits extended ∙ ap (λ u. take p.depth way ++ u) (sym is)
+          taken : take (p.depth + n) (bits key) ≡ take p.depth search_path ++ s
+          taken = take-extend search_path (bits key) width p.depth n x long fits extended ∙ ap (λ u. take p.depth search_path ++ u) (sym is)
 
           -- the key ends at the spot
-          pub ends_here : EndsAt way p (take (p.depth + n) (bits key))
+          pub ends_here : EndsAt search_path p (take (p.depth + n) (bits key))
           ends_here =
-              let l : length (take (p.depth + n) (bits key)) ≡ p.depth + length s = ap length taken ∙ length-append (take p.depth way) s ∙ ap (λ d. d + length s) string-length in
+              let l : length (take (p.depth + n) (bits key)) ≡ p.depth + length s = ap length taken ∙ length-append (take p.depth search_path) s ∙ ap (λ d. d + length s) string-length in
               record {
                 whole = omega (arith, l);
                 last = omega (arith, l, short);
-                same_above = ap (take p.depth) taken ∙ take-append-le p.depth (take p.depth way) s (omega (arith, string-length)) ∙ take-take p.depth p.depth way (omega arith);
+                same_above = ap (take p.depth) taken ∙ take-append-le p.depth (take p.depth search_path) s (omega (arith, string-length)) ∙ take-take p.depth p.depth search_path (omega arith);
               }
 
           filled : bits key ≡ take (p.depth + n) (bits key) ++ zeros (width - (p.depth + n))
           filled =
-              extended ∙ ap (λ u. u ++ zeros (width - (p.depth + n))) (sym (take-extend way (bits key) width p.depth n x long fits extended))
+              extended ∙ ap (λ u. u ++ zeros (width - (p.depth + n))) (sym (take-extend search_path (bits key) width p.depth n x long fits extended))
 
           -- what the step gives
           module _ (seat : Seat) (seat_is : seat ≡ value_seat p.node (value_bit s)) where
-            pub gives_value : GivesSeat IsKey bits width t key (p.depth + n) seat (still t.shape.entries way p) (still t.shape.entries way after)
+            pub gives_value : GivesSeat IsKey bits width t key (p.depth + n) seat (still t.shape.entries search_path p) (still t.shape.entries search_path after)
             gives_value =
-                let x = stored_value width v t tree (take p.depth way) p.node whole at.stands s short set in
+                let x = stored_value width v t tree (take p.depth search_path) p.node whole at.is_there s short set in
                 record {
                   value = x;
-                  stands = subst (λ k. slot_of k < length t.cells.slots) (sym seat_is) (value_inside width v t tree (take p.depth way) p.node whole at.stands s short set);
-                  reads = ap (λ k. get_or t.cells.slots (slot_of k) None) seat_is ∙ value_read width v t tree (take p.depth way) p.node whole at.stands s short set;
+                  is_there = subst (λ k. slot_of k < length t.cells.slots) (sym seat_is) (value_inside width v t tree (take p.depth search_path) p.node whole at.is_there s short set);
+                  reads = ap (λ k. get_or t.cells.slots (slot_of k) None) seat_is ∙ value_read width v t tree (take p.depth search_path) p.node whole at.is_there s short set;
                   gives = record {
                     is_key = is_key;
                     short = fits;
                     first =
                         still_is
-                        ∙ ap (λ es. es ++ still t.shape.entries way after) (value_listed width v t tree (take p.depth way) p.node whole at.stands s short set)
-                        ∙ ap (λ k. (k, x) ∷ still t.shape.entries way after) (sym taken);
+                        ∙ ap (λ es. es ++ still t.shape.entries search_path after) (value_listed width v t tree (take p.depth search_path) p.node whole at.is_there s short set)
+                        ∙ ap (λ k. (k, x) ∷ still t.shape.entries search_path after) (sym taken);
                     filled = filled;
                   };
                 }
@@ -145,7 +145,7 @@ module _ (width : ℕ) (v : Store Node) (way : List Bool) (p : Spot) (at : IsSpo
             -- where the seat is that of its key
             pub value_seated : seat_of v.slots (take (p.depth + n) (bits key)) ≡ Some seat
             value_seated =
-                ap (seat_of v.slots) taken ∙ seat_below v.slots at.level (take p.depth way) s p.node (string-length ∙ at.depth_is) short at.stands set
+                ap (seat_of v.slots) taken ∙ seat_below v.slots at.level (take p.depth search_path) s p.node (string-length ∙ at.depth_is) short at.is_there set
                 ∙ ap Some (sym seat_is)
 
       -- the next place is that of a child
@@ -155,14 +155,14 @@ module _ (width : ℕ) (v : Store Node) (way : List Bool) (p : Spot) (at : IsSpo
 
         pub child_space : p.depth + 5 ≤ width
         child_space =
-            let h = child_fits width v t tree (take p.depth way) p.node whole at.stands s five bit_set in omega (arith, h, string-length)
+            let h = child_fits width v t tree (take p.depth search_path) p.node whole at.is_there s five bit_set in omega (arith, h, string-length)
 
         -- which is passed
         pub child_passed : IsStrictlySortedBy listing_cmp (to_come p.places) → (b : ℕ) → b ≡ number s → (key rest : List Bool) →
-            key ≡ take p.depth way ++ digits 5 b ++ rest → IsPassed key (record p { places = later })
+            key ≡ take p.depth search_path ++ digits 5 b ++ rest → IsPassed key (record p { places = later })
         unfolding IsStrictlySortedBy
         child_passed sorted b b_is key rest extended =
-            let child : take 5 (drop p.depth key) ≡ s = ap (λ k. take 5 (drop p.depth k)) (extended ∙ append_assoc (take p.depth way) (digits 5 b) rest) ∙ ap (take 5) (drop_at (take p.depth way) (digits 5 b ++ rest) p.depth string-length)
+            let child : take 5 (drop p.depth key) ≡ s = ap (λ k. take 5 (drop p.depth k)) (extended ∙ append_assoc (take p.depth search_path) (digits 5 b) rest) ∙ ap (take 5) (drop_at (take p.depth search_path) (digits 5 b ++ rest) p.depth string-length)
             ∙ take_at (digits 5 b) rest 5 (length-digits 5 b) ∙ ap₂ digits (sym five) b_is ∙ digits-number s in
             subst (λ c. All (IsOther c) (to_come later)) (sym child) (others_after s (to_come later) (subst (IsStrictlySortedBy listing_cmp) first sorted).0)
 
@@ -173,27 +173,27 @@ module _ (width : ℕ) (v : Store Node) (way : List Bool) (p : Spot) (at : IsSpo
           pub child_here : (slot < length v.slots) × (has_bit (node_at v.slots slot).value_bitmap 31 ≡ false)
           child_here =
               subst (λ k. (k < length v.slots) × (has_bit (node_at v.slots k).value_bitmap 31 ≡ false)) (sym own_slot) (
-                child_inside width v t tree (take p.depth way) p.node whole at.stands s five bit_set,
-                child_few width v t tree (take p.depth way) p.node whole at.stands s five bit_set,
+                child_inside width v t tree (take p.depth search_path) p.node whole at.is_there s five bit_set,
+                child_few width v t tree (take p.depth search_path) p.node whole at.is_there s five bit_set,
               )
 
           -- the child, with all its places
           module _ (below : List Bool) (c : Spot) (reach : length below ≡ width)
-              (extended : below ≡ take p.depth way ++ digits 5 b ++ zeros (width - (p.depth + 5)))
+              (extended : below ≡ take p.depth search_path ++ digits 5 b ++ zeros (width - (p.depth + 5)))
               (depth_is : c.depth ≡ p.depth + 5) (node_is : c.node ≡ node_at v.slots slot)
               (all : to_come c.places ≡ places c.node.value_bitmap c.node.child_bitmap) (each : All (IsPlaceOf c.node) (to_come c.places)) where
             digits_are : digits 5 b ≡ s
             digits_are = ap (digits 5) b_is ∙ ap (λ k. digits k (number s)) (sym five) ∙ digits-number s
 
-            child_string : take c.depth below ≡ take p.depth way ++ s
+            child_string : take c.depth below ≡ take p.depth search_path ++ s
             child_string =
-                ap (λ k. take k below) depth_is ∙ take-extend way below width p.depth 5 b long child_space extended
-                ∙ ap (λ u. take p.depth way ++ u) digits_are
+                ap (λ k. take k below) depth_is ∙ take-extend search_path below width p.depth 5 b long child_space extended
+                ∙ ap (λ u. take p.depth search_path ++ u) digits_are
 
             child_node : read v.slots (chunks_of (take c.depth below)) ≡ Some c.node
             child_node =
                 ap (λ u. read v.slots (chunks_of u)) child_string
-                ∙ child_is width v t tree (take p.depth way) p.node whole at.stands s five bit_set
+                ∙ child_is width v t tree (take p.depth search_path) p.node whole at.is_there s five bit_set
                 ∙ ap (λ k. Some (node_at v.slots k)) (sym own_slot) ∙ ap Some (sym node_is)
 
             pub child_spot : IsSpot width v.slots below c
@@ -202,18 +202,18 @@ module _ (width : ℕ) (v : Store Node) (way : List Bool) (p : Spot) (at : IsSpo
               depth_is = depth_is ∙ (let e = at.depth_is in omega (arith, e));
               within = (let h = child_space in omega (arith, h, depth_is));
               long = (let h = child_space in omega (arith, h, depth_is, reach));
-              stands = child_node;
+              is_there = child_node;
               each = each;
             }
 
             child_whole : length (take c.depth below) % 5 ≡ 0
-            child_whole = ap (λ u. length u % 5) child_string ∙ omega (arith, whole, five, length-append (take p.depth way) s)
+            child_whole = ap (λ u. length u % 5) child_string ∙ omega (arith, whole, five, length-append (take p.depth search_path) s)
 
-            pub child_still : still t.shape.entries way p ≡ still t.shape.entries below c ++ still t.shape.entries way after
+            pub child_still : still t.shape.entries search_path p ≡ still t.shape.entries below c ++ still t.shape.entries search_path after
             child_still =
                 still_is
-                ∙ ap (λ es. es ++ still t.shape.entries way after)
-                (listing_at_child t.shape.entries (take p.depth way) s five ∙ ap (listing_below t.shape.entries) (sym child_string)
+                ∙ ap (λ es. es ++ still t.shape.entries search_path after)
+                (listing_at_child t.shape.entries (take p.depth search_path) s five ∙ ap (listing_below t.shape.entries) (sym child_string)
                 ∙ sym (ap (listing_at_places t.shape.entries (take c.depth below)) all ∙ all_places width v t tree (take c.depth below) c.node child_whole child_node))
 
             pub child_lighter : width ≤ 128 → weight c + weight after < weight p

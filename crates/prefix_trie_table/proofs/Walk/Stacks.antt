@@ -5,12 +5,12 @@ use Rattle.std.specs.List.{All}
 -- a spot of as many levels as another
 pub spot_as : {width : ℕ} {nodes : List Node} {key other : List Bool} {p q : Spot} → IsSpot width nodes key p → q.depth ≡ p.depth → p.depth ≤ length other →
     read nodes (chunks_of (take q.depth other)) ≡ Some q.node → All (IsPlaceOf q.node) (to_come q.places) → IsSpot width nodes other q
-spot_as i same long stands each = record {
+spot_as i same long is_there each = record {
   level = i.level;
   depth_is = same ∙ i.depth_is;
   within = (let h = i.within in omega (arith, h, same));
   long = omega (arith, long, same);
-  stands = stands;
+  is_there = is_there;
   each = each;
 }
 
@@ -79,19 +79,19 @@ module _ (width : ℕ) (nodes : List Node) (key other : List Bool) (d : ℕ) (re
   same_path : (k : ℕ) → k ≤ d → take k other ≡ take k key
   same_path k h = sym (take-take k d other h) ∙ ap (take k) same ∙ take-take k d key h
 
-  cursor-way : (n : ℕ) (ps : List Spot) → n + 5 * length ps ≤ d + 5 → IsStackFrom width nodes n key ps → IsStackFrom width nodes n other ps
-  cursor-way n [] h t = tt
-  cursor-way n (p ∷ ps) h t = (
+  cursor-search_path : (n : ℕ) (ps : List Spot) → n + 5 * length ps ≤ d + 5 → IsStackFrom width nodes n key ps → IsStackFrom width nodes n other ps
+  cursor-search_path n [] h t = tt
+  cursor-search_path n (p ∷ ps) h t = (
     t.0,
-    spot_as t.1 refl (omega (arith, h, t.0, reach)) (ap (λ s. read nodes (chunks_of s)) (same_path p.depth (omega (arith, h, t.0))) ∙ t.1.stands) t.1.each,
-    cursor-way (n + 5) ps (omega (arith, h)) t.2,
+    spot_as t.1 refl (omega (arith, h, t.0, reach)) (ap (λ s. read nodes (chunks_of s)) (same_path p.depth (omega (arith, h, t.0))) ∙ t.1.is_there) t.1.each,
+    cursor-search_path (n + 5) ps (omega (arith, h)) t.2,
   )
 
-  pending-way : {T : Type 0} (m : Entries T) (n : ℕ) (ps : List Spot) → n + 5 * length ps ≤ d + 5 → IsStackFrom width nodes n key ps →
+  pending-search_path : {T : Type 0} (m : Entries T) (n : ℕ) (ps : List Spot) → n + 5 * length ps ≤ d + 5 → IsStackFrom width nodes n key ps →
       pending m other ps ≡ pending m key ps
-  pending-way m n [] h t = refl
-  pending-way m n (p ∷ ps) h t =
-      ap (λ es. es ++ still m other p) (pending-way m (n + 5) ps (omega (arith, h)) t.2)
+  pending-search_path m n [] h t = refl
+  pending-search_path m n (p ∷ ps) h t =
+      ap (λ es. es ++ still m other p) (pending-search_path m (n + 5) ps (omega (arith, h)) t.2)
       ∙ ap (λ s. pending m key ps ++ listing_at_places m s (to_come p.places)) (same_path p.depth (omega (arith, h, t.0)))
 
 -- the last spot p of these has become q, and c, with a key of its own, is above it
@@ -110,18 +110,18 @@ module _ (width : ℕ) (nodes : List Node) (key other : List Bool) (all below : 
   reach : p.depth ≤ length other
   reach = let l = is_c.long in omega (arith, l, deeper)
 
-  pub stack-child_way : IsStack width nodes other (put ++ c ∷ [])
-  stack-child_way =
+  pub stack-child_search_path : IsStack width nodes other (put ++ c ∷ [])
+  stack-child_search_path =
       restart width nodes other (start all) (put ++ c ∷ [])
       (cursor-push width nodes other (start all) put c
-      (cursor-way width nodes key other p.depth reach same (start all) put (omega (arith, long)) cursor) (omega (arith, deeper, long)) is_c)
+      (cursor-search_path width nodes key other p.depth reach same (start all) put (omega (arith, long)) cursor) (omega (arith, deeper, long)) is_c)
 
-  pub pending-child_way : {T : Type 0} (m : Entries T) → still m key p ≡ still m other c ++ still m key q →
+  pub pending-child_search_path : {T : Type 0} (m : Entries T) → still m key p ≡ still m other c ++ still m key q →
       pending m other (put ++ c ∷ []) ≡ pending m key all
-  pending-child_way m h =
+  pending-child_search_path m h =
       pending-push m other put c
       ∙ ap (λ es. still m other c ++ es)
-      (pending-way width nodes key other p.depth reach same m (start all) put (omega (arith, long)) cursor ∙ pending-push m key below q)
+      (pending-search_path width nodes key other p.depth reach same m (start all) put (omega (arith, long)) cursor ∙ pending-push m key below q)
       ∙ sym (append_assoc (still m other c) (still m key q) (pending m key below)) ∙ sym (ap (λ xs. xs ++ pending m key below) h)
       ∙ sym (pending-popped all below p popped m key)
 
@@ -149,13 +149,13 @@ module _ (key : List Bool) where
 
 -- a key that has the same bits as far as the deepest spot goes serves as well
 module _ (width : ℕ) (nodes : List Node) (key other : List Bool) where
-  passed-way : (d : ℕ) → take d other ≡ take d key → (n : ℕ) (ps : List Spot) → n + 5 * length ps ≤ d → IsStackFrom width nodes n key ps →
+  passed-search_path : (d : ℕ) → take d other ≡ take d key → (n : ℕ) (ps : List Spot) → n + 5 * length ps ≤ d → IsStackFrom width nodes n key ps →
       All (IsPassed key) ps → All (IsPassed other) ps
-  passed-way d same n [] h t p = All-nil (IsPassed other)
-  passed-way d same n (q ∷ qs) h t p =
+  passed-search_path d same n [] h t p = All-nil (IsPassed other)
+  passed-search_path d same n (q ∷ qs) h t p =
       All-cons (IsPassed other) q qs
       (subst (λ c. All (IsOther c) (to_come q.places)) (sym (child q.depth (omega (arith, h, t.0)))) (All-head (IsPassed key) q qs p))
-      (passed-way d same (n + 5) qs (omega (arith, h)) t.2 (All-tail (IsPassed key) q qs p))
+      (passed-search_path d same (n + 5) qs (omega (arith, h)) t.2 (All-tail (IsPassed key) q qs p))
     where
       child : (k : ℕ) → k + 5 ≤ d → take 5 (drop k other) ≡ take 5 (drop k key)
       child k l =
@@ -169,4 +169,4 @@ module _ (width : ℕ) (nodes : List Node) (key other : List Bool) where
   passed-child all below p q c is stack same behind h =
       let at = cursor-at all below p is width nodes key stack in
       passed-above other ((below ++ q ∷ []) ++ c ∷ []) (below ++ q ∷ []) c refl
-      (All-push (IsPassed other) below q (passed-way p.depth same (start all) below (omega (arith, at.1)) at.0 (passed-below key all below p is h)) behind)
+      (All-push (IsPassed other) below q (passed-search_path p.depth same (start all) below (omega (arith, at.1)) at.0 (passed-below key all below p is h)) behind)

@@ -71,61 +71,61 @@ behind-itself At s = not-itself s
 behind-itself After s = not-itself s
 behind-itself Below s = refl
 
-module _ (width : ℕ) (v : Store Node) (way q : List Bool) (from : Start) where
+module _ (width : ℕ) (v : Store Node) (search_path q : List Bool) (from : Start) where
   -- at the next node of the path: what is above it, and what is selected under it, is the selection
-  pub record IsLaid (T : Type 0) (depth : ℕ) (node : Node) (ps : List Spot) : Type 0 where
+  pub record IsBuilt (T : Type 0) (depth : ℕ) (node : Node) (ps : List Spot) : Type 0 where
     pub level : ℕ
     pub depth_is : depth ≡ 5 * level
     pub inside : depth ≤ length q
     pub high : length ps ≡ level
-    pub stands : read v.slots (chunks_of (take depth q)) ≡ Some node
-    pub cursor : IsStackFrom width v.slots 0 way ps
-    pub passed : All (IsPassed way) ps
+    pub is_there : read v.slots (chunks_of (take depth q)) ≡ Some node
+    pub cursor : IsStackFrom width v.slots 0 search_path ps
+    pub passed : All (IsPassed search_path) ps
     pub rest : (t : Tree T) → IsTrie width t.count v t.cells t.shape →
-        selected from t.shape.entries q ≡ wanted_below from t.shape.entries q (take depth q) ++ pending t.shape.entries way ps
+        selected from t.shape.entries q ≡ wanted_below from t.shape.entries q (take depth q) ++ pending t.shape.entries search_path ps
 
-  pub laid_root : {T : Type 0} (node : Node) (ps : List Spot) → node ≡ node_at v.slots 0 → ps ≡ [] → IsLaid T 0 node ps
-  laid_root node ps is none = record {
+  pub built_root : {T : Type 0} (node : Node) (ps : List Spot) → node ≡ node_at v.slots 0 → ps ≡ [] → IsBuilt T 0 node ps
+  built_root node ps is none = record {
     level = 0;
     depth_is = refl;
     inside = omega arith;
     high = ap length none;
-    stands = read-nil v.slots ∙ ap Some (sym is);
-    cursor = subst (λ qs. IsStackFrom width v.slots 0 way qs) (sym none) tt;
-    passed = subst (All (IsPassed way)) (sym none) (All-nil (IsPassed way));
+    is_there = read-nil v.slots ∙ ap Some (sym is);
+    cursor = subst (λ qs. IsStackFrom width v.slots 0 search_path qs) (sym none) tt;
+    passed = subst (All (IsPassed search_path)) (sym none) (All-nil (IsPassed search_path));
     rest = λ t tree.
         sym (wanted_at_root from t.shape.entries q) ∙ sym (append-nil (wanted_below from t.shape.entries q []))
-        ∙ ap (λ qs. wanted_below from t.shape.entries q [] ++ pending t.shape.entries way qs) (sym none);
+        ∙ ap (λ qs. wanted_below from t.shape.entries q [] ++ pending t.shape.entries search_path qs) (sym none);
   }
 
-  module _ {T : Type 0} (begun : take (length q) way ≡ q) (within : length q ≤ width) (reach : length q ≤ length way) (depth : ℕ) (node : Node) (ps : List Spot) (laid : IsLaid T depth node ps) where
+  module _ {T : Type 0} (begun : take (length q) search_path ≡ q) (within : length q ≤ width) (reach : length q ≤ length search_path) (depth : ℕ) (node : Node) (ps : List Spot) (built : IsBuilt T depth node ps) where
     string_length : length (take depth q) ≡ depth
-    string_length = length-take-le depth q laid.inside
+    string_length = length-take-le depth q built.inside
 
     whole : length (take depth q) % 5 ≡ 0
-    whole = let d = laid.depth_is in omega (arith, d, string_length)
+    whole = let d = built.depth_is in omega (arith, d, string_length)
 
     -- what is left of the string here
     left_is : q ≡ take depth q ++ drop depth q
     left_is = sym (take-append-drop depth q)
 
     -- the key begins in the same way
-    same_start : (n : ℕ) → n ≤ length q → take n way ≡ take n q
-    same_start n h = sym (take-take n (length q) way h) ∙ ap (take n) begun
+    same_start : (n : ℕ) → n ≤ length q → take n search_path ≡ take n q
+    same_start n h = sym (take-take n (length q) search_path h) ∙ ap (take n) begun
 
     -- the path goes on
     module _ (more : depth + 5 ≤ length q) where
       five : length (take 5 (drop depth q)) ≡ 5
       five = length-take-le 5 (drop depth q) (omega (arith, length-drop depth q, more))
 
-      same_child : take 5 (drop depth way) ≡ take 5 (drop depth q)
-      same_child = sym (drop-take depth 5 way) ∙ ap (drop depth) (same_start (depth + 5) more) ∙ drop-take depth 5 q
+      same_child : take 5 (drop depth search_path) ≡ take 5 (drop depth q)
+      same_child = sym (drop-take depth 5 search_path) ∙ ap (drop depth) (same_start (depth + 5) more) ∙ drop-take depth 5 q
 
       deeper_string : take (depth + 5) q ≡ take depth q ++ take 5 (drop depth q)
       deeper_string = take-add depth 5 q
 
-      way_is : q ≡ take depth q ++ take 5 (drop depth q) ++ drop (depth + 5) q
-      way_is = sym (take-append-drop (depth + 5) q) ∙ ap (λ s. s ++ drop (depth + 5) q) deeper_string
+      search_path_is : q ≡ take depth q ++ take 5 (drop depth q) ++ drop (depth + 5) q
+      search_path_is = sym (take-append-drop (depth + 5) q) ∙ ap (λ s. s ++ drop (depth + 5) q) deeper_string
 
       module _ (t : Tree T) (tree : IsTrie width t.count v t.cells t.shape) (k : ℕ) (k_is : k ≡ number (take 5 (drop depth q))) where
         -- the next node, if its bit is set
@@ -137,12 +137,12 @@ module _ (width : ℕ) (v : Store Node) (way q : List Bool) (from : Start) where
           own_slot = ap (child_slot node) (sym k_is) ∙ sym slot_is
 
           pub next_inside : slot < length v.slots
-          next_inside = subst (λ n. n < length v.slots) own_slot (child_inside width v t tree (take depth q) node whole laid.stands (take 5 (drop depth q)) five bit_set)
+          next_inside = subst (λ n. n < length v.slots) own_slot (child_inside width v t tree (take depth q) node whole built.is_there (take 5 (drop depth q)) five bit_set)
 
-          next_stands : (next : Node) → next ≡ node_at v.slots slot → read v.slots (chunks_of (take (depth + 5) q)) ≡ Some next
-          next_stands next is =
+          next_is_there : (next : Node) → next ≡ node_at v.slots slot → read v.slots (chunks_of (take (depth + 5) q)) ≡ Some next
+          next_is_there next is =
               ap (λ s. read v.slots (chunks_of s)) deeper_string
-              ∙ child_is width v t tree (take depth q) node whole laid.stands (take 5 (drop depth q)) five bit_set
+              ∙ child_is width v t tree (take depth q) node whole built.is_there (take 5 (drop depth q)) five bit_set
               ∙ ap (λ n. Some (node_at v.slots n)) own_slot ∙ ap Some (sym is)
 
         -- if it is clear nothing is stored under it
@@ -150,45 +150,45 @@ module _ (width : ℕ) (v : Store Node) (way q : List Bool) (from : Start) where
         none_below clear =
             ap (listing_below t.shape.entries) deeper_string
             ∙ sym (listing_at_child t.shape.entries (take depth q) (take 5 (drop depth q)) five)
-            ∙ unset width v t tree (take depth q) node whole laid.stands (take 5 (drop depth q)) (omega (arith, five))
+            ∙ unset width v t tree (take depth q) node whole built.is_there (take 5 (drop depth q)) (omega (arith, five))
             (is_in-child node.value_bitmap node.child_bitmap (take 5 (drop depth q)) five ∙ ap (has node.child_bitmap) (sym k_is) ∙ clear)
 
     -- a spot is put at this node
     module _ (p : Spot) (node_is : p.node ≡ node) (depth_is : p.depth ≡ depth) (each : All (IsPlaceOf node) (to_come p.places)) (qs : List Spot) (pushed : qs ≡ ps ++ p ∷ []) where
-      spot : IsSpot width v.slots way p
+      spot : IsSpot width v.slots search_path p
       spot = record {
-        level = laid.level;
-        depth_is = depth_is ∙ laid.depth_is;
-        within = (let i = laid.inside in omega (arith, i, depth_is, within));
-        long = (let i = laid.inside in omega (arith, i, depth_is, reach));
-        stands = ap (λ d. read v.slots (chunks_of (take d way))) depth_is ∙ ap (λ s. read v.slots (chunks_of s)) (same_start depth laid.inside) ∙ laid.stands ∙ ap Some (sym node_is);
+        level = built.level;
+        depth_is = depth_is ∙ built.depth_is;
+        within = (let i = built.inside in omega (arith, i, depth_is, within));
+        long = (let i = built.inside in omega (arith, i, depth_is, reach));
+        is_there = ap (λ d. read v.slots (chunks_of (take d search_path))) depth_is ∙ ap (λ s. read v.slots (chunks_of s)) (same_start depth built.inside) ∙ built.is_there ∙ ap Some (sym node_is);
         each = subst (λ n. All (IsPlaceOf n) (to_come p.places)) (sym node_is) each;
       }
 
-      pub stack_from_pushed : IsStackFrom width v.slots 0 way qs
+      pub stack_from_pushed : IsStackFrom width v.slots 0 search_path qs
       stack_from_pushed =
-          subst (IsStackFrom width v.slots 0 way) (sym pushed)
-          (cursor-push width v.slots way 0 ps p laid.cursor (let d = laid.depth_is in let h = laid.high in omega (arith, d, h, depth_is)) spot)
+          subst (IsStackFrom width v.slots 0 search_path) (sym pushed)
+          (cursor-push width v.slots search_path 0 ps p built.cursor (let d = built.depth_is in let h = built.high in omega (arith, d, h, depth_is)) spot)
 
-      pub stack_pushed : IsStack width v.slots way qs
-      stack_pushed = restart width v.slots way 0 qs stack_from_pushed
+      pub stack_pushed : IsStack width v.slots search_path qs
+      stack_pushed = restart width v.slots search_path 0 qs stack_from_pushed
 
-      pub passed_pushed : ArePassed way qs
-      passed_pushed = passed-above way qs ps p pushed laid.passed
+      pub passed_pushed : ArePassed search_path qs
+      passed_pushed = passed-above search_path qs ps p pushed built.passed
 
       module _ (values children : ℕ) (all : to_come p.places ≡ places_in node values children) (test : List Bool → Bool) (holds : HoldsPlaces values children test)
           (t : Tree T) (tree : IsTrie width t.count v t.cells t.shape) where
-        still_is : still t.shape.entries way p ≡ filter (λ e. test (take 5 (drop (length (take depth q)) e.0))) (listing_below t.shape.entries (take depth q))
+        still_is : still t.shape.entries search_path p ≡ filter (λ e. test (take 5 (drop (length (take depth q)) e.0))) (listing_below t.shape.entries (take depth q))
         still_is =
-            ap (λ d. listing_at_places t.shape.entries (take d way) (to_come p.places)) depth_is
-            ∙ ap (λ s. listing_at_places t.shape.entries s (to_come p.places)) (same_start depth laid.inside)
+            ap (λ d. listing_at_places t.shape.entries (take d search_path) (to_come p.places)) depth_is
+            ∙ ap (λ s. listing_at_places t.shape.entries s (to_come p.places)) (same_start depth built.inside)
             ∙ ap (listing_at_places t.shape.entries (take depth q)) all
             ∙ at_some_places t.shape.entries (take depth q) test (λ s. is_in node.value_bitmap node.child_bitmap s && is_in values children s) (is_in node.value_bitmap node.child_bitmap)
             (λ s h. ap (λ b. is_in node.value_bitmap node.child_bitmap s && b) (holds.bits s h))
-            (unset width v t tree (take depth q) node whole laid.stands)
+            (unset width v t tree (take depth q) node whole built.is_there)
 
-        pending_is : pending t.shape.entries way qs ≡ still t.shape.entries way p ++ pending t.shape.entries way ps
-        pending_is = ap (pending t.shape.entries way) pushed ∙ pending-push t.shape.entries way ps p
+        pending_is : pending t.shape.entries search_path qs ≡ still t.shape.entries search_path p ++ pending t.shape.entries search_path ps
+        pending_is = ap (pending t.shape.entries search_path) pushed ∙ pending-push t.shape.entries search_path ps p
 
       -- the node is passed: what comes after the child taken is left there
       module _ (more : depth + 5 ≤ length q) (values children : ℕ) (all : to_come p.places ≡ places_in node values children) (k : ℕ) (k_is : k ≡ number (take 5 (drop depth q)))
@@ -197,11 +197,11 @@ module _ (width : ℕ) (v : Store Node) (way q : List Bool) (from : Start) where
         holds = masks (take 5 (drop depth q)) (five more) (sym k_is)
 
         -- the child is not
-        child_taken : IsPassed way p
+        child_taken : IsPassed search_path p
         child_taken =
-            subst (All (IsOther (take 5 (drop p.depth way)))) (sym all)
-            (All-weaker (λ s. (is_in node.value_bitmap node.child_bitmap s && is_in values children s) ≡ true) (IsOther (take 5 (drop p.depth way)))
-            (λ s h e. taken s h (e ∙ ap (λ d. take 5 (drop d way)) depth_is ∙ same_child more))
+            subst (All (IsOther (take 5 (drop p.depth search_path)))) (sym all)
+            (All-weaker (λ s. (is_in node.value_bitmap node.child_bitmap s && is_in values children s) ≡ true) (IsOther (take 5 (drop p.depth search_path)))
+            (λ s h e. taken s h (e ∙ ap (λ d. take 5 (drop d search_path)) depth_is ∙ same_child more))
             (places_in node values children) (filter_passes (λ s. is_in node.value_bitmap node.child_bitmap s && is_in values children s) (strings 5)))
           where
             taken : (s : List Bool) → (is_in node.value_bitmap node.child_bitmap s && is_in values children s) ≡ true → s ≡ take 5 (drop depth q) → ⊥
@@ -211,52 +211,52 @@ module _ (width : ℕ) (v : Store Node) (way q : List Bool) (from : Start) where
                 false≢true (sym none ∙ and-second (is_in node.value_bitmap node.child_bitmap s) (is_in values children s) h)
 
         passed_is : (t : Tree T) → IsTrie width t.count v t.cells t.shape → wanted_below from t.shape.entries q (take depth q)
-            ≡ wanted_below from t.shape.entries q (take (depth + 5) q) ++ still t.shape.entries way p
+            ≡ wanted_below from t.shape.entries q (take (depth + 5) q) ++ still t.shape.entries search_path p
         passed_is t tree =
-            subst (λ z. wanted_below from t.shape.entries z (take depth q) ≡ wanted_below from t.shape.entries z (take (depth + 5) q) ++ still t.shape.entries way p) (sym (way_is more))
+            subst (λ z. wanted_below from t.shape.entries z (take depth q) ≡ wanted_below from t.shape.entries z (take (depth + 5) q) ++ still t.shape.entries search_path p) (sym (search_path_is more))
             (wanted_passed from t.shape.entries (take depth q) (take 5 (drop depth q)) (drop (depth + 5) q)
             ∙ ap₂ (λ s es. wanted_below from t.shape.entries (take depth q ++ take 5 (drop depth q) ++ drop (depth + 5) q) s ++ es) (sym (deeper_string more))
             (ap (λ n. filter (λ e. behind from (take 5 (drop depth q)) (take n (drop (length (take depth q)) e.0))) (listing_below t.shape.entries (take depth q))) (five more)
             ∙ sym (still_is values children all (behind from (take 5 (drop depth q))) holds t tree)))
 
         rest_pushed : (t : Tree T) → IsTrie width t.count v t.cells t.shape → selected from t.shape.entries q
-            ≡ wanted_below from t.shape.entries q (take (depth + 5) q) ++ pending t.shape.entries way qs
+            ≡ wanted_below from t.shape.entries q (take (depth + 5) q) ++ pending t.shape.entries search_path qs
         rest_pushed t tree =
-            laid.rest t tree ∙ ap (λ es. es ++ pending t.shape.entries way ps) (passed_is t tree)
-            ∙ append_assoc (wanted_below from t.shape.entries q (take (depth + 5) q)) (still t.shape.entries way p) (pending t.shape.entries way ps)
+            built.rest t tree ∙ ap (λ es. es ++ pending t.shape.entries search_path ps) (passed_is t tree)
+            ∙ append_assoc (wanted_below from t.shape.entries q (take (depth + 5) q)) (still t.shape.entries search_path p) (pending t.shape.entries search_path ps)
             ∙ ap (λ es. wanted_below from t.shape.entries q (take (depth + 5) q) ++ es) (sym (pending_is values children all (behind from (take 5 (drop depth q))) holds t tree))
 
         -- if the child is missing that is all
-        pub rest_missing : has node.child_bitmap k ≡ false → (t : Tree T) → IsTrie width t.count v t.cells t.shape → pending t.shape.entries way qs ≡ selected from t.shape.entries q
+        pub rest_missing : has node.child_bitmap k ≡ false → (t : Tree T) → IsTrie width t.count v t.cells t.shape → pending t.shape.entries search_path qs ≡ selected from t.shape.entries q
         rest_missing clear t tree =
             sym (rest_pushed t tree
-            ∙ ap (λ es. es ++ pending t.shape.entries way qs) (wanted_none from t.shape.entries q (take (depth + 5) q) (none_below more t tree k k_is clear)))
+            ∙ ap (λ es. es ++ pending t.shape.entries search_path qs) (wanted_none from t.shape.entries q (take (depth + 5) q) (none_below more t tree k k_is clear)))
 
         -- if it is there it is the next node
-        pub laid_next : (t : Tree T) → IsTrie width t.count v t.cells t.shape → has node.child_bitmap k ≡ true → (slot : ℕ) → slot ≡ child_slot node k → (next : Node) → next ≡ node_at v.slots slot →
-            IsLaid T (depth + 5) next qs
-        laid_next t tree set slot slot_is next is = record {
-          level = laid.level + 1;
-          depth_is = (let d = laid.depth_is in omega (arith, d));
+        pub built_next : (t : Tree T) → IsTrie width t.count v t.cells t.shape → has node.child_bitmap k ≡ true → (slot : ℕ) → slot ≡ child_slot node k → (next : Node) → next ≡ node_at v.slots slot →
+            IsBuilt T (depth + 5) next qs
+        built_next t tree set slot slot_is next is = record {
+          level = built.level + 1;
+          depth_is = (let d = built.depth_is in omega (arith, d));
           inside = more;
-          high = (let h = laid.high in omega (arith, h, ap length pushed, length-append ps (p ∷ [])));
-          stands = next_stands more t tree k k_is set slot slot_is next is;
+          high = (let h = built.high in omega (arith, h, ap length pushed, length-append ps (p ∷ [])));
+          is_there = next_is_there more t tree k k_is set slot slot_is next is;
           cursor = stack_from_pushed;
-          passed = subst (All (IsPassed way)) (sym pushed) (All-push (IsPassed way) ps p laid.passed child_taken);
+          passed = subst (All (IsPassed search_path)) (sym pushed) (All-push (IsPassed search_path) ps p built.passed child_taken);
           rest = rest_pushed;
         }
 
       -- the string ends at this node
       pub rest_ended : length q < depth + 5 → (values children : ℕ) → to_come p.places ≡ places_in node values children → HoldsPlaces values children (kept from (drop depth q)) →
-          (t : Tree T) → IsTrie width t.count v t.cells t.shape → pending t.shape.entries way qs ≡ selected from t.shape.entries q
+          (t : Tree T) → IsTrie width t.count v t.cells t.shape → pending t.shape.entries search_path qs ≡ selected from t.shape.entries q
       rest_ended last values children all masks t tree =
           pending_is values children all (kept from (drop depth q)) masks t tree
-          ∙ ap (λ es. es ++ pending t.shape.entries way ps) (sym ended)
-          ∙ sym (laid.rest t tree)
+          ∙ ap (λ es. es ++ pending t.shape.entries search_path ps) (sym ended)
+          ∙ sym (built.rest t tree)
         where
-          ended : wanted_below from t.shape.entries q (take depth q) ≡ still t.shape.entries way p
+          ended : wanted_below from t.shape.entries q (take depth q) ≡ still t.shape.entries search_path p
           ended =
               ap (λ z. wanted_below from t.shape.entries z (take depth q)) left_is
               ∙ wanted_ended from t.shape.entries (take depth q) (drop depth q)
-              (let i = laid.inside in omega (arith, length-drop depth q, i, last))
+              (let i = built.inside in omega (arith, length-drop depth q, i, last))
               ∙ sym (still_is values children all (kept from (drop depth q)) masks t tree)

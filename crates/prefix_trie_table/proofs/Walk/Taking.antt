@@ -119,7 +119,7 @@ module _ {T : Type 0} (width : ℕ) (v : Store Node) where
       apart = subst AreApart come at.apart
 
       taken_cell : (x : Option T) → x ≡ get_or w.slots (slot_of seat) x → cell_of v.slots w.slots q ≡ x
-      taken_cell x read = cell_at v.slots w.slots q ∙ ap (in_seat w.slots) found ∙ get_or_default w.slots (slot_of seat) None x (let y = h.stands in omega (arith, y, at.long)) ∙ sym read
+      taken_cell x read = cell_at v.slots w.slots q ∙ ap (in_seat w.slots) found ∙ get_or_default w.slots (slot_of seat) None x (let y = h.is_there in omega (arith, y, at.long)) ∙ sym read
 
       -- it is there
       pub taken_there : (x : Option T) → x ≡ get_or w.slots (slot_of seat) x → is_some x ≡ true

@@ -13,18 +13,18 @@ tree_of w s = record { count = len s.entries; cells = w; shape = s }
 
 module _ {T : Type 0} (width : ℕ) where
   -- a walk has arrays, which hold a table
-  pub record Rest (arrays : Option (Bor (Store Node) × Bor (Store (Option T)))) (shape : ShapeOf arrays) (way : List Bool) (ps : List Spot) (v : Store Node) (w : Store (Option T)) : Type 0 where
+  pub record Rest (arrays : Option (Bor (Store Node) × Bor (Store (Option T)))) (shape : ShapeOf arrays) (search_path : List Bool) (ps : List Spot) (v : Store Node) (w : Store (Option T)) : Type 0 where
     pub state : State T
     pub tree : IsTrie width (len state.entries) v w state
-    pub stack : IsStack width v.slots way ps
-    pub passed : ArePassed way ps
-    pub rest : rest_of_walk arrays shape way ps ≡ pending state.entries way ps
+    pub stack : IsStack width v.slots search_path ps
+    pub passed : ArePassed search_path ps
+    pub rest : rest_of_walk arrays shape search_path ps ≡ pending state.entries search_path ps
     pub later : (u : ShapeOf arrays) (k : List Bool) (qs : List Spot) → IsStack width v.slots k qs → ArePassed k qs → IsWalk width arrays u k qs
     pub later_rest : (u : ShapeOf arrays) (k : List Bool) (qs : List Spot) → rest_of_walk arrays u k qs ≡ pending state.entries k qs
 
-  rest_some : (b : Bor (Store Node) × Bor (Store (Option T))) (shape : ShapeOf (Some b)) (way : List Bool) (ps : List Spot) → IsWalk width (Some b) shape way ps →
-      Rest (Some b) shape way ps b.0.now b.1.now
-  rest_some b shape way ps h = record {
+  rest_some : (b : Bor (Store Node) × Bor (Store (Option T))) (shape : ShapeOf (Some b)) (search_path : List Bool) (ps : List Spot) → IsWalk width (Some b) shape search_path ps →
+      Rest (Some b) shape search_path ps b.0.now b.1.now
+  rest_some b shape search_path ps h = record {
     state = shape.0;
     tree = h.0;
     stack = h.1;
@@ -39,56 +39,56 @@ module _ {T : Type 0} (width : ℕ) where
   }
 
   pub rest_at : (arrays : Option (Bor (Store Node) × Bor (Store (Option T)))) (a : Bor (Store Node) × Bor (Store (Option T))) → arrays ≡ Some a →
-      (shape : ShapeOf arrays) (way : List Bool) (ps : List Spot) → IsWalk width arrays shape way ps → Rest arrays shape way ps a.0.now a.1.now
-  rest_at None a e shape way ps h = absurd (cc)
-  rest_at (Some b) a e shape way ps h =
-      let same : b ≡ a = cc in subst (λ (x : Bor (Store Node) × Bor (Store (Option T))). Rest (Some b) shape way ps x.0.now x.1.now) same (rest_some b shape way ps h)
+      (shape : ShapeOf arrays) (search_path : List Bool) (ps : List Spot) → IsWalk width arrays shape search_path ps → Rest arrays shape search_path ps a.0.now a.1.now
+  rest_at None a e shape search_path ps h = absurd (cc)
+  rest_at (Some b) a e shape search_path ps h =
+      let same : b ≡ a = cc in subst (λ (x : Bor (Store Node) × Bor (Store (Option T))). Rest (Some b) shape search_path ps x.0.now x.1.now) same (rest_some b shape search_path ps h)
 
   -- the arrays have one shape, whichever is named
-  pub same_rest : (arrays : Option (Bor (Store Node) × Bor (Store (Option T)))) (s u : ShapeOf arrays) (way : List Bool) (ps qs : List Spot) → qs ≡ ps →
-      rest_of_walk arrays u way qs ≡ rest_of_walk arrays s way ps
-  same_rest None s u way ps qs e = refl
-  same_rest (Some a) s u way ps qs e = ap (λ (x : State T). pending x.entries way qs) (same_shape a.0.now.slots a.1.now.slots u.0 s.0 u.1 s.1) ∙ ap (pending s.0.entries way) e
+  pub same_rest : (arrays : Option (Bor (Store Node) × Bor (Store (Option T)))) (s u : ShapeOf arrays) (search_path : List Bool) (ps qs : List Spot) → qs ≡ ps →
+      rest_of_walk arrays u search_path qs ≡ rest_of_walk arrays s search_path ps
+  same_rest None s u search_path ps qs e = refl
+  same_rest (Some a) s u search_path ps qs e = ap (λ (x : State T). pending x.entries search_path qs) (same_shape a.0.now.slots a.1.now.slots u.0 s.0 u.1 s.1) ∙ ap (pending s.0.entries search_path) e
 
-  pub same_walk : (arrays : Option (Bor (Store Node) × Bor (Store (Option T)))) (s u : ShapeOf arrays) (way : List Bool) (ps qs : List Spot) → qs ≡ ps →
-      IsWalk width arrays s way ps → IsWalk width arrays u way qs
-  same_walk None s u way ps qs e h = tt
-  same_walk (Some a) s u way ps qs e h = (
+  pub same_walk : (arrays : Option (Bor (Store Node) × Bor (Store (Option T)))) (s u : ShapeOf arrays) (search_path : List Bool) (ps qs : List Spot) → qs ≡ ps →
+      IsWalk width arrays s search_path ps → IsWalk width arrays u search_path qs
+  same_walk None s u search_path ps qs e h = tt
+  same_walk (Some a) s u search_path ps qs e h = (
     subst (λ (x : State T). IsTrie width (len x.entries) a.0.now a.1.now x) (same_shape a.0.now.slots a.1.now.slots s.0 u.0 s.1 u.1) h.0,
-    subst (IsStack width a.0.now.slots way) (sym e) h.1,
-    subst (ArePassed way) (sym e) h.2,
+    subst (IsStack width a.0.now.slots search_path) (sym e) h.1,
+    subst (ArePassed search_path) (sym e) h.2,
   )
 
   module _ (v : Store Node) (w : Store (Option T)) (s : State T) (tree : IsTrie width (len s.entries) v w s) (u : Shaped v.slots w.slots) where
     -- spots of the table in the arrays are a walk, and have to come what is pending at them
-    module _ (way : List Bool) (ps : List Spot) where
-      pub spots_walk : IsStack width v.slots way ps → ArePassed way ps → IsTrie width (len u.0.entries) v w u.0 × IsStack width v.slots way ps × ArePassed way ps
+    module _ (search_path : List Bool) (ps : List Spot) where
+      pub spots_walk : IsStack width v.slots search_path ps → ArePassed search_path ps → IsTrie width (len u.0.entries) v w u.0 × IsStack width v.slots search_path ps × ArePassed search_path ps
       spots_walk stack passed = (subst (λ (x : State T). IsTrie width (len x.entries) v w x) (same_shape v.slots w.slots s u.0 tree.shaped u.1) tree, stack, passed)
 
-      pub spots_rest : (x : State T) → IsShapeOf v.slots w.slots x → pending u.0.entries way ps ≡ pending x.entries way ps
-      spots_rest x is = ap (λ (y : State T). pending y.entries way ps) (same_shape v.slots w.slots u.0 x u.1 is)
+      pub spots_rest : (x : State T) → IsShapeOf v.slots w.slots x → pending u.0.entries search_path ps ≡ pending x.entries search_path ps
+      spots_rest x is = ap (λ (y : State T). pending y.entries search_path ps) (same_shape v.slots w.slots u.0 x u.1 is)
 
     -- a walk at the root, with all its places
-    module _ (way : List Bool) (c : Spot) (depth_is : c.depth ≡ 0) (node_is : c.node ≡ node_at v.slots 0)
+    module _ (search_path : List Bool) (c : Spot) (depth_is : c.depth ≡ 0) (node_is : c.node ≡ node_at v.slots 0)
         (all : to_come c.places ≡ places c.node.value_bitmap c.node.child_bitmap) (each : All (IsPlaceOf c.node) (to_come c.places)) (ps : List Spot) (only : ps ≡ c ∷ []) where
-      root_string : take c.depth way ≡ []
-      root_string = ap (λ n. take n way) depth_is
+      root_string : take c.depth search_path ≡ []
+      root_string = ap (λ n. take n search_path) depth_is
 
-      root_stands : read v.slots (chunks_of (take c.depth way)) ≡ Some c.node
-      root_stands = ap (λ u. read v.slots (chunks_of u)) root_string ∙ read-nil v.slots ∙ ap Some (sym node_is)
+      root_is_there : read v.slots (chunks_of (take c.depth search_path)) ≡ Some c.node
+      root_is_there = ap (λ u. read v.slots (chunks_of u)) root_string ∙ read-nil v.slots ∙ ap Some (sym node_is)
 
       -- is a walk
-      pub root_walk : IsTrie width (len u.0.entries) v w u.0 × IsStack width v.slots way ps × ArePassed way ps
+      pub root_walk : IsTrie width (len u.0.entries) v w u.0 × IsStack width v.slots search_path ps × ArePassed search_path ps
       root_walk =
-          let spot : IsSpot width v.slots way c = record { level = 0; depth_is = depth_is; within = omega (arith, depth_is); long = omega (arith, depth_is); stands = root_stands; each = each } in
-          spots_walk way ps (subst (IsStack width v.slots way) (sym only) (refl, spot, tt)) (passed-above way ps [] c only (All-nil (IsPassed way)))
+          let spot : IsSpot width v.slots search_path c = record { level = 0; depth_is = depth_is; within = omega (arith, depth_is); long = omega (arith, depth_is); is_there = root_is_there; each = each } in
+          spots_walk search_path ps (subst (IsStack width v.slots search_path) (sym only) (refl, spot, tt)) (passed-above search_path ps [] c only (All-nil (IsPassed search_path)))
 
       -- and has the whole listing to come
-      pub root_rest : (x : State T) → IsShapeOf v.slots w.slots x → pending u.0.entries way ps ≡ listing x.entries
+      pub root_rest : (x : State T) → IsShapeOf v.slots w.slots x → pending u.0.entries search_path ps ≡ listing x.entries
       root_rest x is =
-          ap (pending u.0.entries way) only ∙ ap (λ (y : State T). still y.entries way c) (same_shape v.slots w.slots u.0 s u.1 tree.shaped)
-          ∙ ap (listing_at_places s.entries (take c.depth way)) all
-          ∙ all_places width v (tree_of w s) tree (take c.depth way) c.node (ap (λ u. length u % 5) root_string) root_stands
+          ap (pending u.0.entries search_path) only ∙ ap (λ (y : State T). still y.entries search_path c) (same_shape v.slots w.slots u.0 s u.1 tree.shaped)
+          ∙ ap (listing_at_places s.entries (take c.depth search_path)) all
+          ∙ all_places width v (tree_of w s) tree (take c.depth search_path) c.node (ap (λ u. length u % 5) root_string) root_is_there
           ∙ ap (listing_below s.entries) root_string ∙ listing_of_root s.entries
           ∙ ap (λ (y : State T). listing y.entries) (same_shape v.slots w.slots s x tree.shaped is)
 

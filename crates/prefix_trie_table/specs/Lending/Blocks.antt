@@ -7,9 +7,9 @@ use Rattle.std.specs.contracts.vec.Vec as vec
 use Rattle.std.specs.declared.alloc.Allocator as alloc
 use Rattle.prefix_trie_table.specs.declared.allocator.slots.Slot as slot
 use Rattle.prefix_trie_table.specs.contracts.allocator.blocks.Blocks as blocks
-use Rattle.prefix_trie_table.specs.Store.{Store}
+use Rattle.prefix_trie_table.specs.Blocks.Store.{Store}
 use Rattle.prefix_trie_table.specs.declared.table.seat.Seat.{Seat}
-use Rattle.prefix_trie_table.specs.Slots.{with_slot, with_cell}
+use Rattle.prefix_trie_table.specs.Blocks.Slots.{with_slot, with_cell}
 
 -- the array of an array of blocks, as its type in the logic
 abbrev pub array_of_row : (S A : RattleType) → slot.Ghosts S.Denot → alloc.Ghosts A.Denot → RattleType

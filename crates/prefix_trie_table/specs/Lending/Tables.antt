@@ -4,7 +4,8 @@ use Rattle.std.specs.Borrow.{Lends, LendsIf, Fml, RattleType, MutBor}
 use Rattle.std.specs.declared.alloc.Allocator as alloc
 use Rattle.prefix_trie_table.specs.declared.allocator.nodes.Tick as tick
 use Rattle.prefix_trie_table.specs.contracts.table.Table as table
-use Rattle.prefix_trie_table.specs.Shape.{Contents, with_value_at, with_stored_at, with_longest_at}
+use Rattle.prefix_trie_table.specs.Model.Contents.{Contents}
+use Rattle.prefix_trie_table.specs.Shape.{with_value_at, with_stored_at, with_longest_at}
 
 module _ (T A V : RattleType) (a : alloc.Ghosts A.Denot) (t : tick.Ghosts V.Denot) (s : MutBor (Contents T.Denot)) where
   -- once the borrow r ends, the value at q is the last one written through r

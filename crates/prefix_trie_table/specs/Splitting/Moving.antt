@@ -1,14 +1,14 @@
 -- A second table whose values come one after another, in listing order. This project's own.
 use Rattle.std.specs.Prelude.{◌≡◌, ℕ, Bool, List, [], ◌∷◌, Option}
 use Rattle.std.specs.FinMap.{len}
-use Rattle.prefix_trie_bits.specs.Model.Entries.{part_below}
+use Rattle.prefix_trie_bits.specs.Calls.Entries.{part_below}
 use Rattle.prefix_trie_bits.specs.Model.Nodes.{needed}
 use Rattle.prefix_trie_bits.specs.Model.Step.{State}
 use Rattle.prefix_trie_table.specs.declared.allocator.node.Node.{Node}
 use Rattle.prefix_trie_table.specs.declared.table.spot.Spot.{Spot}
 use Rattle.prefix_trie_table.specs.Locations.{seat_of}
-use Rattle.prefix_trie_table.specs.Slots.{with_cell}
-use Rattle.prefix_trie_table.specs.Store.{Store}
+use Rattle.prefix_trie_table.specs.Blocks.Slots.{with_cell}
+use Rattle.prefix_trie_table.specs.Blocks.Store.{Store}
 use Rattle.prefix_trie_table.specs.Tables.{IsTrie}
 use Rattle.prefix_trie_table.specs.Walking.Walks.{IsStack, pending}
 

@@ -2,11 +2,11 @@
 -- vacant. This project's own.
 use Rattle.std.specs.Prelude.{◌≡◌, ℕ, ◌≤◌, Bool, true, List, ◌∷◌, flat_map, Option, None, is_some, length}
 use Rattle.prefix_trie_table.specs.declared.allocator.node.Node.{Node}
-use Rattle.prefix_trie_table.specs.Cells.{node_at, node_sizes, cell_sizes}
+use Rattle.prefix_trie_table.specs.Blocks.Cells.{node_at, node_sizes, cell_sizes}
 use Rattle.prefix_trie_table.specs.Forest.{NodesHold, value_blocks}
-use Rattle.prefix_trie_table.specs.Splitting.Laid.{IsPart, SomeValue, no_value}
-use Rattle.prefix_trie_table.specs.Splitting.Laying.{NoneFree}
-use Rattle.prefix_trie_table.specs.Store.{Store, Sound, tier_sizes}
+use Rattle.prefix_trie_table.specs.Splitting.Built.{IsPart, SomeValue, no_value}
+use Rattle.prefix_trie_table.specs.Splitting.Building.{NoneFree}
+use Rattle.prefix_trie_table.specs.Blocks.Store.{Store, Sound, tier_sizes}
 
 module _ {T : Type 0} where
   -- two arrays have the nodes and the blocks, still vacant, that the values need whose strings q begins, of those that the nodes in v have

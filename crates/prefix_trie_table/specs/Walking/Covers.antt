@@ -1,15 +1,15 @@
 -- Where a walk over the beginnings of a bit string is, and what it has still to give. This project's own.
 use Rattle.std.specs.Prelude.{◌≡◌, ℕ, ◌+◌, ◌*◌, ◌≤◌, Bool, ◌&&◌, ◌||◌, nat_le, List, Option, Some, length, take, drop, filter, MatchOption}
-use Rattle.prefix_trie_bits.specs.Bits.{begins}
+use Rattle.prefix_trie_bits.specs.Model.Bits.{begins}
 use Rattle.prefix_trie_bits.specs.Model.Matches.{covers}
 use Rattle.prefix_trie_bits.specs.Model.Entries.{Entries}
 use Rattle.prefix_trie_bits.specs.Places.{has, value_bit, HoldsValues}
 use Rattle.prefix_trie_table.specs.declared.allocator.node.Node.{Node}
 use Rattle.prefix_trie_table.specs.declared.table.lookup.Reached.{Reached}
 use Rattle.prefix_trie_table.specs.declared.table.matching.Match.{Match}
-use Rattle.prefix_trie_table.specs.Cells.{node_sizes}
+use Rattle.prefix_trie_table.specs.Blocks.Cells.{node_sizes}
 use Rattle.prefix_trie_table.specs.Digits.{chunks_of}
-use Rattle.prefix_trie_table.specs.Store.{Store}
+use Rattle.prefix_trie_table.specs.Blocks.Store.{Store}
 use Rattle.prefix_trie_table.specs.Forest.{NodesHold, SomeTable}
 use Rattle.prefix_trie_table.specs.Matching.{NoneHeld, IsHeld}
 use Rattle.prefix_trie_table.specs.SearchPaths.{IsAlong}
@@ -50,7 +50,7 @@ TakesShortest level node old new o =
 -- the walk has passed one beginning
 pub record GoesOn (q : List Bool) (here : Reached) (matches first : ℕ) (o : Option Match) (v : Store Node) : Type 0 where
   pub later : ℕ
-  pub stands : IsCovering q here matches later v
+  pub is_there : IsCovering q here matches later v
   pub next : (reading : List ℕ → Option Node) (paths : List (List ℕ)) → NodesHold node_sizes reading paths v → NextHeld reading q (length q + 1) first later o
 
 -- whether a beginning is to come, by the matches of the node where the walk is
@@ -66,4 +66,4 @@ still_covering m q level matches = filter (λ e. is_ahead level matches e.0) (co
 pub record IsCover {T : Type 0} (q : List Bool) (here : Reached) (matches : ℕ) (v : Store Node) (w : Store (Option T)) : Type 0 where
   pub table : SomeTable v w
   pub first : ℕ
-  pub stands : IsCovering q here matches first v
+  pub is_there : IsCovering q here matches first v

@@ -5,7 +5,7 @@ use Rattle.std.proofs.Common.{arith}
 use Rattle.std.specs.Coded.{Coded-set, coded_ℕ, coded_bool, coded_option}
 use Rattle.std.proofs.Math.Bridge.{le_prop}
 use mathlib.Core.HLevel.{Π_prop, is_prop→PathP}
-use Rattle.prefix_trie_bits.specs.Bits.{zeros}
+use Rattle.prefix_trie_bits.specs.Model.Bits.{zeros}
 use Rattle.prefix_trie_bits.specs.Model.Entries.{Entries}
 use Rattle.prefix_trie_table.specs.declared.allocator.node.Node.{Node}
 use Rattle.prefix_trie_table.specs.declared.table.seat.Seat.{Seat}
@@ -36,19 +36,19 @@ module _ {K : Type 0} where
     pub first : old ≡ take len (bits key) ∷ new
     pub seated : seat_of nodes (take len (bits key)) ≡ Some seat
 
-module _ (width : ℕ) (nodes : List Node) (way : List Bool) where
-  spot-prop : (p : Spot) → IsProp (IsSpot width nodes way p)
+module _ (width : ℕ) (nodes : List Node) (search_path : List Bool) where
+  spot-prop : (p : Spot) → IsProp (IsSpot width nodes search_path p)
   spot-prop p x y =
       let level : x.level ≡ y.level = same_level p.depth x.level y.level x.depth_is y.depth_is in λ i. record {
         level = level i;
         depth_is = is_prop→PathP (λ j. p.depth ≡ 5 * level j) (λ j. Coded-set coded_ℕ _ _) x.depth_is y.depth_is i;
         within = le_prop x.within y.within i;
         long = le_prop x.long y.long i;
-        stands = Coded-set (coded_option coded_node) _ _ x.stands y.stands i;
+        is_there = Coded-set (coded_option coded_node) _ _ x.is_there y.is_there i;
         each = Π_prop (λ k. Π_prop (λ d. Π_prop (λ h a b j. (le_prop a.0 b.0 j, Coded-set coded_bool _ _ a.1 b.1 j)))) x.each y.each i;
       }
 
-  stack-prop : (n : ℕ) (ps : List Spot) → IsProp (IsStackFrom width nodes n way ps)
+  stack-prop : (n : ℕ) (ps : List Spot) → IsProp (IsStackFrom width nodes n search_path ps)
   stack-prop n [] = λ x y i. tt
   stack-prop n (p ∷ ps) = λ x y i. (Coded-set coded_ℕ _ _ x.0 y.0 i, spot-prop p x.1 y.1 i, stack-prop (n + 5) ps x.2 y.2 i)
 

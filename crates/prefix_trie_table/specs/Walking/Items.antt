@@ -1,6 +1,6 @@
 -- What a walk over a table gives. This project's own.
 use Rattle.std.specs.Prelude.{◌≡◌, ℕ, ◌-◌, ◌≤◌, Bool, not, List, ◌∷◌, ◌++◌, take, filter}
-use Rattle.prefix_trie_bits.specs.Bits.{zeros, begins}
+use Rattle.prefix_trie_bits.specs.Model.Bits.{zeros, begins}
 
 module _ {K T : Type 0} where
   -- the walk gives the first of the entries still to come: its key is the first len bits of a number

@@ -1,7 +1,7 @@
 -- What a walk that starts at a bit string gives, and at which places of the nodes on its search
 -- path it is. This project's own.
 use Rattle.std.specs.Prelude.{ℕ, Bool, false, not, ◌&&◌, List, filter}
-use Rattle.prefix_trie_bits.specs.Bits.{begins}
+use Rattle.prefix_trie_bits.specs.Model.Bits.{begins}
 use Rattle.prefix_trie_bits.specs.Places.{strings, is_in, is_before}
 use Rattle.prefix_trie_bits.specs.Model.Entries.{Entries}
 use Rattle.prefix_trie_bits.specs.Model.Selections.{listing_from, listing_after, listing_below}

@@ -3,13 +3,13 @@ use Rattle.std.specs.Prelude.{◌≡◌, ◌≢◌, ℕ, Bool, true, List, [], �
 use Rattle.std.proofs.Common.{sym, ◌∙◌}
 use Rattle.std.specs.Coded.{coded_bool, Coded-set}
 use mathlib.Core.HLevel.{Π_prop, Σ_prop_path}
-use Rattle.prefix_trie_bits.specs.Model.NodeListings.{pair_of}
+use Rattle.prefix_trie_bits.specs.Calls.NodeListings.{pair_of}
 use Rattle.prefix_trie_bits.specs.Model.Nodes.{Nodes, has_node}
 use Rattle.prefix_trie_bits.proofs.Model.Members.{same_members}
 use Rattle.prefix_trie_table.specs.declared.allocator.node.Node.{Node}
 use Rattle.prefix_trie_table.specs.declared.table.spot.Spot.{Spot}
 use Rattle.prefix_trie_table.specs.Digits.{chunks_of, bit_of}
-use Rattle.prefix_trie_table.specs.Store.{Store}
+use Rattle.prefix_trie_table.specs.Blocks.Store.{Store}
 use Rattle.prefix_trie_table.specs.Forest.{read, value_of}
 use Rattle.prefix_trie_table.specs.Locations.{seat_of}
 use Rattle.prefix_trie_table.specs.Tables.{IsTrie}
@@ -54,12 +54,12 @@ AreApart (k ∷ ks) = IsApart k.0 ks × AreApart ks
 
 -- the nodes are those of a table some of whose values were moved out of their cells, but none that
 -- is to come
-pub record IsTaking {T : Type 0} (width : ℕ) (v : Store Node) (w : Store (Option T)) (keys : Nodes) (way : List Bool) (ps : List Spot) : Type 0 where
+pub record IsTaking {T : Type 0} (width : ℕ) (v : Store Node) (w : Store (Option T)) (keys : Nodes) (search_path : List Bool) (ps : List Spot) : Type 0 where
   -- the table
   pub tree : Tree T
   pub trie : IsTrie width tree.count v tree.cells tree.shape
   pub long : length w.slots ≡ length tree.cells.slots
   -- the spots, and the strings still to come at them
-  pub stack : IsStack width v.slots way ps
-  pub held : AreHeld v.slots w.slots (pending keys way ps)
-  pub apart : AreApart (pending keys way ps)
+  pub stack : IsStack width v.slots search_path ps
+  pub held : AreHeld v.slots w.slots (pending keys search_path ps)
+  pub apart : AreApart (pending keys search_path ps)

@@ -3,12 +3,12 @@ use Rattle.std.specs.Prelude.{◌≡◌, ◌≢◌, ℕ, ◌+◌, ◌-◌, ◌*�
 use Rattle.std.specs.List.{AllWithin}
 use Rattle.std.specs.Borrow.{Bor}
 use Rattle.std.specs.Coded.{Coded}
-use Rattle.prefix_trie_bits.specs.Bits.{begins}
+use Rattle.prefix_trie_bits.specs.Model.Bits.{begins}
 use Rattle.prefix_trie_bits.specs.Places.{is_in}
 use Rattle.prefix_trie_bits.specs.Walks.{to_come}
 use Rattle.prefix_trie_bits.specs.Model.Entries.{Entries}
 use Rattle.std.specs.FinMap.{len}
-use Rattle.prefix_trie_bits.specs.Model.NodeListings.{listing_at_places}
+use Rattle.prefix_trie_bits.specs.Calls.NodeListings.{listing_at_places}
 use Rattle.prefix_trie_bits.specs.Model.Step.{State}
 use Rattle.prefix_trie_table.specs.declared.table.spot.Spot.{Spot}
 use Rattle.prefix_trie_table.specs.declared.table.seat.Seat.{Seat}
@@ -16,7 +16,7 @@ use Rattle.prefix_trie_table.specs.declared.table.spot.Step.{Step}
 use Rattle.prefix_trie_table.specs.declared.table.spot.Step.TheVariants.{Entry, Child, Done}
 use Rattle.prefix_trie_table.specs.declared.allocator.node.Node.{Node}
 use Rattle.prefix_trie_table.specs.Digits.{chunks_of}
-use Rattle.prefix_trie_table.specs.Store.{Store}
+use Rattle.prefix_trie_table.specs.Blocks.Store.{Store}
 use Rattle.prefix_trie_table.specs.Forest.{read}
 use Rattle.prefix_trie_table.specs.Walking.Items.{GivesFilled}
 use Rattle.prefix_trie_table.specs.Locations.{seat_of}
@@ -57,17 +57,17 @@ pub record SkipsLast (path : List Bool) (old new : List Spot) : Type 0 where
   pub skips : Skips path was now
 
 -- a bit string ends at the node of the spot, whose path begins this way
-pub record EndsAt (way : List Bool) (p : Spot) (path : List Bool) : Type 0 where
+pub record EndsAt (search_path : List Bool) (p : Spot) (path : List Bool) : Type 0 where
   pub whole : p.depth ≤ length path
   pub last : length path < p.depth + 5
-  pub same_above : take p.depth path ≡ take p.depth way
+  pub same_above : take p.depth path ≡ take p.depth search_path
 
 -- it ends at the node of the last of these spots
-pub record EndsLast (way : List Bool) (ps : List Spot) (path : List Bool) : Type 0 where
+pub record EndsLast (search_path : List Bool) (ps : List Spot) (path : List Bool) : Type 0 where
   pub below : List Spot
   pub spot : Spot
   pub is : ps ≡ below ++ spot ∷ []
-  pub ends : EndsAt way spot path
+  pub ends : EndsAt search_path spot path
 
 -- the depth at which a stack starts
 abbrev pub start : List Spot → ℕ
@@ -75,45 +75,45 @@ start [] = 0
 start (p ∷ ps) = p.depth
 
 -- the spot is at a node of the array, whose path begins this way, and only places that the node has are still to come
-pub record IsSpot (width : ℕ) (nodes : List Node) (way : List Bool) (p : Spot) : Type 0 where
+pub record IsSpot (width : ℕ) (nodes : List Node) (search_path : List Bool) (p : Spot) : Type 0 where
   pub level : ℕ
   pub depth_is : p.depth ≡ 5 * level
   pub within : p.depth ≤ width
-  pub long : p.depth ≤ length way
-  pub stands : read nodes (chunks_of (take p.depth way)) ≡ Some p.node
+  pub long : p.depth ≤ length search_path
+  pub is_there : read nodes (chunks_of (take p.depth search_path)) ≡ Some p.node
   pub each : All (IsPlaceOf p.node) (to_come p.places)
 
 -- each spot is a level below the one before, and the first is at this depth
 abbrev pub IsStackFrom : ℕ → List Node → ℕ → List Bool → List Spot → Type 0
-IsStackFrom width nodes n way [] = ⊤
-IsStackFrom width nodes n way (p ∷ ps) = (p.depth ≡ n) × IsSpot width nodes way p × IsStackFrom width nodes (n + 5) way ps
+IsStackFrom width nodes n search_path [] = ⊤
+IsStackFrom width nodes n search_path (p ∷ ps) = (p.depth ≡ n) × IsSpot width nodes search_path p × IsStackFrom width nodes (n + 5) search_path ps
 
 -- each spot is a level below the one before, from any depth on
 abbrev pub IsStack : ℕ → List Node → List Bool → List Spot → Type 0
-IsStack width nodes way ps = IsStackFrom width nodes (start ps) way ps
+IsStack width nodes search_path ps = IsStackFrom width nodes (start ps) search_path ps
 
 -- the child on the way is not among the places to come
 abbrev pub IsPassed : List Bool → Spot → Type 0
-IsPassed way p = All (IsOther (take 5 (drop p.depth way))) (to_come p.places)
+IsPassed search_path p = All (IsOther (take 5 (drop p.depth search_path))) (to_come p.places)
 
 -- so it is at each spot but the last: what a bit string that ends at the last spot begins is to come there alone
 abbrev pub ArePassed : List Bool → List Spot → Type 0
-ArePassed way ps = AllWithin (IsPassed way) ps 0 (length ps - 1)
+ArePassed search_path ps = AllWithin (IsPassed search_path) ps 0 (length ps - 1)
 
 module _ {T : Type 0} where
   -- the pairs still to come at a spot
   abbrev pub still : Entries T → List Bool → Spot → List (List Bool × T)
-  still m way p = listing_at_places m (take p.depth way) (to_come p.places)
+  still m search_path p = listing_at_places m (take p.depth search_path) (to_come p.places)
 
   -- the entries to come at a stack of spots, the last of which is the deepest
   abbrev pub pending : Entries T → List Bool → List Spot → List (List Bool × T)
-  pending m way [] = []
-  pending m way (p ∷ ps) = pending m way ps ++ still m way p
+  pending m search_path [] = []
+  pending m search_path (p ∷ ps) = pending m search_path ps ++ still m search_path p
 
   -- the value at a seat is that of the first entry to come
   pub record GivesSeat {K : Type 0} (IsKey : K → Type 0) (bits : K → List Bool) (width : ℕ) (t : Tree T) (key : K) (len : ℕ) (seat : Seat) (old new : List (List Bool × T)) : Type 0 where
     pub value : T
-    pub stands : slot_of seat < length t.cells.slots
+    pub is_there : slot_of seat < length t.cells.slots
     pub reads : slice_index_or t.cells.slots (slot_of seat) None ≡ Some value
     pub gives : GivesFilled IsKey bits width key len value old new
 
@@ -121,17 +121,17 @@ module _ {T : Type 0} where
 abbrev pub weight : Spot → ℕ
 weight p = length (to_come p.places) * 2 ^ (2 * (130 - p.depth)) + 1
 
-module _ {K T : Type 0} (IsKey : K → Type 0) (bits : K → List Bool) (width : ℕ) (nodes : List Node) (t : Tree T) (way : List Bool) (p : Spot) where
+module _ {K T : Type 0} (IsKey : K → Type 0) (bits : K → List Bool) (width : ℕ) (nodes : List Node) (t : Tree T) (search_path : List Bool) (p : Spot) where
   -- a step at the spot p gave this, and left the spot q
   abbrev pub Steps : Step K → Spot → Type 0
   Steps (Entry found len seat) q =
-      GivesSeat IsKey bits width t found len seat (still t.shape.entries way p) (still t.shape.entries way q)
-      × (weight q < weight p) × IsSpot width nodes way q × (q ≡ record p { places = q.places })
+      GivesSeat IsKey bits width t found len seat (still t.shape.entries search_path p) (still t.shape.entries search_path q)
+      × (weight q < weight p) × IsSpot width nodes search_path q × (q ≡ record p { places = q.places })
   Steps (Child c below) q =
-      (still t.shape.entries way p ≡ still t.shape.entries (bits below) c ++ still t.shape.entries way q)
-      × (weight c + weight q < weight p) × IsSpot width nodes way q × (q ≡ record p { places = q.places })
-      × IsSpot width nodes (bits below) c × (c.depth ≡ p.depth + 5) × (take p.depth (bits below) ≡ take p.depth way)
-  Steps Done q = (still t.shape.entries way p ≡ []) × (0 < weight p)
+      (still t.shape.entries search_path p ≡ still t.shape.entries (bits below) c ++ still t.shape.entries search_path q)
+      × (weight c + weight q < weight p) × IsSpot width nodes search_path q × (q ≡ record p { places = q.places })
+      × IsSpot width nodes (bits below) c × (c.depth ≡ p.depth + 5) × (take p.depth (bits below) ≡ take p.depth search_path)
+  Steps Done q = (still t.shape.entries search_path p ≡ []) × (0 < weight p)
 
 -- the seat of an entry that a step gave is the seat of its key
 abbrev pub IsSeated : {K : Type 0} → (K → List Bool) → List Node → Step K → Type 0
@@ -141,9 +141,9 @@ IsSeated bits nodes Done = ⊤
 
 -- a key that a step gave ends at its spot, and the child that it gave is passed
 abbrev pub StaysOnPath : {K : Type 0} → (K → List Bool) → List Bool → Spot → Step K → Spot → Type 0
-StaysOnPath bits way p (Entry key len seat) q = EndsAt way p (take len (bits key))
-StaysOnPath bits way p (Child c key) q = IsPassed (bits key) q
-StaysOnPath bits way p Done q = ⊤
+StaysOnPath bits search_path p (Entry key len seat) q = EndsAt search_path p (take len (bits key))
+StaysOnPath bits search_path p (Child c key) q = IsPassed (bits key) q
+StaysOnPath bits search_path p Done q = ⊤
 
 module _ {T : Type 0} where
   -- the one shape of the arrays, if there are arrays
@@ -157,10 +157,10 @@ module _ {T : Type 0} where
 
   -- a walk without arrays has nothing to come
   abbrev pub rest_of_walk : (arrays : Option (Bor (Store Node) × Bor (Store (Option T)))) → ShapeOf arrays → List Bool → List Spot → List (List Bool × T)
-  rest_of_walk None shape way ps = []
-  rest_of_walk (Some a) shape way ps = pending shape.0.entries way ps
+  rest_of_walk None shape search_path ps = []
+  rest_of_walk (Some a) shape search_path ps = pending shape.0.entries search_path ps
 
   -- the spots of a walk are those of the table in the arrays
   abbrev pub IsWalk : ℕ → (arrays : Option (Bor (Store Node) × Bor (Store (Option T)))) → ShapeOf arrays → List Bool → List Spot → Type 0
-  IsWalk width None shape way ps = ⊤
-  IsWalk width (Some a) shape way ps = IsTrie width (len shape.0.entries) a.0.now a.1.now shape.0 × IsStack width a.0.now.slots way ps × ArePassed way ps
+  IsWalk width None shape search_path ps = ⊤
+  IsWalk width (Some a) shape search_path ps = IsTrie width (len shape.0.entries) a.0.now a.1.now shape.0 × IsStack width a.0.now.slots search_path ps × ArePassed search_path ps

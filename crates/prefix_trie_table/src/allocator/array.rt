@@ -1,6 +1,6 @@
 //! The array of slots that `Blocks` cuts into blocks. Contracts see a list and a capacity.
 ghost use Rattle.std.specs.Prelude.{◌≡◌, ◌≢◌, ℕ, ◌+◌, ◌<◌, ◌≤◌, ◌++◌, [], ◌∷◌, List, length, take, insert, remove, slice_index_or, slice_set, OnOk, OnErr, IsOk};
-ghost use Rattle.prefix_trie_table.specs.Growth.{Reserves};
+ghost use Rattle.prefix_trie_table.specs.Blocks.Growth.{Reserves};
 
 use crate::allocator::slots::{Slot, reserve, shift_in, shift_out, shrink};
 use std::alloc::{AllocError, Allocator};

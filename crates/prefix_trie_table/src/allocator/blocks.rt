@@ -1,18 +1,18 @@
 //! An array that is cut into blocks of a few sizes. A block in use holds one list, which starts at its first slot.
+mod building;
 mod copying;
 mod insertion;
-mod laying;
 mod making;
 mod moving;
 mod removal;
 mod tiers;
 
 ghost use Rattle.std.specs.Prelude.{◌≡◌, ℕ, ◌+◌, ◌*◌, ◌^◌, ◌<◌, ◌≤◌, ◌↔◌, [], ◌∷◌, List, length, take, All, map, None, OnOk, IfOk, IsErr, IfErr, slice_index_or, slice_set};
-ghost use Rattle.prefix_trie_table.specs.Store.{Store, UsedBlock, Sound, tier_at, tier_sizes, size_in, free_in, slots_made, no_blocks};
-ghost use Rattle.prefix_trie_table.specs.BlockCounts.{tier_count};
-ghost use Rattle.prefix_trie_table.specs.Cells.{blank_node, cell_sizes, node_sizes, HasSizes};
+ghost use Rattle.prefix_trie_table.specs.Blocks.Store.{Store, UsedBlock, Sound, tier_at, tier_sizes, size_in, free_in, slots_made, no_blocks};
+ghost use Rattle.prefix_trie_table.specs.Blocks.BlockCounts.{tier_count};
+ghost use Rattle.prefix_trie_table.specs.Blocks.Cells.{blank_node, cell_sizes, node_sizes, HasSizes};
 ghost use Rattle.std.specs.Borrow.{sem};
-ghost use Rattle.prefix_trie_table.specs.Slots.{with_slot};
+ghost use Rattle.prefix_trie_table.specs.Blocks.Slots.{with_slot};
 ghost use Rattle.prefix_trie_table.specs.Lending.Blocks.{lends_slot};
 ghost use Rattle.prefix_trie_bits.specs.declared.prefix.Refusal.TheVariants.{IndexRange};
 
@@ -56,8 +56,8 @@ pub struct Blocks<S: Slot, R: SlotArray<S>, A: Allocator> {
 // Clauses see the slots, the start of the first block, the tiers, the limit and the capacity.
 impl<S: Slot, R: SlotArray<S>, A: Allocator> Model for Blocks<S, R, A> {
     ghost use Rattle.std.specs.Prelude.{◌≡◌, ◌+◌, ◌≤◌, ◌<◌, length, All};
-    ghost use Rattle.prefix_trie_table.specs.Store.{Store, slots_made};
-    ghost use Rattle.prefix_trie_table.specs.Cells.{HasSizes};
+    ghost use Rattle.prefix_trie_table.specs.Blocks.Store.{Store, slots_made};
+    ghost use Rattle.prefix_trie_table.specs.Blocks.Cells.{HasSizes};
 
     ghost Value = { Store S };
 
@@ -220,8 +220,8 @@ impl<S: Slot, A: Allocator> Blocks<S, Vec<S, A>, A> {
 
 impl<A: Allocator> Blocks<Node, NodeArray<A>, A> {
     ghost use Rattle.std.specs.Prelude.{ℕ};
-    ghost use Rattle.prefix_trie_table.specs.Cells.{node_at};
-    ghost use Rattle.prefix_trie_table.specs.NodeArrays.{FitsByte};
+    ghost use Rattle.prefix_trie_table.specs.Blocks.Cells.{node_at};
+    ghost use Rattle.prefix_trie_table.specs.Blocks.NodeArrays.{FitsByte};
 
     /// Calls `NodeArray::sizes_fit`.
     #[inline]

@@ -1,7 +1,7 @@
 //! The free list of one size: a stack of free blocks, with reserved capacity for all blocks of that size.
 ghost use Rattle.std.specs.Prelude.{◌≡◌, ℕ, ◌+◌, ◌^◌, ◌<◌, ◌≤◌, ◌↔◌, [], ◌∷◌, ◌++◌, length, map, IsTrue, OnOk, OnErr, vec_len, vec_capacity};
-ghost use Rattle.prefix_trie_table.specs.Store.{no_blocks};
-ghost use Rattle.prefix_trie_table.specs.BlockCounts.{tier_count};
+ghost use Rattle.prefix_trie_table.specs.Blocks.Store.{no_blocks};
+ghost use Rattle.prefix_trie_table.specs.Blocks.BlockCounts.{tier_count};
 
 use crate::allocator::block_count::BlockCount;
 use crate::allocator::slots::{reserve, shrink};
@@ -19,7 +19,7 @@ pub struct FreeList<A: Allocator> {
 // Clauses see the size, the number of blocks and the starts of the free ones. The capacity is enough for all blocks.
 impl<A: Allocator> Model for FreeList<A> {
     ghost use Rattle.std.specs.Prelude.{◌≤◌, vec_len, vec_capacity};
-    ghost use Rattle.prefix_trie_table.specs.Store.{Tier};
+    ghost use Rattle.prefix_trie_table.specs.Blocks.Store.{Tier};
 
     ghost Value = { Tier };
 

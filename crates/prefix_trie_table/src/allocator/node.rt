@@ -19,7 +19,7 @@ pub struct Node {
 }
 
 impl Node {
-    ghost use Rattle.prefix_trie_table.specs.Cells.{blank_node};
+    ghost use Rattle.prefix_trie_table.specs.Blocks.Cells.{blank_node};
 
     /// Returns a node that has no values and no children.
     #[inline]
@@ -47,7 +47,7 @@ impl Node {
 }
 
 impl Slot for Node {
-    ghost use Rattle.prefix_trie_table.specs.Cells.{blank_node};
+    ghost use Rattle.prefix_trie_table.specs.Blocks.Cells.{blank_node};
 
     ghost vacant = { blank_node };
 

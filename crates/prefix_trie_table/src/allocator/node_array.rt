@@ -1,8 +1,8 @@
 //! The nodes in two arrays: 16 bytes of each, which are all that a lookup reads, and one byte for the sizes of its blocks.
 ghost use Rattle.std.specs.Prelude.{◌≡◌, ℕ, ◌+◌, ◌*◌, ◌^◌, ◌<◌, ◌≤◌, ◌++◌, [], ◌∷◌, List, length, take, insert, remove, slice_index, slice_index_or, slice_set, OnOk, OnErr, IfOk};
-ghost use Rattle.prefix_trie_table.specs.Cells.{node_at};
-ghost use Rattle.prefix_trie_table.specs.Growth.{Reserves};
-ghost use Rattle.prefix_trie_table.specs.NodeArrays.{FitsByte, blank_fits, node_of};
+ghost use Rattle.prefix_trie_table.specs.Blocks.Cells.{node_at};
+ghost use Rattle.prefix_trie_table.specs.Blocks.Growth.{Reserves};
+ghost use Rattle.prefix_trie_table.specs.Blocks.NodeArrays.{FitsByte, blank_fits, node_of};
 
 use crate::allocator::array::SlotArray;
 use crate::allocator::node::Node;
@@ -32,7 +32,7 @@ pub struct NodeArray<A: Allocator> {
 // capacity of `tiers`.
 impl<A: Allocator> Model for NodeArray<A> {
     ghost use Rattle.std.specs.Prelude.{◌≡◌, ◌≤◌, length, vec_capacity};
-    ghost use Rattle.prefix_trie_table.specs.NodeArrays.{NodeList, nodes_of};
+    ghost use Rattle.prefix_trie_table.specs.Blocks.NodeArrays.{NodeList, nodes_of};
 
     ghost Value = { NodeList };
 

@@ -2,13 +2,13 @@
 ghost use Rattle.std.specs.Prelude.{◌≡◌, ℕ, ◌+◌, ◌-◌, ◌^◌, ◌<◌, ◌≤◌, ◌↔◌, [], ◌∷◌, ◌++◌, All, List, None, OnOk, IfOk, IfErr, IsErr, IsSome, length, map, insert, remove, slice_set};
 ghost use Rattle.std.specs.Option.{option_or};
 ghost use Rattle.prefix_trie_bits.specs.Model.Blocks.{StepsDown, smallest_size, made_of};
-ghost use Rattle.prefix_trie_bits.specs.Model.SplitsOff.{packed_slots};
-ghost use Rattle.prefix_trie_table.specs.BlockCounts.{tier_count};
-ghost use Rattle.prefix_trie_table.specs.Cells.{HasSizes, blank_node, node_at, node_sizes};
-ghost use Rattle.prefix_trie_table.specs.Splitting.Laying.{LaysList};
-ghost use Rattle.prefix_trie_table.specs.Losing.{LosesOne};
-ghost use Rattle.prefix_trie_table.specs.NodeArrays.{FitsByte, FitsOver};
-ghost use Rattle.prefix_trie_table.specs.Store.{Store, UsedBlock, Sound, Turnover, Obtains, HasList, AreFree, IsReady, SameSlots, tier_at, tier_sizes, slots_made, free_counts, none_of, no_blocks, block, held, list_size, list_need, needs};
+ghost use Rattle.prefix_trie_bits.specs.Calls.SplitsOff.{packed_slots};
+ghost use Rattle.prefix_trie_table.specs.Blocks.BlockCounts.{tier_count};
+ghost use Rattle.prefix_trie_table.specs.Blocks.Cells.{HasSizes, blank_node, node_at, node_sizes};
+ghost use Rattle.prefix_trie_table.specs.Splitting.Building.{BuildsList};
+ghost use Rattle.prefix_trie_table.specs.Blocks.Losing.{LosesOne};
+ghost use Rattle.prefix_trie_table.specs.Blocks.NodeArrays.{FitsByte, FitsOver};
+ghost use Rattle.prefix_trie_table.specs.Blocks.Store.{Store, UsedBlock, Sound, Turnover, Obtains, HasList, AreFree, IsReady, SameSlots, tier_at, tier_sizes, slots_made, free_counts, none_of, no_blocks, block, held, list_size, list_need, needs};
 ghost use Rattle.prefix_trie_bits.specs.declared.prefix.Refusal.TheVariants.{Memory, IndexRange};
 
 use crate::allocator::block_count::BlockCount;
@@ -40,7 +40,7 @@ pub struct NodeAllocator<A: Allocator, V: Drop> {
 
 // Clauses see the same as for the blocks.
 impl<A: Allocator, V: Drop> Model for NodeAllocator<A, V> {
-    ghost use Rattle.prefix_trie_table.specs.Store.{Store};
+    ghost use Rattle.prefix_trie_table.specs.Blocks.Store.{Store};
     ghost use Rattle.prefix_trie_table.specs.declared.allocator.node.Node.{Node};
 
     ghost Value = { Store Node };
@@ -193,7 +193,7 @@ impl<A: Allocator, V: Drop> NodeAllocator<A, V> {
         requires sizes { HasSizes self.old.tiers }
         requires ready { IsReady self.old.tiers k count }
         requires offset { offset ≤ count }
-        ensures stands { list_size self.old.tiers result.tier (count + 1)
+        ensures is_there { list_size self.old.tiers result.tier (count + 1)
             ≡ option_or (list_need self.old.tiers k count) (list_size self.old.tiers k count) }
         ensures stays { list_need self.old.tiers k count ≡ None → result ≡ record { tier = k; start = start } }
         ensures turnover { Turnover self.old self.new none_of (list_size self.old.tiers k count) (list_size self.old.tiers result.tier (count + 1)) }
@@ -227,19 +227,19 @@ impl<A: Allocator, V: Drop> NodeAllocator<A, V> {
         rest
     }
 
-    /// Builds a list of these nodes in a block of the smallest size that fits, as `Blocks::lay` does, and returns the block.
-    pub fn lay(&mut self, items: &[Node]) -> Result<BlockRef, Refusal>
+    /// Builds a list of these nodes in a block of the smallest size that fits, as `Blocks::build` does, and returns the block.
+    pub fn build(&mut self, items: &[Node]) -> Result<BlockRef, Refusal>
         requires tiers { All FitsByte items.now }
         requires sound { (live : List (UsedBlock Node)) × Sound blank_node live self.old }
         requires fits { IsSome (smallest_size (tier_sizes self.old.tiers) (length items.now)) }
         requires few { length items.now < 2 ^ 32 }
-        ensures laid { IfOk result (LaysList blank_node self.old self.new items.now) }
+        ensures built { IfOk result (BuildsList blank_node self.old self.new items.now) }
         ensures longer { IfOk result (λ _. length self.new.slots
             ≤ length self.old.slots + packed_slots (tier_sizes self.old.tiers) (length items.now)) }
         ensures range { IfErr result (λ cause. cause ≡ IndexRange
             → self.old.limit < length self.old.slots + packed_slots (tier_sizes self.old.tiers) (length items.now)) }
     {
-        self.blocks.lay(items)
+        self.blocks.build(items)
     }
 
     /// Frees the spare capacity, as `Blocks::shrink_to_fit` does.

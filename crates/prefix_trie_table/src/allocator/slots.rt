@@ -1,7 +1,7 @@
 //! What a slot can hold, how an array grows, and changes of runs of slots.
 ghost use Rattle.std.specs.Prelude.{◌≡◌, ℕ, ◌+◌, ◌^◌, ◌<◌, ◌≤◌, ◌⊎◌, ◌++◌, All, length, min, max, replicate, insert, remove, vec_len, vec_capacity, slice_index_or, OnOk, OnErr, IsOk};
-ghost use Rattle.prefix_trie_table.specs.Growth.{Reserves};
-ghost use Rattle.prefix_trie_table.specs.Runs.{run, put_run, swap_runs};
+ghost use Rattle.prefix_trie_table.specs.Blocks.Growth.{Reserves};
+ghost use Rattle.prefix_trie_table.specs.Blocks.Runs.{run, put_run, swap_runs};
 
 use crate::allocator::array::SlotArray;
 use std::alloc::{AllocError, Allocator};
@@ -72,7 +72,7 @@ const LEAST: usize = 4;
 pub(super) fn growth(capacity: usize, len: usize, count: usize) -> usize
     requires long { len ≤ capacity }
     requires short { capacity < 2 ^ 63 }
-    requires lacks { capacity < len + count }
+    requires some_missing { capacity < len + count }
     ensures enough { count ≤ result }
     ensures grown { Reserves capacity (len + count) (len + result) }
 {

@@ -1,8 +1,9 @@
 //! How many blocks of each size the two arrays have, used and free.
 ghost use Rattle.std.specs.Prelude.{◌≡◌, ◌+◌, length};
-ghost use Rattle.prefix_trie_bits.specs.Model.Blocks.{child_block_sizes, value_block_sizes, child_count, own_entries, NodesHaveBlocks};
-ghost use Rattle.prefix_trie_bits.specs.Model.Nodes.{parents, holders};
-ghost use Rattle.prefix_trie_table.specs.BlockCounts.{block_counts, slots_counted, used_blocks};
+ghost use Rattle.prefix_trie_bits.specs.Model.Blocks.{child_block_sizes, value_block_sizes, child_count, own_entries};
+ghost use Rattle.prefix_trie_bits.specs.Calls.Blocks.{NodesHaveBlocks};
+ghost use Rattle.prefix_trie_bits.specs.Calls.Nodes.{parents, holders};
+ghost use Rattle.prefix_trie_table.specs.Blocks.BlockCounts.{block_counts, slots_counted, used_blocks};
 
 use crate::allocator::block_count::BlockCount;
 use crate::allocator::nodes::Tick;

@@ -9,10 +9,10 @@ ghost use Rattle.prefix_trie_table.specs.declared.allocator.node.Node.{Node};
 ghost use Rattle.prefix_trie_table.specs.declared.table.bulk.Found.{Found};
 ghost use Rattle.prefix_trie_table.specs.declared.table.bulk.Descent.{Descent};
 ghost use Rattle.prefix_trie_table.specs.Bitmaps.{has_bit as is_set};
-ghost use Rattle.prefix_trie_table.specs.Bulk.{AreAnswered, AreAnswers, AreCosts, AreRead, EachOf, GoOn, HasFound, IsAhead, IsAnswer, IsNew, IsSound, IsDescent, found_of, new_descent, reached_by, slot_of};
-ghost use Rattle.prefix_trie_table.specs.Cells.{node_at};
+ghost use Rattle.prefix_trie_table.specs.Bulk.{HaveMatches, AreMatchesFound, AreCosts, AreRead, EachOf, GoOn, HasFound, IsAhead, IsMatchFound, IsNew, IsSound, IsDescent, found_of, new_descent, reached_by, slot_of};
+ghost use Rattle.prefix_trie_table.specs.Blocks.Cells.{node_at};
 ghost use Rattle.prefix_trie_table.specs.SearchPaths.{IsAlong, IsLast};
-ghost use Rattle.prefix_trie_table.specs.Store.{Store};
+ghost use Rattle.prefix_trie_table.specs.Blocks.Store.{Store};
 
 use crate::allocator::blocks::Cells;
 use crate::allocator::node::{Node, NodeSlot, ROOT};
@@ -179,7 +179,7 @@ fn begin(descents: &mut [Descent], count: usize)
 }
 
 /// Searches for all prefixes side by side, and stores the match of each.
-fn answer_each<P: Prefix, A: Allocator, V: Tick>(
+fn match_each<P: Prefix, A: Allocator, V: Tick>(
     nodes: &NodeAllocator<A, V>,
     prefixes: &[P],
     found: &mut [Option<Found>],
@@ -189,7 +189,7 @@ fn answer_each<P: Prefix, A: Allocator, V: Tick>(
     requires fit { All P.IsFitting prefixes.now }
     requires same_length { length found.old ≡ length prefixes.now }
     requires few { length prefixes.now ≤ 32 }
-    ensures answered { AreAnswered nodes.now (map P.path prefixes.now) [] found.new }
+    ensures matched { HaveMatches nodes.now (map P.path prefixes.now) [] found.new }
     ensures counted { (costs : List ℕ) → length costs ≡ length prefixes.now
         → AreCosts nodes.now (map P.path prefixes.now) costs
         → V.count counter.new ≡ V.count counter.old + sum costs }
@@ -210,7 +210,7 @@ fn answer_each<P: Prefix, A: Allocator, V: Tick>(
 /// Returns the length of a match and its value.
 #[inline(always)]
 fn value_at<'a, T: Drop, A: Allocator>(cells: &'a Cells<T, A>, found: Found) -> Option<(u32, &'a T)>
-    requires stands { found.seat.slot < length cells.now.slots }
+    requires is_there { found.seat.slot < length cells.now.slots }
     ensures { MatchOption result
         (slice_index_or cells.now.slots found.seat.slot None ≡ None)
         (λ r. (r.0 ≡ found.len)
@@ -236,18 +236,18 @@ impl<T: Drop, A: Allocator, V: Tick> Table<T, A, V> {
         requires fit { All P.IsFitting prefixes.now }
         requires same_length { length found.old ≡ length prefixes.now }
         requires few { length prefixes.now ≤ 32 }
-        ensures answers { AreAnswers self.now.build (map P.path prefixes.now) found.new }
+        ensures results { AreMatchesFound self.now.build (map P.path prefixes.now) found.new }
         ensures visits { V.count counter.new
             ≡ V.count counter.old + sum_by (λ p. visits self.now.nodes (P.path p)) prefixes.now }
         ensures length { length found.new ≡ length found.old }
     {
-        answer_each(&self.nodes, prefixes, found, counter);
+        match_each(&self.nodes, prefixes, found, counter);
     }
 
     /// Returns the length and the value of a match of `find_longest_each`, as `find_longest` returns them.
     #[inline]
     pub fn value_found<K: Key>(&self, path: BitString<K>, found: Option<Found>) -> Option<(u32, &T)>
-        requires { IsAnswer self.now.build path found }
+        requires { IsMatchFound self.now.build path found }
         ensures { MatchOption result
             (longest_match self.now.entries path ≡ None)
             (λ f. (f.0 ≤ length path) × (longest_match self.now.entries path ≡ Some (take f.0 path, f.1.now))) }

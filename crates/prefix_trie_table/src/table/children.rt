@@ -8,7 +8,7 @@ ghost use Rattle.prefix_trie_table.specs.Digits.{chunks_of};
 ghost use Rattle.prefix_trie_table.specs.Forest.{read};
 ghost use Rattle.prefix_trie_table.specs.SearchPaths.{IsOwn};
 ghost use Rattle.prefix_trie_table.specs.Tables.{IsTrie};
-ghost use Rattle.prefix_trie_table.specs.Retaining.{AsksUpTo, SaysNo, MayAskBelow, TakesBelow, PreservesBelow};
+ghost use Rattle.prefix_trie_table.specs.Retaining.{AsksUpTo, ReturnsFalse, MayAskBelow, TakesBelow, PreservesBelow};
 
 use crate::allocator::blocks::Cells;
 use crate::allocator::node::Node;
@@ -53,7 +53,7 @@ fn empty_part<K: Key, T: Drop, A: Allocator, V: Tick, F: Keep<K, T, V>>(
 ) -> Node
     requires trie { (s : State T) × IsTrie K.bit_width entries.old nodes.old cells.old s }
     requires own { IsOwn path.now here nodes.old }
-    requires none { SaysNo F.asks }
+    requires none { ReturnsFalse F.asks }
     requires may_ask { MayAskBelow F.asks F.accepts K.bit_width path.now keep.old entries.old nodes.old cells.old }
     ensures emptied { (s : State T) → IsTrie K.bit_width entries.old nodes.old cells.old s
         → TakesBelow F.asks F.accepts K.bit_width path.now keep.old s keep.new
@@ -90,7 +90,7 @@ pub fn remove_part<K: Key, T: Drop, A: Allocator, V: Tick, F: Keep<K, T, V>>(
     counter: &mut V,
 )
     requires trie { (s : State T) × IsTrie K.bit_width entries.old nodes.old cells.old s }
-    requires none { SaysNo F.asks }
+    requires none { ReturnsFalse F.asks }
     requires may_ask { MayAskBelow F.asks F.accepts K.bit_width path keep.old entries.old nodes.old cells.old }
     ensures removed { (s : State T) → IsTrie K.bit_width entries.old nodes.old cells.old s
         → IsTrie K.bit_width entries.new nodes.new cells.new (record {

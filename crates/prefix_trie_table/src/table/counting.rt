@@ -2,9 +2,8 @@
 ghost use Rattle.std.specs.Prelude.{◌≡◌, ℕ, ◌+◌, List, Option, length};
 ghost use Rattle.std.specs.FinMap.{len};
 ghost use Rattle.prefix_trie_table.specs.declared.allocator.node.Node.{Node};
-ghost use Rattle.prefix_trie_table.specs.Cells.{node_sizes};
+ghost use Rattle.prefix_trie_table.specs.Blocks.Cells.{node_sizes};
 ghost use Rattle.prefix_trie_table.specs.Forest.{NodesHold, SomeNodes};
-
 
 use crate::allocator::nodes::{NodeAllocator, Tick};
 use crate::table::Table;

@@ -127,7 +127,7 @@ fn next_match<K: Key, A: Allocator, V: Tick>(
     counter: &mut V,
 ) -> Option<Match>
     requires sound { (n : SomeNodes nodes.now) × LackLastBit n.reading }
-    requires stands { (first : ℕ) × IsCovering path.now here.old matches.old first nodes.now }
+    requires is_there { (first : ℕ) × IsCovering path.now here.old matches.old first nodes.now }
     ensures { (first : ℕ) → IsCovering path.now here.old matches.old first nodes.now
         → GoesOn path.now here.new matches.new first result nodes.now }
 {

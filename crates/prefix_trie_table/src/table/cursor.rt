@@ -1,8 +1,8 @@
 //! Walks that do not borrow their table, so that its values can be written between their steps.
 ghost use Rattle.std.specs.Prelude.{◌≡◌, [], map, take, true, IfSome, MatchOption};
 ghost use Rattle.std.specs.FinMap.{contains_key};
-ghost use Rattle.prefix_trie_bits.specs.Model.Entries.{AreWithin};
-ghost use Rattle.prefix_trie_bits.specs.Model.Nodes.{AreNodes};
+ghost use Rattle.prefix_trie_bits.specs.Calls.Entries.{AreWithin};
+ghost use Rattle.prefix_trie_bits.specs.Calls.Nodes.{AreNodes};
 ghost use Rattle.prefix_trie_table.specs.Walking.Starts.{selected};
 
 use crate::allocator::nodes::Tick;
@@ -42,7 +42,7 @@ impl<T: Drop, A: Allocator, V: Tick> Table<T, A, V> {
     pub fn cursor<K: Key>(&self, path: BitString<K>, from: Start, counter: &mut V) -> Cursor<K>
         requires within { AreWithin K.bit_width self.now.entries }
         requires nodes { AreNodes K.bit_width self.now.entries self.now.nodes }
-        ensures stands { IsCursorIn K.bits K.bit_width self.now.build result }
+        ensures is_there { IsCursorIn K.bits K.bit_width self.now.build result }
         ensures keys { keys_to_come K.bits self.now.entries result
             ≡ map (λ e. e.0) (selected from self.now.entries path) }
     {
@@ -56,10 +56,10 @@ impl<T: Drop, A: Allocator, V: Tick> Table<T, A, V> {
     /// It reads each further node once, when the walk comes to it.
     #[inline]
     pub fn step<K: Key>(&self, cursor: &mut Cursor<K>, counter: &mut V) -> Option<(K, u32, Seat)>
-        requires stands { IsCursorIn K.bits K.bit_width self.now.build cursor.old }
+        requires is_there { IsCursorIn K.bits K.bit_width self.now.build cursor.old }
         requires within { AreWithin K.bit_width self.now.entries }
         requires nodes { AreNodes K.bit_width self.now.entries self.now.nodes }
-        ensures stands { IsCursorIn K.bits K.bit_width self.now.build cursor.new }
+        ensures is_there { IsCursorIn K.bits K.bit_width self.now.build cursor.new }
         ensures key { MatchOption result
             ((keys_to_come K.bits self.now.entries cursor.old ≡ []) × (keys_to_come K.bits self.now.entries cursor.new ≡ []))
             (λ r. GivesKey K.IsKey K.bits K.bit_width self.now.build r.0 r.1 r.2

@@ -5,11 +5,11 @@
 ghost use Rattle.std.specs.Prelude.{◌≡◌, ℕ, ◌+◌, ◌<◌, ◌≤◌, List, Option, Some, false, MatchResult, OnOk};
 ghost use Rattle.prefix_trie_table.specs.declared.allocator.node.Node.{Node};
 ghost use Rattle.prefix_trie_table.specs.Bitmaps.{has_bit as is_set};
-ghost use Rattle.prefix_trie_table.specs.Cells.{node_at, node_sizes, cell_sizes};
+ghost use Rattle.prefix_trie_table.specs.Blocks.Cells.{node_at, node_sizes, cell_sizes};
 ghost use Rattle.prefix_trie_table.specs.Digits.{chunks_of, bit_of};
 ghost use Rattle.prefix_trie_bits.specs.Model.Blocks.{one_of};
 ghost use Rattle.prefix_trie_table.specs.OwnBlocks.{child_need, value_need};
-ghost use Rattle.prefix_trie_table.specs.Store.{AreFree, MakesNone, free_in, needs};
+ghost use Rattle.prefix_trie_table.specs.Blocks.Store.{AreFree, MakesNone, free_in, needs};
 ghost use Rattle.prefix_trie_table.specs.Forest.{IsSlot, NodesHold, CellsHold, Holds, SomeTable, SomeNodes, IsNodeAt, ChildAdded, EntryAdded, ValueSet, entry_count};
 ghost use Rattle.prefix_trie_table.specs.Locations.{EndsAt, seat_in, seat_of};
 ghost use Rattle.prefix_trie_table.specs.Tables.{GrowsBoth, ForHeld};
@@ -36,7 +36,7 @@ fn add_child<A: Allocator, V: Tick>(
     child: u32,
 ) -> NodeSlot
     requires child { child < 32 }
-    requires stands { (n : SomeNodes nodes.old) × IsNodeAt n.reading at }
+    requires is_there { (n : SomeNodes nodes.old) × IsNodeAt n.reading at }
     requires node { node.now ≡ node_at nodes.old.slots at }
     requires missing { is_set node.now.child_bitmap child ≡ false }
     requires ready { AreFree nodes.old.tiers (needs (child_need (Some node.now)) 0) }
@@ -82,7 +82,7 @@ fn add_value<T: Drop, A: Allocator, V: Tick>(
     value: T,
 ) -> Seat
     requires bit { bit < 31 }
-    requires stands { (t : SomeTable nodes.old cells.old) × IsNodeAt t.reading at }
+    requires is_there { (t : SomeTable nodes.old cells.old) × IsNodeAt t.reading at }
     requires node { node.now ≡ node_at nodes.old.slots at }
     requires missing { is_set node.now.value_bitmap bit ≡ false }
     requires ready { AreFree cells.old.tiers (needs (value_need (Some node.now)) 0) }

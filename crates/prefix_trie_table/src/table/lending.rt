@@ -6,7 +6,7 @@ ghost use Rattle.std.specs.FinMap.{get};
 ghost use Rattle.prefix_trie_bits.specs.Model.Matches.{longest_match};
 ghost use Rattle.prefix_trie_bits.specs.Model.Visits.{visits};
 ghost use Rattle.prefix_trie_table.specs.Matching.{SeatAt};
-ghost use Rattle.prefix_trie_table.specs.Slots.{HasValue};
+ghost use Rattle.prefix_trie_table.specs.Blocks.Slots.{HasValue};
 ghost use Rattle.prefix_trie_table.specs.Lending.Blocks.{lends_held, lends_cell, lends_cell_if};
 
 use crate::allocator::blocks::Cells;

@@ -4,12 +4,13 @@ ghost use Rattle.std.specs.Borrow.{sem};
 ghost use Rattle.std.specs.FinMap.{get, contains_key, len as number_of};
 ghost use Rattle.prefix_trie_bits.specs.Model.Space.{MayPassLimit, LeavesSpace};
 ghost use Rattle.prefix_trie_bits.specs.Model.Step.{Insert};
-ghost use Rattle.prefix_trie_bits.specs.Model.Storage.{PreparesInStorage, RefusesInStorage, StepByPath};
+ghost use Rattle.prefix_trie_bits.specs.Calls.Storage.{PreparesInStorage, StepByPath};
+ghost use Rattle.prefix_trie_bits.specs.Model.Storage.{RefusesInStorage};
 ghost use Rattle.prefix_trie_bits.specs.Model.Visits.{visits};
 ghost use Rattle.prefix_trie_bits.specs.declared.prefix.Refusal.TheVariants.{IndexRange};
 ghost use Rattle.prefix_trie_table.specs.Locations.{seat_of, IsSearchEnd, IsLocation};
-ghost use Rattle.prefix_trie_table.specs.Shape.{state, storage};
-ghost use Rattle.prefix_trie_table.specs.Steps.{stored_state, insert_new_reply};
+ghost use Rattle.prefix_trie_table.specs.Model.Contents.{state, storage, stored_state};
+ghost use Rattle.prefix_trie_table.specs.Steps.{insert_new_reply};
 
 use crate::allocator::nodes::Tick;
 use crate::table::Table;
@@ -82,7 +83,7 @@ impl<T: Drop, A: Allocator, V: Tick> Table<T, A, V> {
         requires end { IsSearchEnd self.old.build path end }
         ensures unchanged { (self.new.entries ≡ self.old.entries) × (self.new.nodes ≡ self.old.nodes) }
         ensures end { IsSearchEnd self.new.build path end }
-        ensures readies { MatchResult result
+        ensures prepares { MatchResult result
             (λ _. PreparesInStorage (state self.old) path (storage self.old) (storage self.new))
             (λ cause. RefusesInStorage (state self.old) path cause (storage self.old) (storage self.new)) }
         ensures range { IfErr result (λ cause. cause ≡ IndexRange → MayPassLimit self.old.space) }

@@ -1,11 +1,11 @@
 //! Search paths, from the root down to a bit string's own node.
 ghost use Rattle.std.specs.Prelude.{◌≡◌, ℕ, ◌+◌, ◌*◌, ◌/◌, ◌<◌, ◌≤◌, Bool, List, drop, length, MatchOption};
 ghost use Rattle.prefix_trie_table.specs.declared.allocator.node.Node.{Node};
-ghost use Rattle.prefix_trie_table.specs.Cells.{node_at};
+ghost use Rattle.prefix_trie_table.specs.Blocks.Cells.{node_at};
 ghost use Rattle.prefix_trie_table.specs.Forest.{SomeNodes};
 ghost use Rattle.prefix_trie_table.specs.Locations.{Locates};
 ghost use Rattle.prefix_trie_table.specs.SearchPaths.{IsAlong, IsLast, ReadsAlong};
-ghost use Rattle.prefix_trie_table.specs.Store.{Store};
+ghost use Rattle.prefix_trie_table.specs.Blocks.Store.{Store};
 
 use crate::allocator::node::{Node, NodeSlot, ROOT};
 use crate::allocator::nodes::{NodeAllocator, Tick};

@@ -2,7 +2,7 @@
 ghost use Rattle.std.specs.Prelude.{◌≡◌, ℕ, ◌+◌, ◌*◌, ◌/◌, ◌<◌, ◌≤◌, Bool, List, Option, None, Some, false, take, drop, length, IfSome, MatchOption, slice_index_or};
 ghost use Rattle.prefix_trie_table.specs.declared.allocator.node.Node.{Node};
 ghost use Rattle.prefix_trie_table.specs.Bitmaps.{has_bit as is_set};
-ghost use Rattle.prefix_trie_table.specs.Cells.{node_sizes};
+ghost use Rattle.prefix_trie_table.specs.Blocks.Cells.{node_sizes};
 ghost use Rattle.prefix_trie_table.specs.Digits.{chunks_of};
 ghost use Rattle.prefix_trie_table.specs.Forest.{NodesHold, SomeNodes};
 ghost use Rattle.prefix_trie_table.specs.Matching.{LackLastBit, LongestHeld, ShortestHeld, cell_slot, match_seat};
@@ -141,7 +141,7 @@ pub fn value_of_match<'a, T: Drop, A: Allocator>(
     found: Match,
 ) -> Option<(u32, &'a T)>
     requires bit { found.bit < 31 }
-    requires stands { cell_slot found < length cells.now.slots }
+    requires is_there { cell_slot found < length cells.now.slots }
     ensures { MatchOption result
         (slice_index_or cells.now.slots (cell_slot found) None ≡ None)
         (λ r. (r.0 ≡ found.len)

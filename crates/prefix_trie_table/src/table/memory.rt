@@ -1,11 +1,11 @@
 //! Memory that a table does not need: what is reserved and unused, and blocks that are free or larger than their lists.
 ghost use Rattle.std.specs.Prelude.{◌≡◌, OnOk, OnErr, IfErr};
 ghost use Rattle.prefix_trie_bits.specs.declared.prefix.Refusal.TheVariants.{Memory};
-ghost use Rattle.prefix_trie_bits.specs.Model.Entries.{AreWithin};
-ghost use Rattle.prefix_trie_bits.specs.Model.SplitsOff.{IsPacked};
-ghost use Rattle.prefix_trie_bits.specs.Model.Nodes.{AreNodes, needed};
-ghost use Rattle.prefix_trie_table.specs.Shape.{state, storage};
-ghost use Rattle.prefix_trie_table.specs.Steps.{stored_state};
+ghost use Rattle.prefix_trie_bits.specs.Calls.Entries.{AreWithin};
+ghost use Rattle.prefix_trie_bits.specs.Calls.SplitsOff.{IsPacked};
+ghost use Rattle.prefix_trie_bits.specs.Calls.Nodes.{AreNodes};
+ghost use Rattle.prefix_trie_bits.specs.Model.Nodes.{needed};
+ghost use Rattle.prefix_trie_table.specs.Model.Contents.{state, storage, stored_state};
 
 use crate::allocator::nodes::Tick;
 use crate::table::Table;

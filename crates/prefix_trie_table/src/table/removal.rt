@@ -2,11 +2,11 @@
 ghost use Rattle.std.specs.Prelude.{◌≡◌, ℕ, ◌+◌, ◌<◌, [], ◌∷◌, ◌++◌, List, Option, Some, map, None, true, false, is_some, IfSome, IfNone};
 ghost use Rattle.prefix_trie_table.specs.declared.allocator.node.Node.{Node};
 ghost use Rattle.prefix_trie_table.specs.Bitmaps.{has_bit as is_set, rank as rank_of};
-ghost use Rattle.prefix_trie_table.specs.Cells.{blank_node, node_at, node_sizes, cell_sizes};
+ghost use Rattle.prefix_trie_table.specs.Blocks.Cells.{blank_node, node_at, node_sizes, cell_sizes};
 ghost use Rattle.prefix_trie_table.specs.Digits.{chunks_of, bit_of};
-ghost use Rattle.prefix_trie_table.specs.Store.{Sound, no_blocks};
+ghost use Rattle.prefix_trie_table.specs.Blocks.Store.{Sound, no_blocks};
 ghost use Rattle.prefix_trie_table.specs.Forest.{IsSlot, NodesHold, CellsHold, SomeTable, SomeNodes, IsNodeAt, entry_count, one_if};
-ghost use Rattle.prefix_trie_table.specs.Removals.{ValueTaken, EntryTaken, SameBlocks, IsBare, IsStocked, GivesBack, ChildDropped, AreAbove, StandsAtEnd, Pruned, EntryRemoved};
+ghost use Rattle.prefix_trie_table.specs.Removals.{ValueTaken, EntryTaken, SameBlocks, IsBare, IsStocked, GivesBack, ChildDropped, AreAbove, IsAtEnd, Pruned, EntryRemoved};
 ghost use Rattle.prefix_trie_table.specs.SearchPaths.{IsOwn, slot_at};
 ghost use Rattle.prefix_trie_table.specs.GrowthBounds.{BoundsGrowth, BoundsNodeGrowth};
 ghost use Rattle.prefix_trie_table.specs.Tables.{Grows, ForHeld};
@@ -61,7 +61,7 @@ pub fn take_value<T: Drop, A: Allocator, V: Tick>(
     bit: u32,
 ) -> (Option<T>, Node)
     requires bit { bit < 31 }
-    requires stands { (t : SomeTable nodes.old cells.old) × IsNodeAt t.reading at }
+    requires is_there { (t : SomeTable nodes.old cells.old) × IsNodeAt t.reading at }
     requires node { node ≡ node_at nodes.old.slots at }
     requires there { is_set node.value_bitmap bit ≡ true }
     ensures node_blocks { SameBlocks nodes.old nodes.new }
@@ -200,7 +200,7 @@ pub fn drop_child<A: Allocator, V: Tick>(
     counter: &mut V,
 ) -> Node
     requires child { child < 32 }
-    requires stands { (n : SomeNodes nodes.old) × IsNodeAt n.reading at }
+    requires is_there { (n : SomeNodes nodes.old) × IsNodeAt n.reading at }
     requires there { is_set (node_at nodes.old.slots at).child_bitmap child
         ≡ true }
     ensures space { Grows nodes.old nodes.new 24 }
@@ -241,10 +241,10 @@ pub fn prune_up<K: Key, A: Allocator, V: Tick>(
     node: Node,
     counter: &mut V,
 )
-    requires stands { StandsAtEnd (chunks_of path) ancestors.now node nodes.old }
+    requires is_there { IsAtEnd (chunks_of path) ancestors.now node nodes.old }
     ensures space { Grows nodes.old nodes.new 24 }
     ensures bounds_growth { BoundsNodeGrowth nodes.old nodes.new }
-    ensures pruned { (s : StandsAtEnd (chunks_of path) ancestors.now node nodes.old)
+    ensures pruned { (s : IsAtEnd (chunks_of path) ancestors.now node nodes.old)
         → Pruned s.reading s.paths (chunks_of path) nodes.old nodes.new }
 {
     let mut level = path.len() / 5;

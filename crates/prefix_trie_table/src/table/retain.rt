@@ -1,9 +1,9 @@
 //! Calling a test with entries, and removing those for which it returns `false`.
 ghost use Rattle.std.specs.Prelude.{◌≡◌, ℕ, ◌+◌, ◌-◌, ◌*◌, ◌/◌, ◌<◌, ◌≤◌, [], ◌∷◌, ◌++◌, List, Bool, true, false, Some, All, take, length, ⊤};
-ghost use Rattle.prefix_trie_bits.specs.Bits.{zeros};
+ghost use Rattle.prefix_trie_bits.specs.Model.Bits.{zeros};
 ghost use Rattle.prefix_trie_bits.specs.Places.{place_of, value_bit, has};
 ghost use Rattle.prefix_trie_bits.specs.Walks.{to_come};
-ghost use Rattle.prefix_trie_bits.specs.Model.Retaining.{RetainsEntries, CallableOnEachEntry};
+ghost use Rattle.prefix_trie_bits.specs.Calls.Retaining.{RetainsEntries, CallableOnEachEntry};
 ghost use Rattle.prefix_trie_bits.specs.Model.Selections.{listing};
 ghost use Rattle.prefix_trie_bits.specs.Model.Step.{State};
 ghost use Rattle.prefix_trie_table.specs.Digits.{chunks_of};

@@ -1,7 +1,8 @@
 //! Moving the entries whose keys begin with a bit string to a table of their own.
 ghost use Rattle.std.specs.Prelude.{◌≡◌, false};
 ghost use Rattle.std.specs.FinMap.{len as size};
-ghost use Rattle.prefix_trie_bits.specs.Model.Entries.{part_below, without_below};
+ghost use Rattle.prefix_trie_bits.specs.Calls.Entries.{part_below};
+ghost use Rattle.prefix_trie_bits.specs.Model.Entries.{without_below};
 ghost use Rattle.prefix_trie_bits.specs.Model.Nodes.{nodes_without_below};
 ghost use Rattle.prefix_trie_bits.specs.Model.Step.{State};
 ghost use Rattle.prefix_trie_table.specs.Splitting.Moving.{AwaitsNext, HasCome, split_off};
@@ -65,13 +66,13 @@ pub(super) fn move_part<K: Key, T: Drop, A: Allocator, V: Tick>(
     nodes: &mut NodeAllocator<A, V>,
     cells: &mut Cells<T, A>,
     entries: &mut usize,
-    laid: NodeAllocator<A, V>,
+    built: NodeAllocator<A, V>,
     vacant: Cells<T, A>,
     path: BitString<K>,
     counter: &mut V,
 ) -> (NodeAllocator<A, V>, Cells<T, A>)
     requires trie { (s : State T) × IsTrie K.bit_width entries.old nodes.old cells.old s }
-    requires second { IsSecond path nodes.old laid vacant }
+    requires second { IsSecond path nodes.old built vacant }
     ensures removed { (s : State T) → IsTrie K.bit_width entries.old nodes.old cells.old s
         → IsTrie K.bit_width entries.new nodes.new cells.new (record {
           entries = without_below s.entries path;
@@ -80,14 +81,14 @@ pub(super) fn move_part<K: Key, T: Drop, A: Allocator, V: Tick>(
     ensures preserves { PreservesBelow 0 nodes.old nodes.new cells.old cells.new }
     ensures moved { (s : State T) → IsTrie K.bit_width entries.old nodes.old cells.old s
         → IsTrie K.bit_width (size (part_below s.entries path)) result.0 result.1 (split_off s path) }
-    ensures nodes { result.0 ≡ laid }
+    ensures nodes { result.0 ≡ built }
     ensures cells { result.1 ≡ record vacant { slots = result.1.slots } }
 {
     let key = path.key();
     let from = path.again();
-    let stack = start_at::<K, T, A, V>(&laid, key, from, Start::Below, counter);
+    let stack = start_at::<K, T, A, V>(&built, key, from, Start::Below, counter);
     let mut seats = Seats {
-        nodes: laid,
+        nodes: built,
         cells: vacant,
         key,
         stack,

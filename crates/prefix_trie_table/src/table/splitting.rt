@@ -2,13 +2,13 @@
 ghost use Rattle.std.specs.Prelude.{◌≡◌, ℕ, None, drop, take, IfOk, IfErr, IfSome};
 ghost use Rattle.prefix_trie_bits.specs.declared.prefix.Refusal.TheVariants.{Memory};
 ghost use Rattle.prefix_trie_bits.specs.Model.Step.{State};
-ghost use Rattle.prefix_trie_bits.specs.Bits.{begins};
+ghost use Rattle.prefix_trie_bits.specs.Model.Bits.{begins};
 ghost use Rattle.prefix_trie_bits.specs.Places.{HoldsValues, HoldsChildren};
-ghost use Rattle.prefix_trie_table.specs.Cells.{blank_node, node_sizes, cell_sizes};
-ghost use Rattle.prefix_trie_table.specs.Splitting.Laid.{IsSource, LaysNode, child_slots, value_slots, slots_below};
-ghost use Rattle.prefix_trie_table.specs.Splitting.Laying.{CanLay};
+ghost use Rattle.prefix_trie_table.specs.Blocks.Cells.{blank_node, node_sizes, cell_sizes};
+ghost use Rattle.prefix_trie_table.specs.Splitting.Built.{IsSource, BuildsNode, child_slots, value_slots, slots_below};
+ghost use Rattle.prefix_trie_table.specs.Splitting.Building.{CanBuild};
 ghost use Rattle.prefix_trie_table.specs.Splitting.Skeleton.{IsSecond};
-ghost use Rattle.prefix_trie_table.specs.NodeArrays.{FitsByte};
+ghost use Rattle.prefix_trie_table.specs.Blocks.NodeArrays.{FitsByte};
 ghost use Rattle.prefix_trie_table.specs.Tables.{IsTrie};
 
 use crate::allocator::blocks::{self, Cells};
@@ -43,7 +43,7 @@ fn masks<K: Key>(rest: &BitString<K>) -> (u32, u32, BitString<K>)
 ///
 /// No value is moved: all cells are vacant. The returned node has its blocks, but no slot yet. `rest` has the bits of the
 /// string after those that lead to the node. At most `levels` levels of nodes are below it.
-fn lay_node<K: Key, T: Drop, A: Allocator, V: Tick>(
+fn build_node<K: Key, T: Drop, A: Allocator, V: Tick>(
     from: &NodeAllocator<A, V>,
     node: Node,
     rest: &BitString<K>,
@@ -53,15 +53,15 @@ fn lay_node<K: Key, T: Drop, A: Allocator, V: Tick>(
     counter: &mut V,
 ) -> Result<Option<Node>, Refusal>
     requires source { IsSource from.now node levels }
-    requires nodes { CanLay blank_node node_sizes (slots_below child_slots from.now.slots levels node) nodes.old }
-    requires cells { CanLay None cell_sizes (slots_below value_slots from.now.slots levels node) cells.old }
-    ensures laid { IfOk result (λ top. LaysNode from.now.slots levels node rest.now nodes.old nodes.new cells.old cells.new top) }
+    requires nodes { CanBuild blank_node node_sizes (slots_below child_slots from.now.slots levels node) nodes.old }
+    requires cells { CanBuild None cell_sizes (slots_below value_slots from.now.slots levels node) cells.old }
+    ensures built { IfOk result (λ top. BuildsNode from.now.slots levels node rest.now nodes.old nodes.new cells.old cells.new top) }
     ensures fits { IfOk result (λ top. IfSome top FitsByte) }
     ensures memory { IfErr result (λ cause. cause ≡ Memory) }
 {
     let (values, children, deeper) = masks(rest);
-    let own = cells.lay_vacant(count(node.value_bitmap & values))?;
-    let mut laid = Node {
+    let own = cells.build_vacant(count(node.value_bitmap & values))?;
+    let mut built = Node {
         value_bitmap: node.value_bitmap & values,
         child_bitmap: 0,
         value_block: own.start,
@@ -76,20 +76,20 @@ fn lay_node<K: Key, T: Drop, A: Allocator, V: Tick>(
         }
         let lower = from.visit(node.child_slot(child), counter);
         let fewer = levels - 1;
-        let branch = lay_node(from, lower, &deeper, fewer, nodes, cells, counter)?;
+        let branch = build_node(from, lower, &deeper, fewer, nodes, cells, counter)?;
         let Some(branch) = branch else {
             continue;
         };
         below.push(branch);
-        laid.child_bitmap = with_bit(laid.child_bitmap, child);
+        built.child_bitmap = with_bit(built.child_bitmap, child);
     }
-    if is_bare(laid) {
+    if is_bare(built) {
         return Ok(None);
     }
-    let list = nodes.lay(&below)?;
-    laid.child_block = list.start;
-    laid.child_tier = list.tier as u8;
-    Ok(Some(laid))
+    let list = nodes.build(&below)?;
+    built.child_block = list.start;
+    built.child_tier = list.tier as u8;
+    Ok(Some(built))
 }
 
 /// Builds the nodes and blocks for the entries that begin with a bit string, in arrays of their own under the same limit.
@@ -100,14 +100,14 @@ fn lay_node<K: Key, T: Drop, A: Allocator, V: Tick>(
 ///
 /// Returns `Memory` if an allocation fails. `IndexRange` never comes, since these blocks are no larger than those that
 /// the same nodes have here.
-pub(super) fn lay_part<K: Key, T: Drop, A: Allocator + Clone, V: Tick>(
+pub(super) fn build_part<K: Key, T: Drop, A: Allocator + Clone, V: Tick>(
     nodes: &NodeAllocator<A, V>,
     cells: &Cells<T, A>,
     path: &BitString<K>,
     counter: &mut V,
 ) -> Result<(NodeAllocator<A, V>, Cells<T, A>), Refusal>
     requires trie { (s : State T) × (count : ℕ) × IsTrie K.bit_width count nodes.now cells.now s }
-    ensures laid { IfOk result (λ r. IsSecond path.now nodes.now r.0 r.1) }
+    ensures built { IfOk result (λ r. IsSecond path.now nodes.now r.0 r.1) }
     ensures range { IfErr result (λ cause. cause ≡ Memory) }
 {
     let mut second_nodes = nodes.another()?;
@@ -115,7 +115,7 @@ pub(super) fn lay_part<K: Key, T: Drop, A: Allocator + Clone, V: Tick>(
         return Err(Refusal::Memory);
     };
     let root = nodes.visit(ROOT, counter);
-    let top = lay_node(
+    let top = build_node(
         nodes,
         root,
         path,

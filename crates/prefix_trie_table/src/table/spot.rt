@@ -3,7 +3,7 @@ ghost use Rattle.std.specs.Prelude.{◌≡◌, ℕ, ◌+◌, ◌<◌, ◌≤◌,
 ghost use Rattle.prefix_trie_bits.specs.Places.{places};
 ghost use Rattle.prefix_trie_bits.specs.Walks.{to_come};
 ghost use Rattle.prefix_trie_table.specs.Bitmaps.{has_bit as is_set};
-ghost use Rattle.prefix_trie_table.specs.Cells.{node_at};
+ghost use Rattle.prefix_trie_table.specs.Blocks.Cells.{node_at};
 ghost use Rattle.prefix_trie_table.specs.Tables.{IsTrie};
 ghost use Rattle.prefix_trie_table.specs.Walking.Starts.{places_in};
 ghost use Rattle.prefix_trie_table.specs.Walking.Walks.{Tree, IsSpot, IsPlaceOf, IsSeated, StaysOnPath, Skips, Steps, slot_of};
@@ -54,7 +54,7 @@ pub fn enter<A: Allocator, V: Tick>(
     depth: u32,
     counter: &mut V,
 ) -> Spot
-    requires stands { at < length nodes.now.slots }
+    requires is_there { at < length nodes.now.slots }
     requires few { is_set (node_at nodes.now.slots at).value_bitmap 31 ≡ false }
     ensures node { result.node ≡ node_at nodes.now.slots at }
     ensures depth { result.depth ≡ depth }
@@ -100,7 +100,7 @@ pub fn next_at<K: Key, A: Allocator, V: Tick, T: Drop>(
     ensures step { (t : Tree T) → IsTrie K.bit_width t.count nodes.now t.cells t.shape
         → Steps K.IsKey K.bits K.bit_width nodes.now.slots t (K.bits key) spot.old result spot.new }
     ensures seat { IsSeated K.bits nodes.now.slots result }
-    ensures way { StaysOnPath K.bits (K.bits key) spot.old result spot.new }
+    ensures search_path { StaysOnPath K.bits (K.bits key) spot.old result spot.new }
 {
     // Needed only for the proof: the number is a key.
     let _ = key.is_key();
@@ -149,7 +149,7 @@ pub fn skip_below<K: Key>(spot: &mut Spot, path: &BitString<K>)
 /// Returns the value at a seat.
 #[inline]
 pub fn value_at<T: Drop, A: Allocator>(cells: &Cells<T, A>, seat: Seat) -> &T
-    requires stands { slot_of seat < length cells.now.slots }
+    requires is_there { slot_of seat < length cells.now.slots }
     requires set { (v : T) × (slice_index_or cells.now.slots (slot_of seat) None ≡ Some v) }
     ensures { slice_index_or cells.now.slots (slot_of seat) None ≡ Some result.now }
 {

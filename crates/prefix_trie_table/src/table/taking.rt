@@ -1,8 +1,8 @@
 //! The walk that moves the values out of a table, in listing order.
 ghost use Rattle.std.specs.Prelude.{◌≡◌, [], IfOk, MatchOption};
 ghost use Rattle.std.specs.List.{AllZip};
-ghost use Rattle.prefix_trie_bits.specs.Model.Entries.{AreWithin};
-ghost use Rattle.prefix_trie_bits.specs.Model.Nodes.{AreNodes};
+ghost use Rattle.prefix_trie_bits.specs.Calls.Entries.{AreWithin};
+ghost use Rattle.prefix_trie_bits.specs.Calls.Nodes.{AreNodes};
 ghost use Rattle.prefix_trie_bits.specs.Model.Selections.{listing, listing_below};
 ghost use Rattle.prefix_trie_table.specs.Copies.{IsPairCloned};
 ghost use Rattle.prefix_trie_table.specs.Walking.Items.{GivesFilled};

@@ -183,7 +183,7 @@ fn last_spot(stack: &ArrayVec<Spot, 26>) -> Option<Spot>
 /// Drops what a bit string begins from what is to come at the last spot, at whose node the bit string ends.
 #[inline]
 fn skip_at_last<K: Key>(stack: &mut ArrayVec<Spot, 26>, path: &BitString<K>)
-    requires last { (way : List Bool) × EndsLast way stack.old.items path.now }
+    requires last { (search_path : List Bool) × EndsLast search_path stack.old.items path.now }
     requires space { length stack.old.items ≤ 26 }
     ensures { SkipsLast path.now stack.old.items stack.new.items }
 {

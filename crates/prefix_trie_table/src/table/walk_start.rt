@@ -1,7 +1,7 @@
 //! Walks that start at a bit string. One descent builds the stack of each of them.
 ghost use Rattle.std.specs.Prelude.{◌≡◌, ◌<◌, List, Bool, length, take};
 ghost use Rattle.std.specs.FinMap.{len as size};
-ghost use Rattle.prefix_trie_bits.specs.Bits.{number};
+ghost use Rattle.prefix_trie_bits.specs.Model.Bits.{number};
 ghost use Rattle.prefix_trie_bits.specs.Places.{HoldsPlaces};
 ghost use Rattle.prefix_trie_bits.specs.Model.Step.{State};
 ghost use Rattle.prefix_trie_table.specs.Shape.{IsShapeOf};
@@ -15,7 +15,7 @@ use crate::allocator::nodes::{NodeAllocator, Tick};
 use crate::table::spot::{Spot, spot_in};
 use crate::table::walk::Walk;
 use arrayvec::ArrayVec;
-use prefix_trie_bits::node::{behind_child, from_value, has_bit, without_bit};
+use prefix_trie_bits::node::{after_child, from_value, has_bit, without_bit};
 use prefix_trie_bits::prefix::{BitString, Key};
 use std::alloc::Allocator;
 
@@ -76,7 +76,7 @@ pub(super) fn start_at<K: Key, T: Drop, A: Allocator, V: Tick>(
     let mut rest = path;
     while depth + 5 <= len {
         let child = rest.child_bit();
-        stack.push(spot_in(node, depth, places_behind(from, child)));
+        stack.push(spot_in(node, depth, places_after(from, child)));
         if !has_bit(node.child_bitmap, child) {
             return stack;
         }
@@ -92,13 +92,13 @@ pub(super) fn start_at<K: Key, T: Drop, A: Allocator, V: Tick>(
 
 /// Returns masks of what is selected at a node above the last, except what is below this child.
 #[inline]
-fn places_behind(from: Start, child: u32) -> (u32, u32)
+fn places_after(from: Start, child: u32) -> (u32, u32)
     requires { child < 32 }
     ensures { (t : List Bool) → length t ≡ 5 → number t ≡ child → HoldsPlaces result.0 result.1 (behind from t) }
 {
     match from {
         Start::Below => (0, 0),
-        _ => behind_child(child),
+        _ => after_child(child),
     }
 }
 

@@ -1,6 +1,6 @@
 //! An inventory: networks, each with the number of its owner.
 ghost use Rattle.std.specs.Prelude.{◌≡◌, length};
-ghost use Rattle.prefix_trie.specs.Words.{address_answer, first_item, ipv4_back, ipv4_path, listing_after, listing_below, prefix_pairs};
+ghost use Rattle.prefix_trie.specs.Words.{address_total, first_item, ipv4_back, ipv4_path, listing_after, listing_below, prefix_pairs};
 
 use prefix_trie::laws::network_laws;
 use prefix_trie::{Ipv4Prefix, PrefixMap};
@@ -28,7 +28,7 @@ pub fn count<A: Allocator>(networks: &Inventory<A>, block: Ipv4Prefix) -> usize
 
 /// Returns the number of addresses in all networks, each counted once, or `None` if they are all addresses.
 pub fn addresses<A: Allocator>(networks: &Inventory<A>) -> Option<u32>
-    ensures { result ≡ address_answer 32 networks.now.entries }
+    ensures { result ≡ address_total 32 networks.now.entries }
 {
     network_laws();
     networks.address_count()

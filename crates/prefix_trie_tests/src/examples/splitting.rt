@@ -3,7 +3,7 @@ ghost use Rattle.std.specs.Prelude.{◌≡◌, IfOk, OnOk};
 ghost use Rattle.std.specs.FinMap.{len};
 ghost use Rattle.prefix_trie.specs.Words.{part_below};
 
-use prefix_trie::laws::{handing_laws, put_laws};
+use prefix_trie::laws::{put_laws, split_laws};
 use prefix_trie::{Prefix, PrefixMap, Refusal};
 use std::alloc::Allocator;
 
@@ -18,7 +18,7 @@ pub fn split_and_merge<P: Prefix, T: Drop, A: Allocator + Clone>(
     ensures count { IfOk result (λ count. count ≡ len (part_below table.old.entries (P.path prefix.now))) }
     ensures same { OnOk result (table.new.entries ≡ table.old.entries) }
 {
-    handing_laws::<T>();
+    split_laws::<T>();
     put_laws::<P, T>();
     let part = table.remove_children(prefix)?;
     let count = part.len();

@@ -1,7 +1,7 @@
 -- The loop of a run: the calls so far are counted steps, and each has one reply. If memory for replies is missing, no
 -- call was carried out.
 use Rattle.prefix_trie.proofs.Prelude.{List, [], refl, sym, ap, subst, err_from_is_err_and, arith, take_all, path_within, step_pushed, run_counted, StepsSoFar, all_fit_more, stored_state, call_of, reply_of, calls_of, replies_of}
-use Rattle.prefix_trie.specs.Replay.{IsFittingCall}
+use Rattle.prefix_trie.specs.Model.Replay.{IsFittingCall}
 use Rattle.prefix_trie.specs.declared.replay.Call.{Call}
 use Rattle.prefix_trie.proofs.replay.run_counted.Goals as goal
 
@@ -12,8 +12,8 @@ loop-call-init g c = record {
   run = ([], sym (ap (replies_of g.P.R.Key.bits) c.in_ok-replies.ensures.items), sym c.new-reads.ensures, (refl, refl));
 }
 
-pub answer-reply-requires : goal.answer-reply-requires
-answer-reply-requires g c = subst (IsFittingCall g.P.Prefix.IsFitting) (sym c.call-item.is) (c.requires c.loop-call.call-index c.call-item.result c.loop-call-test.true)
+pub carry_out-reply-requires : goal.carry_out-reply-requires
+carry_out-reply-requires g c = subst (IsFittingCall g.P.Prefix.IsFitting) (sym c.call-item.is) (c.requires c.loop-call.call-index c.call-item.result c.loop-call-test.true)
 
 pub push_reserved-requires : goal.push_reserved-requires
 push_reserved-requires g c = omega (arith, c.loop-call.invariant.each, c.loop-call.invariant.space, c.loop-call-test.true)
@@ -24,9 +24,9 @@ loop-call-preserved g c =
     record {
       each = omega (arith, c.push_reserved.ensures.len, before.each);
       space = omega (arith, c.push_reserved.ensures.capacity, before.space);
-      run = step_pushed g.P.Prefix.path g.P.Prefix.back g.P.R.Key.bit_width call_of (reply_of g.P.R.Key.bits) (stored_state c.args.map.now) (stored_state c.loop-call.map) (stored_state c.answer-reply.new.map)
-          c.args.calls.now c.loop-call.replies.items c.push_reserved.new.self.items c.loop-call.reads c.push.new.self c.loop-call.call-index c.call-item.result c.answer-reply.result.0 c.answer-reply.result.1
-          c.loop-call-test.true c.call-item.is c.push_reserved.ensures.items c.push.ensures before.run c.answer-reply.ensures;
+      run = step_pushed g.P.Prefix.path g.P.Prefix.back g.P.R.Key.bit_width call_of (reply_of g.P.R.Key.bits) (stored_state c.args.map.now) (stored_state c.loop-call.map) (stored_state c.carry_out-reply.new.map)
+          c.args.calls.now c.loop-call.replies.items c.push_reserved.new.self.items c.loop-call.reads c.push.new.self c.loop-call.call-index c.call-item.result c.carry_out-reply.result.0 c.carry_out-reply.result.1
+          c.loop-call-test.true c.call-item.is c.push_reserved.ensures.items c.push.ensures before.run c.carry_out-reply.ensures;
     }
 
 pub returns-clause-counted : goal.returns-clause-counted

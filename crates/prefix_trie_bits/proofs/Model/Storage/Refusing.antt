@@ -2,8 +2,8 @@
 -- exists.
 use Rattle.prefix_trie_bits.proofs.Prelude.{◌≡◌, ℕ, ◌+◌, ◌-◌, ◌*◌, ◌<◌, ◌≤◌, ◌==◌, inl, inr, Bool, true, false, cond, nat_lt, nat_le, List, [], ◌∷◌, Option, None, Some, refl, sym, ap, subst, arith, ltb-true, eqb-true, cases_eq, false_from_ne_true, none-some, same_Some, mul-le-mul_left, Contains, filter_map, cons_option, get, same_string, free_of, smallest_size, child_block_sizes, value_block_sizes, child_count, own_entries, block_needed, gains_child, child_block_needed, value_block_needed, child_blocks_needed, value_blocks_needed, missing_child_blocks, missing_value_blocks, missing_node_slots, missing_cell_slots, missing_of, slots_of_missing, home, nodes_above, State, Refusal, Memory, IndexRange, Storage, RefusesInStorage, GivesCause}
 use Rattle.std.specs.Prelude.{find}
-use Rattle.prefix_trie_bits.proofs.Model.Storage.Gained.{one_list}
-use Rattle.prefix_trie_bits.proofs.Model.Storage.Readied.{goes_up, both, above, free_none, free_here, free_later}
+use Rattle.prefix_trie_bits.proofs.Model.Storage.Insertions.{one_list}
+use Rattle.prefix_trie_bits.proofs.Model.Storage.PreparedInsertions.{goes_up, both, above, free_none, free_here, free_later}
 use Rattle.prefix_trie_bits.proofs.Model.Storage.Shrinking.{later_in, first_in, in_cases}
 use Rattle.prefix_trie_bits.proofs.Model.Storage.Slots.{how_many, how_many-more}
 
@@ -85,16 +85,16 @@ module _ {T : Type 0} (s : State T × Storage) (q : List Bool) (within : s.1.spa
       (subst (λ xs. 0 < how_many size xs) (sym (one_list (value_block_needed s.0.entries s.1.layout.value_blocks q (home q))))
       (some_needed (how_many size (value_blocks_needed s.0.entries s.1.layout q)) (free_of value_block_sizes s.1.layout.free_value_blocks size) some))) some
 
-  lacks : (cause : Refusal) → GivesCause s q cause → 0 < missing_node_slots s.0.nodes s.1.layout q + missing_cell_slots s.0.entries s.1.layout q
-  lacks IndexRange (inl past) = omega (arith, past, within)
-  lacks IndexRange (inr past) = omega (arith, past, cells_within)
-  lacks Memory (inl one) = (let some = nodes_lack one.0 one.1 in omega (arith, some))
-  lacks Memory (inr one) = (let some = cells_lack one.0 one.1 in omega (arith, some))
+  some_missing : (cause : Refusal) → GivesCause s q cause → 0 < missing_node_slots s.0.nodes s.1.layout q + missing_cell_slots s.0.entries s.1.layout q
+  some_missing IndexRange (inl past) = omega (arith, past, within)
+  some_missing IndexRange (inr past) = omega (arith, past, cells_within)
+  some_missing Memory (inl one) = (let some = nodes_lack one.0 one.1 in omega (arith, some))
+  some_missing Memory (inr one) = (let some = cells_lack one.0 one.1 in omega (arith, some))
 
   -- given a cause, the refusal that changes nothing is a step
   pub refuses : (cause : Refusal) → GivesCause s q cause → RefusesInStorage s.0 q cause s.1 s.1
   refuses cause given = record {
-    lacks = lacks cause given;
+    some_missing = some_missing cause given;
     range = λ is. subst (GivesCause s q) is given;
     memory = λ is. subst (GivesCause s q) is given;
     node_slots = (omega arith, omega arith);

@@ -4,7 +4,7 @@ use Rattle.prefix_trie_bits.proofs.Prelude.{◌≡◌, ℕ, zero, suc, ◌+◌, 
 use Rattle.std.specs.Prelude.{find}
 use Rattle.prefix_trie_bits.proofs.Model.Storage.Counting.{get-kept, used-kept, used-taken}
 use Rattle.prefix_trie_bits.proofs.Model.Members.{same_string-is}
-use Rattle.prefix_trie_bits.proofs.Model.Storage.Readied.{goes_up, above, both}
+use Rattle.prefix_trie_bits.proofs.Model.Storage.PreparedInsertions.{goes_up, above, both}
 
 -- ---- sizes
 

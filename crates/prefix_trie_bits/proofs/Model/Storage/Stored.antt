@@ -2,7 +2,7 @@
 use Rattle.prefix_trie_bits.proofs.Prelude.{◌≡◌, ℕ, Bool, true, false, List, [], ◌∷◌, length, Option, refl, sym, ap, ◌∙◌, subst, true≢false, contains_key, Sizes, Space, TakesBlocks, is_root, State, Call, Insert, Remove, RemoveKeepTree, RemoveChildren, RetainAtLeast, Clear, Reply, Refused, Refusal, Storage, InsertsInStorage, StepInStorage, is_refusal, asks_length, may_change, UseAlike, LeavesFixed, StorageLaws}
 use Rattle.prefix_trie_bits.proofs.Model.Determined.{no_refusal, set}
 use Rattle.prefix_trie_bits.proofs.Model.Members.{same_entries}
-use Rattle.prefix_trie_bits.proofs.Model.Storage.Readied.{readied_not_refused, readied_inserts}
+use Rattle.prefix_trie_bits.proofs.Model.Storage.PreparedInsertions.{prepared_not_refused, prepared_inserts}
 use Rattle.prefix_trie_bits.proofs.Model.Retained.{at_least_step}
 
 none-long : (s : List Bool) → is_root s ≡ true → length s ≡ 0
@@ -83,6 +83,6 @@ storage_laws P T = record {
       at_least_step path back width (asks_length n) tt n (λ k. length k) s t map.keys_within (λ k short. refl) (λ e b f is. (is, refl)) h;
   fixed = fixed;
   inserted = inserted;
-  granted = λ s q before mid after cause made. readied_not_refused s q before mid made cause after;
-  readied = λ s q before mid after made. readied_inserts s q before mid made after;
+  granted = λ s q before mid after cause made. prepared_not_refused s q before mid made cause after;
+  prepared = λ s q before mid after made. prepared_inserts s q before mid made after;
 }

@@ -3,7 +3,7 @@ use Rattle.prefix_trie_bits.proofs.Prelude.{◌≡◌, ◌⊎◌, ℕ, ◌+◌, 
 use lib.Dec.{T as IsT}
 use Rattle.prefix_trie_bits.proofs.Model.Worked.Plain.{Shows, Marks}
 use Rattle.prefix_trie_bits.proofs.Model.Ordered.{entries-empty}
-use Rattle.prefix_trie_bits.proofs.Model.Worked.Played.{leads}
+use Rattle.prefix_trie_bits.proofs.Model.Worked.Replies.{leads}
 use Rattle.prefix_trie_bits.proofs.Model.Worked.Examples.{said, holders_in, parents_in, own_in, children_in}
 
 abbrev pub Sized : Type 0
@@ -68,9 +68,9 @@ lacks_in width t layout q s c v =
     let b = missing_cells-is t.entries layout (path_at width q) ∙ ap₂ (λ es bs. missing_cells_in es bs layout.free_value_blocks (path_at width q)) s.of_entries v in
     λ i. (a i, b i)
 
-pub lacks : (width : ℕ) (t : State ℕ) (cs vs : Blocks) (fc fv : List ℕ) (q : ℕ × ℕ) {es : Sized} {ns : Marks} → Shows t es ns → InOrder width cs → InOrder width vs
+pub some_missing : (width : ℕ) (t : State ℕ) (cs vs : Blocks) (fc fv : List ℕ) (q : ℕ × ℕ) {es : Sized} {ns : Marks} → Shows t es ns → InOrder width cs → InOrder width vs
     → lacking width t (layout_at width cs vs fc fv) q ≡ (missing_nodes_in ns (listed width cs) fc (path_at width q), missing_cells_in es (listed width vs) fv (path_at width q))
-lacks width t cs vs fc fv q s c v = lacks_in width t (layout_at width cs vs fc fv) q s (sizes-is width cs c) (sizes-is width vs v)
+some_missing width t cs vs fc fv q s c v = lacks_in width t (layout_at width cs vs fc fv) q s (sizes-is width cs c) (sizes-is width vs v)
 
 lacks_new : (width : ℕ) (t : State ℕ) (q : ℕ × ℕ) {es : Sized} {ns : Marks} → Shows t es ns
     → lacking width t no_layout q ≡ (missing_nodes_in ns [] none_free (path_at width q), missing_cells_in es [] none_free (path_at width q))
@@ -118,17 +118,17 @@ lacks_that sizes free needed n e one = let is : missing_of sizes free needed n �
 -- neither the child block nor the value block fits
 neither_within : (t : State ℕ) (space : Space) (layout : Layout) (q : List Bool) (n m : ℕ) → child_blocks_needed t.nodes layout q ≡ n ∷ [] → value_blocks_needed t.entries layout q ≡ m ∷ []
     → space.limit < space.node_slots + n → space.limit < space.cell_slots + m → MissingFitsLimit t.entries t.nodes space layout q → ⊥
-neither_within t space layout q n m e f past_nodes past_cells (inl (size, lacks, fits)) =
-    let is = lacks_one child_block_sizes layout.free_child_blocks _ n size e lacks in absurd (omega (arith, is, fits, past_nodes))
-neither_within t space layout q n m e f past_nodes past_cells (inr (size, lacks, fits)) =
-    let is = lacks_one value_block_sizes layout.free_value_blocks _ m size f lacks in absurd (omega (arith, is, fits, past_cells))
+neither_within t space layout q n m e f past_nodes past_cells (inl (size, some_missing, fits)) =
+    let is = lacks_one child_block_sizes layout.free_child_blocks _ n size e some_missing in absurd (omega (arith, is, fits, past_nodes))
+neither_within t space layout q n m e f past_nodes past_cells (inr (size, some_missing, fits)) =
+    let is = lacks_one value_block_sizes layout.free_value_blocks _ m size f some_missing in absurd (omega (arith, is, fits, past_cells))
 
 -- no child block is needed, and the value block does not fit
 not_within : (t : State ℕ) (space : Space) (layout : Layout) (q : List Bool) (m : ℕ) → child_blocks_needed t.nodes layout q ≡ [] → value_blocks_needed t.entries layout q ≡ m ∷ []
     → space.limit < space.cell_slots + m → MissingFitsLimit t.entries t.nodes space layout q → ⊥
-not_within t space layout q m e f past (inl (size, lacks, fits)) = lacks_none child_block_sizes layout.free_child_blocks _ size e lacks
-not_within t space layout q m e f past (inr (size, lacks, fits)) =
-    let is = lacks_one value_block_sizes layout.free_value_blocks _ m size f lacks in absurd (omega (arith, is, fits, past))
+not_within t space layout q m e f past (inl (size, some_missing, fits)) = lacks_none child_block_sizes layout.free_child_blocks _ size e some_missing
+not_within t space layout q m e f past (inr (size, some_missing, fits)) =
+    let is = lacks_one value_block_sizes layout.free_value_blocks _ m size f some_missing in absurd (omega (arith, is, fits, past))
 
 abbrev far_values : Blocks
 far_values = ((0xfffffffc, 30), 1) ∷ []
@@ -155,7 +155,7 @@ insertions_hold = record {
         inr (1, lacks_that value_block_sizes none_free _ 1 value refl, lit≤ tt),
         neither_within t (space_of 10 10 10) no_layout (path_at 8 (0, 5)) 1 1 child value (lit< tt) (lit< tt),
       ));
-  freed = leads refl (λ t s. lacks 32 t [] [] (ones_free 6) (ones_free 1) (0xffffffff, 32) s tt tt);
+  freed = leads refl (λ t s. some_missing 32 t [] [] (ones_free 6) (ones_free 1) (0xffffffff, 32) s tt tt);
   far_key = leads refl (λ t s.
       let q = path_at 32 (0, 32) in
       let children = sizes-is 32 far_children tt in
@@ -163,26 +163,26 @@ insertions_hold = record {
       let gaining : List (ℕ × ℕ) = (0, 0) ∷ (0, 5) ∷ (0, 25) ∷ (0, 30) ∷ (0xf8000000, 5) ∷ (0, 3) ∷ [] in
       let parents : List (ℕ × ℕ) = (0, 0) ∷ (0, 5) ∷ (0, 30) ∷ [] in
       let owners : List (ℕ × ℕ) = (0, 30) ∷ (0, 0) ∷ (0, 25) ∷ [] in (
-        lacks 32 t far_children far_values none_free none_free (0, 32) s tt tt,
+        some_missing 32 t far_children far_values none_free none_free (0, 32) s tt tt,
         gains-all t.nodes q gaining ∙ ap (λ ns. map (λ p. gains_in ns q (path_at 32 p)) gaining) s.of_nodes,
         children-all t.nodes far_layout.child_blocks q parents ∙ ap₂ (λ ns bs. map (λ p. child_needed_in ns bs q (path_at 32 p)) parents) s.of_nodes children,
         values-all t.entries far_layout.value_blocks q owners ∙ ap₂ (λ es bs. map (λ p. value_needed_in es bs q (path_at 32 p)) owners) s.of_entries values,
         gains-is t.nodes (path_at 32 (0xfffffffe, 32)) (path_at 32 (0xffffff80, 25))
             ∙ ap (λ ns. gains_in ns (path_at 32 (0xfffffffe, 32)) (path_at 32 (0xffffff80, 25))) s.of_nodes,
-        lacks 32 t far_children far_values none_free none_free (0xfffffffe, 32) s tt tt,
+        some_missing 32 t far_children far_values none_free none_free (0xfffffffe, 32) s tt tt,
       ));
-  full = leads refl (λ t s. lacks 8 t [] (((0, 0), 24) ∷ []) none_free five_free (192, 2) s tt tt);
-  with_space = leads refl (λ t s. lacks 8 t [] (((0, 0), 24) ∷ []) none_free five_free (176, 4) s tt tt);
+  full = leads refl (λ t s. some_missing 8 t [] (((0, 0), 24) ∷ []) none_free five_free (192, 2) s tt tt);
+  with_space = leads refl (λ t s. some_missing 8 t [] (((0, 0), 24) ∷ []) none_free five_free (176, 4) s tt tt);
   free_serves = leads refl (λ t s. (
     said (λ es ns. own_in [] es) t s,
-    lacks 8 t [] (((0, 0), 24) ∷ []) none_free (1 ∷ 1 ∷ 1 ∷ 1 ∷ 1 ∷ 0 ∷ 1 ∷ []) (240, 4) s tt tt,
+    some_missing 8 t [] (((0, 0), 24) ∷ []) none_free (1 ∷ 1 ∷ 1 ∷ 1 ∷ 1 ∷ 0 ∷ 1 ∷ []) (240, 4) s tt tt,
   ));
   children = leads refl (λ t s. (
     said (λ es ns. children_in [] ns) t s,
-    lacks 5 t (((0, 0), 24) ∷ []) (map with_one (take 24 (full_pairs 5))) five_free none_free (24, 5) s tt tt,
+    some_missing 5 t (((0, 0), 24) ∷ []) (map with_one (take 24 (full_pairs 5))) five_free none_free (24, 5) s tt tt,
   ));
   three = leads refl (λ t s.
-      let third = lacks 8 t (((0, 0), 1) ∷ []) (((0, 0), 2) ∷ ((0, 5), 1) ∷ []) none_free none_free (64, 2) s tt tt in (
+      let third = some_missing 8 t (((0, 0), 1) ∷ []) (((0, 0), 2) ∷ ((0, 5), 1) ∷ []) none_free none_free (64, 2) s tt tt in (
         third,
         inr (more 3 3 _ 4 (ap (λ x. x.1) third) (lit< tt)),
         not_within t (space_of 3 2 3) three_slots (path_at 8 (64, 2)) 4 (children_needed t three_slots (path_at 8 (64, 2)) s (sizes-is 8 (((0, 0), 1) ∷ []) tt))

@@ -1,11 +1,11 @@
 -- Proves the worked facts on storages to which no step leads.
 use Rattle.prefix_trie_bits.proofs.Prelude.{◌≡◌, ℕ, zero, suc, ◌+◌, ◌-◌, ◌<◌, ◌≤◌, ◌==◌, Bool, false, List, [], ◌∷◌, map, length, get_or, is_some, Option, Some, None, refl, sym, ap, ap₂, ◌∙◌, subst, inl, inr, arith, le_of_eq, lit<, lit≤, slice_index_or, Contains, count_by, option_or, entries, get, contains_key, values, entries-from_sorted, get-from_sorted, find, digits, number, begins, listing_cmp, has_node, value_block_sizes, child_block_sizes, free_of, own_entries, used_of, HasBlock, LongerByOne, LosesNoBlock, value_block_needed, value_blocks_needed, missing_child_blocks, missing_of, missing_value_blocks, made_of, one_of, home, State, Call, Remove, RemoveKeepTree, RetainAtLeast, Reply, Memory, IndexRange, Step, is_refusal, path_at, back_at, sets, none_free, both_free, Blocks, layout_at, ones_free, sizes_at, three_slots, two_free, four_free, root_child, root_value, child_value, Takes, KeepsFacts, FilledFacts, StepsHold}
 use Rattle.prefix_trie_bits.proofs.Model.Worked.Plain.{Shows, Marks, play, step_at, has-is}
-use Rattle.prefix_trie_bits.proofs.Model.Worked.Played.{last_entries, last_marks, leads}
+use Rattle.prefix_trie_bits.proofs.Model.Worked.Replies.{last_entries, last_marks, leads}
 use Rattle.prefix_trie_bits.proofs.Model.Worked.Examples.{said, own_in, children_in}
 use Rattle.prefix_trie_bits.proofs.Model.Determined.{same}
 use Rattle.prefix_trie_bits.proofs.Model.Worked.Blocks.{some_is, not_some, unlike, differ, not_in}
-use Rattle.prefix_trie_bits.proofs.Model.Worked.Insertions.{children_needed, lacks_one, lacks_none, value_needed_in, value-is, values_needed, sizes-is, Sized, listed, InOrder, lacks, neither_more}
+use Rattle.prefix_trie_bits.proofs.Model.Worked.Insertions.{children_needed, lacks_one, lacks_none, value_needed_in, value-is, values_needed, sizes-is, Sized, listed, InOrder, some_missing, neither_more}
 
 -- the entries and the nodes of the worked map, as lists
 abbrev es8 : Sized
@@ -239,7 +239,7 @@ filled_facts t s = record {
   };
   insert =
       let q = path_at 8 (64, 2) in
-      let lacking = lacks 8 t root_child (root_value 2) none_free none_free (64, 2) s tt tt in
+      let lacking = some_missing 8 t root_child (root_value 2) none_free none_free (64, 2) s tt tt in
       let no_child : missing_child_blocks t.nodes three_slots q 1 ≡ 0 =
       ap (λ ns. missing_of child_block_sizes none_free ns 1) (children_needed t three_slots q s (sizes-is 8 root_child tt)) in
       let no_value : missing_value_blocks t.entries three_slots q 1 ≡ 0 =
@@ -267,7 +267,7 @@ filled_facts t s = record {
           | inr refused ↦ moved (ap (λ b. get b []) (h.storage.2 refused.1 refused.2).value_blocks)
         ];
         not_refused_for_slots = λ u h. neither_more 10 2 3 _ _ 0 4 (ap (λ x. x.0) lacking) (ap (λ x. x.1) lacking) (lit≤ tt) (lit≤ tt) ((h.storage.2 IndexRange refl).range refl);
-        not_refused_cells_more = λ u h. too_many 6 3 _ 2 (ap (λ x. x.1) (lacks 8 t root_child (root_value 2) none_free none_free (0, 6) s tt tt)) (lit< tt) (h.storage.2 Memory refl).cell_slots.1;
+        not_refused_cells_more = λ u h. too_many 6 3 _ 2 (ap (λ x. x.1) (some_missing 8 t root_child (root_value 2) none_free none_free (0, 6) s tt tt)) (lit< tt) (h.storage.2 Memory refl).cell_slots.1;
         not_refused_once_made = λ u h.
             let made = layout_at 8 root_child (root_value 2) none_free four_free in
             let v = values_needed t made q s (sizes-is 8 (root_value 2) tt) in
@@ -288,8 +288,8 @@ filled_facts t s = record {
         not_refused_lost = λ u h. lost value_block_sizes (root_value 2) (root_value 2) two_free none_free 2 tt tt (1, lit< tt, refl) (lit< tt) (λ size c. ((h.storage.2 Memory refl).value_blocks_made size c).0);
         not_refused_child_lost = λ u h. lost child_block_sizes root_child root_child (ones_free 1) none_free 1 tt tt (0, lit< tt, refl) (lit< tt) (λ size c. ((h.storage.2 Memory refl).child_blocks_made size c).0);
         not_refused_beside_free = λ u h.
-            let free = lacks 8 t root_child (root_value 2) none_free four_free (64, 2) s tt tt in
-            none_lack _ _ (ap (λ x. x.0) free) (ap (λ x. x.1) free) (h.storage.2 Memory refl).lacks;
+            let free = some_missing 8 t root_child (root_value 2) none_free four_free (64, 2) s tt tt in
+            none_lack _ _ (ap (λ x. x.0) free) (ap (λ x. x.1) free) (h.storage.2 Memory refl).some_missing;
       };
   takes = record {
     taken = taken t s;

@@ -3,7 +3,7 @@ ghost use Rattle.std.specs.Prelude.{◌≡◌, Some};
 ghost use Rattle.std.specs.Borrow.{sem};
 ghost use Rattle.prefix_trie_bits.specs.Model.Entries.{without_entry};
 ghost use Rattle.prefix_trie_bits.specs.Model.Step.{RemoveKeepTree, Value};
-ghost use Rattle.prefix_trie_bits.specs.Model.Storage.{StepByPath};
+ghost use Rattle.prefix_trie_bits.specs.Calls.Storage.{StepByPath};
 ghost use Rattle.prefix_trie_table.specs.Shape.{with_value_at};
 ghost use Rattle.prefix_trie_map.specs.Steps.{stored_state};
 ghost use Rattle.prefix_trie_map.specs.Whole.{IsWhole};

@@ -15,7 +15,7 @@ use std::alloc::Allocator;
 pub struct MapCursor<'a, P: Prefix, T: Drop, A: Allocator> {
     pub(super) map: &'a mut PrefixMap<P, T, A>,
     pub(super) cursor: Cursor<P::R>,
-    ghost stands: { IsCursorIn P.R.bits P.R.bit_width map.now.build cursor } by { IsCursorIn-prop P.R.bits P.R.bit_width map.now.build cursor },
+    ghost is_there: { IsCursorIn P.R.bits P.R.bit_width map.now.build cursor } by { IsCursorIn-prop P.R.bits P.R.bit_width map.now.build cursor },
 }
 
 /// Where the value of an entry is stored: its bit string, and the value's seat.

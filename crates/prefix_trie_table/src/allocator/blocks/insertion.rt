@@ -1,9 +1,9 @@
 //! Inserting an item into a list.
 ghost use Rattle.std.specs.Prelude.{◌≡◌, ℕ, ◌+◌, ◌<◌, ◌≤◌, [], ◌∷◌, ◌++◌, List, Some, None, length, replicate, insert, remove};
 ghost use Rattle.std.specs.Option.{option_or};
-ghost use Rattle.prefix_trie_table.specs.Runs.{run, put_run};
-ghost use Rattle.prefix_trie_table.specs.Cells.{HasSizes};
-ghost use Rattle.prefix_trie_table.specs.Store.{UsedBlock, Sound, Turnover, InUse, HasList, IsReady, tier_at, tier_sizes, size_in, free_in, none_of, block, held, list_size, list_need};
+ghost use Rattle.prefix_trie_table.specs.Blocks.Runs.{run, put_run};
+ghost use Rattle.prefix_trie_table.specs.Blocks.Cells.{HasSizes};
+ghost use Rattle.prefix_trie_table.specs.Blocks.Store.{UsedBlock, Sound, Turnover, InUse, HasList, IsReady, tier_at, tier_sizes, size_in, free_in, none_of, block, held, list_size, list_need};
 
 use crate::allocator::array::SlotArray;
 use crate::allocator::blocks::{BlockRef, Blocks};
@@ -22,7 +22,7 @@ impl<S: Slot, R: SlotArray<S>, A: Allocator> Blocks<S, R, A> {
         requires ready { IsReady self.old.tiers k count }
         requires offset { offset ≤ count }
         requires value { R.can_hold value }
-        ensures stands { list_size self.old.tiers result.tier (count + 1)
+        ensures is_there { list_size self.old.tiers result.tier (count + 1)
             ≡ option_or (list_need self.old.tiers k count) (list_size self.old.tiers k count) }
         ensures stays { list_need self.old.tiers k count ≡ None → result ≡ record { tier = k; start = start } }
         ensures turnover { Turnover self.old self.new none_of (list_size self.old.tiers k count) (list_size self.old.tiers result.tier (count + 1)) }
@@ -50,7 +50,7 @@ impl<S: Slot, R: SlotArray<S>, A: Allocator> Blocks<S, R, A> {
         requires ready { IsReady self.old.tiers k count }
         requires offset { offset ≤ count }
         requires value { R.can_hold value }
-        ensures stands { list_size self.old.tiers result.tier (count + 1)
+        ensures is_there { list_size self.old.tiers result.tier (count + 1)
             ≡ option_or (list_need self.old.tiers k count) (list_size self.old.tiers k count) }
         ensures stays { list_need self.old.tiers k count ≡ None → result ≡ record { tier = k; start = start } }
         ensures turnover { Turnover self.old self.new none_of (list_size self.old.tiers k count) (list_size self.old.tiers result.tier (count + 1)) }

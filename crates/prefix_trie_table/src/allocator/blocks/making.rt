@@ -1,8 +1,8 @@
 //! Making blocks, before an item is inserted into a list.
 ghost use Rattle.std.specs.Prelude.{◌≡◌, ℕ, ◌+◌, ◌-◌, ◌^◌, ◌<◌, ◌≤◌, ◌↔◌, List, None, length, option_map, IfSome, OnOk, OnErr, IfErr, IsSome};
 ghost use Rattle.prefix_trie_bits.specs.Model.Blocks.{smallest_size};
-ghost use Rattle.prefix_trie_table.specs.Cells.{HasSizes};
-ghost use Rattle.prefix_trie_table.specs.Store.{UsedBlock, Sound, Turnover, Obtains, SameSlots, tier_sizes, size_in, free_in, many_of, none_of, list_need, needs, AreFree};
+ghost use Rattle.prefix_trie_table.specs.Blocks.Cells.{HasSizes};
+ghost use Rattle.prefix_trie_table.specs.Blocks.Store.{UsedBlock, Sound, Turnover, Obtains, SameSlots, tier_sizes, size_in, free_in, many_of, none_of, list_need, needs, AreFree};
 ghost use Rattle.prefix_trie_bits.specs.declared.prefix.Refusal.TheVariants.{Memory, IndexRange};
 
 use crate::allocator::array::SlotArray;
@@ -34,7 +34,7 @@ impl<S: Slot, R: SlotArray<S>, A: Allocator> Blocks<S, R, A> {
             → Sound S.vacant live self.new }
     {
         let mut singles = lists;
-        if let Some(tier) = self.lacking(k, count) {
+        if let Some(tier) = self.missing_tier(k, count) {
             if tier == 0 {
                 singles += 1;
             } else {
@@ -45,7 +45,7 @@ impl<S: Slot, R: SlotArray<S>, A: Allocator> Blocks<S, R, A> {
     }
 
     /// Returns the tier of the block that must be free before a value is inserted into the list of `count` values in a block of tier `k`.
-    fn lacking(&self, k: usize, count: u32) -> Option<usize>
+    fn missing_tier(&self, k: usize, count: u32) -> Option<usize>
         requires tier { 0 < count → k < length self.now.tiers }
         requires sizes { HasSizes self.now.tiers }
         requires fits { IsSome (smallest_size (tier_sizes self.now.tiers) (count + 1)) }

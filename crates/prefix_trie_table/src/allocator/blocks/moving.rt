@@ -1,7 +1,7 @@
 //! Taking a free block, freeing one, and moving a list to another block.
 ghost use Rattle.std.specs.Prelude.{◌≡◌, ℕ, ◌+◌, ◌<◌, ◌≤◌, ◌⊎◌, [], ◌∷◌, List, length, slice_index_or, None, Some};
-ghost use Rattle.prefix_trie_table.specs.Runs.{swap_runs};
-ghost use Rattle.prefix_trie_table.specs.Store.{UsedBlock, Sound, Turnover, tier_at, tier_sizes, size_in, free_in, none_of, block};
+ghost use Rattle.prefix_trie_table.specs.Blocks.Runs.{swap_runs};
+ghost use Rattle.prefix_trie_table.specs.Blocks.Store.{UsedBlock, Sound, Turnover, tier_at, tier_sizes, size_in, free_in, none_of, block};
 
 use crate::allocator::array::SlotArray;
 use crate::allocator::blocks::Blocks;

@@ -1,8 +1,8 @@
 //! Removing an item from a list.
 ghost use Rattle.std.specs.Prelude.{◌≡◌, ℕ, ◌+◌, ◌-◌, ◌<◌, ◌≤◌, ◌↔◌, ◌∷◌, ◌++◌, List, None, Some, length, insert, remove, option_map, IfSome, IfNone, IsSome, MatchOption, slice_index_or};
-ghost use Rattle.prefix_trie_table.specs.Cells.{HasSizes};
-ghost use Rattle.prefix_trie_table.specs.Losing.{LosesOne};
-ghost use Rattle.prefix_trie_table.specs.Store.{UsedBlock, Sound, Turnover, InUse, HasList, tier_at, tier_sizes, size_in, free_in, none_of, many_of, block, held, list_size};
+ghost use Rattle.prefix_trie_table.specs.Blocks.Cells.{HasSizes};
+ghost use Rattle.prefix_trie_table.specs.Blocks.Losing.{LosesOne};
+ghost use Rattle.prefix_trie_table.specs.Blocks.Store.{UsedBlock, Sound, Turnover, InUse, HasList, tier_at, tier_sizes, size_in, free_in, none_of, many_of, block, held, list_size};
 
 use crate::allocator::array::SlotArray;
 use crate::allocator::blocks::{BlockRef, Blocks};

@@ -1,8 +1,8 @@
 //! The block size for the length of a list.
 ghost use Rattle.std.specs.Prelude.{◌≡◌, ◌<◌, length, Some, IsSome};
 ghost use Rattle.prefix_trie_bits.specs.Model.Blocks.{smallest_size};
-ghost use Rattle.prefix_trie_table.specs.Cells.{HasSizes};
-ghost use Rattle.prefix_trie_table.specs.Store.{tier_sizes, size_in};
+ghost use Rattle.prefix_trie_table.specs.Blocks.Cells.{HasSizes};
+ghost use Rattle.prefix_trie_table.specs.Blocks.Store.{tier_sizes, size_in};
 
 use crate::allocator::array::SlotArray;
 use crate::allocator::blocks::Blocks;

@@ -1,6 +1,6 @@
 -- Inserting into a set is inserting a unit into its map: a key is new if there was no previous value.
 use Rattle.prefix_trie.proofs.Prelude.{◌≡◌, Bool, false, true, false≢true, true≢false, List, Option, None, Some, Ok, is_some, not, refl, sym, ap, ◌∙◌, subst, Reply, Insert, Value, StepByPath, stored_state}
-use Rattle.prefix_trie.specs.Sets.{put_in}
+use Rattle.prefix_trie.specs.Sets.{set_insert_reply}
 use Rattle.prefix_trie.proofs.set.PrefixSet.insert.Goals as goal
 use Rattle.prefix_trie.proofs.set.PrefixSet.insert.Goals.{in-Ok, in-Err}
 
@@ -9,7 +9,7 @@ other_way a false h = sym (ap not h)
 other_way a true h = sym (ap not h)
 
 -- the previous value, as the result has it
-was_there : (before : Option (Unit {0})) (is_new : Bool) → is_some before ≡ not is_new → ◌≡◌ {A = Reply (List Bool) (Unit {0})} (Value before) (put_in (Ok is_new))
+was_there : (before : Option (Unit {0})) (is_new : Bool) → is_some before ≡ not is_new → ◌≡◌ {A = Reply (List Bool) (Unit {0})} (Value before) (set_insert_reply (Ok is_new))
 was_there None false h = absurd (false≢true h)
 was_there None true h = refl
 was_there (Some u) false h = refl

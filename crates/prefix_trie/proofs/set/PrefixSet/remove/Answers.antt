@@ -1,5 +1,5 @@
 use Rattle.prefix_trie.proofs.Prelude.{subst, Remove, StepByPath, stored_state}
-use Rattle.prefix_trie.proofs.Removed.{as_taken_out}
+use Rattle.prefix_trie.proofs.Removed.{as_removed}
 use Rattle.prefix_trie.proofs.set.PrefixSet.remove.Goals as goal
 
 pub returns-clause-entries : goal.returns-clause-entries
@@ -11,4 +11,4 @@ returns-clause-nodes g c = rw (← c.self.view_is) c.remove.ensures.nodes
 pub returns-clause-step : goal.returns-clause-step
 returns-clause-step g c =
     rw (← c.self.view_is) (subst (λ r. StepByPath g.P.R.Key.bit_width (stored_state c.self.inside.map) (Remove (g.P.Prefix.path c.args.prefix.now)) r (stored_state c.remove.new.self))
-    (as_taken_out c.remove.result c.is_some.result c.is_some.ensures) c.remove.ensures.step)
+    (as_removed c.remove.result c.is_some.result c.is_some.ensures) c.remove.ensures.step)

@@ -1,5 +1,5 @@
 use Rattle.prefix_trie.proofs.Prelude.{rules, subst, RemoveKeepTree, StepByPath, stored_state}
-use Rattle.prefix_trie.proofs.Removed.{as_taken_out}
+use Rattle.prefix_trie.proofs.Removed.{as_removed}
 use Rattle.prefix_trie.proofs.set.PrefixSet.remove_keep_tree.Goals as goal
 
 pub returns-clause-was_in : goal.returns-clause-was_in
@@ -14,4 +14,4 @@ returns-clause-nodes g c = rw (← c.self.view_is) c.remove_keep_tree.ensures.no
 pub returns-clause-step : goal.returns-clause-step
 returns-clause-step g c =
     rw (← c.self.view_is) (subst (λ r. StepByPath g.P.R.Key.bit_width (stored_state c.self.inside.map) (RemoveKeepTree (g.P.Prefix.path c.args.prefix.now)) r (stored_state c.remove_keep_tree.new.self))
-    (as_taken_out c.remove_keep_tree.result c.is_some.result c.is_some.ensures) c.remove_keep_tree.ensures.step)
+    (as_removed c.remove_keep_tree.result c.is_some.result c.is_some.ensures) c.remove_keep_tree.ensures.step)

@@ -2,8 +2,10 @@
 use Rattle.std.proofs.Common.{Result, Ok, Err, OnOk, OnErr, sym, subst}
 use Rattle.prefix_trie_bits.proofs.Model.NodeSets.{AreNodes-needed}
 use Rattle.prefix_trie_bits.specs.Laws.Steps.{IsMap}
-use Rattle.prefix_trie_bits.specs.Model.Entries.{Entries, AreWithin}
-use Rattle.prefix_trie_bits.specs.Model.Nodes.{Nodes, AreNodes}
+use Rattle.prefix_trie_bits.specs.Model.Entries.{Entries}
+use Rattle.prefix_trie_bits.specs.Calls.Entries.{AreWithin}
+use Rattle.prefix_trie_bits.specs.Model.Nodes.{Nodes}
+use Rattle.prefix_trie_bits.specs.Calls.Nodes.{AreNodes}
 use Rattle.prefix_trie_bits.specs.Model.Step.{State}
 use Rattle.prefix_trie_bits.specs.Model.Storage.{Storage}
 use Rattle.prefix_trie_map.proofs.map.PrefixMap.compact.Goals as goal

@@ -1,9 +1,5 @@
 -- `get_lpm_mut` lends what `get_lpm_mut_counted` lends. Assumes `Logic`.
-use Rattle.prefix_trie_map.proofs.Loans.{◌≡◌, ℕ, Option, [], ◌∷◌, refl, sym, MutBor, proved, Args, named, a_type, dcons, dnil, inst_fn, emp, id⊢, Fml, ftrue, flft, ◌⊑◌, fact, fact_i, tables, ‵, raw, ◌⊛◌, some, later}
-use Rattle.prefix_trie_map.proofs.Loans.{◌$◌, ◌∵◌, !, qed, done, move, drop, use0, use1, use2, split, join, fjoin, pick, await, rewrite, suffices, frame, enter, addr, stop, no_more, and_then, returns, alloc_all}
-use Rattle.prefix_trie_map.proofs.Loans.{pass_all, free_all, look_at, get, through, sets, lands_as, param, copied, bounded, Laws, param_laws, yes, no, RattleType, MutRef, ShrRef, mut_vals, mut_Tells, shr_vals, shr_Tells}
-use Rattle.prefix_trie_map.proofs.Loans.{plain, mut_ref_to, shr_ref_to, nothing, heard, peeks, shows, Tuple, tuple_laws, calls_at, Lasts, lasts, triple_of, framed, Stays, stay_dropped, walk_of, ends_at, Goes-dropped}
-use Rattle.prefix_trie_map.proofs.Loans.{Goes-spent_ref, option_laws, Lent, lent_laws}
+use Rattle.prefix_trie_map.proofs.Loans.{◌≡◌, ℕ, Option, [], ◌∷◌, refl, sym, MutBor, proved, Args, named, a_type, dcons, dnil, inst_fn, emp, id⊢, Fml, ftrue, flft, ◌⊑◌, fact, fact_i, tables, ‵, raw, ◌⊛◌, some, later, ◌$◌, ◌∵◌, !, qed, done, move, drop, use0, use1, use2, split, join, fjoin, pick, await, rewrite, suffices, frame, enter, addr, stop, no_more, and_then, returns, alloc_all, pass_all, free_all, look_at, get, through, sets, lands_as, param, copied, bounded, Laws, param_laws, yes, no, RattleType, MutRef, ShrRef, mut_vals, mut_Tells, shr_vals, shr_Tells, plain, mut_ref_to, shr_ref_to, nothing, heard, peeks, shows, Tuple, tuple_laws, calls_at, Lasts, lasts, triple_of, framed, Stays, stay_dropped, walk_of, ends_at, Goes-dropped, Goes-spent_ref, option_laws, Lent, lent_laws}
 use Rattle.prefix_trie_map.proofs.Prelude.{subst, longest_match, prefix_pair, lends_longest_if, lent_beside, ReadsPath, lent_item_mut, option_map}
 use Rattle.std.specs.contracts.option.Option as option
 use Rattle.prefix_trie_map.specs.contracts.map.PrefixMap as map

@@ -1,10 +1,5 @@
 -- `get_lpm_mut_counted` lends what `lend_longest` lends, beside its prefix. Assumes `Logic`.
-use Rattle.prefix_trie_map.proofs.Loans.{◌≡◌, ℕ, ◌+◌, ◌/◌, ◌≤◌, length, IfSome, None, Some, Option, [], ◌∷◌, refl, sym, MutBor, arith, proved, Args, named, a_type, dcons, dnil, Val, vptr, inst_fn, full_share, ent, emp}
-use Rattle.prefix_trie_map.proofs.Loans.{id⊢, Fml, GName, ftrue, fat, flft, ◌⊑◌, fact, fact_i, tables, ‵, raw, ◌⊛◌, some, later, ◌$◌, ◌∵◌, !, qed, done, move, keep, drop, use0, use1, use2, use3, split, join, fsplit}
-use Rattle.prefix_trie_map.proofs.Loans.{fjoin, pick, await, rewrite, suffices, frame, agg, enter, of_opd, lit, addr, from, stop, no_more, and_then, returns, alloc_all, pass_all, free_all, look_at, get, through, sets}
-use Rattle.prefix_trie_map.proofs.Loans.{lands_as, take_at, give_at, param, copied, bounded, Laws, param_laws, yes, no, lone, RattleType, MutRef, ShrRef, mut_vals, mut_Tells, shr_vals, shr_Tells, plain, mut_ref_to}
-use Rattle.prefix_trie_map.proofs.Loans.{shr_ref_to, nothing, heard, peeks, shows, Tuple, tuple_laws, calls_at, Lasts, lasts, triple_of, framed, Stays, stay_dropped, walk_of, ends_at, Goes-dropped, Goes-spent_ref}
-use Rattle.prefix_trie_map.proofs.Loans.{option_laws, Lent, lent_laws, KeptWithin, lends_within, back_within, pair_of, pair_val}
+use Rattle.prefix_trie_map.proofs.Loans.{◌≡◌, ℕ, ◌+◌, ◌/◌, ◌≤◌, length, IfSome, None, Some, Option, [], ◌∷◌, refl, sym, MutBor, arith, proved, Args, named, a_type, dcons, dnil, Val, vptr, inst_fn, full_share, ent, emp, id⊢, Fml, GName, ftrue, fat, flft, ◌⊑◌, fact, fact_i, tables, ‵, raw, ◌⊛◌, some, later, ◌$◌, ◌∵◌, !, qed, done, move, keep, drop, use0, use1, use2, use3, split, join, fsplit, fjoin, pick, await, rewrite, suffices, frame, agg, enter, of_opd, lit, addr, from, stop, no_more, and_then, returns, alloc_all, pass_all, free_all, look_at, get, through, sets, lands_as, take_at, give_at, param, copied, bounded, Laws, param_laws, yes, no, lone, RattleType, MutRef, ShrRef, mut_vals, mut_Tells, shr_vals, shr_Tells, plain, mut_ref_to, shr_ref_to, nothing, heard, peeks, shows, Tuple, tuple_laws, calls_at, Lasts, lasts, triple_of, framed, Stays, stay_dropped, walk_of, ends_at, Goes-dropped, Goes-spent_ref, option_laws, Lent, lent_laws, KeptWithin, lends_within, back_within, pair_of, pair_val}
 use Rattle.prefix_trie_map.proofs.Prelude.{take, w32, lit<, MatchOption, longest_match, prefix_pair, lends_longest_if, lent_beside, ReadsPath, lent_item_mut, option_map}
 use mir.Val.{vint}
 use denote.Builtin.{u32}
@@ -125,7 +120,7 @@ get_lpm_mut_counted_spec 𝓤 𝓛 𝓜 𝓡 wired P T A R lP lT lA lR cR p p' d
     (and_then ! (get ! refl) (and_then ! (get ! refl) (and_then ! (get ! refl) (no_more !)))) (λ v₂.
     let Same : Option (P.Denot × MutBor T.Denot) → Type 0 = λ a. lent_beside a ≡ o in
     let Back : Option (P.Denot × MutBor T.Denot) → Type 0 = λ a. IfSome a (λ f. f.0 ≡ p.back (take i path)) in
-    let Answer : Option (P.Denot × MutBor T.Denot) → Type 0 = λ a. option_map lent_item_mut a ≡ prefix_pair p.back best in
+    let BulkResult : Option (P.Denot × MutBor T.Denot) → Type 0 = λ a. option_map lent_item_mut a ≡ prefix_pair p.back best in
     use1 𝓛 (later (some (λ (a : Option (P.Denot × MutBor T.Denot)). ((tok₀ ⊛ tok₁ ⊛ tok₂ ⊛ tok₃ ⊛ tok₅) ⊛ ‵ (Shown.own_val a (v₂ ∷ [])))
     ⊛ some (λ (fs : Lasts (b.ended P T R p p' d d' k k' n n' e e' s s' w w' xP) t.0.0 t.0.3). ‵ (lasts (b.ended P T R p p' d d' k k' n n' e e' s s' w w' xP) t.0.0 t.0.3 fs) ⊛ raw (fact 𝓤 (Same a)) ⊛ raw (fact 𝓤 (Back a)))))) (id⊢ 𝓤 _) $
     await ! tt $ pick ! (λ a. split ! $ move ! (1 ∷ []) $ pick ! (λ fs. split ! $ drop ! $ split ! $ heard ! (Same a) (λ same. heard ! (Back a) (λ back.
@@ -144,4 +139,4 @@ get_lpm_mut_counted_spec 𝓤 𝓛 𝓜 𝓡 wired P T A R lP lT lA lR cR p p' d
     nothing ! $ nothing ! $ fjoin ! $ nothing ! $ fjoin ! $ join ! $ move ! (1 ∷ 0 ∷ []) $ join ! $ frame ! $
     rewrite ! 0 (λ (n : Option (MutBor T.Denot)). ‵ (lends n)) (sym same) refl $ frame ! $
     use0 𝓛 (raw (fact 𝓤 Read)) (given Read (record { exact = omega (arith, none, exact); bound = omega (arith, none, bound) })) $
-    use0 𝓛 (raw (fact 𝓤 (Answer a))) (given (Answer a) (lent_shown p.back best (take i path) o a same back value)) $ done !)))))))))))))))))))))))))))))))))
+    use0 𝓛 (raw (fact 𝓤 (BulkResult a))) (given (BulkResult a) (lent_shown p.back best (take i path) o a same back value)) $ done !)))))))))))))))))))))))))))))))))

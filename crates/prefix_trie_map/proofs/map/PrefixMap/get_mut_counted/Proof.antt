@@ -1,10 +1,5 @@
 -- `get_mut_counted` lends what `lend_entry` lends. Assumes `Logic`.
-use Rattle.prefix_trie_map.proofs.Loans.{◌≡◌, ℕ, ◌+◌, ◌/◌, ◌≤◌, length, Option, [], ◌∷◌, refl, MutBor, arith, proved, Args, named, a_type, dcons, dnil, Val, vptr, inst_fn, full_share, emp, id⊢, Fml, GName, ftrue, fat}
-use Rattle.prefix_trie_map.proofs.Loans.{flft, fact, fact_i, tables, ‵, raw, ◌⊛◌, some, later, ◌$◌, ◌∵◌, !, qed, done, move, keep, drop, use0, use1, use2, use3, split, join, fsplit, fjoin, pick, await, suffices, frame}
-use Rattle.prefix_trie_map.proofs.Loans.{agg, enter, of_opd, addr, from, stop, no_more, and_then, returns, alloc_all, pass_all, free_all, look_at, get, through, sets, lands_as, take_at, give_at, param, copied, bounded}
-use Rattle.prefix_trie_map.proofs.Loans.{Laws, yes, no, lone, RattleType, MutRef, ShrRef, mut_vals, mut_Tells, shr_vals, shr_Tells, plain, mut_ref_to, shr_ref_to, nothing, heard, peeks, shows, Tuple, tuple_laws}
-use Rattle.prefix_trie_map.proofs.Loans.{calls_at, lasts, triple_of, framed, Stays, stay_dropped, walk_of, ends_at, Goes-dropped, Goes-spent_ref, option_laws, Lent, lent_laws, KeptWithin, lends_within, back_within}
-use Rattle.prefix_trie_map.proofs.Loans.{pair_of, pair_val}
+use Rattle.prefix_trie_map.proofs.Loans.{◌≡◌, ℕ, ◌+◌, ◌/◌, ◌≤◌, length, Option, [], ◌∷◌, refl, MutBor, arith, proved, Args, named, a_type, dcons, dnil, Val, vptr, inst_fn, full_share, emp, id⊢, Fml, GName, ftrue, fat, flft, fact, fact_i, tables, ‵, raw, ◌⊛◌, some, later, ◌$◌, ◌∵◌, !, qed, done, move, keep, drop, use0, use1, use2, use3, split, join, fsplit, fjoin, pick, await, suffices, frame, agg, enter, of_opd, addr, from, stop, no_more, and_then, returns, alloc_all, pass_all, free_all, look_at, get, through, sets, lands_as, take_at, give_at, param, copied, bounded, Laws, yes, no, lone, RattleType, MutRef, ShrRef, mut_vals, mut_Tells, shr_vals, shr_Tells, plain, mut_ref_to, shr_ref_to, nothing, heard, peeks, shows, Tuple, tuple_laws, calls_at, lasts, triple_of, framed, Stays, stay_dropped, walk_of, ends_at, Goes-dropped, Goes-spent_ref, option_laws, Lent, lent_laws, KeptWithin, lends_within, back_within, pair_of, pair_val}
 use Rattle.std.specs.contracts.option.Option as option
 use Rattle.prefix_trie_map.proofs.Prelude.{option_copied_mut, lends_entry_if, ReadsPath}
 use Rattle.std.specs.FinMap.{get as lookup}

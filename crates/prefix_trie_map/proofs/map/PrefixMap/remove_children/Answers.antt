@@ -1,5 +1,5 @@
 -- Splitting off a map is a step of the model, since it is one of the table. Both maps keep the invariant.
-use Rattle.prefix_trie_map.proofs.Prelude.{◌<◌, length, sym, subst, BoundsStorageGrowth, storage, err_from_is_err_and, IsMap, State, Storage, SplitsOffInStorage, handing_laws, state, stored_state}
+use Rattle.prefix_trie_map.proofs.Prelude.{◌<◌, length, sym, subst, BoundsStorageGrowth, storage, err_from_is_err_and, IsMap, State, Storage, SplitsOffInStorage, split_laws, state, stored_state}
 use Rattle.prefix_trie_map.proofs.Steps.{by_key}
 use Rattle.prefix_trie_map.proofs.map.PrefixMap.remove_children.Goals as goal
 
@@ -11,12 +11,12 @@ remove_children-requires-clause-nodes g c = c.self.invariant.are_nodes
 
 pub invariant_of-result : goal.invariant_of-result
 invariant_of-result g c =
-    ((handing_laws _).are_maps g.P.R.Key.bit_width (state c.self.inside.table) _ (state c.in_ok-table.table) (state c.remove_children.new.self)
+    ((split_laws _).are_maps g.P.R.Key.bit_width (state c.self.inside.table) _ (state c.in_ok-table.table) (state c.remove_children.new.self)
     c.self.invariant c.in_ok-table.ensures.split_off.splits_off).0
 
 pub invariant_of-self-2 : goal.invariant_of-self-2
 invariant_of-self-2 g c =
-    ((handing_laws _).are_maps g.P.R.Key.bit_width (state c.self.inside.table) _ (state c.in_ok-table.table) (state c.remove_children.new.self)
+    ((split_laws _).are_maps g.P.R.Key.bit_width (state c.self.inside.table) _ (state c.in_ok-table.table) (state c.remove_children.new.self)
     c.self.invariant c.in_ok-table.ensures.split_off.splits_off).2
 
 pub returns-clause-step : goal.returns-clause-step

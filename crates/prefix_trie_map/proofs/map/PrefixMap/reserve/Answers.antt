@@ -23,13 +23,13 @@ leaves : (g : given.Over) (c : goal.After-reserve g) → MatchResult c.reserve.r
 leaves g c =
     by_path g c (λ old q. MatchResult c.reserve.result
     (λ _. PreparesInStorage (state old) q (storage old) (storage c.reserve.new.self))
-    (λ cause. RefusesInStorage (state old) q cause (storage old) (storage c.reserve.new.self))) c.reserve.ensures.readies
+    (λ cause. RefusesInStorage (state old) q cause (storage old) (storage c.reserve.new.self))) c.reserve.ensures.prepares
 
 pub returns-clause-end : goal.returns-clause-end
 returns-clause-end g c = subst (λ q. IsSearchEnd c.reserve.new.self.build q c.args.end) c.path.ensures.path c.reserve.ensures.end
 
-pub returns-clause-readies : goal.returns-clause-readies
-returns-clause-readies g c =
+pub returns-clause-prepares : goal.returns-clause-prepares
+returns-clause-prepares g c =
     space_prepared g.P.R.Key.bit_width (λ cause. cause) c.args.self.now c.reserve.new.self (g.P.Prefix.path c.args.prefix.now) c.reserve.result (leaves g c)
 
 pub returns-clause-refuses : goal.returns-clause-refuses

@@ -9,4 +9,4 @@ returns-clause-visits g c =
 pub returns-clause-found : goal.returns-clause-found
 returns-clause-found g c =
     found_more g.P.Prefix.path c.args.table.now.build c.args.prefixes.now c.args.from c.min-count.result c.find_longest_each.new.found _
-    (omega (arith, c.min-count.ensures, c.requires.some)) (omega (arith, c.find_longest_each.ensures.length, c.min-count.ensures, c.requires.space, length-take-le c.min-count.result c.args.found.now)) c.find_longest_each.ensures.answers
+    (omega (arith, c.min-count.ensures, c.requires.some)) (omega (arith, c.find_longest_each.ensures.length, c.min-count.ensures, c.requires.space, length-take-le c.min-count.result c.args.found.now)) c.find_longest_each.ensures.results

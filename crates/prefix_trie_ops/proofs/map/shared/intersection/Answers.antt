@@ -5,9 +5,9 @@ use Rattle.prefix_trie.specs.Words.{listing, prefix_pairs}
 use Rattle.prefix_trie_map.proofs.Runs.{shows_in_order}
 use Rattle.prefix_trie_ops.specs.Combining.{common}
 use Rattle.prefix_trie_ops.specs.Lending.{lent_pair}
-use Rattle.prefix_trie_ops.specs.Turned.{turned_item}
+use Rattle.prefix_trie_ops.specs.Swapped.{swapped_item}
 use Rattle.prefix_trie_ops.proofs.Bounds.{common_fewer, common_within, items_below}
-use Rattle.prefix_trie_ops.proofs.Turning.{common_either_way, each_of_either}
+use Rattle.prefix_trie_ops.proofs.Swapping.{common_either_way, each_of_either}
 use Rattle.prefix_trie_ops.proofs.map.shared.intersection.Goals as goal
 
 pub returns-clause-items : goal.returns-clause-items
@@ -30,7 +30,7 @@ pub returns-clause-fits : goal.returns-clause-fits
 returns-clause-fits g c =
     let m = c.args.left.now.entries in
     let n = c.args.right.now.entries in
-    items_below (2 ^ 64) (len m) (c.of.result ++ map turned_item c.of-2.result) (λ e. (g.P.Prefix.back e.0, e.1)) (listing (common m n)) (returns-clause-items g c) (common_fewer m n)
+    items_below (2 ^ 64) (len m) (c.of.result ++ map swapped_item c.of-2.result) (λ e. (g.P.Prefix.back e.0, e.1)) (listing (common m n)) (returns-clause-items g c) (common_fewer m n)
     (search rules)
 
 pub returns-clause-runs : goal.returns-clause-runs

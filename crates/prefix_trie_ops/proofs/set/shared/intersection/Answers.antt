@@ -6,7 +6,7 @@ use Rattle.prefix_trie_map.proofs.Runs.{gives_in_order}
 use Rattle.prefix_trie_ops.specs.Combining.{restricted_to}
 use Rattle.prefix_trie_ops.proofs.Bounds.{items_below, retained_fewer, retained_within}
 use Rattle.prefix_trie_ops.proofs.Selecting.{keys_fit}
-use Rattle.prefix_trie_ops.proofs.Turning.{each_of_either, keys_either_way}
+use Rattle.prefix_trie_ops.proofs.Swapping.{each_of_either, keys_either_way}
 use Rattle.prefix_trie_ops.proofs.set.shared.intersection.Goals as goal
 
 pub returns-clause-items : goal.returns-clause-items

@@ -2,7 +2,7 @@ use Rattle.prefix_trie_table.proofs.Prelude.{◌≡◌, ◌+◌, arith, ap, ap�
 use Rattle.prefix_trie_table.proofs.Tree.Invariant.{some_table}
 use Rattle.prefix_trie_table.proofs.Counts.BlockCounts.{seven_cells, cell_counts, slots_are, free_within}
 use Rattle.prefix_trie_table.proofs.Counts.BlockUsers.{holders_used}
-use Rattle.prefix_trie_table.proofs.Blocks.Housed.{value_blocks_housed}
+use Rattle.prefix_trie_table.proofs.Blocks.ListBlocks.{value_blocks_housed}
 use Rattle.prefix_trie_table.proofs.Tree.Shapes.{shape_nodes, shape_entries}
 use Rattle.prefix_trie_table.proofs.table.Table.cell_blocks.Goals as goal
 

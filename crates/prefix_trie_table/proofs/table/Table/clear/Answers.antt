@@ -3,7 +3,7 @@ use Rattle.prefix_trie_table.proofs.Tree.Invariant.{some_table}
 use Rattle.prefix_trie_table.proofs.Removal.Clearing.{under_limit, root_slot}
 use Rattle.prefix_trie_table.proofs.Tree.Shapes.{root_shape, root_reading, new_holds, new_shape, new_only, new_table}
 use Rattle.prefix_trie_table.proofs.Blocks.Sizing.{sizes_of, root_layout}
-use Rattle.prefix_trie_table.proofs.Tree.Stated.{clears_step}
+use Rattle.prefix_trie_table.proofs.Tree.ModelSteps.{clears_step}
 use Rattle.prefix_trie_table.proofs.table.Table.clear.Goals as goal
 
 pub invariant_of-self-inside : goal.invariant_of-self-inside

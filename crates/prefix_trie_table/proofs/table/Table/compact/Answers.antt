@@ -1,5 +1,6 @@
 use Rattle.prefix_trie_table.proofs.Prelude.{◌≡◌, cond, [], None, get, ap, ◌∙◌, begins-nil, get-part_below, needed, same_entries}
-use Rattle.prefix_trie_bits.specs.Model.Entries.{Entries, part_below}
+use Rattle.prefix_trie_bits.specs.Model.Entries.{Entries}
+use Rattle.prefix_trie_bits.specs.Calls.Entries.{part_below}
 use Rattle.prefix_trie_table.proofs.table.Table.compact.Goals as goal
 
 -- the empty string begins each key

@@ -12,7 +12,7 @@ pub matches_in-matches-requires-clause-whole : goal.matches_in-matches-requires-
 matches_in-matches-requires-clause-whole g c = (c.root-here.ensures.along c.args.path).whole
 
 pub invariant_of-result-2 : goal.invariant_of-result-2
-invariant_of-result-2 g c = record { table = some_table c.self.invariant; first = _; stands = at_root _ _ _ _ (c.root-here.ensures.along c.args.path) c.matches_in-matches.ensures }
+invariant_of-result-2 g c = record { table = some_table c.self.invariant; first = _; is_there = at_root _ _ _ _ (c.root-here.ensures.along c.args.path) c.matches_in-matches.ensures }
 
 pub returns : goal.returns
 returns g c =

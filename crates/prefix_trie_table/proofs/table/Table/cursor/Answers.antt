@@ -18,6 +18,6 @@ returns g c =
     let t : Tree g.row.T.Denot = record { count = i.count; cells = i.cells; shape = i.shape.0 } in
     let tree = trie_of g.K.Key.bit_width i.count i.nodes i.cells i.shape c.self.invariant c.args.self.now c.self.view_is c.requires.within c.requires.nodes in
     record {
-      stands = rw (← c.self.view_is) c.start_at-stack.ensures.stack;
+      is_there = rw (← c.self.view_is) c.start_at-stack.ensures.stack;
       keys = rw (← c.self.view_is) (ap (map (λ e. e.0)) (c.start_at-stack.ensures.rest t tree));
     }

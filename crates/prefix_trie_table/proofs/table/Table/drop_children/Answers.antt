@@ -3,7 +3,7 @@ use Rattle.prefix_trie_table.proofs.Tree.Invariant.{some_table}
 use Rattle.prefix_trie_table.proofs.Removal.PartTaken.{may_ask_all, seen_trie}
 use Rattle.prefix_trie_table.proofs.Blocks.Sizing.{table_sizes}
 use Rattle.prefix_trie_table.proofs.Moving.SplitOff.{shape_seen, table_seen}
-use Rattle.prefix_trie_table.proofs.Tree.Stated.{all_step, part_step, bounds_growth_in}
+use Rattle.prefix_trie_table.proofs.Tree.ModelSteps.{all_step, part_step, bounds_growth_in}
 use Rattle.prefix_trie_table.proofs.table.Table.drop_children.Goals as goal
 
 pub returns-then-len-eq0-clause-step : goal.returns-then-len-eq0-clause-step

@@ -1,6 +1,6 @@
 use Rattle.prefix_trie_table.proofs.Prelude.{◌+◌, ap, sym, ◌∙◌}
 use Rattle.prefix_trie_table.proofs.Tree.Invariant.{some_table}
-use Rattle.prefix_trie_table.proofs.Lookup.Matched.{has_nodes, cell_inside, shortest_none, shortest_handed, met_none, met_shortest}
+use Rattle.prefix_trie_table.proofs.Lookup.Matched.{has_nodes, cell_inside, shortest_none, shortest_returned, met_none, met_shortest}
 use Rattle.prefix_trie_table.proofs.table.Table.find_shortest.Goals as goal
 
 pub shortest_on_path-requires : goal.shortest_on_path-requires
@@ -19,14 +19,14 @@ pub value_of_match-requires : goal.value_of_match-requires
 value_of_match-requires g c =
     let t = some_table c.self.invariant in
     let held = (c.in-Some.ensures.found t.reading t.paths t.holds.hold).0 in
-    record { bit = held.small; stands = cell_inside _ _ t _ c.self.inside.shape.1 c.args.path c.in-Some.found held }
+    record { bit = held.small; is_there = cell_inside _ _ t _ c.self.inside.shape.1 c.args.path c.in-Some.found held }
 
 pub returns : goal.returns
 returns g c =
     let t = some_table c.self.invariant in
     let found = c.in-Some.ensures.found t.reading t.paths t.holds.hold in
     rw (← c.self.view_is) (record {
-      value = shortest_handed _ _ t _ c.self.inside.shape.1 c.args.path c.in-Some.found found.0 (λ x. x.now) found.1 c.value_of_match.result c.value_of_match.ensures;
+      value = shortest_returned _ _ t _ c.self.inside.shape.1 c.args.path c.in-Some.found found.0 (λ x. x.now) found.1 c.value_of_match.result c.value_of_match.ensures;
       visits = c.in-Some.ensures.visits
           ∙ ap (λ n. g.V.Tick.count c.args.counter.now + n) (sym (met_shortest _ _ t _ c.self.inside.shape.1 c.args.path c.in-Some.found found.0 found.1));
     })

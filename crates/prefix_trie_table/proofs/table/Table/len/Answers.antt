@@ -1,6 +1,6 @@
 use Rattle.prefix_trie_table.proofs.Prelude.{◌≤◌, ◌<◌, ◌^◌, subst, arith, HaveBlocks, Contents, state}
 use Rattle.prefix_trie_table.proofs.Tree.Invariant.{some_table}
-use Rattle.prefix_trie_table.proofs.Blocks.Housed.{child_blocks_housed, value_blocks_housed}
+use Rattle.prefix_trie_table.proofs.Blocks.ListBlocks.{child_blocks_housed, value_blocks_housed}
 use Rattle.prefix_trie_table.proofs.table.Table.len.Goals as goal
 
 pub returns-clause-limit : goal.returns-clause-limit

@@ -2,7 +2,7 @@ use Rattle.prefix_trie_table.proofs.Prelude.{◌+◌, ap, ap₂, sym, ◌∙◌,
 use Rattle.prefix_trie_table.proofs.Tree.Invariant.{some_table}
 use Rattle.prefix_trie_table.proofs.Counts.BlockCounts.{node_counts, slots_are, free_within}
 use Rattle.prefix_trie_table.proofs.Counts.BlockUsers.{parents_used}
-use Rattle.prefix_trie_table.proofs.Blocks.Housed.{child_blocks_housed}
+use Rattle.prefix_trie_table.proofs.Blocks.ListBlocks.{child_blocks_housed}
 use Rattle.prefix_trie_table.proofs.Tree.Shapes.{shape_nodes}
 use Rattle.prefix_trie_table.proofs.table.Table.node_blocks.Goals as goal
 

@@ -1,8 +1,8 @@
 use Rattle.prefix_trie_table.proofs.Tree.Invariant.{some_table, some_counted}
 use Rattle.prefix_trie_table.proofs.Removal.NodesLeft.{removed_without}
 use Rattle.prefix_trie_table.proofs.Blocks.Sizing.{table_sizes}
-use Rattle.prefix_trie_table.proofs.Tree.Stated.{removes_step}
-use Rattle.prefix_trie_table.proofs.Removal.Stepped.{removed_in, pruned_in}
+use Rattle.prefix_trie_table.proofs.Tree.ModelSteps.{removes_step}
+use Rattle.prefix_trie_table.proofs.Removal.ModelSizes.{removed_in, pruned_in}
 use Rattle.prefix_trie_table.proofs.table.Table.remove.Goals as goal
 
 pub remove_entry-requires : goal.remove_entry-requires

@@ -4,17 +4,17 @@ use Rattle.prefix_trie_table.proofs.Removal.Clearing.{root_slot}
 use Rattle.prefix_trie_table.proofs.Moving.SplitOff.{rest_counted, shape_seen, table_seen, clear_behind, split_off_map, second_packed}
 use Rattle.prefix_trie_table.proofs.Removal.PartTaken.{seen_trie}
 use Rattle.prefix_trie_table.proofs.Tree.Invariant.{some_table}
-use Rattle.prefix_trie_table.proofs.Tree.Stated.{all_step, part_step, bounds_growth_in}
+use Rattle.prefix_trie_table.proofs.Tree.ModelSteps.{all_step, part_step, bounds_growth_in}
 use Rattle.prefix_trie_table.proofs.table.Table.remove_children.Goals as goal
 use Rattle.prefix_trie_table.proofs.table.Table.remove_children.Goals.{then-len-eq0, else-len-eq0}
 
-pub lay_part-requires : goal.lay_part-requires
-lay_part-requires g c = record { trie = (c.self.inside.shape.0, c.self.inside.count, seen_trie c.self.inside.shape c.self.invariant c.self.view_is refl c.requires.within c.requires.nodes) }
+pub build_part-requires : goal.build_part-requires
+build_part-requires g c = record { trie = (c.self.inside.shape.0, c.self.inside.count, seen_trie c.self.inside.shape c.self.invariant c.self.view_is refl c.requires.within c.requires.nodes) }
 
 pub same-self : goal.same-self
 same-self g c =
     let i = c.self.inside in
-    let own = c.in_err-laid.self-1-own.given in
+    let own = c.in_err-built.self-1-own.given in
     ap₂ (λ shape sizes. record { nodes = i.nodes; cells = i.cells; count = i.count; shape = shape; sizes = sizes })
     (Shaped-prop g.row.T.coded i.nodes.slots i.cells.slots own.0 i.shape) (Sized-prop i.nodes.slots own.1.0 i.sizes)
 
@@ -75,9 +75,9 @@ returns-clause-split_off g c =
     ] in
     split_off_map (stored_state now) (c.second-1.given.0.0, storage_of two.0 two.1 c.second-1.given.1.0) (stored_state c.if-len-eq0.self) q step
     (rw (← c.self.view_is) (shape_seen split_off c.second-1.given.0))
-    (rw (shape_seen split_off c.second-1.given.0) (second_packed g.K.Key.bit_width _ q i.nodes c.in_ok-laid.laid two.0 c.in_ok-laid.vacant two.1 c.in_ok-laid.ensures.laid _ split_off
+    (rw (shape_seen split_off c.second-1.given.0) (second_packed g.K.Key.bit_width _ q i.nodes c.in_ok-built.built two.0 c.in_ok-built.vacant two.1 c.in_ok-built.ensures.built _ split_off
     c.move_part-nodes.ensures.nodes c.move_part-nodes.ensures.cells c.second-1.given.1.0))
-    (ap (λ (x : Store _). x.limit) c.move_part-nodes.ensures.nodes ∙ c.in_ok-laid.ensures.laid.node_limit ∙ ap (λ (m : Contents g.row.T.Denot). m.space.limit) c.self.view_is)
+    (ap (λ (x : Store _). x.limit) c.move_part-nodes.ensures.nodes ∙ c.in_ok-built.ensures.built.node_limit ∙ ap (λ (m : Contents g.row.T.Denot). m.space.limit) c.self.view_is)
     split_off.table.nodes_within
     (let within = split_off.table.cells_within in let same = split_off.table.one_limit in omega (arith, within, same))
 

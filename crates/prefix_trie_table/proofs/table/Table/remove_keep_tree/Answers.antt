@@ -2,8 +2,8 @@ use Rattle.prefix_trie_table.proofs.Tree.Invariant.{some_table, some_counted}
 use Rattle.prefix_trie_table.proofs.Removal.OneEntry.{kept_without}
 use Rattle.prefix_trie_table.proofs.Insertion.Spaces.{Grows-none}
 use Rattle.prefix_trie_table.proofs.Blocks.Sizing.{table_sizes}
-use Rattle.prefix_trie_table.proofs.Tree.Stated.{takes_step}
-use Rattle.prefix_trie_table.proofs.Removal.Stepped.{kept_in, kept_children}
+use Rattle.prefix_trie_table.proofs.Tree.ModelSteps.{takes_step}
+use Rattle.prefix_trie_table.proofs.Removal.ModelSizes.{kept_in, kept_children}
 use Rattle.prefix_trie_table.proofs.table.Table.remove_keep_tree.Goals as goal
 
 pub remove_value-requires : goal.remove_value-requires

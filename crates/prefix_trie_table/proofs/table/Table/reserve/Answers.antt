@@ -1,8 +1,8 @@
 use Rattle.prefix_trie_table.proofs.Prelude.{rules, ap, State, Contents}
 use Rattle.prefix_trie_table.proofs.Tree.Invariant.{some_table}
-use Rattle.prefix_trie_table.proofs.Tree.Kept.{ends_at, end_last, kept_shape, kept_same, kept_table, kept_end, kept_readies}
+use Rattle.prefix_trie_table.proofs.Tree.Kept.{ends_at, end_last, kept_shape, kept_same, kept_table, kept_end, kept_prepares}
 use Rattle.prefix_trie_table.proofs.Blocks.Sizing.{table_sizes}
-use Rattle.prefix_trie_table.proofs.Tree.Stated.{longer_space}
+use Rattle.prefix_trie_table.proofs.Tree.ModelSteps.{longer_space}
 use Rattle.prefix_trie_table.proofs.table.Table.reserve.Goals as goal
 
 pub prepare-requires-clause-table : goal.prepare-requires-clause-table
@@ -37,7 +37,7 @@ returns g c =
     rw (← c.self.view_is) (record {
       unchanged = (ap (λ (s : State g.row.T.Denot). s.entries) same, ap (λ (s : State g.row.T.Denot). s.nodes) same);
       end = kept_end i.nodes new.nodes i.cells new.cells i.count i.shape c.self.invariant p.kept c.args.path c.args.end.reached at;
-      readies = kept_readies i.nodes new.nodes i.cells new.cells i.count i.shape c.self.invariant p.kept c.args.path c.args.end.reached at i.sizes z2 c.prepare.result
+      prepares = kept_prepares i.nodes new.nodes i.cells new.cells i.count i.shape c.self.invariant p.kept c.args.path c.args.end.reached at i.sizes z2 c.prepare.result
           p.grows.nodes p.grows.cells p.obtains;
       range = search rules;
       space = longer_space i.nodes new.nodes i.cells new.cells i.count i.count i.shape c.self.invariant i.sizes s2 (invariant_of-self g c) z2 p.grows.nodes p.grows.cells;

@@ -3,7 +3,7 @@ use Rattle.prefix_trie_table.proofs.Tree.Invariant.{some_table}
 use Rattle.prefix_trie_table.proofs.Removal.PartTaken.{seen_trie}
 use Rattle.prefix_trie_table.proofs.Blocks.Sizing.{table_sizes}
 use Rattle.prefix_trie_table.proofs.Moving.SplitOff.{shape_seen, table_seen}
-use Rattle.prefix_trie_table.proofs.Tree.Stated.{retains_step, bounds_growth_in}
+use Rattle.prefix_trie_table.proofs.Tree.ModelSteps.{retains_step, bounds_growth_in}
 use Rattle.prefix_trie_table.proofs.table.Table.retain.Goals as goal
 
 pub retain_entries-requires-clause-trie : goal.retain_entries-requires-clause-trie

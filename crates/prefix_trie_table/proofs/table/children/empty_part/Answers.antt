@@ -58,7 +58,7 @@ returns-clause-node g c =
     ap (read c.retain_places.new.nodes.slots)
     (sym (home_steps g.K.Key.IsKey g.K.Key.bits g.K.Key.bit_width c.key.result c.key.ensures.key c.args.path.now c.key.ensures.bits c.key.ensures.within c.args.here c.args.nodes.now c.requires.own
     c.args.entries.now c.args.cells.now c.requires.trie.0 c.requires.trie.1))
-    ∙ c.retain_places.ensures.node.stands
+    ∙ c.retain_places.ensures.node.is_there
 
 pub returns-clause-preserves : goal.returns-clause-preserves
 returns-clause-preserves g c =

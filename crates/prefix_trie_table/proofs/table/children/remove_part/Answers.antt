@@ -1,6 +1,6 @@
 use Rattle.prefix_trie_table.proofs.Prelude.{refl, sym, subst, AsksUpTo}
 use Rattle.prefix_trie_table.proofs.Removal.PartTaken.{some_end, part_taken, part_preserved, part_missing, part_unlisted}
-use Rattle.prefix_trie_table.proofs.Retain.Placed.{preserves_none}
+use Rattle.prefix_trie_table.proofs.Retain.CurrentPlaces.{preserves_none}
 use Rattle.prefix_trie_table.proofs.table.children.remove_part.Goals as goal
 
 pub returns-in_default-clause-removed : goal.returns-in_default-clause-removed
@@ -21,7 +21,7 @@ prune_up-requires g c =
     let end = some_end g.K.Key.bit_width c.args.path c.args.nodes.now c.empty_part-left.new.nodes c.args.cells.now c.empty_part-left.new.cells c.args.entries.now c.empty_part-left.new.entries trie.0 trie.1
     (c.empty_part-left.ensures.emptied trie.0 trie.1).trie c.in-Some.here.level found.0.last c.empty_part-left.ensures.preserves c.deref.result.now _ c.deref.ensures.0 found.1
     c.empty_part-left.result c.empty_part-left.ensures.node in
-    record { stands = end }
+    record { is_there = end }
 
 pub returns-clause-removed : goal.returns-clause-removed
 returns-clause-removed g c = λ s trie.

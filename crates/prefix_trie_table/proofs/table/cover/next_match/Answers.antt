@@ -1,9 +1,9 @@
 use Rattle.prefix_trie_table.proofs.Prelude.{arith, ◌/◌, ap}
-use Rattle.prefix_trie_table.proofs.Lookup.Covers.{gone_nowhere, gone_on, gone_past, gone_down}
+use Rattle.prefix_trie_table.proofs.Lookup.Covers.{reached_nowhere, reached_match, reached_end, gone_down}
 use Rattle.prefix_trie_table.proofs.table.cover.next_match.Goals as goal
 
 pub down-init : goal.down-init
-down-init g c = (c.requires.stands.0, c.requires.stands.1, λ before at. gone_nowhere _ before _ _ _ at)
+down-init g c = (c.requires.is_there.0, c.requires.is_there.1, λ before at. reached_nowhere _ before _ _ _ at)
 
 pub take_match-requires-clause-small : goal.take_match-requires-clause-small
 take_match-requires-clause-small g c = c.down.invariant.1.left.small
@@ -14,7 +14,7 @@ take_match-requires-clause-deep g c =
     omega (arith, whole, c.len-last.ensures.len, c.len-last.ensures.short)
 
 pub returns-in-Some : goal.returns-in-Some
-returns-in-Some g c = λ first at. gone_on _ first _ _ _ (c.down.invariant.2 first at) c.take_match.new.matches c.in-Some.found c.in-Some.ensures
+returns-in-Some g c = λ first at. reached_match _ first _ _ _ (c.down.invariant.2 first at) c.take_match.new.matches c.in-Some.found c.in-Some.ensures
 
 pub after-rest-requires : goal.after-rest-requires
 after-rest-requires g c = c.down.invariant.1.along.whole
@@ -27,7 +27,7 @@ step_down-requires-clause-along g c = (c.args.path.now, c.down.invariant.1.along
 
 pub returns-in_default-step_down : goal.returns-in_default-step_down
 returns-in_default-step_down g c = λ first at.
-    gone_past _ first _ _ _ (c.down.invariant.2 first at) c.take_match.new.matches c.in_default.ensures
+    reached_end _ first _ _ _ (c.down.invariant.2 first at) c.take_match.new.matches c.in_default.ensures
     (c.in_default-step_down.ensures.step c.args.path.now c.down.invariant.1.along c.after-rest.ensures (ap (λ n. n / 5) c.len-last.ensures.len))
 
 pub matches_in-requires-clause-shallow : goal.matches_in-requires-clause-shallow
@@ -49,8 +49,8 @@ pub down-preserved : goal.down-preserved
 down-preserved g c =
     let next = c.in-Some-step_down.ensures.step c.args.path.now c.down.invariant.1.along c.after-rest.ensures (ap (λ n. n / 5) c.len-last.ensures.len) in
     let left = c.matches_in.ensures in
-    let now = gone_down _ c.down.invariant.0 _ _ _ (gone_nowhere _ c.down.invariant.0 _ _ _ c.down.invariant.1) c.take_match.new.matches c.in_default.ensures _ _ next.0 next.1 left in (
+    let now = gone_down _ c.down.invariant.0 _ _ _ (reached_nowhere _ c.down.invariant.0 _ _ _ c.down.invariant.1) c.take_match.new.matches c.in_default.ensures _ _ next.0 next.1 left in (
       now.to,
-      now.stands,
+      now.is_there,
       λ before at. gone_down _ before _ _ _ (c.down.invariant.2 before at) c.take_match.new.matches c.in_default.ensures _ _ next.0 next.1 left,
     )

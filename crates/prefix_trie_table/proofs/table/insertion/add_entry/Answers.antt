@@ -3,7 +3,7 @@ use Rattle.prefix_trie_table.proofs.Lookup.Locating.{end_there, missing_bit}
 use Rattle.prefix_trie_table.proofs.Strings.Bits.{has_bit-zero}
 use Rattle.prefix_trie_table.proofs.Blocks.BySize.{many_here}
 use Rattle.prefix_trie_table.proofs.Insertion.Adding.{at_values}
-use Rattle.prefix_trie_table.proofs.Insertion.Asks.{nodes_below, cells_below}
+use Rattle.prefix_trie_table.proofs.Insertion.Needs.{nodes_below, cells_below}
 use Rattle.prefix_trie_table.proofs.Lookup.SearchPaths.{above_own, at_own, rest_bit, step_left, none_left}
 use Rattle.prefix_trie_table.proofs.Tree.Growing.{free_next, free_one, blank_child, blank_value}
 use Rattle.prefix_trie_table.proofs.Insertion.Spaces.{none_then}
@@ -12,8 +12,8 @@ use Rattle.prefix_trie_table.proofs.table.insertion.add_entry.Goals as goal
 
 -- ---- a value in a node that is there
 
-pub add_value-requires-clause-stands : goal.add_value-requires-clause-stands
-add_value-requires-clause-stands g c = end_there c.args.path c.args.reached.now c.requires.table c.requires.ends
+pub add_value-requires-clause-is_there : goal.add_value-requires-clause-is_there
+add_value-requires-clause-is_there g c = end_there c.args.path c.args.reached.now c.requires.table c.requires.ends
 
 pub add_value-requires-clause-missing : goal.add_value-requires-clause-missing
 add_value-requires-clause-missing g c =
@@ -43,8 +43,8 @@ returns-then-reached-last-clause-seat g c =
 
 -- ---- the first new node
 
-pub add_child-at-requires-clause-stands : goal.add_child-at-requires-clause-stands
-add_child-at-requires-clause-stands g c = at_values _ _ _ (end_there c.args.path c.args.reached.now c.requires.table c.requires.ends)
+pub add_child-at-requires-clause-is_there : goal.add_child-at-requires-clause-is_there
+add_child-at-requires-clause-is_there g c = at_values _ _ _ (end_there c.args.path c.args.reached.now c.requires.table c.requires.ends)
 
 pub add_child-at-requires-clause-missing : goal.add_child-at-requires-clause-missing
 add_child-at-requires-clause-missing g c =
@@ -67,8 +67,8 @@ loop-level-init g c =
     let more = above_own here.level c.len-last.result (length q) c.len-last.ensures.len at.along.whole c.if-reached-last.false in
     let five = step_left q r here.level (c.len-last.result / 5) c.after-rest.ensures (ap (λ n. n / 5) c.len-last.ensures.len) more.0 in
     let start = extended_start q here v w r at c.after-rest.ensures in
-    let lacks = next_missing q here v r at c.after-rest.ensures five bit.result bit.ensures.value in
-    let next = extended_more q v v w c.requires.table r here.level (slot_at here) start added.new.nodes bit.result _ five bit.ensures.value here.node at.along.node_is lacks
+    let some_missing = next_missing q here v r at c.after-rest.ensures five bit.result bit.ensures.value in
+    let next = extended_more q v v w c.requires.table r here.level (slot_at here) start added.new.nodes bit.result _ five bit.ensures.value here.node at.along.node_is some_missing
     added.ensures.stays added.ensures.added in
     rw c.below-rest.ensures (record {
       extended = next.0;
@@ -81,8 +81,8 @@ loop-level-init g c =
 
 -- ---- the nodes below it
 
-pub add_child-at-requires-in-loop-level-clause-stands : goal.add_child-at-requires-in-loop-level-clause-stands
-add_child-at-requires-in-loop-level-clause-stands g c = at_values _ _ _ (extended_there c.args.path _ _ _ c.requires.table _ _ _ c.loop-level.invariant.extended)
+pub add_child-at-requires-in-loop-level-clause-is_there : goal.add_child-at-requires-in-loop-level-clause-is_there
+add_child-at-requires-in-loop-level-clause-is_there g c = at_values _ _ _ (extended_there c.args.path _ _ _ c.requires.table _ _ _ c.loop-level.invariant.extended)
 
 pub add_child-at-requires-in-loop-level-clause-missing : goal.add_child-at-requires-in-loop-level-clause-missing
 add_child-at-requires-in-loop-level-clause-missing g c = ap (λ (k : Node). has_bit k.child_bitmap c.child_bit-child-in-loop-level.result) c.blank.ensures ∙ has_bit-zero c.child_bit-child-in-loop-level.result
@@ -103,8 +103,8 @@ loop-level-preserved g c =
     let added = c.add_child-at-in-loop-level in
     let inside = c.loop-level-test.true in
     let five = step_left q old.rest old._level (c.len-last.result / 5) inv.extended.rest_is (ap (λ n. n / 5) c.len-last.ensures.len) inside in
-    let lacks = ap (λ (k : Node). has_bit k.child_bitmap bit.result) c.blank.ensures ∙ has_bit-zero bit.result in
-    let next = extended_more q v old.nodes w c.requires.table old.rest old._level _ inv.extended added.new.nodes bit.result _ five bit.ensures.value c.blank.result (c.blank.ensures ∙ sym inv.blank) lacks
+    let some_missing = ap (λ (k : Node). has_bit k.child_bitmap bit.result) c.blank.ensures ∙ has_bit-zero bit.result in
+    let next = extended_more q v old.nodes w c.requires.table old.rest old._level _ inv.extended added.new.nodes bit.result _ five bit.ensures.value c.blank.result (c.blank.ensures ∙ sym inv.blank) some_missing
     added.ensures.stays added.ensures.added in
     rw c.below-rest-in-loop-level.ensures (record {
       extended = next.0;
@@ -120,8 +120,8 @@ loop-level-preserved g c =
 
 -- ---- the value in the last
 
-pub add_value-requires-2-clause-stands : goal.add_value-requires-2-clause-stands
-add_value-requires-2-clause-stands g c = extended_there c.args.path _ _ _ c.requires.table _ _ _ c.loop-level.invariant.extended
+pub add_value-requires-2-clause-is_there : goal.add_value-requires-2-clause-is_there
+add_value-requires-2-clause-is_there g c = extended_there c.args.path _ _ _ c.requires.table _ _ _ c.loop-level.invariant.extended
 
 pub add_value-requires-2-clause-missing : goal.add_value-requires-2-clause-missing
 add_value-requires-2-clause-missing g c = ap (λ (k : Node). has_bit k.value_bitmap c.value_bit-bit-2.result) c.blank-2.ensures ∙ has_bit-zero c.value_bit-bit-2.result

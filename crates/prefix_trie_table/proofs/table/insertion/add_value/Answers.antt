@@ -10,18 +10,18 @@ use Rattle.prefix_trie_table.proofs.table.insertion.add_value.Goals as goal
 
 pub insert_at-block-requires-clause-holds : goal.insert_at-block-requires-clause-holds
 insert_at-block-requires-clause-holds g c =
-    has_values c.args.nodes.now c.args.cells.now c.args.at c.args.node.now c.count.result c.requires.stands c.requires.node
+    has_values c.args.nodes.now c.args.cells.now c.args.at c.args.node.now c.count.result c.requires.is_there c.requires.node
     (c.count.ensures ∙ sym (rank-ones c.args.node.now.value_bitmap 32 (omega arith)))
 
 pub insert_at-block-requires-clause-sizes : goal.insert_at-block-requires-clause-sizes
-insert_at-block-requires-clause-sizes g c = cell_sized c.args.cells.now.tiers c.requires.stands.0.holds.cells.sizes_are
+insert_at-block-requires-clause-sizes g c = cell_sized c.args.cells.now.tiers c.requires.is_there.0.holds.cells.sizes_are
 
 pub insert_at-block-requires-clause-ready : goal.insert_at-block-requires-clause-ready
 insert_at-block-requires-clause-ready g c =
     let same : rank c.args.node.now.value_bitmap 32 ≡ c.count.result = rank-ones c.args.node.now.value_bitmap 32 (omega arith) ∙ sym c.count.ensures in
-    let t = c.requires.stands.0 in
-    let at = c.requires.stands.1 in
-    let is : t.reading at.path ≡ Some c.args.node.now = at.is ∙ ap Some (sym (c.requires.node ∙ (at_is c.args.nodes.now c.args.at (at_values _ _ _ c.requires.stands)).0)) in
+    let t = c.requires.is_there.0 in
+    let at = c.requires.is_there.1 in
+    let is : t.reading at.path ≡ Some c.args.node.now = at.is ∙ ap Some (sym (c.requires.node ∙ (at_is c.args.nodes.now c.args.at (at_values _ _ _ c.requires.is_there)).0)) in
     let few = few_values t.reading t.values t.paths c.args.cells.now at.path c.args.node.now c.args.bit t.holds.cells is c.requires.bit c.requires.missing in (
       cell_fits c.args.cells.now.tiers (c.count.result + 1) t.holds.cells.sizes_are (omega (arith, few, same)),
       subst (λ n. AreFree c.args.cells.now.tiers (needs (list_need c.args.cells.now.tiers c.args.node.now.value_tier n) 0)) same
@@ -45,22 +45,22 @@ with_bit-value_bitmap-requires-clause-clear g c = sym (has_bit-is c.args.node.no
 
 pub overflow_cast-block : goal.overflow_cast-block
 overflow_cast-block g c =
-    let h = has_values c.args.nodes.now c.args.cells.now c.args.at c.args.node.now c.count.result c.requires.stands
+    let h = has_values c.args.nodes.now c.args.cells.now c.args.at c.args.node.now c.count.result c.requires.is_there
     c.requires.node (c.count.ensures ∙ sym (rank-ones c.args.node.now.value_bitmap 32 (omega arith))) in
     let s = c.insert_at-block.ensures.sound h.size h.items h.live h.sound h.is_count in
     let small : c.insert_at-block.result.tier < 7 = tier_small None _ h.live c.insert_at-block.new.self cell_sizes s
-    (c.insert_at-block.ensures.turnover.keeps.sizes ∙ c.requires.stands.0.holds.cells.sizes_are) in
+    (c.insert_at-block.ensures.turnover.keeps.sizes ∙ c.requires.is_there.0.holds.cells.sizes_are) in
     omega (arith, small)
 
 pub put-requires : goal.put-requires
 put-requires g c =
-    let h = has_values c.args.nodes.now c.args.cells.now c.args.at c.args.node.now c.count.result c.requires.stands
+    let h = has_values c.args.nodes.now c.args.cells.now c.args.at c.args.node.now c.count.result c.requires.is_there
     c.requires.node (c.count.ensures ∙ sym (rank-ones c.args.node.now.value_bitmap 32 (omega arith))) in
     let s = c.insert_at-block.ensures.sound h.size h.items h.live h.sound h.is_count in
     let small : c.insert_at-block.result.tier < 7 = tier_small None _ h.live c.insert_at-block.new.self cell_sizes s
-    (c.insert_at-block.ensures.turnover.keeps.sizes ∙ c.requires.stands.0.holds.cells.sizes_are) in
+    (c.insert_at-block.ensures.turnover.keeps.sizes ∙ c.requires.is_there.0.holds.cells.sizes_are) in
     record {
-      within = (at_is c.args.nodes.now c.args.at (at_values _ _ _ c.requires.stands)).1;
+      within = (at_is c.args.nodes.now c.args.at (at_values _ _ _ c.requires.is_there)).1;
       tiers = record { value_tier = inl (omega (arith, small)); child_tier = inr (ap (λ (n : Node). n.child_tier) c.requires.node) };
     }
 
@@ -71,19 +71,19 @@ pub returns-clause-cells : goal.returns-clause-cells
 returns-clause-cells g c = none_turned _ _ _ _ c.insert_at-block.ensures.turnover
 
 pub returns-clause-added : goal.returns-clause-added
-returns-clause-added g c = λ reading paths values p n hold cells stands is.
+returns-clause-added g c = λ reading paths values p n hold cells is_there is.
     let same : c.count.result ≡ rank c.args.node.now.value_bitmap 32 = c.count.ensures ∙ sym (rank-ones c.args.node.now.value_bitmap 32 (omega arith)) in
     values_added c.args.nodes.now c.put.new.self c.args.cells.now c.insert_at-block.new.self c.args.at c.rank-offset.result
     c.args.bit c.insert_at-block.result.tier c.insert_at-block.result.start c.with_bit-value_bitmap.result c.args.node.now _ c.args.value
     c.requires.node c.with_bit-value_bitmap.ensures.sets refl c.insert_at-block.ensures.turnover.keeps
     (λ size xs live s count. c.insert_at-block.ensures.sound size xs live s (count ∙ sym same))
     (subst (λ n. list_size c.args.cells.now.tiers c.insert_at-block.result.tier (n + 1) ≡ option_or (list_need c.args.cells.now.tiers c.args.node.now.value_tier n)
-    (list_size c.args.cells.now.tiers c.args.node.now.value_tier n)) same c.insert_at-block.ensures.stands)
+    (list_size c.args.cells.now.tiers c.args.node.now.value_tier n)) same c.insert_at-block.ensures.is_there)
     (c.rank-offset.ensures ∙ sym (rank-ones c.args.node.now.value_bitmap c.args.bit (omega (arith, c.requires.bit)))) (omega (arith, c.requires.bit))
-    c.requires.missing c.requires.bit c.put.ensures.slots reading paths values p n hold cells stands is
+    c.requires.missing c.requires.bit c.put.ensures.slots reading paths values p n hold cells is_there is
 
 pub returns-clause-seat : goal.returns-clause-seat
 returns-clause-seat g c = added_seat c.args.nodes.now c.put.new.self c.args.at c.rank-offset.result c.args.bit
     c.with_bit-value_bitmap.result c.args.node.now _ c.with_bit-value_bitmap.ensures.sets refl (omega (arith, c.requires.bit))
     (c.rank-offset.ensures ∙ sym (rank-ones c.args.node.now.value_bitmap c.args.bit (omega (arith, c.requires.bit))))
-    (at_is c.args.nodes.now c.args.at (at_values _ _ _ c.requires.stands)).1 c.put.ensures.slots
+    (at_is c.args.nodes.now c.args.at (at_values _ _ _ c.requires.is_there)).1 c.put.ensures.slots

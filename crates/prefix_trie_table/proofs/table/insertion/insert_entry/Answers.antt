@@ -1,5 +1,5 @@
 use Rattle.prefix_trie_table.proofs.Prelude.{◌≡◌, is_some, refl, ap, arith, chunks_of, bit_of, one_if}
-use Rattle.prefix_trie_table.proofs.Insertion.Asks.{Made-then}
+use Rattle.prefix_trie_table.proofs.Insertion.Needs.{Made-then}
 use Rattle.prefix_trie_table.proofs.Counts.EntryCounts.{entries_bound}
 use Rattle.prefix_trie_table.proofs.Lookup.Locating.{missing_value, ends_still}
 use Rattle.prefix_trie_table.proofs.Insertion.Spaces.{Grows-then}
@@ -14,7 +14,7 @@ returns-in-Err g c =
       counted = refl;
       answer = refl;
       grows = record { nodes = grows.nodes; cells = grows.cells; range = grows.range };
-      obtains = record { nodes_made = o.nodes_made; cells_made = o.cells_made; range = o.range; memory = o.memory; lacks = o.lacks };
+      obtains = record { nodes_made = o.nodes_made; cells_made = o.cells_made; range = o.range; memory = o.memory; some_missing = o.some_missing };
     }
 
 pub add_entry-seat-requires-clause-table : goal.add_entry-seat-requires-clause-table
@@ -55,5 +55,5 @@ returns-clause-obtains g c =
       cells_made = Made-then c.args.cells.now c.prepare.new.cells c.add_entry-seat.new.cells _ o.cells_made c.add_entry-seat.ensures.cells;
       range = tt;
       memory = tt;
-      lacks = tt;
+      some_missing = tt;
     }

@@ -1,7 +1,6 @@
 use Rattle.prefix_trie_table.proofs.Prelude.{◌≡◌, ◌+◌, ◌*◌, length, take, ◌∙◌, subst, arith, LongestHeld, chunks_of, ◌/◌, ap}
 use Rattle.prefix_trie_table.proofs.Lookup.SearchPaths.{followed_root, followed_next, left_length, path_end, path_read}
-use Rattle.prefix_trie_table.proofs.Lookup.Matching.{none_past, longest_none}
-use Rattle.prefix_trie_table.proofs.Lookup.Matching.{along_is, best_now}
+use Rattle.prefix_trie_table.proofs.Lookup.Matching.{none_past, longest_none, along_is, best_now}
 use Rattle.prefix_trie_table.proofs.table.matching.longest_on_path.Goals as goal
 
 pub down-init : goal.down-init

@@ -1,7 +1,6 @@
 use Rattle.prefix_trie_table.proofs.Prelude.{◌≡◌, ◌+◌, ◌*◌, length, take, Some, ◌∙◌, subst, arith, NoneHeld, chunks_of, ◌/◌, ap}
 use Rattle.prefix_trie_table.proofs.Lookup.SearchPaths.{followed_root, followed_next, left_length, path_end, path_read}
-use Rattle.prefix_trie_table.proofs.Lookup.Matching.{none_past, none_join, shortest_behind}
-use Rattle.prefix_trie_table.proofs.Lookup.Matching.{along_is}
+use Rattle.prefix_trie_table.proofs.Lookup.Matching.{none_past, none_join, shortest_behind, along_is}
 use Rattle.prefix_trie_table.proofs.table.matching.shortest_on_path.Goals as goal
 
 pub down-init : goal.down-init

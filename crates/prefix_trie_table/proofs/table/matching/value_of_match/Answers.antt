@@ -6,16 +6,16 @@ cell-is : {X : Type 0} (slots : List (Option X)) (at to : ℕ) (x : Option X) �
 cell-is slots at to x e within read = get_or_default slots to None x within ∙ ap (λ i. get_or slots i x) (sym e) ∙ sym read
 
 pub at-requires : goal.at-requires
-at-requires g c = subst (λ i. i < length c.args.cells.now.slots) (sym (ap (λ s. s.slot) c.seat-seat.ensures)) c.requires.stands
+at-requires g c = subst (λ i. i < length c.args.cells.now.slots) (sym (ap (λ s. s.slot) c.seat-seat.ensures)) c.requires.is_there
 
 pub returns-in_default : goal.returns-in_default
 returns-in_default g c =
-    cell-is c.args.cells.now.slots c.seat-seat.result.slot _ c.at.result.now (ap (λ s. s.slot) c.seat-seat.ensures) c.requires.stands c.at.ensures.slot
+    cell-is c.args.cells.now.slots c.seat-seat.result.slot _ c.at.result.now (ap (λ s. s.slot) c.seat-seat.ensures) c.requires.is_there c.at.ensures.slot
     ∙ sym c.in_default.ensures.value
 
 pub returns : goal.returns
 returns g c = (
   refl,
-  cell-is c.args.cells.now.slots c.seat-seat.result.slot _ c.at.result.now (ap (λ s. s.slot) c.seat-seat.ensures) c.requires.stands c.at.ensures.slot
+  cell-is c.args.cells.now.slots c.seat-seat.result.slot _ c.at.result.now (ap (λ s. s.slot) c.seat-seat.ensures) c.requires.is_there c.at.ensures.slot
       ∙ sym c.in-Some.ensures.value,
 )

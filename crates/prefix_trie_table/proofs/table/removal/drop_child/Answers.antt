@@ -11,15 +11,15 @@ use Rattle.prefix_trie_table.proofs.table.removal.drop_child.Given as given
 use Rattle.prefix_trie_table.proofs.table.removal.drop_child.Goals as goal
 
 pub visit-node-requires : goal.visit-node-requires
-visit-node-requires g c = (at_is c.args.nodes.now c.args.at c.requires.stands).1
+visit-node-requires g c = (at_is c.args.nodes.now c.args.at c.requires.is_there).1
 
 pub remove_at-rest-requires-clause-holds : goal.remove_at-rest-requires-clause-holds
 remove_at-rest-requires-clause-holds g c =
-    has_list c.args.nodes.now c.args.at c.visit-node.result c.count.result c.requires.stands c.visit-node.ensures.node
+    has_list c.args.nodes.now c.args.at c.visit-node.result c.count.result c.requires.is_there c.visit-node.ensures.node
     (c.count.ensures ∙ sym (rank-ones c.visit-node.result.child_bitmap 32 (omega arith)))
 
 pub remove_at-rest-requires-clause-sizes : goal.remove_at-rest-requires-clause-sizes
-remove_at-rest-requires-clause-sizes g c = node_sized c.args.nodes.now.tiers c.requires.stands.0.hold.sizes_are
+remove_at-rest-requires-clause-sizes g c = node_sized c.args.nodes.now.tiers c.requires.is_there.0.hold.sizes_are
 
 pub remove_at-rest-requires-clause-offset : goal.remove_at-rest-requires-clause-offset
 remove_at-rest-requires-clause-offset g c =
@@ -47,15 +47,15 @@ rank-requires g c = c.requires.child
 pub put-requires : goal.put-requires
 put-requires g c =
     record {
-      within = omega (arith, (at_is c.args.nodes.now c.args.at c.requires.stands).1, c.remove_at-rest.ensures.loses.turnover.keeps.longer);
+      within = omega (arith, (at_is c.args.nodes.now c.args.at c.requires.is_there).1, c.remove_at-rest.ensures.loses.turnover.keeps.longer);
       tiers = record {
         value_tier = inl c.visit-node.ensures.fits.value_tier;
-        child_tier = inl (omega (arith, c.remove_at-rest.ensures.tier, tiers_long c.args.nodes.now.tiers node_sizes c.requires.stands.0.hold.sizes_are));
+        child_tier = inl (omega (arith, c.remove_at-rest.ensures.tier, tiers_long c.args.nodes.now.tiers node_sizes c.requires.is_there.0.hold.sizes_are));
       };
     }
 
 pub overflow_cast-left : goal.overflow_cast-left
-overflow_cast-left g c = omega (arith, c.remove_at-rest.ensures.tier, tiers_long c.args.nodes.now.tiers node_sizes c.requires.stands.0.hold.sizes_are)
+overflow_cast-left g c = omega (arith, c.remove_at-rest.ensures.tier, tiers_long c.args.nodes.now.tiers node_sizes c.requires.is_there.0.hold.sizes_are)
 
 -- what the list of children is like without the child
 lost : (g : given.Over) (c : goal.After-put g) → Lost blank_node node_sizes c.args.nodes.now c.remove_at-rest.new.self c.visit-node.result.child_tier
@@ -63,10 +63,10 @@ lost : (g : given.Over) (c : goal.After-put g) → Lost blank_node node_sizes c.
     c.remove_at-rest.result.tier c.remove_at-rest.result.start
 lost g c =
     let same : c.count.result ≡ rank c.visit-node.result.child_bitmap 32 = c.count.ensures ∙ sym (rank-ones c.visit-node.result.child_bitmap 32 (omega arith)) in
-    let list = has_list c.args.nodes.now c.args.at c.visit-node.result c.count.result c.requires.stands c.visit-node.ensures.node same in
+    let list = has_list c.args.nodes.now c.args.at c.visit-node.result c.count.result c.requires.is_there c.visit-node.ensures.node same in
     let left = c.remove_at-rest.ensures in
     lost_one blank_node c.args.nodes.now c.remove_at-rest.new.self c.visit-node.result.child_tier c.visit-node.result.child_block c.count.result c.rank.result
-    c.remove_at-rest.result 32 c.requires.stands.0.hold.sizes_are refl node_spaces list
+    c.remove_at-rest.result 32 c.requires.is_there.0.hold.sizes_are refl node_spaces list
     (let h = rank-below c.visit-node.result.child_bitmap c.args.child c.requires.child
     (ap (λ (n : Node). has_bit n.child_bitmap c.args.child) c.visit-node.ensures.node ∙ c.requires.there) in omega (arith, h, same)) left.tier left.loses left.sound _ _ same
     (c.rank.ensures ∙ sym (rank-ones c.visit-node.result.child_bitmap c.args.child (omega (arith, c.requires.child))))

@@ -16,23 +16,23 @@ loop-level-init g c = record {
 }
 
 pub bounds-ancestors-level : goal.bounds-ancestors-level
-bounds-ancestors-level g c = omega (arith, c.loop-level.invariant.within, c.loop-level-test.true, path-length c.args.path, c.requires.stands.long)
+bounds-ancestors-level g c = omega (arith, c.loop-level.invariant.within, c.loop-level-test.true, path-length c.args.path, c.requires.is_there.long)
 
 pub child_bit-requires : goal.child_bit-requires
 child_bit-requires g c =
     omega (arith, c.loop-level.invariant.within, c.loop-level-test.true, ap (λ (xs : List Bool). length xs) c.after.ensures, length-drop (5 * (c.loop-level.level - 1)) c.args.path)
 
-pub drop_child-node-requires-clause-stands : goal.drop_child-node-requires-clause-stands
-drop_child-node-requires-clause-stands g c =
+pub drop_child-node-requires-clause-is_there : goal.drop_child-node-requires-clause-is_there
+drop_child-node-requires-clause-is_there g c =
     let path = chunks_of c.args.path in
     let up : c.loop-level.level ≡ c.loop-level.level - 1 + 1 = omega (arith, c.loop-level-test.true) in
-    let s = c.requires.stands in
+    let s = c.requires.is_there in
     let p = subst (λ n. Pruning s.reading s.paths (chunks_of c.args.path) c.args.ancestors.now n c.loop-level.node c.args.nodes.now c.loop-level.nodes) up (c.loop-level.invariant.pruned s) in (
       record { reading = p.to.later; paths = p.to.left; hold = p.to.hold },
       record {
         path = take (c.loop-level.level - 1) path;
         node = _;
-        stands = parent_slot s.reading s.paths path c.args.ancestors.now (c.loop-level.level - 1) c.loop-level.node c.args.nodes.now c.loop-level.nodes p;
+        is_there = parent_slot s.reading s.paths path c.args.ancestors.now (c.loop-level.level - 1) c.loop-level.node c.args.nodes.now c.loop-level.nodes p;
         is = parent_is s.reading s.paths path c.args.ancestors.now (c.loop-level.level - 1) c.loop-level.node c.args.nodes.now c.loop-level.nodes p;
       },
     )
@@ -43,7 +43,7 @@ drop_child-node-requires-clause-there g c =
     let more : 5 ≤ length c.after.result =
     omega (arith, c.loop-level.invariant.within, c.loop-level-test.true, ap (λ (xs : List Bool). length xs) c.after.ensures, length-drop (5 * (c.loop-level.level - 1)) c.args.path) in
     let digit = rest_step c.args.path c.after.result (c.loop-level.level - 1) c.after.ensures more c.child_bit.result c.child_bit.ensures.value in
-    let s = c.requires.stands in
+    let s = c.requires.is_there in
     subst (λ d. has_bit (node_at c.loop-level.nodes.slots (slot_in c.args.ancestors.now (c.loop-level.level - 1))).child_bitmap d ≡ true) digit
     (parent_bit s.reading s.paths (chunks_of c.args.path) c.args.ancestors.now (c.loop-level.level - 1) c.loop-level.node c.args.nodes.now c.loop-level.nodes
     (subst (λ n. Pruning s.reading s.paths (chunks_of c.args.path) c.args.ancestors.now n c.loop-level.node c.args.nodes.now c.loop-level.nodes) up (c.loop-level.invariant.pruned s)))
@@ -70,7 +70,7 @@ pub returns-else-is_bare-clause-space : goal.returns-else-is_bare-clause-space
 returns-else-is_bare-clause-space g c = c.loop-level.invariant.space
 
 pub returns-else-is_bare-clause-bounds_growth : goal.returns-else-is_bare-clause-bounds_growth
-returns-else-is_bare-clause-bounds_growth g c = (c.loop-level.invariant.pruned c.requires.stands).to.bounds_growth
+returns-else-is_bare-clause-bounds_growth g c = (c.loop-level.invariant.pruned c.requires.is_there).to.bounds_growth
 
 pub returns-else-is_bare-clause-pruned : goal.returns-else-is_bare-clause-pruned
 returns-else-is_bare-clause-pruned g c = λ s.
@@ -80,7 +80,7 @@ pub returns-after-loop-level-clause-space : goal.returns-after-loop-level-clause
 returns-after-loop-level-clause-space g c = c.loop-level.invariant.space
 
 pub returns-after-loop-level-clause-bounds_growth : goal.returns-after-loop-level-clause-bounds_growth
-returns-after-loop-level-clause-bounds_growth g c = (c.loop-level.invariant.pruned c.requires.stands).to.bounds_growth
+returns-after-loop-level-clause-bounds_growth g c = (c.loop-level.invariant.pruned c.requires.is_there).to.bounds_growth
 
 pub returns-after-loop-level-clause-pruned : goal.returns-after-loop-level-clause-pruned
 returns-after-loop-level-clause-pruned g c = λ s.

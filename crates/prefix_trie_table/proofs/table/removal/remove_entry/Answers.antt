@@ -24,7 +24,7 @@ prune_up-requires g c =
     (own_last _ _ _ c.in-Some.ensures.found.0) c.after.ensures (rw c.after.ensures (own_short _ _ _ c.in-Some.ensures.found.0)) c.value_bit-bit.result c.value_bit-bit.ensures.value c.args.cells.now
     c.take_bit-value.result.0 c.take_bit-value.result.1 c.take_bit-value.new.nodes c.take_bit-value.new.cells c.take_bit-value.ensures.taken
     c.in-Some.ensures.found.0.last c.deref.result.now _ c.deref.ensures.0 c.in-Some.ensures.found.1 t.reading t.paths t.values t.holds in
-    record { stands = end }
+    record { is_there = end }
 
 pub returns-clause-value : goal.returns-clause-value
 returns-clause-value g c = λ reading paths values holds.

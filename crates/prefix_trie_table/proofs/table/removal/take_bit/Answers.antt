@@ -9,10 +9,10 @@ use Rattle.prefix_trie_table.proofs.table.removal.take_bit.Goals as goal
 
 pub returns-then-not-has_bit : goal.returns-then-not-has_bit
 returns-then-not-has_bit g c =
-    let lacks = has_bit-is c.args.here.node.value_bitmap c.args.bit (omega (arith, c.requires.bit)) ∙ sym c.has_bit.ensures ∙ c.if-not-has_bit.true in
+    let some_missing = has_bit-is c.args.here.node.value_bitmap c.args.bit (omega (arith, c.requires.bit)) ∙ sym c.has_bit.ensures ∙ c.if-not-has_bit.true in
     record {
-      taken = λ reading paths values holds p stands is.
-          let none = none_at reading values paths c.args.nodes.now c.args.cells.now holds p c.args.here.node is c.args.bit lacks in
+      taken = λ reading paths values holds p is_there is.
+          let none = none_at reading values paths c.args.nodes.now c.args.cells.now holds p c.args.here.node is c.args.bit some_missing in
           (sym none, kept_at reading values paths c.args.nodes.now c.args.cells.now holds p c.args.here.node is c.args.bit none);
       counted = omega arith;
       node_blocks = record { space = (refl, refl, refl); tiers = refl };
@@ -27,11 +27,11 @@ pub take_value-taken-requires-clause-there : goal.take_value-taken-requires-clau
 take_value-taken-requires-clause-there g c = has_bit-is c.args.here.node.value_bitmap c.args.bit (omega (arith, c.requires.bit)) ∙ sym c.has_bit.ensures ∙ c.if-not-has_bit.false
 
 pub returns-clause-taken : goal.returns-clause-taken
-returns-clause-taken g c = λ reading paths values holds p stands is. (
-  c.take_value-taken.ensures.value reading paths values p c.args.here.node holds.hold holds.cells stands is,
+returns-clause-taken g c = λ reading paths values holds p is_there is. (
+  c.take_value-taken.ensures.value reading paths values p c.args.here.node holds.hold holds.cells is_there is,
   value_taken reading values paths c.args.nodes.now c.args.cells.now holds p c.args.bit c.args.here.node c.take_value-taken.result.1 c.take_value-taken.new.nodes c.take_value-taken.new.cells is
       (some_at reading values paths c.args.nodes.now c.args.cells.now holds p c.args.here.node is c.args.bit ∙ there g c)
-      (c.take_value-taken.ensures.taken reading paths values p c.args.here.node holds.hold holds.cells stands is),
+      (c.take_value-taken.ensures.taken reading paths values p c.args.here.node holds.hold holds.cells is_there is),
 )
 
 -- what became of the number of entries
@@ -39,8 +39,8 @@ pub returns-clause-counted : goal.returns-clause-counted
 returns-clause-counted g c =
     let t = c.requires.table.0 in
     let at = c.requires.table.2 in
-    let is = at.is ∙ ap Some (sym (c.requires.node ∙ (slot_holds node_sizes t.reading t.paths c.args.nodes.now t.holds.hold at.path _ at.node at.stands at.is).0)) in
-    let e = returns-clause-taken g c t.reading t.paths t.values t.holds at.path at.stands is in
+    let is = at.is ∙ ap Some (sym (c.requires.node ∙ (slot_holds node_sizes t.reading t.paths c.args.nodes.now t.holds.hold at.path _ at.node at.is_there at.is).0)) in
+    let e = returns-clause-taken g c t.reading t.paths t.values t.holds at.path at.is_there is in
     let some = ap one_if (some_at t.reading t.values t.paths c.args.nodes.now c.args.cells.now t.holds at.path c.args.here.node is c.args.bit ∙ there g c) in
     let counted = e.1.0.counted in
     omega (arith, counted, some, ap (λ o. one_if (is_some o)) e.0, c.requires.table.1)
@@ -49,6 +49,6 @@ pub overflow_sub-entries : goal.overflow_sub-entries
 overflow_sub-entries g c =
     let t = c.requires.table.0 in
     let at = c.requires.table.2 in
-    let is = at.is ∙ ap Some (sym (c.requires.node ∙ (slot_holds node_sizes t.reading t.paths c.args.nodes.now t.holds.hold at.path _ at.node at.stands at.is).0)) in
-    let counted = (returns-clause-taken g c t.reading t.paths t.values t.holds at.path at.stands is).1.0.counted in
+    let is = at.is ∙ ap Some (sym (c.requires.node ∙ (slot_holds node_sizes t.reading t.paths c.args.nodes.now t.holds.hold at.path _ at.node at.is_there at.is).0)) in
+    let counted = (returns-clause-taken g c t.reading t.paths t.values t.holds at.path at.is_there is).1.0.counted in
     omega (arith, counted, ap one_if (some_at t.reading t.values t.paths c.args.nodes.now c.args.cells.now t.holds at.path c.args.here.node is c.args.bit ∙ there g c), c.requires.table.1)

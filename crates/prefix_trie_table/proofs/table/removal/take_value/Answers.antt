@@ -15,11 +15,11 @@ use Rattle.prefix_trie_table.proofs.table.removal.take_value.Goals as goal
 
 pub remove_at-value-requires-clause-holds : goal.remove_at-value-requires-clause-holds
 remove_at-value-requires-clause-holds g c =
-    has_values c.args.nodes.now c.args.cells.now c.args.at c.args.node c.count.result c.requires.stands c.requires.node
+    has_values c.args.nodes.now c.args.cells.now c.args.at c.args.node c.count.result c.requires.is_there c.requires.node
     (c.count.ensures ∙ sym (rank-ones c.args.node.value_bitmap 32 (omega arith)))
 
 pub remove_at-value-requires-clause-sizes : goal.remove_at-value-requires-clause-sizes
-remove_at-value-requires-clause-sizes g c = cell_sized c.args.cells.now.tiers c.requires.stands.0.holds.cells.sizes_are
+remove_at-value-requires-clause-sizes g c = cell_sized c.args.cells.now.tiers c.requires.is_there.0.holds.cells.sizes_are
 
 pub remove_at-value-requires-clause-offset : goal.remove_at-value-requires-clause-offset
 remove_at-value-requires-clause-offset g c =
@@ -44,15 +44,15 @@ rank-requires g c = omega (arith, c.requires.bit)
 pub put-requires : goal.put-requires
 put-requires g c =
     record {
-      within = (at_is c.args.nodes.now c.args.at (at_values c.args.nodes.now c.args.cells.now c.args.at c.requires.stands)).1;
+      within = (at_is c.args.nodes.now c.args.at (at_values c.args.nodes.now c.args.cells.now c.args.at c.requires.is_there)).1;
       tiers = record {
-        value_tier = inl (omega (arith, c.remove_at-value.ensures.tier, tiers_long c.args.cells.now.tiers cell_sizes c.requires.stands.0.holds.cells.sizes_are));
+        value_tier = inl (omega (arith, c.remove_at-value.ensures.tier, tiers_long c.args.cells.now.tiers cell_sizes c.requires.is_there.0.holds.cells.sizes_are));
         child_tier = inr (ap (λ (n : Node). n.child_tier) c.requires.node);
       };
     }
 
 pub overflow_cast-left : goal.overflow_cast-left
-overflow_cast-left g c = omega (arith, c.remove_at-value.ensures.tier, tiers_long c.args.cells.now.tiers cell_sizes c.requires.stands.0.holds.cells.sizes_are)
+overflow_cast-left g c = omega (arith, c.remove_at-value.ensures.tier, tiers_long c.args.cells.now.tiers cell_sizes c.requires.is_there.0.holds.cells.sizes_are)
 
 -- what the list of values is like without the value
 lost : (g : given.Over) (c : goal.After-put g) → Lost None cell_sizes c.args.cells.now c.remove_at-value.new.self c.args.node.value_tier
@@ -60,12 +60,12 @@ lost : (g : given.Over) (c : goal.After-put g) → Lost None cell_sizes c.args.c
     c.remove_at-value.result.1.tier c.remove_at-value.result.1.start
 lost g c =
     let same : c.count.result ≡ rank c.args.node.value_bitmap 32 = c.count.ensures ∙ sym (rank-ones c.args.node.value_bitmap 32 (omega arith)) in
-    let list = has_values c.args.nodes.now c.args.cells.now c.args.at c.args.node c.count.result c.requires.stands c.requires.node
+    let list = has_values c.args.nodes.now c.args.cells.now c.args.at c.args.node c.count.result c.requires.is_there c.requires.node
     same in
     let left = c.remove_at-value.ensures in
     let bit : c.args.bit < 32 = omega (arith, c.requires.bit) in
     lost_one None c.args.cells.now c.remove_at-value.new.self c.args.node.value_tier c.args.node.value_block c.count.result c.rank.result
-    c.remove_at-value.result.1 31 c.requires.stands.0.holds.cells.sizes_are refl cell_spaces list
+    c.remove_at-value.result.1 31 c.requires.is_there.0.holds.cells.sizes_are refl cell_spaces list
     (let h = rank-below c.args.node.value_bitmap c.args.bit bit c.requires.there in omega (arith, h, same)) left.tier left.loses left.sound _ _ same
     (c.rank.ensures ∙ sym (rank-ones c.args.node.value_bitmap c.args.bit (omega (arith, bit))))
 
@@ -80,13 +80,13 @@ returns-clause-cell_space g c = (lost g c).grows
 pub returns-clause-bounds_growth : goal.returns-clause-bounds_growth
 returns-clause-bounds_growth g c =
     value_bounds_growth c.args.nodes.now c.put.new.self c.args.cells.now c.remove_at-value.new.self c.args.at c.args.node _
-    c.requires.node (at_is c.args.nodes.now c.args.at (at_values c.args.nodes.now c.args.cells.now _ c.requires.stands)).1
+    c.requires.node (at_is c.args.nodes.now c.args.at (at_values c.args.nodes.now c.args.cells.now _ c.requires.is_there)).1
     c.put.ensures.slots refl
     ((lost g c).down _ (one_fewer c.without_bit.result c.args.node.value_bitmap c.args.bit c.without_bit.ensures.clears (omega (arith, c.requires.bit))))
 
 pub returns-clause-value : goal.returns-clause-value
-returns-clause-value g c = λ reading paths values p n hold cells stands is.
-    let at = slot_holds node_sizes reading paths c.args.nodes.now hold p c.args.at n stands is in
+returns-clause-value g c = λ reading paths values p n hold cells is_there is.
+    let at = slot_holds node_sizes reading paths c.args.nodes.now hold p c.args.at n is_there is in
     let here = is ∙ ap Some (sym (c.requires.node ∙ at.0)) in
     let same : c.count.result ≡ rank c.args.node.value_bitmap 32 = c.count.ensures ∙ sym (rank-ones c.args.node.value_bitmap 32 (omega arith)) in
     let offset : c.rank.result ≡ rank c.args.node.value_bitmap c.args.bit = c.rank.ensures ∙ sym (rank-ones c.args.node.value_bitmap c.args.bit (omega (arith, c.requires.bit))) in

@@ -1,12 +1,11 @@
 use Rattle.prefix_trie_table.proofs.Prelude.{◌≡◌, ◌/◌, [], ◌∷◌, ◌++◌, length, take, refl, sym, ap, ◌∙◌, subst, arith, append-nil, append_assoc, false≢true, to_come, CallableOnEachEntry, listing_at_places, State, RetainsTo, IsTrie, All-weaker, All-contains_itself, has_bit, IsPlaceOf, All, HasPlace}
 use Rattle.std.specs.List.{Contains}
 use Rattle.prefix_trie_table.proofs.Retain.Asked.{none_asked}
-use Rattle.prefix_trie_table.proofs.Retain.Lowered.{child_there, lower_inside, lower_few, lower_fits, lower_site, may_ask_lower, still_site, still_preserved, child_stays, child_goes, site3, lasts3}
+use Rattle.prefix_trie_table.proofs.Retain.CurrentChild.{child_there, lower_inside, lower_few, lower_fits, lower_site, may_ask_lower, still_site, still_preserved, child_stays, child_goes, site3, lasts3}
 use Rattle.prefix_trie_table.proofs.Lookup.Matching.{clear-small}
-use Rattle.prefix_trie_table.proofs.Retain.Placed.{same_place}
+use Rattle.prefix_trie_table.proofs.Retain.CurrentPlaces.{same_place, this_place, may_ask_this, each_next, apart_next, done_next, preserves_both, preserves_none}
 use Rattle.prefix_trie_table.proofs.Retain.Retained.{site_holds, site_node}
 use Rattle.prefix_trie_table.proofs.Walk.Spots.{place-value, place-small, place-child-small}
-use Rattle.prefix_trie_table.proofs.Retain.Placed.{this_place, may_ask_this, each_next, apart_next, done_next, preserves_both, preserves_none}
 use Rattle.prefix_trie_table.proofs.table.retain.+retain.Goals as goal
 
 pub retain_place-retain_value-requires-clause-bit : goal.retain_place-retain_value-requires-clause-bit
@@ -54,7 +53,7 @@ retain_place-drop_child-requires g t c =
     let held = site_holds g.K.Key.IsKey g.K.Key.bits g.K.Key.bit_width c.retain_places-left.new.nodes c.args.site c.args.node (still_site g.K.Key.IsKey g.K.Key.bits g.K.Key.bit_width g.met.K.Key.key_laws.bits_length c.args.nodes.now c.args.site c.args.node c.requires.site c.args.entries.now c.args.cells.now c.requires.trie.0 c.requires.trie.1 c.requires.place c.in-Child.child c.in-Child.is c.child_slot-slot.result c.child_slot-slot.ensures c.extend.result c.extend.ensures.key c.extend.ensures.value c.visit-lower.result c.visit-lower.ensures.node g.F.Keep.asks g.F.Keep.accepts (to_come c.new-places.result) c.new-places.ensures.places c.new-places.ensures.each c.args.keep.now c.retain_places-left.new.keep c.retain_places-left.new.entries c.retain_places-left.new.nodes c.retain_places-left.new.cells (c.retain_places-left.ensures.retains c.requires.trie.0 c.requires.trie.1) c.retain_places-left.result c.retain_places-left.ensures.node c.retain_places-left.ensures.preserves) long c.retain_places-left.new.entries c.retain_places-left.new.cells to.after to.trie in
     record {
       child = place-child-small place.string c.in-Child.child place.short (sym c.in-Child.is ∙ place.is);
-      stands = site_node g.K.Key.IsKey g.K.Key.bits g.K.Key.bit_width c.retain_places-left.new.nodes c.args.site c.args.node (still_site g.K.Key.IsKey g.K.Key.bits g.K.Key.bit_width g.met.K.Key.key_laws.bits_length c.args.nodes.now c.args.site c.args.node c.requires.site c.args.entries.now c.args.cells.now c.requires.trie.0 c.requires.trie.1 c.requires.place c.in-Child.child c.in-Child.is c.child_slot-slot.result c.child_slot-slot.ensures c.extend.result c.extend.ensures.key c.extend.ensures.value c.visit-lower.result c.visit-lower.ensures.node g.F.Keep.asks g.F.Keep.accepts (to_come c.new-places.result) c.new-places.ensures.places c.new-places.ensures.each c.args.keep.now c.retain_places-left.new.keep c.retain_places-left.new.entries c.retain_places-left.new.nodes c.retain_places-left.new.cells (c.retain_places-left.ensures.retains c.requires.trie.0 c.requires.trie.1) c.retain_places-left.result c.retain_places-left.ensures.node c.retain_places-left.ensures.preserves) long c.retain_places-left.new.entries c.retain_places-left.new.cells to.after to.trie;
+      is_there = site_node g.K.Key.IsKey g.K.Key.bits g.K.Key.bit_width c.retain_places-left.new.nodes c.args.site c.args.node (still_site g.K.Key.IsKey g.K.Key.bits g.K.Key.bit_width g.met.K.Key.key_laws.bits_length c.args.nodes.now c.args.site c.args.node c.requires.site c.args.entries.now c.args.cells.now c.requires.trie.0 c.requires.trie.1 c.requires.place c.in-Child.child c.in-Child.is c.child_slot-slot.result c.child_slot-slot.ensures c.extend.result c.extend.ensures.key c.extend.ensures.value c.visit-lower.result c.visit-lower.ensures.node g.F.Keep.asks g.F.Keep.accepts (to_come c.new-places.result) c.new-places.ensures.places c.new-places.ensures.each c.args.keep.now c.retain_places-left.new.keep c.retain_places-left.new.entries c.retain_places-left.new.nodes c.retain_places-left.new.cells (c.retain_places-left.ensures.retains c.requires.trie.0 c.requires.trie.1) c.retain_places-left.result c.retain_places-left.ensures.node c.retain_places-left.ensures.preserves) long c.retain_places-left.new.entries c.retain_places-left.new.cells to.after to.trie;
       there = ap (λ n. has_bit n.child_bitmap c.in-Child.child) held.0 ∙ child_there g.K.Key.IsKey g.K.Key.bits g.K.Key.bit_width g.met.K.Key.key_laws.bits_length c.args.nodes.now c.args.site c.args.node c.requires.site c.args.entries.now c.args.cells.now c.requires.trie.0 c.requires.trie.1 c.requires.place c.in-Child.child c.in-Child.is c.child_slot-slot.result c.child_slot-slot.ensures;
     }
 

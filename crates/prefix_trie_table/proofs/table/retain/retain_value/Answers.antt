@@ -2,9 +2,9 @@ use Rattle.prefix_trie_table.proofs.Prelude.{◌≡◌, ◌-◌, ◌+◌, [], �
 use Rattle.prefix_trie_table.proofs.Strings.Bits.{has_bit-is}
 use Rattle.prefix_trie_table.proofs.Retain.Retained.{site_holds, site_values}
 use Rattle.prefix_trie_table.proofs.Insertion.Spaces.{Grows-none}
-use Rattle.prefix_trie_table.proofs.Retain.Placed.{preserves_none}
+use Rattle.prefix_trie_table.proofs.Retain.CurrentPlaces.{preserves_none}
 use Rattle.prefix_trie_table.proofs.Removal.Between.{stays_grown}
-use Rattle.prefix_trie_table.proofs.Retain.Seen.{short, value_slot, value_got, value_some, value_space, key_filled, may_ask_here, stays_here, goes_here, taken_here, counted_here, above_here, blocks_here, site_here, trie_goes}
+use Rattle.prefix_trie_table.proofs.Retain.CurrentValue.{short, value_slot, value_got, value_some, value_space, key_filled, may_ask_here, stays_here, goes_here, taken_here, counted_here, above_here, blocks_here, site_here, trie_goes}
 use Rattle.prefix_trie_table.proofs.table.retain.retain_value.Goals as goal
 
 pub at-requires : goal.at-requires
@@ -57,8 +57,8 @@ pub take_value-found-requires-clause-bit : goal.take_value-found-requires-clause
 take_value-found-requires-clause-bit g c =
     c.requires.bit
 
-pub take_value-found-requires-clause-stands : goal.take_value-found-requires-clause-stands
-take_value-found-requires-clause-stands g c =
+pub take_value-found-requires-clause-is_there : goal.take_value-found-requires-clause-is_there
+take_value-found-requires-clause-is_there g c =
     let long = g.met.K.Key.key_laws.bits_length c.args.site.key c.requires.site.key in
     site_values g.K.Key.IsKey g.K.Key.bits g.K.Key.bit_width c.args.nodes.now c.args.site c.args.node c.requires.site long c.args.entries.now c.args.cells.now c.requires.trie.0 c.requires.trie.1
 

@@ -1,6 +1,6 @@
 use Rattle.prefix_trie_table.proofs.Prelude.{◌≤◌, length, take, sym, ◌∙◌, arith, drop_all}
 use Rattle.std.proofs.lemmas.List.{length-take-le}
-use Rattle.prefix_trie_table.proofs.Splitting.Parts.{masks_own, masks_way, masks_step}
+use Rattle.prefix_trie_table.proofs.Splitting.Parts.{masks_own, masks_search_path, masks_step}
 use Rattle.prefix_trie_table.proofs.table.splitting.masks.Goals as goal
 
 pub returns-then-len-lt5 : goal.returns-then-len-lt5
@@ -16,7 +16,7 @@ pub returns : goal.returns
 returns g c =
     let long : 5 ≤ length c.args.rest.now = omega (arith, c.len.ensures.len, c.if-len-lt5.false) in
     record {
-      values = masks_way c.args.rest.now long;
+      values = masks_search_path c.args.rest.now long;
       children = masks_step (take 5 c.args.rest.now) c.child_bit.result c.with_bit.result (length-take-le 5 c.args.rest.now long) c.child_bit.ensures.value c.with_bit.ensures.sets;
       below = c.after.ensures;
     }

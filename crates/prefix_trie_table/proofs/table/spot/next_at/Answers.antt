@@ -32,7 +32,7 @@ returns-in-Value g c =
         refl,
       );
       seat = value_seated _ c.args.nodes.now _ _ c.requires.spot (g.met.K.Key.key_laws.bits_length c.args.key c.is_key.ensures.key) taken.string c.next_place.new.self taken.first c.requires.tree.0 c.requires.tree.1 is.0 g.K.Key.IsKey g.K.Key.bits c.extend.result c.extend.ensures.key c.string_of-n.result.0 c.string_of-n.result.1 (c.string_of-n.ensures.only taken.string (sym is.1)) c.extend.ensures.value _ (c.value_seat.ensures ∙ ap (value_seat c.args.spot.now.node) is.1);
-      way = ends_here _ c.args.nodes.now _ _ c.requires.spot (g.met.K.Key.key_laws.bits_length c.args.key c.is_key.ensures.key) taken.string c.next_place.new.self taken.first c.requires.tree.0 c.requires.tree.1 is.0 g.K.Key.IsKey g.K.Key.bits c.extend.result c.extend.ensures.key c.string_of-n.result.0 c.string_of-n.result.1 (c.string_of-n.ensures.only taken.string (sym is.1)) c.extend.ensures.value;
+      search_path = ends_here _ c.args.nodes.now _ _ c.requires.spot (g.met.K.Key.key_laws.bits_length c.args.key c.is_key.ensures.key) taken.string c.next_place.new.self taken.first c.requires.tree.0 c.requires.tree.1 is.0 g.K.Key.IsKey g.K.Key.bits c.extend.result c.extend.ensures.key c.string_of-n.result.0 c.string_of-n.result.1 (c.string_of-n.ensures.only taken.string (sym is.1)) c.extend.ensures.value;
     }
 
 pub child_slot-at-requires : goal.child_slot-at-requires
@@ -55,7 +55,7 @@ pub enter-requires : goal.enter-requires
 enter-requires g c =
     let taken = c.in-Some.ensures.place in
     let is = place-child taken.string c.in-Child.child taken.short (sym c.in-Child.is ∙ taken.place) in
-    let h = child_here _ c.args.nodes.now _ _ c.requires.spot (g.met.K.Key.key_laws.bits_length c.args.key c.is_key.ensures.key) taken.string c.next_place.new.self taken.first c.requires.tree.0 c.requires.tree.1 is.0 c.in-Child.child _ is.1 c.child_slot-at.ensures in record { stands = h.0; few = h.1 }
+    let h = child_here _ c.args.nodes.now _ _ c.requires.spot (g.met.K.Key.key_laws.bits_length c.args.key c.is_key.ensures.key) taken.string c.next_place.new.self taken.first c.requires.tree.0 c.requires.tree.1 is.0 c.in-Child.child _ is.1 c.child_slot-at.ensures in record { is_there = h.0; few = h.1 }
 
 pub returns-in-Child-clause-step : goal.returns-in-Child-clause-step
 returns-in-Child-clause-step g c =
@@ -75,8 +75,8 @@ returns-in-Child-clause-step g c =
       same_above _ c.args.nodes.now _ _ c.requires.spot (g.met.K.Key.key_laws.bits_length c.args.key c.is_key.ensures.key) below (digits 5 c.in-Child.child) (zeros (g.K.Key.bit_width - (c.args.spot.now.depth + 5))) extended,
     )
 
-pub returns-in-Child-clause-way : goal.returns-in-Child-clause-way
-returns-in-Child-clause-way g c =
+pub returns-in-Child-clause-search_path : goal.returns-in-Child-clause-search_path
+returns-in-Child-clause-search_path g c =
     let taken = c.in-Some.ensures.place in
     let is = place-child taken.string c.in-Child.child taken.short (sym c.in-Child.is ∙ taken.place) in
     child_passed _ c.args.nodes.now _ _ c.requires.spot (g.met.K.Key.key_laws.bits_length c.args.key c.is_key.ensures.key) taken.string c.next_place.new.self taken.first c.requires.tree.0 c.requires.tree.1 is.0

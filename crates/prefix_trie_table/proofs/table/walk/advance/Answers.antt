@@ -1,5 +1,5 @@
 use Rattle.prefix_trie_table.proofs.Prelude.{◌≡◌, ◌-◌, ◌<◌, ◌∙◌, List, [], ◌∷◌, ◌++◌, length, sum_by, take, sym, ap, ap₂, subst, arith, length-append, take-append_seam, Spot, ArePassed, IsStack, pending, weight}
-use Rattle.prefix_trie_table.proofs.Walk.Stacks.{passed-below, passed-above, passed-popped, passed-child, cursor-at, stack-popped, stack-put, stack-child_way, pending-entry, pending-child_way, pending-done, weight-deeper, weight-popped}
+use Rattle.prefix_trie_table.proofs.Walk.Stacks.{passed-below, passed-above, passed-popped, passed-child, cursor-at, stack-popped, stack-put, stack-child_search_path, pending-entry, pending-child_search_path, pending-done, weight-deeper, weight-popped}
 use Rattle.prefix_trie_table.proofs.table.walk.advance.Goals as goal
 
 pub next_at-requires-clause-spot : goal.next_at-requires-clause-spot
@@ -36,7 +36,7 @@ returns-in-Entry-clause-entry g c =
     let is = c.in-Some.ensures.last.1 in
     record {
       value = h.value;
-      stands = h.stands;
+      is_there = h.is_there;
       reads = h.reads;
       gives = record {
         is_key = h.gives.is_key;
@@ -59,7 +59,7 @@ returns-in-Entry-clause-passed g c = λ h.
 pub returns-in-Entry-clause-last : goal.returns-in-Entry-clause-last
 returns-in-Entry-clause-last g c =
     let h = c.in-Entry.ensures.step c.requires.tree.0 c.requires.tree.1 in
-    let ends = c.in-Entry.ensures.way in
+    let ends = c.in-Entry.ensures.search_path in
     let depth = same_depth c.in-Some.spot c.next_at.new.spot h.3 in
     record {
       below = c.in-Some.ensures.last.0;
@@ -104,15 +104,15 @@ loop-spot-preserved-in-Child g c =
     let all = pushed _ _ _ _ _ (put_is _ _ _ _ _ is h.3 c.put_places-in-Child.ensures.put) c.push.ensures.items in
     record {
       stack = subst (IsStack g.K.Key.bit_width c.args.nodes.now.slots (g.K.Key.bits c.in-Child.below)) (sym all)
-          (stack-child_way g.K.Key.bit_width c.args.nodes.now.slots (g.K.Key.bits c.loop-spot.key) (g.K.Key.bits c.in-Child.below) c.loop-spot.stack.items below c.in-Some.spot c.next_at.new.spot c.in-Child.child is c.loop-spot.invariant.stack depth h.2 h.5 h.4 h.6);
+          (stack-child_search_path g.K.Key.bit_width c.args.nodes.now.slots (g.K.Key.bits c.loop-spot.key) (g.K.Key.bits c.in-Child.below) c.loop-spot.stack.items below c.in-Some.spot c.next_at.new.spot c.in-Child.child is c.loop-spot.invariant.stack depth h.2 h.5 h.4 h.6);
       same = λ t tree.
           ap (pending t.shape.entries (g.K.Key.bits c.in-Child.below)) all
-          ∙ pending-child_way g.K.Key.bit_width c.args.nodes.now.slots (g.K.Key.bits c.loop-spot.key) (g.K.Key.bits c.in-Child.below) c.loop-spot.stack.items below c.in-Some.spot c.next_at.new.spot c.in-Child.child is c.loop-spot.invariant.stack depth h.2 h.5 h.4 h.6 t.shape.entries (c.in-Child.ensures.step t tree).0
+          ∙ pending-child_search_path g.K.Key.bit_width c.args.nodes.now.slots (g.K.Key.bits c.loop-spot.key) (g.K.Key.bits c.in-Child.below) c.loop-spot.stack.items below c.in-Some.spot c.next_at.new.spot c.in-Child.child is c.loop-spot.invariant.stack depth h.2 h.5 h.4 h.6 t.shape.entries (c.in-Child.ensures.step t tree).0
           ∙ c.loop-spot.invariant.same t tree;
       passed = λ o.
           subst (ArePassed (g.K.Key.bits c.in-Child.below)) (sym all)
           (passed-child g.K.Key.bit_width c.args.nodes.now.slots (g.K.Key.bits c.loop-spot.key) (g.K.Key.bits c.in-Child.below) c.loop-spot.stack.items below c.in-Some.spot c.next_at.new.spot c.in-Child.child
-          is c.loop-spot.invariant.stack h.6 c.in-Child.ensures.way (c.loop-spot.invariant.passed o));
+          is c.loop-spot.invariant.stack h.6 c.in-Child.ensures.search_path (c.loop-spot.invariant.passed o));
     }
 
 -- what is left once the last spot is taken off

@@ -4,8 +4,8 @@ use Rattle.prefix_trie_table.proofs.Tree.Subtrees.{root_inside, few_at}
 use Rattle.prefix_trie_table.proofs.Walk.Walking.{root_walk, root_rest}
 use Rattle.prefix_trie_table.proofs.table.walk.walk_of.Goals as goal
 
-pub enter-requires-clause-stands : goal.enter-requires-clause-stands
-enter-requires-clause-stands g c = root_inside g.K.Key.bit_width c.args.nodes.now _ c.requires.1
+pub enter-requires-clause-is_there : goal.enter-requires-clause-is_there
+enter-requires-clause-is_there g c = root_inside g.K.Key.bit_width c.args.nodes.now _ c.requires.1
 
 pub enter-requires-clause-few : goal.enter-requires-clause-few
 enter-requires-clause-few g c = few_at g.K.Key.bit_width c.args.nodes.now _ c.requires.1 [] (node_at c.args.nodes.now.slots 0) (read-nil c.args.nodes.now.slots)

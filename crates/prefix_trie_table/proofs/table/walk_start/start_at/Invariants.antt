@@ -1,11 +1,11 @@
 use Rattle.prefix_trie_table.proofs.Prelude.{◌≡◌, ◌+◌, ◌-◌, drop, length}
-use Rattle.prefix_trie_table.proofs.Walk.Starts.{IsLaid}
+use Rattle.prefix_trie_table.proofs.Walk.Starts.{IsBuilt}
 use Rattle.prefix_trie_table.proofs.table.walk_start.start_at.Given as goal
 
 abbrev pub invariant-loop-depth : goal.invariant-loop-depth
 invariant-loop-depth g l =
     record {
-      laid : IsLaid g.K.Key.bit_width l.nodes (g.K.Key.bits l.fn.key) l.fn.path l.from g.row.T.Denot l.depth l.node l.stack.items;
+      built : IsBuilt g.K.Key.bit_width l.nodes (g.K.Key.bits l.fn.key) l.fn.path l.from g.row.T.Denot l.depth l.node l.stack.items;
       rest_is : l.rest ≡ drop l.depth l.fn.path;
       left : length l.rest + l.depth ≡ l.len;
     }

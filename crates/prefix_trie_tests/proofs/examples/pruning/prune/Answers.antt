@@ -1,4 +1,4 @@
-use Rattle.prefix_trie.proofs.Callers.{fit_in_turn, tidy_without}
+use Rattle.prefix_trie.proofs.Callers.{fit_in_order, tidy_without}
 use Rattle.prefix_trie_tests.proofs.examples.pruning.prune.Goals as goal
 
 pub loop-prefix-init : goal.loop-prefix-init
@@ -9,4 +9,4 @@ loop-prefix-init g c =
 pub loop-prefix-preserved : goal.loop-prefix-preserved
 loop-prefix-preserved g c =
     let tidy = tidy_without _ _ _ _ (g.P.Prefix.path c.in-Some.prefix) c.pruning_laws.ensures _ c.len.ensures.whole.is_map.are_nodes c.remove.ensures.entries c.remove.ensures.nodes c.loop-prefix.invariant.3 in
-    (tt, tt, (fit_in_turn g.P.Prefix.IsFitting c.in-Some.ensures.steps c.loop-prefix.invariant.2).1, tidy)
+    (tt, tt, (fit_in_order g.P.Prefix.IsFitting c.in-Some.ensures.steps c.loop-prefix.invariant.2).1, tidy)

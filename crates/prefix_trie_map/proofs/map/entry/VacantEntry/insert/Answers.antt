@@ -1,6 +1,6 @@
 -- Inserting through a vacant entry fills the entry, with the value that is written through the borrow last.
 use Rattle.prefix_trie_map.proofs.Prelude.{refl, sym, ap, ◌∙◌, subst, false≢true, err_from_is_err_and, get, contains_key, IsSearchEnd, seat_of}
-use Rattle.prefix_trie_map.proofs.Entries.{Fills-lent, Refuses-handed}
+use Rattle.prefix_trie_map.proofs.Entries.{Fills-lent, Refuses-returned}
 use Rattle.prefix_trie_map.proofs.Placing.{entry_only}
 use Rattle.prefix_trie_map.proofs.map.entry.VacantEntry.insert.Goals as goal
 
@@ -31,6 +31,6 @@ returns-in_err-seat g c =
     let p = err_from_is_err_and c.from_residual.result c.from_residual.ensures.1 in
     let e = c.in_err-seat.ensures in
     rw (p.1, p.2) (
-      (refl, (λ w r. absurd (false≢true r)), Refuses-handed c.args.self c.insert_located.new.self c.prefix.result.now _ c.prefix.ensures.value e.unchanged.1 e.unchanged.2 e.refuses),
+      (refl, (λ w r. absurd (false≢true r)), Refuses-returned c.args.self c.insert_located.new.self c.prefix.result.now _ c.prefix.ensures.value e.unchanged.1 e.unchanged.2 e.refuses),
       record { writes_back = tt; value = tt; returned = e.unchanged.0 },
     )

@@ -1,6 +1,6 @@
 -- Inserting through a vacant entry fills the entry, or is refused.
 use Rattle.prefix_trie_map.proofs.Prelude.{refl, sym, ap, ◌∙◌, subst, contains_key, IsSearchEnd}
-use Rattle.prefix_trie_map.proofs.Entries.{Fills-handed, Refuses-handed}
+use Rattle.prefix_trie_map.proofs.Entries.{Fills-returned, Refuses-returned}
 use Rattle.prefix_trie_map.proofs.map.entry.VacantEntry.put.Goals as goal
 
 pub insert_located-requires-clause-fits : goal.insert_located-requires-clause-fits
@@ -17,7 +17,7 @@ returns-in-Ok g c =
     let placed = c.in-Ok.ensures in
     record {
       same_map = refl;
-      set = (refl, Fills-handed c.args.self c.insert_located.new.self c.prefix.result.now c.args.value c.prefix.ensures.value placed.entries placed.nodes placed.step);
+      set = (refl, Fills-returned c.args.self c.insert_located.new.self c.prefix.result.now c.args.value c.prefix.ensures.value placed.entries placed.nodes placed.step);
       refused = tt;
     }
 
@@ -27,5 +27,5 @@ returns g c =
     record {
       same_map = refl;
       set = tt;
-      refused = (e.unchanged.0, Refuses-handed c.args.self c.insert_located.new.self c.prefix.result.now _ c.prefix.ensures.value e.unchanged.1 e.unchanged.2 e.refuses);
+      refused = (e.unchanged.0, Refuses-returned c.args.self c.insert_located.new.self c.prefix.result.now _ c.prefix.ensures.value e.unchanged.1 e.unchanged.2 e.refuses);
     }

@@ -1,9 +1,5 @@
 -- `next` lends what `lend_next` lends, beside its prefix. Assumes `Logic`.
-use Rattle.prefix_trie_map.proofs.Loans.{◌≡◌, ℕ, IfSome, IfNone, None, Some, Option, [], ◌∷◌, refl, sym, MutBor, proved, Args, named, a_type, dcons, dnil, Val, vptr, inst_fn, full_share, ent, emp, id⊢, Fml, GName, ftrue, fat}
-use Rattle.prefix_trie_map.proofs.Loans.{flft, ◌⊑◌, fact, fact_i, tables, ‵, raw, ◌⊛◌, some, later, ◌$◌, ◌∵◌, !, qed, done, move, drop, use0, use1, use2, use3, split, join, fsplit, fjoin, pick, await, rewrite, suffices}
-use Rattle.prefix_trie_map.proofs.Loans.{frame, agg, enter, of_opd, lit, addr, from, stop, no_more, and_then, returns, alloc_all, pass_all, free_all, look_at, get, through, sets, lands_as, take_at, give_at, param}
-use Rattle.prefix_trie_map.proofs.Loans.{bounded, Laws, param_laws, no, lone, RattleType, MutRef, mut_vals, mut_Tells, plain, mut_ref_to, nothing, heard, peeks, shows, Tuple, tuple_laws, calls_at, Lasts, lasts}
-use Rattle.prefix_trie_map.proofs.Loans.{triple_of, framed, Stays, stay_dropped, walk_of, ends_at, Goes-spent_ref, option_laws, Lent, lent_laws, KeptWithin, lends_within, back_within}
+use Rattle.prefix_trie_map.proofs.Loans.{◌≡◌, ℕ, IfSome, IfNone, None, Some, Option, [], ◌∷◌, refl, sym, MutBor, proved, Args, named, a_type, dcons, dnil, Val, vptr, inst_fn, full_share, ent, emp, id⊢, Fml, GName, ftrue, fat, flft, ◌⊑◌, fact, fact_i, tables, ‵, raw, ◌⊛◌, some, later, ◌$◌, ◌∵◌, !, qed, done, move, drop, use0, use1, use2, use3, split, join, fsplit, fjoin, pick, await, rewrite, suffices, frame, agg, enter, of_opd, lit, addr, from, stop, no_more, and_then, returns, alloc_all, pass_all, free_all, look_at, get, through, sets, lands_as, take_at, give_at, param, bounded, Laws, param_laws, no, lone, RattleType, MutRef, mut_vals, mut_Tells, plain, mut_ref_to, nothing, heard, peeks, shows, Tuple, tuple_laws, calls_at, Lasts, lasts, triple_of, framed, Stays, stay_dropped, walk_of, ends_at, Goes-spent_ref, option_laws, Lent, lent_laws, KeptWithin, lends_within, back_within}
 use Rattle.prefix_trie_map.proofs.Prelude.{none_of, lent_beside, FirstIn, IsOverIn, lends_next}
 use mir.Val.{vnil}
 use base.Share as half
@@ -99,7 +95,7 @@ next_spec 𝓤 𝓛 𝓜 𝓡 wired C P V S lC lP lV lS g c' p' s' mC mP mS =
     (and_then ! (get ! refl) (and_then ! (get ! refl) (no_more !))) (λ v.
     let Same : Option (P.Denot × MutBor V.Denot) → Type 0 = λ a. lent_beside a ≡ o in
     let Its : Option (P.Denot × MutBor V.Denot) → Type 0 = λ a. IfSome a (λ r. i ≡ Some r.0) in
-    let Answer : Option (P.Denot × MutBor V.Denot) → Type 0 = λ a. IfSome a (λ r. First r.0 r.1.now) in
+    let BulkResult : Option (P.Denot × MutBor V.Denot) → Type 0 = λ a. IfSome a (λ r. First r.0 r.1.now) in
     let None_left : Option (P.Denot × MutBor V.Denot) → Type 0 = λ a. IfNone a IsOver in
     use1 𝓛 (later (some (λ (a : Option (P.Denot × MutBor V.Denot)). ((tok₀ ⊛ tok₂ ⊛ tok₃ ⊛ ‵ ftrue) ⊛ ‵ (Shown.own_val a (v ∷ [])))
     ⊛ some (λ (fs : Lasts (b.ended P V p') t.0.0 t.0.3). ‵ (lasts (b.ended P V p') t.0.0 t.0.3 fs) ⊛ raw (fact 𝓤 (Same a)) ⊛ raw (fact 𝓤 (Its a)))))) (id⊢ 𝓤 _) $
@@ -113,4 +109,4 @@ next_spec 𝓤 𝓛 𝓜 𝓡 wired C P V S lC lP lV lS g c' p' s' mC mP mS =
     nothing ! $ nothing ! $ fjoin ! $ join ! $ move ! (1 ∷ 0 ∷ []) $ join ! $ frame ! $
     rewrite ! 0 (λ (n : Option (MutBor V.Denot)). ‵ (lends n)) (sym same) refl $ frame ! $
     use0 𝓛 (raw (fact 𝓤 (None_left a))) (given (None_left a) (none_beside IsOver First i o a same first)) $
-    use0 𝓛 (raw (fact 𝓤 (Answer a))) (given (Answer a) (first_beside IsOver First i o a same its first)) $ done !)))))))))))))))))))))
+    use0 𝓛 (raw (fact 𝓤 (BulkResult a))) (given (BulkResult a) (first_beside IsOver First i o a same its first)) $ done !)))))))))))))))))))))

@@ -33,8 +33,8 @@ need g c =
     let first = first_size c.args.self.now.tiers c.requires.sizes in
     need_first c.args.self.now.tiers c.args.k c.args.count c.if-count-eq0.true ∙ first.0 ∙ ap Some (sym first.1)
 
-pub returns-then-count-eq0-clause-stands : goal.returns-then-count-eq0-clause-stands
-returns-then-count-eq0-clause-stands g c =
+pub returns-then-count-eq0-clause-is_there : goal.returns-then-count-eq0-clause-is_there
+returns-then-count-eq0-clause-is_there g c =
     size_some (c.args.count + 1) (size_in (tier_sizes c.args.self.now.tiers) 0) (omega arith)
     ∙ sym (ap (λ o. option_or o (list_size c.args.self.now.tiers c.args.k c.args.count)) (need g c))
 

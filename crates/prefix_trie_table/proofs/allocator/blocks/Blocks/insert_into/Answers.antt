@@ -27,8 +27,8 @@ stays g c =
     let size = size_in (tier_sizes c.args.self.now.tiers) c.args.k in
     size_some (c.args.count + 1) size (omega arith) ∙ sym (size_some c.args.count size c.requires.some)
 
-pub returns-then-count-size_of-clause-stands : goal.returns-then-count-size_of-clause-stands
-returns-then-count-size_of-clause-stands g c =
+pub returns-then-count-size_of-clause-is_there : goal.returns-then-count-size_of-clause-is_there
+returns-then-count-size_of-clause-is_there g c =
     stays g c ∙ sym (ap (λ o. option_or o (list_size c.args.self.now.tiers c.args.k c.args.count))
     (need_none c.args.self.now.tiers c.args.k c.args.count c.requires.some (omega (arith, c.if-count-size_of.true, c.size_of.ensures))))
 
@@ -68,8 +68,8 @@ insert_moving-start-requires-clause-holds g c = (let h = (smallest_holds (tier_s
 moves : (g : given.Over) (c : goal.After-insert_moving-start g) → list_need c.args.self.now.tiers c.args.k c.args.count ≡ Some (size_in (tier_sizes c.args.self.now.tiers) c.tier_holding-tier.result)
 moves g c = need_full c.args.self.now.tiers c.args.k c.args.count c.requires.some (omega (arith, c.if-count-size_of.false, c.size_of.ensures)) ∙ c.tier_holding-tier.ensures.size
 
-pub returns-clause-stands : goal.returns-clause-stands
-returns-clause-stands g c =
+pub returns-clause-is_there : goal.returns-clause-is_there
+returns-clause-is_there g c =
     size_some (c.args.count + 1) (size_in (tier_sizes c.args.self.now.tiers) c.tier_holding-tier.result) (omega arith)
     ∙ sym (ap (λ o. option_or o (list_size c.args.self.now.tiers c.args.k c.args.count)) (moves g c))
 

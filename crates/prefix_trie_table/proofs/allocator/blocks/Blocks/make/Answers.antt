@@ -1,7 +1,7 @@
 -- Making a block at the end of an array, or why it is not made: the limit would be exceeded, or an allocation failed.
 use Rattle.prefix_trie_table.proofs.Prelude.{None, refl, ◌≡◌, ℕ, ◌+◌, ◌<◌, ◌≤◌, ◌↔◌, ◌∷◌, [], ◌++◌, length, replicate, length-append, get_or, set, set-get_or, sym, ap, ◌∙◌, subst, arith, rules, length-replicate, get_or_default, get_or_append_left, Memory, IndexRange, Sound, Store, Tier, tier_at, tier_sizes, size_in}
 use Rattle.prefix_trie_table.proofs.Blocks.BySize.{size_at, sizes_up}
-use Rattle.prefix_trie_table.specs.Growth.{Reserves}
+use Rattle.prefix_trie_table.specs.Blocks.Growth.{Reserves}
 use Rattle.prefix_trie_table.proofs.Blocks.Capacity.{Sound-capacity}
 use Rattle.prefix_trie_table.proofs.Blocks.Turnovers.{Turnover-grown, Turnover-reserved, Turnover-same}
 use Rattle.prefix_trie_table.proofs.Blocks.Soundness.{made_fits, Sound-grown_as}

@@ -1,5 +1,5 @@
 use Rattle.prefix_trie_table.proofs.Prelude.{◌<◌, length, get_or, ap, ◌∙◌, arith, blank_node}
-use Rattle.prefix_trie_table.specs.NodeArrays.{NodeList, node_of, nodes_of}
+use Rattle.prefix_trie_table.specs.Blocks.NodeArrays.{NodeList, node_of, nodes_of}
 use Rattle.prefix_trie_table.proofs.Blocks.NodeLists.{length-nodes, get_or-nodes}
 use Rattle.prefix_trie_table.proofs.allocator.node_array.NodeArray.get.Goals as goal
 

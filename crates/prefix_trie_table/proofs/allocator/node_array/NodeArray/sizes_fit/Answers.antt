@@ -1,5 +1,5 @@
 use Rattle.prefix_trie_table.proofs.Prelude.{ℕ, ◌<◌, length, get_or, subst, arith, blank_node}
-use Rattle.prefix_trie_table.specs.NodeArrays.{FitsByte, NodeList}
+use Rattle.prefix_trie_table.specs.Blocks.NodeArrays.{FitsByte, NodeList}
 use Rattle.prefix_trie_table.specs.declared.allocator.node_array.Head.{Head}
 use Rattle.prefix_trie_table.proofs.Blocks.NodeLists.{length-nodes, nodes_fit}
 use Rattle.prefix_trie_table.proofs.allocator.node_array.NodeArray.sizes_fit.Goals as goal

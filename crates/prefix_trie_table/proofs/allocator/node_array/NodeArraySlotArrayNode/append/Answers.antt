@@ -1,5 +1,5 @@
 use Rattle.prefix_trie_table.proofs.Prelude.{◌≡◌, ◌<◌, ◌++◌, [], ◌∷◌, length, ◌∙◌, arith, vec_capacity}
-use Rattle.prefix_trie_table.specs.NodeArrays.{node_of, nodes_of}
+use Rattle.prefix_trie_table.specs.Blocks.NodeArrays.{node_of, nodes_of}
 use Rattle.prefix_trie_table.proofs.Blocks.NodeLists.{length-nodes, nodes-append, packed}
 use Rattle.prefix_trie_table.proofs.allocator.node_array.NodeArraySlotArrayNode.append.Goals as goal
 

@@ -1,5 +1,5 @@
 use Rattle.prefix_trie_table.proofs.Prelude.{length, sym, ap, ◌∙◌}
-use Rattle.prefix_trie_table.specs.NodeArrays.{NodeList}
+use Rattle.prefix_trie_table.specs.Blocks.NodeArrays.{NodeList}
 use Rattle.prefix_trie_table.proofs.Blocks.NodeLists.{length-nodes}
 use Rattle.prefix_trie_table.proofs.allocator.node_array.NodeArraySlotArrayNode.count.Goals as goal
 

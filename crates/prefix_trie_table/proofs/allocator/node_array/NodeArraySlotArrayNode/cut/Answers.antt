@@ -1,5 +1,5 @@
 use Rattle.prefix_trie_table.proofs.Prelude.{take, ap, ◌∙◌}
-use Rattle.prefix_trie_table.specs.NodeArrays.{NodeList, nodes_of}
+use Rattle.prefix_trie_table.specs.Blocks.NodeArrays.{NodeList, nodes_of}
 use Rattle.prefix_trie_table.proofs.Blocks.NodeLists.{nodes-take}
 use Rattle.prefix_trie_table.proofs.allocator.node_array.NodeArraySlotArrayNode.cut.Goals as goal
 

@@ -1,5 +1,5 @@
 use Rattle.prefix_trie_table.proofs.Prelude.{◌≡◌, ◌<◌, length, length-remove, insert, remove, ap, ◌∙◌, arith}
-use Rattle.prefix_trie_table.specs.NodeArrays.{NodeList, node_of, nodes_of}
+use Rattle.prefix_trie_table.specs.Blocks.NodeArrays.{NodeList, node_of, nodes_of}
 use Rattle.prefix_trie_table.proofs.Blocks.NodeLists.{length-nodes, nodes-insert, nodes-remove, packed}
 use Rattle.prefix_trie_table.proofs.allocator.node_array.NodeArraySlotArrayNode.insert_shifting.Goals as goal
 

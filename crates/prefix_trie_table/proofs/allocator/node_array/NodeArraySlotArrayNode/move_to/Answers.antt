@@ -1,6 +1,6 @@
 -- Moving a node to another slot is moving its two parts, in the list of whole nodes.
 use Rattle.prefix_trie_table.proofs.Prelude.{◌≡◌, ◌<◌, length, get_or, set, sym, ap, ◌∙◌, arith, blank_node, Node, length-set}
-use Rattle.prefix_trie_table.specs.NodeArrays.{NodeList, node_of, nodes_of}
+use Rattle.prefix_trie_table.specs.Blocks.NodeArrays.{NodeList, node_of, nodes_of}
 use Rattle.prefix_trie_table.proofs.Blocks.NodeLists.{length-nodes, nodes-set, get_or-nodes}
 use Rattle.prefix_trie_table.proofs.allocator.node_array.NodeArraySlotArrayNode.move_to.Goals as goal
 

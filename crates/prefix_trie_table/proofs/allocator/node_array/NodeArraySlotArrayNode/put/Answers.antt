@@ -1,6 +1,6 @@
 -- Overwriting a node is overwriting its two parts, in the list of whole nodes.
 use Rattle.prefix_trie_table.proofs.Prelude.{◌≡◌, ◌<◌, length, get_or, set, ap, ◌∙◌, arith}
-use Rattle.prefix_trie_table.specs.NodeArrays.{NodeList, node_of, nodes_of}
+use Rattle.prefix_trie_table.specs.Blocks.NodeArrays.{NodeList, node_of, nodes_of}
 use Rattle.prefix_trie_table.proofs.Blocks.NodeLists.{length-nodes, nodes-set, get_or-nodes, packed}
 use Rattle.prefix_trie_table.proofs.allocator.node_array.NodeArraySlotArrayNode.put.Goals as goal
 

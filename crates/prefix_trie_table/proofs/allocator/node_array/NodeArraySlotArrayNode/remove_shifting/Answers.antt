@@ -1,6 +1,6 @@
 -- Removing a node is removing its two parts, in the list of whole nodes.
 use Rattle.prefix_trie_table.proofs.Prelude.{◌≡◌, ◌<◌, length, length-remove, get_or, blank_node, Node, insert, remove, ap, ◌∙◌, arith}
-use Rattle.prefix_trie_table.specs.NodeArrays.{NodeList, node_of, nodes_of}
+use Rattle.prefix_trie_table.specs.Blocks.NodeArrays.{NodeList, node_of, nodes_of}
 use Rattle.prefix_trie_table.proofs.Blocks.NodeLists.{length-nodes, nodes-insert, nodes-remove, get_or-nodes}
 use Rattle.prefix_trie_table.proofs.allocator.node_array.NodeArraySlotArrayNode.remove_shifting.Goals as goal
 

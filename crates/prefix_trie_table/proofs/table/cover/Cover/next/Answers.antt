@@ -7,15 +7,15 @@ use Rattle.prefix_trie_table.proofs.table.cover.Cover.next.Goals as goal
 pub next_match-requires-clause-sound : goal.next_match-requires-clause-sound
 next_match-requires-clause-sound g c = has_nodes _ _ c.self.invariant.table
 
-pub next_match-requires-clause-stands : goal.next_match-requires-clause-stands
-next_match-requires-clause-stands g c = (c.self.invariant.first, c.self.invariant.stands)
+pub next_match-requires-clause-is_there : goal.next_match-requires-clause-is_there
+next_match-requires-clause-is_there g c = (c.self.invariant.first, c.self.invariant.is_there)
 
 pub invariant_of-self : goal.invariant_of-self
-invariant_of-self g c = cover_on _ _ _ _ _ _ _ _ c.self.invariant (c.in_default.ensures c.self.invariant.first c.self.invariant.stands)
+invariant_of-self g c = cover_on _ _ _ _ _ _ _ _ c.self.invariant (c.in_default.ensures c.self.invariant.first c.self.invariant.is_there)
 
 pub returns-in_default : goal.returns-in_default
 returns-in_default g c =
-    let at = c.self.invariant.stands in
+    let at = c.self.invariant.is_there in
     let later = c.self-1.given.0 in
     let gone = c.in_default.ensures c.self.invariant.first at in
     let none = gives_none _ _ c.self.invariant.table _ _ c.self.inside.shape.1 later.1 _ _ _ _ _ _ at gone in
@@ -23,36 +23,36 @@ returns-in_default g c =
 
 pub value_of_match-requires-clause-bit : goal.value_of_match-requires-clause-bit
 value_of_match-requires-clause-bit g c =
-    let at = c.self.invariant.stands in
+    let at = c.self.invariant.is_there in
     (match_there _ _ c.self.invariant.table _ _ c.self.inside.shape.1 c.self.inside.shape.1 _ _ _ _ _ _ at c.in-Some.found (c.in-Some.ensures c.self.invariant.first at)).0
 
-pub value_of_match-requires-clause-stands : goal.value_of_match-requires-clause-stands
-value_of_match-requires-clause-stands g c =
-    let at = c.self.invariant.stands in
+pub value_of_match-requires-clause-is_there : goal.value_of_match-requires-clause-is_there
+value_of_match-requires-clause-is_there g c =
+    let at = c.self.invariant.is_there in
     (match_there _ _ c.self.invariant.table _ _ c.self.inside.shape.1 c.self.inside.shape.1 _ _ _ _ _ _ at c.in-Some.found (c.in-Some.ensures c.self.invariant.first at)).1
 
 pub invariant_of-self-in_default-value_of_match : goal.invariant_of-self-in_default-value_of_match
-invariant_of-self-in_default-value_of_match g c = cover_on _ _ _ _ _ _ _ _ c.self.invariant (c.in-Some.ensures c.self.invariant.first c.self.invariant.stands)
+invariant_of-self-in_default-value_of_match g c = cover_on _ _ _ _ _ _ _ _ c.self.invariant (c.in-Some.ensures c.self.invariant.first c.self.invariant.is_there)
 
 pub returns-in_default-value_of_match : goal.returns-in_default-value_of_match
 returns-in_default-value_of_match g c =
-    let at = c.self.invariant.stands in
+    let at = c.self.invariant.is_there in
     let there = match_there _ _ c.self.invariant.table _ _ c.self.inside.shape.1 c.self.inside.shape.1 _ _ _ _ _ _ at c.in-Some.found (c.in-Some.ensures c.self.invariant.first at) in
     absurd (false≢true (sym (ap is_some c.in_default-value_of_match.ensures) ∙ there.2))
 
 pub invariant_of-self-2 : goal.invariant_of-self-2
-invariant_of-self-2 g c = cover_on _ _ _ _ _ _ _ _ c.self.invariant (c.in-Some.ensures c.self.invariant.first c.self.invariant.stands)
+invariant_of-self-2 g c = cover_on _ _ _ _ _ _ _ _ c.self.invariant (c.in-Some.ensures c.self.invariant.first c.self.invariant.is_there)
 
 pub first-requires : goal.first-requires
 first-requires g c =
-    let at = c.self.invariant.stands in
+    let at = c.self.invariant.is_there in
     let short = match_short _ _ c.self.invariant.table _ _ c.self.inside.shape.1 c.self.inside.shape.1 _ _ _ _ _ _ at c.in-Some.found (c.in-Some.ensures c.self.invariant.first at) in
     let read = c.in-Some-value_of_match.ensures in
     omega (arith, short, read.0)
 
 pub returns : goal.returns
 returns g c =
-    let at = c.self.invariant.stands in
+    let at = c.self.invariant.is_there in
     let later = c.self-1.given.0 in
     let gone = c.in-Some.ensures c.self.invariant.first at in
     let read = c.in-Some-value_of_match.ensures in

@@ -1,5 +1,5 @@
 use Rattle.prefix_trie_table.proofs.Prelude.{◌≡◌, Bool, false, List, refl, take, subst, sym, Seats, AwaitsNext, HasCome}
-use Rattle.prefix_trie_table.proofs.Moving.Coming.{whole_tree, some_comes, seat_inside, has_come}
+use Rattle.prefix_trie_table.proofs.Moving.NextValue.{whole_tree, some_comes, seat_inside, has_come}
 use Rattle.prefix_trie_table.proofs.table.split_move.SeatsKeep.taken.Given as given
 use Rattle.prefix_trie_table.proofs.table.split_move.SeatsKeep.taken.Goals as goal
 

@@ -26,7 +26,7 @@ returns-in_default-advance g c =
 pub value_at-requires : goal.value_at-requires
 value_at-requires g c =
     let r = rest_at g.K.Key.bit_width c.self.inside.arrays (c.in-Some.nodes, c.in-Some.cells) c.in-Some.is c.self.inside.shape (g.K.Key.bits c.self.inside.key) c.self.inside.stack.items c.self.invariant in
-    let h = c.in-Some-advance.ensures.entry (tree_of c.in-Some.cells.now r.state) r.tree in record { stands = h.stands; set = (h.value, h.reads) }
+    let h = c.in-Some-advance.ensures.entry (tree_of c.in-Some.cells.now r.state) r.tree in record { is_there = h.is_there; set = (h.value, h.reads) }
 
 pub returns : goal.returns
 returns g c =

@@ -3,7 +3,7 @@ use Rattle.prefix_trie_map.proofs.map.writing.cursor.MapCursorSource.step.Goals 
 
 pub returns : goal.returns
 returns g c = (
-  stops_there c.args.self.now c.step.new.cursor c.step.ensures.stands _ _ _ c.new-path.ensures c.in-Some.ensures.key,
-  first_there c.args.self.now c.step.new.cursor c.step.ensures.stands _ _ _ c.new-path.ensures c.in-Some.ensures.key _ c.without_host_bits.ensures,
+  stops_there c.args.self.now c.step.new.cursor c.step.ensures.is_there _ _ _ c.new-path.ensures c.in-Some.ensures.key,
+  first_there c.args.self.now c.step.new.cursor c.step.ensures.is_there _ _ _ c.new-path.ensures c.in-Some.ensures.key _ c.without_host_bits.ensures,
   goes_over c.args.self.now c.step.new.cursor _ _ _ _ c.new-path.ensures c.in-Some.ensures.key c.in-Some.ensures.stored,
 )

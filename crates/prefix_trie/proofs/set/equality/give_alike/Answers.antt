@@ -1,5 +1,0 @@
-use Rattle.prefix_trie.proofs.Prelude.{rules}
-use Rattle.prefix_trie.proofs.set.equality.give_alike.Goals as goal
-
-pub returns : goal.returns
-returns g c = search rules

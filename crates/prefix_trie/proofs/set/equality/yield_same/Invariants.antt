@@ -1,0 +1,10 @@
+use Rattle.prefix_trie.proofs.Prelude.{◌≡◌, pointwise, same_parts}
+use Rattle.prefix_trie.proofs.set.equality.yield_same.Given as goal
+
+-- the walks compare as what is left of them does
+abbrev pub invariant-loop-prefix : goal.invariant-loop-prefix
+invariant-loop-prefix g l =
+    (goal.iterator-loop-prefix g).can_next l.prefix-iterator
+    × (goal.iterator-loop-prefix g).is_finite l.prefix-iterator
+    × (pointwise (same_parts g.P.R.PartialEq.eq g.P.Prefix.repr_of g.P.Prefix.len_of) l.fn.left l.fn.right
+    ≡ pointwise (same_parts g.P.R.PartialEq.eq g.P.Prefix.repr_of g.P.Prefix.len_of) l.prefix-iterator l.right)

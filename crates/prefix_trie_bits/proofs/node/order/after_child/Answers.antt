@@ -1,0 +1,5 @@
+use Rattle.prefix_trie_bits.proofs.Tables.{after-child-entry}
+use Rattle.prefix_trie_bits.proofs.node.order.after_child.Goals as goal
+
+pub returns : goal.returns
+returns c = after-child-entry c.args.bit
