@@ -1,7 +1,7 @@
 //! Aggregation, and collecting an intersection, with each allocation failing.
 use prefix_trie::{Prefix, PrefixMap, Refusal};
 use prefix_trie_ops::map::{aggregate, aggregate_consistent, intersection};
-use refusing_allocator::Refusing;
+use prefix_trie_tests::refusing::Refusing;
 use std::alloc::{Allocator, Global};
 
 type Map<A> = PrefixMap<(u32, u8), u64, A>;

@@ -1,4 +1,5 @@
 pub mod Prelude
+pub mod Allocators
 pub mod AnyMap
 pub mod Batches
 pub mod Ran

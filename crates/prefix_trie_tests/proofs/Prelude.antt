@@ -1,6 +1,7 @@
 -- The definitions and lemmas that the proofs of this crate use, from std and from the crates below.
 pub use Rattle.std.proofs.Common.{All, Bool, Err, IfErr, IfNone, IfOk, List, MatchOption, None, Ok, Option, Result, Some, [], ap, ap₂, arith, bit_and, cond, eq-eqb, eqb, eqb-true, false, filter, is_none, length, map, nat_eq, nat_le, of_calls, option_copied, refl, rules, slice_get, sub-le, subst, sym, take, true, true≢false, unwrap_or, ℕ, ◌%◌, ◌&&◌, ◌*◌, ◌++◌, ◌+◌, ◌-◌, ◌/◌, ◌<◌, ◌^◌, ◌∙◌, ◌∷◌, ◌≡◌, ◌≤◌}
 pub use Rattle.std.proofs.IntoIterSteps.{All-taken}
+pub use Rattle.std.proofs.VecSteps.Shapes.{after}
 pub use Rattle.std.proofs.lemmas.List.{length-take-le, take_all, take_at}
 pub use Rattle.std.proofs.lemmas.List.Elements.{All-head, All-push, All-same, All-tail, All-weaker}
 pub use Rattle.std.proofs.lemmas.Nat.Bits.{and_high_mask, ones_shl}

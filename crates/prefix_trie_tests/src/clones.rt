@@ -3,9 +3,9 @@ use crate::cases::prefix_of;
 use crate::cases::sets::adds_key;
 use crate::contents::adds;
 use crate::networks::v4;
+use crate::refusing::Refusing;
 use prefix_trie::map::{IntoIter, IntoKeys, IntoValues};
 use prefix_trie::{Prefix, PrefixMap, PrefixSet};
-use refusing_allocator::Refusing;
 use std::alloc::{AllocError, Allocator, Global};
 
 /// More allocations than one clone makes.

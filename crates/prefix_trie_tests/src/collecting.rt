@@ -5,8 +5,8 @@ ghost use Rattle.prefix_trie.specs.Words.{listing, no_entries, put_all, prefix_p
 
 use crate::drops::Counted;
 use crate::networks::v4;
+use crate::refusing::Refusing;
 use prefix_trie::{Prefix, PrefixMap, Refusal};
-use refusing_allocator::Refusing;
 use std::alloc::{AllocError, Allocator, Global};
 use std::cell::Cell;
 

@@ -31,6 +31,7 @@ mod on_new;
 #[cfg(test)]
 #[cfg(test)]
 mod prefix;
+pub mod refusing;
 #[cfg(test)]
 mod retain;
 #[cfg(test)]

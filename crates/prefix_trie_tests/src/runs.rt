@@ -8,9 +8,9 @@ use crate::cases::lookups::slots_add_up;
 use crate::contents::{put, stores};
 use crate::networks::v4;
 use crate::on_new::on_new;
+use crate::refusing::Refusing;
 use prefix_trie::replay::{Call, Reply, run};
 use prefix_trie::{PrefixMap, Refusal};
-use refusing_allocator::Refusing;
 use std::alloc::{AllocError, Allocator, Global};
 
 /// More allocations than one run makes.

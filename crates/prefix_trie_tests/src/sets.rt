@@ -1,8 +1,8 @@
 //! Sets that are collected from an iterator, with each allocation failing.
 ghost use Rattle.std.specs.Prelude.{All};
 
+use crate::refusing::Refusing;
 use prefix_trie::{Prefix, PrefixSet, Refusal};
-use refusing_allocator::Refusing;
 use std::alloc::{Allocator, Global};
 
 /// More allocations than one call makes.

@@ -1,9 +1,9 @@
 //! Maps and sets that return memory: what stays if an allocation fails, and that no value is lost.
 use crate::cases::prefix_of;
 use crate::contents::adds;
+use crate::refusing::Refusing;
 use crate::splitting::NETWORKS;
 use prefix_trie::{Ipv4Prefix, PrefixMap, PrefixSet, Refusal};
-use refusing_allocator::Refusing;
 use std::alloc::{Allocator, Global};
 
 /// More allocations than one call makes.

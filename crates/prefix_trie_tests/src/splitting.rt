@@ -7,8 +7,8 @@ use crate::drops::drop_now;
 use crate::examples::splitting::split_and_merge;
 use crate::networks::v4;
 use crate::on_new::on_new;
+use crate::refusing::Refusing;
 use prefix_trie::{Ipv4Prefix, PrefixMap, PrefixSet, Refusal};
-use refusing_allocator::Refusing;
 use std::alloc::{Allocator, Global};
 use std::cell::Cell;
 

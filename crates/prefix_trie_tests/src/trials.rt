@@ -1,8 +1,8 @@
 //! Runs tables of cases on maps and on sets, with each allocation failing or with all failing.
 use crate::cases::Case;
 use crate::cases::under_test::{UnderTest, first_failure};
+use crate::refusing::Refusing;
 use prefix_trie::{Ipv4Prefix, Key, Prefix, PrefixMap, PrefixSet, Refusal};
-use refusing_allocator::Refusing;
 use std::alloc::{Allocator, Global};
 
 /// More allocations than one table makes.

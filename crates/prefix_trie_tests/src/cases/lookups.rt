@@ -2,8 +2,8 @@
 ghost use Rattle.std.specs.Prelude.{◌≡◌, ◌∷◌, [], All, IfOk, length};
 
 use crate::cases::{Entry, Pair, prefix_of};
+use crate::refusing::Refusing;
 use prefix_trie::{BlockCount, Prefix, PrefixMap};
-use refusing_allocator::Refusing;
 use std::alloc::{AllocError, Allocator, Global};
 
 /// Returns whether a planned failure has happened, or none was planned.

@@ -8,9 +8,9 @@ use crate::cases::walks::{
 use crate::cases::writes::{writes, writes_longest};
 use crate::cases::{Case, Entry, Pair, prefix_of};
 use crate::examples::expiry::keep_from;
+use crate::refusing::Refusing;
 use crate::retain::retain_long;
 use prefix_trie::{Prefix, PrefixMap, Refusal};
-use refusing_allocator::Refusing;
 use std::alloc::{AllocError, Allocator, Global};
 
 impl<P: Prefix + Copy + PartialEq, A: Allocator + Copy> UnderTest<P::R, A>

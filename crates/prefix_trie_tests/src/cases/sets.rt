@@ -4,11 +4,11 @@ use crate::cases::lookups::{as_pair, has_pair, pair_of, pair_of_entry, was_refus
 use crate::cases::under_test::{InsertResult, State, UnderTest};
 use crate::cases::walks::contained_in_first;
 use crate::cases::{Case, Entry, Pair, prefix_of};
+use crate::refusing::Refusing;
 use crate::retain::retain_long_keys;
 use prefix_trie::map::CoverKeys;
 use prefix_trie::set::Iter;
 use prefix_trie::{Prefix, PrefixSet, Refusal, Refused};
-use refusing_allocator::Refusing;
 use std::alloc::{AllocError, Allocator, Global};
 
 /// Returns whether a walk returns these keys.

@@ -5,8 +5,8 @@
 //! from then on. Removals must succeed nevertheless.
 use crate::cases::entries::InsertVia;
 use crate::cases::{Case, Entry, Pair};
+use crate::refusing::Refusing;
 use prefix_trie::{Key, Refusal, Refused};
-use refusing_allocator::Refusing;
 use std::alloc::{AllocError, Allocator, Global};
 use std::mem;
 

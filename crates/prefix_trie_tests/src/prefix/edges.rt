@@ -7,8 +7,8 @@ use crate::cases::entries::InsertVia;
 use crate::cases::under_test::{UnderTest, holds_alone};
 use crate::cases::walks::clear_host_bits;
 use crate::cases::{Entry, Pair, prefix_of};
+use crate::refusing::Refusing;
 use prefix_trie::{Key, Narrow, Prefix, PrefixMap, PrefixSet};
-use refusing_allocator::Refusing;
 use std::alloc::{AllocError, Allocator, Global};
 
 /// The calls that insert a value, and the values that they set.

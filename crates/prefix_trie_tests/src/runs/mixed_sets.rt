@@ -11,10 +11,10 @@ use crate::cases::under_test::holds_alone;
 use crate::cases::walks::entries_of;
 use crate::contents::put;
 use crate::on_new::on_two_new;
+use crate::refusing::Refusing;
 use crate::retain::retain_long;
 use crate::runs::mixed::{Key, random_call};
 use prefix_trie::{PrefixMap, PrefixSet};
-use refusing_allocator::Refusing;
 use std::alloc::{AllocError, Global};
 
 /// The number of calls.

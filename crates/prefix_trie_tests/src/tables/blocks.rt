@@ -6,8 +6,8 @@ use crate::cases::Case::{
 };
 use crate::cases::Entry;
 use crate::networks::v4;
+use crate::refusing::Refusing;
 use crate::trials::{FaultPlan, Table, on_both};
-use refusing_allocator::Refusing;
 
 /// The first 24 of all pairs with at most four bits.
 ///

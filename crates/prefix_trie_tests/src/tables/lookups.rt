@@ -1,9 +1,9 @@
 //! All forms of lookups, including the counted ones. A count has nothing to read.
 use crate::cases::Case::{Finds, Inserts, Lists, Writes, WritesLongest};
 use crate::networks::v4;
+use crate::refusing::Refusing;
 use crate::trials::{FaultPlan, Table, on_both};
 use prefix_trie::Visits;
-use refusing_allocator::Refusing;
 use std::mem::size_of;
 
 /// Looks up the longer prefix with host bits, an address in it, and one that neither contains.

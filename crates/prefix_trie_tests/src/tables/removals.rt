@@ -5,9 +5,9 @@ use crate::cases::Case::{
 };
 use crate::cases::Pair;
 use crate::networks::v4;
+use crate::refusing::Refusing;
 use crate::trials::{Failure, FaultPlan, Table, on_both, on_maps};
 use prefix_trie::Ipv4Prefix;
-use refusing_allocator::Refusing;
 use std::alloc::{AllocError, Global};
 use std::test::Fail;
 

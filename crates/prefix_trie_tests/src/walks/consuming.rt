@@ -5,9 +5,9 @@ ghost use Rattle.prefix_trie.specs.Words.{listing, put_all, prefix_pairs};
 use crate::clones::TryClone;
 use crate::contents::{self, adds};
 use crate::drops::{Counted, drop_now};
+use crate::refusing::Refusing;
 use prefix_trie::map::{IntoIter, IntoKeys, IntoValues};
 use prefix_trie::{Prefix, PrefixMap, Refused};
-use refusing_allocator::Refusing;
 use std::alloc::{Allocator, Global};
 use std::cell::Cell;
 

@@ -7,9 +7,9 @@ ghost use Rattle.prefix_trie_map.specs.WritingWalks.{EndsIn, FirstIn, PassesIn};
 use crate::contents::{has_values, stores};
 use crate::examples::scaling::double_all;
 use crate::on_new::on_new;
+use crate::refusing::Refusing;
 use prefix_trie::map::IterMut;
 use prefix_trie::{Prefix, PrefixMap};
-use refusing_allocator::Refusing;
 use std::alloc::{Allocator, Global};
 use std::mem;
 

@@ -2,4 +2,4 @@ use Rattle.std.proofs.Common.{◌-◌}
 use Rattle.prefix_trie_ops_tests.proofs.aggregation.+least.Given as goal
 
 abbrev pub decreases-least : goal.decreases-least
-decreases-least l = 15 - l.key
+decreases-least l = 63 - l.key

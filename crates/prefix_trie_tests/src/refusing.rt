@@ -1,6 +1,4 @@
 //! A test allocator that fails chosen allocations.
-#![tactic(auto)]
-
 use std::alloc::{AllocError, Allocator};
 use std::cell::Cell;
 

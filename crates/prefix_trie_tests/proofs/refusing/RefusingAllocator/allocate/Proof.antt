@@ -1,23 +1,23 @@
 -- Proves that `allocate` returns an error, or what the inner allocator returns. Assumes `Logic`.
-use Rattle.refusing_allocator.proofs.Allocators.{Bool, ◌≡◌, ℕ, ◌+◌, ◌^◌, ◌<◌, true, false, List, [], ◌∷◌, Ok, Err, refl, w64, Bor, ap, Ura, Ty, Args, Fn, a_type, dnil, dcons, Val, vbool, vint, vptr, inst_fn, SProp, ent, id⊢}
-use Rattle.refusing_allocator.proofs.Allocators.{sep, ex, guard, Lft, Share, ftrue, flft, fsep, Memory, size, align, capped, up, Routine, WpFn, Tables, Logic, sem, ◌⊑◌, ⊑_trans, Fun, fact, tables, tables_of, fm_of, WpFn-mono}
-use Rattle.refusing_allocator.proofs.Allocators.{stop, fld, addr, lit, no_more, and_then, first, branches, skips, exec, returns, returns_within, enter, yes, owns, RattleType, shr_vals, unhide, bounded, param, uint_vals}
-use Rattle.refusing_allocator.proofs.Allocators.{uint_Tells, Slot, plain, types_at, heard, nothing, only, Ended, Clauses, triple_of, Triple, Contract, entered, cited, Stays, stay_dropped, walk_of, ends_at, walked, Goes-dropped}
-use Rattle.refusing_allocator.proofs.Allocators.{walk_Meets, ‵, raw, ◌⊛◌, some, later, given, learn, pick, at_ret, ◌$◌, ◌∵◌, !, qed, move, keep, drop, use0, use1, use2, split, join, fsplit, fjoin, suffices, await, done, feq_i}
-use Rattle.refusing_allocator.proofs.Allocators.{feq_l, check, show, updating, at_once, alloc_all, pass_all, free_all, look_at, get, through, sets, lands_as, env, block_ptr, usize, RefOf, bool, calls_at, Al, α, seen}
-use Rattle.refusing_allocator.proofs.Allocators.{Answer, answer_val, Answer-typed, Answer-Ok, Answer-err, takes_key, Takes, at_takes, Answered, Takes-goes, Takes-gives, answers}
+use Rattle.prefix_trie_tests.proofs.Allocators.{Bool, ◌≡◌, ℕ, ◌+◌, ◌^◌, ◌<◌, true, false, List, [], ◌∷◌, Ok, Err, refl, w64, Bor, ap, Ura, Ty, Args, Fn, a_type, dnil, dcons, Val, vbool, vint, vptr, inst_fn, SProp, ent, id⊢}
+use Rattle.prefix_trie_tests.proofs.Allocators.{sep, ex, guard, Lft, Share, ftrue, flft, fsep, Memory, size, align, capped, up, Routine, WpFn, Tables, Logic, sem, ◌⊑◌, ⊑_trans, Fun, fact, tables, tables_of, fm_of, WpFn-mono}
+use Rattle.prefix_trie_tests.proofs.Allocators.{stop, fld, addr, lit, no_more, and_then, first, branches, skips, exec, returns, returns_within, enter, yes, owns, RattleType, shr_vals, unhide, bounded, param, uint_vals}
+use Rattle.prefix_trie_tests.proofs.Allocators.{uint_Tells, Slot, plain, types_at, heard, nothing, only, Ended, Clauses, triple_of, Triple, Contract, entered, cited, Stays, stay_dropped, walk_of, ends_at, walked, Goes-dropped}
+use Rattle.prefix_trie_tests.proofs.Allocators.{walk_Meets, ‵, raw, ◌⊛◌, some, later, given, learn, pick, at_ret, ◌$◌, ◌∵◌, !, qed, move, keep, drop, use0, use1, use2, split, join, fsplit, fjoin, suffices, await, done, feq_i}
+use Rattle.prefix_trie_tests.proofs.Allocators.{feq_l, check, show, updating, at_once, alloc_all, pass_all, free_all, look_at, get, through, sets, lands_as, env, block_ptr, usize, RefOf, bool, calls_at, Al, α, seen}
+use Rattle.prefix_trie_tests.proofs.Allocators.{Answer, answer_val, Answer-typed, Answer-Ok, Answer-err, takes_key, Takes, at_takes, Answered, Takes-goes, Takes-gives, answers}
 use types.Part.{agg}
-use Rattle.std.proofs.VecSteps.Shapes.{after}
+use Rattle.prefix_trie_tests.proofs.Prelude.{after}
 use denote.Memory.{hidden_shr}
-use Rattle.refusing_allocator.proofs.refuses.Symbol as c_sym
-use Rattle.refusing_allocator.proofs.refuses.Met as c_met
-use Rattle.refusing_allocator.specs.contracts.Refusing as wrapper
-use Rattle.refusing_allocator.specs.contracts.RefusingAllocator.allocate as F
-use Rattle.refusing_allocator.specs.contracts.RefusingAllocator.allocate.Key as key
-use Rattle.refusing_allocator.proofs.RefusingAllocator.allocate.Statement as stated
-use Rattle.refusing_allocator.proofs.RefusingAllocator.allocate.Code as code
-use Rattle.refusing_allocator.specs.contracts.Meter as ME
-use Rattle.refusing_allocator.specs.contracts.refuses as RF
+use Rattle.prefix_trie_tests.proofs.refusing.refuses.Symbol as c_sym
+use Rattle.prefix_trie_tests.proofs.refusing.refuses.Met as c_met
+use Rattle.prefix_trie_tests.specs.contracts.refusing.Refusing as wrapper
+use Rattle.prefix_trie_tests.specs.contracts.refusing.RefusingAllocator.allocate as F
+use Rattle.prefix_trie_tests.specs.contracts.refusing.RefusingAllocator.allocate.Key as key
+use Rattle.prefix_trie_tests.proofs.refusing.RefusingAllocator.allocate.Statement as stated
+use Rattle.prefix_trie_tests.proofs.refusing.RefusingAllocator.allocate.Code as code
+use Rattle.prefix_trie_tests.specs.contracts.refusing.Meter as ME
+use Rattle.prefix_trie_tests.specs.contracts.refusing.refuses as RF
 
 abbrev Meter : RattleType
 Meter = ME.the_row
@@ -126,4 +126,4 @@ allocate_spec 𝓤 𝓛 𝓜 𝓡 wired Y L g d d' met _ =
     entered 𝓤 𝓛.H (triple_of 𝓛 (F.signature Y) (F.spec Y g d d' 𝓛 𝓜.mem 𝓡.returns)) 𝓣.C 𝓣.Λ (key.name (args Z)) (here Z) (code.unfolded 𝓤 𝓛.H 𝓜 𝓡 wired (Y, tt) d d')
     (walk_Meets 𝓛 (ended Z) (stayed Z) (Goes-dropped 𝓛 2 (self Z) yes (λ κs x f. refl), (Goes-dropped 𝓛 2 (plain (λ _. usize)) yes (λ κs x f. refl), (Goes-dropped 𝓛 2 (plain (λ _. usize)) yes (λ κs x f. refl), tt))) c (WpFn 𝓤 𝓛.H 𝓣.C 𝓣.Λ (here Z)) (WpFn-mono 𝓤 𝓛.H 𝓛.laws 𝓣 (here Z))
     (walked 𝓛 (ended Z) (stayed Z) c (WpFn 𝓤 𝓛.H 𝓣.C 𝓣.Λ (here Z)) (λ κs. (shr_vals, (uint_vals w64, (uint_vals w64, tt)))) (λ κs. ((λ r vs s. s.0), (uint_Tells w64, (uint_Tells w64, tt))))
-    (λ κs qs bounds a τ are. walk Z 𝓛 𝓜.mem 𝓡.returns 𝓣 (met.allocate d') (cited 𝓤 𝓛.H _ 𝓜 𝓡 𝓡.env c_sym.name (𝓡.env c_sym.name) refl (c_met.met 𝓤 𝓛 𝓜 𝓡 (code.calls-refusing_allocator::refuses 𝓡.env wired))) κs.0 κs.1.0 qs.0 qs.1.0 bounds.0 a.0 a.1.0 a.1.1.0 τ are.1.0.1 are.1.1.0.1)))
+    (λ κs qs bounds a τ are. walk Z 𝓛 𝓜.mem 𝓡.returns 𝓣 (met.allocate d') (cited 𝓤 𝓛.H _ 𝓜 𝓡 𝓡.env c_sym.name (𝓡.env c_sym.name) refl (c_met.met 𝓤 𝓛 𝓜 𝓡 (code.calls-prefix_trie_tests::refusing::refuses 𝓡.env wired))) κs.0 κs.1.0 qs.0 qs.1.0 bounds.0 a.0 a.1.0 a.1.1.0 τ are.1.0.1 are.1.1.0.1)))

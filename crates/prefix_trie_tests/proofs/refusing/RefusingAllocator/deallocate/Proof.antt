@@ -1,15 +1,15 @@
 -- Proves that `deallocate` returns the block to the inner allocator. Assumes `Logic`.
-use Rattle.refusing_allocator.proofs.Allocators.{◌≡◌, ℕ, ◌+◌, ◌^◌, ◌<◌, List, [], ◌∷◌, refl, w64, Bor, Ura, Ty, Args, Fn, a_type, dnil, dcons, Val, vint, vptr, vunit, inst_fn, SProp, ent, id⊢, never_e, Lft, Share, ftrue, flft}
-use Rattle.refusing_allocator.proofs.Allocators.{ffalse, fsep, froom, Memory, size, align, capped, up, Routine, WpFn, Tables, Logic, ◌⊑◌, ⊑_trans, Fun, fact, tables, tables_of, fm_of, WpFn-mono, stop, fld, addr, no_more}
-use Rattle.refusing_allocator.proofs.Allocators.{and_then, of_opd, returns, enter, unit_lit, yes, owns, shr_vals, unhide, bounded, param, uint_vals, uint_Tells, Slot, plain, types_at, heard, nothing, Ended, Clauses, triple_of}
-use Rattle.refusing_allocator.proofs.Allocators.{Triple, entered, Stays, stay_dropped, walk_of, ends_at, walked, Goes-dropped, walk_Meets, Item, ‵, raw, ◌⊛◌, later, given, ◌$◌, ◌∵◌, !, qed, by, move, keep, use1, split, split3}
-use Rattle.refusing_allocator.proofs.Allocators.{join, learn, fsplit, fjoin, feq_i, suffices, await, done, alloc_all, pass_all, free_all, look_at, get, through, sets, lands_as, Ptr, block_ptr, null_ptr, ptr_val, rawptr_vals}
-use Rattle.refusing_allocator.proofs.Allocators.{rawptr_Tells, usize, RawPtr, RefOf, calls_at, Al, α, seen, token, gives_key, Gives, at_gives, Gives-goes, Gives-Gives}
-use Rattle.refusing_allocator.specs.contracts.Refusing as wrapper
-use Rattle.refusing_allocator.specs.contracts.RefusingAllocator.deallocate as F
-use Rattle.refusing_allocator.specs.contracts.RefusingAllocator.deallocate.Key as key
-use Rattle.refusing_allocator.proofs.RefusingAllocator.deallocate.Statement as stated
-use Rattle.refusing_allocator.proofs.RefusingAllocator.deallocate.Code as code
+use Rattle.prefix_trie_tests.proofs.Allocators.{◌≡◌, ℕ, ◌+◌, ◌^◌, ◌<◌, List, [], ◌∷◌, refl, w64, Bor, Ura, Ty, Args, Fn, a_type, dnil, dcons, Val, vint, vptr, vunit, inst_fn, SProp, ent, id⊢, never_e, Lft, Share, ftrue, flft}
+use Rattle.prefix_trie_tests.proofs.Allocators.{ffalse, fsep, froom, Memory, size, align, capped, up, Routine, WpFn, Tables, Logic, ◌⊑◌, ⊑_trans, Fun, fact, tables, tables_of, fm_of, WpFn-mono, stop, fld, addr, no_more}
+use Rattle.prefix_trie_tests.proofs.Allocators.{and_then, of_opd, returns, enter, unit_lit, yes, owns, shr_vals, unhide, bounded, param, uint_vals, uint_Tells, Slot, plain, types_at, heard, nothing, Ended, Clauses, triple_of}
+use Rattle.prefix_trie_tests.proofs.Allocators.{Triple, entered, Stays, stay_dropped, walk_of, ends_at, walked, Goes-dropped, walk_Meets, Item, ‵, raw, ◌⊛◌, later, given, ◌$◌, ◌∵◌, !, qed, by, move, keep, use1, split, split3}
+use Rattle.prefix_trie_tests.proofs.Allocators.{join, learn, fsplit, fjoin, feq_i, suffices, await, done, alloc_all, pass_all, free_all, look_at, get, through, sets, lands_as, Ptr, block_ptr, null_ptr, ptr_val, rawptr_vals}
+use Rattle.prefix_trie_tests.proofs.Allocators.{rawptr_Tells, usize, RawPtr, RefOf, calls_at, Al, α, seen, token, gives_key, Gives, at_gives, Gives-goes, Gives-Gives}
+use Rattle.prefix_trie_tests.specs.contracts.refusing.Refusing as wrapper
+use Rattle.prefix_trie_tests.specs.contracts.refusing.RefusingAllocator.deallocate as F
+use Rattle.prefix_trie_tests.specs.contracts.refusing.RefusingAllocator.deallocate.Key as key
+use Rattle.prefix_trie_tests.proofs.refusing.RefusingAllocator.deallocate.Statement as stated
+use Rattle.prefix_trie_tests.proofs.refusing.RefusingAllocator.deallocate.Code as code
 
 module _ (Z : Al) where
   abbrev args : Args
