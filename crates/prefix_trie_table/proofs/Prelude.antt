@@ -117,7 +117,7 @@ pub use Rattle.prefix_trie_table.specs.GrowthBounds.{BoundsNodeGrowth, BoundsGro
 unfoldable pub use Rattle.prefix_trie_table.specs.GrowthBounds.{headroom}
 pub use Rattle.prefix_trie_table.specs.Model.Contents.{Contents, state, stored_state}
 pub use Rattle.prefix_trie_table.specs.Shape.{IsShapeOf, Shaped, Shaped-prop, same_shape, with_longest_at, with_match_at, with_stored_at, with_value_at}
-pub use Rattle.prefix_trie_table.specs.Blocks.Slots.{HasValue, IsSeat, SeatOf, with_cell, with_slot}
+pub use Rattle.prefix_trie_table.specs.Blocks.Slots.{HasValue, IsSeat, with_cell, with_slot}
 pub use Rattle.prefix_trie_table.specs.Steps.{BoundsStorageGrowth, insert_reply, insert_new_reply}
 pub use Rattle.prefix_trie_table.specs.Blocks.Store.{AreFree, HasList, HoldsItems, IsOfTier, IsVacant, Keeps, KeepsMade, MakesNone, Obtains, SameMade, SameSpace, SameSlots, Sound, Store, Tier, Turnover, UsedBlock, block, extent, filled, free_counts, free_extents, free_in, held, missing_in, list_need, list_size, made_in, many_of, needs, no_blocks, none_of, of_size, size_if_any, size_in, missing_slots, slots_made, slots_of, tier_at, tier_sizes, with_tier}
 pub use Rattle.prefix_trie_table.specs.Tables.{ForHeld, Grows, GrowsBoth, IsReached, IsTable, IsTrie, MayPass, own_value}

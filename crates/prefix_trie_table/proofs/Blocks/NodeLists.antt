@@ -70,10 +70,3 @@ unpacked h n small = record { value_tier = omega arith; child_tier = omega arith
 -- the tiers of each stored node fit a byte
 pub nodes_fit : (hs : List Head) (ns : List ℕ) (i : ℕ) (h : Head) (d : Node) → length hs ≡ length ns → ((k : ℕ) → get_or ns k 0 < 256) → i < length hs → FitsByte (get_or (nodes_of hs ns) i d)
 nodes_fit hs ns i h d e small within = subst FitsByte (get_or-nodes hs ns i h 0 d e within) (unpacked (get_or hs i h) (get_or ns i 0) (small i))
-
--- the tiers of a node that was written over another fit a byte
-pub fits_over : (old new : Node) → FitsByte old → FitsOver old new → FitsByte new
-fits_over old new fits over = record {
-  value_tier = ⊎_elim (λ (h : new.value_tier < 8). h) (λ (e : new.value_tier ≡ old.value_tier). (let f = fits.value_tier in omega (arith, f, e))) over.value_tier;
-  child_tier = ⊎_elim (λ (h : new.child_tier < 32). h) (λ (e : new.child_tier ≡ old.child_tier). (let f = fits.child_tier in omega (arith, f, e))) over.child_tier;
-}

@@ -107,13 +107,6 @@ storage_of v w sized = record {
   layout = layout_of v.slots v.tiers w.tiers sized;
 }
 
--- arrays with the same nodes and tiers have the same layout
-pub same_layout : (nodes later : List Node) (ts ts2 us us2 : List Tier) (x : Sized nodes) (y : Sized later) → later ≡ nodes → ts2 ≡ ts → us2 ≡ us →
-    layout_of later ts2 us2 y ≡ layout_of nodes ts us x
-same_layout nodes later ts ts2 us us2 x y same tiers cells =
-    subst (λ (k : List Node). (z : Sized k) → layout_of k ts2 us2 z ≡ layout_of nodes ts us x) (sym same)
-    (λ z i. layout_of nodes (tiers i) (cells i) (Sized-prop nodes z x i)) y
-
 -- the root alone has no block
 root_sizes : (size : Option Node → Option ℕ) → size (root_reading []) ≡ None → sizes_at (λ p. size (root_reading p)) ([] ∷ []) ≡ empty
 root_sizes size none = ap (λ o. with_size empty [] o) none

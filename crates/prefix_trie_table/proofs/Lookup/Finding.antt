@@ -51,9 +51,3 @@ module _ (b : List Bool) (len level slot : ℕ) (node : Node) (v : Store Node) (
         deepest_end reading paths v (chunks_of (take len b)) level slot hold (at.deepest reading paths hold) node (omega arith) at.node_is
         (λ h. absurd (omega arith))
   ]
-
-  -- the node reached is the string's own
-  pub reached_own : len < 5 * level + 5 → reading (chunks_of (take len b)) ≡ Some node
-  reached_own less =
-      ap reading (sym (take_all level (chunks_of (take len b)) (omega (arith, steps-end b len level at.long at.whole less))))
-      ∙ deepest_is reading paths v (chunks_of (take len b)) level slot hold (at.deepest reading paths hold) node at.node_is

@@ -14,10 +14,6 @@ module _ (b : List Bool) (len level : ℕ) (within : len ≤ length b) where
   pub step-inside : 5 * level + 5 ≤ len → level < length (chunks_of (take len b))
   step-inside h = omega (arith, steps-length, h)
 
-  -- the child bit that the code reads is the next step
-  pub step-read : (x : ℕ) → 5 * level + 5 ≤ len → x ≡ number (take 5 (drop (5 * level) b)) → get_or (chunks_of (take len b)) level 0 ≡ x
-  step-read x h e = step-is (take len b) level (step-inside h) ∙ ap number (window-of-front b len (5 * level) 5 h) ∙ sym e
-
   -- if no whole chunk is left, the path is at its end
   pub steps-end : 5 * level ≤ len → len < 5 * level + 5 → length (chunks_of (take len b)) ≡ level
   steps-end h k = omega (arith, steps-length, h, k)
@@ -72,24 +68,11 @@ module _ (reading : List ℕ → Option Node) (paths : List (List ℕ)) (v : Sto
 
 -- ---- whole steps of a length
 
--- how levels and lengths compare, at a level below the last and at the last
-pub level_inside : (level len : ℕ) → level < len / 5 → 5 * level + 5 ≤ len
-level_inside level len h = omega (arith, h)
-
 pub level_last : (level len : ℕ) → level ≡ len / 5 → len < 5 * level + 5
 level_last level len e = omega (arith, e)
 
 pub level_past : (level len : ℕ) → len < 5 * level + 5 → 5 * level ≤ len → level ≡ len / 5
 level_past level len h k = omega (arith, h, k)
-
--- the value bit that the code reads at the depth of the last whole step
-pub bit-read-last : (b : List Bool) (len : ℕ) → len ≤ length b → (x : ℕ) → x ≡ value_bit (drop (len / 5 * 5) (take len b)) → bit_of (take len b) ≡ x
-bit-read-last b len within x e =
-    bit-read b len (len / 5) within x (omega arith) (level_last (len / 5) len refl)
-    (e ∙ ap (λ d. value_bit (drop d (take len b))) (turn (len / 5)))
-  where
-    turn : (n : ℕ) → n * 5 ≡ 5 * n
-    turn n = omega arith
 
 -- how many chunks the path has
 pub steps-all : (b : List Bool) (len : ℕ) → len ≤ length b → length (chunks_of (take len b)) ≡ len / 5

@@ -27,8 +27,3 @@ pub record IsSeat (reading : List ℕ → Option Node) (path : List ℕ) (b : �
   pub is : reading path ≡ Some node
   pub set : has_bit node.value_bitmap b ≡ true
   pub slot_is : seat.slot ≡ node.value_block + rank node.value_bitmap b
-
--- the seat of the value at a bit string, if there is one
-abbrev pub SeatOf : (List ℕ → Option Node) → List Bool → Option Seat → Type 0
-SeatOf reading q o =
-    MatchOption o (has_value (reading (chunks_of q)) (bit_of q) ≡ false) (λ seat. IsSeat reading (chunks_of q) (bit_of q) seat)
