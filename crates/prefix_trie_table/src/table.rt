@@ -1,6 +1,6 @@
 //! The table: values by bit strings, in a trie of nodes of five levels.
 //!
-//! A bit string is passed as a `BitString`, or as a key and a length: the first `len` bits of the key.
+//! A bit string is passed as a `BitString`.
 //!
 //! Contracts see a table as its entries, its nodes, its space and its layout. The entries are a finite map from bit
 //! strings to values, and the nodes a finite set of bit strings. The layout is the size of each node's two blocks, by
