@@ -3,7 +3,6 @@ use Rattle.std.specs.Prelude.{◌≡◌, ℕ, ◌-◌, ◌≤◌, Bool, not, Lis
 use Rattle.prefix_trie_bits.specs.Model.Bits.{zeros, begins}
 
 module _ {K T : Type 0} where
-
   -- the same, and the number has zeros after those bits
   pub record GivesFilled (IsKey : K → Type 0) (bits : K → List Bool) (width : ℕ) (key : K) (len : ℕ) (value : T) (old new : List (List Bool × T)) : Type 0 where
     pub is_key : IsKey key
