@@ -1,7 +1,7 @@
 -- Where the value of a bit string is stored, and where the search for a missing one ends, by the
 -- nodes in their array. This project's own.
 use Rattle.std.specs.Prelude.{◌≡◌, ℕ, ◌+◌, ◌<◌, ◌≤◌, Bool, true, false, cond, List, [], ◌∷◌, Option, None, Some, is_some, length, take}
-use Rattle.std.specs.Coded.{Coded, code_by, coded×, coded_ℕ, coded_bool, coded_option, Coded-set}
+use Rattle.std.specs.Coded.{Coded, code_by, coded_ℕ, coded_bool, coded_option, Coded-set}
 use Rattle.std.specs.FinMap.{contains_key}
 use Rattle.std.proofs.Common.{refl}
 use Rattle.std.proofs.Math.Bridge.{le_prop}

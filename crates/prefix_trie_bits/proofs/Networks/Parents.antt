@@ -1,5 +1,5 @@
 -- The parent of a network: the path is one bit shorter, and the other bits are zeros: for `parent`.
-use Rattle.std.proofs.Common.{◌≡◌, ℕ, ◌-◌, ◌^◌, ◌<◌, ◌≤◌, Bool, List, ◌++◌, length, take, sym, ap, ap₂, ◌∙◌, arith}
+use Rattle.std.proofs.Common.{◌≡◌, ℕ, ◌-◌, ◌^◌, ◌<◌, ◌≤◌, ◌++◌, length, take, sym, ap₂, ◌∙◌, arith}
 use Rattle.std.proofs.lemmas.List.{take-take}
 use Rattle.prefix_trie_bits.specs.Model.Bits.{number, digits, zeros}
 use Rattle.prefix_trie_bits.specs.Begins.{length-first}

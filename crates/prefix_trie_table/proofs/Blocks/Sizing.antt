@@ -1,5 +1,5 @@
 -- The sizes of the blocks of nodes, by the strings of the nodes: the layout that contracts see.
-use Rattle.prefix_trie_table.proofs.Prelude.{◌≡◌, ℕ, ◌+◌, Bool, true, false, cond, sum_by, arith, ◌&&◌, ◌||◌, List, [], ◌∷◌, map, length, Option, None, Some, is_some, refl, sym, ap, ◌∙◌, subst, ap₂, option_or, list_any, get, empty, get-insert, get-empty, entries, values, contains_key, sum_by-cons, entries-empty, listing_total, same_string, Sizes, Layout, no_layout, is_node_depth, Storage, same_string-is, Node, chunks_of, node_sizes, cell_sizes, Store, Tier, no_blocks, size_in, size_if_any, free_counts, NodesHold, Holds, SomeTable, of_any, AreSizesBy, Sized, Sized-prop, child_block_size, value_block_size}
+use Rattle.prefix_trie_table.proofs.Prelude.{◌≡◌, ℕ, ◌+◌, Bool, true, false, cond, sum_by, arith, ◌&&◌, ◌||◌, List, [], ◌∷◌, map, length, Option, None, Some, is_some, refl, sym, ap, ◌∙◌, ap₂, option_or, list_any, get, empty, get-insert, get-empty, entries, values, contains_key, sum_by-cons, entries-empty, listing_total, same_string, Sizes, Layout, no_layout, is_node_depth, Storage, same_string-is, Node, chunks_of, node_sizes, cell_sizes, Store, Tier, no_blocks, size_in, size_if_any, free_counts, NodesHold, Holds, SomeTable, of_any, AreSizesBy, Sized, Sized-prop, child_block_size, value_block_size}
 use Rattle.std.specs.FinMap.{insert}
 use Rattle.prefix_trie_table.proofs.Strings.Filling.{sum-fresh}
 use Rattle.prefix_trie_table.proofs.Blocks.SlotSums.{sum_by-mapped}

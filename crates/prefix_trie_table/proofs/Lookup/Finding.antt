@@ -1,12 +1,11 @@
 -- What there is, and is not, at the end of a descent.
-use Rattle.prefix_trie_table.proofs.Prelude.{◌≡◌, ◌≢◌, ℕ, ◌+◌, ◌*◌, ◌<◌, ◌≤◌, inl, inr, ⊎_elim, Bool, true, false, ◌||◌, List, [], ◌∷◌, ◌++◌, length, take, Option, None, Some, is_some, refl, sym, ap, ◌∙◌, arith, nat_le, leb-true, nat_tests, false≢true, cases_Bool, Node, node_sizes, chunks_of, Store, same_path, is_start, NodesHold, IsEnd, IsReached}
-use Rattle.std.proofs.lemmas.List.{take_all}
+use Rattle.prefix_trie_table.proofs.Prelude.{◌≡◌, ◌≢◌, ℕ, ◌+◌, ◌*◌, ◌<◌, ◌≤◌, inl, inr, ⊎_elim, Bool, true, false, ◌||◌, List, [], ◌∷◌, ◌++◌, length, take, Option, None, is_some, refl, sym, ap, ◌∙◌, arith, nat_le, leb-true, nat_tests, false≢true, cases_Bool, Node, node_sizes, chunks_of, Store, same_path, is_start, NodesHold, IsEnd, IsReached}
 use Rattle.prefix_trie_table.proofs.Strings.Plain.{needs_node}
 use Rattle.prefix_trie_table.proofs.Strings.Paths.{same_path-not, snoc_ind}
 use Rattle.prefix_trie_table.proofs.Strings.Starts.{is_start-snoc, is_start_take, or_either}
 use Rattle.prefix_trie_table.proofs.Tree.Trees.{is_none-None}
 use Rattle.prefix_trie_table.proofs.Tree.Children.{same_or}
-use Rattle.prefix_trie_table.proofs.Lookup.Going.{step-inside, steps-end, deepest_is, deepest_end}
+use Rattle.prefix_trie_table.proofs.Lookup.Going.{step-inside, steps-end, deepest_end}
 
 or_false_right : (a : Bool) → (a || false) ≡ a
 or_false_right true = refl

@@ -1,5 +1,5 @@
 -- What contracts see of a place.
-use Rattle.prefix_trie_table.proofs.Prelude.{◌≡◌, ℕ, ◌+◌, ◌<◌, true, Bool, List, length, get_or, Option, None, Some, is_some, sym, ap, ◌∙◌, get_or_default, get, contains_key, Node, Seat, Location, Stored, Missing, chunks_of, bit_of, Sized, seat_of, Locates, IsLocation, Shaped, IsSeat, Store, IsTable}
+use Rattle.prefix_trie_table.proofs.Prelude.{◌≡◌, ℕ, ◌<◌, true, Bool, List, length, get_or, Option, None, Some, is_some, sym, ap, ◌∙◌, get_or_default, get, contains_key, Node, Seat, Location, Stored, Missing, chunks_of, bit_of, Sized, seat_of, Locates, IsLocation, Shaped, IsSeat, Store, IsTable}
 use Rattle.prefix_trie_table.proofs.Tree.Invariant.{some_table}
 use Rattle.prefix_trie_table.proofs.Lookup.Lending.{seen_of, cell_there, value_there, stored_is}
 use Rattle.prefix_trie_table.proofs.Lookup.Locating.{seat_if, is_seat}

@@ -1,5 +1,5 @@
 -- The next value comes to a second table.
-use Rattle.prefix_trie_table.proofs.Prelude.{◌≡◌, ℕ, ◌+◌, ◌<◌, List, [], ◌∷◌, length, take, set, Bool, Option, None, Some, refl, sym, ap, ◌∙◌, subst, arith, len, State, Node, Spot, Seat, seat_of, filled_with, Awaits, HasCome, with_cell, Store, IsTrie, Tree, IsStack, pending, GivesSeat}
+use Rattle.prefix_trie_table.proofs.Prelude.{◌≡◌, ℕ, ◌<◌, List, [], ◌∷◌, length, take, set, Bool, Option, None, Some, refl, sym, ap, ◌∙◌, subst, arith, len, State, Node, Spot, Seat, seat_of, filled_with, Awaits, HasCome, with_cell, Store, IsTrie, Tree, IsStack, pending, GivesSeat}
 use Rattle.std.proofs.lemmas.List.{length-set}
 use Rattle.prefix_trie_table.specs.Walking.Walks.{slot_of}
 

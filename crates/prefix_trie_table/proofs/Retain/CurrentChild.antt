@@ -1,6 +1,6 @@
 -- Calling a test under a child of the current node, and removing the child if nothing is left in it: for the loop of
 -- `retain`.
-use Rattle.prefix_trie_table.proofs.Prelude.{◌≡◌, ◌↔◌, ℕ, ◌+◌, ◌-◌, ◌/◌, ◌%◌, ◌<◌, ◌≤◌, Bool, true, false, not, ◌&&◌, List, [], ◌∷◌, ◌++◌, length, take, Option, None, Some, is_some, refl, sym, ap, ◌∙◌, subst, arith, inl, inr, length-append, append-nil, eqb-true, false≢true, begins, number, digits, zeros, begins-append, begins-trans, digits-number, length-digits, number-bits, take-extend, same_string, has, ones_below, is_in, places, Place, CallableOnEachEntry, listing_at_place, listing_at_places, listing_below, has_node, is_node_depth, State, and-second, same_string-is, is-same_string, has-removed, listing_at_child, Node, Site, has_bit, rank, node_at, node_sizes, chunks_of, Store, read, child_slot, Holds, SomeTable, IsSlot, at_child, NodesHold, entry_count, without, with_child_removed, IsBare, IsStocked, ChildDropped, Drops, none, more, IsPlaceOf, HasPlace, IsSite, Needs, RetainsTo, PreservesBelow, BlocksBetween, IsTrie, Grows, IsShapeOf}
+use Rattle.prefix_trie_table.proofs.Prelude.{◌≡◌, ◌↔◌, ℕ, ◌+◌, ◌-◌, ◌/◌, ◌%◌, ◌<◌, ◌≤◌, Bool, true, false, not, ◌&&◌, List, [], ◌∷◌, ◌++◌, length, take, Option, None, Some, is_some, refl, sym, ap, ◌∙◌, subst, arith, inl, inr, length-append, append-nil, eqb-true, false≢true, begins, number, digits, zeros, begins-append, begins-trans, digits-number, length-digits, number-bits, take-extend, same_string, has, is_in, places, Place, CallableOnEachEntry, listing_at_place, listing_at_places, listing_below, has_node, is_node_depth, State, and-second, same_string-is, is-same_string, has-removed, listing_at_child, Node, Site, has_bit, rank, node_at, node_sizes, chunks_of, Store, read, child_slot, Holds, SomeTable, IsSlot, at_child, NodesHold, entry_count, without, with_child_removed, IsBare, IsStocked, ChildDropped, Drops, none, more, IsPlaceOf, HasPlace, IsSite, Needs, RetainsTo, PreservesBelow, BlocksBetween, IsTrie, Grows, IsShapeOf}
 use Rattle.std.specs.List.{Contains}
 use Rattle.std.specs.FinMap.{remove}
 use Rattle.prefix_trie_bits.specs.declared.node.Place.TheVariants.{Child as ChildPlace}
@@ -9,7 +9,7 @@ use Rattle.prefix_trie_table.proofs.Tree.Invariant.{some_table}
 use Rattle.prefix_trie_table.proofs.Removal.Between.{blocks_then, dropped_between, stays_grown, stays_then}
 use Rattle.prefix_trie_table.proofs.Retain.AskedBelow.{child_asked, needed_below}
 use Rattle.prefix_trie_table.proofs.Strings.Bare.{some_bit}
-use Rattle.prefix_trie_table.proofs.Strings.Bits.{has_bit-is, has_bit-below, rank-ones}
+use Rattle.prefix_trie_table.proofs.Strings.Bits.{has_bit-is, has_bit-below}
 use Rattle.prefix_trie_table.proofs.Tree.Children.{changed_below, changed_here, changed_other, some_stays}
 use Rattle.prefix_trie_table.proofs.Strings.Keys.{same_above}
 use Rattle.prefix_trie_table.proofs.Strings.Placing.{step_below, string_at}

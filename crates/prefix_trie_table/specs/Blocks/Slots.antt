@@ -1,11 +1,9 @@
 -- The slots of values, and an array of blocks with another value in a slot. This project's own.
-use Rattle.std.specs.Prelude.{◌≡◌, ℕ, ◌+◌, ◌<◌, true, false, Bool, List, Option, None, Some, IsSome, length, slice_index_or, slice_set, MatchOption}
+use Rattle.std.specs.Prelude.{◌≡◌, ℕ, ◌+◌, ◌<◌, true, List, Option, None, Some, IsSome, length, slice_index_or, slice_set}
 use Rattle.prefix_trie_table.specs.declared.allocator.node.Node.{Node}
 use Rattle.prefix_trie_table.specs.declared.table.seat.Seat.{Seat}
 use Rattle.prefix_trie_table.specs.Bitmaps.{has_bit, rank}
-use Rattle.prefix_trie_table.specs.Digits.{chunks_of, bit_of}
 use Rattle.prefix_trie_table.specs.Blocks.Store.{Store}
-use Rattle.prefix_trie_table.specs.Forest.{has_value}
 
 -- the array with x in slot i
 abbrev pub with_slot : {S : Type 0} → Store S → ℕ → S → Store S

@@ -1,4 +1,4 @@
-use Rattle.prefix_trie_table.proofs.Prelude.{◌≡◌, ◌+◌, ◌-◌, ◌/◌, ◌≤◌, ◌<◌, length, blank_node, node_at, free_in}
+use Rattle.prefix_trie_table.proofs.Prelude.{◌≡◌, ◌-◌, ◌/◌, ◌≤◌, ◌<◌, length, blank_node, node_at, free_in}
 use Rattle.prefix_trie_table.proofs.Insertion.Paths.{IsExtended}
 use Rattle.prefix_trie_table.proofs.table.insertion.add_entry.Given as goal
 

@@ -1,4 +1,4 @@
-use Rattle.prefix_trie_table.proofs.Prelude.{inl, ◌≡◌, ◌+◌, ap, sym, ◌∙◌, refl, arith, Node, has_bit, rank, blank_node, node_sizes}
+use Rattle.prefix_trie_table.proofs.Prelude.{inl, ◌≡◌, ap, sym, ◌∙◌, refl, arith, Node, has_bit, rank, blank_node, node_sizes}
 use Rattle.prefix_trie_table.proofs.Strings.Bare.{one_fewer}
 use Rattle.prefix_trie_table.proofs.Strings.Bits.{has_bit-is, rank-ones}
 use Rattle.prefix_trie_table.proofs.Strings.BitLists.{rank-below}
