@@ -1,0 +1,11 @@
+use Rattle.prefix_trie_bits.proofs.Prelude.{take, drop}
+use Rattle.prefix_trie_bits.proofs.Matches.{none_begins, longest_found}
+use Rattle.prefix_trie_bits.proofs.node.masks.longest_match.Goals as goal
+
+pub returns-then-matches-eq0 : goal.returns-then-matches-eq0
+returns-then-matches-eq0 g c =
+    none_begins c.args.bitmap c.match_mask.result (drop c.args.depth (take c.args.len (g.K.Key.bits c.args.key))) c.requires.bitmap c.match_mask.ensures c.if-matches-eq0.true
+
+pub returns : goal.returns
+returns g c =
+    longest_found c.args.bitmap c.match_mask.result (drop c.args.depth (take c.args.len (g.K.Key.bits c.args.key))) c.requires.bitmap c.match_mask.ensures c.if-matches-eq0.false

@@ -1,0 +1,11 @@
+use Rattle.prefix_trie_bits.proofs.Prelude.{◌∙◌, ap, take, drop, begins}
+use Rattle.prefix_trie_bits.proofs.Strings.{begins-four}
+use Rattle.prefix_trie_bits.proofs.node.masks.match_mask.Goals as goal
+
+pub returns : goal.returns
+returns g c = record {
+  bits = λ s l.
+      c.match_entry.ensures.bits s l ∙ ap (λ t. begins s t) c.table_place-level.ensures.string ∙
+      begins-four s (drop c.args.depth (take c.args.len (g.K.Key.bits c.args.key))) l;
+  small = c.match_entry.ensures.small;
+}
