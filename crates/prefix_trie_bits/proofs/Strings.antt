@@ -141,16 +141,6 @@ four-of-short b depth len h last l =
 
 -- ---- what the code computes of a value bit
 
-pub value_bit_from_window : (b : List Bool) (depth len x : ℕ) → depth ≤ len → len < depth + 5 → len ≤ length b → x ≡ number (take (len - depth) (drop depth (b ++ zeros 5))) → 1 * 2 ^ (len - depth) % 4294967296 - 1 + x ≡ value_bit (drop depth (take len b))
-value_bit_from_window b depth len x h last l e =
-    ap₂ (λ p m. p - 1 + m) (one_shl (len - depth) 32 (omega arith)) (e ∙ ap number (all-of-window b (zeros 5) depth len h l)) ∙
-    ap (λ n. 2 ^ n - 1 + number (drop depth (take len b))) (sym (length-below b depth len h l))
-
-pub value_bit_window_small : (b : List Bool) (depth len x : ℕ) → depth ≤ len → len < depth + 5 → len ≤ length b → x ≡ number (take (len - depth) (drop depth (b ++ zeros 5))) → 1 * 2 ^ (len - depth) % 4294967296 - 1 + x < 31
-value_bit_window_small b depth len x h last l e =
-    subst (λ y. y < 31) (sym (value_bit_from_window b depth len x h last l e))
-    (value_bit-small (drop depth (take len b)) (let n = length-below b depth len h l in omega arith))
-
 -- the five bits from a depth on, as one number
 module _ (b : List Bool) (depth x : ℕ) (within : depth ≤ length b) (read : x ≡ number (take 5 (drop depth (b ++ zeros 5)))) where
   five : length (take 5 (drop depth (b ++ zeros 5))) ≡ 5

@@ -18,10 +18,6 @@ module _ (b : List Bool) (len level : ℕ) (within : len ≤ length b) where
   pub steps-end : 5 * level ≤ len → len < 5 * level + 5 → length (chunks_of (take len b)) ≡ level
   steps-end h k = omega (arith, steps-length, h, k)
 
-  -- the value bit that the code reads is the string's own
-  pub bit-read : (x : ℕ) → 5 * level ≤ len → len < 5 * level + 5 → x ≡ value_bit (drop (5 * level) (take len b)) → bit_of (take len b) ≡ x
-  bit-read x h k e = ap value_bit (rest-is (take len b) ∙ ap (λ n. drop (5 * n) (take len b)) (steps-end h k)) ∙ sym e
-
 -- ---- the node that was reached
 
 -- the root is on every path
@@ -67,9 +63,6 @@ module _ (reading : List ℕ → Option Node) (paths : List (List ℕ)) (v : Sto
   }
 
 -- ---- whole steps of a length
-
-pub level_last : (level len : ℕ) → level ≡ len / 5 → len < 5 * level + 5
-level_last level len e = omega (arith, e)
 
 pub level_past : (level len : ℕ) → len < 5 * level + 5 → 5 * level ≤ len → level ≡ len / 5
 level_past level len h k = omega (arith, h, k)
