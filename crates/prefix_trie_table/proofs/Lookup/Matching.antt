@@ -1,5 +1,5 @@
 -- Which beginnings of a bit string have values, node by node on its search path.
-use Rattle.prefix_trie_table.proofs.Prelude.{◌≡◌, ℕ, ◌+◌, ◌-◌, ◌*◌, ◌/◌, ◌^◌, ◌<◌, ◌≤◌, Bool, true, false, List, length, length-drop, take, drop, Option, None, Some, is_some, refl, sym, ap, ap₂, ◌∙◌, subst, arith, inl, inr, add-sub_of_le, bit_at, option_or, false≢true, cases_Bool, cases_lt, take-take, drop-take, digits, length-digits, has, value_bit, has_first, IsLongest, IsShortest, NoneBegins, bit-clear, value_bit-small, Node, Match, has_bit, node_sizes, chunks_of, bit_of, Store, NodesHold, IsEnd, has_value, holds_value, NoneHeld, IsHeld, LongestHeld, ShortestHeld, Reached, IsAlong, IsLast, ReadsAlong, slot_at, IfSome, MatchOption}
+use Rattle.prefix_trie_table.proofs.Prelude.{◌≡◌, ℕ, ◌+◌, ◌-◌, ◌*◌, ◌/◌, ◌^◌, ◌<◌, ◌≤◌, Bool, true, false, List, length, length-drop, take, drop, Option, None, Some, is_some, refl, sym, ap, ap₂, ◌∙◌, subst, arith, inl, inr, add-sub_of_le, bit_at, option_or, false≢true, cases_Bool, cases_lt, take-take, drop-take, digits, length-digits, has, value_bit, has_first, IsLongest, IsShortest, NoneBegins, bit-clear, value_bit-small, Node, Match, has_bit, node_sizes, chunks_of, bit_of, Store, NodesHold, IsEnd, has_value, holds_value, NoneHeld, IsHeld, LongestHeld, ShortestHeld, Reached, IsAlong, IsLast, ReadsAlong, slot_at, IfSome, MatchOption, SomeNodes, LackLastBit}
 use Rattle.std.proofs.Math.Nat.{min-le_right}
 use Rattle.std.proofs.lemmas.List.{take_all, length-take, length-take-le}
 use Rattle.prefix_trie_table.proofs.Strings.Bits.{has_bit-is}
@@ -182,6 +182,10 @@ module _ (reading : List ℕ → Option Node) (q : List Bool) (a b c : ℕ) wher
 -- the node on the search path is the one at its path
 pub along_is : (q : List Bool) (here : Reached) (v : Store Node) → IsAlong q here v → (reading : List ℕ → Option Node) (paths : List (List ℕ)) → NodesHold node_sizes reading paths v → reading (take here.level (chunks_of q)) ≡ Some here.node
 along_is q here v at reading paths hold = deepest_is reading paths v (chunks_of q) here.level (slot_at here) hold (at.deepest reading paths hold) here.node at.node_is
+
+-- so it has no value bit 31
+pub no_last_bit : (q : List Bool) (here : Reached) (v : Store Node) → IsAlong q here v → (n : SomeNodes v) → LackLastBit n.reading → has_bit here.node.value_bitmap 31 ≡ false
+no_last_bit q here v at n lack = lack (take here.level (chunks_of q)) here.node (along_is q here v at n.reading n.paths n.hold)
 
 -- the best match so far, after this node was searched
 pub best_now : (q : List Bool) (here : Reached) (v : Store Node) → IsAlong q here v → (reading : List ℕ → Option Node) (paths : List (List ℕ)) → NodesHold node_sizes reading paths v

@@ -69,11 +69,11 @@ pub fn next_slot<K: Key>(from: Reached, rest: &BitString<K>, last: u32) -> Optio
     child_on_path(from, rest)
 }
 
-/// Reads the next node on a search path, above the level of the bit string's own node, if there is one.
+/// Reads the child of a node on a search path, if there is one.
 ///
 /// `rest` has the bits after those that lead to `from`, at least five.
 #[inline(always)]
-pub fn step_inside<K: Key, A: Allocator, V: Tick>(
+pub fn step_to_child<K: Key, A: Allocator, V: Tick>(
     nodes: &NodeAllocator<A, V>,
     from: Reached,
     rest: &BitString<K>,
@@ -120,7 +120,7 @@ pub fn step_down<K: Key, A: Allocator, V: Tick>(
     if from.level >= last {
         return None;
     }
-    step_inside(nodes, from, rest, counter)
+    step_to_child(nodes, from, rest, counter)
 }
 
 /// Reads each node on a search path once. Returns the last one, and the bits after those that lead to it.

@@ -11,7 +11,7 @@ ghost use Rattle.prefix_trie_table.specs.SearchPaths.{ReadsAlong};
 use crate::allocator::blocks::Cells;
 use crate::allocator::node::Node;
 use crate::allocator::nodes::{NodeAllocator, Tick};
-use crate::table::lookup::{Reached, root, step_inside};
+use crate::table::lookup::{Reached, root, step_to_child};
 use crate::table::seat::Seat;
 use prefix_trie_bits::node::string_of;
 use prefix_trie_bits::prefix::{BitString, Key};
@@ -79,9 +79,9 @@ pub fn longest_on_path<K: Key, A: Allocator, V: Tick>(
         if here.level >= last {
             return longest_in(here, &rest).or(best);
         }
-        // All four bits of this node count. The compiler knows that, and looks for no end of the path.
+        // At least five bits are left. `first(4)` tells the compiler that all four bits of the node count.
         best = longest_in(here, &rest.first(4)).or(best);
-        let Some(next) = step_inside(nodes, here, &rest, counter) else {
+        let Some(next) = step_to_child(nodes, here, &rest, counter) else {
             return best;
         };
         here = next;
@@ -134,10 +134,11 @@ pub fn shortest_on_path<K: Key, A: Allocator, V: Tick>(
         if here.level >= last {
             return shortest_in(here, &rest);
         }
+        // As in `longest_on_path`, all four bits of the node count.
         if let Some(found) = shortest_in(here, &rest.first(4)) {
             return Some(found);
         }
-        let Some(next) = step_inside(nodes, here, &rest, counter) else {
+        let Some(next) = step_to_child(nodes, here, &rest, counter) else {
             return None;
         };
         here = next;

@@ -1,7 +1,7 @@
 use Rattle.prefix_trie_table.proofs.Prelude.{◌≡◌, ◌+◌, ◌*◌, ◌/◌, length, take, ap, ◌∙◌, sym, subst, arith, LongestHeld, chunks_of}
 use Rattle.std.proofs.lemmas.List.{take-take}
 use Rattle.prefix_trie_table.proofs.Lookup.SearchPaths.{followed_root, followed_next, step_left, last_at_own, path_read}
-use Rattle.prefix_trie_table.proofs.Lookup.Matching.{along_is, first_left, best_now, best_at_last}
+use Rattle.prefix_trie_table.proofs.Lookup.Matching.{no_last_bit, along_is, first_left, best_now, best_at_last}
 use Rattle.prefix_trie_table.proofs.table.matching.longest_on_path.Goals as goal
 
 pub down-init : goal.down-init
@@ -16,19 +16,10 @@ longest_in-requires-clause-shallow g c =
     omega (arith, whole, c.down.invariant.descent.short)
 
 pub longest_in-requires-clause-few : goal.longest_in-requires-clause-few
-longest_in-requires-clause-few g c =
-    let s = c.requires.sound in
-    s.1 (take c.down.here.level (chunks_of c.args.path)) c.down.here.node (along_is c.args.path c.down.here c.args.nodes.now c.down.invariant.descent.along s.0.reading s.0.paths s.0.hold)
-
-pub longest_in-requires-in-down-clause-shallow : goal.longest_in-requires-in-down-clause-shallow
-longest_in-requires-in-down-clause-shallow g c =
-    let whole = c.down.invariant.descent.along.whole in
-    omega (arith, whole, c.down.invariant.descent.short)
+longest_in-requires-clause-few g c = no_last_bit c.args.path c.down.here c.args.nodes.now c.down.invariant.descent.along c.requires.sound.0 c.requires.sound.1
 
 pub longest_in-requires-in-down-clause-few : goal.longest_in-requires-in-down-clause-few
-longest_in-requires-in-down-clause-few g c =
-    let s = c.requires.sound in
-    s.1 (take c.down.here.level (chunks_of c.args.path)) c.down.here.node (along_is c.args.path c.down.here c.args.nodes.now c.down.invariant.descent.along s.0.reading s.0.paths s.0.hold)
+longest_in-requires-in-down-clause-few g c = no_last_bit c.args.path c.down.here c.args.nodes.now c.down.invariant.descent.along c.requires.sound.0 c.requires.sound.1
 
 pub returns-then-here-last : goal.returns-then-here-last
 returns-then-here-last g c =

@@ -1,6 +1,6 @@
 use Rattle.prefix_trie_table.proofs.Prelude.{◌+◌, chunks_of}
 use Rattle.prefix_trie_table.proofs.Lookup.Going.{deepest_in}
-use Rattle.prefix_trie_table.proofs.table.lookup.step_inside.Goals as goal
+use Rattle.prefix_trie_table.proofs.table.lookup.step_to_child.Goals as goal
 
 pub child_on_path-requires : goal.child_on_path-requires
 child_on_path-requires g c = c.requires.along.4
