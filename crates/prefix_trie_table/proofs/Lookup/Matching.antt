@@ -161,7 +161,7 @@ none_past reading paths v q level end hold at i from last within =
 
 module _ (reading : List ℕ → Option Node) (q : List Bool) (a b c : ℕ) where
   -- nothing after
-  pub longest_none : (o : Option Match) → LongestHeld reading q a b o → NoneHeld reading q b c → LongestHeld reading q a c o
+  longest_none : (o : Option Match) → LongestHeld reading q a b o → NoneHeld reading q b c → LongestHeld reading q a c o
   longest_none None low high = none_join reading q a b c low high
   longest_none (Some m) low high = (low.0, none_join reading q (m.len + 1) b c low.1 high)
 

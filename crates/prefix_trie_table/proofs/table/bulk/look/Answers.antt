@@ -1,4 +1,4 @@
-use Rattle.prefix_trie_table.proofs.Prelude.{take, arith, chunks_of, reached_by, ◌/◌, ap}
+use Rattle.prefix_trie_table.proofs.Prelude.{take, arith, reached_by, ◌/◌, ap}
 use Rattle.prefix_trie_table.proofs.Lookup.Bulk.{match_few, found_now}
 use Rattle.prefix_trie_table.proofs.Lookup.Matching.{along_is, no_last_bit}
 use Rattle.prefix_trie_table.proofs.Lookup.SearchPaths.{step_left}

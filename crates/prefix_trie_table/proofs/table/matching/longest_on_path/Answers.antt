@@ -1,7 +1,6 @@
-use Rattle.prefix_trie_table.proofs.Prelude.{◌≡◌, ◌+◌, ◌*◌, ◌/◌, length, take, ap, ◌∙◌, sym, subst, arith, LongestHeld, chunks_of}
-use Rattle.std.proofs.lemmas.List.{take-take}
-use Rattle.prefix_trie_table.proofs.Lookup.SearchPaths.{followed_root, followed_next, step_left, last_at_own, path_read}
-use Rattle.prefix_trie_table.proofs.Lookup.Matching.{no_last_bit, along_is, first_left, best_now, best_at_last}
+use Rattle.prefix_trie_table.proofs.Prelude.{◌≡◌, ◌+◌, ◌*◌, ◌/◌, take, ap, ◌∙◌, subst, arith, LongestHeld}
+use Rattle.prefix_trie_table.proofs.Lookup.SearchPaths.{followed_root, followed_next, last_at_own, path_read}
+use Rattle.prefix_trie_table.proofs.Lookup.Matching.{no_last_bit, first_left, best_now, best_at_last}
 use Rattle.prefix_trie_table.proofs.table.matching.longest_on_path.Goals as goal
 
 pub down-init : goal.down-init
@@ -54,7 +53,7 @@ down-preserved g c =
       descent = followed_next q c.down.here c.in-Some.next c.args.nodes.now _ _ _ _ at.descent next c.in-Some.ensures.visits;
       best = λ reading paths hold.
           let found = best_now q c.down.here c.args.nodes.now at.descent.along reading paths hold c.down.best c.longest_in-in-down.result c.or-best.result (at.best reading paths hold)
-              (λ nodes. c.longest_in-in-down.ensures q nodes at.descent.along.whole (first_left c.first.ensures at.descent.rest_is)) c.or-best.ensures in
+          (λ nodes. c.longest_in-in-down.ensures q nodes at.descent.along.whole (first_left c.first.ensures at.descent.rest_is)) c.or-best.ensures in
           let more : 5 * c.down.here.level + 5 ≡ 5 * c.in-Some.next.level = omega (arith, next.0) in
           subst (λ n. LongestHeld reading q 0 n c.or-best.result) more found;
     })
