@@ -2,8 +2,7 @@
 use Rattle.prefix_trie_table.proofs.Prelude.{◌≡◌, ℕ, ◌+◌, ◌*◌, ◌<◌, ◌≤◌, ◌⊎◌, inl, inr, Bool, List, [], ◌∷◌, ◌++◌, Option, None, Some, IfSome, MatchOption, Contains, option_map, map, take, drop, length, length-drop, get_or, set, sum_by, refl, sym, ap, ◌∙◌, subst, arith, option_or, add-mul, one-mul, cases_eq, length-map, map-append, length_push, take_more, take_more_set, get_or_default, get_or-map, get_or-drop, get_or-take, get_or-set_other, All-nil, All-push, Contains-append_cases, Contains-append_left, Contains-append_right, Contains-push_cases, sum_by_push, Node, Found, Descent, Match, HaveMatches, AreRead, GoOn, HasFound, cost_of, found_of, question_of, reached_by, slot_of, node_at, chunks_of, IsEnd, SomeNodes, Reached, IsAlong, IsLast, LongestHeld, Store}
 use Rattle.std.proofs.lemmas.List.{append_assoc, length-take-le, drop-drop, get_or-set_same}
 use Rattle.prefix_trie_table.specs.Bulk.{IsDescent}
-use Rattle.prefix_trie_table.proofs.Lookup.SearchPaths.{path_end}
-use Rattle.prefix_trie_table.proofs.Lookup.Matching.{none_past, longest_none, best_now}
+use Rattle.prefix_trie_table.proofs.Lookup.Matching.{best_now, best_at_last}
 
 -- a match has a value bit
 pub match_few : (reading : List ℕ → Option Node) (s : List Bool) (a b : ℕ) (o : Option Match) → LongestHeld reading s a b o → IfSome o (λ m. m.bit < 31)
@@ -27,9 +26,7 @@ module _ (q : List Bool) (here : Reached) (v : Store Node) where
   -- at the end of the descent it is the result
   pub found_end : IsLast q here v → (found : Option Found) → HasFound v q (5 * here.level + 5) found → HasFound v q (length q + 1) found
   found_end at found has reading paths hold =
-      let so_far = has reading paths hold in
-      let end = path_end q here v at reading paths hold in
-      (so_far.0, longest_none reading q 0 (5 * here.level + 5) (length q + 1) so_far.0 so_far.1 (none_past reading paths v q here.level (length q + 1) hold end), so_far.2)
+      let so_far = has reading paths hold in (so_far.0, best_at_last q here v at reading paths hold so_far.0 so_far.1, so_far.2)
 
 -- the question for a prefix is at its index among the questions
 pub question_at : {P : Type 0} (path : P → List Bool) (prefixes : List P) (i : ℕ) → i < length prefixes → (p : P) → p ≡ get_or prefixes i p → (q : List Bool) → q ≡ path p

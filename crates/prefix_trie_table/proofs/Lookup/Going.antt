@@ -1,7 +1,7 @@
 -- The descent along a bit string, as the code follows it on a key.
-use Rattle.prefix_trie_table.proofs.Prelude.{◌≡◌, ℕ, ◌+◌, ◌*◌, ◌/◌, ◌<◌, ◌≤◌, Bool, true, false, List, [], ◌∷◌, ◌++◌, length, get_or, take, drop, Option, Some, is_some, sym, ap, ◌∙◌, subst, arith, take_more, value_bit, Node, has_bit, rank, node_at, node_sizes, chunks_of, bit_of, Store, IsSlot, at_root, at_child, NodesHold, Deepest, IsEnd, has_child, node_or_blank}
+use Rattle.prefix_trie_table.proofs.Prelude.{◌≡◌, ℕ, ◌+◌, ◌*◌, ◌/◌, ◌<◌, ◌≤◌, Bool, true, false, List, [], ◌∷◌, ◌++◌, length, get_or, take, Option, Some, is_some, sym, ap, ◌∙◌, subst, arith, take_more, Node, has_bit, rank, node_at, node_sizes, chunks_of, Store, IsSlot, at_root, at_child, NodesHold, Deepest, IsEnd, has_child, node_or_blank}
 use Rattle.std.proofs.lemmas.List.{length-take-le}
-use Rattle.prefix_trie_table.proofs.Strings.Digits.{path-length, rest-is}
+use Rattle.prefix_trie_table.proofs.Strings.Digits.{path-length}
 use Rattle.prefix_trie_table.proofs.Tree.Trees.{slot_holds, is_some-Some}
 
 -- ---- the steps and the value bit of the first len bits of a key

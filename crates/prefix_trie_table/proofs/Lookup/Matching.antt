@@ -1,12 +1,14 @@
 -- Which beginnings of a bit string have values, node by node on its search path.
-use Rattle.prefix_trie_table.proofs.Prelude.{◌≡◌, ℕ, ◌+◌, ◌-◌, ◌*◌, ◌/◌, ◌^◌, ◌<◌, ◌≤◌, Bool, true, false, List, length, length-drop, take, drop, Option, None, Some, is_some, refl, sym, ap, ap₂, ◌∙◌, subst, arith, inl, inr, add-sub_of_le, bit_at, option_or, false≢true, cases_Bool, cases_lt, take-take, drop-take, digits, length-digits, has, value_bit, has_first, IsLongest, IsShortest, NoneBegins, bit-clear, value_bit-small, Node, Match, has_bit, node_sizes, chunks_of, bit_of, Store, NodesHold, IsEnd, has_value, holds_value, NoneHeld, IsHeld, LongestHeld, ShortestHeld, Reached, IsAlong, slot_at}
-use Rattle.std.proofs.lemmas.List.{take_all, length-take-le}
+use Rattle.prefix_trie_table.proofs.Prelude.{◌≡◌, ℕ, ◌+◌, ◌-◌, ◌*◌, ◌/◌, ◌^◌, ◌<◌, ◌≤◌, Bool, true, false, List, length, length-drop, take, drop, Option, None, Some, is_some, refl, sym, ap, ap₂, ◌∙◌, subst, arith, inl, inr, add-sub_of_le, bit_at, option_or, false≢true, cases_Bool, cases_lt, take-take, drop-take, digits, length-digits, has, value_bit, has_first, IsLongest, IsShortest, NoneBegins, bit-clear, value_bit-small, Node, Match, has_bit, node_sizes, chunks_of, bit_of, Store, NodesHold, IsEnd, has_value, holds_value, NoneHeld, IsHeld, LongestHeld, ShortestHeld, Reached, IsAlong, IsLast, ReadsAlong, slot_at, IfSome, MatchOption, SomeNodes, LackLastBit}
+use Rattle.std.proofs.Math.Nat.{min-le_right}
+use Rattle.std.proofs.lemmas.List.{take_all, length-take, length-take-le}
 use Rattle.prefix_trie_table.proofs.Strings.Bits.{has_bit-is}
 use Rattle.prefix_trie_table.proofs.Strings.Digits.{path-length, path-take, rest-is}
 use Rattle.prefix_trie_table.proofs.Strings.Starts.{is_start_take}
 use Rattle.prefix_trie_table.proofs.Tree.Trees.{is_none-None}
 use Rattle.prefix_trie_table.proofs.Lookup.Going.{level_past, deepest_is}
 use Rattle.prefix_trie_table.proofs.Lookup.Finding.{prefix_some}
+use Rattle.prefix_trie_table.proofs.Lookup.SearchPaths.{path_end}
 
 -- a bitmap without bit 31
 pub clear-small : (m : ℕ) → m < 2 ^ 32 → has_bit m 31 ≡ false → m < 2 ^ 31
@@ -16,6 +18,46 @@ clear-small m fits clear =
 -- the value bit of some first bits
 bit-small : (n bit : ℕ) (rest : List Bool) → n ≤ 4 → n ≤ length rest → bit ≡ value_bit (take n rest) → bit < 31
 bit-small n bit rest short within is = subst (λ x. x < 31) (sym is) (value_bit-small (take n rest) (omega (arith, length-take-le n rest within)))
+
+-- ---- what a bit string matches in a node, by its first four bits
+
+module _ (r s : List Bool) (same : take 4 r ≡ take 4 s) where
+  first_bits : (i : ℕ) → i ≤ 4 → take i s ≡ take i r
+  first_bits i few = sym (take-take i 4 s few) ∙ ap (take i) (sym same) ∙ take-take i 4 r few
+
+  first_within : (i : ℕ) → i ≤ 4 → i ≤ length s → i ≤ length r
+  first_within i few within = omega (arith, length-take-le i s within, ap length (first_bits i few), length-take i r, min-le_right i (length r))
+
+module _ (m : ℕ) (r s : List Bool) (same : take 4 r ≡ take 4 s) where
+  first_has : (i : ℕ) → i ≤ 4 → has_first m s i ≡ has_first m r i
+  first_has i few = ap (λ t. has m (value_bit t)) (first_bits r s same i few)
+
+  pub none_first : NoneBegins m r → NoneBegins m s
+  none_first none i few within = first_has i few ∙ none i few (first_within r s same i few within)
+
+  pub longest_first : (b : ℕ) → IsLongest m r b → IsLongest m s b
+  longest_first b l = record {
+    len = l.len;
+    short = l.short;
+    within = first_within s r (sym same) l.len l.short l.within;
+    bit_is = l.bit_is ∙ ap value_bit (sym (first_bits r s same l.len l.short));
+    set = l.set;
+    none_longer = λ i more few within. first_has i few ∙ l.none_longer i more few (first_within r s same i few within);
+  }
+
+  pub shortest_first : (b : ℕ) → IsShortest m r b → IsShortest m s b
+  shortest_first b l = record {
+    len = l.len;
+    short = l.short;
+    within = first_within s r (sym same) l.len l.short l.within;
+    bit_is = l.bit_is ∙ ap value_bit (sym (first_bits r s same l.len l.short));
+    set = l.set;
+    none_shorter = λ i less. let short : l.len ≤ 4 = l.short in first_has i (omega (arith, less, short)) ∙ l.none_shorter i less;
+  }
+
+-- the first four bits have the same first four as the whole
+pub first_left : {first rest left : List Bool} → first ≡ take 4 rest → rest ≡ left → take 4 first ≡ take 4 left
+first_left {first} {rest} {left} first_is is = ap (take 4) first_is ∙ take-take 4 4 rest (omega arith) ∙ ap (take 4) is
 
 -- ---- a beginning of i bits, at least as many as lead to a node
 
@@ -119,7 +161,7 @@ none_past reading paths v q level end hold at i from last within =
 
 module _ (reading : List ℕ → Option Node) (q : List Bool) (a b c : ℕ) where
   -- nothing after
-  pub longest_none : (o : Option Match) → LongestHeld reading q a b o → NoneHeld reading q b c → LongestHeld reading q a c o
+  longest_none : (o : Option Match) → LongestHeld reading q a b o → NoneHeld reading q b c → LongestHeld reading q a c o
   longest_none None low high = none_join reading q a b c low high
   longest_none (Some m) low high = (low.0, none_join reading q (m.len + 1) b c low.1 high)
 
@@ -127,6 +169,10 @@ module _ (reading : List ℕ → Option Node) (q : List Bool) (a b c : ℕ) wher
   longest_or : (o later : Option Match) → LongestHeld reading q a b o → LongestHeld reading q b c later → LongestHeld reading q a c (option_or later o)
   longest_or o None low high = longest_none o low high
   longest_or o (Some m) low high = high
+
+  shortest_none : (o : Option Match) → ShortestHeld reading q a b o → NoneHeld reading q b c → ShortestHeld reading q a c o
+  shortest_none None low high = none_join reading q a b c low high
+  shortest_none (Some m) low high = low
 
   -- nothing before, and what is found after is the first
   pub shortest_behind : NoneHeld reading q a b → (o : Option Match) → ShortestHeld reading q b c o → ShortestHeld reading q a c o
@@ -137,6 +183,10 @@ module _ (reading : List ℕ → Option Node) (q : List Bool) (a b c : ℕ) wher
 pub along_is : (q : List Bool) (here : Reached) (v : Store Node) → IsAlong q here v → (reading : List ℕ → Option Node) (paths : List (List ℕ)) → NodesHold node_sizes reading paths v → reading (take here.level (chunks_of q)) ≡ Some here.node
 along_is q here v at reading paths hold = deepest_is reading paths v (chunks_of q) here.level (slot_at here) hold (at.deepest reading paths hold) here.node at.node_is
 
+-- so it has no value bit 31
+pub no_last_bit : (q : List Bool) (here : Reached) (v : Store Node) → IsAlong q here v → (n : SomeNodes v) → LackLastBit n.reading → has_bit here.node.value_bitmap 31 ≡ false
+no_last_bit q here v at n lack = lack (take here.level (chunks_of q)) here.node (along_is q here v at n.reading n.paths n.hold)
+
 -- the best match so far, after this node was searched
 pub best_now : (q : List Bool) (here : Reached) (v : Store Node) → IsAlong q here v → (reading : List ℕ → Option Node) (paths : List (List ℕ)) → NodesHold node_sizes reading paths v
     → (best found result : Option Match) → LongestHeld reading q 0 (5 * here.level) best
@@ -145,3 +195,25 @@ pub best_now : (q : List Bool) (here : Reached) (v : Store Node) → IsAlong q h
 best_now q here v at reading paths hold best found result so_far in_node is =
     subst (LongestHeld reading q 0 (5 * here.level + 5)) (sym is)
     (longest_or reading q 0 (5 * here.level) (5 * here.level + 5) best found so_far (in_node reading (along_is q here v at reading paths hold)))
+
+-- and after the last node was searched
+pub best_at_last : (q : List Bool) (here : Reached) (v : Store Node) → IsLast q here v → (reading : List ℕ → Option Node) (paths : List (List ℕ)) → NodesHold node_sizes reading paths v
+    → (best : Option Match) → LongestHeld reading q 0 (5 * here.level + 5) best → LongestHeld reading q 0 (length q + 1) best
+best_at_last q here v last reading paths hold best found =
+    longest_none reading q 0 (5 * here.level + 5) (length q + 1) best found (none_past reading paths v q here.level (length q + 1) hold (path_end q here v last reading paths hold))
+
+-- the shortest match, which only the last node can have
+pub shortest_at_last : (q : List Bool) (here : Reached) (v : Store Node) → IsLast q here v → (reading : List ℕ → Option Node) (paths : List (List ℕ)) → NodesHold node_sizes reading paths v
+    → (found : Option Match) → NoneHeld reading q 0 (5 * here.level)
+    → ((nodes : List ℕ → Option Node) → nodes (take here.level (chunks_of q)) ≡ Some here.node → ShortestHeld nodes q (5 * here.level) (5 * here.level + 5) found)
+    → ShortestHeld reading q 0 (length q + 1) found
+shortest_at_last q here v last reading paths hold found none in_node =
+    shortest_behind reading q 0 (5 * here.level) (length q + 1) none found
+    (shortest_none reading q (5 * here.level) (5 * here.level + 5) (length q + 1) found (in_node reading (along_is q here v last.along reading paths hold))
+    (none_past reading paths v q here.level (length q + 1) hold (path_end q here v last reading paths hold)))
+
+-- the nodes read down to the one of a match are as many as its length tells
+pub match_read : (q : List Bool) (v : Store Node) (level before after : ℕ) (o : Option Match) → IfSome o (λ m. (5 * level ≤ m.len) × (m.len < 5 * level + 5)) → after ≡ before + (level + 1)
+    → ReadsAlong q v before after → MatchOption o (ReadsAlong q v before after) (λ m. after ≡ before + (m.len / 5 + 1))
+match_read q v level before after None own counted read = read
+match_read q v level before after (Some m) own counted read = omega (arith, own.0, own.1, counted)

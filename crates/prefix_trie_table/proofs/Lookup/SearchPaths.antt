@@ -57,6 +57,10 @@ module _ (q r : List Bool) (level : ℕ) (left : r ≡ drop (5 * level) q) where
     pub rest_bit : (x : ℕ) → x ≡ value_bit r → bit_of q ≡ x
     rest_bit x read = ap value_bit (rest-is q ∙ ap (λ n. drop (5 * n) q) rest_ends ∙ sym left) ∙ sym read
 
+-- a node at the level of the string's own node is the last
+pub last_at_own : (q : List Bool) (here : Reached) (v : Store Node) → IsAlong q here v → (last : ℕ) → last ≡ length q / 5 → last ≤ here.level → IsLast q here v
+last_at_own q here v at last is ends = record { along = at; missing = λ more. absurd (own_level here.level last _ is ends more) }
+
 -- at the root
 pub followed_root : (q : List Bool) (here : Reached) (v : Store Node) → here.level ≡ 0 → IsAlong q here v → length q ≤ 128 → (before now : ℕ) → now ≡ before + 1 → IsFollowed q here v q before now
 followed_root q here v top along short before now met =

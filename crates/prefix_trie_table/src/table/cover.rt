@@ -1,5 +1,5 @@
 //! The walk over all matches of a bit string, the shortest first.
-ghost use Rattle.std.specs.Prelude.{◌≡◌, ℕ, ◌+◌, ◌*◌, ◌^◌, ◌<◌, ◌≤◌, List, Option, Some, [], ◌∷◌, false, length, MatchOption};
+ghost use Rattle.std.specs.Prelude.{◌≡◌, ℕ, ◌+◌, ◌*◌, ◌^◌, ◌<◌, ◌≤◌, Bool, List, Option, Some, [], ◌∷◌, false, drop, length, MatchOption};
 ghost use Rattle.prefix_trie_bits.specs.Model.Matches.{covers};
 ghost use Rattle.prefix_trie_table.specs.Forest.{SomeNodes};
 ghost use Rattle.prefix_trie_table.specs.Matching.{LackLastBit};
@@ -90,13 +90,13 @@ impl<T: Drop, A: Allocator, V: Tick> Table<T, A, V> {
 }
 
 /// Returns the value bits of the matches in a node of the search path.
+///
+/// `rest` has the bits after those that lead to `here`.
 #[inline]
-fn matches_in<K: Key>(here: Reached, path: &BitString<K>) -> u32
-    requires shallow { 5 * here.level ≤ 128 }
-    requires whole { 5 * here.level ≤ length path.now }
-    ensures { AreLeft result here.node.value_bitmap (5 * here.level) (5 * here.level) path.now }
+fn matches_in<K: Key>(here: Reached, rest: &BitString<K>) -> u32
+    ensures { (q : List Bool) → rest.now ≡ drop (5 * here.level) q → AreLeft result here.node.value_bitmap (5 * here.level) (5 * here.level) q }
 {
-    here.node.value_bitmap & path.after(5 * here.level).match_mask()
+    here.node.value_bitmap & rest.match_mask()
 }
 
 /// Removes the shortest of a node's matches, which has the lowest bit, and returns it.
@@ -132,15 +132,16 @@ fn next_match<K: Key, A: Allocator, V: Tick>(
         → GoesOn path.now here.new matches.new first result nodes.now }
 {
     let last = path.len() / 5;
+    let mut rest = path.after(5 * here.level);
     'down: loop {
         if let Some(found) = take_match(*here, matches) {
             return Some(found);
         }
-        let rest = path.after(5 * here.level);
         let Some(next) = step_down(nodes, *here, &rest, last, counter) else {
             return None;
         };
-        *matches = matches_in(next, path);
+        rest = rest.below();
+        *matches = matches_in(next, &rest);
         *here = next;
     }
 }

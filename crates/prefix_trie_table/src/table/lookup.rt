@@ -35,6 +35,23 @@ pub fn root<A: Allocator, V: Tick>(nodes: &NodeAllocator<A, V>, counter: &mut V)
     Reached { at, node, level: 0 }
 }
 
+/// Returns the slot of the child of a node on a search path, if there is one. It reads no node.
+///
+/// `rest` has the bits after those that lead to `from`, at least five.
+#[inline(always)]
+fn child_on_path<K: Key>(from: Reached, rest: &BitString<K>) -> Option<NodeSlot>
+    requires { 5 ≤ length rest.now }
+    ensures { (q : List Bool) (v : Store Node) → IsAlong q from v → rest.now ≡ drop (5 * from.level) q
+        → MatchOption result (IsLast q from v)
+        (λ at. IsAlong q (record { at = at; node = node_at v.slots at; level = from.level + 1 }) v) }
+{
+    let child = rest.child_bit();
+    if !has_bit(from.node.child_bitmap, child) {
+        return None;
+    }
+    Some(from.node.child_slot(child))
+}
+
 /// Returns the slot of the next node on a search path, if there is one. It reads no node.
 ///
 /// `rest` has the bits after those that lead to `from`, and `last` is the level of the bit string's own node.
@@ -49,11 +66,36 @@ pub fn next_slot<K: Key>(from: Reached, rest: &BitString<K>, last: u32) -> Optio
     if from.level >= last {
         return None;
     }
-    let child = rest.child_bit();
-    if !has_bit(from.node.child_bitmap, child) {
+    child_on_path(from, rest)
+}
+
+/// Reads the child of a node on a search path, if there is one.
+///
+/// `rest` has the bits after those that lead to `from`, at least five.
+#[inline(always)]
+pub fn step_to_child<K: Key, A: Allocator, V: Tick>(
+    nodes: &NodeAllocator<A, V>,
+    from: Reached,
+    rest: &BitString<K>,
+    counter: &mut V,
+) -> Option<Reached>
+    requires sound { SomeNodes nodes.now }
+    requires along { (q : List Bool) × IsAlong q from nodes.now × (rest.now ≡ drop (5 * from.level) q) × (length q ≤ 128) × (5 ≤ length rest.now) }
+    ensures step { (q : List Bool) → IsAlong q from nodes.now → rest.now ≡ drop (5 * from.level) q
+        → MatchOption result (IsLast q from nodes.now) (λ next. (next.level ≡ from.level + 1) × IsAlong q next nodes.now) }
+    ensures visits { MatchOption result
+        (V.count counter.new ≡ V.count counter.old)
+        (λ _. V.count counter.new ≡ V.count counter.old + 1) }
+{
+    let Some(at) = child_on_path(from, rest) else {
         return None;
-    }
-    Some(from.node.child_slot(child))
+    };
+    let node = nodes.visit(at, counter);
+    Some(Reached {
+        at,
+        node,
+        level: from.level + 1,
+    })
 }
 
 /// Reads the next node on a search path, if there is one.
@@ -75,15 +117,10 @@ pub fn step_down<K: Key, A: Allocator, V: Tick>(
         (V.count counter.new ≡ V.count counter.old)
         (λ _. V.count counter.new ≡ V.count counter.old + 1) }
 {
-    let Some(at) = next_slot(from, rest, last) else {
+    if from.level >= last {
         return None;
-    };
-    let node = nodes.visit(at, counter);
-    Some(Reached {
-        at,
-        node,
-        level: from.level + 1,
-    })
+    }
+    step_to_child(nodes, from, rest, counter)
 }
 
 /// Reads each node on a search path once. Returns the last one, and the bits after those that lead to it.

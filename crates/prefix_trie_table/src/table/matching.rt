@@ -11,7 +11,7 @@ ghost use Rattle.prefix_trie_table.specs.SearchPaths.{ReadsAlong};
 use crate::allocator::blocks::Cells;
 use crate::allocator::node::Node;
 use crate::allocator::nodes::{NodeAllocator, Tick};
-use crate::table::lookup::{Reached, root, step_down};
+use crate::table::lookup::{Reached, root, step_to_child};
 use crate::table::seat::Seat;
 use prefix_trie_bits::node::string_of;
 use prefix_trie_bits::prefix::{BitString, Key};
@@ -37,12 +37,14 @@ impl Match {
 }
 
 /// Finds the longest match whose value this node on the search path has.
+///
+/// `rest` has the bits after those that lead to `here`, or only the first four.
 #[inline(always)]
 pub fn longest_in<K: Key>(here: Reached, rest: &BitString<K>) -> Option<Match>
     requires shallow { 5 * here.level ≤ 128 }
     requires few { is_set here.node.value_bitmap 31 ≡ false }
     ensures { (q : List Bool) (reading : List ℕ → Option Node)
-        → 5 * here.level ≤ length q → rest.now ≡ drop (5 * here.level) q
+        → 5 * here.level ≤ length q → take 4 rest.now ≡ take 4 (drop (5 * here.level) q)
         → reading (take here.level (chunks_of q)) ≡ Some here.node
         → LongestHeld reading q (5 * here.level) (5 * here.level + 5) result }
 {
@@ -74,8 +76,12 @@ pub fn longest_on_path<K: Key, A: Allocator, V: Tick>(
     let mut rest = path;
     let mut best = None;
     'down: loop {
-        best = longest_in(here, &rest).or(best);
-        let Some(next) = step_down(nodes, here, &rest, last, counter) else {
+        if here.level >= last {
+            return longest_in(here, &rest).or(best);
+        }
+        // At least five bits are left. `first(4)` tells the compiler that all four bits of the node count.
+        best = longest_in(here, &rest.first(4)).or(best);
+        let Some(next) = step_to_child(nodes, here, &rest, counter) else {
             return best;
         };
         here = next;
@@ -84,12 +90,14 @@ pub fn longest_on_path<K: Key, A: Allocator, V: Tick>(
 }
 
 /// Finds the shortest match whose value this node on the search path has.
+///
+/// `rest` has the bits after those that lead to `here`, or only the first four.
 #[inline(always)]
 fn shortest_in<K: Key>(here: Reached, rest: &BitString<K>) -> Option<Match>
     requires shallow { 5 * here.level ≤ 128 }
     requires few { is_set here.node.value_bitmap 31 ≡ false }
     ensures found { (q : List Bool) (reading : List ℕ → Option Node)
-        → 5 * here.level ≤ length q → rest.now ≡ drop (5 * here.level) q
+        → 5 * here.level ≤ length q → take 4 rest.now ≡ take 4 (drop (5 * here.level) q)
         → reading (take here.level (chunks_of q)) ≡ Some here.node
         → ShortestHeld reading q (5 * here.level) (5 * here.level + 5) result }
     ensures own { IfSome result (λ m. (5 * here.level ≤ m.len) × (m.len < 5 * here.level + 5)) }
@@ -123,10 +131,14 @@ pub fn shortest_on_path<K: Key, A: Allocator, V: Tick>(
     let mut here = root(nodes, counter);
     let mut rest = path;
     'down: loop {
-        if let Some(found) = shortest_in(here, &rest) {
+        if here.level >= last {
+            return shortest_in(here, &rest);
+        }
+        // As in `longest_on_path`, all four bits of the node count.
+        if let Some(found) = shortest_in(here, &rest.first(4)) {
             return Some(found);
         }
-        let Some(next) = step_down(nodes, here, &rest, last, counter) else {
+        let Some(next) = step_to_child(nodes, here, &rest, counter) else {
             return None;
         };
         here = next;

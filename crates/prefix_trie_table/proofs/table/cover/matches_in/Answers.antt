@@ -3,6 +3,6 @@ use Rattle.prefix_trie_table.proofs.Lookup.Covers.{all_left}
 use Rattle.prefix_trie_table.proofs.table.cover.matches_in.Goals as goal
 
 pub returns : goal.returns
-returns g c =
-    all_left c.args.here.level c.args.here.node.value_bitmap c.match_mask.result c.args.path.now
-    (subst (λ r. HoldsValues c.match_mask.result (λ s. begins s r)) c.after.ensures c.match_mask.ensures)
+returns g c = λ q left.
+    all_left c.args.here.level c.args.here.node.value_bitmap c.match_mask.result q
+    (subst (λ r. HoldsValues c.match_mask.result (λ s. begins s r)) left c.match_mask.ensures)

@@ -1,13 +1,14 @@
-use Rattle.prefix_trie_table.proofs.Prelude.{◌+◌, chunks_of}
-use Rattle.prefix_trie_table.proofs.Lookup.Going.{deepest_in}
-use Rattle.prefix_trie_table.proofs.Lookup.SearchPaths.{step_left}
+use Rattle.prefix_trie_table.proofs.Prelude.{arith}
+use Rattle.prefix_trie_table.proofs.Lookup.SearchPaths.{last_at_own, step_left}
 use Rattle.prefix_trie_table.proofs.table.lookup.step_down.Goals as goal
 
-pub next_slot-requires : goal.next_slot-requires
-next_slot-requires g c = let at = c.requires.along in step_left at.0 _ c.args.from.level c.args.last at.2 at.4
-
-pub visit-node-requires : goal.visit-node-requires
-visit-node-requires g c =
-    let s = c.requires.sound in
+pub step_to_child-requires-clause-along : goal.step_to_child-requires-clause-along
+step_to_child-requires-clause-along g c =
     let at = c.requires.along in
-    deepest_in s.reading s.paths c.args.nodes.now (chunks_of at.0) (c.args.from.level + 1) _ s.hold ((c.in-Some.ensures at.0 c.args.nodes.now at.1 at.2 at.4).deepest s.reading s.paths s.hold)
+    (at.0, at.1, at.2, at.3, step_left at.0 _ c.args.from.level c.args.last at.2 at.4 (omega (arith, c.if-from-last.false)))
+
+pub returns-then-from-last-clause-step : goal.returns-then-from-last-clause-step
+returns-then-from-last-clause-step g c = λ q at left last. last_at_own q c.args.from _ at _ last (omega (arith, c.if-from-last.true))
+
+pub returns-clause-step : goal.returns-clause-step
+returns-clause-step g c = λ q at left last. c.step_to_child.ensures.step q at left

@@ -1,12 +1,12 @@
-use Rattle.prefix_trie_table.proofs.Prelude.{subst, arith, IsLongest, NoneBegins}
-use Rattle.prefix_trie_table.proofs.Lookup.Matching.{clear-small, none_here, longest_here, longest-small}
+use Rattle.prefix_trie_table.proofs.Prelude.{arith}
+use Rattle.prefix_trie_table.proofs.Lookup.Matching.{clear-small, none_here, longest_here, longest-small, longest_first, none_first}
 use Rattle.prefix_trie_table.proofs.table.matching.longest_in.Goals as goal
 
 pub longest_match-requires : goal.longest_match-requires
 longest_match-requires g c = clear-small c.args.here.node.value_bitmap (omega arith) c.requires.few
 
 pub returns-in_default : goal.returns-in_default
-returns-in_default g c = λ q reading whole left is. none_here q c.args.here.level whole reading c.args.here.node is (subst (NoneBegins c.args.here.node.value_bitmap) left c.in_default.ensures)
+returns-in_default g c = λ q reading whole left is. none_here q c.args.here.level whole reading c.args.here.node is (none_first _ _ _ left c.in_default.ensures)
 
 pub string_of-requires : goal.string_of-requires
 string_of-requires g c = longest-small _ c.in-Some.bit _ c.in-Some.ensures
@@ -14,4 +14,4 @@ string_of-requires g c = longest-small _ c.in-Some.bit _ c.in-Some.ensures
 pub returns : goal.returns
 returns g c = λ q reading whole left is.
     longest_here q c.args.here.level whole reading c.args.here.node is c.in-Some.bit c.string_of.result.0 c.string_of.result.1 c.string_of.ensures.only
-    (subst (λ s. IsLongest c.args.here.node.value_bitmap s c.in-Some.bit) left c.in-Some.ensures)
+    (longest_first _ _ _ left _ c.in-Some.ensures)

@@ -1,6 +1,6 @@
-use Rattle.prefix_trie_table.proofs.Prelude.{◌≡◌, ◌+◌, ◌*◌, length, take, ◌∙◌, subst, arith, LongestHeld, chunks_of, ◌/◌, ap}
-use Rattle.prefix_trie_table.proofs.Lookup.SearchPaths.{followed_root, followed_next, left_length, path_end, path_read}
-use Rattle.prefix_trie_table.proofs.Lookup.Matching.{none_past, longest_none, along_is, best_now}
+use Rattle.prefix_trie_table.proofs.Prelude.{◌≡◌, ◌+◌, ◌*◌, ◌/◌, take, ap, ◌∙◌, subst, arith, LongestHeld}
+use Rattle.prefix_trie_table.proofs.Lookup.SearchPaths.{followed_root, followed_next, last_at_own, path_read}
+use Rattle.prefix_trie_table.proofs.Lookup.Matching.{no_last_bit, first_left, best_now, best_at_last}
 use Rattle.prefix_trie_table.proofs.table.matching.longest_on_path.Goals as goal
 
 pub down-init : goal.down-init
@@ -15,26 +15,32 @@ longest_in-requires-clause-shallow g c =
     omega (arith, whole, c.down.invariant.descent.short)
 
 pub longest_in-requires-clause-few : goal.longest_in-requires-clause-few
-longest_in-requires-clause-few g c =
-    let s = c.requires.sound in
-    s.1 (take c.down.here.level (chunks_of c.args.path)) c.down.here.node (along_is c.args.path c.down.here c.args.nodes.now c.down.invariant.descent.along s.0.reading s.0.paths s.0.hold)
+longest_in-requires-clause-few g c = no_last_bit c.args.path c.down.here c.args.nodes.now c.down.invariant.descent.along c.requires.sound.0 c.requires.sound.1
 
-pub step_down-requires-clause-sound : goal.step_down-requires-clause-sound
-step_down-requires-clause-sound g c = c.requires.sound.0
+pub longest_in-requires-in-down-clause-few : goal.longest_in-requires-in-down-clause-few
+longest_in-requires-in-down-clause-few g c = no_last_bit c.args.path c.down.here c.args.nodes.now c.down.invariant.descent.along c.requires.sound.0 c.requires.sound.1
 
-pub step_down-requires-clause-along : goal.step_down-requires-clause-along
-step_down-requires-clause-along g c = let at = c.down.invariant.descent in (c.args.path, at.along, at.rest_is, at.short, (ap (λ n. n / 5) c.len-last.ensures.len))
+pub returns-then-here-last : goal.returns-then-here-last
+returns-then-here-last g c =
+    let q = c.args.path in
+    let at = c.down.invariant in
+    let last = last_at_own q c.down.here c.args.nodes.now at.descent.along _ (ap (λ n. n / 5) c.len-last.ensures.len) (omega (arith, c.if-here-last.true)) in
+    record {
+      found = λ reading paths hold. best_at_last q c.down.here c.args.nodes.now last reading paths hold c.or.result
+          (best_now q c.down.here c.args.nodes.now at.descent.along reading paths hold c.down.best c.longest_in.result c.or.result (at.best reading paths hold)
+          (λ nodes. c.longest_in.ensures q nodes at.descent.along.whole (ap (take 4) at.descent.rest_is)) c.or.ensures);
+      visits = path_read q c.down.here c.args.nodes.now last _ _ at.descent.counted;
+    }
 
 pub returns-in_default : goal.returns-in_default
 returns-in_default g c =
     let q = c.args.path in
     let at = c.down.invariant in
-    let level = c.down.here.level in
-    let last = c.in_default.ensures.step q at.descent.along at.descent.rest_is (ap (λ n. n / 5) c.len-last.ensures.len) in
+    let last = c.in_default.ensures.step q at.descent.along at.descent.rest_is in
     record {
-      found = λ reading paths hold.
-          let found = best_now q c.down.here c.args.nodes.now at.descent.along reading paths hold c.down.best c.longest_in.result c.or-best.result (at.best reading paths hold) (λ nodes. c.longest_in.ensures q nodes at.descent.along.whole at.descent.rest_is) c.or-best.ensures in
-          longest_none reading q 0 (5 * level + 5) (length q + 1) c.or-best.result found (none_past reading paths c.args.nodes.now q level (length q + 1) hold (path_end q c.down.here c.args.nodes.now last reading paths hold));
+      found = λ reading paths hold. best_at_last q c.down.here c.args.nodes.now last reading paths hold c.or-best.result
+          (best_now q c.down.here c.args.nodes.now at.descent.along reading paths hold c.down.best c.longest_in-in-down.result c.or-best.result (at.best reading paths hold)
+          (λ nodes. c.longest_in-in-down.ensures q nodes at.descent.along.whole (first_left c.first.ensures at.descent.rest_is)) c.or-best.ensures);
       visits = path_read q c.down.here c.args.nodes.now last _ _ (c.in_default.ensures.visits ∙ at.descent.counted);
     }
 
@@ -42,18 +48,12 @@ pub down-preserved : goal.down-preserved
 down-preserved g c =
     let q = c.args.path in
     let at = c.down.invariant in
-    let next = c.in-Some.ensures.step q at.descent.along at.descent.rest_is (ap (λ n. n / 5) c.len-last.ensures.len) in
+    let next = c.in-Some.ensures.step q at.descent.along at.descent.rest_is in
     rw c.below-rest.ensures (record {
       descent = followed_next q c.down.here c.in-Some.next c.args.nodes.now _ _ _ _ at.descent next c.in-Some.ensures.visits;
       best = λ reading paths hold.
-          let found = best_now q c.down.here c.args.nodes.now at.descent.along reading paths hold c.down.best c.longest_in.result c.or-best.result (at.best reading paths hold) (λ nodes. c.longest_in.ensures q nodes at.descent.along.whole at.descent.rest_is) c.or-best.ensures in
+          let found = best_now q c.down.here c.args.nodes.now at.descent.along reading paths hold c.down.best c.longest_in-in-down.result c.or-best.result (at.best reading paths hold)
+          (λ nodes. c.longest_in-in-down.ensures q nodes at.descent.along.whole (first_left c.first.ensures at.descent.rest_is)) c.or-best.ensures in
           let more : 5 * c.down.here.level + 5 ≡ 5 * c.in-Some.next.level = omega (arith, next.0) in
           subst (λ n. LongestHeld reading q 0 n c.or-best.result) more found;
     })
-
-pub below-rest-requires : goal.below-rest-requires
-below-rest-requires g c =
-    let at = c.down.invariant.descent in
-    let next = c.in-Some.ensures.step c.args.path at.along at.rest_is (ap (λ n. n / 5) c.len-last.ensures.len) in
-    let whole = next.1.whole in
-    omega (arith, next.0, whole, left_length c.args.path c.down.rest c.down.here.level at.rest_is)
