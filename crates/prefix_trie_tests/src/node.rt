@@ -40,7 +40,7 @@ fn few_bits_at<K: Key>(key: K, depth: u32, len: u32) -> Option<BitString<K>>
     if bits.len() < 5 { Some(bits) } else { None }
 }
 
-/// Returns the bit or the mask that a sample asks for, and the expected one.
+/// Returns the bit or the mask of a sample, and the expected one.
 fn sampled<K: Key>(sample: &Sample<K>) -> Option<(u32, u32)> {
     match sample {
         Sample::Value(key, depth, len, bit) => {
