@@ -1,3 +1,4 @@
+-- The lemmas of this crate: the bits, masks and places of a node, keys and networks, and the laws of the model.
 pub mod Prelude
 pub mod Checks
 pub mod Tables

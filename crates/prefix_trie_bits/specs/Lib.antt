@@ -1,3 +1,4 @@
+-- The definitions of this crate: keys and networks, the strings and places of a node, and the model with its laws.
 pub mod BitStrings
 pub mod Begins
 pub mod Windows

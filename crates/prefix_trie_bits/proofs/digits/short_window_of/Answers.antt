@@ -1,3 +1,4 @@
+-- The window of a key of at most 32 bits: one shift of the padded key gives its bits from `depth` on.
 use Rattle.prefix_trie_bits.proofs.Prelude.{◌≡◌, ◌+◌, ◌-◌, ◌*◌, ◌/◌, ◌%◌, ◌^◌, sym, ap, ap₂, ◌∙◌, arith, mod-eq_of_lt, number-window, one_shl}
 use Rattle.prefix_trie_bits.proofs.digits.short_window_of.Goals as goal
 

@@ -1,3 +1,4 @@
+-- The invariant of `Places::new`: each set bit is still to be moved or is already at its position in the listing.
 use Rattle.prefix_trie_bits.proofs.Prelude.{◌≡◌, ℕ, ◌^◌, ◌<◌, ◌||◌, false, has}
 use Rattle.prefix_trie_bits.proofs.Listing.{heap_at, heap}
 use Rattle.prefix_trie_bits.proofs.node.Places.new.Given as goal

@@ -1,3 +1,4 @@
+-- The lowest set bit is the first place in listing order, and clearing it removes that place only.
 use Rattle.prefix_trie_bits.proofs.Prelude.{ap, ◌∙◌, strings, pick}
 use Rattle.prefix_trie_bits.proofs.Picks.{pick-none}
 use Rattle.prefix_trie_bits.proofs.Listing.{first_below, takes_first}

@@ -1,3 +1,4 @@
+-- The mask that `not_below` returns keeps exactly the places that the bit's string does not begin.
 use Rattle.prefix_trie_bits.proofs.Prelude.{ap, ◌&&◌, ◌∙◌, [], not, begins, has, strings}
 use Rattle.prefix_trie_bits.proofs.Bitmaps.{has-and}
 use Rattle.prefix_trie_bits.proofs.Picks.{pick-both}

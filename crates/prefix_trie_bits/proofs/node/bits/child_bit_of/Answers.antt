@@ -1,3 +1,4 @@
+-- The window of five bits after `depth` is the number of a child, which is below 32.
 use Rattle.prefix_trie_bits.proofs.Prelude.{◌≡◌, ◌<◌, length, arith, subst, sym}
 use Rattle.prefix_trie_bits.proofs.Strings.{child_bit_from_window, child_bit-small}
 use Rattle.prefix_trie_bits.proofs.node.bits.child_bit_of.Goals as goal

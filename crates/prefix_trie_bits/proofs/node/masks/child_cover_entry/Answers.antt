@@ -1,3 +1,4 @@
+-- An entry of `CHILDREN_COVERED` has the child bits of the strings that its own string begins, by a check of the table.
 use Rattle.prefix_trie_bits.proofs.Tables.{child-cover-entry}
 use Rattle.prefix_trie_bits.proofs.node.masks.child_cover_entry.Goals as goal
 

@@ -1,3 +1,4 @@
+-- A string of at most four bits begins the same children as its row of `CHILDREN_COVERED`.
 use Rattle.prefix_trie_bits.proofs.Prelude.{◌≡◌, ◌∙◌, ap, length, arith, begins}
 use Rattle.prefix_trie_bits.proofs.Strings.{four-of-short}
 use Rattle.prefix_trie_bits.proofs.node.masks.child_cover_mask.Goals as goal

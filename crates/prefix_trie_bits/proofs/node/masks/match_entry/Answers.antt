@@ -1,3 +1,4 @@
+-- An entry of `MATCHES` has the value bits of the strings that begin its own, by a check of the table.
 use Rattle.prefix_trie_bits.proofs.Tables.{match-entry}
 use Rattle.prefix_trie_bits.proofs.node.masks.match_entry.Goals as goal
 

@@ -1,3 +1,4 @@
+-- The lowest bit under the match mask is that of the shortest string which begins the key's. If the mask is empty, none does.
 use Rattle.prefix_trie_bits.proofs.Prelude.{take, drop}
 use Rattle.prefix_trie_bits.proofs.Matches.{none_begins, shortest_found}
 use Rattle.prefix_trie_bits.proofs.node.masks.shortest_match.Goals as goal

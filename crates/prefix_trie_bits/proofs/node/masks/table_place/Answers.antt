@@ -1,3 +1,4 @@
+-- A table's row is the window of four bits after `depth`, and its level is how many of them are bits of the key.
 use Rattle.prefix_trie_bits.proofs.Prelude.{◌≡◌, length, arith}
 use Rattle.prefix_trie_bits.proofs.Strings.{pos-below, level-string}
 use Rattle.prefix_trie_bits.proofs.node.masks.table_place.Goals as goal

@@ -1,3 +1,4 @@
+-- The invariant of `behind`: the result has the bits copied so far, and zeros after them.
 use Rattle.prefix_trie_bits.proofs.Prelude.{◌≡◌, ◌+◌, ◌-◌, ◌≤◌, ◌++◌, take, drop, zeros}
 use Rattle.prefix_trie_bits.proofs.prefix.Key.behind.Given as goal
 

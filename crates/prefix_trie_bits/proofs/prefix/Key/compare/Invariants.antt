@@ -1,3 +1,4 @@
+-- The invariant of `compare`: the bits read so far are equal, so the later bits decide the order.
 use Rattle.prefix_trie_bits.proofs.Prelude.{◌≡◌, ◌-◌, ◌≤◌, drop, listing_cmp}
 use Rattle.prefix_trie_bits.proofs.prefix.Key.compare.Given as goal
 

@@ -1,3 +1,4 @@
+-- A new array of cells has no slots and no blocks, so it is sound.
 use Rattle.prefix_trie_table.proofs.Prelude.{[], ◌≡◌, ap, Option, Store, refl, sym, ◌∙◌, arith, subst, All-map, HasSizes, Tier, no_blocks, cell_sizes}
 use Rattle.prefix_trie_table.proofs.Blocks.Tiers.{cell_tiers}
 use Rattle.prefix_trie_table.proofs.allocator.blocks.cells.Goals as goal

@@ -1,3 +1,4 @@
+-- After the loop there is one empty free list for each size, in the order of the sizes.
 use Rattle.prefix_trie_table.proofs.Prelude.{◌++◌, ◌∷◌, [], map, sym, ap, ◌∙◌, take_all, no_blocks}
 use Rattle.std.proofs.lemmas.List.{map_more}
 use Rattle.prefix_trie_table.proofs.allocator.blocks.empty_lists.Goals as goal

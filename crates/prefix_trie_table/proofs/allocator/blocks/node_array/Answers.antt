@@ -1,3 +1,4 @@
+-- A new array of nodes has a blank root and no blocks, so it is sound.
 use Rattle.prefix_trie_table.proofs.Prelude.{◌≡◌, [], ◌∷◌, ◌++◌, Node, Store, length, refl, sym, ap, ◌∙◌, subst, arith, All-map, HasSizes, Tier, no_blocks, node_sizes, blank_node}
 use Rattle.prefix_trie_table.proofs.Blocks.Tiers.{node_tiers}
 use Rattle.prefix_trie_table.proofs.allocator.blocks.node_array.Goals as goal

@@ -1,3 +1,4 @@
+-- Each iteration clears one more list, so no list has a block after the loop.
 use Rattle.prefix_trie_table.proofs.Prelude.{◌++◌, length, map, take, drop, set, sym, ap, ◌∙◌, append-nil, length-map, take_all, drop_all, take-append_seam, map_over_more, Tier, no_blocks}
 use Rattle.prefix_trie_table.proofs.allocator.free_list.clear_all.Goals as goal
 

@@ -1,3 +1,4 @@
+-- The invariant of `clear_all`: the lists so far have no blocks, and the later ones are unchanged.
 use Rattle.prefix_trie_table.proofs.Prelude.{◌≡◌, ◌++◌, map, take, drop, no_blocks}
 use Rattle.prefix_trie_table.proofs.allocator.free_list.clear_all.Given as goal
 

@@ -1,3 +1,4 @@
+-- The invariant of `shrink_all`: the blocks of all sizes are unchanged.
 use Rattle.prefix_trie_table.proofs.Prelude.{◌≡◌}
 use Rattle.prefix_trie_table.proofs.allocator.free_list.shrink_all.Given as goal
 

@@ -1,3 +1,4 @@
+-- The invariant of `move_run`: the items moved so far are exchanged, and later slots are unchanged.
 use Rattle.prefix_trie_table.proofs.Prelude.{◌≡◌, length, swap_runs}
 use Rattle.prefix_trie_table.proofs.allocator.slots.move_run.Given as goal
 

@@ -1,3 +1,4 @@
+-- A slot array can hold the vacant item, so `append` accepts it.
 use Rattle.prefix_trie_table.proofs.Prelude.{sym, subst}
 use Rattle.prefix_trie_table.proofs.allocator.slots.push_vacant.Goals as goal
 

@@ -1,3 +1,4 @@
+-- The invariant of `push_vacant`: the slots appended so far are vacant, and the capacity is unchanged.
 use Rattle.prefix_trie_table.proofs.Prelude.{◌≡◌, ◌+◌, ◌++◌, replicate, length}
 use Rattle.prefix_trie_table.proofs.allocator.slots.push_vacant.Given as goal
 

@@ -1,3 +1,4 @@
+-- The invariant of `write_run`: the first i items are written, and the other slots are unchanged.
 use Rattle.prefix_trie_table.proofs.Prelude.{◌≡◌, length, take, put_run}
 use Rattle.prefix_trie_table.proofs.allocator.slots.write_run.Given as goal
 

@@ -1,3 +1,4 @@
+-- Dropping n bits of the key and taking n from the length leaves the bits after the first n.
 use Rattle.prefix_trie_bits.proofs.Prelude.{◌≤◌, length, drop, length-take-le, sym, ap, ◌∙◌, arith}
 use Rattle.prefix_trie_bits.specs.Windows.{rest_string}
 use Rattle.prefix_trie_bits.proofs.prefix.bit_string.BitString.after.Goals as goal

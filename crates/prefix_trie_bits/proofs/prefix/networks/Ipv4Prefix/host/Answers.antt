@@ -1,3 +1,4 @@
+-- The path of an IPv4 host is all 32 bits of its address.
 use Rattle.prefix_trie_bits.proofs.Prelude.{le_of_eq, take_all, digits, length-digits}
 use Rattle.prefix_trie_bits.proofs.prefix.networks.Ipv4Prefix.host.Goals as goal
 

@@ -1,3 +1,4 @@
+-- The IPv4 address that `network` returns has the bits of the prefix and then zeros, which determine its number.
 use Rattle.std.proofs.Common.{◌≡◌, ℕ, ap, ◌∙◌, subst}
 use Rattle.std.specs.Net.Addr.{IsIpv4OfBits}
 use Rattle.prefix_trie_bits.proofs.Networks.Ends.{number_is}

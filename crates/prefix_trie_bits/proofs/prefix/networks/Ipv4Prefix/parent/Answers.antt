@@ -1,3 +1,4 @@
+-- An IPv4 network's parent is made from its path without the last bit, if it has a bit.
 use Rattle.std.proofs.Common.{◌≡◌, ◌-◌, ◌<◌, ◌≤◌, ap, ◌∙◌, subst, arith}
 use Rattle.prefix_trie_bits.proofs.Networks.Parents.{parent_is}
 use Rattle.prefix_trie_bits.proofs.prefix.networks.Ipv4Prefix.parent.Goals as goal

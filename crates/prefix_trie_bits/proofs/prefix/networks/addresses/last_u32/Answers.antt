@@ -1,3 +1,4 @@
+-- Adding the host ones to the lowest IPv4 address of a network does not overflow and gives the highest one.
 use Rattle.std.proofs.Common.{arith}
 use Rattle.prefix_trie_bits.proofs.Networks.Ends.{last_is}
 use Rattle.prefix_trie_bits.proofs.prefix.networks.addresses.last_u32.Goals as goal

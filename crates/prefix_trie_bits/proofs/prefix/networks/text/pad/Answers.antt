@@ -1,3 +1,4 @@
+-- What `pad` writes is the text of the value as a whole, since the buffer has it unchanged.
 use Rattle.std.proofs.Common.{ℕ, List, subst}
 use Rattle.std.specs.Fmt.{WritesOnOk, WritesStyledOnOk, formatter_spec, padded}
 use Rattle.prefix_trie_bits.proofs.Texts.Inline.{of_text, of_styled}

@@ -1,3 +1,4 @@
+-- Moving an item is writing the vacant item to its old slot and then the item to its new one, in either order.
 use Rattle.prefix_trie_table.proofs.Prelude.{◌≡◌, get_or, set, ◌∙◌, get_or_default}
 use Rattle.prefix_trie_table.proofs.Blocks.RunLemmas.{set-comm}
 use Rattle.prefix_trie_table.proofs.allocator.array.VecSlotArray.move_to.Goals as goal

@@ -1,3 +1,4 @@
+-- Overwriting a slot of a used block overwrites that item of its list, so the store stays sound.
 use Rattle.prefix_trie_table.proofs.Prelude.{◌∷◌, set, refl, sym, subst, Sound, with_slot}
 use Rattle.prefix_trie_table.proofs.Blocks.Soundness.{Sound-set}
 use Rattle.prefix_trie_table.proofs.allocator.blocks.Blocks+S+Vec+S+A+A.at_mut.Goals as goal

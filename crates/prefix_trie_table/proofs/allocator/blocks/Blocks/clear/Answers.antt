@@ -1,3 +1,4 @@
+-- After `clear` only the slots before the first block are left and no tier has a block, so the store is sound.
 use Rattle.prefix_trie_table.proofs.Prelude.{◌≡◌, [], All, length, sym, ap, ◌∙◌, subst, arith}
 use Rattle.std.proofs.lemmas.List.{length-take-le}
 use Rattle.prefix_trie_table.proofs.Blocks.Soundness.{Sound-new, none_made, no_slots_made}

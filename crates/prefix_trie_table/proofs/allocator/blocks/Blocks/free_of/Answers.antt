@@ -1,3 +1,4 @@
+-- The free blocks of a tier are the starts in its free list.
 use Rattle.prefix_trie_table.proofs.Prelude.{◌<◌, length, sym, ap, ◌∙◌, get_or_default, Tier}
 use Rattle.prefix_trie_table.proofs.Blocks.BySize.{free_at}
 use Rattle.prefix_trie_table.proofs.allocator.blocks.Blocks.free_of.Goals as goal

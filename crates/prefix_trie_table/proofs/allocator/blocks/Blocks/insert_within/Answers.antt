@@ -1,3 +1,4 @@
+-- Shifting the items after the new one into the block's vacant slot changes only that block, so the store stays sound.
 use Rattle.prefix_trie_table.proofs.Prelude.{◌≡◌, ◌+◌, insert, remove, sym, ap, ◌∙◌}
 use Rattle.prefix_trie_table.proofs.Blocks.Capacity.{Sound-capacity}
 use Rattle.prefix_trie_table.proofs.Blocks.Soundness.{Sound-inserted}

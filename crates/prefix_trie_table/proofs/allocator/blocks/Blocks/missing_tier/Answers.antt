@@ -1,3 +1,4 @@
+-- The block that an insertion needs, in three cases: a first item, a block with a vacant slot, and a full block.
 use Rattle.prefix_trie_table.proofs.Prelude.{Some, sym, ap, ◌∙◌, arith}
 use Rattle.prefix_trie_table.proofs.Blocks.BySize.{first_size, need_first, need_none, need_full}
 use Rattle.prefix_trie_table.proofs.allocator.blocks.Blocks.missing_tier.Goals as goal

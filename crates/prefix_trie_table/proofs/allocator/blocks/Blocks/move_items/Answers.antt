@@ -1,3 +1,4 @@
+-- Exchanging a used run with a vacant one moves a block's list to an empty block, so the store stays sound.
 use Rattle.prefix_trie_table.proofs.Prelude.{◌≡◌, sym, ap, ◌∙◌, swap_runs}
 use Rattle.prefix_trie_table.proofs.Blocks.Capacity.{Sound-capacity}
 use Rattle.prefix_trie_table.proofs.Blocks.Moving.{Sound-moved}

@@ -1,3 +1,4 @@
+-- A store without blocks is sound, and its tiers have the sizes that it was given.
 use Rattle.prefix_trie_table.proofs.Prelude.{arith}
 use Rattle.prefix_trie_table.proofs.Blocks.Soundness.{no_slots_made, Sound-new}
 use Rattle.prefix_trie_table.proofs.allocator.blocks.Blocks.new.Goals as goal

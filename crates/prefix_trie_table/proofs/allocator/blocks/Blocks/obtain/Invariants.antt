@@ -1,3 +1,4 @@
+-- The invariant of `obtain`: the blocks made so far are free, and slots and used blocks are unchanged.
 use Rattle.prefix_trie_table.proofs.Prelude.{◌≡◌, ℕ, ◌-◌, ◌≤◌, List, None, UsedBlock, Sound, Turnover, SameSlots, tier_sizes, size_in, free_in, many_of}
 use Rattle.prefix_trie_table.proofs.allocator.blocks.Blocks.obtain.Given as goal
 

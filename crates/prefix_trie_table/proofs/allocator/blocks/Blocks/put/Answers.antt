@@ -1,3 +1,4 @@
+-- Writing to a slot overwrites one item of one block, or a slot before all blocks. The store stays sound in both cases.
 use Rattle.prefix_trie_table.proofs.Prelude.{◌≡◌, ◌+◌, set, ap, ◌∙◌}
 use Rattle.prefix_trie_table.proofs.Blocks.Capacity.{Sound-capacity}
 use Rattle.prefix_trie_table.proofs.Blocks.Soundness.{Sound-set, Sound-set_before}

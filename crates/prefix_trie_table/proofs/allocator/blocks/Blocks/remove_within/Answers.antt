@@ -1,3 +1,4 @@
+-- Shifting the items after the removed one back leaves a vacant slot at the end of its block, so the store stays sound.
 use Rattle.prefix_trie_table.proofs.Prelude.{◌≡◌, ◌+◌, ◌-◌, get_or, insert, remove, arith, sym, ap, ◌∙◌}
 use Rattle.prefix_trie_table.proofs.Blocks.Capacity.{Sound-capacity}
 use Rattle.prefix_trie_table.proofs.Blocks.Soundness.{Sound-removed, slot_of_block}

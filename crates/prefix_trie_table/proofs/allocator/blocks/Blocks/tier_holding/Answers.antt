@@ -1,3 +1,4 @@
+-- The table `TIERS` has the tier of the smallest block that holds n items, for the sizes of nodes and of values.
 use Rattle.prefix_trie_table.proofs.Blocks.Tiers.{held_small, tier_in_table}
 use Rattle.prefix_trie_table.proofs.allocator.blocks.Blocks.tier_holding.Goals as goal
 

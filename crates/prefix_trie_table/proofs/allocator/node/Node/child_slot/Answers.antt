@@ -1,3 +1,4 @@
+-- The offset of a child in its block is the rank of its bit, which counts the children before it.
 use Rattle.prefix_trie_table.proofs.Prelude.{◌+◌, ap, sym, ◌∙◌, arith}
 use Rattle.prefix_trie_table.proofs.Strings.Bits.{rank-ones}
 use Rattle.prefix_trie_table.proofs.allocator.node.Node.child_slot.Goals as goal

@@ -1,3 +1,4 @@
+-- The offset of a value in its block is the rank of its bit, which counts the values before it.
 use Rattle.prefix_trie_table.proofs.Prelude.{◌+◌, sym, ◌∙◌, arith}
 use Rattle.prefix_trie_table.proofs.Strings.Bits.{rank-ones}
 use Rattle.prefix_trie_table.proofs.allocator.node.Node.value_seat.Goals as goal

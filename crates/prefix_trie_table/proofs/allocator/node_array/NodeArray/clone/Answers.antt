@@ -1,3 +1,4 @@
+-- The copied parts are as long as the originals, so the copy of a node array keeps the invariant.
 use Rattle.prefix_trie_table.proofs.Prelude.{length, ap, arith}
 use Rattle.prefix_trie_table.proofs.allocator.node_array.NodeArray.clone.Goals as goal
 

@@ -1,3 +1,4 @@
+-- Each node's indices of sizes were read from bytes, so they fit into a byte.
 use Rattle.prefix_trie_table.proofs.Prelude.{ℕ, ◌<◌, length, get_or, subst, arith, blank_node}
 use Rattle.prefix_trie_table.specs.Blocks.NodeArrays.{FitsByte, NodeList}
 use Rattle.prefix_trie_table.specs.declared.allocator.node_array.Head.{Head}

@@ -1,3 +1,4 @@
+-- A node that was read at a slot has the same indices of sizes as the slot, so joining it with them changes nothing.
 use Rattle.prefix_trie_table.proofs.Prelude.{◌<◌, length, get_or, ap, ◌∙◌, sym, arith, blank_node}
 use Rattle.prefix_trie_table.specs.Blocks.NodeArrays.{NodeList, node_of, nodes_of}
 use Rattle.prefix_trie_table.proofs.Blocks.NodeLists.{length-nodes, rejoined}

@@ -1,3 +1,4 @@
+-- Appending a node is appending its two parts, for which both parts of the array have capacity.
 use Rattle.prefix_trie_table.proofs.Prelude.{◌≡◌, ◌<◌, ◌++◌, [], ◌∷◌, length, ◌∙◌, arith, vec_capacity}
 use Rattle.prefix_trie_table.specs.Blocks.NodeArrays.{node_of, nodes_of}
 use Rattle.prefix_trie_table.proofs.Blocks.NodeLists.{length-nodes, nodes-append, packed}

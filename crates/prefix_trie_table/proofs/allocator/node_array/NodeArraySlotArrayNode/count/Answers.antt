@@ -1,3 +1,4 @@
+-- The list of whole nodes is as long as the list of their first parts.
 use Rattle.prefix_trie_table.proofs.Prelude.{length, sym, ap, ◌∙◌}
 use Rattle.prefix_trie_table.specs.Blocks.NodeArrays.{NodeList}
 use Rattle.prefix_trie_table.proofs.Blocks.NodeLists.{length-nodes}

@@ -1,3 +1,4 @@
+-- Truncating both parts of a node array to the same length truncates the list of whole nodes.
 use Rattle.prefix_trie_table.proofs.Prelude.{take, ap, ◌∙◌}
 use Rattle.prefix_trie_table.specs.Blocks.NodeArrays.{NodeList, nodes_of}
 use Rattle.prefix_trie_table.proofs.Blocks.NodeLists.{nodes-take}

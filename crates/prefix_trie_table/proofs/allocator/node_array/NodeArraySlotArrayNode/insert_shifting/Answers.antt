@@ -1,3 +1,4 @@
+-- Shifting a node in is shifting its two parts in, at the same place of both arrays.
 use Rattle.prefix_trie_table.proofs.Prelude.{◌≡◌, ◌<◌, length, length-remove, insert, remove, ap, ◌∙◌, arith}
 use Rattle.prefix_trie_table.specs.Blocks.NodeArrays.{NodeList, node_of, nodes_of}
 use Rattle.prefix_trie_table.proofs.Blocks.NodeLists.{length-nodes, nodes-insert, nodes-remove, packed}

@@ -1,3 +1,4 @@
+-- Shrinking both parts of a node array leaves it no more capacity than it needs, since both are equally long.
 use Rattle.prefix_trie_table.proofs.Prelude.{◌≡◌, ◌≤◌, length, sym, ap, ◌∙◌, arith, vec_len, vec_capacity, on_ok_weaker}
 use Rattle.std.specs.Prelude.{max}
 use Rattle.prefix_trie_table.proofs.Blocks.NodeLists.{length-nodes}

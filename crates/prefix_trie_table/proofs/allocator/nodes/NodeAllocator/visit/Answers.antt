@@ -1,3 +1,4 @@
+-- Reading a node ticks the counter once.
 use Rattle.prefix_trie_table.proofs.Prelude.{rules}
 use Rattle.prefix_trie_table.proofs.allocator.nodes.NodeAllocator.visit.Goals as goal
 

@@ -1,3 +1,4 @@
+-- Each iteration writes a colon and one group in full, so all groups are written after the loop.
 use Rattle.std.proofs.Common.{arith}
 use Rattle.std.proofs.lemmas.Grind.{common_steps}
 use Rattle.prefix_trie_bits.proofs.prefix.networks.text.GroupsDisplay.fmt.Goals as goal

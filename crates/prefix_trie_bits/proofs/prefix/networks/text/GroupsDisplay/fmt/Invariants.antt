@@ -1,3 +1,4 @@
+-- The invariant of the loop over groups: the groups so far are written in full, with colons between them.
 use Rattle.std.proofs.Common.{◌∷◌, get_or, take}
 use Rattle.std.specs.Fmt.{HasWritten, IsPlainFormatter}
 use Rattle.prefix_trie_bits.specs.Texts.{full_groups}

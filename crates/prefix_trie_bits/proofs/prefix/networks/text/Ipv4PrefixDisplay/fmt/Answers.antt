@@ -1,3 +1,4 @@
+-- An IPv4 network is written as its address, a slash and its length: the address has the octets of the number.
 use Rattle.std.proofs.Common.{◌≡◌, arith}
 use Rattle.std.proofs.lemmas.Grind.{common_steps}
 use Rattle.std.specs.Int.{w32, to_be_bytes}

@@ -1,3 +1,4 @@
+-- The debug text of an IPv6 network has its groups in full, since the address has the segments of the number.
 use Rattle.std.proofs.Common.{◌≡◌, ◌∙◌, arith}
 use Rattle.std.proofs.lemmas.Grind.{common_steps}
 use Rattle.std.specs.Int.{w128, to_be_bytes}

@@ -1,3 +1,4 @@
+-- An IPv6 network is written as its address, a slash and its length: the address has the segments of the number.
 use Rattle.std.proofs.Common.{◌≡◌, arith}
 use Rattle.std.proofs.lemmas.Grind.{common_steps}
 use Rattle.std.specs.Int.{w128, to_be_bytes}
