@@ -1,3 +1,4 @@
+-- The table is still a table after the value in a seat is overwritten, with the entry of that bit string changed.
 use Rattle.prefix_trie_table.proofs.Prelude.{Some, refl, sym, ap, ◌∙◌, get, Contents, with_value_at}
 use Rattle.prefix_trie_table.proofs.Tree.Invariant.{some_table}
 use Rattle.prefix_trie_table.proofs.Lookup.Lending.{cell_there, seat_has, left_shape, table_left, stored_is, written_seen}

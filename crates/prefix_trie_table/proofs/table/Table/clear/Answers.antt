@@ -1,3 +1,4 @@
+-- `clear` leaves the root alone, with no free block either, which is the model's step `Clear`.
 use Rattle.prefix_trie_table.proofs.Prelude.{[], ◌∷◌, Option, length, ap, sym, subst, arith, IsTable, Node, node_sizes, Store}
 use Rattle.prefix_trie_table.proofs.Tree.Invariant.{some_table}
 use Rattle.prefix_trie_table.proofs.Removal.Clearing.{under_limit, root_slot}

@@ -1,3 +1,4 @@
+-- Splitting off what the empty string begins moves all entries, so the new table has them and just the nodes that they need.
 use Rattle.prefix_trie_table.proofs.Prelude.{◌≡◌, cond, [], None, get, ap, ◌∙◌, begins-nil, get-part_below, needed, same_entries}
 use Rattle.prefix_trie_bits.specs.Model.Entries.{Entries}
 use Rattle.prefix_trie_bits.specs.Calls.Entries.{part_below}

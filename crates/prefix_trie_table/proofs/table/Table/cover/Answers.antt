@@ -1,3 +1,4 @@
+-- The matches of the root and of the nodes after it on the search path are all covers of the bit string, shortest first.
 use Rattle.prefix_trie_table.proofs.Prelude.{◌*◌, drop, ap, sym, ◌∙◌, arith, covers, State, Contents, same_shape}
 use Rattle.prefix_trie_table.proofs.Tree.Invariant.{some_table}
 use Rattle.prefix_trie_table.proofs.Lookup.Covers.{at_root}

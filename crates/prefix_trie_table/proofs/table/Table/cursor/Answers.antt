@@ -1,3 +1,4 @@
+-- The stack that `start_at` builds has the keys that are selected from the bit string.
 use Rattle.prefix_trie_table.proofs.Prelude.{map, ap, Tree}
 use Rattle.prefix_trie_table.proofs.Tree.Invariant.{trie_of}
 use Rattle.prefix_trie_table.proofs.table.Table.cursor.Goals as goal

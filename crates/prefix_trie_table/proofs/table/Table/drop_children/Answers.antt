@@ -1,3 +1,4 @@
+-- Removing what a bit string begins is a step of the model, in two cases: the empty string clears, and others remove a part.
 use Rattle.prefix_trie_table.proofs.Prelude.{refl, sym, ◌∙◌, arith, stored_state}
 use Rattle.prefix_trie_table.proofs.Tree.Invariant.{some_table}
 use Rattle.prefix_trie_table.proofs.Removal.PartTaken.{may_ask_all, seen_trie}

@@ -1,3 +1,4 @@
+-- Lending the value of the longest match keeps the table a table, whatever is written to it.
 use Rattle.prefix_trie_table.proofs.Prelude.{◌+◌, take, length}
 use Rattle.prefix_trie_table.proofs.Tree.Invariant.{some_table}
 use Rattle.prefix_trie_table.proofs.Lookup.Matched.{has_nodes, met_is}

@@ -1,3 +1,4 @@
+-- A walk that takes the table apart from the empty string gives the whole listing.
 use Rattle.prefix_trie_table.proofs.Prelude.{◌∙◌, ap, listing_below, listing_of_root}
 use Rattle.prefix_trie_table.proofs.table.Table.into_walk.Goals as goal
 

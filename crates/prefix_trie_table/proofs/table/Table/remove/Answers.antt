@@ -1,3 +1,4 @@
+-- Removing a value and then the empty nodes of its path is the model's step `Remove`, and the table keeps its invariant.
 use Rattle.prefix_trie_table.proofs.Tree.Invariant.{some_table, some_counted}
 use Rattle.prefix_trie_table.proofs.Removal.NodesLeft.{removed_without}
 use Rattle.prefix_trie_table.proofs.Blocks.Sizing.{table_sizes}

@@ -1,3 +1,4 @@
+-- Splitting off a table is a step of the model: this table is left without the part, and the second one has just that part.
 use Rattle.prefix_trie_table.proofs.Prelude.{ℕ, refl, sym, ap, ap₂, ◌∙◌, subst, arith, RemoveChildren, Done, StepByPath, Sized-prop, Contents, Shaped-prop, stored_state, Store, IsTable}
 use Rattle.prefix_trie_table.proofs.Blocks.Sizing.{table_sizes, storage_of}
 use Rattle.prefix_trie_table.proofs.Removal.Clearing.{root_slot}

@@ -1,3 +1,4 @@
+-- Removing a value and no node is the model's step `RemoveKeepTree`, and the table keeps its invariant.
 use Rattle.prefix_trie_table.proofs.Tree.Invariant.{some_table, some_counted}
 use Rattle.prefix_trie_table.proofs.Removal.OneEntry.{kept_without}
 use Rattle.prefix_trie_table.proofs.Insertion.Spaces.{Grows-none}

@@ -1,3 +1,4 @@
+-- Making blocks changes neither entries nor nodes, so the end of the search stays right and the table keeps its invariant.
 use Rattle.prefix_trie_table.proofs.Prelude.{rules, ap, State, Contents}
 use Rattle.prefix_trie_table.proofs.Tree.Invariant.{some_table}
 use Rattle.prefix_trie_table.proofs.Tree.Kept.{ends_at, end_last, kept_shape, kept_same, kept_table, kept_end, kept_prepares}

@@ -1,3 +1,4 @@
+-- Removing the entries that the test rejects is the model's step, and the table keeps its invariant.
 use Rattle.prefix_trie_table.proofs.Prelude.{◌≡◌, refl, sym, subst, CallableOnEachEntry, AreWithin, listing, State, Contents, same_shape}
 use Rattle.prefix_trie_table.proofs.Tree.Invariant.{some_table}
 use Rattle.prefix_trie_table.proofs.Removal.PartTaken.{seen_trie}

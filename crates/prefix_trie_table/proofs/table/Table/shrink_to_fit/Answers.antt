@@ -1,3 +1,4 @@
+-- Freeing spare memory changes no slot and no free list, so the table is the same, even after an error.
 use Rattle.prefix_trie_table.proofs.Prelude.{refl, ◌∙◌}
 use Rattle.prefix_trie_table.proofs.Tree.Capacities.{shape_stays, sizes_stay, table_stays}
 use Rattle.prefix_trie_table.proofs.table.Table.shrink_to_fit.Goals as goal

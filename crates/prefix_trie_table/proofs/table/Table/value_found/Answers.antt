@@ -1,3 +1,4 @@
+-- A match that was stored by `find_longest_each` gives the model's longest match, with its value.
 use Rattle.prefix_trie_table.proofs.Prelude.{◌+◌, length}
 use Rattle.prefix_trie_table.proofs.Lookup.Matched.{cell_inside, longest_none, longest_returned}
 use Rattle.prefix_trie_table.proofs.Lookup.Rounds.{answer_is, found_some, found_none}

@@ -1,3 +1,4 @@
+-- The table is a tree with its sizes, as `walk_of` requires.
 use Rattle.prefix_trie_table.proofs.Tree.Invariant.{sized_trie}
 use Rattle.prefix_trie_table.proofs.table.Table.walk.Goals as goal
 

@@ -1,3 +1,4 @@
+-- Walking what is selected below a bit string gives the entries whose keys it begins.
 use Rattle.prefix_trie_table.proofs.Prelude.{◌∙◌, ap, listing_below, Contents}
 use Rattle.prefix_trie_table.proofs.Tree.Invariant.{sized_trie}
 use Rattle.prefix_trie_table.proofs.table.Table.walk_below.Goals as goal

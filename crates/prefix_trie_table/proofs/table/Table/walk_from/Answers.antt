@@ -1,3 +1,4 @@
+-- Walking from a bit string, in two cases: its own entry comes first, or is left out.
 use Rattle.prefix_trie_table.proofs.Prelude.{cond, ◌∙◌, sym, ap, listing_from, listing_after, selected, Contents}
 use Rattle.prefix_trie_table.proofs.Tree.Invariant.{sized_trie}
 use Rattle.prefix_trie_table.proofs.table.Table.walk_from.Goals as goal

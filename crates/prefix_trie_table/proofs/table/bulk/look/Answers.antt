@@ -1,3 +1,4 @@
+-- A look at a search's node gives the longest match down to that node, and the next node of the path unless it is the last.
 use Rattle.prefix_trie_table.proofs.Prelude.{take, arith, reached_by, ◌/◌, ap}
 use Rattle.prefix_trie_table.proofs.Lookup.Bulk.{match_few, found_now}
 use Rattle.prefix_trie_table.proofs.Lookup.Matching.{along_is, no_last_bit}

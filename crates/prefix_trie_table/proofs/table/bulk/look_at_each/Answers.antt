@@ -1,3 +1,4 @@
+-- Each search that is looked at goes on or stores its result, and no search still to be looked at is overwritten.
 use Rattle.prefix_trie_table.proofs.Prelude.{◌≡◌, ◌+◌, ◌<◌, MatchOption, get_or, length, map, take, drop, refl, sym, ap, ◌∙◌, subst, arith, drop-set-lt, length-map, Node, Descent, GoOn, new_descent, reached_by, blank_node, node_at, IsAlong, IsLast}
 use Rattle.prefix_trie_table.proofs.Lookup.Bulk.{descent_is, descent_inside, descent_best, descent_next, read_on, rest_more, round_on, round_end, question_at, go_on_none, found_end}
 use Rattle.prefix_trie_table.proofs.Lookup.SearchPaths.{path_end}

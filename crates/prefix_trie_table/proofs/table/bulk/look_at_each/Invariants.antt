@@ -1,3 +1,4 @@
+-- The invariant of `look_at_each`: of the searches so far, those that go on are in front and the others' results are stored.
 use Rattle.prefix_trie_table.proofs.Prelude.{◌≡◌, ◌≤◌, map, take, drop, Node, AreRead, GoOn, Store}
 use Rattle.prefix_trie_table.proofs.table.bulk.look_at_each.Given as goal
 

@@ -1,3 +1,4 @@
+-- Each round moves all searches one level down, so all have their matches when none is left.
 use Rattle.prefix_trie_table.proofs.Prelude.{◌≡◌, ◌+◌, ◌*◌, ◌≤◌, length, map, take, sum, sum_by, refl, ap, ◌∙◌, subst, arith, inl, length-map, HaveMatches, cost_of, question_of}
 use Rattle.std.proofs.lemmas.List.{length-take-le, take_all}
 use Rattle.prefix_trie_bits.specs.Keys.{path_within}

@@ -1,3 +1,4 @@
+-- The invariant of `match_each`: each search is at the node of its level or has its match, and the reads so far are counted.
 use Rattle.prefix_trie_table.proofs.Prelude.{◌≡◌, ◌+◌, ◌-◌, ◌*◌, ◌≤◌, All, List, ℕ, length, map, take, sum, sum_by, HaveMatches, AreCosts, cost_of, question_of}
 use Rattle.prefix_trie_table.specs.Bulk.{IsDescent}
 use Rattle.prefix_trie_table.proofs.table.bulk.match_each.Given as goal

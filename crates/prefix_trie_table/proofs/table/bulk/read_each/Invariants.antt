@@ -1,3 +1,4 @@
+-- The invariant of `read_each`: the nodes of the searches so far are read, each with one count.
 use Rattle.prefix_trie_table.proofs.Prelude.{◌≡◌, ◌+◌, EachOf, IsAhead}
 use Rattle.prefix_trie_table.proofs.table.bulk.read_each.Given as goal
 

@@ -1,3 +1,4 @@
+-- The places that a string begins in its own node lead to exactly the entries below it, which the test rejects.
 use Rattle.prefix_trie_table.proofs.Prelude.{◌≡◌, ◌*◌, ◌/◌, sym, ap, ◌∙◌, subst, arith, All-weaker, All-contains_itself, is_in, to_come, and-first, is_in-and, CallableOnEachEntry, AsksUpTo, PreservesBelow, read, IsPlaceOf}
 use Rattle.std.specs.List.{Contains}
 use Rattle.prefix_trie_table.proofs.Lookup.SearchPaths.{own_short}

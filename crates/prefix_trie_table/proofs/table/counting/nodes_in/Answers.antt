@@ -1,3 +1,4 @@
+-- Each node except the root is the child of one slot, so 1 plus the children of all slots is the number of nodes.
 use Rattle.prefix_trie_table.proofs.Prelude.{◌+◌, ◌≤◌, length, sum_by, ap, sym, ◌∙◌, arith}
 use Rattle.std.proofs.lemmas.List.{take_all}
 use Rattle.prefix_trie_table.proofs.Counts.NodeCounts.{child_count, nodes_counted, children_more, children_few}

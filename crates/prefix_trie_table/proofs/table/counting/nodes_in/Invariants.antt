@@ -1,3 +1,4 @@
+-- The invariant of `nodes_in`: the number is 1 plus the children of the slots so far, and each slot is read once.
 use Rattle.prefix_trie_table.proofs.Prelude.{◌≡◌, ◌+◌, take, sum_by}
 use Rattle.prefix_trie_table.proofs.Counts.NodeCounts.{child_count}
 use Rattle.prefix_trie_table.proofs.table.counting.nodes_in.Given as goal

@@ -1,3 +1,4 @@
+-- The next match is the shortest one left in this node, or in the first node after it that has one.
 use Rattle.prefix_trie_table.proofs.Prelude.{arith, ◌/◌, ap, ◌∙◌}
 use Rattle.prefix_trie_table.proofs.Lookup.SearchPaths.{left_length, left_next}
 use Rattle.prefix_trie_table.proofs.Lookup.Covers.{reached_nowhere, reached_match, reached_end, gone_down}

@@ -1,3 +1,4 @@
+-- The invariant of `next_match`: the walk is at a node of the path, and no match was passed over.
 use Rattle.prefix_trie_table.proofs.Prelude.{◌≡◌, ℕ, drop, ◌+◌, ◌*◌, ◌-◌, length, IsCovering}
 use Rattle.prefix_trie_table.proofs.Lookup.Covers.{HasReached}
 use Rattle.prefix_trie_table.proofs.table.cover.next_match.Given as goal

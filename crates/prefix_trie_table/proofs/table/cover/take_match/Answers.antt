@@ -1,3 +1,4 @@
+-- The lowest of a node's match bits is its shortest match, and clearing it leaves the longer ones.
 use Rattle.prefix_trie_table.proofs.Prelude.{◌≡◌, ◌^◌, ◌<◌, ℕ, arith, bit_at, trailing_zeros, bit_at-trailing_zeros, has-from}
 use Rattle.std.specs.Int.{w32}
 use Rattle.prefix_trie_table.proofs.Lookup.Covers.{takes_none, takes_some, match-small}

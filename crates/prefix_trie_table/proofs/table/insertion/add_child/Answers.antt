@@ -1,3 +1,4 @@
+-- A new blank child in its place of the block of children: the tree by path has one more node.
 use Rattle.prefix_trie_table.specs.Blocks.NodeArrays.{FitsByte}
 use Rattle.prefix_trie_table.proofs.Prelude.{inl, ◌≡◌, ◌+◌, ◌<◌, ◌≤◌, Some, ap, sym, ◌∙◌, refl, subst, arith, option_or, one_of, block_needed, Node, rank, blank_node, node_sizes, child_need, Store, AreFree, free_in, size_in, size_if_any, list_size, list_need, needs}
 use Rattle.prefix_trie_table.proofs.Strings.Bits.{has_bit-is, rank-ones}

@@ -1,3 +1,4 @@
+-- Adding an entry, in two cases: its own node is there, or the missing nodes of its path are added first.
 use Rattle.prefix_trie_table.proofs.Prelude.{◌≡◌, ◌+◌, ◌-◌, ◌*◌, ◌/◌, ◌≤◌, length, sym, ap, ◌∙◌, subst, arith, Node, Some, has_bit, one_of, child_need, AreFree, needs, slot_at}
 use Rattle.prefix_trie_table.proofs.Lookup.Locating.{end_there, missing_bit}
 use Rattle.prefix_trie_table.proofs.Strings.Bits.{has_bit-zero}

@@ -1,3 +1,4 @@
+-- A new value in its place of the block of values: the tree by path has one more value.
 use Rattle.prefix_trie_table.proofs.Prelude.{Node, inl, inr, ◌≡◌, ◌+◌, ◌<◌, None, Some, ap, sym, ◌∙◌, refl, subst, arith, option_or, block_needed, rank, cell_sizes, AreFree, size_in, size_if_any, list_size, list_need, needs}
 use Rattle.prefix_trie_table.proofs.Strings.Bits.{has_bit-is, rank-ones}
 use Rattle.prefix_trie_table.proofs.Strings.BitLists.{rank-within}

@@ -1,3 +1,4 @@
+-- An insertion either prepares all blocks and adds the entry, or fails in `prepare` and adds nothing.
 use Rattle.prefix_trie_table.proofs.Prelude.{◌≡◌, is_some, refl, ap, arith, chunks_of, bit_of, one_if}
 use Rattle.prefix_trie_table.proofs.Insertion.Needs.{Made-then}
 use Rattle.prefix_trie_table.proofs.Counts.EntryCounts.{entries_bound}

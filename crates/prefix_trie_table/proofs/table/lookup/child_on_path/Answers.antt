@@ -1,3 +1,4 @@
+-- The bit for the next five bits of the path is set exactly if the path has a next node.
 use Rattle.prefix_trie_table.proofs.Prelude.{refl, sym, ◌∙◌, arith}
 use Rattle.prefix_trie_table.proofs.Lookup.SearchPaths.{next_bit, next_deep, left_length}
 use Rattle.prefix_trie_table.proofs.table.lookup.child_on_path.Goals as goal

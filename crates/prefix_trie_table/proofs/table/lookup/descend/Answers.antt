@@ -1,3 +1,4 @@
+-- A descent ends at the last node of the search path, with the bits of the path that are left.
 use Rattle.prefix_trie_table.proofs.Prelude.{arith, ◌/◌, ap}
 use Rattle.prefix_trie_table.proofs.Lookup.SearchPaths.{followed_root, followed_next, left_length}
 use Rattle.prefix_trie_table.proofs.table.lookup.descend.Goals as goal

@@ -1,3 +1,4 @@
+-- The invariant of `descend`: the node is on the search path, and each node so far was read once.
 use Rattle.prefix_trie_table.proofs.Prelude.{◌+◌, ◌-◌, ◌*◌, length}
 use Rattle.prefix_trie_table.proofs.Lookup.SearchPaths.{IsFollowed}
 use Rattle.prefix_trie_table.proofs.table.lookup.descend.Given as goal

@@ -1,3 +1,4 @@
+-- Locating a value, in three cases: its node is missing, its bit is not set, or it is stored at the seat of its bit.
 use Rattle.prefix_trie_table.proofs.Prelude.{◌<◌, ◌/◌, ◌∙◌, length, sym, subst, ap, arith, IsLast}
 use Rattle.prefix_trie_table.proofs.Lookup.Ends.{seat_none, seat_here}
 use Rattle.prefix_trie_table.proofs.Lookup.Locating.{no_seat}

@@ -1,3 +1,4 @@
+-- No node comes next at the level of the string's own node. Otherwise the next one is the child for the next five bits.
 use Rattle.prefix_trie_table.proofs.Prelude.{arith}
 use Rattle.prefix_trie_table.proofs.Lookup.SearchPaths.{last_at_own}
 use Rattle.prefix_trie_table.proofs.table.lookup.next_slot.Goals as goal

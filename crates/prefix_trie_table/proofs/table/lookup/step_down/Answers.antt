@@ -1,3 +1,4 @@
+-- No step is left at the level of the string's own node. Otherwise the step goes to the child for the next five bits.
 use Rattle.prefix_trie_table.proofs.Prelude.{arith}
 use Rattle.prefix_trie_table.proofs.Lookup.SearchPaths.{last_at_own, step_left}
 use Rattle.prefix_trie_table.proofs.table.lookup.step_down.Goals as goal

@@ -1,3 +1,4 @@
+-- The child on a search path is in a slot of the array, and reading it is one read.
 use Rattle.prefix_trie_table.proofs.Prelude.{◌+◌, chunks_of}
 use Rattle.prefix_trie_table.proofs.Lookup.Going.{deepest_in}
 use Rattle.prefix_trie_table.proofs.table.lookup.step_to_child.Goals as goal

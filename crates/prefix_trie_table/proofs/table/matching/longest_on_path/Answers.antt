@@ -1,3 +1,4 @@
+-- A later node has longer matches, so the last match that is found on the search path is the longest.
 use Rattle.prefix_trie_table.proofs.Prelude.{◌≡◌, ◌+◌, ◌*◌, ◌/◌, take, ap, ◌∙◌, subst, arith, LongestHeld}
 use Rattle.prefix_trie_table.proofs.Lookup.SearchPaths.{followed_root, followed_next, last_at_own, path_read}
 use Rattle.prefix_trie_table.proofs.Lookup.Matching.{no_last_bit, first_left, best_now, best_at_last}

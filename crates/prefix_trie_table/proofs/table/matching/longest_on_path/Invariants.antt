@@ -1,3 +1,4 @@
+-- The invariant of `longest_on_path`: `best` is the longest match in the nodes so far, and each of them was read once.
 use Rattle.prefix_trie_table.proofs.Prelude.{ℕ, ◌+◌, ◌-◌, ◌*◌, List, length, Option, Node, node_sizes, NodesHold, LongestHeld}
 use Rattle.prefix_trie_table.proofs.Lookup.SearchPaths.{IsFollowed}
 use Rattle.prefix_trie_table.proofs.table.matching.longest_on_path.Given as goal

@@ -1,3 +1,4 @@
+-- The invariant of `shortest_on_path`: no node so far has a match, and each of them was read once.
 use Rattle.prefix_trie_table.proofs.Prelude.{ℕ, ◌+◌, ◌-◌, ◌*◌, List, length, Option, Node, node_sizes, NodesHold, NoneHeld}
 use Rattle.prefix_trie_table.proofs.Lookup.SearchPaths.{IsFollowed}
 use Rattle.prefix_trie_table.proofs.table.matching.shortest_on_path.Given as goal

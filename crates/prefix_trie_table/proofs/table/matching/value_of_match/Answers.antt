@@ -1,3 +1,4 @@
+-- The value of a match is in the cell at its seat.
 use Rattle.prefix_trie_table.proofs.Prelude.{◌≡◌, ◌<◌, ℕ, List, length, get_or, Option, None, refl, sym, ap, ◌∙◌, subst, get_or_default}
 use Rattle.prefix_trie_table.proofs.table.matching.value_of_match.Goals as goal
 

@@ -1,3 +1,4 @@
+-- The descent ends at the string's own node with the slots of all its ancestors, or at a missing node of its path.
 use Rattle.prefix_trie_table.proofs.Prelude.{◌*◌, ◌/◌, ap, sym, ◌∙◌, drop, arith}
 use Rattle.prefix_trie_table.proofs.Lookup.SearchPaths.{left_next, path_none, step_left}
 use Rattle.prefix_trie_table.proofs.Strings.Digits.{path-length}

@@ -1,3 +1,4 @@
+-- The invariant of the descent: the node is on the path, and `above` has the slots of its ancestors.
 use Rattle.prefix_trie_table.proofs.Prelude.{◌≡◌, ℕ, ◌+◌, ◌-◌, ◌*◌, ◌≤◌, List, Option, length, drop, Node, node_sizes, chunks_of, NodesHold, IsAlong, AreAncestors}
 use Rattle.prefix_trie_table.proofs.table.removal.descend_keeping_ancestors.Given as goal
 

@@ -1,3 +1,4 @@
+-- Dropping a child without children from its parent's block: the tree by path has one node less.
 use Rattle.prefix_trie_table.proofs.Prelude.{inl, ◌≡◌, ap, sym, ◌∙◌, refl, arith, Node, has_bit, rank, blank_node, node_sizes}
 use Rattle.prefix_trie_table.proofs.Strings.Bare.{one_fewer}
 use Rattle.prefix_trie_table.proofs.Strings.Bits.{has_bit-is, rank-ones}

@@ -1,3 +1,4 @@
+-- Dropping empty nodes upward, until one has a value or a child or is the root, removes exactly the pruned ones.
 use Rattle.prefix_trie_table.proofs.Prelude.{◌≡◌, ◌+◌, ◌-◌, ◌*◌, ◌≤◌, inl, inr, Bool, List, length, length-drop, take, true, sym, ap, refl, subst, arith, has_bit, node_at, chunks_of, IsBare, GivesBack, slot_in}
 use Rattle.prefix_trie_table.proofs.Strings.Digits.{path-length}
 use Rattle.prefix_trie_table.proofs.Lookup.SearchPaths.{rest_step}

@@ -1,3 +1,4 @@
+-- The invariant of `prune_up`: the nodes below this level that were left empty are removed, and the others are unchanged.
 use Rattle.prefix_trie_table.proofs.Prelude.{◌≡◌, ◌*◌, ◌≤◌, length, rank, chunks_of, IsAtEnd, GivesBack, Grows}
 use Rattle.prefix_trie_table.proofs.Removal.Pruning.{Pruning}
 use Rattle.prefix_trie_table.proofs.table.removal.prune_up.Given as goal

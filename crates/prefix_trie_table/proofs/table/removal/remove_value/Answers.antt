@@ -1,3 +1,4 @@
+-- A value whose own node is missing is not stored. Otherwise it is removed from that node, and all nodes stay.
 use Rattle.prefix_trie_table.proofs.Prelude.{◌≤◌, length, refl, sym, arith}
 use Rattle.prefix_trie_table.proofs.Insertion.Spaces.{Grows-same}
 use Rattle.prefix_trie_table.proofs.Lookup.SearchPaths.{no_value_at_end, last_there}

@@ -1,3 +1,4 @@
+-- Taking a value at a bit, in two cases: the bit is not set, or the value is removed and the count falls by one.
 use Rattle.prefix_trie_table.proofs.Prelude.{◌≡◌, true, Some, is_some, refl, sym, ap, ◌∙◌, arith, one_if, node_sizes}
 use Rattle.prefix_trie_table.specs.Bitmaps.{has_bit as is_set}
 use Rattle.prefix_trie_table.proofs.Insertion.Spaces.{Grows-same}

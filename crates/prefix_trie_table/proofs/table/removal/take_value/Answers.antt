@@ -1,3 +1,4 @@
+-- Removing a value from its place of the block of values: the tree by path has one value less.
 use Rattle.prefix_trie_table.proofs.Prelude.{Node, inl, inr, ◌≡◌, ◌<◌, Some, None, get_or, map, sym, ap, ◌∙◌, subst, refl, arith, length-set, rank, bits, node_sizes, cell_sizes}
 use Rattle.prefix_trie_table.specs.Removals.{SameBlocks}
 use Rattle.prefix_trie_table.proofs.Strings.Bare.{one_fewer}

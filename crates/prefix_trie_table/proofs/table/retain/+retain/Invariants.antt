@@ -1,3 +1,4 @@
+-- The invariants of `retain`: each call goes one level down, and the places so far are tested and left with what passed.
 use Rattle.prefix_trie_table.proofs.Prelude.{◌≡◌, ◌+◌, ◌-◌, ◌*◌, ◌/◌, ◌++◌, List, Bool, true, All, take, length, to_come, IsPlaceOf, is_at_some, IsSite, PreservesBelow, RetainsIn}
 use Rattle.prefix_trie_table.proofs.table.retain.+retain.Given as goal
 

@@ -1,3 +1,4 @@
+-- The places of the root lead to all entries of the table, so each is tested once, in listing order.
 use Rattle.prefix_trie_table.proofs.Prelude.{[], ap, ◌∙◌, arith, All-weaker, All-contains_itself, to_come, has_bit, node_at, IsPlaceOf}
 use Rattle.std.specs.List.{Contains}
 use Rattle.prefix_trie_table.proofs.Lookup.Matching.{clear-small}

@@ -1,3 +1,4 @@
+-- A value of a node, in two cases: the test accepts it and nothing changes, or it is removed and passed to `taken`.
 use Rattle.prefix_trie_table.proofs.Prelude.{◌≡◌, ◌-◌, ◌+◌, [], ◌∷◌, take, true, false, Some, unwrap_or, is_some, refl, sym, ap, ◌∙◌, subst, arith, option_copied, false≢true, digits, RetainsTo}
 use Rattle.prefix_trie_table.proofs.Strings.Bits.{has_bit-is}
 use Rattle.prefix_trie_table.proofs.Retain.Retained.{site_holds, site_values}

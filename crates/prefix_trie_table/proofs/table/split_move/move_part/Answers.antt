@@ -1,3 +1,4 @@
+-- Each removed value is moved to the next seat of the second table, in listing order, so that table has the split-off part.
 use Rattle.prefix_trie_table.proofs.Prelude.{◌≡◌, ◌∙◌, sym, ap, subst, length, [], take, len, listing_below, entries, part_below, State, Seats, filled_with, split_off, IsTrie}
 use Rattle.prefix_trie_table.proofs.Moving.Second.{second_trie}
 use Rattle.prefix_trie_table.proofs.Moving.Moved.{Fills, may_move, all_moved}

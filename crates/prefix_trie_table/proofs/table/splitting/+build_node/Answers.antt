@@ -1,3 +1,4 @@
+-- The recursion that builds a subtree: a node's values first, then its children, and no node if both are left out.
 use Rattle.prefix_trie_table.specs.Blocks.NodeArrays.{FitsByte}
 use Rattle.prefix_trie_table.proofs.Prelude.{ℕ, All, All-nil, All-push, IfSome, None, replicate, sym, ap, subst, ◌∙◌, arith, ◌≡◌, ◌+◌, ◌-◌, List, [], length, bit_and, err_from_is_err_and, Memory, node_at, blank_node, node_sizes, cell_sizes, Node, child_slots, value_slots, sum_to, slots_at_child, slots_below, IsSubtree, IsBuilt, NothingBuilt, BuildsNode, BuildsList, Builds, tier_sizes}
 use Rattle.prefix_trie_table.proofs.Splitting.Subtrees.{first, subtree_start, subtree_few, subtree_clear, subtree_passed, subtree_attached, subtree_closed, subtree_bare}

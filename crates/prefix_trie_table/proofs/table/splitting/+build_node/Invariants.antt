@@ -1,3 +1,4 @@
+-- The invariant of the loop over children: the subtrees of the children so far are built, and their nodes are in `below`.
 use Rattle.prefix_trie_table.specs.Blocks.NodeArrays.{FitsByte}
 use Rattle.prefix_trie_table.proofs.Prelude.{◌<◌, All, IsSubtree}
 use Rattle.prefix_trie_table.proofs.table.splitting.+build_node.Given as goal

@@ -1,3 +1,4 @@
+-- Building what a string begins, from the root: the new blocks are no larger than the old, so only an allocation can fail.
 use Rattle.prefix_trie_table.specs.Blocks.NodeArrays.{FitsByte}
 use Rattle.prefix_trie_table.proofs.Prelude.{inl, IfSome, refl, ◌∙◌, ◌<◌, sym, ap, subst, length, arith, ◌/◌, err_from_is_err_and, node_at, BuildsNode, Node, Store, tier_sizes, IsSecond}
 use Rattle.prefix_trie_table.proofs.Splitting.RootSpace.{root_nodes, root_cells}

@@ -1,3 +1,4 @@
+-- The masks of a string, in two cases: it ends in this node, or it goes on below one child.
 use Rattle.prefix_trie_table.proofs.Prelude.{◌≤◌, length, take, sym, ◌∙◌, arith, drop_all}
 use Rattle.std.proofs.lemmas.List.{length-take-le}
 use Rattle.prefix_trie_table.proofs.Splitting.Parts.{masks_own, masks_search_path, masks_step}

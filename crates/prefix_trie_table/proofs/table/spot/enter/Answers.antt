@@ -1,3 +1,4 @@
+-- A spot that is entered has all places of its node to come, each of which is one of the node's.
 use Rattle.prefix_trie_table.proofs.Prelude.{ap, ◌∙◌, arith, All-weaker, All-contains_itself, to_come, has_bit, IsPlaceOf}
 use Rattle.std.specs.List.{Contains}
 use Rattle.prefix_trie_table.proofs.Lookup.Matching.{clear-small}

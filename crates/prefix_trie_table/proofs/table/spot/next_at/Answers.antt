@@ -1,3 +1,4 @@
+-- The next place of a spot, in three cases: none is left, a value's entry comes, or a child's spot is entered.
 use Rattle.prefix_trie_table.proofs.Prelude.{◌≡◌, ◌+◌, ◌-◌, length, refl, sym, ap, ◌∙◌, arith, digits, zeros, length-digits, value_seat}
 use Rattle.prefix_trie_table.proofs.Walk.Spots.{same_above, ends_here, child_passed, place-value, place-child, place-small, place-child-small, goes_on, lighter, value_space, gives_value, value_seated, child_space, child_here, child_spot, child_still, child_lighter}
 use Rattle.prefix_trie_table.proofs.table.spot.next_at.Goals as goal

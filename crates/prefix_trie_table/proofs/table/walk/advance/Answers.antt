@@ -1,3 +1,4 @@
+-- Each place taken from the last spot gives an entry, pushes a child's spot, or ends the spot, and no entry is passed over.
 use Rattle.prefix_trie_table.proofs.Prelude.{◌≡◌, ◌-◌, ◌<◌, ◌∙◌, List, [], ◌∷◌, ◌++◌, length, sum_by, take, sym, ap, ap₂, subst, arith, length-append, take-append_seam, Spot, ArePassed, IsStack, pending, weight}
 use Rattle.prefix_trie_table.proofs.Walk.Stacks.{passed-below, passed-above, passed-popped, passed-child, cursor-at, stack-popped, stack-put, stack-child_search_path, pending-entry, pending-child_search_path, pending-done, weight-deeper, weight-popped}
 use Rattle.prefix_trie_table.proofs.table.walk.advance.Goals as goal

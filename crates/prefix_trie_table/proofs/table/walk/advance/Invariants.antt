@@ -1,3 +1,4 @@
+-- The invariant of `advance`: the stack still has the same entries to come, and its spots are on the path of the key.
 use Rattle.prefix_trie_table.proofs.Prelude.{◌≡◌, sum_by, Tree, ArePassed, IsStack, pending, weight, IsTrie}
 use Rattle.prefix_trie_table.proofs.table.walk.advance.Given as goal
 

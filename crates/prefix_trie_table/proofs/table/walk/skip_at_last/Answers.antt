@@ -1,3 +1,4 @@
+-- Only the last spot changes, and the bit string ends at its node, as `skip_below` requires.
 use Rattle.prefix_trie_table.proofs.Prelude.{◌+◌, ◌<◌, ◌≤◌, ◌∙◌, [], ◌∷◌, sym, ap, subst, length, length-append, arith, false≢true, Spot}
 use Rattle.prefix_trie_table.proofs.Strings.Paths.{snoc_inj}
 use Rattle.prefix_trie_table.proofs.table.walk.skip_at_last.Goals as goal

@@ -1,3 +1,4 @@
+-- What is selected at the node where a string ends, in three cases: from the string on, after it, or below it.
 use Rattle.prefix_trie_table.proofs.Prelude.{◌≤◌, length, subst, arith, ap, ◌∙◌, sym, has, HoldsPlaces, Sets, kept}
 use Rattle.prefix_trie_table.proofs.Walk.Starts.{own_bit, masks_after}
 use Rattle.prefix_trie_table.proofs.table.walk_start.places_kept.Goals as goal

@@ -1,3 +1,4 @@
+-- The stack has what is selected, in two cases: the search path ends at a missing child, or at the string's own node.
 use Rattle.prefix_trie_table.proofs.Prelude.{◌≤◌, ◌∙◌, sym, ap, subst, refl, number, length, take, drop, length-drop, arith, chunks_of, HoldsPlaces, kept}
 use Rattle.std.proofs.lemmas.List.{drop-drop}
 use Rattle.prefix_trie_table.proofs.Tree.Subtrees.{root_inside, few_at}

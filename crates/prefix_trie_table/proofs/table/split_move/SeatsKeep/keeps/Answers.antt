@@ -1,3 +1,4 @@
+-- The test of a split rejects every entry, so it promises nothing about an accepted one.
 use Rattle.prefix_trie_table.proofs.Prelude.{false≢true}
 use Rattle.prefix_trie_table.proofs.table.split_move.SeatsKeep.keeps.Goals as goal
 

@@ -1,3 +1,4 @@
+-- The next entry to come in the second table has the key of the value that is passed, so the value is put into its seat.
 use Rattle.prefix_trie_table.proofs.Prelude.{◌≡◌, Bool, false, List, refl, take, subst, sym, Seats, AwaitsNext, HasCome}
 use Rattle.prefix_trie_table.proofs.Moving.NextValue.{whole_tree, some_comes, seat_inside, has_come}
 use Rattle.prefix_trie_table.proofs.table.split_move.SeatsKeep.taken.Given as given

@@ -1,3 +1,4 @@
+-- Dropping what the given key begins from the last spot skips exactly the other entries whose keys begin with it.
 use Rattle.prefix_trie_table.proofs.Prelude.{◌∙◌, sym, subst, pending, EndsLast, SkipsLast}
 use Rattle.prefix_trie_table.proofs.Walk.Walking.{tree_of, rest_at}
 use Rattle.prefix_trie_table.proofs.Walk.Skipping.{few_spots, stack_left, passed_left, pending_left}
