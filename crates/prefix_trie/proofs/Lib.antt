@@ -1,3 +1,4 @@
+-- The lemmas of this crate: what callers may conclude from contracts, and that each call of a run is a step of the model.
 pub mod Prelude
 pub mod Always
 pub mod Putting

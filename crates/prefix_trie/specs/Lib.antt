@@ -1,3 +1,4 @@
+-- The definitions of this crate: the model of a run, sets, and the laws for callers.
 pub mod Rewriting
 pub mod Laws
 pub mod Networks

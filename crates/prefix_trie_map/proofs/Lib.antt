@@ -1,3 +1,4 @@
+-- The lemmas of this crate: from the table's steps to the map's, lookups, walks, entries, loans and copies.
 pub mod Prelude
 pub mod Bulk
 pub mod Covers

@@ -1,3 +1,4 @@
+-- The definitions of this crate: calls in bulk, collecting from iterators, loans, and the laws for callers.
 pub mod Calling
 pub mod Bulk
 pub mod Collected

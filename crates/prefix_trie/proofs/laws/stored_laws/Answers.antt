@@ -1,3 +1,4 @@
+-- The laws of stored entries hold for any values, since they are about the model's entries.
 use Rattle.prefix_trie.proofs.Stored.{stored_laws}
 use Rattle.prefix_trie.proofs.laws.stored_laws.Goals as goal
 

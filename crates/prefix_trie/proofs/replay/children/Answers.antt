@@ -1,3 +1,4 @@
+-- The copied items of `children` are the entries that begin with the prefix's path.
 use Rattle.prefix_trie.proofs.Prelude.{lent_item}
 use Rattle.prefix_trie.proofs.WalkItems.{has_walk}
 use Rattle.prefix_trie.proofs.replay.children.Goals as goal

@@ -1,3 +1,4 @@
+-- A reply to `Clear` is a step of the model with storage.
 use Rattle.prefix_trie.proofs.ByPrefix.{clear_step}
 use Rattle.prefix_trie.proofs.replay.clear.Goals as goal
 

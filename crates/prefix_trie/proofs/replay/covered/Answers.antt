@@ -1,3 +1,4 @@
+-- The copied items of `cover` are the entries that the prefix's path begins with, shortest first.
 use Rattle.prefix_trie.proofs.Prelude.{lent_item}
 use Rattle.prefix_trie.proofs.WalkItems.{has_walk}
 use Rattle.prefix_trie.proofs.replay.covered.Goals as goal

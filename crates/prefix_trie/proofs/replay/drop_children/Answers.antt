@@ -1,3 +1,4 @@
+-- A reply to `RemoveChildren` is a step of the model with storage, as `drop_children` promises by path.
 use Rattle.prefix_trie.proofs.ByPrefix.{children_step}
 use Rattle.prefix_trie.proofs.replay.drop_children.Goals as goal
 

@@ -1,3 +1,4 @@
+-- A reply to `Insert` is a step of the model with storage, in two cases: a previous value, or a refusal.
 use Rattle.prefix_trie.proofs.Prelude.{Ok, Err}
 use Rattle.prefix_trie.proofs.ByPrefix.{insert_step_as}
 use Rattle.prefix_trie.proofs.replay.insert.Goals as goal

@@ -1,3 +1,4 @@
+-- The copied items of `iter` are the whole listing.
 use Rattle.prefix_trie.proofs.Prelude.{lent_item}
 use Rattle.prefix_trie.proofs.WalkItems.{has_walk}
 use Rattle.prefix_trie.proofs.replay.listed.Goals as goal

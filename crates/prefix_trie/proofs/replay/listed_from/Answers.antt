@@ -1,3 +1,4 @@
+-- The copied items of `iter_from` are the listing from the prefix on, or after it.
 use Rattle.prefix_trie.proofs.Prelude.{lent_item}
 use Rattle.prefix_trie.proofs.WalkItems.{has_walk}
 use Rattle.prefix_trie.proofs.replay.listed_from.Goals as goal

@@ -1,3 +1,4 @@
+-- A reply to `Remove` is a step of the model with storage, as `remove` promises by path.
 use Rattle.prefix_trie.proofs.ByPrefix.{remove_step}
 use Rattle.prefix_trie.proofs.replay.remove.Goals as goal
 

@@ -1,3 +1,4 @@
+-- A reply to `RemoveKeepTree` is a step of the model with storage, as `remove_keep_tree` promises by path.
 use Rattle.prefix_trie.proofs.ByPrefix.{keep_tree_step}
 use Rattle.prefix_trie.proofs.replay.remove_keep_tree.Goals as goal
 

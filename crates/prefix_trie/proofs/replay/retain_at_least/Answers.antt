@@ -1,3 +1,4 @@
+-- A test of the length keeps exactly the entries that the step `RetainAtLeast` keeps, since `back` keeps the length.
 use Rattle.prefix_trie.proofs.Prelude.{rules, of_calls, len_back, at_least_step}
 use Rattle.prefix_trie.proofs.replay.retain_at_least.Goals as goal
 

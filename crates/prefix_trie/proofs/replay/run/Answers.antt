@@ -1,3 +1,4 @@
+-- A run is a counted run without its counts, so it is a run of the model, with and without storage, and ends tidy.
 use Rattle.prefix_trie.proofs.Prelude.{false, true≢false, sym, counted_laws, run_of_stored}
 use Rattle.prefix_trie.proofs.replay.run.Goals as goal
 

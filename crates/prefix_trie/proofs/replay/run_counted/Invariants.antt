@@ -1,3 +1,4 @@
+-- The invariant of `run_counted`: the calls so far are counted steps from the first map.
 use Rattle.prefix_trie.proofs.Prelude.{◌≡◌, ◌≤◌, length, take, vec_len, vec_capacity, StepsSoFar, stored_state, calls_of, replies_of}
 use Rattle.prefix_trie.proofs.replay.run_counted.Given as goal
 

@@ -1,3 +1,4 @@
+-- A prefix made from the number and the length of another fits and has the same path, by the laws of `Prefix`.
 use Rattle.prefix_trie.proofs.Prelude.{take, sym, ap, ap₂, ◌∙◌, ◌≤◌, subst}
 use Rattle.prefix_trie.proofs.replay.same_path.Goals as goal
 

@@ -1,3 +1,4 @@
+-- The items that a map lists fit, so each prefix may be passed to `cover_keys`.
 use Rattle.prefix_trie_map.proofs.Prelude.{◌∷◌, sym, All-head, All-tail, All-same, listing, prefix_pairs}
 use Rattle.prefix_trie_map.proofs.Listed.{listed_fit}
 use Rattle.prefix_trie_map.proofs.fmt.write_entries.Goals as goal

@@ -1,3 +1,4 @@
+-- The invariant of the loop that writes the entries: each prefix still to come fits, so its covers may be looked up.
 use Rattle.prefix_trie_map.proofs.Prelude.{All}
 use Rattle.prefix_trie_map.proofs.fmt.write_entries.Given as goal
 

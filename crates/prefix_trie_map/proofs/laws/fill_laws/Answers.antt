@@ -1,3 +1,4 @@
+-- The laws of filling an entry are parts of the step that filling is: in place, inserted, or refused.
 use Rattle.prefix_trie_map.proofs.Prelude.{refl, entry_value}
 use Rattle.prefix_trie_map.proofs.laws.fill_laws.Goals as goal
 

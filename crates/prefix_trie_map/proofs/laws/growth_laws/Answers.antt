@@ -1,3 +1,4 @@
+-- The bound on growth adds up over calls, since what an array grows by is taken from the headroom of its blocks.
 use Rattle.prefix_trie_map.proofs.Prelude.{arith, refl}
 use Rattle.prefix_trie_table.specs.GrowthBounds.{headroom}
 use Rattle.prefix_trie_map.proofs.laws.growth_laws.Goals as goal

@@ -1,3 +1,4 @@
+-- A whole map has arrays within its limit, which is below 2^32, and is stored as the model requires.
 use Rattle.prefix_trie_map.proofs.Prelude.{arith}
 use Rattle.prefix_trie_map.proofs.laws.whole_laws.Goals as goal
 

@@ -1,3 +1,4 @@
+-- The keys that a prefix contains are the first parts of the items of the map's `children`.
 use Rattle.prefix_trie.proofs.Prelude.{◌∙◌, map, ap, map-map, listing_below, Contents}
 use Rattle.prefix_trie_map.proofs.Runs.{gives_in_order}
 use Rattle.prefix_trie.proofs.set.PrefixSet.children.Goals as goal

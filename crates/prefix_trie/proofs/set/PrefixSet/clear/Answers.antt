@@ -1,3 +1,4 @@
+-- Clearing a set is clearing its map of units.
 use Rattle.prefix_trie.proofs.Prelude.{rules}
 use Rattle.prefix_trie.proofs.set.PrefixSet.clear.Goals as goal
 

@@ -1,3 +1,4 @@
+-- Removing what a prefix contains from a set is the same call on its map of units.
 use Rattle.prefix_trie.proofs.set.PrefixSet.drop_children.Goals as goal
 
 pub returns-clause-entries : goal.returns-clause-entries

@@ -1,3 +1,4 @@
+-- The keys from a prefix on are the first parts of the items of the map's `iter_from`.
 use Rattle.prefix_trie.proofs.Prelude.{◌∙◌, map, cond, ap, map-map, listing_from, listing_after, Contents}
 use Rattle.prefix_trie_map.proofs.Runs.{gives_in_order}
 use Rattle.prefix_trie.proofs.set.PrefixSet.iter_from.Goals as goal

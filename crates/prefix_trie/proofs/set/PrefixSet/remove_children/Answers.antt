@@ -1,3 +1,4 @@
+-- Splitting off a set is splitting off its map, so entries and nodes of both sets are the step's.
 use Rattle.prefix_trie.proofs.Prelude.{subst, Contents, SplitsOffInStorage, stored_state}
 use Rattle.prefix_trie.proofs.set.PrefixSet.remove_children.Goals as goal
 

@@ -1,3 +1,4 @@
+-- A test of keys is a test of entries that ignores the unit, so the set keeps what its map keeps.
 use Rattle.prefix_trie.proofs.Prelude.{rules, of_calls, sym, subst, CallableOnEachEntry, RetainsInStorage, listing, Contents, stored_state, CalledAtKey, TakesKey}
 use Rattle.prefix_trie.proofs.Closures.{may_ask_closure, retains_by_test}
 use Rattle.prefix_trie.proofs.set.PrefixSet.retain.Goals as goal

@@ -1,3 +1,4 @@
+-- The invariant of `yield_same`: the two walks compare as what is left of them.
 use Rattle.prefix_trie.proofs.Prelude.{◌≡◌, pointwise, same_parts}
 use Rattle.prefix_trie.proofs.set.equality.yield_same.Given as goal
 

@@ -1,3 +1,4 @@
+-- A walk below the path of a prefix gives what the prefix contains, which is no more than the map has.
 use Rattle.prefix_trie_map.proofs.Prelude.{rules, ◌<◌, ◌^◌, length, ap, arith, begins, len, lent_item, ◌≡◌, ◌∙◌, prefix_pairs, listing_below}
 use Rattle.prefix_trie_map.proofs.Steps.{by_key}
 use Rattle.prefix_trie_map.proofs.Runs.{shows_in_order}

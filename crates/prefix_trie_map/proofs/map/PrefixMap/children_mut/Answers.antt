@@ -1,3 +1,4 @@
+-- Writing from the path of a prefix and below starts with the entries that the prefix contains.
 use Rattle.prefix_trie_map.proofs.Prelude.{subst, listing_below, StartsIn}
 use Rattle.prefix_trie_map.proofs.map.PrefixMap.children_mut.Goals as goal
 

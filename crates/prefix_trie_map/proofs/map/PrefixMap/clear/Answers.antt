@@ -1,3 +1,4 @@
+-- Clearing is a step of the model, so the map keeps its invariant and has no entries and only the root.
 use Rattle.prefix_trie_map.proofs.Prelude.{ap, subst, State, Clear, Done, StepByPath, Contents, stored_state}
 use Rattle.prefix_trie_map.proofs.Steps.{stays}
 use Rattle.prefix_trie_map.proofs.map.PrefixMap.clear.Goals as goal

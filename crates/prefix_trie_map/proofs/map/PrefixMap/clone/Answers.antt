@@ -1,3 +1,4 @@
+-- A table's clone has the same keys and nodes, so it is a map again.
 use Rattle.prefix_trie_map.proofs.Prelude.{state}
 use Rattle.prefix_trie_map.proofs.Clones.{IsMap-copied}
 use Rattle.prefix_trie_map.proofs.map.PrefixMap.clone.Goals as goal

@@ -1,3 +1,4 @@
+-- Locating a value reads the nodes on the prefix's search path, whether it is stored or missing.
 use Rattle.prefix_trie_map.proofs.Lookups.{reads_path}
 use Rattle.prefix_trie_map.proofs.map.PrefixMap.contains_key_counted.Goals as goal
 

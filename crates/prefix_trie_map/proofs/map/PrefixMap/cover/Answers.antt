@@ -1,3 +1,4 @@
+-- The covers of a prefix have different lengths from 0 to its own, so there are at most 129.
 use Rattle.prefix_trie_map.proofs.Prelude.{length, ap, ◌∙◌, arith, length-map, covers, covers_few, lent_item, ◌≡◌, prefix_pairs}
 use Rattle.prefix_trie_map.proofs.Steps.{by_key}
 use Rattle.prefix_trie_map.proofs.Runs.{shows_in_order}

@@ -1,3 +1,4 @@
+-- The reads that the table counts are the nodes on the prefix's search path.
 use Rattle.prefix_trie_map.proofs.Lookups.{reads_path}
 use Rattle.prefix_trie_map.proofs.map.PrefixMap.get_counted.Goals as goal
 

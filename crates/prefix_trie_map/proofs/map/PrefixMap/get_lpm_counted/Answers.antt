@@ -1,3 +1,4 @@
+-- The reads of `find_longest` are the nodes on the prefix's search path, even below the match.
 use Rattle.prefix_trie_map.proofs.Prelude.{◌∙◌}
 use Rattle.prefix_trie_map.proofs.Lookups.{reads_path}
 use Rattle.prefix_trie_map.proofs.map.PrefixMap.get_lpm_counted.Goals as goal

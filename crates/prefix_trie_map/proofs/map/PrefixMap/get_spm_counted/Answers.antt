@@ -1,3 +1,4 @@
+-- The reads of `find_shortest` are the nodes on the prefix's search path down to the match.
 use Rattle.prefix_trie_map.proofs.Prelude.{◌∙◌}
 use Rattle.prefix_trie_map.proofs.Lookups.{reads_to_match}
 use Rattle.prefix_trie_map.proofs.map.PrefixMap.get_spm_counted.Goals as goal

@@ -1,3 +1,4 @@
+-- Consuming a map from the path of a prefix gives what the prefix contains, which is no more than the map had.
 use Rattle.prefix_trie_map.proofs.Prelude.{rules, ◌<◌, ◌^◌, length, ap, arith, len, begins, ◌≡◌, ◌∙◌, prefix_pairs, listing_below}
 use Rattle.prefix_trie_map.proofs.Steps.{by_key}
 use Rattle.prefix_trie_map.proofs.Runs.{gives_in_order}

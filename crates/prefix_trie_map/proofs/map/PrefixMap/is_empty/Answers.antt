@@ -1,3 +1,4 @@
+-- A map is empty exactly if its number of entries is 0.
 use Rattle.prefix_trie_map.proofs.Prelude.{◌≡◌, sym, ap, ◌∙◌, eqb-true, eq-eqb, len, empty_of_len, len-empty, listing_cmp}
 use Rattle.prefix_trie_map.proofs.map.PrefixMap.is_empty.Goals as goal
 

@@ -1,3 +1,4 @@
+-- A walk over the table gives its listing, which has as many items as the map has entries.
 use Rattle.prefix_trie_map.proofs.Prelude.{rules, length, sym, ap, ◌∙◌, length-map, len-entries, listing, lent_item}
 use Rattle.prefix_trie_map.proofs.Runs.{shows_in_order}
 use Rattle.prefix_trie_map.proofs.map.PrefixMap.iter.Goals as goal

@@ -1,3 +1,4 @@
+-- A walk from the path of a prefix gives part of the listing, so it has no more items than the map has entries.
 use Rattle.prefix_trie_map.proofs.Prelude.{rules, ◌<◌, ◌^◌, length, ap, arith, len, lent_item, ◌≡◌, ◌∙◌, prefix_pairs, cond, listing_from, listing_after}
 use Rattle.prefix_trie_map.proofs.Steps.{by_key}
 use Rattle.prefix_trie_map.proofs.Runs.{shows_in_order}

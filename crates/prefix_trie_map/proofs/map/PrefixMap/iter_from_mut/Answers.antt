@@ -1,3 +1,4 @@
+-- Writing from a prefix, in two cases: its own entry comes first, or is left out.
 use Rattle.prefix_trie_map.proofs.Prelude.{◌≡◌, cond, sym, ap, subst, ◌∙◌, listing_from, listing_after, selected, StartsIn}
 use Rattle.prefix_trie_map.proofs.map.PrefixMap.iter_from_mut.Goals as goal
 use Rattle.prefix_trie_map.proofs.map.PrefixMap.iter_from_mut.Goals.{then-inclusive, else-inclusive}

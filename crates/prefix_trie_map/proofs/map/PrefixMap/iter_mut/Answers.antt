@@ -1,3 +1,4 @@
+-- Writing from the empty string and below starts with the whole listing.
 use Rattle.prefix_trie_map.proofs.Prelude.{subst, ap, ◌∙◌, listing_below, listing_of_root, StartsIn}
 use Rattle.prefix_trie_map.proofs.map.PrefixMap.iter_mut.Goals as goal
 

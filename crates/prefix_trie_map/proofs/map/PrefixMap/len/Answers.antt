@@ -1,3 +1,4 @@
+-- A map is whole: its table has blocks for its nodes, and both arrays are within a limit below 2^32.
 use Rattle.prefix_trie_map.proofs.Prelude.{rules, subst, Contents, IsWhole}
 use Rattle.prefix_trie_map.proofs.map.PrefixMap.len.Goals as goal
 

@@ -1,3 +1,4 @@
+-- Overwriting a stored value adds no key, so the map keeps its invariant after the loan.
 use Rattle.prefix_trie_map.proofs.Prelude.{is_some, ap}
 use Rattle.prefix_trie_map.proofs.Lending.{set_again}
 use Rattle.prefix_trie_map.proofs.map.PrefixMap.lend_at.Goals as goal

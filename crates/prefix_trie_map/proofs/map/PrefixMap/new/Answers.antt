@@ -1,3 +1,4 @@
+-- A map under the largest limit is refused only for memory, since that limit is not 0.
 use Rattle.prefix_trie_map.proofs.Refusals.{refused_for_memory}
 use Rattle.prefix_trie_map.proofs.map.PrefixMap.new.Goals as goal
 

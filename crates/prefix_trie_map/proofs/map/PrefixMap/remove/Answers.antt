@@ -1,3 +1,4 @@
+-- A removal is a step of the model, so the map keeps its invariant, and entries and nodes are what the step gives.
 use Rattle.prefix_trie_map.proofs.Prelude.{ap, State, Remove, Value, StepByPath, stored_state}
 use Rattle.prefix_trie_map.proofs.Steps.{by_key, one_value, stays}
 use Rattle.prefix_trie_map.proofs.map.PrefixMap.remove.Goals as goal

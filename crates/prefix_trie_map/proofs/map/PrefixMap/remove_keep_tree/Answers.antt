@@ -1,3 +1,4 @@
+-- A removal that keeps the nodes is a step of the model, so the map keeps its invariant and loses only that entry.
 use Rattle.prefix_trie_map.proofs.Prelude.{ap, State, RemoveKeepTree, Value, StepByPath, stored_state}
 use Rattle.prefix_trie_map.proofs.Steps.{by_key, one_value, stays}
 use Rattle.prefix_trie_map.proofs.map.PrefixMap.remove_keep_tree.Goals as goal

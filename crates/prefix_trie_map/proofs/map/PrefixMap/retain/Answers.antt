@@ -1,3 +1,4 @@
+-- Testing all entries is a step of the model, and the nodes that are left are needed, so the map keeps its invariant.
 use Rattle.prefix_trie_map.proofs.Prelude.{subst, RetainsInStorage, BoundsStorageGrowth, Contents, state, storage, stored_state, CalledAtEntry}
 use Rattle.prefix_trie_map.proofs.Calling.{IsMap-tidied}
 use Rattle.prefix_trie_map.proofs.map.PrefixMap.retain.Goals as goal

@@ -1,3 +1,4 @@
+-- A prefix that is stored has a value to remove, so only the case of a value is left.
 use Rattle.prefix_trie_map.proofs.map.PrefixMap.take.Goals as goal
 
 pub returns-clause-entries : goal.returns-clause-entries

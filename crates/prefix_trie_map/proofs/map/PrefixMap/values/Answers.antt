@@ -1,3 +1,4 @@
+-- The values of a walk are the second parts of the items of `iter`, and as many.
 use Rattle.prefix_trie_map.proofs.Prelude.{deref}
 use Rattle.prefix_trie_map.proofs.Runs.{parts_are, parts_count, shows_in_order}
 use Rattle.prefix_trie_map.proofs.map.PrefixMap.values.Goals as goal

@@ -1,3 +1,4 @@
+-- A table with no entry and the root alone is a map. If the table is refused, so is the map.
 use Rattle.prefix_trie_map.proofs.Prelude.{err_from_is_err_and, refl, sym, subst, no_entries, IsMap}
 use Rattle.prefix_trie_map.proofs.Insertions.{IsMap-empty}
 use Rattle.prefix_trie_map.proofs.map.PrefixMap.with_slot_limit.Goals as goal

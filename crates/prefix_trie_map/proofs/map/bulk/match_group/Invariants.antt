@@ -1,3 +1,4 @@
+-- The invariant of `match_group`: the results up to the current prefix are right, if those before the group were.
 use Rattle.prefix_trie_map.proofs.Prelude.{◌+◌, HaveMatches, right_for}
 use Rattle.prefix_trie_map.proofs.map.bulk.match_group.Given as goal
 

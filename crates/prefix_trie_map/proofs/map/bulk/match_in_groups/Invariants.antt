@@ -1,3 +1,4 @@
+-- The invariant of `match_in_groups`: the results of the groups so far are right, and their reads are counted.
 use Rattle.prefix_trie_map.proofs.Prelude.{◌≡◌, ◌+◌, ◌-◌, ◌≤◌, length, take, HaveMatches, right_for, visits_of_all}
 use Rattle.prefix_trie_map.proofs.map.bulk.match_in_groups.Given as goal
 

@@ -1,3 +1,4 @@
+-- The invariant of `match_one_by_one`: the results so far are right, and their reads are counted.
 use Rattle.prefix_trie_map.proofs.Prelude.{◌≡◌, ◌+◌, take, HaveMatches, right_for, visits_of_all}
 use Rattle.prefix_trie_map.proofs.map.bulk.match_one_by_one.Given as goal
 

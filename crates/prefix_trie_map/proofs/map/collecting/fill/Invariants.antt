@@ -1,3 +1,4 @@
+-- The invariant of `fill`: the map has the items that the iterator gave so far.
 use Rattle.prefix_trie_map.proofs.Prelude.{Puts}
 use Rattle.prefix_trie_map.proofs.map.collecting.fill.Given as goal
 

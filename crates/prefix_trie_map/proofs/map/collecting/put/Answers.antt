@@ -1,3 +1,4 @@
+-- Inserting one item is a list of one insertion, or a refusal that leaves the map unchanged.
 use Rattle.prefix_trie_map.proofs.Prelude.{ap, arith, err_from_is_err_and, path_within, insert_reply}
 use Rattle.prefix_trie_bits.specs.Model.Step.{Refused}
 use Rattle.prefix_trie_map.proofs.Collected.{puts_one, refused_one}

@@ -1,3 +1,4 @@
+-- The invariant of `addresses_of`: the total is the number of addresses of the outermost entries so far.
 use Rattle.prefix_trie_map.proofs.Prelude.{◌≡◌, length, number, Entries, listing, IsCounted}
 use Rattle.prefix_trie_map.proofs.map.counting.addresses_of.Given as goal
 

@@ -1,3 +1,4 @@
+-- A key whose bits past its length are 0 makes the prefix that `back` returns for its first bits.
 use Rattle.prefix_trie_map.proofs.Prelude.{rules, ◌≡◌, ◌-◌, ◌++◌, length, take, sym, ap, ◌∙◌, subst, arith, length-take-le, zeros, back_from_bits}
 use Rattle.prefix_trie_map.proofs.map.iter.without_host_bits.Goals as goal
 

@@ -1,3 +1,4 @@
+-- The prefix beside a lent value is rebuilt from the first bits of the path, as many as were found.
 use Rattle.prefix_trie_map.proofs.Prelude.{◌≤◌, length, take, IfSome, sym, ap, ◌∙◌, subst}
 use Rattle.prefix_trie_map.proofs.map.lending.beside.Goals as goal
 

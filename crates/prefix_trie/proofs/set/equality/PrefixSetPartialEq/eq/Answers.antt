@@ -1,3 +1,4 @@
+-- Two sets are equal exactly if their walks give the same prefixes, by number and length.
 use Rattle.prefix_trie.proofs.Prelude.{◌≡◌, ◌∙◌, sym, pointwise, same_keys, same_parts}
 use Rattle.prefix_trie.proofs.SameKeys.{walks_alike, same_entries}
 use Rattle.prefix_trie.proofs.set.equality.PrefixSetPartialEq.eq.Given as given

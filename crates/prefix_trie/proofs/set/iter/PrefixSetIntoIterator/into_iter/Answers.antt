@@ -1,3 +1,4 @@
+-- A consumed set gives the keys of its map, as `into_keys` does.
 use Rattle.prefix_trie.proofs.Prelude.{◌≡◌, ◌<◌, ◌^◌, map, length, subst, len, GivesInOrder, listing, Contents, IsWhole}
 use Rattle.prefix_trie.proofs.set.iter.PrefixSetIntoIterator.into_iter.Goals as goal
 

@@ -1,3 +1,4 @@
+-- A result with only the value shows the second part of the match.
 use Rattle.prefix_trie_map.proofs.Prelude.{sym, ◌∙◌}
 use Rattle.prefix_trie_map.proofs.Bulk.{values_found}
 use Rattle.prefix_trie_map.proofs.map.bulk.OptionRefBulkResult.of_match.Goals as goal

@@ -1,3 +1,4 @@
+-- The closure changes the stored value and nothing else of the map.
 use Rattle.prefix_trie_map.proofs.Prelude.{rules, refl}
 use Rattle.prefix_trie_map.proofs.Entries.{modified}
 use Rattle.prefix_trie_map.proofs.map.entry.Entry.and_modify.Goals as goal

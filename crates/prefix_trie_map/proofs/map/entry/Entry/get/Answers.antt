@@ -1,3 +1,4 @@
+-- The value of an occupied entry is the map's value at the entry's path.
 use Rattle.prefix_trie_map.proofs.Prelude.{rules}
 use Rattle.prefix_trie_map.proofs.map.entry.Entry.get.Goals as goal
 

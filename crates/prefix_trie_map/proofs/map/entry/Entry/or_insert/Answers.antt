@@ -1,3 +1,4 @@
+-- An occupied entry lends its stored value, which is what `unwrap_or` gives.
 use Rattle.prefix_trie_map.proofs.Prelude.{refl, sym, ap, unwrap_or}
 use Rattle.prefix_trie_map.proofs.Entries.{Fills-stored}
 use Rattle.prefix_trie_map.proofs.map.entry.Entry.or_insert.Goals as goal

@@ -1,3 +1,4 @@
+-- An occupied entry lends its stored value, and the closure is not called.
 use Rattle.prefix_trie_map.proofs.Prelude.{refl, sym, subst, UnwrapsOrElse}
 use Rattle.prefix_trie_map.proofs.Entries.{Fills-stored}
 use Rattle.prefix_trie_map.proofs.map.entry.Entry.or_insert_with.Goals as goal

@@ -1,3 +1,4 @@
+-- The prefix rebuilt from a path fits and has the same path, by the laws of `Prefix`.
 use Rattle.prefix_trie_map.proofs.Prelude.{ap, sym, ◌∙◌, subst, fits_back, path_back}
 use Rattle.prefix_trie_map.proofs.map.entry.Fitting.without_host_bits.Goals as goal
 

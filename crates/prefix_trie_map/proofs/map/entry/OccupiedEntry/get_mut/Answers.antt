@@ -1,3 +1,4 @@
+-- The entry stays occupied at the same seat, whatever is written to its value.
 use Rattle.prefix_trie_map.proofs.Prelude.{refl, sym, ap, ◌∙◌, get}
 use Rattle.prefix_trie_map.proofs.Occupied.{stays_at, occupied_written}
 use Rattle.prefix_trie_map.proofs.map.entry.OccupiedEntry.get_mut.Goals as goal

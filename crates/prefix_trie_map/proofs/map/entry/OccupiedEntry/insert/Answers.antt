@@ -1,3 +1,4 @@
+-- The value that `insert` replaces is the one stored, and the new one is in the map afterwards.
 use Rattle.prefix_trie_map.proofs.Prelude.{rules}
 use Rattle.prefix_trie_map.proofs.map.entry.OccupiedEntry.insert.Goals as goal
 

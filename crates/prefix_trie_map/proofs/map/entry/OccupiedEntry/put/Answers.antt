@@ -1,3 +1,4 @@
+-- Replacing the value at an occupied entry's seat returns the stored value and sets the new one.
 use Rattle.prefix_trie_map.proofs.Prelude.{rules, Ok, Some, ap, sym, ◌∙◌, get}
 use Rattle.prefix_trie_map.proofs.map.entry.OccupiedEntry.put.Goals as goal
 

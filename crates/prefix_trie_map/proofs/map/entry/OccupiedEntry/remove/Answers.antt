@@ -1,3 +1,4 @@
+-- The key of an occupied entry fits and is stored, so `take` removes its value.
 use Rattle.prefix_trie_map.proofs.Prelude.{Some, sym, ap, ◌∙◌, subst, get, contains_key, RemoveKeepTree, Value, StepByPath, stored_state}
 use Rattle.prefix_trie_bits.specs.Model.Entries.{without_entry}
 use Rattle.prefix_trie_map.proofs.map.entry.OccupiedEntry.remove.Goals as goal

@@ -1,3 +1,4 @@
+-- Inserting the default value is `insert_with` with the closure that makes it.
 use Rattle.prefix_trie_map.proofs.Prelude.{rules, refl}
 use Rattle.prefix_trie_map.proofs.map.entry.VacantEntry.default.Goals as goal
 

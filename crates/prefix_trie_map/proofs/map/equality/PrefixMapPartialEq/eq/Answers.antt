@@ -1,3 +1,4 @@
+-- Two maps are equal if their walks are, item by item.
 use Rattle.prefix_trie_map.proofs.Prelude.{◌∙◌, ◌&&◌, Bool, pointwise, lent_item}
 use Rattle.prefix_trie_map.proofs.Equality.{eq_is}
 use Rattle.prefix_trie_map.proofs.map.equality.PrefixMapPartialEq.eq.Goals as goal

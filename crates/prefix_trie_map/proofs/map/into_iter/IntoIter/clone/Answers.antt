@@ -1,3 +1,4 @@
+-- The clone of a walk has the same prefixes to come, with cloned values.
 use Rattle.prefix_trie_map.proofs.Prelude.{◌∙◌, ap, prefix_pairs}
 use Rattle.prefix_trie_map.proofs.Clones.{shown_cloned}
 use Rattle.prefix_trie_map.proofs.map.into_iter.IntoIter.clone.Goals as goal

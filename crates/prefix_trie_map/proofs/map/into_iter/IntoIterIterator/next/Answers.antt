@@ -1,3 +1,4 @@
+-- The next item is the walk's next entry, its prefix rebuilt without host bits.
 use Rattle.prefix_trie_map.proofs.Prelude.{rules}
 use Rattle.prefix_trie_map.proofs.map.into_iter.IntoIterIterator.next.Goals as goal
 

@@ -1,3 +1,4 @@
+-- The clone of a walk over values has clones of the values to come.
 use Rattle.prefix_trie_map.proofs.Prelude.{◌∙◌, map, ap}
 use Rattle.prefix_trie_map.proofs.Clones.{values_cloned}
 use Rattle.prefix_trie_map.proofs.map.into_iter.IntoValues.clone.Goals as goal

@@ -1,3 +1,4 @@
+-- The next value is the second part of the next item of the walk inside.
 use Rattle.prefix_trie_map.proofs.Prelude.{rules}
 use Rattle.prefix_trie_map.proofs.map.into_iter.IntoValuesIterator.next.Goals as goal
 

@@ -1,3 +1,4 @@
+-- The clone of a walk over keys has the same keys to come, since cloning changes values only.
 use Rattle.prefix_trie_map.proofs.Prelude.{◌∙◌}
 use Rattle.prefix_trie_map.proofs.Clones.{keys_cloned}
 use Rattle.prefix_trie_map.proofs.map.into_iter.KeysOf+IntoIter+P+T+A.clone.Goals as goal

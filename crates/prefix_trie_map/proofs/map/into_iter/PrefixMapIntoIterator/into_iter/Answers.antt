@@ -1,3 +1,4 @@
+-- A consumed map gives its whole listing, which has as many items as it had entries.
 use Rattle.prefix_trie_map.proofs.Prelude.{rules, ◌≡◌, ◌<◌, ◌^◌, ◌∙◌, length, sym, ap, length-map, len, len-entries, listing, prefix_pairs, Contents, IsWhole}
 use Rattle.prefix_trie_map.proofs.Runs.{gives_in_order}
 use Rattle.prefix_trie_map.proofs.map.into_iter.PrefixMapIntoIterator.into_iter.Goals as goal

@@ -1,3 +1,4 @@
+-- Iterating over a borrowed map is `iter`.
 use Rattle.prefix_trie_map.proofs.Prelude.{rules}
 use Rattle.prefix_trie_map.proofs.map.iter.RefPrefixMapIntoIterator.into_iter.Goals as goal
 

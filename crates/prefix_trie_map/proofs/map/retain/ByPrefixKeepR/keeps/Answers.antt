@@ -1,3 +1,4 @@
+-- The test is called with the prefix that is rebuilt from the key, and its result decides.
 use Rattle.prefix_trie_map.proofs.Prelude.{Bool, take, refl, ap, ◌∙◌, subst, CalledAtEntry}
 use Rattle.prefix_trie_map.proofs.map.retain.ByPrefixKeepR.keeps.Goals as goal
 

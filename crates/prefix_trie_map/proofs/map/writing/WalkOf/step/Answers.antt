@@ -1,3 +1,4 @@
+-- A walk with a source advances as the source does.
 use Rattle.prefix_trie_map.proofs.Writing.{stepped}
 use Rattle.prefix_trie_map.proofs.map.writing.WalkOf.step.Goals as goal
 

@@ -1,3 +1,4 @@
+-- Writing to a lent item changes the map's value at the item's path only.
 use Rattle.prefix_trie_map.proofs.Prelude.{refl}
 use Rattle.prefix_trie_map.proofs.Writing.{written_there}
 use Rattle.prefix_trie_map.proofs.map.writing.cursor.MapCursorSource.lend.Goals as goal

@@ -1,3 +1,4 @@
+-- The next item is the first entry to come, and the cursor goes on after it.
 use Rattle.prefix_trie_map.proofs.Writing.{stops_there, first_there, goes_over}
 use Rattle.prefix_trie_map.proofs.map.writing.cursor.MapCursorSource.step.Goals as goal
 
