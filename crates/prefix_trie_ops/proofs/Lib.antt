@@ -1,3 +1,4 @@
+-- The lemmas of this crate: merging and selecting in listing order, covers, marks, and the optimal table.
 pub mod Bounds
 pub mod Lists
 pub mod Sorted

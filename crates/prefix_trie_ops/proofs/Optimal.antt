@@ -1,3 +1,4 @@
+-- The proof that `aggregate` keeps each full-width lookup and leaves no redundant entry.
 pub mod Along
 pub mod Order
 pub mod Fronts

@@ -1,3 +1,4 @@
+-- The definitions of this crate: union, intersection and difference, coverage, redundant entries, and loans.
 pub mod Combining
 pub mod Covered
 pub mod Laws

@@ -1,1 +1,2 @@
+-- The lemmas about printing the lines of the rows.
 mod Printing

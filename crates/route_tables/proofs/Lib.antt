@@ -1,3 +1,4 @@
+-- The lemmas of this crate: loading lines, comparing tables, coverage by a rule, host bits, and counting by length.
 pub mod Counting
 pub mod Covering
 pub mod Cutting

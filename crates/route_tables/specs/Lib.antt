@@ -1,3 +1,4 @@
+-- The definitions of this crate: lines and routes, networks, loaded tables, changes, and access rules.
 pub mod Access
 pub mod Changes
 pub mod Lines

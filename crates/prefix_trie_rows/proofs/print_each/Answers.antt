@@ -1,3 +1,4 @@
+-- A line that is written goes after those before it. If writing fails, what is written begins the lines of all rows.
 use Rattle.std.proofs.Common.{rules, ◌∷◌, [], ◌++◌, refl, subst, sym}
 use Rattle.std.specs.Io.KnownBytes.{Appends}
 use Rattle.std.proofs.KnownBytes.{Appends-trans}

@@ -1,3 +1,4 @@
+-- A key that does not pass the test is skipped, which changes nothing in the filtered walk.
 use Rattle.std.proofs.Common.{◌∙◌, All, ap, subst, sym}
 use Rattle.std.proofs.lemmas.List.Elements.{All-head, All-rest}
 use Rattle.prefix_trie_ops.proofs.Lists.{filter_skips}

@@ -1,3 +1,4 @@
+-- The invariant of `next_key`: the keys skipped so far do not pass the test.
 use Rattle.std.proofs.Common.{◌≡◌, All, filter}
 use Rattle.prefix_trie_ops.proofs.select.next_key.Given as goal
 

@@ -1,3 +1,4 @@
+-- Each write appends the first of the bytes left, as many as it counts, so the bytes written begin the line.
 use Rattle.std.proofs.Common.{◌++◌, take}
 use Rattle.std.proofs.KnownBytes.{Appends-trans}
 use Rattle.prefix_trie_rows.proofs.Printing.{moves_front}

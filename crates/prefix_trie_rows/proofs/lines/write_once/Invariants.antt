@@ -1,3 +1,4 @@
+-- The invariant of `write_once`: the bytes written so far and those left are the line.
 use Rattle.std.proofs.Common.{◌≡◌, ℕ, List, ◌++◌}
 use Rattle.std.specs.Io.KnownBytes.{Appends}
 use Rattle.prefix_trie_rows.proofs.lines.write_once.Given as goal

@@ -1,3 +1,4 @@
+-- A call is appended only if it fits, so all calls of the list fit.
 use Rattle.std.proofs.Common.{All, sym, subst}
 use Rattle.std.proofs.lemmas.List.Elements.{All-push}
 use Rattle.prefix_trie.specs.Words.{IsFittingCall}

@@ -1,3 +1,4 @@
+-- The invariant of `calls_of`: the calls so far fit.
 use Rattle.std.proofs.Common.{All}
 use Rattle.prefix_trie.specs.Words.{IsFittingCall}
 use Rattle.prefix_trie_rows.proofs.run.calls_of.Given as goal

@@ -1,3 +1,4 @@
+-- All calls that `calls_of` returns fit, as `run` requires.
 use Rattle.std.proofs.Common.{All, IfSome, sym, subst}
 use Rattle.prefix_trie.specs.Words.{IsFittingCall}
 use Rattle.prefix_trie_rows.proofs.run.reply_in_order.Goals as goal

@@ -1,3 +1,4 @@
+-- An insertion and a removal are steps that leave a tidy map tidy, so its nodes are the needed ones.
 use Rattle.prefix_trie_tests.proofs.Prelude.{ap, ◌∙◌, len, path_within, IsTidy, state, insert_reply}
 use Rattle.prefix_trie_tests.proofs.AnyMap.{tidy_again}
 use Rattle.prefix_trie_tests.proofs.any_map.insert_and_remove.Given as given

@@ -1,3 +1,4 @@
+-- A new key that is set in a tidy map and removed again leaves entries and nodes as they were.
 use Rattle.prefix_trie_tests.proofs.Prelude.{◌≡◌, path_within, state}
 use Rattle.prefix_trie_tests.proofs.AnyMap.{as_before}
 use Rattle.prefix_trie_tests.proofs.any_map.insert_and_remove_again.Given as given

@@ -1,3 +1,4 @@
+-- An insertion is a step of the model, for which `slot_laws` bounds the slots that are made.
 use Rattle.prefix_trie_tests.proofs.Prelude.{arith, path_within, stored_state, insert_reply}
 use Rattle.prefix_trie.proofs.Callers.{insert_step}
 use Rattle.prefix_trie_tests.proofs.any_map.insert_within_bound.Goals as goal

@@ -1,3 +1,4 @@
+-- A listed prefix fits, so it may be looked up in the other map, and its path is its key.
 use Rattle.prefix_trie_tests.proofs.Prelude.{rules, ap, sym, ◌≡◌, ◌∙◌, subst, of_calls, contains_key, All-weaker, fits_back, listing, keeps_filter, may_ask_stored, listed_paths}
 use Rattle.prefix_trie_tests.proofs.AnyMap.{filter_where}
 use Rattle.prefix_trie_tests.proofs.any_map.keep_common.Goals as goal

@@ -1,3 +1,4 @@
+-- A clone has the keys and nodes of its source, so by `copy_laws` it is tidy too.
 use Rattle.prefix_trie_tests.proofs.AnyMap.{tidy_copied}
 use Rattle.prefix_trie_tests.proofs.any_map.tidy_copy.Goals as goal
 

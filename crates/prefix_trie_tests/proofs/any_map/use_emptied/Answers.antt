@@ -1,3 +1,4 @@
+-- A cleared map has only the root, which is tidy for no entries.
 use Rattle.prefix_trie_tests.proofs.Prelude.{sym, ap, ◌∙◌, needed, tidy-no_entries}
 use Rattle.prefix_trie_tests.proofs.any_map.use_emptied.Goals as goal
 

@@ -1,3 +1,4 @@
+-- The invariant of the loop: all prefixes of the slice fit, the replaced ones and the others.
 use Rattle.prefix_trie_tests.proofs.Prelude.{◌^◌, ◌<◌, ◌≤◌, All}
 use Rattle.prefix_trie_tests.proofs.bulk.repeat_cases.Given as goal
 

@@ -1,3 +1,4 @@
+-- The clone has the same items, since numbers are their own clones, and `==` of lists is reflexive.
 use Rattle.prefix_trie_tests.proofs.Prelude.{ℕ, ◌&&◌, nat_eq, List, Bool, ap, ◌∙◌, and_equiv, on_equiv, nat_eq_equiv, pointwise, lists_equiv, listing, prefix_pairs, Contents}
 use Rattle.prefix_trie_tests.proofs.collecting.equals_its_copy.Goals as goal
 

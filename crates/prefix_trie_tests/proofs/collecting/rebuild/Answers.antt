@@ -1,3 +1,4 @@
+-- A consumed map gives its listing in order, and each listed prefix fits.
 use Rattle.prefix_trie_tests.proofs.Prelude.{ap, ◌∙◌, All-same, IfOk-weaker, TakesFirst, no_entries, put_all, listing, prefix_pairs, listed_fit}
 use Rattle.prefix_trie.proofs.Collecting.{all_along, all_given}
 use Rattle.prefix_trie_tests.proofs.collecting.rebuild.Goals as goal

@@ -1,3 +1,4 @@
+-- Each item that the other map gives fits, and filling its entry sets its value at its path.
 use Rattle.prefix_trie_tests.proofs.Prelude.{rules}
 use Rattle.prefix_trie.proofs.Putting.{next_fits, leads_on, all_lead}
 use Rattle.prefix_trie_tests.proofs.entry_callers.fill_from.Goals as goal

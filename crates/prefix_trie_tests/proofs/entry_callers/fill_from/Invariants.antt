@@ -1,3 +1,4 @@
+-- The invariant of the loop: inserting the items still to come leads to the map with all of them.
 use Rattle.prefix_trie_tests.proofs.Prelude.{put_all, listing, prefix_pairs, Leads}
 use Rattle.prefix_trie_tests.proofs.entry_callers.fill_from.Given as goal
 

@@ -1,3 +1,4 @@
+-- An occupied entry has the value that the map has at the prefix's path.
 use Rattle.prefix_trie_tests.proofs.Prelude.{ap₂, sym, get, ◌∙◌}
 use Rattle.prefix_trie_tests.proofs.entry_callers.read_and_release.Goals as goal
 

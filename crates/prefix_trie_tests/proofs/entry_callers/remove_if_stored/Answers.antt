@@ -1,3 +1,4 @@
+-- The value that an occupied entry removes is the one that the map has at the prefix's path.
 use Rattle.prefix_trie_tests.proofs.Prelude.{ap₂, sym, get, ◌∙◌}
 use Rattle.prefix_trie_tests.proofs.entry_callers.remove_if_stored.Goals as goal
 

@@ -1,3 +1,4 @@
+-- Both outcomes of filling an entry leave a bounded number of slots: the value is set, or it is refused.
 use Rattle.prefix_trie_tests.proofs.Prelude.{rules, ◌≡◌, Option, Ok, Err, Result, IfOk, IfErr, None, subst, len, Refused, LeavesSpace, Contents, Entry, Fills, RefusesToFill, entry_map, entry_value}
 use Rattle.std.specs.declared.cmp.PartialEq as partial
 use Rattle.std.specs.declared.fmt.Debug as debug

@@ -1,3 +1,4 @@
+-- The value that an occupied entry replaces is the one that the map has at the prefix's path.
 use Rattle.prefix_trie_tests.proofs.Prelude.{ap₂, sym, get, ◌∙◌}
 use Rattle.prefix_trie_tests.proofs.entry_callers.swap.Goals as goal
 

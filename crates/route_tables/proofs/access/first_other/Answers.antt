@@ -1,3 +1,4 @@
+-- A network whose value is no rule is returned, so if the loop ends, all values are rules.
 use Rattle.std.proofs.Common.{rules, ◌≡◌, All, [], subst, sym}
 use Rattle.std.proofs.lemmas.List.Elements.{All-nil}
 use Rattle.prefix_trie.specs.Words.{listing}

@@ -1,3 +1,4 @@
+-- The invariant of `has_value`: the covers so far have other values, so those still to come decide.
 use Rattle.std.proofs.Common.{◌≡◌, bytes_eq, map}
 use Rattle.std.specs.List.{list_any}
 use Rattle.prefix_trie.specs.Words.{covers}

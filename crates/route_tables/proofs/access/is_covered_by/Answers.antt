@@ -1,3 +1,4 @@
+-- An address is covered by a rule exactly if some value in the list of its covers is that rule.
 use Rattle.std.proofs.Common.{◌∙◌, sym}
 use Rattle.route_tables.proofs.Covering.{any_covers}
 use Rattle.route_tables.proofs.access.is_covered_by.Goals as goal

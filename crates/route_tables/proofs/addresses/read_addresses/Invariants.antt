@@ -1,3 +1,4 @@
+-- The invariant of `read_addresses`: at most as many lines are read as bytes, so the line number does not overflow.
 use Rattle.std.proofs.Common.{◌+◌, ◌≤◌, length}
 use Rattle.route_tables.proofs.addresses.read_addresses.Given as goal
 

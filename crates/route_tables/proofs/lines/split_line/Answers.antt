@@ -1,3 +1,4 @@
+-- Splitting a text that is not empty into lines, in two cases: a line feed ends its first line, or it has only one line.
 use Rattle.route_tables.proofs.Cutting.{lines_cut, lines_whole}
 use Rattle.route_tables.proofs.lines.split_line.Goals as goal
 

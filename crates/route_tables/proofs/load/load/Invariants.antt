@@ -1,3 +1,4 @@
+-- The invariant of `load`: the tables have the routes of the lines so far, and the line number does not overflow.
 use Rattle.std.proofs.Common.{◌+◌, ◌≤◌, length}
 use Rattle.route_tables.specs.Lines.{lines}
 use Rattle.route_tables.proofs.Loading.{Loads}

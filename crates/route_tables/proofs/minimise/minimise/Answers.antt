@@ -1,3 +1,4 @@
+-- An entry that is kept is one of the listing before, so it is an entry of the old table.
 use Rattle.std.proofs.Common.{◌≡◌, ◌∙◌, not, Bool, List, bytes_eq, filter, subst, ap}
 use Rattle.std.specs.List.{Contains}
 use Rattle.prefix_trie.specs.Words.{listing}

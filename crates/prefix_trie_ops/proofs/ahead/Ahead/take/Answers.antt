@@ -1,3 +1,4 @@
+-- The entry that was read fits, and so do the entries that are left, since all of the walk do.
 use Rattle.std.proofs.Common.{rules, ◌≡◌, Some}
 use Rattle.prefix_trie_ops.proofs.Reading.{first_fits, rest_fit}
 use Rattle.prefix_trie_ops.proofs.ahead.Ahead.take.Goals as goal

@@ -1,3 +1,4 @@
+-- All keys of a set fit, so the first one that is read fits and so do the rest.
 use Rattle.std.proofs.Common.{All, subst, sym}
 use Rattle.prefix_trie.specs.Words.{listing}
 use Rattle.prefix_trie_ops.proofs.Reading.{first_read_fits}

@@ -1,3 +1,4 @@
+-- The key that was read fits, and so do the keys that are left, since all of the walk do.
 use Rattle.std.proofs.Common.{rules, ◌≡◌, Some}
 use Rattle.prefix_trie_ops.proofs.Reading.{first_key_fits, rest_of_keys_fit}
 use Rattle.prefix_trie_ops.proofs.ahead.KeysAhead.take.Goals as goal

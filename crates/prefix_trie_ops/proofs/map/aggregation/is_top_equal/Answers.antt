@@ -1,3 +1,4 @@
+-- The last item of a chain is the last of its list, so its value is the one that is compared.
 use Rattle.std.proofs.Common.{rules, ◌≡◌, ◌∙◌, ◌-◌, sym, length, Some}
 use Rattle.std.specs.List.{slice_get}
 use Rattle.prefix_trie_ops.proofs.Chains.{top}

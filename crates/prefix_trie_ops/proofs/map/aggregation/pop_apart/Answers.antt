@@ -1,3 +1,4 @@
+-- If the last prefix of a chain contains another, so do all before it, and otherwise popping it loses no cover.
 use Rattle.std.proofs.Common.{rules, ◌≡◌, ◌∙◌, ◌-◌, ◌++◌, [], ◌∷◌, true, false, sym, length, Some, None, subst, All}
 use Rattle.std.specs.List.{slice_get}
 use Rattle.prefix_trie.specs.Words.{begins, last_item}

@@ -1,3 +1,4 @@
+-- The invariant of `pop_apart`: what is popped does not contain the prefix, and the rest is still a chain.
 use Rattle.std.proofs.Common.{◌≡◌, Bool, true, List, All, filter, ℕ}
 use Rattle.prefix_trie.specs.Words.{begins}
 use Rattle.prefix_trie_ops.specs.Values.{IsChain}

@@ -1,3 +1,4 @@
+-- The entries that both walks have read fit, so their prefixes may be compared.
 use Rattle.std.proofs.Common.{rules, ◌≡◌, Some}
 use Rattle.prefix_trie_ops.proofs.Reading.{first_fits}
 use Rattle.prefix_trie_ops.proofs.map.merge.first_side.Goals as goal

@@ -1,3 +1,4 @@
+-- If the rebuilt map is larger, the redundant entries are removed instead, which leaves no more entries than before.
 use Rattle.std.proofs.Common.{◌≤◌, not, sym, subst}
 use Rattle.std.specs.FinMap.{len}
 use Rattle.prefix_trie_ops.specs.Values.{is_redundant}

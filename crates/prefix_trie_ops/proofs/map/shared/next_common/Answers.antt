@@ -1,3 +1,4 @@
+-- An entry without a partner in the other map is skipped, and the first one with a partner is returned with both values.
 use Rattle.std.proofs.Common.{◌∙◌, All, subst}
 use Rattle.std.proofs.lemmas.List.Elements.{All-head, All-rest}
 use Rattle.prefix_trie_ops.proofs.Pairs.{pairs_skip}

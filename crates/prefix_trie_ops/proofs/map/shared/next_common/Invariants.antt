@@ -1,3 +1,4 @@
+-- The invariant of `next_common`: the entries skipped so far have no partner in the other map.
 use Rattle.std.proofs.Common.{◌≡◌, All}
 use Rattle.std.specs.List.{filter_map}
 use Rattle.prefix_trie_ops.specs.Combining.{with_partner}

@@ -1,3 +1,4 @@
+-- The invariant of `marks_of`: the remembered prefix is the shortest cover of the last key, and the marks so far are right.
 use Rattle.std.proofs.Common.{All, IfSome}
 use Rattle.prefix_trie_ops.proofs.Uppermost.{Uppermost}
 use Rattle.prefix_trie_ops.proofs.set.aggregation.marks_of.Given as goal

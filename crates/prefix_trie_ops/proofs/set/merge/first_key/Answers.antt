@@ -1,3 +1,4 @@
+-- The keys that both walks have read fit, so they may be compared.
 use Rattle.std.proofs.Common.{rules, ◌≡◌, Some}
 use Rattle.prefix_trie_ops.proofs.Reading.{first_key_fits}
 use Rattle.prefix_trie_ops.proofs.set.merge.first_key.Goals as goal

@@ -1,3 +1,4 @@
+-- No network that is left is below another one, so two of them that contain each other are the same.
 use Rattle.std.proofs.Common.{◌≡◌, Bool, true, false, List}
 use Rattle.std.proofs.lemmas.Result.{IfOk-weaker}
 use Rattle.std.specs.FinMap.{contains_key}

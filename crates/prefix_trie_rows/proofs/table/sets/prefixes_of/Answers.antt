@@ -1,3 +1,4 @@
+-- A prefix is appended only if it fits, so all prefixes of the list fit.
 use Rattle.std.proofs.Common.{All, sym, subst}
 use Rattle.std.proofs.lemmas.List.Elements.{All-push}
 use Rattle.prefix_trie_rows.proofs.table.sets.prefixes_of.Goals as goal

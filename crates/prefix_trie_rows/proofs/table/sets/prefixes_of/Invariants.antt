@@ -1,3 +1,4 @@
+-- The invariant of `prefixes_of`: the prefixes so far fit.
 use Rattle.std.proofs.Common.{All}
 use Rattle.prefix_trie_rows.proofs.table.sets.prefixes_of.Given as goal
 

@@ -1,3 +1,4 @@
+-- The path of a host network is its address, so its covers are the denied networks that contain the address.
 use Rattle.prefix_trie_tests.proofs.Prelude.{rules, ◌≡◌, List, Bool, map, subst, covers, ipv4_back}
 use Rattle.std.specs.Result.{IfOk}
 use Rattle.prefix_trie_tests.proofs.examples.access.reasons.Goals as goal

@@ -1,3 +1,4 @@
+-- The invariant of the loop: the prefixes so far are the hosts of the addresses, and all prefixes fit.
 use Rattle.prefix_trie_tests.proofs.Prelude.{◌≡◌, ◌^◌, ◌<◌, ◌≤◌, All, map, take}
 use Rattle.prefix_trie_tests.proofs.examples.batch.as_prefixes.Given as goal
 

@@ -1,3 +1,4 @@
+-- The invariant of the loop: the values so far are copied.
 use Rattle.prefix_trie_tests.proofs.Prelude.{◌≡◌, map, option_copied, take}
 use Rattle.prefix_trie_tests.proofs.examples.batch.copy_values.Given as goal
 

@@ -1,3 +1,4 @@
+-- Looking up the hosts of the addresses in bulk gives the hop of the longest route of each.
 use Rattle.prefix_trie_tests.proofs.Prelude.{◌∙◌, ap, map, option_copied, length, take_at, length-take-le}
 use Rattle.prefix_trie_tests.proofs.Batches.{hops_of}
 use Rattle.prefix_trie_tests.proofs.examples.batch.next_hops.Goals as goal

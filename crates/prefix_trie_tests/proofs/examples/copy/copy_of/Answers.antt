@@ -1,3 +1,4 @@
+-- Inserting all items of a map into an empty one gives the same entries, by `put_laws`.
 use Rattle.prefix_trie_tests.proofs.Prelude.{rules}
 use Rattle.prefix_trie_tests.proofs.examples.copy.copy_of.Goals as goal
 

@@ -1,3 +1,4 @@
+-- The invariant of the loop: inserting the items still to come leads to all entries of the source.
 use Rattle.prefix_trie.specs.Words.{Leads}
 use Rattle.prefix_trie_tests.proofs.examples.copy.copy_of.Given as goal
 

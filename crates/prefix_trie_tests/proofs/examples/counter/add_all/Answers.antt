@@ -1,3 +1,4 @@
+-- Adding the items of one map to another joins their counts at each key, by `join_laws`.
 use Rattle.prefix_trie_tests.proofs.Prelude.{rules, ◌+◌, ◌%◌, ◌^◌}
 use Rattle.prefix_trie_tests.proofs.examples.counter.add_all.Goals as goal
 

@@ -1,3 +1,4 @@
+-- Counting a prefix once more, in two cases: its count grows by 1, or a count of 1 is inserted.
 use Rattle.prefix_trie_tests.proofs.Prelude.{rules, ◌+◌, ◌%◌, ◌^◌}
 use Rattle.prefix_trie.proofs.Callers.{modified_or_put}
 use Rattle.prefix_trie_tests.proofs.examples.counter.count.Goals as goal

@@ -1,3 +1,4 @@
+-- Inserting all items of one map into another gives the new value for each prefix of both, by `put_laws`.
 use Rattle.prefix_trie_tests.proofs.Prelude.{rules}
 use Rattle.prefix_trie_tests.proofs.examples.merge.merge.Goals as goal
 

@@ -1,3 +1,4 @@
+-- The invariant of the loop: inserting the items still to come leads to the map with all entries of both.
 use Rattle.prefix_trie.specs.Words.{Leads, put_all, prefix_pairs, listing}
 use Rattle.prefix_trie_tests.proofs.examples.merge.merge.Given as goal
 

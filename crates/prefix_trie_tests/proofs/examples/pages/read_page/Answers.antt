@@ -1,3 +1,4 @@
+-- A page ends after `size` more entries or at the end of the map, and what is read begins the listing in both cases.
 use Rattle.prefix_trie_tests.proofs.Prelude.{rules, ◌+◌, ◌++◌, length, ap, ◌∙◌, arith}
 use Rattle.prefix_trie.proofs.Callers.{read_more, read_so_far, read_to_end}
 use Rattle.prefix_trie_tests.proofs.examples.pages.read_page.Goals as goal

@@ -1,3 +1,4 @@
+-- The invariant of the loop: what is read so far and the rest of the walk are the listing.
 use Rattle.prefix_trie_tests.proofs.Prelude.{◌≡◌, ◌+◌, ◌++◌, length}
 use Rattle.prefix_trie.specs.Words.{listing, prefix_pairs}
 use Rattle.prefix_trie_tests.proofs.examples.pages.read_page.Given as goal

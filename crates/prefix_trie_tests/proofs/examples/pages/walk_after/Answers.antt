@@ -1,3 +1,4 @@
+-- The walk after the last item read gives the rest of the listing, by `page_laws`.
 use Rattle.prefix_trie_tests.proofs.Prelude.{rules, ◌++◌, sym, ap, ◌∙◌}
 use Rattle.prefix_trie_tests.proofs.examples.pages.walk_after.Goals as goal
 

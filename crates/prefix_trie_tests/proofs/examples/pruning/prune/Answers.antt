@@ -1,3 +1,4 @@
+-- A removal leaves a tidy map tidy, by `pruning_laws`.
 use Rattle.prefix_trie.proofs.Callers.{fit_in_order, tidy_without}
 use Rattle.prefix_trie_tests.proofs.examples.pruning.prune.Goals as goal
 

@@ -1,3 +1,4 @@
+-- An insertion leaves a tidy map tidy, by `node_laws`, and so does `prune`.
 use Rattle.prefix_trie_tests.proofs.Prelude.{rules}
 use Rattle.prefix_trie.proofs.Callers.{fit_in_order, tidy_with}
 use Rattle.prefix_trie_tests.proofs.examples.pruning.without.Goals as goal

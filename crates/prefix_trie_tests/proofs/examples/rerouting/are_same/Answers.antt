@@ -1,3 +1,4 @@
+-- Two tables are equal by `==` exactly if they have the same entries, since networks and numbers compare as they are.
 use Rattle.prefix_trie_tests.proofs.Prelude.{sym, ◌∙◌}
 use Rattle.prefix_trie.proofs.Callers.{networks_same, numbers_same}
 use Rattle.prefix_trie_tests.proofs.examples.rerouting.are_same.Goals as goal

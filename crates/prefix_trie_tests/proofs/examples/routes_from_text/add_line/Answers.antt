@@ -1,3 +1,4 @@
+-- The route that a line names is the one that is set in the table.
 use Rattle.prefix_trie_tests.proofs.examples.routes_from_text.add_line.Goals as goal
 
 pub returns-in-Ok-clause-added : goal.returns-in-Ok-clause-added

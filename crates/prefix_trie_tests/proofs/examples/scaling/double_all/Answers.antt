@@ -1,3 +1,4 @@
+-- A walk over the values of the whole map doubles each of them, and giving it up returns the map.
 use Rattle.prefix_trie_tests.proofs.Prelude.{rules, ◌*◌, ◌%◌, ◌^◌}
 use Rattle.prefix_trie.proofs.Callers.{starts_ordered, rewritten}
 use Rattle.prefix_trie_tests.proofs.examples.scaling.double_all.Goals as goal

@@ -1,3 +1,4 @@
+-- A walk over the entries of the whole map doubles each value, and giving it up returns the map.
 use Rattle.prefix_trie_tests.proofs.Prelude.{rules, ◌*◌, ◌%◌, ◌^◌}
 use Rattle.prefix_trie.proofs.Callers.{starts_ordered, rewritten}
 use Rattle.prefix_trie_tests.proofs.examples.scaling.double_each.Goals as goal

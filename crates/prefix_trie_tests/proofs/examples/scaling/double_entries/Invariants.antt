@@ -1,3 +1,4 @@
+-- The invariant of the loop: the entries so far are doubled, and those still to come are unchanged.
 use Rattle.prefix_trie_tests.proofs.Prelude.{◌*◌, ◌%◌, ◌^◌}
 use Rattle.prefix_trie.proofs.Callers.{HasRewrittenIn, left_in}
 use Rattle.prefix_trie_tests.proofs.examples.scaling.double_entries.Given as goal

@@ -1,3 +1,4 @@
+-- Each value that the walk lends is not doubled yet, and doubling it changes no other.
 use Rattle.prefix_trie_tests.proofs.Prelude.{◌*◌, ◌%◌, ◌^◌}
 use Rattle.prefix_trie.proofs.Callers.{goes_on_rewriting, ends_rewriting}
 use Rattle.prefix_trie_tests.proofs.examples.scaling.double_rest.Goals as goal

@@ -1,3 +1,4 @@
+-- Inserting the split-off entries again gives the table as it was, by `split_laws` and `put_laws`.
 use Rattle.prefix_trie_tests.proofs.Prelude.{◌∙◌}
 use Rattle.prefix_trie_tests.proofs.examples.splitting.split_and_merge.Goals as goal
 

@@ -1,3 +1,4 @@
+-- A tag contains another exactly if it is no longer and both have the same first bits, which the masked bytes show.
 use Rattle.prefix_trie_tests.proofs.Prelude.{◌≡◌, ◌-◌, ◌++◌, ◌≤◌, eqb, refl, length, take, ap, ap₂, sym, ◌∙◌, arith, eqb-true, eq-eqb, digits, zeros, begins, number, number-bits, bits-length, same_bool, begins-longer, begins-from-masked, masked-from-begins, length-first, leb-past}
 use Rattle.prefix_trie_tests.proofs.prefix.TagPrefix.contains.Goals as goal
 

@@ -1,3 +1,4 @@
+-- Masking a byte keeps its first bits and makes the others 0, also if none is kept.
 use Rattle.prefix_trie_tests.proofs.Prelude.{ℕ, ◌≡◌, ◌-◌, ◌*◌, ◌%◌, ◌^◌, ◌<◌, ◌≤◌, ◌++◌, take, bit_and, sub-le, ap, ◌∙◌, ones_shl, and_high_mask, digits, zeros, digits-keep, kept_of_none}
 use Rattle.prefix_trie_tests.proofs.prefix.TagPrefix.mask.Goals as goal
 

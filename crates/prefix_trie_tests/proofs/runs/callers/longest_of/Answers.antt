@@ -1,3 +1,4 @@
+-- A run of one longest match changes nothing, has the model's match as its reply, and reads the nodes of one path.
 use Rattle.prefix_trie_tests.proofs.Prelude.{IfOk-weaker}
 use Rattle.prefix_trie_tests.proofs.Ran.{matched}
 use Rattle.prefix_trie_tests.proofs.runs.callers.longest_of.Goals as goal

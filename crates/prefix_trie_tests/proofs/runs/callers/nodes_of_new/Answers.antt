@@ -1,3 +1,4 @@
+-- A new map is tidy, so after one insertion it has the needed nodes.
 use Rattle.prefix_trie_tests.proofs.Prelude.{ℕ, ap, sym, ◌∙◌, needed, tidy-no_entries}
 use Rattle.prefix_trie_tests.proofs.Ran.{nodes_of_tidy}
 use Rattle.prefix_trie_tests.proofs.runs.callers.nodes_of_new.Goals as goal

@@ -1,3 +1,4 @@
+-- A cleared map is tidy, so after one insertion it has the needed nodes.
 use Rattle.prefix_trie_tests.proofs.Prelude.{IfOk-weaker}
 use Rattle.prefix_trie_tests.proofs.Ran.{nodes_cleared}
 use Rattle.prefix_trie_tests.proofs.runs.callers.nodes_once_cleared.Goals as goal

@@ -1,3 +1,4 @@
+-- Each call that is made from a draw fits, so all calls of the run do.
 use Rattle.prefix_trie_tests.proofs.Prelude.{All, sym, subst, All-push, IsFittingCall}
 use Rattle.prefix_trie_tests.proofs.runs.mixed.calls_of.Goals as goal
 

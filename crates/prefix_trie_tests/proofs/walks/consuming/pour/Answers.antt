@@ -1,3 +1,4 @@
+-- Each item that the consumed map gives fits, and inserting it sets its value at its path.
 use Rattle.prefix_trie.proofs.Putting.{next_fits, leads_on, all_lead}
 use Rattle.prefix_trie_tests.proofs.walks.consuming.pour.Goals as goal
 

@@ -1,3 +1,4 @@
+-- The invariant of the loop: no value of the covers so far is less, so those still to come decide.
 use Rattle.prefix_trie_tests.proofs.Prelude.{◌≡◌, nat_le, list_all, prefix_pairs}
 use Rattle.prefix_trie_bits.specs.Model.Matches.{covers}
 use Rattle.prefix_trie_tests.proofs.walks.cover.none_below.Given as goal

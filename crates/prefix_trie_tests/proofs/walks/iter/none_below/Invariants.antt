@@ -1,3 +1,4 @@
+-- The invariant of the loop: no value of the listing so far is less, so those still to come decide.
 use Rattle.prefix_trie_tests.proofs.Prelude.{◌≡◌, nat_le, list_all, listing, prefix_pairs}
 use Rattle.prefix_trie_tests.proofs.walks.iter.none_below.Given as goal
 

@@ -1,3 +1,4 @@
+-- A prefix that was read fits, and `iter_from` after it gives the rest of the walk, by `resume_laws`.
 use Rattle.prefix_trie_tests.proofs.Prelude.{◌≡◌, ◌++◌, ◌∷◌, sym, ap, ◌∙◌, All-head, All-same, listing, prefix_pairs, All-append_right, listed_fit}
 use Rattle.prefix_trie_tests.proofs.walks.iter.resume.Goals as goal
 

@@ -1,3 +1,4 @@
+-- Writing a stored value sets it at its path and changes no other path.
 use Rattle.prefix_trie_tests.proofs.Prelude.{cond, Some, refl, ap, ◌∙◌, get, get-insert, listing_total, is-same_string}
 use Rattle.prefix_trie_tests.proofs.walks.lending.write.Goals as goal
 

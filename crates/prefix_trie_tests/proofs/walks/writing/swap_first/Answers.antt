@@ -1,3 +1,4 @@
+-- A walk over the whole map writes the first entry of the listing, if there is one, and nothing else.
 use Rattle.prefix_trie_tests.proofs.Prelude.{rules}
 use Rattle.prefix_trie_tests.proofs.Swapping.{swaps_first}
 use Rattle.prefix_trie_tests.proofs.walks.writing.swap_first.Goals as goal

@@ -1,3 +1,4 @@
+-- The recursion of `choose` ends, since each call is for a prefix that is one bit longer, up to the width.
 use Rattle.std.proofs.Common.{◌-◌}
 use Rattle.prefix_trie_ops.proofs.map.optimal.choosing.+choose.Given as goal
 

@@ -1,3 +1,4 @@
+-- The entry that was read fits, so its prefix may be compared with the position.
 use Rattle.std.proofs.Common.{rules, ◌≡◌, Some}
 use Rattle.prefix_trie_ops.proofs.Reading.{first_fits}
 use Rattle.prefix_trie_ops.proofs.map.optimal.position.is_next_at.Goals as goal

@@ -1,3 +1,4 @@
+-- The loop of `push_all` ends, since each iteration goes on in one of the two sets.
 use Rattle.std.proofs.Common.{◌-◌, ◌+◌}
 use Rattle.prefix_trie_ops.proofs.map.optimal.spans.push_all.Given as goal
 

@@ -1,3 +1,4 @@
+-- The loop of `push_shared` ends, since each iteration goes on in one of the two sets or in both.
 use Rattle.std.proofs.Common.{◌-◌, ◌+◌}
 use Rattle.prefix_trie_ops.proofs.map.optimal.spans.push_shared.Given as goal
 
