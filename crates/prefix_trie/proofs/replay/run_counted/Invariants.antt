@@ -1,9 +1,7 @@
--- The invariant of `run_counted`: the calls so far are counted steps from the first map.
+-- The invariant of `run_counted`: the calls so far, with replies and reads, are steps from the first map.
 use Rattle.prefix_trie.proofs.Prelude.{◌≡◌, ◌≤◌, length, take, vec_len, vec_capacity, StepsSoFar, stored_state, calls_of, replies_of}
 use Rattle.prefix_trie.proofs.replay.run_counted.Given as goal
 
--- the calls so far, each with its reply and the number of nodes that it read, are steps from the
--- first map, and there is space for the other replies
 abbrev pub invariant-loop-call : goal.invariant-loop-call
 invariant-loop-call g l = record {
   each : vec_len l.replies ≡ l.call-index;

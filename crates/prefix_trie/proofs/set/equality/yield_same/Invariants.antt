@@ -2,7 +2,6 @@
 use Rattle.prefix_trie.proofs.Prelude.{◌≡◌, pointwise, same_parts}
 use Rattle.prefix_trie.proofs.set.equality.yield_same.Given as goal
 
--- the walks compare as what is left of them does
 abbrev pub invariant-loop-prefix : goal.invariant-loop-prefix
 invariant-loop-prefix g l =
     (goal.iterator-loop-prefix g).can_next l.prefix-iterator

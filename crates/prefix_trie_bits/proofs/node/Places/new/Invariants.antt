@@ -3,7 +3,6 @@ use Rattle.prefix_trie_bits.proofs.Prelude.{◌≡◌, ℕ, ◌^◌, ◌<◌, �
 use Rattle.prefix_trie_bits.proofs.Listing.{heap_at, heap}
 use Rattle.prefix_trie_bits.proofs.node.Places.new.Given as goal
 
--- each bit of the heap is either still to be moved or already at its position
 abbrev pub invariant-loop-rest : goal.invariant-loop-rest
 invariant-loop-rest l = record {
   fits : l.listing < 2 ^ 63;

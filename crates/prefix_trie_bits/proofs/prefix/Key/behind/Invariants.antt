@@ -2,7 +2,6 @@
 use Rattle.prefix_trie_bits.proofs.Prelude.{◌≡◌, ◌+◌, ◌-◌, ◌≤◌, ◌++◌, take, drop, zeros}
 use Rattle.prefix_trie_bits.proofs.prefix.Key.behind.Given as goal
 
--- the bits read so far, of those after the first n
 abbrev pub invariant-loop-depth : goal.invariant-loop-depth
 invariant-loop-depth g l = record {
   wide : l.width ≡ g.Self.Key.bit_width;

@@ -2,7 +2,6 @@
 use Rattle.prefix_trie_bits.proofs.Prelude.{◌≡◌, ◌-◌, ◌≤◌, drop, listing_cmp}
 use Rattle.prefix_trie_bits.proofs.prefix.Key.compare.Given as goal
 
--- the bits read so far are equal, so the later bits decide
 abbrev pub invariant-loop-depth : goal.invariant-loop-depth
 invariant-loop-depth g l = record {
   wide : l.width ≡ g.Self.Key.bit_width;

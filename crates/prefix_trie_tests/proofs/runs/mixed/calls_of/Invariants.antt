@@ -1,4 +1,4 @@
--- The invariant of `calls_of`: the calls so far fit.
+-- The invariant of `calls_of`: the calls made from the draws so far fit.
 use Rattle.prefix_trie_tests.proofs.Prelude.{All, IsFittingCall}
 use Rattle.prefix_trie_tests.proofs.runs.mixed.calls_of.Given as goal
 

@@ -1,4 +1,4 @@
--- The invariant of the loop: inserting the items still to come leads to the map with all of them.
+-- The invariant of the loop: inserting the items that the consumed map still gives leads to the map with all of them.
 use Rattle.prefix_trie_tests.proofs.Prelude.{put_all, listing, prefix_pairs, Leads}
 use Rattle.prefix_trie_tests.proofs.walks.consuming.pour.Given as goal
 
