@@ -6,7 +6,7 @@ use Rattle.prefix_trie_bits.specs.Places.{has}
 unfoldable pub has_bit : ℕ → ℕ → Bool
 has_bit bitmap b = cond (ltb b 32) (has bitmap b) false
 
--- the element if the test holds
+-- a list of the bit if the test holds, and otherwise an empty list
 abbrev pub if_set : Bool → ℕ → List ℕ
 if_set true b = b ∷ []
 if_set false b = []

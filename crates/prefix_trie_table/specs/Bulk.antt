@@ -1,4 +1,4 @@
--- Questions of one call that go down side by side, and how far each has come. This project's own.
+-- The searches of one bulk lookup, side by side, and how far each has come. This project's own.
 use Rattle.std.specs.Prelude.{◌≡◌, ℕ, ◌+◌, ◌*◌, ◌<◌, ◌⊎◌, Bool, List, Option, None, All, Contains, ◌++◌, length, map, option_map, slice_index_or, sum_by}
 use Rattle.prefix_trie_table.specs.declared.allocator.node.Node.{Node}
 use Rattle.prefix_trie_table.specs.declared.table.bulk.Found.{Found}
@@ -12,7 +12,7 @@ use Rattle.prefix_trie_table.specs.Matching.{LackLastBit, LongestHeld, match_sea
 use Rattle.prefix_trie_table.specs.SearchPaths.{IsAlong}
 use Rattle.prefix_trie_table.specs.Blocks.Store.{Store}
 
--- P holds of each of the first n items and its index
+-- P holds for each of the first n items and its index
 abbrev pub EachOf : {X : Type 0} → (ℕ → X → Type 0) → ℕ → List X → Type 0
 EachOf {X} P n xs = (i : ℕ) (x : X) → i < n → x ≡ slice_index_or xs i x → P i x
 
@@ -20,7 +20,7 @@ EachOf {X} P n xs = (i : ℕ) (x : X) → i < n → x ≡ slice_index_or xs i x 
 abbrev pub found_of : Match → Found
 found_of m = record { len = m.len; seat = match_seat m }
 
--- what was found is the longest of the beginnings of s shorter than n that have a value
+-- what was found is the longest beginning of s that is shorter than n and has a value
 abbrev pub IsLongestFound : (List ℕ → Option Node) → List Bool → ℕ → Option Found → Type 0
 IsLongestFound reading s n found = (m : Option Match) × LongestHeld reading s 0 n m × (found ≡ option_map found_of m)
 
@@ -40,23 +40,23 @@ question_of w = w.question
 abbrev pub slot_of : Descent → ℕ
 slot_of w = w.at
 
--- a node is the one that the descent of this index has reached
+-- the node is the one ahead of the descent of this index
 abbrev pub IsAhead : List Node → List Descent → ℕ → Node → Type 0
 IsAhead slots descents i n = (w : Descent) → w ≡ slice_index_or descents i w → n ≡ node_at slots (slot_of w)
 
--- a descent is that of the question of its index, and is at the root
+-- the descent is that of the question of its index, and is at the root
 abbrev pub IsNew : ℕ → Descent → Type 0
 IsNew i w = w ≡ new_descent i
 
--- the cost of the descent of a question, if each question has its cost
+-- the cost of a descent, from a list of the costs of all questions
 abbrev pub cost_of : List ℕ → Descent → ℕ
 cost_of costs w = slice_index_or costs w.question 0
 
--- a node array as lookups require it
+-- the array of nodes is as lookups require it
 abbrev pub IsSound : Store Node → Type 0
 IsSound v = (n : SomeNodes v) × LackLastBit n.reading
 
--- the question for a prefix: so many bits of its number
+-- the node that a descent has reached, at this level
 abbrev pub reached_by : Descent → Node → ℕ → Reached
 reached_by w n level = record { at = w.at; node = n; level = level }
 
@@ -97,7 +97,7 @@ module _ (v : Store Node) (questions : List (List Bool)) where
     pub descents_are : All (IsDescent level) descents
     pub nodes_are : EachOf (IsAhead v.slots descents) (length descents) nodes
 
-  -- of these searches some go on, and the questions of the others have their matches
+  -- some of these searches go on, and the questions of the others have their matches
   pub record GoOn (level : ℕ) (descents next : List Descent) (before after : List (Option Found)) : Type 0 where
     pub descents_are : All (IsDescent (level + 1)) next
     pub matched : (others : List ℕ) → HaveMatches (map question_of descents ++ others) before → HaveMatches (map question_of next ++ others) after

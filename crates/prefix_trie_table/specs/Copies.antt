@@ -1,4 +1,4 @@
--- What the copy of a map has. This project's own.
+-- The entries of a copy of a map. This project's own.
 use Rattle.std.specs.Prelude.{◌≡◌, Bool, List, Option, None, MatchOption, IsSomeAnd}
 use Rattle.std.specs.FinMap.{get}
 use Rattle.prefix_trie_bits.specs.Model.Entries.{Entries}

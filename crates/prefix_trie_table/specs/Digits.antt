@@ -1,5 +1,5 @@
--- The chunks of a bit string: the search path from the root to its own node, five bits at a time;
--- and its place in that node. The five levels are those of the Rust crate.
+-- The chunks of a bit string, which are the path from the root to its own node, five bits at a time, and its bit in that node.
+-- A node has five levels, as in the Rust crate.
 use Rattle.std.specs.Prelude.{ℕ, Bool, List, [], ◌∷◌}
 use Rattle.prefix_trie_bits.specs.Model.Bits.{number}
 use Rattle.prefix_trie_bits.specs.Places.{value_bit}

@@ -24,7 +24,7 @@ abbrev pub below : List Node → Option Node → ℕ → Option Node
 below nodes None c = None
 below nodes (Some n) c = child nodes n c
 
--- the node that the steps lead to from another
+-- the node that a path leads to from another node
 abbrev pub read_from : List Node → Option Node → List ℕ → Option Node
 read_from nodes at [] = at
 read_from nodes at (c ∷ cs) = read_from nodes (below nodes at c) cs
@@ -37,7 +37,7 @@ read nodes path = read_from nodes (Some (node_at nodes 0)) path
 abbrev pub same_path : List ℕ → List ℕ → Bool
 same_path q k = eq_by_cmp (slice_cmp nat_cmp) q k
 
--- 1 if it holds, else 0
+-- 1 if the test holds, else 0
 abbrev pub one_if : Bool → ℕ
 one_if true = 1
 one_if false = 0
@@ -47,7 +47,7 @@ abbrev pub times : List ℕ → List (List ℕ) → ℕ
 times q [] = 0
 times q (p ∷ ps) = one_if (same_path q p) + times q ps
 
--- a list without its first p
+-- the list without the first p in it
 abbrev pub without : List ℕ → List (List ℕ) → List (List ℕ)
 without p [] = []
 without p (q ∷ qs) = cond (same_path p q) qs (q ∷ without p qs)
@@ -57,7 +57,7 @@ abbrev pub node_or_blank : Option Node → Node
 node_or_blank None = blank_node
 node_or_blank (Some n) = n
 
--- whether a node has the child c, and a value at bit b
+-- whether a node has the child c
 abbrev pub has_child : Option Node → ℕ → Bool
 has_child None c = false
 has_child (Some n) c = has_bit n.child_bitmap c
@@ -85,7 +85,7 @@ pub data IsSlot (nodes : List ℕ → Option Node) : List ℕ → ℕ → Type 0
   at_root : IsSlot nodes [] 0
   at_child : (p : List ℕ) (c : ℕ) (n : Node) → nodes p ≡ Some n → has_bit n.child_bitmap c ≡ true → IsSlot nodes (p ++ c ∷ []) (child_slot n c)
 
--- the array holds these nodes, whose paths are listed, and nothing else
+-- the array has these nodes, whose paths are listed, and nothing else
 pub record NodesHold (sizes : List ℕ) (nodes : List ℕ → Option Node) (paths : List (List ℕ)) (v : Store Node) : Type 0 where
   -- the root is in slot 0
   pub rooted : nodes [] ≡ Some (node_at v.slots 0)
@@ -95,7 +95,7 @@ pub record NodesHold (sizes : List ℕ) (nodes : List ℕ → Option Node) (path
   pub listed : (q : List ℕ) → times q paths ≡ one_if (is_some (nodes q))
   -- the used blocks are those of the parents, each with exactly its children
   pub sound : Sound blank_node (flat_map (child_blocks sizes nodes) paths) v
-  -- they come after the root's slot, and have these sizes
+  -- the blocks come after the root's slot, and have these sizes
   pub first_is : v.first ≡ 1
   pub sizes_are : tier_sizes v.tiers ≡ sizes
 
@@ -109,7 +109,7 @@ module _ {T : Type 0} where
   abbrev pub value_blocks : List ℕ → (List ℕ → Option Node) → (List ℕ → ℕ → Option T) → List ℕ → List (UsedBlock (Option T))
   value_blocks sizes nodes values p = value_blocks_of sizes values p (nodes p)
 
-  -- the array holds the values of these nodes, and nothing else
+  -- the array has the values of these nodes, and nothing else
   pub record CellsHold (sizes : List ℕ) (nodes : List ℕ → Option Node) (values : List ℕ → ℕ → Option T) (paths : List (List ℕ))
       (w : Store (Option T)) : Type 0 where
     -- a node has exactly the values that its bitmap names, at the 31 bits of strings
@@ -119,22 +119,22 @@ module _ {T : Type 0} where
     pub sound : Sound None (flat_map (value_blocks sizes nodes values) paths) w
     pub sizes_are : tier_sizes w.tiers ≡ sizes
 
--- the nodes after p becomes m and gets the blank child c
+-- the nodes after the one at p becomes m and gets the blank child c
 abbrev pub with_child : (List ℕ → Option Node) → List ℕ → Node → ℕ → List ℕ → Option Node
 with_child nodes p m c q =
     cond (same_path q (p ++ c ∷ [])) (Some blank_node) (cond (same_path q p) (Some m) (nodes q))
 
--- the nodes after p becomes m and loses the child c
+-- the nodes after the one at p becomes m and loses the child c
 abbrev pub with_child_removed : (List ℕ → Option Node) → List ℕ → Node → ℕ → List ℕ → Option Node
 with_child_removed nodes p m c q =
     cond (same_path q (p ++ c ∷ [])) None (cond (same_path q p) (Some m) (nodes q))
 
--- the nodes after p becomes m
+-- the nodes after the one at p becomes m
 abbrev pub with_node : (List ℕ → Option Node) → List ℕ → Node → List ℕ → Option Node
 with_node nodes p m q = cond (same_path q p) (Some m) (nodes q)
 
 module _ {T : Type 0} where
-  -- the values with another at bit b of the node at p
+  -- the values after the one at bit b of the node at p is changed
   abbrev pub with_value : (List ℕ → ℕ → Option T) → List ℕ → ℕ → Option T → List ℕ → ℕ → Option T
   with_value values p b x q i = cond (same_path (q ++ i ∷ []) (p ++ b ∷ [])) x (values q i)
 
@@ -165,7 +165,7 @@ abbrev pub entry_count : (List ℕ → Option Node) → List (List ℕ) → ℕ
 entry_count nodes [] = 0
 entry_count nodes (p ∷ ps) = own_count (nodes p) + entry_count nodes ps
 
--- the node at p has another value at bit b
+-- the value at bit b of the node at p was changed
 pub record ValueSet {T : Type 0} (reading : List ℕ → Option Node) (paths : List (List ℕ)) (values : List ℕ → ℕ → Option T) (p : List ℕ) (b : ℕ)
     (x : Option T) (v : Store Node) (w : Store (Option T)) : Type 0 where
   pub node : Node
@@ -175,19 +175,19 @@ pub record ValueSet {T : Type 0} (reading : List ℕ → Option Node) (paths : L
   pub children : child_block_size (Some node) ≡ child_block_size (reading p)
   pub sized : values p b ≡ None → value_block_size (Some node) ≡ option_or (value_need (reading p)) (value_block_size (reading p))
 
--- the search path ends at this depth: there is a node at it, and no next one, or the path is over
+-- the search path ends at this depth: it has a node there, and either no next node or no next step
 pub record IsEnd (nodes : List ℕ → Option Node) (path : List ℕ) (depth : ℕ) : Type 0 where
   pub within : depth ≤ length path
   pub is_there : is_some (nodes (take depth path)) ≡ true
   pub stops : depth < length path → is_some (nodes (take (depth + 1) path)) ≡ false
 
--- the deepest node on a path is in this slot
+-- the node at this depth of a path is in this slot
 pub record Deepest (reading : List ℕ → Option Node) (path : List ℕ) (depth slot : ℕ) (v : Store Node) : Type 0 where
   pub node : Node
   pub is_there : IsSlot reading (take depth path) slot
   pub is : reading (take depth path) ≡ Some node
 
--- all starts of a path, itself among them
+-- all beginnings of a path, including the path itself
 abbrev pub starts : List ℕ → List (List ℕ)
 starts [] = [] ∷ []
 starts (c ∷ cs) = [] ∷ map (λ p. c ∷ p) (starts cs)
@@ -196,7 +196,7 @@ starts (c ∷ cs) = [] ∷ map (λ p. c ∷ p) (starts cs)
 abbrev pub is_start : List ℕ → List ℕ → Bool
 is_start q path = list_any (same_path q) (starts path)
 
--- whether q, above the first `depth` steps of a path, gets a child when the nodes on the path are added
+-- whether q, a beginning of a path with fewer than `depth` steps, gets a child when the path's missing nodes are added
 abbrev pub gains : (List ℕ → Option Node) → List ℕ → ℕ → List ℕ → Bool
 gains nodes path depth q = is_start q path && (nat_lt (length q) depth && not (is_some (nodes (take (length q + 1) path))))
 
@@ -204,26 +204,26 @@ gains nodes path depth q = is_start q path && (nat_lt (length q) depth && not (i
 abbrev pub size_gained : (List ℕ → Option Node) → List ℕ → ℕ → List ℕ → Option ℕ
 size_gained nodes path depth q = option_or (cond (gains nodes path depth q) (child_need (nodes q)) None) (child_block_size (nodes q))
 
--- the nodes and the values hold what a table has
+-- the two arrays have these nodes and these values
 pub record Holds {T : Type 0} (reading : List ℕ → Option Node) (values : List ℕ → ℕ → Option T) (paths : List (List ℕ)) (v : Store Node)
     (w : Store (Option T)) : Type 0 where
   pub hold : NodesHold node_sizes reading paths v
   pub cells : CellsHold cell_sizes reading values paths w
 
--- they hold some nodes and values
+-- the two arrays are those of a table with some nodes and values
 pub record SomeTable {T : Type 0} (v : Store Node) (w : Store (Option T)) : Type 0 where
   pub reading : List ℕ → Option Node
   pub values : List ℕ → ℕ → Option T
   pub paths : List (List ℕ)
   pub holds : Holds reading values paths v w
 
--- the array holds some nodes
+-- the array is that of a table with some nodes
 pub record SomeNodes (v : Store Node) : Type 0 where
   pub reading : List ℕ → Option Node
   pub paths : List (List ℕ)
   pub hold : NodesHold node_sizes reading paths v
 
--- the nodes on the first chunks of a path were added, and the last is in this slot
+-- the missing nodes on the first `depth` steps of a path were added, and the node at that depth is in this slot
 pub record Walked {T : Type 0} (reading : List ℕ → Option Node) (values : List ℕ → ℕ → Option T) (before : List (List ℕ)) (path : List ℕ)
     (depth slot : ℕ) (v : Store Node) (w : Store (Option T)) : Type 0 where
   pub later : List ℕ → Option Node
@@ -236,7 +236,7 @@ pub record Walked {T : Type 0} (reading : List ℕ → Option Node) (values : Li
   pub sized : (q : List ℕ) → value_block_size (later q) ≡ value_block_size (reading q)
   pub needs : (child_need (later (take depth path)) ≡ child_need (reading (take depth path))) × (value_need (later (take depth path)) ≡ value_need (reading (take depth path)))
 
--- a value was put at a bit of the node with a path, and the nodes on the path were added
+-- a value was set at a bit of the node with a path, and the missing nodes on the path were added
 pub record EntryAdded {T : Type 0} (reading : List ℕ → Option Node) (values : List ℕ → ℕ → Option T) (before : List (List ℕ)) (path : List ℕ) (b : ℕ)
     (x : Option T) (v : Store Node) (w : Store (Option T)) : Type 0 where
   pub later : List ℕ → Option Node

@@ -7,15 +7,15 @@ use Rattle.prefix_trie_table.specs.declared.allocator.node.Node.{Node}
 use Rattle.prefix_trie_table.specs.OwnBlocks.{child_block_size, value_block_size}
 use Rattle.prefix_trie_table.specs.Blocks.Store.{Store}
 
--- the sizes of blocks but the largest, of nodes and of values alike
+-- the sizes of blocks except the largest, which are the same for nodes and for values
 abbrev pub smaller_sizes : List ℕ
 smaller_sizes = 1 ∷ 2 ∷ 4 ∷ 8 ∷ 16 ∷ 24 ∷ []
 
--- the slots of one block of each size below this one: a list in a block of this size makes no more as it loses its items
+-- the slots of one block of each smaller size: a list in a block of this size makes no more as it loses its items
 unfoldable pub headroom : ℕ → ℕ
 headroom size = sum_by (λ n. n) (filter (λ n. nat_lt n size) smaller_sizes)
 
--- a function of a size, 0 if there is none
+-- the value of a function for a size, or 0 if there is no size
 abbrev pub of_any : (ℕ → ℕ) → Option ℕ → ℕ
 of_any f None = 0
 of_any f (Some size) = f size
@@ -39,8 +39,7 @@ value_headroom n = headroom_if_any (value_block_size (Some n))
 abbrev pub node_reach : Store Node → ℕ
 node_reach v = length v.slots + sum_by child_headroom v.slots
 
--- that bound does not rise for the array of nodes, nor for the array of values, which has the
--- length `long` before and `long2` after
+-- this bound does not rise for either array; the array of values has the length `long` before and `long2` after
 pub record BoundsGrowthBy (v v2 : Store Node) (long long2 : ℕ) : Type 0 where
   pub nodes : node_reach v2 ≤ node_reach v
   pub cells : long2 + sum_by value_headroom v2.slots ≤ long + sum_by value_headroom v.slots

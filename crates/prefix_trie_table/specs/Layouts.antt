@@ -18,11 +18,11 @@ abbrev pub own_children : Option Node → ℕ
 own_children None = 0
 own_children (Some n) = rank n.child_bitmap 32
 
--- these are the sizes that a function gives for the nodes in an array, by the strings of the nodes
+-- the sizes, by the strings of nodes, are those that a function gives for the nodes in an array
 abbrev pub AreSizesBy : (Option Node → Option ℕ) → List Node → Sizes → Type 0
 AreSizesBy size nodes sizes = (s : List Bool) → get sizes s ≡ cond (is_node_depth s) (size (read nodes (chunks_of s))) None
 
--- the one pair of sizes that the nodes have, of child blocks and of value blocks
+-- the sizes of the blocks of children and of values that the nodes have
 abbrev pub Sized : List Node → Type 0
 Sized nodes = (children : Sizes) × ((values : Sizes) × (AreSizesBy child_block_size nodes children × AreSizesBy value_block_size nodes values))
 
@@ -32,7 +32,7 @@ AreSizesBy-prop size nodes sizes = λ x y. Π_prop (λ _. Coded-set (coded_optio
 same_sizes : (size : Option Node → Option ℕ) (nodes : List Node) (x y : Sizes) → AreSizesBy size nodes x → AreSizesBy size nodes y → x ≡ y
 same_sizes size nodes x y h k = same_entries x y (λ s. h s ∙ sym (k s))
 
--- the nodes have one pair at most
+-- the nodes have at most one such pair of sizes
 pub Sized-prop : (nodes : List Node) → IsProp (Sized nodes)
 Sized-prop nodes = λ x y. Σ_prop_path
     (λ children. λ u w. Σ_prop_path (λ values. λ a b i. (

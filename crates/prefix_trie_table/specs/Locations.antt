@@ -21,11 +21,11 @@ use Rattle.prefix_trie_table.specs.Shape.{coded_node}
 use Rattle.prefix_trie_table.specs.SearchPaths.{IsLast}
 use Rattle.prefix_trie_table.specs.Blocks.Store.{Store}
 
--- where the value at bit b of a node is stored
+-- the seat of a node's value at bit b
 abbrev pub value_seat : Node → ℕ → Seat
 value_seat n b = record { slot = n.value_block + rank n.value_bitmap b }
 
--- the same, if there is such a value
+-- the seat of a node's value at bit b, if there is such a value
 abbrev pub seat_in : Option Node → ℕ → Option Seat
 seat_in None b = None
 seat_in (Some n) b = cond (has_bit n.value_bitmap b) (Some (value_seat n b)) None
@@ -39,8 +39,7 @@ abbrev pub slot_from : List Node → ℕ → List ℕ → ℕ
 slot_from nodes at [] = at
 slot_from nodes at (c ∷ cs) = slot_from nodes (child_slot (node_at nodes at) c) cs
 
--- the search for a bit string ends so: at this level no next node is there or needed, and its node
--- is in this slot
+-- the search for a bit string ends at this node: the path has no next node, or needs none
 pub record IsSearchEnd (nodes : List Node) (q : List Bool) (end : SearchEnd) : Type 0 where
   pub within : end.reached.level ≤ length (chunks_of q)
   pub is_there : is_some (read nodes (take end.reached.level (chunks_of q))) ≡ true
@@ -52,13 +51,12 @@ pub record IsSearchEnd (nodes : List Node) (q : List Bool) (end : SearchEnd) : T
 abbrev pub EndsAt : Store Node → List Bool → Reached → Type 0
 EndsAt v q here = (seat_of v.slots q ≡ None) × IsLast q here v
 
--- what an array of nodes has for a bit string: the seat of its value, or the last node of its search path if it has
--- none
+-- the location of a bit string in an array of nodes: the seat of its value, or the last node of its search path
 abbrev pub Locates : Store Node → List Bool → Location → Type 0
 Locates v q (Stored seat) = seat_of v.slots q ≡ Some seat
 Locates v q (Missing end) = EndsAt v q end.reached
 
--- what a table has for a bit string: the seat of its value, or the end of the search if it has none
+-- the location of a bit string in a table: the seat of its value, or the end of the search for it
 abbrev pub IsLocation : {T : Type 0} → Contents T → List Bool → Location → Type 0
 IsLocation s q (Stored seat) = (contains_key s.entries q ≡ true) × (seat_of s.build q ≡ Some seat)
 IsLocation s q (Missing end) = (contains_key s.entries q ≡ false) × IsSearchEnd s.build q end
@@ -66,11 +64,11 @@ IsLocation s q (Missing end) = (contains_key s.entries q ≡ false) × IsSearchE
 coded_seat : Coded Seat
 coded_seat = code_by ℕ coded_ℕ (λ s. s.slot) (λ n. record { slot = n }) (λ _. refl)
 
--- that a seat is that of a bit string has at most one proof
+-- there is at most one proof that a seat is that of a bit string
 pub is_seat-prop : (nodes : List Node) (q : List Bool) (seat : Seat) → IsProp (seat_of nodes q ≡ Some seat)
 is_seat-prop nodes q seat = Coded-set (coded_option coded_seat) _ _
 
--- that a search ends so has at most one proof
+-- there is at most one proof that a search ends at a node
 pub IsSearchEnd-prop : (nodes : List Node) (q : List Bool) (end : SearchEnd) → IsProp (IsSearchEnd nodes q end)
 IsSearchEnd-prop nodes q end = λ x y i. record {
   within = le_prop x.within y.within i;

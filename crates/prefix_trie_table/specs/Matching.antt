@@ -1,4 +1,4 @@
--- The beginnings of a bit string that have a value, and the search path on which they are. This project's own.
+-- The beginnings of a bit string that have a value, on its search path. This project's own.
 use Rattle.std.specs.Prelude.{◌≡◌, ℕ, ◌+◌, ◌<◌, ◌≤◌, Bool, true, false, List, Option, None, Some, length, take, MatchOption}
 use Rattle.prefix_trie_table.specs.declared.allocator.node.Node.{Node}
 use Rattle.prefix_trie_table.specs.declared.table.matching.Match.{Match}
@@ -11,7 +11,7 @@ use Rattle.prefix_trie_table.specs.Forest.{has_value}
 abbrev pub holds_value : (List ℕ → Option Node) → List Bool → ℕ → Bool
 holds_value reading q i = has_value (reading (chunks_of (take i q))) (bit_of (take i q))
 
--- no beginning of q has a value whose length is `first` or more and below `end`
+-- no beginning of q with a length from `first` up to, but not including, `end` has a value
 abbrev pub NoneHeld : (List ℕ → Option Node) → List Bool → ℕ → ℕ → Type 0
 NoneHeld reading q first end = (i : ℕ) → first ≤ i → i < end → i ≤ length q → holds_value reading q i ≡ false
 
@@ -27,20 +27,20 @@ pub record IsHeld (reading : List ℕ → Option Node) (q : List Bool) (n bit : 
 abbrev pub cell_slot : Match → ℕ
 cell_slot m = m.node.value_block + rank m.node.value_bitmap m.bit
 
--- where the value of a match is stored
+-- the seat of the value of a match
 abbrev pub match_seat : Match → Seat
 match_seat m = record { slot = m.node.value_block + rank m.node.value_bitmap m.bit }
 
--- the seat of a match and the length of its string, if there is one
+-- the seat of a match and the length of its string, if there is a match
 abbrev pub SeatAt : Option Match → Option Seat → ℕ → Type 0
 SeatAt o seat n = MatchOption o (seat ≡ None) (λ m. (seat ≡ Some (match_seat m)) × (n ≡ m.len))
 
--- of the beginnings of q whose length is `first` or more and below `end`, the longest that has a value, if any has one
+-- the longest beginning of q that has a value and a length from `first` up to, but not including, `end`, if there is one
 abbrev pub LongestHeld : (List ℕ → Option Node) → List Bool → ℕ → ℕ → Option Match → Type 0
 LongestHeld reading q first end o =
     MatchOption o (NoneHeld reading q first end) (λ m. IsHeld reading q m.len m.bit m.node × NoneHeld reading q (m.len + 1) end)
 
--- the shortest that has one
+-- the shortest such beginning
 abbrev pub ShortestHeld : (List ℕ → Option Node) → List Bool → ℕ → ℕ → Option Match → Type 0
 ShortestHeld reading q first end o =
     MatchOption o (NoneHeld reading q first end) (λ m. IsHeld reading q m.len m.bit m.node × NoneHeld reading q first m.len)

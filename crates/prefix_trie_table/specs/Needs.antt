@@ -9,20 +9,20 @@ use Rattle.prefix_trie_table.specs.Blocks.Store.{Store, AreFree, made_in, needs,
 abbrev pub nodes_needed : Reached → List Bool → List ℕ
 nodes_needed here q = if nat_lt (length q) (5 * here.level + 5) then [] else needs (child_need (Some here.node)) (length q / 5 - (here.level + 1))
 
--- the same for values
+-- the sizes of the blocks of values that a bit string needs, if this node is the last on its search path
 abbrev pub cells_needed : Reached → List Bool → List ℕ
 cells_needed here q = needs (if nat_lt (length q) (5 * here.level + 5) then value_need (Some here.node) else value_need None) 0
 
--- all these are free
+-- all these blocks are free
 abbrev pub HasFreeBlocks : {T : Type 0} → Store Node → Store (Option T) → Reached → List Bool → Type 0
 HasFreeBlocks v w here q = AreFree v.tiers (nodes_needed here q) × AreFree w.tiers (cells_needed here q)
 
--- of each size exactly the missing blocks were made, and the array is longer by their slots
+-- exactly the missing blocks were made, and the array is longer by their slots
 pub record Made {S : Type 0} (v w : Store S) (needed : List ℕ) : Type 0 where
   pub made_is : (size : ℕ) → made_in w.tiers size ≡ made_in v.tiers size + missing_in v needed size
   pub longer : length w.slots ≡ length v.slots + missing_slots v needed
 
--- or at most these
+-- at most the missing blocks were made, and the array is longer by at most their slots
 pub record MadeAtMost {S : Type 0} (v w : Store S) (needed : List ℕ) : Type 0 where
   pub made_is : (size : ℕ) → (made_in v.tiers size ≤ made_in w.tiers size) × (made_in w.tiers size ≤ made_in v.tiers size + missing_in v needed size)
   pub longer : (length v.slots ≤ length w.slots) × (length w.slots ≤ length v.slots + missing_slots v needed)
@@ -39,8 +39,7 @@ Passes v needed = v.limit < length v.slots + missing_slots v needed
 abbrev pub MissingFits : {S : Type 0} → Store S → List ℕ → Type 0
 MissingFits v needed = (size : ℕ) × (0 < missing_in v needed size) × (length v.slots + size ≤ v.limit)
 
--- what a call leaves of two arrays in which blocks of these sizes must be free, and when it is
--- refused
+-- a call that needs free blocks of these sizes in two arrays made the missing ones, or is refused for this reason
 pub record ObtainsBoth {T X E : Type 0} (for_limit for_memory : E → Type 0) (r : Result X E) (v v2 : Store Node) (w w2 : Store (Option T))
     (nodes cells : List ℕ) : Type 0 where
   pub nodes_made : Makes r v v2 nodes

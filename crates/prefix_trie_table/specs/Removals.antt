@@ -1,4 +1,4 @@
--- What the calls that remove values leave, by path. This project's own.
+-- How the calls that remove values change a table, by path. This project's own.
 use Rattle.std.specs.Prelude.{◌≡◌, ◌≢◌, ℕ, ◌+◌, ◌<◌, ◌≤◌, ◌⊎◌, Bool, true, false, List, [], ◌∷◌, ◌++◌, length, take, slice_index_or, Option, None, Some, is_some}
 use Rattle.prefix_trie_table.specs.declared.allocator.node.Node.{Node}
 use Rattle.prefix_trie_table.specs.Bitmaps.{rank}
@@ -11,21 +11,21 @@ use Rattle.prefix_trie_table.specs.Layouts.{own_children, child_block_size, valu
 use Rattle.prefix_trie_table.specs.GrowthBounds.{BoundsNodeGrowth}
 use Rattle.prefix_trie_table.specs.Forest.{NodesHold, CellsHold, Holds, IsSlot, with_child_removed, without, is_start, with_node, with_value, own_count, entry_count, one_if}
 
--- the block that a list entered in place of its old one was made, if it was to be
+-- the block that a list moved to was made, if none of its size was free
 abbrev pub MakesEntered : {S : Type 0} → List ℕ → Store S → Store S → Option ℕ → Option ℕ → Type 0
 MakesEntered sizes v w old new = MakesBlocks sizes (made_of sizes (free_counts v.tiers) old new) (made_in v.tiers) (made_in w.tiers)
 
--- or at most that one
+-- at most the block that a list moved to was made
 abbrev pub MakesFew : {S : Type 0} → List ℕ → Store S → Store S → Option ℕ → Option ℕ → Type 0
 MakesFew sizes v w old new = MakesAtMost sizes (made_of sizes (free_counts v.tiers) old new) (made_in v.tiers) (made_in w.tiers)
 
--- an array grows by at most that block, made as one of the two relations above states
+-- an array grows by at most that block, which is made as one of the two relations above states
 pub record GrowsBy {S : Type 0} (Makes : List ℕ → Store S → Store S → Option ℕ → Option ℕ → Type 0) (sizes : List ℕ) (v w : Store S) (old new : Option ℕ) : Type 0 where
   pub longer : LongerByOne sizes (free_counts v.tiers) old new (length v.slots) (length w.slots)
   pub made : Makes sizes v w old new
 
--- a list shrinks from `before` items in a block of the size `old` to `after` in one of the size `new`: it steps down,
--- and the array grows by that block
+-- a list shrinks from `before` items to `after`, and steps down from a block of the size `old` to one of the size `new`
+-- The array grows by that block, if it was made.
 pub record ShrinksList {S : Type 0} (Makes : List ℕ → Store S → Store S → Option ℕ → Option ℕ → Type 0) (sizes : List ℕ) (v w : Store S) (before after : ℕ) (old new : Option ℕ) : Type 0 where
   pub has : after < before → HasBlock sizes before old
   pub steps : StepsDown sizes (free_counts v.tiers) before after old new
@@ -37,7 +37,7 @@ pub record SameChildren (n m : Node) : Type 0 where
   pub block : m.child_block ≡ n.child_block
   pub tier : m.child_tier ≡ n.child_tier
 
--- as many items in a block of the same size
+-- two nodes have the same number of items in blocks of the same size
 abbrev pub SameBlock : (Option Node → ℕ) → (Option Node → Option ℕ) → Option Node → Option Node → Type 0
 SameBlock count size n m = (count m ≡ count n) × (size m ≡ size n)
 
@@ -48,7 +48,7 @@ pub record SameValues (n m : Node) : Type 0 where
   pub tier : m.value_tier ≡ n.value_tier
 
 module _ {T : Type 0} where
-  -- the node n at p, now m, has lost its value at bit b, and the other nodes and values are unchanged
+  -- the node n at p became m and lost its value at bit b; the other nodes and values are unchanged
   pub record ValueTaken (reading : List ℕ → Option Node) (paths : List (List ℕ)) (values : List ℕ → ℕ → Option T) (p : List ℕ) (b : ℕ) (n m : Node)
       (v : Store Node) (before after : Store (Option T)) : Type 0 where
     pub hold : NodesHold node_sizes (with_node reading p m) paths v
@@ -57,8 +57,8 @@ module _ {T : Type 0} where
     pub children : SameChildren n m
     pub shrinks : ShrinksList MakesEntered cell_sizes before after (own_count (Some n)) (own_count (Some m)) (value_block_size (Some n)) (value_block_size (Some m))
 
-  -- the value at bit b of the node with a path was removed, if there was one; this node keeps its
-  -- children, and each other node is unchanged and in its slot
+  -- the value at bit b of the node with a path was removed, if there was one
+  -- This node keeps its children, and each other node is unchanged and in its slot.
   pub record EntryTaken (reading : List ℕ → Option Node) (paths : List (List ℕ)) (values : List ℕ → ℕ → Option T) (path : List ℕ) (b : ℕ)
       (v : Store Node) (before after : Store (Option T)) : Type 0 where
     pub later : List ℕ → Option Node
@@ -80,12 +80,12 @@ pub record IsBare (n : Node) : Type 0 where
 abbrev pub IsStocked : Node → Type 0
 IsStocked n = (0 < rank n.value_bitmap 32) ⊎ (0 < rank n.child_bitmap 32)
 
--- an array is as long as it was, and has the limit and the blocks that it had
+-- the length, the limit and the blocks of an array are as before
 pub record SameBlocks {S : Type 0} (v w : Store S) : Type 0 where
   pub space : SameSpace v w
   pub tiers : w.tiers ≡ v.tiers
 
--- no block was made, taken or lost, so those free before are free
+-- no block was made, taken or lost, so the blocks that were free still are
 pub record GivesBack {S : Type 0} (v w : Store S) : Type 0 where
   pub none : MakesNone v w
   pub sizes : tier_sizes w.tiers ≡ tier_sizes v.tiers
@@ -104,7 +104,7 @@ pub record AreAbove (q : List Bool) (level : ℕ) (ancestors : List ℕ) (v : St
   pub long : length ancestors ≡ level
   pub slots : (reading : List ℕ → Option Node) (paths : List (List ℕ)) → NodesHold node_sizes reading paths v → AreAncestors reading (chunks_of q) ancestors level
 
--- the child c of the node n at p, which has no children, is gone, and the node is m then
+-- the node n at p became m and lost its child c, which had no children
 pub record ChildDropped (reading : List ℕ → Option Node) (paths : List (List ℕ)) (p : List ℕ) (c : ℕ) (n m : Node) (before after : Store Node) : Type 0 where
   pub hold : NodesHold node_sizes (with_child_removed reading p m c) (without (p ++ c ∷ []) paths) after
   pub values : SameValues n m
@@ -112,16 +112,16 @@ pub record ChildDropped (reading : List ℕ → Option Node) (paths : List (List
   pub shrinks : ShrinksList MakesEntered node_sizes before after (own_children (Some n)) (own_children (Some m)) (child_block_size (Some n)) (child_block_size (Some m))
   pub bounds_growth : BoundsNodeGrowth before after
 
--- nodes were removed one after another, each of them without values and children then
+-- nodes were removed one after another, each when it had neither values nor children
 pub data Drops (reading : List ℕ → Option Node) (paths : List (List ℕ)) : (List ℕ → Option Node) → List (List ℕ) → Type 0 where
   none : Drops reading paths reading paths
   more : (later : List ℕ → Option Node) (left : List (List ℕ)) (v : Store Node) (p : List ℕ) (c : ℕ) (n m leaf : Node) → Drops reading paths later left →
       NodesHold node_sizes later left v → later p ≡ Some n → later (p ++ c ∷ []) ≡ Some leaf → IsBare leaf → SameValues n m →
       Drops reading paths (with_child_removed later p m c) (without (p ++ c ∷ []) left)
 
--- a search path was pruned up to its node at this level, which is `node` then
--- The nodes under it on the path are gone, and those above it and off the path are unchanged. The
--- node itself lost a child, or is the last of the path.
+-- a search path was pruned up to its node at this level, which became `node`
+-- The nodes under it on the path are removed, and those above it and off the path are unchanged. The node itself lost a
+-- child, or is the last of the path.
 pub record PrunedTo (reading : List ℕ → Option Node) (paths : List (List ℕ)) (path : List ℕ) (level : ℕ) (node : Node) (before after : Store Node) : Type 0 where
   pub later : List ℕ → Option Node
   pub left : List (List ℕ)
@@ -144,7 +144,7 @@ pub record Pruned (reading : List ℕ → Option Node) (paths : List (List ℕ))
   pub to : PrunedTo reading paths path level node before after
   pub stops : (level ≡ 0) ⊎ IsStocked node
 
--- there is a node at the end of a search path, and these are the slots of the nodes above it
+-- this node is the last of a search path, and these are the slots of the nodes above it
 pub record IsAtEnd (path : List ℕ) (ancestors : List ℕ) (node : Node) (v : Store Node) : Type 0 where
   pub reading : List ℕ → Option Node
   pub paths : List (List ℕ)
@@ -153,8 +153,8 @@ pub record IsAtEnd (path : List ℕ) (ancestors : List ℕ) (node : Node) (v : S
   pub slots : AreAncestors reading path ancestors (length path)
   pub is : reading path ≡ Some node
 
--- the value at bit b of the node with a path was removed, if there was one, and the path was
--- pruned; if the node is missing, nothing changed
+-- the value at bit b of the node with a path was removed, if there was one, and then the path was pruned
+-- If the node is missing, nothing changed.
 abbrev pub EntryRemoved : {T : Type 0} → (List ℕ → Option Node) → List (List ℕ) → (List ℕ → ℕ → Option T) → List ℕ → ℕ → Store Node → Store (Option T) →
     Store Node → Store (Option T) → Type 0
 EntryRemoved reading paths values path b v before w after =

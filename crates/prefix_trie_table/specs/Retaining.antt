@@ -1,5 +1,4 @@
--- What calling a test on the entries of some places of a node leaves of a table. This project's
--- own.
+-- How a table changes when a test is called on the entries at some places of a node. This project's own.
 use Rattle.std.specs.Prelude.{◌≡◌, ℕ, ◌*◌, ◌<◌, ◌≤◌, Bool, true, false, cond, nat_lt, List, [], ◌∷◌, ◌++◌, length, take, Option, Some}
 use Rattle.std.specs.List.{list_any}
 use Rattle.std.specs.FinMap.{get, contains_key}
@@ -24,48 +23,48 @@ use Rattle.prefix_trie_table.specs.GrowthBounds.{BoundsGrowth}
 use Rattle.prefix_trie_table.specs.Blocks.Store.{Store, KeepsMade}
 use Rattle.prefix_trie_table.specs.Tables.{IsTrie}
 
--- whether a string is at the place t of the node at s, or under the child at that place
+-- whether the string q is at the place t of the node at s, or under the child at that place
 abbrev pub is_at : List Bool → List Bool → List Bool → Bool
 is_at s t q = cond (nat_lt (length t) 5) (same_string q (s ++ t)) (begins (s ++ t) q)
 
--- whether it is so for one of these places
+-- whether the string q is at one of these places, or under the child there
 abbrev pub is_at_some : List Bool → List (List Bool) → List Bool → Bool
 is_at_some s ts q = list_any (λ t. is_at s t q) ts
 
--- whether a child is at the place t of the node at s, and a string goes on from there
+-- whether the place t of the node at s is that of a child, and the string q is under that child
 abbrev pub is_under : List Bool → List Bool → List Bool → Bool
 is_under s t q = cond (nat_lt (length t) 5) false (begins (s ++ t) q)
 
--- whether it is so for one of these places
+-- whether the string q is under the child at one of these places
 abbrev pub is_under_some : List Bool → List (List Bool) → List Bool → Bool
 is_under_some s ts q = list_any (λ t. is_under s t q) ts
 
--- the node has this place, and it is the place of a string
+-- the node has this place, which is that of a string
 pub record HasPlace (n : Node) (p : Place) : Type 0 where
   pub string : List Bool
   pub short : length string ≤ 5
   pub is : p ≡ place_of string
   pub set : is_in n.value_bitmap n.child_bitmap string ≡ true
 
--- no block of a node's values, or of its children, is larger, or smaller than what is left needs
+-- the blocks of a node's values and of its children are no larger than before and hold what is left
 pub record BlocksBetween (n m : Option Node) : Type 0 where
   pub values : StepsBetween cell_sizes (own_count n) (own_count m) (value_block_size n) (value_block_size m)
   pub children : StepsBetween node_sizes (own_children n) (own_children m) (child_block_size n) (child_block_size m)
 
--- an array is no shorter, its limit is the same, and no block is lost
+-- an array is no shorter than before, its limit is the same, and no block is lost
 pub record Stays {S : Type 0} (v w : Store S) : Type 0 where
   pub limit : w.limit ≡ v.limit
   pub longer : length v.slots ≤ length w.slots
   pub made : KeepsMade v w
 
 module _ {T : Type 0} where
-  -- some stored key goes on from q
+  -- some stored key begins with q
   pub record Needs (m : Entries T) (q : List Bool) : Type 0 where
     pub key : List Bool
     pub stored : contains_key m key ≡ true
     pub goes_on : begins q key ≡ true
 
-  -- both arrays stay, neither may become longer than it could, and the nodes above this level are the same
+  -- no block of either array is lost, the bound on their growth did not rise, and the nodes above this level are unchanged
   pub record PreservesBelow (level : ℕ) (v v2 : Store Node) (w w2 : Store (Option T)) : Type 0 where
     pub above : (p : List ℕ) → length p < level → read v2.slots p ≡ read v.slots p
     pub nodes : Stays v v2
@@ -73,7 +72,7 @@ module _ {T : Type 0} where
     pub bounds_growth : BoundsGrowth v v2 w w2
     pub blocks : (x : List ℕ) → BlocksBetween (read v.slots x) (read v2.slots x)
 
--- there is a node in the slot of the site and at its path, which is no longer than the width
+-- the node is in the slot of the site and at its path, which is no longer than the width
 pub record IsSite {K : Type 0} (IsKey : K → Type 0) (bits : K → List Bool) (width : ℕ) (v : Store Node) (p : Site K) (n : Node) : Type 0 where
   pub key : IsKey p.key
   pub level : ℕ
@@ -88,15 +87,14 @@ module _ {F T : Type 0} (asks : F → List Bool → T → Bool → F → Type 0)
   AsksUpTo f [] g = g ≡ f
   AsksUpTo f (e ∷ es) g = (b : Bool) × (f' : F) × asks f e.0 e.1 b f' × AsksUpTo f' es g
 
-  -- it returns false each time
+  -- the test returns false at each call
   abbrev pub ReturnsFalse : Type 0
   ReturnsFalse = (f : F) (k : List Bool) (x : T) (b : Bool) (g : F) → asks f k x b g → b ≡ false
 
 module _ {F T : Type 0} (asks : F → List Bool → T → Bool → F → Type 0) (accepts : F → List Bool → T → Type 0) where
-  -- the test was called on each entry of these places of the node at s, in listing order, and the
-  -- entries for which it returned true are left
-  -- Of the nodes under them those are left that a remaining key needs. Everything else is
-  -- unchanged.
+  -- the test was called on each entry at these places of the node at s, in listing order, and the entries for which it
+  -- returned true are left
+  -- The nodes under these places that no remaining key needs are removed. Everything else is unchanged.
   pub record Retains (s : List Bool) (ts : List (List Bool)) (f : F) (before : State T) (f' : F) (after : State T) : Type 0 where
     pub kept : List (List Bool × T)
     pub asked : (rest later : List (List Bool × T)) → RetainsEntries asks f' rest later →
@@ -120,7 +118,7 @@ module _ {F T : Type 0} (asks : F → List Bool → T → Bool → F → Type 0)
   RetainsIn width s ts f count v w f' count2 v2 w2 =
       (before : State T) → IsTrie width count v w before → RetainsTo width s ts f before f' count2 v2 w2
 
-  -- the test may be called on each entry of these places
+  -- the test may be called on each entry at these places
   abbrev pub MayAskAt : ℕ → List Bool → List (List Bool) → F → ℕ → Store Node → Store (Option T) → Type 0
   MayAskAt width s ts f count v w =
       (before : State T) → IsTrie width count v w before → CallableOnEachEntry asks accepts f (listing_at_places before.entries s ts)
@@ -129,14 +127,13 @@ module _ {F T : Type 0} (asks : F → List Bool → T → Bool → F → Type 0)
   abbrev pub MayAskBelow : ℕ → List Bool → F → ℕ → Store Node → Store (Option T) → Type 0
   MayAskBelow width q f count v w = (before : State T) → IsTrie width count v w before → CallableOnEachEntry asks accepts f (listing_below before.entries q)
 
-  -- the test was called once on each entry whose key begins with q, and these are gone; these nodes
-  -- are left
+  -- the test was called once on each entry whose key begins with q, and these entries were removed; these nodes are left
   pub record TakesBelow (width : ℕ) (q : List Bool) (f : F) (before : State T) (f' : F) (left : Nodes) (count : ℕ) (v : Store Node) (w : Store (Option T)) : Type 0 where
     pub trie : IsTrie width count v w (record { entries = without_below before.entries q; nodes = left })
     pub up_to : AsksUpTo asks f (listing_below before.entries q) f'
 
-  -- the test was called on each entry of these arrays in listing order; they now have the entries
-  -- for which it returned true, and the nodes that these need
+  -- the test was called on each entry of these arrays, in listing order
+  -- The arrays now have the entries for which it returned true, and the nodes that these need.
   pub record RetainsAll (width : ℕ) (f : F) (before : State T) (count : ℕ) (v : Store Node) (w : Store (Option T)) : Type 0 where
     pub after : State T
     pub trie : IsTrie width count v w after

@@ -18,12 +18,12 @@ pub record IsAlong (q : List Bool) (here : Reached) (v : Store Node) : Type 0 wh
   pub node_is : here.node ≡ node_at v.slots (slot_at here)
   pub deepest : (reading : List ℕ → Option Node) (paths : List (List ℕ)) → NodesHold node_sizes reading paths v → Deepest reading (chunks_of q) here.level (slot_at here) v
 
--- it is the last one
+-- this node is the last one on the search path
 pub record IsLast (q : List Bool) (here : Reached) (v : Store Node) : Type 0 where
   pub along : IsAlong q here v
   pub missing : 5 * here.level + 5 ≤ length q → has_bit here.node.child_bitmap (slice_index_or (chunks_of q) here.level 0) ≡ false
 
--- it is the bit string's own
+-- this node is the bit string's own
 pub record IsOwn (q : List Bool) (here : Reached) (v : Store Node) : Type 0 where
   pub along : IsAlong q here v
   pub last : here.level ≡ length (chunks_of q)

@@ -1,5 +1,4 @@
--- The contents of a table with a value set, and that its nodes and cells determine its entries and
--- nodes. This project's own.
+-- The contents of a table with a value set, and the entries and nodes that its two arrays determine. This project's own.
 use Rattle.std.specs.Prelude.{◌≡◌, ℕ, Bool, List, ◌&&◌, is_some, Option, None, Some, if◌then◌else◌, refl}
 use Rattle.std.proofs.Common.{sym, ◌∙◌}
 use Rattle.std.specs.Coded.{Coded, code_by, coded×, coded_list, coded_ℕ, coded_bool, coded_option, Coded-set}
@@ -18,20 +17,20 @@ use Rattle.prefix_trie_table.specs.Forest.{read, value_of}
 use Rattle.prefix_trie_table.specs.Layouts.{coded_layout}
 use Rattle.prefix_trie_table.specs.Model.Contents.{Contents}
 
--- the contents with x at a bit string, and otherwise unchanged
+-- the contents with the value x at a bit string
 abbrev pub with_value_at : {T : Type 0} → Contents T → List Bool → T → Contents T
 with_value_at s q x = record s { entries = with_entry s.entries q x }
 
--- the same if a value is stored there, else the contents
+-- the contents with the value x at a bit string if a value is stored there, and otherwise unchanged
 abbrev pub with_stored_at : {T : Type 0} → Contents T → List Bool → T → Contents T
 with_stored_at s q x = if contains_key s.entries q then with_value_at s q x else s
 
--- the contents with x at the key of a match, if there is one
+-- the contents with the value x at the key of a match, if there is a match
 abbrev pub with_match_at : {T : Type 0} → Contents T → Option (List Bool × T) → T → Contents T
 with_match_at s None x = s
 with_match_at s (Some e) x = with_value_at s e.0 x
 
--- the contents with x at the longest key that begins q, if one does
+-- the contents with the value x at the longest key that begins q, if there is one
 abbrev pub with_longest_at : {T : Type 0} → Contents T → List Bool → T → Contents T
 with_longest_at s q x = with_match_at s (longest_match s.entries q) x
 
@@ -72,7 +71,7 @@ module _ {T : Type 0} where
       ((s : List Bool) → has_node shape.nodes s ≡ (is_node_depth s && is_some (read nodes (chunks_of s))))
       × ((s : List Bool) → get shape.entries s ≡ value_of cells (read nodes (chunks_of s)) (bit_of s))
 
-  -- that they are has one proof at most
+  -- there is at most one proof of this
   pub IsShapeOf-prop : Coded T → (nodes : List Node) (cells : List (Option T)) (shape : State T) → IsProp (IsShapeOf nodes cells shape)
   IsShapeOf-prop c nodes cells shape = λ x y i. (
     Π_prop (λ _. Coded-set coded_bool _ _) x.0 y.0 i,
@@ -86,10 +85,10 @@ module _ {T : Type 0} where
       let nodes : s.nodes ≡ t.nodes = same_members s.nodes t.nodes (λ q. h.0 q ∙ sym (k.0 q)) in
       λ i. record { entries = entries i; nodes = nodes i }
 
-  -- the one shape that the nodes and the cells have
+  -- the shape that the nodes and the cells have
   abbrev pub Shaped : List Node → List (Option T) → Type 0
   Shaped nodes cells = (shape : State T) × IsShapeOf nodes cells shape
 
-  -- the arrays have one shape at most
+  -- the arrays have at most one shape
   pub Shaped-prop : Coded T → (nodes : List Node) (cells : List (Option T)) → IsProp (Shaped nodes cells)
   Shaped-prop c nodes cells = λ x y. Σ_prop_path (IsShapeOf-prop c nodes cells) (same_shape nodes cells x.0 y.0 x.1 y.1)

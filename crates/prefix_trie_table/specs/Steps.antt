@@ -12,7 +12,7 @@ module _ {T : Type 0} where
   insert_reply (Ok before) = Reply.Value before
   insert_reply (Err refused) = Reply.Refused refused.cause
 
-  -- the result of the insertion of a missing key, which has more than a value, as a reply
+  -- the result of the insertion of a missing key, as a reply of the model
   abbrev pub insert_new_reply : {P X : Type 0} → Result X (Refused T) → Reply P T
   insert_new_reply (Ok x) = Reply.Value None
   insert_new_reply (Err refused) = Reply.Refused refused.cause

@@ -12,7 +12,7 @@ module _ (T A V : RattleType) (a : alloc.Ghosts A.Denot) (t : tick.Ghosts V.Deno
   abbrev pub lends_entry : List Bool → MutBor T.Denot → Fml
   lends_entry q r = Lends (table.the_row T A V t a) T s r (with_value_at s.now q)
 
-  -- once the borrow r ends, the value stored at q is the last one written through r; at `None` the table is unchanged
+  -- once the borrow r ends, the value stored at q is the last one written through r; if r is `None`, nothing changes
   abbrev pub lends_entry_if : List Bool → Option (MutBor T.Denot) → Fml
   lends_entry_if q r = LendsIf (table.the_row T A V t a) T s r (with_stored_at s.now q) s.now
 

@@ -8,8 +8,8 @@ use Rattle.prefix_trie_bits.specs.Model.Space.{Space}
 use Rattle.prefix_trie_bits.specs.Model.Blocks.{Layout}
 use Rattle.prefix_trie_table.specs.declared.allocator.node.Node.{Node}
 
--- what contracts see of a table: its entries, its nodes, its slots, its layout, and the nodes in
--- their slots; only clauses on seats mention the last
+-- what contracts see of a table: its entries, its nodes, its slots, its layout, and the nodes in their slots
+-- Only clauses on seats mention the nodes in their slots.
 pub record Contents (T : Type 0) : Type 0 where
   pub entries : Entries T
   pub nodes : Nodes
@@ -21,7 +21,7 @@ pub record Contents (T : Type 0) : Type 0 where
 abbrev pub state : {T : Type 0} → Contents T → State T
 state contents = record { entries = contents.entries; nodes = contents.nodes }
 
--- how they are stored
+-- the slots and the layout, as the storage of the model
 abbrev pub storage : {T : Type 0} → Contents T → Storage
 storage contents = record { space = contents.space; layout = contents.layout }
 

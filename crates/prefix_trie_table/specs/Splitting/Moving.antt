@@ -1,4 +1,4 @@
--- A second table whose values come one after another, in listing order. This project's own.
+-- A second table, to which values are moved one after another, in listing order. This project's own.
 use Rattle.std.specs.Prelude.{◌≡◌, ℕ, Bool, List, [], ◌∷◌, Option}
 use Rattle.std.specs.FinMap.{len}
 use Rattle.prefix_trie_bits.specs.Calls.Entries.{part_below}
@@ -18,25 +18,25 @@ module _ {T : Type 0} where
   filled_with nodes [] w = w
   filled_with nodes (e ∷ es) w = filled_with nodes es (with_cell w (seat_of nodes e.0) e.1)
 
-  -- what is split off a table with these entries
+  -- the entries and nodes that are split off
   abbrev pub split_off : State T → List Bool → State T
   split_off s q = record { entries = part_below s.entries q; nodes = needed (part_below s.entries q) }
 
   module _ {K : Type 0} (IsKey : K → Type 0) (bits : K → List Bool) (width : ℕ) where
-    -- with these values the arrays are a table of these entries and nodes, and the seats to come
-    -- are exactly theirs, in order
+    -- with these values, the arrays are those of a table with these entries and nodes
+    -- The seats still to come are exactly those of these values, in order.
     pub record Awaits (shape : State T) (v : Store Node) (w : Store (Option T)) (key : K) (ps : List Spot) (rest : List (List Bool × T)) : Type 0 where
       pub trie : IsTrie width (len shape.entries) v (filled_with v.slots rest w) shape
       pub stack : IsStack width v.slots (bits key) ps
       pub come : pending shape.entries (bits key) ps ≡ rest
 
-    -- the value x of the string q is the next to come
+    -- the value x of the string q is the next to be moved
     pub record AwaitsNext (v : Store Node) (w : Store (Option T)) (key : K) (ps : List Spot) (q : List Bool) (x : T) : Type 0 where
       pub shape : State T
       pub later : List (List Bool × T)
       pub awaits : Awaits shape v w key ps ((q, x) ∷ later)
 
-    -- it has come, and nothing else of the arrays is another
+    -- the value was moved, and nothing else in the arrays changed
     pub record HasCome (v v2 : Store Node) (w w2 : Store (Option T)) (key : K) (ps : List Spot) (key2 : K) (ps2 : List Spot) (q : List Bool) (x : T) : Type 0 where
       pub nodes : v2 ≡ v
       pub cells : w2 ≡ record w { slots = w2.slots }

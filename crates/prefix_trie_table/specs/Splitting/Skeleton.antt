@@ -1,5 +1,4 @@
--- A second table before its values come: all its nodes and blocks are built, and each cell is
--- vacant. This project's own.
+-- A second table before its values are moved: its nodes and blocks are built, and each cell is vacant. This project's own.
 use Rattle.std.specs.Prelude.{◌≡◌, ℕ, ◌≤◌, Bool, true, List, ◌∷◌, flat_map, Option, None, is_some, length}
 use Rattle.prefix_trie_table.specs.declared.allocator.node.Node.{Node}
 use Rattle.prefix_trie_table.specs.Blocks.Cells.{node_at, node_sizes, cell_sizes}
@@ -9,25 +8,25 @@ use Rattle.prefix_trie_table.specs.Splitting.Building.{NoneFree}
 use Rattle.prefix_trie_table.specs.Blocks.Store.{Store, Sound, tier_sizes}
 
 module _ {T : Type 0} where
-  -- two arrays have the nodes and the blocks, still vacant, that the values need whose strings q begins, of those that the nodes in v have
+  -- two arrays have the nodes and the blocks, still vacant, for the values in v whose strings begin with q
   pub record IsSkeleton (q : List Bool) (v v2 : Store Node) (w2 : Store (Option T)) : Type 0 where
     pub reading : List ℕ → Option Node
     pub paths : List (List ℕ)
     pub nodes : NodesHold node_sizes reading paths v2
-    -- the used blocks of values are those of the holders, each without any value so far
+    -- the used blocks of values are those of the nodes with values, each without any value so far
     pub cells : Sound None (flat_map (value_blocks cell_sizes reading no_value) paths) w2
     pub cells_first : w2.first ≡ 0
     pub cell_sizes_are : tier_sizes w2.tiers ≡ cell_sizes
-    -- there is a cell for each value of the first table whose string begins with q, and each block
-    -- is the smallest that holds its list
+    -- there is a cell for each value of the first table whose string begins with q
+    -- Each block is the smallest that holds its list.
     pub part : IsPart v.slots (node_at v.slots 0) q reading
-    -- each node but the root has such a value, or one below it
+    -- each node except the root has such a value, or is above one
     pub needed : (c : ℕ) (p : List ℕ) → is_some (reading (c ∷ p)) ≡ true → SomeValue reading (c ∷ p)
     -- no block is free
     pub no_node_free : NoneFree v2
     pub no_cell_free : NoneFree w2
 
-  -- the same under the limit of v, which neither array passes
+  -- such arrays under the limit of v, which neither array exceeds
   pub record IsSecond (q : List Bool) (v v2 : Store Node) (w2 : Store (Option T)) : Type 0 where
     pub skeleton : IsSkeleton q v v2 w2
     pub node_limit : v2.limit ≡ v.limit

@@ -1,5 +1,4 @@
--- A position of a walk in a table that it does not hold, and what is to come of the walk. This
--- project's own.
+-- A position of a walk apart from its table, and what is still to come of the walk. This project's own.
 use Rattle.std.specs.Prelude.{◌≡◌, ℕ, ◌+◌, ◌*◌, ◌-◌, ◌≤◌, Bool, List, [], ◌∷◌, ◌++◌, take, map, Some}
 use Rattle.std.proofs.Common.{arith}
 use Rattle.std.specs.Coded.{Coded-set, coded_ℕ, coded_bool, coded_option}
@@ -27,8 +26,8 @@ module _ {K : Type 0} where
   abbrev pub keys_to_come : {T : Type 0} → (K → List Bool) → Entries T → Cursor K → List (List Bool)
   keys_to_come bits m cursor = map (λ e. e.0) (pending m (bits cursor.key) cursor.stack.items)
 
-  -- a step gives the first key to come, which is the first len bits of a number, with zeros after
-  -- them, and the seat of its value
+  -- a step gives the first key still to come and the seat of its value
+  -- The key is the first len bits of a number, with zeros after them.
   pub record GivesKey (IsKey : K → Type 0) (bits : K → List Bool) (width : ℕ) (nodes : List Node) (key : K) (len : ℕ) (seat : Seat) (old new : List (List Bool)) : Type 0 where
     pub is_key : IsKey key
     pub short : len ≤ width
@@ -52,6 +51,6 @@ module _ (width : ℕ) (nodes : List Node) (search_path : List Bool) where
   stack-prop n [] = λ x y i. tt
   stack-prop n (p ∷ ps) = λ x y i. (Coded-set coded_ℕ _ _ x.0 y.0 i, spot-prop p x.1 y.1 i, stack-prop (n + 5) ps x.2 y.2 i)
 
--- that a cursor is in these nodes has at most one proof
+-- there is at most one proof that a cursor is in these nodes
 pub IsCursorIn-prop : {K : Type 0} (bits : K → List Bool) (width : ℕ) (nodes : List Node) (cursor : Cursor K) → IsProp (IsCursorIn bits width nodes cursor)
 IsCursorIn-prop bits width nodes cursor = stack-prop width nodes (bits cursor.key) (start cursor.stack.items) cursor.stack.items

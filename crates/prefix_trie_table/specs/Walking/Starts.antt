@@ -1,5 +1,4 @@
--- What a walk that starts at a bit string gives, and at which places of the nodes on its search
--- path it is. This project's own.
+-- The entries of a walk that starts at a bit string, and their places in the nodes on the search path. This project's own.
 use Rattle.std.specs.Prelude.{ℕ, Bool, false, not, ◌&&◌, List, filter}
 use Rattle.prefix_trie_bits.specs.Model.Bits.{begins}
 use Rattle.prefix_trie_bits.specs.Places.{strings, is_in, is_before}
@@ -15,15 +14,13 @@ selected At m q = listing_from m q
 selected After m q = listing_after m q
 selected Below m q = listing_below m q
 
--- whether everything at the place s is selected at a node that is passed, where t is the child
--- taken
+-- whether everything at the place s is selected in a node that the search path leaves by the child t
 abbrev pub behind : Start → List Bool → List Bool → Bool
 behind At t s = is_before t s
 behind After t s = is_before t s
 behind Below t s = false
 
--- whether everything at the place s is selected at the node where the string ends, where r is its
--- last bits
+-- whether everything at the place s is selected in the string's own node, in which it has the bits r
 abbrev pub kept : Start → List Bool → List Bool → Bool
 kept At r s = not (is_before s r)
 kept After r s = is_before r s

@@ -1,4 +1,4 @@
--- What a walk that moves the values of a table out of their cells has to come. This project's own.
+-- What is still to come of a walk that moves the values of a table out of their cells. This project's own.
 use Rattle.std.specs.Prelude.{◌≡◌, ◌≢◌, ℕ, Bool, true, List, [], ◌∷◌, ◌++◌, length, Option, is_some, ⊤}
 use Rattle.std.proofs.Common.{sym, ◌∙◌}
 use Rattle.std.specs.Coded.{coded_bool, Coded-set}
@@ -19,11 +19,11 @@ use Rattle.prefix_trie_table.specs.Walking.Walks.{Tree, IsStack, pending}
 abbrev pub AreSeated : List Node → Nodes → Type 0
 AreSeated nodes keys = (q : List Bool) → has_node keys q ≡ is_some (seat_of nodes q)
 
--- the one set of such strings
+-- the set of the strings that have a seat
 abbrev pub Seated : List Node → Type 0
 Seated nodes = (keys : Nodes) × AreSeated nodes keys
 
--- there is one at most
+-- there is at most one such set
 pub Seated-prop : (nodes : List Node) → IsProp (Seated nodes)
 Seated-prop nodes = λ x y. Σ_prop_path (λ keys. Π_prop (λ _. Coded-set coded_bool _ _)) (same_members x.0 y.0 (λ q. x.1 q ∙ sym (y.1 q)))
 
@@ -42,18 +42,17 @@ module _ {T : Type 0} where
   AreHeld nodes cells [] = ⊤
   AreHeld nodes cells (k ∷ ks) = (is_some (cell_of nodes cells k.0) ≡ true) × AreHeld nodes cells ks
 
--- the string is none of these
+-- the string is not among these
 abbrev pub IsApart : List Bool → List (List Bool × Unit {0}) → Type 0
 IsApart q [] = ⊤
 IsApart q (k ∷ ks) = (q ≢ k.0) × IsApart q ks
 
--- none of them occurs twice
+-- no string occurs twice
 abbrev pub AreApart : List (List Bool × Unit {0}) → Type 0
 AreApart [] = ⊤
 AreApart (k ∷ ks) = IsApart k.0 ks × AreApart ks
 
--- the nodes are those of a table some of whose values were moved out of their cells, but none that
--- is to come
+-- the nodes are those of a table; some of its values were moved out of their cells, but none that is still to come
 pub record IsTaking {T : Type 0} (width : ℕ) (v : Store Node) (w : Store (Option T)) (keys : Nodes) (search_path : List Bool) (ps : List Spot) : Type 0 where
   -- the table
   pub tree : Tree T

@@ -1,4 +1,4 @@
--- What a walk of a table has still to come, and what its steps give. This project's own.
+-- What is still to come of a walk over a table, and what its steps give. This project's own.
 use Rattle.std.specs.Prelude.{◌≡◌, ◌≢◌, ℕ, ◌+◌, ◌-◌, ◌*◌, ◌^◌, ◌<◌, ◌≤◌, Bool, true, not, List, [], ◌∷◌, ◌++◌, length, take, drop, filter, slice_index_or, Option, None, Some, All, ⊤}
 use Rattle.std.specs.List.{AllWithin}
 use Rattle.std.specs.Borrow.{Bor}
@@ -37,17 +37,17 @@ slot_of seat = seat.slot
 abbrev pub IsPlaceOf : Node → List Bool → Type 0
 IsPlaceOf n s = (length s ≤ 5) × (is_in n.value_bitmap n.child_bitmap s ≡ true)
 
--- s is another string than t
+-- s and t are different strings
 abbrev pub IsOther : List Bool → List Bool → Type 0
 IsOther t s = s ≢ t
 
--- of the places still to come at a spot those are dropped that a bit string begins, which ends at its node
+-- the places still to come at a spot that begin with a bit string were dropped; the string ends at the spot's node
 pub record Skips (path : List Bool) (p q : Spot) : Type 0 where
   pub node_is : q.node ≡ p.node
   pub depth_is : q.depth ≡ p.depth
   pub left : to_come q.places ≡ filter (λ s. not (begins (drop p.depth path) s)) (to_come p.places)
 
--- at the last of these spots
+-- such places were dropped at the last of these spots
 pub record SkipsLast (path : List Bool) (old new : List Spot) : Type 0 where
   pub below : List Spot
   pub was : Spot
@@ -56,13 +56,13 @@ pub record SkipsLast (path : List Bool) (old new : List Spot) : Type 0 where
   pub after : new ≡ below ++ now ∷ []
   pub skips : Skips path was now
 
--- a bit string ends at the node of the spot, whose path begins this way
+-- a bit string ends at the node of the spot, whose path is a beginning of `search_path`
 pub record EndsAt (search_path : List Bool) (p : Spot) (path : List Bool) : Type 0 where
   pub whole : p.depth ≤ length path
   pub last : length path < p.depth + 5
   pub same_above : take p.depth path ≡ take p.depth search_path
 
--- it ends at the node of the last of these spots
+-- a bit string ends at the node of the last of these spots
 pub record EndsLast (search_path : List Bool) (ps : List Spot) (path : List Bool) : Type 0 where
   pub below : List Spot
   pub spot : Spot
@@ -74,7 +74,7 @@ abbrev pub start : List Spot → ℕ
 start [] = 0
 start (p ∷ ps) = p.depth
 
--- the spot is at a node of the array, whose path begins this way, and only places that the node has are still to come
+-- the spot is at a node of the array, whose path is a beginning of `search_path`; only places of the node are to come
 pub record IsSpot (width : ℕ) (nodes : List Node) (search_path : List Bool) (p : Spot) : Type 0 where
   pub level : ℕ
   pub depth_is : p.depth ≡ 5 * level
@@ -92,16 +92,16 @@ IsStackFrom width nodes n search_path (p ∷ ps) = (p.depth ≡ n) × IsSpot wid
 abbrev pub IsStack : ℕ → List Node → List Bool → List Spot → Type 0
 IsStack width nodes search_path ps = IsStackFrom width nodes (start ps) search_path ps
 
--- the child on the way is not among the places to come
+-- the child on the search path is not among the places still to come
 abbrev pub IsPassed : List Bool → Spot → Type 0
 IsPassed search_path p = All (IsOther (take 5 (drop p.depth search_path))) (to_come p.places)
 
--- so it is at each spot but the last: what a bit string that ends at the last spot begins is to come there alone
+-- the child is passed at each spot except the last, so strings under the last spot's node are to come there only
 abbrev pub ArePassed : List Bool → List Spot → Type 0
 ArePassed search_path ps = AllWithin (IsPassed search_path) ps 0 (length ps - 1)
 
 module _ {T : Type 0} where
-  -- the pairs still to come at a spot
+  -- the entries still to come at a spot
   abbrev pub still : Entries T → List Bool → Spot → List (List Bool × T)
   still m search_path p = listing_at_places m (take p.depth search_path) (to_come p.places)
 
@@ -117,12 +117,12 @@ module _ {T : Type 0} where
     pub reads : slice_index_or t.cells.slots (slot_of seat) None ≡ Some value
     pub gives : GivesFilled IsKey bits width key len value old new
 
--- a bound on the steps at a spot: 63 places at most weigh less than one of a level above
+-- a bound on the steps at a spot: the places of a node, at most 63, weigh less than one place of the level above
 abbrev pub weight : Spot → ℕ
 weight p = length (to_come p.places) * 2 ^ (2 * (130 - p.depth)) + 1
 
 module _ {K T : Type 0} (IsKey : K → Type 0) (bits : K → List Bool) (width : ℕ) (nodes : List Node) (t : Tree T) (search_path : List Bool) (p : Spot) where
-  -- a step at the spot p gave this, and left the spot q
+  -- a step at the spot p gave this result, and the spot is q afterwards
   abbrev pub Steps : Step K → Spot → Type 0
   Steps (Entry found len seat) q =
       GivesSeat IsKey bits width t found len seat (still t.shape.entries search_path p) (still t.shape.entries search_path q)
@@ -146,7 +146,7 @@ StaysOnPath bits search_path p (Child c key) q = IsPassed (bits key) q
 StaysOnPath bits search_path p Done q = ⊤
 
 module _ {T : Type 0} where
-  -- the one shape of the arrays, if there are arrays
+  -- the shape of the arrays, if there are arrays
   abbrev pub ShapeOf : Option (Bor (Store Node) × Bor (Store (Option T))) → Type 0
   ShapeOf None = Unit {0}
   ShapeOf (Some a) = Shaped a.0.now.slots a.1.now.slots
@@ -155,12 +155,12 @@ module _ {T : Type 0} where
   ShapeOf-prop c None = λ x y i. tt
   ShapeOf-prop c (Some a) = Shaped-prop c a.0.now.slots a.1.now.slots
 
-  -- a walk without arrays has nothing to come
+  -- the entries still to come of a walk; a walk without arrays has none
   abbrev pub rest_of_walk : (arrays : Option (Bor (Store Node) × Bor (Store (Option T)))) → ShapeOf arrays → List Bool → List Spot → List (List Bool × T)
   rest_of_walk None shape search_path ps = []
   rest_of_walk (Some a) shape search_path ps = pending shape.0.entries search_path ps
 
-  -- the spots of a walk are those of the table in the arrays
+  -- the spots of a walk are in the table of the arrays, and each except the last has passed its child
   abbrev pub IsWalk : ℕ → (arrays : Option (Bor (Store Node) × Bor (Store (Option T)))) → ShapeOf arrays → List Bool → List Spot → Type 0
   IsWalk width None shape search_path ps = ⊤
   IsWalk width (Some a) shape search_path ps = IsTrie width (len shape.0.entries) a.0.now a.1.now shape.0 × IsStack width a.0.now.slots search_path ps × ArePassed search_path ps
