@@ -1,4 +1,4 @@
--- Worked rows: what lists of calls return, by subject.
+-- Worked rows: the replies to lists of calls, by subject. Row numbers are those of the rows in `prefix_trie_rows`.
 pub mod Examples
 pub mod Lookups
 pub mod Walks

@@ -5,14 +5,14 @@ use Rattle.prefix_trie_bits.specs.Rows.Examples.{Gives}
 
 -- the rows of this file
 pub record AddressesHold : Type 0 where
-  -- row 11, second part: a network within another one counts for nothing
+  -- row 11, second part: the addresses of a network within another one are not counted twice
   pub row11_networks : Gives 32 (
       (Insert (0xc0000200, 24) 1, Value None) ∷
       (Insert (0xc0000280, 25) 2, Value None) ∷
       (Insert (0xc6336400, 24) 3, Value None) ∷
       (AddressCount, Addresses (Some (512))) ∷
       [])
-  -- row 35, second part: 128 bits; the count of all addresses is None
+  -- row 35, second part: 128 bits; if all addresses are covered, the count is None
   pub row35_wide : Gives 128 (
       (Insert (0, 128) 0, Value None) ∷
       (AddressCount, Addresses (Some (1))) ∷

@@ -1,5 +1,5 @@
--- What a worked row is: calls on a new map over pairs of a number and a length, each beside the reply that it must give.
--- The rows are this project's own; many are taken over from the crate's documentation and tests.
+-- What a worked row is: calls on a new map over pairs of a number and a length, each with the reply that it must give.
+-- The rows are this project's own. Many are taken from the documentation and tests of the Rust crate.
 use Rattle.std.specs.Prelude.{ℕ, ◌-◌, ◌++◌, ◌^◌, Bool, List, map, take, length, replicate, None}
 use Rattle.std.specs.List.{enumerate_from}
 use Rattle.prefix_trie_bits.specs.Model.Bits.{digits, number, zeros}
@@ -19,7 +19,7 @@ back_at width s = (number (s ++ zeros (width - length s)), length s)
 abbrev pub new_map : State ℕ
 new_map = record { entries = no_entries; nodes = root_alone }
 
--- calls, each beside its reply
+-- calls, each with its reply
 abbrev pub Row : Type 0
 Row = List (Call (ℕ × ℕ) ℕ × Reply (ℕ × ℕ) ℕ)
 
@@ -36,12 +36,12 @@ pub record Gives (width : ℕ) (row : Row) : Type 0 where
   pub last : State ℕ
   pub run : Run (path_at width) (back_at width) width new_map (calls row) (replies row) last
 
--- they do, and the state that they lead to has a property
+-- on a new map the calls give these replies, and the state after them has a property
 pub record LeadsTo (width : ℕ) (row : Row) (Holds : State ℕ → Type 0) : Type 0 where
   pub gives : Gives width row
   pub holds : Holds gives.last
 
--- each pair with its place in the list as its value
+-- each pair with its index in the list as its value
 abbrev pub counted : List (ℕ × ℕ) → List ((ℕ × ℕ) × ℕ)
 counted pairs = map (λ e. (e.1, e.0)) (enumerate_from 0 pairs)
 
@@ -49,6 +49,6 @@ counted pairs = map (λ e. (e.1, e.0)) (enumerate_from 0 pairs)
 abbrev pub full_pairs : ℕ → List (ℕ × ℕ)
 full_pairs width = enumerate_from 0 (replicate (2 ^ width) width)
 
--- items set in order, each under a new key
+-- the calls that set these items in order, each with a new key
 abbrev pub sets : List ((ℕ × ℕ) × ℕ) → Row
 sets items = map (λ e. (Insert e.0 e.1, Value None)) items

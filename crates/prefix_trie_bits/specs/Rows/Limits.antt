@@ -1,5 +1,5 @@
--- Worked rows: full maps, and new keys refused with `IndexRange`. The model lets any new key be
--- refused; these rows say what is unchanged then.
+-- Worked rows: full maps, and new keys that are refused with `IndexRange`.
+-- The model lets any new key be refused. These rows say what is unchanged then.
 use Rattle.std.specs.Prelude.{ℕ, ◌++◌, List, [], ◌∷◌, Some, None}
 use Rattle.prefix_trie_bits.specs.Model.Step.{Insert, Remove, Clear, Len, NodeCount, AddressCount, ListAll, Value, Done, Count, Addresses, Items, Refused, IndexRange}
 use Rattle.prefix_trie_bits.specs.Rows.Examples.{Gives, counted, full_pairs, sets}
@@ -15,15 +15,14 @@ short_pairs =
 
 -- the rows of this file
 pub record LimitsHold : Type 0 where
-  -- row 13: a new key is refused with `IndexRange` and leaves the map unchanged; a shorter one
-  -- still fits
+  -- row 13: a new key is refused with `IndexRange`, which leaves the map unchanged; a shorter one still fits
   pub row13 : Gives 32 (
       (Insert (0, 32) 1, Refused IndexRange) ∷
       (Len, Count 0) ∷
       (NodeCount, Count 1) ∷
       (Insert (0, 4) 2, Value None) ∷
       [])
-  -- row 14: the root's 31 prefixes, set in listing order and listed so
+  -- row 14: the root's 31 prefixes, set and listed in listing order
   pub row14 : Gives 8 (sets (counted short_pairs) ++
       (Len, Count 31) ∷
       (NodeCount, Count 1) ∷
@@ -37,7 +36,7 @@ pub record LimitsHold : Type 0 where
       (Clear, Done) ∷
       (NodeCount, Count 1) ∷
       [])
-  -- row 17: seven prefixes of a full root removed, and one of them set again
+  -- row 17: seven prefixes of a full root are removed, and one of them is set again
   pub row17 : Gives 8 (sets (counted short_pairs) ++
       (Remove (192, 2), Value (Some 24)) ∷
       (Remove (192, 3), Value (Some 25)) ∷
@@ -50,7 +49,7 @@ pub record LimitsHold : Type 0 where
       (Insert (240, 4) 99, Value None) ∷
       (NodeCount, Count 1) ∷
       [])
-  -- row 38: one new key is refused, and what was stored stays
+  -- row 38: one new key is refused, and the stored entries stay
   pub row38 : Gives 8 (
       (Insert (0, 1) 1, Value None) ∷
       (Insert (128, 1) 2, Value None) ∷

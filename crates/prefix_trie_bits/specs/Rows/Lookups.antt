@@ -23,12 +23,12 @@ pub record LookupsHold : Type 0 where
       (Lpm (0xc0a80200, 24), Match None) ∷
       (Spm (0xc0a80101, 32), Match (Some ((0xc0a80000, 23), 2))) ∷
       [])
-  -- row 4, its first half: a stored prefix of length 0 matches everything
+  -- row 4, first part: a stored prefix of length 0 matches everything
   pub row4 : Gives 32 (
       (Insert (0, 0) 0, Value None) ∷
       (Cover (0x0a000000, 8), Items (((0, 0), 0) ∷ [])) ∷
       [])
-  -- row 25: the covers of a key, the shortest first, itself among them
+  -- row 25: the covers of a key, shortest first, including the key itself
   pub row25 : Gives 32 (
       (Insert (0x0a000000, 8) 0, Value None) ∷
       (Insert (0x0a010000, 16) 1, Value None) ∷

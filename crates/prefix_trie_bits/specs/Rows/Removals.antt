@@ -1,11 +1,11 @@
--- Worked rows: what removals leave of the entries and of the nodes.
+-- Worked rows: the entries and the nodes after removals.
 use Rattle.std.specs.Prelude.{[], ◌∷◌, Some, None}
 use Rattle.prefix_trie_bits.specs.Model.Step.{Insert, Get, Remove, RemoveKeepTree, RemoveChildren, RetainAtLeast, Clear, Len, NodeCount, ListAll, Value, Done, Count, Items}
 use Rattle.prefix_trie_bits.specs.Rows.Examples.{Gives}
 
 -- the rows of this file
 pub record RemovalsHold : Type 0 where
-  -- row 9: all that a key begins is removed, and its neighbours in the same node stay
+  -- row 9: everything that begins with a key is removed, and its neighbours in the same node stay
   pub row9 : Gives 32 (
       (Insert (0xc0a80000, 21) 1, Value None) ∷
       (Insert (0xc0a80000, 22) 2, Value None) ∷
@@ -33,7 +33,7 @@ pub record RemovalsHold : Type 0 where
       (RetainAtLeast 0, Done) ∷
       (NodeCount, Count 1) ∷
       [])
-  -- row 20, with plain calls in place of the entry calls: entries go, their nodes stay until `clear`
+  -- row 20, with plain calls instead of entry calls: entries are removed, and their nodes stay until `clear`
   pub row20 : Gives 32 (
       (Insert (0xc0a80100, 24) 1, Value None) ∷
       (Insert (0xc0a80200, 24) 9, Value None) ∷
@@ -45,8 +45,7 @@ pub record RemovalsHold : Type 0 where
       (Clear, Done) ∷
       (NodeCount, Count 1) ∷
       [])
-  -- row 22: `remove` prunes the search path of an absent key whose own node is there, and nothing
-  -- off that path
+  -- row 22: `remove` prunes the search path of a missing key whose own node is there, and nothing off that path
   pub row22 : Gives 32 (
       (Insert (0, 32) 1, Value None) ∷
       (RemoveKeepTree (0, 32), Value (Some 1)) ∷
@@ -57,7 +56,7 @@ pub record RemovalsHold : Type 0 where
       (Remove (0x80000000, 32), Value None) ∷
       (NodeCount, Count 7) ∷
       [])
-  -- row 31, second part: a prefix whose length is no multiple of five
+  -- row 31, second part: a prefix whose length is not a multiple of five
   pub row31_second : Gives 32 (
       (Insert (0, 16) 1, Value None) ∷
       (NodeCount, Count 4) ∷
@@ -85,8 +84,7 @@ pub record RemovalsHold : Type 0 where
       (RemoveChildren (0, 7), Done) ∷
       (NodeCount, Count 1) ∷
       [])
-  -- row 48, for the first map: the prefix of length 0 removes everything, and another call then
-  -- changes nothing
+  -- row 48, for the first map: the prefix of length 0 removes everything, and a second call changes nothing
   pub row48_first : Gives 32 (
       (Insert (0x01020300, 32) 1, Value None) ∷
       (Insert (0x01020301, 32) 2, Value None) ∷
@@ -112,8 +110,7 @@ pub record RemovalsHold : Type 0 where
       (RetainAtLeast 0, Done) ∷
       (NodeCount, Count 1) ∷
       [])
-  -- entries whose keys have exactly the length given to `retain` stay, and those with shorter keys
-  -- go
+  -- entries whose keys have exactly the length given to `retain` stay, and those with shorter keys are removed
   pub at_least : Gives 8 (
       (Insert (0, 4) 1, Value None) ∷
       (Insert (0, 5) 2, Value None) ∷

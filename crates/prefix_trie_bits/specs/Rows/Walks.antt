@@ -5,7 +5,7 @@ use Rattle.prefix_trie_bits.specs.Rows.Examples.{Gives}
 
 -- the rows of this file
 pub record WalksHold : Type 0 where
-  -- row 8: walks from a key on, including it or after it; its extensions come after it
+  -- row 8: walks from a key on, with it or after it; its extensions come after it
   pub row8 : Gives 32 (
       (Insert (0x0a000000, 8) 1, Value None) ∷
       (Insert (0x0a010000, 16) 2, Value None) ∷
@@ -17,7 +17,7 @@ pub record WalksHold : Type 0 where
       (ListFrom (0x0a020000, 16) false, Items (((0x0a020000, 24), 4) ∷ ((0x0a030000, 16), 5) ∷ ((0x0a040000, 16), 6) ∷ [])) ∷
       (ListFrom (0x0a028000, 17) false, Items (((0x0a030000, 16), 5) ∷ ((0x0a040000, 16), 6) ∷ [])) ∷
       [])
-  -- row 34, its cursors and children: it makes no difference whether the given key is stored
+  -- row 34, cursors and children: it makes no difference whether the given key is stored
   pub row34 : Gives 8 (
       (Insert (0, 5) 1, Value None) ∷
       (Insert (4, 6) 2, Value None) ∷

@@ -1,4 +1,4 @@
--- Worked rows: each width, and the last node of each.
+-- Worked rows: each width, and the last node of its search paths.
 use Rattle.std.specs.Prelude.{ℕ, ◌++◌, List, [], ◌∷◌, Some, None}
 use Rattle.prefix_trie_bits.specs.Model.Step.{Insert, Lpm, Spm, Remove, Len, NodeCount, AddressCount, ListAll, Value, Match, Count, Addresses, Items}
 use Rattle.prefix_trie_bits.specs.Rows.Examples.{Gives, counted, full_pairs, sets}
@@ -12,7 +12,7 @@ three_bits =
 
 -- the rows of this file
 pub record WidthsHold : Type 0 where
-  -- row 6: 128 bits, with three levels in the last node
+  -- row 6: 128 bits, whose last node has three levels
   pub row6 : Gives 128 (
       (Insert (0, 125) 1, Value None) ∷
       (Insert (1, 128) 2, Value None) ∷
@@ -20,7 +20,7 @@ pub record WidthsHold : Type 0 where
       (Lpm (2, 128), Match (Some ((0, 125), 1))) ∷
       (NodeCount, Count 26) ∷
       [])
-  -- row 29, at u64: 64 bits
+  -- row 29, for u64: 64 bits
   pub row29 : Gives 64 (
       (Insert (0, 60) 1, Value None) ∷
       (Insert (5, 64) 2, Value None) ∷
@@ -38,7 +38,7 @@ pub record WidthsHold : Type 0 where
       (Remove (0xffffffffffffffffffffffffffffffff, 128), Value (Some 3)) ∷
       (NodeCount, Count 1) ∷
       [])
-  -- row 45: ten bits, a width of the number type's own
+  -- row 45: ten bits, a width that the number type defines
   pub row45 : Gives 10 (
       (Insert (0, 0) 1, Value None) ∷
       (Insert (1023, 10) 2, Value None) ∷
