@@ -1,4 +1,4 @@
--- A note has more numbers than the note before it. This project's own.
+-- A proof that a note has more numbers than the note before it. This project's own.
 use Rattle.std.specs.Prelude.{ℕ, ◌≤◌, List, Option, Some, None, length}
 use Rattle.std.proofs.Common.{arith, length-append}
 use Rattle.std.specs.declared.snapshot.Snapshot.{Snapshot}

@@ -1,5 +1,4 @@
--- What a loop over a writing walk leaves of the map if it changes each value by a function of the
--- old one. This project's own.
+-- How a loop over a writing walk changes a map if each new value is a function of the old one. This project's own.
 use Rattle.std.specs.Prelude.{◌≡◌, Bool, List, [], Option, None, Some, ⊤}
 use Rattle.std.proofs.Common.{cond, map}
 use lib.Dec.{T as IsT}
@@ -18,7 +17,7 @@ use Rattle.prefix_trie_map.specs.Writing.{keys_left}
 abbrev pub keyed : List Bool → List Bool × Unit {0}
 keyed k = (k, tt)
 
--- keys in listing order, each once
+-- the keys are in listing order, each once
 abbrev pub AreOrdered : List (List Bool) → Type 0
 AreOrdered ks = IsT (is_sorted listing_cmp (map keyed ks))
 
@@ -27,7 +26,7 @@ module _ {P T A R : Type 0} {p : prefix.Ghosts P R} {shows : debug.Ghosts P} {k 
   abbrev pub is_left : MapCursor P T A R p shows k same writes → List Bool → Bool
   is_left c s = list_any (same_string s) (keys_left c)
 
-  -- each value that was to come is changed by f, all other values of the map are unchanged, and nothing is to come
+  -- each value still to come was changed by f, no other value of the map was changed, and no entry is left to come
   pub record Rewrites (f : T → T) (c d : MapCursor P T A R p shows k same writes) : Type 0 where
     pub same_map : d.map.ghost_name ≡ c.map.ghost_name
     pub values : (s : List Bool) → get d.map.now.entries s ≡ cond (is_left c s) (option_map f (get c.map.now.entries s)) (get c.map.now.entries s)
@@ -41,7 +40,7 @@ module _ {P T A R : Type 0} {p : prefix.Ghosts P R} {shows : debug.Ghosts P} {k 
   RewritesIn f (Some c) None = ⊥
   RewritesIn f (Some c) (Some d) = Rewrites f c d
 
-  -- its keys still to come are in listing order
+  -- the keys still to come are in listing order
   abbrev pub OrderedIn : Option (MapCursor P T A R p shows k same writes) → Type 0
   OrderedIn None = ⊤
   OrderedIn (Some c) = AreOrdered (keys_left c)

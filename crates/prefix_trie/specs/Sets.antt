@@ -1,5 +1,4 @@
--- The results of sets as replies of the model, and what `retain` requires of a test of prefixes.
--- This project's own.
+-- The results of calls on sets as replies of the model, and tests of prefixes for `retain`. This project's own.
 use Rattle.std.specs.Prelude.{◌≡◌, ◌&&◌, ℕ, Bool, not, List, Result, Ok, Err, nat_eq}
 use Rattle.std.specs.Bool.{then_some}
 use Rattle.std.specs.Borrow.{Bor}
@@ -30,7 +29,7 @@ module _ {F P : Type 0} (g : Mut F (Bor P × Unit {0}) Bool) (back : List Bool �
     pub shows : prefix.now ≡ back k
     pub called : Called g f (prefix, tt) b f'
 
-  -- f may be called at the prefix with the path k
+  -- f may be called on the prefix with the path k
   abbrev pub TakesKey : F → List Bool → Unit {0} → Type 0
   TakesKey f k v = (p : Bor P) → p.now ≡ back k → Takes g f (p, tt)
 
@@ -42,7 +41,7 @@ same_keys m n = pointwise (on (λ e. e.0) same_string) (listing m) (listing n)
 abbrev pub same_parts : {K P : Type 0} → (K → K → Bool) → (P → K) → (P → ℕ) → P → P → Bool
 same_parts same repr_of len_of p q = same (repr_of p) (repr_of q) && nat_eq (len_of p) (len_of q)
 
--- sets with the same keys are equal as `==` has to be
+-- having the same keys is an equivalence of sets, as `==` requires
 pub same_keys_equiv : IsEquivalence same_keys
 same_keys_equiv = on_equiv listing (lists_equiv (on_equiv (λ e. e.0) (eq_by_cmp_equiv listing_total)))
 

@@ -1,4 +1,4 @@
--- The words of the model and of the map that a caller's own contract needs, under one name.
+-- The definitions of the model and of the map that a caller's own contract needs, in one list.
 pub use Rattle.prefix_trie_bits.specs.Model.Bits.{begins, digits, number, zeros}
 pub use Rattle.prefix_trie_bits.specs.Keys.{narrow_width}
 pub use Rattle.prefix_trie_bits.specs.Networks.{network_path, network_back, network_cmp, lowest_address, highest_address, HasNoHostBits}

@@ -3,7 +3,7 @@ use Rattle.std.specs.Prelude.{◌≡◌, ◌⊎◌, ℕ, Bool, List, codes}
 use Rattle.prefix_trie.specs.Words.{IsMatch}
 use Rattle.route_tables.specs.Tables.{Values}
 
--- the value is one of an access list
+-- the value is a rule of an access list: `allow` or `deny`
 abbrev pub IsRule : List ℕ → Type 0
 IsRule value = (value ≡ codes "allow") ⊎ (value ≡ codes "deny")
 

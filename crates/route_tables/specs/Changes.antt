@@ -19,6 +19,6 @@ differ (Left old) = true
 differ (Right new) = true
 differ (Both old new) = not (bytes_eq old new)
 
--- the keys of either table at which they differ, each with what they have there, in listing order
+-- the keys at which the tables differ, each with the values of both tables there, in listing order
 abbrev pub changes_of : Values → Values → List (List Bool × Side (List ℕ) (List ℕ))
 changes_of old new = filter (λ e. differ e.1) (listing (union_of old new))

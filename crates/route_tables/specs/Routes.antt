@@ -27,11 +27,11 @@ HasRoutes [] routes = routes ≡ []
 HasRoutes (line ∷ later) routes = ((fields line ≡ []) × HasRoutes later routes)
     ⊎ ((route : Route) × (rest : List Route) × (routes ≡ route ∷ rest) × IsRoute line route × HasRoutes later rest)
 
--- a line is blank, or a comment, or a route
+-- the line is blank, a comment, or a route
 abbrev pub IsGood : List ℕ → Type 0
 IsGood line = (fields line ≡ []) ⊎ ((route : Route) × IsRoute line route)
 
--- the first bad line is the one at this index, from 0 on
+-- the first bad line has this index, counted from 0
 abbrev pub IsFirstBad : List (List ℕ) → ℕ → Type 0
 IsFirstBad [] index = ⊥
 IsFirstBad (line ∷ later) zero = IsBad line

@@ -10,7 +10,7 @@ use Rattle.route_tables.specs.declared.network.Network.TheVariants.{V4, V6}
 abbrev pub Values : Type 0
 Values = Entries (List ℕ)
 
--- the entries of one family with a route more, if it is of that family
+-- the entries of one family with a route added, if it is of that family
 abbrev pub ipv4_with : Values → Route → Values
 ipv4_with m (V4 network, value) = with_entry m (ipv4_path network) value
 ipv4_with m (V6 network, value) = m
@@ -19,7 +19,7 @@ abbrev pub ipv6_with : Values → Route → Values
 ipv6_with m (V4 network, value) = m
 ipv6_with m (V6 network, value) = with_entry m (ipv6_path network) value
 
--- the entries of one family after its routes are set in order, so that the later one of two for one network stays
+-- the entries of one family after its routes are set in order; of two routes for one network, the later one stays
 abbrev pub ipv4_with_all : Values → List Route → Values
 ipv4_with_all m [] = m
 ipv4_with_all m (route ∷ routes) = ipv4_with_all (ipv4_with m route) routes

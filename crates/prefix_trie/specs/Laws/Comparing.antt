@@ -5,8 +5,8 @@ use Rattle.prefix_trie_bits.specs.Model.Entries.{Entries}
 use Rattle.prefix_trie_bits.specs.Calls.Entries.{AreWithin}
 use Rattle.prefix_trie_bits.specs.Model.Selections.{listing, prefix_pairs}
 
--- `==` of prefixes and of values decides whether they are the same; no key is longer than the
--- width, as in every map
+-- if `==` of prefixes and of values decides whether they are the same, `==` of maps decides whether their entries are
+-- No key is longer than the width, as in every map.
 pub record EqualLaws {P : Type 0} (T : Type 0) (width : ℕ) (back : List Bool → P) : Type 0 where
   pub same : (eq_prefix : P → P → Bool) (eq_value : T → T → Bool) → ((p q : P) → (eq_prefix p q ≡ true) ↔ (p ≡ q)) → ((v w : T) → (eq_value v w ≡ true) ↔ (v ≡ w))
       → (m n : Entries T) → AreWithin width m → AreWithin width n

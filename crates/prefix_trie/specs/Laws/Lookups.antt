@@ -1,4 +1,4 @@
--- What lookups find, in words, and how the longest match changes with the entries: for `lookup_laws`.
+-- What lookups find, and how the longest match changes with the entries: for `lookup_laws`.
 use Rattle.std.specs.Prelude.{◌≡◌, ◌≢◌, ℕ, ◌+◌, ◌<◌, ◌≤◌, Bool, true, false, List, [], length, take, Option, Some, None, IfSome, MatchOption, is_some}
 use Rattle.std.specs.Option.{option_map}
 use Rattle.std.specs.FinMap.{contains_key}
@@ -7,7 +7,7 @@ use Rattle.prefix_trie_bits.specs.Model.Entries.{Entries, no_entries, with_entry
 use Rattle.prefix_trie_bits.specs.Calls.Matches.{IsLongestMatch}
 use Rattle.prefix_trie_bits.specs.Model.Matches.{longest_match, shortest_match, prefix_pair}
 
--- q begins with no stored key
+-- no stored key begins q
 abbrev pub IsUncovered : {T : Type 0} → Entries T → List Bool → Type 0
 IsUncovered m q = (s : List Bool) → contains_key m s ≡ true → begins s q ≡ false
 
@@ -22,14 +22,14 @@ pub record LookupLaws (P T : Type 0) : Type 0 where
   pub nothing : (q : List Bool) → longest_match (no_entries {T = T}) q ≡ None
   -- setting a key that q does not begin with does not change the match of q
   pub set_aside : (m : Entries T) (q s : List Bool) (v : T) → begins s q ≡ false → longest_match (with_entry m s v) q ≡ longest_match m q
-  -- a key that was set and begins q is the longest match, unless a longer match was there
+  -- a key that is set and begins q is the longest match, unless there was a longer match
   pub set : (m : Entries T) (q s : List Bool) (v : T) → begins s q ≡ true → IfSome (longest_match m q) (λ e. length e.0 ≤ length s)
       → longest_match (with_entry m s v) q ≡ Some (s, v)
   pub set_shorter : (m : Entries T) (q s : List Bool) (v : T) (e : List Bool × T) → longest_match m q ≡ Some e → length s < length e.0
       → longest_match (with_entry m s v) q ≡ Some e
   -- removing a key that is not the longest match does not change the match
   pub taken_aside : (m : Entries T) (q s : List Bool) → IfSome (longest_match m q) (λ e. e.0 ≢ s) → longest_match (without_entry m s) q ≡ longest_match m q
-  -- after the longest match is removed, the match is that of q cut off before the last bit of the removed key
+  -- after the longest match is removed, the match of q is that of the removed key without its last bit
   pub taken : (m : Entries T) (q s : List Bool) (v : T) (n : ℕ) → longest_match m q ≡ Some (s, v) → length s ≡ n + 1
       → longest_match (without_entry m s) q ≡ longest_match m (take n q)
   pub taken_last : (m : Entries T) (q : List Bool) (v : T) → longest_match m q ≡ Some ([], v) → longest_match (without_entry m []) q ≡ None

@@ -1,5 +1,5 @@
--- What comes after the last item read, which is how a listing is read in pages. From the Rust
--- crate's documentation of `iter_from`.
+-- What comes after the last item read, so that a listing can be read in pages.
+-- From the Rust crate's documentation of `iter_from`.
 use Rattle.std.specs.Prelude.{◌≡◌, ℕ, Bool, List, Some, ◌++◌, ◌-◌, length, slice_get}
 use Rattle.std.specs.FinMap.{len}
 use Rattle.prefix_trie_bits.specs.Model.Entries.{Entries}

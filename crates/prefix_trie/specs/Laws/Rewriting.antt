@@ -1,4 +1,4 @@
--- What loops over a writing walk leave, one after another. This project's own.
+-- Loops over one writing walk, one after another. This project's own.
 use Rattle.std.specs.Prelude.{◌≡◌}
 use Rattle.std.specs.declared.cmp.PartialEq as partial
 use Rattle.std.specs.declared.fmt.Debug as debug

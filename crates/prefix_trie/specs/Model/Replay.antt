@@ -37,8 +37,7 @@ module _ {P : Type 0} where
   calls_of calls = map call_of calls
 
 module _ {P A R : Type 0} (bits : R → List Bool) where
-  -- a reply of the model: a list of entries as the list of its items, a number of addresses as the
-  -- number of its key
+  -- a reply of the model: a list of entries is the list of its items, and a count of addresses is a number
   abbrev pub reply_of : Reply P A R → model.Reply P ℕ
   reply_of (Value value) = model.Value value
   reply_of (Match found) = model.Match found
