@@ -1,4 +1,4 @@
--- An entry of `POSITION` is where the place with its heap number is listed, by a check of the table.
+-- An entry of `POSITION` is the position of the place with its heap number in listing order, by a check of the table.
 use Rattle.prefix_trie_bits.proofs.Listing.{position-entry}
 use Rattle.prefix_trie_bits.proofs.node.order.position_of.Goals as goal
 

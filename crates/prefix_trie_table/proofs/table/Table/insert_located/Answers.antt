@@ -1,4 +1,4 @@
--- Inserting where the search of a missing bit string ended is a step of the model, or a refusal that keeps the entries.
+-- Inserting at the end of the search of a missing bit string is a step of the model, or a refusal that keeps the entries.
 use Rattle.prefix_trie_table.proofs.Prelude.{ap, Contents}
 use Rattle.prefix_trie_table.proofs.Tree.Invariant.{some_table, some_counted}
 use Rattle.prefix_trie_table.proofs.Tree.Kept.{ends_at, end_last}
