@@ -1,4 +1,4 @@
--- Worked rows: the replies to lists of calls, by subject. Row numbers are those of the rows in `prefix_trie_rows`.
+-- Worked rows: the replies to lists of calls, by subject. The rows have the same numbers in `prefix_trie_rows`.
 pub mod Examples
 pub mod Lookups
 pub mod Walks

@@ -1,4 +1,4 @@
--- The lemmas of this crate: paths, blocks, the tree by path, and then those for each kind of call.
+-- The lemmas of this crate: paths, blocks, the tree by path, and then the lemmas for each kind of call.
 pub mod Prelude
 pub mod Strings
 pub mod Blocks

@@ -44,7 +44,7 @@ slot_of w = w.at
 abbrev pub IsAhead : List Node → List Descent → ℕ → Node → Type 0
 IsAhead slots descents i n = (w : Descent) → w ≡ slice_index_or descents i w → n ≡ node_at slots (slot_of w)
 
--- the descent is that of the question of its index, and is at the root
+-- the descent belongs to the question of its index, and is at the root
 abbrev pub IsNew : ℕ → Descent → Type 0
 IsNew i w = w ≡ new_descent i
 

@@ -210,14 +210,14 @@ pub record Holds {T : Type 0} (reading : List ℕ → Option Node) (values : Lis
   pub hold : NodesHold node_sizes reading paths v
   pub cells : CellsHold cell_sizes reading values paths w
 
--- the two arrays are those of a table with some nodes and values
+-- the two arrays have the nodes and values of some table
 pub record SomeTable {T : Type 0} (v : Store Node) (w : Store (Option T)) : Type 0 where
   pub reading : List ℕ → Option Node
   pub values : List ℕ → ℕ → Option T
   pub paths : List (List ℕ)
   pub holds : Holds reading values paths v w
 
--- the array is that of a table with some nodes
+-- the array has the nodes of some table
 pub record SomeNodes (v : Store Node) : Type 0 where
   pub reading : List ℕ → Option Node
   pub paths : List (List ℕ)

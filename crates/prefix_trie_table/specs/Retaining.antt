@@ -31,7 +31,7 @@ is_at s t q = cond (nat_lt (length t) 5) (same_string q (s ++ t)) (begins (s ++ 
 abbrev pub is_at_some : List Bool → List (List Bool) → List Bool → Bool
 is_at_some s ts q = list_any (λ t. is_at s t q) ts
 
--- whether the place t of the node at s is that of a child, and the string q is under that child
+-- whether the place t of the node at s belongs to a child, and the string q is under that child
 abbrev pub is_under : List Bool → List Bool → List Bool → Bool
 is_under s t q = cond (nat_lt (length t) 5) false (begins (s ++ t) q)
 
@@ -39,7 +39,7 @@ is_under s t q = cond (nat_lt (length t) 5) false (begins (s ++ t) q)
 abbrev pub is_under_some : List Bool → List (List Bool) → List Bool → Bool
 is_under_some s ts q = list_any (λ t. is_under s t q) ts
 
--- the node has this place, which is that of a string
+-- the node has this place, which belongs to a string
 pub record HasPlace (n : Node) (p : Place) : Type 0 where
   pub string : List Bool
   pub short : length string ≤ 5

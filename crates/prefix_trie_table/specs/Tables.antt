@@ -31,7 +31,7 @@ pub record IsTable {T : Type 0} (v : Store Node) (w : Store (Option T)) (count :
   pub one_limit : w.limit ≡ v.limit
   pub nodes_within : length v.slots ≤ v.limit
   pub cells_within : length w.slots ≤ w.limit
-  -- the count is the number of values, and that of the entries that contracts see
+  -- the count is the number of values, and the number of entries that contracts see
   pub counted : count ≡ entry_count reading paths
   pub sized : count ≡ len shape.entries
 

@@ -29,7 +29,7 @@ pub record LookupLaws (P T : Type 0) : Type 0 where
       → longest_match (with_entry m s v) q ≡ Some e
   -- removing a key that is not the longest match does not change the match
   pub taken_aside : (m : Entries T) (q s : List Bool) → IfSome (longest_match m q) (λ e. e.0 ≢ s) → longest_match (without_entry m s) q ≡ longest_match m q
-  -- after the longest match is removed, the match of q is that of the removed key without its last bit
+  -- after the longest match is removed, q has the match of the removed key without its last bit
   pub taken : (m : Entries T) (q s : List Bool) (v : T) (n : ℕ) → longest_match m q ≡ Some (s, v) → length s ≡ n + 1
       → longest_match (without_entry m s) q ≡ longest_match m (take n q)
   pub taken_last : (m : Entries T) (q : List Bool) (v : T) → longest_match m q ≡ Some ([], v) → longest_match (without_entry m []) q ≡ None

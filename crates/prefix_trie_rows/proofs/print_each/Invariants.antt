@@ -1,4 +1,4 @@
--- The invariant of `print_each`: the lines written so far are those of the first rows, with their outcomes.
+-- The invariant of `print_each`: the lines written so far are the lines of the first rows, with their outcomes.
 use Rattle.std.proofs.Common.{◌≡◌, ℕ, Bool, IsTrue, List, map, take}
 use Rattle.std.specs.Io.KnownBytes.{Appends}
 use Rattle.prefix_trie_rows.specs.Lines.{lines_ok, lines_of}

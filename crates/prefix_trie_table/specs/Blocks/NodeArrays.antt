@@ -21,7 +21,7 @@ nodes_of [] ns = []
 nodes_of (h ∷ hs) [] = []
 nodes_of (h ∷ hs) (n ∷ ns) = node_of h n ∷ nodes_of hs ns
 
--- both size indices of the node fit into one byte; there are seven sizes, so those of each node do
+-- both size indices of the node fit into one byte; there are seven sizes, so this holds for each node
 pub record FitsByte (n : Node) : Type 0 where
   pub value_tier : n.value_tier < 8
   pub child_tier : n.child_tier < 32
@@ -29,7 +29,7 @@ pub record FitsByte (n : Node) : Type 0 where
 pub blank_fits : FitsByte blank_node
 blank_fits = record { value_tier = lit< tt; child_tier = lit< tt }
 
--- each size index fits, or is that of the node that it replaces
+-- each size index fits, or is the same as in the node that is replaced
 pub record FitsOver (old new : Node) : Type 0 where
   pub value_tier : (new.value_tier < 8) ⊎ (new.value_tier ≡ old.value_tier)
   pub child_tier : (new.child_tier < 32) ⊎ (new.child_tier ≡ old.child_tier)

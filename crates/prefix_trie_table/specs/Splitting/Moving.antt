@@ -23,8 +23,8 @@ module _ {T : Type 0} where
   split_off s q = record { entries = part_below s.entries q; nodes = needed (part_below s.entries q) }
 
   module _ {K : Type 0} (IsKey : K → Type 0) (bits : K → List Bool) (width : ℕ) where
-    -- with these values, the arrays are those of a table with these entries and nodes
-    -- The seats still to come are exactly those of these values, in order.
+    -- with these values, the arrays have the entries and nodes of a table
+    -- The seats still to come are exactly the seats of these values, in order.
     pub record Awaits (shape : State T) (v : Store Node) (w : Store (Option T)) (key : K) (ps : List Spot) (rest : List (List Bool × T)) : Type 0 where
       pub trie : IsTrie width (len shape.entries) v (filled_with v.slots rest w) shape
       pub stack : IsStack width v.slots (bits key) ps

@@ -13,7 +13,7 @@ module _ {T : Type 0} where
     pub reading : List ℕ → Option Node
     pub paths : List (List ℕ)
     pub nodes : NodesHold node_sizes reading paths v2
-    -- the used blocks of values are those of the nodes with values, each without any value so far
+    -- each node with values has one used block of values, without any value so far
     pub cells : Sound None (flat_map (value_blocks cell_sizes reading no_value) paths) w2
     pub cells_first : w2.first ≡ 0
     pub cell_sizes_are : tier_sizes w2.tiers ≡ cell_sizes

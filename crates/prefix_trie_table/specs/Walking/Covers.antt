@@ -19,15 +19,15 @@ abbrev pub AreLeft : ℕ → ℕ → ℕ → ℕ → List Bool → Type 0
 AreLeft matches bitmap depth first q =
     HoldsValues matches (λ s. begins s (drop depth q) && (nat_le first (depth + length s) && has bitmap (value_bit s)))
 
--- the walk over the beginnings of q is at this node, and those of at least `first` bits are still to come
+-- the walk over the beginnings of q is at this node, and the beginnings of at least `first` bits are still to come
 pub record IsCovering (q : List Bool) (here : Reached) (matches first : ℕ) (v : Store Node) : Type 0 where
   pub along : IsAlong q here v
   pub low : 5 * here.level ≤ first
   pub high : first ≤ 5 * here.level + 5
   pub left : AreLeft matches here.node.value_bitmap (5 * here.level) first q
 
--- the match is the shortest beginning of q that has a value and at least `first` bits, and those of at least `later`
--- bits are left
+-- the match is the shortest beginning of q that has a value and at least `first` bits
+-- The beginnings of at least `later` bits are left.
 abbrev pub NextHeld : (List ℕ → Option Node) → List Bool → ℕ → ℕ → ℕ → Option Match → Type 0
 NextHeld reading q end first later o =
     MatchOption o (NoneHeld reading q first end × NoneHeld reading q later end)

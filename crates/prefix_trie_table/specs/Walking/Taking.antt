@@ -52,7 +52,7 @@ abbrev pub AreApart : List (List Bool × Unit {0}) → Type 0
 AreApart [] = ⊤
 AreApart (k ∷ ks) = IsApart k.0 ks × AreApart ks
 
--- the nodes are those of a table; some of its values were moved out of their cells, but none that is still to come
+-- these are the nodes of a table; some of its values were moved out of their cells, but none that is still to come
 pub record IsTaking {T : Type 0} (width : ℕ) (v : Store Node) (w : Store (Option T)) (keys : Nodes) (search_path : List Bool) (ps : List Spot) : Type 0 where
   -- the table
   pub tree : Tree T

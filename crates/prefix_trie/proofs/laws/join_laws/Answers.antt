@@ -1,4 +1,4 @@
--- The laws of joining two maps by a loop follow from those of `Prefix`: the path of each item is its key.
+-- The laws of joining two maps by a loop follow from the laws of `Prefix`: the path of each item is its key.
 use Rattle.prefix_trie.proofs.Joining.{join_laws}
 use Rattle.prefix_trie.proofs.laws.join_laws.Goals as goal
 

@@ -1,4 +1,4 @@
--- The laws of `Narrow` are those of numbers of its width.
+-- The laws of `Narrow` are the laws of numbers with its width.
 use Rattle.prefix_trie.proofs.Prelude.{narrow_width}
 use Rattle.prefix_trie.proofs.Networks.{number_laws}
 use Rattle.prefix_trie.proofs.laws.narrow_laws.Goals as goal

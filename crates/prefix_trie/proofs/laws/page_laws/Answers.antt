@@ -1,4 +1,4 @@
--- The laws of pages follow from those of `Prefix`: what comes after an item comes after its key.
+-- The laws of pages follow from the laws of `Prefix`: what comes after an item comes after its key.
 use Rattle.prefix_trie.proofs.Paging.{page_laws}
 use Rattle.prefix_trie.proofs.laws.page_laws.Goals as goal
 

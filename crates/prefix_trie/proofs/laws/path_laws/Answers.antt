@@ -1,4 +1,4 @@
--- The laws of paths are those of `Prefix`, stated for callers.
+-- The laws of paths are the laws of `Prefix`, stated for callers.
 use Rattle.prefix_trie.proofs.Paths.{path_laws}
 use Rattle.prefix_trie.proofs.laws.path_laws.Goals as goal
 

@@ -1,4 +1,4 @@
--- The laws of copying entries by a loop follow from those of `Prefix`: the path of each item is its key.
+-- The laws of copying entries by a loop follow from the laws of `Prefix`: the path of each item is its key.
 use Rattle.prefix_trie.proofs.Putting.{put_laws}
 use Rattle.prefix_trie.proofs.laws.put_laws.Goals as goal
 

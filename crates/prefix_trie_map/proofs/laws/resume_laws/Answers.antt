@@ -1,4 +1,4 @@
--- The laws of resumed walks follow from those of `Prefix`: the path of the last item read is its key.
+-- The laws of resumed walks follow from the laws of `Prefix`: the path of the last item read is its key.
 use Rattle.prefix_trie_map.proofs.Resumed.{resume_laws}
 use Rattle.prefix_trie_map.proofs.laws.resume_laws.Goals as goal
 

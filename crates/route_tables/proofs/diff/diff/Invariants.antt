@@ -1,4 +1,4 @@
--- The invariant of `diff`: the changes so far and those of the networks still to come are all changes.
+-- The invariant of `diff`: the changes so far, with the changes at the networks still to come, are all changes.
 use Rattle.std.proofs.Common.{◌≡◌, ◌++◌, filter, map}
 use Rattle.prefix_trie.specs.Words.{prefix_pairs}
 use Rattle.prefix_trie_ops.specs.Merging.{lent_side}

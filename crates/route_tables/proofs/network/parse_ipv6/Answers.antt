@@ -1,4 +1,4 @@
--- An IPv6 network has no host bits exactly if its address is its mask, since a text is that of at most one network.
+-- An IPv6 network has no host bits exactly if its address is its mask, since a text means at most one network.
 use Rattle.std.proofs.Common.{◌∙◌, sym, subst}
 use Rattle.prefix_trie.specs.Words.{HasNoHostBits}
 use Rattle.route_tables.proofs.HostBits.{with_host_bits, without_host_bits}

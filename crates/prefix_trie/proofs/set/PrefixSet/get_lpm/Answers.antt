@@ -1,4 +1,4 @@
--- The longest match in a set is that of its map, without the unit.
+-- The longest match in a set is the longest match in its map, without the unit.
 use Rattle.prefix_trie.proofs.Prelude.{rules}
 use Rattle.prefix_trie.proofs.set.PrefixSet.get_lpm.Goals as goal
 

@@ -1,4 +1,4 @@
--- The shortest match in a set is that of its map, without the unit.
+-- The shortest match in a set is the shortest match in its map, without the unit.
 use Rattle.prefix_trie.proofs.Prelude.{rules}
 use Rattle.prefix_trie.proofs.set.PrefixSet.get_spm.Goals as goal
 

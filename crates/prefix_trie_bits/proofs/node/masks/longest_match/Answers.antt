@@ -1,4 +1,4 @@
--- The highest bit under the match mask is that of the longest string which begins the key's. If the mask is empty, none does.
+-- The longest string that begins the key's has the highest bit under the match mask. If the mask is empty, no string does.
 use Rattle.prefix_trie_bits.proofs.Prelude.{take, drop}
 use Rattle.prefix_trie_bits.proofs.Matches.{none_begins, longest_found}
 use Rattle.prefix_trie_bits.proofs.node.masks.longest_match.Goals as goal

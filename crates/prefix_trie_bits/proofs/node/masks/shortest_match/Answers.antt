@@ -1,4 +1,4 @@
--- The lowest bit under the match mask is that of the shortest string which begins the key's. If the mask is empty, none does.
+-- The shortest string that begins the key's has the lowest bit under the match mask. If the mask is empty, no string does.
 use Rattle.prefix_trie_bits.proofs.Prelude.{take, drop}
 use Rattle.prefix_trie_bits.proofs.Matches.{none_begins, shortest_found}
 use Rattle.prefix_trie_bits.proofs.node.masks.shortest_match.Goals as goal

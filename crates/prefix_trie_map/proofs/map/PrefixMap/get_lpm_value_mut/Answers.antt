@@ -1,4 +1,4 @@
--- The value that is lent is that of the longest match, whatever its length is.
+-- The longest match has the value that is lent, whatever the match's length is.
 use Rattle.prefix_trie_map.proofs.Prelude.{take, refl, longest_match}
 use Rattle.prefix_trie_map.proofs.Lending.{lent_value}
 use Rattle.prefix_trie_map.proofs.map.PrefixMap.get_lpm_value_mut.Goals as goal

@@ -1,4 +1,4 @@
--- Whether a prefix is covered is whether it has a shortest match, so the reads are those of `get_spm_counted`.
+-- A prefix is covered if it has a shortest match, so `get_spm_counted` counts the reads.
 use Rattle.prefix_trie_map.proofs.map.PrefixMap.is_covered_counted.Goals as goal
 
 pub returns-clause-reads : goal.returns-clause-reads

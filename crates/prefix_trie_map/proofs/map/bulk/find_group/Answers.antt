@@ -1,4 +1,4 @@
--- The matches of a group are those of the prefixes from an index on, and its reads are added to those before.
+-- A group has the matches of the prefixes from an index on, and its reads are added to the reads before.
 use Rattle.prefix_trie_map.proofs.Prelude.{arith, length-take-le}
 use Rattle.prefix_trie_map.proofs.Bulk.{found_more, reads_more}
 use Rattle.prefix_trie_map.proofs.map.bulk.find_group.Goals as goal

@@ -1,4 +1,4 @@
--- The marks that are left are those of the entries still to be tested, so `retain` keeps exactly the marked ones.
+-- The marks left are the marks of the entries still to be tested, so `retain` keeps exactly the marked ones.
 use Rattle.std.proofs.Common.{rules, ◌≡◌, Bool, List, filter, map, of_calls, sym, ◌∙◌}
 use Rattle.prefix_trie_ops.proofs.Marking.{keeps_marked}
 use Rattle.prefix_trie_ops.proofs.map.aggregation.keep_marked.Goals as goal

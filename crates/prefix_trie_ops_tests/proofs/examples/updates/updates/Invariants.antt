@@ -1,4 +1,4 @@
--- The invariant of the loop: the messages so far and those of the items still to come are all messages.
+-- The invariant of the loop: the messages so far, with the messages for the items still to come, are all messages.
 use Rattle.std.proofs.Common.{◌≡◌, ◌++◌}
 use Rattle.std.specs.List.{filter_map}
 use Rattle.prefix_trie.specs.Words.{listing, prefix_pairs}

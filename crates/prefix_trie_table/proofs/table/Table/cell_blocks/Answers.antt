@@ -1,4 +1,4 @@
--- The counts of the array of values are those of the layout, and each node with values has one used block.
+-- The layout has the counts of the array of values, and each node with values has one used block.
 use Rattle.prefix_trie_table.proofs.Prelude.{◌≡◌, ◌+◌, arith, ap, ap₂, sym, ◌∙◌, value_block_sizes, block_counts, slots_counted, used_blocks, Contents}
 use Rattle.prefix_trie_table.proofs.Tree.Invariant.{some_table}
 use Rattle.prefix_trie_table.proofs.Counts.BlockCounts.{seven_cells, cell_counts, slots_are, free_within}

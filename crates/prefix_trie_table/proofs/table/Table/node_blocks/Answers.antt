@@ -1,4 +1,4 @@
--- The counts of the array of nodes are those of the layout, and each node with children has one used block.
+-- The layout has the counts of the array of nodes, and each node with children has one used block.
 use Rattle.prefix_trie_table.proofs.Prelude.{◌+◌, ap, ap₂, sym, ◌∙◌, child_block_sizes, block_counts, slots_counted, used_blocks, Contents}
 use Rattle.prefix_trie_table.proofs.Tree.Invariant.{some_table}
 use Rattle.prefix_trie_table.proofs.Counts.BlockCounts.{node_counts, slots_are, free_within}

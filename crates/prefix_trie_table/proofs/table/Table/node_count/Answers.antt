@@ -1,4 +1,4 @@
--- The nodes that are counted in the array are the paths of the tree, so their number is that of the model's nodes.
+-- The nodes counted in the array are the paths of the tree, and the model has as many nodes.
 use Rattle.prefix_trie_table.proofs.Prelude.{ap, sym, ◌∙◌, len}
 use Rattle.prefix_trie_table.proofs.Tree.Invariant.{some_table}
 use Rattle.prefix_trie_table.proofs.Strings.PathStrings.{paths_counted}

@@ -1,4 +1,4 @@
--- The blocks to make: one of values if the value's own node is there, and otherwise also one of children for each level.
+-- The blocks to make: one of values, and one of children for each missing level if the value's own node is missing.
 use Rattle.prefix_trie_table.proofs.Prelude.{◌≡◌, ℕ, ◌+◌, ◌-◌, ◌/◌, length, Option, None, Some, inl, inr, [], Result, Err, refl, sym, ap, ◌∙◌, subst, arith, on_ok_weaker, err_from_is_err_and, IfErr-weaker, Refusal, Memory, IndexRange, Node, nodes_needed, cells_needed, ObtainsBoth, rank, value_block_sizes, block_needed, blank_node, cell_sizes, child_need, value_need, Store, Obtains, AreFree, tier_sizes, list_need, needs, GrowsBoth, MayPass}
 use Rattle.prefix_trie_table.specs.OwnBlocks.{child_block_size, value_block_size}
 use Rattle.prefix_trie_table.proofs.Strings.Bits.{rank-ones}

@@ -1,4 +1,4 @@
--- The test keeps exactly the entries whose values are at least the least one.
+-- The test keeps exactly the entries whose values are at least `least`.
 use Rattle.prefix_trie_tests.proofs.Prelude.{rules, nat_le, of_calls}
 use Rattle.prefix_trie.proofs.Callers.{keeps_filter}
 use Rattle.prefix_trie_tests.proofs.examples.expiry.keep_from.Goals as goal

@@ -1,4 +1,4 @@
--- The number that `address_count` returns is that of the addresses in all IPv4 networks, by `network_laws`.
+-- The number that `address_count` returns is the number of addresses in all IPv4 networks, by `network_laws`.
 use Rattle.prefix_trie_tests.proofs.Prelude.{sym, ◌∙◌}
 use Rattle.prefix_trie_tests.proofs.examples.inventory.addresses.Goals as goal
 

@@ -1,4 +1,4 @@
--- The seat of an occupied entry is that of its key's path, so its value can be lent for as long as the map.
+-- An occupied entry has the seat of its key's path, so its value can be lent for as long as the map.
 use Rattle.prefix_trie_map.proofs.Prelude.{refl, sym, ap, ◌∙◌, get, seat_of, with_value_at}
 use Rattle.prefix_trie_map.proofs.map.entry.OccupiedEntry.into_mut.Goals as goal
 

@@ -1,4 +1,4 @@
--- The next key is that of the next item of the walk inside.
+-- The next item of the walk inside has the next key.
 use Rattle.prefix_trie_map.proofs.Prelude.{rules}
 use Rattle.prefix_trie_map.proofs.map.projection.KeysOfIterator.next.Goals as goal
 
