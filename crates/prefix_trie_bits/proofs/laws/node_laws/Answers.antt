@@ -1,4 +1,4 @@
--- The laws of the needed nodes are the model's, for any type of values.
+-- The laws of the needed nodes are proved for the model, with any type of values.
 use Rattle.prefix_trie_bits.proofs.Model.NodeSets.{node_laws}
 use Rattle.prefix_trie_bits.proofs.laws.node_laws.Goals as goal
 

@@ -1,4 +1,4 @@
--- A value's string has at most four bits, so the four bits of the key that the table is read with decide whether it matches.
+-- A value's string has at most four bits, so the four bits of the key in the table's row decide whether it matches.
 use Rattle.prefix_trie_bits.proofs.Prelude.{◌∙◌, ap, take, drop, begins}
 use Rattle.prefix_trie_bits.proofs.Strings.{begins-four}
 use Rattle.prefix_trie_bits.proofs.node.masks.match_mask.Goals as goal

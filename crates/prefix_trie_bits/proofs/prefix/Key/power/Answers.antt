@@ -1,4 +1,4 @@
--- A key whose only one has k bits after it is the number 2^k.
+-- A key with a single 1, which has k bits after it, is the number 2^k.
 use Rattle.prefix_trie_bits.proofs.Prelude.{number-power}
 use Rattle.prefix_trie_bits.proofs.prefix.Key.power.Goals as goal
 

@@ -1,4 +1,4 @@
--- The invariant of `shift_out`: the items so far are moved one slot back, and `carried` is the previous one.
+-- The invariant of `shift_out`: the items so far are moved one slot back, and `carried` is the item to write next.
 use Rattle.prefix_trie_table.proofs.Prelude.{◌≡◌, ◌≤◌, insert, remove, vec_len, vec_capacity, get_or}
 use Rattle.prefix_trie_table.proofs.allocator.slots.shift_out.Given as goal
 

@@ -1,4 +1,4 @@
--- The slot that a search has reached is inside the array, as for each of the first `count` searches.
+-- Each of the first `count` searches has reached a slot inside the array, so its node can be read.
 use Rattle.prefix_trie_table.proofs.Prelude.{◌<◌, length, subst, arith, get_or-take, length-take-le}
 use Rattle.prefix_trie_table.specs.Bulk.{slot_of}
 use Rattle.prefix_trie_table.proofs.table.bulk.read_each.Goals as goal

@@ -1,4 +1,4 @@
--- A node is bare exactly if both of its bitmaps have no ones, which is that their sum is 0.
+-- A node is bare exactly if the number of ones in its two bitmaps is 0.
 use Rattle.prefix_trie_table.proofs.Prelude.{◌≡◌, ◌+◌, ◌<◌, ◌⊎◌, inl, inr, ℕ, nat_eq, false, arith, eqb-true, nat_tests}
 use Rattle.prefix_trie_table.proofs.Strings.Bits.{rank-ones}
 use Rattle.prefix_trie_table.proofs.Strings.BitLists.{rank-le}

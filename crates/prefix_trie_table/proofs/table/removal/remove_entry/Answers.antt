@@ -1,4 +1,4 @@
--- Removing an entry takes its bit and then prunes its path; if the entry's own node is missing, there is nothing to remove.
+-- Removing an entry removes its value and then prunes its path; if the entry's own node is missing, nothing changes.
 use Rattle.prefix_trie_table.proofs.Prelude.{inl, inr, is_some, refl, ap}
 use Rattle.prefix_trie_table.proofs.Lookup.SearchPaths.{own_last, own_node, own_short}
 use Rattle.prefix_trie_table.proofs.Tree.Invariant.{deepest_there}

@@ -1,4 +1,4 @@
--- The recursion of `retain`: a value is tested, a child is walked and dropped if it is left bare, one place after another.
+-- The recursion of `retain`, place by place: a value is tested, and a child is walked and then dropped if it is bare.
 use Rattle.prefix_trie_table.proofs.Prelude.{◌≡◌, ◌/◌, [], ◌∷◌, ◌++◌, length, take, refl, sym, ap, ◌∙◌, subst, arith, append-nil, append_assoc, false≢true, to_come, CallableOnEachEntry, listing_at_places, State, RetainsTo, IsTrie, All-weaker, All-contains_itself, has_bit, IsPlaceOf, All, HasPlace}
 use Rattle.std.specs.List.{Contains}
 use Rattle.prefix_trie_table.proofs.Retain.Asked.{none_asked}

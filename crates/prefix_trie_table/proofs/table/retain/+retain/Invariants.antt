@@ -1,4 +1,4 @@
--- The invariants of `retain`: each call goes one level down, and the places so far are tested and left with what passed.
+-- The invariants of `retain`: each nested call is for a deeper node, and the places so far have only entries that passed.
 use Rattle.prefix_trie_table.proofs.Prelude.{◌≡◌, ◌+◌, ◌-◌, ◌*◌, ◌/◌, ◌++◌, List, Bool, true, All, take, length, to_come, IsPlaceOf, is_at_some, IsSite, PreservesBelow, RetainsIn}
 use Rattle.prefix_trie_table.proofs.table.retain.+retain.Given as goal
 

@@ -1,4 +1,4 @@
--- A stack of the root's spot alone, with all its places, has the whole listing to come.
+-- A stack with only the root's spot, which has all places of the root, has the whole listing to come.
 use Rattle.prefix_trie_table.proofs.Prelude.{◌∙◌, [], ◌∷◌, ◌++◌, ap, node_at}
 use Rattle.prefix_trie_table.proofs.Tree.Trees.{read-nil}
 use Rattle.prefix_trie_table.proofs.Tree.Subtrees.{root_inside, few_at}

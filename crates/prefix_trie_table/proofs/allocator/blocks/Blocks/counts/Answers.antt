@@ -1,4 +1,4 @@
--- The seven tiers, counted one by one, have the counts of the list of tiers.
+-- Counting each of the seven tiers gives the counts of the list of tiers.
 use Rattle.prefix_trie_table.proofs.Prelude.{[], ◌∷◌, map, ap, ◌∙◌, tier_count}
 use Rattle.prefix_trie_table.proofs.Counts.BlockCounts.{seven_tiers}
 use Rattle.prefix_trie_table.proofs.allocator.blocks.Blocks.counts.Goals as goal

@@ -1,4 +1,4 @@
--- Each match that a walk of covers gives is the first of those to come, and its cell has a value.
+-- Each match that a walk over covers gives is the first of the matches still to come, and its cell has a value.
 use Rattle.prefix_trie_table.proofs.Prelude.{◌∷◌, take, is_some, ap, sym, ◌∙◌, arith, false≢true, still_covering}
 use Rattle.prefix_trie_table.proofs.Lookup.Covers.{cover_on}
 use Rattle.prefix_trie_table.proofs.Lookup.Covered.{gives_none, gives_next, match_there, match_short}

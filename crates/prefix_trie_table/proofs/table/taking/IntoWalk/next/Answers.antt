@@ -1,4 +1,4 @@
--- The cell at the next seat has the next value, and the walk goes on after it is replaced by none.
+-- The cell at the next seat has the next value, and moving it out changes nothing that is still to come.
 use Rattle.prefix_trie_table.proofs.Prelude.{◌∙◌, sym, ap, is_some, false≢true}
 use Rattle.prefix_trie_table.proofs.Walk.Taking.{none_given, walk_ended, taken_there, walk_goes_on, gives_taken}
 use Rattle.prefix_trie_table.proofs.table.taking.IntoWalk.next.Goals as goal
