@@ -64,7 +64,7 @@ IsLocation s q (Missing end) = (contains_key s.entries q ≡ false) × IsSearchE
 coded_seat : Coded Seat
 coded_seat = code_by ℕ coded_ℕ (λ s. s.slot) (λ n. record { slot = n }) (λ _. refl)
 
--- there is at most one proof that a bit string has a seat
+-- there is at most one proof that a bit string has this seat
 pub is_seat-prop : (nodes : List Node) (q : List Bool) (seat : Seat) → IsProp (seat_of nodes q ≡ Some seat)
 is_seat-prop nodes q seat = Coded-set (coded_option coded_seat) _ _
 
