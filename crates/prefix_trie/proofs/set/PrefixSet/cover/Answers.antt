@@ -1,4 +1,4 @@
--- The covers of a prefix in a set are the keys of those in its map.
+-- The covers of a prefix in a set are the keys of its covers in the map.
 use Rattle.prefix_trie.proofs.set.PrefixSet.cover.Goals as goal
 
 pub returns : goal.returns

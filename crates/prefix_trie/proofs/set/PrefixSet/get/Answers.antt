@@ -1,4 +1,4 @@
--- The key that a set returns is the one of the map's `get_key_value`, in both cases of the lookup.
+-- The key that a set returns is the key that its map returns, in both cases of the lookup.
 use Rattle.prefix_trie.proofs.Prelude.{rules}
 use Rattle.prefix_trie.proofs.set.PrefixSet.get.Goals as goal
 

@@ -1,4 +1,4 @@
--- The keys of a walk are the first parts of the items of `cover`, and as many.
+-- The keys of the walk are the first parts of the items of `cover`, so there are as many.
 use Rattle.prefix_trie_map.proofs.Runs.{parts_are, parts_count, gives_in_order}
 use Rattle.prefix_trie_map.proofs.map.PrefixMap.cover_keys.Goals as goal
 

@@ -1,4 +1,4 @@
--- The keys that a consumed map gives are the first parts of its items, and as many.
+-- The keys that a consumed map gives are the first parts of its items, so there are as many.
 use Rattle.prefix_trie_map.proofs.Runs.{parts_are, parts_count, gives_in_order}
 use Rattle.prefix_trie_map.proofs.map.PrefixMap.into_keys.Goals as goal
 

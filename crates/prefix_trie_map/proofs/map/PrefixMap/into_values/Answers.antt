@@ -1,4 +1,4 @@
--- The values that a consumed map gives are the second parts of its items, and as many.
+-- The values that a consumed map gives are the second parts of its items, so there are as many.
 use Rattle.prefix_trie_map.proofs.Runs.{parts_are, parts_count, gives_in_order}
 use Rattle.prefix_trie_map.proofs.map.PrefixMap.into_values.Goals as goal
 

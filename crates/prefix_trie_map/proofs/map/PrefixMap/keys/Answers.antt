@@ -1,4 +1,4 @@
--- The keys of a walk are the first parts of the items of `iter`, and as many.
+-- The keys of the walk are the first parts of the items of `iter`, so there are as many.
 use Rattle.prefix_trie_map.proofs.Runs.{parts_are, parts_count, gives_in_order}
 use Rattle.prefix_trie_map.proofs.map.PrefixMap.keys.Goals as goal
 

@@ -1,4 +1,4 @@
--- The values of a walk are the second parts of the items of `iter`, and as many.
+-- The values of the walk are the second parts of the items of `iter`, so there are as many.
 use Rattle.prefix_trie_map.proofs.Prelude.{deref}
 use Rattle.prefix_trie_map.proofs.Runs.{parts_are, parts_count, shows_in_order}
 use Rattle.prefix_trie_map.proofs.map.PrefixMap.values.Goals as goal
