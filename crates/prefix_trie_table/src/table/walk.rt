@@ -135,6 +135,7 @@ pub fn walk_of<'a, K: Key, T: Drop, A: Allocator, V: Tick>(
 }
 
 /// Returns the next entry of a walk with these spots, whose paths begin the key. The last spot is the deepest.
+#[inline]
 pub fn advance<K: Key, A: Allocator, V: Tick, T: Drop>(
     nodes: &NodeAllocator<A, V>,
     stack: &mut ArrayVec<Spot, 26>,
