@@ -4,7 +4,9 @@ ghost use Rattle.std.proofs.Common.{lit≤, eqb-true};
 ghost use Rattle.prefix_trie_bits.specs.Keys.{number_keys};
 ghost use Rattle.prefix_trie_bits.specs.Model.Bits.{number, digits};
 
-use crate::digits::{extend_of, keep_of, short_window_of, window_of};
+use crate::digits::{
+    extend_of, keep_of, short_extend_of, short_keep_of, short_window_of, window_of,
+};
 use crate::prefix::Key;
 use crate::wide_digits;
 use std::cmp::Ordering;
@@ -45,12 +47,12 @@ impl Key for u8 {
 
     #[inline]
     fn keep(self, len: u32) -> u8 {
-        keep_of(u64::from(self), 8, len) as u8
+        short_keep_of(u32::from(self), 8, len) as u8
     }
 
     #[inline]
     fn extend(self, depth: u32, n: u32, tail: u32) -> u8 {
-        extend_of(u64::from(self), 8, depth, n, tail) as u8
+        short_extend_of(u32::from(self), 8, depth, n, tail) as u8
     }
 
     #[inline]
@@ -109,12 +111,12 @@ impl Key for u16 {
 
     #[inline]
     fn keep(self, len: u32) -> u16 {
-        keep_of(u64::from(self), 16, len) as u16
+        short_keep_of(u32::from(self), 16, len) as u16
     }
 
     #[inline]
     fn extend(self, depth: u32, n: u32, tail: u32) -> u16 {
-        extend_of(u64::from(self), 16, depth, n, tail) as u16
+        short_extend_of(u32::from(self), 16, depth, n, tail) as u16
     }
 
     #[inline]
@@ -173,12 +175,12 @@ impl Key for u32 {
 
     #[inline]
     fn keep(self, len: u32) -> u32 {
-        keep_of(u64::from(self), 32, len) as u32
+        short_keep_of(self, 32, len)
     }
 
     #[inline]
     fn extend(self, depth: u32, n: u32, tail: u32) -> u32 {
-        extend_of(u64::from(self), 32, depth, n, tail) as u32
+        short_extend_of(self, 32, depth, n, tail)
     }
 
     #[inline]

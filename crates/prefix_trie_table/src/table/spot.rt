@@ -12,7 +12,6 @@ use crate::allocator::blocks::Cells;
 use crate::allocator::node::{Node, NodeSlot};
 use crate::allocator::nodes::{NodeAllocator, Tick};
 use crate::table::seat::Seat;
-use arrayvec::ArrayVec;
 use prefix_trie_bits::node::{Place, Places, string_of};
 use prefix_trie_bits::prefix::{BitString, Key};
 use std::alloc::Allocator;
@@ -123,17 +122,6 @@ pub fn next_at<K: Key, A: Allocator, V: Tick, T: Drop>(
             Step::Child(enter(nodes, at, spot.depth + 5, counter), below)
         }
     }
-}
-
-/// Writes the places of a spot to the last spot of a stack. Nothing else of the stack changes.
-#[inline]
-pub fn put_places(stack: &mut ArrayVec<Spot, 26>, spot: Spot)
-    requires some { 0 < length stack.old.items }
-    ensures put { (below : List Spot) (last : Spot) → stack.old.items ≡ below ++ last ∷ []
-        → stack.new.items ≡ below ++ record last { places = spot.places } ∷ [] }
-{
-    let last = stack.len() - 1;
-    stack[last].places = spot.places;
 }
 
 /// Drops the places that a bit string begins. The bit string ends at the node of the spot.

@@ -7,13 +7,13 @@ ghost use Rattle.prefix_trie_table.specs.Locations.{seat_of};
 ghost use Rattle.prefix_trie_table.specs.Shape.{IsShapeOf};
 ghost use Rattle.prefix_trie_table.specs.Tables.{IsTrie};
 ghost use Rattle.prefix_trie_table.specs.Walking.Items.{GivesFilled, GivesOutermost};
-ghost use Rattle.prefix_trie_table.specs.Walking.Walks.{Tree, ArePassed, EndsLast, IsStack, SkipsLast, pending, GivesSeat, ShapeOf, ShapeOf-prop};
+ghost use Rattle.prefix_trie_table.specs.Walking.Walks.{Tree, ArePassed, EndsLast, IsSeated, IsStack, SkipsLast, StaysOnPath, Steps, pending, GivesSeat, ShapeOf, ShapeOf-prop};
 
 use crate::allocator::blocks::Cells;
 use crate::allocator::node::ROOT;
 use crate::allocator::nodes::{NodeAllocator, Tick};
 use crate::table::seat::Seat;
-use crate::table::spot::{Spot, Step, enter, next_at, put_places, skip_below, value_at};
+use crate::table::spot::{Spot, Step, enter, next_at, skip_below, value_at};
 use arrayvec::ArrayVec;
 use prefix_trie_bits::prefix::{BitString, Key};
 use std::alloc::Allocator;
@@ -135,6 +135,7 @@ pub fn walk_of<'a, K: Key, T: Drop, A: Allocator, V: Tick>(
 }
 
 /// Returns the next entry of a walk with these spots, whose paths begin the key. The last spot is the deepest.
+#[inline]
 pub fn advance<K: Key, A: Allocator, V: Tick, T: Drop>(
     nodes: &NodeAllocator<A, V>,
     stack: &mut ArrayVec<Spot, 26>,
@@ -152,14 +153,10 @@ pub fn advance<K: Key, A: Allocator, V: Tick, T: Drop>(
     ensures passed { ArePassed (K.bits key.old) stack.old.items → ArePassed (K.bits key.new) stack.new.items }
     ensures last { IfSome result (λ r. EndsLast (K.bits key.new) stack.new.items (take r.1 (K.bits r.0))) }
 {
-    while let Some(mut spot) = last_spot(stack) {
-        match next_at::<K, A, V, T>(nodes, &mut spot, *key, counter) {
-            Step::Entry(found, len, seat) => {
-                put_places(stack, spot);
-                return Some((found, len, seat));
-            }
+    while !stack.is_empty() {
+        match next_at_last::<K, A, V, T>(nodes, stack, *key, counter) {
+            Step::Entry(found, len, seat) => return Some((found, len, seat)),
             Step::Child(child, below) => {
-                put_places(stack, spot);
                 stack.push(child);
                 *key = below;
             }
@@ -171,13 +168,26 @@ pub fn advance<K: Key, A: Allocator, V: Tick, T: Drop>(
     None
 }
 
-/// Returns the last spot, and keeps it.
+/// Takes the next place of the last spot, in the stack itself: a copy of the spot would cost more than the step.
 #[inline]
-fn last_spot(stack: &ArrayVec<Spot, 26>) -> Option<Spot>
-    ensures last { MatchOption result (stack.now.items ≡ [])
-        (λ spot. (below : List Spot) × (stack.now.items ≡ below ++ spot ∷ [])) }
+fn next_at_last<K: Key, A: Allocator, V: Tick, T: Drop>(
+    nodes: &NodeAllocator<A, V>,
+    stack: &mut ArrayVec<Spot, 26>,
+    key: K,
+    counter: &mut V,
+) -> Step<K>
+    requires some { 0 < length stack.old.items }
+    requires tree { (t : Tree T) × IsTrie K.bit_width t.count nodes.now t.cells t.shape }
+    requires stack { IsStack K.bit_width nodes.now.slots (K.bits key) stack.old.items }
+    ensures last { (below : List Spot) × (spot : Spot) × (next : Spot)
+        × (stack.old.items ≡ below ++ spot ∷ []) × (stack.new.items ≡ below ++ next ∷ [])
+        × StaysOnPath K.bits (K.bits key) spot result next
+        × ((t : Tree T) → IsTrie K.bit_width t.count nodes.now t.cells t.shape
+        → Steps K.IsKey K.bits K.bit_width nodes.now.slots t (K.bits key) spot result next) }
+    ensures seat { IsSeated K.bits nodes.now.slots result }
 {
-    stack.last().copied()
+    let last = stack.len() - 1;
+    next_at::<K, A, V, T>(nodes, &mut stack[last], key, counter)
 }
 
 /// Drops what a bit string begins from what is to come at the last spot, at whose node the bit string ends.

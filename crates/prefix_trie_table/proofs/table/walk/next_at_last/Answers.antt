@@ -1,0 +1,48 @@
+-- A step at the last spot changes that spot alone: the stack is the spots below it and the spot, before and after.
+use Rattle.prefix_trie_table.proofs.Prelude.{◌≡◌, ℕ, ◌+◌, ◌-◌, ◌<◌, List, [], ◌∷◌, ◌++◌, length, take, drop, get_or, set, sym, ap, subst, ◌∙◌, arith, length-set, take_all, take_more, take_more_set, take-append_seam, IsSpot}
+use Rattle.prefix_trie_table.proofs.Walk.Stacks.{cursor-at}
+use Rattle.prefix_trie_table.specs.Walking.Walks.{StaysOnPath, Steps}
+use Rattle.prefix_trie_table.proofs.table.walk.next_at_last.Goals as goal
+
+module _ {X : Type 0} (xs : List X) (n : ℕ) (counts : n ≡ length xs) (some : 0 < length xs) where
+  -- what is before the last item, and the item
+  ends_in : (x : X) → x ≡ get_or xs (n - 1) x → xs ≡ take (n - 1) xs ++ x ∷ []
+  ends_in x is =
+      sym (take_all (n - 1 + 1) xs (omega (arith, counts)))
+      ∙ take_more xs (n - 1) x (omega (arith, counts, some))
+      ∙ ap (λ y. take (n - 1) xs ++ y ∷ []) (sym is)
+
+  -- the same once another item is written there
+  written : (y : X) → set xs (n - 1) y ≡ take (n - 1) xs ++ y ∷ []
+  written y =
+      sym (take_all (n - 1 + 1) (set xs (n - 1) y) (omega (arith, counts, length-set xs (n - 1) y)))
+      ∙ take_more_set xs (n - 1) y (omega (arith, counts, some))
+
+pub next_at-requires-clause-spot : goal.next_at-requires-clause-spot
+next_at-requires-clause-spot g c =
+    let is = ends_in c.args.stack.now.items c.len-last.result c.len-last.ensures.value c.requires.some in
+    let same = c.index-deref_mut-last.is ∙ ap (λ xs. get_or xs (c.len-last.result - 1) c.index-deref_mut-last.result) c.deref_mut.ensures.value in
+    subst (IsSpot g.K.Key.bit_width c.args.nodes.now.slots (g.K.Key.bits c.args.key)) c.index-deref_mut-last.is
+    (cursor-at _ _ _ (is c.index-deref_mut-last.result same) g.K.Key.bit_width c.args.nodes.now.slots (g.K.Key.bits c.args.key) c.requires.stack).2
+
+pub returns-clause-last : goal.returns-clause-last
+returns-clause-last g c =
+    let all = c.args.stack.now.items in
+    let n = c.len-last.result in
+    let counts = c.len-last.ensures.value in
+    let value = c.deref_mut.ensures.value in
+    let same = c.index-deref_mut-last.is ∙ ap (λ xs. get_or xs (n - 1) c.index-deref_mut-last.result) value in
+    let next = c.next_at.new.spot in
+    let ws = set c.deref_mut.result.now (n - 1) next in
+    let full : length all ≡ length ws = sym (length-set c.deref_mut.result.now (n - 1) next ∙ ap length value) in
+    let refilled : take (length all) (ws ++ drop (length ws) all) ≡ ws = ap (λ k. take k (ws ++ drop (length ws) all)) full ∙ take-append_seam ws (drop (length ws) all) in (
+      take (n - 1) all,
+      c.index-deref_mut-last.result,
+      next,
+      ends_in all n counts c.requires.some c.index-deref_mut-last.result same,
+      refilled ∙ ap (λ xs. set xs (n - 1) next) value ∙ written all n counts c.requires.some next,
+      subst (λ p. StaysOnPath g.K.Key.bits (g.K.Key.bits c.args.key) p c.next_at.result next) (sym c.index-deref_mut-last.is) c.next_at.ensures.search_path,
+      (λ t tree.
+          subst (λ p. Steps g.K.Key.IsKey g.K.Key.bits g.K.Key.bit_width c.args.nodes.now.slots t (g.K.Key.bits c.args.key) p c.next_at.result next)
+          (sym c.index-deref_mut-last.is) (c.next_at.ensures.step t tree)),
+    )
