@@ -1,6 +1,6 @@
 -- The value bit of a string, and the string of a value bit: for the windows that the code reads.
-use Rattle.prefix_trie_bits.proofs.Prelude.{◌≡◌, ℕ, suc, ◌+◌, ◌-◌, ◌*◌, ◌/◌, ◌%◌, ◌^◌, ◌<◌, ◌≤◌, Bool, List, ◌++◌, length, take, drop, sym, ap, ap₂, ◌∙◌, subst, arith, inl, inr, pow_pos, pow-suc, min, mod-eq_of_lt, leading_zeros, w32, leading_top, pow_below, one_shl, cases_lt, cases_eq, take_all, take-take, number, digits, begins, zeros, same-from-number, number-lt, number-digits, length-digits, digits-number, bits-number, number-below, same_bool, begins-take, begins-from-take, begins-trans, take-begins, window-inside, window-of-front, length-window, value_bit}
-use Rattle.std.proofs.lemmas.List.{length-drop, length-take-le, length-append}
+use Rattle.prefix_trie_bits.proofs.Prelude.{◌≡◌, ℕ, suc, ◌+◌, ◌-◌, ◌*◌, ◌/◌, ◌%◌, ◌^◌, ◌<◌, ◌≤◌, Bool, List, ◌++◌, length, take, sym, ap, ap₂, ◌∙◌, subst, arith, inl, inr, pow_pos, pow-suc, min, mod-eq_of_lt, leading_zeros, w32, leading_top, pow_below, one_shl, cases_lt, cases_eq, take_all, take-take, number, digits, begins, zeros, same-from-number, number-lt, number-digits, length-digits, digits-number, bits-number, number-below, same_bool, begins-take, begins-from-take, begins-trans, take-begins, window-inside, window-of-front, value_bit}
+use Rattle.std.proofs.lemmas.List.{length-take-le, length-append}
 use Rattle.std.proofs.lemmas.Nat.{shr_below}
 use Rattle.std.proofs.Math.Nat.{mul-add-div_right}
 use Rattle.std.proofs.Common.{pow-add}
@@ -12,7 +12,7 @@ pow-le a b l = elim (cases_eq a b) [
   | inr ne ↦ omega (arith, pow_below a b (omega arith))
 ]
 
--- a string's value bit plus one is the number whose digits are a 1 and then the string
+-- a string's value bit is one less than the number that is a 1 followed by its bits
 pub value_bit-suc : (s : List Bool) → value_bit s + 1 ≡ 2 ^ length s + number s
 value_bit-suc s = let p = pow_pos (length s) in omega arith
 
@@ -28,12 +28,12 @@ pub value_bit-small : (s : List Bool) → length s ≤ 4 → value_bit s < 31
 value_bit-small s l =
     let p : 2 ^ suc (length s) ≤ 32 = pow-le (suc (length s)) 5 (omega arith) in omega (arith, p, value_bit-high s)
 
--- a longer string has a higher value bit
+-- a longer string has a higher bit
 pub value_bit-longer : (s t : List Bool) → length s < length t → value_bit s < value_bit t
 value_bit-longer s t l =
     omega (arith, value_bit-high s, value_bit-low t, pow-le (suc (length s)) (length t) (omega arith))
 
--- a number has one length in binary
+-- the length of a number
 pub power-unique : (x a b : ℕ) → 2 ^ a ≤ x → x < 2 ^ suc a → 2 ^ b ≤ x → x < 2 ^ suc b → a ≡ b
 power-unique x a b la ha lb hb =
     elim (cases_lt a b) [
@@ -90,91 +90,64 @@ module _ (b n : ℕ) (small : b < 31) (above : 2 ^ n ≤ b + 1) (below : b + 1 <
       less : (x p m : ℕ) → x ≡ p → p + m ≡ b + 1 → m ≡ b + 1 - x
       less x p m e f = omega arith
 
--- ---- a key's string under a node, of which the code reads windows
+-- ---- the windows that the code reads
 
-length-below : (b : List Bool) (depth len : ℕ) → depth ≤ len → len ≤ length b → length (drop depth (take len b)) ≡ len - depth
-length-below b depth len h l =
-    length-drop depth (take len b) ∙ ap (λ n. n - depth) (length-take-le len b l)
+-- the first bits of a key, with zeros after it, are those of a beginning that has them
+front-is : (b z : List Bool) (len n : ℕ) → n ≤ len → len ≤ length b → take n (b ++ z) ≡ take n (take len b)
+front-is b z len n h l = window-inside b z 0 n (omega (arith, h, l)) ∙ sym (window-of-front b len 0 n (omega (arith, h)))
 
--- a window that ends within the key reads bits of the key alone
-pub window-is : (b z : List Bool) (depth len n : ℕ) → depth + n ≤ len → len ≤ length b → take n (drop depth (b ++ z)) ≡ take n (drop depth (take len b))
-window-is b z depth len n h l =
-    window-inside b z depth n (omega arith) ∙ sym (window-of-front b len depth n h)
+length-front : (b : List Bool) (n : ℕ) → n ≤ 5 → length (take n (b ++ zeros 5)) ≡ n
+length-front b n h = length-take-le n (b ++ zeros 5) (omega (arith, h, length-append b (zeros 5)))
 
-pub all-of-window : (b z : List Bool) (depth len : ℕ) → depth ≤ len → len ≤ length b → take (len - depth) (drop depth (b ++ z)) ≡ drop depth (take len b)
-all-of-window b z depth len h l =
-    window-is b z depth len (len - depth) (omega arith) l ∙
-    take_all (len - depth) (drop depth (take len b)) (omega (arith, length-below b depth len h l))
+pub front-small : (b : List Bool) (n x : ℕ) → n ≤ 5 → x ≡ number (take n (b ++ zeros 5)) → x < 2 ^ n
+front-small b n x h e = subst (λ y. y < 2 ^ n) (sym e) (number-below n (take n (b ++ zeros 5)) (length-front b n h))
 
-length-four : (b : List Bool) (depth : ℕ) → depth ≤ length b → length (take 4 (drop depth (b ++ zeros 5))) ≡ 4
-length-four b depth l =
-    length-window (b ++ zeros 5) depth 4 (omega (arith, length-append b (zeros 5)))
-
-pub pos-below : (b : List Bool) (depth x : ℕ) → depth ≤ length b → x ≡ number (take 4 (drop depth (b ++ zeros 5))) → x < 16
-pos-below b depth x l e =
-    subst (λ y. y < 16) (sym e) (number-below 4 (take 4 (drop depth (b ++ zeros 5))) (length-four b depth l))
-
--- the string that a level and four bits of a window denote
-pub level-string : (b : List Bool) (depth len level pos : ℕ) → depth ≤ len → len ≤ length b → level ≡ min (len - depth) 4 → pos ≡ number (take 4 (drop depth (b ++ zeros 5))) → take level (digits 4 pos) ≡ take 4 (drop depth (take len b))
-level-string b depth len level pos h l level-is pos-is =
-    ap (λ s. take level s) (ap (digits 4) pos-is ∙ bits-number 4 (take 4 (drop depth (b ++ zeros 5))) (length-four b depth (omega arith))) ∙
-    take-take level 4 (drop depth (b ++ zeros 5)) (omega arith) ∙
-    window-is b (zeros 5) depth len level (omega arith) l ∙
-    elim (cases_lt (len - depth) 4) [
+-- the string of a level and four bits
+pub level-string : (b : List Bool) (len level pos : ℕ) → len ≤ length b → level ≡ min len 4 → pos ≡ number (take 4 (b ++ zeros 5)) → take level (digits 4 pos) ≡ take 4 (take len b)
+level-string b len level pos l level-is pos-is =
+    ap (λ s. take level s) (ap (digits 4) pos-is ∙ bits-number 4 (take 4 (b ++ zeros 5)) (length-front b 4 (omega arith))) ∙
+    take-take level 4 (b ++ zeros 5) (omega arith) ∙
+    front-is b (zeros 5) len level (omega arith) l ∙
+    elim (cases_lt len 4) [
       | inl short ↦
-          let n : length (drop depth (take len b)) ≡ len - depth = length-below b depth len h l in
-          take_all level (drop depth (take len b)) (omega arith) ∙ sym (take_all 4 (drop depth (take len b)) (omega arith))
-      | inr long ↦ let e : level ≡ 4 = omega arith in ap (λ m. take m (drop depth (take len b))) e
+          let n : length (take len b) ≡ len = length-take-le len b l in
+          take_all level (take len b) (omega arith) ∙ sym (take_all 4 (take len b) (omega arith))
+      | inr long ↦ let e : level ≡ 4 = omega arith in ap (λ m. take m (take len b)) e
     ]
 
--- ---- what the first four bits decide
-
+-- what the first four bits decide
 pub begins-four : (s t : List Bool) → length s ≤ 4 → begins s (take 4 t) ≡ begins s t
 begins-four s t l =
     same_bool _ _
     (λ e. begins-trans s (take 4 t) t e (take-begins 4 t))
     (λ e. begins-from-take s (take 4 t) (length s) (take-take (length s) 4 t l ∙ begins-take s t e))
 
-pub four-of-short : (b : List Bool) (depth len : ℕ) → depth ≤ len → len < depth + 5 → len ≤ length b → take 4 (drop depth (take len b)) ≡ drop depth (take len b)
-four-of-short b depth len h last l =
-    let n = length-below b depth len h l in take_all 4 (drop depth (take len b)) (omega arith)
-
 -- ---- what the code computes of a value bit
 
--- the five bits from a depth on, as one number
-module _ (b : List Bool) (depth x : ℕ) (within : depth ≤ length b) (read : x ≡ number (take 5 (drop depth (b ++ zeros 5)))) where
-  five : length (take 5 (drop depth (b ++ zeros 5))) ≡ 5
-  five = length-window (b ++ zeros 5) depth 5 (omega (arith, length-append b (zeros 5)))
-
-  pub window-small : x < 32
-  window-small = subst (λ y. y < 32) (sym read) (number-below 5 (take 5 (drop depth (b ++ zeros 5))) five)
-
+-- the first five bits, with zeros after the last, as one number
+module _ (b : List Bool) (x : ℕ) (read : x ≡ number (take 5 (b ++ zeros 5))) where
   -- its upper n bits are the first n bits of the string
-  upper : (n : ℕ) → n ≤ 5 → x / 2 ^ (5 - n) ≡ number (take n (drop depth (b ++ zeros 5)))
+  upper : (n : ℕ) → n ≤ 5 → x / 2 ^ (5 - n) ≡ number (take n (b ++ zeros 5))
   upper n few =
       let all : 5 ≡ n + (5 - n) = omega (arith, few) in
-      sym (mod-eq_of_lt (shr_below x n (5 - n) (subst (λ k. x < 2 ^ k) all window-small)))
+      sym (mod-eq_of_lt (shr_below x n (5 - n) (subst (λ k. x < 2 ^ k) all (front-small b 5 x (omega arith) read))))
       ∙ sym (number-digits n (x / 2 ^ (5 - n))) ∙ ap number (sym (take-digits n 5 x few))
-      ∙ ap (λ s. number (take n s)) (ap (digits 5) read ∙ bits-number 5 (take 5 (drop depth (b ++ zeros 5))) five)
-      ∙ ap number (take-take n 5 (drop depth (b ++ zeros 5)) few)
+      ∙ ap (λ s. number (take n s)) (ap (digits 5) read ∙ bits-number 5 (take 5 (b ++ zeros 5)) (length-front b 5 (omega arith)))
+      ∙ ap number (take-take n 5 (b ++ zeros 5) few)
 
--- a 1 followed by the bits of the string, as the code computes it, is the value bit plus one
-pub value_bit_from_five : (b : List Bool) (len x : ℕ) → len < 5 → len ≤ length b → x ≡ number (take 5 (drop 0 (b ++ zeros 5))) → (32 + x) / 2 ^ (5 - len) ≡ value_bit (take len b) + 1
-value_bit_from_five b len x short l e =
-    let few : len ≤ 5 = omega (arith, short) in
-    let all : 5 ≡ len + (5 - len) = omega (arith, few) in
-    let whole : len - 0 ≡ len = omega arith in
-    ap (λ k. (k + x) / 2 ^ (5 - len)) (ap (λ k. 2 ^ k) all ∙ pow-add 2 len (5 - len))
-    ∙ mul-add-div_right (pow_pos (5 - len)) (2 ^ len) x
-    ∙ ap₂ (λ k m. 2 ^ k + m) (sym (length-take-le len b l)) (upper b 0 x (omega arith) e len few ∙ ap number (subst (λ k. take k (drop 0 (b ++ zeros 5)) ≡ drop 0 (take len b)) whole (all-of-window b (zeros 5) 0 len (omega arith) l)))
-    ∙ sym (value_bit-suc (take len b))
+  -- a 1 followed by the bits of the string, as the code computes it, is the value bit plus one
+  pub value_bit_from_five : (len : ℕ) → len < 5 → len ≤ length b → (32 + x) / 2 ^ (5 - len) ≡ value_bit (take len b) + 1
+  value_bit_from_five len short l =
+      let few : len ≤ 5 = omega (arith, short) in
+      let all : 5 ≡ len + (5 - len) = omega (arith, few) in
+      ap (λ k. (k + x) / 2 ^ (5 - len)) (ap (λ k. 2 ^ k) all ∙ pow-add 2 len (5 - len))
+      ∙ mul-add-div_right (pow_pos (5 - len)) (2 ^ len) x
+      ∙ ap₂ (λ k m. 2 ^ k + m) (sym (length-take-le len b l)) (upper len few ∙ ap number (front-is b (zeros 5) len len (omega arith) l ∙ take-take len len b (omega arith)))
+      ∙ sym (value_bit-suc (take len b))
 
--- the window of five bits is the child bit
-pub child_bit_from_window : (b : List Bool) (depth x : ℕ) → depth + 5 ≤ length b → x ≡ number (take 5 (drop depth (b ++ zeros 5))) → x ≡ number (take 5 (drop depth b))
-child_bit_from_window b depth x h e = e ∙ ap number (window-inside b (zeros 5) depth 5 h)
-
-pub child_bit-small : (b : List Bool) (depth : ℕ) → depth + 5 ≤ length b → number (take 5 (drop depth b)) < 32
-child_bit-small b depth h = number-below 5 (take 5 (drop depth b)) (length-window b depth 5 h)
+  -- the child bit of a string of five bits or more
+  pub child_bit_from_five : (len : ℕ) → 5 ≤ len → len ≤ length b → x ≡ number (take 5 (take len b))
+  child_bit_from_five len more l = read ∙ ap number (front-is b (zeros 5) len 5 more l)
 
 -- ---- one bit more
 

@@ -14,11 +14,8 @@ mod bits;
 mod masks;
 mod order;
 
-pub(crate) use bits::{child_bit_of, first_value_bit};
 pub use bits::{count, has_bit, rank, string_of, with_bit, without_bit};
-pub(crate) use masks::{
-    child_cover_mask, longest_match, match_mask, shortest_match, value_cover_mask,
-};
+pub(crate) use masks::{child_cover_entry, match_entry, value_cover_entry};
 pub use order::{after_child, from_value};
 use order::{not_below, place_at, position_of};
 

@@ -1,9 +1,7 @@
 //! The bits of short strings in a node's two bitmaps, and ranks.
-ghost use Rattle.std.specs.Prelude.{◌≡◌, ℕ, ◌+◌, ◌^◌, ◌<◌, ◌≤◌, List, Bool, take, drop, true, false};
-ghost use Rattle.prefix_trie_bits.specs.Model.Bits.{number, digits};
+ghost use Rattle.std.specs.Prelude.{◌≡◌, ℕ, ◌^◌, ◌<◌, ◌≤◌, List, Bool, true, false};
+ghost use Rattle.prefix_trie_bits.specs.Model.Bits.{digits};
 ghost use Rattle.prefix_trie_bits.specs.Places.{has, value_bit, ones_below, Sets};
-
-use crate::prefix::Key;
 
 /// Returns whether bit `k` of a bitmap is set.
 #[inline]
@@ -57,33 +55,6 @@ pub fn without_bit(bitmap: u32, k: u32) -> u32
     ensures small { bitmap < 2 ^ 31 → result < 2 ^ 31 }
 {
     bitmap & !(1 << k)
-}
-
-/// Returns the value bit of the first `len` bits of a key, at most four.
-#[inline]
-pub(crate) fn first_value_bit<K: Key>(key: K, len: u32) -> u32
-    requires key { K.IsKey key }
-    requires short { len < 5 }
-    requires within { len ≤ K.bit_width }
-    ensures value { result ≡ value_bit (take len (K.bits key)) }
-    ensures small { result < 31 }
-{
-    // A 1 and the bits, without those past `len`, is one more than the value bit.
-    let five = key.window(0, 5);
-    ((32 + five) >> (5 - len)) - 1
-}
-
-/// Returns the child bit, 0 to 31, of a key below a node whose path has `depth` bits.
-///
-/// It is the number of the five bits from `depth` on.
-#[inline]
-pub(crate) fn child_bit_of<K: Key>(key: K, depth: u32) -> u32
-    requires key { K.IsKey key }
-    requires within { depth + 5 ≤ K.bit_width }
-    ensures value { result ≡ number (take 5 (drop depth (K.bits key))) }
-    ensures small { result < 32 }
-{
-    key.window(depth, 5)
 }
 
 /// Returns the length and the number of the string that has a value bit, as `Key::extend` takes them.

@@ -1,105 +1,11 @@
-//! Masks of the strings in a node that begin a key's string, or that it begins.
-ghost use Rattle.std.specs.Prelude.{◌≡◌, ℕ, ◌+◌, ◌^◌, ◌<◌, ◌≤◌, ◌++◌, take, drop, MatchOption};
-ghost use Rattle.prefix_trie_bits.specs.Model.Bits.{number, digits, zeros, begins};
-ghost use Rattle.prefix_trie_bits.specs.Places.{HoldsValues, HoldsChildren, IsLongest, IsShortest, NoneBegins};
-
-use crate::prefix::Key;
-
-/// Returns the value bits of the strings that begin a key's string below a node.
-///
-/// `len` may be past the node, as on a search path. Then all four bits of the node count.
-#[inline]
-pub(crate) fn match_mask<K: Key>(key: K, depth: u32, len: u32) -> u32
-    requires key { K.IsKey key }
-    requires whole { depth ≤ len }
-    requires within { len ≤ K.bit_width }
-    ensures { HoldsValues result (λ s. begins s (drop depth (take len (K.bits key)))) }
-{
-    let (level, pos) = table_place(key, depth, len);
-    match_entry(level, pos)
-}
-
-/// Returns the value bits of the strings that a key's string in its own node begins.
-#[inline]
-pub(crate) fn value_cover_mask<K: Key>(key: K, depth: u32, len: u32) -> u32
-    requires key { K.IsKey key }
-    requires whole { depth ≤ len }
-    requires last { len < depth + 5 }
-    requires within { len ≤ K.bit_width }
-    ensures { HoldsValues result (begins (drop depth (take len (K.bits key)))) }
-{
-    let (level, pos) = table_place(key, depth, len);
-    value_cover_entry(level, pos)
-}
-
-/// Returns the child bits of the strings that a key's string in its own node begins.
-#[inline]
-pub(crate) fn child_cover_mask<K: Key>(key: K, depth: u32, len: u32) -> u32
-    requires key { K.IsKey key }
-    requires whole { depth ≤ len }
-    requires last { len < depth + 5 }
-    requires within { len ≤ K.bit_width }
-    ensures { HoldsChildren result (begins (drop depth (take len (K.bits key)))) }
-{
-    let (level, pos) = table_place(key, depth, len);
-    child_cover_entry(level, pos)
-}
-
-/// Returns the value bit of the longest string in the bitmap that begins a key's string below the node.
-///
-/// A longer string has a higher bit, so this is the highest bit under the match mask.
-#[inline]
-pub(crate) fn longest_match<K: Key>(bitmap: u32, key: K, depth: u32, len: u32) -> Option<u32>
-    requires bitmap { bitmap < 2 ^ 31 }
-    requires key { K.IsKey key }
-    requires whole { depth ≤ len }
-    requires within { len ≤ K.bit_width }
-    ensures { MatchOption result
-        (NoneBegins bitmap (drop depth (take len (K.bits key))))
-        (IsLongest bitmap (drop depth (take len (K.bits key)))) }
-{
-    let matches = bitmap & match_mask(key, depth, len);
-    if matches == 0 {
-        return None;
-    }
-    Some(31 - matches.leading_zeros())
-}
-
-/// Returns the value bit of the shortest string in the bitmap that begins a key's string below the node.
-#[inline]
-pub(crate) fn shortest_match<K: Key>(bitmap: u32, key: K, depth: u32, len: u32) -> Option<u32>
-    requires bitmap { bitmap < 2 ^ 31 }
-    requires key { K.IsKey key }
-    requires whole { depth ≤ len }
-    requires within { len ≤ K.bit_width }
-    ensures { MatchOption result
-        (NoneBegins bitmap (drop depth (take len (K.bits key))))
-        (IsShortest bitmap (drop depth (take len (K.bits key)))) }
-{
-    let matches = bitmap & match_mask(key, depth, len);
-    if matches == 0 {
-        return None;
-    }
-    Some(matches.trailing_zeros())
-}
-
-// Returns the level and the number of the four bits from depth on, where bits past the key's end are 0.
-#[inline]
-fn table_place<K: Key>(key: K, depth: u32, len: u32) -> (u32, u32)
-    requires key { K.IsKey key }
-    requires whole { depth ≤ len }
-    requires within { len ≤ K.bit_width }
-    ensures level { result.0 ≤ 4 }
-    ensures pos { result.1 < 16 }
-    ensures window { result.1 ≡ number (take 4 (drop depth (K.bits key ++ zeros 5))) }
-    ensures string { take result.0 (digits 4 result.1) ≡ take 4 (drop depth (take len (K.bits key))) }
-{
-    ((len - depth).min(4), key.window(depth, 4))
-}
+//! Tables of the strings in a node that begin a bit string, or that it begins.
+ghost use Rattle.std.specs.Prelude.{◌≡◌, ◌+◌, ◌<◌, ◌≤◌, take};
+ghost use Rattle.prefix_trie_bits.specs.Model.Bits.{digits, begins};
+ghost use Rattle.prefix_trie_bits.specs.Places.{HoldsValues, HoldsChildren};
 
 // Returns the value bits of all strings that begin the first level bits of pos.
 #[inline]
-fn match_entry(level: u32, pos: u32) -> u32
+pub(crate) fn match_entry(level: u32, pos: u32) -> u32
     requires level { level ≤ 4 }
     requires pos { pos < 16 }
     ensures { HoldsValues result (λ s. begins s (take level (digits 4 pos))) }
@@ -109,7 +15,7 @@ fn match_entry(level: u32, pos: u32) -> u32
 
 // Returns the value bits of all strings of at most four bits that the first level bits of pos begin.
 #[inline]
-fn value_cover_entry(level: u32, pos: u32) -> u32
+pub(crate) fn value_cover_entry(level: u32, pos: u32) -> u32
     requires level { level ≤ 4 }
     requires pos { pos < 16 }
     ensures { HoldsValues result (begins (take level (digits 4 pos))) }
@@ -119,7 +25,7 @@ fn value_cover_entry(level: u32, pos: u32) -> u32
 
 // Returns the child bits of all strings of five bits that the first level bits of pos begin.
 #[inline]
-fn child_cover_entry(level: u32, pos: u32) -> u32
+pub(crate) fn child_cover_entry(level: u32, pos: u32) -> u32
     requires level { level ≤ 4 }
     requires pos { pos < 16 }
     ensures { HoldsChildren result (begins (take level (digits 4 pos))) }

@@ -40,12 +40,12 @@ impl<P: Prefix, T: Drop, V: Tick, F: FnMut(&P, &T) -> bool + Drop> Keep<P::R, T,
 
     ghost refuses = { λ f k v f'. CalledAtEntry F.FnMut P.back f k v false f' };
 
-    fn keeps(&mut self, key: P::R, len: u32, value: &T) -> bool {
-        let prefix = rebuilt::<P>(BitString::new(key, len));
+    fn keeps(&mut self, path: &BitString<P::R>, value: &T) -> bool {
+        let prefix = rebuilt::<P>(path.again());
         (self.test)(&prefix, value)
     }
 
-    fn taken(&mut self, _key: P::R, _len: u32, _value: T, _counter: &mut V) {}
+    fn taken(&mut self, _path: &BitString<P::R>, _value: T, _counter: &mut V) {}
 }
 
 impl<P: Prefix, T: Drop, A: Allocator> PrefixMap<P, T, A> {

@@ -32,11 +32,11 @@ impl<K: Key, T: Drop, V: Tick> Keep<K, T, V> for KeepNothing {
 
     ghost refuses = { λ _ _ _ _. ⊤ };
 
-    fn keeps(&mut self, _key: K, _len: u32, _value: &T) -> bool {
+    fn keeps(&mut self, _path: &BitString<K>, _value: &T) -> bool {
         false
     }
 
-    fn taken(&mut self, _key: K, _len: u32, _value: T, _counter: &mut V) {}
+    fn taken(&mut self, _path: &BitString<K>, _value: T, _counter: &mut V) {}
 }
 
 /// Removes what begins with a bit string, at its own node and below it, and returns the node as it is then.

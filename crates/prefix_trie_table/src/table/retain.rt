@@ -1,13 +1,10 @@
 //! Calling a test with entries, and removing those for which it returns `false`.
-ghost use Rattle.std.specs.Prelude.{◌≡◌, ℕ, ◌+◌, ◌-◌, ◌*◌, ◌/◌, ◌<◌, ◌≤◌, [], ◌∷◌, ◌++◌, List, Bool, true, false, Some, All, take, length, ⊤};
-ghost use Rattle.prefix_trie_bits.specs.Model.Bits.{zeros};
+ghost use Rattle.std.specs.Prelude.{◌≡◌, ◌+◌, ◌/◌, ◌<◌, ◌≤◌, [], ◌∷◌, List, Bool, true, false, Some, All, take, length, ⊤};
 ghost use Rattle.prefix_trie_bits.specs.Places.{place_of, value_bit, has};
 ghost use Rattle.prefix_trie_bits.specs.Walks.{to_come};
-ghost use Rattle.prefix_trie_bits.specs.Calls.Retaining.{RetainsEntries, CallableOnEachEntry};
+ghost use Rattle.prefix_trie_bits.specs.Calls.Retaining.{CallableOnEachEntry};
 ghost use Rattle.prefix_trie_bits.specs.Model.Selections.{listing};
 ghost use Rattle.prefix_trie_bits.specs.Model.Step.{State};
-ghost use Rattle.prefix_trie_table.specs.Digits.{chunks_of};
-ghost use Rattle.prefix_trie_table.specs.Forest.{read};
 ghost use Rattle.prefix_trie_table.specs.Walking.Walks.{IsPlaceOf};
 ghost use Rattle.prefix_trie_table.specs.Retaining.{HasPlace, IsSite, PreservesBelow, RetainsIn, RetainsAll, MayAskAt};
 ghost use Rattle.prefix_trie_table.specs.Tables.{IsTrie};
@@ -17,7 +14,7 @@ use crate::allocator::node::{Node, NodeSlot, ROOT};
 use crate::allocator::nodes::{NodeAllocator, Tick};
 use crate::table::removal::{drop_child, is_bare, take_value};
 use prefix_trie_bits::node::{Place, Places, string_of};
-use prefix_trie_bits::prefix::Key;
+use prefix_trie_bits::prefix::{BitString, Key};
 use std::alloc::{AllocError, Allocator};
 
 /// A test that is called with entries, and is given the values of those that it removes.
@@ -32,25 +29,16 @@ pub trait Keep<K: Key, T, V: Tick>: Sized + Drop {
     // called with this key and this value, the test may return `false`, and be left as this until it is given the value
     ghost refuses: { Self → List Bool → T → Self → Type 0 };
 
-    /// Returns whether the entry of a key and its value stays.
-    ///
-    /// The key is the first `len` bits; the bits past them are 0.
-    fn keeps(&mut self, key: K, len: u32, value: &T) -> bool
-        requires key { K.IsKey key }
-        requires within { len ≤ K.bit_width }
-        requires filled { K.bits key ≡ take len (K.bits key) ++ zeros (K.bit_width - len) }
-        requires accepts { accepts self.old (take len (K.bits key)) value.now }
-        ensures yes { result ≡ true → asks self.old (take len (K.bits key)) value.now true self.new }
-        ensures no { result ≡ false → refuses self.old (take len (K.bits key)) value.now self.new };
+    /// Returns whether the entry of a bit string and its value stays.
+    fn keeps(&mut self, path: &BitString<K>, value: &T) -> bool
+        requires { accepts self.old path.now value.now }
+        ensures yes { result ≡ true → asks self.old path.now value.now true self.new }
+        ensures no { result ≡ false → refuses self.old path.now value.now self.new };
 
     /// Takes the value of an entry for which `keeps` returned `false`. `counter` counts the nodes that this reads.
-    fn taken(&mut self, key: K, len: u32, value: T, counter: &mut V)
-        requires key { K.IsKey key }
-        requires within { len ≤ K.bit_width }
-        requires filled { K.bits key ≡ take len (K.bits key) ++ zeros (K.bit_width - len) }
-        requires refused { (before : Self) × refuses before (take len (K.bits key)) value self.old }
-        ensures { (before : Self) → refuses before (take len (K.bits key)) value self.old
-            → asks before (take len (K.bits key)) value false self.new };
+    fn taken(&mut self, path: &BitString<K>, value: T, counter: &mut V)
+        requires { (before : Self) × refuses before path.now value self.old }
+        ensures { (before : Self) → refuses before path.now value self.old → asks before path.now value false self.new };
 }
 
 /// The position of a node: its slot in the array, and its path, the first `depth` bits of a key.
@@ -104,7 +92,8 @@ fn retain_value<K: Key, T: Drop, A: Allocator, V: Tick, F: Keep<K, T, V>>(
         unreachable!();
     };
     let key = site.key.extend(site.depth, n, tail);
-    if keep.keeps(key, site.depth + n, value) {
+    let path = BitString::new(key, site.depth + n);
+    if keep.keeps(&path, value) {
         return node;
     }
     let (found, left) = take_value(nodes, cells, site.slot, node, bit);
@@ -112,7 +101,7 @@ fn retain_value<K: Key, T: Drop, A: Allocator, V: Tick, F: Keep<K, T, V>>(
     let Some(value) = found else {
         unreachable!();
     };
-    keep.taken(key, site.depth + n, value, counter);
+    keep.taken(&path, value, counter);
     left
 }
 

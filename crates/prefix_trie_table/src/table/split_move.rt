@@ -42,11 +42,11 @@ impl<K: Key, T: Drop, A: Allocator, V: Tick> Keep<K, T, V> for Seats<K, T, A, V>
 
     ghost refuses = { λ f q x g. (g ≡ f) × AwaitsNext K.IsKey K.bits K.bit_width f.nodes f.cells f.key f.stack.items q x };
 
-    fn keeps(&mut self, _key: K, _len: u32, _value: &T) -> bool {
+    fn keeps(&mut self, _path: &BitString<K>, _value: &T) -> bool {
         false
     }
 
-    fn taken(&mut self, _key: K, _len: u32, value: T, counter: &mut V) {
+    fn taken(&mut self, _path: &BitString<K>, value: T, counter: &mut V) {
         let Some((_, _, seat)) = advance::<K, A, V, T>(
             &self.nodes,
             &mut self.stack,
