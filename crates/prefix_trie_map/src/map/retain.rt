@@ -40,6 +40,7 @@ impl<P: Prefix, T: Drop, V: Tick, F: FnMut(&P, &T) -> bool + Drop> Keep<P::R, T,
 
     ghost refuses = { λ f k v f'. CalledAtEntry F.FnMut P.back f k v false f' };
 
+    #[inline]
     fn keeps(&mut self, path: &BitString<P::R>, value: &T) -> bool {
         let prefix = rebuilt::<P>(path.again());
         (self.test)(&prefix, value)
