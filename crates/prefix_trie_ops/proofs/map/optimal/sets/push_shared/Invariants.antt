@@ -1,5 +1,5 @@
 use Rattle.std.proofs.Common.{◌-◌, ◌+◌}
-use Rattle.prefix_trie_ops.proofs.map.optimal.spans.push_shared.Given as goal
+use Rattle.prefix_trie_ops.proofs.map.optimal.sets.push_shared.Given as goal
 
 abbrev pub decreases-loop-i : goal.decreases-loop-i
 decreases-loop-i g l = (l.left.end - l.i) + (l.right.end - l.j)
