@@ -1,4 +1,4 @@
--- The prefixes of a walk that has read one item ahead fit: for the steps of `union` and `aggregate`.
+-- The prefixes of a walk that has read one item ahead fit: for the steps of `union`.
 use Rattle.std.proofs.Common.{◌≡◌, List, Option, None, Some, All, Bor, subst}
 use Rattle.std.proofs.lemmas.List.Elements.{All-head, All-nil, All-tail}
 use Rattle.std.specs.Map.Iter.{TakesFirst}

@@ -33,11 +33,6 @@ module _ {T : Type 0} where
     pub tidy : (r : List Bool) → is_repeated_along eq (get after) held s r ≡ false
 
 module _ {P T : Type 0} (path : P → List Bool) where
-  -- whether the prefix of the first item has this path
-  abbrev pub is_first_at : List Bool → List (P × T) → Bool
-  is_first_at s [] = false
-  is_first_at s (e ∷ es) = is_eq (listing_cmp s (path e.0))
-
   -- the value of the first item, if its prefix has this path
   abbrev pub first_value_at : List Bool → List (P × T) → Option T
   first_value_at s [] = None

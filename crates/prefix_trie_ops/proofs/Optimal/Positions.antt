@@ -1,45 +1,48 @@
--- What the tests on the entry read ahead say about the walk, and what is left after it is taken: for `aggregate`.
-use Rattle.std.proofs.Common.{◌≡◌, ◌∙◌, ◌+◌, ◌++◌, ◌&&◌, ℕ, nat_lt, Bool, true, false, cond, List, [], ◌∷◌, length, take, Option, Some, None, Bor, is_eq, ap, sym, refl, length-append}
+-- What the tests on the next entry say about the walk, and what is left after it is taken: for `aggregate`.
+use Rattle.std.proofs.Common.{◌≡◌, ◌∙◌, ◌+◌, ◌<◌, ◌++◌, ◌&&◌, nat_lt, Bool, true, false, true≢false, cond, List, [], ◌∷◌, ℕ, length, take, Some, None, Less, Equal, Greater, is_eq, ap, sym, subst, refl, arith, length-append}
 use Rattle.std.proofs.lemmas.List.{take_at}
+use Rattle.prefix_trie_bits.specs.Begins.{begins-refl}
 use Rattle.prefix_trie_bits.specs.Model.Bits.{digits}
+use Rattle.prefix_trie_bits.specs.Order.{listing-refl, listing_same}
 use Rattle.prefix_trie.specs.Words.{begins, listing_cmp}
-use Rattle.prefix_trie_ops.specs.Merging.{ahead}
-use Rattle.prefix_trie_ops.specs.Optimal.{first_value_at, is_first_at, is_first_below, items_after}
+use Rattle.prefix_trie_ops.specs.Optimal.{first_value_at, is_first_below, items_after}
+use Rattle.prefix_trie_ops.proofs.Covers.{no_shorter}
 
-module _ {P T' : Type 0} (path : P → List Bool) (s : List Bool) where
-  pub at_some : (o : Option (P × Bor T')) (walk : List (P × T')) (x : P × Bor T') (r : Bool) → o ≡ Some x → r ≡ is_eq (listing_cmp s (path x.0)) → r ≡ is_first_at path s (ahead o walk)
-  at_some o walk x r is h = h ∙ sym (ap (λ y. is_first_at path s (ahead y walk)) is)
+-- a string that s does not begin is not s
+pub not_begun : (s t : List Bool) → begins s t ≡ false → is_eq (listing_cmp s t) ≡ false
+not_begun s t off = elim (listing_cmp s t) as (λ o. listing_cmp s t ≡ o → is_eq o ≡ false) [
+  | Less ↦ λ _. refl
+  | Equal ↦ λ l. absurd (true≢false (sym (begins-refl s) ∙ ap (begins s) (listing_same s t l) ∙ off))
+  | Greater ↦ λ _. refl
+] refl
 
-  pub at_none : (o : Option (P × Bor T')) (walk : List (P × T')) → o ≡ None → false ≡ is_first_at path s (ahead o walk)
-  at_none o walk is = sym (ap (λ y. is_first_at path s (ahead y walk)) is)
+-- a longer string is not s
+pub longer : (s t : List Bool) → length s < length t → is_eq (listing_cmp s t) ≡ false
+longer s t less = elim (listing_cmp s t) as (λ o. listing_cmp s t ≡ o → is_eq o ≡ false) [
+  | Less ↦ λ _. refl
+  | Equal ↦ λ l. let same = ap length (listing_same s t l) in absurd (omega arith)
+  | Greater ↦ λ _. refl
+] refl
 
-  pub below_some : (o : Option (P × Bor T')) (walk : List (P × T')) (x : P × Bor T') (n k : ℕ) (r : Bool) → o ≡ Some x → length s ≡ n → length (path x.0) ≡ k
-      → r ≡ (nat_lt n k && begins s (path x.0)) → r ≡ is_first_below path s (ahead o walk)
-  below_some o walk x n k r is l m h =
-      h ∙ ap (λ i. nat_lt i k && begins s (path x.0)) (sym l) ∙ ap (λ i. nat_lt (length s) i && begins s (path x.0)) (sym m) ∙ sym (ap (λ y. is_first_below path s (ahead y walk)) is)
+-- a string that s begins, and that is not longer, is s
+pub begun : (s t : List Bool) → begins s t ≡ true → nat_lt (length s) (length t) ≡ false → is_eq (listing_cmp s t) ≡ true
+begun s t b n = subst (λ x. is_eq (listing_cmp s x) ≡ true) (no_shorter s t b n) (ap is_eq (listing-refl s))
 
-  pub below_none : (o : Option (P × Bor T')) (walk : List (P × T')) → o ≡ None → false ≡ is_first_below path s (ahead o walk)
-  below_none o walk is = sym (ap (λ y. is_first_below path s (ahead y walk)) is)
+module _ {P T' : Type 0} (path : P → List Bool) (s : List Bool) (es rest : List (P × T')) (e : P × T') (is : es ≡ e ∷ rest) where
+  pub other_value : is_eq (listing_cmp s (path e.0)) ≡ false → first_value_at path s es ≡ None
+  other_value off = ap (first_value_at path s) is ∙ ap (λ b. cond b (Some e.1) None) off
 
-  pub other_value : (es : List (P × T')) → is_first_at path s es ≡ false → first_value_at path s es ≡ None
-  other_value [] h = refl
-  other_value (e ∷ es) h = ap (λ b. cond b (Some e.1) None) h
+  pub other_items : is_eq (listing_cmp s (path e.0)) ≡ false → items_after path s es ≡ es
+  other_items off = ap (items_after path s) is ∙ ap (λ b. cond b rest (e ∷ rest)) off ∙ sym is
 
-  pub other_items : (es : List (P × T')) → is_first_at path s es ≡ false → items_after path s es ≡ es
-  other_items [] h = refl
-  other_items (e ∷ es) h = ap (λ b. cond b es (e ∷ es)) h
+  pub taken_value : is_eq (listing_cmp s (path e.0)) ≡ true → first_value_at path s es ≡ Some e.1
+  taken_value at = ap (first_value_at path s) is ∙ ap (λ b. cond b (Some e.1) None) at
 
-  pub taken_value : (es rest : List (P × T')) (e : P × T') → es ≡ e ∷ rest → is_first_at path s es ≡ true → first_value_at path s es ≡ Some e.1
-  taken_value es rest e is at = ap (first_value_at path s) is ∙ ap (λ b. cond b (Some e.1) None) (sym (ap (is_first_at path s) is) ∙ at)
+  pub taken_items : is_eq (listing_cmp s (path e.0)) ≡ true → items_after path s es ≡ rest
+  taken_items at = ap (items_after path s) is ∙ ap (λ b. cond b rest (e ∷ rest)) at
 
-  pub taken_items : (es rest : List (P × T')) (e : P × T') → es ≡ e ∷ rest → is_first_at path s es ≡ true → items_after path s es ≡ rest
-  taken_items es rest e is at = ap (items_after path s) is ∙ ap (λ b. cond b rest (e ∷ rest)) (sym (ap (is_first_at path s) is) ∙ at)
-
-  pub end_value : (es : List (P × T')) → es ≡ [] → first_value_at path s es ≡ None
-  end_value es is = ap (first_value_at path s) is
-
-  pub end_items : (es : List (P × T')) → es ≡ [] → items_after path s es ≡ []
-  end_items es is = ap (items_after path s) is
+  pub is_below : nat_lt (length s) (length (path e.0)) ≡ true → begins s (path e.0) ≡ true → is_first_below path s es ≡ true
+  is_below l b = ap (is_first_below path s) is ∙ ap (λ n. n && begins s (path e.0)) l ∙ b
 
 -- the path of a half is the path with one bit more
 pub half_path : (path whole : List Bool) (longer bits rest : List Bool) (n : ℕ) (tail : List Bool) → path ≡ take n whole → length path ≡ n → length tail ≡ 1

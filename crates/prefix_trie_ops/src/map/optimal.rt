@@ -4,13 +4,14 @@ ghost use Rattle.std.specs.FinMap.{len};
 ghost use Rattle.prefix_trie_ops.specs.Values.{is_redundant, value_of};
 
 mod choosing;
+mod entries;
 mod placing;
 mod position;
-mod spans;
+mod sets;
 
-use crate::ahead::Ahead;
 use crate::map::aggregate_consistent;
 use choosing::choices_of;
+use entries::{Upcoming, copied};
 use placing::{Stop, place};
 use prefix_trie::laws::{lookup_laws, stored_laws};
 use prefix_trie::{Key, Prefix, PrefixMap, Refusal};
@@ -28,8 +29,8 @@ use std::alloc::Allocator;
 /// the entries of `aggregate_consistent`.
 ///
 /// The time grows with the number of bits of the stored prefixes; bits that prefixes share count once. The new map is
-/// built beside the old one. Until then, the call also needs memory for a few values and numbers for each of these
-/// bits.
+/// built beside the old one. Until then, the call also needs memory for a copy of the entries, and for a few values and
+/// numbers for each of these bits.
 ///
 /// # Errors
 ///
@@ -105,10 +106,11 @@ fn rebuilt<P: Prefix, T: Copy + Ord, A: Allocator + Clone, B: Allocator>(
     // The proof learns from it that no key is longer than the width.
     let _ = table.len();
     let root = P::from_repr_len(P::R::zero(), 0);
-    let mut choices = choices_of(table, &root, alloc)?;
+    let entries = copied(table, alloc)?;
+    let mut choices = choices_of(Upcoming::of(entries.as_slice()), &root, alloc)?;
     let mut made = table.clone()?;
     made.clear();
-    let mut walk = Ahead::of(table);
+    let mut walk = Upcoming::of(entries.as_slice());
     place(&mut walk, &mut choices, &mut made, &root, None, None)?;
     Ok(made)
 }

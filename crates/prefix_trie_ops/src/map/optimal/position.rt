@@ -1,58 +1,56 @@
 //! The position of a walk relative to a prefix, and the two halves of a prefix.
 ghost use Rattle.std.specs.Prelude.{◌≡◌, ◌+◌, ◌<◌, ◌++◌, true};
 ghost use Rattle.prefix_trie.specs.Words.{digits};
-ghost use Rattle.prefix_trie_ops.specs.Optimal.{first_value_at, is_first_at, is_first_below, items_after};
+ghost use Rattle.prefix_trie_ops.specs.Optimal.{first_value_at, is_first_below, items_after};
 
-use crate::ahead::Ahead;
-use crate::order::listing_order;
+use super::entries::Upcoming;
 use prefix_trie::laws::path_laws;
 use prefix_trie::{Key, Prefix};
-use std::alloc::Allocator;
 
-/// Returns the value of the next entry if its prefix has the path of this one, and moves past it.
-pub(super) fn take_at<P: Prefix, T: Copy, A: Allocator>(
-    walk: &mut Ahead<'_, P, T, A>,
+/// Moves past the next entry if its prefix has the path of this one, and returns its value.
+///
+/// Returns too whether the prefix of the entry that is next then is longer than this one and within it.
+#[inline]
+pub(super) fn take_at<P: Prefix, T: Copy>(
+    walk: &mut Upcoming<'_, P, T>,
     at: &P,
-) -> Option<T>
+) -> (Option<T>, bool)
     requires { P.IsFitting at.now }
-    ensures value { result ≡ first_value_at P.path (P.path at.now) walk.old }
+    ensures value { result.0 ≡ first_value_at P.path (P.path at.now) walk.old }
     ensures items { walk.new ≡ items_after P.path (P.path at.now) walk.old }
+    ensures below { result.1 ≡ is_first_below P.path (P.path at.now) walk.new }
+    ensures short { result.1 ≡ true → P.len_of at.now < P.R.bit_width }
 {
-    if !is_next_at(walk, at) {
-        return None;
+    path_laws::<P>();
+    let Some(((prefix, value), rest)) = walk.left.split_first() else {
+        return (None, false);
+    };
+    if !at.contains(prefix) {
+        return (None, false);
     }
-    let (_, value) = walk.take()?;
-    Some(*value)
-}
-
-/// Returns whether the next entry's prefix has the path of this one.
-fn is_next_at<P: Prefix, T: Copy, A: Allocator>(walk: &Ahead<'_, P, T, A>, at: &P) -> bool
-    requires { P.IsFitting at.now }
-    ensures { result ≡ is_first_at P.path (P.path at.now) walk.now }
-{
-    match &walk.next {
-        Some((prefix, _)) => listing_order(at, prefix).is_eq(),
-        None => false,
+    if at.prefix_len() < prefix.prefix_len() {
+        return (None, true);
     }
+    walk.left = rest;
+    (Some(*value), is_next_below(walk, at))
 }
 
 /// Returns whether the next entry's prefix is longer than this one and within it.
-pub(super) fn is_next_below<P: Prefix, T: Copy, A: Allocator>(
-    walk: &Ahead<'_, P, T, A>,
-    at: &P,
-) -> bool
+#[inline]
+fn is_next_below<P: Prefix, T: Copy>(walk: &Upcoming<'_, P, T>, at: &P) -> bool
     requires { P.IsFitting at.now }
     ensures below { result ≡ is_first_below P.path (P.path at.now) walk.now }
     ensures short { result ≡ true → P.len_of at.now < P.R.bit_width }
 {
     path_laws::<P>();
-    match &walk.next {
+    match walk.left.first() {
         Some((prefix, _)) => at.prefix_len() < prefix.prefix_len() && at.contains(prefix),
         None => false,
     }
 }
 
 /// Returns the prefix that is one bit longer: with 0 the lower half, with 1 the upper half.
+#[inline]
 pub(super) fn half<P: Prefix>(prefix: &P, bit: u32) -> P
     requires fits { P.IsFitting prefix.now }
     requires short { P.len_of prefix.now < P.R.bit_width }

@@ -23,7 +23,7 @@ returns-clause-values g c exact q long =
     let is : Rebuilds g.T.PartialEq.eq width m [] None None c.clear.new.self.entries made =
     subst (λ t. Rebuilds g.T.PartialEq.eq width m t None None c.clear.new.self.entries made) root
     (c.in_ok-place.ensures.rebuilds m c.len.ensures.whole.is_map.keys_within
-    (c.of-walk.ensures ∙ ap (prefix_pairs back) (all_from_root m) ∙ ap (λ t. prefix_pairs back (listing_from m t)) (sym root))
+    (c.of-walk.ensures ∙ c.as_slice-2.ensures.value ∙ c.in_ok-entries.ensures.items ∙ ap (prefix_pairs back) (all_from_root m) ∙ ap (λ t. prefix_pairs back (listing_from m t)) (sym root))
     (λ t _. ap (λ x. get x t) c.clear.ensures.entries ∙ c.stored_laws.ensures.nothing t) exact) in
     sym (along_is_value c.lookup_laws.ensures made q) ∙ is.values q (omega (arith, long)) ∙ along_is_value c.lookup_laws.ensures m q
 
@@ -38,6 +38,6 @@ returns-clause-tidy g c exact s =
     let is : Rebuilds g.T.PartialEq.eq width m [] None None c.clear.new.self.entries made =
     subst (λ t. Rebuilds g.T.PartialEq.eq width m t None None c.clear.new.self.entries made) root
     (c.in_ok-place.ensures.rebuilds m c.len.ensures.whole.is_map.keys_within
-    (c.of-walk.ensures ∙ ap (prefix_pairs back) (all_from_root m) ∙ ap (λ t. prefix_pairs back (listing_from m t)) (sym root))
+    (c.of-walk.ensures ∙ c.as_slice-2.ensures.value ∙ c.in_ok-entries.ensures.items ∙ ap (prefix_pairs back) (all_from_root m) ∙ ap (λ t. prefix_pairs back (listing_from m t)) (sym root))
     (λ t _. ap (λ x. get x t) c.clear.ensures.entries ∙ c.stored_laws.ensures.nothing t) exact) in
     sym (along_is_redundant c.lookup_laws.ensures g.T.PartialEq.eq made s) ∙ is.tidy s
