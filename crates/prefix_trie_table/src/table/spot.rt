@@ -1,5 +1,5 @@
 //! A spot: a node and which of its places are still to come in a walk.
-ghost use Rattle.std.specs.Prelude.{◌≡◌, ℕ, ◌+◌, ◌<◌, ◌≤◌, [], ◌∷◌, ◌++◌, List, false, Some, None, All, length, slice_index_or};
+ghost use Rattle.std.specs.Prelude.{◌≡◌, ◌+◌, ◌<◌, ◌≤◌, false, Some, None, All, length, slice_index_or};
 ghost use Rattle.prefix_trie_bits.specs.Places.{places};
 ghost use Rattle.prefix_trie_bits.specs.Walks.{to_come};
 ghost use Rattle.prefix_trie_table.specs.Bitmaps.{has_bit as is_set};

@@ -168,7 +168,7 @@ pub fn advance<K: Key, A: Allocator, V: Tick, T: Drop>(
     None
 }
 
-/// Takes the next place of the last spot, in the stack itself: a copy of the spot would cost more than the step.
+/// Takes the next place of the last spot. It changes the spot in the stack, because a copy takes longer.
 #[inline]
 fn next_at_last<K: Key, A: Allocator, V: Tick, T: Drop>(
     nodes: &NodeAllocator<A, V>,
