@@ -104,7 +104,7 @@ module _ (width : ℕ) (nodes : List Node) (search_path path : List Bool) (old n
   spot_left : IsSpot width nodes search_path skips.now
   spot_left =
       let s = skips.skips in
-      spot_as spot s.depth_is spot.long (ap (λ d. read nodes (chunks_of (take d search_path))) s.depth_is ∙ spot.is_there ∙ ap Some (sym s.node_is))
+      spot_as spot s.depth_is spot.long (ap (λ d. read nodes (chunks_of (take d search_path))) s.depth_is ∙ spot.is_there) s.node_is
       (subst (λ n. All (IsPlaceOf n) (to_come skips.now.places)) (sym s.node_is)
       (subst (All (IsPlaceOf skips.was.node)) (sym s.left)
       (All-filter (λ u. not (begins (drop skips.was.depth path) u)) (IsPlaceOf skips.was.node) (to_come skips.was.places) spot.each)))

@@ -4,6 +4,7 @@ use Rattle.std.specs.List.{All}
 use Rattle.std.proofs.lemmas.Bool.{lt-ltb}
 use Rattle.std.proofs.lemmas.List.{length-take-le}
 use Rattle.prefix_trie_bits.specs.declared.node.Place.TheVariants.{Child as ChildPlace}
+use Rattle.prefix_trie_table.specs.Blocks.Cells.{without_sizes}
 use Rattle.prefix_trie_table.specs.Walking.Walks.{EndsAt, slot_of}
 use Rattle.prefix_trie_table.proofs.Walk.Stacks.{others_after, spot_as}
 use Rattle.prefix_trie_table.proofs.Strings.Plain.{whole_levels}
@@ -69,11 +70,11 @@ module _ (width : ℕ) (v : Store Node) (search_path : List Bool) (p : Spot) (at
     abbrev after : Spot
     after = record p { places = later }
 
-    here : IsPlaceOf p.node s
-    here = All-head (IsPlaceOf p.node) s (to_come later) (subst (All (IsPlaceOf p.node)) first at.each)
+    here : IsPlaceOf at.node s
+    here = subst (λ n. IsPlaceOf n s) at.node_is (All-head (IsPlaceOf p.node) s (to_come later) (subst (All (IsPlaceOf p.node)) first at.each))
 
     pub goes_on : IsSpot width v.slots search_path (record p { places = later })
-    goes_on = spot_as at refl at.long at.is_there (All-tail (IsPlaceOf p.node) s (to_come later) (subst (All (IsPlaceOf p.node)) first at.each))
+    goes_on = spot_as at refl at.long at.is_there refl (All-tail (IsPlaceOf p.node) s (to_come later) (subst (All (IsPlaceOf p.node)) first at.each))
 
     weight_is : weight p ≡ 2 ^ (2 * (130 - p.depth)) + weight after
     weight_is =
@@ -90,12 +91,12 @@ module _ (width : ℕ) (v : Store Node) (search_path : List Bool) (p : Spot) (at
 
       -- the next place is that of a value
       module _ (short : length s ≤ 4) where
-        set : has p.node.value_bitmap (value_bit s) ≡ true
-        set = sym (is_in-value p.node.value_bitmap p.node.child_bitmap s (omega arith)) ∙ here.1
+        set : has at.node.value_bitmap (value_bit s) ≡ true
+        set = sym (is_in-value at.node.value_bitmap at.node.child_bitmap s (omega arith)) ∙ here.1
 
         pub value_space : p.depth + length s ≤ width
         value_space =
-            let h = value_fits width v t tree (take p.depth search_path) p.node whole at.is_there s short set in omega (arith, h, string-length)
+            let h = value_fits width v t tree (take p.depth search_path) at.node whole at.is_there s short set in omega (arith, h, string-length)
 
         module _ {K : Type 0} (IsKey : K → Type 0) (bits : K → List Bool) (key : K) (is_key : IsKey key) (n x : ℕ) (is : s ≡ digits n x)
             (extended : bits key ≡ take p.depth search_path ++ digits n x ++ zeros (width - (p.depth + n))) where
@@ -124,19 +125,22 @@ module _ (width : ℕ) (v : Store Node) (search_path : List Bool) (p : Spot) (at
 
           -- what the step gives
           module _ (seat : Seat) (seat_is : seat ≡ value_seat p.node (value_bit s)) where
+            own_seat : seat ≡ value_seat at.node (value_bit s)
+            own_seat = seat_is ∙ ap (λ n. value_seat n (value_bit s)) at.node_is
+
             pub gives_value : GivesSeat IsKey bits width t key (p.depth + n) seat (still t.shape.entries search_path p) (still t.shape.entries search_path after)
             gives_value =
-                let x = stored_value width v t tree (take p.depth search_path) p.node whole at.is_there s short set in
+                let x = stored_value width v t tree (take p.depth search_path) at.node whole at.is_there s short set in
                 record {
                   value = x;
-                  is_there = subst (λ k. slot_of k < length t.cells.slots) (sym seat_is) (value_inside width v t tree (take p.depth search_path) p.node whole at.is_there s short set);
-                  reads = ap (λ k. get_or t.cells.slots (slot_of k) None) seat_is ∙ value_read width v t tree (take p.depth search_path) p.node whole at.is_there s short set;
+                  is_there = subst (λ k. slot_of k < length t.cells.slots) (sym own_seat) (value_inside width v t tree (take p.depth search_path) at.node whole at.is_there s short set);
+                  reads = ap (λ k. get_or t.cells.slots (slot_of k) None) own_seat ∙ value_read width v t tree (take p.depth search_path) at.node whole at.is_there s short set;
                   gives = record {
                     is_key = is_key;
                     short = fits;
                     first =
                         still_is
-                        ∙ ap (λ es. es ++ still t.shape.entries search_path after) (value_listed width v t tree (take p.depth search_path) p.node whole at.is_there s short set)
+                        ∙ ap (λ es. es ++ still t.shape.entries search_path after) (value_listed width v t tree (take p.depth search_path) at.node whole at.is_there s short set)
                         ∙ ap (λ k. (k, x) ∷ still t.shape.entries search_path after) (sym taken);
                     filled = filled;
                   };
@@ -145,17 +149,17 @@ module _ (width : ℕ) (v : Store Node) (search_path : List Bool) (p : Spot) (at
             -- where the seat is that of its key
             pub value_seated : seat_of v.slots (take (p.depth + n) (bits key)) ≡ Some seat
             value_seated =
-                ap (seat_of v.slots) taken ∙ seat_below v.slots at.level (take p.depth search_path) s p.node (string-length ∙ at.depth_is) short at.is_there set
-                ∙ ap Some (sym seat_is)
+                ap (seat_of v.slots) taken ∙ seat_below v.slots at.level (take p.depth search_path) s at.node (string-length ∙ at.depth_is) short at.is_there set
+                ∙ ap Some (sym own_seat)
 
       -- the next place is that of a child
       module _ (five : length s ≡ 5) where
-        bit_set : has p.node.child_bitmap (number s) ≡ true
-        bit_set = sym (is_in-child p.node.value_bitmap p.node.child_bitmap s five) ∙ here.1
+        bit_set : has at.node.child_bitmap (number s) ≡ true
+        bit_set = sym (is_in-child at.node.value_bitmap at.node.child_bitmap s five) ∙ here.1
 
         pub child_space : p.depth + 5 ≤ width
         child_space =
-            let h = child_fits width v t tree (take p.depth search_path) p.node whole at.is_there s five bit_set in omega (arith, h, string-length)
+            let h = child_fits width v t tree (take p.depth search_path) at.node whole at.is_there s five bit_set in omega (arith, h, string-length)
 
         -- which is passed
         pub child_passed : IsStrictlySortedBy listing_cmp (to_come p.places) → (b : ℕ) → b ≡ number s → (key rest : List Bool) →
@@ -167,20 +171,20 @@ module _ (width : ℕ) (v : Store Node) (search_path : List Bool) (p : Spot) (at
             subst (λ c. All (IsOther c) (to_come later)) (sym child) (others_after s (to_come later) (subst (IsStrictlySortedBy listing_cmp) first sorted).0)
 
         module _ (b slot : ℕ) (b_is : b ≡ number s) (slot_is : slot ≡ child_slot p.node b) where
-          own_slot : slot ≡ child_slot p.node (number s)
-          own_slot = slot_is ∙ ap (child_slot p.node) b_is
+          own_slot : slot ≡ child_slot at.node (number s)
+          own_slot = slot_is ∙ ap (λ n. child_slot n b) at.node_is ∙ ap (child_slot at.node) b_is
 
           pub child_here : (slot < length v.slots) × (has_bit (node_at v.slots slot).value_bitmap 31 ≡ false)
           child_here =
               subst (λ k. (k < length v.slots) × (has_bit (node_at v.slots k).value_bitmap 31 ≡ false)) (sym own_slot) (
-                child_inside width v t tree (take p.depth search_path) p.node whole at.is_there s five bit_set,
-                child_few width v t tree (take p.depth search_path) p.node whole at.is_there s five bit_set,
+                child_inside width v t tree (take p.depth search_path) at.node whole at.is_there s five bit_set,
+                child_few width v t tree (take p.depth search_path) at.node whole at.is_there s five bit_set,
               )
 
           -- the child, with all its places
           module _ (below : List Bool) (c : Spot) (reach : length below ≡ width)
               (extended : below ≡ take p.depth search_path ++ digits 5 b ++ zeros (width - (p.depth + 5)))
-              (depth_is : c.depth ≡ p.depth + 5) (node_is : c.node ≡ node_at v.slots slot)
+              (depth_is : c.depth ≡ p.depth + 5) (node_is : c.node ≡ without_sizes (node_at v.slots slot))
               (all : to_come c.places ≡ places c.node.value_bitmap c.node.child_bitmap) (each : All (IsPlaceOf c.node) (to_come c.places)) where
             digits_are : digits 5 b ≡ s
             digits_are = ap (digits 5) b_is ∙ ap (λ k. digits k (number s)) (sym five) ∙ digits-number s
@@ -190,19 +194,21 @@ module _ (width : ℕ) (v : Store Node) (search_path : List Bool) (p : Spot) (at
                 ap (λ k. take k below) depth_is ∙ take-extend search_path below width p.depth 5 b long child_space extended
                 ∙ ap (λ u. take p.depth search_path ++ u) digits_are
 
-            child_node : read v.slots (chunks_of (take c.depth below)) ≡ Some c.node
+            child_node : read v.slots (chunks_of (take c.depth below)) ≡ Some (node_at v.slots slot)
             child_node =
                 ap (λ u. read v.slots (chunks_of u)) child_string
-                ∙ child_is width v t tree (take p.depth search_path) p.node whole at.is_there s five bit_set
-                ∙ ap (λ k. Some (node_at v.slots k)) (sym own_slot) ∙ ap Some (sym node_is)
+                ∙ child_is width v t tree (take p.depth search_path) at.node whole at.is_there s five bit_set
+                ∙ ap (λ k. Some (node_at v.slots k)) (sym own_slot)
 
             pub child_spot : IsSpot width v.slots below c
             child_spot = record {
+              node = node_at v.slots slot;
               level = at.level + 1;
               depth_is = depth_is ∙ (let e = at.depth_is in omega (arith, e));
               within = (let h = child_space in omega (arith, h, depth_is));
               long = (let h = child_space in omega (arith, h, depth_is, reach));
               is_there = child_node;
+              node_is = node_is;
               each = each;
             }
 
@@ -214,7 +220,7 @@ module _ (width : ℕ) (v : Store Node) (search_path : List Bool) (p : Spot) (at
                 still_is
                 ∙ ap (λ es. es ++ still t.shape.entries search_path after)
                 (listing_at_child t.shape.entries (take p.depth search_path) s five ∙ ap (listing_below t.shape.entries) (sym child_string)
-                ∙ sym (ap (listing_at_places t.shape.entries (take c.depth below)) all ∙ all_places width v t tree (take c.depth below) c.node child_whole child_node))
+                ∙ sym (ap (listing_at_places t.shape.entries (take c.depth below)) (all ∙ ap (λ n. places n.value_bitmap n.child_bitmap) node_is) ∙ all_places width v t tree (take c.depth below) (node_at v.slots slot) child_whole child_node))
 
             pub child_lighter : width ≤ 128 → weight c + weight after < weight p
             child_lighter small =

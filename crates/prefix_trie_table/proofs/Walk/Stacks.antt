@@ -3,14 +3,16 @@ use Rattle.prefix_trie_table.proofs.Prelude.{◌≡◌, ℕ, ◌+◌, ◌*◌, �
 use Rattle.std.specs.List.{All}
 
 -- a spot of as many levels as another
-pub spot_as : {width : ℕ} {nodes : List Node} {key other : List Bool} {p q : Spot} → IsSpot width nodes key p → q.depth ≡ p.depth → p.depth ≤ length other →
-    read nodes (chunks_of (take q.depth other)) ≡ Some q.node → All (IsPlaceOf q.node) (to_come q.places) → IsSpot width nodes other q
-spot_as i same long is_there each = record {
+pub spot_as : {width : ℕ} {nodes : List Node} {key other : List Bool} {p q : Spot} (i : IsSpot width nodes key p) → q.depth ≡ p.depth → p.depth ≤ length other →
+    read nodes (chunks_of (take q.depth other)) ≡ Some i.node → q.node ≡ p.node → All (IsPlaceOf q.node) (to_come q.places) → IsSpot width nodes other q
+spot_as i same long is_there same_node each = record {
+  node = i.node;
   level = i.level;
   depth_is = same ∙ i.depth_is;
   within = (let h = i.within in omega (arith, h, same));
   long = omega (arith, long, same);
   is_there = is_there;
+  node_is = same_node ∙ i.node_is;
   each = each;
 }
 
@@ -83,7 +85,7 @@ module _ (width : ℕ) (nodes : List Node) (key other : List Bool) (d : ℕ) (re
   cursor-search_path n [] h t = tt
   cursor-search_path n (p ∷ ps) h t = (
     t.0,
-    spot_as t.1 refl (omega (arith, h, t.0, reach)) (ap (λ s. read nodes (chunks_of s)) (same_path p.depth (omega (arith, h, t.0))) ∙ t.1.is_there) t.1.each,
+    spot_as t.1 refl (omega (arith, h, t.0, reach)) (ap (λ s. read nodes (chunks_of s)) (same_path p.depth (omega (arith, h, t.0))) ∙ t.1.is_there) refl t.1.each,
     cursor-search_path (n + 5) ps (omega (arith, h)) t.2,
   )
 

@@ -3,6 +3,7 @@ use Rattle.prefix_trie_table.proofs.Prelude.{◌≡◌, ◌≢◌, ℕ, ◌+◌,
 use Rattle.std.specs.List.{All}
 use Rattle.std.specs.Ordering.{is_lt}
 use Rattle.std.proofs.lemmas.List.{length-take-le, take-append-drop}
+use Rattle.prefix_trie_table.specs.Blocks.Cells.{without_sizes}
 use Rattle.prefix_trie_table.proofs.Walk.Stacks.{passed-above, pending-push, cursor-push, restart}
 use Rattle.prefix_trie_table.proofs.Walk.Selected.{wanted_below, wanted_at_root, wanted_passed, wanted_ended, wanted_none, at_some_places}
 use Rattle.prefix_trie_table.proofs.Tree.Subtrees.{is_in-value, is_in-child, child_is, child_inside, unset}
@@ -154,14 +155,16 @@ module _ (width : ℕ) (v : Store Node) (search_path q : List Bool) (from : Star
             (is_in-child node.value_bitmap node.child_bitmap (take 5 (drop depth q)) five ∙ ap (has node.child_bitmap) (sym k_is) ∙ clear)
 
     -- a spot is put at this node
-    module _ (p : Spot) (node_is : p.node ≡ node) (depth_is : p.depth ≡ depth) (each : All (IsPlaceOf node) (to_come p.places)) (qs : List Spot) (pushed : qs ≡ ps ++ p ∷ []) where
+    module _ (p : Spot) (node_is : p.node ≡ without_sizes node) (depth_is : p.depth ≡ depth) (each : All (IsPlaceOf node) (to_come p.places)) (qs : List Spot) (pushed : qs ≡ ps ++ p ∷ []) where
       spot : IsSpot width v.slots search_path p
       spot = record {
+        node = node;
         level = built.level;
         depth_is = depth_is ∙ built.depth_is;
         within = (let i = built.inside in omega (arith, i, depth_is, within));
         long = (let i = built.inside in omega (arith, i, depth_is, reach));
-        is_there = ap (λ d. read v.slots (chunks_of (take d search_path))) depth_is ∙ ap (λ s. read v.slots (chunks_of s)) (same_start depth built.inside) ∙ built.is_there ∙ ap Some (sym node_is);
+        is_there = ap (λ d. read v.slots (chunks_of (take d search_path))) depth_is ∙ ap (λ s. read v.slots (chunks_of s)) (same_start depth built.inside) ∙ built.is_there;
+        node_is = node_is;
         each = subst (λ n. All (IsPlaceOf n) (to_come p.places)) (sym node_is) each;
       }
 

@@ -1,6 +1,7 @@
 -- What the arrays and the spots of a walk tell of what is to come.
 use Rattle.prefix_trie_table.proofs.Prelude.{◌≡◌, ℕ, ◌%◌, Bool, List, [], ◌∷◌, length, take, arith, Option, None, Some, refl, sym, ap, ◌∙◌, subst, map, is_some, true, MatchOption, IfSome, All-nil, slice_index_or, Bor, places, to_come, listing, listing_below, listing_at_places, State, listing_of_root, Node, Store, node_at, chunks_of, read, Shaped, IsShapeOf, same_shape, Seat, Spot, GivesFilled, Tree, IsSpot, IsPlaceOf, IsStack, IsPassed, ArePassed, still, pending, GivesSeat, ShapeOf, rest_of_walk, IsWalk, IsTrie, IsTable, len, contains_key, seat_of, GivesKey}
 use Rattle.std.specs.List.{All}
+use Rattle.prefix_trie_table.specs.Blocks.Cells.{without_sizes}
 use Rattle.prefix_trie_table.specs.Walking.Walks.{slot_of}
 use Rattle.prefix_trie_table.proofs.Walk.Stacks.{passed-above}
 use Rattle.prefix_trie_table.proofs.Tree.Trees.{read-nil}
@@ -69,26 +70,26 @@ module _ {T : Type 0} (width : ℕ) where
       spots_rest x is = ap (λ (y : State T). pending y.entries search_path ps) (same_shape v.slots w.slots u.0 x u.1 is)
 
     -- a walk at the root, with all its places
-    module _ (search_path : List Bool) (c : Spot) (depth_is : c.depth ≡ 0) (node_is : c.node ≡ node_at v.slots 0)
+    module _ (search_path : List Bool) (c : Spot) (depth_is : c.depth ≡ 0) (node_is : c.node ≡ without_sizes (node_at v.slots 0))
         (all : to_come c.places ≡ places c.node.value_bitmap c.node.child_bitmap) (each : All (IsPlaceOf c.node) (to_come c.places)) (ps : List Spot) (only : ps ≡ c ∷ []) where
       root_string : take c.depth search_path ≡ []
       root_string = ap (λ n. take n search_path) depth_is
 
-      root_is_there : read v.slots (chunks_of (take c.depth search_path)) ≡ Some c.node
-      root_is_there = ap (λ u. read v.slots (chunks_of u)) root_string ∙ read-nil v.slots ∙ ap Some (sym node_is)
+      root_is_there : read v.slots (chunks_of (take c.depth search_path)) ≡ Some (node_at v.slots 0)
+      root_is_there = ap (λ u. read v.slots (chunks_of u)) root_string ∙ read-nil v.slots
 
       -- is a walk
       pub root_walk : IsTrie width (len u.0.entries) v w u.0 × IsStack width v.slots search_path ps × ArePassed search_path ps
       root_walk =
-          let spot : IsSpot width v.slots search_path c = record { level = 0; depth_is = depth_is; within = omega (arith, depth_is); long = omega (arith, depth_is); is_there = root_is_there; each = each } in
+          let spot : IsSpot width v.slots search_path c = record { node = node_at v.slots 0; level = 0; depth_is = depth_is; within = omega (arith, depth_is); long = omega (arith, depth_is); is_there = root_is_there; node_is = node_is; each = each } in
           spots_walk search_path ps (subst (IsStack width v.slots search_path) (sym only) (refl, spot, tt)) (passed-above search_path ps [] c only (All-nil (IsPassed search_path)))
 
       -- and has the whole listing to come
       pub root_rest : (x : State T) → IsShapeOf v.slots w.slots x → pending u.0.entries search_path ps ≡ listing x.entries
       root_rest x is =
           ap (pending u.0.entries search_path) only ∙ ap (λ (y : State T). still y.entries search_path c) (same_shape v.slots w.slots u.0 s u.1 tree.shaped)
-          ∙ ap (listing_at_places s.entries (take c.depth search_path)) all
-          ∙ all_places width v (tree_of w s) tree (take c.depth search_path) c.node (ap (λ u. length u % 5) root_string) root_is_there
+          ∙ ap (listing_at_places s.entries (take c.depth search_path)) (all ∙ ap (λ n. places n.value_bitmap n.child_bitmap) node_is)
+          ∙ all_places width v (tree_of w s) tree (take c.depth search_path) (node_at v.slots 0) (ap (λ u. length u % 5) root_string) root_is_there
           ∙ ap (listing_below s.entries) root_string ∙ listing_of_root s.entries
           ∙ ap (λ (y : State T). listing y.entries) (same_shape v.slots w.slots s x tree.shaped is)
 

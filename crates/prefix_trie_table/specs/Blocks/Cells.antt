@@ -8,6 +8,10 @@ use Rattle.prefix_trie_table.specs.declared.allocator.node.Node.{Node}
 abbrev pub blank_node : Node
 blank_node = record { value_bitmap = 0; child_bitmap = 0; value_block = 0; child_block = 0; value_tier = 0; child_tier = 0 }
 
+-- the node without the sizes of its blocks, which a walk does not use
+abbrev pub without_sizes : Node → Node
+without_sizes n = record n { value_tier = 0; child_tier = 0 }
+
 -- the node in a slot of the array
 abbrev pub node_at : List Node → ℕ → Node
 node_at nodes slot = slice_index_or nodes slot blank_node

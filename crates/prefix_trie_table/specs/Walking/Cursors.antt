@@ -1,6 +1,6 @@
 -- A position of a walk apart from its table, and what is still to come of the walk. This project's own.
 use Rattle.std.specs.Prelude.{◌≡◌, ℕ, ◌+◌, ◌*◌, ◌-◌, ◌≤◌, Bool, List, [], ◌∷◌, ◌++◌, take, map, Some}
-use Rattle.std.proofs.Common.{arith}
+use Rattle.std.proofs.Common.{arith, sym, ◌∙◌}
 use Rattle.std.specs.Coded.{Coded-set, coded_ℕ, coded_bool, coded_option}
 use Rattle.std.proofs.Math.Bridge.{le_prop}
 use mathlib.Core.HLevel.{Π_prop, is_prop→PathP}
@@ -10,6 +10,9 @@ use Rattle.prefix_trie_table.specs.declared.allocator.node.Node.{Node}
 use Rattle.prefix_trie_table.specs.declared.table.seat.Seat.{Seat}
 use Rattle.prefix_trie_table.specs.declared.table.spot.Spot.{Spot}
 use Rattle.prefix_trie_table.specs.declared.table.cursor.Cursor.{Cursor}
+use Rattle.prefix_trie_table.specs.Blocks.Cells.{without_sizes}
+use Rattle.prefix_trie_table.specs.Digits.{chunks_of}
+use Rattle.prefix_trie_table.specs.Forest.{read}
 use Rattle.prefix_trie_table.specs.Locations.{seat_of}
 use Rattle.prefix_trie_table.specs.Shape.{coded_node}
 use Rattle.prefix_trie_table.specs.Walking.Walks.{IsSpot, IsStackFrom, IsStack, start, pending}
@@ -38,12 +41,15 @@ module _ {K : Type 0} where
 module _ (width : ℕ) (nodes : List Node) (search_path : List Bool) where
   spot-prop : (p : Spot) → IsProp (IsSpot width nodes search_path p)
   spot-prop p x y =
+      let node : x.node ≡ y.node = (let e : Some x.node ≡ Some y.node = sym x.is_there ∙ y.is_there in cc) in
       let level : x.level ≡ y.level = same_level p.depth x.level y.level x.depth_is y.depth_is in λ i. record {
+        node = node i;
         level = level i;
         depth_is = is_prop→PathP (λ j. p.depth ≡ 5 * level j) (λ j. Coded-set coded_ℕ _ _) x.depth_is y.depth_is i;
         within = le_prop x.within y.within i;
         long = le_prop x.long y.long i;
-        is_there = Coded-set (coded_option coded_node) _ _ x.is_there y.is_there i;
+        is_there = is_prop→PathP (λ j. read nodes (chunks_of (take p.depth search_path)) ≡ Some (node j)) (λ j. Coded-set (coded_option coded_node) (read nodes (chunks_of (take p.depth search_path))) (Some (node j))) x.is_there y.is_there i;
+        node_is = is_prop→PathP (λ j. p.node ≡ without_sizes (node j)) (λ j. Coded-set coded_node p.node (without_sizes (node j))) x.node_is y.node_is i;
         each = Π_prop (λ k. Π_prop (λ d. Π_prop (λ h a b j. (le_prop a.0 b.0 j, Coded-set coded_bool _ _ a.1 b.1 j)))) x.each y.each i;
       }
 

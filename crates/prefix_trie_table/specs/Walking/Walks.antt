@@ -17,6 +17,7 @@ use Rattle.prefix_trie_table.specs.declared.table.spot.Step.TheVariants.{Entry, 
 use Rattle.prefix_trie_table.specs.declared.allocator.node.Node.{Node}
 use Rattle.prefix_trie_table.specs.Digits.{chunks_of}
 use Rattle.prefix_trie_table.specs.Blocks.Store.{Store}
+use Rattle.prefix_trie_table.specs.Blocks.Cells.{without_sizes}
 use Rattle.prefix_trie_table.specs.Forest.{read}
 use Rattle.prefix_trie_table.specs.Walking.Items.{GivesFilled}
 use Rattle.prefix_trie_table.specs.Locations.{seat_of}
@@ -76,11 +77,13 @@ start (p ∷ ps) = p.depth
 
 -- the spot is at a node of the array, whose path is a beginning of `search_path`; only places of the node are to come
 pub record IsSpot (width : ℕ) (nodes : List Node) (search_path : List Bool) (p : Spot) : Type 0 where
+  pub node : Node
   pub level : ℕ
   pub depth_is : p.depth ≡ 5 * level
   pub within : p.depth ≤ width
   pub long : p.depth ≤ length search_path
-  pub is_there : read nodes (chunks_of (take p.depth search_path)) ≡ Some p.node
+  pub is_there : read nodes (chunks_of (take p.depth search_path)) ≡ Some node
+  pub node_is : p.node ≡ without_sizes node
   pub each : All (IsPlaceOf p.node) (to_come p.places)
 
 -- each spot is a level below the one before, and the first is at this depth

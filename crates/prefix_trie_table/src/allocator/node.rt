@@ -19,7 +19,7 @@ pub struct Node {
 }
 
 impl Node {
-    ghost use Rattle.prefix_trie_table.specs.Blocks.Cells.{blank_node};
+    ghost use Rattle.prefix_trie_table.specs.Blocks.Cells.{blank_node, without_sizes as node_without_sizes};
 
     /// Returns a node that has no values and no children.
     #[inline]
@@ -33,6 +33,19 @@ impl Node {
             child_block: 0,
             value_tier: 0,
             child_tier: 0,
+        }
+    }
+
+    /// Returns the node with 0 for the sizes of its blocks.
+    // A caller that takes this of a node lets the compiler drop the read of the sizes from `visit`.
+    #[inline]
+    pub fn without_sizes(self) -> Node
+        ensures { result ≡ node_without_sizes self }
+    {
+        Node {
+            value_tier: 0,
+            child_tier: 0,
+            ..self
         }
     }
 

@@ -3,7 +3,7 @@ ghost use Rattle.std.specs.Prelude.{◌≡◌, ◌+◌, ◌<◌, ◌≤◌, fals
 ghost use Rattle.prefix_trie_bits.specs.Places.{places};
 ghost use Rattle.prefix_trie_bits.specs.Walks.{to_come};
 ghost use Rattle.prefix_trie_table.specs.Bitmaps.{has_bit as is_set};
-ghost use Rattle.prefix_trie_table.specs.Blocks.Cells.{node_at};
+ghost use Rattle.prefix_trie_table.specs.Blocks.Cells.{node_at, without_sizes};
 ghost use Rattle.prefix_trie_table.specs.Tables.{IsTrie};
 ghost use Rattle.prefix_trie_table.specs.Walking.Starts.{places_in};
 ghost use Rattle.prefix_trie_table.specs.Walking.Walks.{Tree, IsSpot, IsPlaceOf, IsSeated, StaysOnPath, Skips, Steps, slot_of};
@@ -17,6 +17,8 @@ use prefix_trie_bits::prefix::{BitString, Key};
 use std::alloc::Allocator;
 
 /// A node, whose path is the first `depth` bits of a walk's key, and the places of the node that are still to come.
+///
+/// The node is without the sizes of its blocks.
 #[derive(Clone, Copy)]
 pub struct Spot {
     node: Node,
@@ -55,12 +57,12 @@ pub fn enter<A: Allocator, V: Tick>(
 ) -> Spot
     requires is_there { at < length nodes.now.slots }
     requires few { is_set (node_at nodes.now.slots at).value_bitmap 31 ≡ false }
-    ensures node { result.node ≡ node_at nodes.now.slots at }
+    ensures node { result.node ≡ without_sizes (node_at nodes.now.slots at) }
     ensures depth { result.depth ≡ depth }
     ensures places { to_come result.places ≡ places result.node.value_bitmap result.node.child_bitmap }
     ensures each { All (IsPlaceOf result.node) (to_come result.places) }
 {
-    let node = nodes.visit(at, counter);
+    let node = nodes.visit(at, counter).without_sizes();
     let places = Places::new(node.value_bitmap, node.child_bitmap);
     Spot {
         node,
@@ -73,14 +75,14 @@ pub fn enter<A: Allocator, V: Tick>(
 #[inline]
 pub fn spot_in(node: Node, depth: u32, chosen: (u32, u32)) -> Spot
     requires few { is_set node.value_bitmap 31 ≡ false }
-    ensures node { result.node ≡ node }
+    ensures node { result.node ≡ without_sizes node }
     ensures depth { result.depth ≡ depth }
     ensures places { to_come result.places ≡ places_in node chosen.0 chosen.1 }
     ensures each { All (IsPlaceOf node) (to_come result.places) }
 {
     let places = Places::new(node.value_bitmap & chosen.0, node.child_bitmap & chosen.1);
     Spot {
-        node,
+        node: node.without_sizes(),
         depth,
         places,
     }
