@@ -12,7 +12,7 @@ pub use Rattle.std.proofs.lemmas.List.Filters.{length-filter_both}
 pub use Rattle.std.proofs.lemmas.List.Folds.{flat_map-map}
 pub use Rattle.std.proofs.lemmas.List.Sorted.{sum_by-IsPermutation}
 pub use Rattle.std.proofs.lemmas.List.Sums.{count_by-le-length, length-filter, sum_by-cons, sum_by-le-sum_by}
-pub use Rattle.std.proofs.lemmas.Nat.{and_block, and_le_l, and_mask, div_below, le-div, leading_top, mod-pow-add, mod_below, one_shl, ones_cat, ones_le_self, or_lt, pow_below, shl_whole, shr_split, zero_from_ones}
+pub use Rattle.std.proofs.lemmas.Nat.{and_block, and_le_l, div_below, le-div, leading_top, mod-pow-add, mod_below, one_shl, ones_cat, ones_le_self, or_lt, pow_below, shl_whole, shr_split, zero_from_ones}
 pub use Rattle.std.proofs.lemmas.Nat.Bits.{bit_at-lt, bit_at-suc, bit_at-trailing_zeros, bit_at-zero, bit_at_above, bit_at_and, bit_at_cat_high, bit_at_cat_low, bit_at_clear_other, bit_at_clear_same, bit_at_or, bit_at_set_other, bit_at_set_same, same_from_bits_below}
 pub use Rattle.std.proofs.lemmas.Option.{get_or_from_slice_get, none-some, same_Some, slice_get-get_or}
 pub use Rattle.std.specs.Bool.{beq}

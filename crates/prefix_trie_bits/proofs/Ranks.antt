@@ -1,5 +1,8 @@
 -- The rank of a bit, which is the number of set bits below it: for `rank` and the lists of a node.
-use Rattle.prefix_trie_bits.proofs.Prelude.{◌≡◌, ℕ, zero, suc, ◌+◌, ◌-◌, ◌*◌, ◌/◌, ◌%◌, ◌^◌, ◌<◌, ◌≤◌, true, false, cond, eqb, refl, sym, ap, ap₂, ◌∙◌, subst, arith, inl, inr, one-add, pow_pos, eqb-true, bit_and, mod-eq_of_lt, bit_or, bit_at, bit_not, w32, count_ones, ones_cat, ones_le_self, zero_from_ones, and_le_l, mod-pow-add, mod_below, and_mask, one_shl, or_lt, pow_below, bit_at-lt, bit_at-suc, bit_at_set_same, bit_at_set_other, bit_at_clear_same, bit_at_clear_other, bit_at_above, cases_lt, has, ones_below, Sets}
+use Rattle.prefix_trie_bits.proofs.Prelude.{◌≡◌, ℕ, zero, suc, ◌+◌, ◌-◌, ◌*◌, ◌/◌, ◌%◌, ◌^◌, ◌<◌, ◌≤◌, true, false, cond, eqb, refl, sym, ap, ap₂, ◌∙◌, subst, arith, inl, inr, one-add, pow_pos, eqb-true, bit_and, mod-eq_of_lt, bit_or, bit_at, bit_not, w32, count_ones, ones_cat, ones_le_self, zero_from_ones, and_le_l, mod-pow-add, mod_below, one_shl, or_lt, pow_below, bit_at-lt, bit_at-suc, bit_at_set_same, bit_at_set_other, bit_at_clear_same, bit_at_clear_other, bit_at_above, cases_lt, has, ones_below, Sets}
+use Rattle.std.proofs.Common.{add-mul, mul_assoc}
+use Rattle.std.proofs.Math.Pow.{pow-add, shl_lt, split}
+use Rattle.std.proofs.lemmas.Nat.{mod-mul-add, mul-mod_first}
 
 pub bit-set : (m k : ℕ) → has m k ≡ true → bit_at m k ≡ 1
 bit-set m k h = eqb-true (bit_at m k) 1 h
@@ -52,10 +55,23 @@ ones_below-is zero m =
 ones_below-is (suc b) m =
     ap₂ (λ x y. x + y) (ones_below-is b m) (bit-of m b) ∙ omega (arith, ones-mod-suc m b)
 
--- `(m & ((1 << b) - 1)).count_ones()` is the rank of bit b
-pub rank_is : (m b : ℕ) → b < 32 → count_ones (bit_and m (1 * 2 ^ b % 4294967296 - 1)) ≡ ones_below b m
+-- a number that is shifted to the top of a word of 32 bits keeps its lowest bits alone
+top_bits : (m b c : ℕ) → b + c ≡ 32 → m * 2 ^ c % 4294967296 ≡ m % 2 ^ b * 2 ^ c
+top_bits m b c e =
+    let word : 2 ^ b * 2 ^ c ≡ 4294967296 = sym (pow-add 2 b c) ∙ ap (λ k. 2 ^ k) e in
+    let whole : m * 2 ^ c ≡ m / 2 ^ b * 4294967296 + m % 2 ^ b * 2 ^ c =
+    ap (λ x. x * 2 ^ c) (sym (split m b)) ∙ add-mul (m / 2 ^ b * 2 ^ b) (m % 2 ^ b) (2 ^ c)
+    ∙ ap (λ x. x + m % 2 ^ b * 2 ^ c) (mul_assoc (m / 2 ^ b) (2 ^ b) (2 ^ c) ∙ ap (λ w. m / 2 ^ b * w) word) in
+    ap (λ x. x % 4294967296) whole ∙ mod-mul-add (m / 2 ^ b) 4294967296 (m % 2 ^ b * 2 ^ c) (subst (λ k. m % 2 ^ b * 2 ^ c < 2 ^ k) e (shl_lt b c (low m b)))
+
+-- `(m << 1 << (31 - b)).count_ones()` is the rank of bit b
+pub rank_is : (m b : ℕ) → b < 32 → count_ones (m * 2 % 4294967296 * 2 ^ (31 - b) % 4294967296) ≡ ones_below b m
 rank_is m b l =
-    ap (λ x. count_ones (bit_and m (x - 1))) (one_shl b 32 l) ∙ ap count_ones (and_mask m b) ∙ sym (ones_below-is b m)
+    let shift : 2 * 2 ^ (31 - b) ≡ 2 ^ (32 - b) = sym (pow-add 2 1 (31 - b)) ∙ ap (λ k. 2 ^ k) (omega (arith, l)) in
+    let none : count_ones 0 ≡ 0 = ones-bit 0 (omega arith) in
+    ap count_ones (mul-mod_first (m * 2) (2 ^ (31 - b)) 4294967296 ∙ ap (λ x. x % 4294967296) (mul_assoc m 2 (2 ^ (31 - b)) ∙ ap (λ x. m * x) shift)
+    ∙ top_bits m b (32 - b) (omega (arith, l)) ∙ omega arith)
+    ∙ ones_cat (32 - b) (m % 2 ^ b) 0 (pow_pos (32 - b)) ∙ omega (arith, none) ∙ sym (ones_below-is b m)
 
 -- ---- the lowest bit
 
