@@ -1,9 +1,10 @@
 -- A step of a writing walk gives its first entry, also if the walk may have no map, and the keys still to come: for
 -- `IterMut` and `ValuesMut`.
-use Rattle.prefix_trie_map.proofs.Prelude.{◌≡◌, ℕ, take, seat_of, Bool, true, List, [], ◌∷◌, map, Option, None, Some, MatchOption, IfSome, IfNone, refl, sym, ap, ◌∙◌, subst, contains_key, Contents, with_value_at, IsCursorIn, IsCursorIn-prop, GivesKey, keys_to_come, Cursor, pending_again, MapCursor, CursorItem, keys_left, as_walk, IsItemAt, HasValueAt, with_written, IsFirst, GoesOver, ComesToEnd, StartsOver, lent_beside, EndsIn, StepsIn}
+use Rattle.prefix_trie_map.proofs.Prelude.{◌≡◌, ℕ, ◌-◌, ◌++◌, length, take, arith, length-take-le, zeros, back_from_bits, seat_of, Bool, true, List, [], ◌∷◌, map, Option, None, Some, MatchOption, IfSome, IfNone, refl, sym, ap, ◌∙◌, subst, contains_key, Contents, with_value_at, IsCursorIn, IsCursorIn-prop, GivesKey, keys_to_come, Cursor, pending_again, MapCursor, CursorItem, keys_left, as_walk, IsItemAt, HasValueAt, with_written, IsFirst, GoesOver, ComesToEnd, StartsOver, lent_beside, EndsIn, StepsIn}
 use Rattle.std.specs.Borrow.{MutBor}
 use Rattle.std.specs.declared.cmp.PartialEq as partial
 use Rattle.std.specs.declared.fmt.Debug as debug
+use Rattle.prefix_trie_bits.specs.Model.Keys.{PrefixLaws}
 use Rattle.prefix_trie_bits.specs.declared.prefix.Prefix as prefix
 use Rattle.prefix_trie_bits.specs.declared.prefix.Key as key
 
@@ -20,8 +21,17 @@ module _ {P T A R : Type 0} {p : prefix.Ghosts P R} {shows : debug.Ghosts P} {k 
   first : keys_left c ≡ item.path ∷ keys_left gone
   first = gives.first ∙ ap (λ s. s ∷ keys_left gone) (sym at)
 
-  pub first_there : (q : P) → q ≡ p.back (take len (k.bits key)) → (value : T) → HasValueAt gone item value → IsFirst c q value
-  first_there q is value holds = (item.path, record (as_walk c None) { to_come = keys_left gone; lent = Some item.path }, (first, refl), is ∙ ap p.back (sym at), holds)
+  module _ (laws : PrefixLaws k.bit_width k.IsKey k.bits k.key_of p.repr_of p.len_of p.path p.IsFitting p.from_parts p.back) where
+    -- the bits of the key past its length are 0
+    without_host_bits : p.from_parts key len ≡ p.back (take len (k.bits key))
+    without_host_bits =
+        let long : length (k.bits key) ≡ k.bit_width = laws.keys.bits_length key gives.is_key in
+        let short : length (take len (k.bits key)) ≡ len = length-take-le len (k.bits key) (let h = gives.short in omega (arith, long, h)) in
+        ap (p.from_parts key) (sym short)
+        ∙ back_from_bits laws key (take len (k.bits key)) gives.is_key (subst (λ n. k.bits key ≡ take len (k.bits key) ++ zeros (k.bit_width - n)) (sym short) gives.filled)
+
+    pub first_there : (q : P) → q ≡ p.from_parts key len → (value : T) → HasValueAt gone item value → IsFirst c q value
+    first_there q is value holds = (item.path, record (as_walk c None) { to_come = keys_left gone; lent = Some item.path }, (first, refl), is ∙ without_host_bits ∙ ap p.back (sym at), holds)
 
   pub goes_over : contains_key c.map.now.entries (take len (k.bits key)) ≡ true → (value : T) → GoesOver c value (with_written gone item value)
   goes_over has value = record {

@@ -10,7 +10,6 @@ ghost use Rattle.prefix_trie_bits.specs.Model.Selections.{listing, listing_below
 ghost use Rattle.prefix_trie_table.specs.Copies.{IsPairCloned};
 ghost use Rattle.prefix_trie_map.specs.Whole.{IsWhole};
 
-use crate::map::iter::without_host_bits;
 use crate::map::projection::{Keyed, KeysOf};
 use crate::map::{PrefixMap, Visits};
 use prefix_trie_bits::prefix::Prefix;
@@ -184,7 +183,7 @@ impl<P: Prefix, T: Drop, A: Allocator> Iterator for IntoIter<P, T, A> {
         let Some((key, len, value)) = self.walk.next(&mut Visits::new()) else {
             return None;
         };
-        Some((without_host_bits(key, len), value))
+        Some((P::from_repr_len(key, len as u8), value))
     }
 }
 

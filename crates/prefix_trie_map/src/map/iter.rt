@@ -1,11 +1,10 @@
 //! Walks in listing order that borrow a map's entries.
 //!
 //! Contracts see each walk as the list of the items still to come.
-ghost use Rattle.std.specs.Prelude.{◌≡◌, ◌<◌, ◌≤◌, ◌^◌, ◌-◌, ◌++◌, [], map, length, take};
+ghost use Rattle.std.specs.Prelude.{◌≡◌, ◌<◌, ◌^◌, [], map, length};
 ghost use Rattle.std.specs.FinMap.{len};
 ghost use Rattle.std.specs.Iterator.{at_most};
 ghost use Rattle.std.specs.Map.Iter.{TakesFirst, ShowsInOrder, GivesInOrder, deref};
-ghost use Rattle.prefix_trie_bits.specs.Model.Bits.{zeros};
 ghost use Rattle.prefix_trie_bits.specs.Model.Selections.{listing, prefix_pairs};
 ghost use Rattle.prefix_trie_map.specs.Walks.{lent_item};
 ghost use Rattle.prefix_trie_map.specs.Whole.{IsWhole};
@@ -164,19 +163,8 @@ impl<'a, P: Prefix, T: Drop, A: Allocator> Iterator for Iter<'a, P, T, A> {
         let Some((key, len, value)) = self.walk.next(&mut Visits::new()) else {
             return None;
         };
-        Some((without_host_bits(key, len), value))
+        Some((P::from_repr_len(key, len as u8), value))
     }
-}
-
-/// Returns the prefix of a key whose bits past its length are 0.
-#[inline]
-pub(super) fn without_host_bits<P: Prefix>(key: P::R, len: u32) -> P
-    requires key { P.R.IsKey key }
-    requires within { len ≤ P.R.bit_width }
-    requires filled { P.R.bits key ≡ take len (P.R.bits key) ++ zeros (P.R.bit_width - len) }
-    ensures { result ≡ P.back (take len (P.R.bits key)) }
-{
-    P::from_repr_len(key, len as u8)
 }
 
 impl<'a, P: Prefix, T: Drop, A: Allocator> Keyed for Iter<'a, P, T, A> {

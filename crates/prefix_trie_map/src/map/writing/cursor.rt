@@ -3,7 +3,6 @@ ghost use Rattle.std.specs.Prelude.{◌≡◌};
 ghost use Rattle.prefix_trie_table.specs.Walking.Cursors.{IsCursorIn, IsCursorIn-prop};
 
 use crate::map::PrefixMap;
-use crate::map::iter::without_host_bits;
 use crate::map::writing::{Source, ValuesOf, WalkOf};
 use prefix_trie_bits::prefix::{BitString, Key, Prefix};
 use prefix_trie_table::table::cursor::Cursor;
@@ -119,7 +118,7 @@ impl<'a, P: Prefix, T: Drop, A: Allocator> Source for MapCursor<'a, P, T, A> {
             return None;
         };
         let path = BitString::new(key, len);
-        Some((without_host_bits(key, len), CursorItem { path, seat }))
+        Some((P::from_repr_len(key, len as u8), CursorItem { path, seat }))
     }
 
     #[inline]
