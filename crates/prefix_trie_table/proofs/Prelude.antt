@@ -126,7 +126,7 @@ pub use Rattle.prefix_trie_table.specs.Walking.Starts.{behind, kept, places_in, 
 pub use Rattle.prefix_trie_table.specs.Walking.Items.{GivesFilled}
 pub use Rattle.prefix_trie_table.specs.Walking.Taking.{AreApart, AreHeld, IsApart, IsTaking, Seated, Seated-prop, cell_of, pairs_in}
 pub use Rattle.prefix_trie_table.specs.Walking.Cursors.{GivesKey, IsCursorIn}
-pub use Rattle.prefix_trie_table.specs.Walking.Walks.{ArePassed, EndsLast, GivesSeat, IsOther, IsPassed, IsPlaceOf, IsSpot, IsStack, IsStackFrom, IsWalk, ShapeOf, SkipsLast, Tree, pending, rest_of_walk, start, still, weight}
+pub use Rattle.prefix_trie_table.specs.Walking.Walks.{AreLevels, ArePassed, EndsLast, GivesSeat, IsOther, IsPassed, IsPlaceOf, IsSpot, IsStack, IsStackFrom, IsWalk, ShapeOf, SkipsLast, Tree, depth_of, from_last, pending, rest_of_walk, start, still, weight}
 pub use Rattle.prefix_trie_table.specs.declared.allocator.blocks.BlockRef.{BlockRef}
 pub use Rattle.prefix_trie_table.specs.declared.allocator.blocks.tiers.TheConstants.{TIERS}
 pub use Rattle.prefix_trie_table.specs.declared.allocator.node.Node.{Node}

@@ -5,3 +5,4 @@ pub mod Covers
 pub mod Starts
 pub mod Taking
 pub mod Cursors
+pub mod Joint

@@ -14,6 +14,8 @@ mod counting;
 mod cover;
 pub mod cursor;
 mod insertion;
+pub mod joint;
+pub mod joint_spot;
 mod lending;
 mod located;
 mod lookup;

@@ -39,3 +39,7 @@ module _ {T : Type 0} (v : Store Node) (w : Store (Option T)) (count : ℕ) (s :
     -- and there is one
     pub found_some : is_some (get s.0.entries q) ≡ true
     found_some = ap is_some (stored_is v w count s is q) ∙ value_there v w (some_table is) q seat seat_found
+
+    -- so the cell has the value of the string
+    pub found_read : get_or w.slots seat.slot None ≡ get s.0.entries q
+    found_read = sym (found_value (get_or w.slots seat.slot None) (get_or_default w.slots seat.slot None (get_or w.slots seat.slot None) found_inside))

@@ -19,7 +19,7 @@ use Rattle.prefix_trie_table.proofs.Removal.GrowthBounds.{bounds_growth_nodes, b
 use Rattle.prefix_trie_table.proofs.Retain.Retained.{are_nodes, read_held, here_length, here_whole, here_levels, path_levels, site_stays}
 use Rattle.prefix_trie_table.proofs.Tree.Shapes.{reads_node, shape_of, shape_entries}
 use Rattle.prefix_trie_table.proofs.Tree.Subtrees.{child_is, child_inside, child_few, child_fits, few_at, all_places, is_in-child, number-small}
-use Rattle.prefix_trie_table.proofs.Walk.Spots.{place-child}
+use Rattle.prefix_trie_table.proofs.Walk.NextPlaces.{place-child}
 use Rattle.prefix_trie_table.proofs.Tree.Trees.{reads}
 use Rattle.prefix_trie_table.proofs.Removal.AllBelow.{and-false}
 

@@ -12,7 +12,7 @@ use Rattle.prefix_trie_table.proofs.Strings.Placing.{below_node, step_below}
 use Rattle.prefix_trie_table.proofs.Removal.GrowthBounds.{bounds_growth_none, bounds_growth_then}
 use Rattle.prefix_trie_table.proofs.Retain.Retained.{here_levels, here_whole}
 use Rattle.prefix_trie_table.proofs.Tree.Shapes.{shape_entries, shape_nodes, reads_node}
-use Rattle.prefix_trie_table.proofs.Walk.Spots.{place-value, place-child}
+use Rattle.prefix_trie_table.proofs.Walk.NextPlaces.{place-value, place-child}
 use Rattle.prefix_trie_table.proofs.Tree.Subtrees.{unset, is_in-value, is_in-child, number-small}
 
 -- strings with the same place are equal

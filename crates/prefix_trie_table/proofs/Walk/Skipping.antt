@@ -1,5 +1,5 @@
 -- A walk drops the entries whose keys begin with a given key: for `next_outermost`.
-use Rattle.prefix_trie_table.proofs.Prelude.{◌≡◌, ℕ, ◌+◌, ◌*◌, ◌≤◌, Bool, true, false, not, cond, ◌&&◌, nat_lt, List, [], ◌∷◌, ◌++◌, length, take, drop, filter, Some, refl, sym, ap, ap₂, ◌∙◌, subst, arith, length-append, length-drop, take-add, take-take, filter-append, All-head, All-tail, All-weaker, All-filter, begins, same_bool, begins-length, begins-linear, begins-trans, begins-same-length, begins-from-rest, take-begins, to_come, Entries, listing_at_places, each, Node, Spot, chunks_of, read, IsSpot, IsPlaceOf, IsStackFrom, IsStack, IsOther, IsPassed, ArePassed, EndsLast, SkipsLast, start, still, pending}
+use Rattle.prefix_trie_table.proofs.Prelude.{◌≡◌, ℕ, ◌+◌, ◌*◌, ◌≤◌, Bool, true, false, not, cond, ◌&&◌, nat_lt, List, [], ◌∷◌, ◌++◌, length, take, drop, filter, refl, sym, ap, ap₂, ◌∙◌, subst, arith, length-append, length-drop, take-add, take-take, filter-append, All-head, All-tail, All-weaker, All-filter, begins, same_bool, begins-length, begins-linear, begins-trans, begins-same-length, begins-from-rest, take-begins, to_come, Entries, listing_at_places, each, Node, Spot, chunks_of, read, IsSpot, IsPlaceOf, IsStackFrom, IsStack, IsOther, IsPassed, ArePassed, EndsLast, SkipsLast, start, still, pending}
 use Rattle.std.specs.List.{All}
 use Rattle.std.proofs.lemmas.Bool.{lt-ltb}
 use Rattle.std.proofs.lemmas.List.{take-append-drop, length-take-le}

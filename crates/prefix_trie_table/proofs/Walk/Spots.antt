@@ -1,54 +1,14 @@
 -- The next place of a spot gives an entry or a child: for `next_at`.
-use Rattle.prefix_trie_table.proofs.Prelude.{◌≡◌, ℕ, suc, ◌+◌, ◌-◌, ◌*◌, ◌^◌, ◌%◌, ◌<◌, ◌≤◌, Bool, true, false, not, cond, List, ◌∷◌, ◌++◌, length, take, drop, get_or, None, Some, refl, sym, ap, ap₂, ◌∙◌, subst, arith, inl, inr, length-append, append_assoc, IsStrictlySortedBy, add-mul, one-mul, pow_pos, shl_below, length-filter_both, cases_lt, le-ltb, take-append-le, take-take, take_at, drop_at, All-head, All-tail, number, digits, zeros, length-digits, digits-number, listing_cmp, take-extend, has, value_bit, is_in, places, place_of, strings, to_come, Places, listing_below, listing_at_place, listing_at_places, count-strings, value_bit-small, listing_at_child, Node, Seat, Spot, has_bit, node_at, chunks_of, seat_of, value_seat, Store, read, child_slot, Tree, IsSpot, IsPlaceOf, IsOther, IsPassed, still, GivesSeat, weight, IsTrie, Value}
+use Rattle.prefix_trie_table.proofs.Prelude.{◌≡◌, ℕ, ◌+◌, ◌-◌, ◌%◌, ◌<◌, ◌≤◌, Bool, true, false, List, ◌∷◌, ◌++◌, length, take, drop, get_or, None, Some, refl, sym, ap, ap₂, ◌∙◌, subst, arith, length-append, append_assoc, IsStrictlySortedBy, take-append-le, take-take, take_at, drop_at, All-head, All-tail, number, digits, zeros, length-digits, digits-number, listing_cmp, has, value_bit, is_in, places, to_come, Places, listing_below, listing_at_places, listing_at_child, Node, Seat, Spot, has_bit, node_at, chunks_of, seat_of, value_seat, Store, read, child_slot, Tree, IsSpot, IsPlaceOf, IsOther, IsPassed, still, GivesSeat, weight, IsTrie}
 use Rattle.std.specs.List.{All}
-use Rattle.std.proofs.lemmas.Bool.{lt-ltb}
 use Rattle.std.proofs.lemmas.List.{length-take-le}
-use Rattle.prefix_trie_bits.specs.declared.node.Place.TheVariants.{Child as ChildPlace}
 use Rattle.prefix_trie_table.specs.Blocks.Cells.{without_sizes}
 use Rattle.prefix_trie_table.specs.Walking.Walks.{EndsAt, slot_of}
+use Rattle.prefix_trie_table.proofs.Walk.NextPlaces.{moved_on, weight_is, weight-child, still_is, extended_by, filled_by, child_digits}
 use Rattle.prefix_trie_table.proofs.Walk.Stacks.{others_after, spot_as}
 use Rattle.prefix_trie_table.proofs.Strings.Plain.{whole_levels}
 use Rattle.prefix_trie_table.proofs.Lookup.Locating.{seat_below}
-use Rattle.prefix_trie_table.proofs.Tree.Subtrees.{is_in-value, is_in-child, number-small, stored_value, value_read, value_inside, value_listed, value_fits, child_is, child_inside, child_few, child_fits, all_places}
-
--- ---- the bound on steps
-
-one-less : (n x : ℕ) → suc n * x ≡ x + n * x
-one-less n x = let e : suc n ≡ 1 + n = omega arith in ap (λ k. k * x) e ∙ add-mul 1 n x ∙ ap (λ k. k + n * x) (one-mul x)
-
--- a child with all its places weighs less than its place did
-weight-child : (d e vs cs : ℕ) (ss : List (List Bool)) → e ≡ d + 5 → e ≤ 128 → ss ≡ places vs cs → length ss * 2 ^ (2 * (130 - e)) + 1 < 2 ^ (2 * (130 - d))
-weight-child d e vs cs ss is fits all =
-    let few : length ss ≤ 63 = omega (arith, ap length all, length-filter_both (is_in vs cs) (λ s. not (is_in vs cs s)) (λ s. refl) (strings 5), count-strings) in
-    let level : 10 + 2 * (130 - e) ≡ 2 * (130 - d) = omega (arith, is, fits) in
-    let below : suc (length ss) * 2 ^ (2 * (130 - e)) < 2 ^ (2 * (130 - d)) = subst (λ k. suc (length ss) * 2 ^ (2 * (130 - e)) < 2 ^ k) level (shl_below (suc (length ss)) 10 (2 * (130 - e)) (omega (arith, few))) in
-    omega (arith, below, one-less (length ss) (2 ^ (2 * (130 - e))), pow_pos (2 * (130 - e)))
-
--- ---- which place it is
-
--- a place for a value is that of a string of less than five bits
-pub place-value : (s : List Bool) (b : ℕ) → length s ≤ 5 → Value b ≡ place_of s → (length s ≤ 4) × (b ≡ value_bit s)
-place-value s b h e = elim (cases_lt (length s) 5) as (λ _. (length s ≤ 4) × (b ≡ value_bit s)) [
-  | inl l ↦ (omega arith, let f : Value b ≡ Value (value_bit s) = e ∙ ap (λ c. cond c (Value (value_bit s)) (ChildPlace (number s))) (lt-ltb (length s) 5 l) in cc)
-  | inr g ↦ absurd (let f : Value b ≡ ChildPlace (number s) = e ∙ ap (λ c. cond c (Value (value_bit s)) (ChildPlace (number s))) (le-ltb (length s) 5 g) in cc)
-]
-
--- a place for a child is that of a string of five
-pub place-child : (s : List Bool) (b : ℕ) → length s ≤ 5 → ChildPlace b ≡ place_of s → (length s ≡ 5) × (b ≡ number s)
-place-child s b h e = elim (cases_lt (length s) 5) as (λ _. (length s ≡ 5) × (b ≡ number s)) [
-  | inl l ↦ absurd (let f : ChildPlace b ≡ Value (value_bit s) = e ∙ ap (λ c. cond c (Value (value_bit s)) (ChildPlace (number s))) (lt-ltb (length s) 5 l) in cc)
-  | inr g ↦ (omega (arith, h), let f : ChildPlace b ≡ ChildPlace (number s) = e ∙ ap (λ c. cond c (Value (value_bit s)) (ChildPlace (number s))) (le-ltb (length s) 5 g) in cc)
-]
-
--- the value bit of a value place is below 31
-pub place-small : (s : List Bool) (b : ℕ) → length s ≤ 5 → Value b ≡ place_of s → b < 31
-place-small s b h e =
-    let p = place-value s b h e in let l = value_bit-small s p.0 in omega (arith, l, p.1)
-
--- the number of a child place is below 32
-pub place-child-small : (s : List Bool) (b : ℕ) → length s ≤ 5 → ChildPlace b ≡ place_of s → b < 32
-place-child-small s b h e =
-    let p = place-child s b h e in let l = number-small s p.0 in omega (arith, l, p.1)
+use Rattle.prefix_trie_table.proofs.Tree.Subtrees.{is_in-value, is_in-child, stored_value, value_read, value_inside, value_listed, value_fits, child_is, child_inside, child_few, child_fits, all_places}
 
 -- ---- a spot
 
@@ -59,36 +19,14 @@ module _ (width : ℕ) (v : Store Node) (search_path : List Bool) (p : Spot) (at
   whole : length (take p.depth search_path) % 5 ≡ 0
   whole = whole_levels (length (take p.depth search_path)) at.level (string-length ∙ at.depth_is)
 
-  -- a key that begins with the spot's path
-  pub same_above : (key s rest : List Bool) → key ≡ take p.depth search_path ++ s ++ rest → take p.depth key ≡ take p.depth search_path
-  same_above key s rest e =
-      ap (take p.depth) (e ∙ append_assoc (take p.depth search_path) s rest)
-      ∙ take-append-le p.depth (take p.depth search_path) (s ++ rest) (omega (arith, string-length)) ∙ take-take p.depth p.depth search_path (omega arith)
-
   module _ (s : List Bool) (later : Places) (first : to_come p.places ≡ s ∷ to_come later) where
-    -- the spot afterwards
-    abbrev after : Spot
-    after = record p { places = later }
-
     here : IsPlaceOf at.node s
     here = subst (λ n. IsPlaceOf n s) at.node_is (All-head (IsPlaceOf p.node) s (to_come later) (subst (All (IsPlaceOf p.node)) first at.each))
 
     pub goes_on : IsSpot width v.slots search_path (record p { places = later })
     goes_on = spot_as at refl at.long at.is_there refl (All-tail (IsPlaceOf p.node) s (to_come later) (subst (All (IsPlaceOf p.node)) first at.each))
 
-    weight_is : weight p ≡ 2 ^ (2 * (130 - p.depth)) + weight after
-    weight_is =
-        let e = one-less (length (to_come later)) (2 ^ (2 * (130 - p.depth))) in
-        let l : length (to_come p.places) * 2 ^ (2 * (130 - p.depth)) ≡ suc (length (to_come later)) * 2 ^ (2 * (130 - p.depth)) = ap (λ ss. length ss * 2 ^ (2 * (130 - p.depth))) first in
-        omega (arith, e, l)
-
-    pub lighter : weight after < weight p
-    lighter = omega (arith, weight_is, pow_pos (2 * (130 - p.depth)))
-
     module _ {T : Type 0} (t : Tree T) (tree : IsTrie width t.count v t.cells t.shape) where
-      still_is : still t.shape.entries search_path p ≡ listing_at_place t.shape.entries (take p.depth search_path) s ++ still t.shape.entries search_path after
-      still_is = ap (listing_at_places t.shape.entries (take p.depth search_path)) first
-
       -- the next place is that of a value
       module _ (short : length s ≤ 4) where
         set : has at.node.value_bitmap (value_bit s) ≡ true
@@ -107,7 +45,7 @@ module _ (width : ℕ) (v : Store Node) (search_path : List Bool) (p : Spot) (at
           fits = let h = value_space in omega (arith, h, n_is)
 
           taken : take (p.depth + n) (bits key) ≡ take p.depth search_path ++ s
-          taken = take-extend search_path (bits key) width p.depth n x long fits extended ∙ ap (λ u. take p.depth search_path ++ u) (sym is)
+          taken = extended_by search_path (bits key) width p.depth n x s long fits is extended
 
           -- the key ends at the spot
           pub ends_here : EndsAt search_path p (take (p.depth + n) (bits key))
@@ -120,15 +58,14 @@ module _ (width : ℕ) (v : Store Node) (search_path : List Bool) (p : Spot) (at
               }
 
           filled : bits key ≡ take (p.depth + n) (bits key) ++ zeros (width - (p.depth + n))
-          filled =
-              extended ∙ ap (λ u. u ++ zeros (width - (p.depth + n))) (sym (take-extend search_path (bits key) width p.depth n x long fits extended))
+          filled = filled_by search_path (bits key) width p.depth n x long fits extended
 
           -- what the step gives
           module _ (seat : Seat) (seat_is : seat ≡ value_seat p.node (value_bit s)) where
             own_seat : seat ≡ value_seat at.node (value_bit s)
             own_seat = seat_is ∙ ap (λ n. value_seat n (value_bit s)) at.node_is
 
-            pub gives_value : GivesSeat IsKey bits width t key (p.depth + n) seat (still t.shape.entries search_path p) (still t.shape.entries search_path after)
+            pub gives_value : GivesSeat IsKey bits width t key (p.depth + n) seat (still t.shape.entries search_path p) (still t.shape.entries search_path (moved_on p later))
             gives_value =
                 let x = stored_value width v t tree (take p.depth search_path) at.node whole at.is_there s short set in
                 record {
@@ -139,9 +76,9 @@ module _ (width : ℕ) (v : Store Node) (search_path : List Bool) (p : Spot) (at
                     is_key = is_key;
                     short = fits;
                     first =
-                        still_is
-                        ∙ ap (λ es. es ++ still t.shape.entries search_path after) (value_listed width v t tree (take p.depth search_path) at.node whole at.is_there s short set)
-                        ∙ ap (λ k. (k, x) ∷ still t.shape.entries search_path after) (sym taken);
+                        still_is p s later first t.shape.entries search_path
+                        ∙ ap (λ es. es ++ still t.shape.entries search_path (moved_on p later)) (value_listed width v t tree (take p.depth search_path) at.node whole at.is_there s short set)
+                        ∙ ap (λ k. (k, x) ∷ still t.shape.entries search_path (moved_on p later)) (sym taken);
                     filled = filled;
                   };
                 }
@@ -186,13 +123,9 @@ module _ (width : ℕ) (v : Store Node) (search_path : List Bool) (p : Spot) (at
               (extended : below ≡ take p.depth search_path ++ digits 5 b ++ zeros (width - (p.depth + 5)))
               (depth_is : c.depth ≡ p.depth + 5) (node_is : c.node ≡ without_sizes (node_at v.slots slot))
               (all : to_come c.places ≡ places c.node.value_bitmap c.node.child_bitmap) (each : All (IsPlaceOf c.node) (to_come c.places)) where
-            digits_are : digits 5 b ≡ s
-            digits_are = ap (digits 5) b_is ∙ ap (λ k. digits k (number s)) (sym five) ∙ digits-number s
-
             child_string : take c.depth below ≡ take p.depth search_path ++ s
             child_string =
-                ap (λ k. take k below) depth_is ∙ take-extend search_path below width p.depth 5 b long child_space extended
-                ∙ ap (λ u. take p.depth search_path ++ u) digits_are
+                ap (λ k. take k below) depth_is ∙ extended_by search_path below width p.depth 5 b s long child_space (sym (child_digits s b five b_is)) extended
 
             child_node : read v.slots (chunks_of (take c.depth below)) ≡ Some (node_at v.slots slot)
             child_node =
@@ -215,15 +148,15 @@ module _ (width : ℕ) (v : Store Node) (search_path : List Bool) (p : Spot) (at
             child_whole : length (take c.depth below) % 5 ≡ 0
             child_whole = ap (λ u. length u % 5) child_string ∙ omega (arith, whole, five, length-append (take p.depth search_path) s)
 
-            pub child_still : still t.shape.entries search_path p ≡ still t.shape.entries below c ++ still t.shape.entries search_path after
+            pub child_still : still t.shape.entries search_path p ≡ still t.shape.entries below c ++ still t.shape.entries search_path (moved_on p later)
             child_still =
-                still_is
-                ∙ ap (λ es. es ++ still t.shape.entries search_path after)
+                still_is p s later first t.shape.entries search_path
+                ∙ ap (λ es. es ++ still t.shape.entries search_path (moved_on p later))
                 (listing_at_child t.shape.entries (take p.depth search_path) s five ∙ ap (listing_below t.shape.entries) (sym child_string)
                 ∙ sym (ap (listing_at_places t.shape.entries (take c.depth below)) (all ∙ ap (λ n. places n.value_bitmap n.child_bitmap) node_is) ∙ all_places width v t tree (take c.depth below) (node_at v.slots slot) child_whole child_node))
 
-            pub child_lighter : width ≤ 128 → weight c + weight after < weight p
+            pub child_lighter : width ≤ 128 → weight c + weight (moved_on p later) < weight p
             child_lighter small =
                 let space = child_space in
-                let h = weight-child p.depth c.depth c.node.value_bitmap c.node.child_bitmap (to_come c.places) depth_is (omega (arith, space, depth_is, small)) all in
-                omega (arith, h, weight_is)
+                let h = weight-child p.depth c.depth (is_in c.node.value_bitmap c.node.child_bitmap) (to_come c.places) depth_is (omega (arith, space, depth_is, small)) all in
+                omega (arith, h, weight_is p s later first)

@@ -1,6 +1,7 @@
 -- A stack of spots, read from its end.
-use Rattle.prefix_trie_table.proofs.Prelude.{◌≡◌, ℕ, ◌+◌, ◌*◌, ◌<◌, ◌≤◌, Bool, List, [], ◌∷◌, ◌++◌, length, sum_by, take, Some, refl, ap, sym, ◌∙◌, subst, arith, append_assoc, append-nil, length-append, drop, get_or, Less, AllByRecursion, take-take, drop-take, get_or_append_left, sum_by_push, to_come, Entries, listing_at_places, Spot, chunks_of, read, Node, IsSpot, IsPlaceOf, IsStackFrom, IsStack, start, still, pending, weight, IsOther, IsPassed, ArePassed, All-nil, All-cons, All-head, All-tail, All-push, listing_cmp, listing-refl}
+use Rattle.prefix_trie_table.proofs.Prelude.{◌≡◌, ℕ, ◌+◌, ◌*◌, ◌<◌, ◌≤◌, Bool, List, [], ◌∷◌, ◌++◌, length, take, Some, refl, ap, sym, ◌∙◌, subst, arith, length-append, drop, get_or, Less, AllByRecursion, take-take, drop-take, get_or_append_left, to_come, Entries, listing_at_places, Spot, chunks_of, read, Node, IsSpot, IsPlaceOf, IsStackFrom, IsStack, depth_of, start, still, pending, IsOther, IsPassed, ArePassed, All-nil, All-cons, All-head, All-tail, All-push, listing_cmp, listing-refl}
 use Rattle.std.specs.List.{All}
+use Rattle.prefix_trie_table.proofs.Walk.Levels.{from_last-done, from_last-entry, from_last-popped, from_last-push, from_last-child, levels-at, levels-child, levels-push, levels-put}
 
 -- a spot of as many levels as another
 pub spot_as : {width : ℕ} {nodes : List Node} {key other : List Bool} {p q : Spot} (i : IsSpot width nodes key p) → q.depth ≡ p.depth → p.depth ≤ length other →
@@ -16,24 +17,22 @@ spot_as i same long is_there same_node each = record {
   each = each;
 }
 
+-- a spot serves for another key with the same bits down to it
+moves : (width : ℕ) (nodes : List Node) (key other : List Bool) (p : Spot) → IsSpot width nodes key p → p.depth ≤ length other → take p.depth other ≡ take p.depth key →
+    IsSpot width nodes other p
+moves width nodes key other p i long same = spot_as i refl long (ap (λ s. read nodes (chunks_of s)) same ∙ i.is_there) refl i.each
+
+still-same : {T : Type 0} (m : Entries T) (key other : List Bool) (p : Spot) → take p.depth other ≡ take p.depth key → still m other p ≡ still m key p
+still-same m key other p same = ap (λ s. listing_at_places m s (to_come p.places)) same
+
 module _ {T : Type 0} (m : Entries T) (key : List Bool) where
   pub pending-push : (ps : List Spot) (p : Spot) → pending m key (ps ++ p ∷ []) ≡ still m key p ++ pending m key ps
-  pending-push [] p = sym (append-nil (still m key p))
-  pending-push (q ∷ ps) p = ap (λ xs. xs ++ still m key q) (pending-push ps p) ∙ append_assoc (still m key p) (pending m key ps) (still m key q)
+  pending-push = from_last-push (still m key)
 
 module _ (width : ℕ) (nodes : List Node) (key : List Bool) where
   pub cursor-push : (n : ℕ) (ps : List Spot) (p : Spot) → IsStackFrom width nodes n key ps → p.depth ≡ n + 5 * length ps → IsSpot width nodes key p →
       IsStackFrom width nodes n key (ps ++ p ∷ [])
-  cursor-push n [] p h d i = (omega (arith, d), i, tt)
-  cursor-push n (q ∷ ps) p h d i = (h.0, h.1, cursor-push (n + 5) ps p h.2 (omega (arith, d)) i)
-
-  -- what holds of the spots below the last one, and of it
-  cursor-pop : (n : ℕ) (ps : List Spot) (p : Spot) → IsStackFrom width nodes n key (ps ++ p ∷ []) →
-      IsStackFrom width nodes n key ps × (p.depth ≡ n + 5 * length ps) × IsSpot width nodes key p
-  cursor-pop n [] p h = (tt, omega (arith, h.0), h.1)
-  cursor-pop n (q ∷ ps) p h =
-      let deeper = cursor-pop (n + 5) ps p h.2 in
-      ((h.0, h.1, deeper.0), omega (arith, deeper.1), deeper.2)
+  cursor-push = levels-push depth_of (IsSpot width nodes key)
 
   -- spots are a stack from whatever depth they start
   pub restart : (n : ℕ) (ps : List Spot) → IsStackFrom width nodes n key ps → IsStack width nodes key ps
@@ -41,26 +40,19 @@ module _ (width : ℕ) (nodes : List Node) (key : List Bool) where
   restart n (p ∷ ps) h = subst (λ k. IsStackFrom width nodes k key (p ∷ ps)) (sym h.0) h
 
 module _ (all below : List Spot) (p : Spot) (popped : all ≡ below ++ p ∷ []) where
-  pub weight-popped : sum_by weight all ≡ sum_by weight below + weight p
-  weight-popped = ap (sum_by weight) popped ∙ sum_by_push weight below p
-
-  -- the last spot has become q, and c is above it
-  pub weight-deeper : (q c : Spot) → weight c + weight q < weight p → sum_by weight ((below ++ q ∷ []) ++ c ∷ []) < sum_by weight all
-  weight-deeper q c h = omega (arith, h, sum_by_push weight (below ++ q ∷ []) c, sum_by_push weight below q, weight-popped)
-
   module _ {T : Type 0} (m : Entries T) (key : List Bool) where
     pub pending-popped : pending m key all ≡ still m key p ++ pending m key below
-    pending-popped = ap (pending m key) popped ∙ pending-push m key below p
+    pending-popped = from_last-popped (still m key) all below p popped
 
     pub pending-entry : (q : Spot) (e : List Bool × T) → still m key p ≡ e ∷ still m key q → pending m key all ≡ e ∷ pending m key (below ++ q ∷ [])
-    pending-entry q e h = pending-popped ∙ ap (λ xs. xs ++ pending m key below) h ∙ ap (λ xs. e ∷ xs) (sym (pending-push m key below q))
+    pending-entry = from_last-entry (still m key) all below p popped
 
     pub pending-done : still m key p ≡ [] → pending m key below ≡ pending m key all
-    pending-done h = sym (pending-popped ∙ ap (λ xs. xs ++ pending m key below) h)
+    pending-done = from_last-done (still m key) all below p popped
 
   module _ (width : ℕ) (nodes : List Node) (key : List Bool) (stack : IsStack width nodes key all) where
     pub cursor-at : IsStackFrom width nodes (start all) key below × (p.depth ≡ start all + 5 * length below) × IsSpot width nodes key p
-    cursor-at = cursor-pop width nodes key (start all) below p (subst (IsStackFrom width nodes (start all) key) popped stack)
+    cursor-at = levels-at depth_of (IsSpot width nodes key) (start all) all below p popped stack
 
     pub stack-popped : IsStack width nodes key below
     stack-popped = restart width nodes key (start all) below cursor-at.0
@@ -69,63 +61,27 @@ module _ (all below : List Spot) (p : Spot) (popped : all ≡ below ++ p ∷ [])
     pub stack-space : width ≤ 128 → length below < 26
     stack-space small = let w = cursor-at.2.within in omega (arith, w, cursor-at.1, small)
 
-    put-at : (q : Spot) → q.depth ≡ p.depth → IsSpot width nodes key q → IsStackFrom width nodes (start all) key (below ++ q ∷ [])
-    put-at q d i = cursor-push width nodes key (start all) below q cursor-at.0 (d ∙ cursor-at.1) i
-
     -- the spot is put back as q
     pub stack-put : (q : Spot) → q.depth ≡ p.depth → IsSpot width nodes key q → IsStack width nodes key (below ++ q ∷ [])
-    stack-put q d i = restart width nodes key (start all) (below ++ q ∷ []) (put-at q d i)
-
--- a key that has the same bits as far as the deepest spot goes serves as well
-module _ (width : ℕ) (nodes : List Node) (key other : List Bool) (d : ℕ) (reach : d ≤ length other) (same : take d other ≡ take d key) where
-  same_path : (k : ℕ) → k ≤ d → take k other ≡ take k key
-  same_path k h = sym (take-take k d other h) ∙ ap (take k) same ∙ take-take k d key h
-
-  cursor-search_path : (n : ℕ) (ps : List Spot) → n + 5 * length ps ≤ d + 5 → IsStackFrom width nodes n key ps → IsStackFrom width nodes n other ps
-  cursor-search_path n [] h t = tt
-  cursor-search_path n (p ∷ ps) h t = (
-    t.0,
-    spot_as t.1 refl (omega (arith, h, t.0, reach)) (ap (λ s. read nodes (chunks_of s)) (same_path p.depth (omega (arith, h, t.0))) ∙ t.1.is_there) refl t.1.each,
-    cursor-search_path (n + 5) ps (omega (arith, h)) t.2,
-  )
-
-  pending-search_path : {T : Type 0} (m : Entries T) (n : ℕ) (ps : List Spot) → n + 5 * length ps ≤ d + 5 → IsStackFrom width nodes n key ps →
-      pending m other ps ≡ pending m key ps
-  pending-search_path m n [] h t = refl
-  pending-search_path m n (p ∷ ps) h t =
-      ap (λ es. es ++ still m other p) (pending-search_path m (n + 5) ps (omega (arith, h)) t.2)
-      ∙ ap (λ s. pending m key ps ++ listing_at_places m s (to_come p.places)) (same_path p.depth (omega (arith, h, t.0)))
+    stack-put q d i = restart width nodes key (start all) (below ++ q ∷ []) (levels-put depth_of (IsSpot width nodes key) (start all) all below p popped stack q d i)
 
 -- the last spot p of these has become q, and c, with a key of its own, is above it
 module _ (width : ℕ) (nodes : List Node) (key other : List Bool) (all below : List Spot) (p q c : Spot) (popped : all ≡ below ++ p ∷ [])
     (stack : IsStack width nodes key all) (depth : q.depth ≡ p.depth) (is_q : IsSpot width nodes key q)
     (deeper : c.depth ≡ p.depth + 5) (is_c : IsSpot width nodes other c) (same : take p.depth other ≡ take p.depth key) where
-  abbrev put : List Spot
-  put = below ++ q ∷ []
-
-  cursor : IsStackFrom width nodes (start all) key put
-  cursor = put-at all below p popped width nodes key stack q depth is_q
-
-  long : start all + 5 * length put ≡ p.depth + 5
-  long = let at = (cursor-at all below p popped width nodes key stack).1 in omega (arith, at, length-append below (q ∷ []))
-
   reach : p.depth ≤ length other
   reach = let l = is_c.long in omega (arith, l, deeper)
 
-  pub stack-child_search_path : IsStack width nodes other (put ++ c ∷ [])
+  pub stack-child_search_path : IsStack width nodes other ((below ++ q ∷ []) ++ c ∷ [])
   stack-child_search_path =
-      restart width nodes other (start all) (put ++ c ∷ [])
-      (cursor-push width nodes other (start all) put c
-      (cursor-search_path width nodes key other p.depth reach same (start all) put (omega (arith, long)) cursor) (omega (arith, deeper, long)) is_c)
+      restart width nodes other (start all) ((below ++ q ∷ []) ++ c ∷ [])
+      (levels-child depth_of (IsSpot width nodes) (moves width nodes) take-take key other (start all) all below p q c popped stack depth is_q deeper is_c reach same)
 
   pub pending-child_search_path : {T : Type 0} (m : Entries T) → still m key p ≡ still m other c ++ still m key q →
-      pending m other (put ++ c ∷ []) ≡ pending m key all
-  pending-child_search_path m h =
-      pending-push m other put c
-      ∙ ap (λ es. still m other c ++ es)
-      (pending-search_path width nodes key other p.depth reach same m (start all) put (omega (arith, long)) cursor ∙ pending-push m key below q)
-      ∙ sym (append_assoc (still m other c) (still m key q) (pending m key below)) ∙ sym (ap (λ xs. xs ++ pending m key below) h)
-      ∙ sym (pending-popped all below p popped m key)
+      pending m other ((below ++ q ∷ []) ++ c ∷ []) ≡ pending m key all
+  pending-child_search_path m =
+      from_last-child depth_of (IsSpot width nodes) (moves width nodes) take-take key other (start all) all below p q c popped stack depth is_q deeper is_c reach same
+      (still m) (still-same m key other)
 
 -- ---- the child that leads from a spot of a walk to the next one is no longer to come
 

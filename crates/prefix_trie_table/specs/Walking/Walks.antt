@@ -86,10 +86,19 @@ pub record IsSpot (width : ℕ) (nodes : List Node) (search_path : List Bool) (p
   pub node_is : p.node ≡ without_sizes node
   pub each : All (IsPlaceOf p.node) (to_come p.places)
 
+module _ {S : Type 0} (depth : S → ℕ) (Is : S → Type 0) where
+  -- each of these is a level below the one before, and the first is at this depth
+  abbrev pub AreLevels : ℕ → List S → Type 0
+  AreLevels n [] = ⊤
+  AreLevels n (p ∷ ps) = (depth p ≡ n) × Is p × AreLevels (n + 5) ps
+
+-- the depth of a spot
+abbrev pub depth_of : Spot → ℕ
+depth_of p = p.depth
+
 -- each spot is a level below the one before, and the first is at this depth
 abbrev pub IsStackFrom : ℕ → List Node → ℕ → List Bool → List Spot → Type 0
-IsStackFrom width nodes n search_path [] = ⊤
-IsStackFrom width nodes n search_path (p ∷ ps) = (p.depth ≡ n) × IsSpot width nodes search_path p × IsStackFrom width nodes (n + 5) search_path ps
+IsStackFrom width nodes n search_path ps = AreLevels depth_of (IsSpot width nodes search_path) n ps
 
 -- each spot is a level below the one before, from any depth on
 abbrev pub IsStack : ℕ → List Node → List Bool → List Spot → Type 0
@@ -103,6 +112,12 @@ IsPassed search_path p = All (IsOther (take 5 (drop p.depth search_path))) (to_c
 abbrev pub ArePassed : List Bool → List Spot → Type 0
 ArePassed search_path ps = AllWithin (IsPassed search_path) ps 0 (length ps - 1)
 
+module _ {S E : Type 0} (f : S → List E) where
+  -- what these have, one after another, the last of them first
+  abbrev pub from_last : List S → List E
+  from_last [] = []
+  from_last (p ∷ ps) = from_last ps ++ f p
+
 module _ {T : Type 0} where
   -- the entries still to come at a spot
   abbrev pub still : Entries T → List Bool → Spot → List (List Bool × T)
@@ -110,8 +125,7 @@ module _ {T : Type 0} where
 
   -- the entries to come at a stack of spots, the last of which is the deepest
   abbrev pub pending : Entries T → List Bool → List Spot → List (List Bool × T)
-  pending m search_path [] = []
-  pending m search_path (p ∷ ps) = pending m search_path ps ++ still m search_path p
+  pending m search_path ps = from_last (still m search_path) ps
 
   -- the value at a seat is that of the first entry to come
   pub record GivesSeat {K : Type 0} (IsKey : K → Type 0) (bits : K → List Bool) (width : ℕ) (t : Tree T) (key : K) (len : ℕ) (seat : Seat) (old new : List (List Bool × T)) : Type 0 where

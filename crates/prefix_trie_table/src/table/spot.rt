@@ -21,9 +21,9 @@ use std::alloc::Allocator;
 /// The node is without the sizes of its blocks.
 #[derive(Clone, Copy)]
 pub struct Spot {
-    node: Node,
-    depth: u32,
-    places: Places,
+    pub(super) node: Node,
+    pub(super) depth: u32,
+    pub(super) places: Places,
 }
 
 impl Default for Spot {

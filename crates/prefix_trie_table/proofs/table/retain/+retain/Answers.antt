@@ -6,7 +6,7 @@ use Rattle.prefix_trie_table.proofs.Retain.CurrentChild.{child_there, lower_insi
 use Rattle.prefix_trie_table.proofs.Lookup.Matching.{clear-small}
 use Rattle.prefix_trie_table.proofs.Retain.CurrentPlaces.{same_place, this_place, may_ask_this, each_next, apart_next, done_next, preserves_both, preserves_none}
 use Rattle.prefix_trie_table.proofs.Retain.Retained.{site_holds, site_node}
-use Rattle.prefix_trie_table.proofs.Walk.Spots.{place-value, place-small, place-child-small}
+use Rattle.prefix_trie_table.proofs.Walk.NextPlaces.{place-value, place-small, place-child-small}
 use Rattle.prefix_trie_table.proofs.table.retain.+retain.Goals as goal
 
 pub retain_place-retain_value-requires-clause-bit : goal.retain_place-retain_value-requires-clause-bit

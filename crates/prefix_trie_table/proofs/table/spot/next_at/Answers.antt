@@ -1,6 +1,7 @@
 -- The next place of a spot, in three cases: none is left, a value's entry comes, or a child's spot is entered.
 use Rattle.prefix_trie_table.proofs.Prelude.{◌≡◌, ◌+◌, ◌-◌, length, refl, sym, ap, ◌∙◌, arith, digits, zeros, length-digits, value_seat}
-use Rattle.prefix_trie_table.proofs.Walk.Spots.{same_above, ends_here, child_passed, place-value, place-child, place-small, place-child-small, goes_on, lighter, value_space, gives_value, value_seated, child_space, child_here, child_spot, child_still, child_lighter}
+use Rattle.prefix_trie_table.proofs.Walk.NextPlaces.{lighter, place-value, place-child, place-small, place-child-small, same_above}
+use Rattle.prefix_trie_table.proofs.Walk.Spots.{ends_here, child_passed, goes_on, value_space, gives_value, value_seated, child_space, child_here, child_spot, child_still, child_lighter}
 use Rattle.prefix_trie_table.proofs.table.spot.next_at.Goals as goal
 
 pub string_of-n-requires : goal.string_of-n-requires
@@ -28,7 +29,7 @@ returns-in-Value g c =
     record {
       step = λ t tree. (
         gives_value _ c.args.nodes.now _ _ c.requires.spot (g.met.K.Key.key_laws.bits_length c.args.key c.is_key.ensures.key) taken.string c.next_place.new.self taken.first t tree is.0 g.K.Key.IsKey g.K.Key.bits c.extend.result c.extend.ensures.key c.string_of-n.result.0 c.string_of-n.result.1 (c.string_of-n.ensures.only taken.string (sym is.1)) c.extend.ensures.value _ (c.value_seat.ensures ∙ ap (value_seat c.args.spot.now.node) is.1),
-        lighter _ c.args.nodes.now _ _ c.requires.spot (g.met.K.Key.key_laws.bits_length c.args.key c.is_key.ensures.key) taken.string c.next_place.new.self taken.first,
+        lighter c.args.spot.now taken.string c.next_place.new.self taken.first,
         goes_on _ c.args.nodes.now _ _ c.requires.spot (g.met.K.Key.key_laws.bits_length c.args.key c.is_key.ensures.key) taken.string c.next_place.new.self taken.first,
         refl,
       );
@@ -73,7 +74,7 @@ returns-in-Child-clause-step g c =
       refl,
       child_spot _ c.args.nodes.now _ _ c.requires.spot (g.met.K.Key.key_laws.bits_length c.args.key c.is_key.ensures.key) taken.string c.next_place.new.self taken.first t tree is.0 c.in-Child.child _ is.1 c.child_slot-at.ensures below child reach extended c.enter.ensures.depth c.enter.ensures.node c.enter.ensures.places c.enter.ensures.each,
       c.enter.ensures.depth,
-      same_above _ c.args.nodes.now _ _ c.requires.spot (g.met.K.Key.key_laws.bits_length c.args.key c.is_key.ensures.key) below (digits 5 c.in-Child.child) (zeros (g.K.Key.bit_width - (c.args.spot.now.depth + 5))) extended,
+      same_above _ _ c.requires.spot.long below (digits 5 c.in-Child.child) (zeros (g.K.Key.bit_width - (c.args.spot.now.depth + 5))) extended,
     )
 
 pub returns-in-Child-clause-search_path : goal.returns-in-Child-clause-search_path

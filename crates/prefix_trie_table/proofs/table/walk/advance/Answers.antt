@@ -1,6 +1,7 @@
 -- Each step is at the last spot. It gives the first pair to come, adds the spot of a child, or ends the spot, whose pairs have then all been given.
-use Rattle.prefix_trie_table.proofs.Prelude.{◌≡◌, ◌-◌, ◌<◌, ◌∙◌, List, [], ◌∷◌, ◌++◌, length, sum_by, take, sym, ap, ap₂, subst, arith, length-append, take-append_seam, Spot, ArePassed, IsStack, pending, weight}
-use Rattle.prefix_trie_table.proofs.Walk.Stacks.{passed-below, passed-above, passed-popped, passed-child, cursor-at, stack-popped, stack-put, stack-child_search_path, pending-entry, pending-child_search_path, pending-done, weight-deeper, weight-popped}
+use Rattle.prefix_trie_table.proofs.Prelude.{◌≡◌, ◌<◌, ◌∙◌, [], ◌∷◌, length, sum_by, take, sym, ap, subst, arith, length-append, Spot, ArePassed, IsStack, pending, weight}
+use Rattle.prefix_trie_table.proofs.Walk.Stacks.{passed-below, passed-above, passed-popped, passed-child, cursor-at, stack-popped, stack-put, stack-child_search_path, pending-entry, pending-child_search_path, pending-done}
+use Rattle.prefix_trie_table.proofs.Walk.Levels.{left_is, pushed, weight-deeper, weight-popped}
 use Rattle.prefix_trie_table.proofs.table.walk.advance.Goals as goal
 
 -- at the same depth
@@ -63,16 +64,12 @@ push-requires g c =
     let at = (cursor-at _ _ _ last.3 g.K.Key.bit_width c.args.nodes.now.slots (g.K.Key.bits c.loop-stack.key) c.loop-stack.invariant.stack).1 in
     (omega arith, let inside = h.4.within in omega (arith, at, inside, h.5, g.met.K.Key.key_laws.at_most_128, ap length last.4, length-append last.0 (last.2 ∷ [])))
 
--- the spots once the last has moved on and its child is pushed
-pushed : (all put below : List Spot) (q c : Spot) → put ≡ below ++ q ∷ [] → all ≡ put ++ c ∷ [] → all ≡ (below ++ q ∷ []) ++ c ∷ []
-pushed all put below q c e f = f ∙ ap (λ ps. ps ++ c ∷ []) e
-
 pub loop-stack-smaller-in-Child : goal.loop-stack-smaller-in-Child
 loop-stack-smaller-in-Child g c =
     let last = c.in-Child.ensures.last in
     let h = last.6 c.requires.tree.0 c.requires.tree.1 in
     subst (λ ps. sum_by weight ps < sum_by weight c.loop-stack.stack.items) (sym (pushed _ _ _ _ _ last.4 c.push.ensures.items))
-    (weight-deeper _ _ _ last.3 last.2 c.in-Child.child h.1)
+    (weight-deeper weight _ _ _ last.3 last.2 c.in-Child.child h.1)
 
 pub loop-stack-preserved-in-Child : goal.loop-stack-preserved-in-Child
 loop-stack-preserved-in-Child g c =
@@ -93,18 +90,11 @@ loop-stack-preserved-in-Child g c =
           last.3 c.loop-stack.invariant.stack h.6 last.5 (c.loop-stack.invariant.passed o));
     }
 
--- what is left once the last spot is taken off
-left_is : (all put left below : List Spot) (p q : Spot) → all ≡ below ++ p ∷ [] → put ≡ below ++ q ∷ [] → left ≡ take (length put - 1) put → left ≡ below
-left_is all put left below p q is moved rest =
-    rest ∙
-    ap₂ take (let long : length put - 1 ≡ length below = omega (arith, ap length moved, length-append below (q ∷ [])) in long) moved ∙
-    take-append_seam below (q ∷ [])
-
 pub loop-stack-smaller : goal.loop-stack-smaller
 loop-stack-smaller g c =
     let last = c.in-Done.ensures.last in
     let h = (last.6 c.requires.tree.0 c.requires.tree.1).1 in
-    subst (λ ps. sum_by weight ps < sum_by weight c.loop-stack.stack.items) (sym (left_is _ _ _ _ _ _ last.3 last.4 c.pop.ensures.rest)) (omega (arith, h, weight-popped _ _ _ last.3))
+    subst (λ ps. sum_by weight ps < sum_by weight c.loop-stack.stack.items) (sym (left_is _ _ _ _ _ _ last.3 last.4 c.pop.ensures.rest)) (omega (arith, h, weight-popped weight _ _ _ last.3))
 
 pub loop-stack-preserved : goal.loop-stack-preserved
 loop-stack-preserved g c =

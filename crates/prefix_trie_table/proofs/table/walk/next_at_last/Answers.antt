@@ -1,22 +1,9 @@
 -- A step at the last spot changes that spot alone: the stack is the spots below it and the spot, before and after.
-use Rattle.prefix_trie_table.proofs.Prelude.{◌≡◌, ℕ, ◌+◌, ◌-◌, ◌<◌, List, [], ◌∷◌, ◌++◌, length, take, drop, get_or, set, sym, ap, subst, ◌∙◌, arith, length-set, take_all, take_more, take_more_set, take-append_seam, IsSpot}
+use Rattle.prefix_trie_table.proofs.Prelude.{◌≡◌, ◌-◌, ◌++◌, length, take, drop, get_or, set, sym, ap, subst, ◌∙◌, length-set, take-append_seam, IsSpot}
+use Rattle.prefix_trie_table.proofs.Walk.Levels.{ends_in, written}
 use Rattle.prefix_trie_table.proofs.Walk.Stacks.{cursor-at}
 use Rattle.prefix_trie_table.specs.Walking.Walks.{StaysOnPath, Steps}
 use Rattle.prefix_trie_table.proofs.table.walk.next_at_last.Goals as goal
-
-module _ {X : Type 0} (xs : List X) (n : ℕ) (counts : n ≡ length xs) (some : 0 < length xs) where
-  -- what is before the last item, and the item
-  ends_in : (x : X) → x ≡ get_or xs (n - 1) x → xs ≡ take (n - 1) xs ++ x ∷ []
-  ends_in x is =
-      sym (take_all (n - 1 + 1) xs (omega (arith, counts)))
-      ∙ take_more xs (n - 1) x (omega (arith, counts, some))
-      ∙ ap (λ y. take (n - 1) xs ++ y ∷ []) (sym is)
-
-  -- the same once another item is written there
-  written : (y : X) → set xs (n - 1) y ≡ take (n - 1) xs ++ y ∷ []
-  written y =
-      sym (take_all (n - 1 + 1) (set xs (n - 1) y) (omega (arith, counts, length-set xs (n - 1) y)))
-      ∙ take_more_set xs (n - 1) y (omega (arith, counts, some))
 
 pub next_at-requires-clause-spot : goal.next_at-requires-clause-spot
 next_at-requires-clause-spot g c =
