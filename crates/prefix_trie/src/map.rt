@@ -1,6 +1,6 @@
 //! Maps from prefixes to values, their entries and their walks.
 pub use prefix_trie_map::map::entry::{Entry, OccupiedEntry, Put, VacantEntry};
 pub use prefix_trie_map::map::{
-    Cover, CoverKeys, CoverValues, IntoIter, IntoKeys, IntoValues, Iter, IterMut, Keys, PrefixMap,
-    Values, ValuesMut,
+    Combination, Cover, CoverKeys, CoverValues, IntoIter, IntoKeys, IntoValues, Iter, IterMut,
+    JointCursor, Keys, PrefixMap, Values, ValuesMut,
 };
