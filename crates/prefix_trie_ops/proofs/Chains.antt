@@ -1,6 +1,6 @@
 -- Chains of prefixes, each of which contains the next ones, and the last item of a list: for the stack of
 -- `aggregate_consistent` of maps.
-use Rattle.std.proofs.Common.{◌≡◌, ◌∙◌, ◌-◌, ◌++◌, ℕ, suc, Bool, true, false, cond, List, [], ◌∷◌, length, map, filter, Option, Some, None, All, Bor, ap, sym, subst, refl, arith, append-nil}
+use Rattle.std.proofs.Common.{◌≡◌, ◌∙◌, ◌-◌, ◌++◌, suc, Bool, true, false, cond, List, [], ◌∷◌, length, map, filter, Option, Some, None, All, Bor, ap, sym, subst, refl, arith, append-nil}
 use Rattle.std.proofs.lemmas.List.Elements.{filter-append, All-head, All-tail, All-cons, All-nil, All-filter, All-push}
 use Rattle.std.specs.List.{slice_get}
 use Rattle.std.specs.Option.{option_map, option_to_list}

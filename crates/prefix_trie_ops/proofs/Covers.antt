@@ -1,20 +1,20 @@
 -- The covers of each entry of a listing, from those of the entry before it: for `aggregate_consistent`.
-use Rattle.std.proofs.Common.{◌≡◌, ◌∙◌, ◌⊎◌, ◌+◌, ◌-◌, ◌<◌, ◌≤◌, ◌++◌, ◌&&◌, not, nat_lt, eqb, eqb-true, ◌≢◌, ltb-true, lt-ltb, ℕ, zero, suc, Bool, true, false, true≢false, cond, List, [], ◌∷◌, length, take, drop, map, filter, Option, Some, None, All, Bor, Less, is_lt, inl, inr, ap, sym, subst, refl, arith, append-nil, T}
-use Rattle.std.proofs.lemmas.List.Elements.{filter-append, All-head, All-tail, All-cons, All-nil}
+use Rattle.std.proofs.Common.{◌≡◌, ◌∙◌, ◌⊎◌, ◌-◌, ◌<◌, ◌≤◌, ◌++◌, ◌&&◌, nat_lt, eqb, eqb-true, ◌≢◌, ltb-true, lt-ltb, ℕ, Bool, true, false, true≢false, cond, List, [], ◌∷◌, length, take, drop, filter, Option, Some, None, Less, is_lt, inl, inr, ap, sym, subst, refl, arith, append-nil, T}
+use Rattle.std.proofs.lemmas.List.Elements.{filter-append}
 use Rattle.std.proofs.lemmas.List.{append_assoc, take-take, length-take-le}
 use Rattle.std.proofs.lemmas.Bool.{eqb-false, and_parts, and_from}
 use Rattle.std.specs.List.{Contains}
 use Rattle.std.specs.Option.{option_map}
-use Rattle.std.specs.FinMap.{get, contains_key, entries, entries_sorted}
+use Rattle.std.specs.FinMap.{entries_sorted}
 use Rattle.std.specs.FinMap.Entries.{is_sorted, below_all}
 use Rattle.prefix_trie_bits.specs.Begins.{begins-trans, begins-length, begins-refl, begins-same-length, begins-rest, begins-take, begins-from-take, take-begins, same_bool}
 use Rattle.prefix_trie_bits.specs.Model.Order.{listing_cmp}
-use Rattle.prefix_trie_bits.specs.Order.{listing-extension, listing-apart, listing-refl}
+use Rattle.prefix_trie_bits.specs.Order.{listing-extension, listing-apart}
 use Rattle.prefix_trie_bits.proofs.Model.Ordered.{not_itself, not_less, sorted-head, sorted-tail, lt-less, t-true, true-t}
 use Rattle.prefix_trie_bits.proofs.Model.Members.{and-first, and-second}
-use Rattle.prefix_trie.specs.Words.{Entries, begins, covers, last_item, lent_item, listing, prefix_pairs}
+use Rattle.prefix_trie.specs.Words.{Entries, begins, covers, last_item, listing}
 use Rattle.prefix_trie_ops.specs.Values.{value_above, value_of}
-use Rattle.prefix_trie_ops.proofs.Lists.{contains_cases, contains_later, contains_here, contains_none, contains_parts, contains_middle, filter_agrees, filter_both, filter_none}
+use Rattle.prefix_trie_ops.proofs.Lists.{contains_cases, contains_here, contains_none, contains_parts, contains_middle, filter_agrees, filter_both, filter_none}
 
 -- if x is between e and y in listing order and e begins y, e begins x
 pub between : (e x y : List Bool) → listing_cmp e x ≡ Less → listing_cmp x y ≡ Less → begins e y ≡ true → begins e x ≡ true

@@ -10,6 +10,7 @@ pub mod Marking
 pub mod Merging
 pub mod Optimal
 pub mod Pairs
+pub mod Joint
 pub mod Reading
 pub mod Removing
 pub mod Selecting

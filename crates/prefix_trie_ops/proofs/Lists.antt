@@ -1,5 +1,5 @@
 -- Small facts on members of lists, filters, and the last item of a list.
-use Rattle.std.proofs.Common.{◌≡◌, ◌∙◌, ◌⊎◌, ◌++◌, ◌&&◌, ℕ, zero, suc, Bool, true, false, cond, List, [], ◌∷◌, map, filter, Option, Some, None, inl, inr, ap, sym, subst, refl, arith}
+use Rattle.std.proofs.Common.{◌≡◌, ◌∙◌, ◌⊎◌, ◌++◌, ◌&&◌, zero, suc, Bool, true, false, cond, List, [], ◌∷◌, map, filter, Some, inl, inr, ap, sym, subst, refl, arith}
 use Rattle.std.specs.List.{Contains}
 use Rattle.prefix_trie.specs.Words.{last_item}
 

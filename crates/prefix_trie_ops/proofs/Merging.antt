@@ -1,12 +1,12 @@
 -- The keys of either of two maps, as a map: its listing is the two listings merged, and its values are those of both:
 -- for `union`.
-use Rattle.std.proofs.Common.{◌≡◌, ◌∙◌, ◌&&◌, Bool, true, false, true≢false, cond, List, [], ◌∷◌, map, Option, Some, None, Ordering, Less, Equal, Greater, ap, ap₂, sym, subst, refl, T}
+use Rattle.std.proofs.Common.{◌≡◌, ◌∙◌, Bool, true, false, cond, List, [], ◌∷◌, map, Option, Some, None, Ordering, Less, Equal, Greater, ap, ap₂, sym, subst, refl, T}
 use Rattle.std.specs.List.{Contains}
-use Rattle.std.specs.Ordering.{is_eq, is_lt, ordering_reverse}
+use Rattle.std.specs.Ordering.{is_lt}
 use Rattle.std.specs.FinMap.{entries_sorted, entries-from_sorted, get, get-entries, get-from_sorted}
 use Rattle.std.specs.FinMap.Entries.{below_all, find, is_sorted}
 use Rattle.prefix_trie_bits.specs.Model.Order.{listing_cmp, same_string}
-use Rattle.prefix_trie_bits.specs.Order.{listing_same, listing_total}
+use Rattle.prefix_trie_bits.specs.Order.{listing_same}
 use Rattle.prefix_trie.specs.Words.{Entries, listing, prefix_pairs}
 use Rattle.prefix_trie_ops.specs.Merging.{merged, merged_keys, sides, union_of}
 use Rattle.prefix_trie_ops.specs.declared.map.sides.Side.{Side}

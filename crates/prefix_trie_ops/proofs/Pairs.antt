@@ -1,14 +1,13 @@
 -- The keys that two maps have, as a map: its listing and its values: for `intersection` of maps.
-use Rattle.std.proofs.Common.{◌≡◌, ◌∙◌, ◌&&◌, Bool, true, false, cond, List, [], ◌∷◌, map, filter, Option, Some, None, ap, sym, subst, refl, T}
-use Rattle.std.specs.List.{Contains, cons_option, filter_map}
+use Rattle.std.proofs.Common.{◌≡◌, ◌∙◌, Bool, true, false, cond, List, [], ◌∷◌, Option, Some, None, ap, sym, refl, T}
+use Rattle.std.specs.List.{cons_option, filter_map}
 use Rattle.std.specs.Option.{option_map}
 use Rattle.std.specs.Ordering.{is_lt}
 use Rattle.std.specs.FinMap.{entries_sorted, entries-from_sorted, get, get-entries, get-from_sorted}
 use Rattle.std.specs.FinMap.Entries.{below_all, find, is_sorted}
 use Rattle.prefix_trie_bits.specs.Model.Order.{listing_cmp, same_string}
-use Rattle.prefix_trie.specs.Words.{Entries, listing, prefix_pairs}
+use Rattle.prefix_trie.specs.Words.{Entries, listing}
 use Rattle.prefix_trie_ops.specs.Combining.{both_values, common, with_partner}
-use Rattle.prefix_trie_ops.proofs.Lists.{contains_here, contains_later}
 use Rattle.prefix_trie_ops.proofs.Sorted.{same_is, t_both, t_first, t_second}
 
 module _ {X Y : Type 0} (n : Entries Y) where
@@ -65,26 +64,3 @@ module _ {X Y : Type 0} (n : Entries Y) where
   get_common m q =
       get-from_sorted listing_cmp (pairs (listing m)) q (sorted_pairs (listing m) (entries_sorted m)) ∙ find_pairs q (listing m)
       ∙ ap (λ o. both_values o (get n q)) (sym (get-entries m q))
-
-  module _ {P : Type 0} (path : P → List Bool) (back : List Bool → P) where
-    pairs_shown : (es : List (List Bool × X)) → ((e : List Bool × X) → Contains es e → path (back e.0) ≡ e.0)
-        → filter_map (with_partner path n) (prefix_pairs back es) ≡ prefix_pairs back (pairs es)
-    pairs_shown [] known = refl
-    pairs_shown (e ∷ es) known =
-        ap (λ s. cons_option (option_map (λ w. (back e.0, (e.1, w))) (get n s)) (filter_map (with_partner path n) (prefix_pairs back es))) (known e (contains_here e es))
-        ∙ ap (cons_option (option_map (λ w. (back e.0, (e.1, w))) (get n e.0))) (pairs_shown es (λ d at. known d (contains_later e d es at)))
-        ∙ elim (get n e.0) as (λ o. cons_option (option_map (λ w. (back e.0, (e.1, w))) o) (prefix_pairs back (pairs es)) ≡ prefix_pairs back (cons_option (option_map (λ w. (e.0, (e.1, w))) o) (pairs es))) [
-          | None ↦ refl
-          | Some w ↦ refl
-        ]
-
-    -- the items of a walk that have a partner are the listing of the common keys
-    pub common_shown : (m : Entries X) → ((e : List Bool × X) → Contains (listing m) e → path (back e.0) ≡ e.0)
-        → filter_map (with_partner path n) (prefix_pairs back (listing m)) ≡ prefix_pairs back (listing (common m n))
-    common_shown m known = pairs_shown (listing m) known ∙ sym (ap (prefix_pairs back) (common_listing m))
-
--- an item without a partner does not change the list
-pub pairs_skip : {P X Y : Type 0} (path : P → List Bool) (n : Entries Y) (xs rest : List (P × X)) (x : P × X) → xs ≡ x ∷ rest → None ≡ get n (path x.0)
-    → filter_map (with_partner path n) rest ≡ filter_map (with_partner path n) xs
-pairs_skip path n xs rest x is none =
-    ap (λ o. cons_option (option_map (λ w. (x.0, (x.1, w))) o) (filter_map (with_partner path n) rest)) none ∙ sym (ap (filter_map (with_partner path n)) is)

@@ -1,13 +1,13 @@
 -- Removing each entry whose longest shorter key has an equal value leaves every question the value that it had: for
 -- `aggregate_consistent` and `aggregate`.
-use Rattle.std.proofs.Common.{◌≡◌, ◌≢◌, ◌⊎◌, ◌+◌, ◌-◌, ◌<◌, ◌≤◌, eqb, ℕ, zero, suc, Bool, true, false, cond, not, filter, List, [], ◌∷◌, length, take, map, Option, Some, None, MatchOption, All, inl, inr, refl, sym, ap, subst, ◌∙◌, arith, rules, is_some, true≢false, eqb-true}
+use Rattle.std.proofs.Common.{◌≡◌, ◌≢◌, ◌⊎◌, ◌+◌, ◌-◌, ◌<◌, ◌≤◌, eqb, ℕ, zero, suc, Bool, true, false, cond, not, filter, List, length, take, Option, Some, None, MatchOption, inl, inr, refl, sym, ap, subst, ◌∙◌, arith, rules, is_some, true≢false, eqb-true}
 use Rattle.std.proofs.lemmas.Bool.{eqb-false}
 use Rattle.std.proofs.lemmas.List.{take-take, length-take-le}
-use Rattle.std.specs.Option.{option_map, IfSome}
+use Rattle.std.specs.Option.{option_map}
 use Rattle.std.specs.FinMap.{get, contains_key, get-retain_keys, same_entries_map}
 use Rattle.prefix_trie_bits.specs.Order.{listing_same}
 use Rattle.prefix_trie_bits.proofs.Model.Ordered.{entries-retained}
-use Rattle.prefix_trie_bits.specs.Begins.{begins-take, begins-trans, take-begins, begins-length, begins-same-length, begins-from-take}
+use Rattle.prefix_trie_bits.specs.Begins.{begins-take, begins-trans, take-begins, begins-length, begins-from-take}
 use Rattle.prefix_trie.specs.Words.{Entries, begins, listing, longest_match, IsLongestMatch, IsUncovered}
 use Rattle.prefix_trie.specs.Laws.Lookups.{LookupLaws}
 use Rattle.prefix_trie_ops.specs.Values.{value_of, value_above, are_equal, is_redundant, stays, without_redundant}

@@ -1,7 +1,7 @@
 -- Small facts on lists of entries in listing order.
-use Rattle.std.proofs.Common.{◌≡◌, ◌∙◌, ◌&&◌, Bool, true, false, true≢false, cond, List, [], ◌∷◌, Option, Some, None, Less, Equal, Greater, Ordering, ap, sym, subst, refl, T}
+use Rattle.std.proofs.Common.{◌≡◌, ◌∙◌, ◌&&◌, Bool, true, false, true≢false, cond, List, [], ◌∷◌, Some, None, Less, Equal, Greater, Ordering, ap, sym, subst, refl, T}
 use Rattle.std.specs.Ordering.{is_eq, is_lt, ordering_reverse}
-use Rattle.std.specs.FinMap.Entries.{below_all, find, is_sorted}
+use Rattle.std.specs.FinMap.Entries.{below_all, find}
 use Rattle.prefix_trie_bits.specs.Model.Order.{listing_cmp, same_string}
 use Rattle.prefix_trie_bits.specs.Order.{listing_same, listing_total}
 

@@ -1,19 +1,11 @@
 -- A walk over a listing that keeps the prefixes above the last entry on a stack: for `aggregate_consistent` of maps.
-use Rattle.std.proofs.Common.{◌≡◌, ◌∙◌, ◌⊎◌, ◌+◌, ◌-◌, ◌<◌, ◌≤◌, ◌++◌, ◌&&◌, not, nat_lt, eqb, eqb-true, ◌≢◌, ltb-true, lt-ltb, ℕ, zero, suc, Bool, true, false, true≢false, cond, List, [], ◌∷◌, length, take, drop, map, filter, Option, Some, None, All, Bor, Less, is_lt, inl, inr, ap, sym, subst, refl, arith, append-nil, T}
-use Rattle.std.proofs.lemmas.List.Elements.{filter-append, All-head, All-tail, All-cons, All-nil}
-use Rattle.std.proofs.lemmas.List.{append_assoc, take-take, length-take-le}
-use Rattle.std.proofs.lemmas.Bool.{eqb-false, and_parts, and_from}
+use Rattle.std.proofs.Common.{◌≡◌, ◌∙◌, ◌++◌, not, Bool, true, false, cond, List, [], ◌∷◌, map, filter, Option, Some, None, ap, sym, subst, refl, append-nil}
+use Rattle.std.proofs.lemmas.List.{append_assoc}
 use Rattle.std.specs.List.{Contains}
 use Rattle.std.specs.Option.{option_map}
-use Rattle.std.specs.FinMap.{get, contains_key, entries, entries_sorted}
-use Rattle.std.specs.FinMap.Entries.{is_sorted, below_all}
-use Rattle.prefix_trie_bits.specs.Begins.{begins-trans, begins-length, begins-refl, begins-same-length, begins-rest, begins-take, begins-from-take, take-begins, same_bool}
-use Rattle.prefix_trie_bits.specs.Model.Order.{listing_cmp}
-use Rattle.prefix_trie_bits.specs.Order.{listing-extension, listing-apart, listing-refl}
-use Rattle.prefix_trie_bits.proofs.Model.Ordered.{not_itself, not_less, sorted-head, sorted-tail, lt-less, t-true, true-t}
-use Rattle.prefix_trie_bits.proofs.Model.Members.{and-first, and-second}
-use Rattle.prefix_trie.specs.Words.{Entries, begins, covers, last_item, lent_item, listing, prefix_pairs}
-use Rattle.prefix_trie_ops.specs.Values.{are_equal, is_redundant, stays, value_above, value_of}
+use Rattle.std.specs.FinMap.{get}
+use Rattle.prefix_trie.specs.Words.{Entries, begins, last_item, listing, prefix_pairs}
+use Rattle.prefix_trie_ops.specs.Values.{are_equal, is_redundant, stays, value_above}
 use Rattle.prefix_trie_ops.proofs.Lists.{contains_here, contains_later, contains_middle, head_of, tail_of, last_pushed, map_push}
 use Rattle.prefix_trie_ops.proofs.Covers.{shorter_covers, covers_push, next_covers, covers_of, above_is_last}
 

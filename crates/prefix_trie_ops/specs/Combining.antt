@@ -1,5 +1,5 @@
 -- Maps that are made of the entries of two maps. This project's own.
-use Rattle.std.specs.Prelude.{Bool, not, List, [], ◌∷◌, Option, Some, None}
+use Rattle.std.specs.Prelude.{Bool, not, List, Option, Some, None}
 use Rattle.std.specs.Option.{is_some, option_map}
 use Rattle.std.specs.List.{filter_map}
 use Rattle.std.specs.FinMap.{contains_key, from_sorted, get, retain_keys}

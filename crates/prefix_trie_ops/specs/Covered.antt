@@ -1,5 +1,5 @@
 -- Keys of a set that begin with a shorter key. This project's own.
-use Rattle.std.specs.Prelude.{ℕ, ◌-◌, ◌==◌, Bool, false, not, cond, List, length, take, Option, Some, None}
+use Rattle.std.specs.Prelude.{◌-◌, ◌==◌, Bool, false, not, cond, List, length, take, Option, Some, None}
 use Rattle.std.specs.Option.{is_some}
 use Rattle.std.specs.FinMap.{retain_keys}
 use Rattle.prefix_trie.specs.Words.{Entries, begins, shortest_match}

@@ -2,7 +2,7 @@
 use Rattle.std.specs.Prelude.{List, [], ◌∷◌, Bool, Option, Some, None}
 use Rattle.std.proofs.Common.{Ordering, Less, Equal, Greater, Bor}
 use Rattle.std.specs.FinMap.{from_sorted}
-use Rattle.prefix_trie.specs.Words.{Entries, lent_item, listing, listing_cmp}
+use Rattle.prefix_trie.specs.Words.{Entries, listing, listing_cmp}
 use Rattle.prefix_trie_ops.specs.declared.map.sides.Side.{Side}
 use Rattle.prefix_trie_ops.specs.declared.map.sides.Side.TheVariants.{Left, Right, Both}
 
@@ -17,13 +17,6 @@ module _ {P T U : Type 0} (path : P → List Bool) where
     | Equal ↦ (x.0, Both x.1 y.1) ∷ merged xs ys
     | Greater ↦ (y.0, Right y.1) ∷ merged (x ∷ xs) ys
   ]
-
-  -- which of two lists has the first item in listing order
-  abbrev pub first_side_of : List (P × T) → List (P × U) → Option Ordering
-  first_side_of [] [] = None
-  first_side_of [] (y ∷ ys) = Some Greater
-  first_side_of (x ∷ xs) [] = Some Less
-  first_side_of (x ∷ xs) (y ∷ ys) = Some (listing_cmp (path x.0) (path y.0))
 
 module _ {P : Type 0} (path : P → List Bool) where
   -- the prefixes of two lists in listing order, each once
@@ -53,11 +46,6 @@ lent_values (Both v w) = Both v.now w.now
 -- a prefix and the values that are lent with it
 abbrev pub lent_side : {P T U : Type 0} → P × Side (Bor T) (Bor U) → P × Side T U
 lent_side x = (x.0, lent_values x.1)
-
--- the item that was read ahead and the items still to come
-abbrev pub ahead : {P T : Type 0} → Option (P × Bor T) → List (P × T) → List (P × T)
-ahead None es = []
-ahead (Some x) es = lent_item x ∷ es
 
 -- the prefix that was read ahead and the prefixes still to come
 abbrev pub keys_ahead : {P : Type 0} → Option P → List P → List P

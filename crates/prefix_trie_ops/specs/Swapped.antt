@@ -11,7 +11,3 @@ module _ {T U : Type 0} where
 
   abbrev pub swapped_pair : T × U → U × T
   swapped_pair p = (p.1, p.0)
-
--- an item with a pair, with the sides exchanged
-abbrev pub swapped_item : {P T U : Type 0} → P × (T × U) → P × (U × T)
-swapped_item e = (e.0, swapped_pair e.1)

@@ -4,15 +4,13 @@ ghost use Rattle.std.specs.FinMap.{len};
 ghost use Rattle.std.specs.Iterator.{at_most};
 ghost use Rattle.std.specs.Map.Iter.{ShowsInOrder, TakesFirst};
 ghost use Rattle.prefix_trie.specs.Words.{listing, prefix_pairs};
-ghost use Rattle.prefix_trie_ops.specs.Merging.{first_side_of, lent_side, merged, union_of};
+ghost use Rattle.prefix_trie_ops.specs.Merging.{lent_side, union_of};
 
-use crate::ahead::Ahead;
 use crate::map::sides::Side;
-use crate::order::listing_order;
 use prefix_trie::laws::{listed_laws, listing_laws};
+use prefix_trie::map::{Combination, JointCursor};
 use prefix_trie::{Prefix, PrefixMap};
 use std::alloc::Allocator;
-use std::cmp::Ordering;
 use std::marker::Model;
 
 /// The keys of either of two maps, each with what both have there, in listing order.
@@ -20,19 +18,24 @@ use std::marker::Model;
 /// The walk does not allocate. After its last item it returns `None` each time.
 #[derive(Drop)]
 pub struct UnionWalk<'a, P: Prefix, T: Drop, U: Drop, A: Allocator, B: Allocator> {
-    left: Ahead<'a, P, T, A>,
-    right: Ahead<'a, P, U, B>,
+    left: &'a PrefixMap<P, T, A>,
+    right: &'a PrefixMap<P, U, B>,
+    cursor: JointCursor<P::R>,
 }
 
 impl<'a, P: Prefix, T: Drop, U: Drop, A: Allocator, B: Allocator> Model
     for UnionWalk<'a, P, T, U, A, B> {
     ghost use Rattle.std.specs.Prelude.{List};
-    ghost use Rattle.prefix_trie_ops.specs.Merging.{merged};
+    ghost use Rattle.prefix_trie.specs.Words.{IsJointCursorIn, combined_to_come, prefix_pairs};
+    ghost use Rattle.prefix_trie_table.specs.declared.table.joint_spot.Combination.TheVariants.{Union};
+    ghost use Rattle.prefix_trie_ops.specs.Merging.{union_of};
     ghost use Rattle.prefix_trie_ops.specs.declared.map.sides.Side.{Side};
 
     ghost Value = { List (P × Side T U) };
 
-    ghost view = { λ w. merged P.path w.left w.right };
+    ghost view = { λ w. prefix_pairs P.back (combined_to_come P.R.bits (union_of w.left.now.entries w.right.now.entries) w.cursor) };
+
+    ghost invariant = { λ w. IsJointCursorIn P.R.bits P.R.bit_width w.left.now.build w.right.now.build Union w.cursor };
 }
 
 /// Returns a walk over the keys of either map, each with what both maps have there, in listing order.
@@ -65,8 +68,9 @@ pub fn union<'a, P: Prefix, T: Drop, U: Drop, A: Allocator, B: Allocator>(
     // The proofs learn from it that no key is longer than the width.
     let _ = (left.len(), right.len());
     UnionWalk {
-        left: Ahead::of(left),
-        right: Ahead::of(right),
+        left,
+        right,
+        cursor: left.joint_cursor::<U, B, Side<T, U>>(right, Combination::Union),
     }
 }
 
@@ -78,38 +82,17 @@ impl<'a, P: Prefix, T: Drop, U: Drop, A: Allocator, B: Allocator> Iterator
 
     ghost remaining = { λ items. at_most (length items) };
 
+    #[inline]
     fn next(&mut self) -> Option<(P, Side<&'a T, &'a U>)> {
-        match first_side(&self.left, &self.right)? {
-            Ordering::Less => {
-                let (prefix, value) = self.left.take()?;
-                Some((prefix, Side::Left(value)))
-            }
-            Ordering::Greater => {
-                let (prefix, value) = self.right.take()?;
-                Some((prefix, Side::Right(value)))
-            }
-            Ordering::Equal => {
-                let (prefix, left) = self.left.take()?;
-                let (_, right) = self.right.take()?;
-                Some((prefix, Side::Both(left, right)))
-            }
-        }
-    }
-}
-
-/// Returns which of two walks has the first item: the left one (`Less`), the right one, or both.
-///
-/// Returns `None` if both walks are at their end.
-fn first_side<P: Prefix, T: Drop, U: Drop, A: Allocator, B: Allocator>(
-    left: &Ahead<'_, P, T, A>,
-    right: &Ahead<'_, P, U, B>,
-) -> Option<Ordering>
-    ensures { result ≡ first_side_of P.path left.now right.now }
-{
-    match (&left.next, &right.next) {
-        (Some((left, _)), Some((right, _))) => Some(listing_order(left, right)),
-        (Some(_), None) => Some(Ordering::Less),
-        (None, Some(_)) => Some(Ordering::Greater),
-        (None, None) => None,
+        let Some(item) = self
+            .left
+            .joint_step::<U, B, Side<T, U>>(self.right, Combination::Union, &mut self.cursor)
+        else {
+            return None;
+        };
+        let Some(side) = Side::of(item.1, item.2) else {
+            unreachable!();
+        };
+        Some((item.0, side))
     }
 }

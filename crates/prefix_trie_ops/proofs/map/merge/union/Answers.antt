@@ -1,23 +1,18 @@
--- Merging two maps gives the listing of the union, which has at most the items of both.
-use Rattle.std.proofs.Common.{◌∙◌, ◌+◌, All, ap, is_some, subst, sym}
+-- The walk of both maps has the listing of the union to come, which has at most the items of both.
+use Rattle.std.proofs.Common.{◌+◌, All, ap, subst, sym}
 use Rattle.std.specs.FinMap.{len}
-use Rattle.prefix_trie.specs.Words.{listing, prefix_pairs}
+use Rattle.prefix_trie.specs.Words.{combined_to_come, listing, prefix_pairs}
 use Rattle.prefix_trie_map.proofs.Runs.{shows_in_order}
-use Rattle.prefix_trie_ops.specs.Merging.{lent_side, merged, union_of}
+use Rattle.prefix_trie_ops.specs.Merging.{lent_side, union_of}
 use Rattle.prefix_trie_ops.proofs.Bounds.{items_at_most, union_fewer, union_within}
-use Rattle.prefix_trie_ops.proofs.Merging.{union_shown}
+use Rattle.prefix_trie_ops.proofs.Joint.{union_combines}
 use Rattle.prefix_trie_ops.proofs.map.merge.union.Goals as goal
 
 pub returns-clause-items : goal.returns-clause-items
 returns-clause-items g c =
     let m = c.args.left.now.entries in
     let n = c.args.right.now.entries in
-    let path = g.P.Prefix.path in
-    let back = g.P.Prefix.back in
-    ap (λ xs. merged path xs c.of-2.result) c.of.ensures ∙ ap (merged path (prefix_pairs back (listing m))) c.of-2.ensures
-    ∙ union_shown path back m n
-    (λ e at. c.listed_laws.ensures.key_is m c.len.ensures.whole.is_map.keys_within e.0 (ap is_some ((c.listing_laws.ensures.has_each m e.0 e.1).1 at)))
-    (λ e at. c.listed_laws-2.ensures.key_is n c.len-2.ensures.whole.is_map.keys_within e.0 (ap is_some ((c.listing_laws-2.ensures.has_each n e.0 e.1).1 at)))
+    ap (prefix_pairs g.P.Prefix.back) (c.joint_cursor.ensures.items (union_of m n) (union_combines m n))
 
 pub returns-clause-runs : goal.returns-clause-runs
 returns-clause-runs g c = shows_in_order lent_side
@@ -33,4 +28,4 @@ pub returns-clause-at_most : goal.returns-clause-at_most
 returns-clause-at_most g c =
     let m = c.args.left.now.entries in
     let n = c.args.right.now.entries in
-    items_at_most (len m + len n) (merged g.P.Prefix.path c.of.result c.of-2.result) (λ e. (g.P.Prefix.back e.0, e.1)) (listing (union_of m n)) (returns-clause-items g c) (union_fewer m n)
+    items_at_most (len m + len n) (prefix_pairs g.P.Prefix.back (combined_to_come g.P.R.Key.bits (union_of m n) c.joint_cursor.result)) (λ e. (g.P.Prefix.back e.0, e.1)) (listing (union_of m n)) (returns-clause-items g c) (union_fewer m n)

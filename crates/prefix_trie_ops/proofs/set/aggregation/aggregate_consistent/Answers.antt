@@ -1,6 +1,6 @@
 -- The marked keys are the uppermost ones, so the same prefixes are covered and no key that is left covers another.
-use Rattle.std.proofs.Common.{◌≡◌, ◌∙◌}
-use Rattle.prefix_trie_ops.specs.Covered.{is_uppermost, without_covered}
+use Rattle.std.proofs.Common.{◌∙◌}
+use Rattle.prefix_trie_ops.specs.Covered.{is_uppermost}
 use Rattle.prefix_trie_ops.proofs.Uppermost.{none_covered, same_covered, uppermost_entries}
 use Rattle.prefix_trie_ops.proofs.set.aggregation.aggregate_consistent.Goals as goal
 

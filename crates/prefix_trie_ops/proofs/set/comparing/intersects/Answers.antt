@@ -1,5 +1,5 @@
 -- Two sets have a key in common exactly if the walk over their intersection has a first key.
-use Rattle.std.proofs.Common.{◌≡◌, ◌∙◌, Bool, true, false, true≢false, List, is_some, ap, sym, refl}
+use Rattle.std.proofs.Common.{◌≡◌, ◌∙◌, Bool, true, false, true≢false, is_some, sym, refl}
 use Rattle.std.specs.FinMap.{contains_key}
 use Rattle.prefix_trie_ops.proofs.Comparing.{none_passes, some_passes}
 use Rattle.prefix_trie_ops.proofs.set.comparing.intersects.Goals as goal

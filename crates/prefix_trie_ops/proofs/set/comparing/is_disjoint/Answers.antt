@@ -1,5 +1,5 @@
 -- Two sets have no key in common exactly if the walk over their intersection has no first key.
-use Rattle.std.proofs.Common.{◌≡◌, ◌∙◌, Bool, true, false, true≢false, not, List, is_some, sym, refl}
+use Rattle.std.proofs.Common.{◌≡◌, ◌∙◌, Bool, true, false, true≢false, not, is_some, sym, refl}
 use Rattle.std.specs.FinMap.{contains_key}
 use Rattle.prefix_trie_ops.proofs.Comparing.{none_passes, some_passes}
 use Rattle.prefix_trie_ops.proofs.set.comparing.is_disjoint.Goals as goal

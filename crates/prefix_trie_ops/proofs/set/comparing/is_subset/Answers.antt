@@ -1,5 +1,5 @@
 -- A set is a subset exactly if the walk over the difference gives no key.
-use Rattle.std.proofs.Common.{rules, ◌≡◌, ◌∙◌, Bool, true, false, true≢false, not, List, is_some, ap, sym, refl}
+use Rattle.std.proofs.Common.{◌≡◌, Bool, true, false, true≢false, not, List, is_some, sym, refl}
 use Rattle.std.specs.FinMap.{contains_key}
 use Rattle.prefix_trie_ops.proofs.Comparing.{none_passes, some_passes}
 use Rattle.prefix_trie_ops.proofs.set.comparing.is_subset.Goals as goal
