@@ -1,6 +1,10 @@
 -- Locating a value reads the nodes on the prefix's search path, whether it is stored or missing.
+use Rattle.prefix_trie_map.proofs.Prelude.{rules}
 use Rattle.prefix_trie_map.proofs.Lookups.{reads_path}
 use Rattle.prefix_trie_map.proofs.map.PrefixMap.contains_key_counted.Goals as goal
+
+pub returns-in-Stored-clause-value : goal.returns-in-Stored-clause-value
+returns-in-Stored-clause-value g c = search rules
 
 pub returns-in-Stored-clause-reads : goal.returns-in-Stored-clause-reads
 returns-in-Stored-clause-reads g c =

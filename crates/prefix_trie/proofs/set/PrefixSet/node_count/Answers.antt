@@ -1,0 +1,6 @@
+-- The nodes of a set are those of its map of units.
+use Rattle.prefix_trie.proofs.Prelude.{rules}
+use Rattle.prefix_trie.proofs.set.PrefixSet.node_count.Goals as goal
+
+pub returns-clause-count : goal.returns-clause-count
+returns-clause-count g c = search rules

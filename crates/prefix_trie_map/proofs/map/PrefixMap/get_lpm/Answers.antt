@@ -1,0 +1,6 @@
+-- The longest match is the one that was counted.
+use Rattle.prefix_trie_map.proofs.Prelude.{rules}
+use Rattle.prefix_trie_map.proofs.map.PrefixMap.get_lpm.Goals as goal
+
+pub returns : goal.returns
+returns g c = search rules
