@@ -3,7 +3,8 @@
 
 #[cfg(test)]
 mod aggregation;
-pub mod examples;
+#[cfg(test)]
+mod examples;
 #[cfg(test)]
 mod ops;
 #[cfg(test)]

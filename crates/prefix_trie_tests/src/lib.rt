@@ -22,13 +22,11 @@ mod entry_callers;
 #[cfg(test)]
 mod examples;
 #[cfg(test)]
-#[cfg(test)]
 mod networks;
 #[cfg(test)]
 mod node;
 #[cfg(test)]
 mod on_new;
-#[cfg(test)]
 #[cfg(test)]
 mod prefix;
 pub mod refusing;
