@@ -148,6 +148,21 @@ impl<P: Prefix, A: Allocator + Clone> PrefixSet<P, A> {
 }
 
 impl<P: Prefix, A: Allocator> PrefixSet<P, A> {
+    /// Returns the map of units whose keys the set has, for calls that take maps.
+    ///
+    /// # Examples
+    ///
+    /// ```rust
+    /// // set = {10.0.0.0/8, 10.1.0.0/16}
+    /// set.as_map().get(&"10.1.0.0/16".parse()?);    // Some(())
+    /// ```
+    #[inline]
+    pub fn as_map(&self) -> &PrefixMap<P, (), A>
+        ensures { result.now ≡ self.now }
+    {
+        &self.map
+    }
+
     /// Returns the number of keys.
     ///
     /// # Examples
