@@ -37,7 +37,7 @@ mapped_as_many f [] = refl
 mapped_as_many f (x ∷ xs) = ap suc (mapped_as_many f xs)
 
 module _ {X Y : Type 0} where
-  merged_fewer : (xs : List (List Bool × X)) (ys : List (List Bool × Y)) → length (merged (λ s. s) xs ys) ≤ length xs + length ys
+  merged_fewer : (xs : List (List Bool × X)) (ys : List (List Bool × Y)) → length (merged xs ys) ≤ length xs + length ys
   merged_fewer [] [] = omega arith
   merged_fewer [] (y ∷ ys) = let rest = merged_fewer [] ys in omega (arith, rest)
   merged_fewer (x ∷ xs) [] = let rest = merged_fewer xs [] in omega (arith, rest)
@@ -53,9 +53,9 @@ module _ {X Y : Type 0} where
     where
       by_order : Ordering → List (List Bool × Side X Y)
       by_order o = elim o [
-        | Less ↦ (x.0, Left x.1) ∷ merged (λ s. s) xs (y ∷ ys)
-        | Equal ↦ (x.0, Both x.1 y.1) ∷ merged (λ s. s) xs ys
-        | Greater ↦ (y.0, Right y.1) ∷ merged (λ s. s) (x ∷ xs) ys
+        | Less ↦ (x.0, Left x.1) ∷ merged xs (y ∷ ys)
+        | Equal ↦ (x.0, Both x.1 y.1) ∷ merged xs ys
+        | Greater ↦ (y.0, Right y.1) ∷ merged (x ∷ xs) ys
       ]
 
 module _ {X : Type 0} where
@@ -81,8 +81,8 @@ module _ {X Y : Type 0} where
 
   pub common_fewer : (m : Entries X) (n : Entries Y) → length (listing (common m n)) ≤ len m
   common_fewer m n =
-      let few = chosen_fewer (with_partner (λ s. s) n) (listing m) in
-      subst (λ k. k ≤ len m) (sym (ap length (common_listing n m))) (subst (λ k. length (filter_map (with_partner (λ s. s) n) (listing m)) ≤ k) (sym (len-entries m)) few)
+      let few = chosen_fewer (with_partner n) (listing m) in
+      subst (λ k. k ≤ len m) (sym (ap length (common_listing n m))) (subst (λ k. length (filter_map (with_partner n) (listing m)) ≤ k) (sym (len-entries m)) few)
 
   pub union_within : (w : ℕ) (m : Entries X) (n : Entries Y) → AreWithin w m → AreWithin w n → AreWithin w (union_of m n)
   union_within w m n h k s there = go (get m s) (get n s) refl refl (sym (ap is_some (get_union m n s)) ∙ there)
@@ -96,7 +96,7 @@ module _ {X Y : Type 0} where
   union_fewer m n =
       let few = merged_fewer (listing m) (listing n) in
       subst (λ k. k ≤ len m + len n) (sym (ap length (union_listing m n)))
-      (subst (λ k. length (merged (λ s. s) (listing m) (listing n)) ≤ k + len n) (sym (len-entries m)) (subst (λ k. length (merged (λ s. s) (listing m) (listing n)) ≤ length (listing m) + k) (sym (len-entries n)) few))
+      (subst (λ k. length (merged (listing m) (listing n)) ≤ k + len n) (sym (len-entries m)) (subst (λ k. length (merged (listing m) (listing n)) ≤ length (listing m) + k) (sym (len-entries n)) few))
 
 -- a walk over a listing gives fewer items than a bound that the listing is below
 pub items_below : {X Y : Type 0} (bound n : ℕ) (items : List Y) (f : X → Y) (es : List X) → items ≡ map f es → length es ≤ n → n < bound → length items < bound

@@ -11,9 +11,7 @@ pub mod Merging
 pub mod Optimal
 pub mod Pairs
 pub mod Joint
-pub mod Reading
 pub mod Removing
 pub mod Selecting
 pub mod Uppermost
 pub mod Walking
-pub mod Swapping

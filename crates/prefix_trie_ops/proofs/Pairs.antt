@@ -1,19 +1,20 @@
 -- The keys that two maps have, as a map: its listing and its values: for `intersection` of maps.
-use Rattle.std.proofs.Common.{◌≡◌, ◌∙◌, Bool, true, false, cond, List, [], ◌∷◌, Option, Some, None, ap, sym, refl, T}
+use Rattle.std.proofs.Common.{◌≡◌, ◌∙◌, Bool, true, false, cond, List, [], ◌∷◌, map, filter, is_some, Option, Some, None, ap, sym, refl, T}
 use Rattle.std.specs.List.{cons_option, filter_map}
 use Rattle.std.specs.Option.{option_map}
 use Rattle.std.specs.Ordering.{is_lt}
-use Rattle.std.specs.FinMap.{entries_sorted, entries-from_sorted, get, get-entries, get-from_sorted}
+use Rattle.std.specs.FinMap.{contains_key, entries_sorted, entries-from_sorted, get, get-entries, get-from_sorted}
 use Rattle.std.specs.FinMap.Entries.{below_all, find, is_sorted}
 use Rattle.prefix_trie_bits.specs.Model.Order.{listing_cmp, same_string}
+use Rattle.prefix_trie_bits.proofs.Model.Ordered.{entries-retained}
 use Rattle.prefix_trie.specs.Words.{Entries, listing}
-use Rattle.prefix_trie_ops.specs.Combining.{both_values, common, with_partner}
+use Rattle.prefix_trie_ops.specs.Combining.{both_values, common, restricted_to, with_partner}
 use Rattle.prefix_trie_ops.proofs.Sorted.{same_is, t_both, t_first, t_second}
 
 module _ {X Y : Type 0} (n : Entries Y) where
   -- the items that have a partner, each with it
   abbrev pairs : List (List Bool × X) → List (List Bool × (X × Y))
-  pairs es = filter_map (with_partner (λ s. s) n) es
+  pairs es = filter_map (with_partner n) es
 
   below_pairs : (q : List Bool) (es : List (List Bool × X)) → T (below_all listing_cmp q es) → T (below_all listing_cmp q (pairs es))
   below_pairs q [] h = tt
@@ -64,3 +65,18 @@ module _ {X Y : Type 0} (n : Entries Y) where
   get_common m q =
       get-from_sorted listing_cmp (pairs (listing m)) q (sorted_pairs (listing m) (entries_sorted m)) ∙ find_pairs q (listing m)
       ∙ ap (λ o. both_values o (get n q)) (sym (get-entries m q))
+
+  -- its keys are those of m that n has
+  module _ {P : Type 0} (back : List Bool → P) where
+    pair_keys : (es : List (List Bool × X)) → map (λ e. back e.0) (pairs es) ≡ map (λ e. back e.0) (filter (λ e. contains_key n e.0) es)
+    pair_keys [] = refl
+    pair_keys (e ∷ es) =
+        let rest = pair_keys es in
+        elim (get n e.0) as (λ o. map (λ d. back d.0) (cons_option (option_map (λ w. (e.0, (e.1, w))) o) (pairs es))
+        ≡ map (λ d. back d.0) (cond (is_some o) (e ∷ filter (λ d. contains_key n d.0) es) (filter (λ d. contains_key n d.0) es))) [
+          | None ↦ rest
+          | Some w ↦ ap (λ ps. back e.0 ∷ ps) rest
+        ]
+
+    pub common_keys : (m : Entries X) → map (λ e. back e.0) (listing (common m n)) ≡ map (λ e. back e.0) (listing (restricted_to m n))
+    common_keys m = ap (map (λ e. back e.0)) (common_listing m) ∙ pair_keys (listing m) ∙ sym (ap (map (λ e. back e.0)) (entries-retained m (contains_key n)))

@@ -44,3 +44,13 @@ pub keys_fit : {P X : Type 0} (F : P → Type 0) (back : List Bool → P) (es : 
 keys_fit F back [] h = All-nil F
 keys_fit F back (x ∷ es) h =
     All-cons F (back x.0) (map (λ e. back e.0) es) (All-head (λ e. F e.0) (back x.0, x.1) (prefix_pairs back es) h) (keys_fit F back es (All-tail (λ e. F e.0) (back x.0, x.1) (prefix_pairs back es) h))
+
+-- the prefixes of a map's items are those of its keys
+pub prefixes_shown : {P X : Type 0} (back : List Bool → P) (es : List (List Bool × X)) → map (λ e. e.0) (prefix_pairs back es) ≡ map (λ e. back e.0) es
+prefixes_shown back [] = refl
+prefixes_shown back (x ∷ es) = ap (λ ps. back x.0 ∷ ps) (prefixes_shown back es)
+
+-- the prefixes of items fit if the items do
+pub prefixes_fit : {P X : Type 0} (F : P → Type 0) (xs : List (P × X)) → All (λ e. F e.0) xs → All F (map (λ e. e.0) xs)
+prefixes_fit F [] h = All-nil F
+prefixes_fit F (x ∷ xs) h = All-cons F x.0 (map (λ e. e.0) xs) (All-head (λ e. F e.0) x xs h) (prefixes_fit F xs (All-tail (λ e. F e.0) x xs h))

@@ -25,9 +25,9 @@ module _ {T U : Type 0} where
   both_values (Some v) (Some w) = Some (v, w)
 
   -- an item with the value that n has at its key, if n has one
-  abbrev pub with_partner : {P : Type 0} → (P → List Bool) → Entries U → P × T → Option (P × (T × U))
-  with_partner path n e = option_map (λ w. (e.0, (e.1, w))) (get n (path e.0))
+  abbrev pub with_partner : Entries U → List Bool × T → Option (List Bool × (T × U))
+  with_partner n e = option_map (λ w. (e.0, (e.1, w))) (get n e.0)
 
   -- the keys that both maps have, each with both values
   unfoldable pub common : Entries T → Entries U → Entries (T × U)
-  common m n = from_sorted (filter_map (with_partner (λ s. s) n) (listing m))
+  common m n = from_sorted (filter_map (with_partner n) (listing m))

@@ -4,7 +4,6 @@
 //! operations on maps, `set` the operations on sets, and `laws` what follows from their contracts.
 #![tactic(auto)]
 
-pub mod ahead;
 pub mod laws;
 pub mod map;
 pub mod order;

@@ -4,22 +4,6 @@ use crate::select::PathTest;
 use prefix_trie::{Prefix, PrefixSet};
 use std::alloc::Allocator;
 
-/// Passes the prefixes that are in a set.
-#[derive(Drop)]
-pub struct Stored<'a, P: Prefix, B: Allocator> {
-    pub(super) set: &'a PrefixSet<P, B>,
-}
-
-impl<'a, P: Prefix, B: Allocator> PathTest<P> for Stored<'a, P, B> {
-    ghost use Rattle.std.specs.FinMap.{contains_key};
-
-    ghost outcome = { λ t s. contains_key t.set.now.entries s };
-
-    fn passes(&mut self, prefix: &P) -> bool {
-        self.set.contains(prefix)
-    }
-}
-
 /// Passes the prefixes that are not in a set.
 #[derive(Drop)]
 pub struct Missing<'a, P: Prefix, B: Allocator> {

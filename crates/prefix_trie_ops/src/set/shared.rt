@@ -1,14 +1,11 @@
 //! The keys that two sets have.
-ghost use Rattle.std.specs.Prelude.{◌≡◌, ◌<◌, ◌^◌, ◌⊎◌, [], All, length, map};
+ghost use Rattle.std.specs.Prelude.{◌≡◌, ◌<◌, ◌^◌, All, length, map};
 ghost use Rattle.std.specs.Iterator.{at_most};
 ghost use Rattle.std.specs.Map.Iter.{GivesInOrder, TakesFirst};
 ghost use Rattle.prefix_trie.specs.Words.{listing};
 ghost use Rattle.prefix_trie_ops.specs.Combining.{restricted_to};
 
-use crate::select::SelectedKeys;
-use crate::set::membership::Stored;
-use prefix_trie::laws::{listed_laws, listing_laws};
-use prefix_trie::set::Iter;
+use crate::map;
 use prefix_trie::{Prefix, PrefixSet};
 use std::alloc::Allocator;
 use std::marker::Model;
@@ -18,22 +15,20 @@ use std::marker::Model;
 /// The walk does not allocate. After its last key it returns `None` each time.
 #[derive(Drop)]
 pub struct IntersectionWalk<'a, P: Prefix, A: Allocator, B: Allocator> {
-    // One of the two has no keys: only the smaller set is walked.
-    by_left: SelectedKeys<'a, P, A, Stored<'a, P, B>>,
-    by_right: SelectedKeys<'a, P, B, Stored<'a, P, A>>,
+    walk: map::IntersectionWalk<'a, P, (), (), A, B>,
 }
 
 impl<'a, P: Prefix, A: Allocator, B: Allocator> Model for IntersectionWalk<'a, P, A, B> {
-    ghost use Rattle.std.specs.Prelude.{List, ◌++◌};
+    ghost use Rattle.std.specs.Prelude.{List, map};
 
     ghost Value = { List P };
 
-    ghost view = { λ w. w.by_left ++ w.by_right };
+    ghost view = { λ w. map (λ item. item.0) w.walk };
 }
 
 /// Returns a walk over the keys that both sets have, in listing order.
 ///
-/// Each key of the smaller set costs one lookup in the larger one, whichever is on the left.
+/// It reads only nodes whose paths both sets have.
 ///
 /// # Examples
 ///
@@ -51,15 +46,8 @@ pub fn intersection<'a, P: Prefix, A: Allocator, B: Allocator>(
     ensures fits { length result < 2 ^ 64 }
     ensures runs { GivesInOrder P }
 {
-    listed_laws::<P, ()>();
-    listing_laws::<()>();
-
-    // The proofs learn from it that no key is longer than the width.
-    let _ = (left.len(), right.len());
-    let (of_left, of_right) = smaller(left, right);
     IntersectionWalk {
-        by_left: SelectedKeys::new(of_left, Stored { set: right }),
-        by_right: SelectedKeys::new(of_right, Stored { set: left }),
+        walk: map::intersection(left.as_map(), right.as_map()),
     }
 }
 
@@ -70,25 +58,11 @@ impl<'a, P: Prefix, A: Allocator, B: Allocator> Iterator for IntersectionWalk<'a
 
     ghost remaining = { λ items. at_most (length items) };
 
+    #[inline]
     fn next(&mut self) -> Option<P> {
-        if let Some(prefix) = self.by_left.next() {
-            return Some(prefix);
+        match self.walk.next() {
+            Some((prefix, _, _)) => Some(prefix),
+            None => None,
         }
-        self.by_right.next()
-    }
-}
-
-/// Returns a walk over each set. The walk over the larger set is at its end.
-fn smaller<'a, P: Prefix, A: Allocator, B: Allocator>(
-    left: &'a PrefixSet<P, A>,
-    right: &'a PrefixSet<P, B>,
-) -> (Iter<'a, P, A>, Iter<'a, P, B>)
-    ensures { ((result.0 ≡ map (λ e. P.back e.0) (listing left.now.entries)) × (result.1 ≡ []))
-        ⊎ ((result.0 ≡ []) × (result.1 ≡ map (λ e. P.back e.0) (listing right.now.entries))) }
-{
-    if left.len() <= right.len() {
-        (left.iter(), Iter::default())
-    } else {
-        (Iter::default(), right.iter())
     }
 }
