@@ -1,5 +1,5 @@
 -- After `compact` the nodes are the needed ones, so the map keeps its invariant.
-use Rattle.std.proofs.Common.{Result, Ok, Err, OnOk, OnErr, sym, subst}
+use Rattle.std.proofs.Common.{rules, Result, Ok, Err, OnOk, OnErr, sym, subst}
 use Rattle.prefix_trie_bits.proofs.Model.NodeSets.{AreNodes-needed}
 use Rattle.prefix_trie_bits.specs.Laws.Steps.{IsMap}
 use Rattle.prefix_trie_bits.specs.Model.Entries.{Entries}
@@ -27,3 +27,6 @@ invariant_of-self g c =
           (subst (λ (n : Nodes). AreNodes width c.self.inside.table.entries n) (sym nodes) (AreNodes-needed width c.self.inside.table.entries is.keys_within));
     })
     (λ kept. subst (λ (s : State g.row.T.Denot × Storage). IsMap width s.0) (sym kept) is)
+
+pub returns-clause-nodes : goal.returns-clause-nodes
+returns-clause-nodes g c = search rules
