@@ -1,6 +1,6 @@
--- The items of a walk that pass a test are the listing of the entries that pass it: for the walks over differences and
--- intersections.
-use Rattle.std.proofs.Common.{◌≡◌, ◌∙◌, Bool, cond, true, false, List, [], ◌∷◌, map, filter, ap, sym, refl, All}
+-- The items of a walk that pass a test are the listing of the entries that pass it: for the walks over differences. And
+-- the prefixes of items: for walks over sets.
+use Rattle.std.proofs.Common.{◌≡◌, ◌∙◌, Bool, cond, true, false, List, [], ◌∷◌, map, filter, ap, sym, subst, refl, All}
 use Rattle.std.proofs.lemmas.List.Elements.{All-cons, All-head, All-nil, All-tail}
 use Rattle.std.specs.List.{Contains}
 use Rattle.std.specs.FinMap.{retain_keys}
@@ -20,30 +20,9 @@ module _ {P T' : Type 0} (path : P → List Bool) (back : List Bool → P) (p : 
         | false ↦ refl
       ])
 
-  filter_keys : (es : List (List Bool × T')) → ((e : List Bool × T') → Contains es e → path (back e.0) ≡ e.0)
-      → filter (λ q. p (path q)) (map (λ e. back e.0) es) ≡ map (λ e. back e.0) (filter (λ e. p e.0) es)
-  filter_keys [] known = refl
-  filter_keys (x ∷ es) known =
-      ap (λ s. cond (p s) (back x.0 ∷ filter (λ q. p (path q)) (map (λ e. back e.0) es)) (filter (λ q. p (path q)) (map (λ e. back e.0) es))) (known x (contains_here x es))
-      ∙ ap (λ ys. cond (p x.0) (back x.0 ∷ ys) ys) (filter_keys es (λ e at. known e (contains_later x e es at)))
-      ∙ (elim (p x.0) as (λ b. cond b (back x.0 ∷ map (λ e. back e.0) (filter (λ e. p e.0) es)) (map (λ e. back e.0) (filter (λ e. p e.0) es)) ≡ map (λ e. back e.0) (cond b (x ∷ filter (λ e. p e.0) es) (filter (λ e. p e.0) es))) [
-        | true ↦ refl
-        | false ↦ refl
-      ])
-
   pub selected : (m : Entries T') → ((e : List Bool × T') → Contains (listing m) e → path (back e.0) ≡ e.0)
       → filter (λ e. p (path e.0)) (prefix_pairs back (listing m)) ≡ prefix_pairs back (listing (retain_keys m p))
   selected m known = filter_shown (listing m) known ∙ sym (ap (prefix_pairs back) (entries-retained m p))
-
-  pub selected_keys : (m : Entries T') → ((e : List Bool × T') → Contains (listing m) e → path (back e.0) ≡ e.0)
-      → filter (λ q. p (path q)) (map (λ e. back e.0) (listing m)) ≡ map (λ e. back e.0) (listing (retain_keys m p))
-  selected_keys m known = filter_keys (listing m) known ∙ sym (ap (map (λ e. back e.0)) (entries-retained m p))
-
--- the keys of a listing fit if its items do
-pub keys_fit : {P X : Type 0} (F : P → Type 0) (back : List Bool → P) (es : List (List Bool × X)) → All (λ e. F e.0) (prefix_pairs back es) → All F (map (λ e. back e.0) es)
-keys_fit F back [] h = All-nil F
-keys_fit F back (x ∷ es) h =
-    All-cons F (back x.0) (map (λ e. back e.0) es) (All-head (λ e. F e.0) (back x.0, x.1) (prefix_pairs back es) h) (keys_fit F back es (All-tail (λ e. F e.0) (back x.0, x.1) (prefix_pairs back es) h))
 
 -- the prefixes of a map's items are those of its keys
 pub prefixes_shown : {P X : Type 0} (back : List Bool → P) (es : List (List Bool × X)) → map (λ e. e.0) (prefix_pairs back es) ≡ map (λ e. back e.0) es
@@ -54,3 +33,7 @@ prefixes_shown back (x ∷ es) = ap (λ ps. back x.0 ∷ ps) (prefixes_shown bac
 pub prefixes_fit : {P X : Type 0} (F : P → Type 0) (xs : List (P × X)) → All (λ e. F e.0) xs → All F (map (λ e. e.0) xs)
 prefixes_fit F [] h = All-nil F
 prefixes_fit F (x ∷ xs) h = All-cons F x.0 (map (λ e. e.0) xs) (All-head (λ e. F e.0) x xs h) (prefixes_fit F xs (All-tail (λ e. F e.0) x xs h))
+
+-- the keys of a listing fit if its items do
+pub keys_fit : {P X : Type 0} (F : P → Type 0) (back : List Bool → P) (es : List (List Bool × X)) → All (λ e. F e.0) (prefix_pairs back es) → All F (map (λ e. back e.0) es)
+keys_fit F back es h = subst (All F) (prefixes_shown back es) (prefixes_fit F (prefix_pairs back es) h)

@@ -4,8 +4,8 @@ ghost use Rattle.std.specs.Iterator.{at_most};
 ghost use Rattle.std.specs.Map.Iter.{GivesInOrder, ShowsInOrder, TakesFirst};
 ghost use Rattle.prefix_trie.specs.Words.{lent_item};
 
+use prefix_trie::Prefix;
 use prefix_trie::map::Iter;
-use prefix_trie::{Prefix, set};
 use std::alloc::Allocator;
 use std::marker::Model;
 
@@ -79,33 +79,20 @@ fn next_entry<'a, P: Prefix, T: Drop, A: Allocator, F: PathTest<P>>(
     None
 }
 
-/// The keys of a set that pass a test, in listing order.
+/// The prefixes of the entries of a map of units that pass a test, in listing order.
 ///
-/// The walk does not allocate. After its last item it returns `None` each time.
+/// The walk does not allocate. After its last key it returns `None` each time.
 #[derive(Drop)]
 pub struct SelectedKeys<'a, P: Prefix, A: Allocator, F: PathTest<P>> {
-    keys: set::Iter<'a, P, A>,
-    test: F,
+    pub(crate) entries: Selected<'a, P, (), A, F>,
 }
 
 impl<'a, P: Prefix, A: Allocator, F: PathTest<P>> Model for SelectedKeys<'a, P, A, F> {
-    ghost use Rattle.std.specs.Prelude.{All, List, filter};
+    ghost use Rattle.std.specs.Prelude.{List, map};
 
     ghost Value = { List P };
 
-    ghost view = { λ w. filter (λ p. F.outcome w.test (P.path p)) w.keys };
-
-    ghost invariant = { λ w. All P.IsFitting w.keys };
-}
-
-impl<'a, P: Prefix, A: Allocator, F: PathTest<P>> SelectedKeys<'a, P, A, F> {
-    /// Returns the walk over the keys that pass the test.
-    pub(crate) fn new(keys: set::Iter<'a, P, A>, test: F) -> Self
-        requires { All P.IsFitting keys }
-        ensures { result ≡ filter (λ p. F.outcome test (P.path p)) keys.entry }
-    {
-        SelectedKeys { keys, test }
-    }
+    ghost view = { λ w. map (λ item. item.0) w.entries };
 }
 
 impl<'a, P: Prefix, A: Allocator, F: PathTest<P>> Iterator for SelectedKeys<'a, P, A, F> {
@@ -115,24 +102,11 @@ impl<'a, P: Prefix, A: Allocator, F: PathTest<P>> Iterator for SelectedKeys<'a, 
 
     ghost remaining = { λ items. at_most (length items) };
 
+    #[inline]
     fn next(&mut self) -> Option<P> {
-        next_key(&mut self.keys, &mut self.test)
-    }
-}
-
-/// Returns the next key that passes, and skips those before it.
-fn next_key<'a, P: Prefix, A: Allocator, F: PathTest<P>>(
-    keys: &mut set::Iter<'a, P, A>,
-    test: &mut F,
-) -> Option<P>
-    requires { All P.IsFitting keys.old }
-    ensures takes { TakesFirst (λ p. p) (filter (λ p. F.outcome test.old (P.path p)) keys.old) result (filter (λ p. F.outcome test.new (P.path p)) keys.new) }
-    ensures fit { All P.IsFitting keys.new }
-{
-    while let Some(prefix) = keys.next() {
-        if test.passes(&prefix) {
-            return Some(prefix);
+        match self.entries.next() {
+            Some((prefix, _)) => Some(prefix),
+            None => None,
         }
     }
-    None
 }

@@ -2,14 +2,12 @@
 
 mod aggregation;
 mod comparing;
-mod membership;
 mod merge;
 mod shared;
 mod walks;
 
 pub use aggregation::aggregate_consistent;
 pub use comparing::{intersects, is_disjoint, is_subset};
-pub use membership::{Missing, Uncovered};
 pub use merge::{UnionWalk, union};
 pub use shared::{IntersectionWalk, intersection};
 pub use walks::{CoveringDifferenceWalk, DifferenceWalk, covering_difference, difference};

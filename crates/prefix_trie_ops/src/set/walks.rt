@@ -4,17 +4,16 @@ ghost use Rattle.std.specs.Map.Iter.{GivesInOrder};
 ghost use Rattle.prefix_trie.specs.Words.{listing};
 ghost use Rattle.prefix_trie_ops.specs.Combining.{minus, not_covered};
 
+use crate::map::{self, Missing, Uncovered};
 use crate::select::SelectedKeys;
-use crate::set::membership::{Missing, Uncovered};
-use prefix_trie::laws::{listed_laws, listing_laws};
 use prefix_trie::{Prefix, PrefixSet};
 use std::alloc::Allocator;
 
 /// The keys of a set that another one does not have, in listing order.
-pub type DifferenceWalk<'a, P, A, B> = SelectedKeys<'a, P, A, Missing<'a, P, B>>;
+pub type DifferenceWalk<'a, P, A, B> = SelectedKeys<'a, P, A, Missing<'a, P, (), B>>;
 
 /// The keys of a set that no key of another one contains, in listing order.
-pub type CoveringDifferenceWalk<'a, P, A, B> = SelectedKeys<'a, P, A, Uncovered<'a, P, B>>;
+pub type CoveringDifferenceWalk<'a, P, A, B> = SelectedKeys<'a, P, A, Uncovered<'a, P, (), B>>;
 
 /// Returns a walk over the keys of `left` that `right` does not have, in listing order.
 ///
@@ -36,9 +35,9 @@ pub fn difference<'a, P: Prefix, A: Allocator, B: Allocator>(
     ensures fits { length result < 2 ^ 64 }
     ensures runs { GivesInOrder P }
 {
-    listed_laws::<P, ()>();
-    listing_laws::<()>();
-    SelectedKeys::new(left.iter(), Missing { set: right })
+    SelectedKeys {
+        entries: map::difference(left.as_map(), right.as_map()),
+    }
 }
 
 /// Returns a walk over the keys of `left` that no key of `right` contains, in listing order.
@@ -61,7 +60,7 @@ pub fn covering_difference<'a, P: Prefix, A: Allocator, B: Allocator>(
     ensures fits { length result < 2 ^ 64 }
     ensures runs { GivesInOrder P }
 {
-    listed_laws::<P, ()>();
-    listing_laws::<()>();
-    SelectedKeys::new(left.iter(), Uncovered { set: right })
+    SelectedKeys {
+        entries: map::covering_difference(left.as_map(), right.as_map()),
+    }
 }

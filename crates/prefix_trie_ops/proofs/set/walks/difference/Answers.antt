@@ -1,37 +1,19 @@
--- The keys of the left set that the right one does not have are the listing of the difference.
-use Rattle.std.proofs.Common.{◌∙◌, ◌^◌, not, filter, All, ap, is_some, subst, sym}
-use Rattle.std.specs.FinMap.{contains_key, len}
-use Rattle.prefix_trie.specs.Words.{listing}
+-- The keys of the difference are the prefixes of the items of the maps' difference.
+use Rattle.std.proofs.Common.{◌∙◌, ap, ap₂, map}
+use Rattle.prefix_trie.specs.Words.{listing, prefix_pairs}
+use Rattle.prefix_trie_map.proofs.Runs.{gives_in_order}
 use Rattle.prefix_trie_ops.specs.Combining.{minus}
-use Rattle.prefix_trie_ops.proofs.Bounds.{items_below, retained_fewer, retained_within}
-use Rattle.prefix_trie_ops.proofs.Selecting.{keys_fit, selected_keys}
+use Rattle.prefix_trie_ops.proofs.Selecting.{prefixes_fit, prefixes_shown}
 use Rattle.prefix_trie_ops.proofs.set.walks.difference.Goals as goal
 
 pub returns-clause-items : goal.returns-clause-items
 returns-clause-items g c =
-    let m = c.args.left.now.entries in
-    let n = c.args.right.now.entries in
-    let path = g.P.Prefix.path in
-    c.new.ensures ∙ ap (filter (λ e. not (contains_key n (path e)))) c.iter.ensures.items
-    ∙ selected_keys path g.P.Prefix.back (λ s. not (contains_key n s)) m
-    (λ e at. c.listed_laws.ensures.key_is m c.iter.ensures.whole.is_map.keys_within e.0 (ap is_some ((c.listing_laws.ensures.has_each m e.0 e.1).1 at)))
-
-pub new-requires : goal.new-requires
-new-requires g c =
-    let m = c.args.left.now.entries in
-    subst (All g.P.Prefix.IsFitting) (sym c.iter.ensures.items)
-    (keys_fit g.P.Prefix.IsFitting g.P.Prefix.back (listing m) (c.listed_laws.ensures.listed_fit m c.iter.ensures.whole.is_map.keys_within))
+    let back = g.P.Prefix.back in
+    ap (map (λ e. e.0)) (c.difference.ensures.items ∙ ap₂ (λ m n. prefix_pairs back (listing (minus m.entries n.entries))) c.as_map.ensures c.as_map-2.ensures)
+    ∙ prefixes_shown back (listing (minus c.args.left.now.entries c.args.right.now.entries))
 
 pub returns-clause-each_fits : goal.returns-clause-each_fits
-returns-clause-each_fits g c =
-    let m = c.args.left.now.entries in
-    let n = c.args.right.now.entries in
-    subst (All g.P.Prefix.IsFitting) (sym (returns-clause-items g c))
-    (keys_fit g.P.Prefix.IsFitting g.P.Prefix.back (listing (minus m n))
-    (c.listed_laws.ensures.listed_fit (minus m n) (retained_within g.P.R.Key.bit_width m (λ s. not (contains_key n s)) c.iter.ensures.whole.is_map.keys_within)))
+returns-clause-each_fits g c = prefixes_fit g.P.Prefix.IsFitting c.difference.result c.difference.ensures.each_fits
 
-pub returns-clause-fits : goal.returns-clause-fits
-returns-clause-fits g c =
-    let m = c.args.left.now.entries in
-    let n = c.args.right.now.entries in
-    items_below (2 ^ 64) (len m) c.new.result (λ e. g.P.Prefix.back e.0) (listing (minus m n)) (returns-clause-items g c) (retained_fewer m (λ s. not (contains_key n s))) c.iter.ensures.fits
+pub returns-clause-runs : goal.returns-clause-runs
+returns-clause-runs g c = gives_in_order
