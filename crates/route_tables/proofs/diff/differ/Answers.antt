@@ -1,4 +1,4 @@
--- Two tables differ where one alone has a route or their values are not equal.
+-- Tables differ at a network if only one has it, or if their values differ.
 use Rattle.std.proofs.Common.{rules}
 use Rattle.route_tables.proofs.diff.differ.Goals as goal
 

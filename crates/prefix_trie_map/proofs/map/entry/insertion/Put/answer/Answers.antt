@@ -1,4 +1,4 @@
--- The answer is the one that was kept.
+-- The result is the one that was kept.
 use Rattle.prefix_trie_map.proofs.Prelude.{rules}
 use Rattle.prefix_trie_map.proofs.map.entry.insertion.Put.answer.Goals as goal
 
