@@ -1,5 +1,5 @@
 -- The messages for all prefixes at which two tables differ turn one into the other.
-use Rattle.std.proofs.Common.{◌≡◌, ◌≢◌, ◌∙◌, ◌++◌, ℕ, Bool, true, false, true≢false, cond, List, [], ◌∷◌, Option, None, Some, nat_eq, eqb-true, ap, sym, refl, T}
+use Rattle.std.proofs.Common.{append-nil, ◌≡◌, ◌≢◌, ◌∙◌, ◌++◌, ℕ, Bool, true, false, true≢false, cond, List, [], ◌∷◌, Option, None, Some, nat_eq, eqb-true, ap, sym, refl, T}
 use Rattle.std.specs.List.{Contains, cons_option, filter_map}
 use Rattle.std.specs.Option.{option_map}
 use Rattle.std.specs.FinMap.{entries_sorted, get, get-entries}
@@ -13,7 +13,6 @@ use Rattle.prefix_trie_ops.specs.Merging.{sides, union_of}
 use Rattle.prefix_trie_ops.specs.declared.map.sides.Side.{Side}
 use Rattle.prefix_trie_ops.specs.declared.map.sides.Side.TheVariants.{Left, Right, Both}
 use Rattle.prefix_trie_ops.proofs.Lists.{contains_here, contains_later}
-use Rattle.prefix_trie_ops.proofs.Swapping.{none_after}
 use Rattle.prefix_trie_ops.proofs.Sorted.{find_before, same_is, t_first, t_second}
 use Rattle.prefix_trie_ops_tests.specs.Updates.{change_of, with_messages}
 
@@ -114,4 +113,4 @@ module _ (laws : StoredLaws ℕ) where
 
 -- once no item is left, the messages are all
 pub finished : {M X : Type 0} (f : X → Option M) (ms : List M) (left es : List X) → left ≡ [] → ms ++ filter_map f left ≡ filter_map f es → ms ≡ filter_map f es
-finished f ms left es done is = sym (none_after ms) ∙ sym (ap (λ xs. ms ++ filter_map f xs) done) ∙ is
+finished f ms left es done is = sym (append-nil ms) ∙ sym (ap (λ xs. ms ++ filter_map f xs) done) ∙ is
