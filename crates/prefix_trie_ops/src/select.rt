@@ -6,6 +6,7 @@ ghost use Rattle.prefix_trie.specs.Words.{lent_item};
 
 use prefix_trie::Prefix;
 use prefix_trie::map::Iter;
+use prefix_trie_map::map::Keyed;
 use std::alloc::Allocator;
 use std::marker::Model;
 
@@ -79,34 +80,18 @@ fn next_entry<'a, P: Prefix, T: Drop, A: Allocator, F: PathTest<P>>(
     None
 }
 
-/// The prefixes of the entries of a map of units that pass a test, in listing order.
-///
-/// The walk does not allocate. After its last key it returns `None` each time.
-#[derive(Drop)]
-pub struct SelectedKeys<'a, P: Prefix, A: Allocator, F: PathTest<P>> {
-    pub(crate) entries: Selected<'a, P, (), A, F>,
-}
+impl<'a, P: Prefix, T: Drop, A: Allocator, F: PathTest<P>> Keyed for Selected<'a, P, T, A, F> {
+    ghost use Rattle.std.specs.Prelude.{map};
 
-impl<'a, P: Prefix, A: Allocator, F: PathTest<P>> Model for SelectedKeys<'a, P, A, F> {
-    ghost use Rattle.std.specs.Prelude.{List, map};
+    type Key = P;
 
-    ghost Value = { List P };
-
-    ghost view = { λ w. map (λ item. item.0) w.entries };
-}
-
-impl<'a, P: Prefix, A: Allocator, F: PathTest<P>> Iterator for SelectedKeys<'a, P, A, F> {
-    type Item = P;
-
-    ghost next_gives = { TakesFirst (λ p. p) };
-
-    ghost remaining = { λ items. at_most (length items) };
+    ghost keys = { map (λ item. item.0) };
 
     #[inline]
-    fn next(&mut self) -> Option<P> {
-        match self.entries.next() {
-            Some((prefix, _)) => Some(prefix),
-            None => None,
-        }
+    fn next_key(&mut self) -> Option<P> {
+        let Some((prefix, _)) = self.next() else {
+            return None;
+        };
+        Some(prefix)
     }
 }

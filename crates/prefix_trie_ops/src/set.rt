@@ -2,12 +2,11 @@
 
 mod aggregation;
 mod comparing;
-mod merge;
-mod shared;
 mod walks;
 
 pub use aggregation::aggregate_consistent;
 pub use comparing::{intersects, is_disjoint, is_subset};
-pub use merge::{UnionWalk, union};
-pub use shared::{IntersectionWalk, intersection};
-pub use walks::{CoveringDifferenceWalk, DifferenceWalk, covering_difference, difference};
+pub use walks::{
+    CoveringDifferenceWalk, DifferenceWalk, IntersectionWalk, UnionWalk, covering_difference,
+    difference, intersection, union,
+};

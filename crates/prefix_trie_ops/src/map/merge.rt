@@ -10,6 +10,7 @@ use crate::map::sides::Side;
 use prefix_trie::laws::{listed_laws, listing_laws};
 use prefix_trie::map::{Combination, JointCursor};
 use prefix_trie::{Prefix, PrefixMap};
+use prefix_trie_map::map::Keyed;
 use std::alloc::Allocator;
 use std::marker::Model;
 
@@ -94,5 +95,22 @@ impl<'a, P: Prefix, T: Drop, U: Drop, A: Allocator, B: Allocator> Iterator
             unreachable!();
         };
         Some((item.0, side))
+    }
+}
+
+impl<'a, P: Prefix, T: Drop, U: Drop, A: Allocator, B: Allocator> Keyed
+    for UnionWalk<'a, P, T, U, A, B> {
+    ghost use Rattle.std.specs.Prelude.{map};
+
+    type Key = P;
+
+    ghost keys = { map (λ item. item.0) };
+
+    #[inline]
+    fn next_key(&mut self) -> Option<P> {
+        let Some((prefix, _)) = self.next() else {
+            return None;
+        };
+        Some(prefix)
     }
 }

@@ -2,8 +2,7 @@
 ghost use Rattle.std.specs.Prelude.{◌≡◌, ◌↔◌, Bool, true, false, List, IsTrue};
 ghost use Rattle.std.specs.FinMap.{contains_key};
 
-use crate::set::shared::intersection;
-use crate::set::walks::difference;
+use crate::set::walks::{difference, intersection};
 use prefix_trie::laws::listing_laws;
 use prefix_trie::{Prefix, PrefixSet};
 use std::alloc::Allocator;

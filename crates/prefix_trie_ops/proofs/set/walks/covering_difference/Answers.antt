@@ -1,5 +1,5 @@
 -- The keys of the covering difference are the prefixes of the items of the maps' covering difference.
-use Rattle.std.proofs.Common.{◌∙◌, ap, ap₂, map}
+use Rattle.std.proofs.Common.{◌∙◌, All, ap, ap₂, map, subst, sym}
 use Rattle.prefix_trie.specs.Words.{listing, prefix_pairs}
 use Rattle.prefix_trie_map.proofs.Runs.{gives_in_order}
 use Rattle.prefix_trie_ops.specs.Combining.{not_covered}
@@ -9,11 +9,11 @@ use Rattle.prefix_trie_ops.proofs.set.walks.covering_difference.Goals as goal
 pub returns-clause-items : goal.returns-clause-items
 returns-clause-items g c =
     let back = g.P.Prefix.back in
-    ap (map (λ e. e.0)) (c.covering_difference.ensures.items ∙ ap₂ (λ m n. prefix_pairs back (listing (not_covered m.entries n.entries))) c.as_map.ensures c.as_map-2.ensures)
+    c.new.ensures ∙ ap (map (λ e. e.0)) (c.covering_difference.ensures.items ∙ ap₂ (λ m n. prefix_pairs back (listing (not_covered m.entries n.entries))) c.as_map.ensures c.as_map-2.ensures)
     ∙ prefixes_shown back (listing (not_covered c.args.left.now.entries c.args.right.now.entries))
 
 pub returns-clause-each_fits : goal.returns-clause-each_fits
-returns-clause-each_fits g c = prefixes_fit g.P.Prefix.IsFitting c.covering_difference.result c.covering_difference.ensures.each_fits
+returns-clause-each_fits g c = subst (All g.P.Prefix.IsFitting) (sym c.new.ensures) (prefixes_fit g.P.Prefix.IsFitting c.covering_difference.result c.covering_difference.ensures.each_fits)
 
 pub returns-clause-runs : goal.returns-clause-runs
 returns-clause-runs g c = gives_in_order
