@@ -1,17 +1,17 @@
 //! Operations on whole maps.
 
 mod aggregation;
-mod covering;
-mod merge;
+mod covering_difference_walk;
+mod difference_walk;
+mod intersection_walk;
 mod optimal;
-mod shared;
 mod sides;
-mod subtraction;
+mod union_walk;
 
 pub use aggregation::aggregate_consistent;
-pub use covering::{CoveringDifferenceWalk, Uncovered, covering_difference};
-pub use merge::{UnionWalk, union};
+pub use covering_difference_walk::{CoveringDifferenceWalk, Uncovered, covering_difference};
+pub use difference_walk::{DifferenceWalk, Missing, difference};
+pub use intersection_walk::{IntersectionWalk, intersection};
 pub use optimal::aggregate;
-pub use shared::{IntersectionWalk, intersection};
 pub use sides::Side;
-pub use subtraction::{DifferenceWalk, Missing, difference};
+pub use union_walk::{UnionWalk, union};

@@ -7,7 +7,7 @@ use Rattle.prefix_trie_ops.specs.Combining.{common}
 use Rattle.prefix_trie_ops.specs.Lending.{lent_pair}
 use Rattle.prefix_trie_ops.proofs.Bounds.{common_fewer, common_within, items_below}
 use Rattle.prefix_trie_ops.proofs.Joint.{common_combines}
-use Rattle.prefix_trie_ops.proofs.map.shared.intersection.Goals as goal
+use Rattle.prefix_trie_ops.proofs.map.intersection_walk.intersection.Goals as goal
 
 pub returns-clause-items : goal.returns-clause-items
 returns-clause-items g c =

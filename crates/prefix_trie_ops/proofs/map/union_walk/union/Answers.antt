@@ -6,7 +6,7 @@ use Rattle.prefix_trie_map.proofs.Runs.{shows_in_order}
 use Rattle.prefix_trie_ops.specs.Merging.{lent_side, union_of}
 use Rattle.prefix_trie_ops.proofs.Bounds.{items_at_most, union_fewer, union_within}
 use Rattle.prefix_trie_ops.proofs.Joint.{union_combines}
-use Rattle.prefix_trie_ops.proofs.map.merge.union.Goals as goal
+use Rattle.prefix_trie_ops.proofs.map.union_walk.union.Goals as goal
 
 pub returns-clause-items : goal.returns-clause-items
 returns-clause-items g c =
