@@ -213,56 +213,77 @@ fn lookup(name: &str, words: &[&str], out: &mut Vec<u8>, alloc: Global) -> Resul
     Ok(())
 }
 
-fn list(name: &str, within: Option<&str>, out: &mut Vec<u8>, alloc: Global) -> Result<(), Fail> {
-    let tables = tables(name, alloc)?;
-    match within {
-        Some(text) => commands::list_within(&tables, parse_network(text)?, out)?,
-        None => commands::list(&tables, out)?,
-    }
+fn list(name: &str, out: &mut Vec<u8>, alloc: Global) -> Result<(), Fail> {
+    commands::list(&tables(name, alloc)?, out)?;
+    Ok(())
+}
+
+fn list_within(name: &str, text: &str, out: &mut Vec<u8>, alloc: Global) -> Result<(), Fail> {
+    let network = parse_network(text)?;
+    commands::list_within(&tables(name, alloc)?, network, out)?;
     Ok(())
 }
 
 fn diff(old: &str, new: &str, out: &mut Vec<u8>, alloc: Global) -> Result<(), Fail> {
     let old = tables(old, alloc)?;
-    let new = tables(new, alloc)?;
-    commands::diff(&old, &new, alloc, out)?;
+    diff_to(&old, new, out, alloc)
+}
+
+fn diff_to(old: &Tables, new: &str, out: &mut Vec<u8>, alloc: Global) -> Result<(), Fail> {
+    commands::diff(old, &tables(new, alloc)?, alloc, out)?;
     Ok(())
 }
 
 fn minimised(name: &str, out: &mut Vec<u8>, alloc: Global) -> Result<(), Fail> {
-    let mut tables = tables(name, alloc)?;
+    minimise_and_list(&mut tables(name, alloc)?, out, alloc)
+}
+
+fn minimise_and_list(tables: &mut Tables, out: &mut Vec<u8>, alloc: Global) -> Result<(), Fail> {
     minimise(&mut tables.ipv4, alloc)?;
     minimise(&mut tables.ipv6, alloc)?;
-    commands::list(&tables, out)?;
+    commands::list(tables, out)?;
     Ok(())
 }
 
-/// Prints what `check` prints and returns, or the first entry that is no rule.
 fn check(name: &str, words: &[&str], out: &mut Vec<u8>, alloc: Global) -> Result<(), Fail> {
     let addresses = addresses(words, alloc)?;
-    let tables = tables(name, alloc)?;
+    check_in(&tables(name, alloc)?, addresses.as_slice(), out)
+}
+
+/// Prints what `check` prints and returns, or the first entry that is no rule.
+fn check_in(tables: &Tables, addresses: &[IpAddr], out: &mut Vec<u8>) -> Result<(), Fail> {
     if let Some((network, value)) = first_other(&tables.ipv4) {
         writeln!(out, "{network} {value}")?;
         return Ok(());
     }
-    let are_allowed = commands::check(&tables, addresses.as_slice(), out)?;
+    let are_allowed = commands::check(tables, addresses, out)?;
     writeln!(out, "{are_allowed}")?;
     Ok(())
 }
 
+fn stats(name: &str, out: &mut Vec<u8>, alloc: Global) -> Result<(), Fail> {
+    commands::stats(&tables(name, alloc)?, alloc, out)?;
+    Ok(())
+}
+
 /// Carries out a command line.
+fn carry_out(words: &[&str], out: &mut Vec<u8>, alloc: Global) -> Result<(), Fail> {
+    match parse(words)? {
+        Command::Help => Ok(out.extend_from_slice(HELP.as_bytes())?),
+        Command::Lookup(name, words) => lookup(name, words, out, alloc),
+        Command::List(name) => list(name, out, alloc),
+        Command::ListWithin(name, network) => list_within(name, network, out, alloc),
+        Command::Diff(old, new) => diff(old, new, out, alloc),
+        Command::Minimise(name) => minimised(name, out, alloc),
+        Command::Check(name, words) => check(name, words, out, alloc),
+        Command::Stats(name) => stats(name, out, alloc),
+    }
+}
+
+/// Returns what a command line prints.
 fn printed(words: &[&str], alloc: Global) -> Result<Vec<u8>, Fail> {
     let mut out = Vec::new(alloc);
-    match parse(words)? {
-        Command::Help => out.extend_from_slice(HELP.as_bytes())?,
-        Command::Lookup(name, words) => lookup(name, words, &mut out, alloc)?,
-        Command::List(name) => list(name, None, &mut out, alloc)?,
-        Command::ListWithin(name, network) => list(name, Some(network), &mut out, alloc)?,
-        Command::Diff(old, new) => diff(old, new, &mut out, alloc)?,
-        Command::Minimise(name) => minimised(name, &mut out, alloc)?,
-        Command::Check(name, words) => check(name, words, &mut out, alloc)?,
-        Command::Stats(name) => commands::stats(&tables(name, alloc)?, alloc, &mut out)?,
-    }
+    carry_out(words, &mut out, alloc)?;
     Ok(out)
 }
 

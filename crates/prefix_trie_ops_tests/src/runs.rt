@@ -48,15 +48,17 @@ fn are_updated(alloc: Global) -> Result<bool, Refusal> {
     }
 }
 
+/// Returns whether a table has the routes of both tables, and prefers those of the first one.
+fn prefers_first(both: &Table) -> bool {
+    (both.len() == 4)
+        & (both.get(&(0x0a01_0000, 16)) == Some(&2))
+        & (both.get(&(0x0b00_0000, 8)) == Some(&5))
+}
+
 /// Returns whether the first table's routes are preferred, and the second table's are there too.
 fn are_preferred(alloc: Global) -> Result<bool, Refusal> {
     let (first, second) = (table(&FIRST, alloc)?, table(&SECOND, alloc)?);
-    let both = preferring(&first, &second, alloc)?;
-    Ok(
-        (both.len() == 4)
-            & (both.get(&(0x0a01_0000, 16)) == Some(&2))
-            & (both.get(&(0x0b00_0000, 8)) == Some(&5)),
-    )
+    Ok(prefers_first(&preferring(&first, &second, alloc)?))
 }
 
 /// Returns whether a network within another one is left out.

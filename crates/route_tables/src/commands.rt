@@ -144,6 +144,16 @@ fn print_stats<P: Prefix, W: Write>(
     alloc: Global,
     out: &mut W,
 ) -> io::Result<()> {
+    print_sizes(table, out)?;
+    match table.address_count() {
+        Some(count) => writeln!(out, "  addresses  {count:?}")?,
+        None => writeln!(out, "  addresses  all")?,
+    }
+    print_lengths(by_length(table, alloc)?.as_slice(), out)
+}
+
+// Prints the numbers of entries, nodes and slots, and the memory that they take.
+fn print_sizes<P: Prefix, W: Write>(table: &Table<P>, out: &mut W) -> io::Result<()> {
     writeln!(out, "  entries    {}", table.len())?;
     writeln!(out, "  nodes      {}", table.node_count())?;
     writeln!(
@@ -157,12 +167,7 @@ fn print_stats<P: Prefix, W: Write>(
         "  bytes      {} in arrays, {} in values",
         array_bytes(table),
         text_bytes(table)
-    )?;
-    match table.address_count() {
-        Some(count) => writeln!(out, "  addresses  {count:?}")?,
-        None => writeln!(out, "  addresses  all")?,
-    }
-    print_lengths(by_length(table, alloc)?.as_slice(), out)
+    )
 }
 
 // Prints the length, the number and a bar of at most 40 marks for each length with networks.

@@ -13,6 +13,7 @@ use route_tables::load::{Loaded, load};
 use route_tables::minimise::minimise;
 use route_tables::network::parse_network;
 use route_tables::table::{Table, Tables};
+use std::alloc::Global;
 use std::fmt::Display;
 use std::io::{self, BufWriter, Read, Write};
 use std::net::IpAddr;
@@ -94,17 +95,25 @@ fn print_within(rt: &HostRuntime, path: &str, word: &str, out: &mut impl Write) 
 /// Prints what changes from an old table to a new one.
 fn print_diff(rt: &HostRuntime, old: &str, new: &str, out: &mut impl Write) -> Result<()> {
     let old = read_tables(rt, old)?;
+    print_changes(rt, &old, new, out)
+}
+
+fn print_changes(rt: &HostRuntime, old: &Tables, new: &str, out: &mut impl Write) -> Result<()> {
     let new = read_tables(rt, new)?;
-    commands::diff(&old, &new, rt.alloc(), out)?;
+    commands::diff(old, &new, rt.alloc(), out)?;
     Ok(())
 }
 
 /// Prints a table without the networks that change no lookup.
 fn print_minimised(rt: &HostRuntime, path: &str, out: &mut impl Write) -> Result<()> {
     let mut tables = read_tables(rt, path)?;
-    minimise(&mut tables.ipv4, rt.alloc())?;
-    minimise(&mut tables.ipv6, rt.alloc())?;
-    commands::list(&tables, out)?;
+    minimise_and_print(&mut tables, rt.alloc(), out)
+}
+
+fn minimise_and_print(tables: &mut Tables, alloc: Global, out: &mut impl Write) -> Result<()> {
+    minimise(&mut tables.ipv4, alloc)?;
+    minimise(&mut tables.ipv6, alloc)?;
+    commands::list(tables, out)?;
     Ok(())
 }
 
@@ -112,9 +121,18 @@ fn print_minimised(rt: &HostRuntime, path: &str, out: &mut impl Write) -> Result
 fn print_check(rt: &HostRuntime, path: &str, words: &[&str], out: &mut impl Write) -> Result<bool> {
     let addresses = addresses(rt, path, words)?;
     let tables = read_tables(rt, path)?;
+    check_rules(&tables, path, addresses.as_slice(), out)
+}
+
+fn check_rules(
+    tables: &Tables,
+    path: &str,
+    addresses: &[IpAddr],
+    out: &mut impl Write,
+) -> Result<bool> {
     ensure_rules(&tables.ipv4, path)?;
     ensure_rules(&tables.ipv6, path)?;
-    Ok(commands::check(&tables, addresses.as_slice(), out)?)
+    Ok(commands::check(tables, addresses, out)?)
 }
 
 /// Prints counts, memory and lengths of a table.
