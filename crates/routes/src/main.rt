@@ -98,6 +98,7 @@ fn print_diff(rt: &HostRuntime, old: &str, new: &str, out: &mut impl Write) -> R
     print_changes(rt, &old, new, out)
 }
 
+/// Prints what changes from this table to one that it reads.
 fn print_changes(rt: &HostRuntime, old: &Tables, new: &str, out: &mut impl Write) -> Result<()> {
     let new = read_tables(rt, new)?;
     commands::diff(old, &new, rt.alloc(), out)?;
@@ -110,6 +111,7 @@ fn print_minimised(rt: &HostRuntime, path: &str, out: &mut impl Write) -> Result
     minimise_and_print(&mut tables, rt.alloc(), out)
 }
 
+/// Removes the networks that change no lookup, and prints the rest.
 fn minimise_and_print(tables: &mut Tables, alloc: Global, out: &mut impl Write) -> Result<()> {
     minimise(&mut tables.ipv4, alloc)?;
     minimise(&mut tables.ipv6, alloc)?;
@@ -124,6 +126,7 @@ fn print_check(rt: &HostRuntime, path: &str, words: &[&str], out: &mut impl Writ
     check_rules(&tables, path, addresses.as_slice(), out)
 }
 
+/// Checks that both tables are access lists, and then prints whether they allow each address.
 fn check_rules(
     tables: &Tables,
     path: &str,
