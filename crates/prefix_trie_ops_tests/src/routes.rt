@@ -8,7 +8,6 @@ use route_tables::addresses::read_addresses;
 use route_tables::arguments::{Command, HELP, UsageError, parse};
 use route_tables::commands;
 use route_tables::load::{Loaded, load};
-use route_tables::minimise::minimise;
 use route_tables::network::parse_network;
 use route_tables::table::Tables;
 use std::alloc::Global;
@@ -235,13 +234,7 @@ fn diff_to(old: &Tables, new: &str, out: &mut Vec<u8>, alloc: Global) -> Result<
 }
 
 fn minimised(name: &str, out: &mut Vec<u8>, alloc: Global) -> Result<(), Fail> {
-    minimise_and_list(&mut tables(name, alloc)?, out, alloc)
-}
-
-fn minimise_and_list(tables: &mut Tables, out: &mut Vec<u8>, alloc: Global) -> Result<(), Fail> {
-    minimise(&mut tables.ipv4, alloc)?;
-    minimise(&mut tables.ipv6, alloc)?;
-    commands::list(tables, out)?;
+    commands::minimise(&mut tables(name, alloc)?, alloc, out)?;
     Ok(())
 }
 

@@ -4,6 +4,7 @@ ghost use Rattle.std.specs.Prelude.{◌≡◌};
 use crate::access::is_allowed;
 use crate::diff::{Values, diff as changes};
 use crate::lookup::lookup as longest;
+use crate::minimise::minimise as remove_redundant;
 use crate::network::Network;
 use crate::stats::{array_bytes, by_length, text_bytes};
 use crate::table::{Table, Tables};
@@ -106,6 +107,13 @@ fn print_change<P: Prefix + Display, W: Write>(
         Side::Right(new) => writeln!(out, "+ {network} {new}"),
         Side::Both(old, new) => writeln!(out, "~ {network} {old} -> {new}"),
     }
+}
+
+/// Removes the networks that change no lookup from both tables, and prints the rest.
+pub fn minimise<W: Write>(tables: &mut Tables, alloc: Global, out: &mut W) -> io::Result<()> {
+    remove_redundant(&mut tables.ipv4, alloc)?;
+    remove_redundant(&mut tables.ipv6, alloc)?;
+    list(tables, out)
 }
 
 /// Prints for each address whether the access list allows it, and returns whether it allows all.

@@ -10,10 +10,8 @@ use route_tables::addresses::read_addresses;
 use route_tables::arguments::{Command, HELP, parse};
 use route_tables::commands;
 use route_tables::load::{Loaded, load};
-use route_tables::minimise::minimise;
 use route_tables::network::parse_network;
 use route_tables::table::{Table, Tables};
-use std::alloc::Global;
 use std::fmt::Display;
 use std::io::{self, BufWriter, Read, Write};
 use std::net::IpAddr;
@@ -108,14 +106,7 @@ fn print_changes(rt: &HostRuntime, old: &Tables, new: &str, out: &mut impl Write
 /// Prints a table without the networks that change no lookup.
 fn print_minimised(rt: &HostRuntime, path: &str, out: &mut impl Write) -> Result<()> {
     let mut tables = read_tables(rt, path)?;
-    minimise_and_print(&mut tables, rt.alloc(), out)
-}
-
-/// Removes the networks that change no lookup, and prints the rest.
-fn minimise_and_print(tables: &mut Tables, alloc: Global, out: &mut impl Write) -> Result<()> {
-    minimise(&mut tables.ipv4, alloc)?;
-    minimise(&mut tables.ipv6, alloc)?;
-    commands::list(tables, out)?;
+    commands::minimise(&mut tables, rt.alloc(), out)?;
     Ok(())
 }
 
