@@ -13,6 +13,16 @@ use Rattle.prefix_trie_table.proofs.table.insertion.add_entry.Goals as goal
 
 -- ---- a value in a node that is there
 
+pub after-rest-requires : goal.after-rest-requires
+after-rest-requires g c = c.requires.ends.1.along.whole
+
+pub value_bit-bit-requires : goal.value_bit-bit-requires
+value_bit-bit-requires g c =
+    none_left c.args.path c.after-rest.result c.args.reached.now.level (c.len-last.result / 5) c.after-rest.ensures (ap (λ n. n / 5) c.len-last.ensures.len) (omega (arith, c.if-reached-last.true))
+
+pub add_value-requires-clause-node : goal.add_value-requires-clause-node
+add_value-requires-clause-node g c = c.requires.ends.1.along.node_is
+
 pub add_value-requires-clause-is_there : goal.add_value-requires-clause-is_there
 add_value-requires-clause-is_there g c = end_there c.args.path c.args.reached.now c.requires.table c.requires.ends
 
@@ -43,6 +53,21 @@ returns-then-reached-last-clause-seat g c =
     c.value_bit-bit.result c.value_bit-bit.ensures.value (Some c.args.value) c.add_value.ensures.added c.add_value.result c.add_value.ensures.seat
 
 -- ---- the first new node
+
+pub child_bit-child-requires : goal.child_bit-child-requires
+child_bit-child-requires g c =
+    let here = c.args.reached.now in
+    let more = above_own here.level c.len-last.result (length c.args.path) c.len-last.ensures.len c.requires.ends.1.along.whole c.if-reached-last.false in
+    step_left c.args.path c.after-rest.result here.level (c.len-last.result / 5) c.after-rest.ensures (ap (λ n. n / 5) c.len-last.ensures.len) more.0
+
+pub add_child-at-requires-clause-node : goal.add_child-at-requires-clause-node
+add_child-at-requires-clause-node g c = c.requires.ends.1.along.node_is
+
+pub below-rest-requires : goal.below-rest-requires
+below-rest-requires g c =
+    let here = c.args.reached.now in
+    let more = above_own here.level c.len-last.result (length c.args.path) c.len-last.ensures.len c.requires.ends.1.along.whole c.if-reached-last.false in
+    step_left c.args.path c.after-rest.result here.level (c.len-last.result / 5) c.after-rest.ensures (ap (λ n. n / 5) c.len-last.ensures.len) more.0
 
 pub add_child-at-requires-clause-is_there : goal.add_child-at-requires-clause-is_there
 add_child-at-requires-clause-is_there g c = at_values _ _ _ (end_there c.args.path c.args.reached.now c.requires.table c.requires.ends)
@@ -82,6 +107,14 @@ loop-level-init g c =
 
 -- ---- the nodes below it
 
+pub child_bit-child-requires-in-loop-level : goal.child_bit-child-requires-in-loop-level
+child_bit-child-requires-in-loop-level g c =
+    step_left c.args.path c.loop-level.rest c.loop-level._level (c.len-last.result / 5) c.loop-level.invariant.extended.rest_is (ap (λ n. n / 5) c.len-last.ensures.len) c.loop-level-test.true
+
+pub below-rest-requires-in-loop-level : goal.below-rest-requires-in-loop-level
+below-rest-requires-in-loop-level g c =
+    step_left c.args.path c.loop-level.rest c.loop-level._level (c.len-last.result / 5) c.loop-level.invariant.extended.rest_is (ap (λ n. n / 5) c.len-last.ensures.len) c.loop-level-test.true
+
 pub add_child-at-requires-in-loop-level-clause-is_there : goal.add_child-at-requires-in-loop-level-clause-is_there
 add_child-at-requires-in-loop-level-clause-is_there g c = at_values _ _ _ (extended_there c.args.path _ _ _ c.requires.table _ _ _ c.loop-level.invariant.extended)
 
@@ -120,6 +153,10 @@ loop-level-preserved g c =
     })
 
 -- ---- the value in the last
+
+pub value_bit-bit-requires-2 : goal.value_bit-bit-requires-2
+value_bit-bit-requires-2 g c =
+    none_left c.args.path c.loop-level.rest c.loop-level._level (c.len-last.result / 5) c.loop-level.invariant.extended.rest_is (ap (λ n. n / 5) c.len-last.ensures.len) (omega (arith, c.loop-level-test.false))
 
 pub add_value-requires-2-clause-is_there : goal.add_value-requires-2-clause-is_there
 add_value-requires-2-clause-is_there g c = extended_there c.args.path _ _ _ c.requires.table _ _ _ c.loop-level.invariant.extended

@@ -23,3 +23,24 @@ pub down-preserved : goal.down-preserved
 down-preserved g c =
     let at = c.down.invariant in
     rw c.below-rest.ensures (followed_next c.args.path c.down.here c.in-Some.next c.args.nodes.now _ _ _ _ at (c.in-Some.ensures.step c.args.path at.along at.rest_is (ap (λ n. n / 5) c.len-len.ensures.len)) c.in-Some.ensures.visits)
+
+-- goals that `search` takes seconds to find
+
+pub overflow_mul-here : goal.overflow_mul-here
+overflow_mul-here g c =
+    let whole = c.down.invariant.along.whole in
+    omega (arith, whole, c.down.invariant.short)
+
+pub overflow_sub-len : goal.overflow_sub-len
+overflow_sub-len g c =
+    let whole = c.down.invariant.along.whole in
+    omega (arith, whole, c.len-len.ensures.len)
+
+pub first-requires : goal.first-requires
+first-requires g c = omega (arith, c.len-len.ensures.len, left_length c.args.path c.down.rest c.down.here.level c.down.invariant.rest_is)
+
+pub down-smaller : goal.down-smaller
+down-smaller g c =
+    let at = c.down.invariant in
+    let next = c.in-Some.ensures.step c.args.path at.along at.rest_is (ap (λ n. n / 5) c.len-len.ensures.len) in
+    omega (arith, next.0, next.1.whole)

@@ -39,3 +39,9 @@ returns g c =
       located = seat_here _ s.reading s.paths s.hold _ _ e.last _ e.rest short _ c.value_bit-bit.ensures.small c.value_bit-bit.ensures.value (sym c.has_bit.ensures ∙ c.if-not-has_bit.false) _ c.value_seat.ensures;
       visits = path_read _ _ _ e.last _ _ e.visits;
     }
+
+-- goals that `search` takes seconds to find
+
+pub value_bit-bit-requires : goal.value_bit-bit-requires
+value_bit-bit-requires g c =
+    none_left _ _ c.descend-rest.result.0.level _ c.descend-rest.ensures.rest (ap (λ n. n / 5) c.len-last.ensures.len) (omega (arith, c.if-reached-last.false))

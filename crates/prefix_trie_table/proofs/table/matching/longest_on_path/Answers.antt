@@ -1,6 +1,6 @@
 -- A later node has longer matches, so the last match that is found on the search path is the longest.
 use Rattle.prefix_trie_table.proofs.Prelude.{◌≡◌, ◌+◌, ◌*◌, ◌/◌, take, ap, ◌∙◌, subst, arith, LongestHeld}
-use Rattle.prefix_trie_table.proofs.Lookup.SearchPaths.{followed_root, followed_next, last_at_own, path_read}
+use Rattle.prefix_trie_table.proofs.Lookup.SearchPaths.{followed_root, followed_next, last_at_own, path_read, step_left}
 use Rattle.prefix_trie_table.proofs.Lookup.Matching.{no_last_bit, first_left, best_now, best_at_last}
 use Rattle.prefix_trie_table.proofs.table.matching.longest_on_path.Goals as goal
 
@@ -58,3 +58,30 @@ down-preserved g c =
           let more : 5 * c.down.here.level + 5 ≡ 5 * c.in-Some.next.level = omega (arith, next.0) in
           subst (λ n. LongestHeld reading q 0 n c.or-best.result) more found;
     })
+
+-- goals that `search` takes seconds to find
+
+pub first-requires : goal.first-requires
+first-requires g c =
+    let five = step_left c.args.path c.down.rest c.down.here.level _ c.down.invariant.descent.rest_is (ap (λ n. n / 5) c.len-last.ensures.len) (omega (arith, c.if-here-last.false)) in
+    omega (arith, five)
+
+pub longest_in-requires-in-down-clause-shallow : goal.longest_in-requires-in-down-clause-shallow
+longest_in-requires-in-down-clause-shallow g c =
+    let whole = c.down.invariant.descent.along.whole in
+    omega (arith, whole, c.down.invariant.descent.short)
+
+pub step_to_child-requires-clause-along : goal.step_to_child-requires-clause-along
+step_to_child-requires-clause-along g c =
+    let at = c.down.invariant.descent in
+    let five = step_left c.args.path c.down.rest c.down.here.level _ c.down.invariant.descent.rest_is (ap (λ n. n / 5) c.len-last.ensures.len) (omega (arith, c.if-here-last.false)) in
+    (c.args.path, at.along, at.rest_is, at.short, five)
+
+pub below-rest-requires : goal.below-rest-requires
+below-rest-requires g c = step_left c.args.path c.down.rest c.down.here.level _ c.down.invariant.descent.rest_is (ap (λ n. n / 5) c.len-last.ensures.len) (omega (arith, c.if-here-last.false))
+
+pub down-smaller : goal.down-smaller
+down-smaller g c =
+    let at = c.down.invariant.descent in
+    let next = c.in-Some.ensures.step c.args.path at.along at.rest_is in
+    omega (arith, next.0, next.1.whole)

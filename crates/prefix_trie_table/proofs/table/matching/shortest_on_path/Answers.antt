@@ -1,6 +1,6 @@
 -- A later node has longer matches, so the first match that is found on the search path is the shortest.
 use Rattle.prefix_trie_table.proofs.Prelude.{◌≡◌, ◌+◌, ◌*◌, take, None, Some, ◌∙◌, subst, arith, NoneHeld, ◌/◌, ap}
-use Rattle.prefix_trie_table.proofs.Lookup.SearchPaths.{followed_root, followed_next, last_at_own, path_read}
+use Rattle.prefix_trie_table.proofs.Lookup.SearchPaths.{followed_root, followed_next, last_at_own, path_read, step_left}
 use Rattle.prefix_trie_table.proofs.Lookup.Matching.{no_last_bit, none_join, first_left, shortest_behind, shortest_at_last, match_read, along_is}
 use Rattle.prefix_trie_table.proofs.table.matching.shortest_on_path.Goals as goal
 
@@ -64,3 +64,30 @@ down-preserved g c =
           let more : 5 * level + 5 ≡ 5 * c.in-Some-step_to_child.next.level = omega (arith, next.0) in
           subst (NoneHeld reading q 0) more (none_join reading q 0 (5 * level) (5 * level + 5) (at.none reading paths hold) (c.in_default.ensures.found q reading at.descent.along.whole (first_left c.first.ensures at.descent.rest_is) is));
     })
+
+-- goals that `search` takes seconds to find
+
+pub first-requires : goal.first-requires
+first-requires g c =
+    let five = step_left c.args.path c.down.rest c.down.here.level _ c.down.invariant.descent.rest_is (ap (λ n. n / 5) c.len-last.ensures.len) (omega (arith, c.if-here-last.false)) in
+    omega (arith, five)
+
+pub shortest_in-requires-in-down-clause-shallow : goal.shortest_in-requires-in-down-clause-shallow
+shortest_in-requires-in-down-clause-shallow g c =
+    let whole = c.down.invariant.descent.along.whole in
+    omega (arith, whole, c.down.invariant.descent.short)
+
+pub step_to_child-requires-clause-along : goal.step_to_child-requires-clause-along
+step_to_child-requires-clause-along g c =
+    let at = c.down.invariant.descent in
+    let five = step_left c.args.path c.down.rest c.down.here.level _ c.down.invariant.descent.rest_is (ap (λ n. n / 5) c.len-last.ensures.len) (omega (arith, c.if-here-last.false)) in
+    (c.args.path, at.along, at.rest_is, at.short, five)
+
+pub below-rest-requires : goal.below-rest-requires
+below-rest-requires g c = step_left c.args.path c.down.rest c.down.here.level _ c.down.invariant.descent.rest_is (ap (λ n. n / 5) c.len-last.ensures.len) (omega (arith, c.if-here-last.false))
+
+pub down-smaller : goal.down-smaller
+down-smaller g c =
+    let at = c.down.invariant.descent in
+    let next = c.in-Some-step_to_child.ensures.step c.args.path at.along at.rest_is in
+    omega (arith, next.0, next.1.whole)
