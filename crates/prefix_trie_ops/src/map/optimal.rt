@@ -1,6 +1,8 @@
 //! The table with the fewest entries for the same full-width lookups.
-ghost use Rattle.std.specs.Prelude.{◌≡◌, ◌≤◌, Bool, true, false, List, length, IfErr, IfOk, IfSome};
-ghost use Rattle.std.specs.FinMap.{len};
+ghost use Rattle.std.specs.Prelude.{◌≡◌, ◌≤◌, All, Bool, true, false, List, [], length, None, IfErr, IfOk, IfSome, OnOk};
+ghost use Rattle.std.specs.FinMap.{get, len};
+ghost use Rattle.prefix_trie.specs.Words.{AreWithin, Entries, listing, prefix_pairs};
+ghost use Rattle.prefix_trie_ops.specs.Optimal.{Rebuilds};
 ghost use Rattle.prefix_trie_ops.specs.Values.{is_redundant, value_of};
 
 mod choosing;
@@ -105,12 +107,27 @@ fn rebuilt<P: Prefix, T: Copy + Ord, A: Allocator + Clone, B: Allocator>(
     stored_laws::<T>();
     // The proof learns from it that no key is longer than the width.
     let _ = table.len();
-    let root = P::from_repr_len(P::R::zero(), 0);
     let entries = copied(table, alloc)?;
-    let mut choices = choices_of(Upcoming::of(entries.as_slice()), &root, alloc)?;
     let mut made = table.clone()?;
     made.clear();
-    let mut walk = Upcoming::of(entries.as_slice());
-    place(&mut walk, &mut choices, &mut made, &root, None, None)?;
+    place_all(entries.as_slice(), &mut made, alloc)?;
     Ok(made)
+}
+
+/// Builds an empty map up, so that full-width lookups are as with these entries.
+fn place_all<P: Prefix, T: Copy + Ord, A: Allocator, B: Allocator>(
+    entries: &[(P, T)],
+    made: &mut PrefixMap<P, T, A>,
+    alloc: &B,
+) -> Result<(), Stop>
+    requires { All (λ e. P.IsFitting e.0) entries.now }
+    ensures { OnOk result ((source : Entries T) → AreWithin P.R.bit_width source → entries.now ≡ prefix_pairs P.back (listing source)
+        → ((t : List Bool) → get made.old.entries t ≡ None) → ((x y : T) → T.PartialEq.eq x y ≡ true → x ≡ y)
+        → Rebuilds T.PartialEq.eq P.R.bit_width source [] None None made.old.entries made.new.entries) }
+{
+    let root = P::from_repr_len(P::R::zero(), 0);
+    let mut choices = choices_of(Upcoming::of(entries), &root, alloc)?;
+    let mut walk = Upcoming::of(entries);
+    place(&mut walk, &mut choices, made, &root, None, None)?;
+    Ok(())
 }
