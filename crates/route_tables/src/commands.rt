@@ -110,6 +110,8 @@ fn print_change<P: Prefix + Display, W: Write>(
 }
 
 /// Removes the networks that change no lookup from both tables, and prints the rest.
+///
+/// After an error, one table or both may have lost these networks already.
 pub fn minimise<W: Write>(tables: &mut Tables, alloc: Global, out: &mut W) -> io::Result<()> {
     remove_redundant(&mut tables.ipv4, alloc)?;
     remove_redundant(&mut tables.ipv6, alloc)?;

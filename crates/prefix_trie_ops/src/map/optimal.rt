@@ -114,7 +114,7 @@ fn rebuilt<P: Prefix, T: Copy + Ord, A: Allocator + Clone, B: Allocator>(
     Ok(made)
 }
 
-/// Builds an empty map up, so that full-width lookups are as with these entries.
+/// Fills an empty map, so that its full-width lookups are those of the entries.
 fn place_all<P: Prefix, T: Copy + Ord, A: Allocator, B: Allocator>(
     entries: &[(P, T)],
     made: &mut PrefixMap<P, T, A>,

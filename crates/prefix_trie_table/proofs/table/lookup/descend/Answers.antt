@@ -24,7 +24,7 @@ down-preserved g c =
     let at = c.down.invariant in
     rw c.below-rest.ensures (followed_next c.args.path c.down.here c.in-Some.next c.args.nodes.now _ _ _ _ at (c.in-Some.ensures.step c.args.path at.along at.rest_is (ap (λ n. n / 5) c.len-len.ensures.len)) c.in-Some.ensures.visits)
 
--- goals that `search` takes seconds to find
+-- goals whose proofs `search` takes seconds to find
 
 pub overflow_mul-here : goal.overflow_mul-here
 overflow_mul-here g c =

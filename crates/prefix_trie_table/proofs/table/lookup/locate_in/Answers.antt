@@ -40,7 +40,7 @@ returns g c =
       visits = path_read _ _ _ e.last _ _ e.visits;
     }
 
--- goals that `search` takes seconds to find
+-- a goal whose proof `search` takes seconds to find
 
 pub value_bit-bit-requires : goal.value_bit-bit-requires
 value_bit-bit-requires g c =

@@ -59,7 +59,7 @@ down-preserved g c =
           subst (λ n. LongestHeld reading q 0 n c.or-best.result) more found;
     })
 
--- goals that `search` takes seconds to find
+-- goals whose proofs `search` takes seconds to find
 
 pub first-requires : goal.first-requires
 first-requires g c =

@@ -65,7 +65,7 @@ down-preserved g c =
           subst (NoneHeld reading q 0) more (none_join reading q 0 (5 * level) (5 * level + 5) (at.none reading paths hold) (c.in_default.ensures.found q reading at.descent.along.whole (first_left c.first.ensures at.descent.rest_is) is));
     })
 
--- goals that `search` takes seconds to find
+-- goals whose proofs `search` takes seconds to find
 
 pub first-requires : goal.first-requires
 first-requires g c =
