@@ -35,3 +35,11 @@ loop-network-preserved g c =
       w.4,
       length-set c.loop-network.counts.items c.from.result (c.index_mut.result.now + 1) ∙ w.5,
     )
+
+pub index_mut-requires : goal.index_mut-requires
+index_mut-requires g c =
+    let w = c.loop-network.invariant in
+    let fits = All-head (λ e. g.P.Prefix.IsFitting e.0) (c.in-Some.network, c.in-Some.field-0-1.now) c.next.new.self (subst (All (λ e. g.P.Prefix.IsFitting e.0)) c.in-Some.ensures.steps w.2) in
+    let is : c.from.result ≡ g.P.Prefix.len_of c.in-Some.network = search rules in
+    let within : c.from.result < length c.loop-network.counts.items = omega (arith, is, w.5, ((g.met.P.Prefix.prefix_laws.fits_is c.in-Some.network).0 fits).1) in
+    search rules
