@@ -231,16 +231,30 @@ static REFUSED: [(&str, ParseNetworkError); 37] = [
     ("2001:db8::/ffff::", Length),
 ];
 
+/// Returns whether a text is read as an address and a length.
+fn is_read(text: &str, addr: u128, len: u8) -> bool {
+    match text.parse::<Ipv6Prefix>() {
+        Ok(network) => network.addr() == addr && network.prefix_len() == len,
+        Err(_) => false,
+    }
+}
+
+/// Returns a network's text for debugging, which has all digits.
+fn full_text(rt: &HostRuntime, network: Ipv6Prefix) -> Result<String, Fail> {
+    Ok(format!(in rt.alloc(); "{network:?}")?)
+}
+
+/// Returns whether a network is printed as this text, and its full text is read as the same network.
+fn is_printed(rt: &HostRuntime, network: Ipv6Prefix, text: &str) -> Result<bool, Fail> {
+    let printed = format!(in rt.alloc(); "{network}")?;
+    Ok(printed.as_str() == text && full_text(rt, network)?.as_str().parse() == Ok(network))
+}
+
 #[test]
 fn ipv6_networks_are_read_and_printed(rt: HostRuntime) -> Result<(), Fail> {
     for (text, addr, len, printed) in READ {
-        let network: Ipv6Prefix = text.parse()?;
-        assert_eq!(rt; network.addr(), addr, "{text}");
-        assert_eq!(rt; network.prefix_len(), len, "{text}");
-        assert_eq!(rt; format!(in rt.alloc(); "{network}")?.as_str(), printed);
-        // The full text is read as the same network.
-        let full = format!(in rt.alloc(); "{network:?}")?;
-        assert_eq!(rt; full.as_str().parse::<Ipv6Prefix>()?, network, "{text}");
+        assert!(rt; is_read(text, addr, len), "{text}");
+        assert!(rt; is_printed(&rt, text.parse()?, printed)?, "{text}");
     }
     Ok(())
 }
@@ -248,26 +262,37 @@ fn ipv6_networks_are_read_and_printed(rt: HostRuntime) -> Result<(), Fail> {
 #[test]
 fn other_texts_are_refused_as_ipv6_networks(rt: HostRuntime) {
     for (text, reason) in REFUSED {
-        assert_eq!(rt; text.parse::<Ipv6Prefix>().err(), Some(reason), "{text}");
+        assert!(rt; text.parse::<Ipv6Prefix>() == Err(reason), "{text}");
     }
 }
+
+/// Networks with the longest texts, and their full texts.
+static LONGEST: [(&str, &str); 2] = [
+    (
+        "1111:2222:3333:4444:5555:6666:7777:8888/128",
+        "1111:2222:3333:4444:5555:6666:7777:8888/128",
+    ),
+    (
+        "::ffff:255.255.255.255/128",
+        "0000:0000:0000:0000:0000:ffff:ffff:ffff/128",
+    ),
+];
 
 /// The longest texts fill the buffer in which they are padded. No contract says that writing them does not fail.
 #[test]
 fn longest_texts_are_printed(rt: HostRuntime) -> Result<(), Fail> {
-    let longest = "1111:2222:3333:4444:5555:6666:7777:8888/128";
-    let network: Ipv6Prefix = longest.parse()?;
-    assert_eq!(rt; format!(in rt.alloc(); "{network}")?.as_str(), longest);
-    assert_eq!(rt; format!(in rt.alloc(); "{network:?}")?.as_str(), longest);
-    assert_eq!(rt;
-        format!(in rt.alloc(); "{network:>44}")?.as_str(),
-        " 1111:2222:3333:4444:5555:6666:7777:8888/128"
-    );
-    let mapped: Ipv6Prefix = "::ffff:255.255.255.255/128".parse()?;
-    assert_eq!(rt;
-        format!(in rt.alloc(); "{mapped:?}")?.as_str(),
-        "0000:0000:0000:0000:0000:ffff:ffff:ffff/128"
-    );
+    for (text, full) in LONGEST {
+        assert!(rt; is_printed(&rt, text.parse()?, text)?, "{text}");
+        assert!(rt; full_text(&rt, text.parse()?)?.as_str() == full, "{text}");
+    }
+    Ok(())
+}
+
+#[test]
+fn longest_text_is_padded(rt: HostRuntime) -> Result<(), Fail> {
+    let network: Ipv6Prefix = LONGEST[0].0.parse()?;
+    let printed = format!(in rt.alloc(); "{network:>44}")?;
+    assert!(rt; printed.as_str() == " 1111:2222:3333:4444:5555:6666:7777:8888/128");
     Ok(())
 }
 
@@ -300,26 +325,33 @@ static ENDS: [(&str, &str, &str, Option<&str>); 5] = [
     ),
 ];
 
-/// Returns whether the printed parent is the expected one.
-fn is_parent(
-    rt: &HostRuntime,
-    parent: Option<Ipv6Prefix>,
-    expected: Option<&str>,
-) -> Result<bool, Fail> {
-    Ok(match (parent, expected) {
-        (Some(network), Some(text)) => format!(in rt.alloc(); "{network}")?.as_str() == text,
+/// Returns whether these are a network's lowest and highest address.
+fn has_ends(network: Ipv6Prefix, lowest: &str, highest: &str) -> Result<bool, Fail> {
+    let (lowest, highest): (Ipv6Addr, Ipv6Addr) = (lowest.parse()?, highest.parse()?);
+    Ok(network.network() == lowest && network.last() == highest)
+}
+
+/// Returns whether a network's printed parent is the expected one.
+fn has_parent(rt: &HostRuntime, network: Ipv6Prefix, expected: Option<&str>) -> Result<bool, Fail> {
+    Ok(match (network.parent(), expected) {
+        (Some(parent), Some(text)) => format!(in rt.alloc(); "{parent}")?.as_str() == text,
         (None, None) => true,
         _ => false,
     })
 }
 
 #[test]
-fn ipv6_networks_have_ends_and_parents(rt: HostRuntime) -> Result<(), Fail> {
-    for (text, lowest, highest, parent) in ENDS {
-        let network: Ipv6Prefix = text.parse()?;
-        assert_eq!(rt; network.network(), lowest.parse::<Ipv6Addr>()?, "{text}");
-        assert_eq!(rt; network.last(), highest.parse::<Ipv6Addr>()?, "{text}");
-        assert!(rt; is_parent(&rt, network.parent(), parent)?, "{text}");
+fn ipv6_networks_have_ends(rt: HostRuntime) -> Result<(), Fail> {
+    for (text, lowest, highest, _) in ENDS {
+        assert!(rt; has_ends(text.parse()?, lowest, highest)?, "{text}");
+    }
+    Ok(())
+}
+
+#[test]
+fn ipv6_networks_have_parents(rt: HostRuntime) -> Result<(), Fail> {
+    for (text, _, _, parent) in ENDS {
+        assert!(rt; has_parent(&rt, text.parse()?, parent)?, "{text}");
     }
     Ok(())
 }

@@ -21,23 +21,20 @@ static REFUSED: [&str; 12] = [
     "1/12",
 ];
 
+/// Returns whether a text is read as this number of 12 bits, and the number is printed as the text.
+fn is_read_and_printed(rt: &HostRuntime, text: &str, number: u64) -> Result<bool, Fail> {
+    let vlan: Narrow<12> = text.parse()?;
+    Ok(vlan.get() == number && format!(in rt.alloc(); "{vlan}")?.as_str() == text)
+}
+
 #[test]
 fn numbers_are_read_and_printed(rt: HostRuntime) -> Result<(), Fail> {
     for (text, number) in READ {
-        let vlan: Narrow<12> = text.parse()?;
-        assert_eq!(rt; vlan.get(), number);
-        assert_eq!(rt; format!(in rt.alloc(); "{vlan}")?.as_str(), text);
+        assert!(rt; is_read_and_printed(&rt, text, number)?, "{text}");
     }
-    let longest: Narrow<63> = "9223372036854775807".parse()?;
-    assert_eq!(rt; longest.get(), (1 << 63) - 1);
-    assert_eq!(rt;
-        format!(in rt.alloc(); "[{longest:>20}]")?.as_str(),
-        "[ 9223372036854775807]"
-    );
     for text in REFUSED {
-        assert_eq!(rt;
-            text.parse::<Narrow<12>>().err(),
-            Some(ParseNarrowError),
+        assert!(rt;
+            text.parse::<Narrow<12>>() == Err(ParseNarrowError),
             "{text}"
         );
     }
@@ -45,45 +42,58 @@ fn numbers_are_read_and_printed(rt: HostRuntime) -> Result<(), Fail> {
 }
 
 #[test]
-fn widths_and_errors_are_printed(rt: HostRuntime) -> Result<(), Fail> {
+fn longest_number_is_printed(rt: HostRuntime) -> Result<(), Fail> {
+    let longest: Narrow<63> = "9223372036854775807".parse()?;
+    assert!(rt; longest.get() == (1 << 63) - 1);
+    let printed = format!(in rt.alloc(); "[{longest:>20}]")?;
+    assert!(rt; printed.as_str() == "[ 9223372036854775807]");
+    Ok(())
+}
+
+#[test]
+fn networks_are_printed_within_widths(rt: HostRuntime) -> Result<(), Fail> {
     let four: Ipv4Prefix = "10.1.2.3/8".parse()?;
     let six: Ipv6Prefix = "2001:db8::/32".parse()?;
-    assert_eq!(rt;
-        format!(in rt.alloc(); "[{four:>14}] [{four:<12}] [{four:.4}] [{six:^17}]")?.as_str(),
-        "[    10.1.2.3/8] [10.1.2.3/8  ] [10.1] [  2001:db8::/32  ]"
-    );
-    assert_eq!(rt;
-        format!(in rt.alloc();
-            "{}, {}, {}, {}",
-            ParseNetworkError::MissingSlash,
-            ParseNetworkError::Address,
-            ParseNetworkError::Length,
-            ParseNarrowError
-        )?
-        .as_str(),
-        "missing slash between address and length, invalid address before the slash, invalid length after the slash, not a plain decimal number within the width"
+    let printed = format!(in rt.alloc(); "[{four:>14}] [{four:<12}] [{four:.4}] [{six:^17}]")?;
+    assert!(rt; printed.as_str() == "[    10.1.2.3/8] [10.1.2.3/8  ] [10.1] [  2001:db8::/32  ]");
+    Ok(())
+}
+
+#[test]
+fn errors_are_printed(rt: HostRuntime) -> Result<(), Fail> {
+    let printed = format!(in rt.alloc();
+        "{}, {}, {}, {}",
+        ParseNetworkError::MissingSlash,
+        ParseNetworkError::Address,
+        ParseNetworkError::Length,
+        ParseNarrowError
+    )?;
+    assert!(rt;
+        printed.as_str()
+            == "missing slash between address and length, invalid address before the slash, invalid length after the slash, not a plain decimal number within the width"
     );
     Ok(())
 }
 
 #[test]
-fn networks_are_made_of_addresses(rt: HostRuntime) -> Result<(), Fail> {
+fn ipv4_networks_are_made_of_addresses(rt: HostRuntime) -> Result<(), Fail> {
     let address = Ipv4Addr::new(10, 1, 2, 3);
-    assert_eq!(rt; Ipv4Prefix::from(address), "10.1.2.3/32".parse()?);
-    assert_eq!(rt;
-        Ipv4Prefix::from_address(address, 8),
-        Some("10.1.2.3/8".parse()?)
-    );
-    assert_eq!(rt; Ipv4Prefix::from_address(address, 33), None);
-    assert_eq!(rt; "10.1.2.3/8".parse::<Ipv4Prefix>()?.address(), address);
-    let loopback = Ipv6Addr::LOCALHOST;
-    assert_eq!(rt; Ipv6Prefix::from(loopback), "::1/128".parse()?);
-    assert_eq!(rt;
-        Ipv6Prefix::from_address(loopback, 64),
-        Some("::1/64".parse()?)
-    );
-    assert_eq!(rt; Ipv6Prefix::from_address(loopback, 129), None);
-    assert_eq!(rt; "::1/64".parse::<Ipv6Prefix>()?.address(), loopback);
+    let (host, network): (Ipv4Prefix, Ipv4Prefix) = ("10.1.2.3/32".parse()?, "10.1.2.3/8".parse()?);
+    assert!(rt; Ipv4Prefix::from(address) == host);
+    assert!(rt; Ipv4Prefix::from_address(address, 8) == Some(network));
+    assert!(rt; Ipv4Prefix::from_address(address, 33).is_none());
+    assert!(rt; network.address() == address);
+    Ok(())
+}
+
+#[test]
+fn ipv6_networks_are_made_of_addresses(rt: HostRuntime) -> Result<(), Fail> {
+    let address = Ipv6Addr::LOCALHOST;
+    let (host, network): (Ipv6Prefix, Ipv6Prefix) = ("::1/128".parse()?, "::1/64".parse()?);
+    assert!(rt; Ipv6Prefix::from(address) == host);
+    assert!(rt; Ipv6Prefix::from_address(address, 64) == Some(network));
+    assert!(rt; Ipv6Prefix::from_address(address, 129).is_none());
+    assert!(rt; network.address() == address);
     Ok(())
 }
 
@@ -114,12 +124,15 @@ fn networks_are_ordered_as_a_map_lists_them(rt: HostRuntime) -> Result<(), Fail>
         assert!(rt; last < Some(network), "{network}");
         last = Some(network);
     }
-    assert_eq!(rt; last, Some("128.0.0.0/1".parse()?));
-    let wide: Ipv4Prefix = "10.0.0.0/8".parse()?;
-    assert_eq!(rt;
-        hash_of(&wide),
-        hash_of(&Ipv4Prefix::new(0x0a00_0000, 8).ok_or("no length")?)
-    );
-    assert_ne!(rt; hash_of(&wide), hash_of(&wide.parent()));
+    assert!(rt; last == Some("128.0.0.0/1".parse()?));
+    Ok(())
+}
+
+#[test]
+fn equal_networks_have_equal_hashes(rt: HostRuntime) -> Result<(), Fail> {
+    let read: Ipv4Prefix = "10.0.0.0/8".parse()?;
+    let made = Ipv4Prefix::new(0x0a00_0000, 8).ok_or("no length")?;
+    assert!(rt; hash_of(&read) == hash_of(&made));
+    assert!(rt; hash_of(&Some(read)) != hash_of(&read.parent()));
     Ok(())
 }

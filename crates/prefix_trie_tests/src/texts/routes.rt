@@ -3,45 +3,55 @@ use crate::examples::reread::{compare, reread, reread_ipv6};
 use crate::examples::routes_from_text::{LineError, add_line, next_hop, print};
 use prefix_trie::{ParseNetworkError, PrefixMap};
 use std::cmp::Ordering;
-use std::net::Ipv4Addr;
 use std::test::Fail;
+
+/// A line that holds no route, and the reason.
+static REFUSED: [(&str, LineError); 4] = [
+    ("10.0.0.0/8", LineError::MissingSpace),
+    (
+        "10.0.0.0 7",
+        LineError::Network(ParseNetworkError::MissingSlash),
+    ),
+    (
+        "10.0.0.0/33 7",
+        LineError::Network(ParseNetworkError::Length),
+    ),
+    ("10.0.0.0/8 seven", LineError::Hop),
+];
+
+#[test]
+fn other_lines_are_refused(rt: HostRuntime) -> Result<(), Fail> {
+    let mut table = PrefixMap::new(rt.alloc())?;
+    for (line, error) in REFUSED {
+        assert!(rt; add_line(&mut table, line) == Err(error), "{line}");
+    }
+    assert!(rt; table.is_empty());
+    Ok(())
+}
 
 #[test]
 fn a_table_is_read_and_printed(rt: HostRuntime) -> Result<(), Fail> {
     let mut table = PrefixMap::new(rt.alloc())?;
     for line in ["10.0.0.0/8 7", "10.1.2.3/16 9", "0.0.0.0/0 1"] {
-        assert_eq!(rt; add_line(&mut table, line), Ok(()), "{line}");
+        assert!(rt; add_line(&mut table, line) == Ok(()), "{line}");
     }
-    for (line, error) in [
-        ("10.0.0.0/8", LineError::MissingSpace),
-        (
-            "10.0.0.0 7",
-            LineError::Network(ParseNetworkError::MissingSlash),
-        ),
-        (
-            "10.0.0.0/33 7",
-            LineError::Network(ParseNetworkError::Length),
-        ),
-        ("10.0.0.0/8 seven", LineError::Hop),
-    ] {
-        assert_eq!(rt; add_line(&mut table, line), Err(error), "{line}");
+    for (address, hop) in [("10.1.2.3", 9), ("10.2.3.4", 7), ("192.0.2.1", 1)] {
+        assert!(rt;
+            next_hop(&table, address.parse()?) == Some(hop),
+            "{address}"
+        );
     }
-    assert_eq!(rt; next_hop(&table, Ipv4Addr::new(10, 1, 2, 3)), Some(9));
-    assert_eq!(rt; next_hop(&table, "10.2.3.4".parse()?), Some(7));
-    assert_eq!(rt; next_hop(&table, "192.0.2.1".parse()?), Some(1));
-    assert_eq!(rt;
-        print(&table, rt.alloc())?.as_str(),
-        "0.0.0.0/0 1\n10.0.0.0/8 7\n10.1.0.0/16 9\n"
-    );
+    let printed = print(&table, rt.alloc())?;
+    assert!(rt; printed.as_str() == "0.0.0.0/0 1\n10.0.0.0/8 7\n10.1.0.0/16 9\n");
     Ok(())
 }
 
 #[test]
 fn networks_are_read_back_and_compared(rt: HostRuntime) -> Result<(), Fail> {
     let (wide, near) = ("10.0.0.0/8".parse()?, "10.1.0.0/16".parse()?);
-    assert_eq!(rt; reread(wide, rt.alloc())?, Some(wide));
-    assert_eq!(rt; compare(&wide, &near), Ordering::Less);
+    assert!(rt; reread(wide, rt.alloc())? == Some(wide));
+    assert!(rt; compare(&wide, &near) == Ordering::Less);
     let six = "2001:db8::1/32".parse()?;
-    assert_eq!(rt; reread_ipv6(six, rt.alloc())?, Some(six));
+    assert!(rt; reread_ipv6(six, rt.alloc())? == Some(six));
     Ok(())
 }
