@@ -19,7 +19,7 @@ use std::test::Fail;
 /// A text, and what is printed of its tables and of the lines that replace a value, or the error.
 type Reading = (&'static [u8], &'static str);
 
-const READINGS: [Reading; 22] = [
+const READINGS: &[Reading] = &[
     (b"", ""),
     (b"\n\n", ""),
     (b"# a comment\n  # another\n", ""),
@@ -94,7 +94,8 @@ fn shown(loaded: &Loaded, alloc: Global) -> Result<String, Fail> {
 #[test]
 fn texts_are_read_or_refused(rt: HostRuntime) -> Result<(), Fail> {
     for (text, expected) in READINGS {
-        assert_eq!(rt; reading(text, rt.alloc())?.as_str(), expected);
+        let printed = reading(text, rt.alloc())?;
+        assert!(rt; printed.as_str() == *expected, "{printed}");
     }
     Ok(())
 }
@@ -143,7 +144,7 @@ const ACCESS: &str = "10.0.0.0/8 allow\n10.1.0.0/16 deny\n10.1.2.0/24 allow\n::/
 /// A command line, and what the command prints.
 type Printing = (&'static [&'static str], &'static str);
 
-const PRINTINGS: [Printing; 13] = [
+const PRINTINGS: &[Printing] = &[
     (&["--help"], HELP),
     (
         &[
@@ -284,7 +285,8 @@ fn printed(words: &[&str], alloc: Global) -> Result<Vec<u8>, Fail> {
 fn commands_print(rt: HostRuntime) -> Result<(), Fail> {
     for (words, expected) in PRINTINGS {
         let out = printed(words, rt.alloc())?;
-        assert_eq!(rt; str::from_utf8(out.as_slice())?, expected);
+        let text = str::from_utf8(out.as_slice())?;
+        assert!(rt; text == *expected, "{text}");
     }
     Ok(())
 }
@@ -306,12 +308,12 @@ fn stats_count(rt: HostRuntime) -> Result<(), Fail> {
 }
 
 /// Command lines that are refused.
-const REFUSED: [&[&str]; 4] = [&[], &["lookup"], &["diff", "old"], &["merge", "old", "new"]];
+const REFUSED: &[&[&str]] = &[&[], &["lookup"], &["diff", "old"], &["merge", "old", "new"]];
 
 #[test]
 fn unknown_commands_are_refused(rt: HostRuntime) -> Result<(), Fail> {
     for words in REFUSED {
-        assert_eq!(rt; parse(words), Err(UsageError));
+        assert!(rt; parse(words) == Err(UsageError));
     }
     Ok(())
 }

@@ -5,7 +5,7 @@ use std::net::Ipv4Addr;
 use std::test::Fail;
 
 /// A text, and its address and length. Each network is printed as it was read.
-static READ: [(&str, u32, u8); 7] = [
+const READ: &[(&str, u32, u8)] = &[
     ("0.0.0.0/0", 0, 0),
     ("255.255.255.255/32", 0xffff_ffff, 32),
     ("10.1.2.3/8", 0x0a01_0203, 8),
@@ -16,7 +16,7 @@ static READ: [(&str, u32, u8); 7] = [
 ];
 
 /// A text that is not a network, and the reason.
-static REFUSED: [(&str, ParseNetworkError); 35] = [
+const REFUSED: &[(&str, ParseNetworkError)] = &[
     ("", MissingSlash),
     ("10.0.0.0", MissingSlash),
     ("10.0.0.0 8", MissingSlash),
@@ -72,7 +72,7 @@ fn is_printed(rt: &HostRuntime, network: Ipv4Prefix, text: &str) -> Result<bool,
 #[test]
 fn ipv4_networks_are_read_and_printed(rt: HostRuntime) -> Result<(), Fail> {
     for (text, addr, len) in READ {
-        assert!(rt; is_read(text, addr, len), "{text}");
+        assert!(rt; is_read(text, *addr, *len), "{text}");
         assert!(rt; is_printed(&rt, text.parse()?, text)?, "{text}");
     }
     Ok(())
@@ -81,12 +81,12 @@ fn ipv4_networks_are_read_and_printed(rt: HostRuntime) -> Result<(), Fail> {
 #[test]
 fn other_texts_are_refused_as_ipv4_networks(rt: HostRuntime) {
     for (text, reason) in REFUSED {
-        assert!(rt; text.parse::<Ipv4Prefix>() == Err(reason), "{text}");
+        assert!(rt; text.parse::<Ipv4Prefix>() == Err(*reason), "{text}");
     }
 }
 
 /// A network, its lowest and its highest address, and its parent.
-static ENDS: [(&str, &str, &str, Option<&str>); 6] = [
+const ENDS: &[(&str, &str, &str, Option<&str>)] = &[
     (
         "10.1.2.3/8",
         "10.0.0.0",
@@ -141,7 +141,7 @@ fn ipv4_networks_have_ends(rt: HostRuntime) -> Result<(), Fail> {
 #[test]
 fn ipv4_networks_have_parents(rt: HostRuntime) -> Result<(), Fail> {
     for (text, _, _, parent) in ENDS {
-        assert!(rt; has_parent(&rt, text.parse()?, parent)?, "{text}");
+        assert!(rt; has_parent(&rt, text.parse()?, *parent)?, "{text}");
     }
     Ok(())
 }

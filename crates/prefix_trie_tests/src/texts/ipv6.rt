@@ -7,7 +7,7 @@ use std::test::Fail;
 /// A text, its address and length, and the printed text.
 ///
 /// The first part is from RFC 4291. Then come the examples of RFC 5952, and others at the edges of its rules.
-static READ: [(&str, u128, u8, &str); 35] = [
+const READ: &[(&str, u128, u8, &str)] = &[
     (
         "ABCD:EF01:2345:6789:ABCD:EF01:2345:6789/128",
         0xabcd_ef01_2345_6789_abcd_ef01_2345_6789,
@@ -191,7 +191,7 @@ static READ: [(&str, u128, u8, &str); 35] = [
 ];
 
 /// A text that is not a network, and the reason. RFC 4291 calls the text with `CD3` not legal.
-static REFUSED: [(&str, ParseNetworkError); 37] = [
+const REFUSED: &[(&str, ParseNetworkError)] = &[
     ("", MissingSlash),
     ("::", MissingSlash),
     ("2001:db8::1", MissingSlash),
@@ -253,7 +253,7 @@ fn is_printed(rt: &HostRuntime, network: Ipv6Prefix, text: &str) -> Result<bool,
 #[test]
 fn ipv6_networks_are_read_and_printed(rt: HostRuntime) -> Result<(), Fail> {
     for (text, addr, len, printed) in READ {
-        assert!(rt; is_read(text, addr, len), "{text}");
+        assert!(rt; is_read(text, *addr, *len), "{text}");
         assert!(rt; is_printed(&rt, text.parse()?, printed)?, "{text}");
     }
     Ok(())
@@ -262,12 +262,12 @@ fn ipv6_networks_are_read_and_printed(rt: HostRuntime) -> Result<(), Fail> {
 #[test]
 fn other_texts_are_refused_as_ipv6_networks(rt: HostRuntime) {
     for (text, reason) in REFUSED {
-        assert!(rt; text.parse::<Ipv6Prefix>() == Err(reason), "{text}");
+        assert!(rt; text.parse::<Ipv6Prefix>() == Err(*reason), "{text}");
     }
 }
 
 /// Networks with the longest texts, and their full texts.
-static LONGEST: [(&str, &str); 2] = [
+const LONGEST: &[(&str, &str)] = &[
     (
         "1111:2222:3333:4444:5555:6666:7777:8888/128",
         "1111:2222:3333:4444:5555:6666:7777:8888/128",
@@ -283,7 +283,7 @@ static LONGEST: [(&str, &str); 2] = [
 fn longest_texts_are_printed(rt: HostRuntime) -> Result<(), Fail> {
     for (text, full) in LONGEST {
         assert!(rt; is_printed(&rt, text.parse()?, text)?, "{text}");
-        assert!(rt; full_text(&rt, text.parse()?)?.as_str() == full, "{text}");
+        assert!(rt; full_text(&rt, text.parse()?)?.as_str() == *full, "{text}");
     }
     Ok(())
 }
@@ -297,7 +297,7 @@ fn longest_text_is_padded(rt: HostRuntime) -> Result<(), Fail> {
 }
 
 /// A network, its lowest and its highest address, and its parent.
-static ENDS: [(&str, &str, &str, Option<&str>); 5] = [
+const ENDS: &[(&str, &str, &str, Option<&str>)] = &[
     (
         "2001:db8::1/32",
         "2001:db8::",
@@ -351,7 +351,7 @@ fn ipv6_networks_have_ends(rt: HostRuntime) -> Result<(), Fail> {
 #[test]
 fn ipv6_networks_have_parents(rt: HostRuntime) -> Result<(), Fail> {
     for (text, _, _, parent) in ENDS {
-        assert!(rt; has_parent(&rt, text.parse()?, parent)?, "{text}");
+        assert!(rt; has_parent(&rt, text.parse()?, *parent)?, "{text}");
     }
     Ok(())
 }

@@ -1,12 +1,13 @@
 //! Numbers of any width, errors, widths of printed texts, and the order of networks.
 use prefix_trie::{Ipv4Prefix, Ipv6Prefix, Narrow, ParseNarrowError, ParseNetworkError, PrefixMap};
+use std::alloc::Global;
 use std::hash::{DefaultHasher, Hash, Hasher};
 use std::net::{Ipv4Addr, Ipv6Addr};
 use std::test::Fail;
 
-static READ: [(&str, u64); 4] = [("0", 0), ("7", 7), ("100", 100), ("4095", 4095)];
+const READ: &[(&str, u64)] = &[("0", 0), ("7", 7), ("100", 100), ("4095", 4095)];
 
-static REFUSED: [&str; 12] = [
+const REFUSED: &[&str] = &[
     "",
     "4096",
     "18446744073709551616",
@@ -30,7 +31,7 @@ fn is_read_and_printed(rt: &HostRuntime, text: &str, number: u64) -> Result<bool
 #[test]
 fn numbers_are_read_and_printed(rt: HostRuntime) -> Result<(), Fail> {
     for (text, number) in READ {
-        assert!(rt; is_read_and_printed(&rt, text, number)?, "{text}");
+        assert!(rt; is_read_and_printed(&rt, text, *number)?, "{text}");
     }
     for text in REFUSED {
         assert!(rt;
@@ -104,27 +105,32 @@ fn hash_of<T: Hash>(value: &T) -> u64 {
     hasher.finish()
 }
 
-#[test]
-fn networks_are_ordered_as_a_map_lists_them(rt: HostRuntime) -> Result<(), Fail> {
-    let mut map = PrefixMap::new(rt.alloc())?;
-    for text in [
-        "10.1.0.0/16",
-        "0.0.0.0/0",
-        "10.0.0.0/16",
-        "9.0.0.0/8",
-        "10.0.0.0/8",
-        "128.0.0.0/1",
-        "10.0.0.0/24",
-    ] {
+/// Networks in no order.
+const NETWORKS: &[&str] = &[
+    "10.1.0.0/16",
+    "0.0.0.0/0",
+    "10.0.0.0/16",
+    "9.0.0.0/8",
+    "10.0.0.0/8",
+    "128.0.0.0/1",
+    "10.0.0.0/24",
+];
+
+/// Returns a map with these networks.
+fn map_of(networks: &[&str], alloc: Global) -> Result<PrefixMap<Ipv4Prefix, (), Global>, Fail> {
+    let mut map = PrefixMap::new(alloc)?;
+    for text in networks {
         let network: Ipv4Prefix = text.parse()?;
         map.insert(network, ())?;
     }
-    let mut last: Option<Ipv4Prefix> = None;
-    for network in map.keys() {
-        assert!(rt; last < Some(network), "{network}");
-        last = Some(network);
-    }
-    assert!(rt; last == Some("128.0.0.0/1".parse()?));
+    Ok(map)
+}
+
+#[test]
+fn networks_are_ordered_as_a_map_lists_them(rt: HostRuntime) -> Result<(), Fail> {
+    let map = map_of(NETWORKS, rt.alloc())?;
+    assert!(rt; map.len() == NETWORKS.len());
+    assert!(rt; map.keys().is_sorted_by(|left, right| left < right));
     Ok(())
 }
 

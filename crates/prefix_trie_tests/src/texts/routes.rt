@@ -1,12 +1,13 @@
 //! The example programs that read and print networks.
 use crate::examples::reread::{compare, reread, reread_ipv6};
 use crate::examples::routes_from_text::{LineError, add_line, next_hop, print};
-use prefix_trie::{ParseNetworkError, PrefixMap};
+use prefix_trie::{Ipv4Prefix, ParseNetworkError, PrefixMap};
+use std::alloc::Global;
 use std::cmp::Ordering;
 use std::test::Fail;
 
 /// A line that holds no route, and the reason.
-static REFUSED: [(&str, LineError); 4] = [
+const REFUSED: &[(&str, LineError)] = &[
     ("10.0.0.0/8", LineError::MissingSpace),
     (
         "10.0.0.0 7",
@@ -23,24 +24,40 @@ static REFUSED: [(&str, LineError); 4] = [
 fn other_lines_are_refused(rt: HostRuntime) -> Result<(), Fail> {
     let mut table = PrefixMap::new(rt.alloc())?;
     for (line, error) in REFUSED {
-        assert!(rt; add_line(&mut table, line) == Err(error), "{line}");
+        assert!(rt; add_line(&mut table, line) == Err(*error), "{line}");
     }
     assert!(rt; table.is_empty());
     Ok(())
 }
 
+/// The lines of a table.
+const LINES: &[&str] = &["10.0.0.0/8 7", "10.1.2.3/16 9", "0.0.0.0/0 1"];
+
+/// Addresses, and their next hops in the table.
+const NEXT_HOPS: &[(&str, u32)] = &[("10.1.2.3", 9), ("10.2.3.4", 7), ("192.0.2.1", 1)];
+
+/// Returns the table of these lines.
+fn table_of(lines: &[&str], alloc: Global) -> Result<PrefixMap<Ipv4Prefix, u32, Global>, Fail> {
+    let mut table = PrefixMap::new(alloc)?;
+    for line in lines {
+        add_line(&mut table, line).ok().ok_or("a line was refused")?;
+    }
+    Ok(table)
+}
+
 #[test]
-fn a_table_is_read_and_printed(rt: HostRuntime) -> Result<(), Fail> {
-    let mut table = PrefixMap::new(rt.alloc())?;
-    for line in ["10.0.0.0/8 7", "10.1.2.3/16 9", "0.0.0.0/0 1"] {
-        assert!(rt; add_line(&mut table, line) == Ok(()), "{line}");
+fn a_table_is_read(rt: HostRuntime) -> Result<(), Fail> {
+    let table = table_of(LINES, rt.alloc())?;
+    for (address, hop) in NEXT_HOPS {
+        let found = next_hop(&table, address.parse()?);
+        assert!(rt; found == Some(*hop), "{address}");
     }
-    for (address, hop) in [("10.1.2.3", 9), ("10.2.3.4", 7), ("192.0.2.1", 1)] {
-        assert!(rt;
-            next_hop(&table, address.parse()?) == Some(hop),
-            "{address}"
-        );
-    }
+    Ok(())
+}
+
+#[test]
+fn a_table_is_printed(rt: HostRuntime) -> Result<(), Fail> {
+    let table = table_of(LINES, rt.alloc())?;
     let printed = print(&table, rt.alloc())?;
     assert!(rt; printed.as_str() == "0.0.0.0/0 1\n10.0.0.0/8 7\n10.1.0.0/16 9\n");
     Ok(())
