@@ -104,7 +104,7 @@ pub use Rattle.prefix_trie_table.specs.Splitting.Building.{CanBuild, Builds, Bui
 pub use Rattle.prefix_trie_table.specs.Splitting.Moving.{Awaits, AwaitsNext, HasCome, filled_with, split_off}
 pub use Rattle.prefix_trie_table.specs.Splitting.Skeleton.{IsSecond, IsSkeleton}
 pub use Rattle.prefix_trie_table.specs.Layouts.{AreSizesBy, Sized, Sized-prop, child_block_size, own_children, value_block_size}
-pub use Rattle.prefix_trie_table.specs.Locations.{EndsAt, IsLocation, IsSearchEnd, Locates, seat_in, slot_from, value_seat}
+pub use Rattle.prefix_trie_table.specs.Locations.{EndsAt, IsEndNode, IsLocation, IsSearchEnd, Locates, seat_in, slot_from, value_seat}
 unfoldable pub use Rattle.prefix_trie_table.specs.Locations.{seat_of}
 pub use Rattle.prefix_trie_table.specs.Blocks.Losing.{LosesOne}
 pub use Rattle.prefix_trie_table.specs.Matching.{IsHeld, LackLastBit, LongestHeld, NoneHeld, SeatAt, ShortestHeld, cell_slot, holds_value, match_seat}

@@ -1,7 +1,7 @@
 -- Where the value of a bit string is stored, and where the search for a missing one ends, by the
 -- nodes in their array. This project's own.
-use Rattle.std.specs.Prelude.{◌≡◌, ℕ, ◌+◌, ◌<◌, ◌≤◌, Bool, true, false, cond, List, [], ◌∷◌, Option, None, Some, is_some, length, take}
-use Rattle.std.specs.Coded.{Coded, code_by, coded_ℕ, coded_bool, coded_option, Coded-set}
+use Rattle.std.specs.Prelude.{◌≡◌, ℕ, ◌+◌, ◌*◌, ◌<◌, ◌≤◌, Bool, true, false, cond, List, [], ◌∷◌, Option, None, Some, is_some, length, take, drop}
+use Rattle.std.specs.Coded.{Coded, code_by, coded_ℕ, coded_bool, coded_list, coded_option, Coded-set}
 use Rattle.std.specs.FinMap.{contains_key}
 use Rattle.std.proofs.Common.{refl}
 use Rattle.std.proofs.Math.Bridge.{le_prop}
@@ -40,24 +40,32 @@ slot_from nodes at [] = at
 slot_from nodes at (c ∷ cs) = slot_from nodes (child_slot (node_at nodes at) c) cs
 
 -- the search for a bit string ends at this node: the path has no next node, or needs none
-pub record IsSearchEnd (nodes : List Node) (q : List Bool) (end : SearchEnd) : Type 0 where
-  pub within : end.reached.level ≤ length (chunks_of q)
-  pub is_there : is_some (read nodes (take end.reached.level (chunks_of q))) ≡ true
-  pub stops : end.reached.level < length (chunks_of q) → is_some (read nodes (take (end.reached.level + 1) (chunks_of q))) ≡ false
-  pub slot_is : end.reached.at ≡ slot_from nodes 0 (take end.reached.level (chunks_of q))
-  pub node_is : end.reached.node ≡ node_at nodes end.reached.at
+pub record IsEndNode (nodes : List Node) (q : List Bool) (here : Reached) : Type 0 where
+  pub within : here.level ≤ length (chunks_of q)
+  pub is_there : is_some (read nodes (take here.level (chunks_of q))) ≡ true
+  pub stops : here.level < length (chunks_of q) → is_some (read nodes (take (here.level + 1) (chunks_of q))) ≡ false
+  pub slot_is : here.at ≡ slot_from nodes 0 (take here.level (chunks_of q))
+  pub node_is : here.node ≡ node_at nodes here.at
+
+-- the bits that are left are those after the ones that lead to the node
+abbrev pub LeavesRest : {K : Type 0} → List Bool → SearchEnd K → Type 0
+LeavesRest q end = end.rest ≡ drop (5 * end.reached.level) q
+
+-- the end of the search for a bit string: its node, and the bits that are left there
+abbrev pub IsSearchEnd : {K : Type 0} → List Node → List Bool → SearchEnd K → Type 0
+IsSearchEnd nodes q end = IsEndNode nodes q end.reached × LeavesRest q end
 
 -- a bit string has no value, and this node is the last on its search path
 abbrev pub EndsAt : Store Node → List Bool → Reached → Type 0
 EndsAt v q here = (seat_of v.slots q ≡ None) × IsLast q here v
 
 -- the location of a bit string in an array of nodes: the seat of its value, or the last node of its search path
-abbrev pub Locates : Store Node → List Bool → Location → Type 0
+abbrev pub Locates : {K : Type 0} → Store Node → List Bool → Location K → Type 0
 Locates v q (Stored seat) = seat_of v.slots q ≡ Some seat
-Locates v q (Missing end) = EndsAt v q end.reached
+Locates v q (Missing end) = EndsAt v q end.reached × LeavesRest q end
 
 -- the location of a bit string in a table: the seat of its value, or the end of the search for it
-abbrev pub IsLocation : {T : Type 0} → Contents T → List Bool → Location → Type 0
+abbrev pub IsLocation : {T K : Type 0} → Contents T → List Bool → Location K → Type 0
 IsLocation s q (Stored seat) = (contains_key s.entries q ≡ true) × (seat_of s.build q ≡ Some seat)
 IsLocation s q (Missing end) = (contains_key s.entries q ≡ false) × IsSearchEnd s.build q end
 
@@ -69,11 +77,14 @@ pub is_seat-prop : (nodes : List Node) (q : List Bool) (seat : Seat) → IsProp 
 is_seat-prop nodes q seat = Coded-set (coded_option coded_seat) _ _
 
 -- there is at most one proof that a search ends at a node
-pub IsSearchEnd-prop : (nodes : List Node) (q : List Bool) (end : SearchEnd) → IsProp (IsSearchEnd nodes q end)
-IsSearchEnd-prop nodes q end = λ x y i. record {
-  within = le_prop x.within y.within i;
-  is_there = Coded-set coded_bool _ _ x.is_there y.is_there i;
-  stops = Π_prop (λ _. Coded-set coded_bool _ _) x.stops y.stops i;
-  slot_is = Coded-set coded_ℕ _ _ x.slot_is y.slot_is i;
-  node_is = Coded-set coded_node _ _ x.node_is y.node_is i;
-}
+pub IsSearchEnd-prop : {K : Type 0} (nodes : List Node) (q : List Bool) (end : SearchEnd K) → IsProp (IsSearchEnd nodes q end)
+IsSearchEnd-prop nodes q end = λ x y i. (
+  record {
+    within = le_prop x.0.within y.0.within i;
+    is_there = Coded-set coded_bool _ _ x.0.is_there y.0.is_there i;
+    stops = Π_prop (λ _. Coded-set coded_bool _ _) x.0.stops y.0.stops i;
+    slot_is = Coded-set coded_ℕ _ _ x.0.slot_is y.0.slot_is i;
+    node_is = Coded-set coded_node _ _ x.0.node_is y.0.node_is i;
+  },
+  Coded-set (coded_list coded_bool) _ _ x.1 y.1 i,
+)

@@ -72,7 +72,7 @@ impl<P: Prefix> Fitting<P> {
 pub struct VacantEntry<'a, P: Prefix, T: Drop, A: Allocator> {
     map: &'a mut PrefixMap<P, T, A>,
     key: Fitting<P>,
-    end: SearchEnd,
+    end: SearchEnd<P::R>,
     ghost absent: { contains_key map.now.entries (P.path key) ≡ false },
     ghost ends: { IsSearchEnd map.now.build (P.path key) end } by { IsSearchEnd-prop map.now.build (P.path key) end },
 }

@@ -24,7 +24,7 @@ impl<P: Prefix, T: Drop, A: Allocator> PrefixMap<P, T, A> {
 
     // Finds where the value of a prefix is stored, or where its search path ends.
     #[inline]
-    pub(super) fn locate(&self, prefix: &P) -> Location
+    pub(super) fn locate(&self, prefix: &P) -> Location<P::R>
         requires { P.IsFitting prefix.now }
         ensures { IsLocation self.now (P.path prefix.now) result }
     {
@@ -69,13 +69,13 @@ impl<P: Prefix, T: Drop, A: Allocator> PrefixMap<P, T, A> {
 
     // Makes the missing blocks for a new prefix whose search path ends here.
     #[inline]
-    pub(super) fn reserve(&mut self, prefix: &P, end: SearchEnd) -> Result<(), Refusal>
+    pub(super) fn reserve(&mut self, prefix: &P, end: &SearchEnd<P::R>) -> Result<(), Refusal>
         requires fits { P.IsFitting prefix.now }
         requires absent { contains_key self.old.entries (P.path prefix.now) ≡ false }
-        requires end { IsSearchEnd self.old.build (P.path prefix.now) end }
+        requires end { IsSearchEnd self.old.build (P.path prefix.now) end.now }
         ensures entries { self.new.entries ≡ self.old.entries }
         ensures nodes { self.new.nodes ≡ self.old.nodes }
-        ensures end { IsSearchEnd self.new.build (P.path prefix.now) end }
+        ensures end { IsSearchEnd self.new.build (P.path prefix.now) end.now }
         ensures space { LeavesSpace (len self.old.nodes) self.old.space self.new.space }
         ensures prepares { OnOk result (PreparesInStorage (state self.old) (P.path prefix.now) (storage self.old) (storage self.new)) }
         ensures refuses { IfErr result (λ cause. (value : T) → StepByPath P.R.bit_width (stored_state self.old) (Insert (P.path prefix.now) value) (Refuses cause) (stored_state self.new)) }
@@ -89,7 +89,7 @@ impl<P: Prefix, T: Drop, A: Allocator> PrefixMap<P, T, A> {
     pub(super) fn insert_located(
         &mut self,
         prefix: &P,
-        end: SearchEnd,
+        end: SearchEnd<P::R>,
         value: T,
     ) -> Result<Seat, Refused<T>>
         requires fits { P.IsFitting prefix.now }
@@ -107,7 +107,7 @@ impl<P: Prefix, T: Drop, A: Allocator> PrefixMap<P, T, A> {
 
     // Inserts as `insert_located` does. No block is missing, so it cannot fail.
     #[inline]
-    pub(super) fn insert_ready(&mut self, prefix: &P, end: SearchEnd, value: T) -> Seat
+    pub(super) fn insert_ready(&mut self, prefix: &P, end: SearchEnd<P::R>, value: T) -> Seat
         requires fits { P.IsFitting prefix.now }
         requires absent { contains_key self.old.entries (P.path prefix.now) ≡ false }
         requires end { IsSearchEnd self.old.build (P.path prefix.now) end }

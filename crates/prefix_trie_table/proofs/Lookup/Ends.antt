@@ -1,5 +1,5 @@
 -- The end of a search path, by the nodes in their slots and as `descend` finds it.
-use Rattle.prefix_trie_table.proofs.Prelude.{◌≡◌, ℕ, ◌+◌, ◌*◌, ◌/◌, ◌<◌, ◌≤◌, List, Bool, true, false, length, get_or, take, drop, Option, None, Some, is_some, sym, ap, ◌∙◌, subst, arith, has, has_bit, value_bit, Node, Seat, node_sizes, chunks_of, bit_of, IsSlot, NodesHold, Deepest, has_child, node_or_blank, seat_in, seat_of, value_seat, IsSearchEnd, Store, Reached, take_more, IsLast, slot_at}
+use Rattle.prefix_trie_table.proofs.Prelude.{◌≡◌, ℕ, ◌+◌, ◌*◌, ◌/◌, ◌<◌, ◌≤◌, List, Bool, true, false, length, get_or, take, drop, Option, None, Some, is_some, sym, ap, ◌∙◌, subst, arith, has, has_bit, value_bit, Node, Seat, node_sizes, chunks_of, bit_of, IsSlot, NodesHold, Deepest, has_child, node_or_blank, seat_in, seat_of, value_seat, EndsAt, IsEndNode, Locates, Missing, SearchEnd, Store, Reached, take_more, IsLast, slot_at}
 use Rattle.prefix_trie_table.proofs.Strings.Bits.{has_bit-is}
 use Rattle.prefix_trie_table.proofs.Strings.Digits.{path-length}
 use Rattle.prefix_trie_table.proofs.Lookup.Going.{deepest_is}
@@ -10,7 +10,7 @@ use Rattle.prefix_trie_table.proofs.Tree.SearchEnds.{slot_only, slot_is_there}
 
 module _ (v : Store Node) (reading : List ℕ → Option Node) (paths : List (List ℕ)) (hold : NodesHold node_sizes reading paths v) (q : List Bool) (here : Reached) where
   -- the last node reached is the end of the search path
-  pub last_ends : IsLast q here v → IsSearchEnd v.slots q (record { reached = here })
+  pub last_ends : IsLast q here v → IsEndNode v.slots q here
   last_ends at =
       let e = path_end q here v at reading paths hold in
       record {
@@ -22,7 +22,7 @@ module _ (v : Store Node) (reading : List ℕ → Option Node) (paths : List (Li
       }
 
   -- and the end is the last node reached
-  pub ends_last : IsSearchEnd v.slots q (record { reached = here }) → IsLast q here v
+  pub ends_last : IsEndNode v.slots q here → IsLast q here v
   ends_last e = record {
     along = record { whole = below here.level (length q) (length (chunks_of q)) (path-length q) e.within; node_is = e.node_is; deepest = deepest };
     missing = λ more.
@@ -57,3 +57,8 @@ module _ (v : Store Node) (reading : List ℕ → Option Node) (paths : List (Li
         ∙ ap (λ o. seat_in o (bit_of q)) (path_own q here v at reading paths hold r left short)
         ∙ seat_there here.node (bit_of q) (ap (has_bit here.node.value_bitmap) own ∙ has_bit-is here.node.value_bitmap x (omega (arith, small)) ∙ set)
         ∙ ap (λ i. Some (value_seat here.node i)) own ∙ ap Some (sym is)
+
+-- the end of a search, by the node and the bits that a descent returned
+pub is_end : {K : Type 0} (v : Store Node) (q : List Bool) (here : Reached) (rest : List Bool) (end : SearchEnd K) → seat_of v.slots q ≡ None → IsLast q here v →
+    rest ≡ drop (5 * here.level) q → (end.reached ≡ here) × (end.rest ≡ rest) → Locates v q (Missing end)
+is_end v q here rest end none at left same = subst (λ r. EndsAt v q r × (end.rest ≡ drop (5 * r.level) q)) (sym same.0) ((none, at), same.1 ∙ left)

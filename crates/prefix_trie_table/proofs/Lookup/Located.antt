@@ -15,11 +15,11 @@ module _ {T : Type 0} (v : Store Node) (w : Store (Option T)) (count : ℕ) (s :
       ∙ sym (seat_if v t.reading t.paths t.holds.hold q)
 
   -- what a search found is where the string is
-  pub located : (z : Sized v.slots) (q : List Bool) (found : Location) → Locates v q found → IsLocation (seen_of v w s.0 z) q found
+  pub located : {K : Type 0} (z : Sized v.slots) (q : List Bool) (found : Location K) → Locates v q found → IsLocation (seen_of v w s.0 z) q found
   located z q (Stored seat) found = (stored_if q ∙ ap is_some found, found)
   located z q (Missing end) found =
       let t = some_table is in
-      (stored_if q ∙ ap is_some found.0, last_ends v t.reading t.paths t.holds.hold q end.reached found.1)
+      (stored_if q ∙ ap is_some found.0.0, (last_ends v t.reading t.paths t.holds.hold q end.reached found.0.1, found.1))
 
   -- a seat that was found, by the table as contracts see it
   module _ (q : List Bool) (seat : Seat) (build : List Node) (same : v.slots ≡ build) (found : seat_of build q ≡ Some seat) where

@@ -1,5 +1,5 @@
 -- A table after a call that only makes free blocks: for `reserve`.
-use Rattle.prefix_trie_table.proofs.Prelude.{◌≡◌, ℕ, false, Bool, List, Option, Result, MatchResult, sym, ap, ◌∙◌, subst, contains_key, Refusal, Memory, IndexRange, State, PreparesInStorage, RefusesInStorage, Node, Reached, SearchEnd, IsLast, ObtainsBoth, nodes_needed, cells_needed, Holds, Sized, EndsAt, seat_of, IsSearchEnd, Shaped, same_shape, Store, IsTable, ForHeld, Grows}
+use Rattle.prefix_trie_table.proofs.Prelude.{◌≡◌, ℕ, false, Bool, List, Option, Result, MatchResult, sym, ap, ◌∙◌, subst, contains_key, Refusal, Memory, IndexRange, State, PreparesInStorage, RefusesInStorage, Node, Reached, IsLast, ObtainsBoth, nodes_needed, cells_needed, Holds, Sized, EndsAt, seat_of, IsEndNode, Shaped, same_shape, Store, IsTable, ForHeld, Grows}
 use Rattle.std.specs.FinMap.{len as number_of}
 use Rattle.prefix_trie_table.proofs.Insertion.PredictedNeeds.{obtained}
 use Rattle.prefix_trie_table.proofs.Insertion.Inserted.{prepared_in}
@@ -14,13 +14,13 @@ use Rattle.prefix_trie_table.proofs.Tree.Trees.{is_none-None}
 
 -- the search path of a string that is not stored
 module _ {T : Type 0} (v : Store Node) (w : Store (Option T)) (count : ℕ) (s : Shaped v.slots w.slots) (is : IsTable v w count s.0) (q : List Bool)
-    (end : SearchEnd) (build : List Node) (same : v.slots ≡ build) where
+    (here : Reached) (build : List Node) (same : v.slots ≡ build) where
   -- its end is the last node on it
-  pub end_last : IsSearchEnd build q end → IsLast q end.reached v
-  end_last e = ends_last v is.reading is.paths is.nodes q end.reached (subst (λ nodes. IsSearchEnd nodes q end) (sym same) e)
+  pub end_last : IsEndNode build q here → IsLast q here v
+  end_last e = ends_last v is.reading is.paths is.nodes q here (subst (λ nodes. IsEndNode nodes q here) (sym same) e)
 
   -- which has no seat for it
-  pub ends_at : contains_key s.0.entries q ≡ false → IsSearchEnd build q end → EndsAt v q end.reached
+  pub ends_at : contains_key s.0.entries q ≡ false → IsEndNode build q here → EndsAt v q here
   ends_at absent e = (is_none-None (seat_of v.slots q) (sym (stored_if v w count s is q) ∙ absent), end_last e)
 
 module _ {T : Type 0} (v v2 : Store Node) (w w2 : Store (Option T)) (count : ℕ) (s : Shaped v.slots w.slots) (is : IsTable v w count s.0)
@@ -59,7 +59,7 @@ module _ {T : Type 0} (v v2 : Store Node) (w w2 : Store (Option T)) (count : ℕ
 
   module _ (q : List Bool) (here : Reached) (at : IsLast q here v) where
     -- a search ends where it ended
-    pub kept_end : IsSearchEnd v2.slots q (record { reached = here })
+    pub kept_end : IsEndNode v2.slots q here
     kept_end =
         let t = some_table is in
         last_ends v2 t.reading t.paths kept_holds.hold q here (last_still q here v at v2 t.reading t.paths t.holds.hold kept_holds.hold)

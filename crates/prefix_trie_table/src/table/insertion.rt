@@ -11,7 +11,7 @@ ghost use Rattle.prefix_trie_bits.specs.Model.Blocks.{one_of};
 ghost use Rattle.prefix_trie_table.specs.OwnBlocks.{child_need, value_need};
 ghost use Rattle.prefix_trie_table.specs.Blocks.Store.{AreFree, MakesNone, free_in, needs};
 ghost use Rattle.prefix_trie_table.specs.Forest.{IsSlot, NodesHold, CellsHold, Holds, SomeTable, SomeNodes, IsNodeAt, ChildAdded, EntryAdded, ValueSet, entry_count};
-ghost use Rattle.prefix_trie_table.specs.Locations.{EndsAt, seat_in, seat_of};
+ghost use Rattle.prefix_trie_table.specs.Locations.{EndsAt, LeavesRest, seat_in, seat_of};
 ghost use Rattle.prefix_trie_table.specs.Tables.{GrowsBoth, ForHeld};
 ghost use Rattle.prefix_trie_table.specs.Needs.{nodes_needed, cells_needed, HasFreeBlocks, ObtainsBoth};
 ghost use Rattle.prefix_trie_bits.specs.declared.prefix.Refusal.TheVariants.{Memory, IndexRange};
@@ -159,18 +159,19 @@ pub fn prepare<K: Key, T: Drop, A: Allocator, V: Tick>(
     )
 }
 
-/// Adds the missing nodes of a search path, and a value at its last node. Returns the value's seat.
+/// Adds the missing nodes of a search path that ends here, and a value at its last node. Returns the value's seat.
 #[inline(always)]
 fn add_entry<K: Key, T: Drop, A: Allocator, V: Tick>(
     nodes: &mut NodeAllocator<A, V>,
     cells: &mut Cells<T, A>,
-    reached: &Reached,
+    end: SearchEnd<K>,
     path: BitString<K>,
     value: T,
 ) -> Seat
     requires table { SomeTable nodes.old cells.old }
-    requires ends { EndsAt nodes.old path reached.now }
-    requires space { HasFreeBlocks nodes.old cells.old reached.now path }
+    requires ends { EndsAt nodes.old path end.reached }
+    requires rest { LeavesRest path end }
+    requires space { HasFreeBlocks nodes.old cells.old end.reached path }
     ensures nodes { MakesNone nodes.old nodes.new }
     ensures cells { MakesNone cells.old cells.new }
     ensures added { ForHeld nodes.old cells.old (λ reading paths values.
@@ -178,7 +179,7 @@ fn add_entry<K: Key, T: Drop, A: Allocator, V: Tick>(
     ensures seat { seat_of nodes.new.slots path ≡ Some result }
 {
     let last = path.len() / 5;
-    let mut rest = path.after(5 * reached.level);
+    let SearchEnd { reached, mut rest } = end;
     if reached.level == last {
         let bit = rest.value_bit();
         return add_value(nodes, cells, reached.at, &reached.node, bit, value);
@@ -207,12 +208,13 @@ pub fn insert_entry<K: Key, T: Drop, A: Allocator, V: Tick>(
     nodes: &mut NodeAllocator<A, V>,
     cells: &mut Cells<T, A>,
     entries: &mut usize,
-    end: SearchEnd,
+    end: SearchEnd<K>,
     path: BitString<K>,
     value: T,
 ) -> Result<Seat, Refused<T>>
     requires table { (t : SomeTable nodes.old cells.old) × (entries.old ≡ entry_count t.reading t.paths) }
     requires ends { EndsAt nodes.old path end.reached }
+    requires rest { LeavesRest path end }
     ensures placed { ForHeld nodes.old cells.old (λ reading paths values. MatchResult result
         (λ _. EntryAdded reading values paths (chunks_of path) (bit_of path) (Some value) nodes.new cells.new)
         (λ _. Holds reading values paths nodes.new cells.new)) }
@@ -228,7 +230,7 @@ pub fn insert_entry<K: Key, T: Drop, A: Allocator, V: Tick>(
     if let Err(cause) = prepare(nodes, cells, &end.reached, &path) {
         return Err(Refused { cause, value });
     }
-    let seat = add_entry(nodes, cells, &end.reached, path, value);
+    let seat = add_entry(nodes, cells, end, path, value);
     // Each entry has a cell, so the count is within the array's length.
     let slots = cells.len();
     prove!(*entries < slots);

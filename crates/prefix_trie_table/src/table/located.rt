@@ -39,7 +39,7 @@ impl<T: Drop, A: Allocator, V: Tick> Table<T, A, V> {
     /// }
     /// ```
     #[inline]
-    pub fn locate<K: Key>(&self, path: BitString<K>, counter: &mut V) -> Location
+    pub fn locate<K: Key>(&self, path: BitString<K>, counter: &mut V) -> Location<K>
         ensures located { IsLocation self.now path result }
         ensures visits { V.count counter.new ≡ V.count counter.old + visits self.now.nodes path }
     {
@@ -78,11 +78,11 @@ impl<T: Drop, A: Allocator, V: Tick> Table<T, A, V> {
     /// Returns an error only if a block is missing: `Memory` if an allocation fails, and `IndexRange` if the slots of
     /// the missing blocks would exceed the limit.
     #[inline]
-    pub fn reserve<K: Key>(&mut self, path: BitString<K>, end: SearchEnd) -> Result<(), Refusal>
+    pub fn reserve<K: Key>(&mut self, path: BitString<K>, end: &SearchEnd<K>) -> Result<(), Refusal>
         requires absent { contains_key self.old.entries path ≡ false }
-        requires end { IsSearchEnd self.old.build path end }
+        requires end { IsSearchEnd self.old.build path end.now }
         ensures unchanged { (self.new.entries ≡ self.old.entries) × (self.new.nodes ≡ self.old.nodes) }
-        ensures end { IsSearchEnd self.new.build path end }
+        ensures end { IsSearchEnd self.new.build path end.now }
         ensures prepares { MatchResult result
             (λ _. PreparesInStorage (state self.old) path (storage self.old) (storage self.new))
             (λ cause. RefusesInStorage (state self.old) path cause (storage self.old) (storage self.new)) }
@@ -104,7 +104,7 @@ impl<T: Drop, A: Allocator, V: Tick> Table<T, A, V> {
     pub fn insert_located<K: Key>(
         &mut self,
         path: BitString<K>,
-        end: SearchEnd,
+        end: SearchEnd<K>,
         value: T,
     ) -> Result<Seat, Refused<T>>
         requires absent { contains_key self.old.entries path ≡ false }

@@ -149,13 +149,17 @@ pub fn descend<K: Key, A: Allocator, V: Tick>(
     }
 }
 
-/// Returns the end of a search path, which this node is.
+/// Returns the end of a search path, which this node is. `rest` has the bits that are left there.
 // It reads the sizes of the node's blocks, so that a search that finds a value reads no sizes.
 #[inline(always)]
-fn search_end<A: Allocator, V: Tick>(nodes: &NodeAllocator<A, V>, reached: Reached) -> SearchEnd
+fn search_end<K: Key, A: Allocator, V: Tick>(
+    nodes: &NodeAllocator<A, V>,
+    reached: Reached,
+    rest: BitString<K>,
+) -> SearchEnd<K>
     requires sound { SomeNodes nodes.now }
     requires along { (q : List Bool) × IsAlong q reached nodes.now }
-    ensures { result.reached ≡ reached }
+    ensures { (result.reached ≡ reached) × (result.rest ≡ rest) }
 {
     let node = nodes.with_sizes(reached.at, reached.node);
     SearchEnd {
@@ -164,6 +168,7 @@ fn search_end<A: Allocator, V: Tick>(nodes: &NodeAllocator<A, V>, reached: Reach
             node,
             level: reached.level,
         },
+        rest,
     }
 }
 
@@ -173,7 +178,7 @@ pub fn locate_in<K: Key, A: Allocator, V: Tick>(
     nodes: &NodeAllocator<A, V>,
     path: BitString<K>,
     counter: &mut V,
-) -> Location
+) -> Location<K>
     requires sound { SomeNodes nodes.now }
     ensures located { Locates nodes.now path result }
     ensures visits { ReadsAlong path nodes.now (V.count counter.old) (V.count counter.new) }
@@ -181,11 +186,11 @@ pub fn locate_in<K: Key, A: Allocator, V: Tick>(
     let last = path.len() / 5;
     let (reached, rest) = descend(nodes, path, counter);
     if reached.level < last {
-        return Location::Missing(search_end(nodes, reached));
+        return Location::Missing(search_end(nodes, reached, rest));
     }
     let bit = rest.value_bit();
     if !has_bit(reached.node.value_bitmap, bit) {
-        return Location::Missing(search_end(nodes, reached));
+        return Location::Missing(search_end(nodes, reached, rest));
     }
     Location::Stored(reached.node.value_seat(bit))
 }

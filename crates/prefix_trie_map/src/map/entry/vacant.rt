@@ -75,7 +75,7 @@ impl<'a, P: Prefix, T: Drop, A: Allocator> VacantEntry<'a, P, T, A> {
     {
         let VacantEntry { map, key, end } = self;
         let path = key.path();
-        if let Err(cause) = map.reserve(key.prefix(), end) {
+        if let Err(cause) = map.reserve(key.prefix(), &end) {
             return Err(cause);
         }
         let seat = map.insert_ready(key.prefix(), end, f());

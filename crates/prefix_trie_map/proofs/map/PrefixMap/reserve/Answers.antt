@@ -7,7 +7,7 @@ use Rattle.prefix_trie_map.proofs.map.PrefixMap.reserve.Goals as goal
 
 pub reserve-requires-clause-end : goal.reserve-requires-clause-end
 reserve-requires-clause-end g c =
-    by_key (λ (m : Contents g.row.T.Denot) q. IsSearchEnd m.build q c.args.end) (sym c.self.view_is) (sym c.path.ensures.path) c.requires.end
+    by_key (λ (m : Contents g.row.T.Denot) q. IsSearchEnd m.build q c.args.end.now) (sym c.self.view_is) (sym c.path.ensures.path) c.requires.end
 
 -- what holds of the table and the key's bits holds of the map and the prefix's path
 by_path : (g : given.Over) (c : goal.After-reserve g) (F : Contents g.row.T.Denot → List Bool → Type 0) →
@@ -26,7 +26,7 @@ leaves g c =
     (λ cause. RefusesInStorage (state old) q cause (storage old) (storage c.reserve.new.self))) c.reserve.ensures.prepares
 
 pub returns-clause-end : goal.returns-clause-end
-returns-clause-end g c = subst (λ q. IsSearchEnd c.reserve.new.self.build q c.args.end) c.path.ensures.path c.reserve.ensures.end
+returns-clause-end g c = subst (λ q. IsSearchEnd c.reserve.new.self.build q c.args.end.now) c.path.ensures.path c.reserve.ensures.end
 
 pub returns-clause-prepares : goal.returns-clause-prepares
 returns-clause-prepares g c =

@@ -13,8 +13,8 @@ insert_entry-requires-clause-table g c = some_counted c.self.invariant
 pub insert_entry-requires-clause-ends : goal.insert_entry-requires-clause-ends
 insert_entry-requires-clause-ends g c =
     let i = c.self.inside in
-    ends_at i.nodes i.cells i.count i.shape c.self.invariant c.args.path c.args.end _ (ap (λ (s : Contents g.row.T.Denot). s.build) c.self.view_is)
-    (rw (← c.self.view_is) at c.requires.absent) c.requires.end
+    ends_at i.nodes i.cells i.count i.shape c.self.invariant c.args.path c.args.end.reached _ (ap (λ (s : Contents g.row.T.Denot). s.build) c.self.view_is)
+    (rw (← c.self.view_is) at c.requires.absent) c.requires.end.0
 
 pub invariant_of-self-inside : goal.invariant_of-self-inside
 invariant_of-self-inside g c =
@@ -39,7 +39,7 @@ pub returns-clause-step : goal.returns-clause-step
 returns-clause-step g c =
     let i = c.self.inside in
     let p = c.insert_entry in
-    let at = end_last i.nodes i.cells i.count i.shape c.self.invariant c.args.path c.args.end _ (ap (λ (s : Contents g.row.T.Denot). s.build) c.self.view_is) c.requires.end in
+    let at = end_last i.nodes i.cells i.count i.shape c.self.invariant c.args.path c.args.end.reached _ (ap (λ (s : Contents g.row.T.Denot). s.build) c.self.view_is) c.requires.end.0 in
     let absent = rw (← c.self.view_is) at c.requires.absent in
     rw (← c.self.view_is) (placed_step c.args.path c.args.value i.nodes p.new.nodes i.cells p.new.cells i.count p.new.entries i.shape c.self.invariant c.self-1.given.0
     (invariant_of-self g c) i.sizes c.self-1.given.1.0 c.args.end.reached at absent p.result

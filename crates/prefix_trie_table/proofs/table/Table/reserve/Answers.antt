@@ -12,8 +12,8 @@ prepare-requires-clause-table g c = some_table c.self.invariant
 pub prepare-requires-clause-ends : goal.prepare-requires-clause-ends
 prepare-requires-clause-ends g c =
     let i = c.self.inside in
-    ends_at i.nodes i.cells i.count i.shape c.self.invariant c.args.path c.args.end _ (ap (λ (s : Contents g.row.T.Denot). s.build) c.self.view_is)
-    (rw (← c.self.view_is) at c.requires.absent) c.requires.end
+    ends_at i.nodes i.cells i.count i.shape c.self.invariant c.args.path c.args.end.now.reached _ (ap (λ (s : Contents g.row.T.Denot). s.build) c.self.view_is)
+    (rw (← c.self.view_is) at c.requires.absent) c.requires.end.0
 
 pub invariant_of-self-inside : goal.invariant_of-self-inside
 invariant_of-self-inside g c =
@@ -33,12 +33,12 @@ returns g c =
     let p = c.prepare.ensures in
     let s2 = c.self-1.given.0 in
     let z2 = c.self-1.given.1.0 in
-    let at = end_last i.nodes i.cells i.count i.shape c.self.invariant c.args.path c.args.end _ (ap (λ (s : Contents g.row.T.Denot). s.build) c.self.view_is) c.requires.end in
+    let at = end_last i.nodes i.cells i.count i.shape c.self.invariant c.args.path c.args.end.now.reached _ (ap (λ (s : Contents g.row.T.Denot). s.build) c.self.view_is) c.requires.end.0 in
     let same = kept_same i.nodes new.nodes i.cells new.cells i.count i.shape c.self.invariant p.kept s2 in
     rw (← c.self.view_is) (record {
       unchanged = (ap (λ (s : State g.row.T.Denot). s.entries) same, ap (λ (s : State g.row.T.Denot). s.nodes) same);
-      end = kept_end i.nodes new.nodes i.cells new.cells i.count i.shape c.self.invariant p.kept c.args.path c.args.end.reached at;
-      prepares = kept_prepares i.nodes new.nodes i.cells new.cells i.count i.shape c.self.invariant p.kept c.args.path c.args.end.reached at i.sizes z2 c.prepare.result
+      end = (kept_end i.nodes new.nodes i.cells new.cells i.count i.shape c.self.invariant p.kept c.args.path c.args.end.now.reached at, c.requires.end.1);
+      prepares = kept_prepares i.nodes new.nodes i.cells new.cells i.count i.shape c.self.invariant p.kept c.args.path c.args.end.now.reached at i.sizes z2 c.prepare.result
           p.grows.nodes p.grows.cells p.obtains;
       range = search rules;
       space = longer_space i.nodes new.nodes i.cells new.cells i.count i.count i.shape c.self.invariant i.sizes s2 (invariant_of-self g c) z2 p.grows.nodes p.grows.cells;

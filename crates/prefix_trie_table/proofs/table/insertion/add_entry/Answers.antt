@@ -13,87 +13,84 @@ use Rattle.prefix_trie_table.proofs.table.insertion.add_entry.Goals as goal
 
 -- ---- a value in a node that is there
 
-pub after-rest-requires : goal.after-rest-requires
-after-rest-requires g c = c.requires.ends.1.along.whole
-
 pub value_bit-bit-requires : goal.value_bit-bit-requires
 value_bit-bit-requires g c =
-    none_left c.args.path c.after-rest.result c.args.reached.now.level (c.len-last.result / 5) c.after-rest.ensures (ap (λ n. n / 5) c.len-last.ensures.len) (omega (arith, c.if-reached-last.true))
+    none_left c.args.path c.args.end.rest c.args.end.reached.level (c.len-last.result / 5) c.requires.rest (ap (λ n. n / 5) c.len-last.ensures.len) (omega (arith, c.if-reached-last.true))
 
 pub add_value-requires-clause-node : goal.add_value-requires-clause-node
 add_value-requires-clause-node g c = c.requires.ends.1.along.node_is
 
 pub add_value-requires-clause-is_there : goal.add_value-requires-clause-is_there
-add_value-requires-clause-is_there g c = end_there c.args.path c.args.reached.now c.requires.table c.requires.ends
+add_value-requires-clause-is_there g c = end_there c.args.path c.args.end.reached c.requires.table c.requires.ends
 
 pub add_value-requires-clause-missing : goal.add_value-requires-clause-missing
 add_value-requires-clause-missing g c =
-    let here = c.args.reached.now in
+    let here = c.args.end.reached in
     let at = c.requires.ends.1 in
     let t = c.requires.table in
     let short = at_own here.level c.len-last.result (length c.args.path) c.len-last.ensures.len c.if-reached-last.true in
-    let left = none_left c.args.path c.after-rest.result here.level (c.len-last.result / 5) c.after-rest.ensures (ap (λ n. n / 5) c.len-last.ensures.len) (omega (arith, c.if-reached-last.true)) in
-    ap (has_bit here.node.value_bitmap) (sym (rest_bit c.args.path c.after-rest.result here.level c.after-rest.ensures at.along.whole left c.value_bit-bit.result c.value_bit-bit.ensures.value))
+    let left = none_left c.args.path c.args.end.rest here.level (c.len-last.result / 5) c.requires.rest (ap (λ n. n / 5) c.len-last.ensures.len) (omega (arith, c.if-reached-last.true)) in
+    ap (has_bit here.node.value_bitmap) (sym (rest_bit c.args.path c.args.end.rest here.level c.requires.rest at.along.whole left c.value_bit-bit.result c.value_bit-bit.ensures.value))
     ∙ missing_bit c.args.path here c.args.nodes.now c.requires.ends t.reading t.paths t.holds.hold short
 
 pub returns-then-reached-last-clause-added : goal.returns-then-reached-last-clause-added
 returns-then-reached-last-clause-added g c =
-    let here = c.args.reached.now in
-    let left = none_left c.args.path c.after-rest.result here.level (c.len-last.result / 5) c.after-rest.ensures (ap (λ n. n / 5) c.len-last.ensures.len) (omega (arith, c.if-reached-last.true)) in
-    end_added c.args.path c.args.nodes.now c.args.nodes.now c.args.cells.now c.requires.table c.after-rest.result here.level (slot_at here)
-    (extended_start c.args.path here c.args.nodes.now c.args.cells.now c.after-rest.result c.requires.ends.1 c.after-rest.ensures) c.add_value.new.nodes c.add_value.new.cells left
+    let here = c.args.end.reached in
+    let left = none_left c.args.path c.args.end.rest here.level (c.len-last.result / 5) c.requires.rest (ap (λ n. n / 5) c.len-last.ensures.len) (omega (arith, c.if-reached-last.true)) in
+    end_added c.args.path c.args.nodes.now c.args.nodes.now c.args.cells.now c.requires.table c.args.end.rest here.level (slot_at here)
+    (extended_start c.args.path here c.args.nodes.now c.args.cells.now c.args.end.rest c.requires.ends.1 c.requires.rest) c.add_value.new.nodes c.add_value.new.cells left
     c.value_bit-bit.result c.value_bit-bit.ensures.value (Some c.args.value) c.add_value.ensures.added
 
 pub returns-then-reached-last-clause-seat : goal.returns-then-reached-last-clause-seat
 returns-then-reached-last-clause-seat g c =
-    let here = c.args.reached.now in
-    let left = none_left c.args.path c.after-rest.result here.level (c.len-last.result / 5) c.after-rest.ensures (ap (λ n. n / 5) c.len-last.ensures.len) (omega (arith, c.if-reached-last.true)) in
-    end_seat c.args.path c.args.nodes.now c.args.nodes.now c.args.cells.now c.requires.table c.after-rest.result here.level (slot_at here)
-    (extended_start c.args.path here c.args.nodes.now c.args.cells.now c.after-rest.result c.requires.ends.1 c.after-rest.ensures) c.add_value.new.nodes c.add_value.new.cells left
+    let here = c.args.end.reached in
+    let left = none_left c.args.path c.args.end.rest here.level (c.len-last.result / 5) c.requires.rest (ap (λ n. n / 5) c.len-last.ensures.len) (omega (arith, c.if-reached-last.true)) in
+    end_seat c.args.path c.args.nodes.now c.args.nodes.now c.args.cells.now c.requires.table c.args.end.rest here.level (slot_at here)
+    (extended_start c.args.path here c.args.nodes.now c.args.cells.now c.args.end.rest c.requires.ends.1 c.requires.rest) c.add_value.new.nodes c.add_value.new.cells left
     c.value_bit-bit.result c.value_bit-bit.ensures.value (Some c.args.value) c.add_value.ensures.added c.add_value.result c.add_value.ensures.seat
 
 -- ---- the first new node
 
 pub child_bit-child-requires : goal.child_bit-child-requires
 child_bit-child-requires g c =
-    let here = c.args.reached.now in
+    let here = c.args.end.reached in
     let more = above_own here.level c.len-last.result (length c.args.path) c.len-last.ensures.len c.requires.ends.1.along.whole c.if-reached-last.false in
-    step_left c.args.path c.after-rest.result here.level (c.len-last.result / 5) c.after-rest.ensures (ap (λ n. n / 5) c.len-last.ensures.len) more.0
+    step_left c.args.path c.args.end.rest here.level (c.len-last.result / 5) c.requires.rest (ap (λ n. n / 5) c.len-last.ensures.len) more.0
 
 pub add_child-at-requires-clause-node : goal.add_child-at-requires-clause-node
 add_child-at-requires-clause-node g c = c.requires.ends.1.along.node_is
 
 pub below-rest-requires : goal.below-rest-requires
 below-rest-requires g c =
-    let here = c.args.reached.now in
+    let here = c.args.end.reached in
     let more = above_own here.level c.len-last.result (length c.args.path) c.len-last.ensures.len c.requires.ends.1.along.whole c.if-reached-last.false in
-    step_left c.args.path c.after-rest.result here.level (c.len-last.result / 5) c.after-rest.ensures (ap (λ n. n / 5) c.len-last.ensures.len) more.0
+    step_left c.args.path c.args.end.rest here.level (c.len-last.result / 5) c.requires.rest (ap (λ n. n / 5) c.len-last.ensures.len) more.0
 
 pub add_child-at-requires-clause-is_there : goal.add_child-at-requires-clause-is_there
-add_child-at-requires-clause-is_there g c = at_values _ _ _ (end_there c.args.path c.args.reached.now c.requires.table c.requires.ends)
+add_child-at-requires-clause-is_there g c = at_values _ _ _ (end_there c.args.path c.args.end.reached c.requires.table c.requires.ends)
 
 pub add_child-at-requires-clause-missing : goal.add_child-at-requires-clause-missing
 add_child-at-requires-clause-missing g c =
-    let here = c.args.reached.now in
+    let here = c.args.end.reached in
     let at = c.requires.ends.1 in
     let more = above_own here.level c.len-last.result (length c.args.path) c.len-last.ensures.len at.along.whole c.if-reached-last.false in
-    let five = step_left c.args.path c.after-rest.result here.level (c.len-last.result / 5) c.after-rest.ensures (ap (λ n. n / 5) c.len-last.ensures.len) more.0 in
-    next_missing c.args.path here c.args.nodes.now c.after-rest.result at c.after-rest.ensures five c.child_bit-child.result c.child_bit-child.ensures.value
+    let five = step_left c.args.path c.args.end.rest here.level (c.len-last.result / 5) c.requires.rest (ap (λ n. n / 5) c.len-last.ensures.len) more.0 in
+    next_missing c.args.path here c.args.nodes.now c.args.end.rest at c.requires.rest five c.child_bit-child.result c.child_bit-child.ensures.value
 
 pub loop-level-init : goal.loop-level-init
 loop-level-init g c =
     let q = c.args.path in
-    let here = c.args.reached.now in
+    let here = c.args.end.reached in
     let v = c.args.nodes.now in
     let w = c.args.cells.now in
-    let r = c.after-rest.result in
+    let r = c.args.end.rest in
     let bit = c.child_bit-child in
     let added = c.add_child-at in
     let at = c.requires.ends.1 in
     let more = above_own here.level c.len-last.result (length q) c.len-last.ensures.len at.along.whole c.if-reached-last.false in
-    let five = step_left q r here.level (c.len-last.result / 5) c.after-rest.ensures (ap (λ n. n / 5) c.len-last.ensures.len) more.0 in
-    let start = extended_start q here v w r at c.after-rest.ensures in
-    let some_missing = next_missing q here v r at c.after-rest.ensures five bit.result bit.ensures.value in
+    let five = step_left q r here.level (c.len-last.result / 5) c.requires.rest (ap (λ n. n / 5) c.len-last.ensures.len) more.0 in
+    let start = extended_start q here v w r at c.requires.rest in
+    let some_missing = next_missing q here v r at c.requires.rest five bit.result bit.ensures.value in
     let next = extended_more q v v w c.requires.table r here.level (slot_at here) start added.new.nodes bit.result _ five bit.ensures.value here.node at.along.node_is some_missing
     added.ensures.stays added.ensures.added in
     rw c.below-rest.ensures (record {
@@ -168,9 +165,9 @@ pub add_value-requires-2-clause-ready : goal.add_value-requires-2-clause-ready
 add_value-requires-2-clause-ready g c =
     let from = c.loop-level.invariant.from in
     let within = c.loop-level.invariant.within in
-    let more : 5 * c.args.reached.now.level + 5 ≤ length c.args.path = omega (arith, from, within) in
+    let more : 5 * c.args.end.reached.level + 5 ≤ length c.args.path = omega (arith, from, within) in
     subst (λ o. AreFree c.args.cells.now.tiers (needs o 0)) (sym (blank_value c.blank-2.result c.blank-2.ensures))
-    (subst (AreFree c.args.cells.now.tiers) (cells_below c.args.reached.now c.args.path more) c.requires.space.1)
+    (subst (AreFree c.args.cells.now.tiers) (cells_below c.args.end.reached c.args.path more) c.requires.space.1)
 
 pub returns-clause-nodes : goal.returns-clause-nodes
 returns-clause-nodes g c = none_then _ _ _ c.loop-level.invariant.extended.none c.add_value-2.ensures.nodes

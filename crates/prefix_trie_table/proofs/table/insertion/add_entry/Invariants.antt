@@ -9,5 +9,5 @@ invariant-loop-level g l = record {
   blank : node_at l.nodes.slots l.at ≡ blank_node;
   enough : length l.fn.path / 5 - l._level ≤ free_in l.nodes.tiers 1;
   within : l._level ≤ length l.fn.path / 5;
-  from : l.fn.reached.level < l._level;
+  from : l.fn.end.reached.level < l._level;
 }

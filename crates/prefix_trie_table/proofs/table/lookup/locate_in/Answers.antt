@@ -1,6 +1,6 @@
 -- Locating a value, in three cases: its node is missing, its bit is not set, or it is stored at the seat of its bit.
-use Rattle.prefix_trie_table.proofs.Prelude.{◌<◌, ◌/◌, ◌∙◌, length, sym, subst, ap, arith, IsLast}
-use Rattle.prefix_trie_table.proofs.Lookup.Ends.{seat_none, seat_here}
+use Rattle.prefix_trie_table.proofs.Prelude.{◌<◌, ◌/◌, ◌∙◌, length, sym, ap, arith}
+use Rattle.prefix_trie_table.proofs.Lookup.Ends.{is_end, seat_none, seat_here}
 use Rattle.prefix_trie_table.proofs.Lookup.Locating.{no_seat}
 use Rattle.prefix_trie_table.proofs.Lookup.SearchPaths.{none_at_end, none_left, path_read, step_left}
 use Rattle.prefix_trie_table.proofs.table.lookup.locate_in.Goals as goal
@@ -16,7 +16,7 @@ returns-then-reached-last g c =
     let s = c.requires.sound in
     let e = c.descend-rest.ensures in
     record {
-      located = (no_seat _ s.reading s.paths s.hold _ (none_at_end _ _ _ e.last s.reading s.paths s.hold _ e.rest (step_left _ _ c.descend-rest.result.0.level _ e.rest (ap (λ n. n / 5) c.len-last.ensures.len) (omega (arith, c.if-reached-last.true)))), subst (λ r. IsLast c.args.path r c.args.nodes.now) (sym c.search_end.ensures) e.last);
+      located = is_end _ _ _ _ c.search_end.result (no_seat _ s.reading s.paths s.hold _ (none_at_end _ _ _ e.last s.reading s.paths s.hold _ e.rest (step_left _ _ c.descend-rest.result.0.level _ e.rest (ap (λ n. n / 5) c.len-last.ensures.len) (omega (arith, c.if-reached-last.true))))) e.last e.rest c.search_end.ensures;
       visits = path_read _ _ _ e.last _ _ e.visits;
     }
 
@@ -26,7 +26,7 @@ returns-then-not-has_bit g c =
     let e = c.descend-rest.ensures in
     let short : length c.descend-rest.result.1 < 5 = none_left _ _ c.descend-rest.result.0.level _ e.rest (ap (λ n. n / 5) c.len-last.ensures.len) (omega (arith, c.if-reached-last.false)) in
     record {
-      located = (seat_none _ s.reading s.paths s.hold _ _ e.last _ e.rest short _ c.value_bit-bit.ensures.small c.value_bit-bit.ensures.value (sym c.has_bit.ensures ∙ c.if-not-has_bit.true), subst (λ r. IsLast c.args.path r c.args.nodes.now) (sym c.search_end-then-not-has_bit.ensures) e.last);
+      located = is_end _ _ _ _ c.search_end-then-not-has_bit.result (seat_none _ s.reading s.paths s.hold _ _ e.last _ e.rest short _ c.value_bit-bit.ensures.small c.value_bit-bit.ensures.value (sym c.has_bit.ensures ∙ c.if-not-has_bit.true)) e.last e.rest c.search_end-then-not-has_bit.ensures;
       visits = path_read _ _ _ e.last _ _ e.visits;
     }
 
