@@ -136,14 +136,17 @@ pub fn run<P: Prefix, A: Allocator + Clone>(
     // They are a run that sees the storage too: which blocks each call takes, how far the arrays
     // grow, and when a new key is refused.
     ensures run_in_storage { IfOk result (λ replies. RunInStorage P.path P.back P.R.bit_width
-        (stored_state map.old) (calls_of calls.now) (replies_of P.R.bits replies.items) (stored_state map.new)) }
+        (stored_state map.old) (calls_of calls.now) (replies_of P.R.bits replies.items)
+        (stored_state map.new)) }
 
     // They are a run with counts too: each lookup reads exactly the nodes of its search path, at
     // most one for each five bits plus one. If the map was tidy before the run, or is cleared or
     // retained in it, its nodes are exactly the needed ones from then on, until a `RemoveKeepTree`.
     // `run_counted` states that these numbers are those of the map's counters.
-    ensures counted { IfOk result (λ replies. (reads : List (Option ℕ)) × CountedRun P.path P.back P.R.bit_width
-        (stored_state map.old) (calls_of calls.now) (replies_of P.R.bits replies.items) reads (stored_state map.new)) }
+    ensures counted { IfOk result
+        (λ replies. (reads : List (Option ℕ)) × CountedRun P.path P.back P.R.bit_width
+        (stored_state map.old) (calls_of calls.now) (replies_of P.R.bits replies.items) reads
+        (stored_state map.new)) }
     ensures tidy { OnOk result ((tidy : Bool) → TidyIf tidy (state map.old)
         → TidyIf (tidy_after_all tidy (calls_of calls.now)) (state map.new)) }
     ensures one_each { IfOk result (λ replies. vec_len replies ≡ length calls.now) }
@@ -167,7 +170,8 @@ pub fn run_counted<P: Prefix, A: Allocator + Clone>(
 ) -> Result<(Vec<Reply<P, A>, A>, Reads), AllocError>
     requires { All (IsFittingCall P.IsFitting) calls.now }
     ensures counted { IfOk result (λ ran. CountedRun P.path P.back P.R.bit_width
-        (stored_state map.old) (calls_of calls.now) (replies_of P.R.bits ran.0.items) ran.1 (stored_state map.new)) }
+        (stored_state map.old) (calls_of calls.now) (replies_of P.R.bits ran.0.items) ran.1
+        (stored_state map.new)) }
     ensures one_each { IfOk result (λ ran. vec_len ran.0 ≡ length calls.now) }
     ensures none_carried_out { OnErr result (map.new ≡ map.old) }
 {
@@ -191,7 +195,8 @@ fn carry_out<P: Prefix, A: Allocator + Clone>(
 ) -> (Reply<P, A>, Option<Visits>)
     requires { IsFittingCall P.IsFitting call.now }
     ensures { CountedStep P.path P.back P.R.bit_width
-        (stored_state map.old) (call_of call.now) (reply_of P.R.bits result.0, result.1) (stored_state map.new) }
+        (stored_state map.old) (call_of call.now) (reply_of P.R.bits result.0, result.1)
+        (stored_state map.new) }
 {
     // Read for the proof alone: neither array exceeds the limit.
     let _ = map.len();
@@ -226,7 +231,8 @@ fn insert<P: Prefix, A: Allocator>(
 ) -> Reply<P, A>
     requires { P.IsFitting prefix.now }
     ensures { StepInStorage P.path P.back P.R.bit_width
-        (stored_state map.old) (Insert prefix.now value) (reply_of P.R.bits result) (stored_state map.new) }
+        (stored_state map.old) (Insert prefix.now value) (reply_of P.R.bits result)
+        (stored_state map.new) }
 {
     match map.insert(same_path(prefix), value) {
         Ok(before) => Reply::Value(before),
@@ -241,7 +247,8 @@ fn remove_keep_tree<P: Prefix, A: Allocator>(
 ) -> Reply<P, A>
     requires { P.IsFitting prefix.now }
     ensures { StepInStorage P.path P.back P.R.bit_width
-        (stored_state map.old) (RemoveKeepTree prefix.now) (reply_of P.R.bits result) (stored_state map.new) }
+        (stored_state map.old) (RemoveKeepTree prefix.now) (reply_of P.R.bits result)
+        (stored_state map.new) }
 {
     Reply::Value(map.remove_keep_tree(prefix))
 }
@@ -250,7 +257,8 @@ fn remove_keep_tree<P: Prefix, A: Allocator>(
 fn drop_children<P: Prefix, A: Allocator>(map: &mut PrefixMap<P, u64, A>, prefix: &P) -> Reply<P, A>
     requires { P.IsFitting prefix.now }
     ensures { StepInStorage P.path P.back P.R.bit_width
-        (stored_state map.old) (RemoveChildren prefix.now) (reply_of P.R.bits result) (stored_state map.new) }
+        (stored_state map.old) (RemoveChildren prefix.now) (reply_of P.R.bits result)
+        (stored_state map.new) }
 {
     map.drop_children(prefix);
     Reply::Done
@@ -260,7 +268,8 @@ fn drop_children<P: Prefix, A: Allocator>(map: &mut PrefixMap<P, u64, A>, prefix
 fn remove<P: Prefix, A: Allocator>(map: &mut PrefixMap<P, u64, A>, prefix: &P) -> Reply<P, A>
     requires { P.IsFitting prefix.now }
     ensures { StepInStorage P.path P.back P.R.bit_width
-        (stored_state map.old) (Remove prefix.now) (reply_of P.R.bits result) (stored_state map.new) }
+        (stored_state map.old) (Remove prefix.now) (reply_of P.R.bits result)
+        (stored_state map.new) }
 {
     Reply::Value(map.remove(prefix))
 }
@@ -280,7 +289,8 @@ fn retain_at_least<P: Prefix, A: Allocator>(
     least: u8,
 ) -> Reply<P, A>
     ensures { StepInStorage P.path P.back P.R.bit_width
-        (stored_state map.old) (RetainAtLeast least) (reply_of P.R.bits result) (stored_state map.new) }
+        (stored_state map.old) (RetainAtLeast least) (reply_of P.R.bits result)
+        (stored_state map.new) }
 {
     keep_where(map, |prefix, _| least <= prefix.prefix_len());
     Reply::Done
@@ -294,7 +304,8 @@ fn keep_where<P: Prefix, A: Allocator, F: FnMut(&P, &u64) -> bool + Drop>(
 )
     requires { F.IsAlwaysCallable test }
     ensures whole { IsWhole P.R.bit_width map.old }
-    ensures step { RetainsInStorage (CalledAtEntry F.FnMut P.back) test (stored_state map.old) (stored_state map.new) }
+    ensures step { RetainsInStorage (CalledAtEntry F.FnMut P.back) test (stored_state map.old)
+        (stored_state map.new) }
 {
     map.retain(test);
 }
@@ -339,7 +350,8 @@ fn longest<P: Prefix, A: Allocator>(
     prefix: &P,
 ) -> (Reply<P, A>, Option<Visits>)
     requires { P.IsFitting prefix.now }
-    ensures reply { reply_of P.R.bits result.0 ≡ Match (prefix_pair P.back (longest_match map.now.entries (P.path prefix.now))) }
+    ensures reply { reply_of P.R.bits result.0
+        ≡ Match (prefix_pair P.back (longest_match map.now.entries (P.path prefix.now))) }
     ensures reads { CountsReads P.path (state map.now) (Lpm prefix.now) result.1 }
 {
     let (found, visits) = map.get_lpm_counted(prefix);
@@ -352,7 +364,8 @@ fn shortest<P: Prefix, A: Allocator>(
     prefix: &P,
 ) -> (Reply<P, A>, Option<Visits>)
     requires { P.IsFitting prefix.now }
-    ensures reply { reply_of P.R.bits result.0 ≡ Match (prefix_pair P.back (shortest_match map.now.entries (P.path prefix.now))) }
+    ensures reply { reply_of P.R.bits result.0
+        ≡ Match (prefix_pair P.back (shortest_match map.now.entries (P.path prefix.now))) }
     ensures reads { CountsReads P.path (state map.now) (Spm prefix.now) result.1 }
 {
     let (found, visits) = map.get_spm_counted(prefix);
@@ -381,7 +394,8 @@ fn listed<P: Prefix, A: Allocator + Clone>(
     alloc: &A,
     map: &PrefixMap<P, u64, A>,
 ) -> Result<Vec<(P, u64), A>, AllocError>
-    ensures { IfOk result (λ entries. entries.items ≡ prefix_pairs P.back (listing map.now.entries)) }
+    ensures { IfOk result
+        (λ entries. entries.items ≡ prefix_pairs P.back (listing map.now.entries)) }
 {
     copied(alloc, map.len(), map.iter())
 }
@@ -411,7 +425,9 @@ fn children<P: Prefix, A: Allocator + Clone>(
     prefix: &P,
 ) -> Result<Vec<(P, u64), A>, AllocError>
     requires { P.IsFitting prefix.now }
-    ensures { IfOk result (λ entries. entries.items ≡ prefix_pairs P.back (listing_below map.now.entries (P.path prefix.now))) }
+    ensures { IfOk result
+        (λ entries. entries.items
+        ≡ prefix_pairs P.back (listing_below map.now.entries (P.path prefix.now))) }
 {
     let count = map.children(prefix).count();
     copied(alloc, count, map.children(prefix))
@@ -424,7 +440,9 @@ fn covered<P: Prefix, A: Allocator + Clone>(
     prefix: &P,
 ) -> Result<Vec<(P, u64), A>, AllocError>
     requires { P.IsFitting prefix.now }
-    ensures { IfOk result (λ entries. entries.items ≡ prefix_pairs P.back (covers map.now.entries (P.path prefix.now))) }
+    ensures { IfOk result
+        (λ entries. entries.items
+        ≡ prefix_pairs P.back (covers map.now.entries (P.path prefix.now))) }
 {
     let count = map.cover(prefix).count();
     copied(alloc, count, map.cover(prefix))
@@ -438,7 +456,9 @@ fn copied<'a, P: Drop, A: Allocator + Clone, I: Iterator<Item = (P, &'a u64)> + 
 ) -> Result<Vec<(P, u64), A>, AllocError>
     requires can { I.can_next walk }
     requires finite { IsFinite (I.remaining walk) }
-    ensures { IfOk result (λ entries. (lent : List (P × Bor ℕ)) × Drains I.next_gives walk lent × (entries.items ≡ map lent_item lent)) }
+    ensures { IfOk result
+        (λ entries. (lent : List (P × Bor ℕ)) × Drains I.next_gives walk lent
+        × (entries.items ≡ map lent_item lent)) }
 {
     let mut entries = Vec::with_capacity(alloc.clone()?, count)?;
     entries.extend(walk.map(owned))?;
@@ -447,7 +467,8 @@ fn copied<'a, P: Drop, A: Allocator + Clone, I: Iterator<Item = (P, &'a u64)> + 
 
 /// Returns the entries, or a refusal if their memory could not be allocated.
 fn list_reply<P: Prefix, A: Allocator>(listed: Result<Vec<(P, u64), A>, AllocError>) -> Reply<P, A>
-    ensures { MatchResult listed (λ entries. reply_of P.R.bits result ≡ Items entries.items) (λ _. reply_of P.R.bits result ≡ Refused Memory) }
+    ensures { MatchResult listed (λ entries. reply_of P.R.bits result ≡ Items entries.items)
+        (λ _. reply_of P.R.bits result ≡ Refused Memory) }
 {
     match listed {
         Ok(entries) => Reply::Entries(entries),

@@ -86,7 +86,8 @@ impl<P: Prefix, A: Allocator + Clone> PrefixSet<P, A> {
     pub fn new(alloc: A) -> Result<Self, Refusal>
         ensures entries { IfOk result (λ set. set.entries ≡ no_entries) }
         ensures nodes { IfOk result (λ set. set.nodes ≡ root_alone) }
-        ensures space { IfOk result (λ set. set.space ≡ record { limit = 2 ^ 32 - 1; node_slots = 1; cell_slots = 0 }) }
+        ensures space { IfOk result
+            (λ set. set.space ≡ record { limit = 2 ^ 32 - 1; node_slots = 1; cell_slots = 0 }) }
         ensures layout { IfOk result (λ set. set.layout ≡ no_layout) }
         ensures only_memory { IfErr result (λ refusal. refusal ≡ Memory) }
     {
@@ -113,7 +114,8 @@ impl<P: Prefix, A: Allocator + Clone> PrefixSet<P, A> {
     pub fn with_slot_limit(alloc: A, limit: u32) -> Result<Self, Refusal>
         ensures entries { IfOk result (λ set. set.entries ≡ no_entries) }
         ensures nodes { IfOk result (λ set. set.nodes ≡ root_alone) }
-        ensures space { IfOk result (λ set. set.space ≡ record { limit = limit; node_slots = 1; cell_slots = 0 }) }
+        ensures space { IfOk result
+            (λ set. set.space ≡ record { limit = limit; node_slots = 1; cell_slots = 0 }) }
         ensures layout { IfOk result (λ set. set.layout ≡ no_layout) }
         ensures range { IfErr result (λ cause. (cause ≡ IndexRange) ↔ (limit ≡ 0)) }
         ensures none { limit ≡ 0 → IsErr result }
@@ -230,7 +232,8 @@ impl<P: Prefix, A: Allocator> PrefixSet<P, A> {
     #[inline]
     pub fn address_count(&self) -> Option<P::R>
         ensures key { IfSome result (λ r. P.R.IsKey r) }
-        ensures count { option_map (λ r. number (P.R.bits r)) result ≡ address_total P.R.bit_width self.now.entries }
+        ensures count { option_map (λ r. number (P.R.bits r)) result
+            ≡ address_total P.R.bit_width self.now.entries }
         ensures whole { IsWhole P.R.bit_width self.now }
     {
         self.map.address_count()
@@ -293,15 +296,19 @@ impl<P: Prefix, A: Allocator> PrefixSet<P, A> {
     #[inline]
     pub fn insert(&mut self, prefix: P) -> Result<bool, Refusal>
         requires { P.IsFitting prefix }
-        ensures is_new { IfOk result (λ is_new. is_new ≡ not (contains_key self.old.entries (P.path prefix))) }
-        ensures entries { OnOk result (self.new.entries ≡ with_entry self.old.entries (P.path prefix) tt) }
+        ensures is_new { IfOk result
+            (λ is_new. is_new ≡ not (contains_key self.old.entries (P.path prefix))) }
+        ensures entries { OnOk result
+            (self.new.entries ≡ with_entry self.old.entries (P.path prefix) tt) }
         ensures nodes { OnOk result (self.new.nodes ≡ with_needed self.old.nodes (P.path prefix)) }
 
         // An error changes neither the keys nor the nodes.
-        ensures unchanged { OnErr result ((self.new.entries ≡ self.old.entries) × (self.new.nodes ≡ self.old.nodes)) }
+        ensures unchanged { OnErr result
+            ((self.new.entries ≡ self.old.entries) × (self.new.nodes ≡ self.old.nodes)) }
 
         // It is a step of the model and its storage, on a map of units (as `PrefixMap::insert`).
-        ensures step { StepByPath P.R.bit_width (stored_state self.old) (Insert (P.path prefix) tt) (set_insert_reply result) (stored_state self.new) }
+        ensures step { StepByPath P.R.bit_width (stored_state self.old) (Insert (P.path prefix) tt)
+            (set_insert_reply result) (stored_state self.new) }
     {
         match self.map.insert(prefix, ()) {
             Ok(before) => Ok(before.is_none()),

@@ -58,7 +58,8 @@ impl Places {
     pub fn new(values: u32, children: u32) -> Places
         requires { values < 2 ^ 31 }
         ensures places { to_come result ≡ places values children }
-        ensures each { (s : List Bool) → Contains (to_come result) s ↔ ((length s ≤ 5) × (is_in values children s ≡ true)) }
+        ensures each { (s : List Bool)
+            → Contains (to_come result) s ↔ ((length s ≤ 5) × (is_in values children s ≡ true)) }
         ensures sorted { IsStrictlySortedBy listing_cmp (to_come result) }
     {
         let mut rest = (values as u64) << 1 | (children as u64) << 32;

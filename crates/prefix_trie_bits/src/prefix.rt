@@ -88,7 +88,8 @@ pub trait Key: Copy + Eq + Debug {
         requires within { depth + n ≤ bit_width }
         requires fits { tail < 2 ^ n }
         ensures key { IsKey result }
-        ensures value { bits result ≡ take depth (bits self) ++ digits n tail ++ zeros (bit_width - (depth + n)) };
+        ensures value { bits result
+            ≡ take depth (bits self) ++ digits n tail ++ zeros (bit_width - (depth + n)) };
 
     /// Returns the bits after the first `n`, and then zeros.
     ///
@@ -255,7 +256,8 @@ pub trait Prefix: Sized + Debug + Drop {
     fn mask(&self) -> Self::R
         requires { IsFitting self.now }
         ensures key { Self.R.IsKey result }
-        ensures value { Self.R.bits result ≡ path self.now ++ zeros (Self.R.bit_width - len_of self.now) }
+        ensures value { Self.R.bits result
+            ≡ path self.now ++ zeros (Self.R.bit_width - len_of self.now) }
     {
         self.repr().keep(u32::from(self.prefix_len()))
     }
@@ -294,7 +296,8 @@ pub trait Prefix: Sized + Debug + Drop {
     }
 
     // the laws of paths, lengths and host bits
-    ghost prefix_laws: { PrefixLaws Self.R.bit_width Self.R.IsKey Self.R.bits Self.R.key_of repr_of len_of path IsFitting from_parts back };
+    ghost prefix_laws: { PrefixLaws Self.R.bit_width Self.R.IsKey Self.R.bits Self.R.key_of
+        repr_of len_of path IsFitting from_parts back };
 }
 
 /// Why a call failed.

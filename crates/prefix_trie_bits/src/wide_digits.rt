@@ -50,7 +50,8 @@ pub(crate) fn extend_of(value: u128, width: u32, depth: u32, n: u32, tail: u32) 
     requires fits { value < 2 ^ width }
     requires tail_fits { tail < 2 ^ n }
     ensures key { result < 2 ^ width }
-    ensures bits_are { digits width result ≡ take depth (digits width value) ++ digits n tail ++ zeros (width - (depth + n)) }
+    ensures bits_are { digits width result
+        ≡ take depth (digits width value) ++ digits n tail ++ zeros (width - (depth + n)) }
 {
     if depth + n == 0 {
         return 0;

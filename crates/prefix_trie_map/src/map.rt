@@ -112,7 +112,8 @@ impl<P: Prefix, T: Drop, A: Allocator + Clone> PrefixMap<P, T, A> {
     pub fn new(alloc: A) -> Result<Self, Refusal>
         ensures entries { IfOk result (λ map. map.entries ≡ no_entries) }
         ensures nodes { IfOk result (λ map. map.nodes ≡ root_alone) }
-        ensures space { IfOk result (λ map. map.space ≡ record { limit = 2 ^ 32 - 1; node_slots = 1; cell_slots = 0 }) }
+        ensures space { IfOk result
+            (λ map. map.space ≡ record { limit = 2 ^ 32 - 1; node_slots = 1; cell_slots = 0 }) }
         ensures layout { IfOk result (λ map. map.layout ≡ no_layout) }
         ensures only_memory { IfErr result (λ refusal. refusal ≡ Memory) }
     {
@@ -186,17 +187,20 @@ impl<P: Prefix, T: Drop, A: Allocator> PrefixMap<P, T, A> {
     pub fn insert(&mut self, prefix: P, value: T) -> Result<Option<T>, Refused<T>>
         requires { P.IsFitting prefix }
         ensures before { IfOk result (λ before. before ≡ get self.old.entries (P.path prefix)) }
-        ensures entries { OnOk result (self.new.entries ≡ with_entry self.old.entries (P.path prefix) value) }
+        ensures entries { OnOk result
+            (self.new.entries ≡ with_entry self.old.entries (P.path prefix) value) }
         ensures nodes { OnOk result (self.new.nodes ≡ with_needed self.old.nodes (P.path prefix)) }
 
         // An error changes neither the entries nor the nodes.
-        ensures unchanged { OnErr result ((self.new.entries ≡ self.old.entries) × (self.new.nodes ≡ self.old.nodes)) }
+        ensures unchanged { OnErr result
+            ((self.new.entries ≡ self.old.entries) × (self.new.nodes ≡ self.old.nodes)) }
         ensures returned { IfErr result (λ refused. refused.value ≡ value) }
 
         // This is a step of the model, of the storage too. A stored key needs no block. A new key uses free blocks, and
         // exactly the missing ones are made. An error means that a block is missing: for `IndexRange`, the missing
         // blocks would exceed the limit; for `Memory`, a missing block would fit the limit.
-        ensures step { StepByPath P.R.bit_width (stored_state self.old) (Insert (P.path prefix) value) (insert_reply result) (stored_state self.new) }
+        ensures step { StepByPath P.R.bit_width (stored_state self.old)
+            (Insert (P.path prefix) value) (insert_reply result) (stored_state self.new) }
     {
         self.table.insert(prefix.path(), value, &mut Visits::new())
     }

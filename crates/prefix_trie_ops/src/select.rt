@@ -69,7 +69,9 @@ fn next_entry<'a, P: Prefix, T: Drop, A: Allocator, F: PathTest<P>>(
     test: &mut F,
 ) -> Option<(P, &'a T)>
     requires { All (λ e. P.IsFitting e.0) entries.old }
-    ensures takes { TakesFirst lent_item (filter (λ e. F.outcome test.old (P.path e.0)) entries.old) result (filter (λ e. F.outcome test.new (P.path e.0)) entries.new) }
+    ensures takes { TakesFirst lent_item
+        (filter (λ e. F.outcome test.old (P.path e.0)) entries.old) result
+        (filter (λ e. F.outcome test.new (P.path e.0)) entries.new) }
     ensures fit { All (λ e. P.IsFitting e.0) entries.new }
 {
     while let Some((prefix, value)) = entries.next() {

@@ -8,8 +8,10 @@ use std::io::Write;
 
 /// Prints the line of a row. Returns whether all of it was written.
 pub fn print_line<W: Write>(alloc: Global, out: &mut W, number: u32, holds: bool) -> bool
-    ensures written { IsTrue result → Appends (W.contents out.old) (W.contents out.new) (row_line number holds) }
-    ensures begins { (bs : List ℕ) × Appends (W.contents out.old) (W.contents out.new) bs × Begins bs (row_line number holds) }
+    ensures written { IsTrue result
+        → Appends (W.contents out.old) (W.contents out.new) (row_line number holds) }
+    ensures begins { (bs : List ℕ) × Appends (W.contents out.old) (W.contents out.new) bs
+        × Begins bs (row_line number holds) }
 {
     let outcome = if holds { "ok" } else { "failed" };
     match format!(in alloc; "row {number} {outcome}\n") {
@@ -21,7 +23,8 @@ pub fn print_line<W: Write>(alloc: Global, out: &mut W, number: u32, holds: bool
 /// Writes bytes. Returns whether all were written. After a write that fails or writes nothing, it makes no other.
 fn write_once<W: Write>(out: &mut W, bytes: &[u8]) -> bool
     ensures written { IsTrue result → Appends (W.contents out.old) (W.contents out.new) bytes.now }
-    ensures begins { (bs : List ℕ) × Appends (W.contents out.old) (W.contents out.new) bs × Begins bs bytes.now }
+    ensures begins { (bs : List ℕ) × Appends (W.contents out.old) (W.contents out.new) bs
+        × Begins bs bytes.now }
 {
     let mut rest = bytes;
     for _ in 0..bytes.len() {

@@ -165,7 +165,8 @@ impl<T: Drop, A: Allocator + Clone, V: Tick> Table<T, A, V> {
         requires nodes { AreNodes K.bit_width self.old.entries self.old.nodes }
         ensures split_off { IfOk result (λ second. SplitsOffInStorage (stored_state self.old) path
             (stored_state second) (stored_state self.new)) }
-        ensures bounds_growth { 0 < length path → IfOk result (λ _. BoundsStorageGrowth (storage self.old) (storage self.new)) }
+        ensures bounds_growth { 0 < length path
+            → IfOk result (λ _. BoundsStorageGrowth (storage self.old) (storage self.new)) }
         ensures kept { IfErr result (λ _. stored_state self.new ≡ stored_state self.old) }
         ensures memory { IfErr result (λ cause. cause ≡ Memory) }
     {
@@ -247,7 +248,8 @@ impl<T: Drop, A: Allocator, V: Tick> Table<T, A, V> {
             (shortest_match self.now.entries path ≡ None)
             (λ found. (found.0 ≤ length path)
             × (shortest_match self.now.entries path ≡ Some (take found.0 path, found.1.now))) }
-        ensures visits { V.count counter.new ≡ V.count counter.old + visits_to_match self.now.entries self.now.nodes path }
+        ensures visits { V.count counter.new
+            ≡ V.count counter.old + visits_to_match self.now.entries self.now.nodes path }
     {
         let Some(found) = shortest_on_path(&self.nodes, path, counter) else {
             return None;
@@ -309,7 +311,9 @@ impl<T: Drop, A: Allocator, V: Tick> Table<T, A, V> {
         counter: &mut V,
     ) -> Result<Option<T>, Refused<T>>
         ensures returned { IfErr result (λ refused. refused.value ≡ value) }
-        ensures step { (width : ℕ) → StepByPath width (stored_state self.old) (Insert path value) (insert_reply result) (stored_state self.new) }
+        ensures step { (width : ℕ)
+            → StepByPath width (stored_state self.old) (Insert path value) (insert_reply result)
+            (stored_state self.new) }
     {
         // Read for the proof alone: neither array exceeds the limit.
         let _entries = self.len();
@@ -327,7 +331,9 @@ impl<T: Drop, A: Allocator, V: Tick> Table<T, A, V> {
     /// It prunes even if no value was stored. It never fails: blocks shrink as in `remove_keep_tree`.
     #[inline]
     pub fn remove<K: Key>(&mut self, path: BitString<K>, counter: &mut V) -> Option<T>
-        ensures step { (width : ℕ) → StepByPath width (stored_state self.old) (Remove path) (Value result) (stored_state self.new) }
+        ensures step { (width : ℕ)
+            → StepByPath width (stored_state self.old) (Remove path) (Value result)
+            (stored_state self.new) }
     {
         remove_entry(
             &mut self.nodes,
@@ -343,7 +349,9 @@ impl<T: Drop, A: Allocator, V: Tick> Table<T, A, V> {
     /// It never fails: the values of the node move to a smaller block if they fit and such a block is free or can be made.
     #[inline]
     pub fn remove_keep_tree<K: Key>(&mut self, path: BitString<K>, counter: &mut V) -> Option<T>
-        ensures step { (width : ℕ) → StepByPath width (stored_state self.old) (RemoveKeepTree path) (Value result) (stored_state self.new) }
+        ensures step { (width : ℕ)
+            → StepByPath width (stored_state self.old) (RemoveKeepTree path) (Value result)
+            (stored_state self.new) }
     {
         remove_value(
             &mut self.nodes,
@@ -362,9 +370,11 @@ impl<T: Drop, A: Allocator, V: Tick> Table<T, A, V> {
     pub fn drop_children<K: Key>(&mut self, path: BitString<K>, counter: &mut V)
         requires within { AreWithin K.bit_width self.old.entries }
         requires nodes { AreNodes K.bit_width self.old.entries self.old.nodes }
-        ensures step { (width : ℕ) → StepByPath width (stored_state self.old) (RemoveChildren path) Done
+        ensures step { (width : ℕ)
+            → StepByPath width (stored_state self.old) (RemoveChildren path) Done
             (stored_state self.new) }
-        ensures bounds_growth { 0 < length path → BoundsStorageGrowth (storage self.old) (storage self.new) }
+        ensures bounds_growth { 0 < length path
+            → BoundsStorageGrowth (storage self.old) (storage self.new) }
     {
         if path.len() == 0 {
             self.clear();
@@ -393,7 +403,8 @@ impl<T: Drop, A: Allocator, V: Tick> Table<T, A, V> {
         requires within { AreWithin K.bit_width self.old.entries }
         requires nodes { AreNodes K.bit_width self.old.entries self.old.nodes }
         requires may_ask { CallableOnEachEntry F.asks F.accepts keep (listing self.old.entries) }
-        ensures step { RetainsInStorage F.asks keep (stored_state self.old) (stored_state self.new) }
+        ensures step { RetainsInStorage F.asks keep (stored_state self.old)
+            (stored_state self.new) }
         ensures fits { AreWithin K.bit_width self.new.entries }
         ensures bounds_growth { BoundsStorageGrowth (storage self.old) (storage self.new) }
     {
@@ -409,7 +420,8 @@ impl<T: Drop, A: Allocator, V: Tick> Table<T, A, V> {
     /// Removes all entries, and all nodes but the root. It does not allocate.
     #[inline]
     pub fn clear(&mut self)
-        ensures step { (width : ℕ) → StepByPath width (stored_state self.old) Clear Done (stored_state self.new) }
+        ensures step { (width : ℕ)
+            → StepByPath width (stored_state self.old) Clear Done (stored_state self.new) }
     {
         clear_entries(&mut self.nodes, &mut self.cells, &mut self.count);
     }

@@ -19,7 +19,8 @@ fn keep_common<P: Prefix, A: Allocator>(
     map: &mut PrefixMap<P, u64, A>,
     other: &PrefixMap<P, u64, A>,
 )
-    ensures { listing map.new.entries ≡ filter (λ e. contains_key other.now.entries e.0) (listing map.old.entries) }
+    ensures { listing map.new.entries
+        ≡ filter (λ e. contains_key other.now.entries e.0) (listing map.old.entries) }
 {
     // Tells the proof that each prefix passed to the test fits.
     let _ = map.len();

@@ -26,7 +26,9 @@ fn rebuild<P: Prefix, T: Drop, A: Allocator, B: Allocator + Clone>(
     map: PrefixMap<P, T, A>,
     alloc: B,
 ) -> Result<PrefixMap<P, T, B>, Refusal>
-    ensures entries { IfOk result (λ built. built.entries ≡ put_all P.path (prefix_pairs P.back (listing map.entries)) no_entries) }
+    ensures entries { IfOk result
+        (λ built. built.entries
+        ≡ put_all P.path (prefix_pairs P.back (listing map.entries)) no_entries) }
     ensures tidy { IfOk result (λ built. IsTidy built.entries built.nodes) }
 {
     PrefixMap::from_iter(alloc, map)

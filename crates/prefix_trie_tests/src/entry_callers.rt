@@ -19,7 +19,8 @@ fn store_nine<P: Prefix, A: Allocator>(
     requires { P.IsFitting prefix }
     ensures entries { OnOk result (map.new.entries ≡ with_entry map.old.entries (P.path prefix) 9) }
     ensures nodes { OnOk result (map.new.nodes ≡ with_needed map.old.nodes (P.path prefix)) }
-    ensures unchanged { OnErr result ((map.new.entries ≡ map.old.entries) × (map.new.nodes ≡ map.old.nodes)) }
+    ensures unchanged { OnErr result
+        ((map.new.entries ≡ map.old.entries) × (map.new.nodes ≡ map.old.nodes)) }
 {
     let value = map.entry(prefix).or_insert_with(|| 5)?;
     *value = 9;
@@ -45,7 +46,8 @@ fn remove_if_stored<P: Prefix, T: Drop, A: Allocator>(
 ) -> Option<T>
     requires { P.IsFitting prefix }
     ensures value { result ≡ get map.old.entries (P.path prefix) }
-    ensures entries { IsTrue (is_some result) → map.new.entries ≡ without_entry map.old.entries (P.path prefix) }
+    ensures entries { IsTrue (is_some result)
+        → map.new.entries ≡ without_entry map.old.entries (P.path prefix) }
     ensures unchanged { IsFalse (is_some result) → map.new ≡ map.old }
     ensures nodes { map.new.nodes ≡ map.old.nodes }
 {
@@ -114,7 +116,8 @@ fn swap<P: Prefix, T: Drop, A: Allocator>(
 ) -> Option<T>
     requires { P.IsFitting prefix }
     ensures before { result ≡ get map.old.entries (P.path prefix) }
-    ensures written { IsTrue (is_some result) → map.new ≡ with_value_at map.old (P.path prefix) value }
+    ensures written { IsTrue (is_some result)
+        → map.new ≡ with_value_at map.old (P.path prefix) value }
     ensures unchanged { IsFalse (is_some result) → map.new ≡ map.old }
 {
     match map.entry(prefix) {
@@ -131,8 +134,10 @@ fn set<P: Prefix, T: Drop, A: Allocator>(
 ) -> Result<Option<T>, Refused<T>>
     requires { P.IsFitting prefix }
     ensures before { IfOk result (λ before. before ≡ get map.old.entries (P.path prefix)) }
-    ensures entries { OnOk result (map.new.entries ≡ with_entry map.old.entries (P.path prefix) value) }
-    ensures unchanged { OnErr result ((map.new.entries ≡ map.old.entries) × (map.new.nodes ≡ map.old.nodes)) }
+    ensures entries { OnOk result
+        (map.new.entries ≡ with_entry map.old.entries (P.path prefix) value) }
+    ensures unchanged { OnErr result
+        ((map.new.entries ≡ map.old.entries) × (map.new.nodes ≡ map.old.nodes)) }
     ensures space { LeavesSpace (len map.old.nodes) map.old.space map.new.space }
 {
     map.entry(prefix).put(value).answer()
@@ -143,7 +148,9 @@ fn fill_from<P: Prefix, A: Allocator>(
     to: &mut PrefixMap<P, u64, A>,
     from: &PrefixMap<P, u64, A>,
 ) -> Result<(), Refused<u64>>
-    ensures { OnOk result (to.new.entries ≡ put_all P.path (prefix_pairs P.back (listing from.now.entries)) to.old.entries) }
+    ensures { OnOk result
+        (to.new.entries
+        ≡ put_all P.path (prefix_pairs P.back (listing from.now.entries)) to.old.entries) }
 {
     for (prefix, value) in from {
         to.entry(prefix).put(*value).answer()?;

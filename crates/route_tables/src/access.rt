@@ -46,7 +46,9 @@ fn is_covered_by<P: Prefix>(table: &Table<P>, address: &P, rule: &str) -> bool
 // Does the same as `is_covered_by`, by the list of the values of the networks that contain the address.
 fn has_value<P: Prefix>(table: &Table<P>, address: &P, rule: &str) -> bool
     requires { P.IsFitting address.now }
-    ensures { result ≡ list_any (bytes_eq rule.now) (map (λ e. e.1) (covers table.now.entries (P.path address.now))) }
+    ensures { result
+        ≡ list_any (bytes_eq rule.now)
+        (map (λ e. e.1) (covers table.now.entries (P.path address.now))) }
 {
     for value in table.cover_values(address) {
         if rule == value.as_str() {
@@ -65,7 +67,8 @@ fn has_value<P: Prefix>(table: &Table<P>, address: &P, rule: &str) -> bool
 /// first_other(&tables.ipv4).map(|other| other.0);     // Some(10.1.0.0/16)
 /// ```
 pub fn first_other<P: Prefix>(table: &Table<P>) -> Option<(P, &Value)>
-    ensures { MatchOption result ((s : List Bool) (value : List ℕ) → get table.now.entries s ≡ Some value → IsRule value)
+    ensures { MatchOption result
+        ((s : List Bool) (value : List ℕ) → get table.now.entries s ≡ Some value → IsRule value)
         (λ found. ¬ (IsRule found.1.now)) }
 {
     listing_laws::<Value>();

@@ -36,9 +36,14 @@ pub fn diff<'a, P: Prefix>(
     new: &'a Table<P>,
     alloc: Global,
 ) -> Result<Vec<(P, Values<'a>)>, AllocError>
-    ensures listed { IfOk result (λ changes. map lent_side changes.items ≡ prefix_pairs P.back (changes_of old.now.entries new.now.entries)) }
-    ensures exact { IfOk result (λ _. (s : List Bool) (values : Side (List ℕ) (List ℕ)) → Contains (changes_of old.now.entries new.now.entries) (s, values)
-        ↔ ((get old.now.entries s ≢ get new.now.entries s) × (sides (get old.now.entries s) (get new.now.entries s) ≡ Some values))) }
+    ensures listed { IfOk result
+        (λ changes. map lent_side changes.items
+        ≡ prefix_pairs P.back (changes_of old.now.entries new.now.entries)) }
+    ensures exact { IfOk result
+        (λ _. (s : List Bool) (values : Side (List ℕ) (List ℕ))
+        → Contains (changes_of old.now.entries new.now.entries) (s, values)
+        ↔ ((get old.now.entries s ≢ get new.now.entries s)
+        × (sides (get old.now.entries s) (get new.now.entries s) ≡ Some values))) }
 {
     combining_laws::<Value, Value>();
     listing_laws::<Side<Value, Value>>();

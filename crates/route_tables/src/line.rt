@@ -52,7 +52,9 @@ impl Error for LineError {}
 /// read_line(b"10.0.0.1/8 core");                  // Err(Network(HostBits))
 /// ```
 pub fn read_line(line: &[u8]) -> Result<Option<(Network, &str)>, LineError>
-    ensures read { IfOk result (λ found. MatchOption found (fields line.now ≡ []) (λ route. IsRoute line.now (route.0, route.1.now))) }
+    ensures read { IfOk result
+        (λ found. MatchOption found (fields line.now ≡ [])
+        (λ route. IsRoute line.now (route.0, route.1.now))) }
     ensures bad { IfErr result (λ _. IsBad line.now) }
 {
     let Some((network, rest)) = split_field(line) else {

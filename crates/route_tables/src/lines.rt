@@ -58,7 +58,8 @@ pub fn split_line(text: &[u8]) -> (&[u8], &[u8])
 
 /// Splits off the first word, and returns it and the rest, or `None` if there is no word.
 fn split_word(text: &[u8]) -> Option<(&[u8], &[u8])>
-    ensures { MatchOption result (words text.now ≡ []) (λ parts. words text.now ≡ parts.0.now ∷ words parts.1.now) }
+    ensures { MatchOption result (words text.now ≡ [])
+        (λ parts. words text.now ≡ parts.0.now ∷ words parts.1.now) }
 {
     let text = text.trim_ascii_start();
     if text.is_empty() {
@@ -69,7 +70,8 @@ fn split_word(text: &[u8]) -> Option<(&[u8], &[u8])>
 
 /// Splits off the first field, a word before the comment, or returns `None` if there is none.
 pub fn split_field(text: &[u8]) -> Option<(&[u8], &[u8])>
-    ensures { MatchOption result (fields text.now ≡ []) (λ parts. fields text.now ≡ parts.0.now ∷ fields parts.1.now) }
+    ensures { MatchOption result (fields text.now ≡ [])
+        (λ parts. fields text.now ≡ parts.0.now ∷ fields parts.1.now) }
 {
     let (word, rest) = split_word(text)?;
     if word.first() == Some(&b'#') {

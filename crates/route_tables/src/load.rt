@@ -107,7 +107,8 @@ impl<T: Drop> From<AllocFailed<T>> for LoadError {
 /// load(b"10.0.0.0 core", alloc).err();       // Some(Line(1, Network(Text(MissingSlash))))
 /// ```
 pub fn load(text: &[u8], alloc: Global) -> Result<Loaded, LoadError>
-    ensures tables { IfOk result (λ loaded. (routes : List Route) × HasRoutes (lines text.now) routes
+    ensures tables { IfOk result
+        (λ loaded. (routes : List Route) × HasRoutes (lines text.now) routes
         × (loaded.tables.ipv4.entries ≡ ipv4_with_all no_entries routes)
         × (loaded.tables.ipv6.entries ≡ ipv6_with_all no_entries routes)) }
     ensures first_bad { IfErr result (NamesFirstBad (lines text.now)) }
@@ -137,7 +138,9 @@ fn add_line(
     number: usize,
     alloc: Global,
 ) -> Result<Option<Network>, LoadError>
-    ensures added { IfOk result (λ _. AddsLine line.now tables.old.ipv4.entries tables.old.ipv6.entries tables.new.ipv4.entries tables.new.ipv6.entries) }
+    ensures added { IfOk result
+        (λ _. AddsLine line.now tables.old.ipv4.entries tables.old.ipv6.entries
+        tables.new.ipv4.entries tables.new.ipv6.entries) }
     ensures bad { IfErr result (IsBadAt number line.now) }
 {
     match read_line(line) {
@@ -154,8 +157,10 @@ fn add_route(
     value: &str,
     alloc: Global,
 ) -> Result<Option<Network>, LoadError>
-    ensures ipv4 { IfOk result (λ _. tables.new.ipv4.entries ≡ ipv4_with tables.old.ipv4.entries (network, value.now)) }
-    ensures ipv6 { IfOk result (λ _. tables.new.ipv6.entries ≡ ipv6_with tables.old.ipv6.entries (network, value.now)) }
+    ensures ipv4 { IfOk result
+        (λ _. tables.new.ipv4.entries ≡ ipv4_with tables.old.ipv4.entries (network, value.now)) }
+    ensures ipv6 { IfOk result
+        (λ _. tables.new.ipv6.entries ≡ ipv6_with tables.old.ipv6.entries (network, value.now)) }
     ensures no_line { IfErr result IsRefusal }
 {
     let value = Value::new(value, alloc)?;

@@ -19,9 +19,11 @@ use prefix_trie::laws::{listed_laws, lookup_laws};
 /// ```
 pub fn lookup<'a, P: Prefix>(table: &'a Table<P>, address: &P) -> Option<(P, &'a Value)>
     requires { P.IsFitting address.now }
-    ensures value { option_map lent_item result ≡ prefix_pair P.back (longest_match table.now.entries (P.path address.now)) }
+    ensures value { option_map lent_item result
+        ≡ prefix_pair P.back (longest_match table.now.entries (P.path address.now)) }
     ensures longest { MatchOption result (IsUncovered table.now.entries (P.path address.now))
-        (λ found. IsLongestMatch table.now.entries (P.path address.now) (P.path found.0, found.1.now)) }
+        (λ found. IsLongestMatch table.now.entries (P.path address.now)
+        (P.path found.0, found.1.now)) }
 {
     lookup_laws::<P, Value>();
     listed_laws::<P, Value>();

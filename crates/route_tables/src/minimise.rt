@@ -26,9 +26,14 @@ use std::alloc::{AllocError, Global};
 /// tables.ipv4.keys();     // [10.0.0.0/8, 10.2.0.0/16]
 /// ```
 pub fn minimise<P: Prefix>(table: &mut Table<P>, alloc: Global) -> Result<(), AllocError>
-    ensures same { OnOk result ((q : List Bool) → value_of table.new.entries q ≡ value_of table.old.entries q) }
-    ensures least { OnOk result ((s : List Bool) (v : List ℕ) → get table.new.entries s ≡ Some v → value_above table.new.entries s ≢ Some v) }
-    ensures part { OnOk result ((s : List Bool) (v : List ℕ) → get table.new.entries s ≡ Some v → get table.old.entries s ≡ Some v) }
+    ensures same { OnOk result
+        ((q : List Bool) → value_of table.new.entries q ≡ value_of table.old.entries q) }
+    ensures least { OnOk result
+        ((s : List Bool) (v : List ℕ) → get table.new.entries s ≡ Some v
+        → value_above table.new.entries s ≢ Some v) }
+    ensures part { OnOk result
+        ((s : List Bool) (v : List ℕ) → get table.new.entries s ≡ Some v
+        → get table.old.entries s ≡ Some v) }
     ensures unchanged { IfErr result (λ _. table.new ≡ table.old) }
 {
     listing_laws::<Value>();

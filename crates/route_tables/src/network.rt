@@ -97,7 +97,8 @@ fn parse_ipv6(text: &str) -> Result<Ipv6Prefix, NetworkError>
 /// parse_network("ten");              // Err(Text(MissingSlash))
 /// ```
 pub fn parse_network(text: &str) -> Result<Network, NetworkError>
-    ensures { MatchResult result (IsNetworkText text.now) (λ _. (network : Network) → ¬ (IsNetworkText text.now network)) }
+    ensures { MatchResult result (IsNetworkText text.now)
+        (λ _. (network : Network) → ¬ (IsNetworkText text.now network)) }
 {
     let as_ipv4 = match parse_ipv4(text) {
         Ok(network) => return Ok(Network::V4(network)),

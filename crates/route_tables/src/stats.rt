@@ -24,7 +24,9 @@ use std::mem::size_of;
 /// ```
 pub fn by_length<P: Prefix>(table: &Table<P>, alloc: Global) -> Result<Vec<usize>, AllocError>
     ensures each { IfOk result (λ counts. (len : ℕ) → len ≤ P.R.bit_width
-        → slice_index counts.items len ≡ length (filter (λ e. P.len_of e.0 == len) (prefix_pairs P.back (listing table.now.entries)))) }
+        → slice_index counts.items len
+        ≡ length (filter (λ e. P.len_of e.0 == len)
+        (prefix_pairs P.back (listing table.now.entries)))) }
     ensures long { IfOk result (λ counts. length counts.items ≡ P.R.bit_width + 1) }
 {
     listed_laws::<P, Value>();

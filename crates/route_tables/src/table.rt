@@ -51,10 +51,17 @@ impl Tables {
     /// tables.insert(network, Value::new("edge", alloc)?)?;       // Some(V4(10.0.0.0/8))
     /// ```
     pub fn insert(&mut self, network: Network, value: Value) -> Result<Option<Network>, Refusal>
-        ensures ipv4 { OnOk result (self.new.ipv4.entries ≡ ipv4_with self.old.ipv4.entries (network, value)) }
-        ensures ipv6 { OnOk result (self.new.ipv6.entries ≡ ipv6_with self.old.ipv6.entries (network, value)) }
-        ensures known { IfOk result (λ known. known ≡ cond (is_stored self.old.ipv4.entries self.old.ipv6.entries network) (Some network) None) }
-        ensures unchanged { OnErr result ((self.new.ipv4.entries ≡ self.old.ipv4.entries) × (self.new.ipv6.entries ≡ self.old.ipv6.entries)) }
+        ensures ipv4 { OnOk result
+            (self.new.ipv4.entries ≡ ipv4_with self.old.ipv4.entries (network, value)) }
+        ensures ipv6 { OnOk result
+            (self.new.ipv6.entries ≡ ipv6_with self.old.ipv6.entries (network, value)) }
+        ensures known { IfOk result
+            (λ known. known
+            ≡ cond (is_stored self.old.ipv4.entries self.old.ipv6.entries network)
+            (Some network) None) }
+        ensures unchanged { OnErr result
+            ((self.new.ipv4.entries ≡ self.old.ipv4.entries)
+            × (self.new.ipv6.entries ≡ self.old.ipv6.entries)) }
     {
         match network {
             Network::V4(network) => {

@@ -30,14 +30,22 @@ impl<P: Prefix, A: Allocator + Clone> PrefixSet<P, A> {
     /// PrefixSet::from_iter(alloc, networks)?.len();       // 1: both have one path
     /// ```
     pub fn from_iter<I: IntoIterator<Item = P> + Drop>(alloc: A, items: I) -> Result<Self, Refusal>
-        requires ends { (it : I.IntoIter) → I.into_iter_gives items it → I.IntoIter.can_next it × IsFinite (I.IntoIter.remaining it) }
-        requires fit { (it : I.IntoIter) → I.into_iter_gives items it → HoldsAlong I.IntoIter.next_gives it (All P.IsFitting) }
-        ensures entries { IfOk result (λ set. (it : I.IntoIter) × (xs : List P) × I.into_iter_gives items it × Drains I.IntoIter.next_gives it xs × (set.entries ≡ put_all P.path (map as_item xs) no_entries)) }
+        requires ends { (it : I.IntoIter) → I.into_iter_gives items it
+            → I.IntoIter.can_next it × IsFinite (I.IntoIter.remaining it) }
+        requires fit { (it : I.IntoIter) → I.into_iter_gives items it
+            → HoldsAlong I.IntoIter.next_gives it (All P.IsFitting) }
+        ensures entries { IfOk result
+            (λ set. (it : I.IntoIter) × (xs : List P) × I.into_iter_gives items it
+            × Drains I.IntoIter.next_gives it xs
+            × (set.entries ≡ put_all P.path (map as_item xs) no_entries)) }
         ensures tidy { IfOk result (λ set. IsTidy set.entries set.nodes) }
         ensures limit { IfOk result (λ set. set.space.limit ≡ 2 ^ 32 - 1) }
 
         // `IndexRange` comes only if 56 slots for each prefix taken would exceed the limit.
-        ensures range { IfErr result (λ cause. cause ≡ IndexRange → (it : I.IntoIter) × (xs : List P) × (rest : I.IntoIter) × I.into_iter_gives items it × Yields I.IntoIter.next_gives it xs rest × (2 ^ 32 - 1 < 1 + 56 * length xs)) }
+        ensures range { IfErr result
+            (λ cause. cause ≡ IndexRange
+            → (it : I.IntoIter) × (xs : List P) × (rest : I.IntoIter) × I.into_iter_gives items it
+            × Yields I.IntoIter.next_gives it xs rest × (2 ^ 32 - 1 < 1 + 56 * length xs)) }
     {
         let units = items.into_iter().map(|prefix| (prefix, ()));
         let map = PrefixMap::from_iter(alloc, units)?;

@@ -88,7 +88,8 @@ impl<P: Prefix, A: Allocator> PrefixSet<P, A> {
     #[inline]
     pub fn children(&self, prefix: &P) -> Iter<'_, P, A>
         requires { P.IsFitting prefix.now }
-        ensures items { result ≡ map (λ e. P.back e.0) (listing_below self.now.entries (P.path prefix.now)) }
+        ensures items { result
+            ≡ map (λ e. P.back e.0) (listing_below self.now.entries (P.path prefix.now)) }
         ensures fits { length result < 2 ^ 64 }
         ensures runs { GivesInOrder P }
         ensures whole { IsWhole P.R.bit_width self.now }
@@ -107,7 +108,8 @@ impl<P: Prefix, A: Allocator> PrefixSet<P, A> {
     #[inline]
     pub fn cover(&self, prefix: &P) -> CoverKeys<'_, P, (), A>
         requires { P.IsFitting prefix.now }
-        ensures items { result ≡ map (λ e. P.back e.0) (covers self.now.entries (P.path prefix.now)) }
+        ensures items { result
+            ≡ map (λ e. P.back e.0) (covers self.now.entries (P.path prefix.now)) }
         ensures counted { length result ≡ length (covers self.now.entries (P.path prefix.now)) }
         ensures fits { length (covers self.now.entries (P.path prefix.now)) ≤ 129 }
         ensures runs { GivesInOrder P }
@@ -122,7 +124,9 @@ impl<P: Prefix, A: Allocator> IntoIterator for PrefixSet<P, A> {
 
     type IntoIter = IntoIter<P, A>;
 
-    ghost into_iter_gives = { λ s it. (it ≡ map (λ e. P.back e.0) (listing s.entries)) × (length it ≡ len s.entries) × (len s.entries < 2 ^ 64) × GivesInOrder P × IsWhole P.R.bit_width s };
+    ghost into_iter_gives = { λ s it. (it ≡ map (λ e. P.back e.0) (listing s.entries))
+        × (length it ≡ len s.entries) × (len s.entries < 2 ^ 64) × GivesInOrder P
+        × IsWhole P.R.bit_width s };
 
     #[inline]
     fn into_iter(self) -> IntoIter<P, A> {
@@ -135,7 +139,9 @@ impl<'a, P: Prefix, A: Allocator> IntoIterator for &'a PrefixSet<P, A> {
 
     type IntoIter = Iter<'a, P, A>;
 
-    ghost into_iter_gives = { λ s it. (it ≡ map (λ e. P.back e.0) (listing s.now.entries)) × (length it ≡ len s.now.entries) × (len s.now.entries < 2 ^ 64) × GivesInOrder P × IsWhole P.R.bit_width s.now };
+    ghost into_iter_gives = { λ s it. (it ≡ map (λ e. P.back e.0) (listing s.now.entries))
+        × (length it ≡ len s.now.entries) × (len s.now.entries < 2 ^ 64) × GivesInOrder P
+        × IsWhole P.R.bit_width s.now };
 
     #[inline]
     fn into_iter(self) -> Iter<'a, P, A> {

@@ -55,7 +55,9 @@ impl<P: Prefix, A: Allocator> PrefixSet<P, A> {
     #[inline]
     pub fn get(&self, prefix: &P) -> Option<P>
         requires { P.IsFitting prefix.now }
-        ensures { result ≡ option_map (λ _. P.back (P.path prefix.now)) (get self.now.entries (P.path prefix.now)) }
+        ensures { result
+            ≡ option_map (λ _. P.back (P.path prefix.now))
+            (get self.now.entries (P.path prefix.now)) }
     {
         match self.map.get_key_value(prefix) {
             Some((stored, _)) => Some(stored),
@@ -78,7 +80,9 @@ impl<P: Prefix, A: Allocator> PrefixSet<P, A> {
     #[inline]
     pub fn get_lpm(&self, prefix: &P) -> Option<P>
         requires { P.IsFitting prefix.now }
-        ensures { result ≡ option_map (λ found. P.back found.0) (longest_match self.now.entries (P.path prefix.now)) }
+        ensures { result
+            ≡ option_map (λ found. P.back found.0)
+            (longest_match self.now.entries (P.path prefix.now)) }
     {
         self.map.get_lpm_prefix(prefix)
     }
@@ -97,7 +101,9 @@ impl<P: Prefix, A: Allocator> PrefixSet<P, A> {
     #[inline]
     pub fn get_spm(&self, prefix: &P) -> Option<P>
         requires { P.IsFitting prefix.now }
-        ensures { result ≡ option_map (λ found. P.back found.0) (shortest_match self.now.entries (P.path prefix.now)) }
+        ensures { result
+            ≡ option_map (λ found. P.back found.0)
+            (shortest_match self.now.entries (P.path prefix.now)) }
     {
         self.map.get_spm_prefix(prefix)
     }

@@ -34,10 +34,12 @@ impl<P: Prefix, A: Allocator> PrefixSet<P, A> {
         requires { P.IsFitting prefix.now }
         ensures was_in { result ≡ contains_key self.old.entries (P.path prefix.now) }
         ensures entries { self.new.entries ≡ without_entry self.old.entries (P.path prefix.now) }
-        ensures nodes { self.new.nodes ≡ nodes_without self.old.nodes self.old.entries (P.path prefix.now) }
+        ensures nodes { self.new.nodes
+            ≡ nodes_without self.old.nodes self.old.entries (P.path prefix.now) }
 
         // It is a step of the model and its storage, on a map of units.
-        ensures step { StepByPath P.R.bit_width (stored_state self.old) (Remove (P.path prefix.now)) (set_remove_reply result) (stored_state self.new) }
+        ensures step { StepByPath P.R.bit_width (stored_state self.old) (Remove (P.path prefix.now))
+            (set_remove_reply result) (stored_state self.new) }
     {
         self.map.remove(prefix).is_some()
     }
@@ -64,7 +66,8 @@ impl<P: Prefix, A: Allocator> PrefixSet<P, A> {
         ensures nodes { self.new.nodes ≡ self.old.nodes }
 
         // It is a step of the model and its storage; the array of nodes is unchanged.
-        ensures step { StepByPath P.R.bit_width (stored_state self.old) (RemoveKeepTree (P.path prefix.now)) (set_remove_reply result) (stored_state self.new) }
+        ensures step { StepByPath P.R.bit_width (stored_state self.old)
+            (RemoveKeepTree (P.path prefix.now)) (set_remove_reply result) (stored_state self.new) }
     {
         self.map.remove_keep_tree(prefix).is_some()
     }
@@ -87,10 +90,12 @@ impl<P: Prefix, A: Allocator> PrefixSet<P, A> {
     pub fn drop_children(&mut self, prefix: &P)
         requires { P.IsFitting prefix.now }
         ensures entries { self.new.entries ≡ without_below self.old.entries (P.path prefix.now) }
-        ensures nodes { self.new.nodes ≡ nodes_without_below self.old.nodes self.old.entries (P.path prefix.now) }
+        ensures nodes { self.new.nodes
+            ≡ nodes_without_below self.old.nodes self.old.entries (P.path prefix.now) }
 
         // It is a step of the model and its storage. No slots are removed, except at length 0.
-        ensures step { StepByPath P.R.bit_width (stored_state self.old) (RemoveChildren (P.path prefix.now)) Done (stored_state self.new) }
+        ensures step { StepByPath P.R.bit_width (stored_state self.old)
+            (RemoveChildren (P.path prefix.now)) Done (stored_state self.new) }
     {
         self.map.drop_children(prefix);
     }
@@ -110,7 +115,8 @@ impl<P: Prefix, A: Allocator> PrefixSet<P, A> {
         ensures nodes { self.new.nodes ≡ root_alone }
 
         // It is a step of the model and its storage: the root has its slot, and no block is left.
-        ensures step { StepByPath P.R.bit_width (stored_state self.old) Clear Done (stored_state self.new) }
+        ensures step { StepByPath P.R.bit_width (stored_state self.old) Clear Done
+            (stored_state self.new) }
     {
         self.map.clear();
     }
@@ -131,13 +137,16 @@ impl<P: Prefix, A: Allocator> PrefixSet<P, A> {
     /// set.iter();     // [10.0.0.0/8, 10.1.0.0/16]
     /// ```
     pub fn retain<F: FnMut(&P) -> bool>(&mut self, mut test: F)
-        requires { CallableOnEachEntry (CalledAtKey F.FnMut P.back) (TakesKey F.FnMut P.back) test (listing self.old.entries) }
+        requires { CallableOnEachEntry (CalledAtKey F.FnMut P.back) (TakesKey F.FnMut P.back) test
+            (listing self.old.entries) }
         ensures whole { IsWhole P.R.bit_width self.old }
-        ensures kept { RetainsEntries (CalledAtKey F.FnMut P.back) test (listing self.old.entries) (listing self.new.entries) }
+        ensures kept { RetainsEntries (CalledAtKey F.FnMut P.back) test (listing self.old.entries)
+            (listing self.new.entries) }
         ensures nodes { self.new.nodes ≡ needed self.new.entries }
 
         // It is a step of the model and its storage, on a map of units.
-        ensures step { RetainsInStorage (CalledAtKey F.FnMut P.back) test (stored_state self.old) (stored_state self.new) }
+        ensures step { RetainsInStorage (CalledAtKey F.FnMut P.back) test (stored_state self.old)
+            (stored_state self.new) }
     {
         self.map.retain(
             move |prefix: &P, _value: &()|

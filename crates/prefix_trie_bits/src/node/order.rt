@@ -12,7 +12,8 @@ use crate::node::Place;
 #[inline]
 pub fn from_value(bit: u32) -> (u32, u32)
     requires { bit < 31 }
-    ensures { (t : List Bool) → length t ≤ 4 → value_bit t ≡ bit → HoldsPlaces result.0 result.1 (λ s. not (is_before s t)) }
+    ensures { (t : List Bool) → length t ≤ 4 → value_bit t ≡ bit
+        → HoldsPlaces result.0 result.1 (λ s. not (is_before s t)) }
 {
     FROM_VALUE[bit as usize]
 }
@@ -23,7 +24,8 @@ pub fn from_value(bit: u32) -> (u32, u32)
 #[inline]
 pub fn after_child(bit: u32) -> (u32, u32)
     requires { bit < 32 }
-    ensures { (t : List Bool) → length t ≡ 5 → number t ≡ bit → HoldsPlaces result.0 result.1 (is_before t) }
+    ensures { (t : List Bool) → length t ≡ 5 → number t ≡ bit
+        → HoldsPlaces result.0 result.1 (is_before t) }
 {
     AFTER_CHILD[bit as usize]
 }
@@ -52,7 +54,8 @@ pub(super) fn position_of(heap: u32) -> u32
 #[inline]
 pub(super) fn not_below(bit: u32) -> u64
     requires { bit < 31 }
-    ensures { (t : List Bool) → length t ≤ 4 → value_bit t ≡ bit → HoldsPositions result (λ s. not (begins t s)) }
+    ensures { (t : List Bool) → length t ≤ 4 → value_bit t ≡ bit
+        → HoldsPositions result (λ s. not (begins t s)) }
 {
     NOT_BELOW[bit as usize]
 }

@@ -3,7 +3,8 @@ ghost use Rattle.std.specs.Prelude.{◌≡◌, ◌≢◌, ℕ, ◌≤◌, MatchO
 
 // Returns the number that the text writes in plain decimal, if it is at most `most`.
 pub(super) fn read_decimal(text: &str, most: u64) -> Option<u64>
-    ensures { MatchOption result ((n : ℕ) → n ≤ most → text.now ≢ decimal n) (λ n. (n ≤ most) × (text.now ≡ decimal n)) }
+    ensures { MatchOption result ((n : ℕ) → n ≤ most → text.now ≢ decimal n)
+        (λ n. (n ≤ most) × (text.now ≡ decimal n)) }
 {
     let Some(first) = text.as_bytes().first() else {
         return None;

@@ -58,7 +58,8 @@ impl<const W: u32> Narrow<W> {
     /// ```
     #[inline]
     pub fn new(value: u64) -> Option<Self>
-        ensures { MatchOption result (2 ^ narrow_width W ≤ value) (λ key. (key ≡ value) × (value < 2 ^ narrow_width W)) }
+        ensures { MatchOption result (2 ^ narrow_width W ≤ value)
+            (λ key. (key ≡ value) × (value < 2 ^ narrow_width W)) }
     {
         if value < 1 << Self::width() {
             Some(Narrow { value })

@@ -102,7 +102,8 @@ impl Ipv4Prefix {
     #[inline]
     pub fn parent(&self) -> Option<Self>
         ensures { MatchOption result (self.now.1 ≡ 0)
-            (λ p. (0 < self.now.1) × (p ≡ network_back 32 (take (self.now.1 - 1) (network_path 32 self.now)))) }
+            (λ p. (0 < self.now.1)
+            × (p ≡ network_back 32 (take (self.now.1 - 1) (network_path 32 self.now)))) }
     {
         if self.len == 0 {
             return None;
@@ -254,7 +255,8 @@ impl Ipv6Prefix {
     #[inline]
     pub fn parent(&self) -> Option<Self>
         ensures { MatchOption result (self.now.1 ≡ 0)
-            (λ p. (0 < self.now.1) × (p ≡ network_back 128 (take (self.now.1 - 1) (network_path 128 self.now)))) }
+            (λ p. (0 < self.now.1)
+            × (p ≡ network_back 128 (take (self.now.1 - 1) (network_path 128 self.now)))) }
     {
         if self.len == 0 {
             return None;

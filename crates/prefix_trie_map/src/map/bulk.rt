@@ -34,7 +34,8 @@ impl<P: Prefix, T: Drop, A: Allocator> PrefixMap<P, T, A> {
         requires fit { All P.IsFitting prefixes.now }
         requires same_length { length out.old ≡ length prefixes.now }
         ensures { map (option_map lent_item) out.new
-            ≡ map (λ p. prefix_pair P.back (longest_match self.now.entries (P.path p))) prefixes.now }
+            ≡ map (λ p. prefix_pair P.back (longest_match self.now.entries (P.path p)))
+            prefixes.now }
     {
         self.get_lpm_bulk_counted(prefixes, out);
     }
@@ -50,7 +51,8 @@ impl<P: Prefix, T: Drop, A: Allocator> PrefixMap<P, T, A> {
         requires fit { All P.IsFitting prefixes.now }
         requires same_length { length out.old ≡ length prefixes.now }
         ensures values { map (option_map lent_item) out.new
-            ≡ map (λ p. prefix_pair P.back (longest_match self.now.entries (P.path p))) prefixes.now }
+            ≡ map (λ p. prefix_pair P.back (longest_match self.now.entries (P.path p)))
+            prefixes.now }
         ensures reads { result ≡ visits_of_all P.path self.now.nodes prefixes.now }
     {
         let mut visits = Visits::new();
@@ -77,7 +79,8 @@ impl<P: Prefix, T: Drop, A: Allocator> PrefixMap<P, T, A> {
         requires fit { All P.IsFitting prefixes.now }
         requires same_length { length out.old ≡ length prefixes.now }
         ensures { map option_copied out.new
-            ≡ map (λ p. option_map (λ found. found.1) (longest_match self.now.entries (P.path p))) prefixes.now }
+            ≡ map (λ p. option_map (λ found. found.1) (longest_match self.now.entries (P.path p)))
+            prefixes.now }
     {
         self.get_lpm_value_bulk_counted(prefixes, out);
     }
@@ -93,7 +96,8 @@ impl<P: Prefix, T: Drop, A: Allocator> PrefixMap<P, T, A> {
         requires fit { All P.IsFitting prefixes.now }
         requires same_length { length out.old ≡ length prefixes.now }
         ensures values { map option_copied out.new
-            ≡ map (λ p. option_map (λ found. found.1) (longest_match self.now.entries (P.path p))) prefixes.now }
+            ≡ map (λ p. option_map (λ found. found.1) (longest_match self.now.entries (P.path p)))
+            prefixes.now }
         ensures reads { result ≡ visits_of_all P.path self.now.nodes prefixes.now }
     {
         let mut visits = Visits::new();
@@ -115,7 +119,8 @@ trait BulkResult<'a, P: Prefix, T>: Drop + Sized {
     fn of_match(key: P::R, found: Option<(u32, &'a T)>) -> Self
         requires key { P.R.IsKey key }
         requires within { IfSome found (λ f. f.0 ≤ P.R.bit_width) }
-        ensures { shows result ≡ right (option_map (λ f. (take f.0 (P.R.bits key), f.1.now)) found.entry) };
+        ensures { shows result
+            ≡ right (option_map (λ f. (take f.0 (P.R.bits key), f.1.now)) found.entry) };
 }
 
 /// The prefix of the match, and its value.
@@ -159,7 +164,8 @@ fn match_all<'a, P: Prefix, T: Drop, A: Allocator, X: BulkResult<'a, P, T>>(
 )
     requires fit { All P.IsFitting prefixes.now }
     requires same_length { length out.old ≡ length prefixes.now }
-    ensures results { map X.shows out.new ≡ map (right_for X.right P.path table.now.entries) prefixes.now }
+    ensures results { map X.shows out.new
+        ≡ map (right_for X.right P.path table.now.entries) prefixes.now }
     ensures visits { visits.new ≡ visits.old + visits_of_all P.path table.now.nodes prefixes.now }
 {
     if table.node_slots() <= FEW_NODES {
@@ -178,7 +184,8 @@ fn match_one_by_one<'a, P: Prefix, T: Drop, A: Allocator, X: BulkResult<'a, P, T
 )
     requires fit { All P.IsFitting prefixes.now }
     requires same_length { length out.old ≡ length prefixes.now }
-    ensures results { map X.shows out.new ≡ map (right_for X.right P.path table.now.entries) prefixes.now }
+    ensures results { map X.shows out.new
+        ≡ map (right_for X.right P.path table.now.entries) prefixes.now }
     ensures visits { visits.new ≡ visits.old + visits_of_all P.path table.now.nodes prefixes.now }
 {
     for i in 0..prefixes.len() {
@@ -196,7 +203,8 @@ fn match_in_groups<'a, P: Prefix, T: Drop, A: Allocator, X: BulkResult<'a, P, T>
 )
     requires fit { All P.IsFitting prefixes.now }
     requires same_length { length out.old ≡ length prefixes.now }
-    ensures results { map X.shows out.new ≡ map (right_for X.right P.path table.now.entries) prefixes.now }
+    ensures results { map X.shows out.new
+        ≡ map (right_for X.right P.path table.now.entries) prefixes.now }
     ensures visits { visits.new ≡ visits.old + visits_of_all P.path table.now.nodes prefixes.now }
 {
     let mut from = 0;
@@ -218,7 +226,8 @@ fn find_group<P: Prefix, T: Drop, A: Allocator>(
     requires space { length found.old ≡ 32 }
     ensures group { (0 < result) × (result ≤ 32) × (from + result ≤ length prefixes.now) }
     ensures found { AreFound P.path table.now.build prefixes.now from result found.new }
-    ensures visits { ReadsMore P.path table.now.nodes prefixes.now from (from + result) visits.old visits.new }
+    ensures visits { ReadsMore P.path table.now.nodes prefixes.now from
+        (from + result) visits.old visits.new }
     ensures length { length found.new ≡ 32 }
 {
     let count = (prefixes.len() - from).min(GROUP);
@@ -238,9 +247,12 @@ fn match_group<'a, P: Prefix, T: Drop, A: Allocator, X: BulkResult<'a, P, T>>(
     requires same_length { length out.old ≡ length prefixes.now }
     requires some { from < length prefixes.now }
     ensures group { (0 < result) × (from + result ≤ length prefixes.now) }
-    ensures results { HaveMatches X.shows (right_for X.right P.path table.now.entries) prefixes.now out.old from
-        → HaveMatches X.shows (right_for X.right P.path table.now.entries) prefixes.now out.new (from + result) }
-    ensures visits { ReadsMore P.path table.now.nodes prefixes.now from (from + result) visits.old visits.new }
+    ensures results { HaveMatches X.shows
+        (right_for X.right P.path table.now.entries) prefixes.now out.old from
+        → HaveMatches X.shows (right_for X.right P.path table.now.entries) prefixes.now out.new
+        (from + result) }
+    ensures visits { ReadsMore P.path table.now.nodes prefixes.now from
+        (from + result) visits.old visits.new }
     ensures length { length out.new ≡ length out.old }
 {
     let mut found = [None; GROUP];

@@ -32,7 +32,8 @@ impl<P: Prefix, T: Clone, A: Allocator + Clone> PrefixMap<P, T, A> {
         ensures layout { IfOk result (λ copy. copy.layout ≡ self.now.layout) }
 
         // If a clone of a value equals it, contracts see the same map.
-        ensures same { IfOk result (λ copy. ((x y : T) → T.is_clone x y → y ≡ x) → copy ≡ self.now) }
+        ensures same { IfOk result
+            (λ copy. ((x y : T) → T.is_clone x y → y ≡ x) → copy ≡ self.now) }
     {
         let table = self.table.clone()?;
         Ok(PrefixMap {

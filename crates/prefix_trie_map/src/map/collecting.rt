@@ -35,14 +35,22 @@ impl<P: Prefix, T: Drop, A: Allocator + Clone> PrefixMap<P, T, A> {
         alloc: A,
         items: I,
     ) -> Result<Self, Refusal>
-        requires ends { (it : I.IntoIter) → I.into_iter_gives items it → I.IntoIter.can_next it × IsFinite (I.IntoIter.remaining it) }
-        requires fit { (it : I.IntoIter) → I.into_iter_gives items it → HoldsAlong I.IntoIter.next_gives it (All (λ item. P.IsFitting item.0)) }
-        ensures entries { IfOk result (λ map. (it : I.IntoIter) × (xs : List (P × T)) × I.into_iter_gives items it × Drains I.IntoIter.next_gives it xs × (map.entries ≡ put_all P.path xs no_entries)) }
+        requires ends { (it : I.IntoIter) → I.into_iter_gives items it
+            → I.IntoIter.can_next it × IsFinite (I.IntoIter.remaining it) }
+        requires fit { (it : I.IntoIter) → I.into_iter_gives items it
+            → HoldsAlong I.IntoIter.next_gives it (All (λ item. P.IsFitting item.0)) }
+        ensures entries { IfOk result
+            (λ map. (it : I.IntoIter) × (xs : List (P × T)) × I.into_iter_gives items it
+            × Drains I.IntoIter.next_gives it xs × (map.entries ≡ put_all P.path xs no_entries)) }
         ensures tidy { IfOk result (λ map. IsTidy map.entries map.nodes) }
         ensures limit { IfOk result (λ map. map.space.limit ≡ 2 ^ 32 - 1) }
 
         // `IndexRange` comes only if 56 slots for each item taken would exceed the limit.
-        ensures range { IfErr result (λ cause. cause ≡ IndexRange → (it : I.IntoIter) × (xs : List (P × T)) × (rest : I.IntoIter) × I.into_iter_gives items it × Yields I.IntoIter.next_gives it xs rest × (2 ^ 32 - 1 < 1 + 56 * length xs)) }
+        ensures range { IfErr result
+            (λ cause. cause ≡ IndexRange
+            → (it : I.IntoIter) × (xs : List (P × T)) × (rest : I.IntoIter)
+            × I.into_iter_gives items it × Yields I.IntoIter.next_gives it xs rest
+            × (2 ^ 32 - 1 < 1 + 56 * length xs)) }
     {
         let mut map = Self::new(alloc)?;
         fill(&mut map, items)?;
@@ -55,14 +63,26 @@ fn fill<P: Prefix, T: Drop, A: Allocator, I: IntoIterator<Item = (P, T)> + Drop>
     map: &mut PrefixMap<P, T, A>,
     items: I,
 ) -> Result<(), Refusal>
-    requires ends { (it : I.IntoIter) → I.into_iter_gives items it → I.IntoIter.can_next it × IsFinite (I.IntoIter.remaining it) }
-    requires fit { (it : I.IntoIter) → I.into_iter_gives items it → HoldsAlong I.IntoIter.next_gives it (All (λ item. P.IsFitting item.0)) }
-    ensures ok { OnOk result ((it : I.IntoIter) × (xs : List (P × T)) × I.into_iter_gives items it × Drains I.IntoIter.next_gives it xs × Puts P.path map.old xs map.new) }
-    ensures range { IfErr result (λ cause. cause ≡ IndexRange → (it : I.IntoIter) × (xs : List (P × T)) × (rest : I.IntoIter) × I.into_iter_gives items it × Yields I.IntoIter.next_gives it xs rest × ManyMayPassLimit map.old.space (length xs)) }
+    requires ends { (it : I.IntoIter) → I.into_iter_gives items it
+        → I.IntoIter.can_next it × IsFinite (I.IntoIter.remaining it) }
+    requires fit { (it : I.IntoIter) → I.into_iter_gives items it
+        → HoldsAlong I.IntoIter.next_gives it (All (λ item. P.IsFitting item.0)) }
+    ensures ok { OnOk result
+        ((it : I.IntoIter) × (xs : List (P × T)) × I.into_iter_gives items it
+        × Drains I.IntoIter.next_gives it xs × Puts P.path map.old xs map.new) }
+    ensures range { IfErr result
+        (λ cause. cause ≡ IndexRange
+        → (it : I.IntoIter) × (xs : List (P × T)) × (rest : I.IntoIter) × I.into_iter_gives items it
+        × Yields I.IntoIter.next_gives it xs rest × ManyMayPassLimit map.old.space (length xs)) }
 
     // `Memory` comes only if a block that the last item taken needs is still missing and would fit the limit.
-    ensures memory { IfErr result (λ cause. cause ≡ Memory → (it : I.IntoIter) × (xs : List (P × T)) × (last : P × T) × (rest : I.IntoIter) × I.into_iter_gives items it
-        × Yields I.IntoIter.next_gives it (xs ++ last ∷ []) rest × MissingFitsLimit map.new.entries map.new.nodes map.new.space map.new.layout (P.path last.0)) }
+    ensures memory { IfErr result
+        (λ cause. cause ≡ Memory
+        → (it : I.IntoIter) × (xs : List (P × T)) × (last : P × T) × (rest : I.IntoIter)
+        × I.into_iter_gives items it
+        × Yields I.IntoIter.next_gives it (xs ++ last ∷ []) rest
+        × MissingFitsLimit map.new.entries map.new.nodes map.new.space map.new.layout
+        (P.path last.0)) }
 {
     for (prefix, value) in items {
         put(map, prefix, value)?;
@@ -79,7 +99,10 @@ fn put<P: Prefix, T: Drop, A: Allocator>(
     requires { P.IsFitting prefix }
     ensures ok { OnOk result (Puts P.path map.old ((prefix, value) ∷ []) map.new) }
     ensures range { IfErr result (λ cause. cause ≡ IndexRange → MayPassLimit map.old.space) }
-    ensures memory { IfErr result (λ cause. cause ≡ Memory → MissingFitsLimit map.new.entries map.new.nodes map.new.space map.new.layout (P.path prefix)) }
+    ensures memory { IfErr result
+        (λ cause. cause ≡ Memory
+        → MissingFitsLimit map.new.entries map.new.nodes map.new.space map.new.layout
+        (P.path prefix)) }
 {
     map.known_valid();
     map.insert(prefix, value)?;

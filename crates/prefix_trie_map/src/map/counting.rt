@@ -51,7 +51,8 @@ impl<P: Prefix, T: Drop, A: Allocator> PrefixMap<P, T, A> {
     #[inline]
     pub fn address_count(&self) -> Option<P::R>
         ensures key { IfSome result (λ r. P.R.IsKey r) }
-        ensures count { option_map (λ r. number (P.R.bits r)) result ≡ address_total P.R.bit_width self.now.entries }
+        ensures count { option_map (λ r. number (P.R.bits r)) result
+            ≡ address_total P.R.bit_width self.now.entries }
         ensures whole { IsWhole P.R.bit_width self.now }
     {
         self.known_valid();

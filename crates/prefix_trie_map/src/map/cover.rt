@@ -54,7 +54,8 @@ impl<P: Prefix, T: Drop, A: Allocator> PrefixMap<P, T, A> {
     #[inline]
     pub fn cover_keys(&self, prefix: &P) -> CoverKeys<'_, P, T, A>
         requires { P.IsFitting prefix.now }
-        ensures items { result ≡ map (λ e. P.back e.0) (covers self.now.entries (P.path prefix.now)) }
+        ensures items { result
+            ≡ map (λ e. P.back e.0) (covers self.now.entries (P.path prefix.now)) }
         ensures counted { length result ≡ length (covers self.now.entries (P.path prefix.now)) }
         ensures fits { length (covers self.now.entries (P.path prefix.now)) ≤ 129 }
         ensures runs { GivesInOrder P }

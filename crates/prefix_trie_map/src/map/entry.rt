@@ -131,8 +131,10 @@ impl<P: Prefix, T: Drop, A: Allocator> PrefixMap<P, T, A> {
         ensures same_map { (entry_map_ref result).ghost_name ≡ self.entry.ghost_name }
         ensures unchanged { entry_map result ≡ self.old }
         ensures path { entry_path result ≡ P.path prefix }
-        ensures occupied { MatchEntry result (contains_key self.old.entries (P.path prefix) ≡ true) (contains_key self.old.entries (P.path prefix) ≡ false) }
-        ensures key { MatchEntry result (entry_key result ≡ P.back (P.path prefix)) (entry_key result ≡ prefix) }
+        ensures occupied { MatchEntry result (contains_key self.old.entries (P.path prefix) ≡ true)
+            (contains_key self.old.entries (P.path prefix) ≡ false) }
+        ensures key { MatchEntry result (entry_key result ≡ P.back (P.path prefix))
+            (entry_key result ≡ prefix) }
     {
         let key = Fitting::new(prefix);
         match self.locate(key.prefix()) {
@@ -228,9 +230,11 @@ impl<'a, P: Prefix, T: Drop, A: Allocator> Entry<'a, P, T, A> {
     #[inline]
     pub fn and_modify<F: FnOnce(&mut T) + Drop>(self, f: F) -> Self
         requires { (x : MutBor T) → entry_value self ≡ Some x.now → F.pre f x }
-        ensures same_map { (entry_map_ref result).ghost_name ≡ (entry_map_ref self.entry).ghost_name }
+        ensures same_map { (entry_map_ref result).ghost_name
+            ≡ (entry_map_ref self.entry).ghost_name }
         ensures key { entry_key result ≡ entry_key self.entry }
-        ensures same_variant { MatchEntry self.entry (MatchEntry result ⊤ ⊥) (MatchEntry result ⊥ ⊤) }
+        ensures same_variant { MatchEntry self.entry (MatchEntry result ⊤ ⊥)
+            (MatchEntry result ⊥ ⊤) }
         ensures update { ModifiesEntry F.FnOnce f self.entry (entry_map result) }
     {
         match self {
@@ -258,7 +262,9 @@ impl<'a, P: Prefix, T: Drop, A: Allocator> Entry<'a, P, T, A> {
     /// ```
     #[inline]
     pub fn or_insert(self, value: T) -> Result<&'a mut T, Refused<T>>
-        ensures* writes_back { sem 𝓛 (lends_filled P.row T.row A.row P.R.row P.Debug P.R.PartialEq P.R.Debug A.Allocator (λ refused. refused.cause) self.entry result) }
+        ensures* writes_back { sem 𝓛
+            (lends_filled P.row T.row A.row P.R.row P.Debug P.R.PartialEq P.R.Debug A.Allocator
+            (λ refused. refused.cause) self.entry result) }
         ensures value { IfOk result (λ x. x.now ≡ unwrap_or (entry_value self.entry) value) }
         ensures absent { OnErr result (entry_value self.entry ≡ None) }
         ensures returned { IfErr result (λ refused. refused.value ≡ value) }
@@ -289,7 +295,9 @@ impl<'a, P: Prefix, T: Drop, A: Allocator> Entry<'a, P, T, A> {
     #[inline]
     pub fn or_insert_with<F: FnOnce() -> T + Drop>(self, f: F) -> Result<&'a mut T, Refusal>
         requires { entry_value self ≡ None → F.pre f }
-        ensures* writes_back { sem 𝓛 (lends_filled P.row T.row A.row P.R.row P.Debug P.R.PartialEq P.R.Debug A.Allocator (λ cause. cause) self.entry result) }
+        ensures* writes_back { sem 𝓛
+            (lends_filled P.row T.row A.row P.R.row P.Debug P.R.PartialEq P.R.Debug A.Allocator
+            (λ cause. cause) self.entry result) }
         ensures value { IfOk result (λ x. UnwrapsOrElse (entry_value self.entry) (F.post f) x.now) }
         ensures absent { OnErr result (entry_value self.entry ≡ None) }
     {
@@ -318,8 +326,11 @@ impl<'a, P: Prefix, T: Drop, A: Allocator> Entry<'a, P, T, A> {
     pub fn or_default(self) -> Result<&'a mut T, Refusal>
     where
         T: Default,
-        ensures* writes_back { sem 𝓛 (lends_filled P.row T.row A.row P.R.row P.Debug P.R.PartialEq P.R.Debug A.Allocator (λ cause. cause) self.entry result) }
-        ensures value { IfOk result (λ x. UnwrapsOrElse (entry_value self.entry) T.is_default x.now) }
+        ensures* writes_back { sem 𝓛
+            (lends_filled P.row T.row A.row P.R.row P.Debug P.R.PartialEq P.R.Debug A.Allocator
+            (λ cause. cause) self.entry result) }
+        ensures value { IfOk result
+            (λ x. UnwrapsOrElse (entry_value self.entry) T.is_default x.now) }
         ensures absent { OnErr result (entry_value self.entry ≡ None) }
     {
         match self {

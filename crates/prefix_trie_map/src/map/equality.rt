@@ -23,9 +23,14 @@ use std::alloc::Allocator;
 /// left == right;                              // false
 /// ```
 impl<P: Prefix + PartialEq, T: PartialEq + Drop, A: Allocator> PartialEq for PrefixMap<P, T, A> {
-    ghost eq = { λ a b. pointwise (λ x y. P.PartialEq.eq x.0 y.0 && T.PartialEq.eq x.1 y.1) (prefix_pairs P.back (listing a.entries)) (prefix_pairs P.back (listing b.entries)) };
+    ghost eq = { λ a b. pointwise
+        (λ x y. P.PartialEq.eq x.0 y.0 && T.PartialEq.eq x.1 y.1)
+        (prefix_pairs P.back (listing a.entries)) (prefix_pairs P.back (listing b.entries)) };
 
-    ghost laws = { on_per (λ m. prefix_pairs P.back (listing m.entries)) (lists_per (and_per (on_per (λ e. e.0) P.PartialEq.laws) (on_per (λ e. e.1) T.PartialEq.laws))) };
+    ghost laws = { on_per
+        (λ m. prefix_pairs P.back (listing m.entries))
+        (lists_per (and_per (on_per (λ e. e.0) P.PartialEq.laws)
+        (on_per (λ e. e.1) T.PartialEq.laws))) };
 
     fn eq(&self, other: &Self) -> bool {
         self.iter().eq(other.iter())
@@ -33,5 +38,7 @@ impl<P: Prefix + PartialEq, T: PartialEq + Drop, A: Allocator> PartialEq for Pre
 }
 
 impl<P: Prefix + Eq, T: Eq + Drop, A: Allocator> Eq for PrefixMap<P, T, A> {
-    ghost laws = { on_equiv (λ m. prefix_pairs P.back (listing m.entries)) (lists_equiv (and_equiv (on_equiv (λ e. e.0) P.Eq.laws) (on_equiv (λ e. e.1) T.Eq.laws))) };
+    ghost laws = { on_equiv
+        (λ m. prefix_pairs P.back (listing m.entries))
+        (lists_equiv (and_equiv (on_equiv (λ e. e.0) P.Eq.laws) (on_equiv (λ e. e.1) T.Eq.laws))) };
 }

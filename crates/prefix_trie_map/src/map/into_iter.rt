@@ -33,7 +33,8 @@ impl<P: Prefix, T: Drop, A: Allocator> PrefixMap<P, T, A> {
     #[inline]
     pub fn into_children(self, prefix: &P) -> IntoIter<P, T, A>
         requires { P.IsFitting prefix.now }
-        ensures items { result ≡ prefix_pairs P.back (listing_below self.entries (P.path prefix.now)) }
+        ensures items { result
+            ≡ prefix_pairs P.back (listing_below self.entries (P.path prefix.now)) }
         ensures fits { length result < 2 ^ 64 }
         ensures runs { GivesInOrder (P × T) }
         ensures whole { IsWhole P.R.bit_width self }
@@ -91,7 +92,9 @@ impl<P: Prefix, T: Drop, A: Allocator> IntoIterator for PrefixMap<P, T, A> {
 
     type IntoIter = IntoIter<P, T, A>;
 
-    ghost into_iter_gives = { λ s it. (it ≡ prefix_pairs P.back (listing s.entries)) × (length it ≡ len s.entries) × (len s.entries < 2 ^ 64) × GivesInOrder (P × T) × IsWhole P.R.bit_width s };
+    ghost into_iter_gives = { λ s it. (it ≡ prefix_pairs P.back (listing s.entries))
+        × (length it ≡ len s.entries) × (len s.entries < 2 ^ 64) × GivesInOrder (P × T)
+        × IsWhole P.R.bit_width s };
 
     #[inline]
     fn into_iter(self) -> IntoIter<P, T, A> {
@@ -161,7 +164,8 @@ impl<P: Prefix, T: Clone, A: Allocator + Clone> IntoIter<P, T, A> {
         ensures items { IfOk result (λ copy. AllZip (IsPairCloned T.is_clone) self.now copy) }
 
         // If a clone of a value equals it, the same items are to come.
-        ensures same { IfOk result (λ copy. ((x y : T) → T.is_clone x y → y ≡ x) → copy ≡ self.now) }
+        ensures same { IfOk result
+            (λ copy. ((x y : T) → T.is_clone x y → y ≡ x) → copy ≡ self.now) }
     {
         let walk = self.walk.clone()?;
         Ok(IntoIter {
@@ -254,7 +258,8 @@ impl<P: Prefix, T: Clone, A: Allocator + Clone> IntoValues<P, T, A> {
         ensures items { IfOk result (λ copy. AllZip T.is_clone self.now copy) }
 
         // If a clone of a value equals it, the same values are to come.
-        ensures same { IfOk result (λ copy. ((x y : T) → T.is_clone x y → y ≡ x) → copy ≡ self.now) }
+        ensures same { IfOk result
+            (λ copy. ((x y : T) → T.is_clone x y → y ≡ x) → copy ≡ self.now) }
     {
         let inner = self.inner.clone()?;
         Ok(IntoValues { inner })

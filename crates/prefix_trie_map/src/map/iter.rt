@@ -88,7 +88,9 @@ impl<'a, P: Prefix, T: Drop, A: Allocator> IntoIterator for &'a PrefixMap<P, T, 
 
     type IntoIter = Iter<'a, P, T, A>;
 
-    ghost into_iter_gives = { λ s it. (it ≡ prefix_pairs P.back (listing s.now.entries)) × (length it ≡ len s.now.entries) × (len s.now.entries < 2 ^ 64) × ShowsInOrder (lent_item {P = P} {T = T}) × IsWhole P.R.bit_width s.now };
+    ghost into_iter_gives = { λ s it. (it ≡ prefix_pairs P.back (listing s.now.entries))
+        × (length it ≡ len s.now.entries) × (len s.now.entries < 2 ^ 64)
+        × ShowsInOrder (lent_item {P = P} {T = T}) × IsWhole P.R.bit_width s.now };
 
     #[inline]
     fn into_iter(self) -> Iter<'a, P, T, A> {

@@ -58,7 +58,8 @@ impl<P: Prefix, T: Drop, A: Allocator> PrefixMap<P, T, A> {
     #[inline]
     pub fn children(&self, prefix: &P) -> Iter<'_, P, T, A>
         requires { P.IsFitting prefix.now }
-        ensures items { result ≡ prefix_pairs P.back (listing_below self.now.entries (P.path prefix.now)) }
+        ensures items { result
+            ≡ prefix_pairs P.back (listing_below self.now.entries (P.path prefix.now)) }
         ensures fits { length result < 2 ^ 64 }
         ensures runs { ShowsInOrder (lent_item {P = P} {T = T}) }
         ensures whole { IsWhole P.R.bit_width self.now }

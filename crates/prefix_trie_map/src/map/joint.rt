@@ -37,8 +37,10 @@ impl<P: Prefix, T: Drop, A: Allocator> PrefixMap<P, T, A> {
         other: &PrefixMap<P, U, B>,
         combination: Combination,
     ) -> JointCursor<P::R>
-        ensures is_there { IsJointCursorIn P.R.bits P.R.bit_width self.now.build other.now.build combination result }
-        ensures items { (both : Entries X) → IsCombination combination self.now.entries other.now.entries both
+        ensures is_there { IsJointCursorIn P.R.bits P.R.bit_width self.now.build other.now.build
+            combination result }
+        ensures items { (both : Entries X)
+            → IsCombination combination self.now.entries other.now.entries both
             → combined_to_come P.R.bits both result ≡ listing both }
     {
         self.table
@@ -55,11 +57,17 @@ impl<P: Prefix, T: Drop, A: Allocator> PrefixMap<P, T, A> {
         combination: Combination,
         cursor: &mut JointCursor<P::R>,
     ) -> Option<(P, Option<&'a T>, Option<&'a U>)>
-        requires { IsJointCursorIn P.R.bits P.R.bit_width self.now.build other.now.build combination cursor.old }
-        ensures is_there { IsJointCursorIn P.R.bits P.R.bit_width self.now.build other.now.build combination cursor.new }
-        ensures item { (both : Entries X) → IsCombination combination self.now.entries other.now.entries both → MatchOption result
-            ((combined_to_come P.R.bits both cursor.old ≡ []) × (combined_to_come P.R.bits both cursor.new ≡ []))
-            (λ r. GivesItem P.back self.now.entries other.now.entries both r (combined_to_come P.R.bits both cursor.old) (combined_to_come P.R.bits both cursor.new)) }
+        requires { IsJointCursorIn P.R.bits P.R.bit_width self.now.build other.now.build combination
+            cursor.old }
+        ensures is_there { IsJointCursorIn P.R.bits P.R.bit_width self.now.build other.now.build
+            combination cursor.new }
+        ensures item { (both : Entries X)
+            → IsCombination combination self.now.entries other.now.entries both → MatchOption result
+            ((combined_to_come P.R.bits both cursor.old ≡ [])
+            × (combined_to_come P.R.bits both cursor.new ≡ []))
+            (λ r. GivesItem P.back self.now.entries other.now.entries both r
+            (combined_to_come P.R.bits both cursor.old)
+            (combined_to_come P.R.bits both cursor.new)) }
     {
         let step = self
             .table

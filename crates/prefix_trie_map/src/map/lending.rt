@@ -29,7 +29,9 @@ impl<P: Prefix, T: Drop, A: Allocator> PrefixMap<P, T, A> {
     #[inline]
     pub fn get_mut(&mut self, prefix: &P) -> Option<&mut T>
         requires { P.IsFitting prefix.now }
-        ensures* writes_back { sem 𝓛 (lends_entry_if P.row T.row A.row P.R.row P.Prefix.own P.Debug P.R.Key.own P.R.PartialEq P.R.Debug A.Allocator self.entry (P.path prefix.now) result) }
+        ensures* writes_back { sem 𝓛
+            (lends_entry_if P.row T.row A.row P.R.row P.Prefix.own P.Debug P.R.Key.own P.R.PartialEq
+            P.R.Debug A.Allocator self.entry (P.path prefix.now) result) }
         ensures value { option_copied_mut result ≡ get self.old.entries (P.path prefix.now) }
     {
         self.lend_entry(prefix, &mut Visits::new())
@@ -42,7 +44,9 @@ impl<P: Prefix, T: Drop, A: Allocator> PrefixMap<P, T, A> {
     #[inline]
     pub fn get_mut_counted(&mut self, prefix: &P) -> (Option<&mut T>, Visits)
         requires { P.IsFitting prefix.now }
-        ensures* writes_back { sem 𝓛 (lends_entry_if P.row T.row A.row P.R.row P.Prefix.own P.Debug P.R.Key.own P.R.PartialEq P.R.Debug A.Allocator self.entry (P.path prefix.now) result.0) }
+        ensures* writes_back { sem 𝓛
+            (lends_entry_if P.row T.row A.row P.R.row P.Prefix.own P.Debug P.R.Key.own P.R.PartialEq
+            P.R.Debug A.Allocator self.entry (P.path prefix.now) result.0) }
         ensures value { option_copied_mut result.0 ≡ get self.old.entries (P.path prefix.now) }
         ensures reads { ReadsPath self.old.nodes (P.path prefix.now) result.1 }
     {
@@ -55,7 +59,9 @@ impl<P: Prefix, T: Drop, A: Allocator> PrefixMap<P, T, A> {
     #[inline]
     fn lend_entry(&mut self, prefix: &P, counter: &mut Visits) -> Option<&mut T>
         requires { P.IsFitting prefix.now }
-        ensures* writes_back { sem 𝓛 (lends_entry_if P.row T.row A.row P.R.row P.Prefix.own P.Debug P.R.Key.own P.R.PartialEq P.R.Debug A.Allocator self.entry (P.path prefix.now) result) }
+        ensures* writes_back { sem 𝓛
+            (lends_entry_if P.row T.row A.row P.R.row P.Prefix.own P.Debug P.R.Key.own P.R.PartialEq
+            P.R.Debug A.Allocator self.entry (P.path prefix.now) result) }
         ensures value { option_copied_mut result ≡ get self.old.entries (P.path prefix.now) }
         ensures exact { counter.new ≡ counter.old + visits self.old.nodes (P.path prefix.now) }
         ensures bound { counter.new ≤ counter.old + (length (P.path prefix.now) / 5 + 1) }
@@ -78,8 +84,11 @@ impl<P: Prefix, T: Drop, A: Allocator> PrefixMap<P, T, A> {
     #[inline]
     pub fn get_lpm_value_mut(&mut self, prefix: &P) -> Option<&mut T>
         requires { P.IsFitting prefix.now }
-        ensures* writes_back { sem 𝓛 (lends_longest_if P.row T.row A.row P.R.row P.Prefix.own P.Debug P.R.Key.own P.R.PartialEq P.R.Debug A.Allocator self.entry (P.path prefix.now) result) }
-        ensures value { option_copied_mut result ≡ option_map (λ found. found.1) (longest_match self.old.entries (P.path prefix.now)) }
+        ensures* writes_back { sem 𝓛
+            (lends_longest_if P.row T.row A.row P.R.row P.Prefix.own P.Debug P.R.Key.own
+            P.R.PartialEq P.R.Debug A.Allocator self.entry (P.path prefix.now) result) }
+        ensures value { option_copied_mut result
+            ≡ option_map (λ found. found.1) (longest_match self.old.entries (P.path prefix.now)) }
     {
         self.lend_longest(prefix, &mut 0, &mut Visits::new())
     }
@@ -100,8 +109,12 @@ impl<P: Prefix, T: Drop, A: Allocator> PrefixMap<P, T, A> {
     #[inline]
     pub fn get_lpm_mut(&mut self, prefix: &P) -> Option<(P, &mut T)>
         requires { P.IsFitting prefix.now }
-        ensures* writes_back { sem 𝓛 (lends_longest_if P.row T.row A.row P.R.row P.Prefix.own P.Debug P.R.Key.own P.R.PartialEq P.R.Debug A.Allocator self.entry (P.path prefix.now) (lent_beside result)) }
-        ensures value { option_map lent_item_mut result ≡ prefix_pair P.back (longest_match self.old.entries (P.path prefix.now)) }
+        ensures* writes_back { sem 𝓛
+            (lends_longest_if P.row T.row A.row P.R.row P.Prefix.own P.Debug P.R.Key.own
+            P.R.PartialEq P.R.Debug A.Allocator self.entry (P.path prefix.now)
+            (lent_beside result)) }
+        ensures value { option_map lent_item_mut result
+            ≡ prefix_pair P.back (longest_match self.old.entries (P.path prefix.now)) }
     {
         not_counted(self.get_lpm_mut_counted(prefix))
     }
@@ -113,8 +126,12 @@ impl<P: Prefix, T: Drop, A: Allocator> PrefixMap<P, T, A> {
     #[inline]
     pub fn get_lpm_mut_counted(&mut self, prefix: &P) -> (Option<(P, &mut T)>, Visits)
         requires { P.IsFitting prefix.now }
-        ensures* writes_back { sem 𝓛 (lends_longest_if P.row T.row A.row P.R.row P.Prefix.own P.Debug P.R.Key.own P.R.PartialEq P.R.Debug A.Allocator self.entry (P.path prefix.now) (lent_beside result.0)) }
-        ensures value { option_map lent_item_mut result.0 ≡ prefix_pair P.back (longest_match self.old.entries (P.path prefix.now)) }
+        ensures* writes_back { sem 𝓛
+            (lends_longest_if P.row T.row A.row P.R.row P.Prefix.own P.Debug P.R.Key.own
+            P.R.PartialEq P.R.Debug A.Allocator self.entry (P.path prefix.now)
+            (lent_beside result.0)) }
+        ensures value { option_map lent_item_mut result.0
+            ≡ prefix_pair P.back (longest_match self.old.entries (P.path prefix.now)) }
         ensures reads { ReadsPath self.old.nodes (P.path prefix.now) result.1 }
     {
         let mut visits = Visits::new();
@@ -128,10 +145,13 @@ impl<P: Prefix, T: Drop, A: Allocator> PrefixMap<P, T, A> {
     #[inline]
     fn lend_longest(&mut self, prefix: &P, found: &mut u32, counter: &mut Visits) -> Option<&mut T>
         requires { P.IsFitting prefix.now }
-        ensures* writes_back { sem 𝓛 (lends_longest_if P.row T.row A.row P.R.row P.Prefix.own P.Debug P.R.Key.own P.R.PartialEq P.R.Debug A.Allocator self.entry (P.path prefix.now) result) }
+        ensures* writes_back { sem 𝓛
+            (lends_longest_if P.row T.row A.row P.R.row P.Prefix.own P.Debug P.R.Key.own
+            P.R.PartialEq P.R.Debug A.Allocator self.entry (P.path prefix.now) result) }
         ensures value { MatchOption result
             (longest_match self.old.entries (P.path prefix.now) ≡ None)
-            (λ value. longest_match self.old.entries (P.path prefix.now) ≡ Some (take found.new (P.path prefix.now), value.now)) }
+            (λ value. longest_match self.old.entries (P.path prefix.now)
+            ≡ Some (take found.new (P.path prefix.now), value.now)) }
         ensures within { IfSome result (λ value. found.new ≤ length (P.path prefix.now)) }
         ensures exact { counter.new ≡ counter.old + visits self.old.nodes (P.path prefix.now) }
         ensures bound { counter.new ≤ counter.old + (length (P.path prefix.now) / 5 + 1) }

@@ -45,7 +45,9 @@ impl<P: Prefix, T: Drop, A: Allocator> PrefixMap<P, T, A> {
     #[inline]
     pub(super) fn lend_at(&mut self, path: BitString<P::R>, seat: Seat) -> &mut T
         requires { seat_of self.old.build path ≡ Some seat }
-        ensures* writes_back { sem 𝓛 (lends_value P.row T.row A.row P.R.row P.Prefix.own P.Debug P.R.Key.own P.R.PartialEq P.R.Debug A.Allocator self.entry path result) }
+        ensures* writes_back { sem 𝓛
+            (lends_value P.row T.row A.row P.R.row P.Prefix.own P.Debug P.R.Key.own P.R.PartialEq
+            P.R.Debug A.Allocator self.entry path result) }
         ensures value { get self.old.entries path ≡ Some result.now }
         ensures whole { IsWhole P.R.bit_width self.old }
     {
@@ -59,10 +61,13 @@ impl<P: Prefix, T: Drop, A: Allocator> PrefixMap<P, T, A> {
         requires { IsCursorIn P.R.bits P.R.bit_width self.now.build cursor.old }
         ensures is_there { IsCursorIn P.R.bits P.R.bit_width self.now.build cursor.new }
         ensures key { MatchOption result
-            ((keys_to_come P.R.bits self.now.entries cursor.old ≡ []) × (keys_to_come P.R.bits self.now.entries cursor.new ≡ []))
+            ((keys_to_come P.R.bits self.now.entries cursor.old ≡ [])
+            × (keys_to_come P.R.bits self.now.entries cursor.new ≡ []))
             (λ r. GivesKey P.R.IsKey P.R.bits P.R.bit_width self.now.build r.0 r.1 r.2
-            (keys_to_come P.R.bits self.now.entries cursor.old) (keys_to_come P.R.bits self.now.entries cursor.new)) }
-        ensures stored { IfSome result (λ r. contains_key self.now.entries (take r.1 (P.R.bits r.0)) ≡ true) }
+            (keys_to_come P.R.bits self.now.entries cursor.old)
+            (keys_to_come P.R.bits self.now.entries cursor.new)) }
+        ensures stored { IfSome result
+            (λ r. contains_key self.now.entries (take r.1 (P.R.bits r.0)) ≡ true) }
     {
         self.table.step(cursor, &mut Visits::new())
     }
@@ -77,8 +82,13 @@ impl<P: Prefix, T: Drop, A: Allocator> PrefixMap<P, T, A> {
         ensures nodes { self.new.nodes ≡ self.old.nodes }
         ensures end { IsSearchEnd self.new.build (P.path prefix.now) end.now }
         ensures space { LeavesSpace (len self.old.nodes) self.old.space self.new.space }
-        ensures prepares { OnOk result (PreparesInStorage (state self.old) (P.path prefix.now) (storage self.old) (storage self.new)) }
-        ensures refuses { IfErr result (λ cause. (value : T) → StepByPath P.R.bit_width (stored_state self.old) (Insert (P.path prefix.now) value) (Refuses cause) (stored_state self.new)) }
+        ensures prepares { OnOk result
+            (PreparesInStorage (state self.old) (P.path prefix.now) (storage self.old)
+            (storage self.new)) }
+        ensures refuses { IfErr result
+            (λ cause. (value : T)
+            → StepByPath P.R.bit_width (stored_state self.old) (Insert (P.path prefix.now) value)
+            (Refuses cause) (stored_state self.new)) }
     {
         self.table.reserve(prefix.path(), end)
     }
@@ -95,12 +105,22 @@ impl<P: Prefix, T: Drop, A: Allocator> PrefixMap<P, T, A> {
         requires fits { P.IsFitting prefix.now }
         requires absent { contains_key self.old.entries (P.path prefix.now) ≡ false }
         requires end { IsSearchEnd self.old.build (P.path prefix.now) end }
-        ensures seat { IfOk result (λ seat. seat_of self.new.build (P.path prefix.now) ≡ Some seat) }
-        ensures entries { OnOk result (self.new.entries ≡ with_entry self.old.entries (P.path prefix.now) value) }
-        ensures nodes { OnOk result (self.new.nodes ≡ with_needed self.old.nodes (P.path prefix.now)) }
-        ensures unchanged { IfErr result (λ refused. (refused.value ≡ value) × (self.new.entries ≡ self.old.entries) × (self.new.nodes ≡ self.old.nodes)) }
-        ensures step { OnOk result (StepByPath P.R.bit_width (stored_state self.old) (Insert (P.path prefix.now) value) (Value None) (stored_state self.new)) }
-        ensures refuses { IfErr result (λ refused. (other : T) → StepByPath P.R.bit_width (stored_state self.old) (Insert (P.path prefix.now) other) (Refuses refused.cause) (stored_state self.new)) }
+        ensures seat { IfOk result
+            (λ seat. seat_of self.new.build (P.path prefix.now) ≡ Some seat) }
+        ensures entries { OnOk result
+            (self.new.entries ≡ with_entry self.old.entries (P.path prefix.now) value) }
+        ensures nodes { OnOk result
+            (self.new.nodes ≡ with_needed self.old.nodes (P.path prefix.now)) }
+        ensures unchanged { IfErr result
+            (λ refused. (refused.value ≡ value) × (self.new.entries ≡ self.old.entries)
+            × (self.new.nodes ≡ self.old.nodes)) }
+        ensures step { OnOk result
+            (StepByPath P.R.bit_width (stored_state self.old) (Insert (P.path prefix.now) value)
+            (Value None) (stored_state self.new)) }
+        ensures refuses { IfErr result
+            (λ refused. (other : T)
+            → StepByPath P.R.bit_width (stored_state self.old) (Insert (P.path prefix.now) other)
+            (Refuses refused.cause) (stored_state self.new)) }
     {
         self.table.insert_located(prefix.path(), end, value)
     }
@@ -112,11 +132,13 @@ impl<P: Prefix, T: Drop, A: Allocator> PrefixMap<P, T, A> {
         requires absent { contains_key self.old.entries (P.path prefix.now) ≡ false }
         requires end { IsSearchEnd self.old.build (P.path prefix.now) end }
         requires nodes { missing_node_slots self.old.nodes self.old.layout (P.path prefix.now) ≡ 0 }
-        requires cells { missing_cell_slots self.old.entries self.old.layout (P.path prefix.now) ≡ 0 }
+        requires cells { missing_cell_slots self.old.entries self.old.layout (P.path prefix.now)
+            ≡ 0 }
         ensures seat { seat_of self.new.build (P.path prefix.now) ≡ Some result }
         ensures entries { self.new.entries ≡ with_entry self.old.entries (P.path prefix.now) value }
         ensures nodes { self.new.nodes ≡ with_needed self.old.nodes (P.path prefix.now) }
-        ensures step { StepByPath P.R.bit_width (stored_state self.old) (Insert (P.path prefix.now) value) (Value None) (stored_state self.new) }
+        ensures step { StepByPath P.R.bit_width (stored_state self.old)
+            (Insert (P.path prefix.now) value) (Value None) (stored_state self.new) }
     {
         match self.insert_located(prefix, end, value) {
             Ok(seat) => seat,
@@ -132,7 +154,8 @@ impl<P: Prefix, T: Drop, A: Allocator> PrefixMap<P, T, A> {
         ensures value { get self.old.entries (P.path prefix.now) ≡ Some result }
         ensures entries { self.new.entries ≡ without_entry self.old.entries (P.path prefix.now) }
         ensures nodes { self.new.nodes ≡ self.old.nodes }
-        ensures step { StepByPath P.R.bit_width (stored_state self.old) (RemoveKeepTree (P.path prefix.now)) (Value (Some result)) (stored_state self.new) }
+        ensures step { StepByPath P.R.bit_width (stored_state self.old)
+            (RemoveKeepTree (P.path prefix.now)) (Value (Some result)) (stored_state self.new) }
     {
         match self.remove_keep_tree(prefix) {
             Some(value) => value,

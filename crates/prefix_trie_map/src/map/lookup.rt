@@ -105,7 +105,8 @@ impl<P: Prefix, T: Drop, A: Allocator> PrefixMap<P, T, A> {
     pub fn get_key_value(&self, prefix: &P) -> Option<(P, &T)>
         requires { P.IsFitting prefix.now }
         ensures { option_map lent_item result
-            ≡ option_map (λ value. (P.back (P.path prefix.now), value)) (get self.now.entries (P.path prefix.now)) }
+            ≡ option_map (λ value. (P.back (P.path prefix.now), value))
+            (get self.now.entries (P.path prefix.now)) }
     {
         self.get_key_value_counted(prefix).0
     }
@@ -117,7 +118,8 @@ impl<P: Prefix, T: Drop, A: Allocator> PrefixMap<P, T, A> {
     pub fn get_key_value_counted(&self, prefix: &P) -> (Option<(P, &T)>, Visits)
         requires { P.IsFitting prefix.now }
         ensures value { option_map lent_item result.0
-            ≡ option_map (λ value. (P.back (P.path prefix.now), value)) (get self.now.entries (P.path prefix.now)) }
+            ≡ option_map (λ value. (P.back (P.path prefix.now), value))
+            (get self.now.entries (P.path prefix.now)) }
         ensures reads { ReadsPath self.now.nodes (P.path prefix.now) result.1 }
     {
         let (value, visits) = self.get_counted(prefix);
@@ -143,7 +145,8 @@ impl<P: Prefix, T: Drop, A: Allocator> PrefixMap<P, T, A> {
     #[inline]
     pub fn get_lpm(&self, prefix: &P) -> Option<(P, &T)>
         requires { P.IsFitting prefix.now }
-        ensures { option_map lent_item result ≡ prefix_pair P.back (longest_match self.now.entries (P.path prefix.now)) }
+        ensures { option_map lent_item result
+            ≡ prefix_pair P.back (longest_match self.now.entries (P.path prefix.now)) }
     {
         self.get_lpm_counted(prefix).0
     }
@@ -161,7 +164,8 @@ impl<P: Prefix, T: Drop, A: Allocator> PrefixMap<P, T, A> {
     #[inline]
     pub fn get_lpm_counted(&self, prefix: &P) -> (Option<(P, &T)>, Visits)
         requires { P.IsFitting prefix.now }
-        ensures value { option_map lent_item result.0 ≡ prefix_pair P.back (longest_match self.now.entries (P.path prefix.now)) }
+        ensures value { option_map lent_item result.0
+            ≡ prefix_pair P.back (longest_match self.now.entries (P.path prefix.now)) }
         ensures reads { ReadsPath self.now.nodes (P.path prefix.now) result.1 }
     {
         let mut visits = Visits::new();
@@ -184,7 +188,8 @@ impl<P: Prefix, T: Drop, A: Allocator> PrefixMap<P, T, A> {
     #[inline]
     pub fn get_lpm_value(&self, prefix: &P) -> Option<&T>
         requires { P.IsFitting prefix.now }
-        ensures { option_copied result ≡ option_map (λ found. found.1) (longest_match self.now.entries (P.path prefix.now)) }
+        ensures { option_copied result
+            ≡ option_map (λ found. found.1) (longest_match self.now.entries (P.path prefix.now)) }
     {
         let longest = self.table.find_longest(prefix.path(), &mut Visits::new());
         value_of(longest)
@@ -202,7 +207,9 @@ impl<P: Prefix, T: Drop, A: Allocator> PrefixMap<P, T, A> {
     #[inline]
     pub fn get_lpm_prefix(&self, prefix: &P) -> Option<P>
         requires { P.IsFitting prefix.now }
-        ensures { result ≡ option_map (λ found. P.back found.0) (longest_match self.now.entries (P.path prefix.now)) }
+        ensures { result
+            ≡ option_map (λ found. P.back found.0)
+            (longest_match self.now.entries (P.path prefix.now)) }
     {
         self.get_lpm_prefix_counted(prefix).0
     }
@@ -213,7 +220,9 @@ impl<P: Prefix, T: Drop, A: Allocator> PrefixMap<P, T, A> {
     #[inline]
     pub fn get_lpm_prefix_counted(&self, prefix: &P) -> (Option<P>, Visits)
         requires { P.IsFitting prefix.now }
-        ensures value { result.0 ≡ option_map (λ found. P.back found.0) (longest_match self.now.entries (P.path prefix.now)) }
+        ensures value { result.0
+            ≡ option_map (λ found. P.back found.0)
+            (longest_match self.now.entries (P.path prefix.now)) }
         ensures reads { ReadsPath self.now.nodes (P.path prefix.now) result.1 }
     {
         let (longest, visits) = self.get_lpm_counted(prefix);
@@ -234,7 +243,8 @@ impl<P: Prefix, T: Drop, A: Allocator> PrefixMap<P, T, A> {
     #[inline]
     pub fn get_spm(&self, prefix: &P) -> Option<(P, &T)>
         requires { P.IsFitting prefix.now }
-        ensures { option_map lent_item result ≡ prefix_pair P.back (shortest_match self.now.entries (P.path prefix.now)) }
+        ensures { option_map lent_item result
+            ≡ prefix_pair P.back (shortest_match self.now.entries (P.path prefix.now)) }
     {
         self.get_spm_counted(prefix).0
     }
@@ -252,7 +262,8 @@ impl<P: Prefix, T: Drop, A: Allocator> PrefixMap<P, T, A> {
     #[inline]
     pub fn get_spm_counted(&self, prefix: &P) -> (Option<(P, &T)>, Visits)
         requires { P.IsFitting prefix.now }
-        ensures value { option_map lent_item result.0 ≡ prefix_pair P.back (shortest_match self.now.entries (P.path prefix.now)) }
+        ensures value { option_map lent_item result.0
+            ≡ prefix_pair P.back (shortest_match self.now.entries (P.path prefix.now)) }
         ensures reads { ReadsToMatch self.now.entries self.now.nodes (P.path prefix.now) result.1 }
     {
         let mut visits = Visits::new();
@@ -273,7 +284,9 @@ impl<P: Prefix, T: Drop, A: Allocator> PrefixMap<P, T, A> {
     #[inline]
     pub fn get_spm_prefix(&self, prefix: &P) -> Option<P>
         requires { P.IsFitting prefix.now }
-        ensures { result ≡ option_map (λ found. P.back found.0) (shortest_match self.now.entries (P.path prefix.now)) }
+        ensures { result
+            ≡ option_map (λ found. P.back found.0)
+            (shortest_match self.now.entries (P.path prefix.now)) }
     {
         self.get_spm_prefix_counted(prefix).0
     }
@@ -284,7 +297,9 @@ impl<P: Prefix, T: Drop, A: Allocator> PrefixMap<P, T, A> {
     #[inline]
     pub fn get_spm_prefix_counted(&self, prefix: &P) -> (Option<P>, Visits)
         requires { P.IsFitting prefix.now }
-        ensures value { result.0 ≡ option_map (λ found. P.back found.0) (shortest_match self.now.entries (P.path prefix.now)) }
+        ensures value { result.0
+            ≡ option_map (λ found. P.back found.0)
+            (shortest_match self.now.entries (P.path prefix.now)) }
         ensures reads { ReadsToMatch self.now.entries self.now.nodes (P.path prefix.now) result.1 }
     {
         let (shortest, visits) = self.get_spm_counted(prefix);
@@ -338,7 +353,8 @@ pub(super) fn rebuilt_match<'a, P: Prefix, T>(
     found: Option<(u32, &'a T)>,
 ) -> Option<(P, &'a T)>
     requires { IfSome found (λ f. f.0 ≤ length path.now) }
-    ensures { option_map lent_item result ≡ option_map (λ f. (P.back (take f.0 path.now), f.1.now)) found.entry }
+    ensures { option_map lent_item result
+        ≡ option_map (λ f. (P.back (take f.0 path.now), f.1.now)) found.entry }
 {
     match found {
         Some((len, value)) => Some((rebuilt(path.first(len)), value)),

@@ -31,11 +31,13 @@ impl<P: Prefix, T: Drop, A: Allocator> PrefixMap<P, T, A> {
         requires { P.IsFitting prefix.now }
         ensures value { result ≡ get self.old.entries (P.path prefix.now) }
         ensures entries { self.new.entries ≡ without_entry self.old.entries (P.path prefix.now) }
-        ensures nodes { self.new.nodes ≡ nodes_without self.old.nodes self.old.entries (P.path prefix.now) }
+        ensures nodes { self.new.nodes
+            ≡ nodes_without self.old.nodes self.old.entries (P.path prefix.now) }
 
         // This is a step of the model, of the storage too. The blocks of the list that lost the value and of the list
         // that lost a child step down. A block is made only if none of its size was free.
-        ensures step { StepByPath P.R.bit_width (stored_state self.old) (Remove (P.path prefix.now)) (Value result) (stored_state self.new) }
+        ensures step { StepByPath P.R.bit_width (stored_state self.old) (Remove (P.path prefix.now))
+            (Value result) (stored_state self.new) }
     {
         self.table.remove(prefix.path(), &mut Visits::new())
     }
@@ -62,7 +64,8 @@ impl<P: Prefix, T: Drop, A: Allocator> PrefixMap<P, T, A> {
         ensures nodes { self.new.nodes ≡ self.old.nodes }
 
         // This is a step of the model, of the storage too. The array of nodes is unchanged.
-        ensures step { StepByPath P.R.bit_width (stored_state self.old) (RemoveKeepTree (P.path prefix.now)) (Value result) (stored_state self.new) }
+        ensures step { StepByPath P.R.bit_width (stored_state self.old)
+            (RemoveKeepTree (P.path prefix.now)) (Value result) (stored_state self.new) }
     {
         self.table
             .remove_keep_tree(prefix.path(), &mut Visits::new())
@@ -86,11 +89,14 @@ impl<P: Prefix, T: Drop, A: Allocator> PrefixMap<P, T, A> {
     pub fn drop_children(&mut self, prefix: &P)
         requires { P.IsFitting prefix.now }
         ensures entries { self.new.entries ≡ without_below self.old.entries (P.path prefix.now) }
-        ensures nodes { self.new.nodes ≡ nodes_without_below self.old.nodes self.old.entries (P.path prefix.now) }
+        ensures nodes { self.new.nodes
+            ≡ nodes_without_below self.old.nodes self.old.entries (P.path prefix.now) }
 
         // This is a step of the model, of the storage too. The arrays keep their slots, except at length 0.
-        ensures step { StepByPath P.R.bit_width (stored_state self.old) (RemoveChildren (P.path prefix.now)) Done (stored_state self.new) }
-        ensures bounds_growth { 0 < length (P.path prefix.now) → BoundsStorageGrowth (storage self.old) (storage self.new) }
+        ensures step { StepByPath P.R.bit_width (stored_state self.old)
+            (RemoveChildren (P.path prefix.now)) Done (stored_state self.new) }
+        ensures bounds_growth { 0 < length (P.path prefix.now)
+            → BoundsStorageGrowth (storage self.old) (storage self.new) }
     {
         self.table.drop_children(prefix.path(), &mut Visits::new());
     }
@@ -112,7 +118,8 @@ impl<P: Prefix, T: Drop, A: Allocator> PrefixMap<P, T, A> {
         ensures nodes { self.new.nodes ≡ root_alone }
 
         // This is a step of the model, of the storage too. The root has its slot, and no block is left.
-        ensures step { StepByPath P.R.bit_width (stored_state self.old) Clear Done (stored_state self.new) }
+        ensures step { StepByPath P.R.bit_width (stored_state self.old) Clear Done
+            (stored_state self.new) }
     {
         self.table.clear();
     }

@@ -66,14 +66,17 @@ impl<P: Prefix, T: Drop, A: Allocator> PrefixMap<P, T, A> {
     /// map.keys();     // [10.1.0.0/16]
     /// ```
     pub fn retain<F: FnMut(&P, &T) -> bool>(&mut self, test: F)
-        requires { CallableOnEachEntry (CalledAtEntry F.FnMut P.back) (TakesEntry F.FnMut P.back) test (listing self.old.entries) }
+        requires { CallableOnEachEntry (CalledAtEntry F.FnMut P.back)
+            (TakesEntry F.FnMut P.back) test (listing self.old.entries) }
         ensures whole { IsWhole P.R.bit_width self.old }
-        ensures kept { RetainsEntries (CalledAtEntry F.FnMut P.back) test (listing self.old.entries) (listing self.new.entries) }
+        ensures kept { RetainsEntries (CalledAtEntry F.FnMut P.back) test (listing self.old.entries)
+            (listing self.new.entries) }
         ensures nodes { self.new.nodes ≡ needed self.new.entries }
 
         // This is a step of the model, of the storage too. Each block that lost items has a size between the smallest
         // that holds the rest and its old one. No slot and no block is lost.
-        ensures step { RetainsInStorage (CalledAtEntry F.FnMut P.back) test (stored_state self.old) (stored_state self.new) }
+        ensures step { RetainsInStorage (CalledAtEntry F.FnMut P.back) test (stored_state self.old)
+            (stored_state self.new) }
 
         // Over any number of calls, the arrays grow by at most the headroom that their blocks had (`growth_laws`).
         ensures bounds_growth { BoundsStorageGrowth (storage self.old) (storage self.new) }

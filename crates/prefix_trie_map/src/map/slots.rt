@@ -35,7 +35,8 @@ impl<P: Prefix, T: Drop, A: Allocator + Clone> PrefixMap<P, T, A> {
     pub fn with_slot_limit(alloc: A, limit: u32) -> Result<Self, Refusal>
         ensures entries { IfOk result (λ map. map.entries ≡ no_entries) }
         ensures nodes { IfOk result (λ map. map.nodes ≡ root_alone) }
-        ensures space { IfOk result (λ map. map.space ≡ record { limit = limit; node_slots = 1; cell_slots = 0 }) }
+        ensures space { IfOk result
+            (λ map. map.space ≡ record { limit = limit; node_slots = 1; cell_slots = 0 }) }
         ensures layout { IfOk result (λ map. map.layout ≡ no_layout) }
         ensures range { IfErr result (λ cause. (cause ≡ IndexRange) ↔ (limit ≡ 0)) }
         ensures none { limit ≡ 0 → IsErr result }
@@ -101,9 +102,12 @@ impl<P: Prefix, T: Drop, A: Allocator> PrefixMap<P, T, A> {
     /// ```
     #[inline]
     pub fn node_blocks(&self) -> [BlockCount; 7]
-        ensures counts { result ≡ block_counts child_block_sizes self.now.layout.child_blocks self.now.layout.free_child_blocks }
+        ensures counts { result
+            ≡ block_counts child_block_sizes self.now.layout.child_blocks
+            self.now.layout.free_child_blocks }
         ensures slots { self.now.space.node_slots ≡ 1 + slots_counted result }
-        ensures blocks { NodesHaveBlocks child_block_sizes self.now.nodes (child_count self.now.nodes) self.now.layout.child_blocks }
+        ensures blocks { NodesHaveBlocks child_block_sizes self.now.nodes
+            (child_count self.now.nodes) self.now.layout.child_blocks }
         ensures used { used_blocks result ≡ length (parents self.now.nodes) }
     {
         self.table.node_blocks()
@@ -123,9 +127,12 @@ impl<P: Prefix, T: Drop, A: Allocator> PrefixMap<P, T, A> {
     /// ```
     #[inline]
     pub fn cell_blocks(&self) -> [BlockCount; 7]
-        ensures counts { result ≡ block_counts value_block_sizes self.now.layout.value_blocks self.now.layout.free_value_blocks }
+        ensures counts { result
+            ≡ block_counts value_block_sizes self.now.layout.value_blocks
+            self.now.layout.free_value_blocks }
         ensures slots { self.now.space.cell_slots ≡ slots_counted result }
-        ensures blocks { NodesHaveBlocks value_block_sizes self.now.nodes (own_entries self.now.entries) self.now.layout.value_blocks }
+        ensures blocks { NodesHaveBlocks value_block_sizes self.now.nodes
+            (own_entries self.now.entries) self.now.layout.value_blocks }
         ensures used { used_blocks result ≡ length (holders self.now.entries self.now.nodes) }
     {
         self.table.cell_blocks()

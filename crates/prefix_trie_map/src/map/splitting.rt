@@ -38,14 +38,21 @@ impl<P: Prefix, T: Drop, A: Allocator + Clone> PrefixMap<P, T, A> {
     /// ```
     pub fn remove_children(&mut self, prefix: &P) -> Result<Self, Refusal>
         requires { P.IsFitting prefix.now }
-        ensures split_off { IfOk result (λ second. second.entries ≡ part_below self.old.entries (P.path prefix.now)) }
+        ensures split_off { IfOk result
+            (λ second. second.entries ≡ part_below self.old.entries (P.path prefix.now)) }
         ensures split_nodes { IfOk result (λ second. second.nodes ≡ needed second.entries) }
-        ensures entries { OnOk result (self.new.entries ≡ without_below self.old.entries (P.path prefix.now)) }
-        ensures nodes { OnOk result (self.new.nodes ≡ nodes_without_below self.old.nodes self.old.entries (P.path prefix.now)) }
+        ensures entries { OnOk result
+            (self.new.entries ≡ without_below self.old.entries (P.path prefix.now)) }
+        ensures nodes { OnOk result
+            (self.new.nodes
+            ≡ nodes_without_below self.old.nodes self.old.entries (P.path prefix.now)) }
 
         // This is a step of the model, of the storage of both maps too.
-        ensures step { IfOk result (λ second. SplitsOffInStorage (stored_state self.old) (P.path prefix.now) (stored_state second) (stored_state self.new)) }
-        ensures bounds_growth { 0 < length (P.path prefix.now) → IfOk result (λ _. BoundsStorageGrowth (storage self.old) (storage self.new)) }
+        ensures step { IfOk result
+            (λ second. SplitsOffInStorage (stored_state self.old) (P.path prefix.now)
+            (stored_state second) (stored_state self.new)) }
+        ensures bounds_growth { 0 < length (P.path prefix.now)
+            → IfOk result (λ _. BoundsStorageGrowth (storage self.old) (storage self.new)) }
         ensures unchanged { OnErr result (stored_state self.new ≡ stored_state self.old) }
         ensures only_memory { IfErr result (λ cause. cause ≡ Memory) }
     {

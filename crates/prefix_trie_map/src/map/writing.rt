@@ -44,7 +44,8 @@ pub trait Source: Sized {
 
     fn lend(&mut self, item: Self::CursorItem) -> &mut Self::Value
         requires { IsAt self.old item }
-        ensures* writes_back { sem 𝓛 (Lends Self.row Self.Value.row self.entry result (with self.old item)) }
+        ensures* writes_back { sem 𝓛
+            (Lends Self.row Self.Value.row self.entry result (with self.old item)) }
         ensures value { Holds self.old item result.now };
 }
 
@@ -79,7 +80,8 @@ impl<C: Source> WalkOf<C> {
     #[inline]
     pub fn step(&mut self) -> Option<(C::Prefix, C::CursorItem)>
         ensures { MatchOption result (EndsIn C.Ends self.old.source self.new.source)
-            (λ r. StepsIn C.IsAt C.Holds C.with C.First C.Passes self.old.source r.0 r.1 self.new.source) }
+            (λ r. StepsIn C.IsAt C.Holds C.with C.First C.Passes self.old.source r.0 r.1
+            self.new.source) }
     {
         match &mut self.source {
             Some(source) => source.step(),
@@ -113,8 +115,10 @@ impl<C: Source> WalkOf<C> {
     /// ```
     #[inline]
     pub fn next_value(&mut self) -> Option<&mut C::Value>
-        ensures* writes_back { sem 𝓛 (lends_next C.row C.Value.row self.entry C.Passes C.Ends result) }
-        ensures value { IfSome result (λ x. (q : C.Prefix) × FirstIn C.First self.old.source q x.now) }
+        ensures* writes_back { sem 𝓛
+            (lends_next C.row C.Value.row self.entry C.Passes C.Ends result) }
+        ensures value { IfSome result
+            (λ x. (q : C.Prefix) × FirstIn C.First self.old.source q x.now) }
     {
         let (_, item) = self.step()?;
         Some(self.value(item))
@@ -135,7 +139,8 @@ impl<C: Source> WalkOf<C> {
     /// ```
     #[inline]
     pub fn next(&mut self) -> Option<(C::Prefix, &mut C::Value)>
-        ensures* writes_back { sem 𝓛 (lends_next C.row C.Value.row self.entry C.Passes C.Ends (lent_beside result)) }
+        ensures* writes_back { sem 𝓛
+            (lends_next C.row C.Value.row self.entry C.Passes C.Ends (lent_beside result)) }
         ensures first { IfSome result (λ r. FirstIn C.First self.old.source r.0 r.1.now) }
         ensures none { IfNone result (IsOverIn C.Ends self.old.source) }
     {
@@ -147,9 +152,11 @@ impl<C: Source> WalkOf<C> {
     // Returns the result of `next_value`, and writes the prefix of its entry to `prefix`.
     #[inline]
     fn lend_next(&mut self, prefix: &mut Option<C::Prefix>) -> Option<&mut C::Value>
-        ensures* writes_back { sem 𝓛 (lends_next C.row C.Value.row self.entry C.Passes C.Ends result) }
+        ensures* writes_back { sem 𝓛
+            (lends_next C.row C.Value.row self.entry C.Passes C.Ends result) }
         ensures first { MatchOption result (IsOverIn C.Ends self.old.source)
-            (λ x. (q : C.Prefix) × (prefix.new ≡ Some q) × FirstIn C.First self.old.source q x.now) }
+            (λ x. (q : C.Prefix) × (prefix.new ≡ Some q)
+            × FirstIn C.First self.old.source q x.now) }
     {
         let (found, item) = self.step()?;
         *prefix = Some(found);
@@ -206,8 +213,10 @@ impl<C: Source> ValuesOf<C> {
     /// ```
     #[inline]
     pub fn next(&mut self) -> Option<&mut C::Value>
-        ensures* writes_back { sem 𝓛 (lends_next_value C.row C.Value.row self.entry C.Passes C.Ends result) }
-        ensures value { IfSome result (λ x. (q : C.Prefix) × FirstIn C.First self.old.walk.source q x.now) }
+        ensures* writes_back { sem 𝓛
+            (lends_next_value C.row C.Value.row self.entry C.Passes C.Ends result) }
+        ensures value { IfSome result
+            (λ x. (q : C.Prefix) × FirstIn C.First self.old.walk.source q x.now) }
     {
         self.walk.next_value()
     }

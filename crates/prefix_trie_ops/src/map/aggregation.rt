@@ -28,7 +28,8 @@ pub fn aggregate_consistent<P: Prefix, T: PartialEq + Drop, A: Allocator, B: All
     table: &mut PrefixMap<P, T, A>,
     alloc: B,
 ) -> Result<(), AllocError>
-    ensures entries { IfOk result (λ _. table.new.entries ≡ without_redundant T.PartialEq.eq table.old.entries) }
+    ensures entries { IfOk result
+        (λ _. table.new.entries ≡ without_redundant T.PartialEq.eq table.old.entries) }
 
     // In the next two clauses, values that `==` calls equal are the same.
     ensures values { IfOk result (λ _. ((x y : T) → T.PartialEq.eq x y ≡ true → x ≡ y)
@@ -48,7 +49,9 @@ fn marks_of<P: Prefix, T: PartialEq + Drop, A: Allocator, B: Allocator + Clone>(
     table: &PrefixMap<P, T, A>,
     alloc: B,
 ) -> Result<Vec<bool, B>, AllocError>
-    ensures { IfOk result (λ marks. marks.items ≡ map (stays T.PartialEq.eq table.now.entries) (listing table.now.entries)) }
+    ensures { IfOk result
+        (λ marks. marks.items
+        ≡ map (stays T.PartialEq.eq table.now.entries) (listing table.now.entries)) }
 {
     listing_laws::<T>();
     listed_laws::<P, T>();
@@ -64,7 +67,9 @@ fn marks_of<P: Prefix, T: PartialEq + Drop, A: Allocator, B: Allocator + Clone>(
 
 /// Returns whether the last value of a chain is equal to this one.
 fn is_top_equal<P: Prefix, T: PartialEq, B: Allocator>(above: &Vec<(P, &T), B>, value: &T) -> bool
-    ensures { result ≡ are_equal T.PartialEq.eq (option_map (λ e. e.1) (last_item (map lent_item above.now.items))) (Some value.now) }
+    ensures { result
+        ≡ are_equal T.PartialEq.eq
+        (option_map (λ e. e.1) (last_item (map lent_item above.now.items))) (Some value.now) }
 {
     match above.last() {
         Some((_, held)) => **held == *value,
@@ -77,7 +82,8 @@ fn pop_apart<P: Prefix, T, B: Allocator>(above: &mut Vec<(P, &T), B>, prefix: &P
     requires fits { P.IsFitting prefix.now }
     requires above_fit { All (λ e. P.IsFitting e.0) above.old.items }
     requires chain { IsChain P.path above.old.items }
-    ensures { above.new.items ≡ filter (λ e. begins (P.path e.0) (P.path prefix.now)) above.old.items }
+    ensures { above.new.items
+        ≡ filter (λ e. begins (P.path e.0) (P.path prefix.now)) above.old.items }
 {
     while let Some((covering, _)) = above.last() {
         if covering.contains(prefix) {

@@ -45,7 +45,8 @@ pub fn difference<'a, P: Prefix, T: Drop, U: Drop, A: Allocator, B: Allocator>(
     left: &'a PrefixMap<P, T, A>,
     right: &'a PrefixMap<P, U, B>,
 ) -> DifferenceWalk<'a, P, T, U, A, B>
-    ensures items { result ≡ prefix_pairs P.back (listing (minus left.now.entries right.now.entries)) }
+    ensures items { result
+        ≡ prefix_pairs P.back (listing (minus left.now.entries right.now.entries)) }
     ensures each_fits { All (λ e. P.IsFitting e.0) result }
     ensures fits { length result < 2 ^ 64 }
     ensures runs { ShowsInOrder (lent_item {P = P} {T = T}) }

@@ -32,9 +32,11 @@ impl<'a, P: Prefix, T: Drop, U: Drop, A: Allocator, B: Allocator> Model
 
     ghost Value = { List (P × (T × U)) };
 
-    ghost view = { λ w. prefix_pairs P.back (combined_to_come P.R.bits (common w.left.now.entries w.right.now.entries) w.cursor) };
+    ghost view = { λ w. prefix_pairs P.back
+        (combined_to_come P.R.bits (common w.left.now.entries w.right.now.entries) w.cursor) };
 
-    ghost invariant = { λ w. IsJointCursorIn P.R.bits P.R.bit_width w.left.now.build w.right.now.build Intersection w.cursor };
+    ghost invariant = { λ w. IsJointCursorIn P.R.bits P.R.bit_width w.left.now.build
+        w.right.now.build Intersection w.cursor };
 }
 
 /// Returns a walk over the keys that both maps have, each with both values, in listing order.
@@ -52,7 +54,8 @@ pub fn intersection<'a, P: Prefix, T: Drop, U: Drop, A: Allocator, B: Allocator>
     left: &'a PrefixMap<P, T, A>,
     right: &'a PrefixMap<P, U, B>,
 ) -> IntersectionWalk<'a, P, T, U, A, B>
-    ensures items { result ≡ prefix_pairs P.back (listing (common left.now.entries right.now.entries)) }
+    ensures items { result
+        ≡ prefix_pairs P.back (listing (common left.now.entries right.now.entries)) }
     ensures each_fits { All (λ e. P.IsFitting e.0) result }
     ensures fits { length result < 2 ^ 64 }
     ensures runs { ShowsInOrder (lent_pair {P = P} {T = T} {U = U}) }

@@ -52,7 +52,8 @@ pub fn aggregate<P: Prefix, T: Copy + Ord, A: Allocator + Clone, B: Allocator>(
 ) -> Result<(), Refusal>
     // In the next two clauses, values that `==` calls equal are the same.
     ensures values { IfOk result (λ _. ((x y : T) → T.PartialEq.eq x y ≡ true → x ≡ y)
-        → (q : List Bool) → length q ≡ P.R.bit_width → value_of table.new.entries q ≡ value_of table.old.entries q) }
+        → (q : List Bool) → length q ≡ P.R.bit_width
+        → value_of table.new.entries q ≡ value_of table.old.entries q) }
     ensures tidy { IfOk result (λ _. ((x y : T) → T.PartialEq.eq x y ≡ true → x ≡ y)
         → (s : List Bool) → is_redundant T.PartialEq.eq table.new.entries s ≡ false) }
     ensures at_most { IfOk result (λ _. len table.new.entries ≤ len table.old.entries) }
@@ -75,11 +76,15 @@ fn no_larger<P: Prefix, T: Copy + Ord, A: Allocator + Clone, B: Allocator>(
     table: &PrefixMap<P, T, A>,
     alloc: &B,
 ) -> Result<Option<PrefixMap<P, T, A>>, Refusal>
-    ensures values { IfOk result (λ found. IfSome found (λ made. ((x y : T) → T.PartialEq.eq x y ≡ true → x ≡ y)
-        → (q : List Bool) → length q ≡ P.R.bit_width → value_of made.entries q ≡ value_of table.now.entries q)) }
-    ensures tidy { IfOk result (λ found. IfSome found (λ made. ((x y : T) → T.PartialEq.eq x y ≡ true → x ≡ y)
+    ensures values { IfOk result
+        (λ found. IfSome found (λ made. ((x y : T) → T.PartialEq.eq x y ≡ true → x ≡ y)
+        → (q : List Bool) → length q ≡ P.R.bit_width
+        → value_of made.entries q ≡ value_of table.now.entries q)) }
+    ensures tidy { IfOk result
+        (λ found. IfSome found (λ made. ((x y : T) → T.PartialEq.eq x y ≡ true → x ≡ y)
         → (s : List Bool) → is_redundant T.PartialEq.eq made.entries s ≡ false)) }
-    ensures at_most { IfOk result (λ found. IfSome found (λ made. len made.entries ≤ len table.now.entries)) }
+    ensures at_most { IfOk result
+        (λ found. IfSome found (λ made. len made.entries ≤ len table.now.entries)) }
 {
     let made = match rebuilt(table, alloc) {
         Ok(made) => made,
@@ -99,7 +104,8 @@ fn rebuilt<P: Prefix, T: Copy + Ord, A: Allocator + Clone, B: Allocator>(
     alloc: &B,
 ) -> Result<PrefixMap<P, T, A>, Stop>
     ensures values { IfOk result (λ made. ((x y : T) → T.PartialEq.eq x y ≡ true → x ≡ y)
-        → (q : List Bool) → length q ≡ P.R.bit_width → value_of made.entries q ≡ value_of table.now.entries q) }
+        → (q : List Bool) → length q ≡ P.R.bit_width
+        → value_of made.entries q ≡ value_of table.now.entries q) }
     ensures tidy { IfOk result (λ made. ((x y : T) → T.PartialEq.eq x y ≡ true → x ≡ y)
         → (s : List Bool) → is_redundant T.PartialEq.eq made.entries s ≡ false) }
 {
@@ -121,9 +127,13 @@ fn place_all<P: Prefix, T: Copy + Ord, A: Allocator, B: Allocator>(
     alloc: &B,
 ) -> Result<(), Stop>
     requires { All (λ e. P.IsFitting e.0) entries.now }
-    ensures { OnOk result ((source : Entries T) → AreWithin P.R.bit_width source → entries.now ≡ prefix_pairs P.back (listing source)
-        → ((t : List Bool) → get made.old.entries t ≡ None) → ((x y : T) → T.PartialEq.eq x y ≡ true → x ≡ y)
-        → Rebuilds T.PartialEq.eq P.R.bit_width source [] None None made.old.entries made.new.entries) }
+    ensures { OnOk result
+        ((source : Entries T) → AreWithin P.R.bit_width source
+        → entries.now ≡ prefix_pairs P.back (listing source)
+        → ((t : List Bool) → get made.old.entries t ≡ None)
+        → ((x y : T) → T.PartialEq.eq x y ≡ true → x ≡ y)
+        → Rebuilds T.PartialEq.eq P.R.bit_width source [] None None made.old.entries
+        made.new.entries) }
 {
     let root = P::from_repr_len(P::R::zero(), 0);
     let mut choices = choices_of(Upcoming::of(entries), &root, alloc)?;

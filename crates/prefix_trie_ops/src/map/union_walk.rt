@@ -34,9 +34,11 @@ impl<'a, P: Prefix, T: Drop, U: Drop, A: Allocator, B: Allocator> Model
 
     ghost Value = { List (P × Side T U) };
 
-    ghost view = { λ w. prefix_pairs P.back (combined_to_come P.R.bits (union_of w.left.now.entries w.right.now.entries) w.cursor) };
+    ghost view = { λ w. prefix_pairs P.back
+        (combined_to_come P.R.bits (union_of w.left.now.entries w.right.now.entries) w.cursor) };
 
-    ghost invariant = { λ w. IsJointCursorIn P.R.bits P.R.bit_width w.left.now.build w.right.now.build Union w.cursor };
+    ghost invariant = { λ w. IsJointCursorIn P.R.bits P.R.bit_width w.left.now.build
+        w.right.now.build Union w.cursor };
 }
 
 /// Returns a walk over the keys of either map, each with what both maps have there, in listing order.
@@ -55,7 +57,8 @@ pub fn union<'a, P: Prefix, T: Drop, U: Drop, A: Allocator, B: Allocator>(
     left: &'a PrefixMap<P, T, A>,
     right: &'a PrefixMap<P, U, B>,
 ) -> UnionWalk<'a, P, T, U, A, B>
-    ensures items { result ≡ prefix_pairs P.back (listing (union_of left.now.entries right.now.entries)) }
+    ensures items { result
+        ≡ prefix_pairs P.back (listing (union_of left.now.entries right.now.entries)) }
     ensures each_fits { All (λ e. P.IsFitting e.0) result }
     ensures at_most { length result ≤ len left.now.entries + len right.now.entries }
     ensures runs { ShowsInOrder (lent_side {P = P} {T = T} {U = U}) }

@@ -30,8 +30,12 @@ pub fn aggregate_consistent<P: Prefix, A: Allocator, B: Allocator>(
     alloc: B,
 ) -> Result<(), AllocError>
     ensures entries { IfOk result (λ _. set.new.entries ≡ without_covered set.old.entries) }
-    ensures covered { IfOk result (λ _. (q : List Bool) → is_some (shortest_match set.new.entries q) ≡ is_some (shortest_match set.old.entries q)) }
-    ensures tidy { IfOk result (λ _. (s : List Bool) → contains_key set.new.entries s ≡ true → is_below_another set.new.entries s ≡ false) }
+    ensures covered { IfOk result
+        (λ _. (q : List Bool)
+        → is_some (shortest_match set.new.entries q) ≡ is_some (shortest_match set.old.entries q)) }
+    ensures tidy { IfOk result
+        (λ _. (s : List Bool) → contains_key set.new.entries s ≡ true
+        → is_below_another set.new.entries s ≡ false) }
     ensures unchanged { IfErr result (λ _. set.new ≡ set.old) }
 {
     lookup_laws::<P, ()>();
@@ -46,7 +50,8 @@ fn marks_of<P: Prefix, A: Allocator, B: Allocator>(
     set: &PrefixSet<P, A>,
     alloc: B,
 ) -> Result<Vec<bool, B>, AllocError>
-    ensures { IfOk result (λ marks. marks.items ≡ map (is_uppermost set.now.entries) (listing set.now.entries)) }
+    ensures { IfOk result
+        (λ marks. marks.items ≡ map (is_uppermost set.now.entries) (listing set.now.entries)) }
 {
     listing_laws::<()>();
     listed_laws::<P, ()>();
@@ -78,7 +83,8 @@ fn does_contain<P: Prefix>(covering: &Option<P>, prefix: &P) -> bool
 /// Keeps the keys that are marked. There is a mark for each key, in listing order.
 #[tactic(auto, using(prefix_trie::proofs::Callers::may_ask_always))]
 fn keep_marked<P: Prefix, A: Allocator>(set: &mut PrefixSet<P, A>, marks: &[bool])
-    ensures kept { (keep : List Bool × Unit {0} → Bool) → marks.now ≡ map keep (listing set.old.entries)
+    ensures kept { (keep : List Bool × Unit {0} → Bool)
+        → marks.now ≡ map keep (listing set.old.entries)
         → listing set.new.entries ≡ filter keep (listing set.old.entries) }
     ensures nodes { set.new.nodes ≡ needed set.new.entries }
 {

@@ -21,7 +21,9 @@ pub fn is_subset<P: Prefix, A: Allocator, B: Allocator>(
     left: &PrefixSet<P, A>,
     right: &PrefixSet<P, B>,
 ) -> bool
-    ensures { IsTrue result ↔ ((s : List Bool) → contains_key left.now.entries s ≡ true → contains_key right.now.entries s ≡ true) }
+    ensures { IsTrue result
+        ↔ ((s : List Bool) → contains_key left.now.entries s ≡ true
+        → contains_key right.now.entries s ≡ true) }
 {
     listing_laws::<()>();
     difference(left, right).next().is_none()
@@ -40,7 +42,9 @@ pub fn is_disjoint<P: Prefix, A: Allocator, B: Allocator>(
     left: &PrefixSet<P, A>,
     right: &PrefixSet<P, B>,
 ) -> bool
-    ensures { IsTrue result ↔ ((s : List Bool) → contains_key left.now.entries s ≡ true → contains_key right.now.entries s ≡ false) }
+    ensures { IsTrue result
+        ↔ ((s : List Bool) → contains_key left.now.entries s ≡ true
+        → contains_key right.now.entries s ≡ false) }
 {
     listing_laws::<()>();
     intersection(left, right).next().is_none()
@@ -59,7 +63,9 @@ pub fn intersects<P: Prefix, A: Allocator, B: Allocator>(
     left: &PrefixSet<P, A>,
     right: &PrefixSet<P, B>,
 ) -> bool
-    ensures { IsTrue result ↔ ((s : List Bool) × (contains_key left.now.entries s ≡ true) × (contains_key right.now.entries s ≡ true)) }
+    ensures { IsTrue result
+        ↔ ((s : List Bool) × (contains_key left.now.entries s ≡ true)
+        × (contains_key right.now.entries s ≡ true)) }
 {
     listing_laws::<()>();
     intersection(left, right).next().is_some()

@@ -46,7 +46,8 @@ pub fn union<'a, P: Prefix, A: Allocator, B: Allocator>(
     left: &'a PrefixSet<P, A>,
     right: &'a PrefixSet<P, B>,
 ) -> UnionWalk<'a, P, A, B>
-    ensures items { result ≡ map (λ e. P.back e.0) (listing (union_of left.now.entries right.now.entries)) }
+    ensures items { result
+        ≡ map (λ e. P.back e.0) (listing (union_of left.now.entries right.now.entries)) }
     ensures each_fits { All P.IsFitting result }
     ensures at_most { length result ≤ len left.now.entries + len right.now.entries }
     ensures runs { GivesInOrder P }
@@ -69,7 +70,8 @@ pub fn intersection<'a, P: Prefix, A: Allocator, B: Allocator>(
     left: &'a PrefixSet<P, A>,
     right: &'a PrefixSet<P, B>,
 ) -> IntersectionWalk<'a, P, A, B>
-    ensures items { result ≡ map (λ e. P.back e.0) (listing (restricted_to left.now.entries right.now.entries)) }
+    ensures items { result
+        ≡ map (λ e. P.back e.0) (listing (restricted_to left.now.entries right.now.entries)) }
     ensures each_fits { All P.IsFitting result }
     ensures fits { length result < 2 ^ 64 }
     ensures runs { GivesInOrder P }
@@ -92,7 +94,8 @@ pub fn difference<'a, P: Prefix, A: Allocator, B: Allocator>(
     left: &'a PrefixSet<P, A>,
     right: &'a PrefixSet<P, B>,
 ) -> DifferenceWalk<'a, P, A, B>
-    ensures items { result ≡ map (λ e. P.back e.0) (listing (minus left.now.entries right.now.entries)) }
+    ensures items { result
+        ≡ map (λ e. P.back e.0) (listing (minus left.now.entries right.now.entries)) }
     ensures each_fits { All P.IsFitting result }
     ensures fits { length result < 2 ^ 64 }
     ensures runs { GivesInOrder P }
@@ -115,7 +118,8 @@ pub fn covering_difference<'a, P: Prefix, A: Allocator, B: Allocator>(
     left: &'a PrefixSet<P, A>,
     right: &'a PrefixSet<P, B>,
 ) -> CoveringDifferenceWalk<'a, P, A, B>
-    ensures items { result ≡ map (λ e. P.back e.0) (listing (not_covered left.now.entries right.now.entries)) }
+    ensures items { result
+        ≡ map (λ e. P.back e.0) (listing (not_covered left.now.entries right.now.entries)) }
     ensures each_fits { All P.IsFitting result }
     ensures fits { length result < 2 ^ 64 }
     ensures runs { GivesInOrder P }

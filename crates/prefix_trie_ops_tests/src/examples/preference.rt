@@ -17,7 +17,9 @@ pub fn preferring<P: Prefix, A: Allocator, B: Allocator, C: Allocator + Clone>(
     second: &PrefixMap<P, u32, B>,
     alloc: C,
 ) -> Result<PrefixMap<P, u32, C>, Refusal>
-    ensures { IfOk result (λ table. (s : List Bool) → get table.entries s ≡ option_or (get first.now.entries s) (get second.now.entries s)) }
+    ensures { IfOk result
+        (λ table. (s : List Bool)
+        → get table.entries s ≡ option_or (get first.now.entries s) (get second.now.entries s)) }
 {
     stored_laws::<u32>();
     listing_laws::<Side<u32, u32>>();

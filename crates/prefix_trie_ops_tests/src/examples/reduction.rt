@@ -14,8 +14,13 @@ pub fn reduce<A: Allocator, B: Allocator>(
     list: &mut PrefixSet<Ipv4Prefix, A>,
     alloc: B,
 ) -> Result<(), AllocError>
-    ensures same { IfOk result (λ _. (q : List Bool) → is_some (shortest_match list.new.entries q) ≡ is_some (shortest_match list.old.entries q)) }
-    ensures apart { IfOk result (λ _. (s t : List Bool) → contains_key list.new.entries s ≡ true → contains_key list.new.entries t ≡ true → begins s t ≡ true → s ≡ t) }
+    ensures same { IfOk result
+        (λ _. (q : List Bool)
+        → is_some (shortest_match list.new.entries q)
+        ≡ is_some (shortest_match list.old.entries q)) }
+    ensures apart { IfOk result
+        (λ _. (s t : List Bool) → contains_key list.new.entries s ≡ true
+        → contains_key list.new.entries t ≡ true → begins s t ≡ true → s ≡ t) }
     ensures unchanged { IfErr result (λ _. list.new ≡ list.old) }
 {
     lookup_laws::<Ipv4Prefix, ()>();

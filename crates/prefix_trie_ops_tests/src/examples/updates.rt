@@ -17,7 +17,8 @@ pub fn updates<P: Prefix, A: Allocator, B: Allocator, C: Allocator>(
     new: &PrefixMap<P, u32, B>,
     alloc: C,
 ) -> Result<Vec<(P, Option<u32>), C>, AllocError>
-    ensures { IfOk result (λ messages. with_messages P.path messages.items old.now.entries ≡ new.now.entries) }
+    ensures { IfOk result
+        (λ messages. with_messages P.path messages.items old.now.entries ≡ new.now.entries) }
 {
     stored_laws::<u32>();
     listing_laws::<Side<u32, u32>>();

@@ -25,7 +25,8 @@ pub trait SlotArray<S: Slot>: Drop {
     fn reserve(&mut self, count: usize) -> Result<(), AllocError>
         ensures list { list self.new ≡ list self.old }
         ensures ok { OnOk result (length (list self.new) + count ≤ capacity self.new) }
-        ensures grown { Reserves (capacity self.old) (length (list self.old) + count) (capacity self.new) }
+        ensures grown { Reserves (capacity self.old) (length (list self.old) + count)
+            (capacity self.new) }
         ensures succeeds { length (list self.old) + count ≤ capacity self.old → IsOk result };
 
     /// Appends a slot to an array that has spare capacity.
@@ -48,7 +49,10 @@ pub trait SlotArray<S: Slot>: Drop {
         requires from { from < length (list self.old) }
         requires to { to < length (list self.old) }
         requires other { from ≢ to }
-        ensures list { list self.new ≡ slice_set (slice_set (list self.old) to (slice_index_or (list self.old) from S.vacant)) from S.vacant }
+        ensures list { list self.new
+            ≡ slice_set
+            (slice_set (list self.old) to (slice_index_or (list self.old) from S.vacant)) from
+            S.vacant }
         ensures capacity { capacity self.new ≡ capacity self.old };
 
     /// Inserts a value at `from`, moves the values of `from..to` to the next slot, and drops the value of `to`.

@@ -61,9 +61,16 @@ impl<S: Slot, R: SlotArray<S>, A: Allocator> Model for Blocks<S, R, A> {
 
     ghost Value = { Store S };
 
-    ghost view = { λ a. record { slots = R.list a.slots; first = a.first; tiers = a.lists.items; limit = a.limit; capacity = R.capacity a.slots } };
+    ghost view = { λ a. record {
+      slots = R.list a.slots;
+      first = a.first;
+      tiers = a.lists.items;
+      limit = a.limit;
+      capacity = R.capacity a.slots;
+    } };
 
-    ghost invariant = { λ a. (length (R.list a.slots) ≤ a.limit) × (a.first + slots_made a.lists.items ≡ length (R.list a.slots)) × HasSizes a.lists.items };
+    ghost invariant = { λ a. (length (R.list a.slots) ≤ a.limit)
+        × (a.first + slots_made a.lists.items ≡ length (R.list a.slots)) × HasSizes a.lists.items };
 }
 
 impl<S: Slot, R: SlotArray<S>, A: Allocator> Blocks<S, R, A> {
@@ -132,7 +139,8 @@ impl<S: Slot, R: SlotArray<S>, A: Allocator> Blocks<S, R, A> {
         requires value { R.can_hold value }
         ensures slots { self.new ≡ record self.old { slots = slice_set self.old.slots slot value } }
         ensures value { result ≡ slice_index_or self.old.slots slot result }
-        ensures sound { (b : UsedBlock S) (live : List (UsedBlock S)) (offset : ℕ) → Sound S.vacant (b ∷ live) self.old
+        ensures sound { (b : UsedBlock S) (live : List (UsedBlock S)) (offset : ℕ)
+            → Sound S.vacant (b ∷ live) self.old
             → slot ≡ b.start + offset → offset < length b.items
             → Sound S.vacant (record b { items = slice_set b.items offset value } ∷ live) self.new }
         ensures before { (live : List (UsedBlock S)) → slot < self.old.first
@@ -174,7 +182,14 @@ impl<S: Slot, R: SlotArray<S>, A: Allocator> Blocks<S, R, A> {
         requires within { length (R.list slots) ≤ limit }
         requires sizes { HasSizes lists.items }
         requires none_made { All (λ t. (t.made ≡ 0) × (t.starts ≡ [])) lists.items }
-        ensures value { result ≡ record { slots = R.list slots; first = length (R.list slots); tiers = lists.items; limit = limit; capacity = R.capacity slots } }
+        ensures value { result
+            ≡ record {
+              slots = R.list slots;
+              first = length (R.list slots);
+              tiers = lists.items;
+              limit = limit;
+              capacity = R.capacity slots;
+            } }
         ensures sound { Sound S.vacant [] result }
     {
         let first = slots.count() as u32;
@@ -197,7 +212,8 @@ impl<S: Slot, A: Allocator> Blocks<S, Vec<S, A>, A> {
     pub fn at(&self, slot: usize) -> &S
         requires { slot < length self.now.slots }
         ensures slot { result.now ≡ slice_index_or self.now.slots slot result.now }
-        ensures item { (b : UsedBlock S) (live : List (UsedBlock S)) (offset : ℕ) → Sound S.vacant (b ∷ live) self.now
+        ensures item { (b : UsedBlock S) (live : List (UsedBlock S)) (offset : ℕ)
+            → Sound S.vacant (b ∷ live) self.now
             → slot ≡ b.start + offset → offset < length b.items
             → result.now ≡ slice_index_or b.items offset result.now }
     {
@@ -208,11 +224,14 @@ impl<S: Slot, A: Allocator> Blocks<S, Vec<S, A>, A> {
     #[inline]
     pub fn at_mut(&mut self, slot: usize) -> &mut S
         requires { slot < length self.old.slots }
-        ensures* writes_back { sem 𝓛 (lends_slot S.row A.row S.Slot A.Allocator self.entry slot result) }
+        ensures* writes_back { sem 𝓛
+            (lends_slot S.row A.row S.Slot A.Allocator self.entry slot result) }
         ensures slot { result.now ≡ slice_index_or self.old.slots slot result.now }
-        ensures sound { (value : S) (b : UsedBlock S) (live : List (UsedBlock S)) (offset : ℕ) → Sound S.vacant (b ∷ live) self.old
+        ensures sound { (value : S) (b : UsedBlock S) (live : List (UsedBlock S)) (offset : ℕ)
+            → Sound S.vacant (b ∷ live) self.old
             → slot ≡ b.start + offset → offset < length b.items
-            → Sound S.vacant (record b { items = slice_set b.items offset value } ∷ live) (with_slot self.old slot value) }
+            → Sound S.vacant (record b { items = slice_set b.items offset value } ∷ live)
+            (with_slot self.old slot value) }
     {
         &mut self.slots[slot]
     }
@@ -226,7 +245,8 @@ impl<A: Allocator> Blocks<Node, NodeArray<A>, A> {
     /// Calls `NodeArray::sizes_fit`.
     #[inline]
     pub(super) fn sizes_fit(&self)
-        ensures { (slot : ℕ) → slot < length self.now.slots → FitsByte (node_at self.now.slots slot) }
+        ensures { (slot : ℕ) → slot < length self.now.slots
+            → FitsByte (node_at self.now.slots slot) }
     {
         self.slots.sizes_fit();
     }
@@ -300,7 +320,13 @@ pub fn cells<T: Drop, A: Allocator + Clone>(
     limit: u32,
 ) -> Result<Cells<T, A>, AllocError>
     ensures empty { IfOk result
-        (λ b. b ≡ record { slots = []; first = 0; tiers = map no_blocks cell_sizes; limit = limit; capacity = b.capacity }) }
+        (λ b. b ≡ record {
+          slots = [];
+          first = 0;
+          tiers = map no_blocks cell_sizes;
+          limit = limit;
+          capacity = b.capacity;
+        }) }
     ensures sound { IfOk result (λ b. Sound None [] b) }
 {
     let lists = empty_lists(alloc, &CELL_SIZES)?;
@@ -321,7 +347,13 @@ pub(super) fn node_blocks<A: Allocator + Clone>(
     limit: u32,
 ) -> Result<Blocks<Node, NodeArray<A>, A>, Refusal>
     ensures empty { IfOk result
-        (λ b. b ≡ record { slots = blank_node ∷ []; first = 1; tiers = map no_blocks node_sizes; limit = limit; capacity = b.capacity }) }
+        (λ b. b ≡ record {
+          slots = blank_node ∷ [];
+          first = 1;
+          tiers = map no_blocks node_sizes;
+          limit = limit;
+          capacity = b.capacity;
+        }) }
     ensures sound { IfOk result (λ b. Sound blank_node [] b) }
     ensures range { IfErr result (λ e. (e ≡ IndexRange) ↔ (limit ≡ 0)) }
     ensures space { limit ≡ 0 → IsErr result }
@@ -339,7 +371,13 @@ fn node_array<A: Allocator + Clone>(
 ) -> Result<Blocks<Node, NodeArray<A>, A>, AllocError>
     requires { 0 < limit }
     ensures empty { IfOk result
-        (λ b. b ≡ record { slots = blank_node ∷ []; first = 1; tiers = map no_blocks node_sizes; limit = limit; capacity = b.capacity }) }
+        (λ b. b ≡ record {
+          slots = blank_node ∷ [];
+          first = 1;
+          tiers = map no_blocks node_sizes;
+          limit = limit;
+          capacity = b.capacity;
+        }) }
     ensures sound { IfOk result (λ b. Sound blank_node [] b) }
 {
     let lists = empty_lists(alloc, &NODE_SIZES)?;

@@ -74,7 +74,9 @@ impl<A: Allocator> FreeList<A> {
     /// Returns an error if an allocation fails. The list is unchanged then.
     pub fn push_made(&mut self, start: u32) -> Result<(), AllocError>
         requires { self.old.made + 1 < 2 ^ 32 }
-        ensures ok { OnOk result (self.new ≡ record self.old { made = self.old.made + 1; starts = self.old.starts ++ start ∷ [] }) }
+        ensures ok { OnOk result
+            (self.new ≡ record self.old
+            { made = self.old.made + 1; starts = self.old.starts ++ start ∷ [] }) }
         ensures err { OnErr result (self.new ≡ self.old) }
     {
         let places = self.made as usize + 1 - self.starts.len();

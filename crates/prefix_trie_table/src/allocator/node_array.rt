@@ -36,9 +36,11 @@ impl<A: Allocator> Model for NodeArray<A> {
 
     ghost Value = { NodeList };
 
-    ghost view = { λ a. record { list = nodes_of a.heads.items a.tiers.items; capacity = vec_capacity a.tiers } };
+    ghost view = { λ a. record
+        { list = nodes_of a.heads.items a.tiers.items; capacity = vec_capacity a.tiers } };
 
-    ghost invariant = { λ a. (length a.heads.items ≡ length a.tiers.items) × (vec_capacity a.tiers ≤ vec_capacity a.heads) };
+    ghost invariant = { λ a. (length a.heads.items ≡ length a.tiers.items)
+        × (vec_capacity a.tiers ≤ vec_capacity a.heads) };
 }
 
 // Does nothing. Calling it brings the fact that bytes are below 256 into the proof.
@@ -104,7 +106,8 @@ impl<A: Allocator> NodeArray<A> {
         requires { self.old.capacity < length self.old.list + count }
         ensures list { self.new.list ≡ self.old.list }
         ensures ok { OnOk result (length self.new.list + count ≤ self.new.capacity) }
-        ensures grown { Reserves self.old.capacity (length self.old.list + count) self.new.capacity }
+        ensures grown { Reserves self.old.capacity
+            (length self.old.list + count) self.new.capacity }
     {
         let more = growth(self.tiers.capacity(), self.tiers.len(), count);
         self.heads.reserve_exact(more)?;
@@ -144,7 +147,13 @@ impl<A: Allocator + Clone> NodeArray<A> {
 
 #[inline]
 fn head_of(node: Node) -> Head
-    ensures { result ≡ record { value_bitmap = node.value_bitmap; child_bitmap = node.child_bitmap; value_block = node.value_block; child_block = node.child_block } }
+    ensures { result
+        ≡ record {
+          value_bitmap = node.value_bitmap;
+          child_bitmap = node.child_bitmap;
+          value_block = node.value_block;
+          child_block = node.child_block;
+        } }
 {
     Head {
         value_bitmap: node.value_bitmap,

@@ -56,7 +56,13 @@ impl<A: Allocator + Clone, V: Drop> NodeAllocator<A, V> {
     /// Returns `IndexRange` if and only if `limit` is 0, and `Memory` if an allocation fails.
     pub fn new(alloc: &A, limit: u32) -> Result<Self, Refusal>
         ensures empty { IfOk result
-            (λ a. a ≡ record { slots = blank_node ∷ []; first = 1; tiers = map no_blocks node_sizes; limit = limit; capacity = a.capacity }) }
+            (λ a. a ≡ record {
+              slots = blank_node ∷ [];
+              first = 1;
+              tiers = map no_blocks node_sizes;
+              limit = limit;
+              capacity = a.capacity;
+            }) }
         ensures sound { IfOk result (λ a. Sound blank_node [] a) }
         ensures range { IfErr result (λ e. (e ≡ IndexRange) ↔ (limit ≡ 0)) }
         ensures space { limit ≡ 0 → IsErr result }
@@ -71,7 +77,13 @@ impl<A: Allocator + Clone, V: Drop> NodeAllocator<A, V> {
     /// Creates an array as `new` does, with the allocator and the limit of this one.
     pub fn another(&self) -> Result<Self, Refusal>
         ensures empty { IfOk result
-            (λ a. a ≡ record { slots = blank_node ∷ []; first = 1; tiers = map no_blocks node_sizes; limit = self.now.limit; capacity = a.capacity }) }
+            (λ a. a ≡ record {
+              slots = blank_node ∷ [];
+              first = 1;
+              tiers = map no_blocks node_sizes;
+              limit = self.now.limit;
+              capacity = a.capacity;
+            }) }
         ensures sound { IfOk result (λ a. Sound blank_node [] a) }
         ensures range { IfErr result (λ e. (e ≡ IndexRange) ↔ (self.now.limit ≡ 0)) }
     {
@@ -132,7 +144,8 @@ impl<A: Allocator, V: Drop> NodeAllocator<A, V> {
         ensures sound { (b : UsedBlock Node) (live : List (UsedBlock Node)) (offset : ℕ)
             → Sound blank_node (b ∷ live) self.old
             → at ≡ b.start + offset → offset < length b.items
-            → Sound blank_node (record b { items = slice_set b.items offset node } ∷ live) self.new }
+            → Sound blank_node
+            (record b { items = slice_set b.items offset node } ∷ live) self.new }
         ensures before { (live : List (UsedBlock Node)) → at < self.old.first
             → Sound blank_node live self.old → Sound blank_node live self.new }
     {
@@ -178,7 +191,8 @@ impl<A: Allocator, V: Drop> NodeAllocator<A, V> {
         ensures obtains { Obtains (λ e. e ≡ IndexRange) (λ e. e ≡ Memory) result self.old self.new
             (needs (list_need self.old.tiers k count) lists) }
         ensures kept { SameSlots self.old self.new }
-        ensures unchanged { AreFree self.old.tiers (needs (list_need self.old.tiers k count) lists) → self.new ≡ self.old }
+        ensures unchanged { AreFree self.old.tiers (needs (list_need self.old.tiers k count) lists)
+            → self.new ≡ self.old }
         ensures sound { (live : List (UsedBlock Node)) → Sound blank_node live self.old
             → Sound blank_node live self.new }
     {
@@ -195,12 +209,17 @@ impl<A: Allocator, V: Drop> NodeAllocator<A, V> {
         requires offset { offset ≤ count }
         ensures is_there { list_size self.old.tiers result.tier (count + 1)
             ≡ option_or (list_need self.old.tiers k count) (list_size self.old.tiers k count) }
-        ensures stays { list_need self.old.tiers k count ≡ None → result ≡ record { tier = k; start = start } }
-        ensures turnover { Turnover self.old self.new none_of (list_size self.old.tiers k count) (list_size self.old.tiers result.tier (count + 1)) }
-        ensures tiers { (slot : ℕ) → slot < length self.old.slots → FitsByte (node_at self.old.slots slot) }
+        ensures stays { list_need self.old.tiers k count ≡ None
+            → result ≡ record { tier = k; start = start } }
+        ensures turnover { Turnover self.old self.new none_of (list_size self.old.tiers k count)
+            (list_size self.old.tiers result.tier (count + 1)) }
+        ensures tiers { (slot : ℕ) → slot < length self.old.slots
+            → FitsByte (node_at self.old.slots slot) }
         ensures sound { (n : ℕ) (xs : List Node) (live : List (UsedBlock Node))
             → Sound blank_node (held k start n xs ++ live) self.old → length xs ≡ count
-            → Sound blank_node (block result.tier result.start (tier_at self.old.tiers result.tier).size (insert xs offset blank_node) ∷ live) self.new }
+            → Sound blank_node
+            (block result.tier result.start (tier_at self.old.tiers result.tier).size
+            (insert xs offset blank_node) ∷ live) self.new }
     {
         // Read for the proof alone.
         self.blocks.sizes_fit();
@@ -215,13 +234,16 @@ impl<A: Allocator, V: Drop> NodeAllocator<A, V> {
         requires holds { HasList blank_node self.old k start count }
         requires sizes { HasSizes self.old.tiers }
         requires offset { offset < count }
-        ensures loses { LosesOne self.old self.new count (list_size self.old.tiers k count) (list_size self.old.tiers result.tier (count - 1)) }
+        ensures loses { LosesOne self.old self.new count (list_size self.old.tiers k count)
+            (list_size self.old.tiers result.tier (count - 1)) }
         ensures tier { result.tier < length self.old.tiers }
         ensures gone { count ≡ 1 → result ≡ record { tier = 0; start = 0 } }
         ensures stays { 1 < count → result.tier ≡ k → result.start ≡ start }
         ensures sound { (n : ℕ) (xs : List Node) (live : List (UsedBlock Node))
             → Sound blank_node (held k start n xs ++ live) self.old → length xs ≡ count
-            → Sound blank_node (held result.tier result.start (tier_at self.old.tiers result.tier).size (remove xs offset) ++ live) self.new }
+            → Sound blank_node
+            (held result.tier result.start (tier_at self.old.tiers result.tier).size
+            (remove xs offset) ++ live) self.new }
     {
         let (_, rest) = self.blocks.remove_at(k, start, count, offset);
         rest
@@ -237,7 +259,8 @@ impl<A: Allocator, V: Drop> NodeAllocator<A, V> {
         ensures longer { IfOk result (λ _. length self.new.slots
             ≤ length self.old.slots + packed_slots (tier_sizes self.old.tiers) (length items.now)) }
         ensures range { IfErr result (λ cause. cause ≡ IndexRange
-            → self.old.limit < length self.old.slots + packed_slots (tier_sizes self.old.tiers) (length items.now)) }
+            → self.old.limit
+            < length self.old.slots + packed_slots (tier_sizes self.old.tiers) (length items.now)) }
     {
         self.blocks.build(items)
     }

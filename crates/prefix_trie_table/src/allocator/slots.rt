@@ -36,7 +36,8 @@ pub(super) fn reserve<S, A: Allocator>(
     ensures items { items.new.items ≡ items.old.items }
     ensures len { vec_len items.new ≡ vec_len items.old }
     ensures ok { OnOk result (vec_len items.new + count ≤ vec_capacity items.new) }
-    ensures grown { Reserves (vec_capacity items.old) (vec_len items.old + count) (vec_capacity items.new) }
+    ensures grown { Reserves (vec_capacity items.old) (vec_len items.old + count)
+        (vec_capacity items.new) }
     ensures succeeds { vec_len items.old + count ≤ vec_capacity items.old → IsOk result }
     ensures err { OnErr result (vec_capacity items.new ≡ vec_capacity items.old) }
 {
@@ -54,7 +55,8 @@ fn grow<S, A: Allocator>(items: &mut Vec<S, A>, count: usize) -> Result<(), Allo
     ensures items { items.new.items ≡ items.old.items }
     ensures len { vec_len items.new ≡ vec_len items.old }
     ensures ok { OnOk result (vec_len items.new + count ≤ vec_capacity items.new) }
-    ensures grown { Reserves (vec_capacity items.old) (vec_len items.old + count) (vec_capacity items.new) }
+    ensures grown { Reserves (vec_capacity items.old) (vec_len items.old + count)
+        (vec_capacity items.new) }
     ensures err { OnErr result (vec_capacity items.new ≡ vec_capacity items.old) }
 {
     let more = growth(items.capacity(), items.len(), count);
@@ -166,7 +168,8 @@ pub(super) fn move_run<S: Slot, R: SlotArray<S>>(
     requires from_within { from + count ≤ length (R.list slots.old) }
     requires to_within { to + count ≤ length (R.list slots.old) }
     requires apart { (from + count ≤ to) ⊎ (to + count ≤ from) }
-    requires vacant { (k : ℕ) → k < count → slice_index_or (R.list slots.old) (to + k) S.vacant ≡ S.vacant }
+    requires vacant { (k : ℕ) → k < count
+        → slice_index_or (R.list slots.old) (to + k) S.vacant ≡ S.vacant }
     ensures items { R.list slots.new ≡ swap_runs (R.list slots.old) from to count }
     ensures len { length (R.list slots.new) ≡ length (R.list slots.old) }
     ensures capacity { R.capacity slots.new ≡ R.capacity slots.old }
@@ -193,7 +196,9 @@ pub(super) fn move_in<S: Slot, R: SlotArray<S>>(
     requires unused { run (R.list slots.old) to (count + 1) ≡ replicate (count + 1) S.vacant }
     requires offset { offset ≤ count }
     requires value { R.can_hold value }
-    ensures items { R.list slots.new ≡ put_run (put_run (R.list slots.old) from (replicate count S.vacant)) to (insert (run (R.list slots.old) from count) offset value) }
+    ensures items { R.list slots.new
+        ≡ put_run (put_run (R.list slots.old) from (replicate count S.vacant)) to
+        (insert (run (R.list slots.old) from count) offset value) }
     ensures len { length (R.list slots.new) ≡ length (R.list slots.old) }
     ensures capacity { R.capacity slots.new ≡ R.capacity slots.old }
 {

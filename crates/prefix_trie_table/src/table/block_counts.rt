@@ -20,7 +20,8 @@ impl<T: Drop, A: Allocator, V: Tick> Table<T, A, V> {
             self.now.layout.child_blocks self.now.layout.free_child_blocks }
         ensures slots { self.now.space.node_slots ≡ 1 + slots_counted result }
         ensures used { used_blocks result ≡ length (parents self.now.nodes) }
-        ensures blocks { NodesHaveBlocks child_block_sizes self.now.nodes (child_count self.now.nodes)
+        ensures blocks { NodesHaveBlocks child_block_sizes self.now.nodes
+            (child_count self.now.nodes)
             self.now.layout.child_blocks }
     {
         self.nodes.counts()
@@ -35,7 +36,8 @@ impl<T: Drop, A: Allocator, V: Tick> Table<T, A, V> {
             self.now.layout.value_blocks self.now.layout.free_value_blocks }
         ensures slots { self.now.space.cell_slots ≡ slots_counted result }
         ensures used { used_blocks result ≡ length (holders self.now.entries self.now.nodes) }
-        ensures blocks { NodesHaveBlocks value_block_sizes self.now.nodes (own_entries self.now.entries)
+        ensures blocks { NodesHaveBlocks value_block_sizes self.now.nodes
+            (own_entries self.now.entries)
             self.now.layout.value_blocks }
     {
         self.cells.counts()

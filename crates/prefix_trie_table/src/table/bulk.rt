@@ -84,11 +84,13 @@ fn look<K: Key>(
     level: u32,
     node: Node,
 ) -> (Option<Found>, Option<NodeSlot>)
-    requires along { (v : Store Node) × IsSound v × IsAlong path.now (reached_by descent node level) v }
+    requires along { (v : Store Node) × IsSound v
+        × IsAlong path.now (reached_by descent node level) v }
     ensures next { (v : Store Node) → IsAlong path.now (reached_by descent node level) v
         → MatchOption result.1
         (IsLast path.now (reached_by descent node level) v)
-        (λ at. IsAlong path.now (record { at = at; node = node_at v.slots at; level = level + 1 }) v) }
+        (λ at. IsAlong path.now
+        (record { at = at; node = node_at v.slots at; level = level + 1 }) v) }
     ensures found { (v : Store Node) → IsAlong path.now (reached_by descent node level) v
         → HasFound v path.now (5 * level) descent.best
         → HasFound v path.now (5 * level + 5) result.0 }
@@ -142,8 +144,10 @@ fn look_at_each<P: Prefix>(
     ensures few { result ≤ count }
     ensures go_on { (v : Store Node)
         → AreRead v (map P.path prefixes.now) level (take count descents.old) read.now
-        → GoOn v (map P.path prefixes.now) level (take count descents.old) (take result descents.new) found.old found.new }
-    ensures lengths { (length descents.new ≡ length descents.old) × (length found.new ≡ length found.old) }
+        → GoOn v (map P.path prefixes.now) level (take count descents.old)
+        (take result descents.new) found.old found.new }
+    ensures lengths { (length descents.new ≡ length descents.old)
+        × (length found.new ≡ length found.old) }
 {
     let mut kept = 0;
     for j in 0..count {
@@ -250,7 +254,8 @@ impl<T: Drop, A: Allocator, V: Tick> Table<T, A, V> {
         requires { IsMatchFound self.now.build path found }
         ensures { MatchOption result
             (longest_match self.now.entries path ≡ None)
-            (λ f. (f.0 ≤ length path) × (longest_match self.now.entries path ≡ Some (take f.0 path, f.1.now))) }
+            (λ f. (f.0 ≤ length path)
+            × (longest_match self.now.entries path ≡ Some (take f.0 path, f.1.now))) }
     {
         let cells = &self.cells;
         let Some(found) = found else {

@@ -54,7 +54,8 @@ fn empty_part<K: Key, T: Drop, A: Allocator, V: Tick, F: Keep<K, T, V>>(
     requires trie { (s : State T) × IsTrie K.bit_width entries.old nodes.old cells.old s }
     requires own { IsOwn path.now here nodes.old }
     requires none { ReturnsFalse F.asks }
-    requires may_ask { MayAskBelow F.asks F.accepts K.bit_width path.now keep.old entries.old nodes.old cells.old }
+    requires may_ask { MayAskBelow F.asks F.accepts K.bit_width path.now keep.old entries.old
+        nodes.old cells.old }
     ensures emptied { (s : State T) → IsTrie K.bit_width entries.old nodes.old cells.old s
         → TakesBelow F.asks F.accepts K.bit_width path.now keep.old s keep.new
         (nodes_not_below s.nodes path.now) entries.new nodes.new cells.new }
@@ -91,7 +92,8 @@ pub fn remove_part<K: Key, T: Drop, A: Allocator, V: Tick, F: Keep<K, T, V>>(
 )
     requires trie { (s : State T) × IsTrie K.bit_width entries.old nodes.old cells.old s }
     requires none { ReturnsFalse F.asks }
-    requires may_ask { MayAskBelow F.asks F.accepts K.bit_width path keep.old entries.old nodes.old cells.old }
+    requires may_ask { MayAskBelow F.asks F.accepts K.bit_width path keep.old entries.old nodes.old
+        cells.old }
     ensures removed { (s : State T) → IsTrie K.bit_width entries.old nodes.old cells.old s
         → IsTrie K.bit_width entries.new nodes.new cells.new (record {
           entries = without_below s.entries path;

@@ -19,7 +19,8 @@ impl<T: Clone, A: Allocator + Clone, V: Tick> Table<T, A, V> {
         ensures nodes { IfOk result (λ copy. copy.nodes ≡ self.now.nodes) }
         ensures space { IfOk result (λ copy. copy.space ≡ self.now.space) }
         ensures layout { IfOk result (λ copy. copy.layout ≡ self.now.layout) }
-        ensures same { IfOk result (λ copy. ((x y : T) → T.is_clone x y → y ≡ x) → copy ≡ self.now) }
+        ensures same { IfOk result
+            (λ copy. ((x y : T) → T.is_clone x y → y ≡ x) → copy ≡ self.now) }
     {
         let nodes = self.nodes.clone()?;
         let cells = self.cells.clone()?;

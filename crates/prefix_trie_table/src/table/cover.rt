@@ -94,7 +94,8 @@ impl<T: Drop, A: Allocator, V: Tick> Table<T, A, V> {
 /// `rest` has the bits after those that lead to `here`.
 #[inline]
 fn matches_in<K: Key>(here: Reached, rest: &BitString<K>) -> u32
-    ensures { (q : List Bool) → rest.now ≡ drop (5 * here.level) q → AreLeft result here.node.value_bitmap (5 * here.level) (5 * here.level) q }
+    ensures { (q : List Bool) → rest.now ≡ drop (5 * here.level) q
+        → AreLeft result here.node.value_bitmap (5 * here.level) (5 * here.level) q }
 {
     here.node.value_bitmap & rest.match_mask()
 }

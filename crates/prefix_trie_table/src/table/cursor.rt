@@ -61,10 +61,13 @@ impl<T: Drop, A: Allocator, V: Tick> Table<T, A, V> {
         requires nodes { AreNodes K.bit_width self.now.entries self.now.nodes }
         ensures is_there { IsCursorIn K.bits K.bit_width self.now.build cursor.new }
         ensures key { MatchOption result
-            ((keys_to_come K.bits self.now.entries cursor.old ≡ []) × (keys_to_come K.bits self.now.entries cursor.new ≡ []))
+            ((keys_to_come K.bits self.now.entries cursor.old ≡ [])
+            × (keys_to_come K.bits self.now.entries cursor.new ≡ []))
             (λ r. GivesKey K.IsKey K.bits K.bit_width self.now.build r.0 r.1 r.2
-            (keys_to_come K.bits self.now.entries cursor.old) (keys_to_come K.bits self.now.entries cursor.new)) }
-        ensures stored { IfSome result (λ r. contains_key self.now.entries (take r.1 (K.bits r.0)) ≡ true) }
+            (keys_to_come K.bits self.now.entries cursor.old)
+            (keys_to_come K.bits self.now.entries cursor.new)) }
+        ensures stored { IfSome result
+            (λ r. contains_key self.now.entries (take r.1 (K.bits r.0)) ≡ true) }
     {
         advance::<K, A, V, T>(&self.nodes, &mut cursor.stack, &mut cursor.key, counter)
     }

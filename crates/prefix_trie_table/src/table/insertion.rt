@@ -41,7 +41,9 @@ fn add_child<A: Allocator, V: Tick>(
     requires missing { is_set node.now.child_bitmap child ≡ false }
     requires ready { AreFree nodes.old.tiers (needs (child_need (Some node.now)) 0) }
     ensures stays { MakesNone nodes.old nodes.new }
-    ensures free { (size : ℕ) → free_in nodes.old.tiers size ≤ free_in nodes.new.tiers size + one_of (child_need (Some node.now)) size }
+    ensures free { (size : ℕ)
+        → free_in nodes.old.tiers size
+        ≤ free_in nodes.new.tiers size + one_of (child_need (Some node.now)) size }
     ensures added { (reading : List ℕ → Option Node) (paths : List (List ℕ)) (p : List ℕ) (n : Node)
         → NodesHold node_sizes reading paths nodes.old
         → IsSlot reading p at → reading p ≡ Some n
@@ -139,11 +141,13 @@ pub fn prepare<K: Key, T: Drop, A: Allocator, V: Tick>(
     requires table { SomeTable nodes.old cells.old }
     requires ends { EndsAt nodes.old path.now reached.now }
     ensures space { OnOk result (HasFreeBlocks nodes.new cells.new reached.now path.now) }
-    ensures grows { GrowsBoth (λ cause. cause ≡ IndexRange) result nodes.old nodes.new cells.old cells.new }
+    ensures grows { GrowsBoth
+        (λ cause. cause ≡ IndexRange) result nodes.old nodes.new cells.old cells.new }
     ensures obtains { ObtainsBoth (λ cause. cause ≡ IndexRange) (λ cause. cause ≡ Memory)
         result nodes.old nodes.new cells.old cells.new
         (nodes_needed reached.now path.now) (cells_needed reached.now path.now) }
-    ensures kept { ForHeld nodes.old cells.old (λ reading paths values. Holds reading values paths nodes.new cells.new) }
+    ensures kept { ForHeld nodes.old cells.old
+        (λ reading paths values. Holds reading values paths nodes.new cells.new) }
 {
     let node = &reached.node;
     let last = path.len() / 5;
@@ -175,7 +179,8 @@ fn add_entry<K: Key, T: Drop, A: Allocator, V: Tick>(
     ensures nodes { MakesNone nodes.old nodes.new }
     ensures cells { MakesNone cells.old cells.new }
     ensures added { ForHeld nodes.old cells.old (λ reading paths values.
-        EntryAdded reading values paths (chunks_of path) (bit_of path) (Some value) nodes.new cells.new) }
+        EntryAdded reading values paths (chunks_of path) (bit_of path)
+        (Some value) nodes.new cells.new) }
     ensures seat { seat_of nodes.new.slots path ≡ Some result }
 {
     let last = path.len() / 5;
@@ -212,18 +217,23 @@ pub fn insert_entry<K: Key, T: Drop, A: Allocator, V: Tick>(
     path: BitString<K>,
     value: T,
 ) -> Result<Seat, Refused<T>>
-    requires table { (t : SomeTable nodes.old cells.old) × (entries.old ≡ entry_count t.reading t.paths) }
+    requires table { (t : SomeTable nodes.old cells.old)
+        × (entries.old ≡ entry_count t.reading t.paths) }
     requires ends { EndsAt nodes.old path end.reached }
     requires rest { LeavesRest path end }
     ensures placed { ForHeld nodes.old cells.old (λ reading paths values. MatchResult result
-        (λ _. EntryAdded reading values paths (chunks_of path) (bit_of path) (Some value) nodes.new cells.new)
+        (λ _. EntryAdded reading values paths (chunks_of path) (bit_of path)
+        (Some value) nodes.new cells.new)
         (λ _. Holds reading values paths nodes.new cells.new)) }
-    ensures counted { MatchResult result (λ _. entries.new ≡ entries.old + 1) (λ _. entries.new ≡ entries.old) }
+    ensures counted { MatchResult result (λ _. entries.new ≡ entries.old + 1)
+        (λ _. entries.new ≡ entries.old) }
     ensures answer { MatchResult result
         (λ seat. seat_of nodes.new.slots path ≡ Some seat)
         (λ refused. refused.value ≡ value) }
-    ensures grows { GrowsBoth (λ refused. refused.cause ≡ IndexRange) result nodes.old nodes.new cells.old cells.new }
-    ensures obtains { ObtainsBoth (λ refused. refused.cause ≡ IndexRange) (λ refused. refused.cause ≡ Memory)
+    ensures grows { GrowsBoth
+        (λ refused. refused.cause ≡ IndexRange) result nodes.old nodes.new cells.old cells.new }
+    ensures obtains { ObtainsBoth (λ refused. refused.cause ≡ IndexRange)
+        (λ refused. refused.cause ≡ Memory)
         result nodes.old nodes.new cells.old cells.new
         (nodes_needed end.reached path) (cells_needed end.reached path) }
 {

@@ -53,8 +53,10 @@ impl<T: Drop, A: Allocator, V: Tick> Table<T, A, V> {
         requires nodes { AreNodes K.bit_width self.now.entries self.now.nodes }
         requires other_within { AreWithin K.bit_width other.now.entries }
         requires other_nodes { AreNodes K.bit_width other.now.entries other.now.nodes }
-        ensures is_there { IsJointCursorIn K.bits K.bit_width self.now.build other.now.build combination result }
-        ensures keys { (both : Entries X) → IsCombination combination self.now.entries other.now.entries both
+        ensures is_there { IsJointCursorIn K.bits K.bit_width self.now.build other.now.build
+            combination result }
+        ensures keys { (both : Entries X)
+            → IsCombination combination self.now.entries other.now.entries both
             → combined_to_come K.bits both result ≡ listing both }
     {
         let left = self.nodes.visit(ROOT, counter).without_sizes();
@@ -82,13 +84,19 @@ impl<T: Drop, A: Allocator, V: Tick> Table<T, A, V> {
         requires nodes { AreNodes K.bit_width self.now.entries self.now.nodes }
         requires other_within { AreWithin K.bit_width other.now.entries }
         requires other_nodes { AreNodes K.bit_width other.now.entries other.now.nodes }
-        requires is_there { IsJointCursorIn K.bits K.bit_width self.now.build other.now.build combination cursor.old }
-        ensures is_there { IsJointCursorIn K.bits K.bit_width self.now.build other.now.build combination cursor.new }
-        ensures entry { (both : Entries X) → IsCombination combination self.now.entries other.now.entries both → MatchOption result
-            ((combined_to_come K.bits both cursor.old ≡ []) × (combined_to_come K.bits both cursor.new ≡ []))
-            (λ r. GivesJoint both (take r.1 (K.bits r.0)) (combined_to_come K.bits both cursor.old) (combined_to_come K.bits both cursor.new)) }
+        requires is_there { IsJointCursorIn K.bits K.bit_width self.now.build other.now.build
+            combination cursor.old }
+        ensures is_there { IsJointCursorIn K.bits K.bit_width self.now.build other.now.build
+            combination cursor.new }
+        ensures entry { (both : Entries X)
+            → IsCombination combination self.now.entries other.now.entries both → MatchOption result
+            ((combined_to_come K.bits both cursor.old ≡ [])
+            × (combined_to_come K.bits both cursor.new ≡ []))
+            (λ r. GivesJoint both (take r.1 (K.bits r.0)) (combined_to_come K.bits both cursor.old)
+            (combined_to_come K.bits both cursor.new)) }
         ensures filled { IfSome result (λ r. IsFilled K.IsKey K.bits K.bit_width r.0 r.1) }
-        ensures values { IfSome result (λ r. (option_copied r.2 ≡ get self.now.entries (take r.1 (K.bits r.0)))
+        ensures values { IfSome result
+            (λ r. (option_copied r.2 ≡ get self.now.entries (take r.1 (K.bits r.0)))
             × (option_copied r.3 ≡ get other.now.entries (take r.1 (K.bits r.0)))) }
     {
         let Some((key, len, on_left, on_right)) = advance_both::<K, A, B, V, T, U, X>(
@@ -113,7 +121,8 @@ impl<T: Drop, A: Allocator, V: Tick> Table<T, A, V> {
     #[inline]
     fn value_at_seat(&self, seat: Option<Seat>) -> Option<&T>
         requires { (q : List Bool) × (seat_of self.now.build q ≡ seat) }
-        ensures { (q : List Bool) → seat_of self.now.build q ≡ seat → option_copied result ≡ get self.now.entries q }
+        ensures { (q : List Bool) → seat_of self.now.build q ≡ seat
+            → option_copied result ≡ get self.now.entries q }
     {
         match seat {
             Some(seat) => Some(value_at(&self.cells, seat)),
@@ -133,13 +142,21 @@ fn advance_both<K: Key, A: Allocator, B: Allocator, V: Tick, T: Drop, U: Drop, X
     counter: &mut V,
 ) -> Option<(K, u32, Option<Seat>, Option<Seat>)>
     requires trees { (l : Tree T) × (r : Tree U) × JointTrees K.bit_width left.now right.now l r }
-    requires stack { IsJointStack K.bit_width left.now.slots right.now.slots combination (K.bits key.old) stack.old.items }
-    ensures stack { IsJointStack K.bit_width left.now.slots right.now.slots combination (K.bits key.new) stack.new.items }
-    ensures entry { (both : Entries X) → IsCombined combination left.now.slots right.now.slots both → MatchOption result
-        ((joint_pending both (K.bits key.old) stack.old.items ≡ []) × (joint_pending both (K.bits key.new) stack.new.items ≡ []))
-        (λ r. GivesJoint both (take r.1 (K.bits r.0)) (joint_pending both (K.bits key.old) stack.old.items) (joint_pending both (K.bits key.new) stack.new.items)) }
+    requires stack { IsJointStack K.bit_width left.now.slots right.now.slots combination
+        (K.bits key.old) stack.old.items }
+    ensures stack { IsJointStack K.bit_width left.now.slots right.now.slots combination
+        (K.bits key.new) stack.new.items }
+    ensures entry { (both : Entries X) → IsCombined combination left.now.slots right.now.slots both
+        → MatchOption result
+        ((joint_pending both (K.bits key.old) stack.old.items ≡ [])
+        × (joint_pending both (K.bits key.new) stack.new.items ≡ []))
+        (λ r. GivesJoint both (take r.1 (K.bits r.0))
+        (joint_pending both (K.bits key.old) stack.old.items)
+        (joint_pending both (K.bits key.new) stack.new.items)) }
     ensures filled { IfSome result (λ r. IsFilled K.IsKey K.bits K.bit_width r.0 r.1) }
-    ensures seats { IfSome result (λ r. (seat_of left.now.slots (take r.1 (K.bits r.0)) ≡ r.2) × (seat_of right.now.slots (take r.1 (K.bits r.0)) ≡ r.3)) }
+    ensures seats { IfSome result
+        (λ r. (seat_of left.now.slots (take r.1 (K.bits r.0)) ≡ r.2)
+        × (seat_of right.now.slots (take r.1 (K.bits r.0)) ≡ r.3)) }
 {
     while !stack.is_empty() {
         match next_at_last_both::<K, A, B, V, T, U, X>(
@@ -177,10 +194,12 @@ fn next_at_last_both<K: Key, A: Allocator, B: Allocator, V: Tick, T: Drop, U: Dr
 ) -> JointStep<K>
     requires some { 0 < length stack.old.items }
     requires trees { (l : Tree T) × (r : Tree U) × JointTrees K.bit_width left.now right.now l r }
-    requires stack { IsJointStack K.bit_width left.now.slots right.now.slots combination (K.bits key) stack.old.items }
+    requires stack { IsJointStack K.bit_width left.now.slots right.now.slots combination
+        (K.bits key) stack.old.items }
     ensures { (below : List JointSpot) × (spot : JointSpot) × (next : JointSpot)
         × (stack.old.items ≡ below ++ spot ∷ []) × (stack.new.items ≡ below ++ next ∷ [])
-        × JointSteps X K.IsKey K.bits K.bit_width left.now.slots right.now.slots combination (K.bits key) spot result next }
+        × JointSteps X K.IsKey K.bits K.bit_width left.now.slots right.now.slots combination
+        (K.bits key) spot result next }
 {
     let last = stack.len() - 1;
     next_at_both::<K, A, B, V, T, U, X>(left, right, combination, &mut stack[last], key, counter)

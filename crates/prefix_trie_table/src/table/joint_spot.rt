@@ -71,8 +71,10 @@ pub fn joint_spot(combination: Combination, left: Node, right: Node, depth: u32)
     ensures left { result.spot.node ≡ left }
     ensures right { result.right ≡ right }
     ensures depth { result.spot.depth ≡ depth }
-    ensures places { to_come result.spot.places ≡ filter (is_joint combination result.spot.node result.right) (strings 5) }
-    ensures each { All (IsJointPlace combination result.spot.node result.right) (to_come result.spot.places) }
+    ensures places { to_come result.spot.places
+        ≡ filter (is_joint combination result.spot.node result.right) (strings 5) }
+    ensures each { All (IsJointPlace combination result.spot.node result.right)
+        (to_come result.spot.places) }
 {
     let values = combination.bits(left.value_bitmap, right.value_bitmap);
     let children = combination.bits(left.child_bitmap, right.child_bitmap);
@@ -98,8 +100,10 @@ pub fn next_at_both<K: Key, A: Allocator, B: Allocator, V: Tick, T: Drop, U: Dro
     counter: &mut V,
 ) -> JointStep<K>
     requires trees { (l : Tree T) × (r : Tree U) × JointTrees K.bit_width left.now right.now l r }
-    requires spot { IsJointSpot K.bit_width left.now.slots right.now.slots combination (K.bits key) at.old }
-    ensures { JointSteps X K.IsKey K.bits K.bit_width left.now.slots right.now.slots combination (K.bits key) at.old result at.new }
+    requires spot { IsJointSpot K.bit_width left.now.slots right.now.slots combination
+        (K.bits key) at.old }
+    ensures { JointSteps X K.IsKey K.bits K.bit_width left.now.slots right.now.slots combination
+        (K.bits key) at.old result at.new }
 {
     // Needed only for the proof: the number is a key.
     let _ = key.is_key();
@@ -150,7 +154,8 @@ fn child_or_blank<A: Allocator, V: Tick>(
     counter: &mut V,
 ) -> Node
     requires small { child < 32 }
-    requires is_there { is_set node.child_bitmap child ≡ true → slot_of_child node child < length nodes.now.slots }
+    requires is_there { is_set node.child_bitmap child ≡ true
+        → slot_of_child node child < length nodes.now.slots }
     ensures { result ≡ kept_node (child_of nodes.now.slots node child) }
 {
     if has_bit(node.child_bitmap, child) {

@@ -76,7 +76,8 @@ impl<T: Drop, A: Allocator, V: Tick> Table<T, A, V> {
     /// ```
     #[inline]
     pub fn find_mut<K: Key>(&mut self, path: BitString<K>, counter: &mut V) -> Option<&mut T>
-        ensures* writes_back { sem 𝓛 (lends_entry_if T.row A.row V.row A.Allocator V.Tick self.entry path result) }
+        ensures* writes_back { sem 𝓛
+            (lends_entry_if T.row A.row V.row A.Allocator V.Tick self.entry path result) }
         ensures value { option_copied_mut result ≡ get self.old.entries path }
         ensures visits { V.count counter.new ≡ V.count counter.old + visits self.old.nodes path }
     {
@@ -97,7 +98,8 @@ impl<T: Drop, A: Allocator, V: Tick> Table<T, A, V> {
         found: &mut u32,
         counter: &mut V,
     ) -> Option<&mut T>
-        ensures* writes_back { sem 𝓛 (lends_longest_if T.row A.row V.row A.Allocator V.Tick self.entry path result) }
+        ensures* writes_back { sem 𝓛
+            (lends_longest_if T.row A.row V.row A.Allocator V.Tick self.entry path result) }
         ensures value { MatchOption result
             (longest_match self.old.entries path ≡ None)
             (λ value. (found.new ≤ length path)

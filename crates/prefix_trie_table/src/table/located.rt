@@ -62,7 +62,8 @@ impl<T: Drop, A: Allocator, V: Tick> Table<T, A, V> {
     #[inline]
     pub fn at_mut<K: Key>(&mut self, path: BitString<K>, seat: Seat) -> &mut T
         requires { seat_of self.old.build path ≡ Some seat }
-        ensures* writes_back { sem 𝓛 (lends_entry T.row A.row V.row A.Allocator V.Tick self.entry path result) }
+        ensures* writes_back { sem 𝓛
+            (lends_entry T.row A.row V.row A.Allocator V.Tick self.entry path result) }
         ensures value { get self.old.entries path ≡ Some result.now }
     {
         lend(&mut self.cells, seat)
@@ -81,11 +82,13 @@ impl<T: Drop, A: Allocator, V: Tick> Table<T, A, V> {
     pub fn reserve<K: Key>(&mut self, path: BitString<K>, end: &SearchEnd<K>) -> Result<(), Refusal>
         requires absent { contains_key self.old.entries path ≡ false }
         requires end { IsSearchEnd self.old.build path end.now }
-        ensures unchanged { (self.new.entries ≡ self.old.entries) × (self.new.nodes ≡ self.old.nodes) }
+        ensures unchanged { (self.new.entries ≡ self.old.entries)
+            × (self.new.nodes ≡ self.old.nodes) }
         ensures end { IsSearchEnd self.new.build path end.now }
         ensures prepares { MatchResult result
             (λ _. PreparesInStorage (state self.old) path (storage self.old) (storage self.new))
-            (λ cause. RefusesInStorage (state self.old) path cause (storage self.old) (storage self.new)) }
+            (λ cause. RefusesInStorage (state self.old) path cause (storage self.old)
+            (storage self.new)) }
         ensures range { IfErr result (λ cause. cause ≡ IndexRange → MayPassLimit self.old.space) }
         ensures space { LeavesSpace (number_of self.old.nodes) self.old.space self.new.space }
     {
@@ -111,7 +114,9 @@ impl<T: Drop, A: Allocator, V: Tick> Table<T, A, V> {
         requires end { IsSearchEnd self.old.build path end }
         ensures seat { IfOk result (λ seat. seat_of self.new.build path ≡ Some seat) }
         ensures returned { IfErr result (λ refused. refused.value ≡ value) }
-        ensures step { (width : ℕ) → StepByPath width (stored_state self.old) (Insert path value) (insert_new_reply result) (stored_state self.new) }
+        ensures step { (width : ℕ)
+            → StepByPath width (stored_state self.old) (Insert path value) (insert_new_reply result)
+            (stored_state self.new) }
     {
         insert_entry(
             &mut self.nodes,

@@ -41,9 +41,11 @@ pub fn root<A: Allocator, V: Tick>(nodes: &NodeAllocator<A, V>, counter: &mut V)
 #[inline(always)]
 fn child_on_path<K: Key>(from: Reached, rest: &BitString<K>) -> Option<NodeSlot>
     requires { 5 ≤ length rest.now }
-    ensures { (q : List Bool) (v : Store Node) → IsAlong q from v → rest.now ≡ drop (5 * from.level) q
+    ensures { (q : List Bool) (v : Store Node) → IsAlong q from v
+        → rest.now ≡ drop (5 * from.level) q
         → MatchOption result (IsLast q from v)
-        (λ at. IsAlong q (record { at = at; node = node_at v.slots at; level = from.level + 1 }) v) }
+        (λ at. IsAlong q
+        (record { at = at; node = node_at v.slots at; level = from.level + 1 }) v) }
 {
     let child = rest.child_bit();
     if !has_bit(from.node.child_bitmap, child) {
@@ -59,9 +61,11 @@ fn child_on_path<K: Key>(from: Reached, rest: &BitString<K>) -> Option<NodeSlot>
 #[inline(always)]
 pub fn next_slot<K: Key>(from: Reached, rest: &BitString<K>, last: u32) -> Option<NodeSlot>
     requires { from.level < last → 5 ≤ length rest.now }
-    ensures { (q : List Bool) (v : Store Node) → IsAlong q from v → rest.now ≡ drop (5 * from.level) q → last ≡ length q / 5
+    ensures { (q : List Bool) (v : Store Node) → IsAlong q from v
+        → rest.now ≡ drop (5 * from.level) q → last ≡ length q / 5
         → MatchOption result (IsLast q from v)
-        (λ at. IsAlong q (record { at = at; node = node_at v.slots at; level = from.level + 1 }) v) }
+        (λ at. IsAlong q
+        (record { at = at; node = node_at v.slots at; level = from.level + 1 }) v) }
 {
     if from.level >= last {
         return None;
@@ -80,9 +84,11 @@ pub fn step_to_child<K: Key, A: Allocator, V: Tick>(
     counter: &mut V,
 ) -> Option<Reached>
     requires sound { SomeNodes nodes.now }
-    requires along { (q : List Bool) × IsAlong q from nodes.now × (rest.now ≡ drop (5 * from.level) q) × (length q ≤ 128) × (5 ≤ length rest.now) }
+    requires along { (q : List Bool) × IsAlong q from nodes.now
+        × (rest.now ≡ drop (5 * from.level) q) × (length q ≤ 128) × (5 ≤ length rest.now) }
     ensures step { (q : List Bool) → IsAlong q from nodes.now → rest.now ≡ drop (5 * from.level) q
-        → MatchOption result (IsLast q from nodes.now) (λ next. (next.level ≡ from.level + 1) × IsAlong q next nodes.now) }
+        → MatchOption result (IsLast q from nodes.now)
+        (λ next. (next.level ≡ from.level + 1) × IsAlong q next nodes.now) }
     ensures visits { MatchOption result
         (V.count counter.new ≡ V.count counter.old)
         (λ _. V.count counter.new ≡ V.count counter.old + 1) }
@@ -110,9 +116,12 @@ pub fn step_down<K: Key, A: Allocator, V: Tick>(
     counter: &mut V,
 ) -> Option<Reached>
     requires sound { SomeNodes nodes.now }
-    requires along { (q : List Bool) × IsAlong q from nodes.now × (rest.now ≡ drop (5 * from.level) q) × (length q ≤ 128) × (last ≡ length q / 5) }
-    ensures step { (q : List Bool) → IsAlong q from nodes.now → rest.now ≡ drop (5 * from.level) q → last ≡ length q / 5
-        → MatchOption result (IsLast q from nodes.now) (λ next. (next.level ≡ from.level + 1) × IsAlong q next nodes.now) }
+    requires along { (q : List Bool) × IsAlong q from nodes.now
+        × (rest.now ≡ drop (5 * from.level) q) × (length q ≤ 128) × (last ≡ length q / 5) }
+    ensures step { (q : List Bool) → IsAlong q from nodes.now → rest.now ≡ drop (5 * from.level) q
+        → last ≡ length q / 5
+        → MatchOption result (IsLast q from nodes.now)
+        (λ next. (next.level ≡ from.level + 1) × IsAlong q next nodes.now) }
     ensures visits { MatchOption result
         (V.count counter.new ≡ V.count counter.old)
         (λ _. V.count counter.new ≡ V.count counter.old + 1) }

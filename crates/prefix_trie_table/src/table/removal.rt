@@ -114,7 +114,8 @@ fn take_bit<T: Drop, A: Allocator, V: Tick>(
     ensures taken { ForHeld nodes.old cells.old (λ reading paths values.
         (p : List ℕ) → IsSlot reading p (slot_at here) → reading p ≡ Some here.node
         → (result.0 ≡ values p bit)
-        × ((t : EntryTaken reading paths values p bit nodes.new cells.old cells.new) × (t.later p ≡ Some result.1))) }
+        × ((t : EntryTaken reading paths values p bit nodes.new cells.old cells.new)
+        × (t.later p ≡ Some result.1))) }
     ensures counted { entries.new + one_if (is_some result.0) ≡ entries.old }
     ensures node_blocks { SameBlocks nodes.old nodes.new }
     ensures cell_space { Grows cells.old cells.new 24 }
@@ -140,7 +141,8 @@ pub fn remove_value<K: Key, T: Drop, A: Allocator, V: Tick>(
     ensures value { ForHeld nodes.old cells.old (λ reading paths values.
         result ≡ values (chunks_of path) (bit_of path)) }
     ensures taken { ForHeld nodes.old cells.old (λ reading paths values.
-        EntryTaken reading paths values (chunks_of path) (bit_of path) nodes.new cells.old cells.new) }
+        EntryTaken reading paths values (chunks_of path)
+        (bit_of path) nodes.new cells.old cells.new) }
     ensures counted { entries.new + one_if (is_some result) ≡ entries.old }
     ensures node_blocks { SameBlocks nodes.old nodes.new }
     ensures cell_space { Grows cells.old cells.new 24 }
@@ -163,7 +165,9 @@ pub fn descend_keeping_ancestors<K: Key, A: Allocator, V: Tick>(
 ) -> Option<Reached>
     requires sound { SomeNodes nodes.now }
     requires empty { above.old.items ≡ [] }
-    ensures found { IfSome result (λ here. IsOwn path.now here nodes.now × AreAbove path.now here.level above.new.items nodes.now) }
+    ensures found { IfSome result
+        (λ here. IsOwn path.now here nodes.now
+        × AreAbove path.now here.level above.new.items nodes.now) }
     ensures missing { IfNone result ((reading : List ℕ → Option Node) (paths : List (List ℕ))
         → NodesHold node_sizes reading paths nodes.now → reading (chunks_of path.now) ≡ None) }
 {
@@ -271,7 +275,8 @@ pub fn remove_entry<K: Key, T: Drop, A: Allocator, V: Tick>(
     ensures value { ForHeld nodes.old cells.old (λ reading paths values.
         result ≡ values (chunks_of path) (bit_of path)) }
     ensures removed { ForHeld nodes.old cells.old (λ reading paths values.
-        EntryRemoved reading paths values (chunks_of path) (bit_of path) nodes.old cells.old nodes.new cells.new) }
+        EntryRemoved reading paths values (chunks_of path)
+        (bit_of path) nodes.old cells.old nodes.new cells.new) }
     ensures counted { entries.new + one_if (is_some result) ≡ entries.old }
     ensures node_space { Grows nodes.old nodes.new 24 }
     ensures cell_space { Grows cells.old cells.new 24 }

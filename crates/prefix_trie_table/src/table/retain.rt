@@ -38,7 +38,8 @@ pub trait Keep<K: Key, T, V: Tick>: Sized + Drop {
     /// Takes the value of an entry for which `keeps` returned `false`. `counter` counts the nodes that this reads.
     fn taken(&mut self, path: &BitString<K>, value: T, counter: &mut V)
         requires { (before : Self) × refuses before path.now value self.old }
-        ensures { (before : Self) → refuses before path.now value self.old → asks before path.now value false self.new };
+        ensures { (before : Self) → refuses before path.now value self.old
+            → asks before path.now value false self.new };
 }
 
 /// The position of a node: its slot in the array, and its path, the first `depth` bits of a key.
@@ -79,9 +80,12 @@ fn retain_value<K: Key, T: Drop, A: Allocator, V: Tick, F: Keep<K, T, V>>(
     requires site { IsSite K.IsKey K.bits K.bit_width nodes.old site node }
     requires bit { bit < 31 }
     requires set { has node.value_bitmap bit ≡ true }
-    requires may_ask { (t : List Bool) → length t ≤ 4 → value_bit t ≡ bit → MayAskAt F.asks F.accepts
-        K.bit_width (take site.depth (K.bits site.key)) (t ∷ []) keep.old entries.old nodes.old cells.old }
-    ensures retains { (t : List Bool) → length t ≤ 4 → value_bit t ≡ bit → RetainsIn F.asks F.accepts
+    requires may_ask { (t : List Bool) → length t ≤ 4 → value_bit t ≡ bit
+        → MayAskAt F.asks F.accepts
+        K.bit_width (take site.depth (K.bits site.key))
+        (t ∷ []) keep.old entries.old nodes.old cells.old }
+    ensures retains { (t : List Bool) → length t ≤ 4 → value_bit t ≡ bit
+        → RetainsIn F.asks F.accepts
         K.bit_width (take site.depth (K.bits site.key)) (t ∷ [])
         keep.old entries.old nodes.old cells.old keep.new entries.new nodes.new cells.new }
     ensures node { IsSite K.IsKey K.bits K.bit_width nodes.new site result }
@@ -123,9 +127,12 @@ fn retain_place<K: Key, T: Drop, A: Allocator, V: Tick, F: Keep<K, T, V>>(
     requires trie { (s : State T) × IsTrie K.bit_width entries.old nodes.old cells.old s }
     requires site { IsSite K.IsKey K.bits K.bit_width nodes.old site node }
     requires place { HasPlace node place }
-    requires may_ask { (t : List Bool) → length t ≤ 5 → place ≡ place_of t → MayAskAt F.asks F.accepts
-        K.bit_width (take site.depth (K.bits site.key)) (t ∷ []) keep.old entries.old nodes.old cells.old }
-    ensures retains { (t : List Bool) → length t ≤ 5 → place ≡ place_of t → RetainsIn F.asks F.accepts
+    requires may_ask { (t : List Bool) → length t ≤ 5 → place ≡ place_of t
+        → MayAskAt F.asks F.accepts
+        K.bit_width (take site.depth (K.bits site.key))
+        (t ∷ []) keep.old entries.old nodes.old cells.old }
+    ensures retains { (t : List Bool) → length t ≤ 5 → place ≡ place_of t
+        → RetainsIn F.asks F.accepts
         K.bit_width (take site.depth (K.bits site.key)) (t ∷ [])
         keep.old entries.old nodes.old cells.old keep.new entries.new nodes.new cells.new }
     ensures node { IsSite K.IsKey K.bits K.bit_width nodes.new site result }
@@ -168,7 +175,8 @@ pub(super) fn retain_places<K: Key, T: Drop, A: Allocator, V: Tick, F: Keep<K, T
     requires site { IsSite K.IsKey K.bits K.bit_width nodes.old site node }
     requires each { All (IsPlaceOf node) (to_come places) }
     requires may_ask { MayAskAt F.asks F.accepts
-        K.bit_width (take site.depth (K.bits site.key)) (to_come places) keep.old entries.old nodes.old cells.old }
+        K.bit_width (take site.depth (K.bits site.key))
+        (to_come places) keep.old entries.old nodes.old cells.old }
     ensures retains { RetainsIn F.asks F.accepts
         K.bit_width (take site.depth (K.bits site.key)) (to_come places)
         keep.old entries.old nodes.old cells.old keep.new entries.new nodes.new cells.new }

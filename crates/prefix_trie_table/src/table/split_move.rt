@@ -35,12 +35,15 @@ struct Seats<K: Key, T: Drop, A: Allocator, V: Tick> {
 }
 
 impl<K: Key, T: Drop, A: Allocator, V: Tick> Keep<K, T, V> for Seats<K, T, A, V> {
-    ghost accepts = { λ f q x. AwaitsNext K.IsKey K.bits K.bit_width f.nodes f.cells f.key f.stack.items q x };
+    ghost accepts = { λ f q x. AwaitsNext K.IsKey K.bits K.bit_width f.nodes f.cells f.key
+        f.stack.items q x };
 
-    ghost asks = { λ f q x answer g. (answer ≡ false) × HasCome K.IsKey K.bits K.bit_width f.nodes g.nodes f.cells g.cells
+    ghost asks = { λ f q x answer g. (answer ≡ false)
+        × HasCome K.IsKey K.bits K.bit_width f.nodes g.nodes f.cells g.cells
         f.key f.stack.items g.key g.stack.items q x };
 
-    ghost refuses = { λ f q x g. (g ≡ f) × AwaitsNext K.IsKey K.bits K.bit_width f.nodes f.cells f.key f.stack.items q x };
+    ghost refuses = { λ f q x g. (g ≡ f)
+        × AwaitsNext K.IsKey K.bits K.bit_width f.nodes f.cells f.key f.stack.items q x };
 
     fn keeps(&mut self, _path: &BitString<K>, _value: &T) -> bool {
         false
@@ -80,7 +83,8 @@ pub(super) fn move_part<K: Key, T: Drop, A: Allocator, V: Tick>(
         }) }
     ensures preserves { PreservesBelow 0 nodes.old nodes.new cells.old cells.new }
     ensures moved { (s : State T) → IsTrie K.bit_width entries.old nodes.old cells.old s
-        → IsTrie K.bit_width (size (part_below s.entries path)) result.0 result.1 (split_off s path) }
+        → IsTrie K.bit_width (size (part_below s.entries path)) result.0 result.1
+        (split_off s path) }
     ensures nodes { result.0 ≡ built }
     ensures cells { result.1 ≡ record vacant { slots = result.1.slots } }
 {

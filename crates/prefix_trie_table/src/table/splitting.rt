@@ -53,9 +53,13 @@ fn build_node<K: Key, T: Drop, A: Allocator, V: Tick>(
     counter: &mut V,
 ) -> Result<Option<Node>, Refusal>
     requires source { IsSource from.now node levels }
-    requires nodes { CanBuild blank_node node_sizes (slots_below child_slots from.now.slots levels node) nodes.old }
-    requires cells { CanBuild None cell_sizes (slots_below value_slots from.now.slots levels node) cells.old }
-    ensures built { IfOk result (λ top. BuildsNode from.now.slots levels node rest.now nodes.old nodes.new cells.old cells.new top) }
+    requires nodes { CanBuild blank_node node_sizes
+        (slots_below child_slots from.now.slots levels node) nodes.old }
+    requires cells { CanBuild None cell_sizes
+        (slots_below value_slots from.now.slots levels node) cells.old }
+    ensures built { IfOk result
+        (λ top. BuildsNode from.now.slots levels node rest.now nodes.old nodes.new cells.old
+        cells.new top) }
     ensures fits { IfOk result (λ top. IfSome top FitsByte) }
     ensures memory { IfErr result (λ cause. cause ≡ Memory) }
 {

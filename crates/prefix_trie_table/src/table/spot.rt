@@ -59,7 +59,8 @@ pub fn enter<A: Allocator, V: Tick>(
     requires few { is_set (node_at nodes.now.slots at).value_bitmap 31 ≡ false }
     ensures node { result.node ≡ without_sizes (node_at nodes.now.slots at) }
     ensures depth { result.depth ≡ depth }
-    ensures places { to_come result.places ≡ places result.node.value_bitmap result.node.child_bitmap }
+    ensures places { to_come result.places
+        ≡ places result.node.value_bitmap result.node.child_bitmap }
     ensures each { All (IsPlaceOf result.node) (to_come result.places) }
 {
     let node = nodes.visit(at, counter).without_sizes();

@@ -48,9 +48,11 @@ impl<K: Key, T: Drop, A: Allocator, V: Tick> Model for IntoWalk<K, T, A, V> {
 
     ghost Value = { List (List Bool × T) };
 
-    ghost view = { λ w. pairs_in w.nodes.slots w.cells.slots (pending w.seats.0 (K.bits w.key) w.stack.items) };
+    ghost view = { λ w. pairs_in w.nodes.slots w.cells.slots
+        (pending w.seats.0 (K.bits w.key) w.stack.items) };
 
-    ghost invariant = { λ w. IsTaking K.bit_width w.nodes w.cells w.seats.0 (K.bits w.key) w.stack.items };
+    ghost invariant = { λ w. IsTaking K.bit_width w.nodes w.cells w.seats.0
+        (K.bits w.key) w.stack.items };
 }
 
 impl<K: Key, T: Drop, A: Allocator, V: Tick> IntoWalk<K, T, A, V> {
@@ -87,7 +89,8 @@ impl<K: Key, T: Clone, A: Allocator + Clone, V: Tick> IntoWalk<K, T, A, V> {
     /// Returns an error if an allocation fails, for the arrays or in the clone of a value.
     pub fn clone(&self) -> Result<Self, AllocError>
         ensures pairs { IfOk result (λ copy. AllZip (IsPairCloned T.is_clone) self.now copy) }
-        ensures same { IfOk result (λ copy. ((x y : T) → T.is_clone x y → y ≡ x) → copy ≡ self.now) }
+        ensures same { IfOk result
+            (λ copy. ((x y : T) → T.is_clone x y → y ≡ x) → copy ≡ self.now) }
     {
         let nodes = self.nodes.clone()?;
         let cells = self.cells.clone()?;

@@ -123,7 +123,8 @@ pub fn walk_of<'a, K: Key, T: Drop, A: Allocator, V: Tick>(
     counter: &mut V,
 ) -> Walk<'a, K, T, A, V>
     requires { (s : State T) × IsTrie K.bit_width (len s.entries) nodes.now cells.now s }
-    ensures { (s : State T) → IsShapeOf nodes.now.slots cells.now.slots s → result ≡ listing s.entries }
+    ensures { (s : State T) → IsShapeOf nodes.now.slots cells.now.slots s
+        → result ≡ listing s.entries }
 {
     let mut stack = ArrayVec::new();
     stack.push(enter(nodes, ROOT, 0, counter));
@@ -145,13 +146,18 @@ pub fn advance<K: Key, A: Allocator, V: Tick, T: Drop>(
     requires tree { (t : Tree T) × IsTrie K.bit_width t.count nodes.now t.cells t.shape }
     requires stack { IsStack K.bit_width nodes.now.slots (K.bits key.old) stack.old.items }
     ensures stack { IsStack K.bit_width nodes.now.slots (K.bits key.new) stack.new.items }
-    ensures entry { (t : Tree T) → IsTrie K.bit_width t.count nodes.now t.cells t.shape → MatchOption result
-        ((pending t.shape.entries (K.bits key.old) stack.old.items ≡ []) × (pending t.shape.entries (K.bits key.new) stack.new.items ≡ []))
+    ensures entry { (t : Tree T) → IsTrie K.bit_width t.count nodes.now t.cells t.shape
+        → MatchOption result
+        ((pending t.shape.entries (K.bits key.old) stack.old.items ≡ [])
+        × (pending t.shape.entries (K.bits key.new) stack.new.items ≡ []))
         (λ r. GivesSeat K.IsKey K.bits K.bit_width t r.0 r.1 r.2
-        (pending t.shape.entries (K.bits key.old) stack.old.items) (pending t.shape.entries (K.bits key.new) stack.new.items)) }
+        (pending t.shape.entries (K.bits key.old) stack.old.items)
+        (pending t.shape.entries (K.bits key.new) stack.new.items)) }
     ensures seat { IfSome result (λ r. seat_of nodes.now.slots (take r.1 (K.bits r.0)) ≡ Some r.2) }
-    ensures passed { ArePassed (K.bits key.old) stack.old.items → ArePassed (K.bits key.new) stack.new.items }
-    ensures last { IfSome result (λ r. EndsLast (K.bits key.new) stack.new.items (take r.1 (K.bits r.0))) }
+    ensures passed { ArePassed (K.bits key.old) stack.old.items
+        → ArePassed (K.bits key.new) stack.new.items }
+    ensures last { IfSome result
+        (λ r. EndsLast (K.bits key.new) stack.new.items (take r.1 (K.bits r.0))) }
 {
     while !stack.is_empty() {
         match next_at_last::<K, A, V, T>(nodes, stack, *key, counter) {

@@ -39,7 +39,8 @@ pub fn walk_at<'a, K: Key, T: Drop, A: Allocator, V: Tick>(
     counter: &mut V,
 ) -> Walk<'a, K, T, A, V>
     requires tree { (s : State T) × IsTrie K.bit_width (size s.entries) nodes.now cells.now s }
-    ensures { (s : State T) → IsShapeOf nodes.now.slots cells.now.slots s → result ≡ selected from s.entries path }
+    ensures { (s : State T) → IsShapeOf nodes.now.slots cells.now.slots s
+        → result ≡ selected from s.entries path }
 {
     let key = path.key();
     let stack = start_at::<K, T, A, V>(nodes, key, path, from, counter);
@@ -94,7 +95,8 @@ pub(super) fn start_at<K: Key, T: Drop, A: Allocator, V: Tick>(
 #[inline]
 fn places_after(from: Start, child: u32) -> (u32, u32)
     requires { child < 32 }
-    ensures { (t : List Bool) → length t ≡ 5 → number t ≡ child → HoldsPlaces result.0 result.1 (behind from t) }
+    ensures { (t : List Bool) → length t ≡ 5 → number t ≡ child
+        → HoldsPlaces result.0 result.1 (behind from t) }
 {
     match from {
         Start::Below => (0, 0),

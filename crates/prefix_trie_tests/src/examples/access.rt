@@ -27,7 +27,9 @@ pub fn reasons<A: Allocator>(
     addr: u32,
     alloc: A,
 ) -> Result<Vec<Ipv4Prefix, A>, AllocError>
-    ensures { IfOk result (λ networks. networks.items ≡ map (λ e. ipv4_back e.0) (covers denied.now.entries (ipv4_address addr))) }
+    ensures { IfOk result
+        (λ networks. networks.items
+        ≡ map (λ e. ipv4_back e.0) (covers denied.now.entries (ipv4_address addr))) }
 {
     denied.cover(&Ipv4Prefix::host(addr)).collect(alloc)
 }

@@ -19,7 +19,8 @@ pub fn next_hops<A: Allocator>(table: &Routes<A>, addresses: &[u32], hops: &mut 
     requires burst { length addresses.now ≤ 64 }
     requires same_length { length hops.old ≡ length addresses.now }
     ensures { hops.new
-        ≡ map (λ addr. option_map (λ route. route.1) (longest_match table.now.entries (ipv4_address addr))) addresses.now }
+        ≡ map (λ addr. option_map
+        (λ route. route.1) (longest_match table.now.entries (ipv4_address addr))) addresses.now }
 {
     let count = addresses.len();
     let mut asked = [Ipv4Prefix::host(0); BURST];
@@ -33,7 +34,8 @@ pub fn next_hops<A: Allocator>(table: &Routes<A>, addresses: &[u32], hops: &mut 
 fn as_prefixes(addresses: &[u32], prefixes: &mut [Ipv4Prefix])
     requires space { length addresses.now ≤ length prefixes.old }
     requires fit { All (λ p. (p.0 < 2 ^ 32) × (p.1 ≤ 32)) prefixes.old }
-    ensures hosts { take (length addresses.now) prefixes.new ≡ map (λ addr. (addr, 32)) addresses.now }
+    ensures hosts { take (length addresses.now) prefixes.new
+        ≡ map (λ addr. (addr, 32)) addresses.now }
     ensures fit { All (λ p. (p.0 < 2 ^ 32) × (p.1 ≤ 32)) prefixes.new }
     ensures length { length prefixes.new ≡ length prefixes.old }
 {

@@ -19,8 +19,11 @@ pub fn store<P: Prefix + Copy, T: Drop, A: Allocator>(
     value: T,
 ) -> Result<bool, Refused<T>>
     requires { P.IsFitting prefix }
-    ensures stored { IfOk result (λ kept. cache.new.entries ≡ with_entry (cond kept cache.old.entries no_entries) (P.path prefix) value) }
-    ensures refused { IfErr result (λ refused. (cache.new.entries ≡ no_entries) × (refused.value ≡ value)) }
+    ensures stored { IfOk result
+        (λ kept. cache.new.entries
+        ≡ with_entry (cond kept cache.old.entries no_entries) (P.path prefix) value) }
+    ensures refused { IfErr result
+        (λ refused. (cache.new.entries ≡ no_entries) × (refused.value ≡ value)) }
 {
     match cache.insert(prefix, value) {
         Ok(_) => Ok(true),

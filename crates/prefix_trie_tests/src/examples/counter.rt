@@ -16,7 +16,8 @@ pub fn count<P: Prefix, A: Allocator>(
 ) -> Result<(), Refused<u64>>
     requires { P.IsFitting prefix }
     ensures { OnOk result (counts.new.entries ≡ with_entry counts.old.entries (P.path prefix)
-        (unwrap_or (option_map (λ n. (n + 1) % 2 ^ 64) (get counts.old.entries (P.path prefix))) 1)) }
+        (unwrap_or (option_map (λ n. (n + 1) % 2 ^ 64) (get counts.old.entries (P.path prefix)))
+        1)) }
 {
     counts
         .entry(prefix)

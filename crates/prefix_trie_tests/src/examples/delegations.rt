@@ -22,7 +22,8 @@ pub fn record<A: Allocator>(
     holder: u32,
 ) -> io::Result<()>
     ensures found { OnOk result ((addr : List Bool) → begins (ipv6_path network) addr ≡ true
-        → IfSome (longest_match table.old.entries addr) (λ known. length known.0 ≤ length (ipv6_path network))
+        → IfSome (longest_match table.old.entries addr)
+        (λ known. length known.0 ≤ length (ipv6_path network))
         → longest_match table.new.entries addr ≡ Some (ipv6_path network, holder)) }
     ensures unchanged { OnErr result (table.new.entries ≡ table.old.entries) }
 {
@@ -33,7 +34,8 @@ pub fn record<A: Allocator>(
 
 /// Returns the holder of an address.
 pub fn holder<A: Allocator>(table: &Delegations<A>, addr: u128) -> Option<u32>
-    ensures { result ≡ option_map (λ found. found.1) (longest_match table.now.entries (ipv6_address addr)) }
+    ensures { result
+        ≡ option_map (λ found. found.1) (longest_match table.now.entries (ipv6_address addr)) }
 {
     table.get_lpm_value(&Ipv6Prefix::host(addr)).copied()
 }

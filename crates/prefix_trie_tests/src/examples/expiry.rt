@@ -8,7 +8,8 @@ use std::alloc::Allocator;
 /// Keeps the entries whose values are at least this one.
 #[tactic(auto, using(prefix_trie::proofs::Callers::may_ask_always))]
 pub fn keep_from<P: Prefix, A: Allocator>(map: &mut PrefixMap<P, u64, A>, least: u64)
-    ensures kept { listing map.new.entries ≡ filter (λ e. nat_le least e.1) (listing map.old.entries) }
+    ensures kept { listing map.new.entries
+        ≡ filter (λ e. nat_le least e.1) (listing map.old.entries) }
     ensures nodes { map.new.nodes ≡ needed map.new.entries }
 {
     map.retain(move |_, value| least <= *value);

@@ -12,9 +12,11 @@ pub type Routes<A> = PrefixMap<Ipv4Prefix, u32, A>;
 
 /// Returns the next hop of the longest route that contains an address.
 pub fn next_hop<A: Allocator>(table: &Routes<A>, addr: u32) -> Option<u32>
-    ensures value { result ≡ option_map (λ route. route.1) (longest_match table.now.entries (ipv4_address addr)) }
+    ensures value { result
+        ≡ option_map (λ route. route.1) (longest_match table.now.entries (ipv4_address addr)) }
     ensures longest { MatchOption result (IsUncovered table.now.entries (ipv4_address addr))
-        (λ hop. (route : List Bool) × IsLongestMatch table.now.entries (ipv4_address addr) (route, hop)) }
+        (λ hop. (route : List Bool)
+        × IsLongestMatch table.now.entries (ipv4_address addr) (route, hop)) }
 {
     lookup_laws::<Ipv4Prefix, u32>();
     table.get_lpm_value(&Ipv4Prefix::host(addr)).copied()
@@ -22,7 +24,8 @@ pub fn next_hop<A: Allocator>(table: &Routes<A>, addr: u32) -> Option<u32>
 
 /// Adds a route, or replaces its next hop.
 pub fn add<A: Allocator>(table: &mut Routes<A>, route: Ipv4Prefix, hop: u32) -> Result<(), Refusal>
-    ensures added { OnOk result (table.new.entries ≡ with_entry table.old.entries (ipv4_path route) hop) }
+    ensures added { OnOk result
+        (table.new.entries ≡ with_entry table.old.entries (ipv4_path route) hop) }
     ensures unchanged { OnErr result (table.new.entries ≡ table.old.entries) }
 {
     table.insert(route, hop)?;

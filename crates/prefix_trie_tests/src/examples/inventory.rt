@@ -11,7 +11,9 @@ type Inventory<A> = PrefixMap<Ipv4Prefix, u32, A>;
 
 /// Returns the first network after the one that was read last, and its owner.
 pub fn next<A: Allocator>(networks: &Inventory<A>, last: Ipv4Prefix) -> Option<(Ipv4Prefix, u32)>
-    ensures { result ≡ first_item (prefix_pairs ipv4_back (listing_after networks.now.entries (ipv4_path last))) }
+    ensures { result
+        ≡ first_item
+        (prefix_pairs ipv4_back (listing_after networks.now.entries (ipv4_path last))) }
 {
     match networks.iter_from(&last, false).next() {
         Some((network, owner)) => Some((network, *owner)),

@@ -12,7 +12,9 @@ pub fn merge<P: Prefix, T: Copy + Drop, A: Allocator, B: Allocator>(
     to: &mut PrefixMap<P, T, A>,
     from: &PrefixMap<P, T, B>,
 ) -> Result<(), Refusal>
-    ensures { OnOk result ((s : List Bool) → get to.new.entries s ≡ option_or (get from.now.entries s) (get to.old.entries s)) }
+    ensures { OnOk result
+        ((s : List Bool)
+        → get to.new.entries s ≡ option_or (get from.now.entries s) (get to.old.entries s)) }
 {
     put_laws::<P, T>();
     for (prefix, value) in from {

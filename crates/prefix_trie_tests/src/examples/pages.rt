@@ -12,7 +12,8 @@ fn walk_after<'m, P: Prefix, A: Allocator>(
     map: &'m PrefixMap<P, u64, A>,
     read: &[(P, u64)],
 ) -> Iter<'m, P, u64, A>
-    requires { (rest : List (P × ℕ)) × (prefix_pairs P.back (listing map.now.entries) ≡ read.now ++ rest) }
+    requires { (rest : List (P × ℕ))
+        × (prefix_pairs P.back (listing map.now.entries) ≡ read.now ++ rest) }
     ensures { prefix_pairs P.back (listing map.now.entries) ≡ read.now ++ result }
 {
     page_laws::<P, u64>();
@@ -30,8 +31,11 @@ pub fn read_page<P: Prefix, A: Allocator, B: Allocator>(
     size: usize,
     read: &mut Vec<(P, u64), B>,
 ) -> Result<(), AllocError>
-    requires { (rest : List (P × ℕ)) × (prefix_pairs P.back (listing map.now.entries) ≡ read.old.items ++ rest) }
-    ensures { OnOk result (read.new.items ≡ take (length read.old.items + size) (prefix_pairs P.back (listing map.now.entries))) }
+    requires { (rest : List (P × ℕ))
+        × (prefix_pairs P.back (listing map.now.entries) ≡ read.old.items ++ rest) }
+    ensures { OnOk result
+        (read.new.items
+        ≡ take (length read.old.items + size) (prefix_pairs P.back (listing map.now.entries))) }
 {
     let mut walk = walk_after(map, read);
     for _i in 0..size {

@@ -26,11 +26,14 @@ pub fn assign<const W: u32, A: Allocator>(
     requires { len ≤ narrow_width W }
     ensures owned { OnOk result ((number : ℕ) → number < 2 ^ narrow_width W
         → number / 2 ^ (narrow_width W - len) ≡ first.entry / 2 ^ (narrow_width W - len)
-        → IfSome (longest_match plan.old.entries (digits (narrow_width W) number)) (λ known. length known.0 ≤ len)
-        → longest_match plan.new.entries (digits (narrow_width W) number) ≡ Some (take len (digits (narrow_width W) first.entry), owner)) }
+        → IfSome (longest_match plan.old.entries (digits (narrow_width W) number))
+        (λ known. length known.0 ≤ len)
+        → longest_match plan.new.entries (digits (narrow_width W) number)
+        ≡ Some (take len (digits (narrow_width W) first.entry), owner)) }
     ensures others { OnOk result ((number : ℕ) → number < 2 ^ narrow_width W
         → number / 2 ^ (narrow_width W - len) ≢ first.entry / 2 ^ (narrow_width W - len)
-        → longest_match plan.new.entries (digits (narrow_width W) number) ≡ longest_match plan.old.entries (digits (narrow_width W) number)) }
+        → longest_match plan.new.entries (digits (narrow_width W) number)
+        ≡ longest_match plan.old.entries (digits (narrow_width W) number)) }
     ensures unchanged { OnErr result (plan.new.entries ≡ plan.old.entries) }
 {
     narrow_laws::<W>();
@@ -41,7 +44,9 @@ pub fn assign<const W: u32, A: Allocator>(
 
 /// Returns the owner of a number: the owner of the narrowest range that contains it.
 pub fn owner<const W: u32, A: Allocator>(plan: &Plan<W, A>, number: Narrow<W>) -> Option<u32>
-    ensures { result ≡ option_map (λ found. found.1) (longest_match plan.now.entries (digits (narrow_width W) number.entry)) }
+    ensures { result
+        ≡ option_map (λ found. found.1)
+        (longest_match plan.now.entries (digits (narrow_width W) number.entry)) }
 {
     narrow_laws::<W>();
     let width = Narrow::<W>::width() as u8;

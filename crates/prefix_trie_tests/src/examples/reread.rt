@@ -32,7 +32,8 @@ pub fn reread_ipv6<A: Allocator>(
 
 /// Compares networks without host bits in listing order, as a program does that merges two walks.
 pub fn compare(a: &Ipv4Prefix, b: &Ipv4Prefix) -> Ordering
-    ensures { HasNoHostBits 32 a.now → HasNoHostBits 32 b.now → result ≡ listing_cmp (ipv4_path a.now) (ipv4_path b.now) }
+    ensures { HasNoHostBits 32 a.now → HasNoHostBits 32 b.now
+        → result ≡ listing_cmp (ipv4_path a.now) (ipv4_path b.now) }
 {
     network_order_laws();
     let _ = (a.address(), b.address());

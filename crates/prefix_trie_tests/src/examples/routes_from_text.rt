@@ -28,8 +28,10 @@ pub enum LineError {
 
 /// Reads a line: a network, a space and the number of the next hop.
 pub fn read_route(line: &str) -> Result<(Ipv4Prefix, u32), LineError>
-    ensures { IfOk result (λ route. (network hop : List ℕ) × (line.now ≡ network ++ (codes " " ++ hop))
-        × IsIpv4NetworkText network route.0 × (digits_value 10 (without_leading_plus hop) ≡ route.1)) }
+    ensures { IfOk result
+        (λ route. (network hop : List ℕ) × (line.now ≡ network ++ (codes " " ++ hop))
+        × IsIpv4NetworkText network route.0
+        × (digits_value 10 (without_leading_plus hop) ≡ route.1)) }
 {
     let Some((network, hop)) = line.split_once(' ') else {
         return Err(LineError::MissingSpace);
@@ -50,8 +52,11 @@ pub fn read_route(line: &str) -> Result<(Ipv4Prefix, u32), LineError>
 ///
 /// Returns the reason if the line is not a route or the table refuses it. The table is unchanged then.
 pub fn add_line<A: Allocator>(table: &mut Routes<A>, line: &str) -> Result<(), LineError>
-    ensures added { OnOk result ((route : (ℕ × ℕ) × ℕ) × ((network hop : List ℕ) × (line.now ≡ network ++ (codes " " ++ hop))
-        × IsIpv4NetworkText network route.0 × (digits_value 10 (without_leading_plus hop) ≡ route.1))
+    ensures added { OnOk result
+        ((route : (ℕ × ℕ) × ℕ)
+        × ((network hop : List ℕ) × (line.now ≡ network ++ (codes " " ++ hop))
+        × IsIpv4NetworkText network route.0
+        × (digits_value 10 (without_leading_plus hop) ≡ route.1))
         × (table.new.entries ≡ with_entry table.old.entries (ipv4_path route.0) route.1)) }
     ensures unchanged { OnErr result (table.new.entries ≡ table.old.entries) }
 {
@@ -64,7 +69,9 @@ pub fn add_line<A: Allocator>(table: &mut Routes<A>, line: &str) -> Result<(), L
 
 /// Returns the next hop of an address: the hop of the longest route that contains it, if there is one.
 pub fn next_hop<A: Allocator>(table: &Routes<A>, address: Ipv4Addr) -> Option<u32>
-    ensures { result ≡ option_map (λ route. route.1) (longest_match table.now.entries (ipv4_address (ipv4_bits address))) }
+    ensures { result
+        ≡ option_map (λ route. route.1)
+        (longest_match table.now.entries (ipv4_address (ipv4_bits address))) }
 {
     network_laws();
     table.get_lpm_value(&Ipv4Prefix::from(address)).copied()
@@ -76,7 +83,9 @@ pub fn print<A: Allocator, B: Allocator>(
     alloc: B,
 ) -> Result<String<B>, AllocError>
     ensures { IfOk result (λ text. string_bytes text
-        ≡ flat_map (λ route. ipv4_network_text route.0 ++ (codes " " ++ (decimal route.1 ++ codes "\n"))) (prefix_pairs ipv4_back (listing table.now.entries))) }
+        ≡ flat_map (λ route. ipv4_network_text route.0
+        ++ (codes " " ++ (decimal route.1 ++ codes "\n")))
+        (prefix_pairs ipv4_back (listing table.now.entries))) }
 {
     let mut text = String::new(alloc);
     for (network, hop) in table {

@@ -20,7 +20,8 @@ fn double_rest<'b, 'a, P: Prefix, A: Allocator>(walk: &'b mut ValuesMut<'a, P, u
 
 /// Doubles all values of a map, modulo 2^64.
 pub fn double_all<P: Prefix, A: Allocator>(map: &mut PrefixMap<P, u64, A>)
-    ensures entries { (s : List Bool) → get map.new.entries s ≡ option_map (λ v. (v * 2) % 2 ^ 64) (get map.old.entries s) }
+    ensures entries { (s : List Bool)
+        → get map.new.entries s ≡ option_map (λ v. (v * 2) % 2 ^ 64) (get map.old.entries s) }
     ensures others { map.new ≡ record map.old { entries = map.new.entries } }
 {
     let mut walk = map.values_mut();
@@ -41,7 +42,8 @@ fn double_entries<'b, 'a, P: Prefix, A: Allocator>(walk: &'b mut IterMut<'a, P, 
 
 /// Doubles all values of a map by a walk that also yields the prefixes.
 pub fn double_each<P: Prefix, A: Allocator>(map: &mut PrefixMap<P, u64, A>)
-    ensures entries { (s : List Bool) → get map.new.entries s ≡ option_map (λ v. (v * 2) % 2 ^ 64) (get map.old.entries s) }
+    ensures entries { (s : List Bool)
+        → get map.new.entries s ≡ option_map (λ v. (v * 2) % 2 ^ 64) (get map.old.entries s) }
 {
     let mut walk = map.iter_mut();
     double_entries(&mut walk);

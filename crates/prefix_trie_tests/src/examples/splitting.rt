@@ -15,7 +15,8 @@ pub fn split_and_merge<P: Prefix, T: Drop, A: Allocator + Clone>(
     prefix: &P,
 ) -> Result<usize, Refusal>
     requires { P.IsFitting prefix.now }
-    ensures count { IfOk result (λ count. count ≡ len (part_below table.old.entries (P.path prefix.now))) }
+    ensures count { IfOk result
+        (λ count. count ≡ len (part_below table.old.entries (P.path prefix.now))) }
     ensures same { OnOk result (table.new.entries ≡ table.old.entries) }
 {
     split_laws::<T>();

@@ -22,8 +22,11 @@ fn longest_of<A: Allocator + Clone>(
 ) -> Result<(Vec<Reply<Pair, A>, A>, Reads), AllocError>
     requires { ⟦<Pair as Prefix>⟧.IsFitting prefix }
     ensures reply { IfOk result (λ ran. replies_of ⟦<u16 as Key>⟧.bits ran.0.items
-        ≡ Match (prefix_pair ⟦<Pair as Prefix>⟧.back (longest_match map.old.entries (⟦<Pair as Prefix>⟧.path prefix))) ∷ []) }
-    ensures reads { IfOk result (λ ran. (n : ℕ) × (ran.1 ≡ Some n ∷ []) × (n ≤ length (⟦<Pair as Prefix>⟧.path prefix) / 5 + 1)) }
+        ≡ Match (prefix_pair ⟦<Pair as Prefix>⟧.back
+        (longest_match map.old.entries (⟦<Pair as Prefix>⟧.path prefix))) ∷ []) }
+    ensures reads { IfOk result
+        (λ ran. (n : ℕ) × (ran.1 ≡ Some n ∷ [])
+        × (n ≤ length (⟦<Pair as Prefix>⟧.path prefix) / 5 + 1)) }
     ensures unchanged { OnOk result (state map.new ≡ state map.old) }
 {
     run_counted(alloc, map, &[Call::Lpm(prefix)])
@@ -36,7 +39,8 @@ fn nodes_once_cleared<A: Allocator + Clone>(
     prefix: Pair,
 ) -> Result<Vec<Reply<Pair, A>, A>, AllocError>
     requires { ⟦<Pair as Prefix>⟧.IsFitting prefix }
-    ensures { IfOk result (λ replies. (inserted : Answer (ℕ × ℕ) ℕ) × (replies_of ⟦<u16 as Key>⟧.bits replies.items
+    ensures { IfOk result
+        (λ replies. (inserted : Answer (ℕ × ℕ) ℕ) × (replies_of ⟦<u16 as Key>⟧.bits replies.items
         ≡ Done ∷ inserted ∷ Count (len (needed map.new.entries)) ∷ [])) }
 {
     let calls = [Call::Clear, Call::Insert(prefix, 1), Call::NodeCount];
@@ -50,7 +54,8 @@ fn nodes_of_new<A: Allocator + Clone>(
     prefix: Pair,
 ) -> Result<(Numbers<A>, Vec<Reply<Pair, A>, A>), Refusal>
     requires { ⟦<Pair as Prefix>⟧.IsFitting prefix }
-    ensures { IfOk result (λ made. (inserted : Answer (ℕ × ℕ) ℕ) × (replies_of ⟦<u16 as Key>⟧.bits made.1.items
+    ensures { IfOk result
+        (λ made. (inserted : Answer (ℕ × ℕ) ℕ) × (replies_of ⟦<u16 as Key>⟧.bits made.1.items
         ≡ inserted ∷ Count (len (needed made.0.entries)) ∷ [])) }
 {
     let mut map = PrefixMap::new(alloc)?;

@@ -16,7 +16,9 @@ fn pour<P: Prefix, T: Drop, A: Allocator>(
     to: &mut PrefixMap<P, T, A>,
     from: PrefixMap<P, T, A>,
 ) -> Result<(), Refused<T>>
-    ensures { OnOk result (to.new.entries ≡ put_all P.path (prefix_pairs P.back (listing from.entries)) to.old.entries) }
+    ensures { OnOk result
+        (to.new.entries
+        ≡ put_all P.path (prefix_pairs P.back (listing from.entries)) to.old.entries) }
 {
     for (prefix, value) in from {
         to.insert(prefix, value)?;

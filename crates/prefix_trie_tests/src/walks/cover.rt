@@ -19,7 +19,9 @@ fn count<P: Prefix, T: Drop, A: Allocator>(m: &PrefixMap<P, T, A>, prefix: &P) -
 // Returns whether no value of these prefixes is less than this one.
 fn none_below<P: Prefix, A: Allocator>(m: &PrefixMap<P, u32, A>, prefix: &P, least: u32) -> bool
     requires { P.IsFitting prefix.now }
-    ensures { result ≡ list_all (λ e. nat_le least e.1) (prefix_pairs P.back (covers m.now.entries (P.path prefix.now))) }
+    ensures { result
+        ≡ list_all (λ e. nat_le least e.1)
+        (prefix_pairs P.back (covers m.now.entries (P.path prefix.now))) }
 {
     for (_, value) in m.cover(prefix) {
         if *value < least {

@@ -33,7 +33,8 @@ fn all_keys<P: Prefix, T: Drop, A: Allocator>(
 
 // Returns whether no value is less than this one.
 fn none_below<P: Prefix, A: Allocator>(m: &PrefixMap<P, u32, A>, least: u32) -> bool
-    ensures { result ≡ list_all (λ e. nat_le least e.1) (prefix_pairs P.back (listing m.now.entries)) }
+    ensures { result
+        ≡ list_all (λ e. nat_le least e.1) (prefix_pairs P.back (listing m.now.entries)) }
 {
     for (_, value) in m {
         if *value < least {
@@ -48,8 +49,10 @@ fn resume<'m, P: Prefix, T: Drop, A: Allocator>(
     m: &'m PrefixMap<P, T, A>,
     mut walk: Iter<'m, P, T, A>,
 ) -> Option<Iter<'m, P, T, A>>
-    requires { (read : List (P × T)) × (prefix_pairs P.back (listing m.now.entries) ≡ read ++ walk) }
-    ensures { MatchOption result (walk.entry ≡ []) (λ rest. (last : P × T) × (walk.entry ≡ last ∷ rest)) }
+    requires { (read : List (P × T))
+        × (prefix_pairs P.back (listing m.now.entries) ≡ read ++ walk) }
+    ensures { MatchOption result (walk.entry ≡ [])
+        (λ rest. (last : P × T) × (walk.entry ≡ last ∷ rest)) }
 {
     resume_laws::<P, T>();
     // Tells the proof that the prefix that was read fits.

@@ -19,7 +19,8 @@ fn swap_next<'b, 'a, P: Prefix, T: Drop, A: Allocator>(
     value: T,
 ) -> Option<(P, T)>
     ensures { MatchOption result (EndsIn ComesToEnd walk.old.source walk.new.source)
-        (λ r. FirstIn IsFirst walk.old.source r.0 r.1 × PassesIn GoesOver walk.old.source value walk.new.source) }
+        (λ r. FirstIn IsFirst walk.old.source r.0 r.1
+        × PassesIn GoesOver walk.old.source value walk.new.source) }
 {
     let (prefix, stop) = walk.step()?;
     let before = mem::replace(walk.value(stop), value);
@@ -33,7 +34,8 @@ fn swap_first<P: Prefix, T: Drop, A: Allocator>(
 ) -> Option<(P, T)>
     ensures before { result ≡ slice_get (prefix_pairs P.back (listing map.old.entries)) 0 }
     ensures unchanged { listing map.old.entries ≡ [] → map.new ≡ map.old }
-    ensures swapped { (q : List Bool) → (v : T) → (rest : List (List Bool × T)) → listing map.old.entries ≡ (q, v) ∷ rest
+    ensures swapped { (q : List Bool) → (v : T) → (rest : List (List Bool × T))
+        → listing map.old.entries ≡ (q, v) ∷ rest
         → map.new ≡ with_value_at map.old q value }
 {
     let mut walk = map.iter_mut();

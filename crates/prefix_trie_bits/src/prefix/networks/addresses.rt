@@ -82,7 +82,8 @@ impl Ipv6Prefix {
     /// ```
     #[inline]
     pub fn from_address(address: Ipv6Addr, len: u8) -> Option<Self>
-        ensures { MatchOption result (128 < len) (λ p. (p ≡ (ipv6_bits address, len)) × (len ≤ 128)) }
+        ensures { MatchOption result (128 < len)
+            (λ p. (p ≡ (ipv6_bits address, len)) × (len ≤ 128)) }
     {
         Ipv6Prefix::new(address.to_bits(), len)
     }

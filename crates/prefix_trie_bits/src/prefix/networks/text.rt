@@ -64,8 +64,10 @@ const LONGEST: usize = 43;
 
 // Writes `value` as a whole, under the options of the formatter.
 fn pad<F: Write, D: Display + Drop>(f: &mut Formatter<F>, value: D) -> fmt::Result
-    ensures writes { DisplaysOnOk F.Write.write_str_gives f.old result (D.Display.output value) f.new }
-    ensures styled { DisplaysStyledOnOk F.Write.write_str_gives f.old result (option_map (padded (formatter_spec f.old)) (D.Display.output value)) f.new }
+    ensures writes { DisplaysOnOk F.Write.write_str_gives f.old result
+        (D.Display.output value) f.new }
+    ensures styled { DisplaysStyledOnOk F.Write.write_str_gives f.old result
+        (option_map (padded (formatter_spec f.old)) (D.Display.output value)) f.new }
 {
     let mut text = InlineText::<LONGEST>::new();
     text.write(value)?;

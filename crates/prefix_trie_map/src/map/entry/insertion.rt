@@ -53,8 +53,11 @@ impl<'a, P: Prefix, T: Drop, A: Allocator> Entry<'a, P, T, A> {
     /// ```
     pub fn put(self, value: T) -> Put<'a, P, T, A>
         ensures same_map { result.map.ghost_name ≡ (entry_map_ref self.entry).ghost_name }
-        ensures set { IfOk result.answer (λ before. (before ≡ entry_value self.entry) × Fills self.entry result.map.now value) }
-        ensures refused { IfErr result.answer (λ refused. (refused.value ≡ value) × (entry_value self.entry ≡ None) × RefusesToFill self.entry refused.cause result.map.now) }
+        ensures set { IfOk result.answer
+            (λ before. (before ≡ entry_value self.entry) × Fills self.entry result.map.now value) }
+        ensures refused { IfErr result.answer
+            (λ refused. (refused.value ≡ value) × (entry_value self.entry ≡ None)
+            × RefusesToFill self.entry refused.cause result.map.now) }
     {
         match self {
             Entry::Vacant(entry) => entry.put(value),
@@ -69,8 +72,11 @@ impl<'a, P: Prefix, T: Drop, A: Allocator> VacantEntry<'a, P, T, A> {
     // `Entry::put` for a vacant entry.
     fn put(self, value: T) -> Put<'a, P, T, A>
         ensures same_map { result.map.ghost_name ≡ self.entry.map.ghost_name }
-        ensures set { IfOk result.answer (λ before. (before ≡ None) × Fills (Vacant self.entry) result.map.now value) }
-        ensures refused { IfErr result.answer (λ refused. (refused.value ≡ value) × RefusesToFill (Vacant self.entry) refused.cause result.map.now) }
+        ensures set { IfOk result.answer
+            (λ before. (before ≡ None) × Fills (Vacant self.entry) result.map.now value) }
+        ensures refused { IfErr result.answer
+            (λ refused. (refused.value ≡ value)
+            × RefusesToFill (Vacant self.entry) refused.cause result.map.now) }
     {
         let VacantEntry { map, key, end } = self;
         match map.insert_located(key.prefix(), end, value) {
@@ -93,7 +99,9 @@ impl<'a, P: Prefix, T: Drop, A: Allocator> OccupiedEntry<'a, P, T, A> {
     fn put(self, value: T) -> Put<'a, P, T, A>
         ensures same_map { result.map.ghost_name ≡ self.entry.map.ghost_name }
         ensures before { result.answer ≡ Ok (entry_value (Occupied self.entry)) }
-        ensures after { result.map.now ≡ with_value_at (entry_map (Occupied self.entry)) (entry_path (Occupied self.entry)) value }
+        ensures after { result.map.now
+            ≡ with_value_at (entry_map (Occupied self.entry))
+            (entry_path (Occupied self.entry)) value }
         ensures whole { IsWhole P.R.bit_width (entry_map (Occupied self.entry)) }
     {
         let OccupiedEntry { map, key, seat } = self;

@@ -64,7 +64,9 @@ impl<'a, P: Prefix, T: Drop, A: Allocator> OccupiedEntry<'a, P, T, A> {
     /// ```
     #[inline]
     pub fn get_mut(&mut self) -> &mut T
-        ensures* writes_back { sem 𝓛 (lends_occupied P.row T.row A.row P.R.row P.Debug P.R.PartialEq P.R.Debug A.Allocator self.entry result) }
+        ensures* writes_back { sem 𝓛
+            (lends_occupied P.row T.row A.row P.R.row P.Debug P.R.PartialEq P.R.Debug A.Allocator
+            self.entry result) }
         ensures value { entry_value (Occupied self.old) ≡ Some result.now }
     {
         let path = self.key.path();
@@ -83,7 +85,9 @@ impl<'a, P: Prefix, T: Drop, A: Allocator> OccupiedEntry<'a, P, T, A> {
     /// ```
     #[inline]
     pub fn into_mut(self) -> &'a mut T
-        ensures* writes_back { sem 𝓛 (lends_written P.row T.row A.row P.R.row P.Debug P.R.PartialEq P.R.Debug A.Allocator (Occupied self.entry) result) }
+        ensures* writes_back { sem 𝓛
+            (lends_written P.row T.row A.row P.R.row P.Debug P.R.PartialEq P.R.Debug A.Allocator
+            (Occupied self.entry) result) }
         ensures value { entry_value (Occupied self.entry) ≡ Some result.now }
         ensures whole { IsWhole P.R.bit_width (entry_map (Occupied self.entry)) }
     {
@@ -130,7 +134,9 @@ impl<'a, P: Prefix, T: Drop, A: Allocator> OccupiedEntry<'a, P, T, A> {
     #[inline]
     pub fn insert(self, value: T) -> T
         ensures before { entry_value (Occupied self.entry) ≡ Some result }
-        ensures after { self.exit.0.now ≡ with_value_at (entry_map (Occupied self.entry)) (entry_path (Occupied self.entry)) value }
+        ensures after { self.exit.0.now
+            ≡ with_value_at (entry_map (Occupied self.entry))
+            (entry_path (Occupied self.entry)) value }
     {
         let key = self.key;
         let seat = self.seat;
@@ -153,9 +159,13 @@ impl<'a, P: Prefix, T: Drop, A: Allocator> OccupiedEntry<'a, P, T, A> {
     #[inline]
     pub fn remove(self) -> T
         ensures value { entry_value (Occupied self.entry) ≡ Some result }
-        ensures entries { self.exit.0.now.entries ≡ without_entry (entry_map (Occupied self.entry)).entries (entry_path (Occupied self.entry)) }
+        ensures entries { self.exit.0.now.entries
+            ≡ without_entry (entry_map (Occupied self.entry)).entries
+            (entry_path (Occupied self.entry)) }
         ensures nodes { self.exit.0.now.nodes ≡ (entry_map (Occupied self.entry)).nodes }
-        ensures step { StepByPath P.R.bit_width (stored_state (entry_map (Occupied self.entry))) (RemoveKeepTree (entry_path (Occupied self.entry))) (Value (Some result)) (stored_state self.exit.0.now) }
+        ensures step { StepByPath P.R.bit_width (stored_state (entry_map (Occupied self.entry)))
+            (RemoveKeepTree (entry_path (Occupied self.entry))) (Value (Some result))
+            (stored_state self.exit.0.now) }
     {
         let key = self.key;
         self.map.take(key.prefix())

@@ -42,7 +42,9 @@ impl<'a, P: Prefix, T: Drop, A: Allocator> VacantEntry<'a, P, T, A> {
     /// ```
     #[inline]
     pub fn insert(self, value: T) -> Result<&'a mut T, Refused<T>>
-        ensures* writes_back { sem 𝓛 (lends_filled P.row T.row A.row P.R.row P.Debug P.R.PartialEq P.R.Debug A.Allocator (λ refused. refused.cause) (Vacant self.entry) result) }
+        ensures* writes_back { sem 𝓛
+            (lends_filled P.row T.row A.row P.R.row P.Debug P.R.PartialEq P.R.Debug A.Allocator
+            (λ refused. refused.cause) (Vacant self.entry) result) }
         ensures value { IfOk result (λ x. x.now ≡ value) }
         ensures returned { IfErr result (λ refused. refused.value ≡ value) }
     {
@@ -70,7 +72,9 @@ impl<'a, P: Prefix, T: Drop, A: Allocator> VacantEntry<'a, P, T, A> {
     #[inline]
     pub fn insert_with<F: FnOnce() -> T + Drop>(self, f: F) -> Result<&'a mut T, Refusal>
         requires { F.pre f }
-        ensures* writes_back { sem 𝓛 (lends_filled P.row T.row A.row P.R.row P.Debug P.R.PartialEq P.R.Debug A.Allocator (λ cause. cause) (Vacant self.entry) result) }
+        ensures* writes_back { sem 𝓛
+            (lends_filled P.row T.row A.row P.R.row P.Debug P.R.PartialEq P.R.Debug A.Allocator
+            (λ cause. cause) (Vacant self.entry) result) }
         ensures value { IfOk result (λ x. F.post f x.now) }
     {
         let VacantEntry { map, key, end } = self;
@@ -101,7 +105,9 @@ impl<'a, P: Prefix, T: Drop, A: Allocator> VacantEntry<'a, P, T, A> {
     pub fn default(self) -> Result<&'a mut T, Refusal>
     where
         T: Default,
-        ensures* writes_back { sem 𝓛 (lends_filled P.row T.row A.row P.R.row P.Debug P.R.PartialEq P.R.Debug A.Allocator (λ cause. cause) (Vacant self.entry) result) }
+        ensures* writes_back { sem 𝓛
+            (lends_filled P.row T.row A.row P.R.row P.Debug P.R.PartialEq P.R.Debug A.Allocator
+            (λ cause. cause) (Vacant self.entry) result) }
         ensures value { IfOk result (λ x. T.is_default x.now) }
     {
         self.insert_with(|| T::default())

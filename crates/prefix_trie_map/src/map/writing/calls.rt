@@ -69,7 +69,8 @@ impl<P: Prefix, T: Drop, A: Allocator> PrefixMap<P, T, A> {
     #[inline]
     pub fn children_mut(&mut self, prefix: &P) -> IterMut<'_, P, T, A>
         requires { P.IsFitting prefix.now }
-        ensures starts { StartsIn self.entry (listing_below self.old.entries (P.path prefix.now)) result.source }
+        ensures starts { StartsIn self.entry
+            (listing_below self.old.entries (P.path prefix.now)) result.source }
         ensures whole { IsWhole P.R.bit_width self.old }
     {
         self.write_from(prefix.path(), Start::Below)

@@ -12,7 +12,8 @@ pub(super) fn copied<P: Prefix, T: Copy, A: Allocator, B: Allocator>(
     table: &PrefixMap<P, T, A>,
     alloc: B,
 ) -> Result<Vec<(P, T), B>, AllocError>
-    ensures items { IfOk result (λ entries. entries.items ≡ prefix_pairs P.back (listing table.now.entries)) }
+    ensures items { IfOk result
+        (λ entries. entries.items ≡ prefix_pairs P.back (listing table.now.entries)) }
     ensures fit { IfOk result (λ entries. All (λ e. P.IsFitting e.0) entries.items) }
 {
     listed_laws::<P, T>();

@@ -50,11 +50,14 @@ pub(super) fn place<P: Prefix, T: Copy + Ord, B: Allocator, C: Allocator>(
 ) -> Result<(), Stop>
     requires { P.IsFitting at.now }
     ensures walks { OnOk result ((source : Entries T) → AreWithin P.R.bit_width source
-        → walk.old ≡ prefix_pairs P.back (listing_from source (P.path at.now)) → walk.new ≡ prefix_pairs P.back (listing_past source (P.path at.now))) }
+        → walk.old ≡ prefix_pairs P.back (listing_from source (P.path at.now))
+        → walk.new ≡ prefix_pairs P.back (listing_past source (P.path at.now))) }
     ensures rebuilds { OnOk result ((source : Entries T) → AreWithin P.R.bit_width source
-        → walk.old ≡ prefix_pairs P.back (listing_from source (P.path at.now)) → HasNoneBelow made.old.entries (P.path at.now)
+        → walk.old ≡ prefix_pairs P.back (listing_from source (P.path at.now))
+        → HasNoneBelow made.old.entries (P.path at.now)
         → ((x y : T) → T.PartialEq.eq x y ≡ true → x ≡ y)
-        → Rebuilds T.PartialEq.eq P.R.bit_width source (P.path at.now) inherited held made.old.entries made.new.entries) }
+        → Rebuilds T.PartialEq.eq P.R.bit_width source
+        (P.path at.now) inherited held made.old.entries made.new.entries) }
 {
     listing_laws::<T>();
     listed_laws::<P, T>();
@@ -81,11 +84,16 @@ fn place_inner<P: Prefix, T: Copy + Ord, B: Allocator, C: Allocator>(
     requires fits { P.IsFitting at.now }
     requires short { P.len_of at.now < P.R.bit_width }
     ensures walks { OnOk result ((source : Entries T) → AreWithin P.R.bit_width source
-        → walk.old ≡ prefix_pairs P.back (listing_after source (P.path at.now)) → walk.new ≡ prefix_pairs P.back (listing_past source (P.path at.now))) }
-    ensures rebuilds { OnOk result ((source : Entries T) (inherited : Option T) → AreWithin P.R.bit_width source
-        → walk.old ≡ prefix_pairs P.back (listing_after source (P.path at.now)) → HasNoneBelow made.old.entries (P.path at.now)
-        → ((x y : T) → T.PartialEq.eq x y ≡ true → x ≡ y) → here ≡ option_or (get source (P.path at.now)) inherited
-        → Rebuilds T.PartialEq.eq P.R.bit_width source (P.path at.now) inherited held made.old.entries made.new.entries) }
+        → walk.old ≡ prefix_pairs P.back (listing_after source (P.path at.now))
+        → walk.new ≡ prefix_pairs P.back (listing_past source (P.path at.now))) }
+    ensures rebuilds { OnOk result
+        ((source : Entries T) (inherited : Option T) → AreWithin P.R.bit_width source
+        → walk.old ≡ prefix_pairs P.back (listing_after source (P.path at.now))
+        → HasNoneBelow made.old.entries (P.path at.now)
+        → ((x y : T) → T.PartialEq.eq x y ≡ true → x ≡ y)
+        → here ≡ option_or (get source (P.path at.now)) inherited
+        → Rebuilds T.PartialEq.eq P.R.bit_width source
+        (P.path at.now) inherited held made.old.entries made.new.entries) }
 {
     let wanted = choices.take(held);
     settle(made, at, held, wanted)?;
@@ -105,10 +113,15 @@ fn settle<P: Prefix, T: Copy + Ord, A: Allocator>(
     wanted: Option<T>,
 ) -> Result<(), Stop>
     requires { P.IsFitting at.now }
-    ensures beside { OnOk result ((t : List Bool) → t ≢ P.path at.now → get made.new.entries t ≡ get made.old.entries t) }
-    ensures value { OnOk result (((x y : T) → T.PartialEq.eq x y ≡ true → x ≡ y) → get made.old.entries (P.path at.now) ≡ None
+    ensures beside { OnOk result
+        ((t : List Bool) → t ≢ P.path at.now → get made.new.entries t ≡ get made.old.entries t) }
+    ensures value { OnOk result
+        (((x y : T) → T.PartialEq.eq x y ≡ true → x ≡ y)
+        → get made.old.entries (P.path at.now) ≡ None
         → option_or (get made.new.entries (P.path at.now)) held ≡ wanted) }
-    ensures fresh { OnOk result (get made.old.entries (P.path at.now) ≡ None → are_equal T.PartialEq.eq held (get made.new.entries (P.path at.now)) ≡ false) }
+    ensures fresh { OnOk result
+        (get made.old.entries (P.path at.now) ≡ None
+        → are_equal T.PartialEq.eq held (get made.new.entries (P.path at.now)) ≡ false) }
 {
     let Some(value) = wanted else {
         return if held.is_none() {
@@ -131,7 +144,8 @@ fn store<P: Prefix, T: Copy + Ord, A: Allocator>(
     value: T,
 ) -> Result<(), Stop>
     requires { P.IsFitting at.now }
-    ensures beside { OnOk result ((t : List Bool) → t ≢ P.path at.now → get made.new.entries t ≡ get made.old.entries t) }
+    ensures beside { OnOk result
+        ((t : List Bool) → t ≢ P.path at.now → get made.new.entries t ≡ get made.old.entries t) }
     ensures value { OnOk result (get made.new.entries (P.path at.now) ≡ Some value) }
 {
     stored_laws::<T>();

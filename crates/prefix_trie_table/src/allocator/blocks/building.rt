@@ -35,10 +35,14 @@ impl<S: Slot, R: SlotArray<S>, A: Allocator> Blocks<S, R, A> {
     pub fn build_vacant(&mut self, count: u32) -> Result<BlockRef, Refusal>
         requires sound { (live : List (UsedBlock S)) × Sound S.vacant live self.old }
         requires fits { IsSome (smallest_size (tier_sizes self.old.tiers) count) }
-        ensures built { IfOk result (BuildsList S.vacant self.old self.new (replicate count S.vacant)) }
-        ensures longer { IfOk result (λ _. length self.new.slots ≤ length self.old.slots + packed_slots (tier_sizes self.old.tiers) count) }
+        ensures built { IfOk result
+            (BuildsList S.vacant self.old self.new (replicate count S.vacant)) }
+        ensures longer { IfOk result
+            (λ _. length self.new.slots
+            ≤ length self.old.slots + packed_slots (tier_sizes self.old.tiers) count) }
         ensures range { IfErr result (λ cause. cause ≡ IndexRange
-            → self.old.limit < length self.old.slots + packed_slots (tier_sizes self.old.tiers) count) }
+            → self.old.limit
+            < length self.old.slots + packed_slots (tier_sizes self.old.tiers) count) }
     {
         if count == 0 {
             return Ok(BlockRef { tier: 0, start: 0 });
@@ -61,7 +65,8 @@ impl<S: Slot + Copy, R: SlotArray<S>, A: Allocator> Blocks<S, R, A> {
         ensures longer { IfOk result (λ _. length self.new.slots
             ≤ length self.old.slots + packed_slots (tier_sizes self.old.tiers) (length items.now)) }
         ensures range { IfErr result (λ cause. cause ≡ IndexRange
-            → self.old.limit < length self.old.slots + packed_slots (tier_sizes self.old.tiers) (length items.now)) }
+            → self.old.limit
+            < length self.old.slots + packed_slots (tier_sizes self.old.tiers) (length items.now)) }
     {
         let at = self.build_vacant(items.len() as u32)?;
         write_run(&mut self.slots, at.start as usize, items);

@@ -15,8 +15,11 @@ impl<S: Slot + Clone, A: Allocator + Clone> Blocks<S, Vec<S, A>, A> {
     /// Returns an error if an allocation fails, for the array or in the `clone` of a value.
     pub fn clone(&self) -> Result<Self, AllocError>
         ensures slots { IfOk result (λ copy. AllZip S.is_clone self.now.slots copy.slots) }
-        ensures rest { IfOk result (λ copy. copy ≡ record self.now { slots = copy.slots; capacity = copy.capacity }) }
-        ensures same { IfOk result (λ copy. ((x y : S) → S.is_clone x y → y ≡ x) → copy ≡ record self.now { capacity = copy.capacity }) }
+        ensures rest { IfOk result
+            (λ copy. copy ≡ record self.now { slots = copy.slots; capacity = copy.capacity }) }
+        ensures same { IfOk result
+            (λ copy. ((x y : S) → S.is_clone x y → y ≡ x)
+            → copy ≡ record self.now { capacity = copy.capacity }) }
     {
         let lists = Vec::from_clones(self.lists.allocator().clone()?, &self.lists)?;
         let slots = Vec::from_clones(self.slots.allocator().clone()?, &self.slots)?;

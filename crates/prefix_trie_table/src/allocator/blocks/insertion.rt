@@ -24,11 +24,15 @@ impl<S: Slot, R: SlotArray<S>, A: Allocator> Blocks<S, R, A> {
         requires value { R.can_hold value }
         ensures is_there { list_size self.old.tiers result.tier (count + 1)
             ≡ option_or (list_need self.old.tiers k count) (list_size self.old.tiers k count) }
-        ensures stays { list_need self.old.tiers k count ≡ None → result ≡ record { tier = k; start = start } }
-        ensures turnover { Turnover self.old self.new none_of (list_size self.old.tiers k count) (list_size self.old.tiers result.tier (count + 1)) }
+        ensures stays { list_need self.old.tiers k count ≡ None
+            → result ≡ record { tier = k; start = start } }
+        ensures turnover { Turnover self.old self.new none_of (list_size self.old.tiers k count)
+            (list_size self.old.tiers result.tier (count + 1)) }
         ensures sound { (n : ℕ) (xs : List S) (live : List (UsedBlock S))
             → Sound S.vacant (held k start n xs ++ live) self.old → length xs ≡ count
-            → Sound S.vacant (block result.tier result.start (tier_at self.old.tiers result.tier).size (insert xs offset value) ∷ live) self.new }
+            → Sound S.vacant
+            (block result.tier result.start (tier_at self.old.tiers result.tier).size
+            (insert xs offset value) ∷ live) self.new }
     {
         if count == 0 {
             let new = self.take(0);
@@ -52,11 +56,15 @@ impl<S: Slot, R: SlotArray<S>, A: Allocator> Blocks<S, R, A> {
         requires value { R.can_hold value }
         ensures is_there { list_size self.old.tiers result.tier (count + 1)
             ≡ option_or (list_need self.old.tiers k count) (list_size self.old.tiers k count) }
-        ensures stays { list_need self.old.tiers k count ≡ None → result ≡ record { tier = k; start = start } }
-        ensures turnover { Turnover self.old self.new none_of (list_size self.old.tiers k count) (list_size self.old.tiers result.tier (count + 1)) }
+        ensures stays { list_need self.old.tiers k count ≡ None
+            → result ≡ record { tier = k; start = start } }
+        ensures turnover { Turnover self.old self.new none_of (list_size self.old.tiers k count)
+            (list_size self.old.tiers result.tier (count + 1)) }
         ensures sound { (n : ℕ) (xs : List S) (live : List (UsedBlock S))
             → Sound S.vacant (block k start n xs ∷ live) self.old → length xs ≡ count
-            → Sound S.vacant (block result.tier result.start (tier_at self.old.tiers result.tier).size (insert xs offset value) ∷ live) self.new }
+            → Sound S.vacant
+            (block result.tier result.start (tier_at self.old.tiers result.tier).size
+            (insert xs offset value) ∷ live) self.new }
     {
         if count < self.size_of(k) {
             self.insert_within(start, count, offset, value);
@@ -85,10 +93,14 @@ impl<S: Slot, R: SlotArray<S>, A: Allocator> Blocks<S, R, A> {
         requires holds { count < size_in (tier_sizes self.old.tiers) to }
         requires offset { offset ≤ count }
         requires value { R.can_hold value }
-        ensures turnover { Turnover self.old self.new none_of (Some (size_in (tier_sizes self.old.tiers) k)) (Some (size_in (tier_sizes self.old.tiers) to)) }
+        ensures turnover { Turnover self.old self.new none_of
+            (Some (size_in (tier_sizes self.old.tiers) k))
+            (Some (size_in (tier_sizes self.old.tiers) to)) }
         ensures sound { (n : ℕ) (xs : List S) (live : List (UsedBlock S))
             → Sound S.vacant (block k outgrown n xs ∷ live) self.old → length xs ≡ count
-            → Sound S.vacant (block to result (tier_at self.old.tiers to).size (insert xs offset value) ∷ live) self.new }
+            → Sound S.vacant
+            (block to result (tier_at self.old.tiers to).size (insert xs offset value) ∷ live)
+            self.new }
     {
         let new = self.take(to);
         self.move_in(outgrown, new, count, offset, value);
@@ -103,12 +115,18 @@ impl<S: Slot, R: SlotArray<S>, A: Allocator> Blocks<S, R, A> {
             × (length a.items ≡ count) × (b.items ≡ []) × (count < b.size) }
         requires offset { offset ≤ count }
         requires value { R.can_hold value }
-        ensures slots { self.new ≡ record self.old { slots = put_run (put_run self.old.slots from (replicate count S.vacant)) to (insert (run self.old.slots from count) offset value) } }
+        ensures slots { self.new
+            ≡ record self.old {
+              slots = put_run (put_run self.old.slots from (replicate count S.vacant)) to
+                  (insert (run self.old.slots from count) offset value);
+            } }
         ensures len { length self.new.slots ≡ length self.old.slots }
         ensures sound { (a b : UsedBlock S) (live : List (UsedBlock S))
             → Sound S.vacant (a ∷ b ∷ live) self.old → a.start ≡ from → b.start ≡ to
             → length a.items ≡ count → b.items ≡ [] → count < b.size
-            → Sound S.vacant (record a { items = [] } ∷ record b { items = insert a.items offset value } ∷ live) self.new }
+            → Sound S.vacant
+            (record a { items = [] } ∷ record b { items = insert a.items offset value } ∷ live)
+            self.new }
     {
         move_in(
             &mut self.slots,
@@ -125,9 +143,12 @@ impl<S: Slot, R: SlotArray<S>, A: Allocator> Blocks<S, R, A> {
         requires space { start + count < length self.old.slots }
         requires offset { offset ≤ count }
         requires value { R.can_hold value }
-        ensures slots { self.new ≡ record self.old { slots = insert (remove self.old.slots (start + count)) (start + offset) value } }
+        ensures slots { self.new
+            ≡ record self.old
+            { slots = insert (remove self.old.slots (start + count)) (start + offset) value } }
         ensures len { length self.new.slots ≡ length self.old.slots }
-        ensures sound { (b : UsedBlock S) (live : List (UsedBlock S)) → Sound S.vacant (b ∷ live) self.old
+        ensures sound { (b : UsedBlock S) (live : List (UsedBlock S))
+            → Sound S.vacant (b ∷ live) self.old
             → b.start ≡ start → length b.items ≡ count → count < b.size
             → Sound S.vacant (record b { items = insert b.items offset value } ∷ live) self.new }
     {

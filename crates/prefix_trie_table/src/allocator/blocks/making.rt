@@ -29,7 +29,8 @@ impl<S: Slot, R: SlotArray<S>, A: Allocator> Blocks<S, R, A> {
         ensures obtains { Obtains (λ e. e ≡ IndexRange) (λ e. e ≡ Memory) result self.old self.new
             (needs (list_need self.old.tiers k count) lists) }
         ensures kept { SameSlots self.old self.new }
-        ensures unchanged { AreFree self.old.tiers (needs (list_need self.old.tiers k count) lists) → self.new ≡ self.old }
+        ensures unchanged { AreFree self.old.tiers (needs (list_need self.old.tiers k count) lists)
+            → self.new ≡ self.old }
         ensures sound { (live : List (UsedBlock S)) → Sound S.vacant live self.old
             → Sound S.vacant live self.new }
     {
@@ -50,7 +51,8 @@ impl<S: Slot, R: SlotArray<S>, A: Allocator> Blocks<S, R, A> {
         requires sizes { HasSizes self.now.tiers }
         requires fits { IsSome (smallest_size (tier_sizes self.now.tiers) (count + 1)) }
         ensures within { IfSome result (λ t. t < length self.now.tiers) }
-        ensures size { list_need self.now.tiers k count ≡ option_map (size_in (tier_sizes self.now.tiers)) result }
+        ensures size { list_need self.now.tiers k count
+            ≡ option_map (size_in (tier_sizes self.now.tiers)) result }
     {
         if count == 0 {
             return Some(0);
@@ -65,10 +67,13 @@ impl<S: Slot, R: SlotArray<S>, A: Allocator> Blocks<S, R, A> {
     #[inline(never)]
     fn make(&mut self, k: usize) -> Result<(), Refusal>
         requires { k < length self.old.tiers }
-        ensures made { OnOk result (Turnover self.old self.new (many_of (size_in (tier_sizes self.old.tiers) k) 1) None None) }
+        ensures made { OnOk result
+            (Turnover self.old self.new
+            (many_of (size_in (tier_sizes self.old.tiers) k) 1) None None) }
         ensures err { OnErr result (Turnover self.old self.new none_of None None) }
         ensures range { IfErr result
-            (λ e. (e ≡ IndexRange) ↔ (self.old.limit < length self.old.slots + size_in (tier_sizes self.old.tiers) k)) }
+            (λ e. (e ≡ IndexRange)
+            ↔ (self.old.limit < length self.old.slots + size_in (tier_sizes self.old.tiers) k)) }
         ensures kept { SameSlots self.old self.new }
         ensures sound { (live : List (UsedBlock S)) → Sound S.vacant live self.old
             → Sound S.vacant live self.new }
@@ -93,13 +98,18 @@ impl<S: Slot, R: SlotArray<S>, A: Allocator> Blocks<S, R, A> {
     #[inline(always)]
     pub(super) fn obtain(&mut self, k: usize, n: usize) -> Result<(), Refusal>
         requires { k < length self.old.tiers }
-        ensures made { OnOk result (Turnover self.old self.new (many_of (size_in (tier_sizes self.old.tiers) k)
+        ensures made { OnOk result
+            (Turnover self.old self.new (many_of (size_in (tier_sizes self.old.tiers) k)
             (n - free_in self.old.tiers (size_in (tier_sizes self.old.tiers) k))) None None) }
-        ensures err { OnErr result ((m : ℕ) × (free_in self.old.tiers (size_in (tier_sizes self.old.tiers) k) + m < n)
-            × Turnover self.old self.new (many_of (size_in (tier_sizes self.old.tiers) k) m) None None) }
+        ensures err { OnErr result
+            ((m : ℕ) × (free_in self.old.tiers (size_in (tier_sizes self.old.tiers) k) + m < n)
+            × Turnover self.old self.new
+            (many_of (size_in (tier_sizes self.old.tiers) k) m) None None) }
         ensures range { IfErr result
-            (λ e. (e ≡ IndexRange) ↔ (self.new.limit < length self.new.slots + size_in (tier_sizes self.old.tiers) k)) }
-        ensures unchanged { n ≤ free_in self.old.tiers (size_in (tier_sizes self.old.tiers) k) → self.new ≡ self.old }
+            (λ e. (e ≡ IndexRange)
+            ↔ (self.new.limit < length self.new.slots + size_in (tier_sizes self.old.tiers) k)) }
+        ensures unchanged { n ≤ free_in self.old.tiers (size_in (tier_sizes self.old.tiers) k)
+            → self.new ≡ self.old }
         ensures kept { SameSlots self.old self.new }
         ensures sound { (live : List (UsedBlock S)) → Sound S.vacant live self.old
             → Sound S.vacant live self.new }

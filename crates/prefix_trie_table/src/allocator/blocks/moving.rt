@@ -13,7 +13,8 @@ impl<S: Slot, R: SlotArray<S>, A: Allocator> Blocks<S, R, A> {
     pub(super) fn take(&mut self, k: usize) -> u32
         requires within { k < length self.old.tiers }
         requires ready { 0 < free_in self.old.tiers (size_in (tier_sizes self.old.tiers) k) }
-        ensures turnover { Turnover self.old self.new none_of None (Some (size_in (tier_sizes self.old.tiers) k)) }
+        ensures turnover { Turnover self.old self.new none_of None
+            (Some (size_in (tier_sizes self.old.tiers) k)) }
         ensures sound { (live : List (UsedBlock S)) → Sound S.vacant live self.old
             → Sound S.vacant (block k result (tier_at self.old.tiers k).size [] ∷ live) self.new }
     {
@@ -26,8 +27,10 @@ impl<S: Slot, R: SlotArray<S>, A: Allocator> Blocks<S, R, A> {
     /// It does not allocate: the block's capacity in the free list was reserved when the block was made.
     pub(super) fn give_back(&mut self, k: usize, start: u32)
         requires within { k < length self.old.tiers }
-        requires reserved { length (tier_at self.old.tiers k).starts < (tier_at self.old.tiers k).made }
-        ensures turnover { Turnover self.old self.new none_of (Some (size_in (tier_sizes self.old.tiers) k)) None }
+        requires reserved { length (tier_at self.old.tiers k).starts
+            < (tier_at self.old.tiers k).made }
+        ensures turnover { Turnover self.old self.new none_of
+            (Some (size_in (tier_sizes self.old.tiers) k)) None }
         ensures sound { (live : List (UsedBlock S)) (n : ℕ)
             → Sound S.vacant (block k start n [] ∷ live) self.old → Sound S.vacant live self.new }
     {
@@ -40,13 +43,16 @@ impl<S: Slot, R: SlotArray<S>, A: Allocator> Blocks<S, R, A> {
         requires from_within { from + count ≤ length self.old.slots }
         requires to_within { to + count ≤ length self.old.slots }
         requires apart { (from + count ≤ to) ⊎ (to + count ≤ from) }
-        requires vacant { (k : ℕ) → k < count → slice_index_or self.old.slots (to + k) S.vacant ≡ S.vacant }
-        ensures slots { self.new ≡ record self.old { slots = swap_runs self.old.slots from to count } }
+        requires vacant { (k : ℕ) → k < count
+            → slice_index_or self.old.slots (to + k) S.vacant ≡ S.vacant }
+        ensures slots { self.new
+            ≡ record self.old { slots = swap_runs self.old.slots from to count } }
         ensures len { length self.new.slots ≡ length self.old.slots }
         ensures sound { (a b : UsedBlock S) (live : List (UsedBlock S))
             → Sound S.vacant (a ∷ b ∷ live) self.old → a.start ≡ from → b.start ≡ to
             → length a.items ≡ count → b.items ≡ [] → count ≤ b.size
-            → Sound S.vacant (record a { items = [] } ∷ record b { items = a.items } ∷ live) self.new }
+            → Sound S.vacant
+            (record a { items = [] } ∷ record b { items = a.items } ∷ live) self.new }
     {
         move_run(&mut self.slots, from as usize, to as usize, count as usize);
     }

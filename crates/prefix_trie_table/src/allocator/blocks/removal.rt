@@ -20,7 +20,8 @@ impl<S: Slot, R: SlotArray<S>, A: Allocator> Blocks<S, R, A> {
         requires holds { HasList S.vacant self.old k start count }
         requires sizes { HasSizes self.old.tiers }
         requires offset { offset < count }
-        ensures loses { LosesOne self.old self.new count (list_size self.old.tiers k count) (list_size self.old.tiers result.1.tier (count - 1)) }
+        ensures loses { LosesOne self.old self.new count (list_size self.old.tiers k count)
+            (list_size self.old.tiers result.1.tier (count - 1)) }
         ensures tier { result.1.tier < length self.old.tiers }
         ensures gone { count ≡ 1 → result.1 ≡ record { tier = 0; start = 0 } }
         ensures stays { 1 < count → result.1.tier ≡ k → result.1.start ≡ start }
@@ -29,7 +30,9 @@ impl<S: Slot, R: SlotArray<S>, A: Allocator> Blocks<S, R, A> {
             → result.0 ≡ slice_index_or xs offset result.0 }
         ensures sound { (n : ℕ) (xs : List S) (live : List (UsedBlock S))
             → Sound S.vacant (held k start n xs ++ live) self.old → length xs ≡ count
-            → Sound S.vacant (held result.1.tier result.1.start (tier_at self.old.tiers result.1.tier).size (remove xs offset) ++ live) self.new }
+            → Sound S.vacant
+            (held result.1.tier result.1.start (tier_at self.old.tiers result.1.tier).size
+            (remove xs offset) ++ live) self.new }
     {
         let (value, left) = self.remove_from(k, start, count, offset);
         match left {
@@ -51,7 +54,8 @@ impl<S: Slot, R: SlotArray<S>, A: Allocator> Blocks<S, R, A> {
         requires sizes { HasSizes self.old.tiers }
         requires offset { offset < count }
         ensures none { IsSome result.1 ↔ (1 < count) }
-        ensures loses { LosesOne self.old self.new count (Some (size_in (tier_sizes self.old.tiers) k))
+        ensures loses { LosesOne self.old self.new count
+            (Some (size_in (tier_sizes self.old.tiers) k))
             (option_map (λ p. size_in (tier_sizes self.old.tiers) p.tier) result.1) }
         ensures stays { IfSome result.1 (λ p. p.tier ≡ k → p.start ≡ start) }
         ensures value { (n : ℕ) (xs : List S) (live : List (UsedBlock S))
@@ -60,7 +64,9 @@ impl<S: Slot, R: SlotArray<S>, A: Allocator> Blocks<S, R, A> {
         ensures sound { (n : ℕ) (xs : List S) (live : List (UsedBlock S))
             → Sound S.vacant (block k start n xs ∷ live) self.old → length xs ≡ count
             → MatchOption result.1 (Sound S.vacant live self.new)
-            (λ p. Sound S.vacant (block p.tier p.start (tier_at self.old.tiers p.tier).size (remove xs offset) ∷ live) self.new) }
+            (λ p. Sound S.vacant
+            (block p.tier p.start (tier_at self.old.tiers p.tier).size (remove xs offset) ∷ live)
+            self.new) }
     {
         let value = self.remove_within(start, count, offset);
         let rest = count - 1;
@@ -83,13 +89,17 @@ impl<S: Slot, R: SlotArray<S>, A: Allocator> Blocks<S, R, A> {
         requires within { to < length self.old.tiers }
         requires holds { count ≤ size_in (tier_sizes self.old.tiers) to }
         ensures kept { IfNone result (Turnover self.old self.new none_of None None) }
-        ensures taken { 0 < free_in self.old.tiers (size_in (tier_sizes self.old.tiers) to) → IsSome result }
-        ensures turnover { let size = size_in (tier_sizes self.old.tiers) to in IfSome result (λ _. Turnover self.old self.new
-            (many_of size (1 - free_in self.old.tiers size)) (Some (size_in (tier_sizes self.old.tiers) k)) (Some size)) }
+        ensures taken { 0 < free_in self.old.tiers (size_in (tier_sizes self.old.tiers) to)
+            → IsSome result }
+        ensures turnover { let size = size_in (tier_sizes self.old.tiers) to in IfSome result
+            (λ _. Turnover self.old self.new
+            (many_of size (1 - free_in self.old.tiers size))
+            (Some (size_in (tier_sizes self.old.tiers) k)) (Some size)) }
         ensures sound { (n : ℕ) (xs : List S) (live : List (UsedBlock S))
             → Sound S.vacant (block k start n xs ∷ live) self.old → length xs ≡ count
             → MatchOption result (Sound S.vacant (block k start n xs ∷ live) self.new)
-            (λ new. Sound S.vacant (block to new (tier_at self.old.tiers to).size xs ∷ live) self.new) }
+            (λ new. Sound S.vacant
+            (block to new (tier_at self.old.tiers to).size xs ∷ live) self.new) }
     {
         if self.obtain(to, 1).is_err() {
             return None;
@@ -104,12 +114,18 @@ impl<S: Slot, R: SlotArray<S>, A: Allocator> Blocks<S, R, A> {
     fn remove_within(&mut self, start: u32, count: u32, offset: u32) -> S
         requires within { start + count ≤ length self.old.slots }
         requires offset { offset < count }
-        ensures slots { self.new ≡ record self.old { slots = insert (remove self.old.slots (start + offset)) (start + count - 1) S.vacant } }
-        ensures value { (b : UsedBlock S) (live : List (UsedBlock S)) → Sound S.vacant (b ∷ live) self.old
+        ensures slots { self.new
+            ≡ record self.old {
+              slots = insert (remove self.old.slots (start + offset))
+                  (start + count - 1) S.vacant;
+            } }
+        ensures value { (b : UsedBlock S) (live : List (UsedBlock S))
+            → Sound S.vacant (b ∷ live) self.old
             → b.start ≡ start → length b.items ≡ count
             → result ≡ slice_index_or b.items offset result }
         ensures len { length self.new.slots ≡ length self.old.slots }
-        ensures sound { (b : UsedBlock S) (live : List (UsedBlock S)) → Sound S.vacant (b ∷ live) self.old
+        ensures sound { (b : UsedBlock S) (live : List (UsedBlock S))
+            → Sound S.vacant (b ∷ live) self.old
             → b.start ≡ start → length b.items ≡ count
             → Sound S.vacant (record b { items = remove b.items offset } ∷ live) self.new }
     {

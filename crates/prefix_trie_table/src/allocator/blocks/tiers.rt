@@ -16,7 +16,8 @@ impl<S: Slot, R: SlotArray<S>, A: Allocator> Blocks<S, R, A> {
         requires { IsSome (smallest_size (tier_sizes self.now.tiers) n) }
         ensures sizes { HasSizes self.now.tiers }
         ensures within { result < length self.now.tiers }
-        ensures size { smallest_size (tier_sizes self.now.tiers) n ≡ Some (size_in (tier_sizes self.now.tiers) result) }
+        ensures size { smallest_size (tier_sizes self.now.tiers) n
+            ≡ Some (size_in (tier_sizes self.now.tiers) result) }
     {
         // Read for the proof alone: the sizes are those of nodes or of values.
         let _lists = &self.lists;
