@@ -4,7 +4,7 @@
 //! child bit (strings of 5 bits), both in blocks in the order of the bits. So a set bit's place in
 //! its block is its rank, what matches a key is a mask, and the listing order of the places is a
 //! fixed table.
-ghost use Rattle.std.specs.Prelude.{◌≡◌, ℕ, ◌^◌, ◌<◌, ◌≤◌, ◌↔◌, List, Bool, length, filter, not, true, [], MatchOption, Contains};
+ghost use Rattle.std.specs.Prelude.{◌≡◌, ◌^◌, ◌<◌, ◌≤◌, ◌↔◌, List, Bool, length, filter, not, true, [], MatchOption, Contains};
 ghost use Rattle.std.specs.List.Sorted.{IsStrictlySortedBy};
 ghost use Rattle.prefix_trie_bits.specs.Model.Bits.{begins};
 ghost use Rattle.prefix_trie_bits.specs.Model.Order.{listing_cmp};
@@ -12,10 +12,10 @@ ghost use Rattle.prefix_trie_bits.specs.Places.{is_in, places, value_bit, TakesP
 
 mod bits;
 mod masks;
+mod matching;
 mod order;
 
 pub use bits::{count, has_bit, rank, string_of, with_bit, without_bit};
-pub(crate) use masks::{child_cover_entry, match_entry, value_cover_entry};
 pub use order::{after_child, from_value};
 use order::{not_below, place_at, position_of};
 

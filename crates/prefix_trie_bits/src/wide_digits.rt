@@ -1,7 +1,7 @@
 //! The operations of keys of at most 128 bits, on their numbers.
 //!
 //! `digits` does the same for 64 bits, where shifts cost less.
-ghost use Rattle.std.specs.Prelude.{◌≡◌, ℕ, ◌+◌, ◌-◌, ◌*◌, ◌/◌, ◌%◌, ◌^◌, ◌<◌, ◌≤◌, ◌++◌, List, Bool, take, drop};
+ghost use Rattle.std.specs.Prelude.{◌≡◌, ◌+◌, ◌-◌, ◌*◌, ◌/◌, ◌%◌, ◌^◌, ◌<◌, ◌≤◌, ◌++◌, take, drop};
 ghost use Rattle.prefix_trie_bits.specs.Model.Bits.{number, digits, zeros};
 
 /// Returns the number of the n bits of value from depth on. Bits past the end are 0.

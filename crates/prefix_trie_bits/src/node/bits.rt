@@ -1,5 +1,5 @@
 //! The bits of short strings in a node's two bitmaps, and ranks.
-ghost use Rattle.std.specs.Prelude.{◌≡◌, ℕ, ◌^◌, ◌<◌, ◌≤◌, List, Bool, true, false};
+ghost use Rattle.std.specs.Prelude.{◌≡◌, ◌^◌, ◌<◌, ◌≤◌, List, Bool, true, false};
 ghost use Rattle.prefix_trie_bits.specs.Model.Bits.{digits};
 ghost use Rattle.prefix_trie_bits.specs.Places.{has, value_bit, ones_below, Sets};
 

@@ -1,5 +1,5 @@
 //! Tables of the strings in a node that begin a bit string, or that it begins.
-ghost use Rattle.std.specs.Prelude.{◌≡◌, ◌+◌, ◌<◌, ◌≤◌, take};
+ghost use Rattle.std.specs.Prelude.{◌+◌, ◌<◌, ◌≤◌, take};
 ghost use Rattle.prefix_trie_bits.specs.Model.Bits.{digits, begins};
 ghost use Rattle.prefix_trie_bits.specs.Places.{HoldsValues, HoldsChildren};
 

@@ -1,5 +1,5 @@
 //! The listing order of a node's places.
-ghost use Rattle.std.specs.Prelude.{◌≡◌, ℕ, ◌<◌, ◌≤◌, List, Bool, length, map, not, Some};
+ghost use Rattle.std.specs.Prelude.{◌≡◌, ◌<◌, ◌≤◌, List, Bool, length, map, not, Some};
 ghost use Rattle.std.specs.List.{slice_get};
 ghost use Rattle.prefix_trie_bits.specs.Model.Bits.{number, begins};
 ghost use Rattle.prefix_trie_bits.specs.Places.{value_bit, heap_number, strings, place_of, HoldsPlaces, HoldsPositions, is_before};
