@@ -59,7 +59,8 @@ IsSearchEnd nodes q end = IsEndNode nodes q end.reached × LeavesRest q end
 abbrev pub EndsAt : Store Node → List Bool → Reached → Type 0
 EndsAt v q here = (seat_of v.slots q ≡ None) × IsLast q here v
 
--- the location of a bit string in an array of nodes: the seat of its value, or the last node of its search path
+-- the location of a bit string in an array of nodes: the seat of its value, or the last node of its search path and the
+-- bits that are left there
 abbrev pub Locates : {K : Type 0} → Store Node → List Bool → Location K → Type 0
 Locates v q (Stored seat) = seat_of v.slots q ≡ Some seat
 Locates v q (Missing end) = EndsAt v q end.reached × LeavesRest q end

@@ -49,13 +49,9 @@ get_or-nodes (g ∷ hs) [] i h n d e w = absurd (omega (arith, e))
 get_or-nodes (g ∷ hs) (m ∷ ns) zero h n d e w = refl
 get_or-nodes (g ∷ hs) (m ∷ ns) (suc i) h n d e w = get_or-nodes hs ns i h n d (omega (arith, e)) (omega (arith, w))
 
--- a node is made of its other fields and its byte
-pub rejoined : (hs : List Head) (ns : List ℕ) (i m : ℕ) (d n : Node) → length hs ≡ length ns → i < length hs → n ≡ get_or (nodes_of hs ns) i d
-    → node_of (record { value_bitmap = n.value_bitmap; child_bitmap = n.child_bitmap; value_block = n.value_block; child_block = n.child_block }) (get_or ns i m) ≡ n
-rejoined hs ns i m d n e w is =
-    let head : Head = record { value_bitmap = n.value_bitmap; child_bitmap = n.child_bitmap; value_block = n.value_block; child_block = n.child_block } in
-    let at : node_of (get_or hs i head) (get_or ns i m) ≡ n = get_or-nodes hs ns i head m d e w ∙ sym is in
-    λ j. record { value_bitmap = n.value_bitmap; child_bitmap = n.child_bitmap; value_block = n.value_block; child_block = n.child_block; value_tier = (at j).value_tier; child_tier = (at j).child_tier }
+-- any head, where only the byte of a node is used
+abbrev pub blank_head : Head
+blank_head = record { value_bitmap = 0; child_bitmap = 0; value_block = 0; child_block = 0 }
 
 -- packing the two tiers of a node into a byte and unpacking them gives the node
 pub packed : (n : Node) → FitsByte n → node_of (record { value_bitmap = n.value_bitmap; child_bitmap = n.child_bitmap; value_block = n.value_block; child_block = n.child_block }) (n.value_tier + 8 * n.child_tier) ≡ n

@@ -1,15 +1,15 @@
 -- Turnovers: which blocks a call makes, takes and frees, by size, and that everything else stays.
 use Rattle.prefix_trie_table.proofs.Prelude.{◌≡◌, ◌≢◌, ℕ, ◌+◌, ◌*◌, ◌<◌, ◌≤◌, true, List, ◌++◌, length, get_or, set, insert, remove, replicate, Option, None, Some, refl, sym, ap, ◌∙◌, subst, arith, length-append, length-replicate, get_or_append_left, get_or-insert_below, get_or-remove_below, length-insert, length-remove, Contains, option_or, one_of, goes_up, Tier, Store, Turnover, Keeps, KeepsMade, MakesNone, SameMade, SameSpace, AreFree, tier_at, with_tier, tier_sizes, size_in, free_in, made_in, many_of, none_of, slots_of, missing_in}
 use Rattle.std.proofs.lemmas.List.{length-set}
-use Rattle.prefix_trie_table.specs.Blocks.Growth.{Reserves}
-use Rattle.prefix_trie_table.proofs.Blocks.Capacity.{Reserves-same, Reserves-more, Reserves-then}
+use Rattle.prefix_trie_table.specs.Blocks.Growth.{EachReserves}
+use Rattle.prefix_trie_table.proofs.Blocks.Capacity.{EachReserves-same, EachReserves-more, EachReserves-then}
 use Rattle.prefix_trie_table.proofs.Blocks.BySize.{size_at, sizes_set, has_size, number_set, many_here, many_other, many-none, slots_of-same, slots_of-add, slots_of-none, slots_of-many}
 
 module _ {S : Type 0} where
   -- ---- what stays
 
   pub Keeps-same : (v w : Store S) → w ≡ v → Keeps v w
-  Keeps-same v w e = subst (λ x. Keeps v x) (sym e) (record { first_is = refl; limit_is = refl; sizes = refl; before = λ i d h. refl; longer = omega arith; within = λ h. h; grown = Reserves-same v.capacity (length v.slots + 32) })
+  Keeps-same v w e = subst (λ x. Keeps v x) (sym e) (record { first_is = refl; limit_is = refl; sizes = refl; before = λ i d h. refl; longer = omega arith; within = λ h. h; grown = EachReserves-same v.capacities (length v.slots + 32) })
 
   pub Keeps-then : (v w x : Store S) → Keeps v w → Keeps w x → Keeps v x
   Keeps-then v w x a b = record {
@@ -19,7 +19,7 @@ module _ {S : Type 0} where
     before = λ i d h. b.before i d (let e = a.first_is in omega arith) ∙ a.before i d h;
     longer = (let p = a.longer in let q = b.longer in omega arith);
     within = λ h. b.within (a.within h);
-    grown = Reserves-then v.capacity (length w.slots + 32) w.capacity (length x.slots + 32) x.capacity a.grown b.grown (let q = b.longer in omega (arith, q));
+    grown = EachReserves-then v.capacities (length w.slots + 32) w.capacities (length x.slots + 32) x.capacities a.grown b.grown (let q = b.longer in omega (arith, q));
   }
 
   -- a turnover loses no block
@@ -80,7 +80,7 @@ module _ {S : Type 0} where
   pub Turnover-written : (v w : Store S) (xs : List S) → w ≡ record v { slots = xs } → length xs ≡ length v.slots →
       ((i : ℕ) (d : S) → i < v.first → get_or xs i d ≡ get_or v.slots i d) → (o : Option ℕ) → Turnover v w none_of o o
   Turnover-written v w xs e len same o = subst (λ x. Turnover v x none_of o o) (sym e) (record {
-    keeps = record { first_is = refl; limit_is = refl; sizes = refl; before = same; longer = omega (arith, len); within = λ h. omega (arith, len, h); grown = Reserves-same v.capacity (length xs + 32) };
+    keeps = record { first_is = refl; limit_is = refl; sizes = refl; before = same; longer = omega (arith, len); within = λ h. omega (arith, len, h); grown = EachReserves-same v.capacities (length xs + 32) };
     made_is = λ size. omega arith;
     free_is = λ size. omega arith;
     longer = (let n = slots_of-none (tier_sizes v.tiers) none_of (λ j. refl) in omega (arith, len, n));
@@ -90,7 +90,7 @@ module _ {S : Type 0} where
   Turnover-same v w e o = Turnover-written v w v.slots e refl (λ i d h. refl) o
 
   -- reserving memory makes no block
-  pub Turnover-reserved : (v w : Store S) (space n : ℕ) → w ≡ record v { capacity = space } → Reserves v.capacity (length v.slots + n) space → n ≤ 32 → Turnover v w none_of None None
+  pub Turnover-reserved : (v w : Store S) (space : List ℕ) (n : ℕ) → w ≡ record v { capacities = space } → EachReserves v.capacities (length v.slots + n) space → n ≤ 32 → Turnover v w none_of None None
   Turnover-reserved v w space n e reserves few = subst (λ x. Turnover v x none_of None None) (sym e) (record {
     keeps = record {
       first_is = refl;
@@ -99,7 +99,7 @@ module _ {S : Type 0} where
       before = λ i d h. refl;
       longer = omega arith;
       within = λ h. h;
-      grown = Reserves-more v.capacity (length v.slots + n) (length v.slots + 32) space reserves (omega (arith, few));
+      grown = EachReserves-more v.capacities (length v.slots + n) (length v.slots + 32) space reserves (omega (arith, few));
     };
     made_is = λ size. omega arith;
     free_is = λ size. omega arith;
@@ -120,10 +120,10 @@ module _ {S : Type 0} where
   module _ (v : Store S) (k : ℕ) (t : Tier) (up : goes_up 0 (tier_sizes v.tiers) ≡ true) (inside : k < length v.tiers) (same : t.size ≡ (tier_at v.tiers k).size) where
     -- m blocks of its size are made, which lengthen the array, and one of its free blocks goes to a list or comes from
     -- one
-    turned : (slots : List S) (space m : ℕ) (old new : Option ℕ) → t.made ≡ (tier_at v.tiers k).made + m →
+    turned : (slots : List S) (space : List ℕ) (m : ℕ) (old new : Option ℕ) → t.made ≡ (tier_at v.tiers k).made + m →
         length t.starts + one_of new t.size ≡ length (tier_at v.tiers k).starts + m + one_of old t.size → ((size : ℕ) → t.size ≢ size → one_of new size ≡ one_of old size) →
-        Keeps v (record v { slots = slots; tiers = set v.tiers k t; capacity = space }) → length slots ≡ length v.slots + t.size * m →
-        Turnover v (record v { slots = slots; tiers = set v.tiers k t; capacity = space }) (many_of t.size m) old new
+        Keeps v (record v { slots = slots; tiers = set v.tiers k t; capacities = space }) → length slots ≡ length v.slots + t.size * m →
+        Turnover v (record v { slots = slots; tiers = set v.tiers k t; capacities = space }) (many_of t.size m) old new
     turned slots space m old new made starts others keeps long = record {
       keeps = keeps;
       made_is = number_set (λ (u : Tier). u.made) (λ size a b. b ≡ a + many_of t.size m size) v.tiers k t up inside same
@@ -135,7 +135,7 @@ module _ {S : Type 0} where
     }
 
     keeps_slots : Keeps v (with_tier v k t)
-    keeps_slots = record { first_is = refl; limit_is = refl; sizes = sizes_set v.tiers k t same; before = λ i d h. refl; longer = omega arith; within = λ h. h; grown = Reserves-same v.capacity (length v.slots + 32) }
+    keeps_slots = record { first_is = refl; limit_is = refl; sizes = sizes_set v.tiers k t same; before = λ i d h. refl; longer = omega arith; within = λ h. h; grown = EachReserves-same v.capacities (length v.slots + 32) }
 
     module _ (s : ℕ) (is : (tier_at v.tiers k).size ≡ s) where
       -- a free block is taken
@@ -143,29 +143,29 @@ module _ {S : Type 0} where
       Turnover-taken made starts =
           subst (λ n. Turnover v (with_tier v k t) none_of None (Some n)) (same ∙ is)
           (Turnover-as v (with_tier v k t) (many_of t.size 0) none_of None (Some t.size) (λ n. many-none t.size 0 n refl)
-          (turned v.slots v.capacity 0 None (Some t.size) (omega (arith, made)) (let h = many_here t.size 1 in omega (arith, starts, h)) (λ size ne. many_other t.size 1 size ne) keeps_slots (omega arith)))
+          (turned v.slots v.capacities 0 None (Some t.size) (omega (arith, made)) (let h = many_here t.size 1 in omega (arith, starts, h)) (λ size ne. many_other t.size 1 size ne) keeps_slots (omega arith)))
 
       -- a block is freed
       pub Turnover-given : t.made ≡ (tier_at v.tiers k).made → length t.starts ≡ length (tier_at v.tiers k).starts + 1 → Turnover v (with_tier v k t) none_of (Some s) None
       Turnover-given made starts =
           subst (λ n. Turnover v (with_tier v k t) none_of (Some n) None) (same ∙ is)
           (Turnover-as v (with_tier v k t) (many_of t.size 0) none_of (Some t.size) None (λ n. many-none t.size 0 n refl)
-          (turned v.slots v.capacity 0 (Some t.size) None (omega (arith, made)) (let h = many_here t.size 1 in omega (arith, starts, h)) (λ size ne. sym (many_other t.size 1 size ne)) keeps_slots (omega arith)))
+          (turned v.slots v.capacities 0 (Some t.size) None (omega (arith, made)) (let h = many_here t.size 1 in omega (arith, starts, h)) (λ size ne. sym (many_other t.size 1 size ne)) keeps_slots (omega arith)))
 
       -- a block is made at the end of the array
-      pub Turnover-grown : (vacant : S) (slots : List S) (space : ℕ) → slots ≡ v.slots ++ replicate s vacant → Reserves v.capacity (length v.slots + s) space → v.first ≤ length v.slots → length v.slots + s ≤ v.limit → t.made ≡ (tier_at v.tiers k).made + 1 →
-          length t.starts ≡ length (tier_at v.tiers k).starts + 1 → Turnover v (record v { slots = slots; tiers = set v.tiers k t; capacity = space }) (many_of s 1) None None
+      pub Turnover-grown : (vacant : S) (slots : List S) (space : List ℕ) → slots ≡ v.slots ++ replicate s vacant → EachReserves v.capacities (length v.slots + s) space → v.first ≤ length v.slots → length v.slots + s ≤ v.limit → t.made ≡ (tier_at v.tiers k).made + 1 →
+          length t.starts ≡ length (tier_at v.tiers k).starts + 1 → Turnover v (record v { slots = slots; tiers = set v.tiers k t; capacities = space }) (many_of s 1) None None
       Turnover-grown vacant slots space slots_are reserves low fits made starts =
           let long : length slots ≡ length v.slots + s = ap length slots_are ∙ length-append v.slots (replicate s vacant) ∙ ap (λ n. length v.slots + n) (length-replicate s vacant) in
           let size : t.size ≡ s = same ∙ is in
-          subst (λ n. Turnover v (record v { slots = slots; tiers = set v.tiers k t; capacity = space }) (many_of n 1) None None) size (turned slots space 1 None None made (omega (arith, starts)) (λ n ne. refl) (record {
+          subst (λ n. Turnover v (record v { slots = slots; tiers = set v.tiers k t; capacities = space }) (many_of n 1) None None) size (turned slots space 1 None None made (omega (arith, starts)) (λ n ne. refl) (record {
             first_is = refl;
             limit_is = refl;
             sizes = sizes_set v.tiers k t same;
             before = λ i d h. ap (λ xs. get_or xs i d) slots_are ∙ get_or_append_left v.slots (replicate s vacant) d i (omega (arith, low, h));
             longer = omega (arith, long);
             within = λ h. omega (arith, long, fits);
-            grown = Reserves-more v.capacity (length v.slots + s) (length slots + 32) space reserves (omega (arith, long));
+            grown = EachReserves-more v.capacities (length v.slots + s) (length slots + 32) space reserves (omega (arith, long));
           }) (omega (arith, long, size)))
 
   -- after the missing blocks were made, all needed blocks are free

@@ -17,6 +17,6 @@ module _ {T : Type 0} (v : Store Node) (w : Store (Option T)) (t : SomeTable v w
 
 -- an empty array of cells under the same limit, as another names it
 pub under_limit : {T : Type 0} (w : Store (Option T)) (limit other : ℕ)
-    → w ≡ record { slots = []; first = 0; tiers = map no_blocks cell_sizes; limit = limit; capacity = w.capacity } → limit ≡ other
-    → w ≡ record { slots = []; first = 0; tiers = map no_blocks cell_sizes; limit = other; capacity = w.capacity }
-under_limit w limit other e same = e ∙ (λ i. record { slots = []; first = 0; tiers = map no_blocks cell_sizes; limit = same i; capacity = w.capacity })
+    → w ≡ record { slots = []; first = 0; tiers = map no_blocks cell_sizes; limit = limit; capacities = w.capacities } → limit ≡ other
+    → w ≡ record { slots = []; first = 0; tiers = map no_blocks cell_sizes; limit = other; capacities = w.capacities }
+under_limit w limit other e same = e ∙ (λ i. record { slots = []; first = 0; tiers = map no_blocks cell_sizes; limit = same i; capacities = w.capacities })

@@ -44,8 +44,8 @@ new_none_free [] size = refl
 new_none_free (s ∷ sizes) size = elim (s == size) as (λ b. cond b 0 (free_in (map no_blocks sizes) size) ≡ 0) [ true ↦ refl | false ↦ new_none_free sizes size ]
 
 module _ {T : Type 0} (q : List Bool) (v v1 v2 : Store Node) (w1 w2 : Store (Option T)) (limit : ℕ)
-    (v_is : v1 ≡ record { slots = blank_node ∷ []; first = 1; tiers = map no_blocks node_sizes; limit = limit; capacity = v1.capacity }) (v_sound : Sound blank_node [] v1)
-    (w_is : w1 ≡ record { slots = []; first = 0; tiers = map no_blocks cell_sizes; limit = limit; capacity = w1.capacity }) (w_sound : Sound None [] w1)
+    (v_is : v1 ≡ record { slots = blank_node ∷ []; first = 1; tiers = map no_blocks node_sizes; limit = limit; capacities = v1.capacities }) (v_sound : Sound blank_node [] v1)
+    (w_is : w1 ≡ record { slots = []; first = 0; tiers = map no_blocks cell_sizes; limit = limit; capacities = w1.capacities }) (w_sound : Sound None [] w1)
     (same : limit ≡ v.limit) (some : 0 < limit) (bs : List (UsedBlock Node)) (cs : List (UsedBlock (Option T))) (k l : ℕ)
     (builds_nodes : Builds blank_node bs k v1 v2) (builds_cells : Builds None cs l w1 w2) where
   first_one : v2.first ≡ 1

@@ -6,7 +6,7 @@ use Rattle.prefix_trie_table.proofs.Tree.Invariant.{some_table}
 use Rattle.prefix_trie_table.proofs.Walk.KeySets.{sorted_mapped}
 use Rattle.prefix_trie_table.proofs.Blocks.Copies.{paths_read, Sound-read}
 use Rattle.prefix_trie_table.proofs.Lookup.Lending.{seen_of}
-use Rattle.prefix_trie_table.proofs.Blocks.Capacity.{NodesHold-capacity, CellsHold-capacity}
+use Rattle.prefix_trie_table.proofs.Blocks.Capacity.{NodesHold-capacities, CellsHold-capacities}
 use Rattle.prefix_trie_table.proofs.Tree.Shapes.{reads_node, reads_value}
 use Rattle.prefix_trie_table.proofs.Tree.Trees.{is_none-None}
 
@@ -101,7 +101,7 @@ module _ {T : Type 0} (C : T → T → Type 0) (xs ys : List (Option T)) (cloned
 -- v2 and w2 are a copy of the table in v and w, with clones of its values
 module _ {T : Type 0} (C : T → T → Type 0) (R : Option T → Option T → Type 0) (means : (x y : Option T) → R x y → IsCloned C x y)
     (v v2 : Store Node) (w w2 : Store (Option T)) (count : ℕ) (s : Shaped v.slots w.slots) (is : IsTable v w count s.0)
-    (nodes : v2 ≡ record v { capacity = v2.capacity }) (rest : w2 ≡ record w { slots = w2.slots; capacity = w2.capacity }) (clones : AllZip R w.slots w2.slots) where
+    (nodes : v2 ≡ record v { capacities = v2.capacities }) (rest : w2 ≡ record w { slots = w2.slots; capacities = w2.capacities }) (clones : AllZip R w.slots w2.slots) where
   abbrev table : SomeTable v w
   table = some_table is
 
@@ -157,13 +157,13 @@ module _ {T : Type 0} (C : T → T → Type 0) (R : Option T → Option T → Ty
   copied_only : (t : Shaped v2.slots w2.slots) → t.0 ≡ state
   copied_only t = same_shape v2.slots w2.slots t.0 state t.1 state_is
 
-  state_held : IsTable (record v { capacity = v2.capacity }) (record w { slots = w2.slots; capacity = w2.capacity }) count state
+  state_held : IsTable (record v { capacities = v2.capacities }) (record w { slots = w2.slots; capacities = w2.capacities }) count state
   state_held = record {
     reading = table.reading;
     values = values;
     paths = table.paths;
-    nodes = NodesHold-capacity node_sizes table.reading table.paths v v2.capacity is.nodes;
-    cells = CellsHold-capacity cell_sizes table.reading values table.paths (record w { slots = w2.slots }) w2.capacity cells_hold;
+    nodes = NodesHold-capacities node_sizes table.reading table.paths v v2.capacities is.nodes;
+    cells = CellsHold-capacities cell_sizes table.reading values table.paths (record w { slots = w2.slots }) w2.capacities cells_hold;
     counted = is.counted;
     sized = is.sized ∙ sym (len_put value_at s.0.entries);
     cells_first = is.cells_first;
@@ -177,7 +177,7 @@ module _ {T : Type 0} (C : T → T → Type 0) (R : Option T → Option T → Ty
   copied_table t =
       subst (λ (y : State T). IsTable v2 w2 count y) (sym (copied_only t))
       (subst (λ (y : Store Node). IsTable y w2 count state) (sym nodes)
-      (subst (λ (y : Store (Option T)). IsTable (record v { capacity = v2.capacity }) y count state) (sym rest) state_held))
+      (subst (λ (y : Store (Option T)). IsTable (record v { capacities = v2.capacities }) y count state) (sym rest) state_held))
 
   -- the values of the copy are clones
   pub copied_entries : (t : Shaped v2.slots w2.slots) → AreCloned C s.0.entries t.0.entries

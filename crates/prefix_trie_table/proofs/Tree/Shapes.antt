@@ -170,8 +170,8 @@ some_limit limit h = elim (cases_lt 0 limit) as (λ _. 0 < limit) [
 
 -- a new table
 module _ {T : Type 0} (v : Store Node) (w : Store (Option T)) (limit : ℕ)
-    (v_is : v ≡ record { slots = blank_node ∷ []; first = 1; tiers = map no_blocks node_sizes; limit = limit; capacity = v.capacity }) (v_sound : Sound blank_node [] v)
-    (w_is : w ≡ record { slots = []; first = 0; tiers = map no_blocks cell_sizes; limit = limit; capacity = w.capacity }) (w_sound : Sound None [] w) where
+    (v_is : v ≡ record { slots = blank_node ∷ []; first = 1; tiers = map no_blocks node_sizes; limit = limit; capacities = v.capacities }) (v_sound : Sound blank_node [] v)
+    (w_is : w ≡ record { slots = []; first = 0; tiers = map no_blocks cell_sizes; limit = limit; capacities = w.capacities }) (w_sound : Sound None [] w) where
   -- its arrays hold the root alone
   pub new_holds : Holds root_reading no_values ([] ∷ []) v w
   new_holds =

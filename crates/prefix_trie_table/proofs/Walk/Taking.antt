@@ -9,7 +9,7 @@ use Rattle.prefix_trie_table.proofs.Walk.KeySets.{bare, strings_of, has-strings_
 use Rattle.prefix_trie_table.proofs.Lookup.Located.{stored_if}
 use Rattle.prefix_trie_table.proofs.Lookup.Locating.{is_seat}
 use Rattle.prefix_trie_table.proofs.Walk.Seats.{seats_differ}
-use Rattle.prefix_trie_table.proofs.Blocks.Capacity.{IsTrie-capacity}
+use Rattle.prefix_trie_table.proofs.Blocks.Capacity.{IsTrie-capacities}
 use Rattle.prefix_trie_table.proofs.Tree.Copying.{clones_at, cloned_there, cells_cloned}
 
 -- ---- cells and seats
@@ -243,7 +243,7 @@ module _ {T : Type 0} (C : T → T → Type 0) where
 -- the nodes and the spots of a copy are the same, and what is in its cells are clones
 module _ {T : Type 0} (width : ℕ) (C : T → T → Type 0) (R : Option T → Option T → Type 0)
     (means : (x y : Option T) → R x y → IsCloned C x y) (v v2 : Store Node) (w w2 : Store (Option T)) (s : Seated v.slots) (key : List Bool) (ps qs : List Spot)
-    (at : IsTaking width v w s.0 key ps) (nodes : v2 ≡ record v { capacity = v2.capacity }) (clones : AllZip R w.slots w2.slots) (spots : qs ≡ ps) where
+    (at : IsTaking width v w s.0 key ps) (nodes : v2 ≡ record v { capacities = v2.capacities }) (clones : AllZip R w.slots w2.slots) (spots : qs ≡ ps) where
   cloned : (i : ℕ) → IsCloned C (get_or w.slots i None) (get_or w2.slots i None)
   cloned i = clones_at C R means w.slots w2.slots clones i
 
@@ -258,7 +258,7 @@ module _ {T : Type 0} (width : ℕ) (C : T → T → Type 0) (R : Option T → O
       × AllZip (IsPairCloned C) (pairs_in v.slots w.slots (pending s.0 key ps)) (pairs_in y.slots w2.slots (pending keys.0 key rs))
 
   abbrev moved : Store Node
-  moved = record v { capacity = v2.capacity }
+  moved = record v { capacities = v2.capacities }
 
   -- it is a walk, with clones of the same pairs
   pub copied_walk : (keys : Seated v2.slots) → IsCopy v2 keys qs
@@ -267,7 +267,7 @@ module _ {T : Type 0} (width : ℕ) (C : T → T → Type 0) (R : Option T → O
       subst (λ (k : Seated v.slots). IsCopy moved k qs) (Seated-prop v.slots s keys) (subst (IsCopy moved s) (sym spots) (
         record {
           tree = at.tree;
-          trie = IsTrie-capacity v at.tree.cells v2.capacity at.tree.cells.capacity at.tree.count at.tree.shape width at.trie;
+          trie = IsTrie-capacities v at.tree.cells v2.capacities at.tree.cells.capacities at.tree.count at.tree.shape width at.trie;
           long = sym (length_all_zip R w.slots w2.slots clones) ∙ at.long;
           stack = at.stack;
           held = held_cloned C v.slots w.slots w2.slots cloned (pending s.0 key ps) at.held;

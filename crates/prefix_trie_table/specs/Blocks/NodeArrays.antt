@@ -5,10 +5,10 @@ use Rattle.prefix_trie_table.specs.Blocks.Cells.{blank_node}
 use Rattle.prefix_trie_table.specs.declared.allocator.node.Node.{Node}
 use Rattle.prefix_trie_table.specs.declared.allocator.node_array.Head.{Head}
 
--- the nodes, and how many there is memory for
+-- the nodes, and the capacity of each of the two vectors that hold their parts
 pub record NodeList : Type 0 where
   pub list : List Node
-  pub capacity : ℕ
+  pub capacities : List ℕ
 
 -- a node from its two parts: the second has the index of the size of its value block, plus 8 times
 -- that of its child block

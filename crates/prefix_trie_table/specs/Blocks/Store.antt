@@ -3,7 +3,7 @@ use Rattle.std.specs.Prelude.{◌≡◌, ℕ, zero, suc, ◌+◌, ◌-◌, ◌*�
 use Rattle.prefix_trie_bits.specs.Calls.Blocks.{AreBlocksOf, Block as Extent}
 use Rattle.prefix_trie_bits.specs.Model.Blocks.{smallest_size, free_of, one_of}
 use Rattle.prefix_trie_bits.specs.Model.Insertion.{block_needed, missing_of, slots_of_missing}
-use Rattle.prefix_trie_table.specs.Blocks.Growth.{Reserves}
+use Rattle.prefix_trie_table.specs.Blocks.Growth.{EachReserves}
 use Rattle.prefix_trie_table.specs.Blocks.Runs.{run}
 
 -- the blocks of one size: how many there are, and where the free ones start
@@ -12,13 +12,14 @@ pub record Tier : Type 0 where
   pub made : ℕ
   pub starts : List ℕ
 
--- the array, the slot where its first block starts, its tiers, its limit, and its capacity in slots
+-- the array, the slot where its first block starts, its tiers, its limit, and the capacity in slots of each vector that
+-- the array is kept in
 pub record Store (S : Type 0) : Type 0 where
   pub slots : List S
   pub first : ℕ
   pub tiers : List Tier
   pub limit : ℕ
-  pub capacity : ℕ
+  pub capacities : List ℕ
 
 -- a used block: its tier, its first slot, its size, and its list
 pub record UsedBlock (S : Type 0) : Type 0 where
@@ -204,7 +205,7 @@ pub record MakesNone {S : Type 0} (v w : Store S) : Type 0 where
   pub made : SameMade v w
 
 -- the start of the first block, the slots before it, the sizes and the limit are unchanged; the limit holds if it held
--- The capacity was reserved for the slots that there are and at most one block: one that was not made because memory for
+-- The capacity of each vector was reserved for the slots that there are and at most one block: one that was not made because memory for
 -- its entry in the free list was refused.
 pub record Keeps {S : Type 0} (v w : Store S) : Type 0 where
   pub first_is : w.first ≡ v.first
@@ -213,7 +214,7 @@ pub record Keeps {S : Type 0} (v w : Store S) : Type 0 where
   pub before : (i : ℕ) (d : S) → i < v.first → slice_index_or w.slots i d ≡ slice_index_or v.slots i d
   pub longer : length v.slots ≤ length w.slots
   pub within : length v.slots ≤ v.limit → length w.slots ≤ w.limit
-  pub grown : Reserves v.capacity (length w.slots + 32) w.capacity
+  pub grown : EachReserves v.capacities (length w.slots + 32) w.capacities
 
 -- this number of blocks of each size was made, and the array is longer by their slots; a list moved from a block of the
 -- size `old` to one of the size `new`; all other used and free blocks are unchanged

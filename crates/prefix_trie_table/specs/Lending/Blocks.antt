@@ -1,6 +1,6 @@
 -- An array of blocks after a `&mut` to one of its values was returned and ended. This project's
 -- own.
-use Rattle.std.specs.Prelude.{ℕ, Option, Some, None, vec_capacity, ⊤}
+use Rattle.std.specs.Prelude.{ℕ, [], ◌∷◌, Option, Some, None, vec_capacity, ⊤}
 use Rattle.std.specs.Borrow.{Lends, LendsIf, Fml, RattleType, MutBor}
 use Rattle.std.specs.contracts.option.Option as option
 use Rattle.std.specs.contracts.vec.Vec as vec
@@ -13,7 +13,7 @@ use Rattle.prefix_trie_table.specs.Blocks.Slots.{with_slot, with_cell}
 
 -- the array of an array of blocks, as its type in the logic
 abbrev pub array_of_row : (S A : RattleType) → slot.Ghosts S.Denot → alloc.Ghosts A.Denot → RattleType
-array_of_row S A g a = blocks.the_row S (vec.the_row S A a) A g (record { list = λ v. v.items; capacity = λ v. vec_capacity v; can_hold = λ _. ⊤ }) a
+array_of_row S A g a = blocks.the_row S (vec.the_row S A a) A g (record { list = λ v. v.items; capacities = λ v. vec_capacity v ∷ []; can_hold = λ _. ⊤ }) a
 
 -- once the borrow r ends, the slot has the last value written through r
 abbrev pub lends_slot : (S A : RattleType) → slot.Ghosts S.Denot → alloc.Ghosts A.Denot → MutBor (Store S.Denot) → ℕ → MutBor S.Denot → Fml

@@ -10,6 +10,7 @@ mod tiers;
 ghost use Rattle.std.specs.Prelude.{◌≡◌, ℕ, ◌+◌, ◌*◌, ◌^◌, ◌<◌, ◌≤◌, ◌↔◌, [], ◌∷◌, List, length, take, All, map, None, OnOk, IfOk, IsErr, IfErr, slice_index_or, slice_set};
 ghost use Rattle.prefix_trie_table.specs.Blocks.Store.{Store, UsedBlock, Sound, tier_at, tier_sizes, size_in, free_in, slots_made, no_blocks};
 ghost use Rattle.prefix_trie_table.specs.Blocks.BlockCounts.{tier_count};
+ghost use Rattle.prefix_trie_table.specs.Blocks.Growth.{NoneExceeds, NoneGrows};
 ghost use Rattle.prefix_trie_table.specs.Blocks.Cells.{blank_node, cell_sizes, node_sizes, HasSizes};
 ghost use Rattle.std.specs.Borrow.{sem};
 ghost use Rattle.prefix_trie_table.specs.Blocks.Slots.{with_slot};
@@ -19,7 +20,7 @@ ghost use Rattle.prefix_trie_bits.specs.declared.prefix.Refusal.TheVariants.{Ind
 use crate::allocator::array::SlotArray;
 use crate::allocator::block_count::BlockCount;
 use crate::allocator::free_list::{FreeList, clear_all, shrink_all};
-use crate::allocator::node::Node;
+use crate::allocator::node::{Node, SizeClasses};
 use crate::allocator::node_array::NodeArray;
 use crate::allocator::slots::Slot;
 use prefix_trie_bits::prefix::Refusal;
@@ -53,7 +54,7 @@ pub struct Blocks<S: Slot, R: SlotArray<S>, A: Allocator> {
     of: PhantomData<S>,
 }
 
-// Clauses see the slots, the start of the first block, the tiers, the limit and the capacity.
+// Clauses see the slots, the start of the first block, the tiers, the limit and the capacity of each vector.
 impl<S: Slot, R: SlotArray<S>, A: Allocator> Model for Blocks<S, R, A> {
     ghost use Rattle.std.specs.Prelude.{◌≡◌, ◌+◌, ◌≤◌, ◌<◌, length, All};
     ghost use Rattle.prefix_trie_table.specs.Blocks.Store.{Store, slots_made};
@@ -66,7 +67,7 @@ impl<S: Slot, R: SlotArray<S>, A: Allocator> Model for Blocks<S, R, A> {
       first = a.first;
       tiers = a.lists.items;
       limit = a.limit;
-      capacity = R.capacity a.slots;
+      capacities = R.capacities a.slots;
     } };
 
     ghost invariant = { λ a. (length (R.list a.slots) ≤ a.limit)
@@ -169,9 +170,9 @@ impl<S: Slot, R: SlotArray<S>, A: Allocator> Blocks<S, R, A> {
     ///
     /// Returns an error if the allocator does not shrink one of them. Slots and blocks are unchanged then.
     pub fn shrink_to_fit(&mut self) -> Result<(), AllocError>
-        ensures kept { self.new ≡ record self.old { capacity = self.new.capacity } }
-        ensures fits { OnOk result (self.new.capacity ≤ length self.new.slots) }
-        ensures less { self.new.capacity ≤ self.old.capacity }
+        ensures kept { self.new ≡ record self.old { capacities = self.new.capacities } }
+        ensures fits { OnOk result (NoneExceeds self.new.capacities (length self.new.slots)) }
+        ensures less { NoneGrows self.old.capacities self.new.capacities }
     {
         self.slots.shrink()?;
         shrink_all(&mut self.lists)
@@ -188,7 +189,7 @@ impl<S: Slot, R: SlotArray<S>, A: Allocator> Blocks<S, R, A> {
               first = length (R.list slots);
               tiers = lists.items;
               limit = limit;
-              capacity = R.capacity slots;
+              capacities = R.capacities slots;
             } }
         ensures sound { Sound S.vacant [] result }
     {
@@ -239,7 +240,7 @@ impl<S: Slot, A: Allocator> Blocks<S, Vec<S, A>, A> {
 
 impl<A: Allocator> Blocks<Node, NodeArray<A>, A> {
     ghost use Rattle.std.specs.Prelude.{ℕ};
-    ghost use Rattle.prefix_trie_table.specs.Blocks.Cells.{node_at};
+    ghost use Rattle.prefix_trie_table.specs.Blocks.Cells.{node_at, size_classes};
     ghost use Rattle.prefix_trie_table.specs.Blocks.NodeArrays.{FitsByte};
 
     /// Calls `NodeArray::sizes_fit`.
@@ -261,14 +262,13 @@ impl<A: Allocator> Blocks<Node, NodeArray<A>, A> {
         self.slots.get(slot)
     }
 
-    /// Calls `NodeArray::with_sizes`.
+    /// Returns the size classes of the node in a slot.
     #[inline]
-    pub(super) fn with_sizes(&self, slot: usize, node: Node) -> Node
-        requires within { slot < length self.now.slots }
-        requires node { node ≡ node_at self.now.slots slot }
-        ensures { result ≡ node }
+    pub(super) fn size_classes(&self, slot: usize) -> SizeClasses
+        requires { slot < length self.now.slots }
+        ensures { result ≡ size_classes (node_at self.now.slots slot) }
     {
-        self.slots.with_sizes(slot, node)
+        self.slots.size_classes(slot)
     }
 }
 
@@ -279,7 +279,7 @@ impl<A: Allocator + Clone> Blocks<Node, NodeArray<A>, A> {
     ///
     /// Returns an error if an allocation fails.
     pub(super) fn clone_nodes(&self) -> Result<Self, AllocError>
-        ensures { IfOk result (λ copy. copy ≡ record self.now { capacity = copy.capacity }) }
+        ensures { IfOk result (λ copy. copy ≡ record self.now { capacities = copy.capacities }) }
     {
         let lists = Vec::from_clones(self.lists.allocator().clone()?, &self.lists)?;
         let slots = self.slots.clone()?;
@@ -325,7 +325,7 @@ pub fn cells<T: Drop, A: Allocator + Clone>(
           first = 0;
           tiers = map no_blocks cell_sizes;
           limit = limit;
-          capacity = b.capacity;
+          capacities = b.capacities;
         }) }
     ensures sound { IfOk result (λ b. Sound None [] b) }
 {
@@ -352,7 +352,7 @@ pub(super) fn node_blocks<A: Allocator + Clone>(
           first = 1;
           tiers = map no_blocks node_sizes;
           limit = limit;
-          capacity = b.capacity;
+          capacities = b.capacities;
         }) }
     ensures sound { IfOk result (λ b. Sound blank_node [] b) }
     ensures range { IfErr result (λ e. (e ≡ IndexRange) ↔ (limit ≡ 0)) }
@@ -376,7 +376,7 @@ fn node_array<A: Allocator + Clone>(
           first = 1;
           tiers = map no_blocks node_sizes;
           limit = limit;
-          capacity = b.capacity;
+          capacities = b.capacities;
         }) }
     ensures sound { IfOk result (λ b. Sound blank_node [] b) }
 {

@@ -1,5 +1,5 @@
 //! The free list of one size: a stack of free blocks, with reserved capacity for all blocks of that size.
-ghost use Rattle.std.specs.Prelude.{◌≡◌, ℕ, ◌+◌, ◌^◌, ◌<◌, ◌≤◌, ◌↔◌, [], ◌∷◌, ◌++◌, length, map, IsTrue, OnOk, OnErr, vec_len, vec_capacity};
+ghost use Rattle.std.specs.Prelude.{◌≡◌, ◌+◌, ◌^◌, ◌<◌, ◌≤◌, [], ◌∷◌, ◌++◌, length, map, OnOk, OnErr, vec_len, vec_capacity};
 ghost use Rattle.prefix_trie_table.specs.Blocks.Store.{no_blocks};
 ghost use Rattle.prefix_trie_table.specs.Blocks.BlockCounts.{tier_count};
 

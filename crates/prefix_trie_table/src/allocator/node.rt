@@ -18,6 +18,13 @@ pub struct Node {
     pub child_tier: u8,
 }
 
+/// The size classes of a node's two blocks. They mean nothing if the bitmap of the block is 0.
+#[derive(Clone, Copy)]
+pub struct SizeClasses {
+    pub value_tier: u8,
+    pub child_tier: u8,
+}
+
 impl Node {
     ghost use Rattle.prefix_trie_table.specs.Blocks.Cells.{blank_node, without_sizes as node_without_sizes};
 

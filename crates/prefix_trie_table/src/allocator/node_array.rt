@@ -1,12 +1,11 @@
 //! The nodes in two arrays: 16 bytes of each, which are all that a lookup reads, and one byte for the sizes of its blocks.
-ghost use Rattle.std.specs.Prelude.{◌≡◌, ℕ, ◌+◌, ◌*◌, ◌^◌, ◌<◌, ◌≤◌, ◌++◌, [], ◌∷◌, List, length, take, insert, remove, slice_index, slice_index_or, slice_set, OnOk, OnErr, IfOk};
-ghost use Rattle.prefix_trie_table.specs.Blocks.Cells.{node_at};
-ghost use Rattle.prefix_trie_table.specs.Blocks.Growth.{Reserves};
+ghost use Rattle.std.specs.Prelude.{◌≡◌, ℕ, ◌+◌, ◌*◌, ◌<◌, [], ◌∷◌, length, slice_index, IfOk};
+ghost use Rattle.prefix_trie_table.specs.Blocks.Cells.{node_at, size_classes};
 ghost use Rattle.prefix_trie_table.specs.Blocks.NodeArrays.{FitsByte, blank_fits, node_of};
 
 use crate::allocator::array::SlotArray;
-use crate::allocator::node::Node;
-use crate::allocator::slots::{growth, shift_in, shift_out, shrink};
+use crate::allocator::node::{Node, SizeClasses};
+use crate::allocator::slots::{reserve, shift_in, shift_out, shrink};
 use std::alloc::{AllocError, Allocator};
 use std::marker::Model;
 use std::mem;
@@ -28,19 +27,19 @@ pub struct NodeArray<A: Allocator> {
     tiers: Vec<u8, A>,
 }
 
-// Clauses see the nodes and the capacity, which is the capacity of `tiers`. Both arrays have the same length, and `heads` has at least the
-// capacity of `tiers`.
+// Clauses see the nodes, and the capacity of `heads` and of `tiers`. Both have the same length.
 impl<A: Allocator> Model for NodeArray<A> {
-    ghost use Rattle.std.specs.Prelude.{◌≡◌, ◌≤◌, length, vec_capacity};
+    ghost use Rattle.std.specs.Prelude.{◌≡◌, [], ◌∷◌, length, vec_capacity};
     ghost use Rattle.prefix_trie_table.specs.Blocks.NodeArrays.{NodeList, nodes_of};
 
     ghost Value = { NodeList };
 
-    ghost view = { λ a. record
-        { list = nodes_of a.heads.items a.tiers.items; capacity = vec_capacity a.tiers } };
+    ghost view = { λ a. record {
+      list = nodes_of a.heads.items a.tiers.items;
+      capacities = vec_capacity a.heads ∷ vec_capacity a.tiers ∷ [];
+    } };
 
-    ghost invariant = { λ a. (length a.heads.items ≡ length a.tiers.items)
-        × (vec_capacity a.tiers ≤ vec_capacity a.heads) };
+    ghost invariant = { λ a. length a.heads.items ≡ length a.tiers.items };
 }
 
 // Does nothing. Calling it brings the fact that bytes are below 256 into the proof.
@@ -80,14 +79,17 @@ impl<A: Allocator> NodeArray<A> {
         joined(head, tiers)
     }
 
-    /// Returns a node that was read from this slot. It reads only the indices of its sizes.
+    /// Returns the size classes of the node in a slot. It does not read the rest of the node.
     #[inline]
-    pub fn with_sizes(&self, at: usize, node: Node) -> Node
-        requires within { at < length self.now.list }
-        requires node { node ≡ node_at self.now.list at }
-        ensures { result ≡ node }
+    pub fn size_classes(&self, at: usize) -> SizeClasses
+        requires { at < length self.now.list }
+        ensures { result ≡ size_classes (node_at self.now.list at) }
     {
-        joined(head_of(node), self.tiers[at])
+        let packed = self.tiers[at];
+        SizeClasses {
+            value_tier: packed % 8,
+            child_tier: packed / 8,
+        }
     }
 
     /// Does nothing. Calling it brings the fact that both indices of each node fit into a byte into the proof.
@@ -96,22 +98,6 @@ impl<A: Allocator> NodeArray<A> {
         ensures { (at : ℕ) → at < length self.now.list → FitsByte (node_at self.now.list at) }
     {
         are_bytes(&self.tiers);
-    }
-
-    // The part of `reserve` that allocates. It is a function of its own so that the test is inlined. `tiers` grows last: if that fails, the
-    // next call starts from the same capacity.
-    #[cold]
-    #[inline(never)]
-    fn grow(&mut self, count: usize) -> Result<(), AllocError>
-        requires { self.old.capacity < length self.old.list + count }
-        ensures list { self.new.list ≡ self.old.list }
-        ensures ok { OnOk result (length self.new.list + count ≤ self.new.capacity) }
-        ensures grown { Reserves self.old.capacity
-            (length self.old.list + count) self.new.capacity }
-    {
-        let more = growth(self.tiers.capacity(), self.tiers.len(), count);
-        self.heads.reserve_exact(more)?;
-        self.tiers.reserve_exact(more)
     }
 }
 
@@ -138,9 +124,7 @@ impl<A: Allocator + Clone> NodeArray<A> {
         ensures { IfOk result (λ a. a.list ≡ self.now.list) }
     {
         let heads = Vec::from_clones(self.heads.allocator().clone()?, &self.heads)?;
-        let mut tiers = Vec::from_clones(self.tiers.allocator().clone()?, &self.tiers)?;
-        // Its capacity is its length already, but `from_clones` does not promise that.
-        shrink(&mut tiers, 0)?;
+        let tiers = Vec::from_clones(self.tiers.allocator().clone()?, &self.tiers)?;
         Ok(NodeArray { heads, tiers })
     }
 }
@@ -174,7 +158,7 @@ fn tiers_of(node: Node) -> u8
 impl<A: Allocator> SlotArray<Node> for NodeArray<A> {
     ghost list = { λ a. a.list };
 
-    ghost capacity = { λ a. a.capacity };
+    ghost capacities = { λ a. a.capacities };
 
     ghost can_hold = { FitsByte };
 
@@ -187,10 +171,8 @@ impl<A: Allocator> SlotArray<Node> for NodeArray<A> {
 
     #[inline]
     fn reserve(&mut self, count: usize) -> Result<(), AllocError> {
-        if count <= self.tiers.capacity() - self.tiers.len() {
-            return Ok(());
-        }
-        self.grow(count)
+        reserve(&mut self.heads, count)?;
+        reserve(&mut self.tiers, count)
     }
 
     #[inline]
@@ -234,7 +216,7 @@ impl<A: Allocator> SlotArray<Node> for NodeArray<A> {
     }
 
     fn shrink(&mut self) -> Result<(), AllocError> {
-        shrink(&mut self.tiers, 0)?;
-        shrink(&mut self.heads, self.tiers.capacity())
+        shrink(&mut self.heads, 0)?;
+        shrink(&mut self.tiers, 0)
     }
 }

@@ -1,19 +1,20 @@
 //! The array of nodes. Each read of a node is counted.
 ghost use Rattle.std.specs.Prelude.{◌≡◌, ℕ, ◌+◌, ◌-◌, ◌^◌, ◌<◌, ◌≤◌, ◌↔◌, [], ◌∷◌, ◌++◌, All, List, None, OnOk, IfOk, IfErr, IsErr, IsSome, length, map, insert, remove, slice_set};
 ghost use Rattle.std.specs.Option.{option_or};
-ghost use Rattle.prefix_trie_bits.specs.Model.Blocks.{StepsDown, smallest_size, made_of};
+ghost use Rattle.prefix_trie_bits.specs.Model.Blocks.{smallest_size};
 ghost use Rattle.prefix_trie_bits.specs.Calls.SplitsOff.{packed_slots};
 ghost use Rattle.prefix_trie_table.specs.Blocks.BlockCounts.{tier_count};
-ghost use Rattle.prefix_trie_table.specs.Blocks.Cells.{HasSizes, blank_node, node_at, node_sizes};
+ghost use Rattle.prefix_trie_table.specs.Blocks.Growth.{NoneExceeds, NoneGrows};
+ghost use Rattle.prefix_trie_table.specs.Blocks.Cells.{HasSizes, blank_node, node_at, node_sizes, size_classes};
 ghost use Rattle.prefix_trie_table.specs.Splitting.Building.{BuildsList};
 ghost use Rattle.prefix_trie_table.specs.Blocks.Losing.{LosesOne};
 ghost use Rattle.prefix_trie_table.specs.Blocks.NodeArrays.{FitsByte, FitsOver};
-ghost use Rattle.prefix_trie_table.specs.Blocks.Store.{Store, UsedBlock, Sound, Turnover, Obtains, HasList, AreFree, IsReady, SameSlots, tier_at, tier_sizes, slots_made, free_counts, none_of, no_blocks, block, held, list_size, list_need, needs};
+ghost use Rattle.prefix_trie_table.specs.Blocks.Store.{Store, UsedBlock, Sound, Turnover, Obtains, HasList, AreFree, IsReady, SameSlots, tier_at, tier_sizes, slots_made, none_of, no_blocks, block, held, list_size, list_need, needs};
 ghost use Rattle.prefix_trie_bits.specs.declared.prefix.Refusal.TheVariants.{Memory, IndexRange};
 
 use crate::allocator::block_count::BlockCount;
 use crate::allocator::blocks::{BlockRef, Blocks, node_blocks};
-use crate::allocator::node::{Node, NodeSlot, ROOT};
+use crate::allocator::node::{Node, NodeSlot, ROOT, SizeClasses};
 use crate::allocator::node_array::NodeArray;
 use prefix_trie_bits::prefix::Refusal;
 use std::alloc::{AllocError, Allocator};
@@ -31,7 +32,8 @@ pub trait Tick: Sized + Drop {
 
 /// The array of nodes: the root at slot 0, outside every block, and after it the blocks, each with the children of one node.
 ///
-/// Only `visit` reads a node, and it counts the read. `with_sizes` reads the sizes of a node that was visited. Only `put` and the changes of a block write one.
+/// Only `visit` reads a node, and it counts the read. `size_classes` returns neither a bitmap nor a block, so no search can go on by it. Only `put`
+/// and the changes of a block write a node.
 #[derive(Drop)]
 pub struct NodeAllocator<A: Allocator, V: Drop> {
     blocks: Blocks<Node, NodeArray<A>, A>,
@@ -61,7 +63,7 @@ impl<A: Allocator + Clone, V: Drop> NodeAllocator<A, V> {
               first = 1;
               tiers = map no_blocks node_sizes;
               limit = limit;
-              capacity = a.capacity;
+              capacities = a.capacities;
             }) }
         ensures sound { IfOk result (λ a. Sound blank_node [] a) }
         ensures range { IfErr result (λ e. (e ≡ IndexRange) ↔ (limit ≡ 0)) }
@@ -75,14 +77,14 @@ impl<A: Allocator + Clone, V: Drop> NodeAllocator<A, V> {
     }
 
     /// Creates an array as `new` does, with the allocator and the limit of this one.
-    pub fn another(&self) -> Result<Self, Refusal>
+    pub fn new_like(&self) -> Result<Self, Refusal>
         ensures empty { IfOk result
             (λ a. a ≡ record {
               slots = blank_node ∷ [];
               first = 1;
               tiers = map no_blocks node_sizes;
               limit = self.now.limit;
-              capacity = a.capacity;
+              capacities = a.capacities;
             }) }
         ensures sound { IfOk result (λ a. Sound blank_node [] a) }
         ensures range { IfErr result (λ e. (e ≡ IndexRange) ↔ (self.now.limit ≡ 0)) }
@@ -96,7 +98,8 @@ impl<A: Allocator + Clone, V: Drop> NodeAllocator<A, V> {
     ///
     /// Returns an error if an allocation fails.
     pub fn clone(&self) -> Result<Self, AllocError>
-        ensures same { IfOk result (λ copy. copy ≡ record self.now { capacity = copy.capacity }) }
+        ensures same { IfOk result
+            (λ copy. copy ≡ record self.now { capacities = copy.capacities }) }
     {
         Ok(NodeAllocator {
             blocks: self.blocks.clone_nodes()?,
@@ -120,15 +123,14 @@ impl<A: Allocator, V: Tick> NodeAllocator<A, V> {
         self.blocks.node(at)
     }
 
-    /// Returns a node that was visited in this slot. It reads only the sizes of its blocks.
-    // A caller that takes the sizes from this result lets the compiler drop their read from `visit`.
+    /// Returns the size classes of the node in a slot. It reads nothing else of the node, so it is not counted.
+    // A caller that takes the size classes from here lets the compiler drop their read from `visit`.
     #[inline]
-    pub fn with_sizes(&self, at: NodeSlot, node: Node) -> Node
-        requires within { at < length self.now.slots }
-        requires node { node ≡ node_at self.now.slots at }
-        ensures { result ≡ node }
+    pub fn size_classes(&self, at: NodeSlot) -> SizeClasses
+        requires { at < length self.now.slots }
+        ensures { result ≡ size_classes (node_at self.now.slots at) }
     {
-        self.blocks.with_sizes(at, node)
+        self.blocks.size_classes(at)
     }
 }
 
@@ -267,9 +269,9 @@ impl<A: Allocator, V: Drop> NodeAllocator<A, V> {
 
     /// Frees the spare capacity, as `Blocks::shrink_to_fit` does.
     pub fn shrink_to_fit(&mut self) -> Result<(), AllocError>
-        ensures kept { self.new ≡ record self.old { capacity = self.new.capacity } }
-        ensures fits { OnOk result (self.new.capacity ≤ length self.new.slots) }
-        ensures less { self.new.capacity ≤ self.old.capacity }
+        ensures kept { self.new ≡ record self.old { capacities = self.new.capacities } }
+        ensures fits { OnOk result (NoneExceeds self.new.capacities (length self.new.slots)) }
+        ensures less { NoneGrows self.old.capacities self.new.capacities }
     {
         self.blocks.shrink_to_fit()
     }

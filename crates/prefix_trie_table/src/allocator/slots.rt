@@ -1,6 +1,6 @@
 //! What a slot can hold, how an array grows, and changes of runs of slots.
 ghost use Rattle.std.specs.Prelude.{◌≡◌, ℕ, ◌+◌, ◌^◌, ◌<◌, ◌≤◌, ◌⊎◌, ◌++◌, All, length, min, max, replicate, insert, remove, vec_len, vec_capacity, slice_index_or, OnOk, OnErr, IsOk};
-ghost use Rattle.prefix_trie_table.specs.Blocks.Growth.{Reserves};
+ghost use Rattle.prefix_trie_table.specs.Blocks.Growth.{Reserves, EachHolds};
 ghost use Rattle.prefix_trie_table.specs.Blocks.Runs.{run, put_run, swap_runs};
 
 use crate::allocator::array::SlotArray;
@@ -107,9 +107,9 @@ pub(super) fn shrink<S, A: Allocator>(items: &mut Vec<S, A>, least: usize) -> Re
 
 /// Appends vacant slots to an array that has the capacity for them.
 pub(super) fn push_vacant<S: Slot, R: SlotArray<S>>(slots: &mut R, count: u32)
-    requires { length (R.list slots.old) + count ≤ R.capacity slots.old }
+    requires { EachHolds (length (R.list slots.old) + count) (R.capacities slots.old) }
     ensures list { R.list slots.new ≡ R.list slots.old ++ replicate count S.vacant }
-    ensures capacity { R.capacity slots.new ≡ R.capacity slots.old }
+    ensures capacities { R.capacities slots.new ≡ R.capacities slots.old }
 {
     for _i in 0..count {
         slots.append(S::vacant());
@@ -172,7 +172,7 @@ pub(super) fn move_run<S: Slot, R: SlotArray<S>>(
         → slice_index_or (R.list slots.old) (to + k) S.vacant ≡ S.vacant }
     ensures items { R.list slots.new ≡ swap_runs (R.list slots.old) from to count }
     ensures len { length (R.list slots.new) ≡ length (R.list slots.old) }
-    ensures capacity { R.capacity slots.new ≡ R.capacity slots.old }
+    ensures capacities { R.capacities slots.new ≡ R.capacities slots.old }
 {
     // Read for the proof alone: the length fits into a `usize`.
     let _count = slots.count();
@@ -200,7 +200,7 @@ pub(super) fn move_in<S: Slot, R: SlotArray<S>>(
         ≡ put_run (put_run (R.list slots.old) from (replicate count S.vacant)) to
         (insert (run (R.list slots.old) from count) offset value) }
     ensures len { length (R.list slots.new) ≡ length (R.list slots.old) }
-    ensures capacity { R.capacity slots.new ≡ R.capacity slots.old }
+    ensures capacities { R.capacities slots.new ≡ R.capacities slots.old }
 {
     // Read for the proof alone.
     let _count = slots.count();
@@ -215,7 +215,7 @@ pub(super) fn write_run<S: Slot + Copy, R: SlotArray<S>>(slots: &mut R, from: us
     requires values { All R.can_hold items.now }
     ensures written { R.list slots.new ≡ put_run (R.list slots.old) from items.now }
     ensures len { length (R.list slots.new) ≡ length (R.list slots.old) }
-    ensures capacity { R.capacity slots.new ≡ R.capacity slots.old }
+    ensures capacities { R.capacities slots.new ≡ R.capacities slots.old }
 {
     // Read for the proof alone.
     let _count = slots.count();

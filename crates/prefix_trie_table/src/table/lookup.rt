@@ -1,5 +1,5 @@
 //! Search paths, from the root down to a bit string's own node.
-ghost use Rattle.std.specs.Prelude.{◌≡◌, ℕ, ◌+◌, ◌*◌, ◌/◌, ◌<◌, ◌≤◌, Bool, List, drop, length, MatchOption};
+ghost use Rattle.std.specs.Prelude.{◌≡◌, ◌+◌, ◌*◌, ◌/◌, ◌<◌, ◌≤◌, Bool, List, drop, length, MatchOption};
 ghost use Rattle.prefix_trie_table.specs.declared.allocator.node.Node.{Node};
 ghost use Rattle.prefix_trie_table.specs.Blocks.Cells.{node_at};
 ghost use Rattle.prefix_trie_table.specs.Forest.{SomeNodes};
@@ -170,18 +170,19 @@ fn search_end<K: Key, A: Allocator, V: Tick>(
     requires along { (q : List Bool) × IsAlong q reached nodes.now }
     ensures { (result.reached ≡ reached) × (result.rest ≡ rest) }
 {
-    let node = nodes.with_sizes(reached.at, reached.node);
+    let sizes = nodes.size_classes(reached.at);
+    let node = Node {
+        value_tier: sizes.value_tier,
+        child_tier: sizes.child_tier,
+        ..reached.node
+    };
     SearchEnd {
-        reached: Reached {
-            at: reached.at,
-            node,
-            level: reached.level,
-        },
+        reached: Reached { node, ..reached },
         rest,
     }
 }
 
-/// Finds where the value at a bit string is stored, or the last node of its search path.
+/// Finds where the value at a bit string is stored, or the last node of its search path and the bits that are left there.
 #[inline(always)]
 pub fn locate_in<K: Key, A: Allocator, V: Tick>(
     nodes: &NodeAllocator<A, V>,

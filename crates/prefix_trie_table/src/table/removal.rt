@@ -33,7 +33,7 @@ pub fn clear_entries<T: Drop, A: Allocator, V: Tick>(
       first = 1;
       tiers = map no_blocks node_sizes;
       limit = nodes.old.limit;
-      capacity = nodes.new.capacity;
+      capacities = nodes.new.capacities;
     } }
     ensures nodes_sound { Sound blank_node [] nodes.new }
     ensures cells { cells.new ≡ record {
@@ -41,7 +41,7 @@ pub fn clear_entries<T: Drop, A: Allocator, V: Tick>(
       first = 0;
       tiers = map no_blocks cell_sizes;
       limit = cells.old.limit;
-      capacity = cells.new.capacity;
+      capacities = cells.new.capacities;
     } }
     ensures cells_sound { Sound None [] cells.new }
     ensures none { entries.new ≡ 0 }

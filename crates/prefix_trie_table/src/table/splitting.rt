@@ -114,7 +114,7 @@ pub(super) fn build_part<K: Key, T: Drop, A: Allocator + Clone, V: Tick>(
     ensures built { IfOk result (λ r. IsSecond path.now nodes.now r.0 r.1) }
     ensures range { IfErr result (λ cause. cause ≡ Memory) }
 {
-    let mut second_nodes = nodes.another()?;
+    let mut second_nodes = nodes.new_like()?;
     let Ok(mut second_cells) = blocks::cells(cells.allocator(), cells.limit()) else {
         return Err(Refusal::Memory);
     };

@@ -16,10 +16,10 @@ impl<S: Slot + Clone, A: Allocator + Clone> Blocks<S, Vec<S, A>, A> {
     pub fn clone(&self) -> Result<Self, AllocError>
         ensures slots { IfOk result (λ copy. AllZip S.is_clone self.now.slots copy.slots) }
         ensures rest { IfOk result
-            (λ copy. copy ≡ record self.now { slots = copy.slots; capacity = copy.capacity }) }
+            (λ copy. copy ≡ record self.now { slots = copy.slots; capacities = copy.capacities }) }
         ensures same { IfOk result
             (λ copy. ((x y : S) → S.is_clone x y → y ≡ x)
-            → copy ≡ record self.now { capacity = copy.capacity }) }
+            → copy ≡ record self.now { capacities = copy.capacities }) }
     {
         let lists = Vec::from_clones(self.lists.allocator().clone()?, &self.lists)?;
         let slots = Vec::from_clones(self.slots.allocator().clone()?, &self.slots)?;

@@ -12,6 +12,6 @@ new-requires g c = record {
 
 pub returns : goal.returns
 returns g c = record {
-  empty = c.new.ensures.value ∙ (λ i. record { slots = c.new-slots.ensures.items i; first = (sym c.new-slots.result.ok.0 ∙ c.new-slots.ensures.len) i; tiers = c.in_ok-lists.ensures i; limit = c.args.limit; capacity = (sym (ap (λ (x : Store (Option g.row.T.Denot)). x.capacity) c.new.ensures.value)) i });
+  empty = c.new.ensures.value ∙ (λ i. record { slots = c.new-slots.ensures.items i; first = (sym c.new-slots.result.ok.0 ∙ c.new-slots.ensures.len) i; tiers = c.in_ok-lists.ensures i; limit = c.args.limit; capacities = (sym (ap (λ (x : Store (Option g.row.T.Denot)). x.capacities) c.new.ensures.value)) i });
   sound = c.new.ensures.sound;
 }

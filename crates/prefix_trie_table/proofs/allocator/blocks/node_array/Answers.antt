@@ -16,6 +16,6 @@ pub returns : goal.returns
 returns g c =
     let root : c.append.new.self.list ≡ blank_node ∷ [] = c.append.ensures.list ∙ (λ i. (c.reserve.ensures.list ∙ c.in_ok-slots.ensures) i ++ c.blank.ensures i ∷ []) in
     record {
-      empty = c.new-2.ensures.value ∙ (λ i. record { slots = root i; first = length (root i); tiers = c.in_ok-lists.ensures i; limit = c.args.limit; capacity = (sym (ap (λ (x : Store Node). x.capacity) c.new-2.ensures.value)) i });
+      empty = c.new-2.ensures.value ∙ (λ i. record { slots = root i; first = length (root i); tiers = c.in_ok-lists.ensures i; limit = c.args.limit; capacities = (sym (ap (λ (x : Store Node). x.capacities) c.new-2.ensures.value)) i });
       sound = c.new-2.ensures.sound;
     }

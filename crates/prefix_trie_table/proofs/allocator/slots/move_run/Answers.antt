@@ -29,5 +29,5 @@ loop-i-preserved g c =
     record {
       items = items;
       len = ap length items ∙ length-swap_runs xs a.from a.to (i + 1);
-      capacity = c.move_to.ensures.capacity ∙ c.loop-i.invariant.capacity;
+      capacities = c.move_to.ensures.capacities ∙ c.loop-i.invariant.capacities;
     }

@@ -3,4 +3,4 @@ use Rattle.prefix_trie_table.proofs.Prelude.{◌≡◌, length, swap_runs}
 use Rattle.prefix_trie_table.proofs.allocator.slots.move_run.Given as goal
 
 abbrev pub invariant-loop-i : goal.invariant-loop-i
-invariant-loop-i g l = record { items : (g.R.SlotArray.list l.slots) ≡ swap_runs (g.R.SlotArray.list l.initial.slots) l.from l.to l.i; len : length (g.R.SlotArray.list l.slots) ≡ length (g.R.SlotArray.list l.initial.slots); capacity : g.R.SlotArray.capacity l.slots ≡ g.R.SlotArray.capacity l.initial.slots }
+invariant-loop-i g l = record { items : (g.R.SlotArray.list l.slots) ≡ swap_runs (g.R.SlotArray.list l.initial.slots) l.from l.to l.i; len : length (g.R.SlotArray.list l.slots) ≡ length (g.R.SlotArray.list l.initial.slots); capacities : g.R.SlotArray.capacities l.slots ≡ g.R.SlotArray.capacities l.initial.slots }

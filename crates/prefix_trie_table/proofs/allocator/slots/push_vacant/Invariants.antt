@@ -7,5 +7,5 @@ invariant-loop-i g l =
     record {
       items : (g.R.SlotArray.list l.slots) ≡ (g.R.SlotArray.list l.initial.slots) ++ replicate l._i g.S.Slot.vacant;
       len : length (g.R.SlotArray.list l.slots) ≡ length (g.R.SlotArray.list l.initial.slots) + l._i;
-      capacity : g.R.SlotArray.capacity l.slots ≡ g.R.SlotArray.capacity l.initial.slots;
+      capacities : g.R.SlotArray.capacities l.slots ≡ g.R.SlotArray.capacities l.initial.slots;
     }

@@ -11,7 +11,7 @@ loop-i-init g c =
     record {
       items = sym (take-append-drop c.args.from xs) ∙ ap (λ n. take c.args.from xs ++ ([] ++ drop n xs)) e;
       len = search rules;
-      capacity = search rules;
+      capacities = search rules;
     }
 
 pub loop-i-preserved : goal.loop-i-preserved
@@ -22,7 +22,7 @@ loop-i-preserved g c =
     record {
       items = c.put.ensures.list ∙ ap (λ ys. set ys (c.args.from + l.i) v) l.invariant.items ∙ put_run_more xs c.args.from l.i c.args.items.now v c.loop-i-test.true c.requires.within (sym c.index-items-i.is);
       len = ap length c.put.ensures.list ∙ length-set (g.R.SlotArray.list l.slots) (c.args.from + l.i) v ∙ l.invariant.len;
-      capacity = c.put.ensures.capacity ∙ l.invariant.capacity;
+      capacities = c.put.ensures.capacities ∙ l.invariant.capacities;
     }
 
 pub put-requires : goal.put-requires

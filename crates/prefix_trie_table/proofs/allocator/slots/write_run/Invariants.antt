@@ -7,5 +7,5 @@ invariant-loop-i g l =
     record {
       items : g.R.SlotArray.list l.slots ≡ put_run (g.R.SlotArray.list l.fn.slots) l.from (take l.i l.items);
       len : length (g.R.SlotArray.list l.slots) ≡ length (g.R.SlotArray.list l.fn.slots);
-      capacity : g.R.SlotArray.capacity l.slots ≡ g.R.SlotArray.capacity l.fn.slots;
+      capacities : g.R.SlotArray.capacities l.slots ≡ g.R.SlotArray.capacities l.fn.slots;
     }

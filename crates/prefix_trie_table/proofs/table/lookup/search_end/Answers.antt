@@ -3,8 +3,8 @@ use Rattle.prefix_trie_table.proofs.Prelude.{chunks_of}
 use Rattle.prefix_trie_table.proofs.Lookup.Going.{deepest_in}
 use Rattle.prefix_trie_table.proofs.table.lookup.search_end.Goals as goal
 
-pub with_sizes-node-requires-clause-within : goal.with_sizes-node-requires-clause-within
-with_sizes-node-requires-clause-within g c =
+pub size_classes-sizes-requires : goal.size_classes-sizes-requires
+size_classes-sizes-requires g c =
     let s = c.requires.sound in
     let at = c.requires.along in
     deepest_in s.reading s.paths c.args.nodes.now (chunks_of at.0) c.args.reached.level _ s.hold (at.1.deepest s.reading s.paths s.hold)

@@ -11,11 +11,11 @@ returns-clause-nodes g c =
     let hold = c.requires.table.holds.hold in
     let tiers = cleared_tiers c.args.nodes.now.tiers node_sizes hold.sizes_are in
     c.clear.ensures.value
-    ∙ (λ i. record { slots = blank_node ∷ []; first = hold.first_is i; tiers = tiers i; limit = c.args.nodes.now.limit; capacity = (sym (ap (λ (x : Store Node). x.capacity) c.clear.ensures.value)) i })
+    ∙ (λ i. record { slots = blank_node ∷ []; first = hold.first_is i; tiers = tiers i; limit = c.args.nodes.now.limit; capacities = (sym (ap (λ (x : Store Node). x.capacities) c.clear.ensures.value)) i })
 
 pub returns-clause-cells : goal.returns-clause-cells
 returns-clause-cells g c =
     let cells = c.requires.table.holds.cells in
     let tiers = cleared_tiers c.args.cells.now.tiers cell_sizes cells.sizes_are in
     c.clear-2.ensures.value
-    ∙ (λ i. record { slots = take (c.requires.first i) c.args.cells.now.slots; first = c.requires.first i; tiers = tiers i; limit = c.args.cells.now.limit; capacity = (sym (ap (λ (x : Store (Option g.row.T.Denot)). x.capacity) c.clear-2.ensures.value)) i })
+    ∙ (λ i. record { slots = take (c.requires.first i) c.args.cells.now.slots; first = c.requires.first i; tiers = tiers i; limit = c.args.cells.now.limit; capacities = (sym (ap (λ (x : Store (Option g.row.T.Denot)). x.capacities) c.clear-2.ensures.value)) i })

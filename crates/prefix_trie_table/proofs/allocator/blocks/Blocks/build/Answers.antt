@@ -12,4 +12,4 @@ write_run-requires g c =
 pub returns-clause-built : goal.returns-clause-built
 returns-clause-built g c =
     let items = items_built g.S.Slot.vacant c.args.self.now c.build_vacant.new.self c.in_ok-at.at c.requires.sound.0 c.requires.sound.1 c.args.items.now c.in_ok-at.ensures.built in
-    rw (c.write_run.ensures.written, c.write_run.ensures.capacity) (rw (← c.self.view_is) at items)
+    rw (c.write_run.ensures.written, c.write_run.ensures.capacities) (rw (← c.self.view_is) at items)

@@ -1,13 +1,27 @@
 -- A new list gets the smallest block that holds it, filled with vacant items. At most this block is made.
-use Rattle.prefix_trie_table.proofs.Prelude.{◌≡◌, ℕ, ◌+◌, ◌-◌, ◌<◌, ◌≤◌, ◌++◌, [], ◌∷◌, length, replicate, None, Some, refl, sym, ap, ◌∙◌, subst, arith, Contains, err_from_is_err_and, length-replicate, IndexRange, smallest_size, packed_slots, Sound, Turnover, block, tier_at, tier_sizes, size_in, free_in, many_of, none_of}
+use Rattle.prefix_trie_table.proofs.Prelude.{◌≡◌, ℕ, ◌+◌, ◌-◌, ◌<◌, ◌≤◌, ◌++◌, [], ◌∷◌, length, replicate, None, Some, refl, sym, ap, ◌∙◌, subst, arith, Contains, err_from_is_err_and, length-replicate, IndexRange, smallest_size, packed_slots, Sound, Turnover, block, held, tier_at, tier_sizes, size_in, free_in, many_of, none_of}
 use Rattle.prefix_trie_table.proofs.Blocks.BySize.{size_at, sizes_up, size_among, tiers_long, smallest_holds, many_here, many-none}
 use Rattle.prefix_trie_table.proofs.Blocks.Building.{Sound-vacant, built_none_free, built_longer, packed_size}
-use Rattle.prefix_trie_table.proofs.Blocks.Turnovers.{Keeps-then, size_kept, space_kept}
+use Rattle.prefix_trie_table.proofs.Blocks.Turnovers.{Keeps-same, Keeps-then, size_kept, space_kept}
 use Rattle.prefix_trie_table.proofs.Tree.Trees.{held_some}
 use Rattle.prefix_trie_table.proofs.allocator.blocks.Blocks.build_vacant.Goals as goal
 
 pub obtain-requires : goal.obtain-requires
 obtain-requires g c = c.tier_holding-tier.ensures.within
+
+pub returns-then-count-eq0-clause-built : goal.returns-then-count-eq0-clause-built
+returns-then-count-eq0-clause-built g c =
+    let v = c.args.self.now in
+    let zero = c.if-count-eq0.true in
+    let none = length-replicate c.args.count g.S.Slot.vacant in
+    record {
+      tier = λ some. absurd (omega (arith, none, zero, some));
+      size = λ some. absurd (omega (arith, none, zero, some));
+      none = λ _. refl;
+      sound = λ live s. subst (λ n. Sound g.S.Slot.vacant (held 0 0 (tier_at v.tiers 0).size (replicate n g.S.Slot.vacant) ++ live) v) (sym zero) s;
+      keeps = Keeps-same v v refl;
+      none_free = λ h. h;
+    }
 
 pub take-start-requires : goal.take-start-requires
 take-start-requires g c =

@@ -1,8 +1,8 @@
 -- Making a block at the end of an array, or why it is not made: the limit would be exceeded, or an allocation failed.
-use Rattle.prefix_trie_table.proofs.Prelude.{None, refl, ◌≡◌, ℕ, ◌+◌, ◌<◌, ◌≤◌, ◌↔◌, ◌∷◌, [], ◌++◌, length, replicate, length-append, get_or, set, set-get_or, sym, ap, ◌∙◌, subst, arith, rules, length-replicate, get_or_default, get_or_append_left, Memory, IndexRange, Sound, Store, Tier, tier_at, tier_sizes, size_in}
+use Rattle.prefix_trie_table.proofs.Prelude.{None, refl, ◌≡◌, ℕ, ◌+◌, ◌<◌, ◌≤◌, ◌↔◌, ◌∷◌, [], ◌++◌, List, length, replicate, length-append, get_or, set, set-get_or, sym, ap, ◌∙◌, subst, arith, rules, length-replicate, get_or_default, get_or_append_left, Memory, IndexRange, Sound, Store, Tier, tier_at, tier_sizes, size_in}
 use Rattle.prefix_trie_table.proofs.Blocks.BySize.{size_at, sizes_up}
-use Rattle.prefix_trie_table.specs.Blocks.Growth.{Reserves}
-use Rattle.prefix_trie_table.proofs.Blocks.Capacity.{Sound-capacity}
+use Rattle.prefix_trie_table.specs.Blocks.Growth.{EachReserves}
+use Rattle.prefix_trie_table.proofs.Blocks.Capacity.{Sound-capacities}
 use Rattle.prefix_trie_table.proofs.Blocks.Turnovers.{Turnover-grown, Turnover-reserved, Turnover-same}
 use Rattle.prefix_trie_table.proofs.Blocks.Soundness.{made_fits, Sound-grown_as}
 use Rattle.prefix_trie_table.proofs.Blocks.ResultCases.{told_ok, told_err}
@@ -30,7 +30,7 @@ returns-clause-sound g c = λ live s.
     let at_k : tier_at v.lists.items c.args.k ≡ old = get_or_default v.lists.items c.args.k _ old within ∙ sym c.index_mut-list.ensures.value in
     let added : c.push_made.new.self ≡ record old { made = old.made + 1; starts = old.starts ++ c.len-len.result ∷ [] } = told_ok c.push_made.result c.if-is_err-2.ensures.value c.push_made.ensures.ok in
     let size : c.size_of-size.result ≡ (tier_at v.lists.items c.args.k).size = (rw (← c.self.view_is) at c.size_of-size.ensures) ∙ sym (size_at v.lists.items c.args.k) in
-    Sound-capacity g.S.Slot.vacant live _ (g.R.SlotArray.capacity c.push_vacant.new.slots) (Sound-grown_as g.S.Slot.vacant live _ c.args.k c.size_of-size.result c.len-len.result c.push_made.new.self (g.R.SlotArray.list c.push_vacant.new.slots) within (c.push_vacant.ensures.list ∙ ap (λ xs. xs ++ replicate c.size_of-size.result g.S.Slot.vacant) c.reserve.ensures.list) size (rw (← c.self.view_is) at c.len-len.ensures.len) (added ∙ ap (λ (t : Tier). record t { made = t.made + 1; starts = t.starts ++ c.len-len.result ∷ [] }) (sym at_k)) (rw (← c.self.view_is) at s))
+    Sound-capacities g.S.Slot.vacant live _ (g.R.SlotArray.capacities c.push_vacant.new.slots) (Sound-grown_as g.S.Slot.vacant live _ c.args.k c.size_of-size.result c.len-len.result c.push_made.new.self (g.R.SlotArray.list c.push_vacant.new.slots) within (c.push_vacant.ensures.list ∙ ap (λ xs. xs ++ replicate c.size_of-size.result g.S.Slot.vacant) c.reserve.ensures.list) size (rw (← c.self.view_is) at c.len-len.ensures.len) (added ∙ ap (λ (t : Tier). record t { made = t.made + 1; starts = t.starts ++ c.len-len.result ∷ [] }) (sym at_k)) (rw (← c.self.view_is) at s))
 
 pub returns-then-len-size-clause-range : goal.returns-then-len-size-clause-range
 returns-then-len-size-clause-range g c = search rules
@@ -45,37 +45,37 @@ returns-then-len-size-clause-err g c = Turnover-same c.args.self.now c.args.self
 pub returns-then-is_err : goal.returns-then-is_err
 returns-then-is_err g c =
     let v = c.self.inside in
-    let space : ℕ = g.R.SlotArray.capacity c.reserve.new.self in
+    let space : List ℕ = g.R.SlotArray.capacities c.reserve.new.self in
     let within : c.args.k < length v.lists.items = rw (← c.self.view_is) at c.requires in
     let size : c.size_of-size.result ≡ (tier_at v.lists.items c.args.k).size = (rw (← c.self.view_is) at c.size_of-size.ensures) ∙ sym (size_at v.lists.items c.args.k) in
     let few : c.size_of-size.result ≤ 32 = omega (arith, size, sizes_small v.lists.items c.self.invariant.2 c.args.k within) in
-    let reserves : Reserves c.args.self.now.capacity (length c.args.self.now.slots + c.size_of-size.result) space = rw (← c.self.view_is) c.reserve.ensures.grown in
-    let same : (record { slots = (g.R.SlotArray.list c.reserve.new.self); first = v.first; tiers = v.lists.items; limit = v.limit; capacity = space }) ≡ record c.args.self.now { capacity = space } = rw (← c.self.view_is) (λ i. record { slots = c.reserve.ensures.list i; first = v.first; tiers = v.lists.items; limit = v.limit; capacity = space }) in
+    let reserves : EachReserves c.args.self.now.capacities (length c.args.self.now.slots + c.size_of-size.result) space = rw (← c.self.view_is) c.reserve.ensures.grown in
+    let same : (record { slots = (g.R.SlotArray.list c.reserve.new.self); first = v.first; tiers = v.lists.items; limit = v.limit; capacities = space }) ≡ record c.args.self.now { capacities = space } = rw (← c.self.view_is) (λ i. record { slots = c.reserve.ensures.list i; first = v.first; tiers = v.lists.items; limit = v.limit; capacities = space }) in
     record {
       made = tt;
       err = Turnover-reserved c.args.self.now _ space c.size_of-size.result same reserves few;
       range = no_range _ _ _ (omega (arith, c.if-len-size.false, c.size_of-size.ensures, c.len-len.ensures.len, ap (λ (a : Store g.row.S.Denot). a.limit) c.self.view_is));
       kept = λ i d h. ap (λ (a : Store g.row.S.Denot). get_or a.slots i d) same;
-      sound = λ live s. subst (Sound g.S.Slot.vacant live) (sym same) (Sound-capacity g.S.Slot.vacant live c.args.self.now space s);
+      sound = λ live s. subst (Sound g.S.Slot.vacant live) (sym same) (Sound-capacities g.S.Slot.vacant live c.args.self.now space s);
     }
 
 pub returns-then-is_err-2 : goal.returns-then-is_err-2
 returns-then-is_err-2 g c =
     let v = c.self.inside in
-    let space : ℕ = g.R.SlotArray.capacity c.reserve.new.self in
+    let space : List ℕ = g.R.SlotArray.capacities c.reserve.new.self in
     let within : c.args.k < length v.lists.items = rw (← c.self.view_is) at c.requires in
     let size : c.size_of-size.result ≡ (tier_at v.lists.items c.args.k).size = (rw (← c.self.view_is) at c.size_of-size.ensures) ∙ sym (size_at v.lists.items c.args.k) in
     let few : c.size_of-size.result ≤ 32 = omega (arith, size, sizes_small v.lists.items c.self.invariant.2 c.args.k within) in
-    let reserves : Reserves c.args.self.now.capacity (length c.args.self.now.slots + c.size_of-size.result) space = rw (← c.self.view_is) c.reserve.ensures.grown in
+    let reserves : EachReserves c.args.self.now.capacities (length c.args.self.now.slots + c.size_of-size.result) space = rw (← c.self.view_is) c.reserve.ensures.grown in
     let list = told_err c.push_made.result c.if-is_err-2.ensures.value c.push_made.ensures.err in
     let lists = ap (set v.lists.items c.args.k) (list ∙ c.index_mut-list.ensures.value) ∙ set-get_or v.lists.items c.args.k c.index_mut-list.result.now in
-    let same : (record { slots = (g.R.SlotArray.list c.reserve.new.self); first = v.first; tiers = set v.lists.items c.args.k c.push_made.new.self; limit = v.limit; capacity = space }) ≡ record c.args.self.now { capacity = space } = rw (← c.self.view_is) (λ i. record { slots = c.reserve.ensures.list i; first = v.first; tiers = lists i; limit = v.limit; capacity = space }) in
+    let same : (record { slots = (g.R.SlotArray.list c.reserve.new.self); first = v.first; tiers = set v.lists.items c.args.k c.push_made.new.self; limit = v.limit; capacities = space }) ≡ record c.args.self.now { capacities = space } = rw (← c.self.view_is) (λ i. record { slots = c.reserve.ensures.list i; first = v.first; tiers = lists i; limit = v.limit; capacities = space }) in
     record {
       made = tt;
       err = Turnover-reserved c.args.self.now _ space c.size_of-size.result same reserves few;
       range = no_range _ _ _ (omega (arith, c.if-len-size.false, c.size_of-size.ensures, c.len-len.ensures.len, ap (λ (a : Store g.row.S.Denot). a.limit) c.self.view_is));
       kept = λ i d h. ap (λ (a : Store g.row.S.Denot). get_or a.slots i d) same;
-      sound = λ live s. subst (Sound g.S.Slot.vacant live) (sym same) (Sound-capacity g.S.Slot.vacant live c.args.self.now space s);
+      sound = λ live s. subst (Sound g.S.Slot.vacant live) (sym same) (Sound-capacities g.S.Slot.vacant live c.args.self.now space s);
     }
 
 pub push_made-requires : goal.push_made-requires
@@ -101,11 +101,11 @@ returns-clause-made g c =
     let before : c.len-len.result ≡ length (g.R.SlotArray.list v.slots) = rw (← c.self.view_is) at c.len-len.ensures.len in
     let starts : length (c.push_made.new.self).starts ≡ length (tier_at v.lists.items c.args.k).starts + 1 = ap (λ (u : Tier). length u.starts) is ∙ length-append (tier_at v.lists.items c.args.k).starts (c.len-len.result ∷ []) in
     let slots = c.push_vacant.ensures.list ∙ ap (λ xs. xs ++ replicate c.size_of-size.result g.S.Slot.vacant) c.reserve.ensures.list ∙ ap (λ n. (g.R.SlotArray.list v.slots) ++ replicate n g.S.Slot.vacant) size in
-    let grown : Reserves (g.R.SlotArray.capacity v.slots) (length (g.R.SlotArray.list v.slots) + size_in (tier_sizes v.lists.items) c.args.k) (g.R.SlotArray.capacity c.push_vacant.new.slots) =
-    subst (λ n. Reserves (g.R.SlotArray.capacity v.slots) (length (g.R.SlotArray.list v.slots) + n) (g.R.SlotArray.capacity c.push_vacant.new.slots)) size
-    (subst (λ n. Reserves (g.R.SlotArray.capacity v.slots) (length (g.R.SlotArray.list v.slots) + c.size_of-size.result) n) (sym c.push_vacant.ensures.capacity) c.reserve.ensures.grown) in
+    let grown : EachReserves (g.R.SlotArray.capacities v.slots) (length (g.R.SlotArray.list v.slots) + size_in (tier_sizes v.lists.items) c.args.k) (g.R.SlotArray.capacities c.push_vacant.new.slots) =
+    subst (λ n. EachReserves (g.R.SlotArray.capacities v.slots) (length (g.R.SlotArray.list v.slots) + n) (g.R.SlotArray.capacities c.push_vacant.new.slots)) size
+    (subst (λ n. EachReserves (g.R.SlotArray.capacities v.slots) (length (g.R.SlotArray.list v.slots) + c.size_of-size.result) n) (sym c.push_vacant.ensures.capacities) c.reserve.ensures.grown) in
     rw (← c.self.view_is) (Turnover-grown _ c.args.k c.push_made.new.self (sizes_up v.lists.items c.self.invariant.2) within (ap (λ (u : Tier). u.size) is) _
-    (size_at v.lists.items c.args.k) g.S.Slot.vacant _ (g.R.SlotArray.capacity c.push_vacant.new.slots) slots grown (omega (arith, c.self.invariant.1)) (omega (arith, c.if-len-size.false, size, before)) (ap (λ (u : Tier). u.made) is) starts)
+    (size_at v.lists.items c.args.k) g.S.Slot.vacant _ (g.R.SlotArray.capacities c.push_vacant.new.slots) slots grown (omega (arith, c.self.invariant.1)) (omega (arith, c.if-len-size.false, size, before)) (ap (λ (u : Tier). u.made) is) starts)
 
 pub returns-clause-kept : goal.returns-clause-kept
 returns-clause-kept g c =

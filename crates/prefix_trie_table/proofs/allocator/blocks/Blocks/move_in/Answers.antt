@@ -1,6 +1,6 @@
 -- Moving a list into another block, with a new item in its place, keeps the store sound.
 use Rattle.prefix_trie_table.proofs.Prelude.{◌≡◌, ◌+◌, ◌∷◌, inl, inr, replicate, insert, sym, ap, ◌∙◌, arith, cases_lt, length-insert, run, put_run}
-use Rattle.prefix_trie_table.proofs.Blocks.Capacity.{Sound-capacity}
+use Rattle.prefix_trie_table.proofs.Blocks.Capacity.{Sound-capacities}
 use Rattle.prefix_trie_table.proofs.Blocks.Soundness.{Sound-exchanged, block_inside, fits_block}
 use Rattle.prefix_trie_table.proofs.Blocks.Moving.{Sound-put_over, two_apart, run_items, run_none}
 use Rattle.prefix_trie_table.proofs.allocator.blocks.Blocks.move_in.Goals as goal
@@ -37,5 +37,5 @@ returns-clause-sound g c = λ a b live s0 from to count none space.
     ∙ ap (λ i. put_run (put_run xs a.start (replicate n g.S.Slot.vacant)) i (insert (run xs a.start n) c.args.offset c.args.value)) (sym to)
     ∙ ap (λ ys. put_run (put_run xs a.start (replicate n g.S.Slot.vacant)) b.start (insert ys c.args.offset c.args.value)) (run_items g.S.Slot.vacant a b live _ none s n count) in
     let long = length-insert a.items c.args.offset c.args.value (omega (arith, count, c.requires.offset)) in
-    Sound-capacity g.S.Slot.vacant _ _ (g.R.SlotArray.capacity c.move_in.new.slots)
+    Sound-capacities g.S.Slot.vacant _ _ (g.R.SlotArray.capacities c.move_in.new.slots)
     (Sound-put_over g.S.Slot.vacant a b live _ none s n (insert a.items c.args.offset c.args.value) (g.R.SlotArray.list c.move_in.new.slots) count (omega (arith, long, count, space)) written)

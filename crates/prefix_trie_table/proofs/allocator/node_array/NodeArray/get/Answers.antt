@@ -8,16 +8,16 @@ pub index-head-requires : goal.index-head-requires
 index-head-requires g c =
     let v = c.self.inside in
     let within : c.args.at < length (nodes_of v.heads.items v.tiers.items) = rw (← c.self.view_is) at c.requires in
-    omega (arith, within, length-nodes v.heads.items v.tiers.items c.self.invariant.0, v.heads.ok.0)
+    omega (arith, within, length-nodes v.heads.items v.tiers.items c.self.invariant, v.heads.ok.0)
 
 pub index-tiers-requires : goal.index-tiers-requires
 index-tiers-requires g c =
     let v = c.self.inside in
     let within : c.args.at < length (nodes_of v.heads.items v.tiers.items) = rw (← c.self.view_is) at c.requires in
-    omega (arith, within, length-nodes v.heads.items v.tiers.items c.self.invariant.0, c.self.invariant.0, v.tiers.ok.0)
+    omega (arith, within, length-nodes v.heads.items v.tiers.items c.self.invariant, c.self.invariant, v.tiers.ok.0)
 
 pub returns-clause-node : goal.returns-clause-node
 returns-clause-node g c =
     let v = c.self.inside in
     let within : c.args.at < length (nodes_of v.heads.items v.tiers.items) = rw (← c.self.view_is) at c.requires in
-    c.joined.ensures.node ∙ (λ i. node_of (c.index-head.ensures i) (c.index-tiers.ensures i)) ∙ get_or-nodes v.heads.items v.tiers.items c.args.at c.index-head.result.now c.index-tiers.result.now blank_node c.self.invariant.0 (omega (arith, within, length-nodes v.heads.items v.tiers.items c.self.invariant.0)) ∙ ap (λ (a : NodeList). get_or a.list c.args.at blank_node) c.self.view_is
+    c.joined.ensures.node ∙ (λ i. node_of (c.index-head.ensures i) (c.index-tiers.ensures i)) ∙ get_or-nodes v.heads.items v.tiers.items c.args.at c.index-head.result.now c.index-tiers.result.now blank_node c.self.invariant (omega (arith, within, length-nodes v.heads.items v.tiers.items c.self.invariant)) ∙ ap (λ (a : NodeList). get_or a.list c.args.at blank_node) c.self.view_is

@@ -11,4 +11,4 @@ returns g c =
     let none : Head = record { value_bitmap = 0; child_bitmap = 0; value_block = 0; child_block = 0 } in
     let small = subst (λ ns. (k : ℕ) → get_or ns k 0 < 256) c.deref.ensures.value c.are_bytes.ensures in
     subst (λ (a : NodeList). (at : ℕ) → at < length a.list → FitsByte (get_or a.list at blank_node)) c.self.view_is
-    (λ at within. nodes_fit v.heads.items v.tiers.items at none blank_node c.self.invariant.0 small (omega (arith, within, length-nodes v.heads.items v.tiers.items c.self.invariant.0)))
+    (λ at within. nodes_fit v.heads.items v.tiers.items at none blank_node c.self.invariant small (omega (arith, within, length-nodes v.heads.items v.tiers.items c.self.invariant)))

@@ -7,4 +7,4 @@ use Rattle.prefix_trie_table.proofs.allocator.node_array.NodeArraySlotArrayNode.
 pub returns : goal.returns
 returns g c =
     let v = c.self.inside in
-    c.len.ensures ∙ v.heads.ok.0 ∙ sym (length-nodes v.heads.items v.tiers.items c.self.invariant.0) ∙ ap (λ (a : NodeList). length a.list) c.self.view_is
+    c.len.ensures ∙ v.heads.ok.0 ∙ sym (length-nodes v.heads.items v.tiers.items c.self.invariant) ∙ ap (λ (a : NodeList). length a.list) c.self.view_is

@@ -7,4 +7,4 @@ use Rattle.prefix_trie_table.proofs.allocator.node_array.NodeArraySlotArrayNode.
 pub returns-clause-list : goal.returns-clause-list
 returns-clause-list g c =
     let v = c.self.inside in
-    (λ i. nodes_of (c.truncate.ensures.items i) (c.truncate-2.ensures.items i)) ∙ nodes-take c.args.count v.heads.items v.tiers.items c.self.invariant.0 ∙ ap (λ (a : NodeList). take c.args.count a.list) c.self.view_is
+    (λ i. nodes_of (c.truncate.ensures.items i) (c.truncate-2.ensures.items i)) ∙ nodes-take c.args.count v.heads.items v.tiers.items c.self.invariant ∙ ap (λ (a : NodeList). take c.args.count a.list) c.self.view_is
