@@ -42,7 +42,7 @@ pub fn copy_laws<T: Clone>()
     ensures { CopyLaws T.is_clone }
 {}
 
-/// States that each array of a map has fewer than 2^32 slots.
+/// States that each array of a map has fewer than 2^32 slots, and that a map has fewer than 2^32 entries.
 ///
 /// Requires what `len` and the calls that make walks ensure for every map.
 pub fn whole_laws<P: Prefix, T>()

@@ -197,11 +197,12 @@ impl<T: Drop, A: Allocator + Clone, V: Tick> Table<T, A, V> {
 impl<T: Drop, A: Allocator, V: Tick> Table<T, A, V> {
     /// Returns the number of entries.
     ///
-    /// Its contract also brings two facts into a caller's proof: neither array exceeds the limit, which is below 2^32,
-    /// and each node has its blocks.
+    /// Its contract also brings three facts into a caller's proof: neither array exceeds the limit, which is below 2^32,
+    /// there are no more entries than slots for values, and each node has its blocks.
     #[inline]
     pub fn len(&self) -> usize
         ensures count { result ≡ len self.now.entries }
+        ensures few { len self.now.entries ≤ self.now.space.cell_slots }
         ensures limit { (self.now.space.limit < 2 ^ 32)
             × (self.now.space.node_slots ≤ self.now.space.limit)
             × (self.now.space.cell_slots ≤ self.now.space.limit) }

@@ -1,10 +1,11 @@
-//! Splitting keys off as a second set.
+//! Splitting keys off as a second set, and empty sets like a set.
 ghost use Rattle.std.specs.Prelude.{◌≡◌, IfOk, OnOk, IfErr, OnErr};
 ghost use Rattle.prefix_trie_bits.specs.declared.prefix.Refusal.TheVariants.{Memory};
-ghost use Rattle.prefix_trie_bits.specs.Model.Entries.{without_below};
+ghost use Rattle.prefix_trie_bits.specs.Model.Blocks.{no_layout};
+ghost use Rattle.prefix_trie_bits.specs.Model.Entries.{no_entries, without_below};
 ghost use Rattle.prefix_trie_bits.specs.Calls.Entries.{part_below};
 ghost use Rattle.prefix_trie_bits.specs.Calls.SplitsOff.{SplitsOffInStorage};
-ghost use Rattle.prefix_trie_bits.specs.Model.Nodes.{needed, nodes_without_below};
+ghost use Rattle.prefix_trie_bits.specs.Model.Nodes.{needed, nodes_without_below, root_alone};
 ghost use Rattle.prefix_trie_map.specs.Steps.{stored_state};
 
 use crate::set::PrefixSet;
@@ -12,6 +13,31 @@ use prefix_trie_bits::prefix::{Prefix, Refusal};
 use std::alloc::Allocator;
 
 impl<P: Prefix, A: Allocator + Clone> PrefixSet<P, A> {
+    /// Creates an empty set with a clone of this set's allocator, and the same slot limit.
+    ///
+    /// # Errors
+    ///
+    /// Returns `Memory` if an allocation fails. No set exists then.
+    ///
+    /// # Examples
+    ///
+    /// ```rust
+    /// // set = {10.1.0.0/16}
+    /// set.new_like()?.len();      // 0
+    /// ```
+    pub fn new_like(&self) -> Result<Self, Refusal>
+        ensures entries { IfOk result (λ set. set.entries ≡ no_entries) }
+        ensures nodes { IfOk result (λ set. set.nodes ≡ root_alone) }
+        ensures space { IfOk result
+            (λ set. set.space
+            ≡ record { limit = self.now.space.limit; node_slots = 1; cell_slots = 0 }) }
+        ensures layout { IfOk result (λ set. set.layout ≡ no_layout) }
+        ensures only_memory { IfErr result (λ refusal. refusal ≡ Memory) }
+    {
+        let map = self.map.new_like()?;
+        Ok(PrefixSet { map })
+    }
+
     /// Removes the keys that this prefix contains, its own included, and returns them as a second set.
     ///
     /// If the prefix's own node is missing, the second set is empty. At length 0 it has all keys. This set is left as

@@ -1,10 +1,11 @@
-//! Splitting entries off as a second map.
+//! Splitting entries off as a second map, and empty maps like a map.
 ghost use Rattle.std.specs.Prelude.{◌≡◌, ◌<◌, length, IfOk, OnOk, IfErr, OnErr};
 ghost use Rattle.prefix_trie_bits.specs.declared.prefix.Refusal.TheVariants.{Memory};
-ghost use Rattle.prefix_trie_bits.specs.Model.Entries.{without_below};
+ghost use Rattle.prefix_trie_bits.specs.Model.Blocks.{no_layout};
+ghost use Rattle.prefix_trie_bits.specs.Model.Entries.{no_entries, without_below};
 ghost use Rattle.prefix_trie_bits.specs.Calls.Entries.{part_below};
 ghost use Rattle.prefix_trie_bits.specs.Calls.SplitsOff.{SplitsOffInStorage};
-ghost use Rattle.prefix_trie_bits.specs.Model.Nodes.{needed, nodes_without_below};
+ghost use Rattle.prefix_trie_bits.specs.Model.Nodes.{needed, nodes_without_below, root_alone};
 ghost use Rattle.prefix_trie_table.specs.Steps.{BoundsStorageGrowth};
 ghost use Rattle.prefix_trie_map.specs.Steps.{storage, stored_state};
 
@@ -14,6 +15,34 @@ use std::alloc::Allocator;
 use std::marker::PhantomData;
 
 impl<P: Prefix, T: Drop, A: Allocator + Clone> PrefixMap<P, T, A> {
+    /// Creates an empty map with a clone of this map's allocator, and the same slot limit.
+    ///
+    /// # Errors
+    ///
+    /// Returns `Memory` if an allocation fails. No map exists then.
+    ///
+    /// # Examples
+    ///
+    /// ```rust
+    /// // map = {10.1.0.0/16: 1}
+    /// map.new_like()?.len();      // 0
+    /// ```
+    pub fn new_like(&self) -> Result<Self, Refusal>
+        ensures entries { IfOk result (λ map. map.entries ≡ no_entries) }
+        ensures nodes { IfOk result (λ map. map.nodes ≡ root_alone) }
+        ensures space { IfOk result
+            (λ map. map.space
+            ≡ record { limit = self.now.space.limit; node_slots = 1; cell_slots = 0 }) }
+        ensures layout { IfOk result (λ map. map.layout ≡ no_layout) }
+        ensures only_memory { IfErr result (λ refusal. refusal ≡ Memory) }
+    {
+        let table = self.table.new_like()?;
+        Ok(PrefixMap {
+            table,
+            marker: PhantomData,
+        })
+    }
+
     /// Removes the entries that this prefix contains, its own included, and returns them as a second map.
     ///
     /// If the prefix's own node is missing, the second map is empty. At length 0 it has all entries. Values move: none

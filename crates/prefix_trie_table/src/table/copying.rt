@@ -1,10 +1,37 @@
-//! Copying a table.
-ghost use Rattle.std.specs.Prelude.{◌≡◌, IfOk};
+//! Copying a table, and empty tables like it.
+ghost use Rattle.std.specs.Prelude.{◌≡◌, IfErr, IfOk};
+ghost use Rattle.prefix_trie_bits.specs.declared.prefix.Refusal.TheVariants.{Memory};
+ghost use Rattle.prefix_trie_bits.specs.Model.Blocks.{no_layout};
+ghost use Rattle.prefix_trie_bits.specs.Model.Entries.{no_entries};
+ghost use Rattle.prefix_trie_bits.specs.Model.Nodes.{root_alone};
 ghost use Rattle.prefix_trie_table.specs.Copies.{AreCloned};
 
 use crate::allocator::nodes::Tick;
 use crate::table::Table;
+use prefix_trie_bits::prefix::Refusal;
 use std::alloc::{AllocError, Allocator};
+
+impl<T: Drop, A: Allocator + Clone, V: Tick> Table<T, A, V> {
+    /// Creates an empty table with a clone of this table's allocator, and the same limit.
+    ///
+    /// # Errors
+    ///
+    /// Returns `Memory` if an allocation fails.
+    pub fn new_like(&self) -> Result<Self, Refusal>
+        ensures entries { IfOk result (λ t. t.entries ≡ no_entries) }
+        ensures nodes { IfOk result (λ t. t.nodes ≡ root_alone) }
+        ensures space { IfOk result
+            (λ t. t.space
+            ≡ record { limit = self.now.space.limit; node_slots = 1; cell_slots = 0 }) }
+        ensures layout { IfOk result (λ t. t.layout ≡ no_layout) }
+        ensures memory { IfErr result (λ cause. cause ≡ Memory) }
+    {
+        let Ok(alloc) = self.cells.allocator().clone() else {
+            return Err(Refusal::Memory);
+        };
+        Table::new(alloc, self.cells.limit())
+    }
+}
 
 impl<T: Clone, A: Allocator + Clone, V: Tick> Table<T, A, V> {
     /// Creates a table with the same keys, nodes and blocks, whose values are clones, in memory of its own.

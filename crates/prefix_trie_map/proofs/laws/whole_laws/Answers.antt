@@ -8,6 +8,7 @@ returns g c = record {
     (let n = whole.nodes_within in let l = whole.limit_below in omega (arith, n, l)),
     (let n = whole.cells_within in let l = whole.limit_below in omega (arith, n, l)),
   );
+  entries_below = λ m whole. (let e = whole.entries_within in let n = whole.cells_within in let l = whole.limit_below in omega (arith, e, n, l));
   is_stored = λ m whole root. record {
     is_map = whole.is_map;
     have_blocks = whole.have_blocks;

@@ -6,7 +6,7 @@ pub returns-clause-whole : goal.returns-clause-whole
 returns-clause-whole g c =
     let space = c.len.ensures.limit in
     subst (λ (m : Contents g.row.T.Denot). IsWhole g.P.R.Key.bit_width m) c.self.view_is
-    (record { is_map = c.self.invariant; have_blocks = c.len.ensures.blocks; limit_below = space.0; nodes_within = space.1; cells_within = space.2 })
+    (record { is_map = c.self.invariant; have_blocks = c.len.ensures.blocks; limit_below = space.0; nodes_within = space.1; cells_within = space.2; entries_within = c.len.ensures.few })
 
 pub returns-clause-count : goal.returns-clause-count
 returns-clause-count g c = search rules
