@@ -2,5 +2,5 @@
 pub use prefix_trie_map::map::entry::{Entry, OccupiedEntry, Put, VacantEntry};
 pub use prefix_trie_map::map::{
     Combination, Cover, CoverKeys, CoverValues, IntoIter, IntoKeys, IntoValues, Iter, IterMut,
-    JointCursor, Keys, PrefixMap, Values, ValuesMut,
+    JointCursor, Keyed, Keys, KeysOf, PrefixMap, Values, ValuesMut,
 };

@@ -1,12 +1,11 @@
 //! Walks over the items of another walk whose prefixes pass a test.
-ghost use Rattle.std.specs.Prelude.{◌≡◌, ◌<◌, ◌^◌, All, List, Bool, filter, length, map};
+ghost use Rattle.std.specs.Prelude.{◌≡◌, ◌<◌, All, List, Bool, filter, length, map};
 ghost use Rattle.std.specs.Iterator.{at_most};
-ghost use Rattle.std.specs.Map.Iter.{GivesInOrder, ShowsInOrder, TakesFirst};
+ghost use Rattle.std.specs.Map.Iter.{TakesFirst};
 ghost use Rattle.prefix_trie.specs.Words.{lent_item};
 
 use prefix_trie::Prefix;
-use prefix_trie::map::Iter;
-use prefix_trie_map::map::Keyed;
+use prefix_trie::map::{Iter, Keyed};
 use std::alloc::Allocator;
 use std::marker::Model;
 

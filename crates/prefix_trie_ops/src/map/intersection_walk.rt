@@ -7,9 +7,8 @@ ghost use Rattle.prefix_trie_ops.specs.Combining.{common};
 ghost use Rattle.prefix_trie_ops.specs.Lending.{lent_pair};
 
 use prefix_trie::laws::{listed_laws, listing_laws};
-use prefix_trie::map::{Combination, JointCursor};
+use prefix_trie::map::{Combination, JointCursor, Keyed};
 use prefix_trie::{Prefix, PrefixMap};
-use prefix_trie_map::map::Keyed;
 use std::alloc::Allocator;
 use std::marker::Model;
 

@@ -8,9 +8,8 @@ ghost use Rattle.prefix_trie_ops.specs.Merging.{lent_side, union_of};
 
 use crate::map::sides::Side;
 use prefix_trie::laws::{listed_laws, listing_laws};
-use prefix_trie::map::{Combination, JointCursor};
+use prefix_trie::map::{Combination, JointCursor, Keyed};
 use prefix_trie::{Prefix, PrefixMap};
-use prefix_trie_map::map::Keyed;
 use std::alloc::Allocator;
 use std::marker::Model;
 

@@ -9,8 +9,8 @@ ghost use Rattle.prefix_trie_ops.specs.Combining.{minus, not_covered, restricted
 ghost use Rattle.prefix_trie_ops.specs.Merging.{union_of};
 
 use crate::map;
+use prefix_trie::map::KeysOf;
 use prefix_trie::{Prefix, PrefixSet};
-use prefix_trie_map::map::KeysOf;
 use std::alloc::Allocator;
 
 /// The keys of either of two sets, in listing order.
