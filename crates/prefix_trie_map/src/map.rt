@@ -9,7 +9,7 @@
 //! blocks.
 ghost use Rattle.std.specs.Prelude.{◌≡◌, ◌<◌, ◌-◌, ◌^◌, ◌↔◌, IfOk, OnOk, IfErr, OnErr, IsTrue};
 ghost use Rattle.std.specs.FinMap.{get, len};
-ghost use Rattle.prefix_trie_bits.specs.declared.prefix.Refusal.TheVariants.{Memory, IndexRange};
+ghost use Rattle.prefix_trie_bits.specs.declared.prefix.Refusal.TheVariants.{Memory};
 ghost use Rattle.prefix_trie_bits.specs.Model.Blocks.{no_layout};
 ghost use Rattle.prefix_trie_bits.specs.Model.Entries.{no_entries, with_entry};
 ghost use Rattle.prefix_trie_bits.specs.Model.Nodes.{root_alone, with_needed};

@@ -1,5 +1,5 @@
 //! Worked examples of keys and networks, and a prefix type that replaces provided methods.
-ghost use Rattle.std.specs.Prelude.{ℕ, ◌-◌, ◌^◌, ◌<◌, ◌≤◌, ◌++◌, length, take, refl};
+ghost use Rattle.std.specs.Prelude.{◌-◌, ◌^◌, ◌<◌, ◌≤◌, ◌++◌, length, take, refl};
 ghost use Rattle.std.proofs.Common.{lit≤};
 ghost use Rattle.prefix_trie_bits.specs.Keys.{number_keys};
 ghost use Rattle.prefix_trie_bits.specs.Model.Bits.{number, digits, zeros};

@@ -1,5 +1,4 @@
 //! Lists of addresses as text.
-ghost use Rattle.std.specs.Prelude.{◌≡◌};
 
 use crate::lines::{split_field, split_line};
 use std::alloc::{AllocError, AllocFailed, Global};

@@ -1,5 +1,4 @@
 //! What the commands print, over tables and a writer.
-ghost use Rattle.std.specs.Prelude.{◌≡◌};
 
 use crate::access::is_allowed;
 use crate::diff::{Values, diff as changes};

@@ -1,5 +1,5 @@
 //! The values of a table.
-ghost use Rattle.std.specs.Prelude.{◌≡◌, IfOk, IsTrue, Some, bytes_eq, string_bytes, codes};
+ghost use Rattle.std.specs.Prelude.{◌≡◌, IfOk, Some, bytes_eq, string_bytes};
 
 use std::alloc::{AllocError, Global};
 use std::fmt::{self, Display, Formatter, Write};

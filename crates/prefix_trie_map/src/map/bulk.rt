@@ -2,7 +2,7 @@
 //!
 //! Nodes of a group of prefixes are fetched together. If a table is larger than the caches, this takes less time than
 //! separate lookups. No call here allocates.
-ghost use Rattle.std.specs.Prelude.{◌≡◌, ℕ, ◌+◌, ◌<◌, ◌≤◌, All, Bool, IfSome, List, Option, length, map, take};
+ghost use Rattle.std.specs.Prelude.{◌≡◌, ◌+◌, ◌<◌, ◌≤◌, All, Bool, IfSome, List, Option, length, map, take};
 ghost use Rattle.std.specs.Option.{option_copied, option_map};
 ghost use Rattle.prefix_trie_bits.specs.Model.Matches.{longest_match, prefix_pair};
 ghost use Rattle.prefix_trie_map.specs.Bulk.{HaveMatches, AreFound, ReadsMore, right_for, visits_of_all};

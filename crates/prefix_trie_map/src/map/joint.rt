@@ -1,5 +1,5 @@
 //! Walks of two maps at once: what unions and intersections of maps are made of.
-ghost use Rattle.std.specs.Prelude.{◌≡◌, [], IfSome, MatchOption};
+ghost use Rattle.std.specs.Prelude.{◌≡◌, [], MatchOption};
 ghost use Rattle.prefix_trie_bits.specs.Model.Entries.{Entries};
 ghost use Rattle.prefix_trie_bits.specs.Model.Selections.{listing};
 ghost use Rattle.prefix_trie_table.specs.Walking.Joint.{IsCombination};

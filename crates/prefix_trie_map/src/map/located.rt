@@ -1,5 +1,5 @@
 //! What entries do at a located key, or at the end of its search path, without a second search.
-ghost use Rattle.std.specs.Prelude.{◌≡◌, ◌≤◌, take, [], false, true, None, Some, IfSome, MatchOption, OnOk, IfOk, IfErr};
+ghost use Rattle.std.specs.Prelude.{◌≡◌, take, [], false, true, None, Some, IfSome, MatchOption, OnOk, IfOk, IfErr};
 ghost use Rattle.std.specs.Borrow.{sem};
 ghost use Rattle.std.specs.FinMap.{get, contains_key, len};
 ghost use Rattle.prefix_trie_bits.specs.Model.Entries.{with_entry, without_entry};

@@ -2,14 +2,13 @@
 //!
 //! Each round first reads the next node of every search, one after another and without a test of what it has. Only then
 //! does it look at the nodes.
-ghost use Rattle.std.specs.Prelude.{◌≡◌, ℕ, ◌+◌, ◌*◌, ◌<◌, ◌≤◌, [], List, All, IfSome, MatchOption, None, Some, length, map, option_map, take, sum, sum_by, slice_index_or};
+ghost use Rattle.std.specs.Prelude.{◌≡◌, ℕ, ◌+◌, ◌*◌, ◌<◌, ◌≤◌, [], List, All, IfSome, MatchOption, None, Some, length, map, take, sum, sum_by, slice_index_or};
 ghost use Rattle.prefix_trie_bits.specs.Model.Matches.{longest_match};
 ghost use Rattle.prefix_trie_bits.specs.Model.Visits.{visits};
 ghost use Rattle.prefix_trie_table.specs.declared.allocator.node.Node.{Node};
 ghost use Rattle.prefix_trie_table.specs.declared.table.bulk.Found.{Found};
 ghost use Rattle.prefix_trie_table.specs.declared.table.bulk.Descent.{Descent};
-ghost use Rattle.prefix_trie_table.specs.Bitmaps.{has_bit as is_set};
-ghost use Rattle.prefix_trie_table.specs.Bulk.{HaveMatches, AreMatchesFound, AreCosts, AreRead, EachOf, GoOn, HasFound, IsAhead, IsMatchFound, IsNew, IsSound, IsDescent, found_of, new_descent, reached_by, slot_of};
+ghost use Rattle.prefix_trie_table.specs.Bulk.{HaveMatches, AreMatchesFound, AreCosts, AreRead, EachOf, GoOn, HasFound, IsAhead, IsMatchFound, IsNew, IsSound, found_of, new_descent, reached_by, slot_of};
 ghost use Rattle.prefix_trie_table.specs.Blocks.Cells.{node_at};
 ghost use Rattle.prefix_trie_table.specs.SearchPaths.{IsAlong, IsLast};
 ghost use Rattle.prefix_trie_table.specs.Blocks.Store.{Store};

@@ -1,5 +1,5 @@
 //! The walk over all matches of a bit string, the shortest first.
-ghost use Rattle.std.specs.Prelude.{◌≡◌, ℕ, ◌+◌, ◌*◌, ◌^◌, ◌<◌, ◌≤◌, Bool, List, Option, Some, [], ◌∷◌, false, drop, length, MatchOption};
+ghost use Rattle.std.specs.Prelude.{◌≡◌, ℕ, ◌+◌, ◌*◌, ◌^◌, ◌<◌, ◌≤◌, Bool, List, Option, Some, [], ◌∷◌, drop, MatchOption};
 ghost use Rattle.prefix_trie_bits.specs.Model.Matches.{covers};
 ghost use Rattle.prefix_trie_table.specs.Forest.{SomeNodes};
 ghost use Rattle.prefix_trie_table.specs.Matching.{LackLastBit};

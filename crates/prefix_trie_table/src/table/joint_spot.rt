@@ -5,7 +5,6 @@ ghost use Rattle.prefix_trie_bits.specs.Walks.{to_come};
 ghost use Rattle.prefix_trie_table.specs.Bitmaps.{has_bit as is_set};
 ghost use Rattle.prefix_trie_table.specs.Forest.{child as child_of, child_slot as slot_of_child};
 ghost use Rattle.prefix_trie_table.specs.Locations.{seat_in};
-ghost use Rattle.prefix_trie_table.specs.Tables.{IsTrie};
 ghost use Rattle.prefix_trie_table.specs.Walking.Joint.{IsJointPlace, IsJointSpot, JointSteps, JointTrees, is_joint, is_chosen, kept_node};
 ghost use Rattle.prefix_trie_table.specs.Walking.Walks.{Tree};
 

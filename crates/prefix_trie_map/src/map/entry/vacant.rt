@@ -1,5 +1,5 @@
 //! Filling a vacant entry.
-ghost use Rattle.std.specs.Prelude.{◌≡◌, IfOk, IfErr, OnErr};
+ghost use Rattle.std.specs.Prelude.{◌≡◌, IfOk, IfErr};
 ghost use Rattle.std.specs.Borrow.{sem};
 
 use crate::map::PrefixMap;
