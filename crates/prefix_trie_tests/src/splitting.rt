@@ -223,7 +223,7 @@ fn is_merged_again_anew<A: Allocator + Clone>(heap: &Heap, alloc: A) -> Option<b
     Some(is_merged_again::<A>(&mut map))
 }
 
-// A split that always reports out of memory fails this test: the mutant handing_out_always_out_of_memory.
+// A split that always reports out of memory fails this test.
 #[test]
 fn a_split_succeeds_if_no_allocation_fails(rt: HostRuntime) {
     let heap = Refusing::new(rt.alloc());

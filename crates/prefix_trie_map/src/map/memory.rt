@@ -43,8 +43,8 @@ impl<P: Prefix, T: Drop, A: Allocator + Clone> PrefixMap<P, T, A> {
     ///
     /// # Errors
     ///
-    /// Returns `Memory` if an allocation fails, and never `IndexRange`. All memory is allocated before a value moves,
-    /// so the map is unchanged then, its slots and blocks too.
+    /// Returns `Memory` if an allocation fails, and never `IndexRange`. All memory of the new arrays is allocated before
+    /// a value moves, so the map is unchanged then, its slots and blocks too.
     ///
     /// # Examples
     ///

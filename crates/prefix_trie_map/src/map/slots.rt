@@ -1,5 +1,5 @@
 //! The slots and blocks of the two arrays, and the limit of both.
-ghost use Rattle.std.specs.Prelude.{◌≡◌, ◌+◌, ◌≤◌, ◌↔◌, length, IfOk, IfErr, IsErr};
+ghost use Rattle.std.specs.Prelude.{◌≡◌, ◌+◌, ◌↔◌, length, IfOk, IfErr, IsErr};
 ghost use Rattle.prefix_trie_bits.specs.declared.prefix.Refusal.TheVariants.{IndexRange};
 ghost use Rattle.prefix_trie_bits.specs.Calls.Blocks.{NodesHaveBlocks};
 ghost use Rattle.prefix_trie_bits.specs.Model.Blocks.{no_layout, child_block_sizes, value_block_sizes, child_count, own_entries};
@@ -51,8 +51,8 @@ impl<P: Prefix, T: Drop, A: Allocator + Clone> PrefixMap<P, T, A> {
 impl<P: Prefix, T: Drop, A: Allocator> PrefixMap<P, T, A> {
     /// Returns the number of slots of the array of nodes, used or free: a new map has 1.
     ///
-    /// It is never above the limit. A change may add slots. Only `clear`, and `drop_children` and `remove_children` of
-    /// a prefix of length 0, remove slots.
+    /// It is never above the limit. A change may add slots. Only `compact` and `clear`, and `drop_children` and
+    /// `remove_children` of a prefix of length 0, remove slots.
     ///
     /// # Examples
     ///

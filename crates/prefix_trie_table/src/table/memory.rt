@@ -34,8 +34,8 @@ impl<T: Drop, A: Allocator + Clone, V: Tick> Table<T, A, V> {
     ///
     /// # Errors
     ///
-    /// Returns `Memory` if an allocation failed. All memory is allocated before the first value moves, so the table is
-    /// unchanged then.
+    /// Returns `Memory` if an allocation failed. All memory of the new arrays is allocated before the first value moves,
+    /// so the table is unchanged then.
     pub fn compact<K: Key>(&mut self, counter: &mut V) -> Result<(), Refusal>
         requires within { AreWithin K.bit_width self.old.entries }
         requires nodes { AreNodes K.bit_width self.old.entries self.old.nodes }
