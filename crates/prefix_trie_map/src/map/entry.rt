@@ -1,5 +1,5 @@
 //! Entries: a key of a map, looked up once and then read, written, filled or removed.
-ghost use Rattle.std.specs.Prelude.{◌≡◌, ◌≤◌, length, take, ⊤, IfOk, IfErr, OnErr, None, Some, true, false};
+ghost use Rattle.std.specs.Prelude.{◌≡◌, ◌≤◌, length, ⊤, IfOk, IfErr, OnErr, None, Some, true, false};
 ghost use Rattle.std.specs.Borrow.{sem, MutBor};
 ghost use Rattle.std.specs.FinMap.{get, contains_key};
 ghost use Rattle.std.specs.Option.{option_copied, option_copied_mut, unwrap_or, UnwrapsOrElse};
