@@ -28,7 +28,10 @@ fn pour<P: Prefix, T: Drop, A: Allocator>(
 
 type Key = (u32, u8);
 
-type CountedMap<'a> = PrefixMap<Key, Counted<'a>, Global>;
+/// A key of eight bits.
+pub type ShortKey = (u8, u8);
+
+type CountedMap<'a, P> = PrefixMap<P, Counted<'a>, Global>;
 
 /// More allocations than one clone makes.
 const MANY: u64 = 100;
@@ -37,10 +40,14 @@ const MANY: u64 = 100;
 const KEYS: [Key; 3] = [(0, 0), (0, 1), (0x8000_0000, 1)];
 
 /// The keys of a chain. Each contains the next.
-pub const CHAIN: [Key; 3] = [(0, 0), (0, 1), (0, 8)];
+pub const CHAIN: [ShortKey; 3] = [(0, 0), (0, 1), (0, 8)];
 
 /// Inserts three values. Returns whether each key is new.
-fn insert_three<'a>(map: &mut CountedMap<'a>, keys: &[Key; 3], drops: &'a Cell<u64>) -> bool {
+fn insert_three<'a, P: Prefix + Copy>(
+    map: &mut CountedMap<'a, P>,
+    keys: &[P; 3],
+    drops: &'a Cell<u64>,
+) -> bool {
     for key in keys {
         if !adds(map, *key, Counted { drops }) {
             return false;
@@ -50,11 +57,11 @@ fn insert_three<'a>(map: &mut CountedMap<'a>, keys: &[Key; 3], drops: &'a Cell<u
 }
 
 /// Returns a map of three values.
-pub fn map_of_three<'a>(
+pub fn map_of_three<'a, P: Prefix + Copy>(
     alloc: Global,
-    keys: &[Key; 3],
+    keys: &[P; 3],
     drops: &'a Cell<u64>,
-) -> Option<CountedMap<'a>> {
+) -> Option<CountedMap<'a, P>> {
     let mut map = PrefixMap::new(alloc).ok()?;
     let is_filled = insert_three(&mut map, keys, drops);
     if is_filled { Some(map) } else { None }
@@ -66,19 +73,19 @@ trait ConsumingWalk: TryClone {
     fn drop_next(&mut self);
 }
 
-impl ConsumingWalk for IntoIter<Key, Counted<'_>, Global> {
+impl<P: Prefix> ConsumingWalk for IntoIter<P, Counted<'_>, Global> {
     fn drop_next(&mut self) {
         drop_now(self.next());
     }
 }
 
-impl ConsumingWalk for IntoKeys<Key, Counted<'_>, Global> {
+impl<P: Prefix> ConsumingWalk for IntoKeys<P, Counted<'_>, Global> {
     fn drop_next(&mut self) {
         drop_now(self.next());
     }
 }
 
-impl ConsumingWalk for IntoValues<Key, Counted<'_>, Global> {
+impl<P: Prefix> ConsumingWalk for IntoValues<P, Counted<'_>, Global> {
     fn drop_next(&mut self) {
         drop_now(self.next());
     }
@@ -159,8 +166,11 @@ fn what_is_not_taken_is_dropped_with_the_walk(rt: HostRuntime) {
 }
 
 /// Returns the number of drops after three values are inserted, one is replaced, one is removed, and all are cleared.
-fn drops_of_calls<'a>(map: &mut CountedMap<'a>, drops: &'a Cell<u64>) -> Option<[u64; 4]> {
-    let are_put = insert_three(map, &KEYS, drops);
+fn drops_of_calls<'a>(
+    map: &mut CountedMap<'a, ShortKey>,
+    drops: &'a Cell<u64>,
+) -> Option<[u64; 4]> {
+    let are_put = insert_three(map, &CHAIN, drops);
     let first = drops.get();
     let is_replaced = contents::put(map, (0, 1), Counted { drops }).is_ok();
     let second = drops.get();

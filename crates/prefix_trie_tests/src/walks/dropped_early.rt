@@ -4,13 +4,11 @@ use crate::contents::{has_keys, stores};
 use crate::drops::{Counted, drop_now};
 use crate::on_new::on_new;
 use crate::retain::{keep_keys_where, keep_where};
-use crate::walks::consuming::{CHAIN, map_of_three};
+use crate::walks::consuming::{CHAIN, ShortKey, map_of_three};
 use prefix_trie::map::{IterMut, ValuesMut};
 use prefix_trie::{PrefixMap, PrefixSet, Refusal};
 use std::alloc::Global;
 use std::cell::Cell;
-
-type Key = (u32, u8);
 
 /// Returns whether a walk yields this many items. The walk is then dropped.
 fn gives<I: Iterator + Drop>(mut walk: I, count: usize) -> bool
@@ -25,7 +23,7 @@ where
 }
 
 /// Returns whether each walk over a map of three keys yields this many items.
-fn are_read(map: &PrefixMap<Key, Counted<'_>, Global>, count: usize) -> bool {
+fn are_read(map: &PrefixMap<ShortKey, Counted<'_>, Global>, count: usize) -> bool {
     gives(map.iter(), count)
         & gives(map.keys(), count)
         & gives(map.values(), count)
@@ -34,14 +32,14 @@ fn are_read(map: &PrefixMap<Key, Counted<'_>, Global>, count: usize) -> bool {
 }
 
 /// Returns whether each walk around the second key yields this many items.
-fn are_covered(map: &PrefixMap<Key, Counted<'_>, Global>, count: usize) -> bool {
+fn are_covered(map: &PrefixMap<ShortKey, Counted<'_>, Global>, count: usize) -> bool {
     gives(map.cover(&(0, 1)), count)
         & gives(map.cover_keys(&(0, 1)), count)
         & gives(map.cover_values(&(0, 1)), count)
 }
 
 /// Returns whether each walk over a set of three keys, and each around the second key, yields this many items.
-fn are_keys_read(set: &PrefixSet<Key, Global>, count: usize) -> bool {
+fn are_keys_read(set: &PrefixSet<ShortKey, Global>, count: usize) -> bool {
     gives(set.iter(), count)
         & gives(set.iter_from(&(0, 0), true), count)
         & gives(set.children(&(0, 0)), count)
@@ -50,7 +48,7 @@ fn are_keys_read(set: &PrefixSet<Key, Global>, count: usize) -> bool {
 
 /// Replaces the next values of a walk.
 fn replaces<'b, 'm, 'a>(
-    walk: &'b mut IterMut<'m, Key, Counted<'a>, Global>,
+    walk: &'b mut IterMut<'m, ShortKey, Counted<'a>, Global>,
     drops: &'a Cell<u64>,
     count: u64,
 ) {
@@ -63,7 +61,7 @@ fn replaces<'b, 'm, 'a>(
 
 /// Replaces the next values of a walk over values.
 fn replaces_values<'b, 'm, 'a>(
-    walk: &'b mut ValuesMut<'m, Key, Counted<'a>, Global>,
+    walk: &'b mut ValuesMut<'m, ShortKey, Counted<'a>, Global>,
     drops: &'a Cell<u64>,
     count: u64,
 ) {
@@ -76,7 +74,7 @@ fn replaces_values<'b, 'm, 'a>(
 
 /// Returns the number of drops by each mutable walk. Its first values are replaced, and then it is dropped.
 fn drops_of_lending<'a>(
-    map: &mut PrefixMap<Key, Counted<'a>, Global>,
+    map: &mut PrefixMap<ShortKey, Counted<'a>, Global>,
     drops: &'a Cell<u64>,
     count: u64,
 ) -> [u64; 4] {
@@ -122,7 +120,7 @@ fn walks_dropped_early_drop_no_stored_value(rt: HostRuntime) {
 }
 
 /// Keeps every second key of a map, from the first on.
-fn keep_each_second(map: &mut PrefixMap<Key, u64, Global>) {
+fn keep_each_second(map: &mut PrefixMap<ShortKey, u64, Global>) {
     let mut is_kept = false;
     keep_where(map, |_, _| {
         is_kept = !is_kept;
@@ -131,7 +129,7 @@ fn keep_each_second(map: &mut PrefixMap<Key, u64, Global>) {
 }
 
 /// Keeps every second key of a set, from the first on.
-fn keep_each_second_key(set: &mut PrefixSet<Key, Global>) {
+fn keep_each_second_key(set: &mut PrefixSet<ShortKey, Global>) {
     let mut is_kept = false;
     keep_keys_where(set, |_| {
         is_kept = !is_kept;
@@ -140,19 +138,19 @@ fn keep_each_second_key(set: &mut PrefixSet<Key, Global>) {
 }
 
 /// Returns whether the first and the third of three keys are kept in a map.
-fn is_kept(map: &mut PrefixMap<Key, u64, Global>, _: ()) -> bool {
+fn is_kept(map: &mut PrefixMap<ShortKey, u64, Global>, _: ()) -> bool {
     let is_filled = stores(map, &[((0, 0), 1), ((0, 1), 2), ((0, 8), 3)]);
     keep_each_second(map);
     is_filled & has_keys(map, &[(0, 0), (0, 8)])
 }
 
 /// Inserts three keys into a set. Returns whether each is new.
-fn adds_three(set: &mut PrefixSet<Key, Global>) -> bool {
+fn adds_three(set: &mut PrefixSet<ShortKey, Global>) -> bool {
     adds_key(set, CHAIN[0]) & adds_key(set, CHAIN[1]) & adds_key(set, CHAIN[2])
 }
 
 /// Returns whether the first and the third of three keys are kept in a set, after its walks are dropped early.
-fn is_kept_in_set(set: &mut PrefixSet<Key, Global>, _: ()) -> bool {
+fn is_kept_in_set(set: &mut PrefixSet<ShortKey, Global>, _: ()) -> bool {
     let is_filled = adds_three(set);
     let is_given = are_keys_read(set, 0) & are_keys_read(set, 1) & are_keys_read(set, 2);
     keep_each_second_key(set);
