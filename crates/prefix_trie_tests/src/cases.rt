@@ -8,6 +8,7 @@ pub mod walks;
 pub mod writes;
 
 use crate::cases::entries::InsertVia;
+use crate::cases::under_test::Shrinking;
 use prefix_trie::{Key, Prefix};
 
 /// A number and a length, which make a prefix.
@@ -37,6 +38,8 @@ pub enum Case<'a, K: 'a> {
     RetainsLong(u8),
     /// Calls `clear`.
     Clears,
+    /// This call returns memory. Entries are unchanged.
+    Shrinks(Shrinking),
     /// `clone` makes the second map equal to the first.
     Copies,
     /// The two maps have the same entries, nodes and blocks.

@@ -37,8 +37,6 @@ mod runs;
 #[cfg(test)]
 mod sets;
 #[cfg(test)]
-mod shrinking;
-#[cfg(test)]
 mod splitting;
 #[cfg(test)]
 mod tables;

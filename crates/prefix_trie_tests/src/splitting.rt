@@ -33,7 +33,7 @@ impl Drop for Numbered<'_> {
 type Map<'a, A> = PrefixMap<Ipv4Prefix, Numbered<'a>, A>;
 
 /// Networks in one node, numbered from 1 on. The second contains the third and the fourth.
-pub const NETWORKS: [(u32, u8); 6] = [
+const NETWORKS: [(u32, u8); 6] = [
     v4!(192, 168, 0, 0; 21),
     v4!(192, 168, 0, 0; 22),
     v4!(192, 168, 0, 0; 23),

@@ -6,12 +6,13 @@ mod entries;
 mod growth;
 mod lookups;
 mod removals;
+mod shrinking;
 mod walks;
 
 use crate::trials::{FaultPlan, Table, run_all};
 
 /// The tables that run with each allocation failing. Checking a static list costs a third of checking a constant one.
-static EACH_REQUEST: [&[Table<'static, u32>]; 9] = [
+static EACH_REQUEST: [&[Table<'static, u32>]; 10] = [
     &growth::NEW_MAPS,
     &growth::GROWTHS,
     &growth::LIMITS,
@@ -21,13 +22,15 @@ static EACH_REQUEST: [&[Table<'static, u32>]; 9] = [
     &copies::INDEPENDENT,
     &removals::OFF_THE_PATH,
     &removals::BY_LENGTH,
+    &shrinking::FEWER_SLOTS,
 ];
 
 /// The tables whose second part does not allocate.
-static NO_REQUESTS: [&[Table<'static, u32>]; 3] = [
+static NO_REQUESTS: [&[Table<'static, u32>]; 4] = [
     &entries::OCCUPIED,
     &copies::INTO_FREE_BLOCKS,
     &blocks::AMONG_FREE,
+    &shrinking::SHRUNK,
 ];
 
 #[test]

@@ -1,7 +1,7 @@
 //! Cases as calls of a map.
 use crate::cases::entries::{InsertVia, changes_entry, insert_via, is_vacant, removes_entry};
 use crate::cases::lookups::{finds, has_cells, has_nodes, slots_add_up, was_refused};
-use crate::cases::under_test::{InsertResult, State, UnderTest};
+use crate::cases::under_test::{InsertResult, Shrinking, State, UnderTest};
 use crate::cases::walks::{
     covers, entries_of, gives, gives_before_and_after_next, gives_from, gives_same, lends_from,
 };
@@ -28,6 +28,13 @@ impl<P: Prefix + Copy + PartialEq, A: Allocator + Copy> UnderTest<P::R, A>
 
     fn split_off(&mut self, at: Pair<P::R>) -> Option<Self> {
         self.remove_children(&prefix_of(at)).ok()
+    }
+
+    fn shrink(&mut self, call: Shrinking) -> Result<(), Refusal> {
+        match call {
+            Shrinking::Compact => self.compact(),
+            Shrinking::ShrinkToFit => self.shrink_to_fit().map_err(|_| Refusal::Memory),
+        }
     }
 
     fn store(&mut self, call: InsertVia, at: Pair<P::R>, value: u64) -> InsertResult {
@@ -89,6 +96,7 @@ impl<P: Prefix + Copy + PartialEq, A: Allocator + Copy> UnderTest<P::R, A>
             // `under_test` makes these calls itself.
             Case::StartsAnew(_) | Case::Copies | Case::AreSame | Case::Swaps => false,
             Case::Inserts(..) | Case::ExceedsLimit(..) | Case::InsertsVia(..) => false,
+            Case::Shrinks(_) => false,
         }
     }
 }

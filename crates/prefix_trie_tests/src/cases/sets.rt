@@ -1,7 +1,7 @@
 //! Cases as calls of a set. Only the keys of the entries count.
 use crate::cases::entries::InsertVia;
 use crate::cases::lookups::{as_pair, has_pair, pair_of, pair_of_entry, was_refused};
-use crate::cases::under_test::{InsertResult, State, UnderTest};
+use crate::cases::under_test::{InsertResult, Shrinking, State, UnderTest};
 use crate::cases::walks::contained_in_first;
 use crate::cases::{Case, Entry, Pair, prefix_of};
 use crate::refusing::Refusing;
@@ -118,6 +118,13 @@ impl<P: Prefix + Copy + PartialEq, A: Allocator + Copy> UnderTest<P::R, A> for P
         self.remove_children(&prefix_of(at)).ok()
     }
 
+    fn shrink(&mut self, call: Shrinking) -> Result<(), Refusal> {
+        match call {
+            Shrinking::Compact => self.compact(),
+            Shrinking::ShrinkToFit => self.shrink_to_fit().map_err(|_| Refusal::Memory),
+        }
+    }
+
     fn store(&mut self, _call: InsertVia, at: Pair<P::R>, _value: u64) -> InsertResult {
         match put(self, prefix_of(at)) {
             Ok(true) => Ok(None),
@@ -184,6 +191,7 @@ impl<P: Prefix + Copy + PartialEq, A: Allocator + Copy> UnderTest<P::R, A> for P
             // `under_test` makes these calls itself.
             Case::StartsAnew(_) | Case::Copies | Case::AreSame | Case::Swaps => false,
             Case::Inserts(..) | Case::ExceedsLimit(..) | Case::InsertsVia(..) => false,
+            Case::Shrinks(_) => false,
         }
     }
 }

@@ -16,6 +16,13 @@ pub type InsertResult = Result<Option<u64>, Refused<u64>>;
 /// Entries in listing order, and the number of nodes.
 pub type State<K> = (Vec<Entry<K>>, usize);
 
+/// The calls that return memory.
+#[derive(Clone, Copy)]
+pub enum Shrinking {
+    Compact,
+    ShrinkToFit,
+}
+
 /// A map or a set of prefixes, which are passed as pairs. A set stores the value 0 with each prefix.
 pub trait UnderTest<K: Key, A: Allocator + Copy>: Drop {
     /// Creates an empty one, with a slot limit or without.
@@ -26,6 +33,9 @@ pub trait UnderTest<K: Key, A: Allocator + Copy>: Drop {
 
     /// Splits off the entries that a pair contains.
     fn split_off(&mut self, at: Pair<K>) -> Option<Self>;
+
+    /// Returns memory by a call.
+    fn shrink(&mut self, call: Shrinking) -> Result<(), Refusal>;
 
     /// Inserts a value by a call.
     fn store(&mut self, call: InsertVia, at: Pair<K>, value: u64) -> InsertResult;
@@ -163,6 +173,37 @@ fn stores<K: Key, A: Allocator + Copy, M: UnderTest<K, A>>(
     }
 }
 
+/// Makes a call that returns memory, on a subject with this state, and makes it again if an allocation failed.
+fn shrinks_in_state<K: Key, A: Allocator + Copy, M: UnderTest<K, A>>(
+    heap: &Refusing<Global>,
+    subject: &mut M,
+    old: &State<K>,
+    call: Shrinking,
+) -> bool {
+    let left = heap.left();
+    let answer = subject.shrink(call);
+    let is_same = subject.has_state(old);
+    if heap.left() == left {
+        return answer.is_ok() & is_same;
+    }
+    heap.refuse(0, 0);
+    (answer == Err(Refusal::Memory)) & is_same & subject.shrink(call).is_ok()
+}
+
+/// Makes a call that returns memory.
+///
+/// Returns whether it failed exactly if an allocation did, and entries and nodes are unchanged.
+fn shrinks<K: Key, A: Allocator + Copy, M: UnderTest<K, A>>(
+    heap: &Refusing<Global>,
+    subject: &mut M,
+    call: Shrinking,
+) -> bool {
+    match subject.state(heap.inner()) {
+        Ok(old) => shrinks_in_state::<K, A, M>(heap, subject, &old, call),
+        Err(AllocError) => false,
+    }
+}
+
 /// Returns whether all walks return these entries.
 fn lists<K: Key, A: Allocator + Copy, M: UnderTest<K, A>>(
     heap: &Refusing<Global>,
@@ -228,6 +269,7 @@ fn holds_on_one<K: Key, A: Allocator + Copy, M: UnderTest<K, A>>(
         Case::InsertsVia(call, at, value) => {
             stores::<K, A, M>(heap, subject, *call, &(*at, *value), Ok(None))
         }
+        Case::Shrinks(call) => shrinks::<K, A, M>(heap, subject, *call),
         _ => subject.check_call(heap, case),
     }
 }
