@@ -13,5 +13,6 @@ pub mod Pairs
 pub mod Joint
 pub mod Removing
 pub mod Selecting
+pub mod Smallest
 pub mod Uppermost
 pub mod Walking

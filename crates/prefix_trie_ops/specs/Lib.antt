@@ -5,5 +5,8 @@ pub mod Laws
 pub mod Lending
 pub mod Merging
 pub mod Optimal
+pub mod Parts
+pub mod Smallest
 pub mod Values
+pub mod ValueSets
 pub mod Swapped
