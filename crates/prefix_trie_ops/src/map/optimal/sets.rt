@@ -1,4 +1,9 @@
 //! Sets of values. Those of several values are sorted parts of one vector.
+ghost use Rattle.std.specs.Prelude.{◌≡◌, ◌<◌, ◌≤◌, ◌++◌, true, List, [], ◌∷◌, length, slice_range, IfOk};
+ghost use Rattle.std.specs.List.Sorted.{IsStrictlySortedBy};
+ghost use Rattle.std.specs.Set.{is_member, sorted_merge};
+ghost use Rattle.prefix_trie_ops.specs.Parts.{as_list, best_value, joint_values, shared_values};
+ghost use Rattle.prefix_trie_ops.specs.ValueSets.{Appends, Holds, IsSpanOf};
 
 use std::alloc::{AllocError, Allocator};
 use std::cmp::Ordering;
@@ -24,7 +29,9 @@ pub(super) struct Span {
 impl<T: Copy + Ord> Set<T> {
     /// Returns the set of a value, if there is one.
     #[inline]
-    pub(super) fn of(value: Option<T>) -> Self {
+    pub(super) fn of(value: Option<T>) -> Self
+        ensures { (stored : List T) → Holds stored result (as_list value) }
+    {
         match value {
             Some(value) => Set::One(value),
             None => Set::Missing,
@@ -33,7 +40,9 @@ impl<T: Copy + Ord> Set<T> {
 
     /// Returns the held value if the set has it, otherwise the set's first value.
     #[inline]
-    pub(super) fn best(self, values: &[T], held: Option<T>) -> Option<T> {
+    pub(super) fn best(self, values: &[T], held: Option<T>) -> Option<T>
+        ensures { (xs : List T) → Holds values.now self xs → ((x y : T) → T.PartialEq.eq x y ≡ true → x ≡ y) → result ≡ best_value T.PartialEq.eq xs held }
+    {
         match self {
             Set::Missing => None,
             Set::One(value) => Some(value),
@@ -44,7 +53,9 @@ impl<T: Copy + Ord> Set<T> {
 
 /// Returns the held value if a stored set has it, otherwise the set's first value.
 #[inline]
-fn best_in<T: Copy + Ord>(values: &[T], set: Span, held: Option<T>) -> Option<T> {
+fn best_in<T: Copy + Ord>(values: &[T], set: Span, held: Option<T>) -> Option<T>
+    ensures { set.start < set.end → set.end ≤ length values.now → result ≡ best_value T.PartialEq.eq (slice_range values.now set.start set.end) held }
+{
     if let Some(value) = held {
         if has(values, set, value) {
             return Some(value);
@@ -54,7 +65,9 @@ fn best_in<T: Copy + Ord>(values: &[T], set: Span, held: Option<T>) -> Option<T>
 }
 
 /// Returns whether a stored set has a value.
-fn has<T: Copy + Ord>(values: &[T], set: Span, value: T) -> bool {
+fn has<T: Copy + Ord>(values: &[T], set: Span, value: T) -> bool
+    ensures { result ≡ is_member T.PartialEq.eq (slice_range values.now set.start set.end) value }
+{
     for i in set.start..set.end {
         if let Some(found) = values.get(i) {
             if *found == value {
@@ -73,31 +86,53 @@ pub(super) fn best_of<T: Copy + Ord, B: Allocator>(
     values: &mut Vec<T, B>,
     left: Set<T>,
     right: Set<T>,
-) -> Result<Set<T>, AllocError> {
+) -> Result<Set<T>, AllocError>
+    ensures { IfOk result (λ set. (xs ys : List T) → Holds values.old.items left xs → Holds values.old.items right ys
+        → IsStrictlySortedBy T.Ord.cmp xs → IsStrictlySortedBy T.Ord.cmp ys → ((x y : T) → T.PartialEq.eq x y ≡ true → x ≡ y)
+        → Appends values.old.items values.new.items set (joint_values T.PartialEq.eq T.Ord.cmp xs ys)) }
+{
     match (left, right) {
-        (Set::Missing, _) | (_, Set::Missing) => Ok(Set::Missing),
-        (Set::One(x), Set::One(y)) => match x.cmp(&y) {
-            Ordering::Equal => Ok(left),
-            Ordering::Less => push_pair(values, x, y),
-            Ordering::Greater => push_pair(values, y, x),
-        },
-        (Set::One(x), Set::Many(span)) | (Set::Many(span), Set::One(x)) => {
-            if has(values.as_slice(), span, x) {
-                return Ok(Set::One(x));
-            }
-            let one = values.len();
-            values.push(x)?;
-            push_best(
-                values,
-                Span {
-                    start: one,
-                    end: one + 1,
-                },
-                span,
-            )
-        }
+        (Set::One(x), Set::One(y)) => best_of_two(values, x, y),
+        (Set::One(x), Set::Many(set)) => best_with(values, x, set),
+        (Set::Many(set), Set::One(x)) => best_with(values, x, set),
         (Set::Many(left), Set::Many(right)) => push_best(values, left, right),
+        _ => Ok(Set::Missing),
     }
+}
+
+/// Returns the set of one value if two values are equal, or of both.
+#[inline]
+fn best_of_two<T: Copy + Ord, B: Allocator>(
+    values: &mut Vec<T, B>,
+    x: T,
+    y: T,
+) -> Result<Set<T>, AllocError>
+    ensures { IfOk result (λ set. Appends values.old.items values.new.items set (joint_values T.PartialEq.eq T.Ord.cmp (x ∷ []) (y ∷ []))) }
+{
+    match x.cmp(&y) {
+        Ordering::Equal => Ok(Set::One(x)),
+        Ordering::Less => push_pair(values, x, y),
+        Ordering::Greater => push_pair(values, y, x),
+    }
+}
+
+/// Returns the set of one value if a stored set has it, or of the value and those of the set.
+#[inline]
+fn best_with<T: Copy + Ord, B: Allocator>(
+    values: &mut Vec<T, B>,
+    x: T,
+    set: Span,
+) -> Result<Set<T>, AllocError>
+    ensures { IfOk result (λ made. (xs : List T) → IsSpanOf values.old.items set xs → IsStrictlySortedBy T.Ord.cmp xs
+        → Appends values.old.items values.new.items made (joint_values T.PartialEq.eq T.Ord.cmp (x ∷ []) xs)) }
+{
+    if has(values.as_slice(), set, x) {
+        return Ok(Set::One(x));
+    }
+    let start = values.len();
+    values.push(x)?;
+    let end = values.len();
+    push_best(values, Span { start, end }, set)
 }
 
 /// Appends the set of two values in order.
@@ -105,7 +140,9 @@ fn push_pair<T: Copy + Ord, B: Allocator>(
     values: &mut Vec<T, B>,
     first: T,
     second: T,
-) -> Result<Set<T>, AllocError> {
+) -> Result<Set<T>, AllocError>
+    ensures { IfOk result (λ set. Appends values.old.items values.new.items set (first ∷ second ∷ [])) }
+{
     let start = values.len();
     values.push(first)?;
     values.push(second)?;
@@ -118,7 +155,11 @@ fn push_best<T: Copy + Ord, B: Allocator>(
     values: &mut Vec<T, B>,
     left: Span,
     right: Span,
-) -> Result<Set<T>, AllocError> {
+) -> Result<Set<T>, AllocError>
+    ensures { IfOk result (λ set. (xs ys : List T) → IsSpanOf values.old.items left xs → IsSpanOf values.old.items right ys
+        → IsStrictlySortedBy T.Ord.cmp xs → IsStrictlySortedBy T.Ord.cmp ys
+        → Appends values.old.items values.new.items set (joint_values T.PartialEq.eq T.Ord.cmp xs ys)) }
+{
     let start = values.len();
     push_shared(values, left, right)?;
     if values.len() == start {
@@ -133,7 +174,10 @@ fn push_shared<T: Copy + Ord, B: Allocator>(
     values: &mut Vec<T, B>,
     left: Span,
     right: Span,
-) -> Result<(), AllocError> {
+) -> Result<(), AllocError>
+    ensures { IfOk result (λ _. (xs ys : List T) → IsSpanOf values.old.items left xs → IsSpanOf values.old.items right ys
+        → IsStrictlySortedBy T.Ord.cmp xs → IsStrictlySortedBy T.Ord.cmp ys → values.new.items ≡ values.old.items ++ shared_values T.PartialEq.eq xs ys) }
+{
     let (mut i, mut j) = (left.start, right.start);
     while i < left.end && j < right.end {
         let (Some(x), Some(y)) = (values.get(i).copied(), values.get(j).copied()) else {
@@ -157,7 +201,10 @@ fn push_all<T: Copy + Ord, B: Allocator>(
     values: &mut Vec<T, B>,
     left: Span,
     right: Span,
-) -> Result<(), AllocError> {
+) -> Result<(), AllocError>
+    ensures { IfOk result (λ _. (xs ys : List T) → IsSpanOf values.old.items left xs → IsSpanOf values.old.items right ys
+        → shared_values T.PartialEq.eq xs ys ≡ [] → values.new.items ≡ values.old.items ++ sorted_merge T.Ord.cmp true xs ys) }
+{
     let (mut i, mut j) = (left.start, right.start);
     while i < left.end && j < right.end {
         let (Some(x), Some(y)) = (values.get(i).copied(), values.get(j).copied()) else {
@@ -180,7 +227,9 @@ fn push_range<T: Copy + Ord, B: Allocator>(
     values: &mut Vec<T, B>,
     start: usize,
     end: usize,
-) -> Result<(), AllocError> {
+) -> Result<(), AllocError>
+    ensures { IfOk result (λ _. end ≤ length values.old.items → values.new.items ≡ values.old.items ++ slice_range values.old.items start end) }
+{
     for i in start..end {
         if let Some(value) = values.get(i).copied() {
             values.push(value)?;
