@@ -1,4 +1,5 @@
 -- The definitions of this crate: union, intersection and difference, coverage, redundant entries, and loans.
+pub mod Choosing
 pub mod Combining
 pub mod Covered
 pub mod Laws

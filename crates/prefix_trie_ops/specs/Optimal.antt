@@ -1,9 +1,11 @@
 -- What rebuilding a map part by part leaves. This project's own.
-use Rattle.std.specs.Prelude.{◌≡◌, ℕ, ◌+◌, ◌&&◌, Bool, true, false, not, cond, nat_lt, List, [], ◌∷◌, ◌++◌, length, filter, Option, Some, None}
+use Rattle.std.specs.Prelude.{◌≡◌, ℕ, ◌≤◌, ◌+◌, ◌&&◌, Bool, true, false, not, cond, nat_lt, List, [], ◌∷◌, ◌++◌, length, filter, Option, Some, None}
 use Rattle.std.specs.Ordering.{is_eq, is_lt}
 use Rattle.std.specs.Option.{option_or}
-use Rattle.std.specs.FinMap.{get}
+use Rattle.std.specs.declared.cmp.Ordering.{Ordering}
+use Rattle.std.specs.FinMap.{get, len}
 use Rattle.prefix_trie.specs.Words.{Entries, begins, listing, listing_cmp}
+use Rattle.prefix_trie_ops.specs.Parts.{least}
 use Rattle.prefix_trie_ops.specs.Values.{are_equal}
 
 module _ {T : Type 0} where
@@ -25,12 +27,14 @@ module _ {T : Type 0} where
   is_repeated_along eq value above s [] = are_equal eq above (value s)
   is_repeated_along eq value above s (b ∷ r) = is_repeated_along eq value (option_or (value s) above) (s ++ b ∷ []) r
 
-  -- A map is changed only under s. There each full-width question has the longest-match value that it has in another
-  -- map, and no entry has the value that shorter keys give it.
-  pub record Rebuilds (eq : T → T → Bool) (width : ℕ) (source : Entries T) (s : List Bool) (inherited held : Option T) (before after : Entries T) : Type 0 where
+  -- A map is changed only under s, where n bits are left. There each full-width question has the longest-match value that
+  -- it has in another map, no entry has the value that shorter keys give it, and no more entries are added than a table
+  -- with these values needs.
+  pub record Rebuilds (eq : T → T → Bool) (cmp : T → T → Ordering) (n : ℕ) (source : Entries T) (s : List Bool) (inherited held : Option T) (before after : Entries T) : Type 0 where
     pub beside : (t : List Bool) → begins s t ≡ false → get after t ≡ get before t
-    pub values : (r : List Bool) → length s + length r ≡ width → value_along (get after) held s r ≡ value_along (get source) inherited s r
+    pub values : (r : List Bool) → length r ≡ n → value_along (get after) held s r ≡ value_along (get source) inherited s r
     pub tidy : (r : List Bool) → is_repeated_along eq (get after) held s r ≡ false
+    pub cost : len after ≤ len before + least eq cmp n (value_along (get source) inherited s) held
 
 module _ {P T : Type 0} (path : P → List Bool) where
   -- the value of the first item, if its prefix has this path

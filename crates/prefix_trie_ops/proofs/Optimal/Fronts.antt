@@ -111,6 +111,10 @@ module _ {P X : Type 0} (path : P → List Bool) (back : List Bool → P) (m : E
   shown_below s p [] is = refl
   shown_below s p (x ∷ xs) is = ap (λ t. nat_lt (length s) (length t) && begins s t) (known x (kept p (listing m) x xs is))
 
+  -- whether the next item of the walk is under the string, as the map says it
+  pub below_is : (s : List Bool) (walk : List (P × X)) → walk ≡ prefix_pairs back (listing_after m s) → is_first_below path s walk ≡ is_first_below (λ t. t) s (listing_after m s)
+  below_is s walk is = ap (is_first_below path s) is ∙ shown_below s (λ e. is_lt (listing_cmp s e.0)) (listing_after m s) refl
+
   -- the next item of the walk gives the map's value at the string, and what is left comes after the string
   pub value_here : (s : List Bool) (walk : List (P × X)) → walk ≡ prefix_pairs back (listing_from m s) → first_value_at path s walk ≡ get m s
   value_here s walk is =

@@ -1,9 +1,10 @@
 //! The table with the fewest entries for the same full-width lookups.
-ghost use Rattle.std.specs.Prelude.{◌≡◌, ◌≤◌, All, Bool, true, false, List, [], length, None, IfErr, IfOk, IfSome, OnOk};
-ghost use Rattle.std.specs.FinMap.{get, len};
+ghost use Rattle.std.specs.Prelude.{◌≡◌, All, Bool, true, false, List, [], None, IfErr, IfOk, OnOk};
+ghost use Rattle.std.specs.FinMap.{get};
 ghost use Rattle.prefix_trie.specs.Words.{AreWithin, Entries, listing, prefix_pairs};
 ghost use Rattle.prefix_trie_ops.specs.Optimal.{Rebuilds};
-ghost use Rattle.prefix_trie_ops.specs.Values.{is_redundant, value_of};
+ghost use Rattle.prefix_trie_ops.specs.Smallest.{HaveSameAnswers, IsSmallest};
+ghost use Rattle.prefix_trie_ops.specs.Values.{is_redundant};
 
 mod choosing;
 mod entries;
@@ -11,24 +12,21 @@ mod placing;
 mod position;
 mod sets;
 
-use crate::map::aggregate_consistent;
 use choosing::choices_of;
 use entries::{Upcoming, copied};
-use placing::{Stop, place};
+use placing::place;
 use prefix_trie::laws::{lookup_laws, stored_laws};
 use prefix_trie::{Key, Prefix, PrefixMap, Refusal};
 use std::alloc::Allocator;
 
 /// Replaces the entries by as few as the same full-width lookups need.
 ///
-/// Every full-width question has the same longest-match value as before, or still none. The map has at most as many
-/// entries as before, none of which has the value of its longest shorter entry. Shorter questions may have other values
-/// afterwards. The map keeps its slot limit.
+/// Every full-width question has the same longest-match value as before, or still none. No map with the same answers to
+/// these questions has fewer entries. No entry has the value of its longest shorter entry. Shorter questions may have
+/// other values afterwards. The map keeps its slot limit.
 ///
 /// This is the optimal routing table of Draves, King, Venkatachary and Zill ("Constructing Optimal IP Routing Tables",
-/// 1999), except that a question without a value keeps none. Tests find no map with fewer entries; this is not proved.
-/// The result is checked: if it had more entries than the map, or a value for a question without one, the map would get
-/// the entries of `aggregate_consistent`.
+/// 1999), except that a question without a value keeps none.
 ///
 /// The time grows with the number of bits of the stored prefixes; bits that prefixes share count once. The new map is
 /// built beside the old one. Until then, the call also needs memory for a copy of the entries, and for a few values and
@@ -50,62 +48,27 @@ pub fn aggregate<P: Prefix, T: Copy + Ord, A: Allocator + Clone, B: Allocator>(
     table: &mut PrefixMap<P, T, A>,
     alloc: B,
 ) -> Result<(), Refusal>
-    // In the next two clauses, values that `==` calls equal are the same.
+    // In the next three clauses, values that `==` calls equal are the same.
     ensures values { IfOk result (λ _. ((x y : T) → T.PartialEq.eq x y ≡ true → x ≡ y)
-        → (q : List Bool) → length q ≡ P.R.bit_width
-        → value_of table.new.entries q ≡ value_of table.old.entries q) }
+        → HaveSameAnswers P.R.bit_width table.new.entries table.old.entries) }
+    ensures smallest { IfOk result (λ _. ((x y : T) → T.PartialEq.eq x y ≡ true → x ≡ y) → IsSmallest P.R.bit_width table.new.entries) }
     ensures tidy { IfOk result (λ _. ((x y : T) → T.PartialEq.eq x y ≡ true → x ≡ y)
         → (s : List Bool) → is_redundant T.PartialEq.eq table.new.entries s ≡ false) }
-    ensures at_most { IfOk result (λ _. len table.new.entries ≤ len table.old.entries) }
     ensures unchanged { IfErr result (λ _. table.new ≡ table.old) }
 {
-    match no_larger(table, &alloc)? {
-        Some(made) => {
-            *table = made;
-            Ok(())
-        }
-        None => match aggregate_consistent(table, &alloc) {
-            Ok(()) => Ok(()),
-            Err(_) => Err(Refusal::Memory),
-        },
-    }
+    let made = rebuilt(table, &alloc)?;
+    *table = made;
+    Ok(())
 }
 
-/// Returns the rebuilt map if it has no more entries than the map.
-fn no_larger<P: Prefix, T: Copy + Ord, A: Allocator + Clone, B: Allocator>(
-    table: &PrefixMap<P, T, A>,
-    alloc: &B,
-) -> Result<Option<PrefixMap<P, T, A>>, Refusal>
-    ensures values { IfOk result
-        (λ found. IfSome found (λ made. ((x y : T) → T.PartialEq.eq x y ≡ true → x ≡ y)
-        → (q : List Bool) → length q ≡ P.R.bit_width
-        → value_of made.entries q ≡ value_of table.now.entries q)) }
-    ensures tidy { IfOk result
-        (λ found. IfSome found (λ made. ((x y : T) → T.PartialEq.eq x y ≡ true → x ≡ y)
-        → (s : List Bool) → is_redundant T.PartialEq.eq made.entries s ≡ false)) }
-    ensures at_most { IfOk result
-        (λ found. IfSome found (λ made. len made.entries ≤ len table.now.entries)) }
-{
-    let made = match rebuilt(table, alloc) {
-        Ok(made) => made,
-        Err(Stop::Hole) => return Ok(None),
-        Err(Stop::Refused(cause)) => return Err(cause),
-    };
-    if made.len() <= table.len() {
-        Ok(Some(made))
-    } else {
-        Ok(None)
-    }
-}
-
-/// Returns a map with the same full-width lookups, in memory of its own.
+/// Returns the smallest map with the same full-width lookups, in memory of its own.
 fn rebuilt<P: Prefix, T: Copy + Ord, A: Allocator + Clone, B: Allocator>(
     table: &PrefixMap<P, T, A>,
     alloc: &B,
-) -> Result<PrefixMap<P, T, A>, Stop>
+) -> Result<PrefixMap<P, T, A>, Refusal>
     ensures values { IfOk result (λ made. ((x y : T) → T.PartialEq.eq x y ≡ true → x ≡ y)
-        → (q : List Bool) → length q ≡ P.R.bit_width
-        → value_of made.entries q ≡ value_of table.now.entries q) }
+        → HaveSameAnswers P.R.bit_width made.entries table.now.entries) }
+    ensures smallest { IfOk result (λ made. ((x y : T) → T.PartialEq.eq x y ≡ true → x ≡ y) → IsSmallest P.R.bit_width made.entries) }
     ensures tidy { IfOk result (λ made. ((x y : T) → T.PartialEq.eq x y ≡ true → x ≡ y)
         → (s : List Bool) → is_redundant T.PartialEq.eq made.entries s ≡ false) }
 {
@@ -113,30 +76,32 @@ fn rebuilt<P: Prefix, T: Copy + Ord, A: Allocator + Clone, B: Allocator>(
     stored_laws::<T>();
     // The proof learns from it that no key is longer than the width.
     let _ = table.len();
-    let entries = copied(table, alloc)?;
-    let mut made = table.clone()?;
+    let Ok(entries) = copied(table, alloc) else {
+        return Err(Refusal::Memory);
+    };
+    let Ok(mut made) = table.clone() else {
+        return Err(Refusal::Memory);
+    };
     made.clear();
     place_all(entries.as_slice(), &mut made, alloc)?;
     Ok(made)
 }
 
-/// Fills an empty map, so that its full-width lookups are those of the entries.
+/// Fills an empty map, so that its full-width lookups are those of the entries, with as few entries as possible.
 fn place_all<P: Prefix, T: Copy + Ord, A: Allocator, B: Allocator>(
     entries: &[(P, T)],
     made: &mut PrefixMap<P, T, A>,
     alloc: &B,
-) -> Result<(), Stop>
+) -> Result<(), Refusal>
     requires { All (λ e. P.IsFitting e.0) entries.now }
-    ensures { OnOk result
-        ((source : Entries T) → AreWithin P.R.bit_width source
-        → entries.now ≡ prefix_pairs P.back (listing source)
-        → ((t : List Bool) → get made.old.entries t ≡ None)
-        → ((x y : T) → T.PartialEq.eq x y ≡ true → x ≡ y)
-        → Rebuilds T.PartialEq.eq P.R.bit_width source [] None None made.old.entries
-        made.new.entries) }
+    ensures { OnOk result ((source : Entries T) → AreWithin P.R.bit_width source → entries.now ≡ prefix_pairs P.back (listing source)
+        → ((t : List Bool) → get made.old.entries t ≡ None) → ((x y : T) → T.PartialEq.eq x y ≡ true → x ≡ y)
+        → Rebuilds T.PartialEq.eq T.Ord.cmp P.R.bit_width source [] None None made.old.entries made.new.entries) }
 {
     let root = P::from_repr_len(P::R::zero(), 0);
-    let mut choices = choices_of(Upcoming::of(entries), &root, alloc)?;
+    let Ok(mut choices) = choices_of(Upcoming::of(entries), &root, alloc) else {
+        return Err(Refusal::Memory);
+    };
     let mut walk = Upcoming::of(entries);
     place(&mut walk, &mut choices, made, &root, None, None)?;
     Ok(())

@@ -1,38 +1,19 @@
 //! The third pass, from the top down: storing the chosen values.
-ghost use Rattle.std.specs.Prelude.{◌≡◌, ◌≢◌, ◌<◌, Bool, true, false, List, Option, Some, None, OnOk};
+ghost use Rattle.std.specs.Prelude.{◌≡◌, ◌≢◌, ◌<◌, ◌≤◌, ℕ, ◌+◌, Bool, true, false, List, [], ◌++◌, length, Option, Some, None, OnOk};
 ghost use Rattle.std.specs.Option.{option_or};
-ghost use Rattle.std.specs.FinMap.{get};
+ghost use Rattle.std.specs.FinMap.{get, len};
 ghost use Rattle.prefix_trie.specs.Words.{AreWithin, Entries, listing_after, listing_from, prefix_pairs};
-ghost use Rattle.prefix_trie_ops.specs.Optimal.{listing_past, HasNoneBelow, Rebuilds};
+ghost use Rattle.prefix_trie_ops.specs.Choosing.{part_values, AreToCome};
+ghost use Rattle.prefix_trie_ops.specs.Optimal.{is_first_below, listing_past, value_along, HasNoneBelow, Rebuilds};
+ghost use Rattle.prefix_trie_ops.specs.Parts.{first_values, stored};
 ghost use Rattle.prefix_trie_ops.specs.Values.{are_equal};
 
 use super::choosing::Choices;
 use super::entries::Upcoming;
 use super::position::{half, take_at};
 use prefix_trie::laws::{listed_laws, listing_laws, stored_laws};
-use prefix_trie::{Prefix, PrefixMap, Refusal, Refused};
-use std::alloc::{AllocError, Allocator};
-
-/// Why a map was not rebuilt.
-#[derive(Drop)]
-pub(super) enum Stop {
-    /// A question without a value would get one.
-    Hole,
-    /// Memory or slots were missing for the rebuilt map.
-    Refused(Refusal),
-}
-
-impl From<AllocError> for Stop {
-    fn from(_: AllocError) -> Stop {
-        Stop::Refused(Refusal::Memory)
-    }
-}
-
-impl<T: Drop> From<Refused<T>> for Stop {
-    fn from(refused: Refused<T>) -> Stop {
-        Stop::Refused(refused.cause)
-    }
-}
+use prefix_trie::{Prefix, PrefixMap, Refusal};
+use std::alloc::Allocator;
 
 /// Builds the part of the new map at and below a prefix, from the next entries of the walk.
 ///
@@ -47,17 +28,19 @@ pub(super) fn place<P: Prefix, T: Copy + Ord, B: Allocator, C: Allocator>(
     at: &P,
     inherited: Option<T>,
     held: Option<T>,
-) -> Result<(), Stop>
+) -> Result<(), Refusal>
     requires { P.IsFitting at.now }
     ensures walks { OnOk result ((source : Entries T) → AreWithin P.R.bit_width source
-        → walk.old ≡ prefix_pairs P.back (listing_from source (P.path at.now))
-        → walk.new ≡ prefix_pairs P.back (listing_past source (P.path at.now))) }
-    ensures rebuilds { OnOk result ((source : Entries T) → AreWithin P.R.bit_width source
-        → walk.old ≡ prefix_pairs P.back (listing_from source (P.path at.now))
-        → HasNoneBelow made.old.entries (P.path at.now)
-        → ((x y : T) → T.PartialEq.eq x y ≡ true → x ≡ y)
-        → Rebuilds T.PartialEq.eq P.R.bit_width source
-        (P.path at.now) inherited held made.old.entries made.new.entries) }
+        → walk.old ≡ prefix_pairs P.back (listing_from source (P.path at.now)) → walk.new ≡ prefix_pairs P.back (listing_past source (P.path at.now))) }
+    ensures takes { OnOk result ((source : Entries T) (n : ℕ) (rest : List (List T)) → AreWithin P.R.bit_width source
+        → length (P.path at.now) + n ≡ P.R.bit_width → walk.old ≡ prefix_pairs P.back (listing_from source (P.path at.now))
+        → AreToCome choices.old (part_values T.PartialEq.eq T.Ord.cmp source n (P.path at.now) inherited ++ rest) → AreToCome choices.new rest) }
+    ensures rebuilds { OnOk result ((source : Entries T) (n : ℕ) (rest : List (List T)) → AreWithin P.R.bit_width source
+        → length (P.path at.now) + n ≡ P.R.bit_width → walk.old ≡ prefix_pairs P.back (listing_from source (P.path at.now))
+        → AreToCome choices.old (part_values T.PartialEq.eq T.Ord.cmp source n (P.path at.now) inherited ++ rest)
+        → HasNoneBelow made.old.entries (P.path at.now) → ((x y : T) → T.PartialEq.eq x y ≡ true → x ≡ y)
+        → (first_values T.PartialEq.eq T.Ord.cmp n (value_along (get source) inherited (P.path at.now)) ≡ [] → held ≡ None)
+        → Rebuilds T.PartialEq.eq T.Ord.cmp n source (P.path at.now) inherited held made.old.entries made.new.entries) }
 {
     listing_laws::<T>();
     listed_laws::<P, T>();
@@ -80,20 +63,22 @@ fn place_inner<P: Prefix, T: Copy + Ord, B: Allocator, C: Allocator>(
     at: &P,
     here: Option<T>,
     held: Option<T>,
-) -> Result<(), Stop>
+) -> Result<(), Refusal>
     requires fits { P.IsFitting at.now }
     requires short { P.len_of at.now < P.R.bit_width }
     ensures walks { OnOk result ((source : Entries T) → AreWithin P.R.bit_width source
-        → walk.old ≡ prefix_pairs P.back (listing_after source (P.path at.now))
-        → walk.new ≡ prefix_pairs P.back (listing_past source (P.path at.now))) }
-    ensures rebuilds { OnOk result
-        ((source : Entries T) (inherited : Option T) → AreWithin P.R.bit_width source
-        → walk.old ≡ prefix_pairs P.back (listing_after source (P.path at.now))
-        → HasNoneBelow made.old.entries (P.path at.now)
-        → ((x y : T) → T.PartialEq.eq x y ≡ true → x ≡ y)
-        → here ≡ option_or (get source (P.path at.now)) inherited
-        → Rebuilds T.PartialEq.eq P.R.bit_width source
-        (P.path at.now) inherited held made.old.entries made.new.entries) }
+        → walk.old ≡ prefix_pairs P.back (listing_after source (P.path at.now)) → walk.new ≡ prefix_pairs P.back (listing_past source (P.path at.now))) }
+    ensures takes { OnOk result ((source : Entries T) (n : ℕ) (inherited : Option T) (rest : List (List T)) → AreWithin P.R.bit_width source
+        → length (P.path at.now) + n ≡ P.R.bit_width → walk.old ≡ prefix_pairs P.back (listing_after source (P.path at.now))
+        → is_first_below (λ t. t) (P.path at.now) (listing_after source (P.path at.now)) ≡ true → here ≡ option_or (get source (P.path at.now)) inherited
+        → AreToCome choices.old (part_values T.PartialEq.eq T.Ord.cmp source n (P.path at.now) inherited ++ rest) → AreToCome choices.new rest) }
+    ensures rebuilds { OnOk result ((source : Entries T) (n : ℕ) (inherited : Option T) (rest : List (List T)) → AreWithin P.R.bit_width source
+        → length (P.path at.now) + n ≡ P.R.bit_width → walk.old ≡ prefix_pairs P.back (listing_after source (P.path at.now))
+        → is_first_below (λ t. t) (P.path at.now) (listing_after source (P.path at.now)) ≡ true → here ≡ option_or (get source (P.path at.now)) inherited
+        → AreToCome choices.old (part_values T.PartialEq.eq T.Ord.cmp source n (P.path at.now) inherited ++ rest)
+        → HasNoneBelow made.old.entries (P.path at.now) → ((x y : T) → T.PartialEq.eq x y ≡ true → x ≡ y)
+        → (first_values T.PartialEq.eq T.Ord.cmp n (value_along (get source) inherited (P.path at.now)) ≡ [] → held ≡ None)
+        → Rebuilds T.PartialEq.eq T.Ord.cmp n source (P.path at.now) inherited held made.old.entries made.new.entries) }
 {
     let wanted = choices.take(held);
     settle(made, at, held, wanted)?;
@@ -104,31 +89,23 @@ fn place_inner<P: Prefix, T: Copy + Ord, B: Allocator, C: Allocator>(
     Ok(())
 }
 
-/// Stores the wanted value at a prefix, unless the shorter entries give it already.
+/// Stores the wanted value at a prefix, unless the shorter entries give it already or there is none.
 #[inline(always)]
 fn settle<P: Prefix, T: Copy + Ord, A: Allocator>(
     made: &mut PrefixMap<P, T, A>,
     at: &P,
     held: Option<T>,
     wanted: Option<T>,
-) -> Result<(), Stop>
+) -> Result<(), Refusal>
     requires { P.IsFitting at.now }
-    ensures beside { OnOk result
-        ((t : List Bool) → t ≢ P.path at.now → get made.new.entries t ≡ get made.old.entries t) }
-    ensures value { OnOk result
-        (((x y : T) → T.PartialEq.eq x y ≡ true → x ≡ y)
-        → get made.old.entries (P.path at.now) ≡ None
-        → option_or (get made.new.entries (P.path at.now)) held ≡ wanted) }
-    ensures fresh { OnOk result
-        (get made.old.entries (P.path at.now) ≡ None
-        → are_equal T.PartialEq.eq held (get made.new.entries (P.path at.now)) ≡ false) }
+    ensures beside { OnOk result ((t : List Bool) → t ≢ P.path at.now → get made.new.entries t ≡ get made.old.entries t) }
+    ensures value { OnOk result (((x y : T) → T.PartialEq.eq x y ≡ true → x ≡ y) → get made.old.entries (P.path at.now) ≡ None
+        → (wanted ≡ None → held ≡ None) → option_or (get made.new.entries (P.path at.now)) held ≡ wanted) }
+    ensures cost { OnOk result (len made.new.entries ≤ len made.old.entries + stored T.PartialEq.eq held wanted) }
+    ensures fresh { OnOk result (get made.old.entries (P.path at.now) ≡ None → are_equal T.PartialEq.eq held (get made.new.entries (P.path at.now)) ≡ false) }
 {
     let Some(value) = wanted else {
-        return if held.is_none() {
-            Ok(())
-        } else {
-            Err(Stop::Hole)
-        };
+        return Ok(());
     };
     if is_held(held, value) {
         return Ok(());
@@ -142,11 +119,12 @@ fn store<P: Prefix, T: Copy + Ord, A: Allocator>(
     made: &mut PrefixMap<P, T, A>,
     at: &P,
     value: T,
-) -> Result<(), Stop>
+) -> Result<(), Refusal>
     requires { P.IsFitting at.now }
     ensures beside { OnOk result
         ((t : List Bool) → t ≢ P.path at.now → get made.new.entries t ≡ get made.old.entries t) }
     ensures value { OnOk result (get made.new.entries (P.path at.now) ≡ Some value) }
+    ensures cost { OnOk result (len made.new.entries ≤ len made.old.entries + 1) }
 {
     stored_laws::<T>();
     made.insert(same_prefix(at), value)?;

@@ -1,5 +1,5 @@
 //! Sets of values. Those of several values are sorted parts of one vector.
-ghost use Rattle.std.specs.Prelude.{◌≡◌, ◌<◌, ◌≤◌, ◌++◌, true, List, [], ◌∷◌, length, slice_range, IfOk};
+ghost use Rattle.std.specs.Prelude.{◌≡◌, ◌<◌, ◌≤◌, ◌++◌, true, List, [], ◌∷◌, length, slice_range, slice_set, IfOk};
 ghost use Rattle.std.specs.List.Sorted.{IsStrictlySortedBy};
 ghost use Rattle.std.specs.Set.{is_member, sorted_merge};
 ghost use Rattle.prefix_trie_ops.specs.Parts.{as_list, best_value, joint_values, shared_values};
@@ -236,4 +236,14 @@ fn push_range<T: Copy + Ord, B: Allocator>(
         }
     }
     Ok(())
+}
+
+/// Replaces the set at an index.
+#[inline]
+pub(super) fn put<T: Copy + Ord, B: Allocator>(sets: &mut Vec<Set<T>, B>, place: usize, set: Set<T>)
+    ensures { place < length sets.old.items → sets.new.items ≡ slice_set sets.old.items place set }
+{
+    if let Some(kept) = sets.get_mut(place) {
+        *kept = set;
+    }
 }
