@@ -51,7 +51,9 @@ pub fn aggregate<P: Prefix, T: Copy + Ord, A: Allocator + Clone, B: Allocator>(
     // In the next three clauses, values that `==` calls equal are the same.
     ensures values { IfOk result (λ _. ((x y : T) → T.PartialEq.eq x y ≡ true → x ≡ y)
         → HaveSameAnswers P.R.bit_width table.new.entries table.old.entries) }
-    ensures smallest { IfOk result (λ _. ((x y : T) → T.PartialEq.eq x y ≡ true → x ≡ y) → IsSmallest P.R.bit_width table.new.entries) }
+    ensures smallest { IfOk result
+        (λ _. ((x y : T) → T.PartialEq.eq x y ≡ true → x ≡ y)
+        → IsSmallest P.R.bit_width table.new.entries) }
     ensures tidy { IfOk result (λ _. ((x y : T) → T.PartialEq.eq x y ≡ true → x ≡ y)
         → (s : List Bool) → is_redundant T.PartialEq.eq table.new.entries s ≡ false) }
     ensures unchanged { IfErr result (λ _. table.new ≡ table.old) }
@@ -68,7 +70,9 @@ fn rebuilt<P: Prefix, T: Copy + Ord, A: Allocator + Clone, B: Allocator>(
 ) -> Result<PrefixMap<P, T, A>, Refusal>
     ensures values { IfOk result (λ made. ((x y : T) → T.PartialEq.eq x y ≡ true → x ≡ y)
         → HaveSameAnswers P.R.bit_width made.entries table.now.entries) }
-    ensures smallest { IfOk result (λ made. ((x y : T) → T.PartialEq.eq x y ≡ true → x ≡ y) → IsSmallest P.R.bit_width made.entries) }
+    ensures smallest { IfOk result
+        (λ made. ((x y : T) → T.PartialEq.eq x y ≡ true → x ≡ y)
+        → IsSmallest P.R.bit_width made.entries) }
     ensures tidy { IfOk result (λ made. ((x y : T) → T.PartialEq.eq x y ≡ true → x ≡ y)
         → (s : List Bool) → is_redundant T.PartialEq.eq made.entries s ≡ false) }
 {
@@ -94,9 +98,13 @@ fn place_all<P: Prefix, T: Copy + Ord, A: Allocator, B: Allocator>(
     alloc: &B,
 ) -> Result<(), Refusal>
     requires { All (λ e. P.IsFitting e.0) entries.now }
-    ensures { OnOk result ((source : Entries T) → AreWithin P.R.bit_width source → entries.now ≡ prefix_pairs P.back (listing source)
-        → ((t : List Bool) → get made.old.entries t ≡ None) → ((x y : T) → T.PartialEq.eq x y ≡ true → x ≡ y)
-        → Rebuilds T.PartialEq.eq T.Ord.cmp P.R.bit_width source [] None None made.old.entries made.new.entries) }
+    ensures { OnOk result
+        ((source : Entries T) → AreWithin P.R.bit_width source
+        → entries.now ≡ prefix_pairs P.back (listing source)
+        → ((t : List Bool) → get made.old.entries t ≡ None)
+        → ((x y : T) → T.PartialEq.eq x y ≡ true → x ≡ y)
+        → Rebuilds T.PartialEq.eq T.Ord.cmp P.R.bit_width source [] None None made.old.entries
+        made.new.entries) }
 {
     let root = P::from_repr_len(P::R::zero(), 0);
     let Ok(mut choices) = choices_of(Upcoming::of(entries), &root, alloc) else {

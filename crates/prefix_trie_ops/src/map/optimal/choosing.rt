@@ -1,5 +1,5 @@
 //! The first two passes, from the bottom up: the values with which a smallest table of each part of the tree can begin.
-ghost use Rattle.std.specs.Prelude.{◌≡◌, ℕ, ◌+◌, ◌<◌, Bool, true, List, [], ◌∷◌, length, Option, None, IfOk, OnOk};
+ghost use Rattle.std.specs.Prelude.{◌≡◌, ℕ, ◌+◌, ◌<◌, true, List, [], ◌∷◌, length, Option, None, IfOk, OnOk};
 ghost use Rattle.std.specs.FinMap.{get};
 ghost use Rattle.std.specs.Option.{option_or};
 ghost use Rattle.prefix_trie.specs.Words.{AreWithin, Entries, listing_after, listing_from, prefix_pairs};
@@ -29,8 +29,10 @@ impl<T: Copy + Ord, B: Allocator> Choices<T, B> {
     #[inline]
     pub(super) fn take(&mut self, held: Option<T>) -> Option<T>
         ensures best { (xs : List T) (rest : List (List T)) → AreToCome self.old (xs ∷ rest)
-            → ((x y : T) → T.PartialEq.eq x y ≡ true → x ≡ y) → result ≡ best_value T.PartialEq.eq xs held }
-        ensures rest { (xs : List T) (rest : List (List T)) → AreToCome self.old (xs ∷ rest) → AreToCome self.new rest }
+            → ((x y : T) → T.PartialEq.eq x y ≡ true → x ≡ y)
+            → result ≡ best_value T.PartialEq.eq xs held }
+        ensures rest { (xs : List T) (rest : List (List T)) → AreToCome self.old (xs ∷ rest)
+            → AreToCome self.new rest }
     {
         let Some(set) = self.sets.get(self.next).copied() else {
             return None;
@@ -76,10 +78,16 @@ fn choose<P: Prefix, T: Copy + Ord, B: Allocator>(
 ) -> Result<Set<T>, AllocError>
     requires { P.IsFitting at.now }
     ensures walks { OnOk result ((source : Entries T) → AreWithin P.R.bit_width source
-        → walk.old ≡ prefix_pairs P.back (listing_from source (P.path at.now)) → walk.new ≡ prefix_pairs P.back (listing_past source (P.path at.now))) }
-    ensures chooses { IfOk result (λ set. (source : Entries T) (n : ℕ) → AreWithin P.R.bit_width source → length (P.path at.now) + n ≡ P.R.bit_width
-        → walk.old ≡ prefix_pairs P.back (listing_from source (P.path at.now)) → ((x y : T) → T.PartialEq.eq x y ≡ true → x ≡ y)
-        → Chooses T.PartialEq.eq T.Ord.cmp source n (P.path at.now) inherited sets.old.items sets.new.items values.old.items values.new.items set) }
+        → walk.old ≡ prefix_pairs P.back (listing_from source (P.path at.now))
+        → walk.new ≡ prefix_pairs P.back (listing_past source (P.path at.now))) }
+    ensures chooses { IfOk result
+        (λ set. (source : Entries T) (n : ℕ) → AreWithin P.R.bit_width source
+        → length (P.path at.now) + n ≡ P.R.bit_width
+        → walk.old ≡ prefix_pairs P.back (listing_from source (P.path at.now))
+        → ((x y : T) → T.PartialEq.eq x y ≡ true → x ≡ y)
+        → Chooses T.PartialEq.eq T.Ord.cmp source n
+        (P.path at.now) inherited sets.old.items sets.new.items values.old.items values.new.items
+        set) }
 {
     listing_laws::<T>();
     listed_laws::<P, T>();
@@ -106,12 +114,18 @@ fn choose_inner<P: Prefix, T: Copy + Ord, B: Allocator>(
     requires fits { P.IsFitting at.now }
     requires short { P.len_of at.now < P.R.bit_width }
     ensures walks { OnOk result ((source : Entries T) → AreWithin P.R.bit_width source
-        → walk.old ≡ prefix_pairs P.back (listing_after source (P.path at.now)) → walk.new ≡ prefix_pairs P.back (listing_past source (P.path at.now))) }
-    ensures chooses { IfOk result (λ set. (source : Entries T) (n : ℕ) (inherited : Option T) → AreWithin P.R.bit_width source
-        → length (P.path at.now) + n ≡ P.R.bit_width → walk.old ≡ prefix_pairs P.back (listing_after source (P.path at.now))
-        → is_first_below (λ t. t) (P.path at.now) (listing_after source (P.path at.now)) ≡ true → here ≡ option_or (get source (P.path at.now)) inherited
+        → walk.old ≡ prefix_pairs P.back (listing_after source (P.path at.now))
+        → walk.new ≡ prefix_pairs P.back (listing_past source (P.path at.now))) }
+    ensures chooses { IfOk result
+        (λ set. (source : Entries T) (n : ℕ) (inherited : Option T) → AreWithin P.R.bit_width source
+        → length (P.path at.now) + n ≡ P.R.bit_width
+        → walk.old ≡ prefix_pairs P.back (listing_after source (P.path at.now))
+        → is_first_below (λ t. t) (P.path at.now) (listing_after source (P.path at.now)) ≡ true
+        → here ≡ option_or (get source (P.path at.now)) inherited
         → ((x y : T) → T.PartialEq.eq x y ≡ true → x ≡ y)
-        → Chooses T.PartialEq.eq T.Ord.cmp source n (P.path at.now) inherited sets.old.items sets.new.items values.old.items values.new.items set) }
+        → Chooses T.PartialEq.eq T.Ord.cmp source n
+        (P.path at.now) inherited sets.old.items sets.new.items values.old.items values.new.items
+        set) }
 {
     let place = sets.len();
     sets.push(Set::Missing)?;

@@ -31,16 +31,27 @@ pub(super) fn place<P: Prefix, T: Copy + Ord, B: Allocator, C: Allocator>(
 ) -> Result<(), Refusal>
     requires { P.IsFitting at.now }
     ensures walks { OnOk result ((source : Entries T) → AreWithin P.R.bit_width source
-        → walk.old ≡ prefix_pairs P.back (listing_from source (P.path at.now)) → walk.new ≡ prefix_pairs P.back (listing_past source (P.path at.now))) }
-    ensures takes { OnOk result ((source : Entries T) (n : ℕ) (rest : List (List T)) → AreWithin P.R.bit_width source
-        → length (P.path at.now) + n ≡ P.R.bit_width → walk.old ≡ prefix_pairs P.back (listing_from source (P.path at.now))
-        → AreToCome choices.old (part_values T.PartialEq.eq T.Ord.cmp source n (P.path at.now) inherited ++ rest) → AreToCome choices.new rest) }
-    ensures rebuilds { OnOk result ((source : Entries T) (n : ℕ) (rest : List (List T)) → AreWithin P.R.bit_width source
-        → length (P.path at.now) + n ≡ P.R.bit_width → walk.old ≡ prefix_pairs P.back (listing_from source (P.path at.now))
-        → AreToCome choices.old (part_values T.PartialEq.eq T.Ord.cmp source n (P.path at.now) inherited ++ rest)
-        → HasNoneBelow made.old.entries (P.path at.now) → ((x y : T) → T.PartialEq.eq x y ≡ true → x ≡ y)
-        → (first_values T.PartialEq.eq T.Ord.cmp n (value_along (get source) inherited (P.path at.now)) ≡ [] → held ≡ None)
-        → Rebuilds T.PartialEq.eq T.Ord.cmp n source (P.path at.now) inherited held made.old.entries made.new.entries) }
+        → walk.old ≡ prefix_pairs P.back (listing_from source (P.path at.now))
+        → walk.new ≡ prefix_pairs P.back (listing_past source (P.path at.now))) }
+    ensures takes { OnOk result
+        ((source : Entries T) (n : ℕ) (rest : List (List T)) → AreWithin P.R.bit_width source
+        → length (P.path at.now) + n ≡ P.R.bit_width
+        → walk.old ≡ prefix_pairs P.back (listing_from source (P.path at.now))
+        → AreToCome choices.old
+        (part_values T.PartialEq.eq T.Ord.cmp source n (P.path at.now) inherited ++ rest)
+        → AreToCome choices.new rest) }
+    ensures rebuilds { OnOk result
+        ((source : Entries T) (n : ℕ) (rest : List (List T)) → AreWithin P.R.bit_width source
+        → length (P.path at.now) + n ≡ P.R.bit_width
+        → walk.old ≡ prefix_pairs P.back (listing_from source (P.path at.now))
+        → AreToCome choices.old
+        (part_values T.PartialEq.eq T.Ord.cmp source n (P.path at.now) inherited ++ rest)
+        → HasNoneBelow made.old.entries (P.path at.now)
+        → ((x y : T) → T.PartialEq.eq x y ≡ true → x ≡ y)
+        → (first_values T.PartialEq.eq T.Ord.cmp n
+        (value_along (get source) inherited (P.path at.now)) ≡ [] → held ≡ None)
+        → Rebuilds T.PartialEq.eq T.Ord.cmp n source
+        (P.path at.now) inherited held made.old.entries made.new.entries) }
 {
     listing_laws::<T>();
     listed_laws::<P, T>();
@@ -67,18 +78,33 @@ fn place_inner<P: Prefix, T: Copy + Ord, B: Allocator, C: Allocator>(
     requires fits { P.IsFitting at.now }
     requires short { P.len_of at.now < P.R.bit_width }
     ensures walks { OnOk result ((source : Entries T) → AreWithin P.R.bit_width source
-        → walk.old ≡ prefix_pairs P.back (listing_after source (P.path at.now)) → walk.new ≡ prefix_pairs P.back (listing_past source (P.path at.now))) }
-    ensures takes { OnOk result ((source : Entries T) (n : ℕ) (inherited : Option T) (rest : List (List T)) → AreWithin P.R.bit_width source
-        → length (P.path at.now) + n ≡ P.R.bit_width → walk.old ≡ prefix_pairs P.back (listing_after source (P.path at.now))
-        → is_first_below (λ t. t) (P.path at.now) (listing_after source (P.path at.now)) ≡ true → here ≡ option_or (get source (P.path at.now)) inherited
-        → AreToCome choices.old (part_values T.PartialEq.eq T.Ord.cmp source n (P.path at.now) inherited ++ rest) → AreToCome choices.new rest) }
-    ensures rebuilds { OnOk result ((source : Entries T) (n : ℕ) (inherited : Option T) (rest : List (List T)) → AreWithin P.R.bit_width source
-        → length (P.path at.now) + n ≡ P.R.bit_width → walk.old ≡ prefix_pairs P.back (listing_after source (P.path at.now))
-        → is_first_below (λ t. t) (P.path at.now) (listing_after source (P.path at.now)) ≡ true → here ≡ option_or (get source (P.path at.now)) inherited
-        → AreToCome choices.old (part_values T.PartialEq.eq T.Ord.cmp source n (P.path at.now) inherited ++ rest)
-        → HasNoneBelow made.old.entries (P.path at.now) → ((x y : T) → T.PartialEq.eq x y ≡ true → x ≡ y)
-        → (first_values T.PartialEq.eq T.Ord.cmp n (value_along (get source) inherited (P.path at.now)) ≡ [] → held ≡ None)
-        → Rebuilds T.PartialEq.eq T.Ord.cmp n source (P.path at.now) inherited held made.old.entries made.new.entries) }
+        → walk.old ≡ prefix_pairs P.back (listing_after source (P.path at.now))
+        → walk.new ≡ prefix_pairs P.back (listing_past source (P.path at.now))) }
+    ensures takes { OnOk result
+        ((source : Entries T) (n : ℕ) (inherited : Option T) (rest : List (List T))
+        → AreWithin P.R.bit_width source
+        → length (P.path at.now) + n ≡ P.R.bit_width
+        → walk.old ≡ prefix_pairs P.back (listing_after source (P.path at.now))
+        → is_first_below (λ t. t) (P.path at.now) (listing_after source (P.path at.now)) ≡ true
+        → here ≡ option_or (get source (P.path at.now)) inherited
+        → AreToCome choices.old
+        (part_values T.PartialEq.eq T.Ord.cmp source n (P.path at.now) inherited ++ rest)
+        → AreToCome choices.new rest) }
+    ensures rebuilds { OnOk result
+        ((source : Entries T) (n : ℕ) (inherited : Option T) (rest : List (List T))
+        → AreWithin P.R.bit_width source
+        → length (P.path at.now) + n ≡ P.R.bit_width
+        → walk.old ≡ prefix_pairs P.back (listing_after source (P.path at.now))
+        → is_first_below (λ t. t) (P.path at.now) (listing_after source (P.path at.now)) ≡ true
+        → here ≡ option_or (get source (P.path at.now)) inherited
+        → AreToCome choices.old
+        (part_values T.PartialEq.eq T.Ord.cmp source n (P.path at.now) inherited ++ rest)
+        → HasNoneBelow made.old.entries (P.path at.now)
+        → ((x y : T) → T.PartialEq.eq x y ≡ true → x ≡ y)
+        → (first_values T.PartialEq.eq T.Ord.cmp n
+        (value_along (get source) inherited (P.path at.now)) ≡ [] → held ≡ None)
+        → Rebuilds T.PartialEq.eq T.Ord.cmp n source
+        (P.path at.now) inherited held made.old.entries made.new.entries) }
 {
     let wanted = choices.take(held);
     settle(made, at, held, wanted)?;
@@ -98,11 +124,18 @@ fn settle<P: Prefix, T: Copy + Ord, A: Allocator>(
     wanted: Option<T>,
 ) -> Result<(), Refusal>
     requires { P.IsFitting at.now }
-    ensures beside { OnOk result ((t : List Bool) → t ≢ P.path at.now → get made.new.entries t ≡ get made.old.entries t) }
-    ensures value { OnOk result (((x y : T) → T.PartialEq.eq x y ≡ true → x ≡ y) → get made.old.entries (P.path at.now) ≡ None
-        → (wanted ≡ None → held ≡ None) → option_or (get made.new.entries (P.path at.now)) held ≡ wanted) }
-    ensures cost { OnOk result (len made.new.entries ≤ len made.old.entries + stored T.PartialEq.eq held wanted) }
-    ensures fresh { OnOk result (get made.old.entries (P.path at.now) ≡ None → are_equal T.PartialEq.eq held (get made.new.entries (P.path at.now)) ≡ false) }
+    ensures beside { OnOk result
+        ((t : List Bool) → t ≢ P.path at.now → get made.new.entries t ≡ get made.old.entries t) }
+    ensures value { OnOk result
+        (((x y : T) → T.PartialEq.eq x y ≡ true → x ≡ y)
+        → get made.old.entries (P.path at.now) ≡ None
+        → (wanted ≡ None → held ≡ None)
+        → option_or (get made.new.entries (P.path at.now)) held ≡ wanted) }
+    ensures cost { OnOk result
+        (len made.new.entries ≤ len made.old.entries + stored T.PartialEq.eq held wanted) }
+    ensures fresh { OnOk result
+        (get made.old.entries (P.path at.now) ≡ None
+        → are_equal T.PartialEq.eq held (get made.new.entries (P.path at.now)) ≡ false) }
 {
     let Some(value) = wanted else {
         return Ok(());

@@ -41,7 +41,9 @@ impl<T: Copy + Ord> Set<T> {
     /// Returns the held value if the set has it, otherwise the set's first value.
     #[inline]
     pub(super) fn best(self, values: &[T], held: Option<T>) -> Option<T>
-        ensures { (xs : List T) → Holds values.now self xs → ((x y : T) → T.PartialEq.eq x y ≡ true → x ≡ y) → result ≡ best_value T.PartialEq.eq xs held }
+        ensures { (xs : List T) → Holds values.now self xs
+            → ((x y : T) → T.PartialEq.eq x y ≡ true → x ≡ y)
+            → result ≡ best_value T.PartialEq.eq xs held }
     {
         match self {
             Set::Missing => None,
@@ -54,7 +56,8 @@ impl<T: Copy + Ord> Set<T> {
 /// Returns the held value if a stored set has it, otherwise the set's first value.
 #[inline]
 fn best_in<T: Copy + Ord>(values: &[T], set: Span, held: Option<T>) -> Option<T>
-    ensures { set.start < set.end → set.end ≤ length values.now → result ≡ best_value T.PartialEq.eq (slice_range values.now set.start set.end) held }
+    ensures { set.start < set.end → set.end ≤ length values.now
+        → result ≡ best_value T.PartialEq.eq (slice_range values.now set.start set.end) held }
 {
     if let Some(value) = held {
         if has(values, set, value) {
@@ -87,9 +90,12 @@ pub(super) fn best_of<T: Copy + Ord, B: Allocator>(
     left: Set<T>,
     right: Set<T>,
 ) -> Result<Set<T>, AllocError>
-    ensures { IfOk result (λ set. (xs ys : List T) → Holds values.old.items left xs → Holds values.old.items right ys
-        → IsStrictlySortedBy T.Ord.cmp xs → IsStrictlySortedBy T.Ord.cmp ys → ((x y : T) → T.PartialEq.eq x y ≡ true → x ≡ y)
-        → Appends values.old.items values.new.items set (joint_values T.PartialEq.eq T.Ord.cmp xs ys)) }
+    ensures { IfOk result
+        (λ set. (xs ys : List T) → Holds values.old.items left xs → Holds values.old.items right ys
+        → IsStrictlySortedBy T.Ord.cmp xs → IsStrictlySortedBy T.Ord.cmp ys
+        → ((x y : T) → T.PartialEq.eq x y ≡ true → x ≡ y)
+        → Appends values.old.items values.new.items set
+        (joint_values T.PartialEq.eq T.Ord.cmp xs ys)) }
 {
     match (left, right) {
         (Set::One(x), Set::One(y)) => best_of_two(values, x, y),
@@ -107,7 +113,9 @@ fn best_of_two<T: Copy + Ord, B: Allocator>(
     x: T,
     y: T,
 ) -> Result<Set<T>, AllocError>
-    ensures { IfOk result (λ set. Appends values.old.items values.new.items set (joint_values T.PartialEq.eq T.Ord.cmp (x ∷ []) (y ∷ []))) }
+    ensures { IfOk result
+        (λ set. Appends values.old.items values.new.items set
+        (joint_values T.PartialEq.eq T.Ord.cmp (x ∷ []) (y ∷ []))) }
 {
     match x.cmp(&y) {
         Ordering::Equal => Ok(Set::One(x)),
@@ -123,8 +131,10 @@ fn best_with<T: Copy + Ord, B: Allocator>(
     x: T,
     set: Span,
 ) -> Result<Set<T>, AllocError>
-    ensures { IfOk result (λ made. (xs : List T) → IsSpanOf values.old.items set xs → IsStrictlySortedBy T.Ord.cmp xs
-        → Appends values.old.items values.new.items made (joint_values T.PartialEq.eq T.Ord.cmp (x ∷ []) xs)) }
+    ensures { IfOk result
+        (λ made. (xs : List T) → IsSpanOf values.old.items set xs → IsStrictlySortedBy T.Ord.cmp xs
+        → Appends values.old.items values.new.items made
+        (joint_values T.PartialEq.eq T.Ord.cmp (x ∷ []) xs)) }
 {
     if has(values.as_slice(), set, x) {
         return Ok(Set::One(x));
@@ -141,7 +151,8 @@ fn push_pair<T: Copy + Ord, B: Allocator>(
     first: T,
     second: T,
 ) -> Result<Set<T>, AllocError>
-    ensures { IfOk result (λ set. Appends values.old.items values.new.items set (first ∷ second ∷ [])) }
+    ensures { IfOk result
+        (λ set. Appends values.old.items values.new.items set (first ∷ second ∷ [])) }
 {
     let start = values.len();
     values.push(first)?;
@@ -156,9 +167,12 @@ fn push_best<T: Copy + Ord, B: Allocator>(
     left: Span,
     right: Span,
 ) -> Result<Set<T>, AllocError>
-    ensures { IfOk result (λ set. (xs ys : List T) → IsSpanOf values.old.items left xs → IsSpanOf values.old.items right ys
+    ensures { IfOk result
+        (λ set. (xs ys : List T) → IsSpanOf values.old.items left xs
+        → IsSpanOf values.old.items right ys
         → IsStrictlySortedBy T.Ord.cmp xs → IsStrictlySortedBy T.Ord.cmp ys
-        → Appends values.old.items values.new.items set (joint_values T.PartialEq.eq T.Ord.cmp xs ys)) }
+        → Appends values.old.items values.new.items set
+        (joint_values T.PartialEq.eq T.Ord.cmp xs ys)) }
 {
     let start = values.len();
     push_shared(values, left, right)?;
@@ -175,8 +189,11 @@ fn push_shared<T: Copy + Ord, B: Allocator>(
     left: Span,
     right: Span,
 ) -> Result<(), AllocError>
-    ensures { IfOk result (λ _. (xs ys : List T) → IsSpanOf values.old.items left xs → IsSpanOf values.old.items right ys
-        → IsStrictlySortedBy T.Ord.cmp xs → IsStrictlySortedBy T.Ord.cmp ys → values.new.items ≡ values.old.items ++ shared_values T.PartialEq.eq xs ys) }
+    ensures { IfOk result
+        (λ _. (xs ys : List T) → IsSpanOf values.old.items left xs
+        → IsSpanOf values.old.items right ys
+        → IsStrictlySortedBy T.Ord.cmp xs → IsStrictlySortedBy T.Ord.cmp ys
+        → values.new.items ≡ values.old.items ++ shared_values T.PartialEq.eq xs ys) }
 {
     let (mut i, mut j) = (left.start, right.start);
     while i < left.end && j < right.end {
@@ -202,8 +219,11 @@ fn push_all<T: Copy + Ord, B: Allocator>(
     left: Span,
     right: Span,
 ) -> Result<(), AllocError>
-    ensures { IfOk result (λ _. (xs ys : List T) → IsSpanOf values.old.items left xs → IsSpanOf values.old.items right ys
-        → shared_values T.PartialEq.eq xs ys ≡ [] → values.new.items ≡ values.old.items ++ sorted_merge T.Ord.cmp true xs ys) }
+    ensures { IfOk result
+        (λ _. (xs ys : List T) → IsSpanOf values.old.items left xs
+        → IsSpanOf values.old.items right ys
+        → shared_values T.PartialEq.eq xs ys ≡ []
+        → values.new.items ≡ values.old.items ++ sorted_merge T.Ord.cmp true xs ys) }
 {
     let (mut i, mut j) = (left.start, right.start);
     while i < left.end && j < right.end {
@@ -228,7 +248,9 @@ fn push_range<T: Copy + Ord, B: Allocator>(
     start: usize,
     end: usize,
 ) -> Result<(), AllocError>
-    ensures { IfOk result (λ _. end ≤ length values.old.items → values.new.items ≡ values.old.items ++ slice_range values.old.items start end) }
+    ensures { IfOk result
+        (λ _. end ≤ length values.old.items
+        → values.new.items ≡ values.old.items ++ slice_range values.old.items start end) }
 {
     for i in start..end {
         if let Some(value) = values.get(i).copied() {
