@@ -1,0 +1,6 @@
+pub mod Along
+pub mod Between
+pub mod Chunks
+pub mod Cutting
+pub mod Matching
+pub mod Merging

@@ -1,0 +1,18 @@
+-- The invariant: the entries so far are right, and `low` is the first address of the next chunk, if there is one.
+use Rattle.std.proofs.Common.{◌≡◌, ◌-◌, ◌*◌, ◌^◌, ◌<◌, length}
+use Rattle.std.specs.Option.{MatchOption}
+use Rattle.prefix_trie_bits.specs.Model.Bits.{number}
+use Rattle.prefix_trie_fib.specs.Index.{IsIndex}
+use Rattle.prefix_trie_fib.specs.Search.{StartsBy}
+use Rattle.prefix_trie_fib.proofs.index.index_of.Given as goal
+
+abbrev pub invariant-loop-low : goal.invariant-loop-low
+invariant-loop-low g l = record {
+  right : IsIndex (2 ^ (g.K.Key.bit_width - l.bits)) l.line l.index.items;
+  by : StartsBy l.line l.first (length l.index.items * 2 ^ (g.K.Key.bit_width - l.bits));
+  next : MatchOption l.low (length l.index.items ≡ 2 ^ l.bits)
+      (λ at. (number (g.K.Key.bits at) ≡ length l.index.items * 2 ^ (g.K.Key.bit_width - l.bits)) × (length l.index.items < 2 ^ l.bits));
+}
+
+abbrev pub decreases-loop-low : goal.decreases-loop-low
+decreases-loop-low g l = 2 ^ l.bits - length l.index.items

@@ -1,0 +1,9 @@
+//! Ranges of addresses: where the longest match of a map can change, and the value of each range.
+
+mod cuts;
+mod line;
+mod merge;
+mod search;
+
+pub use line::Line;
+pub(crate) use search::is_at_most;

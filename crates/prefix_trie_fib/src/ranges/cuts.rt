@@ -1,0 +1,82 @@
+//! Addresses at which the longest match can change.
+ghost use Rattle.std.specs.Prelude.{◌≡◌, ℕ, ◌-◌, ◌<◌, ◌≤◌, ◌++◌, ◌∷◌, [], ◌⊎◌, Contains, IfOk, OnOk, length, slice_index_or};
+ghost use Rattle.std.specs.List.Sorted.{IsNonDecreasingBy, IsPermutation};
+ghost use Rattle.std.specs.Ordering.{nat_cmp};
+ghost use Rattle.prefix_trie_bits.specs.Model.Bits.{number};
+ghost use Rattle.prefix_trie_fib.specs.Line.{IsCutOut, IsRising, numbers};
+
+use super::search::is_at_most;
+use prefix_trie_bits::laws::listing_laws;
+use prefix_trie_bits::prefix::{Key, Prefix};
+use std::alloc::{AllocError, Allocator};
+use std::cmp::Ordering;
+
+/// Appends the first address of a network, and the address after its last one if there is one.
+pub(super) fn push_cuts<P: Prefix, B: Allocator>(
+    cuts: &mut Vec<P::R, B>,
+    prefix: &P,
+) -> Result<(), AllocError>
+    requires { P.IsFitting prefix.now }
+    ensures kept { OnOk result ((n : ℕ) → Contains (numbers P.R.bits cuts.old.items) n → Contains (numbers P.R.bits cuts.new.items) n) }
+    ensures cut { OnOk result (IsCutOut P.R.bit_width (numbers P.R.bits cuts.new.items) (P.path prefix.now)) }
+{
+    let first = prefix.mask();
+    cuts.push(first)?;
+    let len = u32::from(prefix.prefix_len());
+    if len == 0 {
+        return Ok(());
+    }
+    match first.plus(P::R::power(P::R::width() - len)) {
+        Some(past) => Ok(cuts.push(past)?),
+        None => Ok(()),
+    }
+}
+
+/// Sorts keys.
+pub(super) fn sort<K: Key, B: Allocator>(cuts: &mut Vec<K, B>)
+    ensures permutation { IsPermutation cuts.old.items cuts.new.items }
+    ensures up { IsNonDecreasingBy (λ k. number (K.bits k)) cuts.new.items }
+{
+    cuts.sort_unstable_by(|a, b| order(*a, *b));
+}
+
+/// Compares two keys as numbers.
+fn order<K: Key>(a: K, b: K) -> Ordering
+    ensures { result ≡ nat_cmp (number (K.bits a)) (number (K.bits b)) }
+{
+    listing_laws::<()>();
+    let _ = a.is_key();
+    let _ = b.is_key();
+    a.compare(b)
+}
+
+/// Returns sorted keys, each once.
+pub(super) fn distinct<K: Key, B: Allocator>(
+    sorted: &[K],
+    alloc: B,
+) -> Result<Vec<K, B>, AllocError>
+    requires { IsNonDecreasingBy (λ k. number (K.bits k)) sorted.now }
+    ensures rising { IfOk result (λ cuts. IsRising (numbers K.bits cuts.items)) }
+    ensures kept { IfOk result (λ cuts. (n : ℕ) → Contains (numbers K.bits sorted.now) n → Contains (numbers K.bits cuts.items) n) }
+{
+    let mut cuts = Vec::new(alloc);
+    for i in 0..sorted.len() {
+        push_greater(&mut cuts, sorted[i])?;
+    }
+    Ok(cuts)
+}
+
+/// Appends a key that is greater than the last one.
+fn push_greater<K: Key, B: Allocator>(cuts: &mut Vec<K, B>, key: K) -> Result<(), AllocError>
+    ensures { OnOk result (((cuts.new.items ≡ cuts.old.items ++ key ∷ [])
+        × ((d : K) → 0 < length cuts.old.items → number (K.bits (slice_index_or cuts.old.items (length cuts.old.items - 1) d)) < number (K.bits key)))
+        ⊎ ((cuts.new.items ≡ cuts.old.items) × (0 < length cuts.old.items)
+        × ((d : K) → number (K.bits key) ≤ number (K.bits (slice_index_or cuts.old.items (length cuts.old.items - 1) d))))) }
+{
+    let len = cuts.len();
+    if len > 0 && is_at_most(key, cuts[len - 1]) {
+        return Ok(());
+    }
+    cuts.push(key)?;
+    Ok(())
+}
