@@ -153,3 +153,14 @@ has_numbers bits [] ys i all has n (k, lt, is) = absurd (omega (arith, lt))
 has_numbers {K} bits (x ∷ xs) ys i all has n (k, lt, is) =
     let l : length (numbers bits (x ∷ xs)) ≡ length (x ∷ xs) = length-map (x ∷ xs) (λ k. number (bits k)) in
     subst (Contains (numbers bits ys)) (sym (get_or-map-at (λ k. number (bits k)) (x ∷ xs) k x n (omega (arith, lt, l))) ∙ is) (has k x (omega (arith, lt, l, all)))
+
+-- one more value, of the next key
+pub values_pushed : {K X : Type 0} (f : K → X) (keys : List K) (xs : List X) (i : ℕ) (key : K) (x : X) → length xs ≡ i → i < length keys → key ≡ get_or keys i key → x ≡ f key
+    → ((k : ℕ) (d : K) (v : X) → k < i → get_or xs k v ≡ f (get_or keys k d)) → (k : ℕ) (d : K) (v : X) → k < i + 1 → get_or (xs ++ x ∷ []) k v ≡ f (get_or keys k d)
+values_pushed {K} {X} f keys xs i key x long inside is value so_far k d v lt = elim (cases_lt k i) [
+  | inl old ↦ get_or_append_left xs (x ∷ []) v k (omega (arith, old, long)) ∙ so_far k d v old
+  | inr at ↦
+      let e : k ≡ length xs = omega (arith, lt, at, long) in
+      let e' : i ≡ k = omega (arith, lt, at) in
+      ap (λ j. get_or (xs ++ x ∷ []) j v) e ∙ get_or-append_seam xs x [] v ∙ value ∙ ap f (is ∙ get_or-any keys i key d inside ∙ ap (λ j. get_or keys j d) e')
+]

@@ -1,3 +1,4 @@
+pub mod Compiled
 pub mod Index
 pub mod Line
 pub mod Search

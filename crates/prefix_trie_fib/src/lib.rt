@@ -1,5 +1,8 @@
 //! Longest-prefix match of addresses in a table that does not change.
 #![tactic(auto)]
 
+mod fib;
 mod index;
 pub mod ranges;
+
+pub use fib::Fib;

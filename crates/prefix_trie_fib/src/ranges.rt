@@ -3,7 +3,9 @@
 mod cuts;
 mod line;
 mod merge;
+mod of_map;
 mod search;
 
 pub use line::Line;
+pub(crate) use of_map::ranges_of;
 pub(crate) use search::is_at_most;

@@ -1,0 +1,12 @@
+-- The ranges between the cuts of a map have its longest matches.
+use Rattle.std.proofs.Common.{◌≡◌, ◌∙◌, Option, List, subst, sym}
+use Rattle.prefix_trie_bits.specs.Model.Bits.{number}
+use Rattle.prefix_trie_fib.specs.Line.{AreCutsOf, AreValuesAt}
+use Rattle.prefix_trie_fib.proofs.ranges.of_map.ranges_of.Goals as goal
+
+pub returns-clause-values : goal.returns-clause-values
+returns-clause-values g c = λ exact q long.
+    let m = c.args.map.now.entries in
+    let cuts = subst (λ ks. AreCutsOf g.P.R.Key.bit_width g.P.R.Key.bits m ks) (sym c.deref-2.ensures.value) c.in_ok-cuts.ensures.cuts in
+    let values = subst (λ ks. AreValuesAt g.P.R.Key.bits m ks c.in_ok-values.values.items) (c.deref.ensures.value ∙ sym c.deref-2.ensures.value) c.in_ok-values.ensures.values in
+    c.in_ok-line_of.ensures.values m cuts (subst (AreValuesAt g.P.R.Key.bits m c.deref-2.result.now) (sym c.deref-3.ensures.value) values) exact q long

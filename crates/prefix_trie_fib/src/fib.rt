@@ -1,0 +1,103 @@
+//! A table of longest matches that is compiled from a map.
+ghost use Rattle.std.specs.Prelude.{◌≡◌, ◌<◌, ◌≤◌, Bool, IfOk, List, None, Option, OnErr, length, true};
+ghost use Rattle.prefix_trie_bits.specs.Model.Bits.{number};
+ghost use Rattle.prefix_trie_fib.specs.Line.{AreMerged, IsDivision, are_same, value_along, value_of};
+
+use crate::index::{Chunk, chunk_of, index_bits, index_of};
+use crate::ranges::{Line, ranges_of};
+use prefix_trie_bits::prefix::{Key, Prefix, Refusal};
+use prefix_trie_map::map::PrefixMap;
+use std::alloc::{AllocError, Allocator};
+use std::marker::Model;
+
+/// The longest match of each address in a map, as ranges of addresses.
+///
+/// A lookup reads an index by the first bits of the address, and then the few ranges that begin with these bits. The
+/// table does not change: compile a new one from the changed map.
+///
+/// # Examples
+///
+/// ```rust
+/// // map = {10.0.0.0/8: 1, 10.1.0.0/16: 2}
+/// let fib = Fib::new(&map, alloc)?;
+/// fib.lookup(0x0a010203);     // Some(2)
+/// fib.lookup(0x0b000000);     // None
+/// ```
+#[derive(Drop)]
+pub struct Fib<P: Prefix, T: Copy + PartialEq, A: Allocator> {
+    line: Line<P::R, T, A>,
+    index: Vec<Chunk<T>, A>,
+    bits: u32,
+}
+
+// a contract sees the first address of each range, as a number, and its value
+impl<P: Prefix, T: Copy + PartialEq, A: Allocator> Model for Fib<P, T, A> {
+    ghost use Rattle.std.specs.Prelude.{List, ℕ, Option};
+    ghost use Rattle.prefix_trie_fib.specs.Compiled.{IsCompiled};
+
+    ghost Value = { List (ℕ × Option T) };
+
+    ghost view = { λ fib. fib.line };
+
+    ghost invariant = { λ fib. IsCompiled T.PartialEq.eq P.R.bit_width fib.line fib.index.items fib.bits };
+}
+
+impl<P: Prefix, T: Copy + PartialEq, A: Allocator + Clone> Fib<P, T, A> {
+    /// Compiles a map.
+    ///
+    /// The time is that of two lookups for each entry, and of a sort.
+    ///
+    /// # Errors
+    ///
+    /// Returns `Memory` if an allocation fails, and `IndexRange` if there are 2^32 ranges or more. No table exists then.
+    ///
+    /// # Examples
+    ///
+    /// ```rust
+    /// // map = {10.0.0.0/8: 1, 10.1.0.0/16: 2}
+    /// Fib::new(&map, alloc)?.len();   // 5: up to 10.0.0.0, two around 10.1.0.0/16, that one, and from 11.0.0.0 on
+    /// ```
+    pub fn new<M: Allocator>(map: &PrefixMap<P, T, M>, alloc: A) -> Result<Self, Refusal>
+        ensures division { IfOk result (λ fib. IsDivision fib) }
+        ensures merged { IfOk result (λ fib. AreMerged (are_same T.PartialEq.eq) fib) }
+        // Values that `==` calls equal are the same.
+        ensures values { IfOk result (λ fib. ((x y : T) → T.PartialEq.eq x y ≡ true → x ≡ y)
+            → (q : List Bool) → length q ≡ P.R.bit_width → value_along None fib (number q) ≡ value_of map.now.entries q) }
+    {
+        let first = alloc.clone().map_err(|_| Refusal::Memory)?;
+        let second = alloc.clone().map_err(|_| Refusal::Memory)?;
+        let line = ranges_of(map, first).map_err(|_| Refusal::Memory)?;
+        if line.len() > u32::MAX as usize {
+            return Err(Refusal::IndexRange);
+        }
+        let bits = index_bits(line.len(), P::num_bits());
+        let index = index_of(&line, bits, second).map_err(|_| Refusal::Memory)?;
+        Ok(Fib { line, index, bits })
+    }
+}
+
+impl<P: Prefix, T: Copy + PartialEq, A: Allocator> Fib<P, T, A> {
+    /// Returns the value of the longest match of an address.
+    ///
+    /// # Examples
+    ///
+    /// ```rust
+    /// // map = {10.0.0.0/8: 1, 10.1.0.0/16: 2}
+    /// Fib::new(&map, alloc)?.lookup(0x0a020304);      // Some(1)
+    /// ```
+    #[inline]
+    pub fn lookup(&self, address: P::R) -> Option<T>
+        ensures { result ≡ value_along None self.now (number (P.R.bits address)) }
+    {
+        let _ = address.is_key();
+        let chunk = chunk_of(address, self.bits);
+        self.index[chunk].value(&self.line, address)
+    }
+
+    /// Returns the number of ranges, with those that have no value.
+    pub fn len(&self) -> usize
+        ensures { result ≡ length self.now }
+    {
+        self.line.len()
+    }
+}

@@ -1,0 +1,84 @@
+//! The ranges of a map.
+ghost use Rattle.std.specs.Prelude.{◌≡◌, ◌<◌, Bool, List, None, Option, IfOk, length, true};
+ghost use Rattle.prefix_trie_bits.specs.Model.Bits.{number};
+ghost use Rattle.prefix_trie_fib.specs.Line.{AreCutsOf, AreMerged, AreValuesAt, IsDivision, IsRising, are_same, numbers, value_along, value_of};
+
+use super::Line;
+use super::cuts::{distinct, push_cuts, sort};
+use super::merge::line_of;
+use prefix_trie_bits::laws::listing_laws;
+use prefix_trie_bits::prefix::{Key, Prefix};
+use prefix_trie_map::laws::listed_laws;
+use prefix_trie_map::map::PrefixMap;
+use std::alloc::{AllocError, Allocator};
+
+/// Returns the ranges of addresses that have one longest match each, as few as there are.
+pub(crate) fn ranges_of<P: Prefix, T: Copy + PartialEq, A: Allocator, B: Allocator + Clone>(
+    map: &PrefixMap<P, T, A>,
+    alloc: B,
+) -> Result<Line<P::R, T, B>, AllocError>
+    ensures division { IfOk result (λ line. IsDivision line) }
+    ensures merged { IfOk result (λ line. AreMerged (are_same T.PartialEq.eq) line) }
+    // Values that `==` calls equal are the same.
+    ensures values { IfOk result (λ line. ((x y : T) → T.PartialEq.eq x y ≡ true → x ≡ y)
+        → (q : List Bool) → length q ≡ P.R.bit_width → value_along None line (number q) ≡ value_of map.now.entries q) }
+{
+    let cuts = cuts_of(map, alloc.clone()?)?;
+    let values = values_at(map, &cuts, alloc.clone()?)?;
+    Ok(line_of(&cuts, &values, alloc)?)
+}
+
+/// Returns, in order and each once: 0, the first address of each network, and the address after its last one.
+fn cuts_of<P: Prefix, T: Drop, A: Allocator, B: Allocator + Clone>(
+    map: &PrefixMap<P, T, A>,
+    alloc: B,
+) -> Result<Vec<P::R, B>, AllocError>
+    ensures rising { IfOk result (λ cuts. IsRising (numbers P.R.bits cuts.items)) }
+    ensures cuts { IfOk result (λ cuts. AreCutsOf P.R.bit_width P.R.bits map.now.entries cuts.items) }
+{
+    let mut cuts = unsorted_cuts(map, alloc.clone()?)?;
+    sort(&mut cuts);
+    Ok(distinct(&cuts, alloc)?)
+}
+
+/// Returns these addresses in the order of the networks.
+fn unsorted_cuts<P: Prefix, T: Drop, A: Allocator, B: Allocator>(
+    map: &PrefixMap<P, T, A>,
+    alloc: B,
+) -> Result<Vec<P::R, B>, AllocError>
+    ensures { IfOk result (λ cuts. AreCutsOf P.R.bit_width P.R.bits map.now.entries cuts.items) }
+{
+    listed_laws::<P, T>();
+    listing_laws::<T>();
+    let mut cuts = Vec::new(alloc);
+    cuts.push(P::R::zero())?;
+    for (prefix, _) in map.iter() {
+        push_cuts(&mut cuts, &prefix)?;
+    }
+    Ok(cuts)
+}
+
+/// Returns the value of the longest match of each address.
+fn values_at<P: Prefix, T: Copy, A: Allocator, B: Allocator>(
+    map: &PrefixMap<P, T, A>,
+    cuts: &[P::R],
+    alloc: B,
+) -> Result<Vec<Option<T>, B>, AllocError>
+    ensures same_length { IfOk result (λ values. length values.items ≡ length cuts.now) }
+    ensures values { IfOk result (λ values. AreValuesAt P.R.bits map.now.entries cuts.now values.items) }
+{
+    let mut values = Vec::with_capacity(alloc, cuts.len())?;
+    for i in 0..cuts.len() {
+        values.push(value_for(map, cuts[i]))?;
+    }
+    Ok(values)
+}
+
+/// Returns the value of the longest match of an address.
+fn value_for<P: Prefix, T: Copy, A: Allocator>(map: &PrefixMap<P, T, A>, address: P::R) -> Option<T>
+    ensures { result ≡ value_of map.now.entries (P.R.bits address) }
+{
+    let _ = address.is_key();
+    let prefix = P::from_repr_len(address, P::num_bits() as u8);
+    map.get_lpm_value(&prefix).copied()
+}
