@@ -1,5 +1,5 @@
 -- The value of an address in a division of the line: which range decides, and how it changes when a range is appended.
-use Rattle.std.proofs.Common.{◌≡◌, ◌∙◌, zero, suc, ℕ, ◌+◌, ◌-◌, ◌<◌, ◌≤◌, Bool, false, cond, List, [], ◌∷◌, ◌++◌, length, length-append, get_or, inl, inr, ap, subst, arith, refl, leb}
+use Rattle.std.proofs.Common.{◌≡◌, ◌∙◌, zero, suc, ℕ, ◌+◌, ◌-◌, ◌<◌, ◌≤◌, Bool, false, cond, List, [], ◌∷◌, ◌++◌, length, length-append, get_or, inl, inr, ap, subst, arith, refl, leb, ap₂, sym}
 use Rattle.std.proofs.lemmas.Bool.{le-leb, lt-leb, cases_lt}
 use Rattle.std.proofs.lemmas.List.{get_or_append_left}
 use Rattle.std.proofs.Math.Seq.{get_or-append_seam}
@@ -219,3 +219,9 @@ module _ {V : Type 0} where
             ∙ ap (λ x. same (get_or rs k d).1 x.1) (get_or-append_seam rs r [] d)
             ∙ ap (λ j. same (get_or rs j d).1 r.1) at ∙ differs d (omega (arith, k_in))
       ]
+
+  -- one range alone divides the line if it starts at 0
+  pub single : (rs : List (ℕ × V)) (v : V) → IsDivision rs → length rs ≡ 1 → ((d : ℕ × V) → v ≡ (get_or rs 0 d).1) → rs ≡ (0, v) ∷ []
+  single [] v division long is = absurd (omega (arith, long))
+  single (x ∷ []) v division long is = ap (λ r. r ∷ []) (ap₂ {A = ℕ} {B = V} (λ a b. (a, b)) (division.first x) (sym (is x)))
+  single (x ∷ y ∷ rs) v division long is = absurd (omega (arith, long))

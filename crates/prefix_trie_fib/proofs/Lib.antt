@@ -4,3 +4,4 @@ pub mod Chunks
 pub mod Cutting
 pub mod Matching
 pub mod Merging
+pub mod Results

@@ -1,5 +1,5 @@
 -- What a compiled table keeps: ranges that divide the line and are merged, and an index of them.
-use Rattle.std.specs.Prelude.{◌≡◌, ℕ, ◌-◌, ◌^◌, ◌<◌, ◌≤◌, Bool, List, length, Option}
+use Rattle.std.specs.Prelude.{◌≡◌, ℕ, ◌-◌, ◌^◌, ◌≤◌, Bool, List, length, Option}
 use Rattle.prefix_trie_fib.specs.declared.index.chunk.Chunk.{Chunk}
 use Rattle.prefix_trie_fib.specs.Index.{IsIndex}
 use Rattle.prefix_trie_fib.specs.Line.{AreMerged, IsDivision, are_same}

@@ -1,7 +1,9 @@
 //! A table of longest matches that is compiled from a map.
-ghost use Rattle.std.specs.Prelude.{◌≡◌, ◌<◌, ◌≤◌, Bool, IfOk, List, None, Option, OnErr, length, true};
+ghost use Rattle.std.specs.Prelude.{◌≡◌, ℕ, ◌+◌, ◌^◌, ◌<◌, ◌≤◌, ◌↔◌, ◌∷◌, [], Bool, IfOk, IsTrue, List, MatchOption, None, Option, length, slice_index_or, true};
 ghost use Rattle.prefix_trie_bits.specs.Model.Bits.{number};
 ghost use Rattle.prefix_trie_fib.specs.Line.{AreMerged, IsDivision, are_same, value_along, value_of};
+
+mod bulk;
 
 use crate::index::{Chunk, chunk_of, index_bits, index_of};
 use crate::ranges::{Line, ranges_of};
@@ -95,9 +97,64 @@ impl<P: Prefix, T: Copy + PartialEq, A: Allocator> Fib<P, T, A> {
     }
 
     /// Returns the number of ranges, with those that have no value.
+    ///
+    /// # Examples
+    ///
+    /// ```rust
+    /// // map = {10.0.0.0/8: 1}
+    /// Fib::new(&map, alloc)?.len();       // 3
+    /// ```
     pub fn len(&self) -> usize
         ensures { result ≡ length self.now }
     {
         self.line.len()
+    }
+
+    /// Returns whether no address has a value.
+    ///
+    /// # Examples
+    ///
+    /// ```rust
+    /// // map = {}
+    /// Fib::new(&map, alloc)?.is_empty();  // true
+    /// ```
+    pub fn is_empty(&self) -> bool
+        ensures { IsTrue result ↔ (self.now ≡ (0, None) ∷ []) }
+    {
+        self.line.len() == 1 && self.line.value(0).is_none()
+    }
+
+    /// Returns a range: its first address, the address after its last one, and its value.
+    ///
+    /// The second is `None` if the range ends at the last address. Ranges are in order, and each begins where the one
+    /// before it ends. Requires that `i` is below the number of ranges.
+    ///
+    /// # Examples
+    ///
+    /// ```rust
+    /// // map = {10.0.0.0/8: 1}
+    /// Fib::new(&map, alloc)?.range(1);    // (0x0a000000, Some(0x0b000000), Some(1))
+    /// ```
+    pub fn range(&self, i: usize) -> (P::R, Option<P::R>, Option<T>)
+        requires { i < length self.now }
+        ensures first { (d : ℕ × Option T) → number (P.R.bits result.0) ≡ (slice_index_or self.now i d).0 }
+        ensures past { MatchOption result.1 (i + 1 ≡ length self.now)
+            (λ past. (i + 1 < length self.now) × ((d : ℕ × Option T) → number (P.R.bits past) ≡ (slice_index_or self.now (i + 1) d).0)) }
+        ensures value { (d : ℕ × Option T) → result.2 ≡ (slice_index_or self.now i d).1 }
+    {
+        let len = self.line.len();
+        let past = if i + 1 < len {
+            Some(self.line.start(i + 1))
+        } else {
+            None
+        };
+        (self.line.start(i), past, self.line.value(i))
+    }
+
+    /// Returns the number of entries of the index. Each takes the size of a value and a number of 32 bits.
+    pub fn index_slots(&self) -> usize
+        ensures { result ≤ 2 ^ 20 }
+    {
+        self.index.len()
     }
 }

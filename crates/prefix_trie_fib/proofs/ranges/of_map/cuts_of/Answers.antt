@@ -1,5 +1,5 @@
 -- The cuts in order, each once, cut out what the unsorted ones do.
-use Rattle.std.proofs.Common.{◌≡◌, ap, subst, sym}
+use Rattle.std.proofs.Common.{subst, sym}
 use Rattle.std.specs.List.{Contains}
 use Rattle.prefix_trie_fib.specs.Line.{numbers}
 use Rattle.prefix_trie_fib.proofs.Cutting.{cuts_with, same_numbers}

@@ -1,6 +1,5 @@
 -- The ranges between the cuts of a map have its longest matches.
-use Rattle.std.proofs.Common.{◌≡◌, ◌∙◌, Option, List, subst, sym}
-use Rattle.prefix_trie_bits.specs.Model.Bits.{number}
+use Rattle.std.proofs.Common.{◌∙◌, subst, sym}
 use Rattle.prefix_trie_fib.specs.Line.{AreCutsOf, AreValuesAt}
 use Rattle.prefix_trie_fib.proofs.ranges.of_map.ranges_of.Goals as goal
 

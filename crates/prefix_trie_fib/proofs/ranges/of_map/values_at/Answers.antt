@@ -1,5 +1,5 @@
 -- One more value, and at the end one for each address.
-use Rattle.std.proofs.Common.{◌≡◌, ◌∙◌, ◌+◌, ◌∷◌, [], ap, arith, length, length-append, subst, sym, get_or}
+use Rattle.std.proofs.Common.{◌∙◌, ◌∷◌, [], ap, arith, length, length-append, get_or}
 use Rattle.prefix_trie_fib.specs.Line.{value_of}
 use Rattle.prefix_trie_fib.proofs.Cutting.{values_pushed}
 use Rattle.prefix_trie_fib.proofs.ranges.of_map.values_at.Goals as goal
