@@ -225,3 +225,22 @@ module _ {V : Type 0} where
   single [] v division long is = absurd (omega (arith, long))
   single (x ∷ []) v division long is = ap (λ r. r ∷ []) (ap₂ {A = ℕ} {B = V} (λ a b. (a, b)) (division.first x) (sym (is x)))
   single (x ∷ y ∷ rs) v division long is = absurd (omega (arith, long))
+
+  -- an address is in one range only
+  pub one_range : (rs : List (ℕ × V)) → IsDivision rs → (d : ℕ × V) (i j n : ℕ) → IsRangeOf rs i n → IsRangeOf rs j n → i ≡ j
+  one_range rs division d i j n a b = elim (cases_lt i j) [
+    | inl before ↦ absurd (not_after i j a b before)
+    | inr least ↦ elim (cases_lt j i) [
+        | inl after ↦ absurd (not_after j i b a after)
+        | inr at ↦ omega (arith, least, at)
+      ]
+  ]
+    where
+      not_after : (i j : ℕ) → IsRangeOf rs i n → IsRangeOf rs j n → i < j → ⊥
+      not_after i j a b before =
+          let starts = b.starts.by d in
+          let ends = a.ends d (omega (arith, before, b.starts.inside)) in
+          elim (cases_lt (i + 1) j) [
+            | inl more ↦ (let u = division.rising (i + 1) j d more b.starts.inside in omega (arith, starts, ends, u))
+            | inr at ↦ (let e : i + 1 ≡ j = omega (arith, before, at) in omega (arith, starts, ends, ap (λ k. (get_or rs k d).0) e))
+          ]

@@ -1,4 +1,5 @@
 pub mod Compiled
 pub mod Index
+pub mod Laws
 pub mod Line
 pub mod Search

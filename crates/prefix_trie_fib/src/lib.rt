@@ -3,6 +3,7 @@
 
 mod fib;
 mod index;
+pub mod laws;
 pub mod ranges;
 
 pub use fib::Fib;

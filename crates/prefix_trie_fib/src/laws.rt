@@ -1,0 +1,14 @@
+//! Lemmas for a caller's own contracts about compiled tables.
+//!
+//! Each function does nothing at run time. Calling it brings a record of laws into the caller's proof.
+ghost use Rattle.prefix_trie_fib.specs.Laws.{FibLaws};
+
+use prefix_trie_bits::prefix::Prefix;
+
+/// Brings the laws of compiled tables into the proof.
+///
+/// A table whose values are those of a map has the value of the longest match at each address. An address is in one
+/// range only, which has its value.
+pub fn fib_laws<P: Prefix, T>()
+    ensures { FibLaws T P.R.bit_width P.R.IsKey P.R.bits }
+{}
