@@ -231,9 +231,9 @@ module _ {V : Type 0} where
   one_range rs division d i j n a b = elim (cases_lt i j) [
     | inl before ↦ absurd (not_after i j a b before)
     | inr least ↦ elim (cases_lt j i) [
-        | inl after ↦ absurd (not_after j i b a after)
-        | inr at ↦ omega (arith, least, at)
-      ]
+      | inl after ↦ absurd (not_after j i b a after)
+      | inr at ↦ omega (arith, least, at)
+    ]
   ]
     where
       not_after : (i j : ℕ) → IsRangeOf rs i n → IsRangeOf rs j n → i < j → ⊥

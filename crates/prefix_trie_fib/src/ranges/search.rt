@@ -46,7 +46,7 @@ impl<K: Key, T: Copy, A: Allocator> Line<K, T, A> {
         self.range_after(at, address)
     }
 
-    /// Returns the range of an address by halving the ranges from `first` on.
+    /// Returns the range of an address by halving the ranges from `first` on that can be it.
     ///
     /// Requires that the range `first` starts at the address or before it.
     fn range_after(&self, first: usize, address: K) -> usize
@@ -54,8 +54,10 @@ impl<K: Key, T: Copy, A: Allocator> Line<K, T, A> {
         requires by { StartsBy self.now first (number (K.bits address)) }
         ensures { IsRangeOf self.now result (number (K.bits address)) }
     {
+        // The proof learns from it that the number of ranges fits.
+        let _ = self.len();
         let mut base = first;
-        let mut size = self.len() - first;
+        let mut size = self.reach(first, address);
         while size > 1 {
             let half = size / 2;
             let middle = base + half;
@@ -67,5 +69,28 @@ impl<K: Key, T: Copy, A: Allocator> Line<K, T, A> {
             size -= half;
         }
         base
+    }
+
+    /// Returns how many ranges from `first` on can be that of an address, by doubling their number.
+    ///
+    /// Requires that the range `first` starts at the address or before it.
+    fn reach(&self, first: usize, address: K) -> usize
+        requires division { IsDivision self.now }
+        requires by { StartsBy self.now first (number (K.bits address)) }
+        ensures some { 0 < result }
+        ensures inside { first + result ≤ length self.now }
+        ensures above { (k : ℕ) (d : ℕ × Option T) → first + result ≤ k → k < length self.now
+            → number (K.bits address) < (slice_index_or self.now k d).0 }
+    {
+        let left = self.len() - first;
+        let mut count = 1;
+        while count < left {
+            if is_at_most(self.start(first + count), address) {
+                count += count.min(left - count);
+            } else {
+                return count;
+            }
+        }
+        left
     }
 }
