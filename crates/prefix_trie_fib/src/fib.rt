@@ -133,7 +133,7 @@ impl<P: Prefix, T: Copy + PartialEq, A: Allocator> Fib<P, T, A> {
     ///
     /// ```rust
     /// // map = {10.0.0.0/8: 1}
-    /// Fib::new(&map, alloc)?.range(1);    // (0x0a000000, Some(0x0b000000), Some(1))
+    /// Fib::new(&map, alloc)?.range(1);    // (167772160, Some(184549376), Some(1)): from 10.0.0.0 up to 11.0.0.0
     /// ```
     pub fn range(&self, i: usize) -> (P::R, Option<P::R>, Option<T>)
         requires { i < length self.now }
@@ -151,7 +151,14 @@ impl<P: Prefix, T: Copy + PartialEq, A: Allocator> Fib<P, T, A> {
         (self.line.start(i), past, self.line.value(i))
     }
 
-    /// Returns the number of entries of the index. Each takes the size of a value and a number of 32 bits.
+    /// Returns the number of entries of the index. Each takes the size of a value and a tag.
+    ///
+    /// # Examples
+    ///
+    /// ```rust
+    /// // map = {10.0.0.0/8: 1}
+    /// Fib::new(&map, alloc)?.index_slots();   // 256
+    /// ```
     pub fn index_slots(&self) -> usize
         ensures { result ≤ 2 ^ 20 }
     {

@@ -16,9 +16,10 @@ impl<P: Prefix, T: Copy + PartialEq, A: Allocator> Fib<P, T, A> {
     ///
     /// ```rust
     /// // map = {10.0.0.0/8: 1, 10.1.0.0/16: 2}
+    /// let fib = Fib::new(&map, alloc)?;
     /// let mut out = [None, None];
     /// fib.lookup_bulk(&[0x0a010203, 0x0b000000], &mut out);
-    /// out;    // [Some(2), None]
+    /// out.iter();     // [Some(2), None]
     /// ```
     pub fn lookup_bulk(&self, addresses: &[P::R], out: &mut [Option<T>])
         requires { length out.old ≡ length addresses.now }
