@@ -1,3 +1,4 @@
+-- The lemmas of this crate: cuts of the line of addresses, ranges, searches, and the index.
 pub mod Along
 pub mod Between
 pub mod Chunks

@@ -1,3 +1,4 @@
+-- The definitions of this crate: divisions of the line of addresses, searches, the index, and laws.
 pub mod Compiled
 pub mod Index
 pub mod Laws

@@ -41,7 +41,8 @@ impl<P: Prefix, T: Copy + PartialEq, A: Allocator> Model for Fib<P, T, A> {
 
     ghost view = { λ fib. fib.line };
 
-    ghost invariant = { λ fib. IsCompiled T.PartialEq.eq P.R.bit_width fib.line fib.index.items fib.bits };
+    ghost invariant = { λ fib. IsCompiled T.PartialEq.eq P.R.bit_width fib.line fib.index.items
+        fib.bits };
 }
 
 impl<P: Prefix, T: Copy + PartialEq, A: Allocator + Clone> Fib<P, T, A> {
@@ -64,7 +65,8 @@ impl<P: Prefix, T: Copy + PartialEq, A: Allocator + Clone> Fib<P, T, A> {
         ensures merged { IfOk result (λ fib. AreMerged (are_same T.PartialEq.eq) fib) }
         // Values that `==` calls equal are the same.
         ensures values { IfOk result (λ fib. ((x y : T) → T.PartialEq.eq x y ≡ true → x ≡ y)
-            → (q : List Bool) → length q ≡ P.R.bit_width → value_along None fib (number q) ≡ value_of map.now.entries q) }
+            → (q : List Bool) → length q ≡ P.R.bit_width
+            → value_along None fib (number q) ≡ value_of map.now.entries q) }
     {
         let first = alloc.clone().map_err(|_| Refusal::Memory)?;
         let second = alloc.clone().map_err(|_| Refusal::Memory)?;
@@ -137,9 +139,12 @@ impl<P: Prefix, T: Copy + PartialEq, A: Allocator> Fib<P, T, A> {
     /// ```
     pub fn range(&self, i: usize) -> (P::R, Option<P::R>, Option<T>)
         requires { i < length self.now }
-        ensures first { (d : ℕ × Option T) → number (P.R.bits result.0) ≡ (slice_index_or self.now i d).0 }
+        ensures first { (d : ℕ × Option T)
+            → number (P.R.bits result.0) ≡ (slice_index_or self.now i d).0 }
         ensures past { MatchOption result.1 (i + 1 ≡ length self.now)
-            (λ past. (i + 1 < length self.now) × ((d : ℕ × Option T) → number (P.R.bits past) ≡ (slice_index_or self.now (i + 1) d).0)) }
+            (λ past. (i + 1 < length self.now)
+            × ((d : ℕ × Option T)
+            → number (P.R.bits past) ≡ (slice_index_or self.now (i + 1) d).0)) }
         ensures value { (d : ℕ × Option T) → result.2 ≡ (slice_index_or self.now i d).1 }
     {
         let len = self.line.len();

@@ -2,7 +2,7 @@
 ghost use Rattle.std.specs.Prelude.{◌≡◌, ℕ, ◌+◌, ◌*◌, ◌-◌, ◌^◌, ◌<◌, ◌≤◌, ◌++◌, IfOk, IfSome, IsSomeAnd, None, Option, length, slice_index_or, take, true};
 ghost use Rattle.prefix_trie_bits.specs.Model.Bits.{number, zeros};
 ghost use Rattle.prefix_trie_fib.specs.Index.{IsChunk, IsIndex};
-ghost use Rattle.prefix_trie_fib.specs.Line.{IsDivision, value_along};
+ghost use Rattle.prefix_trie_fib.specs.Line.{IsDivision};
 ghost use Rattle.prefix_trie_fib.specs.Search.{StartsBy};
 
 mod chunk;
@@ -53,7 +53,8 @@ fn chunk_at<K: Key, T: Copy, A: Allocator>(
     requires division { IsDivision line.now }
     requires few { length line.now < 2 ^ 32 }
     requires inside { first < length line.now }
-    ensures { (low high : ℕ) → StartsBy line.now first low → IfSome next (λ k. high ≤ number (K.bits k)) → IsChunk line.now low high result }
+    ensures { (low high : ℕ) → StartsBy line.now first low
+        → IfSome next (λ k. high ≤ number (K.bits k)) → IsChunk line.now low high result }
 {
     if is_alone(line, first, next) {
         match line.value(first) {

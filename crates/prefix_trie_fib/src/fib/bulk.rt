@@ -23,7 +23,8 @@ impl<P: Prefix, T: Copy + PartialEq, A: Allocator> Fib<P, T, A> {
     /// ```
     pub fn lookup_bulk(&self, addresses: &[P::R], out: &mut [Option<T>])
         requires { length out.old ≡ length addresses.now }
-        ensures { out.new ≡ map (λ a. value_along None self.now (number (P.R.bits a))) addresses.now }
+        ensures { out.new
+            ≡ map (λ a. value_along None self.now (number (P.R.bits a))) addresses.now }
     {
         for i in 0..addresses.len() {
             out[i] = self.lookup(addresses[i]);

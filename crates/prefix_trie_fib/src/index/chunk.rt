@@ -24,7 +24,8 @@ impl<T: Copy> Chunk<T> {
     #[inline(always)]
     pub(crate) fn value<K: Key, A: Allocator>(self, line: &Line<K, T, A>, address: K) -> Option<T>
         requires division { IsDivision line.now }
-        requires right { (low : ℕ) × (high : ℕ) × IsChunk line.now low high self × (low ≤ number (K.bits address)) × (number (K.bits address) < high) }
+        requires right { (low : ℕ) × (high : ℕ) × IsChunk line.now low high self
+            × (low ≤ number (K.bits address)) × (number (K.bits address) < high) }
         ensures { result ≡ value_along None line.now (number (K.bits address)) }
     {
         match self {

@@ -17,8 +17,11 @@ pub(super) fn push_cuts<P: Prefix, B: Allocator>(
     prefix: &P,
 ) -> Result<(), AllocError>
     requires { P.IsFitting prefix.now }
-    ensures kept { OnOk result ((n : ℕ) → Contains (numbers P.R.bits cuts.old.items) n → Contains (numbers P.R.bits cuts.new.items) n) }
-    ensures cut { OnOk result (IsCutOut P.R.bit_width (numbers P.R.bits cuts.new.items) (P.path prefix.now)) }
+    ensures kept { OnOk result
+        ((n : ℕ) → Contains (numbers P.R.bits cuts.old.items) n
+        → Contains (numbers P.R.bits cuts.new.items) n) }
+    ensures cut { OnOk result
+        (IsCutOut P.R.bit_width (numbers P.R.bits cuts.new.items) (P.path prefix.now)) }
 {
     let first = prefix.mask();
     cuts.push(first)?;
@@ -57,7 +60,9 @@ pub(super) fn distinct<K: Key, B: Allocator>(
 ) -> Result<Vec<K, B>, AllocError>
     requires { IsNonDecreasingBy (λ k. number (K.bits k)) sorted.now }
     ensures rising { IfOk result (λ cuts. IsRising (numbers K.bits cuts.items)) }
-    ensures kept { IfOk result (λ cuts. (n : ℕ) → Contains (numbers K.bits sorted.now) n → Contains (numbers K.bits cuts.items) n) }
+    ensures kept { IfOk result
+        (λ cuts. (n : ℕ) → Contains (numbers K.bits sorted.now) n
+        → Contains (numbers K.bits cuts.items) n) }
 {
     let mut cuts = Vec::new(alloc);
     for i in 0..sorted.len() {
@@ -69,9 +74,12 @@ pub(super) fn distinct<K: Key, B: Allocator>(
 /// Appends a key that is greater than the last one.
 fn push_greater<K: Key, B: Allocator>(cuts: &mut Vec<K, B>, key: K) -> Result<(), AllocError>
     ensures { OnOk result (((cuts.new.items ≡ cuts.old.items ++ key ∷ [])
-        × ((d : K) → 0 < length cuts.old.items → number (K.bits (slice_index_or cuts.old.items (length cuts.old.items - 1) d)) < number (K.bits key)))
+        × ((d : K) → 0 < length cuts.old.items
+        → number (K.bits (slice_index_or cuts.old.items (length cuts.old.items - 1) d))
+        < number (K.bits key)))
         ⊎ ((cuts.new.items ≡ cuts.old.items) × (0 < length cuts.old.items)
-        × ((d : K) → number (K.bits key) ≤ number (K.bits (slice_index_or cuts.old.items (length cuts.old.items - 1) d))))) }
+        × ((d : K) → number (K.bits key)
+        ≤ number (K.bits (slice_index_or cuts.old.items (length cuts.old.items - 1) d))))) }
 {
     let len = cuts.len();
     if len > 0 && is_at_most(key, cuts[len - 1]) {

@@ -22,9 +22,12 @@ pub(crate) fn line_of<K: Key, T: Copy + PartialEq, B: Allocator>(
     ensures division { IfOk result (λ line. IsDivision line) }
     ensures merged { IfOk result (λ line. AreMerged (are_same T.PartialEq.eq) line) }
     // Values that `==` calls equal are the same.
-    ensures values { IfOk result (λ line. (m : Entries T) → AreCutsOf K.bit_width K.bits m cuts.now → AreValuesAt K.bits m cuts.now values.now
+    ensures values { IfOk result
+        (λ line. (m : Entries T) → AreCutsOf K.bit_width K.bits m cuts.now
+        → AreValuesAt K.bits m cuts.now values.now
         → ((x y : T) → T.PartialEq.eq x y ≡ true → x ≡ y)
-        → (q : List Bool) → length q ≡ K.bit_width → value_along None line (number q) ≡ value_of m q) }
+        → (q : List Bool) → length q ≡ K.bit_width
+        → value_along None line (number q) ≡ value_of m q) }
 {
     let mut line = Line::new(alloc);
     for i in 0..cuts.len() {
@@ -41,9 +44,13 @@ fn add_range<K: Key, T: Copy + PartialEq, B: Allocator>(
     value: Option<T>,
 ) -> Result<(), AllocError>
     ensures { OnOk result (((line.new ≡ line.old ++ (number (K.bits start), value) ∷ [])
-        × ((d : ℕ × Option T) → 0 < length line.old → are_same T.PartialEq.eq (slice_index_or line.old (length line.old - 1) d).1 value ≡ false))
+        × ((d : ℕ × Option T) → 0 < length line.old
+        → are_same T.PartialEq.eq (slice_index_or line.old (length line.old - 1) d).1 value
+        ≡ false))
         ⊎ ((line.new ≡ line.old) × (0 < length line.old)
-        × ((d : ℕ × Option T) → are_same T.PartialEq.eq (slice_index_or line.old (length line.old - 1) d).1 value ≡ true))) }
+        × ((d : ℕ × Option T)
+        → are_same T.PartialEq.eq (slice_index_or line.old (length line.old - 1) d).1 value
+        ≡ true))) }
 {
     let len = line.len();
     if len > 0 && is_same(line.value(len - 1), value) {

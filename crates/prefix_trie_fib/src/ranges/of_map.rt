@@ -21,7 +21,8 @@ pub(crate) fn ranges_of<P: Prefix, T: Copy + PartialEq, A: Allocator, B: Allocat
     ensures merged { IfOk result (λ line. AreMerged (are_same T.PartialEq.eq) line) }
     // Values that `==` calls equal are the same.
     ensures values { IfOk result (λ line. ((x y : T) → T.PartialEq.eq x y ≡ true → x ≡ y)
-        → (q : List Bool) → length q ≡ P.R.bit_width → value_along None line (number q) ≡ value_of map.now.entries q) }
+        → (q : List Bool) → length q ≡ P.R.bit_width
+        → value_along None line (number q) ≡ value_of map.now.entries q) }
 {
     let cuts = cuts_of(map, alloc.clone()?)?;
     let values = values_at(map, &cuts, alloc.clone()?)?;
@@ -34,7 +35,8 @@ fn cuts_of<P: Prefix, T: Drop, A: Allocator, B: Allocator + Clone>(
     alloc: B,
 ) -> Result<Vec<P::R, B>, AllocError>
     ensures rising { IfOk result (λ cuts. IsRising (numbers P.R.bits cuts.items)) }
-    ensures cuts { IfOk result (λ cuts. AreCutsOf P.R.bit_width P.R.bits map.now.entries cuts.items) }
+    ensures cuts { IfOk result
+        (λ cuts. AreCutsOf P.R.bit_width P.R.bits map.now.entries cuts.items) }
 {
     let mut cuts = unsorted_cuts(map, alloc.clone()?)?;
     sort(&mut cuts);
@@ -65,7 +67,8 @@ fn values_at<P: Prefix, T: Copy, A: Allocator, B: Allocator>(
     alloc: B,
 ) -> Result<Vec<Option<T>, B>, AllocError>
     ensures same_length { IfOk result (λ values. length values.items ≡ length cuts.now) }
-    ensures values { IfOk result (λ values. AreValuesAt P.R.bits map.now.entries cuts.now values.items) }
+    ensures values { IfOk result
+        (λ values. AreValuesAt P.R.bits map.now.entries cuts.now values.items) }
 {
     let mut values = Vec::with_capacity(alloc, cuts.len())?;
     for i in 0..cuts.len() {

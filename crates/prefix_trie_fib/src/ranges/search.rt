@@ -1,8 +1,8 @@
 //! The search for the range of an address.
-ghost use Rattle.std.specs.Prelude.{◌≡◌, ◌<◌, ◌≤◌, ◌+◌, ℕ, None, Option, length, slice_index_or};
+ghost use Rattle.std.specs.Prelude.{◌<◌, ◌≤◌, ◌+◌, ℕ, Option, length, slice_index_or};
 ghost use Rattle.std.specs.Bool.{MatchBool};
 ghost use Rattle.prefix_trie_bits.specs.Model.Bits.{number};
-ghost use Rattle.prefix_trie_fib.specs.Line.{IsDivision, value_along};
+ghost use Rattle.prefix_trie_fib.specs.Line.{IsDivision};
 ghost use Rattle.prefix_trie_fib.specs.Search.{IsRangeOf, StartsBy};
 
 use super::Line;
@@ -16,7 +16,8 @@ const NEAR: usize = 8;
 /// Returns whether a key is at most another, as numbers.
 #[inline(always)]
 pub(crate) fn is_at_most<K: Key>(a: K, b: K) -> bool
-    ensures { MatchBool result (number (K.bits a) ≤ number (K.bits b)) (number (K.bits b) < number (K.bits a)) }
+    ensures { MatchBool result (number (K.bits a) ≤ number (K.bits b))
+        (number (K.bits b) < number (K.bits a)) }
 {
     listing_laws::<()>();
     let _ = a.is_key();
