@@ -1,5 +1,5 @@
 -- The keys of a map under a string are the string and those under its two extensions: for the least number of entries.
-use Rattle.std.proofs.Common.{◌≡◌, ◌∙◌, ◌+◌, ◌≤◌, ◌++◌, ℕ, suc, Bool, true, false, cond, List, [], ◌∷◌, length, filter, Option, Some, None, is_eq, ap, sym, subst, refl, arith}
+use Rattle.std.proofs.Common.{◌≡◌, ◌∙◌, ◌+◌, ◌≤◌, ◌++◌, ℕ, suc, Bool, true, false, cond, List, [], ◌∷◌, length, filter, Some, is_eq, ap, sym, subst, refl, arith}
 use Rattle.std.specs.FinMap.{contains_key, get, get-entries, len, len-entries, len-insert}
 use Rattle.std.specs.FinMap.Entries.{find}
 use Rattle.prefix_trie_bits.specs.Model.Bits.{begins}

@@ -1,5 +1,5 @@
 -- A part of a map is rebuilt correctly if its two halves are: for `aggregate`.
-use Rattle.std.proofs.Common.{◌≡◌, ◌≢◌, ◌∙◌, ◌+◌, ◌≤◌, ◌++◌, ℕ, suc, Bool, true, false, true≢false, List, [], ◌∷◌, length, Option, None, is_eq, ap, sym, refl, arith, length-append}
+use Rattle.std.proofs.Common.{◌≡◌, ◌≢◌, ◌∙◌, ◌+◌, ◌≤◌, ◌++◌, ℕ, suc, Bool, true, false, true≢false, List, [], ◌∷◌, length, Option, None, is_eq, ap, sym, refl, arith}
 use Rattle.std.specs.declared.cmp.Ordering.{Ordering}
 use Rattle.std.specs.Cmp.{IsEquivalence}
 use Rattle.std.specs.Option.{option_or}
@@ -7,7 +7,7 @@ use Rattle.std.specs.FinMap.{get, len}
 use Rattle.prefix_trie_bits.specs.Begins.{begins-refl}
 use Rattle.prefix_trie.specs.Words.{Entries, begins}
 use Rattle.prefix_trie_ops.specs.Optimal.{is_repeated_along, value_along, HasNoneBelow, Rebuilds}
-use Rattle.prefix_trie_ops.specs.Parts.{as_list, best_value, first_values, least, least_inside, opening_cost, stored}
+use Rattle.prefix_trie_ops.specs.Parts.{as_list, best_value, first_values, least, opening_cost, stored}
 use Rattle.prefix_trie_ops.specs.Values.{are_equal}
 use Rattle.prefix_trie_ops.proofs.Optimal.Along.{along_agrees, along_leaf, repeated_agrees, repeated_none}
 use Rattle.prefix_trie_ops.proofs.Optimal.Choosing.{first_alone}

@@ -1,5 +1,5 @@
 -- The whole map is what is under the empty string: for `aggregate`.
-use Rattle.std.proofs.Common.{◌≡◌, ◌∙◌, ◌≤◌, Bool, true, false, cond, List, [], ◌∷◌, length, filter, is_le, ap, sym, subst, refl, arith}
+use Rattle.std.proofs.Common.{◌≡◌, ◌∙◌, Bool, true, cond, List, [], ◌∷◌, filter, is_le, ap, sym, refl}
 use Rattle.prefix_trie.specs.Words.{Entries, listing, listing_cmp, listing_from}
 
 module _ {X : Type 0} where

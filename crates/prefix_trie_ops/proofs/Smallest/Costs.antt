@@ -1,6 +1,6 @@
 -- What the halves of a part cost together is at least what the part costs, and no more if it begins with its best
 -- value: for the smallest table.
-use Rattle.std.proofs.Common.{◌≡◌, ◌∙◌, ◌+◌, ◌≤◌, ◌&&◌, ◌||◌, ℕ, Bool, true, false, true≢false, cond, List, [], ◌∷◌, filter, Option, Some, None, Less, Equal, Greater, is_eq, ap, sym, subst, refl, arith}
+use Rattle.std.proofs.Common.{◌≡◌, ◌∙◌, ◌+◌, ◌≤◌, ◌&&◌, ◌||◌, Bool, true, false, true≢false, cond, List, [], ◌∷◌, Option, Some, None, is_eq, ap, sym, subst, refl, arith}
 use Rattle.std.specs.declared.cmp.Ordering.{Ordering}
 use Rattle.std.specs.Cmp.{IsEquivalence}
 use Rattle.std.specs.Set.{is_member, sorted_merge}

@@ -1,6 +1,6 @@
 -- Two sorted lists are joined item by item: what they share, or all their values if they share none. For the sets of
 -- values.
-use Rattle.std.proofs.Common.{◌≡◌, ◌∙◌, ◌&&◌, ◌||◌, ◌++◌, Bool, true, false, true≢false, cond, List, [], ◌∷◌, filter, Option, Less, Equal, Greater, is_eq, is_lt, ap, sym, subst, refl, append-nil}
+use Rattle.std.proofs.Common.{◌≡◌, ◌∙◌, ◌&&◌, ◌||◌, ◌++◌, Bool, true, false, true≢false, cond, List, [], ◌∷◌, Option, Less, Equal, Greater, is_eq, is_lt, ap, sym, subst, refl, append-nil}
 use Rattle.std.specs.declared.cmp.Ordering.{Ordering}
 use Rattle.std.specs.Cmp.{Agrees, IsEquivalence, IsTotalOrder}
 use Rattle.std.specs.List.{AllByRecursion}

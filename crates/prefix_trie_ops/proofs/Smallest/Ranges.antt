@@ -1,5 +1,5 @@
 -- Parts of a list from one index up to another, item by item: for the sets of values.
-use Rattle.std.proofs.Common.{◌≡◌, ◌∙◌, ◌+◌, ◌-◌, ◌<◌, ◌≤◌, ◌++◌, ℕ, zero, suc, nat_le, leb-true, leb-false, Bool, true, false, List, [], ◌∷◌, length, take, drop, get_or, slice_range, nat_lt, ltb-true, ltb-false, Bor, Option, Some, None, is_some, true≢false, ap, sym, subst, refl, arith, length-append, length-drop}
+use Rattle.std.proofs.Common.{◌≡◌, ◌∙◌, ◌+◌, ◌-◌, ◌<◌, ◌≤◌, ◌++◌, ℕ, zero, suc, nat_le, leb-true, leb-false, true, false, List, [], ◌∷◌, length, take, drop, get_or, slice_range, nat_lt, ltb-true, ltb-false, Bor, Option, Some, None, is_some, true≢false, ap, sym, subst, refl, arith, length-append, length-drop}
 use Rattle.std.specs.Option.{option_copied, unwrap_or, IfSome}
 use Rattle.std.proofs.Math.Seq.{drop-cons}
 use Rattle.std.proofs.lemmas.List.{append_assoc, drop-append-le, take-append-le}

@@ -50,7 +50,8 @@ pub(super) fn choices_of<'x, P: Prefix, T: Copy + Ord, B: Allocator>(
 ) -> Result<Choices<T, &'x B>, AllocError>
     requires { P.IsFitting root.now }
     ensures { IfOk result (λ choices. (source : Entries T) → AreWithin P.R.bit_width source
-        → walk ≡ prefix_pairs P.back (listing_from source (P.path root.now)) → P.path root.now ≡ []
+        → walk.entry ≡ prefix_pairs P.back (listing_from source (P.path root.now))
+        → P.path root.now ≡ []
         → ((x y : T) → T.PartialEq.eq x y ≡ true → x ≡ y)
         → AreToCome choices (part_values T.PartialEq.eq T.Ord.cmp source P.R.bit_width [] None)) }
 {

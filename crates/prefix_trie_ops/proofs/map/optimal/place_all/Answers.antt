@@ -1,5 +1,5 @@
 -- Placing the entries from the root rebuilds the whole map.
-use Rattle.std.proofs.Common.{◌≡◌, ◌∙◌, ◌+◌, ◌++◌, List, [], None, length, ap, sym, refl, subst, arith, append-nil}
+use Rattle.std.proofs.Common.{◌≡◌, ◌∙◌, ◌+◌, ◌++◌, [], None, length, ap, sym, refl, subst, arith, append-nil}
 use Rattle.prefix_trie.specs.Words.{listing_from, prefix_pairs}
 use Rattle.prefix_trie_ops.specs.Choosing.{part_values, AreToCome}
 use Rattle.prefix_trie_ops.specs.Optimal.{Rebuilds}

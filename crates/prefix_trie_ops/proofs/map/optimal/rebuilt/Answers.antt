@@ -1,6 +1,6 @@
 -- The rebuilt map has the old value for each full-width lookup, no redundant entry and as few entries as possible, since
 -- it is rebuilt from the root.
-use Rattle.std.proofs.Common.{◌≡◌, ◌∙◌, ◌≤◌, ◌+◌, None, ap, sym, arith}
+use Rattle.std.proofs.Common.{◌∙◌, ap, sym, arith}
 use Rattle.std.specs.FinMap.{get, len, len-empty}
 use Rattle.prefix_trie.specs.Words.{listing_cmp}
 use Rattle.prefix_trie_ops.proofs.Optimal.Along.{along_is_redundant, along_is_value}

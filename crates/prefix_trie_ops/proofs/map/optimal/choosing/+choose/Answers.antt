@@ -1,13 +1,13 @@
 -- The recursion of the first two passes: a part without entries under it begins with its own value, and the sets of
 -- another part are its joint one and those of its two halves.
-use Rattle.std.proofs.Common.{rules, ◌≡◌, ◌∙◌, ◌+◌, ◌<◌, ◌≤◌, ◌++◌, ℕ, suc, Bool, true, false, List, [], ◌∷◌, length, None, is_some, ap, sym, subst, arith, length-append}
+use Rattle.std.proofs.Common.{rules, ◌≡◌, ◌∙◌, ◌+◌, ◌<◌, ◌++◌, Bool, true, false, List, [], ◌∷◌, length, is_some, ap, sym, subst, arith, length-append}
 use Rattle.std.specs.List.{Contains, slice_set}
 use Rattle.std.specs.Option.{option_or}
 use Rattle.std.specs.FinMap.{get}
 use Rattle.prefix_trie_bits.specs.Keys.{path_length}
 use Rattle.prefix_trie.specs.Words.{listing, listing_after, listing_from, prefix_pairs}
 use Rattle.prefix_trie_ops.specs.declared.map.optimal.sets.Set.TheVariants.{Missing}
-use Rattle.prefix_trie_ops.specs.Choosing.{part_values, Chooses}
+use Rattle.prefix_trie_ops.specs.Choosing.{Chooses}
 use Rattle.prefix_trie_ops.specs.Optimal.{is_first_below, listing_past, value_along}
 use Rattle.prefix_trie_ops.specs.Parts.{as_list, first_values, joint_values}
 use Rattle.prefix_trie_ops.specs.ValueSets.{Appends, Holds}

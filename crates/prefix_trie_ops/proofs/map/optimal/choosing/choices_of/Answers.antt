@@ -1,5 +1,5 @@
 -- The sets of all parts are those of the part at the root.
-use Rattle.std.proofs.Common.{◌≡◌, ◌∙◌, ◌+◌, ◌++◌, List, [], None, length, ap, sym, refl, subst, arith}
+use Rattle.std.proofs.Common.{◌≡◌, ◌∙◌, ◌+◌, ◌++◌, None, length, ap, sym, subst, arith}
 use Rattle.std.specs.List.{AllZip}
 use Rattle.prefix_trie_ops.specs.Choosing.{part_values}
 use Rattle.prefix_trie_ops.specs.ValueSets.{Holds}

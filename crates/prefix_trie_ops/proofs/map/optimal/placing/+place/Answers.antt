@@ -1,6 +1,6 @@
 -- The recursion of `aggregate`: a part without entries under it gets its own value, and another part is rebuilt from
 -- its two halves.
-use Rattle.std.proofs.Common.{rules, ◌≡◌, ◌∙◌, ◌+◌, ◌<◌, ◌≤◌, ◌++◌, ℕ, suc, Bool, true, false, List, [], ◌∷◌, length, None, is_some, ap, sym, subst, arith, length-append}
+use Rattle.std.proofs.Common.{rules, ◌≡◌, ◌∙◌, ◌+◌, ◌<◌, ◌++◌, suc, Bool, true, false, List, [], ◌∷◌, length, None, is_some, ap, sym, subst, arith, length-append}
 use Rattle.std.specs.List.{Contains}
 use Rattle.std.specs.Option.{option_or}
 use Rattle.std.specs.FinMap.{get}

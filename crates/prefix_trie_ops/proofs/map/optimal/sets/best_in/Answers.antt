@@ -1,5 +1,5 @@
 -- The held value is taken if the set has it, and otherwise the set's first value.
-use Rattle.std.proofs.Common.{◌≡◌, ◌∙◌, ◌+◌, ◌∷◌, cond, slice_range, Some, None, ap, sym}
+use Rattle.std.proofs.Common.{◌∙◌, ◌+◌, cond, slice_range, Some, None, ap, sym}
 use Rattle.std.specs.Set.{is_member}
 use Rattle.prefix_trie_ops.specs.Parts.{best_value}
 use Rattle.prefix_trie_ops.proofs.Smallest.Ranges.{read_first}

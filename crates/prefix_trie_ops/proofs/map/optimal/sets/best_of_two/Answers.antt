@@ -1,9 +1,7 @@
 -- The joint values of two values are one of them, or both in order.
-use Rattle.std.proofs.Common.{◌≡◌, ◌∙◌, [], ◌∷◌, ap, sym, subst, refl, append-nil, Ok, Err}
+use Rattle.std.proofs.Common.{[], sym, subst, append-nil}
 use Rattle.std.specs.Result.{IfOk}
-use Rattle.prefix_trie_ops.specs.Parts.{joint_values}
-use Rattle.prefix_trie_ops.specs.ValueSets.{Appends, Holds}
-use Rattle.prefix_trie_ops.specs.declared.map.optimal.sets.Set.TheVariants.{One}
+use Rattle.prefix_trie_ops.specs.ValueSets.{Appends}
 use Rattle.prefix_trie_ops.proofs.Smallest.Joining.{pair_equal, pair_greater, pair_less}
 use Rattle.prefix_trie_ops.proofs.map.optimal.sets.best_of_two.Goals as goal
 

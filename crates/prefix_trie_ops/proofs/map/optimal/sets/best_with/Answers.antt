@@ -1,12 +1,12 @@
 -- The value is found in the set, or it is appended as a set of its own and joined with the other.
-use Rattle.std.proofs.Common.{◌≡◌, ◌∙◌, ◌≤◌, ◌++◌, List, [], ◌∷◌, length, ap, sym, refl, slice_range, arith, Ok, Err}
+use Rattle.std.proofs.Common.{◌≡◌, ◌∙◌, ◌++◌, List, [], ◌∷◌, length, ap, sym, refl, slice_range, arith, Ok, Err}
 use Rattle.std.specs.List.Sorted.{IsStrictlySortedBy}
 use Rattle.std.specs.Result.{IfOk}
 use Rattle.std.specs.Set.{is_member}
-use Rattle.prefix_trie_ops.specs.declared.map.optimal.sets.Set.TheVariants.{Many, One}
+use Rattle.prefix_trie_ops.specs.declared.map.optimal.sets.Set.TheVariants.{One}
 use Rattle.prefix_trie_ops.specs.declared.map.optimal.sets.Span.{Span}
 use Rattle.prefix_trie_ops.specs.Parts.{joint_values}
-use Rattle.prefix_trie_ops.specs.ValueSets.{Appends, Holds, IsSpanOf}
+use Rattle.prefix_trie_ops.specs.ValueSets.{Appends, IsSpanOf}
 use Rattle.prefix_trie_ops.proofs.Smallest.Joining.{joint_member}
 use Rattle.prefix_trie_ops.proofs.Smallest.Storing.{appended, appended_after, nothing_appended, one_sorted, span_kept}
 use Rattle.prefix_trie_ops.proofs.map.optimal.sets.best_with.Goals as goal

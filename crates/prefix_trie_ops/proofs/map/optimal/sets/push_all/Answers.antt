@@ -1,10 +1,10 @@
 -- The loop of `push_all`: each iteration appends the smaller of the two next values.
-use Rattle.std.proofs.Common.{◌≡◌, ◌∙◌, ◌+◌, ◌≤◌, ◌++◌, true, false, List, [], ◌∷◌, length, slice_range, is_lt, ap, sym, subst, refl, arith, append-nil, append_assoc, Ok, Err}
+use Rattle.std.proofs.Common.{◌≡◌, ◌∙◌, ◌+◌, ◌≤◌, ◌++◌, true, List, [], ◌∷◌, length, slice_range, ap, sym, refl, append-nil, append_assoc, Ok, Err}
 use Rattle.std.specs.Result.{IfOk}
 use Rattle.std.specs.Set.{sorted_merge}
 use Rattle.prefix_trie_ops.specs.Parts.{shared_values}
 use Rattle.prefix_trie_ops.specs.ValueSets.{IsSpanOf}
-use Rattle.prefix_trie_ops.proofs.Smallest.Joining.{disjoint, is_less, less_is, merged_left, merged_right, merging_less, merging_other, Merging}
+use Rattle.prefix_trie_ops.proofs.Smallest.Joining.{disjoint, is_less, less_is, merged_left, merged_right, merging_less, merging_other}
 use Rattle.prefix_trie_ops.proofs.Smallest.Ranges.{both_appended, range_empty, range_step_in, read_at}
 use Rattle.prefix_trie_ops.proofs.map.optimal.sets.push_all.Goals as goal
 use Rattle.prefix_trie_ops.proofs.map.optimal.sets.push_all.Goals.{else-loop-i-test, then-loop-i-test+else-j-right}

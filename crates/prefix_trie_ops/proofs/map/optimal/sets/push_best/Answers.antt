@@ -1,5 +1,5 @@
 -- The values that two sets share are appended, and if they share none, all values of both.
-use Rattle.std.proofs.Common.{◌≡◌, ◌∙◌, ◌++◌, List, [], length, ap, sym}
+use Rattle.std.proofs.Common.{◌≡◌, ◌∙◌, ◌++◌, length, ap, sym}
 use Rattle.prefix_trie_ops.specs.Parts.{joint_values, shared_values}
 use Rattle.prefix_trie_ops.proofs.Smallest.Sets.{joint_not_none}
 use Rattle.prefix_trie_ops.proofs.Smallest.Storing.{appended, joint_all, joint_shared, none_shared, span_kept, span_some}

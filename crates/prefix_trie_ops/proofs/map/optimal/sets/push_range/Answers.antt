@@ -1,5 +1,5 @@
 -- The loop of `push_range`: each iteration appends the next item of the part.
-use Rattle.std.proofs.Common.{◌≡◌, ◌∙◌, ◌+◌, ◌<◌, ◌≤◌, ◌++◌, List, [], ◌∷◌, length, slice_range, ap, sym, arith, length-append}
+use Rattle.std.proofs.Common.{◌≡◌, ◌∙◌, ◌+◌, ◌++◌, [], ◌∷◌, length, slice_range, ap, sym, arith, length-append}
 use Rattle.std.proofs.lemmas.List.{append_assoc}
 use Rattle.prefix_trie_ops.proofs.Smallest.Ranges.{range_step_in, read_at, read_past}
 use Rattle.prefix_trie_ops.proofs.map.optimal.sets.push_range.Goals as goal

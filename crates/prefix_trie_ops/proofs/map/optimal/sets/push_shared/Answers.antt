@@ -1,8 +1,8 @@
 -- The loop of `push_shared`: each iteration goes on past the smaller of the two next values, or past both.
-use Rattle.std.proofs.Common.{◌≡◌, ◌∙◌, ◌+◌, ◌≤◌, ◌++◌, List, [], ◌∷◌, length, slice_range, ap, sym, subst, arith, append-nil, append_assoc}
+use Rattle.std.proofs.Common.{◌∙◌, ◌+◌, ◌++◌, [], ◌∷◌, slice_range, ap, sym, subst, append-nil, append_assoc}
 use Rattle.std.specs.List.Sorted.{IsStrictlySortedBy}
 use Rattle.prefix_trie_ops.specs.Parts.{shared_values}
-use Rattle.prefix_trie_ops.proofs.Smallest.Joining.{shared_none, sharing_equal, sharing_greater, sharing_less, Sharing}
+use Rattle.prefix_trie_ops.proofs.Smallest.Joining.{shared_none, sharing_equal, sharing_greater, sharing_less}
 use Rattle.prefix_trie_ops.proofs.Smallest.Ranges.{range_empty, range_step_in, read_at}
 use Rattle.prefix_trie_ops.proofs.map.optimal.sets.push_shared.Goals as goal
 

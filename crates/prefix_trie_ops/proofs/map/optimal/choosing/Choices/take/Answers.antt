@@ -1,5 +1,5 @@
 -- The set that is taken is the first of those to come.
-use Rattle.std.proofs.Common.{◌≡◌, ◌∙◌, ◌+◌, List, [], ◌∷◌, drop, ap, sym, subst}
+use Rattle.std.proofs.Common.{◌≡◌, ◌∙◌, ◌+◌, ◌∷◌, drop, ap, sym, subst}
 use Rattle.std.specs.List.{AllZip}
 use Rattle.prefix_trie_ops.specs.ValueSets.{Holds}
 use Rattle.prefix_trie_ops.proofs.Smallest.Ranges.{drop_first, read_at}
