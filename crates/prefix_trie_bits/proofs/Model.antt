@@ -1,4 +1,4 @@
--- The laws of the model, and its worked rows and facts.
+-- The laws of the model.
 pub mod Members
 pub mod Homes
 pub mod Pruning
@@ -10,7 +10,6 @@ pub mod Matches
 pub mod Listings
 pub mod Halves
 pub mod Outermost
-pub mod Worked
 pub mod Runs
 pub mod Steps
 pub mod Counted

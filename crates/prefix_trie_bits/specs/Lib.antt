@@ -12,6 +12,4 @@ pub mod Refusals
 pub mod Networks
 pub mod Texts
 pub mod Laws
-pub mod Rows
-pub mod Facts
 pub mod Calls

@@ -1,7 +1,7 @@
 -- Worked rows: exact lookups, and longest and shortest matches.
 use Rattle.std.specs.Prelude.{[], ◌∷◌, Some, None}
 use Rattle.prefix_trie_bits.specs.Model.Step.{Insert, Get, Lpm, Spm, Clear, Len, NodeCount, ListAll, Cover, Value, Match, Done, Count, Items}
-use Rattle.prefix_trie_bits.specs.Rows.Examples.{Gives}
+use Rattle.prefix_trie_facts.specs.Rows.Examples.{Gives}
 
 -- the rows of this file
 pub record LookupsHold : Type 0 where

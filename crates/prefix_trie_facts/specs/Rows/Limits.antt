@@ -2,7 +2,7 @@
 -- The model lets any new key be refused. These rows say what is unchanged then.
 use Rattle.std.specs.Prelude.{ℕ, ◌++◌, List, [], ◌∷◌, Some, None}
 use Rattle.prefix_trie_bits.specs.Model.Step.{Insert, Remove, Clear, Len, NodeCount, AddressCount, ListAll, Value, Done, Count, Addresses, Items, Refused, IndexRange}
-use Rattle.prefix_trie_bits.specs.Rows.Examples.{Gives, counted, full_pairs, sets}
+use Rattle.prefix_trie_facts.specs.Rows.Examples.{Gives, counted, full_pairs, sets}
 
 -- the 31 pairs of lengths 0 to 4 of eight bits, in listing order
 abbrev pub short_pairs : List (ℕ × ℕ)

@@ -1,11 +1,11 @@
 -- Proves the worked facts on storages to which no step leads.
-use Rattle.prefix_trie_bits.proofs.Prelude.{◌≡◌, ℕ, zero, suc, ◌+◌, ◌-◌, ◌<◌, ◌≤◌, ◌==◌, Bool, false, List, [], ◌∷◌, map, length, get_or, is_some, Option, Some, None, refl, sym, ap, ap₂, ◌∙◌, subst, inl, inr, arith, le_of_eq, lit<, lit≤, slice_index_or, Contains, count_by, option_or, entries, get, contains_key, values, entries-from_sorted, get-from_sorted, find, digits, number, begins, listing_cmp, has_node, value_block_sizes, child_block_sizes, free_of, own_entries, used_of, HasBlock, LongerByOne, LosesNoBlock, value_block_needed, value_blocks_needed, missing_child_blocks, missing_of, missing_value_blocks, made_of, one_of, home, State, Call, Remove, RemoveKeepTree, RetainAtLeast, Reply, Memory, IndexRange, Step, is_refusal, path_at, back_at, sets, none_free, both_free, Blocks, layout_at, ones_free, sizes_at, three_slots, two_free, four_free, root_child, root_value, child_value, Takes, KeepsFacts, FilledFacts, StepsHold}
-use Rattle.prefix_trie_bits.proofs.Model.Worked.Plain.{Shows, Marks, play, step_at, has-is}
-use Rattle.prefix_trie_bits.proofs.Model.Worked.Replies.{last_entries, last_marks, leads}
-use Rattle.prefix_trie_bits.proofs.Model.Worked.Examples.{said, own_in, children_in}
+use Rattle.prefix_trie_facts.proofs.Prelude.{◌≡◌, ℕ, zero, suc, ◌+◌, ◌-◌, ◌<◌, ◌≤◌, ◌==◌, Bool, false, List, [], ◌∷◌, map, length, get_or, is_some, Option, Some, None, refl, sym, ap, ap₂, ◌∙◌, subst, inl, inr, arith, le_of_eq, lit<, lit≤, slice_index_or, Contains, count_by, option_or, entries, get, contains_key, values, entries-from_sorted, get-from_sorted, find, digits, number, begins, listing_cmp, has_node, value_block_sizes, child_block_sizes, free_of, own_entries, used_of, HasBlock, LongerByOne, LosesNoBlock, value_block_needed, value_blocks_needed, missing_child_blocks, missing_of, missing_value_blocks, made_of, one_of, home, State, Call, Remove, RemoveKeepTree, RetainAtLeast, Reply, Memory, IndexRange, Step, is_refusal, path_at, back_at, sets, none_free, both_free, Blocks, layout_at, ones_free, sizes_at, three_slots, two_free, four_free, root_child, root_value, child_value, Takes, KeepsFacts, FilledFacts, StepsHold}
+use Rattle.prefix_trie_facts.proofs.Plain.{Shows, Marks, play, step_at, has-is}
+use Rattle.prefix_trie_facts.proofs.Replies.{last_entries, last_marks, leads}
+use Rattle.prefix_trie_facts.proofs.Examples.{said, own_in, children_in}
 use Rattle.prefix_trie_bits.proofs.Model.Determined.{same}
-use Rattle.prefix_trie_bits.proofs.Model.Worked.Blocks.{some_is, not_some, unlike, differ, not_in}
-use Rattle.prefix_trie_bits.proofs.Model.Worked.Insertions.{children_needed, lacks_one, lacks_none, value_needed_in, value-is, values_needed, sizes-is, Sized, listed, InOrder, some_missing, neither_more}
+use Rattle.prefix_trie_facts.proofs.Blocks.{some_is, not_some, unlike, differ, not_in}
+use Rattle.prefix_trie_facts.proofs.Insertions.{children_needed, lacks_one, lacks_none, value_needed_in, value-is, values_needed, sizes-is, Sized, listed, InOrder, some_missing, neither_more}
 
 -- the entries and the nodes of the worked map, as lists
 abbrev es8 : Sized

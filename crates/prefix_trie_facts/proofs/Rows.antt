@@ -1,7 +1,7 @@
 -- Proves the worked rows: the plain model computes the reply of each call.
-use Rattle.prefix_trie_bits.proofs.Prelude.{refl, digits, number, begins, LookupsHold, WalksHold, RemovalsHold, LimitsHold, WidthsHold, AddressesHold}
+use Rattle.prefix_trie_facts.proofs.Prelude.{refl, digits, number, begins, LookupsHold, WalksHold, RemovalsHold, LimitsHold, WidthsHold, AddressesHold}
 use Rattle.prefix_trie_bits.proofs.Model.Halves.{halves}
-use Rattle.prefix_trie_bits.proofs.Model.Worked.Replies.{gives}
+use Rattle.prefix_trie_facts.proofs.Replies.{gives}
 
 pub lookups_hold : LookupsHold
 unfolding digits number begins halves

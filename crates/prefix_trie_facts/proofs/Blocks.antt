@@ -1,5 +1,5 @@
 -- Proves the worked facts on blocks, growth and space.
-use Rattle.prefix_trie_bits.proofs.Prelude.{◌≡◌, ◌⊎◌, ℕ, zero, suc, ◌+◌, ◌<◌, ◌≤◌, ◌==◌, true, false, List, [], ◌∷◌, ◌++◌, length, Option, Some, None, is_some, refl, sym, ap, ◌∙◌, subst, inl, inr, true≢false, eq-eqb, arith, lit<, lit≤, slice_index_or, Contains, sum_by, list_any, sum_by-cons, sum_by-IsPermutation, Block, value_block_sizes, child_block_sizes, free_of, HasBlock, StepsBetween, LongerByOne, Tiles, AreBlocksOf, MayPassLimit, none_free, six_free, space_of, at_slot, BlocksHold}
+use Rattle.prefix_trie_facts.proofs.Prelude.{◌≡◌, ◌⊎◌, ℕ, zero, suc, ◌+◌, ◌<◌, ◌≤◌, ◌==◌, true, false, List, [], ◌∷◌, ◌++◌, length, Option, Some, None, is_some, refl, sym, ap, ◌∙◌, subst, inl, inr, true≢false, eq-eqb, arith, lit<, lit≤, slice_index_or, Contains, sum_by, list_any, sum_by-cons, sum_by-IsPermutation, Block, value_block_sizes, child_block_sizes, free_of, HasBlock, StepsBetween, LongerByOne, Tiles, AreBlocksOf, MayPassLimit, none_free, six_free, space_of, at_slot, BlocksHold}
 use Rattle.prefix_trie_bits.proofs.Model.Members.{or-left, or-right}
 pub use Rattle.std.proofs.lemmas.Option.{same_Some as some_is}
 

@@ -6,9 +6,9 @@ use Rattle.prefix_trie_bits.specs.Model.Blocks.{Sizes, Layout, own_entries, chil
 use Rattle.prefix_trie_bits.specs.Model.Insertion.{gains_child, child_block_needed, value_block_needed, missing_node_slots, missing_cell_slots, PassesLimit, MissingFitsLimit}
 use Rattle.prefix_trie_bits.specs.Calls.Nodes.{holders, parents}
 use Rattle.prefix_trie_bits.specs.Model.Step.{State, Insert, Remove, Value}
-use Rattle.prefix_trie_bits.specs.Facts.Blocks.{none_free, space_of}
-use Rattle.prefix_trie_bits.specs.Rows.Examples.{path_at, Row, LeadsTo, counted, full_pairs, sets}
-use Rattle.prefix_trie_bits.specs.Rows.Limits.{short_pairs}
+use Rattle.prefix_trie_facts.specs.Facts.Blocks.{none_free, space_of}
+use Rattle.prefix_trie_facts.specs.Rows.Examples.{path_at, Row, LeadsTo, counted, full_pairs, sets}
+use Rattle.prefix_trie_facts.specs.Rows.Limits.{short_pairs}
 
 -- blocks, each with the pair of its node
 abbrev pub Blocks : Type 0

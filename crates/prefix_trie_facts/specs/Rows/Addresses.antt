@@ -1,7 +1,7 @@
 -- Worked rows: how many addresses a map covers.
 use Rattle.std.specs.Prelude.{◌+◌, ◌^◌, [], ◌∷◌, Some, None}
 use Rattle.prefix_trie_bits.specs.Model.Step.{Insert, AddressCount, Value, Addresses}
-use Rattle.prefix_trie_bits.specs.Rows.Examples.{Gives}
+use Rattle.prefix_trie_facts.specs.Rows.Examples.{Gives}
 
 -- the rows of this file
 pub record AddressesHold : Type 0 where

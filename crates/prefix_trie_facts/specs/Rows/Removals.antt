@@ -1,7 +1,7 @@
 -- Worked rows: the entries and the nodes after removals.
 use Rattle.std.specs.Prelude.{[], ◌∷◌, Some, None}
 use Rattle.prefix_trie_bits.specs.Model.Step.{Insert, Get, Remove, RemoveKeepTree, RemoveChildren, RetainAtLeast, Clear, Len, NodeCount, ListAll, Value, Done, Count, Items}
-use Rattle.prefix_trie_bits.specs.Rows.Examples.{Gives}
+use Rattle.prefix_trie_facts.specs.Rows.Examples.{Gives}
 
 -- the rows of this file
 pub record RemovalsHold : Type 0 where

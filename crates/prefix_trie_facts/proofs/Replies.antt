@@ -1,6 +1,6 @@
 -- A worked row holds if the plain model gives its replies: for the worked rows.
-use Rattle.prefix_trie_bits.proofs.Prelude.{◌≡◌, ℕ, Bool, List, [], ◌∷◌, map, Option, Some, None, refl, ap, subst, State, Call, Reply, Refused, Refusal, Run, path_at, back_at, new_map, Row, calls, replies, Gives, LeadsTo}
-use Rattle.prefix_trie_bits.proofs.Model.Worked.Plain.{from_new, Shows, Marks, root_mark, calls_of, play_all}
+use Rattle.prefix_trie_facts.proofs.Prelude.{◌≡◌, ℕ, Bool, List, [], ◌∷◌, map, Option, Some, None, refl, ap, subst, State, Call, Reply, Refused, Refusal, Run, path_at, back_at, new_map, Row, calls, replies, Gives, LeadsTo}
+use Rattle.prefix_trie_facts.proofs.Plain.{from_new, Shows, Marks, root_mark, calls_of, play_all}
 
 -- the cause of a refusal, `None` for another reply
 abbrev fate_of : Reply (ℕ × ℕ) ℕ → Option Refusal

@@ -6,9 +6,9 @@ use Rattle.prefix_trie_bits.specs.Calls.Blocks.{NodesHaveBlocks}
 use Rattle.prefix_trie_bits.specs.Model.Insertion.{value_block_needed, TakesBlocks}
 use Rattle.prefix_trie_bits.specs.Model.Step.{State, Call, Insert, Remove, RemoveKeepTree, RemoveChildren, RetainAtLeast, Reply, Refused, Refusal, Memory, IndexRange}
 use Rattle.prefix_trie_bits.specs.Model.Storage.{Storage, empty_storage, StepInStorage}
-use Rattle.prefix_trie_bits.specs.Rows.Examples.{path_at, back_at, LeadsTo, sets}
-use Rattle.prefix_trie_bits.specs.Facts.Blocks.{none_free, space_of}
-use Rattle.prefix_trie_bits.specs.Facts.Insertions.{Blocks, sizes_at, layout_at, ones_free, three_slots}
+use Rattle.prefix_trie_facts.specs.Rows.Examples.{path_at, back_at, LeadsTo, sets}
+use Rattle.prefix_trie_facts.specs.Facts.Blocks.{none_free, space_of}
+use Rattle.prefix_trie_facts.specs.Facts.Insertions.{Blocks, sizes_at, layout_at, ones_free, three_slots}
 
 -- the storage of a map of eight bits with a limit of 10, and with these numbers of slots for nodes and for values
 abbrev pub storage_with : ℕ → ℕ → Layout → Storage

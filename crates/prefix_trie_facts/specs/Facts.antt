@@ -15,8 +15,8 @@ use Rattle.prefix_trie_bits.specs.Calls.Blocks.{AreBlocksOf}
 use Rattle.prefix_trie_bits.specs.Model.Blocks.{value_block_sizes, child_block_sizes, smallest_size, own_entries, child_count}
 use Rattle.prefix_trie_bits.specs.Calls.SplitsOff.{SplitsOff, packed_block, packed_slots, packed_node_slots, packed_cell_slots}
 use Rattle.prefix_trie_bits.specs.Model.Step.{State, Insert, Remove, RemoveKeepTree, Value}
-use Rattle.prefix_trie_bits.specs.Facts.Blocks.{at_slot}
-use Rattle.prefix_trie_bits.specs.Rows.Examples.{path_at, back_at, Row, LeadsTo, sets}
+use Rattle.prefix_trie_facts.specs.Facts.Blocks.{at_slot}
+use Rattle.prefix_trie_facts.specs.Rows.Examples.{path_at, back_at, Row, LeadsTo, sets}
 
 -- the smallest sizes that hold 3, 8, 9 and 25 items; 32 values fit no value block
 pub record SmallestSizes : Type 0 where

@@ -1,7 +1,7 @@
 -- Worked rows: listings, cursors and children.
 use Rattle.std.specs.Prelude.{true, false, [], ◌∷◌, None}
 use Rattle.prefix_trie_bits.specs.Model.Step.{Insert, ListFrom, Children, Value, Items}
-use Rattle.prefix_trie_bits.specs.Rows.Examples.{Gives}
+use Rattle.prefix_trie_facts.specs.Rows.Examples.{Gives}
 
 -- the rows of this file
 pub record WalksHold : Type 0 where

@@ -1,7 +1,7 @@
 -- Worked rows: each width, and the last node of its search paths.
 use Rattle.std.specs.Prelude.{ℕ, ◌++◌, List, [], ◌∷◌, Some, None}
 use Rattle.prefix_trie_bits.specs.Model.Step.{Insert, Lpm, Spm, Remove, Len, NodeCount, AddressCount, ListAll, Value, Match, Count, Addresses, Items}
-use Rattle.prefix_trie_bits.specs.Rows.Examples.{Gives, counted, full_pairs, sets}
+use Rattle.prefix_trie_facts.specs.Rows.Examples.{Gives, counted, full_pairs, sets}
 
 -- the 15 pairs of three bits, in listing order
 abbrev three_bits : List (ℕ × ℕ)
