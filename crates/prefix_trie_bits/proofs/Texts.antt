@@ -3,6 +3,7 @@ pub mod Bytes
 pub mod Decimals
 pub mod Slashes
 pub mod Parsing
+pub mod Hosts
 pub mod Inline
 pub mod FullGroups
 pub mod Laws

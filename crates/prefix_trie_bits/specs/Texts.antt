@@ -1,6 +1,6 @@
 -- The texts of networks and of numbers: what `Display` and `Debug` write, and what `parse` reads.
 -- IPv6 text is that of RFC 5952, and the grammar of addresses is that of std. The rest is this project's own.
-use Rattle.std.specs.Prelude.{◌≡◌, ◌≢◌, ℕ, ◌/◌, ◌%◌, ◌^◌, ◌<◌, ◌≤◌, ◌==◌, List, [], ◌∷◌, ◌++◌, flat_map, codes, decimal, Contains, Result, IfErr}
+use Rattle.std.specs.Prelude.{◌≡◌, ◌≢◌, ℕ, ◌/◌, ◌%◌, ◌^◌, ◌<◌, ◌≤◌, ◌==◌, List, [], ◌∷◌, ◌++◌, flat_map, codes, decimal, Contains, Result, IfErr, MatchResult}
 use Rattle.std.specs.Char.{digit_char}
 use Rattle.std.specs.List.{before_first, after_first}
 use Rattle.std.specs.Int.{w32, w128, to_be_bytes}
@@ -66,6 +66,11 @@ module _ {A : Type 0} (Spells : List ℕ → A → Type 0) (bits : A → ℕ) (w
     pub network : Parses (λ _ found. IsNetworkText found) text r
     pub reason : IfErr r IsReason
 
+  -- the result of `parse_host`: that of `parse` if the text has a slash, else the network of the one address that the text is
+  pub record ParsesHost (r : Result (ℕ × ℕ) ParseNetworkError) : Type 0 where
+    pub with_slash : Contains text slash → ParsesNetwork r
+    pub without_slash : ¬ (Contains text slash) → MatchResult r (λ found. (a : A) × Spells text a × (found ≡ (bits a, width))) (λ error. (error ≡ Address) × ((a : A) → ¬ (Spells text a)))
+
 -- the text denotes this network
 abbrev pub IsIpv4NetworkText : List ℕ → ℕ × ℕ → Type 0
 IsIpv4NetworkText = IsNetworkText IsIpv4Text ipv4_bits 32
@@ -79,6 +84,13 @@ ParsesIpv4Network = ParsesNetwork IsIpv4Text ipv4_bits 32
 
 abbrev pub ParsesIpv6Network : List ℕ → Result (ℕ × ℕ) ParseNetworkError → Type 0
 ParsesIpv6Network = ParsesNetwork IsIpv6Text ipv6_bits 128
+
+-- the result of `parse_host` for the text
+abbrev pub ParsesIpv4Host : List ℕ → Result (ℕ × ℕ) ParseNetworkError → Type 0
+ParsesIpv4Host = ParsesHost IsIpv4Text ipv4_bits 32
+
+abbrev pub ParsesIpv6Host : List ℕ → Result (ℕ × ℕ) ParseNetworkError → Type 0
+ParsesIpv6Host = ParsesHost IsIpv6Text ipv6_bits 128
 
 -- the text of an error
 abbrev pub parse_network_error_text : ParseNetworkError → List ℕ

@@ -84,6 +84,12 @@ impl Ipv4Prefix {
     }
 
     /// Returns the address as it was passed, with its host bits.
+    ///
+    /// # Examples
+    ///
+    /// ```rust
+    /// Ipv4Prefix::new(0x0a010203, 8).map(|network| network.addr());       // Some(167838211): 0x0a010203
+    /// ```
     #[inline]
     pub fn addr(&self) -> u32
         ensures { result ≡ self.now.0 }
@@ -237,6 +243,12 @@ impl Ipv6Prefix {
     }
 
     /// Returns the address as it was passed, with its host bits.
+    ///
+    /// # Examples
+    ///
+    /// ```rust
+    /// "::ff/120".parse::<Ipv6Prefix>()?.addr();       // 255
+    /// ```
     #[inline]
     pub fn addr(&self) -> u128
         ensures { result ≡ self.now.0 }

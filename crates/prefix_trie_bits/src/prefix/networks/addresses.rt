@@ -23,6 +23,12 @@ impl Ipv4Prefix {
     }
 
     /// Returns the address, host bits kept.
+    ///
+    /// # Examples
+    ///
+    /// ```rust
+    /// "10.1.2.3/8".parse::<Ipv4Prefix>()?.address();      // 10.1.2.3
+    /// ```
     #[inline]
     pub fn address(&self) -> Ipv4Addr
         ensures value { IsIpv4OfBits result self.now.0 }
@@ -45,7 +51,26 @@ impl Ipv4Prefix {
         Ipv4Addr::from_bits(self.addr.keep(u32::from(self.len)))
     }
 
+    /// Returns the network without its host bits.
+    ///
+    /// # Examples
+    ///
+    /// ```rust
+    /// "10.1.2.3/8".parse::<Ipv4Prefix>()?.trunc();      // 10.0.0.0/8
+    /// ```
+    #[inline]
+    pub fn trunc(&self) -> Self
+        ensures { result ≡ (lowest_address 32 self.now, self.now.1) }
+    {
+        Ipv4Prefix {
+            addr: self.addr.keep(u32::from(self.len)),
+            len: self.len,
+        }
+    }
+
     /// Returns the highest address of the network: each host bit is 1.
+    ///
+    /// It is the broadcast address of a network of at most 30 bits.
     ///
     /// # Examples
     ///
@@ -89,6 +114,12 @@ impl Ipv6Prefix {
     }
 
     /// Returns the address, host bits kept.
+    ///
+    /// # Examples
+    ///
+    /// ```rust
+    /// "2001:db8::1/32".parse::<Ipv6Prefix>()?.address();      // 2001:db8::1
+    /// ```
     #[inline]
     pub fn address(&self) -> Ipv6Addr
         ensures value { IsIpv6OfBits result self.now.0 }
@@ -109,6 +140,23 @@ impl Ipv6Prefix {
         ensures { IsIpv6OfBits result (lowest_address 128 self.now) }
     {
         Ipv6Addr::from_bits(self.addr.keep(u32::from(self.len)))
+    }
+
+    /// Returns the network without its host bits.
+    ///
+    /// # Examples
+    ///
+    /// ```rust
+    /// "2001:db8::1/32".parse::<Ipv6Prefix>()?.trunc();      // 2001:0db8:0000:0000:0000:0000:0000:0000/32
+    /// ```
+    #[inline]
+    pub fn trunc(&self) -> Self
+        ensures { result ≡ (lowest_address 128 self.now, self.now.1) }
+    {
+        Ipv6Prefix {
+            addr: self.addr.keep(u32::from(self.len)),
+            len: self.len,
+        }
     }
 
     /// Returns the highest address of the network: each host bit is 1.

@@ -34,7 +34,7 @@ impl ParseNetworkError {
     ghost use Rattle.prefix_trie_bits.specs.Texts.{parse_network_error_text};
 
     // Returns its text.
-    fn words(self) -> &'static str
+    fn text(self) -> &'static str
         ensures { result.now ≡ parse_network_error_text self }
     {
         match self {
@@ -53,7 +53,7 @@ impl Display for ParseNetworkError {
     ghost styled_output = { λ error spec. Some (padded spec (parse_network_error_text error)) };
 
     fn fmt<F: Write>(&self, f: &mut Formatter<F>) -> fmt::Result {
-        f.pad(self.words())
+        f.pad(self.text())
     }
 }
 
@@ -217,5 +217,63 @@ impl FromStr for Ipv6Prefix {
             addr: address.to_bits(),
             len: len as u8,
         })
+    }
+}
+
+impl Ipv4Prefix {
+    ghost use Rattle.prefix_trie_bits.specs.Texts.{ParsesIpv4Host};
+
+    /// Reads a network, or an address alone, which is the network of that one address.
+    ///
+    /// # Errors
+    ///
+    /// Returns `Address` if the text has no slash and is not an address, and otherwise what `parse` returns.
+    ///
+    /// # Examples
+    ///
+    /// ```rust
+    /// Ipv4Prefix::parse_host("10.1.2.3");        // Ok(10.1.2.3/32)
+    /// Ipv4Prefix::parse_host("10.1.0.0/16");     // Ok(10.1.0.0/16)
+    /// Ipv4Prefix::parse_host("10.1.2");          // Err(Address)
+    /// ```
+    pub fn parse_host(text: &str) -> Result<Ipv4Prefix, ParseNetworkError>
+        ensures { ParsesIpv4Host text.now result }
+    {
+        if text.split_once('/').is_some() {
+            return text.parse();
+        }
+        let Ok(address) = text.parse::<Ipv4Addr>() else {
+            return Err(ParseNetworkError::Address);
+        };
+        Ok(Ipv4Prefix::from(address))
+    }
+}
+
+impl Ipv6Prefix {
+    ghost use Rattle.prefix_trie_bits.specs.Texts.{ParsesIpv6Host};
+
+    /// Reads a network, or an address alone, which is the network of that one address.
+    ///
+    /// # Errors
+    ///
+    /// Returns `Address` if the text has no slash and is not an address, and otherwise what `parse` returns.
+    ///
+    /// # Examples
+    ///
+    /// ```rust
+    /// Ipv6Prefix::parse_host("::1");        // Ok(0000:0000:0000:0000:0000:0000:0000:0001/128)
+    /// Ipv6Prefix::parse_host("2001:db8::/32");     // Ok(2001:0db8:0000:0000:0000:0000:0000:0000/32)
+    /// Ipv6Prefix::parse_host("::1::");          // Err(Address)
+    /// ```
+    pub fn parse_host(text: &str) -> Result<Ipv6Prefix, ParseNetworkError>
+        ensures { ParsesIpv6Host text.now result }
+    {
+        if text.split_once('/').is_some() {
+            return text.parse();
+        }
+        let Ok(address) = text.parse::<Ipv6Addr>() else {
+            return Err(ParseNetworkError::Address);
+        };
+        Ok(Ipv6Prefix::from(address))
     }
 }
