@@ -1,17 +1,19 @@
-//! What a refusal becomes in a program: a text, and by `?` its cause alone or an `io::Error`.
+//! What a refusal becomes in a program, a text and by `?` its cause alone or an `io::Error`, and the refusal that an `AllocError` becomes.
 ghost use Rattle.std.specs.Prelude.{◌≡◌, Some};
 ghost use Rattle.std.specs.Fmt.{padded};
 ghost use Rattle.std.specs.IoError.{error_kind};
 ghost use Rattle.prefix_trie_bits.specs.Refusals.{refusal_kind, refusal_text};
+ghost use Rattle.prefix_trie_bits.specs.declared.prefix.Refusal.TheVariants.{Memory};
 
 use crate::prefix::{Refusal, Refused};
+use std::alloc::AllocError;
 use std::error::Error;
 use std::fmt::{self, Debug, Display, Formatter, Write};
 use std::io::{self, ErrorKind};
 
 impl Refusal {
     // Returns its text.
-    fn words(self) -> &'static str
+    fn text(self) -> &'static str
         ensures { result.now ≡ refusal_text self }
     {
         match self {
@@ -27,7 +29,7 @@ impl Display for Refusal {
     ghost styled_output = { λ refusal spec. Some (padded spec (refusal_text refusal)) };
 
     fn fmt<F: Write>(&self, f: &mut Formatter<F>) -> fmt::Result {
-        f.pad(self.words())
+        f.pad(self.text())
     }
 }
 
@@ -39,7 +41,7 @@ impl<T> Display for Refused<T> {
     ghost styled_output = { λ refused spec. Some (padded spec (refusal_text refused.cause)) };
 
     fn fmt<F: Write>(&self, f: &mut Formatter<F>) -> fmt::Result {
-        f.pad(self.cause.words())
+        f.pad(self.cause.text())
     }
 }
 
@@ -53,6 +55,14 @@ impl<T: Drop> From<Refused<T>> for Refusal {
     }
 }
 
+impl From<AllocError> for Refusal {
+    ghost from_gives = { λ _ refusal. refusal ≡ Memory };
+
+    fn from(_: AllocError) -> Refusal {
+        Refusal::Memory
+    }
+}
+
 impl From<Refusal> for io::Error {
     ghost from_gives = { λ refusal error. error_kind error ≡ refusal_kind refusal };
 
@@ -61,7 +71,7 @@ impl From<Refusal> for io::Error {
             Refusal::Memory => ErrorKind::OutOfMemory,
             Refusal::IndexRange => ErrorKind::QuotaExceeded,
         };
-        io::Error::new(kind, refusal.words())
+        io::Error::new(kind, refusal.text())
     }
 }
 
