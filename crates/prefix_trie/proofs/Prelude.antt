@@ -94,4 +94,4 @@ pub use Rattle.prefix_trie.specs.Laws.Stored.{StoredLaws}
 pub use Rattle.prefix_trie.specs.Model.Replay.{IsFittingCall, call_of, calls_of, replies_of, reply_of}
 pub use Rattle.prefix_trie.specs.Rewriting.{AreOrdered, OrderedIn, Rewrites, RewritesIn, is_left, keyed}
 pub use Rattle.prefix_trie.specs.Sets.{CalledAtKey, TakesKey, as_item, same_keys, same_parts}
-pub use Rattle.prefix_trie.specs.Words.{Joins, covers, ipv4_address, ipv4_back, longest_match}
+pub use Rattle.prefix_trie.specs.Terms.{Joins, covers, ipv4_address, ipv4_back, longest_match}

@@ -5,5 +5,5 @@ pub mod Networks
 pub mod Sets
 pub mod Reads
 pub mod NotesFall
-pub mod Words
+pub mod Terms
 pub mod Model

@@ -39,7 +39,7 @@ pub enum Call<P> {
     Remove(P),
     /// `remove_keep_tree`: removes the entry of this prefix, and leaves all nodes.
     RemoveKeepTree(P),
-    /// `drop_children`: removes the entries that this prefix contains, and the nodes left empty.
+    /// `drop_children`, not `remove_children`: removes the entries that this prefix contains, and the nodes left empty.
     RemoveChildren(P),
     /// `retain`: keeps the entries whose prefixes have at least this length, and the nodes that they need.
     RetainAtLeast(u8),
@@ -82,7 +82,7 @@ pub enum Reply<P: Prefix, A: Allocator> {
 
 /// Carries out the calls in order and returns one reply for each.
 ///
-/// After any list of calls, every call answers as a finite map from bit strings to values does:
+/// After any list of calls, every call returns what a finite map from bit strings to values returns:
 /// exact lookups and longest and shortest stored beginnings within floor(length / 5) + 1 node
 /// visits, each walk its selected entries once in order, and a tidy map's nodes are exactly those
 /// that its keys need.

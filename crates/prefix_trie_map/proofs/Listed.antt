@@ -31,13 +31,13 @@ module _ {K P : Type 0} {w : ℕ} {IsKey : K → Type 0} {bits : K → List Bool
   }
 
 -- a test that may be called on each stored key, in any state, may be called on each entry in order
-module _ {F T : Type 0} (asks : F → List Bool → T → Bool → F → Type 0) (accepts : F → List Bool → T → Type 0) where
-  may_ask_each : (f : F) (es : List (List Bool × T)) → All (λ e. (f' : F) → accepts f' e.0 e.1) es → CallableOnEachEntry asks accepts f es
+module _ {F T : Type 0} (may_return : F → List Bool → T → Bool → F → Type 0) (accepts : F → List Bool → T → Type 0) where
+  may_ask_each : (f : F) (es : List (List Bool × T)) → All (λ e. (f' : F) → accepts f' e.0 e.1) es → CallableOnEachEntry may_return accepts f es
   may_ask_each f [] all = tt
   may_ask_each f (e ∷ es) all =
       (All-head (λ e. (f' : F) → accepts f' e.0 e.1) e es all f, λ b f' called. may_ask_each f' es (All-tail (λ e. (f' : F) → accepts f' e.0 e.1) e es all))
 
-  pub may_ask_stored : (f : F) (m : Entries T) → ((f' : F) (k : List Bool) (v : T) → contains_key m k ≡ true → accepts f' k v) → CallableOnEachEntry asks accepts f (listing m)
+  pub may_ask_stored : (f : F) (m : Entries T) → ((f' : F) (k : List Bool) (v : T) → contains_key m k ≡ true → accepts f' k v) → CallableOnEachEntry may_return accepts f (listing m)
   may_ask_stored f m always =
       may_ask_each f (listing m)
       (All-weaker (λ e. (v : T) (f' : F) → accepts f' e.0 v) (λ e. (f' : F) → accepts f' e.0 e.1) (λ e h. h e.1) (listing m)

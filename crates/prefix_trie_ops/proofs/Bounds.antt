@@ -5,7 +5,7 @@ use Rattle.std.specs.List.{cons_option, filter_map}
 use Rattle.std.specs.FinMap.{get, len, len-entries, retain_keys}
 use Rattle.prefix_trie_bits.specs.Model.Order.{listing_cmp}
 use Rattle.prefix_trie_bits.proofs.Model.Ordered.{entries-retained}
-use Rattle.prefix_trie.specs.Words.{AreWithin, Entries, listing}
+use Rattle.prefix_trie.specs.Terms.{AreWithin, Entries, listing}
 use Rattle.prefix_trie_ops.specs.Combining.{both_values, common, with_partner}
 use Rattle.prefix_trie_ops.specs.Merging.{merged, sides, union_of}
 use Rattle.prefix_trie_ops.specs.declared.map.sides.Side.{Side}

@@ -5,7 +5,7 @@ use Rattle.std.proofs.lemmas.List.Elements.{filter-append, All-head, All-tail, A
 use Rattle.std.specs.List.{slice_get}
 use Rattle.std.specs.Option.{option_map, option_to_list}
 use Rattle.prefix_trie_bits.specs.Begins.{begins-trans}
-use Rattle.prefix_trie.specs.Words.{begins, last_item, lent_item}
+use Rattle.prefix_trie.specs.Terms.{begins, last_item, lent_item}
 use Rattle.prefix_trie_ops.specs.Values.{are_equal, IsChain}
 
 module _ {X : Type 0} where

@@ -6,7 +6,7 @@ use Rattle.prefix_trie_bits.specs.Begins.{begins-refl}
 use Rattle.prefix_trie_bits.specs.Model.Order.{listing_cmp}
 use Rattle.prefix_trie_bits.specs.Order.{listing_same, listing_total}
 use Rattle.prefix_trie.specs.Laws.Lookups.{LookupLaws}
-use Rattle.prefix_trie.specs.Words.{Entries, no_entries, shortest_match}
+use Rattle.prefix_trie.specs.Terms.{Entries, no_entries, shortest_match}
 use Rattle.prefix_trie_ops.specs.Combining.{both_values, common, minus, not_covered}
 use Rattle.prefix_trie_ops.specs.Laws.{CombiningLaws}
 use Rattle.prefix_trie_ops.specs.Merging.{sides, union_of}

@@ -5,7 +5,7 @@ use Rattle.std.specs.FinMap.{contains_key, get, get-entries, retain_keys}
 use Rattle.std.specs.FinMap.Entries.{find}
 use Rattle.prefix_trie_bits.specs.Model.Order.{listing_cmp}
 use Rattle.prefix_trie_bits.proofs.Model.Ordered.{found_first}
-use Rattle.prefix_trie.specs.Words.{Entries, listing}
+use Rattle.prefix_trie.specs.Terms.{Entries, listing}
 use Rattle.prefix_trie_ops.proofs.Combining.{retained_at}
 
 module _ {P T' : Type 0} (back : List Bool → P) (m : Entries T') (p : List Bool → Bool) where

@@ -12,7 +12,7 @@ use Rattle.prefix_trie_bits.specs.Model.Order.{listing_cmp}
 use Rattle.prefix_trie_bits.specs.Order.{listing-extension, listing-apart}
 use Rattle.prefix_trie_bits.proofs.Model.Ordered.{not_itself, not_less, sorted-head, sorted-tail, lt-less, t-true, true-t}
 use Rattle.prefix_trie_bits.proofs.Model.Members.{and-first, and-second}
-use Rattle.prefix_trie.specs.Words.{Entries, begins, covers, last_item, listing}
+use Rattle.prefix_trie.specs.Terms.{Entries, begins, covers, last_item, listing}
 use Rattle.prefix_trie_ops.specs.Values.{value_above, value_of}
 use Rattle.prefix_trie_ops.proofs.Lists.{contains_cases, contains_here, contains_none, contains_parts, contains_middle, filter_agrees, filter_both, filter_none}
 

@@ -2,7 +2,7 @@
 use Rattle.std.proofs.Common.{◌≡◌, ◌∙◌, ◌||◌, ◌&&◌, ◌⊎◌, inl, inr, List, Bool, ◌∷◌, Option, Some, None, Bor, is_some, ap, ap₂, sym, refl}
 use Rattle.std.specs.FinMap.{get}
 use Rattle.std.specs.Option.{option_copied, option_map}
-use Rattle.prefix_trie.specs.Words.{Entries, GivesItem, IsCombination, prefix_pairs}
+use Rattle.prefix_trie.specs.Terms.{Entries, GivesItem, IsCombination, prefix_pairs}
 use Rattle.prefix_trie_ops.specs.Combining.{both_values, common}
 use Rattle.prefix_trie_ops.specs.Merging.{lent_side, lent_values, sides, union_of}
 use Rattle.prefix_trie_ops.specs.declared.map.sides.Side.{Side}

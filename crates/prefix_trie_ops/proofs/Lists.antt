@@ -1,7 +1,7 @@
 -- Small facts on members of lists, filters, and the last item of a list.
 use Rattle.std.proofs.Common.{◌≡◌, ◌∙◌, ◌⊎◌, ◌++◌, ◌&&◌, zero, suc, Bool, true, false, cond, List, [], ◌∷◌, map, filter, Some, inl, inr, ap, sym, subst, refl, arith}
 use Rattle.std.specs.List.{Contains}
-use Rattle.prefix_trie.specs.Words.{last_item}
+use Rattle.prefix_trie.specs.Terms.{last_item}
 
 module _ {X : Type 0} where
   pub contains_cases : (y x : X) (xs : List X) → Contains (y ∷ xs) x → (y ≡ x) ⊎ Contains xs x

@@ -6,7 +6,7 @@ use Rattle.std.specs.FinMap.{entries_sorted, entries-from_sorted, get, get-entri
 use Rattle.std.specs.FinMap.Entries.{below_all, find, is_sorted}
 use Rattle.prefix_trie_bits.specs.Model.Order.{listing_cmp, same_string}
 use Rattle.prefix_trie_bits.specs.Order.{listing_same}
-use Rattle.prefix_trie.specs.Words.{Entries, listing}
+use Rattle.prefix_trie.specs.Terms.{Entries, listing}
 use Rattle.prefix_trie_ops.specs.Merging.{merged, sides, union_of}
 use Rattle.prefix_trie_ops.specs.declared.map.sides.Side.{Side}
 use Rattle.prefix_trie_ops.specs.declared.map.sides.Side.TheVariants.{Left, Right, Both}

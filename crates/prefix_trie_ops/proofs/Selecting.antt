@@ -5,7 +5,7 @@ use Rattle.std.proofs.lemmas.List.Elements.{All-cons, All-head, All-nil, All-tai
 use Rattle.std.specs.List.{Contains}
 use Rattle.std.specs.FinMap.{retain_keys}
 use Rattle.prefix_trie_bits.proofs.Model.Ordered.{entries-retained}
-use Rattle.prefix_trie.specs.Words.{Entries, listing, prefix_pairs}
+use Rattle.prefix_trie.specs.Terms.{Entries, listing, prefix_pairs}
 use Rattle.prefix_trie_ops.proofs.Lists.{contains_here, contains_later}
 
 module _ {P T' : Type 0} (path : P → List Bool) (back : List Bool → P) (p : List Bool → Bool) where

@@ -9,7 +9,7 @@ use Rattle.prefix_trie_bits.specs.Laws.Matches.{MatchLaws}
 use Rattle.prefix_trie_bits.specs.Order.{listing_same}
 use Rattle.prefix_trie_bits.proofs.Model.Ordered.{entries-retained}
 use Rattle.prefix_trie.specs.Laws.Lookups.{LookupLaws}
-use Rattle.prefix_trie.specs.Words.{Entries, begins, covers, first_item, last_item, listing, longest_match, shortest_match}
+use Rattle.prefix_trie.specs.Terms.{Entries, begins, covers, first_item, last_item, listing, longest_match, shortest_match}
 use Rattle.prefix_trie_ops.specs.Covered.{contains_path, is_below_another, is_uppermost, without_covered}
 use Rattle.prefix_trie_ops.specs.Values.{are_equal, is_redundant, value_above, value_of}
 use Rattle.prefix_trie_ops.proofs.Covers.{covers_none, covers_of, covers_push, covers_shorter, next_covers, shorter_covers}

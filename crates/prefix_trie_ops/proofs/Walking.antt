@@ -4,7 +4,7 @@ use Rattle.std.proofs.lemmas.List.{append_assoc}
 use Rattle.std.specs.List.{Contains}
 use Rattle.std.specs.Option.{option_map}
 use Rattle.std.specs.FinMap.{get}
-use Rattle.prefix_trie.specs.Words.{Entries, begins, last_item, listing, prefix_pairs}
+use Rattle.prefix_trie.specs.Terms.{Entries, begins, last_item, listing, prefix_pairs}
 use Rattle.prefix_trie_ops.specs.Values.{are_equal, is_redundant, stays, value_above}
 use Rattle.prefix_trie_ops.proofs.Lists.{contains_here, contains_later, contains_middle, head_of, tail_of, last_pushed, map_push}
 use Rattle.prefix_trie_ops.proofs.Covers.{shorter_covers, covers_push, next_covers, covers_of, above_is_last}

@@ -4,7 +4,7 @@ use Rattle.std.specs.declared.cmp.Ordering.{Ordering}
 use Rattle.std.specs.FinMap.{get}
 use Rattle.std.specs.List.{AllZip}
 use Rattle.std.specs.Option.{option_or}
-use Rattle.prefix_trie.specs.Words.{Entries, listing_after}
+use Rattle.prefix_trie.specs.Terms.{Entries, listing_after}
 use Rattle.prefix_trie_ops.specs.declared.map.optimal.choosing.Choices.{Choices}
 use Rattle.prefix_trie_ops.specs.declared.map.optimal.sets.Set.{Set}
 use Rattle.prefix_trie_ops.specs.Optimal.{is_first_below, value_along}

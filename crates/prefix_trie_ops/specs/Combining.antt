@@ -3,7 +3,7 @@ use Rattle.std.specs.Prelude.{Bool, not, List, Option, Some, None}
 use Rattle.std.specs.Option.{is_some, option_map}
 use Rattle.std.specs.List.{filter_map}
 use Rattle.std.specs.FinMap.{contains_key, from_sorted, get, retain_keys}
-use Rattle.prefix_trie.specs.Words.{Entries, listing, shortest_match}
+use Rattle.prefix_trie.specs.Terms.{Entries, listing, shortest_match}
 
 module _ {T U : Type 0} where
   -- the entries of m whose keys are not in n

@@ -2,7 +2,7 @@
 use Rattle.std.specs.Prelude.{◌-◌, ◌==◌, Bool, false, not, cond, List, length, take, Option, Some, None}
 use Rattle.std.specs.Option.{is_some}
 use Rattle.std.specs.FinMap.{retain_keys}
-use Rattle.prefix_trie.specs.Words.{Entries, begins, shortest_match}
+use Rattle.prefix_trie.specs.Terms.{Entries, begins, shortest_match}
 
 module _ {T : Type 0} where
   -- whether the string begins with a shorter key

@@ -2,7 +2,7 @@
 use Rattle.std.specs.Prelude.{◌≡◌, ◌↔◌, Bool, true, false, cond, List, None, is_some}
 use Rattle.std.specs.Option.{option_map, option_or}
 use Rattle.std.specs.FinMap.{contains_key, get}
-use Rattle.prefix_trie.specs.Words.{Entries, no_entries, shortest_match}
+use Rattle.prefix_trie.specs.Terms.{Entries, no_entries, shortest_match}
 use Rattle.prefix_trie_ops.specs.Combining.{both_values, common, minus, not_covered, restricted_to}
 use Rattle.prefix_trie_ops.specs.Merging.{sides, union_of}
 use Rattle.prefix_trie_ops.specs.Swapped.{swapped_pair, swapped_side}

@@ -2,7 +2,7 @@
 use Rattle.std.specs.Prelude.{List, [], ◌∷◌, Bool, Option, Some, None}
 use Rattle.std.proofs.Common.{Less, Equal, Greater, Bor}
 use Rattle.std.specs.FinMap.{from_sorted}
-use Rattle.prefix_trie.specs.Words.{Entries, listing, listing_cmp}
+use Rattle.prefix_trie.specs.Terms.{Entries, listing, listing_cmp}
 use Rattle.prefix_trie_ops.specs.declared.map.sides.Side.{Side}
 use Rattle.prefix_trie_ops.specs.declared.map.sides.Side.TheVariants.{Left, Right, Both}
 

@@ -4,7 +4,7 @@ use Rattle.std.specs.Ordering.{is_eq, is_lt}
 use Rattle.std.specs.Option.{option_or}
 use Rattle.std.specs.declared.cmp.Ordering.{Ordering}
 use Rattle.std.specs.FinMap.{get, len}
-use Rattle.prefix_trie.specs.Words.{Entries, begins, listing, listing_cmp}
+use Rattle.prefix_trie.specs.Terms.{Entries, begins, listing, listing_cmp}
 use Rattle.prefix_trie_ops.specs.Parts.{least}
 use Rattle.prefix_trie_ops.specs.Values.{are_equal}
 

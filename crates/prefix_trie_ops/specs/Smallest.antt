@@ -1,7 +1,7 @@
 -- What it means that no map with the same answers to questions of full width has fewer entries. This project's own.
 use Rattle.std.specs.Prelude.{◌≡◌, ◌≤◌, ℕ, Bool, List, length}
 use Rattle.std.specs.FinMap.{len}
-use Rattle.prefix_trie.specs.Words.{Entries}
+use Rattle.prefix_trie.specs.Terms.{Entries}
 use Rattle.prefix_trie_ops.specs.Values.{value_of}
 
 module _ {T : Type 0} (width : ℕ) where

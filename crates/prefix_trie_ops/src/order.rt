@@ -1,6 +1,6 @@
 //! The listing order of prefixes.
 ghost use Rattle.std.specs.Prelude.{◌≡◌};
-ghost use Rattle.prefix_trie.specs.Words.{listing_cmp};
+ghost use Rattle.prefix_trie.specs.Terms.{listing_cmp};
 
 use prefix_trie::laws::{listing_laws, path_laws};
 use prefix_trie::{Key, Prefix};

@@ -2,7 +2,7 @@
 ghost use Rattle.std.specs.Prelude.{◌≡◌, ◌<◌, All, List, Bool, filter, length, map};
 ghost use Rattle.std.specs.Iterator.{at_most};
 ghost use Rattle.std.specs.Map.Iter.{TakesFirst};
-ghost use Rattle.prefix_trie.specs.Words.{lent_item};
+ghost use Rattle.prefix_trie.specs.Terms.{lent_item};
 
 use prefix_trie::Prefix;
 use prefix_trie::map::{Iter, Keyed};

@@ -6,7 +6,7 @@ use Rattle.std.specs.FinMap.{entries_sorted, get, get-entries}
 use Rattle.std.specs.FinMap.Entries.{below_all, find, is_sorted}
 use Rattle.prefix_trie_bits.specs.Model.Order.{listing_cmp, same_string}
 use Rattle.prefix_trie.specs.Laws.Stored.{StoredLaws}
-use Rattle.prefix_trie.specs.Words.{Entries, listing, no_entries, put_all, prefix_pairs, with_entry}
+use Rattle.prefix_trie.specs.Terms.{Entries, listing, no_entries, put_all, prefix_pairs, with_entry}
 use Rattle.prefix_trie_ops.specs.Merging.{sides, union_of}
 use Rattle.prefix_trie_ops.specs.declared.map.sides.Side.{Side}
 use Rattle.prefix_trie_ops.proofs.Lists.{contains_here, contains_later}

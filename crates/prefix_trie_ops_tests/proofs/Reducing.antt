@@ -3,7 +3,7 @@ use Rattle.std.proofs.Common.{◌≡◌, ◌∙◌, ◌<◌, ◌-◌, Bool, true
 use Rattle.std.specs.FinMap.{contains_key}
 use Rattle.prefix_trie_bits.specs.Begins.{begins-from-take, begins-linear}
 use Rattle.prefix_trie.specs.Laws.Lookups.{LookupLaws}
-use Rattle.prefix_trie.specs.Words.{Entries, begins, shortest_match}
+use Rattle.prefix_trie.specs.Terms.{Entries, begins, shortest_match}
 use Rattle.prefix_trie_ops.specs.Covered.{is_below_another}
 use Rattle.prefix_trie_ops.proofs.Covers.{no_shorter}
 use Rattle.std.proofs.lemmas.List.{length-take-le}

@@ -8,7 +8,7 @@ use Rattle.prefix_trie_bits.specs.Model.Order.{listing_cmp, same_string}
 use Rattle.prefix_trie_bits.specs.Order.{listing-refl}
 use Rattle.std.specs.Ordering.{is_eq}
 use Rattle.prefix_trie.specs.Laws.Stored.{StoredLaws}
-use Rattle.prefix_trie.specs.Words.{Entries, listing, prefix_pairs, with_entry, without_entry}
+use Rattle.prefix_trie.specs.Terms.{Entries, listing, prefix_pairs, with_entry, without_entry}
 use Rattle.prefix_trie_ops.specs.Merging.{sides, union_of}
 use Rattle.prefix_trie_ops.specs.declared.map.sides.Side.{Side}
 use Rattle.prefix_trie_ops.specs.declared.map.sides.Side.TheVariants.{Left, Right, Both}

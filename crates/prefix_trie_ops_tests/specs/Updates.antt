@@ -1,6 +1,6 @@
 -- Update messages: each a prefix, with its new value or with none if it is withdrawn.
 use Rattle.std.specs.Prelude.{ℕ, Bool, List, [], ◌∷◌, cond, Option, None, Some, nat_eq}
-use Rattle.prefix_trie.specs.Words.{Entries, with_entry, without_entry}
+use Rattle.prefix_trie.specs.Terms.{Entries, with_entry, without_entry}
 use Rattle.prefix_trie_ops.specs.declared.map.sides.Side.{Side}
 use Rattle.prefix_trie_ops.specs.declared.map.sides.Side.TheVariants.{Left, Right, Both}
 

@@ -1,6 +1,6 @@
 //! Runs: lists of calls, each with its expected reply.
 ghost use Rattle.std.specs.Prelude.{All, IfSome, IfOk};
-ghost use Rattle.prefix_trie.specs.Words.{IsFittingCall};
+ghost use Rattle.prefix_trie.specs.Terms.{IsFittingCall};
 
 use crate::table::{Entry, Map, Number, Pair, TablePrefix, fitting_prefix, is_number, is_prefix};
 use prefix_trie::replay::{Call, Reply, run};

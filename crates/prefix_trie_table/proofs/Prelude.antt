@@ -136,7 +136,7 @@ pub use Rattle.prefix_trie_table.specs.declared.table.walk_start.Start.{Start}
 pub use Rattle.prefix_trie_table.specs.declared.table.walk_start.Start.TheVariants.{After, At, Below}
 pub use Rattle.prefix_trie_table.specs.declared.table.lookup.Reached.{Reached}
 pub use Rattle.prefix_trie_table.specs.declared.table.matching.Match.{Match}
-pub use Rattle.prefix_trie_table.specs.declared.table.split_move.Seats.{Seats}
+pub use Rattle.prefix_trie_table.specs.declared.table.part_moving.Seats.{Seats}
 pub use Rattle.prefix_trie_table.specs.declared.table.retain.Site.{Site}
 pub use Rattle.prefix_trie_table.specs.declared.table.seat.Location.{Location}
 pub use Rattle.prefix_trie_table.specs.declared.table.seat.Location.TheVariants.{Missing, Stored}

@@ -81,27 +81,27 @@ pub record IsSite {K : Type 0} (IsKey : K → Type 0) (bits : K → List Bool) (
   pub is_there : read v.slots (chunks_of (take p.depth (bits p.key))) ≡ Some n
   pub slot_is : IsSlot (read v.slots) (chunks_of (take p.depth (bits p.key))) p.slot
 
-module _ {F T : Type 0} (asks : F → List Bool → T → Bool → F → Type 0) where
+module _ {F T : Type 0} (may_return : F → List Bool → T → Bool → F → Type 0) where
   -- called once on each entry in order from the state f, the test can be left as g
   abbrev pub AsksUpTo : F → List (List Bool × T) → F → Type 0
   AsksUpTo f [] g = g ≡ f
-  AsksUpTo f (e ∷ es) g = (b : Bool) × (f' : F) × asks f e.0 e.1 b f' × AsksUpTo f' es g
+  AsksUpTo f (e ∷ es) g = (b : Bool) × (f' : F) × may_return f e.0 e.1 b f' × AsksUpTo f' es g
 
   -- the test returns false at each call
   abbrev pub ReturnsFalse : Type 0
-  ReturnsFalse = (f : F) (k : List Bool) (x : T) (b : Bool) (g : F) → asks f k x b g → b ≡ false
+  ReturnsFalse = (f : F) (k : List Bool) (x : T) (b : Bool) (g : F) → may_return f k x b g → b ≡ false
 
-module _ {F T : Type 0} (asks : F → List Bool → T → Bool → F → Type 0) (accepts : F → List Bool → T → Type 0) where
+module _ {F T : Type 0} (may_return : F → List Bool → T → Bool → F → Type 0) (accepts : F → List Bool → T → Type 0) where
   -- the test was called on each entry at these places of the node at s, in listing order, and the entries for which it
   -- returned true are left
   -- The nodes under these places that no remaining key needs are removed. Everything else is unchanged.
   pub record Retains (s : List Bool) (ts : List (List Bool)) (f : F) (before : State T) (f' : F) (after : State T) : Type 0 where
     pub kept : List (List Bool × T)
-    pub asked : (rest later : List (List Bool × T)) → RetainsEntries asks f' rest later →
-        RetainsEntries asks f (listing_at_places before.entries s ts ++ rest) (kept ++ later)
-    pub up_to : AsksUpTo asks f (listing_at_places before.entries s ts) f'
-    pub may_ask : (rest : List (List Bool × T)) → CallableOnEachEntry asks accepts f (listing_at_places before.entries s ts ++ rest) →
-        CallableOnEachEntry asks accepts f' rest
+    pub asked : (rest later : List (List Bool × T)) → RetainsEntries may_return f' rest later →
+        RetainsEntries may_return f (listing_at_places before.entries s ts ++ rest) (kept ++ later)
+    pub up_to : AsksUpTo may_return f (listing_at_places before.entries s ts) f'
+    pub may_ask : (rest : List (List Bool × T)) → CallableOnEachEntry may_return accepts f (listing_at_places before.entries s ts ++ rest) →
+        CallableOnEachEntry may_return accepts f' rest
     pub stays : listing_at_places after.entries s ts ≡ kept
     pub others : (q : List Bool) → is_at_some s ts q ≡ false → get after.entries q ≡ get before.entries q
     pub fewer : (q : List Bool) → has_node after.nodes q ≡ true → has_node before.nodes q ≡ true
@@ -121,21 +121,21 @@ module _ {F T : Type 0} (asks : F → List Bool → T → Bool → F → Type 0)
   -- the test may be called on each entry at these places
   abbrev pub MayAskAt : ℕ → List Bool → List (List Bool) → F → ℕ → Store Node → Store (Option T) → Type 0
   MayAskAt width s ts f count v w =
-      (before : State T) → IsTrie width count v w before → CallableOnEachEntry asks accepts f (listing_at_places before.entries s ts)
+      (before : State T) → IsTrie width count v w before → CallableOnEachEntry may_return accepts f (listing_at_places before.entries s ts)
 
   -- the test may be called on each entry whose key begins with q
   abbrev pub MayAskBelow : ℕ → List Bool → F → ℕ → Store Node → Store (Option T) → Type 0
-  MayAskBelow width q f count v w = (before : State T) → IsTrie width count v w before → CallableOnEachEntry asks accepts f (listing_below before.entries q)
+  MayAskBelow width q f count v w = (before : State T) → IsTrie width count v w before → CallableOnEachEntry may_return accepts f (listing_below before.entries q)
 
   -- the test was called once on each entry whose key begins with q, and these entries were removed; these nodes are left
   pub record TakesBelow (width : ℕ) (q : List Bool) (f : F) (before : State T) (f' : F) (left : Nodes) (count : ℕ) (v : Store Node) (w : Store (Option T)) : Type 0 where
     pub trie : IsTrie width count v w (record { entries = without_below before.entries q; nodes = left })
-    pub up_to : AsksUpTo asks f (listing_below before.entries q) f'
+    pub up_to : AsksUpTo may_return f (listing_below before.entries q) f'
 
   -- the test was called on each entry of these arrays, in listing order
   -- The arrays now have the entries for which it returned true, and the nodes that these need.
   pub record RetainsAll (width : ℕ) (f : F) (before : State T) (count : ℕ) (v : Store Node) (w : Store (Option T)) : Type 0 where
     pub after : State T
     pub trie : IsTrie width count v w after
-    pub asked : RetainsEntries asks f (listing before.entries) (listing after.entries)
+    pub asked : RetainsEntries may_return f (listing before.entries) (listing after.entries)
     pub tidy : after.nodes ≡ needed after.entries

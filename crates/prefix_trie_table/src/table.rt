@@ -8,7 +8,6 @@
 //! slots and bitmaps (`build`).
 mod block_counts;
 pub mod bulk;
-mod children;
 mod copying;
 mod counting;
 mod cover;
@@ -21,10 +20,11 @@ mod located;
 mod lookup;
 mod matching;
 mod memory;
+mod part_moving;
+mod part_removal;
 mod removal;
 pub mod retain;
 pub mod seat;
-mod split_move;
 mod splitting;
 pub mod spot;
 mod taking;
@@ -53,13 +53,13 @@ ghost use Rattle.prefix_trie_table.specs.Model.Contents.{state, storage, stored_
 ghost use Rattle.prefix_trie_table.specs.Steps.{insert_reply, BoundsStorageGrowth};
 
 use crate::allocator::blocks::{Cells, cells};
-use crate::allocator::nodes::{NodeAllocator, Tick};
-use crate::table::children::{KeepNothing, remove_part};
+use crate::allocator::nodes::{NodeAllocator, VisitCounter};
 use crate::table::matching::{longest_on_path, shortest_on_path, value_of_match};
+use crate::table::part_moving::move_part;
+use crate::table::part_removal::{KeepNothing, remove_part};
 use crate::table::removal::{clear_entries, remove_entry, remove_value};
 use crate::table::retain::{Keep, retain_entries};
 use crate::table::seat::Location;
-use crate::table::split_move::move_part;
 use crate::table::splitting::build_part;
 use crate::table::walk::walk_of;
 use crate::table::walk_start::{Start, walk_at};
@@ -73,7 +73,7 @@ pub use walk::Walk;
 
 /// A finite map from bit strings to values.
 #[derive(Drop)]
-pub struct Table<T: Drop, A: Allocator, V: Tick> {
+pub struct Table<T: Drop, A: Allocator, V: VisitCounter> {
     nodes: NodeAllocator<A, V>,
     cells: Cells<T, A>,
     count: usize,
@@ -82,7 +82,7 @@ pub struct Table<T: Drop, A: Allocator, V: Tick> {
 }
 
 // Clauses see the entries, the nodes, the space, the layout, and for seats the nodes in their slots.
-impl<T: Drop, A: Allocator, V: Tick> Model for Table<T, A, V> {
+impl<T: Drop, A: Allocator, V: VisitCounter> Model for Table<T, A, V> {
     ghost use Rattle.prefix_trie_table.specs.Model.Contents.{Contents};
     ghost use Rattle.prefix_trie_table.specs.Shape.{contents_code};
 
@@ -114,7 +114,7 @@ impl<T: Drop, A: Allocator, V: Tick> Model for Table<T, A, V> {
     ghost invariant = { λ t. IsTable t.nodes t.cells t.count t.shape.0 };
 }
 
-impl<T: Drop, A: Allocator + Clone, V: Tick> Table<T, A, V> {
+impl<T: Drop, A: Allocator + Clone, V: VisitCounter> Table<T, A, V> {
     /// Creates an empty table whose arrays are never longer than `limit` slots.
     ///
     /// # Errors
@@ -194,7 +194,7 @@ impl<T: Drop, A: Allocator + Clone, V: Tick> Table<T, A, V> {
     }
 }
 
-impl<T: Drop, A: Allocator, V: Tick> Table<T, A, V> {
+impl<T: Drop, A: Allocator, V: VisitCounter> Table<T, A, V> {
     /// Returns the number of entries.
     ///
     /// Its contract also brings three facts into a caller's proof: neither array exceeds the limit, which is below 2^32,
@@ -219,7 +219,7 @@ impl<T: Drop, A: Allocator, V: Tick> Table<T, A, V> {
         ensures value { option_copied result ≡ get self.now.entries path }
         ensures visits { V.count counter.new ≡ V.count counter.old + visits self.now.nodes path }
     {
-        match self.locate(path.again(), counter) {
+        match self.locate(path.copy(), counter) {
             Location::Stored(seat) => Some(self.at(path, seat)),
             Location::Missing(_) => None,
         }
@@ -318,7 +318,7 @@ impl<T: Drop, A: Allocator, V: Tick> Table<T, A, V> {
     {
         // Read for the proof alone: neither array exceeds the limit.
         let _entries = self.len();
-        match self.locate(path.again(), counter) {
+        match self.locate(path.copy(), counter) {
             Location::Stored(seat) => Ok(Some(mem::replace(self.at_mut(path, seat), value))),
             Location::Missing(end) => match self.insert_located(path, end, value) {
                 Ok(_) => Ok(None),
@@ -403,8 +403,9 @@ impl<T: Drop, A: Allocator, V: Tick> Table<T, A, V> {
     pub fn retain<K: Key, F: Keep<K, T, V>>(&mut self, keep: F, counter: &mut V)
         requires within { AreWithin K.bit_width self.old.entries }
         requires nodes { AreNodes K.bit_width self.old.entries self.old.nodes }
-        requires may_ask { CallableOnEachEntry F.asks F.accepts keep (listing self.old.entries) }
-        ensures step { RetainsInStorage F.asks keep (stored_state self.old)
+        requires may_ask { CallableOnEachEntry F.may_return F.accepts keep
+            (listing self.old.entries) }
+        ensures step { RetainsInStorage F.may_return keep (stored_state self.old)
             (stored_state self.new) }
         ensures fits { AreWithin K.bit_width self.new.entries }
         ensures bounds_growth { BoundsStorageGrowth (storage self.old) (storage self.new) }

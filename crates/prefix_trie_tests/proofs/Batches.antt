@@ -1,6 +1,6 @@
 -- What one bulk lookup of many addresses returns: a lemma for `examples::batch`.
 use Rattle.prefix_trie_tests.proofs.Prelude.{◌≡◌, ℕ, List, Option, map, take, ap, ◌∙◌, arith, option_map, take_all, map-map, length-digits, ipv4_address, longest_match}
-use Rattle.prefix_trie.specs.Words.{Entries, digits}
+use Rattle.prefix_trie.specs.Terms.{Entries, digits}
 
 -- The values of the longest matches of addresses.
 pub hops_of : {T : Type 0} (entries : Entries T) (addresses : List ℕ) (asked : List (ℕ × ℕ)) → asked ≡ map (λ addr. (addr, 32)) addresses → (answers : List (Option T))

@@ -53,4 +53,4 @@ pub use Rattle.prefix_trie_map.specs.declared.map.entry.Entry.{Entry}
 pub use Rattle.prefix_trie_map.specs.declared.map.writing.cursor.MapCursor.{MapCursor}
 pub use Rattle.prefix_trie.specs.Laws.Putting.{Leads}
 pub use Rattle.prefix_trie.specs.Model.Replay.{IsFittingCall}
-pub use Rattle.prefix_trie.specs.Words.{Joins, covers, ipv4_address, ipv4_back, longest_match}
+pub use Rattle.prefix_trie.specs.Terms.{Joins, covers, ipv4_address, ipv4_back, longest_match}

@@ -1,7 +1,7 @@
 //! What callers learn about a map with an unknown history.
 ghost use Rattle.std.specs.Prelude.{◌≡◌, false, filter, IfOk};
 ghost use Rattle.std.specs.FinMap.{contains_key, len};
-ghost use Rattle.prefix_trie.specs.Words.{listing, needed, IsTidy};
+ghost use Rattle.prefix_trie.specs.Terms.{listing, needed, IsTidy};
 ghost use Rattle.prefix_trie_bits.specs.Laws.Slots.{MakesSlots};
 ghost use Rattle.prefix_trie_map.specs.Steps.{storage};
 

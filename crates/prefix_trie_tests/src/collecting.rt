@@ -1,7 +1,7 @@
 //! Maps that are collected from an iterator, and maps that are compared: what callers learn, and what is dropped if an
 //! allocation fails.
 ghost use Rattle.std.specs.Prelude.{◌≡◌, All, IfOk, IsTrue};
-ghost use Rattle.prefix_trie.specs.Words.{listing, no_entries, put_all, prefix_pairs, IsTidy};
+ghost use Rattle.prefix_trie.specs.Terms.{listing, no_entries, put_all, prefix_pairs, IsTidy};
 
 use crate::drops::Counted;
 use crate::networks::v4;

@@ -1,7 +1,7 @@
 //! Callers of entries, and what they learn about the map.
 ghost use Rattle.std.specs.Prelude.{◌≡◌, true, ℕ, ◌+◌, ◌-◌, ◌<◌, ◌^◌, IfOk, OnOk, OnErr, None, Some, IsTrue, IsFalse, is_some};
 ghost use Rattle.std.specs.FinMap.{get, contains_key, len};
-ghost use Rattle.prefix_trie.specs.Words.{listing, put_all, prefix_pairs, with_entry, with_needed, with_value_at, without_entry};
+ghost use Rattle.prefix_trie.specs.Terms.{listing, put_all, prefix_pairs, with_entry, with_needed, with_value_at, without_entry};
 ghost use Rattle.prefix_trie_bits.specs.Model.Space.{LeavesSpace};
 
 use crate::contents::{has_values, stores};

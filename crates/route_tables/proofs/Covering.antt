@@ -5,7 +5,7 @@ use Rattle.std.proofs.lemmas.Map.Views.{Contains-from_any, list_any-from_Contain
 use Rattle.std.proofs.lemmas.Slice.Eq.{bytes_eq-Decides}
 use Rattle.std.specs.Cmp.Lexicographic.{nat_list_eq_equiv}
 use Rattle.std.specs.List.{Contains, list_any}
-use Rattle.prefix_trie.specs.Words.{covers, prefix_pairs, IsMatch}
+use Rattle.prefix_trie.specs.Terms.{covers, prefix_pairs, IsMatch}
 use Rattle.prefix_trie_bits.specs.Laws.Matches.{MatchLaws}
 use Rattle.route_tables.specs.Access.{IsCoveredBy, IsRule}
 use Rattle.route_tables.specs.Tables.{Values}

@@ -2,7 +2,7 @@
 use Rattle.std.proofs.Common.{◌≡◌, ◌≢◌, ◌↔◌, ℕ, Bool, true, false, not, List, Option, Some, None, Contains, bytes_eq, filter, refl, sym, ap, subst, ◌∙◌, true≢false}
 use Rattle.std.proofs.lemmas.Slice.Eq.{bytes_eq-Decides}
 use Rattle.std.specs.FinMap.{get}
-use Rattle.prefix_trie.specs.Words.{listing, prefix_pairs}
+use Rattle.prefix_trie.specs.Terms.{listing, prefix_pairs}
 use Rattle.prefix_trie_bits.specs.Laws.Listings.{ListingLaws}
 use Rattle.prefix_trie_ops.specs.Laws.{CombiningLaws}
 use Rattle.prefix_trie_ops.specs.Merging.{sides, union_of}

@@ -1,7 +1,7 @@
 -- Loading a text line by line: the invariant of the loop, how each line preserves it, and what the loop leaves: for
 -- `load`.
 use Rattle.std.proofs.Common.{◌≡◌, ℕ, suc, ◌+◌, List, [], ◌∷◌, refl, sym, ap, subst, ◌∙◌, inl, inr, arith}
-use Rattle.prefix_trie.specs.Words.{no_entries}
+use Rattle.prefix_trie.specs.Terms.{no_entries}
 use Rattle.route_tables.specs.Loads.{AddsLine, IsBadAt, NamesFirstBad}
 use Rattle.route_tables.specs.declared.load.LoadError.{LoadError}
 use Rattle.route_tables.specs.declared.load.LoadError.TheVariants.{Line, Refused}

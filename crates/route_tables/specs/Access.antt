@@ -1,6 +1,6 @@
 -- Access lists. This project's own.
 use Rattle.std.specs.Prelude.{◌≡◌, ◌⊎◌, ℕ, Bool, List, codes}
-use Rattle.prefix_trie.specs.Words.{IsMatch}
+use Rattle.prefix_trie.specs.Terms.{IsMatch}
 use Rattle.route_tables.specs.Tables.{Values}
 
 -- the value is a rule of an access list: `allow` or `deny`

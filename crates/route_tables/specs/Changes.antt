@@ -1,7 +1,7 @@
 -- The networks at which two tables differ. This project's own.
 use Rattle.std.specs.Prelude.{ℕ, Bool, true, not, List, filter, bytes_eq}
 use Rattle.std.specs.Borrow.{Bor}
-use Rattle.prefix_trie.specs.Words.{listing}
+use Rattle.prefix_trie.specs.Terms.{listing}
 use Rattle.prefix_trie_ops.specs.Merging.{union_of}
 use Rattle.prefix_trie_ops.specs.declared.map.sides.Side.{Side}
 use Rattle.prefix_trie_ops.specs.declared.map.sides.Side.TheVariants.{Left, Right, Both}

@@ -1,6 +1,6 @@
 -- Networks of both families. This project's own.
 use Rattle.std.specs.Prelude.{ℕ, List}
-use Rattle.prefix_trie.specs.Words.{HasNoHostBits, IsIpv4NetworkText, IsIpv6NetworkText}
+use Rattle.prefix_trie.specs.Terms.{HasNoHostBits, IsIpv4NetworkText, IsIpv6NetworkText}
 use Rattle.route_tables.specs.declared.network.Network.{Network}
 use Rattle.route_tables.specs.declared.network.Network.TheVariants.{V4, V6}
 

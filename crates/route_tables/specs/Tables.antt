@@ -1,7 +1,7 @@
 -- The entries of the tables of both families. This project's own.
 use Rattle.std.specs.Prelude.{ℕ, Bool, List, [], ◌∷◌}
 use Rattle.std.specs.FinMap.{contains_key}
-use Rattle.prefix_trie.specs.Words.{Entries, ipv4_path, ipv6_path, with_entry}
+use Rattle.prefix_trie.specs.Terms.{Entries, ipv4_path, ipv6_path, with_entry}
 use Rattle.route_tables.specs.Routes.{Route}
 use Rattle.route_tables.specs.declared.network.Network.{Network}
 use Rattle.route_tables.specs.declared.network.Network.TheVariants.{V4, V6}

@@ -2,7 +2,7 @@
 ghost use Rattle.std.specs.Prelude.{◌≡◌, ◌↔◌, ℕ, Bool, List, IsTrue, MatchOption, Some, bytes_eq, codes, map};
 ghost use Rattle.std.specs.FinMap.{get};
 ghost use Rattle.std.specs.List.{list_any};
-ghost use Rattle.prefix_trie.specs.Words.{covers};
+ghost use Rattle.prefix_trie.specs.Terms.{covers};
 ghost use Rattle.route_tables.specs.Access.{IsCoveredBy, IsRule};
 
 use crate::table::Table;
@@ -44,6 +44,7 @@ fn is_covered_by<P: Prefix>(table: &Table<P>, address: &P, rule: &str) -> bool
 }
 
 // Does the same as `is_covered_by`, by the list of the values of the networks that contain the address.
+// It is apart so that the invariant of its loop is about this list, without the law that `is_covered_by` uses.
 fn has_value<P: Prefix>(table: &Table<P>, address: &P, rule: &str) -> bool
     requires { P.IsFitting address.now }
     ensures { result

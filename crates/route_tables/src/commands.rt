@@ -1,9 +1,9 @@
 //! What the commands print, over tables and a writer.
 
 use crate::access::is_allowed;
-use crate::diff::{Values, diff as changes};
-use crate::lookup::lookup as longest;
-use crate::minimise::minimise as remove_redundant;
+use crate::diff::{Values, changes};
+use crate::lookup::longest;
+use crate::minimise::remove_redundant;
 use crate::network::Network;
 use crate::stats::{array_bytes, by_length, text_bytes};
 use crate::table::{Table, Tables};

@@ -1,7 +1,7 @@
 //! What changes from one table to another.
 ghost use Rattle.std.specs.Prelude.{◌≡◌, ◌≢◌, ◌↔◌, ℕ, Bool, Contains, IfOk, List, Some, map};
 ghost use Rattle.std.specs.FinMap.{get};
-ghost use Rattle.prefix_trie.specs.Words.{prefix_pairs};
+ghost use Rattle.prefix_trie.specs.Terms.{prefix_pairs};
 ghost use Rattle.prefix_trie_ops.specs.Merging.{lent_side, sides};
 ghost use Rattle.prefix_trie_ops.specs.declared.map.sides.Side.{Side};
 ghost use Rattle.route_tables.specs.Changes.{changes_of, differ, lent};
@@ -28,10 +28,10 @@ pub type Values<'a> = Side<&'a Value, &'a Value>;
 /// ```rust
 /// let old = load(b"10.0.0.0/8 core\n10.1.0.0/16 edge\n", alloc)?.tables;
 /// let new = load(b"10.0.0.0/8 core\n10.1.0.0/16 core\n", alloc)?.tables;
-/// let changes = diff(&old.ipv4, &new.ipv4, alloc)?;
-/// changes.iter().map(|change| change.0);      // [10.1.0.0/16]
+/// let changed = changes(&old.ipv4, &new.ipv4, alloc)?;
+/// changed.iter().map(|change| change.0);      // [10.1.0.0/16]
 /// ```
-pub fn diff<'a, P: Prefix>(
+pub fn changes<'a, P: Prefix>(
     old: &'a Table<P>,
     new: &'a Table<P>,
     alloc: Global,

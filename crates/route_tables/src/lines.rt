@@ -13,6 +13,7 @@ fn line_len(text: &[u8]) -> usize
 }
 
 // Returns the index of the first line feed.
+// It is apart from `line_len` so that tactics prove both.
 fn line_end(text: &[u8]) -> Option<usize>
     ensures { result ≡ position (λ b. b == 10) text.now }
 {
@@ -29,6 +30,7 @@ fn word_len(text: &[u8]) -> usize
 }
 
 // Returns the index of the first white space.
+// It is apart from `word_len` so that tactics prove both.
 fn word_end(text: &[u8]) -> Option<usize>
     ensures { result ≡ position is_ascii_whitespace text.now }
 {
@@ -69,6 +71,13 @@ fn split_word(text: &[u8]) -> Option<(&[u8], &[u8])>
 }
 
 /// Splits off the first field, a word before the comment, or returns `None` if there is none.
+///
+/// # Examples
+///
+/// ```rust
+/// split_field(b" core # edge") == Some((b"core", b" # edge"));        // true
+/// split_field(b" # edge").is_none();                                  // true
+/// ```
 pub fn split_field(text: &[u8]) -> Option<(&[u8], &[u8])>
     ensures { MatchOption result (fields text.now ≡ [])
         (λ parts. fields text.now ≡ parts.0.now ∷ fields parts.1.now) }

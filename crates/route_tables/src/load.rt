@@ -5,7 +5,7 @@
 //! A field that begins with `#` begins a comment. White space separates fields. Both ends of a line may have white
 //! space, so lines may end with CR LF.
 ghost use Rattle.std.specs.Prelude.{◌≡◌, List, IfErr, IfOk};
-ghost use Rattle.prefix_trie.specs.Words.{no_entries};
+ghost use Rattle.prefix_trie.specs.Terms.{no_entries};
 ghost use Rattle.route_tables.specs.Lines.{lines};
 ghost use Rattle.route_tables.specs.Loads.{AddsLine, IsBadAt, IsRefusal, NamesFirstBad};
 ghost use Rattle.route_tables.specs.Routes.{HasRoutes, Route};

@@ -1,7 +1,7 @@
 //! The longest network that contains an address.
 ghost use Rattle.std.specs.Prelude.{◌≡◌, MatchOption};
 ghost use Rattle.std.specs.Option.{option_map};
-ghost use Rattle.prefix_trie.specs.Words.{lent_item, longest_match, prefix_pair, IsLongestMatch, IsUncovered};
+ghost use Rattle.prefix_trie.specs.Terms.{lent_item, longest_match, prefix_pair, IsLongestMatch, IsUncovered};
 
 use crate::table::Table;
 use crate::value::Value;
@@ -14,10 +14,10 @@ use prefix_trie::laws::{listed_laws, lookup_laws};
 ///
 /// ```rust
 /// let tables = load(b"10.0.0.0/8 core\n10.1.0.0/16 edge\n", alloc)?.tables;
-/// lookup(&tables.ipv4, &"10.1.2.3/32".parse()?).map(|found| found.1.as_str());       // Some("edge")
-/// lookup(&tables.ipv4, &"11.0.0.0/32".parse()?).is_none();                           // true
+/// longest(&tables.ipv4, &"10.1.2.3/32".parse()?).map(|found| found.1.as_str());       // Some("edge")
+/// longest(&tables.ipv4, &"11.0.0.0/32".parse()?).is_none();                           // true
 /// ```
-pub fn lookup<'a, P: Prefix>(table: &'a Table<P>, address: &P) -> Option<(P, &'a Value)>
+pub fn longest<'a, P: Prefix>(table: &'a Table<P>, address: &P) -> Option<(P, &'a Value)>
     requires { P.IsFitting address.now }
     ensures value { option_map lent_item result
         ≡ prefix_pair P.back (longest_match table.now.entries (P.path address.now)) }

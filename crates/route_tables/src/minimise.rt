@@ -22,10 +22,10 @@ use std::alloc::{AllocError, Global};
 ///
 /// ```rust
 /// let mut tables = load(b"10.0.0.0/8 core\n10.1.0.0/16 core\n10.2.0.0/16 edge\n", alloc)?.tables;
-/// minimise(&mut tables.ipv4, alloc)?;
+/// remove_redundant(&mut tables.ipv4, alloc)?;
 /// tables.ipv4.keys();     // [10.0.0.0/8, 10.2.0.0/16]
 /// ```
-pub fn minimise<P: Prefix>(table: &mut Table<P>, alloc: Global) -> Result<(), AllocError>
+pub fn remove_redundant<P: Prefix>(table: &mut Table<P>, alloc: Global) -> Result<(), AllocError>
     ensures same { OnOk result
         ((q : List Bool) → value_of table.new.entries q ≡ value_of table.old.entries q) }
     ensures least { OnOk result

@@ -1,6 +1,6 @@
 //! Networks of both families, and their texts.
 ghost use Rattle.std.specs.Prelude.{ℕ, MatchResult};
-ghost use Rattle.prefix_trie.specs.Words.{HasNoHostBits, IsIpv4NetworkText, IsIpv6NetworkText};
+ghost use Rattle.prefix_trie.specs.Terms.{HasNoHostBits, IsIpv4NetworkText, IsIpv6NetworkText};
 ghost use Rattle.route_tables.specs.Networks.{IsNetworkText};
 ghost use Rattle.route_tables.specs.declared.network.Network.{Network};
 

@@ -1,6 +1,6 @@
 //! Counts and sizes of a table as a whole.
 ghost use Rattle.std.specs.Prelude.{◌≡◌, ◌≤◌, ◌==◌, ◌+◌, ℕ, IfOk, filter, length, slice_index};
-ghost use Rattle.prefix_trie.specs.Words.{listing, prefix_pairs};
+ghost use Rattle.prefix_trie.specs.Terms.{listing, prefix_pairs};
 
 use crate::table::Table;
 use crate::value::Value;
@@ -41,6 +41,13 @@ pub fn by_length<P: Prefix>(table: &Table<P>, alloc: Global) -> Result<Vec<usize
 /// Returns the number of bytes of the two arrays of a table.
 ///
 /// A slot of nodes has 17 bytes, and a slot of values has an `Option<Value>`.
+///
+/// # Examples
+///
+/// ```rust
+/// let tables = load(b"10.0.0.0/8 core\n", alloc)?.tables;
+/// array_bytes(&tables.ipv4);      // 58: two slots of nodes and one of values
+/// ```
 pub fn array_bytes<P: Prefix>(table: &Table<P>) -> usize {
     let nodes = table.node_slots().saturating_mul(NODE_BYTES);
     let values = table
@@ -53,6 +60,13 @@ pub fn array_bytes<P: Prefix>(table: &Table<P>) -> usize {
 const NODE_BYTES: usize = 17;
 
 /// Returns the number of bytes of the texts of all values.
+///
+/// # Examples
+///
+/// ```rust
+/// let tables = load(b"10.0.0.0/8 core\n10.1.0.0/16 edges\n", alloc)?.tables;
+/// text_bytes(&tables.ipv4);       // 9
+/// ```
 pub fn text_bytes<P: Prefix>(table: &Table<P>) -> usize {
     let mut bytes: usize = 0;
     for value in table.values() {

@@ -1,6 +1,6 @@
 //! Tables: networks, each with a value.
 ghost use Rattle.std.specs.Prelude.{◌≡◌, cond, IfOk, OnErr, OnOk};
-ghost use Rattle.prefix_trie.specs.Words.{no_entries};
+ghost use Rattle.prefix_trie.specs.Terms.{no_entries};
 ghost use Rattle.route_tables.specs.Tables.{ipv4_with, ipv6_with, is_stored};
 
 use crate::network::Network;
@@ -26,6 +26,12 @@ impl Tables {
     /// # Errors
     ///
     /// Returns `Memory` if an allocation fails.
+    ///
+    /// # Examples
+    ///
+    /// ```rust
+    /// Tables::new(alloc)?.ipv6.is_empty();        // true
+    /// ```
     pub fn new(alloc: Global) -> Result<Tables, Refusal>
         ensures ipv4 { IfOk result (λ tables. tables.ipv4.entries ≡ no_entries) }
         ensures ipv6 { IfOk result (λ tables. tables.ipv6.entries ≡ no_entries) }

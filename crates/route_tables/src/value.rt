@@ -39,6 +39,12 @@ impl Value {
     }
 
     /// Returns the text.
+    ///
+    /// # Examples
+    ///
+    /// ```rust
+    /// Value::new("core", alloc)?.as_str().len();      // 4
+    /// ```
     pub fn as_str(&self) -> &str
         ensures { result.now ≡ self.now }
     {

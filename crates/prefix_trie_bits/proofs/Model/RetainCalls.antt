@@ -1,32 +1,27 @@
--- `retain` calls its test on each entry in order: one iteration of its loop, the end, and which entries are kept.
-use Rattle.prefix_trie_bits.proofs.Prelude.{◌≡◌, ℕ, ◌+◌, ◌<◌, Bool, true, false, List, [], ◌∷◌, ◌++◌, length, take, get_or, ap, sym, ◌∙◌, subst, filter, cond, is_lt, ◌&&◌, take_more, below_all, listing_cmp, RetainsEntries, CallableOnEachEntry}
+-- `retain` calls its test on each entry in order: which entries are kept, and that they stay sorted.
+use Rattle.prefix_trie_bits.proofs.Prelude.{◌≡◌, Bool, true, false, List, [], ◌∷◌, ap, sym, ◌∙◌, subst, filter, cond, is_lt, ◌&&◌, below_all, listing_cmp, RetainsEntries, CallableOnEachEntry}
 use lib.Dec.{T as IsT}
-use Rattle.std.proofs.lemmas.List.{append_assoc}
 use Rattle.prefix_trie_bits.proofs.Model.Members.{and-first, and-second, and-join}
 use Rattle.prefix_trie_bits.proofs.Model.Ordered.{t-true, true-t}
 
-pub take_entry : {X : Type 0} (es last : List X) (at : ℕ) (e : X) → at < length es → e ≡ get_or es at e → take at es ++ e ∷ last ≡ take (at + 1) es ++ last
-take_entry es last at e l is =
-    ap (λ x. take at es ++ x ∷ last) is ∙ sym (append_assoc (take at es) (get_or es at e ∷ []) last) ∙ ap (λ xs. xs ++ last) (sym (take_more es at e l))
-
-module _ {F T : Type 0} (asks : F → List Bool → T → Bool → F → Type 0) where
+module _ {F T : Type 0} (may_return : F → List Bool → T → Bool → F → Type 0) where
   -- a test that may be called in every state may be called on each entry in order
-  pub may_ask_always : (accepts : F → List Bool → T → Type 0) (f : F) (es : List (List Bool × T)) → ((f' : F) (k : List Bool) (v : T) → accepts f' k v) → CallableOnEachEntry asks accepts f es
+  pub may_ask_always : (accepts : F → List Bool → T → Type 0) (f : F) (es : List (List Bool × T)) → ((f' : F) (k : List Bool) (v : T) → accepts f' k v) → CallableOnEachEntry may_return accepts f es
   may_ask_always accepts f [] always = tt
   may_ask_always accepts f (e ∷ es) always = (always f e.0 e.1, λ b f' called. may_ask_always accepts f' es always)
 
   -- a test that returns p of the entry and has no state keeps what `filter p` keeps
-  pub keeps_filter : (p : List Bool × T → Bool) (f : F) (es kept : List (List Bool × T)) → ((e : List Bool × T) (b : Bool) (f' : F) → asks f e.0 e.1 b f' → (b ≡ p e) × (f' ≡ f))
-      → RetainsEntries asks f es kept → kept ≡ filter p es
+  pub keeps_filter : (p : List Bool × T → Bool) (f : F) (es kept : List (List Bool × T)) → ((e : List Bool × T) (b : Bool) (f' : F) → may_return f e.0 e.1 b f' → (b ≡ p e) × (f' ≡ f))
+      → RetainsEntries may_return f es kept → kept ≡ filter p es
   keeps_filter p f [] kept answers h = h
   keeps_filter p f (e ∷ es) kept answers (b, f', later, called, rest, is) =
       let says = answers e b f' called in
-      let same = keeps_filter p f es later answers (subst (λ g. RetainsEntries asks g es later) says.1 rest) in
+      let same = keeps_filter p f es later answers (subst (λ g. RetainsEntries may_return g es later) says.1 rest) in
       is ∙ ap (λ x. cond x (e ∷ later) later) says.0 ∙ ap (λ xs. cond (p e) (e ∷ xs) xs) same
 
 -- the entries that are kept of a sorted list are sorted
-module _ {F T : Type 0} (asks : F → List Bool → T → Bool → F → Type 0) where
-  below_kept : (s : List Bool) (f : F) (es kept : List (List Bool × T)) → RetainsEntries asks f es kept → IsT (below_all listing_cmp s es) → IsT (below_all listing_cmp s kept)
+module _ {F T : Type 0} (may_return : F → List Bool → T → Bool → F → Type 0) where
+  below_kept : (s : List Bool) (f : F) (es kept : List (List Bool × T)) → RetainsEntries may_return f es kept → IsT (below_all listing_cmp s es) → IsT (below_all listing_cmp s kept)
   below_kept s f [] kept h b = subst (λ x. IsT (below_all listing_cmp s x)) (sym h) tt
   below_kept s f (e ∷ es) kept (true, f', later, called, rest, is) b =
       let all = t-true (is_lt (listing_cmp s e.0) && below_all listing_cmp s es) b in

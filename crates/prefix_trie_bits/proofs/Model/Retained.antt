@@ -34,13 +34,13 @@ module _ {P T : Type 0} (path : P → List Bool) (back : List Bool → P) (width
   not_refused cause e = cc
 
   -- calling a test that compares the shown length keeps the keys of at least that length
-  pub at_least_step : {F : Type 0} (asks : F → List Bool → T → Bool → F → Type 0) (f : F) (n : ℕ) (shown : List Bool → ℕ) (s t : State T × Storage) →
+  pub at_least_step : {F : Type 0} (may_return : F → List Bool → T → Bool → F → Type 0) (f : F) (n : ℕ) (shown : List Bool → ℕ) (s t : State T × Storage) →
       AreWithin width s.0.entries → ((k : List Bool) → length k ≤ width → shown k ≡ length k)
-      → ((e : List Bool × T) (b : Bool) (f' : F) → asks f e.0 e.1 b f' → (b ≡ nat_le n (shown e.0)) × (f' ≡ f))
-      → RetainsInStorage asks f s t → StepInStorage path back width s (RetainAtLeast n) Done t
-  at_least_step asks f n shown s t within lengths answers h =
+      → ((e : List Bool × T) (b : Bool) (f' : F) → may_return f e.0 e.1 b f' → (b ≡ nat_le n (shown e.0)) × (f' ≡ f))
+      → RetainsInStorage may_return f s t → StepInStorage path back width s (RetainAtLeast n) Done t
+  at_least_step may_return f n shown s t within lengths answers h =
       let kept = part_from_listing width n shown s.0.entries t.0.entries within lengths
-      (keeps_filter asks (λ e. nat_le n (shown e.0)) f (listing s.0.entries) (listing t.0.entries) answers h.kept) in
+      (keeps_filter may_return (λ e. nat_le n (shown e.0)) f (listing s.0.entries) (listing t.0.entries) answers h.kept) in
       record {
         step = (refl, λ i. record { entries = kept i; nodes = (h.nodes ∙ ap needed kept) i });
         space = h.space;

@@ -33,6 +33,12 @@ impl<K: Key> Model for BitString<K> {
 
 impl<K: Key> BitString<K> {
     /// Returns the first `len` bits of a key.
+    ///
+    /// # Examples
+    ///
+    /// ```rust
+    /// BitString::new(0xd4000000_u32, 6).child_bit();      // 26: the first five bits are 11010
+    /// ```
     #[inline(always)]
     pub fn new(key: K, len: u32) -> Self
         requires key { K.IsKey key }
@@ -45,7 +51,7 @@ impl<K: Key> BitString<K> {
     /// Returns a copy.
     // A derived `Clone` would owe that a clone of a key is a key.
     #[inline(always)]
-    pub fn again(&self) -> Self
+    pub fn copy(&self) -> Self
         ensures { result ≡ self.now }
     {
         BitString {
@@ -103,7 +109,7 @@ impl<K: Key> BitString<K> {
     /// Returns the bits after the first five.
     // It shifts by the same number of bits at each level, so no shift depends on the depth.
     #[inline(always)]
-    pub fn below(self) -> Self
+    pub fn after_five(self) -> Self
         requires { 5 ≤ length self }
         ensures { result ≡ drop 5 self }
     {

@@ -10,7 +10,7 @@ ghost use Rattle.prefix_trie_map.specs.Whole.{IsWhole};
 
 use crate::map::{PrefixMap, Visits};
 use prefix_trie_bits::prefix::{Key, Prefix};
-use prefix_trie_table::allocator::nodes::Tick;
+use prefix_trie_table::allocator::nodes::VisitCounter;
 use prefix_trie_table::table::Walk;
 use std::alloc::Allocator;
 
@@ -63,7 +63,7 @@ impl<P: Prefix, T: Drop, A: Allocator> PrefixMap<P, T, A> {
 }
 
 /// Returns how many addresses the entries to come cover, or `None` if they cover all.
-fn addresses_of<K: Key, T: Drop, A: Allocator, V: Tick>(
+fn addresses_of<K: Key, T: Drop, A: Allocator, V: VisitCounter>(
     walk: &mut Walk<'_, K, T, A, V>,
     counter: &mut V,
 ) -> Option<K>

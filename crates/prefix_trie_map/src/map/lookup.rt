@@ -170,7 +170,7 @@ impl<P: Prefix, T: Drop, A: Allocator> PrefixMap<P, T, A> {
     {
         let mut visits = Visits::new();
         let path = prefix.path();
-        let longest = self.table.find_longest(path.again(), &mut visits);
+        let longest = self.table.find_longest(path.copy(), &mut visits);
         (rebuilt_match(&path, longest), visits)
     }
 
@@ -268,7 +268,7 @@ impl<P: Prefix, T: Drop, A: Allocator> PrefixMap<P, T, A> {
     {
         let mut visits = Visits::new();
         let path = prefix.path();
-        let shortest = self.table.find_shortest(path.again(), &mut visits);
+        let shortest = self.table.find_shortest(path.copy(), &mut visits);
         (rebuilt_match(&path, shortest), visits)
     }
 

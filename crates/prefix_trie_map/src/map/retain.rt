@@ -12,7 +12,7 @@ use crate::map::PrefixMap;
 use crate::map::lookup::rebuilt;
 use crate::map::visits::Visits;
 use prefix_trie_bits::prefix::{BitString, Prefix};
-use prefix_trie_table::allocator::nodes::Tick;
+use prefix_trie_table::allocator::nodes::VisitCounter;
 use prefix_trie_table::table::retain::Keep;
 use std::alloc::Allocator;
 use std::marker::{Model, PhantomData};
@@ -32,17 +32,17 @@ impl<P, F> Model for ByPrefix<P, F> {
 }
 
 // The value of a removed entry is dropped.
-impl<P: Prefix, T: Drop, V: Tick, F: FnMut(&P, &T) -> bool + Drop> Keep<P::R, T, V>
+impl<P: Prefix, T: Drop, V: VisitCounter, F: FnMut(&P, &T) -> bool + Drop> Keep<P::R, T, V>
     for ByPrefix<P, F> {
     ghost accepts = { TakesEntry F.FnMut P.back };
 
-    ghost asks = { CalledAtEntry F.FnMut P.back };
+    ghost may_return = { CalledAtEntry F.FnMut P.back };
 
     ghost refuses = { λ f k v f'. CalledAtEntry F.FnMut P.back f k v false f' };
 
     #[inline]
     fn keeps(&mut self, path: &BitString<P::R>, value: &T) -> bool {
-        let prefix = rebuilt::<P>(path.again());
+        let prefix = rebuilt::<P>(path.copy());
         (self.test)(&prefix, value)
     }
 

@@ -1,7 +1,7 @@
 //! The counter of the nodes that a lookup reads.
 ghost use Rattle.std.specs.Prelude.{◌≡◌, ℕ};
 
-use prefix_trie_table::allocator::nodes::Tick;
+use prefix_trie_table::allocator::nodes::VisitCounter;
 use std::marker::Model;
 use std::mem::replace;
 use std::snapshot::Snapshot;
@@ -65,7 +65,7 @@ impl Visits {
     }
 }
 
-impl Tick for Visits {
+impl VisitCounter for Visits {
     ghost count = { λ v. v };
 
     #[inline]

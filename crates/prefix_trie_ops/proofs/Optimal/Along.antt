@@ -6,7 +6,7 @@ use Rattle.std.specs.List.{Contains}
 use Rattle.std.specs.FinMap.{entries_sorted, get, get-entries}
 use Rattle.prefix_trie_bits.specs.Begins.{begins-length, begins-refl}
 use Rattle.prefix_trie.specs.Laws.Lookups.{LookupLaws}
-use Rattle.prefix_trie.specs.Words.{Entries, begins, last_item, listing}
+use Rattle.prefix_trie.specs.Terms.{Entries, begins, last_item, listing}
 use Rattle.prefix_trie_ops.specs.Optimal.{is_repeated_along, value_along}
 use Rattle.prefix_trie_ops.specs.Values.{are_equal, is_redundant, value_above, value_of}
 use Rattle.prefix_trie_ops.proofs.Optimal.Order.{above, is_other}

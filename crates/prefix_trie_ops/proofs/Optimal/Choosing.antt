@@ -6,7 +6,7 @@ use Rattle.std.specs.List.{AllZip, slice_set}
 use Rattle.std.specs.Option.{option_or}
 use Rattle.std.specs.FinMap.{get}
 use Rattle.std.proofs.lemmas.List.{append_assoc}
-use Rattle.prefix_trie.specs.Words.{Entries, begins, listing_after}
+use Rattle.prefix_trie.specs.Terms.{Entries, begins, listing_after}
 use Rattle.prefix_trie_ops.specs.declared.map.optimal.sets.Set.{Set}
 use Rattle.prefix_trie_ops.specs.declared.map.optimal.sets.Set.TheVariants.{Missing}
 use Rattle.prefix_trie_ops.specs.Choosing.{part_values, Chooses}

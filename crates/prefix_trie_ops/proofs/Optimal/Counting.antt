@@ -5,7 +5,7 @@ use Rattle.std.specs.FinMap.Entries.{find}
 use Rattle.prefix_trie_bits.specs.Model.Bits.{begins}
 use Rattle.prefix_trie_bits.specs.Model.Order.{listing_cmp}
 use Rattle.prefix_trie_bits.specs.Order.{listing_total}
-use Rattle.prefix_trie.specs.Words.{Entries, listing, with_entry}
+use Rattle.prefix_trie.specs.Terms.{Entries, listing, with_entry}
 use Rattle.prefix_trie_ops.proofs.Smallest.Lower.{entries_at}
 
 -- 1 for true

@@ -4,7 +4,7 @@ use Rattle.std.specs.declared.cmp.Ordering.{Ordering}
 use Rattle.std.specs.Cmp.{IsEquivalence}
 use Rattle.std.specs.FinMap.{get, len}
 use Rattle.prefix_trie.specs.Laws.Lookups.{LookupLaws}
-use Rattle.prefix_trie.specs.Words.{Entries}
+use Rattle.prefix_trie.specs.Terms.{Entries}
 use Rattle.prefix_trie_ops.specs.Optimal.{value_along}
 use Rattle.prefix_trie_ops.specs.Parts.{least}
 use Rattle.prefix_trie_ops.specs.Smallest.{IsSmallest}

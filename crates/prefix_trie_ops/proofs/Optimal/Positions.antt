@@ -4,7 +4,7 @@ use Rattle.std.proofs.lemmas.List.{take_at}
 use Rattle.prefix_trie_bits.specs.Begins.{begins-refl}
 use Rattle.prefix_trie_bits.specs.Model.Bits.{digits}
 use Rattle.prefix_trie_bits.specs.Order.{listing-refl, listing_same}
-use Rattle.prefix_trie.specs.Words.{begins, listing_cmp}
+use Rattle.prefix_trie.specs.Terms.{begins, listing_cmp}
 use Rattle.prefix_trie_ops.specs.Optimal.{first_value_at, is_first_below, items_after}
 use Rattle.prefix_trie_ops.proofs.Covers.{no_shorter}
 

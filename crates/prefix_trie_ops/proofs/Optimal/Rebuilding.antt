@@ -5,7 +5,7 @@ use Rattle.std.specs.Cmp.{IsEquivalence}
 use Rattle.std.specs.Option.{option_or}
 use Rattle.std.specs.FinMap.{get, len}
 use Rattle.prefix_trie_bits.specs.Begins.{begins-refl}
-use Rattle.prefix_trie.specs.Words.{Entries, begins}
+use Rattle.prefix_trie.specs.Terms.{Entries, begins}
 use Rattle.prefix_trie_ops.specs.Optimal.{is_repeated_along, value_along, HasNoneBelow, Rebuilds}
 use Rattle.prefix_trie_ops.specs.Parts.{as_list, best_value, first_values, least, opening_cost, stored}
 use Rattle.prefix_trie_ops.specs.Values.{are_equal}

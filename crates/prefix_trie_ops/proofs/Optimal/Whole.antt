@@ -1,6 +1,6 @@
 -- The whole map is what is under the empty string: for `aggregate`.
 use Rattle.std.proofs.Common.{◌≡◌, ◌∙◌, Bool, true, cond, List, [], ◌∷◌, filter, is_le, ap, sym, refl}
-use Rattle.prefix_trie.specs.Words.{Entries, listing, listing_cmp, listing_from}
+use Rattle.prefix_trie.specs.Terms.{Entries, listing, listing_cmp, listing_from}
 
 module _ {X : Type 0} where
   from_first : (es : List (List Bool × X)) → es ≡ filter (λ e. is_le (listing_cmp [] e.0)) es

@@ -1,7 +1,7 @@
 //! Removal of entries that change no lookup.
 ghost use Rattle.std.specs.Prelude.{◌≡◌, Bool, true, false, List, IfOk, IfErr, Some, All, filter, map};
 ghost use Rattle.std.specs.Option.{option_map};
-ghost use Rattle.prefix_trie.specs.Words.{begins, last_item, lent_item, listing, needed};
+ghost use Rattle.prefix_trie.specs.Terms.{begins, last_item, lent_item, listing, needed};
 ghost use Rattle.prefix_trie_ops.specs.Values.{are_equal, is_redundant, stays, value_of, without_redundant, IsChain};
 
 use prefix_trie::laws::{listed_laws, listing_laws, lookup_laws};

@@ -1,7 +1,7 @@
 //! The entries of one map that nothing in another one covers.
 ghost use Rattle.std.specs.Prelude.{◌≡◌, ◌<◌, ◌^◌, All, length, not};
 ghost use Rattle.std.specs.Map.Iter.{ShowsInOrder};
-ghost use Rattle.prefix_trie.specs.Words.{lent_item, listing, prefix_pairs};
+ghost use Rattle.prefix_trie.specs.Terms.{lent_item, listing, prefix_pairs};
 ghost use Rattle.prefix_trie_ops.specs.Combining.{not_covered};
 
 use crate::select::{PathTest, Selected};
@@ -21,7 +21,7 @@ pub struct Uncovered<'a, P: Prefix, U: Drop, B: Allocator> {
 impl<'a, P: Prefix, U: Drop, B: Allocator> PathTest<P> for Uncovered<'a, P, U, B> {
     ghost use Rattle.std.specs.Prelude.{not};
     ghost use Rattle.std.specs.Option.{is_some};
-    ghost use Rattle.prefix_trie.specs.Words.{shortest_match};
+    ghost use Rattle.prefix_trie.specs.Terms.{shortest_match};
 
     ghost outcome = { λ t s. not (is_some (shortest_match t.map.now.entries s)) };
 

@@ -2,7 +2,7 @@
 ghost use Rattle.std.specs.Prelude.{◌≡◌, ◌<◌, ◌^◌, All, length, not};
 ghost use Rattle.std.specs.FinMap.{contains_key};
 ghost use Rattle.std.specs.Map.Iter.{ShowsInOrder};
-ghost use Rattle.prefix_trie.specs.Words.{lent_item, listing, prefix_pairs};
+ghost use Rattle.prefix_trie.specs.Terms.{lent_item, listing, prefix_pairs};
 ghost use Rattle.prefix_trie_ops.specs.Combining.{minus};
 
 use crate::select::{PathTest, Selected};

@@ -2,7 +2,7 @@
 ghost use Rattle.std.specs.Prelude.{◌≡◌, ◌<◌, ◌^◌, All, List, length};
 ghost use Rattle.std.specs.Iterator.{at_most};
 ghost use Rattle.std.specs.Map.Iter.{ShowsInOrder, TakesFirst};
-ghost use Rattle.prefix_trie.specs.Words.{listing, prefix_pairs};
+ghost use Rattle.prefix_trie.specs.Terms.{listing, prefix_pairs};
 ghost use Rattle.prefix_trie_ops.specs.Combining.{common};
 ghost use Rattle.prefix_trie_ops.specs.Lending.{lent_pair};
 
@@ -25,7 +25,7 @@ pub struct IntersectionWalk<'a, P: Prefix, T: Drop, U: Drop, A: Allocator, B: Al
 impl<'a, P: Prefix, T: Drop, U: Drop, A: Allocator, B: Allocator> Model
     for IntersectionWalk<'a, P, T, U, A, B> {
     ghost use Rattle.std.specs.Prelude.{List};
-    ghost use Rattle.prefix_trie.specs.Words.{IsJointCursorIn, combined_to_come, prefix_pairs};
+    ghost use Rattle.prefix_trie.specs.Terms.{IsJointCursorIn, combined_to_come, prefix_pairs};
     ghost use Rattle.prefix_trie_table.specs.declared.table.joint_spot.Combination.TheVariants.{Intersection};
     ghost use Rattle.prefix_trie_ops.specs.Combining.{common};
 

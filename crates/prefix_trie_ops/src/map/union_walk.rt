@@ -3,7 +3,7 @@ ghost use Rattle.std.specs.Prelude.{◌≡◌, ◌+◌, ◌≤◌, All, List, le
 ghost use Rattle.std.specs.FinMap.{len};
 ghost use Rattle.std.specs.Iterator.{at_most};
 ghost use Rattle.std.specs.Map.Iter.{ShowsInOrder, TakesFirst};
-ghost use Rattle.prefix_trie.specs.Words.{listing, prefix_pairs};
+ghost use Rattle.prefix_trie.specs.Terms.{listing, prefix_pairs};
 ghost use Rattle.prefix_trie_ops.specs.Merging.{lent_side, union_of};
 
 use crate::map::sides::Side;
@@ -26,7 +26,7 @@ pub struct UnionWalk<'a, P: Prefix, T: Drop, U: Drop, A: Allocator, B: Allocator
 impl<'a, P: Prefix, T: Drop, U: Drop, A: Allocator, B: Allocator> Model
     for UnionWalk<'a, P, T, U, A, B> {
     ghost use Rattle.std.specs.Prelude.{List};
-    ghost use Rattle.prefix_trie.specs.Words.{IsJointCursorIn, combined_to_come, prefix_pairs};
+    ghost use Rattle.prefix_trie.specs.Terms.{IsJointCursorIn, combined_to_come, prefix_pairs};
     ghost use Rattle.prefix_trie_table.specs.declared.table.joint_spot.Combination.TheVariants.{Union};
     ghost use Rattle.prefix_trie_ops.specs.Merging.{union_of};
     ghost use Rattle.prefix_trie_ops.specs.declared.map.sides.Side.{Side};

@@ -2,7 +2,7 @@
 ghost use Rattle.std.specs.Prelude.{◌≡◌, Bool, true, false, List, IfOk, IfErr, IfSome, filter, map};
 ghost use Rattle.std.specs.Option.{is_some};
 ghost use Rattle.std.specs.FinMap.{contains_key};
-ghost use Rattle.prefix_trie.specs.Words.{listing, needed, shortest_match};
+ghost use Rattle.prefix_trie.specs.Terms.{listing, needed, shortest_match};
 ghost use Rattle.prefix_trie_ops.specs.Covered.{contains_path, is_below_another, is_uppermost, without_covered};
 
 use prefix_trie::laws::{listed_laws, listing_laws, lookup_laws, match_laws};

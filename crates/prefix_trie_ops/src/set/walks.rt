@@ -4,7 +4,7 @@
 ghost use Rattle.std.specs.Prelude.{◌≡◌, ◌+◌, ◌≤◌, ◌<◌, ◌^◌, All, length, map};
 ghost use Rattle.std.specs.FinMap.{len};
 ghost use Rattle.std.specs.Map.Iter.{GivesInOrder};
-ghost use Rattle.prefix_trie.specs.Words.{listing};
+ghost use Rattle.prefix_trie.specs.Terms.{listing};
 ghost use Rattle.prefix_trie_ops.specs.Combining.{minus, not_covered, restricted_to};
 ghost use Rattle.prefix_trie_ops.specs.Merging.{union_of};
 

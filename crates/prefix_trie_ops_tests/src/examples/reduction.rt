@@ -2,7 +2,7 @@
 ghost use Rattle.std.specs.Prelude.{◌≡◌, true, List, Bool, IfOk, IfErr};
 ghost use Rattle.std.specs.Option.{is_some};
 ghost use Rattle.std.specs.FinMap.{contains_key};
-ghost use Rattle.prefix_trie.specs.Words.{begins, shortest_match};
+ghost use Rattle.prefix_trie.specs.Terms.{begins, shortest_match};
 
 use prefix_trie::laws::lookup_laws;
 use prefix_trie::{Ipv4Prefix, PrefixSet};

@@ -1,5 +1,5 @@
 -- Nodes are stored in two arrays, one of their tiers packed into a byte and one of their other fields.
-use Rattle.prefix_trie_table.proofs.Prelude.{◌≡◌, ℕ, zero, suc, ◌+◌, ◌*◌, ◌/◌, ◌%◌, ◌<◌, subst, List, [], ◌∷◌, ◌++◌, length, get_or, set, take, insert, remove, refl, sym, ap, ◌∙◌, arith, Node}
+use Rattle.prefix_trie_table.proofs.Prelude.{◌≡◌, ℕ, zero, suc, ◌+◌, ◌*◌, ◌/◌, ◌%◌, ◌<◌, subst, List, [], ◌∷◌, ◌++◌, length, get_or, set, take, insert, remove, refl, ap, arith, Node}
 use Rattle.prefix_trie_table.specs.Blocks.NodeArrays.{FitsByte, node_of, nodes_of}
 use Rattle.prefix_trie_table.specs.declared.allocator.node_array.Head.{Head}
 

@@ -76,13 +76,13 @@ module _ {T : Type 0} where
     pub entries : after.entries ≡ without_below before.entries q
     pub nodes : after.nodes ≡ nodes_not_below before.nodes q
 
-module _ {F T : Type 0} (asks : F → List Bool → T → Bool → F → Type 0) (no : (f : F) (k : List Bool) (x : T) (b : Bool) (g : F) → asks f k x b g → b ≡ false) where
-  none_kept : (f : F) (es kept : List (List Bool × T)) → RetainsEntries asks f es kept → kept ≡ []
+module _ {F T : Type 0} (may_return : F → List Bool → T → Bool → F → Type 0) (no : (f : F) (k : List Bool) (x : T) (b : Bool) (g : F) → may_return f k x b g → b ≡ false) where
+  none_kept : (f : F) (es kept : List (List Bool × T)) → RetainsEntries may_return f es kept → kept ≡ []
   none_kept f [] kept h = h
   none_kept f (e ∷ es) kept h = h.5 ∙ ap (λ b. cond b (e ∷ h.2) h.2) (no f e.0 e.1 h.0 h.1 h.3) ∙ none_kept h.1 es h.2 h.4
 
   module _ (accepts : F → List Bool → T → Type 0) (q : List Bool) (ts : List (List Bool)) (f g : F) (before after : State T)
-      (retains : Retains asks accepts (home q) ts f before g after) (are : AreBelow q ts before) where
+      (retains : Retains may_return accepts (home q) ts f before g after) (are : AreBelow q ts before) where
     none_there : (k : List Bool) → is_at_some (home q) ts k ≡ true → get after.entries k ≡ None
     none_there k at =
         let kept : retains.kept ≡ [] = sym (append-nil retains.kept) ∙ none_kept f (listing_at_places before.entries (home q) ts ++ []) (retains.kept ++ []) (retains.asked [] [] refl) in

@@ -67,20 +67,20 @@ module _ {K T : Type 0} (IsKey : K → Type 0) (bits : K → List Bool) (width :
         ∙ listed_below width count v w s trie q rest home_rest here.node home_read values children holds_values holds_children ts each all
 
     -- and nothing else goes when they are emptied
-    pub part_emptied : {F : Type 0} (asks : F → List Bool → T → Bool → F → Type 0) → ReturnsFalse asks → (accepts : F → List Bool → T → Type 0) (f g : F) (count2 : ℕ) (v2 : Store Node) (w2 : Store (Option T)) →
-        RetainsTo asks accepts width (take (5 * here.level) (bits key)) ts f s g count2 v2 w2 →
+    pub part_emptied : {F : Type 0} (may_return : F → List Bool → T → Bool → F → Type 0) → ReturnsFalse may_return → (accepts : F → List Bool → T → Type 0) (f g : F) (count2 : ℕ) (v2 : Store Node) (w2 : Store (Option T)) →
+        RetainsTo may_return accepts width (take (5 * here.level) (bits key)) ts f s g count2 v2 w2 →
         IsTrie width count2 v2 w2 (record { entries = without_below s.entries q; nodes = nodes_not_below s.nodes q })
-    part_emptied asks says_no accepts f g count2 v2 w2 to =
+    part_emptied may_return says_no accepts f g count2 v2 w2 to =
         let are = covers_below width count v w s trie q rest home_rest here.node home_read values children holds_values holds_children ts each in
-        let left = emptied asks says_no accepts q ts f g s to.after (subst (λ p. Retains asks accepts p ts f s g to.after) (sym home_key) to.retains) are in
+        let left = emptied may_return says_no accepts q ts f g s to.after (subst (λ p. Retains may_return accepts p ts f s g to.after) (sym home_key) to.retains) are in
         subst (λ (x : State T). IsTrie width count2 v2 w2 x) (λ i. record { entries = left.entries i; nodes = left.nodes i }) to.trie
 
 -- ---- a test that may always be called
 
-pub may_ask_all : {F T : Type 0} (asks : F → List Bool → T → Bool → F → Type 0) (accepts : F → List Bool → T → Type 0) →
-    ((f : F) (k : List Bool) (x : T) → accepts f k x) → (f : F) (es : List (List Bool × T)) → CallableOnEachEntry asks accepts f es
-may_ask_all asks accepts all f [] = tt
-may_ask_all asks accepts all f (e ∷ es) = (all f e.0 e.1, λ b g asked. may_ask_all asks accepts all g es)
+pub may_ask_all : {F T : Type 0} (may_return : F → List Bool → T → Bool → F → Type 0) (accepts : F → List Bool → T → Type 0) →
+    ((f : F) (k : List Bool) (x : T) → accepts f k x) → (f : F) (es : List (List Bool × T)) → CallableOnEachEntry may_return accepts f es
+may_ask_all may_return accepts all f [] = tt
+may_ask_all may_return accepts all f (e ∷ es) = (all f e.0 e.1, λ b g asked. may_ask_all may_return accepts all g es)
 
 -- ---- the path pruned if there is no value at its end
 

@@ -149,9 +149,9 @@ module _ {T : Type 0} where
 
 -- ---- the calls
 
-module _ {F T : Type 0} (asks : F → List Bool → T → Bool → F → Type 0) (accepts : F → List Bool → T → Type 0) where
+module _ {F T : Type 0} (may_return : F → List Bool → T → Bool → F → Type 0) (accepts : F → List Bool → T → Type 0) where
   -- for no places there are no calls
-  pub none_asked : (s : List Bool) (f : F) (x : State T) → Retains asks accepts s [] f x f x
+  pub none_asked : (s : List Bool) (f : F) (x : State T) → Retains may_return accepts s [] f x f x
   none_asked s f x = record {
     kept = [];
     asked = λ rest later h. h;
@@ -165,17 +165,17 @@ module _ {F T : Type 0} (asks : F → List Bool → T → Bool → F → Type 0)
   }
 
   -- the calls on some entries and then on others are the calls on all of them
-  up_to_both : (f g h : F) (es rest : List (List Bool × T)) → AsksUpTo asks f es g → AsksUpTo asks g rest h → AsksUpTo asks f (es ++ rest) h
-  up_to_both f g h [] rest first second = subst (λ x. AsksUpTo asks x rest h) first second
+  up_to_both : (f g h : F) (es rest : List (List Bool × T)) → AsksUpTo may_return f es g → AsksUpTo may_return g rest h → AsksUpTo may_return f (es ++ rest) h
+  up_to_both f g h [] rest first second = subst (λ x. AsksUpTo may_return x rest h) first second
   up_to_both f g h (e ∷ es) rest first second = (first.0, first.1, first.2, up_to_both first.1 g h es rest first.3 second)
 
   -- if the test may be called on some entries and then on others, it may be called on the first ones
-  pub may_ask_first : (f : F) (es rest : List (List Bool × T)) → CallableOnEachEntry asks accepts f (es ++ rest) → CallableOnEachEntry asks accepts f es
+  pub may_ask_first : (f : F) (es rest : List (List Bool × T)) → CallableOnEachEntry may_return accepts f (es ++ rest) → CallableOnEachEntry may_return accepts f es
   may_ask_first f [] rest h = tt
   may_ask_first f (e ∷ es) rest h = (h.0, λ b g called. may_ask_first g es rest (h.1 b g called))
 
-  module _ (s : List Bool) (ts us : List (List Bool)) (f g h : F) (x y z : State T) (first : Retains asks accepts s ts f x g y)
-      (second : Retains asks accepts s us g y h z) (apart : (q : List Bool) → is_at_some s ts q ≡ true → is_at_some s us q ≡ true → ⊥) where
+  module _ (s : List Bool) (ts us : List (List Bool)) (f g h : F) (x y z : State T) (first : Retains may_return accepts s ts f x g y)
+      (second : Retains may_return accepts s us g y h z) (apart : (q : List Bool) → is_at_some s ts q ≡ true → is_at_some s us q ≡ true → ⊥) where
     not_later : (q : List Bool) → is_at_some s ts q ≡ true → is_at_some s us q ≡ false
     not_later q here = no_or_yes (is_at_some s us q) (apart q here)
 
@@ -211,18 +211,18 @@ module _ {F T : Type 0} (asks : F → List Bool → T → Bool → F → Type 0)
     }
 
     -- what was done at some places and then at others was done at all of them
-    pub asked_both : Retains asks accepts s (ts ++ us) f x h z
+    pub asked_both : Retains may_return accepts s (ts ++ us) f x h z
     asked_both = record {
       kept = first.kept ++ second.kept;
       asked = λ rest later after.
-          subst (λ es. RetainsEntries asks f es ((first.kept ++ second.kept) ++ later)) (sym (spread rest))
-          (subst (RetainsEntries asks f (listing_at_places x.entries s ts ++ (listing_at_places y.entries s us ++ rest))) (sym (append_assoc first.kept second.kept later))
+          subst (λ es. RetainsEntries may_return f es ((first.kept ++ second.kept) ++ later)) (sym (spread rest))
+          (subst (RetainsEntries may_return f (listing_at_places x.entries s ts ++ (listing_at_places y.entries s us ++ rest))) (sym (append_assoc first.kept second.kept later))
           (first.asked (listing_at_places y.entries s us ++ rest) (second.kept ++ later) (second.asked rest later after)));
       up_to =
-          subst (λ es. AsksUpTo asks f es h) (ap (λ es. listing_at_places x.entries s ts ++ es) later_same ∙ sym (both_places x.entries))
+          subst (λ es. AsksUpTo may_return f es h) (ap (λ es. listing_at_places x.entries s ts ++ es) later_same ∙ sym (both_places x.entries))
           (up_to_both f g h (listing_at_places x.entries s ts) (listing_at_places y.entries s us) first.up_to second.up_to);
       may_ask = λ rest may.
-          second.may_ask rest (first.may_ask (listing_at_places y.entries s us ++ rest) (subst (CallableOnEachEntry asks accepts f) (spread rest) may));
+          second.may_ask rest (first.may_ask (listing_at_places y.entries s us ++ rest) (subst (CallableOnEachEntry may_return accepts f) (spread rest) may));
       stays = both_places z.entries ∙ ap₂ (λ a b. a ++ b) (first_same ∙ first.stays) second.stays;
       others = λ q off.
           let none : (is_at_some s ts q || is_at_some s us q) ≡ false = sym (either q) ∙ off in
@@ -239,10 +239,10 @@ module _ {F T : Type 0} (asks : F → List Bool → T → Bool → F → Type 0)
     }
 
   -- if the test may be called on all entries, it may be called on the others after the first ones
-  pub may_ask_then : (s : List Bool) (ts us : List (List Bool)) (f g : F) (x y : State T) → Retains asks accepts s ts f x g y →
+  pub may_ask_then : (s : List Bool) (ts us : List (List Bool)) (f g : F) (x y : State T) → Retains may_return accepts s ts f x g y →
       ((q : List Bool) → is_at_some s ts q ≡ true → is_at_some s us q ≡ true → ⊥) →
-      CallableOnEachEntry asks accepts f (listing_at_places x.entries s (ts ++ us)) → CallableOnEachEntry asks accepts g (listing_at_places y.entries s us)
+      CallableOnEachEntry may_return accepts f (listing_at_places x.entries s (ts ++ us)) → CallableOnEachEntry may_return accepts g (listing_at_places y.entries s us)
   may_ask_then s ts us f g x y first apart may =
       let same : listing_at_places y.entries s us ≡ listing_at_places x.entries s us = places_same y.entries x.entries s us (λ k at. first.others k (no_or_yes (is_at_some s ts k) (λ before. apart k before at))) in
       first.may_ask (listing_at_places y.entries s us)
-      (subst (CallableOnEachEntry asks accepts f) (flat_map-append (listing_at_place x.entries s) ts us ∙ ap (λ es. listing_at_places x.entries s ts ++ es) (sym same)) may)
+      (subst (CallableOnEachEntry may_return accepts f) (flat_map-append (listing_at_place x.entries s) ts us ∙ ap (λ es. listing_at_places x.entries s ts ++ es) (sym same)) may)

@@ -7,22 +7,22 @@ use Rattle.prefix_trie_table.proofs.Retain.Asked.{only_one, at_value, at_child, 
 
 -- ---- a value
 
-module _ {F T : Type 0} (asks : F → List Bool → T → Bool → F → Type 0) (accepts : F → List Bool → T → Type 0) (s t : List Bool) (short : length t ≤ 4)
+module _ {F T : Type 0} (may_return : F → List Bool → T → Bool → F → Type 0) (accepts : F → List Bool → T → Type 0) (s t : List Bool) (short : length t ≤ 4)
     (x : State T) (v : T) (stored : get x.entries (s ++ t) ≡ Some v) where
   value_here : listing_at_places x.entries s (t ∷ []) ≡ (s ++ t, v) ∷ []
   value_here = append-nil (listing_at_place x.entries s t) ∙ listing_at_value x.entries s t v short stored
 
   -- the test may be called on the value
-  pub may_ask_value : (f : F) → CallableOnEachEntry asks accepts f (listing_at_places x.entries s (t ∷ [])) → accepts f (s ++ t) v
-  may_ask_value f may = (subst (CallableOnEachEntry asks accepts f) value_here may).0
+  pub may_ask_value : (f : F) → CallableOnEachEntry may_return accepts f (listing_at_places x.entries s (t ∷ [])) → accepts f (s ++ t) v
+  may_ask_value f may = (subst (CallableOnEachEntry may_return accepts f) value_here may).0
 
   -- if the test returns true, the value stays
-  pub value_stays : (f g : F) → asks f (s ++ t) v true g → Retains asks accepts s (t ∷ []) f x g x
+  pub value_stays : (f g : F) → may_return f (s ++ t) v true g → Retains may_return accepts s (t ∷ []) f x g x
   value_stays f g called = record {
     kept = (s ++ t, v) ∷ [];
-    asked = λ rest later after. subst (λ es. RetainsEntries asks f (es ++ rest) ((s ++ t, v) ∷ later)) (sym value_here) (true, g, later, called, after, refl);
-    up_to = subst (λ es. AsksUpTo asks f es g) (sym value_here) (true, g, called, refl);
-    may_ask = λ rest may. (subst (λ es. CallableOnEachEntry asks accepts f (es ++ rest)) value_here may).1 true g called;
+    asked = λ rest later after. subst (λ es. RetainsEntries may_return f (es ++ rest) ((s ++ t, v) ∷ later)) (sym value_here) (true, g, later, called, after, refl);
+    up_to = subst (λ es. AsksUpTo may_return f es g) (sym value_here) (true, g, called, refl);
+    may_ask = λ rest may. (subst (λ es. CallableOnEachEntry may_return accepts f (es ++ rest)) value_here may).1 true g called;
     stays = value_here;
     others = λ q off. refl;
     fewer = λ q there. there;
@@ -31,12 +31,12 @@ module _ {F T : Type 0} (asks : F → List Bool → T → Bool → F → Type 0)
   }
 
   -- if the test returns false, the value is removed
-  pub value_goes : (f g : F) → asks f (s ++ t) v false g → Retains asks accepts s (t ∷ []) f x g (record { entries = without_entry x.entries (s ++ t); nodes = x.nodes })
+  pub value_goes : (f g : F) → may_return f (s ++ t) v false g → Retains may_return accepts s (t ∷ []) f x g (record { entries = without_entry x.entries (s ++ t); nodes = x.nodes })
   value_goes f g called = record {
     kept = [];
-    asked = λ rest later after. subst (λ es. RetainsEntries asks f (es ++ rest) later) (sym value_here) (false, g, later, called, after, refl);
-    up_to = subst (λ es. AsksUpTo asks f es g) (sym value_here) (false, g, called, refl);
-    may_ask = λ rest may. (subst (λ es. CallableOnEachEntry asks accepts f (es ++ rest)) value_here may).1 false g called;
+    asked = λ rest later after. subst (λ es. RetainsEntries may_return f (es ++ rest) later) (sym value_here) (false, g, later, called, after, refl);
+    up_to = subst (λ es. AsksUpTo may_return f es g) (sym value_here) (false, g, called, refl);
+    may_ask = λ rest may. (subst (λ es. CallableOnEachEntry may_return accepts f (es ++ rest)) value_here may).1 false g called;
     stays =
         append-nil (listing_at_place (without_entry x.entries (s ++ t)) s t)
         ∙ listing_at_no_value (without_entry x.entries (s ++ t)) s t short
@@ -51,11 +51,11 @@ module _ {F T : Type 0} (asks : F → List Bool → T → Bool → F → Type 0)
 
 -- ---- all places of a node
 
-module _ {F T : Type 0} (asks : F → List Bool → T → Bool → F → Type 0) (accepts : F → List Bool → T → Type 0) (c : List Bool) (values children : ℕ)
+module _ {F T : Type 0} (may_return : F → List Bool → T → Bool → F → Type 0) (accepts : F → List Bool → T → Type 0) (c : List Bool) (values children : ℕ)
     (ts : List (List Bool)) (all : ts ≡ places values children)
     (each : (u : List Bool) → Contains ts u → (length u ≤ 5) × (is_in values children u ≡ true))
     (every : (u : List Bool) → length u ≤ 5 → is_in values children u ≡ true → Contains ts u)
-    (f g : F) (x y : State T) (retains : Retains asks accepts c ts f x g y)
+    (f g : F) (x y : State T) (retains : Retains may_return accepts c ts f x g y)
     (unset : (u : List Bool) → length u ≤ 5 → is_in values children u ≡ false → listing_at_place x.entries c u ≡ [])
     (bare : (u q : List Bool) → length u ≡ 5 → is_in values children u ≡ false → begins (c ++ u) q ≡ true → has_node x.nodes q ≡ true → ⊥)
     (whole : length c % 5 ≡ 0) (depths : (q : List Bool) → has_node x.nodes q ≡ true → length q % 5 ≡ 0) where
@@ -120,13 +120,13 @@ module _ {F T : Type 0} (asks : F → List Bool → T → Bool → F → Type 0)
     begins_is : (q : List Bool) → begins c q ≡ begins (s ++ t) q
     begins_is q = ap (λ p. begins p q) is
 
-    pub child_asked : Retains asks accepts s (t ∷ []) f x g (record { entries = y.entries; nodes = later })
+    pub child_asked : Retains may_return accepts s (t ∷ []) f x g (record { entries = y.entries; nodes = later })
     child_asked = record {
       kept = retains.kept;
       asked = λ rest after h.
-          subst (λ es. RetainsEntries asks f (es ++ rest) (retains.kept ++ after)) (below_before ∙ sym (place_is x.entries)) (retains.asked rest after h);
-      up_to = subst (λ es. AsksUpTo asks f es g) (below_before ∙ sym (place_is x.entries)) retains.up_to;
-      may_ask = λ rest may. retains.may_ask rest (subst (λ es. CallableOnEachEntry asks accepts f (es ++ rest)) (place_is x.entries ∙ sym below_before) may);
+          subst (λ es. RetainsEntries may_return f (es ++ rest) (retains.kept ++ after)) (below_before ∙ sym (place_is x.entries)) (retains.asked rest after h);
+      up_to = subst (λ es. AsksUpTo may_return f es g) (below_before ∙ sym (place_is x.entries)) retains.up_to;
+      may_ask = λ rest may. retains.may_ask rest (subst (λ es. CallableOnEachEntry may_return accepts f (es ++ rest)) (place_is x.entries ∙ sym below_before) may);
       stays = place_is y.entries ∙ sym below_after ∙ retains.stays;
       others = λ q off. off_entries q (begins_is q ∙ sym (at_child s t q five) ∙ (or_parts (is_at s t q) false off).0);
       fewer = λ q there. retains.fewer q (fewer q there);
@@ -148,12 +148,12 @@ module _ {F T : Type 0} (asks : F → List Bool → T → Bool → F → Type 0)
     listing_is : (m : Entries T) → listing_below m c ≡ listing m
     listing_is m = ap (listing_below m) root ∙ listing_of_root m
 
-    pub asked_all : RetainsEntries asks f (listing x.entries) (listing y.entries)
+    pub asked_all : RetainsEntries may_return f (listing x.entries) (listing y.entries)
     asked_all =
         let kept : retains.kept ≡ listing y.entries = sym retains.stays ∙ below_after ∙ listing_is y.entries in
         let items : listing_at_places x.entries c ts ++ [] ≡ listing x.entries = append-nil (listing_at_places x.entries c ts) ∙ below_before ∙ listing_is x.entries in
-        subst (λ es. RetainsEntries asks f es (listing y.entries)) items
-        (subst (RetainsEntries asks f (listing_at_places x.entries c ts ++ [])) (append-nil retains.kept ∙ kept) (retains.asked [] [] refl))
+        subst (λ es. RetainsEntries may_return f es (listing y.entries)) items
+        (subst (RetainsEntries may_return f (listing_at_places x.entries c ts ++ [])) (append-nil retains.kept ∙ kept) (retains.asked [] [] refl))
 
     pub nodes_tidy : (width : ℕ) → AreNodes width y.entries y.nodes → y.nodes ≡ needed y.entries
     nodes_tidy width are = same_nodes y.nodes (needed y.entries) (λ q there. elim (cases_Bool (same_string q c)) as (λ _. has_node (needed y.entries) q ≡ true) [

@@ -111,20 +111,20 @@ module _ {K T : Type 0} (IsKey : K → Type 0) (bits : K → List Bool) (width :
     }
 
     -- everything at the place is under the child
-    pub may_ask_lower : {F : Type 0} (asks : F → List Bool → T → Bool → F → Type 0) (accepts : F → List Bool → T → Type 0) (f : F) (ts : List (List Bool)) →
-        ts ≡ places lower.value_bitmap lower.child_bitmap → CallableOnEachEntry asks accepts f (listing_at_places s.entries (take p.depth (bits p.key)) (t ∷ [])) →
-        CallableOnEachEntry asks accepts f (listing_at_places s.entries (take b.depth (bits b.key)) ts)
-    may_ask_lower asks accepts f ts all may =
-        subst (CallableOnEachEntry asks accepts f)
+    pub may_ask_lower : {F : Type 0} (may_return : F → List Bool → T → Bool → F → Type 0) (accepts : F → List Bool → T → Type 0) (f : F) (ts : List (List Bool)) →
+        ts ≡ places lower.value_bitmap lower.child_bitmap → CallableOnEachEntry may_return accepts f (listing_at_places s.entries (take p.depth (bits p.key)) (t ∷ [])) →
+        CallableOnEachEntry may_return accepts f (listing_at_places s.entries (take b.depth (bits b.key)) ts)
+    may_ask_lower may_return accepts f ts all may =
+        subst (CallableOnEachEntry may_return accepts f)
         (append-nil (listing_at_place s.entries (take p.depth (bits p.key)) t) ∙ listing_at_child s.entries (take p.depth (bits p.key)) t five
         ∙ ap (listing_below s.entries) (sym lower_string)
         ∙ sym (all_places width v (record { count = count; cells = w; shape = s }) trie (take b.depth (bits b.key)) lower (here_whole IsKey bits width v b lower lower_site long_b) lower_site.is_there)
         ∙ ap (listing_at_places s.entries (take b.depth (bits b.key))) (sym all)) may
 
     -- what the calls under the child left
-    module _ {F : Type 0} (asks : F → List Bool → T → Bool → F → Type 0) (accepts : F → List Bool → T → Type 0) (ts : List (List Bool))
+    module _ {F : Type 0} (may_return : F → List Bool → T → Bool → F → Type 0) (accepts : F → List Bool → T → Type 0) (ts : List (List Bool))
         (all : ts ≡ places lower.value_bitmap lower.child_bitmap) (each : (u : List Bool) → Contains ts u ↔ IsPlaceOf lower u)
-        (f g : F) (count2 : ℕ) (v2 : Store Node) (w2 : Store (Option T)) (to : RetainsTo asks accepts width (take b.depth (bits b.key)) ts f s g count2 v2 w2)
+        (f g : F) (count2 : ℕ) (v2 : Store Node) (w2 : Store (Option T)) (to : RetainsTo may_return accepts width (take b.depth (bits b.key)) ts f s g count2 v2 w2)
         (left : Node) (later : IsSite IsKey bits width v2 b left) (preserves : PreservesBelow (b.depth / 5) v v2 w w2) where
       deeper : p.depth / 5 < b.depth / 5
       deeper = let d = at.depth_is in omega (arith, d)
@@ -156,7 +156,7 @@ module _ {K T : Type 0} (IsKey : K → Type 0) (bits : K → List Bool) (width :
 
       below_needed : (q : List Bool) → begins (take b.depth (bits b.key)) q ≡ true → (q ≡ take b.depth (bits b.key) → ⊥) → has_node to.after.nodes q ≡ true → Needs to.after.entries q
       below_needed =
-          needed_below asks accepts (take b.depth (bits b.key)) lower.value_bitmap lower.child_bitmap ts all (λ u m. (each u).0 m) (λ u h k. (each u).1 (h, k)) f g s to.after to.retains unset_b bare_b whole_b trie.nodes.depths
+          needed_below may_return accepts (take b.depth (bits b.key)) lower.value_bitmap lower.child_bitmap ts all (λ u m. (each u).0 m) (λ u h k. (each u).1 (h, k)) f g s to.after to.retains unset_b bare_b whole_b trie.nodes.depths
 
       -- a child with a value or with a child of its own is needed
       stocked_needed : IsStocked left → Needs to.after.entries (take b.depth (bits b.key))
@@ -190,12 +190,12 @@ module _ {K T : Type 0} (IsKey : K → Type 0) (bits : K → List Bool) (width :
           }
 
       -- such a child stays
-      pub child_stays : IsStocked left → RetainsTo asks accepts width (take p.depth (bits p.key)) (t ∷ []) f s g count2 v2 w2
+      pub child_stays : IsStocked left → RetainsTo may_return accepts width (take p.depth (bits p.key)) (t ∷ []) f s g count2 v2 w2
       child_stays some = record {
         after = to.after;
         trie = to.trie;
         retains =
-            child_asked asks accepts (take b.depth (bits b.key)) lower.value_bitmap lower.child_bitmap ts all (λ u m. (each u).0 m) (λ u h k. (each u).1 (h, k)) f g s to.after to.retains unset_b bare_b whole_b trie.nodes.depths
+            child_asked may_return accepts (take b.depth (bits b.key)) lower.value_bitmap lower.child_bitmap ts all (λ u m. (each u).0 m) (λ u h k. (each u).1 (h, k)) f g s to.after to.retains unset_b bare_b whole_b trie.nodes.depths
             (take p.depth (bits p.key)) t five lower_string to.after.nodes (λ q h. h) (λ q ne. refl) (λ there. stocked_needed some);
       }
 
@@ -286,12 +286,12 @@ module _ {K T : Type 0} (IsKey : K → Type 0) (bits : K → List Bool) (width :
           nodes = are_nodes width v3 w2 state3 shape3 (λ q there. to.trie.nodes.within q (still_there q there));
         }
 
-        pub child_goes : RetainsTo asks accepts width (take p.depth (bits p.key)) (t ∷ []) f s g count2 v3 w2
+        pub child_goes : RetainsTo may_return accepts width (take p.depth (bits p.key)) (t ∷ []) f s g count2 v3 w2
         child_goes = record {
           after = state3;
           trie = trie3;
           retains =
-              child_asked asks accepts (take b.depth (bits b.key)) lower.value_bitmap lower.child_bitmap ts all (λ u m. (each u).0 m) (λ u h k. (each u).1 (h, k)) f g s to.after to.retains unset_b bare_b whole_b trie.nodes.depths
+              child_asked may_return accepts (take b.depth (bits b.key)) lower.value_bitmap lower.child_bitmap ts all (λ u m. (each u).0 m) (λ u h k. (each u).1 (h, k)) f g s to.after to.retains unset_b bare_b whole_b trie.nodes.depths
               (take p.depth (bits p.key)) t five lower_string (remove to.after.nodes (take b.depth (bits b.key))) still_there
               (λ q ne. removed_is q ∙ ap (λ a. not a && has_node to.after.nodes q) (not_same q ne))
               (λ there. absurd (false≢true (sym (removed_is (take b.depth (bits b.key))

@@ -70,10 +70,10 @@ module _ {K T : Type 0} (IsKey : K → Type 0) (bits : K → List Bool) (width :
       ∙ trie.nodes.closed (take p.depth (bits p.key) ++ u) q there begun
       (whole_more (length (take p.depth (bits p.key))) (length u) (length (take p.depth (bits p.key) ++ u)) (here_whole IsKey bits width v p n at long) five (length-append (take p.depth (bits p.key)) u)))
 
-module _ {K T F : Type 0} (IsKey : K → Type 0) (bits : K → List Bool) (width : ℕ) (asks : F → List Bool → T → Bool → F → Type 0) (accepts : F → List Bool → T → Type 0)
+module _ {K T F : Type 0} (IsKey : K → Type 0) (bits : K → List Bool) (width : ℕ) (may_return : F → List Bool → T → Bool → F → Type 0) (accepts : F → List Bool → T → Type 0)
     (p : Site K) (long : length (bits p.key) ≡ width) (v : Store Node) (n : Node) (at : IsSite IsKey bits width v p n) (count : ℕ) (w : Store (Option T)) (s : State T)
     (trie : IsTrie width count v w s) (v2 : Store Node) (m : Node) (later : IsSite IsKey bits width v2 p m) (count2 : ℕ) (w2 : Store (Option T)) (s2 : State T)
-    (trie2 : IsTrie width count2 v2 w2 s2) (f g : F) (u : List Bool) (few : length u ≤ 5) (retains : Retains asks accepts (take p.depth (bits p.key)) (u ∷ []) f s g s2) where
+    (trie2 : IsTrie width count2 v2 w2 s2) (f g : F) (u : List Bool) (few : length u ≤ 5) (retains : Retains may_return accepts (take p.depth (bits p.key)) (u ∷ []) f s g s2) where
   not_there : (t q : List Bool) → length t ≤ 5 → (t ≡ u → ⊥) → is_at (take p.depth (bits p.key)) t q ≡ true → is_at_some (take p.depth (bits p.key)) (u ∷ []) q ≡ false
   not_there t q short ne here = no_or_yes (is_at_some (take p.depth (bits p.key)) (u ∷ []) q) (λ e.
       ne (one_place (take p.depth (bits p.key)) t u q short few here (only_one (is_at (take p.depth (bits p.key)) u q) e)))
@@ -123,11 +123,11 @@ pub not_in_rest : (u : List Bool) (rest : List (List Bool)) → IsStrictlySorted
 unfolding IsStrictlySortedBy
 not_in_rest u rest sorted = All-weaker (λ t. listing_cmp u t ≡ Less) (λ t. t ≡ u → ⊥) (λ t less e. not_itself u t less (sym e)) rest (All-from_recursion (λ t. listing_cmp u t ≡ Less) rest sorted.0)
 
-module _ {K T F : Type 0} (IsKey : K → Type 0) (bits : K → List Bool) (width : ℕ) (asks : F → List Bool → T → Bool → F → Type 0) (accepts : F → List Bool → T → Type 0)
+module _ {K T F : Type 0} (IsKey : K → Type 0) (bits : K → List Bool) (width : ℕ) (may_return : F → List Bool → T → Bool → F → Type 0) (accepts : F → List Bool → T → Type 0)
     (p : Site K) (long : length (bits p.key) ≡ width) (ts before : List (List Bool)) (u : List Bool) (rest : List (List Bool)) (first : ts ≡ u ∷ rest) (short : length u ≤ 5)
     (sorted : IsStrictlySortedBy listing_cmp ts) (apart : (q : List Bool) → is_at_some (take p.depth (bits p.key)) before q ≡ true → is_at_some (take p.depth (bits p.key)) ts q ≡ true → ⊥)
     (n : Node) (each : All (IsPlaceOf n) ts) (f0 f : F) (count0 count : ℕ) (v0 v : Store Node) (w0 w : Store (Option T))
-    (done : RetainsIn asks accepts width (take p.depth (bits p.key)) before f0 count0 v0 w0 f count v w) where
+    (done : RetainsIn may_return accepts width (take p.depth (bits p.key)) before f0 count0 v0 w0 f count v w) where
   pub each_now : All (IsPlaceOf n) (u ∷ rest)
   each_now = subst (All (IsPlaceOf n)) first each
 
@@ -151,41 +151,41 @@ module _ {K T F : Type 0} (IsKey : K → Type 0) (bits : K → List Bool) (width
 
   module _ (s : State T) (trie : IsTrie width count0 v0 w0 s) where
     -- the test may be called at the next place
-    pub may_ask_this : MayAskAt asks accepts width (take p.depth (bits p.key)) (before ++ ts) f0 count0 v0 w0 → (t : List Bool) → length t ≤ 5 → place_of u ≡ place_of t →
-        MayAskAt asks accepts width (take p.depth (bits p.key)) (t ∷ []) f count v w
+    pub may_ask_this : MayAskAt may_return accepts width (take p.depth (bits p.key)) (before ++ ts) f0 count0 v0 w0 → (t : List Bool) → length t ≤ 5 → place_of u ≡ place_of t →
+        MayAskAt may_return accepts width (take p.depth (bits p.key)) (t ∷ []) f count v w
     may_ask_this may t few same x is =
         let now = done s trie in
         let state : now.after ≡ x = same_shape v.slots w.slots now.after x now.trie.shaped is.shaped in
-        let all = may_ask_then asks accepts (take p.depth (bits p.key)) before ts f0 f s now.after now.retains apart (may s trie) in
-        let one : CallableOnEachEntry asks accepts f (listing_at_place now.after.entries (take p.depth (bits p.key)) u) =
-        may_ask_first asks accepts f (listing_at_place now.after.entries (take p.depth (bits p.key)) u) (listing_at_places now.after.entries (take p.depth (bits p.key)) rest)
-        (subst (λ us. CallableOnEachEntry asks accepts f (listing_at_places now.after.entries (take p.depth (bits p.key)) us)) first all) in
-        subst (λ (y : State T). CallableOnEachEntry asks accepts f (listing_at_places y.entries (take p.depth (bits p.key)) (t ∷ []))) state
-        (subst (λ r. CallableOnEachEntry asks accepts f (listing_at_places now.after.entries (take p.depth (bits p.key)) (r ∷ []))) (same_place u t short few same)
-        (subst (CallableOnEachEntry asks accepts f) (sym (append-nil (listing_at_place now.after.entries (take p.depth (bits p.key)) u))) one))
+        let all = may_ask_then may_return accepts (take p.depth (bits p.key)) before ts f0 f s now.after now.retains apart (may s trie) in
+        let one : CallableOnEachEntry may_return accepts f (listing_at_place now.after.entries (take p.depth (bits p.key)) u) =
+        may_ask_first may_return accepts f (listing_at_place now.after.entries (take p.depth (bits p.key)) u) (listing_at_places now.after.entries (take p.depth (bits p.key)) rest)
+        (subst (λ us. CallableOnEachEntry may_return accepts f (listing_at_places now.after.entries (take p.depth (bits p.key)) us)) first all) in
+        subst (λ (y : State T). CallableOnEachEntry may_return accepts f (listing_at_places y.entries (take p.depth (bits p.key)) (t ∷ []))) state
+        (subst (λ r. CallableOnEachEntry may_return accepts f (listing_at_places now.after.entries (take p.depth (bits p.key)) (r ∷ []))) (same_place u t short few same)
+        (subst (CallableOnEachEntry may_return accepts f) (sym (append-nil (listing_at_place now.after.entries (take p.depth (bits p.key)) u))) one))
 
     module _ (at : IsSite IsKey bits width v p n) (m : Node) (g : F) (count2 : ℕ) (v2 : Store Node) (w2 : Store (Option T)) (later : IsSite IsKey bits width v2 p m)
-        (turn : RetainsIn asks accepts width (take p.depth (bits p.key)) (u ∷ []) f count v w g count2 v2 w2) where
+        (turn : RetainsIn may_return accepts width (take p.depth (bits p.key)) (u ∷ []) f count v w g count2 v2 w2) where
       -- the node still has the places to come
       pub each_next : All (IsPlaceOf m) rest
       each_next =
           let one = done s trie in
           let two = turn one.after one.trie in
           All-both (IsPlaceOf n) (λ t. t ≡ u → ⊥) (IsPlaceOf m) rest
-          (λ t here ne. place_kept IsKey bits width asks accepts p long v n at count w one.after one.trie v2 m later count2 w2 two.after two.trie f g u short two.retains t ne here)
+          (λ t here ne. place_kept IsKey bits width may_return accepts p long v n at count w one.after one.trie v2 m later count2 w2 two.after two.trie f g u short two.retains t ne here)
           (All-tail (IsPlaceOf n) u rest each_now) (not_in_rest u rest sorted_now)
 
   -- one more place is done
   pub done_next : (g : F) (count2 : ℕ) (v2 : Store Node) (w2 : Store (Option T)) →
-      RetainsIn asks accepts width (take p.depth (bits p.key)) (u ∷ []) f count v w g count2 v2 w2 →
-      RetainsIn asks accepts width (take p.depth (bits p.key)) (before ++ u ∷ []) f0 count0 v0 w0 g count2 v2 w2
+      RetainsIn may_return accepts width (take p.depth (bits p.key)) (u ∷ []) f count v w g count2 v2 w2 →
+      RetainsIn may_return accepts width (take p.depth (bits p.key)) (before ++ u ∷ []) f0 count0 v0 w0 g count2 v2 w2
   done_next g count2 v2 w2 turn s trie =
       let one = done s trie in
       let two = turn one.after one.trie in
       record {
         after = two.after;
         trie = two.trie;
-        retains = asked_both asks accepts (take p.depth (bits p.key)) before (u ∷ []) f0 f g s one.after two.after one.retains two.retains apart_this;
+        retains = asked_both may_return accepts (take p.depth (bits p.key)) before (u ∷ []) f0 f g s one.after two.after one.retains two.retains apart_this;
       }
 
 -- two calls that preserve the arrays preserve them together

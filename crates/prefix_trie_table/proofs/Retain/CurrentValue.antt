@@ -61,33 +61,33 @@ module _ {K T : Type 0} (IsKey : K → Type 0) (bits : K → List Bool) (width :
   key_taken key extended = take-extend (bits p.key) (bits key) width p.depth n x long value_space extended
 
   module _ (path : List Bool) (path_is : path ≡ take p.depth (bits p.key) ++ digits n x)
-      {F : Type 0} (asks : F → List Bool → T → Bool → F → Type 0) (accepts : F → List Bool → T → Type 0) (value : T)
+      {F : Type 0} (may_return : F → List Bool → T → Bool → F → Type 0) (accepts : F → List Bool → T → Type 0) (value : T)
       (got : get s.entries (take p.depth (bits p.key) ++ digits n x) ≡ Some value) (f : F) where
-    pub may_ask_here : CallableOnEachEntry asks accepts f (listing_at_places s.entries (take p.depth (bits p.key)) (digits n x ∷ [])) → accepts f path value
+    pub may_ask_here : CallableOnEachEntry may_return accepts f (listing_at_places s.entries (take p.depth (bits p.key)) (digits n x ∷ [])) → accepts f path value
     may_ask_here may =
-        subst (λ k. accepts f k value) (sym path_is) (may_ask_value asks accepts (take p.depth (bits p.key)) (digits n x) short s value got f may)
+        subst (λ k. accepts f k value) (sym path_is) (may_ask_value may_return accepts (take p.depth (bits p.key)) (digits n x) short s value got f may)
 
     -- if the result is true, everything stays
-    pub stays_here : (g : F) (b : Bool) → asks f path value b g → b ≡ true →
-        RetainsTo asks accepts width (take p.depth (bits p.key)) (digits n x ∷ []) f s g count v w
+    pub stays_here : (g : F) (b : Bool) → may_return f path value b g → b ≡ true →
+        RetainsTo may_return accepts width (take p.depth (bits p.key)) (digits n x ∷ []) f s g count v w
     stays_here g b called is = record {
       after = s;
       trie = trie;
       retains =
-          value_stays asks accepts (take p.depth (bits p.key)) (digits n x) short s value got f g
-          (subst (λ k. asks f k value true g) path_is (subst (λ c. asks f path value c g) is called));
+          value_stays may_return accepts (take p.depth (bits p.key)) (digits n x) short s value got f g
+          (subst (λ k. may_return f k value true g) path_is (subst (λ c. may_return f path value c g) is called));
     }
 
     -- if the result is false, the entry is removed
-    pub goes_here : (g : F) (b : Bool) (count2 : ℕ) (v2 : Store Node) (w2 : Store (Option T)) → asks f path value b g → b ≡ false →
+    pub goes_here : (g : F) (b : Bool) (count2 : ℕ) (v2 : Store Node) (w2 : Store (Option T)) → may_return f path value b g → b ≡ false →
         IsTrie width count2 v2 w2 (record { entries = without_entry s.entries (take p.depth (bits p.key) ++ digits n x); nodes = s.nodes }) →
-        RetainsTo asks accepts width (take p.depth (bits p.key)) (digits n x ∷ []) f s g count2 v2 w2
+        RetainsTo may_return accepts width (take p.depth (bits p.key)) (digits n x ∷ []) f s g count2 v2 w2
     goes_here g b count2 v2 w2 called is later = record {
       after = record { entries = without_entry s.entries (take p.depth (bits p.key) ++ digits n x); nodes = s.nodes };
       trie = later;
       retains =
-          value_goes asks accepts (take p.depth (bits p.key)) (digits n x) short s value got f g
-          (subst (λ k. asks f k value false g) path_is (subst (λ c. asks f path value c g) is called));
+          value_goes may_return accepts (take p.depth (bits p.key)) (digits n x) short s value got f g
+          (subst (λ k. may_return f k value false g) path_is (subst (λ c. may_return f path value c g) is called));
     }
 
   -- the value that is removed from its slot

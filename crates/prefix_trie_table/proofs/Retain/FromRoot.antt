@@ -18,18 +18,18 @@ module _ {K : Type 0} (IsKey : K → Type 0) (bits : K → List Bool) (width : �
         ∙ all_places width v (record { count = count; cells = w; shape = s }) trie [] n refl (read-nil v.slots ∙ ap Some (sym n_is))
         ∙ listing_of_root s.entries
 
-    module _ {F : Type 0} (asks : F → List Bool → T → Bool → F → Type 0) (accepts : F → List Bool → T → Type 0) (f : F) where
-      pub root_may_ask : CallableOnEachEntry asks accepts f (listing s.entries) → CallableOnEachEntry asks accepts f (listing_at_places s.entries [] ts)
-      root_may_ask may = subst (CallableOnEachEntry asks accepts f) (sym root_listing) may
+    module _ {F : Type 0} (may_return : F → List Bool → T → Bool → F → Type 0) (accepts : F → List Bool → T → Type 0) (f : F) where
+      pub root_may_ask : CallableOnEachEntry may_return accepts f (listing s.entries) → CallableOnEachEntry may_return accepts f (listing_at_places s.entries [] ts)
+      root_may_ask may = subst (CallableOnEachEntry may_return accepts f) (sym root_listing) may
 
       pub root_asked : (each : (u : List Bool) → Contains ts u → IsPlaceOf n u) → (every : (u : List Bool) → IsPlaceOf n u → Contains ts u) → (g : F) (count2 : ℕ) (v2 : Store Node)
-          (w2 : Store (Option T)) → RetainsTo asks accepts width [] ts f s g count2 v2 w2 → RetainsAll asks accepts width f s count2 v2 w2
+          (w2 : Store (Option T)) → RetainsTo may_return accepts width [] ts f s g count2 v2 w2 → RetainsAll may_return accepts width f s count2 v2 w2
       root_asked each every g count2 v2 w2 to =
           let unset = nothing_at IsKey bits width v (record { slot = 0; key = key; depth = 0 }) n root_site long count w s trie in
           let bare = none_below_it IsKey bits width v (record { slot = 0; key = key; depth = 0 }) n root_site long count w s trie in
           record {
             after = to.after;
             trie = to.trie;
-            asked = asked_all asks accepts [] n.value_bitmap n.child_bitmap ts all each (λ u h k. every u (h, k)) f g s to.after to.retains unset bare refl trie.nodes.depths refl;
-            tidy = nodes_tidy asks accepts [] n.value_bitmap n.child_bitmap ts all each (λ u h k. every u (h, k)) f g s to.after to.retains unset bare refl trie.nodes.depths refl width to.trie.nodes;
+            asked = asked_all may_return accepts [] n.value_bitmap n.child_bitmap ts all each (λ u h k. every u (h, k)) f g s to.after to.retains unset bare refl trie.nodes.depths refl;
+            tidy = nodes_tidy may_return accepts [] n.value_bitmap n.child_bitmap ts all each (λ u h k. every u (h, k)) f g s to.after to.retains unset bare refl trie.nodes.depths refl width to.trie.nodes;
           }

@@ -116,10 +116,10 @@ module _ {T : Type 0} (v v2 : Store Node) (w w2 : Store (Option T)) (count count
           keeps = kept_blocks v v2 w w2 t u z z2 preserves.nodes.made preserves.cells.made;
         }
 
-    pub retains_step : {F : Type 0} (asks : F → List Bool → T → Bool → F → Type 0) (f : F) (kept : State T) → kept ≡ s2.0 →
-        RetainsEntries asks f (listing s.0.entries) (listing kept.entries) → kept.nodes ≡ needed kept.entries → RetainsInStorage asks f before after
-    retains_step asks f kept same asked tidy = record {
-      kept = subst (λ (x : State T). RetainsEntries asks f (listing s.0.entries) (listing x.entries)) same asked;
+    pub retains_step : {F : Type 0} (may_return : F → List Bool → T → Bool → F → Type 0) (f : F) (kept : State T) → kept ≡ s2.0 →
+        RetainsEntries may_return f (listing s.0.entries) (listing kept.entries) → kept.nodes ≡ needed kept.entries → RetainsInStorage may_return f before after
+    retains_step may_return f kept same asked tidy = record {
+      kept = subst (λ (x : State T). RetainsEntries may_return f (listing s.0.entries) (listing x.entries)) same asked;
       nodes = subst (λ (x : State T). x.nodes ≡ needed x.entries) same tidy;
       space = many_space;
       storage = removes_many;

@@ -2,7 +2,7 @@
 use Rattle.std.specs.Prelude.{Bool, List, Option}
 use Rattle.std.specs.Borrow.{Lends, LendsIf, Fml, RattleType, MutBor}
 use Rattle.std.specs.declared.alloc.Allocator as alloc
-use Rattle.prefix_trie_table.specs.declared.allocator.nodes.Tick as tick
+use Rattle.prefix_trie_table.specs.declared.allocator.nodes.VisitCounter as tick
 use Rattle.prefix_trie_table.specs.contracts.table.Table as table
 use Rattle.prefix_trie_table.specs.Model.Contents.{Contents}
 use Rattle.prefix_trie_table.specs.Shape.{with_value_at, with_stored_at, with_longest_at}

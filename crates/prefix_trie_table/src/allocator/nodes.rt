@@ -21,7 +21,7 @@ use std::alloc::{AllocError, Allocator};
 use std::marker::{Model, PhantomData};
 
 /// A counter of node reads. Its count is seen only by contracts, and no function here creates a counter.
-pub trait Tick: Sized + Drop {
+pub trait VisitCounter: Sized + Drop {
     // the number of reads that were counted
     ghost count: { Self → ℕ };
 
@@ -108,7 +108,7 @@ impl<A: Allocator + Clone, V: Drop> NodeAllocator<A, V> {
     }
 }
 
-impl<A: Allocator, V: Tick> NodeAllocator<A, V> {
+impl<A: Allocator, V: VisitCounter> NodeAllocator<A, V> {
     ghost use Rattle.prefix_trie_table.specs.declared.allocator.node.Node.{Node};
 
     /// Returns the node in a slot, and counts the read.

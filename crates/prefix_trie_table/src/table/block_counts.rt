@@ -6,11 +6,11 @@ ghost use Rattle.prefix_trie_bits.specs.Calls.Nodes.{parents, holders};
 ghost use Rattle.prefix_trie_table.specs.Blocks.BlockCounts.{block_counts, slots_counted, used_blocks};
 
 use crate::allocator::block_count::BlockCount;
-use crate::allocator::nodes::Tick;
+use crate::allocator::nodes::VisitCounter;
 use crate::table::Table;
 use std::alloc::Allocator;
 
-impl<T: Drop, A: Allocator, V: Tick> Table<T, A, V> {
+impl<T: Drop, A: Allocator, V: VisitCounter> Table<T, A, V> {
     /// Counts the blocks of each size in the array of nodes, used and free, in ascending order of size.
     ///
     /// A used block has the children of one node, and each node with children has one.

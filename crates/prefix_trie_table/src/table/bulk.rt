@@ -15,7 +15,7 @@ ghost use Rattle.prefix_trie_table.specs.Blocks.Store.{Store};
 
 use crate::allocator::blocks::Cells;
 use crate::allocator::node::{Node, NodeSlot, ROOT};
-use crate::allocator::nodes::{NodeAllocator, Tick};
+use crate::allocator::nodes::{NodeAllocator, VisitCounter};
 use crate::table::Table;
 use crate::table::lookup::{Reached, next_slot};
 use crate::table::matching::{Match, longest_in};
@@ -106,7 +106,7 @@ fn look<K: Key>(
 }
 
 /// Reads the next nodes of the first `count` searches.
-fn read_each<A: Allocator, V: Tick>(
+fn read_each<A: Allocator, V: VisitCounter>(
     nodes: &NodeAllocator<A, V>,
     descents: &[Descent],
     count: usize,
@@ -182,7 +182,7 @@ fn begin(descents: &mut [Descent], count: usize)
 }
 
 /// Searches for all prefixes side by side, and stores the match of each.
-fn match_each<P: Prefix, A: Allocator, V: Tick>(
+fn match_each<P: Prefix, A: Allocator, V: VisitCounter>(
     nodes: &NodeAllocator<A, V>,
     prefixes: &[P],
     found: &mut [Option<Found>],
@@ -225,7 +225,7 @@ fn value_at<'a, T: Drop, A: Allocator>(cells: &'a Cells<T, A>, found: Found) -> 
     Some((found.len, value))
 }
 
-impl<T: Drop, A: Allocator, V: Tick> Table<T, A, V> {
+impl<T: Drop, A: Allocator, V: VisitCounter> Table<T, A, V> {
     /// Stores in `found` what `find_longest` finds for each prefix, in order. `value_found` reads the values.
     ///
     /// For each prefix it reads each node on the search path once.

@@ -6,12 +6,12 @@ ghost use Rattle.prefix_trie_bits.specs.Model.Entries.{no_entries};
 ghost use Rattle.prefix_trie_bits.specs.Model.Nodes.{root_alone};
 ghost use Rattle.prefix_trie_table.specs.Copies.{AreCloned};
 
-use crate::allocator::nodes::Tick;
+use crate::allocator::nodes::VisitCounter;
 use crate::table::Table;
 use prefix_trie_bits::prefix::Refusal;
 use std::alloc::{AllocError, Allocator};
 
-impl<T: Drop, A: Allocator + Clone, V: Tick> Table<T, A, V> {
+impl<T: Drop, A: Allocator + Clone, V: VisitCounter> Table<T, A, V> {
     /// Creates an empty table with a clone of this table's allocator, and the same limit.
     ///
     /// # Errors
@@ -33,7 +33,7 @@ impl<T: Drop, A: Allocator + Clone, V: Tick> Table<T, A, V> {
     }
 }
 
-impl<T: Clone, A: Allocator + Clone, V: Tick> Table<T, A, V> {
+impl<T: Clone, A: Allocator + Clone, V: VisitCounter> Table<T, A, V> {
     /// Creates a table with the same keys, nodes and blocks, whose values are clones, in memory of its own.
     ///
     /// All memory for the arrays is allocated before the first value is cloned.

@@ -5,12 +5,12 @@ ghost use Rattle.prefix_trie_table.specs.declared.allocator.node.Node.{Node};
 ghost use Rattle.prefix_trie_table.specs.Blocks.Cells.{node_sizes};
 ghost use Rattle.prefix_trie_table.specs.Forest.{NodesHold, SomeNodes};
 
-use crate::allocator::nodes::{NodeAllocator, Tick};
+use crate::allocator::nodes::{NodeAllocator, VisitCounter};
 use crate::table::Table;
 use prefix_trie_bits::node::count;
 use std::alloc::Allocator;
 
-impl<T: Drop, A: Allocator, V: Tick> Table<T, A, V> {
+impl<T: Drop, A: Allocator, V: VisitCounter> Table<T, A, V> {
     /// Returns the number of nodes, including the root.
     ///
     /// The number is not stored. Each call reads every slot of the array of nodes once, free slots too.
@@ -42,7 +42,7 @@ impl<T: Drop, A: Allocator, V: Tick> Table<T, A, V> {
 /// Counts the nodes in an array: 1, and the number of children of every slot.
 ///
 /// Each node but the root is the child of exactly one other, and a slot without a node is blank.
-fn nodes_in<A: Allocator, V: Tick>(nodes: &NodeAllocator<A, V>, counter: &mut V) -> usize
+fn nodes_in<A: Allocator, V: VisitCounter>(nodes: &NodeAllocator<A, V>, counter: &mut V) -> usize
     requires { SomeNodes nodes.now }
     ensures nodes { (reading : List ℕ → Option Node) (paths : List (List ℕ))
         → NodesHold node_sizes reading paths nodes.now → result ≡ length paths }

@@ -7,7 +7,7 @@ ghost use Rattle.prefix_trie_table.specs.Shape.{Shaped, Shaped-prop};
 ghost use Rattle.prefix_trie_table.specs.Walking.Covers.{AreLeft, IsCovering, GoesOn, TakesShortest};
 
 use crate::allocator::blocks::Cells;
-use crate::allocator::nodes::{NodeAllocator, Tick};
+use crate::allocator::nodes::{NodeAllocator, VisitCounter};
 use crate::table::Table;
 use crate::table::lookup::{Reached, root, step_down};
 use crate::table::matching::{Match, value_of_match};
@@ -20,7 +20,7 @@ use std::marker::Model;
 ///
 /// It keeps a node of the search path, and one bit for each match of this node that is still to come.
 #[derive(Drop)]
-pub struct Cover<'a, K: Key, T: Drop, A: Allocator, V: Tick> {
+pub struct Cover<'a, K: Key, T: Drop, A: Allocator, V: VisitCounter> {
     nodes: &'a NodeAllocator<A, V>,
     cells: &'a Cells<T, A>,
     path: BitString<K>,
@@ -30,7 +30,7 @@ pub struct Cover<'a, K: Key, T: Drop, A: Allocator, V: Tick> {
 }
 
 // Contracts see the entries still to come.
-impl<'a, K: Key, T: Drop, A: Allocator, V: Tick> Model for Cover<'a, K, T, A, V> {
+impl<'a, K: Key, T: Drop, A: Allocator, V: VisitCounter> Model for Cover<'a, K, T, A, V> {
     ghost use Rattle.std.specs.Prelude.{List, Bool};
     ghost use Rattle.prefix_trie_table.specs.Walking.Covers.{still_covering, IsCover};
 
@@ -41,7 +41,7 @@ impl<'a, K: Key, T: Drop, A: Allocator, V: Tick> Model for Cover<'a, K, T, A, V>
     ghost invariant = { λ c. IsCover c.path c.here c.matches c.nodes.now c.cells.now };
 }
 
-impl<'a, K: Key, T: Drop, A: Allocator, V: Tick> Cover<'a, K, T, A, V> {
+impl<'a, K: Key, T: Drop, A: Allocator, V: VisitCounter> Cover<'a, K, T, A, V> {
     /// Returns the next match and its value. It reads each further node once, when the walk comes to it.
     #[inline]
     pub fn next(&mut self, counter: &mut V) -> Option<(BitString<K>, &'a T)>
@@ -66,7 +66,7 @@ impl<'a, K: Key, T: Drop, A: Allocator, V: Tick> Cover<'a, K, T, A, V> {
     }
 }
 
-impl<T: Drop, A: Allocator, V: Tick> Table<T, A, V> {
+impl<T: Drop, A: Allocator, V: VisitCounter> Table<T, A, V> {
     /// Returns all matches of a bit string with their values, the shortest first. It reads the root at once.
     ///
     /// ```text
@@ -120,7 +120,7 @@ fn take_match(here: Reached, matches: &mut u32) -> Option<Match>
 }
 
 /// Finds the next match of a bit string, and reads the nodes down to the one that has it.
-fn next_match<K: Key, A: Allocator, V: Tick>(
+fn next_match<K: Key, A: Allocator, V: VisitCounter>(
     nodes: &NodeAllocator<A, V>,
     here: &mut Reached,
     matches: &mut u32,
@@ -141,7 +141,7 @@ fn next_match<K: Key, A: Allocator, V: Tick>(
         let Some(next) = step_down(nodes, *here, &rest, last, counter) else {
             return None;
         };
-        rest = rest.below();
+        rest = rest.after_five();
         *matches = matches_in(next, &rest);
         *here = next;
     }

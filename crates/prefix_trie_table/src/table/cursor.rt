@@ -5,7 +5,7 @@ ghost use Rattle.prefix_trie_bits.specs.Calls.Entries.{AreWithin};
 ghost use Rattle.prefix_trie_bits.specs.Calls.Nodes.{AreNodes};
 ghost use Rattle.prefix_trie_table.specs.Walking.Starts.{selected};
 
-use crate::allocator::nodes::Tick;
+use crate::allocator::nodes::VisitCounter;
 use crate::table::Table;
 use crate::table::seat::Seat;
 use crate::table::spot::Spot;
@@ -23,7 +23,7 @@ pub struct Cursor<K: Key> {
     stack: ArrayVec<Spot, 26>,
 }
 
-impl<T: Drop, A: Allocator, V: Tick> Table<T, A, V> {
+impl<T: Drop, A: Allocator, V: VisitCounter> Table<T, A, V> {
     ghost use Rattle.prefix_trie_table.specs.Walking.Cursors.{IsCursorIn, keys_to_come, GivesKey};
 
     /// Starts a walk of the entries that are selected from a bit string.

@@ -18,7 +18,7 @@ ghost use Rattle.prefix_trie_bits.specs.declared.prefix.Refusal.TheVariants.{Mem
 
 use crate::allocator::blocks::Cells;
 use crate::allocator::node::{Node, NodeSlot};
-use crate::allocator::nodes::{NodeAllocator, Tick};
+use crate::allocator::nodes::{NodeAllocator, VisitCounter};
 use crate::table::lookup::Reached;
 use crate::table::seat::{SearchEnd, Seat};
 use prefix_trie_bits::node::{count, rank, with_bit};
@@ -29,7 +29,7 @@ use std::alloc::Allocator;
 ///
 /// The new child has no values and no children. The block that the child needs, if any, is free.
 #[inline(always)]
-fn add_child<A: Allocator, V: Tick>(
+fn add_child<A: Allocator, V: VisitCounter>(
     nodes: &mut NodeAllocator<A, V>,
     at: NodeSlot,
     node: &Node,
@@ -75,7 +75,7 @@ fn add_child<A: Allocator, V: Tick>(
 ///
 /// The block that the value needs, if any, is free.
 #[inline(always)]
-fn add_value<T: Drop, A: Allocator, V: Tick>(
+fn add_value<T: Drop, A: Allocator, V: VisitCounter>(
     nodes: &mut NodeAllocator<A, V>,
     cells: &mut Cells<T, A>,
     at: NodeSlot,
@@ -132,7 +132,7 @@ fn add_value<T: Drop, A: Allocator, V: Tick>(
 /// Returns `IndexRange` if the missing blocks would exceed the slot limit, and `Memory` if an allocation fails. Blocks
 /// made until then stay, free. Nothing else changes.
 #[inline(always)]
-pub fn prepare<K: Key, T: Drop, A: Allocator, V: Tick>(
+pub fn prepare<K: Key, T: Drop, A: Allocator, V: VisitCounter>(
     nodes: &mut NodeAllocator<A, V>,
     cells: &mut Cells<T, A>,
     reached: &Reached,
@@ -165,7 +165,7 @@ pub fn prepare<K: Key, T: Drop, A: Allocator, V: Tick>(
 
 /// Adds the missing nodes of a search path that ends here, and a value at its last node. Returns the value's seat.
 #[inline(always)]
-fn add_entry<K: Key, T: Drop, A: Allocator, V: Tick>(
+fn add_entry<K: Key, T: Drop, A: Allocator, V: VisitCounter>(
     nodes: &mut NodeAllocator<A, V>,
     cells: &mut Cells<T, A>,
     end: SearchEnd<K>,
@@ -193,11 +193,11 @@ fn add_entry<K: Key, T: Drop, A: Allocator, V: Tick>(
     // less.
     let child = rest.child_bit();
     let mut at = add_child(nodes, reached.at, &reached.node, child);
-    rest = rest.below();
+    rest = rest.after_five();
     for _level in reached.level + 1..last {
         let child = rest.child_bit();
         at = add_child(nodes, at, &Node::blank(), child);
-        rest = rest.below();
+        rest = rest.after_five();
     }
     let bit = rest.value_bit();
     add_value(nodes, cells, at, &Node::blank(), bit, value)
@@ -209,7 +209,7 @@ fn add_entry<K: Key, T: Drop, A: Allocator, V: Tick>(
 ///
 /// Returns the value back, with the cause, if `prepare` fails. Nothing is added then.
 #[inline(always)]
-pub fn insert_entry<K: Key, T: Drop, A: Allocator, V: Tick>(
+pub fn insert_entry<K: Key, T: Drop, A: Allocator, V: VisitCounter>(
     nodes: &mut NodeAllocator<A, V>,
     cells: &mut Cells<T, A>,
     entries: &mut usize,

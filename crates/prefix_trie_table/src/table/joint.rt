@@ -11,7 +11,7 @@ ghost use Rattle.prefix_trie_table.specs.Walking.Joint.{GivesJoint, IsCombinatio
 ghost use Rattle.prefix_trie_table.specs.Walking.Walks.{Tree};
 
 use crate::allocator::node::ROOT;
-use crate::allocator::nodes::{NodeAllocator, Tick};
+use crate::allocator::nodes::{NodeAllocator, VisitCounter};
 use crate::table::Table;
 use crate::table::joint_spot::{Combination, JointSpot, JointStep, joint_spot, next_at_both};
 use crate::table::seat::Seat;
@@ -30,7 +30,7 @@ pub struct JointCursor<K: Key> {
     stack: ArrayVec<JointSpot, 26>,
 }
 
-impl<T: Drop, A: Allocator, V: Tick> Table<T, A, V> {
+impl<T: Drop, A: Allocator, V: VisitCounter> Table<T, A, V> {
     ghost use Rattle.prefix_trie_table.specs.Walking.Joint.{IsJointCursorIn, combined_to_come};
 
     /// Starts a walk of this table and another one. It reads both roots.
@@ -133,7 +133,7 @@ impl<T: Drop, A: Allocator, V: Tick> Table<T, A, V> {
 
 /// Returns the next key of a walk with these spots, whose paths begin the key. The last spot is the deepest.
 #[inline]
-fn advance_both<K: Key, A: Allocator, B: Allocator, V: Tick, T: Drop, U: Drop, X>(
+fn advance_both<K: Key, A: Allocator, B: Allocator, V: VisitCounter, T: Drop, U: Drop, X>(
     left: &NodeAllocator<A, V>,
     right: &NodeAllocator<B, V>,
     combination: Combination,
@@ -184,7 +184,7 @@ fn advance_both<K: Key, A: Allocator, B: Allocator, V: Tick, T: Drop, U: Drop, X
 
 /// Takes the next place of the last spot. It changes the spot in the stack, because a copy takes longer.
 #[inline]
-fn next_at_last_both<K: Key, A: Allocator, B: Allocator, V: Tick, T: Drop, U: Drop, X>(
+fn next_at_last_both<K: Key, A: Allocator, B: Allocator, V: VisitCounter, T: Drop, U: Drop, X>(
     left: &NodeAllocator<A, V>,
     right: &NodeAllocator<B, V>,
     combination: Combination,

@@ -9,7 +9,7 @@ ghost use Rattle.prefix_trie_table.specs.Walking.Joint.{IsJointPlace, IsJointSpo
 ghost use Rattle.prefix_trie_table.specs.Walking.Walks.{Tree};
 
 use crate::allocator::node::Node;
-use crate::allocator::nodes::{NodeAllocator, Tick};
+use crate::allocator::nodes::{NodeAllocator, VisitCounter};
 use crate::table::seat::Seat;
 use crate::table::spot::Spot;
 use prefix_trie_bits::node::{Place, Places, has_bit, string_of};
@@ -90,7 +90,7 @@ pub fn joint_spot(combination: Combination, left: Node, right: Node, depth: u32)
 
 /// Takes the next place of a spot on the path of a key, in listing order. Only children are read.
 #[inline]
-pub fn next_at_both<K: Key, A: Allocator, B: Allocator, V: Tick, T: Drop, U: Drop, X>(
+pub fn next_at_both<K: Key, A: Allocator, B: Allocator, V: VisitCounter, T: Drop, U: Drop, X>(
     left: &NodeAllocator<A, V>,
     right: &NodeAllocator<B, V>,
     combination: Combination,
@@ -146,7 +146,7 @@ fn seat_at(node: Node, bit: u32) -> Option<Seat>
 
 /// Reads the child of a node at a bit, without the sizes of its blocks. Returns a blank node if there is none.
 #[inline]
-fn child_or_blank<A: Allocator, V: Tick>(
+fn child_or_blank<A: Allocator, V: VisitCounter>(
     nodes: &NodeAllocator<A, V>,
     node: Node,
     child: u32,

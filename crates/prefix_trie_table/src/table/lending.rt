@@ -10,7 +10,7 @@ ghost use Rattle.prefix_trie_table.specs.Blocks.Slots.{HasValue};
 ghost use Rattle.prefix_trie_table.specs.Lending.Blocks.{lends_held, lends_cell, lends_cell_if};
 
 use crate::allocator::blocks::Cells;
-use crate::allocator::nodes::Tick;
+use crate::allocator::nodes::VisitCounter;
 use crate::table::Table;
 use crate::table::matching::{Match, longest_on_path};
 use crate::table::seat::{Location, Seat};
@@ -64,7 +64,7 @@ fn seat_of(longest: Option<Match>, found: &mut u32) -> Option<Seat>
     Some(longest.seat())
 }
 
-impl<T: Drop, A: Allocator, V: Tick> Table<T, A, V> {
+impl<T: Drop, A: Allocator, V: VisitCounter> Table<T, A, V> {
     ghost use Rattle.prefix_trie_table.specs.Lending.Tables.{lends_entry_if, lends_longest_if};
 
     /// Returns the value at a bit string for writing. Nothing else changes. It reads each node on the search path once.
@@ -77,11 +77,11 @@ impl<T: Drop, A: Allocator, V: Tick> Table<T, A, V> {
     #[inline]
     pub fn find_mut<K: Key>(&mut self, path: BitString<K>, counter: &mut V) -> Option<&mut T>
         ensures* writes_back { sem 𝓛
-            (lends_entry_if T.row A.row V.row A.Allocator V.Tick self.entry path result) }
+            (lends_entry_if T.row A.row V.row A.Allocator V.VisitCounter self.entry path result) }
         ensures value { option_copied_mut result ≡ get self.old.entries path }
         ensures visits { V.count counter.new ≡ V.count counter.old + visits self.old.nodes path }
     {
-        let place = self.locate(path.again(), counter);
+        let place = self.locate(path.copy(), counter);
         match place {
             Location::Stored(seat) => Some(self.at_mut(path, seat)),
             Location::Missing(_) => None,
@@ -99,7 +99,7 @@ impl<T: Drop, A: Allocator, V: Tick> Table<T, A, V> {
         counter: &mut V,
     ) -> Option<&mut T>
         ensures* writes_back { sem 𝓛
-            (lends_longest_if T.row A.row V.row A.Allocator V.Tick self.entry path result) }
+            (lends_longest_if T.row A.row V.row A.Allocator V.VisitCounter self.entry path result) }
         ensures value { MatchOption result
             (longest_match self.old.entries path ≡ None)
             (λ value. (found.new ≤ length path)

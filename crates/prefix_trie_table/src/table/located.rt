@@ -12,7 +12,7 @@ ghost use Rattle.prefix_trie_table.specs.Locations.{seat_of, IsSearchEnd, IsLoca
 ghost use Rattle.prefix_trie_table.specs.Model.Contents.{state, storage, stored_state};
 ghost use Rattle.prefix_trie_table.specs.Steps.{insert_new_reply};
 
-use crate::allocator::nodes::Tick;
+use crate::allocator::nodes::VisitCounter;
 use crate::table::Table;
 use crate::table::insertion::{insert_entry, prepare};
 use crate::table::lending::lend;
@@ -21,7 +21,7 @@ use crate::table::seat::{Location, SearchEnd, Seat};
 use prefix_trie_bits::prefix::{BitString, Key, Refusal, Refused};
 use std::alloc::Allocator;
 
-impl<T: Drop, A: Allocator, V: Tick> Table<T, A, V> {
+impl<T: Drop, A: Allocator, V: VisitCounter> Table<T, A, V> {
     ghost use Rattle.prefix_trie_table.specs.Lending.Tables.{lends_entry};
 
     /// Finds where the value at a bit string is stored, or where its search path ends.
@@ -31,7 +31,7 @@ impl<T: Drop, A: Allocator, V: Tick> Table<T, A, V> {
     /// # Examples
     ///
     /// ```text
-    /// match table.locate(path.again(), &mut counter) {
+    /// match table.locate(path.copy(), &mut counter) {
     ///     Location::Stored(seat) => *table.at_mut(path, seat) = 7,
     ///     Location::Missing(end) => {
     ///         table.insert_located(path, end, 7)?;     // reads no node
@@ -63,7 +63,7 @@ impl<T: Drop, A: Allocator, V: Tick> Table<T, A, V> {
     pub fn at_mut<K: Key>(&mut self, path: BitString<K>, seat: Seat) -> &mut T
         requires { seat_of self.old.build path ≡ Some seat }
         ensures* writes_back { sem 𝓛
-            (lends_entry T.row A.row V.row A.Allocator V.Tick self.entry path result) }
+            (lends_entry T.row A.row V.row A.Allocator V.VisitCounter self.entry path result) }
         ensures value { get self.old.entries path ≡ Some result.now }
     {
         lend(&mut self.cells, seat)

@@ -8,7 +8,7 @@ ghost use Rattle.prefix_trie_table.specs.SearchPaths.{IsAlong, IsLast, ReadsAlon
 ghost use Rattle.prefix_trie_table.specs.Blocks.Store.{Store};
 
 use crate::allocator::node::{Node, NodeSlot, ROOT};
-use crate::allocator::nodes::{NodeAllocator, Tick};
+use crate::allocator::nodes::{NodeAllocator, VisitCounter};
 use crate::table::seat::{Location, SearchEnd};
 use prefix_trie_bits::node::has_bit;
 use prefix_trie_bits::prefix::{BitString, Key};
@@ -24,7 +24,7 @@ pub struct Reached {
 
 /// Reads the root, where every search path begins.
 #[inline]
-pub fn root<A: Allocator, V: Tick>(nodes: &NodeAllocator<A, V>, counter: &mut V) -> Reached
+pub fn root<A: Allocator, V: VisitCounter>(nodes: &NodeAllocator<A, V>, counter: &mut V) -> Reached
     requires sound { SomeNodes nodes.now }
     ensures level { result.level ≡ 0 }
     ensures along { (q : List Bool) → IsAlong q result nodes.now }
@@ -77,7 +77,7 @@ pub fn next_slot<K: Key>(from: Reached, rest: &BitString<K>, last: u32) -> Optio
 ///
 /// `rest` has the bits after those that lead to `from`, at least five.
 #[inline(always)]
-pub fn step_to_child<K: Key, A: Allocator, V: Tick>(
+pub fn step_to_child<K: Key, A: Allocator, V: VisitCounter>(
     nodes: &NodeAllocator<A, V>,
     from: Reached,
     rest: &BitString<K>,
@@ -108,7 +108,7 @@ pub fn step_to_child<K: Key, A: Allocator, V: Tick>(
 ///
 /// `rest` has the bits after those that lead to `from`, and `last` is the level of the bit string's own node.
 #[inline(always)]
-pub fn step_down<K: Key, A: Allocator, V: Tick>(
+pub fn step_down<K: Key, A: Allocator, V: VisitCounter>(
     nodes: &NodeAllocator<A, V>,
     from: Reached,
     rest: &BitString<K>,
@@ -134,7 +134,7 @@ pub fn step_down<K: Key, A: Allocator, V: Tick>(
 
 /// Reads each node on a search path once. Returns the last one, and the bits after those that lead to it.
 #[inline(always)]
-pub fn descend<K: Key, A: Allocator, V: Tick>(
+pub fn descend<K: Key, A: Allocator, V: VisitCounter>(
     nodes: &NodeAllocator<A, V>,
     path: BitString<K>,
     counter: &mut V,
@@ -154,14 +154,14 @@ pub fn descend<K: Key, A: Allocator, V: Tick>(
             return (here, rest.first(len - 5 * here.level));
         };
         here = next;
-        rest = rest.below();
+        rest = rest.after_five();
     }
 }
 
 /// Returns the end of a search path, which this node is. `rest` has the bits that are left there.
 // It reads the sizes of the node's blocks, so that a search that finds a value reads no sizes.
 #[inline(always)]
-fn search_end<K: Key, A: Allocator, V: Tick>(
+fn search_end<K: Key, A: Allocator, V: VisitCounter>(
     nodes: &NodeAllocator<A, V>,
     reached: Reached,
     rest: BitString<K>,
@@ -184,7 +184,7 @@ fn search_end<K: Key, A: Allocator, V: Tick>(
 
 /// Finds where the value at a bit string is stored, or the last node of its search path and the bits that are left there.
 #[inline(always)]
-pub fn locate_in<K: Key, A: Allocator, V: Tick>(
+pub fn locate_in<K: Key, A: Allocator, V: VisitCounter>(
     nodes: &NodeAllocator<A, V>,
     path: BitString<K>,
     counter: &mut V,

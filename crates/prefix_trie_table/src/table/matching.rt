@@ -10,7 +10,7 @@ ghost use Rattle.prefix_trie_table.specs.SearchPaths.{ReadsAlong};
 
 use crate::allocator::blocks::Cells;
 use crate::allocator::node::Node;
-use crate::allocator::nodes::{NodeAllocator, Tick};
+use crate::allocator::nodes::{NodeAllocator, VisitCounter};
 use crate::table::lookup::{Reached, root, step_to_child};
 use crate::table::seat::Seat;
 use prefix_trie_bits::node::string_of;
@@ -60,7 +60,7 @@ pub fn longest_in<K: Key>(here: Reached, rest: &BitString<K>) -> Option<Match>
 
 /// Finds the longest match of a bit string. It reads each node on the search path once.
 #[inline(always)]
-pub fn longest_on_path<K: Key, A: Allocator, V: Tick>(
+pub fn longest_on_path<K: Key, A: Allocator, V: VisitCounter>(
     nodes: &NodeAllocator<A, V>,
     path: BitString<K>,
     counter: &mut V,
@@ -85,7 +85,7 @@ pub fn longest_on_path<K: Key, A: Allocator, V: Tick>(
             return best;
         };
         here = next;
-        rest = rest.below();
+        rest = rest.after_five();
     }
 }
 
@@ -114,7 +114,7 @@ fn shortest_in<K: Key>(here: Reached, rest: &BitString<K>) -> Option<Match>
 
 /// Finds the shortest match of a bit string. It reads the nodes of the search path once each, down to the one that has the match.
 #[inline(always)]
-pub fn shortest_on_path<K: Key, A: Allocator, V: Tick>(
+pub fn shortest_on_path<K: Key, A: Allocator, V: VisitCounter>(
     nodes: &NodeAllocator<A, V>,
     path: BitString<K>,
     counter: &mut V,
@@ -142,7 +142,7 @@ pub fn shortest_on_path<K: Key, A: Allocator, V: Tick>(
             return None;
         };
         here = next;
-        rest = rest.below();
+        rest = rest.after_five();
     }
 }
 

@@ -7,12 +7,12 @@ ghost use Rattle.prefix_trie_bits.specs.Calls.Nodes.{AreNodes};
 ghost use Rattle.prefix_trie_bits.specs.Model.Nodes.{needed};
 ghost use Rattle.prefix_trie_table.specs.Model.Contents.{state, storage, stored_state};
 
-use crate::allocator::nodes::Tick;
+use crate::allocator::nodes::VisitCounter;
 use crate::table::Table;
 use prefix_trie_bits::prefix::{BitString, Key, Refusal};
 use std::alloc::{AllocError, Allocator};
 
-impl<T: Drop, A: Allocator, V: Tick> Table<T, A, V> {
+impl<T: Drop, A: Allocator, V: VisitCounter> Table<T, A, V> {
     /// Frees the memory that no slot and no free list needs. Contracts see no change.
     ///
     /// # Errors
@@ -26,7 +26,7 @@ impl<T: Drop, A: Allocator, V: Tick> Table<T, A, V> {
     }
 }
 
-impl<T: Drop, A: Allocator + Clone, V: Tick> Table<T, A, V> {
+impl<T: Drop, A: Allocator + Clone, V: VisitCounter> Table<T, A, V> {
     /// Moves all entries to new arrays that are as small as the entries allow, in listing order.
     ///
     /// The new arrays have just the nodes that the entries need, in the smallest blocks that hold their lists, and no

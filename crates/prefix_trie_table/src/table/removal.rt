@@ -1,5 +1,5 @@
 //! Removing values.
-ghost use Rattle.std.specs.Prelude.{◌≡◌, ℕ, ◌+◌, ◌<◌, [], ◌∷◌, ◌++◌, List, Option, Some, map, None, true, false, is_some, IfSome, IfNone};
+ghost use Rattle.std.specs.Prelude.{◌≡◌, ℕ, ◌+◌, ◌*◌, ◌<◌, [], ◌∷◌, ◌++◌, List, Option, Some, drop, map, None, true, false, is_some, IfSome, IfNone};
 ghost use Rattle.prefix_trie_table.specs.declared.allocator.node.Node.{Node};
 ghost use Rattle.prefix_trie_table.specs.Bitmaps.{has_bit as is_set, rank as rank_of};
 ghost use Rattle.prefix_trie_table.specs.Blocks.Cells.{blank_node, node_at, node_sizes, cell_sizes};
@@ -13,7 +13,7 @@ ghost use Rattle.prefix_trie_table.specs.Tables.{Grows, ForHeld};
 
 use crate::allocator::blocks::Cells;
 use crate::allocator::node::{Node, NodeSlot};
-use crate::allocator::nodes::{NodeAllocator, Tick};
+use crate::allocator::nodes::{NodeAllocator, VisitCounter};
 use crate::table::lookup::{Reached, descend, root, step_down};
 use arrayvec::ArrayVec;
 use prefix_trie_bits::node::{count, has_bit, rank, without_bit};
@@ -21,7 +21,7 @@ use prefix_trie_bits::prefix::{BitString, Key};
 use std::alloc::Allocator;
 
 /// Removes all values, and all nodes but the root.
-pub fn clear_entries<T: Drop, A: Allocator, V: Tick>(
+pub fn clear_entries<T: Drop, A: Allocator, V: VisitCounter>(
     nodes: &mut NodeAllocator<A, V>,
     cells: &mut Cells<T, A>,
     entries: &mut usize,
@@ -53,7 +53,7 @@ pub fn clear_entries<T: Drop, A: Allocator, V: Tick>(
 
 /// Removes a stored value of the node in a slot, and returns it with the node as it is then.
 #[inline(always)]
-pub fn take_value<T: Drop, A: Allocator, V: Tick>(
+pub fn take_value<T: Drop, A: Allocator, V: VisitCounter>(
     nodes: &mut NodeAllocator<A, V>,
     cells: &mut Cells<T, A>,
     at: NodeSlot,
@@ -100,7 +100,7 @@ pub fn take_value<T: Drop, A: Allocator, V: Tick>(
 
 /// Removes the value at a bit of a node, if there is one. Returns it, and the node as it is then.
 #[inline(always)]
-fn take_bit<T: Drop, A: Allocator, V: Tick>(
+fn take_bit<T: Drop, A: Allocator, V: VisitCounter>(
     nodes: &mut NodeAllocator<A, V>,
     cells: &mut Cells<T, A>,
     entries: &mut usize,
@@ -129,7 +129,7 @@ fn take_bit<T: Drop, A: Allocator, V: Tick>(
 }
 
 /// Removes the value at a bit string, if there is one. All nodes stay.
-pub fn remove_value<K: Key, T: Drop, A: Allocator, V: Tick>(
+pub fn remove_value<K: Key, T: Drop, A: Allocator, V: VisitCounter>(
     nodes: &mut NodeAllocator<A, V>,
     cells: &mut Cells<T, A>,
     entries: &mut usize,
@@ -156,24 +156,25 @@ pub fn remove_value<K: Key, T: Drop, A: Allocator, V: Tick>(
 
 /// Goes down the search path to a bit string's own node, and pushes the slots of the nodes above it to `above`.
 ///
-/// Returns that node, or `None` if a node of the path is missing. `above` must be empty.
-pub fn descend_keeping_ancestors<K: Key, A: Allocator, V: Tick>(
+/// Returns that node with the bits after those that lead to it, or `None` if a node of the path is missing. `above` must be empty.
+pub fn descend_keeping_ancestors<K: Key, A: Allocator, V: VisitCounter>(
     nodes: &NodeAllocator<A, V>,
     path: &BitString<K>,
     above: &mut ArrayVec<NodeSlot, 25>,
     counter: &mut V,
-) -> Option<Reached>
+) -> Option<(Reached, BitString<K>)>
     requires sound { SomeNodes nodes.now }
     requires empty { above.old.items ≡ [] }
     ensures found { IfSome result
-        (λ here. IsOwn path.now here nodes.now
-        × AreAbove path.now here.level above.new.items nodes.now) }
+        (λ own. IsOwn path.now own.0 nodes.now
+        × AreAbove path.now own.0.level above.new.items nodes.now) }
+    ensures rest { IfSome result (λ own. own.1 ≡ drop (5 * own.0.level) path.now) }
     ensures missing { IfNone result ((reading : List ℕ → Option Node) (paths : List (List ℕ))
         → NodesHold node_sizes reading paths nodes.now → reading (chunks_of path.now) ≡ None) }
 {
     let last = path.len() / 5;
     let mut here = root(nodes, counter);
-    let mut rest = path.again();
+    let mut rest = path.copy();
     while here.level < last {
         // Pushed before the next node is read, so that a node's values and sizes are loaded at the last one alone.
         above.push(here.at);
@@ -181,9 +182,9 @@ pub fn descend_keeping_ancestors<K: Key, A: Allocator, V: Tick>(
             return None;
         };
         here = next;
-        rest = rest.below();
+        rest = rest.after_five();
     }
-    Some(here)
+    Some((here, rest))
 }
 
 /// Returns whether a node has neither values nor children.
@@ -197,7 +198,7 @@ pub fn is_bare(node: Node) -> bool
 
 /// Removes a child that has no children from the node in a slot, and returns the node as it is then.
 #[inline(always)]
-pub fn drop_child<A: Allocator, V: Tick>(
+pub fn drop_child<A: Allocator, V: VisitCounter>(
     nodes: &mut NodeAllocator<A, V>,
     at: NodeSlot,
     child: u32,
@@ -238,7 +239,7 @@ pub fn drop_child<A: Allocator, V: Tick>(
 /// Removes the nodes of a search path that have no value and no child, from its end upward.
 ///
 /// `ancestors` has the slots of the nodes above the end. The root stays.
-pub fn prune_up<K: Key, A: Allocator, V: Tick>(
+pub fn prune_up<K: Key, A: Allocator, V: VisitCounter>(
     nodes: &mut NodeAllocator<A, V>,
     ancestors: &[NodeSlot],
     path: BitString<K>,
@@ -263,7 +264,7 @@ pub fn prune_up<K: Key, A: Allocator, V: Tick>(
 /// Removes the value at a bit string, if it is stored, and then the empty nodes of its search path.
 ///
 /// Nodes are removed from the string's own node upward. If that node is missing, nothing changes.
-pub fn remove_entry<K: Key, T: Drop, A: Allocator, V: Tick>(
+pub fn remove_entry<K: Key, T: Drop, A: Allocator, V: VisitCounter>(
     nodes: &mut NodeAllocator<A, V>,
     cells: &mut Cells<T, A>,
     entries: &mut usize,
@@ -282,11 +283,10 @@ pub fn remove_entry<K: Key, T: Drop, A: Allocator, V: Tick>(
     ensures cell_space { Grows cells.old cells.new 24 }
 {
     let mut above = ArrayVec::new();
-    let Some(here) = descend_keeping_ancestors(nodes, &path, &mut above, counter) else {
+    let Some((here, rest)) = descend_keeping_ancestors(nodes, &path, &mut above, counter) else {
         return None;
     };
-    let bit = path.after(5 * here.level).value_bit();
-    let (value, left) = take_bit(nodes, cells, entries, here, bit);
+    let (value, left) = take_bit(nodes, cells, entries, here, rest.value_bit());
     prune_up(nodes, &above, path, left, counter);
     value
 }

@@ -11,20 +11,20 @@ ghost use Rattle.prefix_trie_table.specs.Tables.{IsTrie};
 
 use crate::allocator::blocks::Cells;
 use crate::allocator::node::{Node, NodeSlot, ROOT};
-use crate::allocator::nodes::{NodeAllocator, Tick};
+use crate::allocator::nodes::{NodeAllocator, VisitCounter};
 use crate::table::removal::{drop_child, is_bare, take_value};
 use prefix_trie_bits::node::{Place, Places, string_of};
 use prefix_trie_bits::prefix::{BitString, Key};
 use std::alloc::{AllocError, Allocator};
 
 /// A test that is called with entries, and is given the values of those that it removes.
-pub trait Keep<K: Key, T, V: Tick>: Sized + Drop {
+pub trait Keep<K: Key, T, V: VisitCounter>: Sized + Drop {
     // the test may be called with this key and this value
     ghost accepts: { Self → List Bool → T → Type 0 };
 
     // called with this key and this value, the test may return this and be left as this; after `false`, once it was
     // given the value
-    ghost asks: { Self → List Bool → T → Bool → Self → Type 0 };
+    ghost may_return: { Self → List Bool → T → Bool → Self → Type 0 };
 
     // called with this key and this value, the test may return `false`, and be left as this until it is given the value
     ghost refuses: { Self → List Bool → T → Self → Type 0 };
@@ -32,14 +32,14 @@ pub trait Keep<K: Key, T, V: Tick>: Sized + Drop {
     /// Returns whether the entry of a bit string and its value stays.
     fn keeps(&mut self, path: &BitString<K>, value: &T) -> bool
         requires { accepts self.old path.now value.now }
-        ensures yes { result ≡ true → asks self.old path.now value.now true self.new }
+        ensures yes { result ≡ true → may_return self.old path.now value.now true self.new }
         ensures no { result ≡ false → refuses self.old path.now value.now self.new };
 
     /// Takes the value of an entry for which `keeps` returned `false`. `counter` counts the nodes that this reads.
     fn taken(&mut self, path: &BitString<K>, value: T, counter: &mut V)
         requires { (before : Self) × refuses before path.now value self.old }
         ensures { (before : Self) → refuses before path.now value self.old
-            → asks before path.now value false self.new };
+            → may_return before path.now value false self.new };
 }
 
 /// The position of a node: its slot in the array, and its path, the first `depth` bits of a key.
@@ -66,7 +66,7 @@ impl<K: Key> Clone for Site<K> {
 /// Calls the test with a value of a node, and removes the value if the test returns `false`.
 ///
 /// Returns the node as it is then.
-fn retain_value<K: Key, T: Drop, A: Allocator, V: Tick, F: Keep<K, T, V>>(
+fn retain_value<K: Key, T: Drop, A: Allocator, V: VisitCounter, F: Keep<K, T, V>>(
     nodes: &mut NodeAllocator<A, V>,
     cells: &mut Cells<T, A>,
     entries: &mut usize,
@@ -81,11 +81,11 @@ fn retain_value<K: Key, T: Drop, A: Allocator, V: Tick, F: Keep<K, T, V>>(
     requires bit { bit < 31 }
     requires set { has node.value_bitmap bit ≡ true }
     requires may_ask { (t : List Bool) → length t ≤ 4 → value_bit t ≡ bit
-        → MayAskAt F.asks F.accepts
+        → MayAskAt F.may_return F.accepts
         K.bit_width (take site.depth (K.bits site.key))
         (t ∷ []) keep.old entries.old nodes.old cells.old }
     ensures retains { (t : List Bool) → length t ≤ 4 → value_bit t ≡ bit
-        → RetainsIn F.asks F.accepts
+        → RetainsIn F.may_return F.accepts
         K.bit_width (take site.depth (K.bits site.key)) (t ∷ [])
         keep.old entries.old nodes.old cells.old keep.new entries.new nodes.new cells.new }
     ensures node { IsSite K.IsKey K.bits K.bit_width nodes.new site result }
@@ -114,7 +114,7 @@ fn retain_value<K: Key, T: Drop, A: Allocator, V: Tick, F: Keep<K, T, V>>(
 /// Entries for which the test returns `false` are removed. A child that is left without values and children is removed
 /// too.
 #[cycle(retain)]
-fn retain_place<K: Key, T: Drop, A: Allocator, V: Tick, F: Keep<K, T, V>>(
+fn retain_place<K: Key, T: Drop, A: Allocator, V: VisitCounter, F: Keep<K, T, V>>(
     nodes: &mut NodeAllocator<A, V>,
     cells: &mut Cells<T, A>,
     entries: &mut usize,
@@ -128,11 +128,11 @@ fn retain_place<K: Key, T: Drop, A: Allocator, V: Tick, F: Keep<K, T, V>>(
     requires site { IsSite K.IsKey K.bits K.bit_width nodes.old site node }
     requires place { HasPlace node place }
     requires may_ask { (t : List Bool) → length t ≤ 5 → place ≡ place_of t
-        → MayAskAt F.asks F.accepts
+        → MayAskAt F.may_return F.accepts
         K.bit_width (take site.depth (K.bits site.key))
         (t ∷ []) keep.old entries.old nodes.old cells.old }
     ensures retains { (t : List Bool) → length t ≤ 5 → place ≡ place_of t
-        → RetainsIn F.asks F.accepts
+        → RetainsIn F.may_return F.accepts
         K.bit_width (take site.depth (K.bits site.key)) (t ∷ [])
         keep.old entries.old nodes.old cells.old keep.new entries.new nodes.new cells.new }
     ensures node { IsSite K.IsKey K.bits K.bit_width nodes.new site result }
@@ -161,7 +161,7 @@ fn retain_place<K: Key, T: Drop, A: Allocator, V: Tick, F: Keep<K, T, V>>(
 
 /// Calls the test with what is at these places of a node, in listing order. Returns the node as it is then.
 #[cycle(retain)]
-pub(super) fn retain_places<K: Key, T: Drop, A: Allocator, V: Tick, F: Keep<K, T, V>>(
+pub(super) fn retain_places<K: Key, T: Drop, A: Allocator, V: VisitCounter, F: Keep<K, T, V>>(
     nodes: &mut NodeAllocator<A, V>,
     cells: &mut Cells<T, A>,
     entries: &mut usize,
@@ -174,10 +174,10 @@ pub(super) fn retain_places<K: Key, T: Drop, A: Allocator, V: Tick, F: Keep<K, T
     requires trie { (s : State T) × IsTrie K.bit_width entries.old nodes.old cells.old s }
     requires site { IsSite K.IsKey K.bits K.bit_width nodes.old site node }
     requires each { All (IsPlaceOf node) (to_come places) }
-    requires may_ask { MayAskAt F.asks F.accepts
+    requires may_ask { MayAskAt F.may_return F.accepts
         K.bit_width (take site.depth (K.bits site.key))
         (to_come places) keep.old entries.old nodes.old cells.old }
-    ensures retains { RetainsIn F.asks F.accepts
+    ensures retains { RetainsIn F.may_return F.accepts
         K.bit_width (take site.depth (K.bits site.key)) (to_come places)
         keep.old entries.old nodes.old cells.old keep.new entries.new nodes.new cells.new }
     ensures node { IsSite K.IsKey K.bits K.bit_width nodes.new site result }
@@ -194,7 +194,7 @@ pub(super) fn retain_places<K: Key, T: Drop, A: Allocator, V: Tick, F: Keep<K, T
 /// Calls the test with each entry in listing order, and removes those that fail it.
 ///
 /// All nodes that are left without values and children are removed too.
-pub fn retain_entries<K: Key, T: Drop, A: Allocator, V: Tick, F: Keep<K, T, V>>(
+pub fn retain_entries<K: Key, T: Drop, A: Allocator, V: VisitCounter, F: Keep<K, T, V>>(
     nodes: &mut NodeAllocator<A, V>,
     cells: &mut Cells<T, A>,
     entries: &mut usize,
@@ -203,9 +203,9 @@ pub fn retain_entries<K: Key, T: Drop, A: Allocator, V: Tick, F: Keep<K, T, V>>(
 )
     requires trie { (s : State T) × IsTrie K.bit_width entries.old nodes.old cells.old s }
     requires may_ask { (s : State T) → IsTrie K.bit_width entries.old nodes.old cells.old s
-        → CallableOnEachEntry F.asks F.accepts keep (listing s.entries) }
+        → CallableOnEachEntry F.may_return F.accepts keep (listing s.entries) }
     ensures kept { (s : State T) → IsTrie K.bit_width entries.old nodes.old cells.old s
-        → RetainsAll F.asks F.accepts K.bit_width keep s entries.new nodes.new cells.new }
+        → RetainsAll F.may_return F.accepts K.bit_width keep s entries.new nodes.new cells.new }
     ensures preserves { PreservesBelow 0 nodes.old nodes.new cells.old cells.new }
 {
     let mut keep = keep;

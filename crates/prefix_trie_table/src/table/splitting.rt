@@ -13,7 +13,7 @@ ghost use Rattle.prefix_trie_table.specs.Tables.{IsTrie};
 
 use crate::allocator::blocks::{self, Cells};
 use crate::allocator::node::{Node, NodeSlot, ROOT};
-use crate::allocator::nodes::{NodeAllocator, Tick};
+use crate::allocator::nodes::{NodeAllocator, VisitCounter};
 use crate::table::removal::is_bare;
 use arrayvec::ArrayVec;
 use prefix_trie_bits::node::{count, has_bit, with_bit};
@@ -43,7 +43,7 @@ fn masks<K: Key>(rest: &BitString<K>) -> (u32, u32, BitString<K>)
 ///
 /// No value is moved: all cells are vacant. The returned node has its blocks, but no slot yet. `rest` has the bits of the
 /// string after those that lead to the node. At most `levels` levels of nodes are below it.
-fn build_node<K: Key, T: Drop, A: Allocator, V: Tick>(
+fn build_node<K: Key, T: Drop, A: Allocator, V: VisitCounter>(
     from: &NodeAllocator<A, V>,
     node: Node,
     rest: &BitString<K>,
@@ -104,7 +104,7 @@ fn build_node<K: Key, T: Drop, A: Allocator, V: Tick>(
 ///
 /// Returns `Memory` if an allocation fails. `IndexRange` never comes, since these blocks are no larger than those that
 /// the same nodes have here.
-pub(super) fn build_part<K: Key, T: Drop, A: Allocator + Clone, V: Tick>(
+pub(super) fn build_part<K: Key, T: Drop, A: Allocator + Clone, V: VisitCounter>(
     nodes: &NodeAllocator<A, V>,
     cells: &Cells<T, A>,
     path: &BitString<K>,

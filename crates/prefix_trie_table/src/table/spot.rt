@@ -10,7 +10,7 @@ ghost use Rattle.prefix_trie_table.specs.Walking.Walks.{Tree, IsSpot, IsPlaceOf,
 
 use crate::allocator::blocks::Cells;
 use crate::allocator::node::{Node, NodeSlot};
-use crate::allocator::nodes::{NodeAllocator, Tick};
+use crate::allocator::nodes::{NodeAllocator, VisitCounter};
 use crate::table::seat::Seat;
 use prefix_trie_bits::node::{Place, Places, string_of};
 use prefix_trie_bits::prefix::{BitString, Key};
@@ -49,7 +49,7 @@ pub enum Step<K: Key> {
 
 /// Reads the node in a slot, whose path has `depth` bits, and returns its spot with all its places to come.
 #[inline]
-pub fn enter<A: Allocator, V: Tick>(
+pub fn enter<A: Allocator, V: VisitCounter>(
     nodes: &NodeAllocator<A, V>,
     at: NodeSlot,
     depth: u32,
@@ -91,7 +91,7 @@ pub fn spot_in(node: Node, depth: u32, chosen: (u32, u32)) -> Spot
 
 /// Takes the next place of a spot on the path of a key, in listing order. Only a child is read.
 #[inline]
-pub fn next_at<K: Key, A: Allocator, V: Tick, T: Drop>(
+pub fn next_at<K: Key, A: Allocator, V: VisitCounter, T: Drop>(
     nodes: &NodeAllocator<A, V>,
     spot: &mut Spot,
     key: K,

@@ -9,7 +9,7 @@ ghost use Rattle.prefix_trie_table.specs.Walking.Items.{GivesFilled};
 ghost use Rattle.prefix_trie_table.specs.Walking.Taking.{Seated, Seated-prop};
 
 use crate::allocator::blocks::Cells;
-use crate::allocator::nodes::{NodeAllocator, Tick};
+use crate::allocator::nodes::{NodeAllocator, VisitCounter};
 use crate::table::Table;
 use crate::table::spot::Spot;
 use crate::table::walk::advance;
@@ -30,7 +30,7 @@ use std::marker::Model;
 /// while let Some((key, len, value)) = walk.next(&mut counter) {}    // each value is moved out of the table
 /// ```
 #[derive(Drop)]
-pub struct IntoWalk<K: Key, T: Drop, A: Allocator, V: Tick> {
+pub struct IntoWalk<K: Key, T: Drop, A: Allocator, V: VisitCounter> {
     nodes: NodeAllocator<A, V>,
     // The cells of values that were taken are vacant. The other cells and the nodes are those of the table.
     cells: Cells<T, A>,
@@ -41,7 +41,7 @@ pub struct IntoWalk<K: Key, T: Drop, A: Allocator, V: Tick> {
 }
 
 // Clauses see the pairs still to come.
-impl<K: Key, T: Drop, A: Allocator, V: Tick> Model for IntoWalk<K, T, A, V> {
+impl<K: Key, T: Drop, A: Allocator, V: VisitCounter> Model for IntoWalk<K, T, A, V> {
     ghost use Rattle.std.specs.Prelude.{List, Bool};
     ghost use Rattle.prefix_trie_table.specs.Walking.Walks.{pending};
     ghost use Rattle.prefix_trie_table.specs.Walking.Taking.{pairs_in, IsTaking};
@@ -55,7 +55,7 @@ impl<K: Key, T: Drop, A: Allocator, V: Tick> Model for IntoWalk<K, T, A, V> {
         (K.bits w.key) w.stack.items };
 }
 
-impl<K: Key, T: Drop, A: Allocator, V: Tick> IntoWalk<K, T, A, V> {
+impl<K: Key, T: Drop, A: Allocator, V: VisitCounter> IntoWalk<K, T, A, V> {
     /// Returns the next entry: its key, the key's length in bits, and its value.
     ///
     /// It reads each further node once, when the walk comes to it.
@@ -79,7 +79,7 @@ impl<K: Key, T: Drop, A: Allocator, V: Tick> IntoWalk<K, T, A, V> {
     }
 }
 
-impl<K: Key, T: Clone, A: Allocator + Clone, V: Tick> IntoWalk<K, T, A, V> {
+impl<K: Key, T: Clone, A: Allocator + Clone, V: VisitCounter> IntoWalk<K, T, A, V> {
     /// Creates a walk with the same strings to come, whose values are clones, in memory of its own.
     ///
     /// All memory for the arrays is allocated before the first value is cloned.
@@ -106,7 +106,7 @@ impl<K: Key, T: Clone, A: Allocator + Clone, V: Tick> IntoWalk<K, T, A, V> {
     }
 }
 
-impl<T: Drop, A: Allocator, V: Tick> Table<T, A, V> {
+impl<T: Drop, A: Allocator, V: VisitCounter> Table<T, A, V> {
     /// Walks all entries in listing order, and takes the table apart. It reads the root at once and does not allocate.
     #[inline]
     pub fn into_walk<K: Key>(self, counter: &mut V) -> IntoWalk<K, T, A, V>

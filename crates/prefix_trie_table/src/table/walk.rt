@@ -11,7 +11,7 @@ ghost use Rattle.prefix_trie_table.specs.Walking.Walks.{Tree, ArePassed, EndsLas
 
 use crate::allocator::blocks::Cells;
 use crate::allocator::node::ROOT;
-use crate::allocator::nodes::{NodeAllocator, Tick};
+use crate::allocator::nodes::{NodeAllocator, VisitCounter};
 use crate::table::seat::Seat;
 use crate::table::spot::{Spot, Step, enter, next_at, skip_below, value_at};
 use arrayvec::ArrayVec;
@@ -21,7 +21,7 @@ use std::marker::Model;
 
 /// The entries of a table that are still to come, in listing order.
 #[derive(Drop)]
-pub struct Walk<'a, K: Key, T: Drop, A: Allocator, V: Tick> {
+pub struct Walk<'a, K: Key, T: Drop, A: Allocator, V: VisitCounter> {
     pub(super) arrays: Option<(&'a NodeAllocator<A, V>, &'a Cells<T, A>)>,
     // The path of each spot begins this key.
     pub(super) key: K,
@@ -30,7 +30,7 @@ pub struct Walk<'a, K: Key, T: Drop, A: Allocator, V: Tick> {
 }
 
 // Clauses see the pairs still to come.
-impl<'a, K: Key, T: Drop, A: Allocator, V: Tick> Model for Walk<'a, K, T, A, V> {
+impl<'a, K: Key, T: Drop, A: Allocator, V: VisitCounter> Model for Walk<'a, K, T, A, V> {
     ghost use Rattle.std.specs.Prelude.{List, Bool};
     ghost use Rattle.prefix_trie_table.specs.Walking.Walks.{rest_of_walk, IsWalk};
 
@@ -41,7 +41,7 @@ impl<'a, K: Key, T: Drop, A: Allocator, V: Tick> Model for Walk<'a, K, T, A, V> 
     ghost invariant = { λ w. IsWalk K.bit_width w.arrays w.shape (K.bits w.key) w.stack.items };
 }
 
-impl<'a, K: Key, T: Drop, A: Allocator, V: Tick> Walk<'a, K, T, A, V> {
+impl<'a, K: Key, T: Drop, A: Allocator, V: VisitCounter> Walk<'a, K, T, A, V> {
     /// Returns the next entry: its key, the key's length in bits, and its value.
     ///
     /// It reads each further node once, when the walk comes to it.
@@ -103,7 +103,7 @@ impl<'a, K: Key, T: Drop, A: Allocator, V: Tick> Walk<'a, K, T, A, V> {
     }
 }
 
-impl<'a, K: Key, T: Drop, A: Allocator, V: Tick> Default for Walk<'a, K, T, A, V> {
+impl<'a, K: Key, T: Drop, A: Allocator, V: VisitCounter> Default for Walk<'a, K, T, A, V> {
     ghost is_default = { λ w. w ≡ [] };
 
     /// Returns a walk with nothing to come.
@@ -117,7 +117,7 @@ impl<'a, K: Key, T: Drop, A: Allocator, V: Tick> Default for Walk<'a, K, T, A, V
 }
 
 /// Walks all entries that the arrays hold. It reads the root.
-pub fn walk_of<'a, K: Key, T: Drop, A: Allocator, V: Tick>(
+pub fn walk_of<'a, K: Key, T: Drop, A: Allocator, V: VisitCounter>(
     nodes: &'a NodeAllocator<A, V>,
     cells: &'a Cells<T, A>,
     counter: &mut V,
@@ -137,7 +137,7 @@ pub fn walk_of<'a, K: Key, T: Drop, A: Allocator, V: Tick>(
 
 /// Returns the next entry of a walk with these spots, whose paths begin the key. The last spot is the deepest.
 #[inline]
-pub fn advance<K: Key, A: Allocator, V: Tick, T: Drop>(
+pub fn advance<K: Key, A: Allocator, V: VisitCounter, T: Drop>(
     nodes: &NodeAllocator<A, V>,
     stack: &mut ArrayVec<Spot, 26>,
     key: &mut K,
@@ -176,7 +176,7 @@ pub fn advance<K: Key, A: Allocator, V: Tick, T: Drop>(
 
 /// Takes the next place of the last spot. It changes the spot in the stack, because a copy takes longer.
 #[inline]
-fn next_at_last<K: Key, A: Allocator, V: Tick, T: Drop>(
+fn next_at_last<K: Key, A: Allocator, V: VisitCounter, T: Drop>(
     nodes: &NodeAllocator<A, V>,
     stack: &mut ArrayVec<Spot, 26>,
     key: K,

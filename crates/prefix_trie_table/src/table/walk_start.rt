@@ -11,7 +11,7 @@ ghost use Rattle.prefix_trie_table.specs.Walking.Starts.{selected, behind, kept}
 
 use crate::allocator::blocks::Cells;
 use crate::allocator::node::ROOT;
-use crate::allocator::nodes::{NodeAllocator, Tick};
+use crate::allocator::nodes::{NodeAllocator, VisitCounter};
 use crate::table::spot::{Spot, spot_in};
 use crate::table::walk::Walk;
 use arrayvec::ArrayVec;
@@ -31,7 +31,7 @@ pub enum Start {
 }
 
 /// Walks a selection of the entries that the arrays hold. It reads each node on the search path once.
-pub fn walk_at<'a, K: Key, T: Drop, A: Allocator, V: Tick>(
+pub fn walk_at<'a, K: Key, T: Drop, A: Allocator, V: VisitCounter>(
     nodes: &'a NodeAllocator<A, V>,
     cells: &'a Cells<T, A>,
     path: BitString<K>,
@@ -54,7 +54,7 @@ pub fn walk_at<'a, K: Key, T: Drop, A: Allocator, V: Tick>(
 /// Goes down the search path of a bit string that begins a key, and returns the stack of a walk of the selected entries.
 ///
 /// The spot of each node has what is selected there, except what is below the next node of the path.
-pub(super) fn start_at<K: Key, T: Drop, A: Allocator, V: Tick>(
+pub(super) fn start_at<K: Key, T: Drop, A: Allocator, V: VisitCounter>(
     nodes: &NodeAllocator<A, V>,
     key: K,
     path: BitString<K>,
@@ -83,7 +83,7 @@ pub(super) fn start_at<K: Key, T: Drop, A: Allocator, V: Tick>(
         }
         node = nodes.visit(node.child_slot(child), counter);
         depth += 5;
-        rest = rest.below();
+        rest = rest.after_five();
     }
     // All bits that are left. Their number comes from the depth, so that the loop counts one of the two.
     let rest = rest.first(len - depth);

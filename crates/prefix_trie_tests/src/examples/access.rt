@@ -1,7 +1,7 @@
 //! An access list: networks that are allowed, and networks that are denied.
 ghost use Rattle.std.specs.Prelude.{◌≡◌, ◌&&◌, not, map, IfOk, IsTrue};
 ghost use Rattle.std.specs.Option.{is_some};
-ghost use Rattle.prefix_trie.specs.Words.{covers, ipv4_address, ipv4_back, shortest_match, IsUncovered};
+ghost use Rattle.prefix_trie.specs.Terms.{covers, ipv4_address, ipv4_back, shortest_match, IsUncovered};
 
 use prefix_trie::laws::lookup_laws;
 use prefix_trie::{Ipv4Prefix, PrefixSet};

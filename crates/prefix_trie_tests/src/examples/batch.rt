@@ -1,7 +1,7 @@
 //! A burst of packets: one call finds the next hops of all addresses.
 ghost use Rattle.std.specs.Prelude.{◌≡◌, ◌^◌, ◌<◌, ◌≤◌, All, length, map, take};
 ghost use Rattle.std.specs.Option.{option_copied, option_map};
-ghost use Rattle.prefix_trie.specs.Words.{ipv4_address, longest_match};
+ghost use Rattle.prefix_trie.specs.Terms.{ipv4_address, longest_match};
 
 use prefix_trie::{Ipv4Prefix, PrefixMap};
 use std::alloc::Allocator;

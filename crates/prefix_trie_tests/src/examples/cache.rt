@@ -1,6 +1,6 @@
 //! A cache, which forgets all entries if a new one cannot be inserted.
 ghost use Rattle.std.specs.Prelude.{◌≡◌, cond, IfOk, IfErr};
-ghost use Rattle.prefix_trie.specs.Words.{no_entries, with_entry};
+ghost use Rattle.prefix_trie.specs.Terms.{no_entries, with_entry};
 
 use prefix_trie::{Prefix, PrefixMap, Refused};
 use std::alloc::Allocator;

@@ -3,7 +3,7 @@ ghost use Rattle.std.specs.Prelude.{◌≡◌, ◌+◌, ◌%◌, ◌^◌, List, 
 ghost use Rattle.std.specs.Option.{option_map, unwrap_or};
 ghost use Rattle.std.specs.FinMap.{get};
 ghost use Rattle.std.specs.List.{sum};
-ghost use Rattle.prefix_trie.specs.Words.{joined_by, listing, with_entry, with_value};
+ghost use Rattle.prefix_trie.specs.Terms.{joined_by, listing, with_entry, with_value};
 
 use prefix_trie::laws::join_laws;
 use prefix_trie::{Prefix, PrefixMap, Refusal, Refused};

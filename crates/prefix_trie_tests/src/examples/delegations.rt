@@ -1,7 +1,7 @@
 //! Delegations: IPv6 networks, each with the number of its holder.
 ghost use Rattle.std.specs.Prelude.{◌≡◌, ◌≤◌, List, Bool, true, Some, IfSome, length, OnOk, OnErr};
 ghost use Rattle.std.specs.Option.{option_map};
-ghost use Rattle.prefix_trie.specs.Words.{begins, ipv6_address, ipv6_path, longest_match};
+ghost use Rattle.prefix_trie.specs.Terms.{begins, ipv6_address, ipv6_path, longest_match};
 
 use prefix_trie::laws::lookup_laws;
 use prefix_trie::{Ipv6Prefix, PrefixMap};

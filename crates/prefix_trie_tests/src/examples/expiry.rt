@@ -1,6 +1,6 @@
 //! Entries that are kept by their values, such as the time they were last seen.
 ghost use Rattle.std.specs.Prelude.{◌≡◌, nat_le, filter};
-ghost use Rattle.prefix_trie.specs.Words.{listing, needed};
+ghost use Rattle.prefix_trie.specs.Terms.{listing, needed};
 
 use prefix_trie::{Prefix, PrefixMap};
 use std::alloc::Allocator;

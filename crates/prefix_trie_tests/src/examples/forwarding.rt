@@ -1,7 +1,7 @@
 //! A forwarding table, which sends an address to the next hop of the longest route that contains it.
 ghost use Rattle.std.specs.Prelude.{◌≡◌, List, Bool, IfOk, OnOk, OnErr, MatchOption};
 ghost use Rattle.std.specs.Option.{option_map};
-ghost use Rattle.prefix_trie.specs.Words.{ipv4_address, ipv4_path, longest_match, no_entries, put_all, with_entry, IsLongestMatch, IsUncovered};
+ghost use Rattle.prefix_trie.specs.Terms.{ipv4_address, ipv4_path, longest_match, no_entries, put_all, with_entry, IsLongestMatch, IsUncovered};
 
 use prefix_trie::laws::lookup_laws;
 use prefix_trie::{Ipv4Prefix, PrefixMap, Refusal};

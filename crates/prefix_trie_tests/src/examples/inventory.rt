@@ -1,6 +1,6 @@
 //! An inventory: networks, each with the number of its owner.
 ghost use Rattle.std.specs.Prelude.{◌≡◌, length};
-ghost use Rattle.prefix_trie.specs.Words.{address_total, first_item, ipv4_back, ipv4_path, listing_after, listing_below, prefix_pairs};
+ghost use Rattle.prefix_trie.specs.Terms.{address_total, first_item, ipv4_back, ipv4_path, listing_after, listing_below, prefix_pairs};
 
 use prefix_trie::laws::network_laws;
 use prefix_trie::{Ipv4Prefix, PrefixMap};

@@ -1,6 +1,6 @@
 //! Entries that are read in pages. Each page starts after the last entry of the page before.
 ghost use Rattle.std.specs.Prelude.{◌≡◌, ℕ, ◌+◌, ◌<◌, ◌++◌, List, IfOk, OnOk, length, take};
-ghost use Rattle.prefix_trie.specs.Words.{listing, prefix_pairs};
+ghost use Rattle.prefix_trie.specs.Terms.{listing, prefix_pairs};
 
 use prefix_trie::laws::page_laws;
 use prefix_trie::map::Iter;

@@ -1,6 +1,6 @@
 //! A map that is filled and pruned. It has exactly the nodes that its keys need.
 ghost use Rattle.std.specs.Prelude.{◌≡◌, IfOk};
-ghost use Rattle.prefix_trie.specs.Words.{needed, IsTidy};
+ghost use Rattle.prefix_trie.specs.Terms.{needed, IsTidy};
 
 use prefix_trie::laws::{listed_laws, node_laws, pruning_laws};
 use prefix_trie::{Prefix, PrefixMap, Refusal};

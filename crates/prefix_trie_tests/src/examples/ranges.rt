@@ -1,7 +1,7 @@
 //! A numbering plan: ranges of numbers of any width, such as VLANs or labels, each with the number of its owner.
 ghost use Rattle.std.specs.Prelude.{◌≡◌, ◌≢◌, ℕ, ◌-◌, ◌^◌, ◌/◌, ◌<◌, ◌≤◌, Some, IfSome, OnOk, OnErr, length, take};
 ghost use Rattle.std.specs.Option.{option_map};
-ghost use Rattle.prefix_trie.specs.Words.{digits, longest_match, narrow_width};
+ghost use Rattle.prefix_trie.specs.Terms.{digits, longest_match, narrow_width};
 
 use prefix_trie::laws::{lookup_laws, narrow_laws};
 use prefix_trie::{Key, Narrow, PrefixMap, Refusal};

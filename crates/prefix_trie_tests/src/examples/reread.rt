@@ -1,6 +1,6 @@
 //! Networks that are printed and read again, and networks that are compared.
 ghost use Rattle.std.specs.Prelude.{◌≡◌, IfOk, Some};
-ghost use Rattle.prefix_trie.specs.Words.{ipv4_path, listing_cmp, HasNoHostBits};
+ghost use Rattle.prefix_trie.specs.Terms.{ipv4_path, listing_cmp, HasNoHostBits};
 
 use prefix_trie::laws::{network_order_laws, text_laws};
 use prefix_trie::{Ipv4Prefix, Ipv6Prefix};

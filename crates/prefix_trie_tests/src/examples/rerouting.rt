@@ -1,6 +1,6 @@
 //! Routes that are changed where they are stored, and tables that are compared.
 ghost use Rattle.std.specs.Prelude.{◌≡◌, ◌↔◌, IsTrue, MatchOption, is_some};
-ghost use Rattle.prefix_trie.specs.Words.{ipv4_address, longest_match, with_entry};
+ghost use Rattle.prefix_trie.specs.Terms.{ipv4_address, longest_match, with_entry};
 
 use prefix_trie::laws::equal_laws;
 use prefix_trie::{Ipv4Prefix, PrefixMap};

@@ -3,7 +3,7 @@ ghost use Rattle.std.specs.Prelude.{◌≡◌, ℕ, List, ◌++◌, IfOk, OnOk, 
 ghost use Rattle.std.specs.Option.{option_map};
 ghost use Rattle.std.specs.Net.Addr.{ipv4_bits};
 ghost use Rattle.std.specs.Str.Parse.{digits_value, without_leading_plus};
-ghost use Rattle.prefix_trie.specs.Words.{ipv4_address, ipv4_back, ipv4_network_text, ipv4_path, listing, longest_match, prefix_pairs, with_entry, IsIpv4NetworkText};
+ghost use Rattle.prefix_trie.specs.Terms.{ipv4_address, ipv4_back, ipv4_network_text, ipv4_path, listing, longest_match, prefix_pairs, with_entry, IsIpv4NetworkText};
 
 use prefix_trie::laws::network_laws;
 use prefix_trie::{Ipv4Prefix, ParseNetworkError, PrefixMap, Refusal};

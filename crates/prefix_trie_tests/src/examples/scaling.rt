@@ -2,7 +2,7 @@
 ghost use Rattle.std.specs.Prelude.{◌≡◌, ◌*◌, ◌%◌, ◌^◌, List, Bool};
 ghost use Rattle.std.specs.FinMap.{get};
 ghost use Rattle.std.specs.Option.{option_map};
-ghost use Rattle.prefix_trie.specs.Words.{OrderedIn, RewritesIn};
+ghost use Rattle.prefix_trie.specs.Terms.{OrderedIn, RewritesIn};
 
 use prefix_trie::map::{IterMut, ValuesMut};
 use prefix_trie::{Prefix, PrefixMap};

@@ -1,7 +1,7 @@
 //! A table that is split along a prefix, and merged again.
 ghost use Rattle.std.specs.Prelude.{◌≡◌, IfOk, OnOk};
 ghost use Rattle.std.specs.FinMap.{len};
-ghost use Rattle.prefix_trie.specs.Words.{part_below};
+ghost use Rattle.prefix_trie.specs.Terms.{part_below};
 
 use prefix_trie::laws::{put_laws, split_laws};
 use prefix_trie::{Prefix, PrefixMap, Refusal};

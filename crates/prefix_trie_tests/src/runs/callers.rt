@@ -1,7 +1,7 @@
 //! What the caller of a run learns from the contract alone.
 ghost use Rattle.std.specs.Prelude.{◌≡◌, ◌≤◌, ◌+◌, ◌/◌, ℕ, [], ◌∷◌, Some, IfOk, OnOk, length};
 ghost use Rattle.std.specs.FinMap.{len};
-ghost use Rattle.prefix_trie.specs.Words.{longest_match, needed, replies_of, prefix_pair};
+ghost use Rattle.prefix_trie.specs.Terms.{longest_match, needed, replies_of, prefix_pair};
 ghost use Rattle.prefix_trie_map.specs.Steps.{state};
 ghost use Rattle.prefix_trie_bits.specs.Model.Step.{Match, Done, Count, Reply as Answer};
 

@@ -1,6 +1,6 @@
 //! A long run of all sixteen kinds of calls, compared with a sorted list.
 ghost use Rattle.std.specs.Prelude.{◌≤◌, All, IfOk};
-ghost use Rattle.prefix_trie.specs.Words.{IsFittingCall};
+ghost use Rattle.prefix_trie.specs.Terms.{IsFittingCall};
 
 use crate::cases::lookups::slots_add_up;
 use crate::cases::{Pair, prefix_of};

@@ -1,6 +1,6 @@
 //! Walks that consume a map: what callers learn, and when values are dropped.
 ghost use Rattle.std.specs.Prelude.{◌≡◌, OnOk};
-ghost use Rattle.prefix_trie.specs.Words.{listing, put_all, prefix_pairs};
+ghost use Rattle.prefix_trie.specs.Terms.{listing, put_all, prefix_pairs};
 
 use crate::clones::TryClone;
 use crate::contents::{self, adds};

@@ -1,7 +1,7 @@
 //! What callers learn about the walks over the prefixes that contain one.
 ghost use Rattle.std.specs.Prelude.{◌≡◌, length, nat_le};
 ghost use Rattle.std.specs.List.{list_all};
-ghost use Rattle.prefix_trie.specs.Words.{covers, prefix_pairs};
+ghost use Rattle.prefix_trie.specs.Terms.{covers, prefix_pairs};
 
 use crate::contents::stores;
 use crate::on_new::on_new;

@@ -1,7 +1,7 @@
 //! Callers that write to values that a map lends, and what they learn about the map.
 ghost use Rattle.std.specs.Prelude.{◌≡◌, List, Bool, false, IsTrue, IsFalse, None, Some};
 ghost use Rattle.std.specs.FinMap.{get};
-ghost use Rattle.prefix_trie.specs.Words.{longest_match, prefix_pair, with_longest_at, with_value_at};
+ghost use Rattle.prefix_trie.specs.Terms.{longest_match, prefix_pair, with_longest_at, with_value_at};
 ghost use Rattle.prefix_trie_bits.specs.Model.Order.{same_string};
 
 use crate::contents::{has_values, put, stores};

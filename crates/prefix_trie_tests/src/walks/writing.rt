@@ -1,6 +1,6 @@
 //! Callers of mutable walks, and what they learn about the map.
 ghost use Rattle.std.specs.Prelude.{◌≡◌, List, Bool, [], ◌∷◌, IsTrue, MatchOption, slice_get};
-ghost use Rattle.prefix_trie.specs.Words.{listing, prefix_pairs, with_value_at};
+ghost use Rattle.prefix_trie.specs.Terms.{listing, prefix_pairs, with_value_at};
 ghost use Rattle.prefix_trie_map.specs.Writing.{ComesToEnd, GoesOver, IsFirst};
 ghost use Rattle.prefix_trie_map.specs.WritingWalks.{EndsIn, FirstIn, PassesIn};
 

@@ -1,7 +1,7 @@
 -- Comparing two prefixes by their masks and then by their lengths is the order of their paths in a listing.
 use Rattle.std.proofs.Common.{◌∙◌, ◌≤◌, ◌-◌, ◌++◌, length, ap, ap₂, subst, sym}
 use Rattle.std.specs.Ordering.{nat_cmp, ordering_then}
-use Rattle.prefix_trie.specs.Words.{listing_cmp, zeros}
+use Rattle.prefix_trie.specs.Terms.{listing_cmp, zeros}
 use Rattle.prefix_trie_ops.proofs.order.listing_order.Goals as goal
 
 pub returns : goal.returns

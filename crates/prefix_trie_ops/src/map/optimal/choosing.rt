@@ -2,7 +2,7 @@
 ghost use Rattle.std.specs.Prelude.{◌≡◌, ℕ, ◌+◌, ◌<◌, true, List, [], ◌∷◌, length, Option, None, IfOk, OnOk};
 ghost use Rattle.std.specs.FinMap.{get};
 ghost use Rattle.std.specs.Option.{option_or};
-ghost use Rattle.prefix_trie.specs.Words.{AreWithin, Entries, listing_after, listing_from, prefix_pairs};
+ghost use Rattle.prefix_trie.specs.Terms.{AreWithin, Entries, listing_after, listing_from, prefix_pairs};
 ghost use Rattle.prefix_trie_ops.specs.Choosing.{part_values, AreToCome, Chooses};
 ghost use Rattle.prefix_trie_ops.specs.Optimal.{is_first_below, listing_past};
 ghost use Rattle.prefix_trie_ops.specs.Parts.{best_value};

@@ -1,6 +1,6 @@
 //! The entries of a map as a vector, and a walk over it.
 ghost use Rattle.std.specs.Prelude.{◌≡◌, IfOk, All};
-ghost use Rattle.prefix_trie.specs.Words.{listing, prefix_pairs};
+ghost use Rattle.prefix_trie.specs.Terms.{listing, prefix_pairs};
 
 use prefix_trie::laws::listed_laws;
 use prefix_trie::{Prefix, PrefixMap};

@@ -2,7 +2,7 @@
 ghost use Rattle.std.specs.Prelude.{◌≡◌, ◌≢◌, ◌<◌, ◌≤◌, ℕ, ◌+◌, Bool, true, false, List, [], ◌++◌, length, Option, Some, None, OnOk};
 ghost use Rattle.std.specs.Option.{option_or};
 ghost use Rattle.std.specs.FinMap.{get, len};
-ghost use Rattle.prefix_trie.specs.Words.{AreWithin, Entries, listing_after, listing_from, prefix_pairs};
+ghost use Rattle.prefix_trie.specs.Terms.{AreWithin, Entries, listing_after, listing_from, prefix_pairs};
 ghost use Rattle.prefix_trie_ops.specs.Choosing.{part_values, AreToCome};
 ghost use Rattle.prefix_trie_ops.specs.Optimal.{is_first_below, listing_past, value_along, HasNoneBelow, Rebuilds};
 ghost use Rattle.prefix_trie_ops.specs.Parts.{first_values, stored};

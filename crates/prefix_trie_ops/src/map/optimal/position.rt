@@ -1,6 +1,6 @@
 //! The position of a walk relative to a prefix, and the two halves of a prefix.
 ghost use Rattle.std.specs.Prelude.{◌≡◌, ◌+◌, ◌<◌, ◌++◌, true};
-ghost use Rattle.prefix_trie.specs.Words.{digits};
+ghost use Rattle.prefix_trie.specs.Terms.{digits};
 ghost use Rattle.prefix_trie_ops.specs.Optimal.{first_value_at, is_first_below, items_after};
 
 use super::entries::Upcoming;

@@ -1,7 +1,7 @@
 -- A call is appended only if it fits, so all calls of the list fit.
 use Rattle.std.proofs.Common.{All, sym, subst}
 use Rattle.std.proofs.lemmas.List.Elements.{All-push}
-use Rattle.prefix_trie.specs.Words.{IsFittingCall}
+use Rattle.prefix_trie.specs.Terms.{IsFittingCall}
 use Rattle.prefix_trie_rows.proofs.run.calls_of.Goals as goal
 
 pub loop-line-preserved : goal.loop-line-preserved

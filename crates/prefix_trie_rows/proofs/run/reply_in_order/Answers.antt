@@ -1,6 +1,6 @@
 -- All calls that `calls_of` returns fit, as `run` requires.
 use Rattle.std.proofs.Common.{All, IfSome, sym, subst}
-use Rattle.prefix_trie.specs.Words.{IsFittingCall}
+use Rattle.prefix_trie.specs.Terms.{IsFittingCall}
 use Rattle.prefix_trie_rows.proofs.run.reply_in_order.Goals as goal
 
 pub run-requires : goal.run-requires

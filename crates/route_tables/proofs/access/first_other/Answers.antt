@@ -1,7 +1,7 @@
 -- A network whose value is no rule is returned, so if the loop ends, all values are rules.
 use Rattle.std.proofs.Common.{rules, ◌≡◌, All, [], subst, sym}
 use Rattle.std.proofs.lemmas.List.Elements.{All-nil}
-use Rattle.prefix_trie.specs.Words.{listing}
+use Rattle.prefix_trie.specs.Terms.{listing}
 use Rattle.route_tables.specs.Access.{IsRule}
 use Rattle.route_tables.proofs.Covering.{all_rules, rules_next}
 use Rattle.route_tables.proofs.access.first_other.Goals as goal

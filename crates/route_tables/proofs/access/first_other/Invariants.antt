@@ -1,6 +1,6 @@
 -- The invariant of `first_other`: if all networks still to come have rules, all of the table do.
 use Rattle.std.proofs.Common.{All}
-use Rattle.prefix_trie.specs.Words.{listing, prefix_pairs}
+use Rattle.prefix_trie.specs.Terms.{listing, prefix_pairs}
 use Rattle.route_tables.specs.Access.{IsRule}
 use Rattle.route_tables.proofs.access.first_other.Given as goal
 

@@ -1,7 +1,7 @@
 -- The invariant of `has_value`: the covers so far have other values, so those still to come decide.
 use Rattle.std.proofs.Common.{◌≡◌, bytes_eq, map}
 use Rattle.std.specs.List.{list_any}
-use Rattle.prefix_trie.specs.Words.{covers}
+use Rattle.prefix_trie.specs.Terms.{covers}
 use Rattle.route_tables.proofs.access.has_value.Given as goal
 
 abbrev pub invariant-loop-value : goal.invariant-loop-value

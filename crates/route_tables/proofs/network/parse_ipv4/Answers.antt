@@ -1,6 +1,6 @@
 -- An IPv4 network has no host bits exactly if its address is its mask, since a text means at most one network.
 use Rattle.std.proofs.Common.{◌∙◌, sym, subst}
-use Rattle.prefix_trie.specs.Words.{HasNoHostBits}
+use Rattle.prefix_trie.specs.Terms.{HasNoHostBits}
 use Rattle.route_tables.proofs.HostBits.{with_host_bits, without_host_bits}
 use Rattle.route_tables.proofs.network.parse_ipv4.Goals as goal
 

@@ -1,6 +1,6 @@
 -- The invariant of `by_length`: the count of each length and the networks of that length still to come add up to all.
 use Rattle.std.proofs.Common.{◌≡◌, ℕ, ◌+◌, ◌^◌, ◌<◌, ◌≤◌, All, eqb, filter, length, get_or}
-use Rattle.prefix_trie.specs.Words.{listing, prefix_pairs}
+use Rattle.prefix_trie.specs.Terms.{listing, prefix_pairs}
 use Rattle.route_tables.proofs.stats.by_length.Given as goal
 
 abbrev pub invariant-loop-network : goal.invariant-loop-network

@@ -1,7 +1,7 @@
 -- The loop that marks the entries to keep: the stack has the covers of the last entry read.
 use Rattle.std.proofs.Common.{rules, ◌≡◌, ◌∙◌, ◌++◌, [], ◌∷◌, not, map, All, ap, sym, subst, is_some}
 use Rattle.std.proofs.lemmas.List.Elements.{All-nil, All-head, All-rest}
-use Rattle.prefix_trie.specs.Words.{begins, lent_item}
+use Rattle.prefix_trie.specs.Terms.{begins, lent_item}
 use Rattle.prefix_trie_ops.specs.Values.{IsChain}
 use Rattle.prefix_trie_ops.proofs.Chains.{filter_lent, push_lent, chain-next, fits-next}
 use Rattle.prefix_trie_ops.proofs.Walking.{walks_start, walks_on}

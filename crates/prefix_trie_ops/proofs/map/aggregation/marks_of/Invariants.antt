@@ -1,6 +1,6 @@
 -- The invariant of `marks_of`: the chain has the covers of the last entry read, and the marks so far are right.
 use Rattle.std.proofs.Common.{All, map}
-use Rattle.prefix_trie.specs.Words.{lent_item}
+use Rattle.prefix_trie.specs.Terms.{lent_item}
 use Rattle.prefix_trie_ops.specs.Values.{IsChain}
 use Rattle.prefix_trie_ops.proofs.Walking.{Walks}
 use Rattle.prefix_trie_ops.proofs.map.aggregation.marks_of.Given as goal

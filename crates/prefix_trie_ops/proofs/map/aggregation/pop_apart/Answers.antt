@@ -1,7 +1,7 @@
 -- If the last prefix of a chain contains another, so do all before it, and otherwise popping it loses no cover.
 use Rattle.std.proofs.Common.{rules, ◌≡◌, ◌∙◌, ◌-◌, ◌++◌, [], ◌∷◌, true, false, sym, length, Some, subst, All}
 use Rattle.std.specs.List.{slice_get}
-use Rattle.prefix_trie.specs.Words.{begins}
+use Rattle.prefix_trie.specs.Terms.{begins}
 use Rattle.prefix_trie_ops.specs.Values.{IsChain}
 use Rattle.prefix_trie_ops.proofs.Chains.{last-get, all-contain, popped, popped_item, chain-first, All-first}
 use Rattle.prefix_trie_ops.proofs.map.aggregation.pop_apart.Goals as goal

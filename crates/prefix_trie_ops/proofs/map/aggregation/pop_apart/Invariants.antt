@@ -1,6 +1,6 @@
 -- The invariant of `pop_apart`: what is popped does not contain the prefix, and the rest is still a chain.
 use Rattle.std.proofs.Common.{◌≡◌, All, filter}
-use Rattle.prefix_trie.specs.Words.{begins}
+use Rattle.prefix_trie.specs.Terms.{begins}
 use Rattle.prefix_trie_ops.specs.Values.{IsChain}
 use Rattle.prefix_trie_ops.proofs.map.aggregation.pop_apart.Given as goal
 

@@ -1,7 +1,7 @@
 -- The entries of the left map that no key of the right one covers are the listing of the covering difference.
 use Rattle.std.proofs.Common.{◌∙◌, ◌^◌, All, not, filter, ap, is_some, subst, sym}
 use Rattle.std.specs.FinMap.{len}
-use Rattle.prefix_trie.specs.Words.{listing, shortest_match}
+use Rattle.prefix_trie.specs.Terms.{listing, shortest_match}
 use Rattle.prefix_trie_ops.specs.Combining.{not_covered}
 use Rattle.prefix_trie_ops.proofs.Bounds.{items_below, retained_fewer, retained_within}
 use Rattle.prefix_trie_ops.proofs.Selecting.{selected}

@@ -1,7 +1,7 @@
 -- The entries of the left map whose keys the right one does not have are the listing of the difference.
 use Rattle.std.proofs.Common.{◌∙◌, ◌^◌, All, not, filter, ap, is_some, subst, sym}
 use Rattle.std.specs.FinMap.{contains_key, len}
-use Rattle.prefix_trie.specs.Words.{listing}
+use Rattle.prefix_trie.specs.Terms.{listing}
 use Rattle.prefix_trie_ops.specs.Combining.{minus}
 use Rattle.prefix_trie_ops.proofs.Bounds.{items_below, retained_fewer, retained_within}
 use Rattle.prefix_trie_ops.proofs.Selecting.{selected}

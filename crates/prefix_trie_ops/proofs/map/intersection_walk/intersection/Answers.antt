@@ -1,7 +1,7 @@
 -- The walk of both maps has the listing of the common keys to come.
 use Rattle.std.proofs.Common.{rules, ◌^◌, All, ap, subst, sym}
 use Rattle.std.specs.FinMap.{len}
-use Rattle.prefix_trie.specs.Words.{combined_to_come, listing, prefix_pairs}
+use Rattle.prefix_trie.specs.Terms.{combined_to_come, listing, prefix_pairs}
 use Rattle.prefix_trie_map.proofs.Runs.{shows_in_order}
 use Rattle.prefix_trie_ops.specs.Combining.{common}
 use Rattle.prefix_trie_ops.specs.Lending.{lent_pair}

@@ -1,7 +1,7 @@
 -- The walk of both maps has the listing of the union to come, which has at most the items of both.
 use Rattle.std.proofs.Common.{◌+◌, All, ap, subst, sym}
 use Rattle.std.specs.FinMap.{len}
-use Rattle.prefix_trie.specs.Words.{combined_to_come, listing, prefix_pairs}
+use Rattle.prefix_trie.specs.Terms.{combined_to_come, listing, prefix_pairs}
 use Rattle.prefix_trie_map.proofs.Runs.{shows_in_order}
 use Rattle.prefix_trie_ops.specs.Merging.{lent_side, union_of}
 use Rattle.prefix_trie_ops.proofs.Bounds.{items_at_most, union_fewer, union_within}

@@ -1,6 +1,6 @@
 -- The keys of the covering difference are the prefixes of the items of the maps' covering difference.
 use Rattle.std.proofs.Common.{◌∙◌, All, ap, ap₂, map, subst, sym}
-use Rattle.prefix_trie.specs.Words.{listing, prefix_pairs}
+use Rattle.prefix_trie.specs.Terms.{listing, prefix_pairs}
 use Rattle.prefix_trie_map.proofs.Runs.{gives_in_order}
 use Rattle.prefix_trie_ops.specs.Combining.{not_covered}
 use Rattle.prefix_trie_ops.proofs.Selecting.{prefixes_fit, prefixes_shown}

@@ -1,7 +1,7 @@
 -- Inserting the preferred value of each item of the union gives, at each key, the first table's value or else the second's.
 use Rattle.std.proofs.Common.{rules, ◌≡◌, ◌∙◌, All, ap, ap₂, is_some, map, subst, sym}
 use Rattle.std.proofs.lemmas.List.Elements.{All-head, All-rest}
-use Rattle.prefix_trie.specs.Words.{listing, put_all, prefix_pairs, with_entry}
+use Rattle.prefix_trie.specs.Terms.{listing, put_all, prefix_pairs, with_entry}
 use Rattle.prefix_trie_ops.specs.Merging.{lent_side, union_of}
 use Rattle.prefix_trie_ops.proofs.Bounds.{union_within}
 use Rattle.prefix_trie_ops_tests.proofs.Preferring.{all_preferred, preferred_item}

@@ -1,6 +1,6 @@
 -- The invariant of the loop: inserting the items still to come, each preferred, gives the map that inserting all gives.
 use Rattle.std.proofs.Common.{◌≡◌, All, map}
-use Rattle.prefix_trie.specs.Words.{listing, no_entries, put_all, prefix_pairs}
+use Rattle.prefix_trie.specs.Terms.{listing, no_entries, put_all, prefix_pairs}
 use Rattle.prefix_trie_ops.specs.Merging.{union_of}
 use Rattle.prefix_trie_ops_tests.proofs.Preferring.{preferred_item}
 use Rattle.prefix_trie_ops_tests.proofs.examples.preference.preferring.Given as goal

@@ -2,7 +2,7 @@
 use Rattle.std.proofs.Common.{◌≡◌, Bool, true, false, List}
 use Rattle.std.proofs.lemmas.Result.{IfOk-weaker}
 use Rattle.std.specs.FinMap.{contains_key}
-use Rattle.prefix_trie.specs.Words.{begins}
+use Rattle.prefix_trie.specs.Terms.{begins}
 use Rattle.prefix_trie_ops.specs.Covered.{is_below_another}
 use Rattle.prefix_trie_ops_tests.proofs.Reducing.{none_begins}
 use Rattle.prefix_trie_ops_tests.proofs.examples.reduction.reduce.Goals as goal

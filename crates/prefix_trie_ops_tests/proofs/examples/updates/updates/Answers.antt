@@ -1,6 +1,6 @@
 -- The messages for all items of the union change the old table at each key into the new one.
 use Rattle.std.proofs.Common.{◌∙◌, ap, is_some}
-use Rattle.prefix_trie.specs.Words.{listing, prefix_pairs}
+use Rattle.prefix_trie.specs.Terms.{listing, prefix_pairs}
 use Rattle.prefix_trie_ops.specs.Merging.{union_of}
 use Rattle.prefix_trie_ops.proofs.Bounds.{union_within}
 use Rattle.prefix_trie_ops_tests.proofs.Updating.{all_messages, finished, message_of}

@@ -1,7 +1,7 @@
 -- The invariant of the loop: the messages so far, with the messages for the items still to come, are all messages.
 use Rattle.std.proofs.Common.{◌≡◌, ◌++◌}
 use Rattle.std.specs.List.{filter_map}
-use Rattle.prefix_trie.specs.Words.{listing, prefix_pairs}
+use Rattle.prefix_trie.specs.Terms.{listing, prefix_pairs}
 use Rattle.prefix_trie_ops.specs.Merging.{union_of}
 use Rattle.prefix_trie_ops_tests.proofs.Updating.{message_of}
 use Rattle.prefix_trie_ops_tests.proofs.examples.updates.updates.Given as goal

@@ -21,8 +21,8 @@ returns-clause-visits g c =
     let ps = c.args.prefixes.now in
     let qs = map g.P.Prefix.path c.args.prefixes.now in
     let s = c.self.inside.shape in
-    subst (λ (s : Contents g.row.T.Denot). g.V.Tick.count c.match_each.new.counter ≡ g.V.Tick.count c.args.counter.now + sum_by (λ p. visits s.nodes (g.P.Prefix.path p)) ps) c.self.view_is
+    subst (λ (s : Contents g.row.T.Denot). g.V.VisitCounter.count c.match_each.new.counter ≡ g.V.VisitCounter.count c.args.counter.now + sum_by (λ p. visits s.nodes (g.P.Prefix.path p)) ps) c.self.view_is
     (c.match_each.ensures.counted (map (λ q. visits s.0.nodes q) qs)
     (length-map qs (λ q. visits s.0.nodes q) ∙ length-map ps g.P.Prefix.path)
     (costs_are c.self.inside.nodes c.self.inside.cells t s.0 s.1 qs)
-    ∙ ap (λ n. g.V.Tick.count c.args.counter.now + n) (costs_sum s.0.nodes g.P.Prefix.path ps))
+    ∙ ap (λ n. g.V.VisitCounter.count c.args.counter.now + n) (costs_sum s.0.nodes g.P.Prefix.path ps))

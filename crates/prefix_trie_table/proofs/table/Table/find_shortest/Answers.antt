@@ -29,5 +29,5 @@ returns g c =
     rw (← c.self.view_is) (record {
       value = shortest_returned _ _ t _ c.self.inside.shape.1 c.args.path c.in-Some.found found.0 (λ x. x.now) found.1 c.value_of_match.result c.value_of_match.ensures;
       visits = c.in-Some.ensures.visits
-          ∙ ap (λ n. g.V.Tick.count c.args.counter.now + n) (sym (met_shortest _ _ t _ c.self.inside.shape.1 c.args.path c.in-Some.found found.0 found.1));
+          ∙ ap (λ n. g.V.VisitCounter.count c.args.counter.now + n) (sym (met_shortest _ _ t _ c.self.inside.shape.1 c.args.path c.in-Some.found found.0 found.1));
     })

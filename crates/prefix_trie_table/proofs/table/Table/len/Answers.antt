@@ -1,5 +1,5 @@
 -- The limit and the blocks of the nodes are part of the table's invariant; the count is stored.
-use Rattle.prefix_trie_table.proofs.Prelude.{◌≤◌, ◌<◌, ◌^◌, subst, len, length, arith, HaveBlocks, Contents, state}
+use Rattle.prefix_trie_table.proofs.Prelude.{◌≤◌, ◌<◌, ◌^◌, subst, len, arith, HaveBlocks, Contents, state}
 use Rattle.prefix_trie_table.proofs.Counts.EntryCounts.{entries_bound}
 use Rattle.prefix_trie_table.proofs.Tree.Invariant.{some_table}
 use Rattle.prefix_trie_table.proofs.Blocks.ListBlocks.{child_blocks_housed, value_blocks_housed}

@@ -13,8 +13,8 @@ retain_entries-requires-clause-trie g c = (c.self.inside.shape.0, seen_trie c.se
 pub retain_entries-requires-clause-may_ask : goal.retain_entries-requires-clause-may_ask
 retain_entries-requires-clause-may_ask g c = λ s is.
     let same : c.self.inside.shape.0 ≡ s = same_shape c.self.inside.nodes.slots c.self.inside.cells.slots c.self.inside.shape.0 s c.self.inside.shape.1 is.shaped in
-    subst (λ (x : State g.row.T.Denot). CallableOnEachEntry g.F.Keep.asks g.F.Keep.accepts c.args.keep (listing x.entries)) same
-    (subst (λ (x : Contents g.row.T.Denot). CallableOnEachEntry g.F.Keep.asks g.F.Keep.accepts c.args.keep (listing x.entries)) (sym c.self.view_is) c.requires.may_ask)
+    subst (λ (x : State g.row.T.Denot). CallableOnEachEntry g.F.Keep.may_return g.F.Keep.accepts c.args.keep (listing x.entries)) same
+    (subst (λ (x : Contents g.row.T.Denot). CallableOnEachEntry g.F.Keep.may_return g.F.Keep.accepts c.args.keep (listing x.entries)) (sym c.self.view_is) c.requires.may_ask)
 
 pub invariant_of-self-inside : goal.invariant_of-self-inside
 invariant_of-self-inside g c =
@@ -37,7 +37,7 @@ returns g c =
     let left = invariant_of-self g c in
     rw (← c.self.view_is) (record {
       step = retains_step i.nodes new.nodes i.cells new.cells _ _ i.shape c.self.invariant i.sizes s2 left c.self-1.given.1.0 c.retain_entries.ensures.preserves
-          g.F.Keep.asks c.args.keep all.after same all.asked all.tidy;
+          g.F.Keep.may_return c.args.keep all.after same all.asked all.tidy;
       fits = subst (λ (x : State g.row.T.Denot). AreWithin g.K.Key.bit_width x.entries) same all.trie.within;
       bounds_growth = bounds_growth_in i.nodes new.nodes i.cells new.cells _ _ i.shape c.self.invariant i.sizes s2 left c.self-1.given.1.0 c.retain_entries.ensures.preserves;
     })

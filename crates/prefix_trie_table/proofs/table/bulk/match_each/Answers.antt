@@ -66,7 +66,7 @@ round-preserved g c =
       matched = matched_next v _ c.round.level descents next c.round.found c.look_at_each-left.new.found go at.matched;
       counted = λ costs same are.
           counted_next v _ c.round.level descents next c.round.found c.look_at_each-left.new.found go costs are c.round.left n
-          (g.V.Tick.count c.round.counter) (g.V.Tick.count c.read_each.new.counter) (g.V.Tick.count c.args.counter.now + sum costs)
+          (g.V.VisitCounter.count c.round.counter) (g.V.VisitCounter.count c.read_each.new.counter) (g.V.VisitCounter.count c.args.counter.now + sum costs)
           (length-take-le c.round.left c.round.descents (omega (arith, at.few, at.space.0))) (length-take-le n c.look_at_each-left.new.descents few) (at.counted costs same are) c.read_each.ensures.visits;
     }
 
@@ -79,4 +79,4 @@ pub returns-clause-counted : goal.returns-clause-counted
 returns-clause-counted g c = λ costs same are.
     let none : c.round.left ≡ 0 = omega (arith, c.round-test.false) in
     sums_last _ _ c.round.level
-    (subst (λ n. g.V.Tick.count c.round.counter + sum_by (cost_of costs) (take n c.round.descents) ≡ g.V.Tick.count c.args.counter.now + sum costs + n * c.round.level) none (c.round.invariant.counted costs same are))
+    (subst (λ n. g.V.VisitCounter.count c.round.counter + sum_by (cost_of costs) (take n c.round.descents) ≡ g.V.VisitCounter.count c.args.counter.now + sum costs + n * c.round.level) none (c.round.invariant.counted costs same are))

@@ -10,7 +10,7 @@ invariant-round g l = record {
   descents : All (IsDescent l.nodes (map g.P.Prefix.path l.prefixes) l.level) (take l.left l.descents);
   matched : HaveMatches l.nodes (map g.P.Prefix.path l.prefixes) (map question_of (take l.left l.descents)) l.found;
   counted : (costs : List ℕ) → length costs ≡ length l.prefixes → AreCosts l.nodes (map g.P.Prefix.path l.prefixes) costs
-      → g.V.Tick.count l.counter + sum_by (cost_of costs) (take l.left l.descents) ≡ g.V.Tick.count l.fn.counter + sum costs + l.left * l.level;
+      → g.V.VisitCounter.count l.counter + sum_by (cost_of costs) (take l.left l.descents) ≡ g.V.VisitCounter.count l.fn.counter + sum costs + l.left * l.level;
 }
 
 abbrev pub decreases-round : goal.decreases-round

@@ -5,5 +5,5 @@ use Rattle.prefix_trie_table.proofs.table.bulk.read_each.Given as goal
 abbrev pub invariant-loop-j : goal.invariant-loop-j
 invariant-loop-j g l = record {
   read : EachOf (IsAhead l.nodes.slots l.descents) l.j l.read;
-  counted : g.V.Tick.count l.counter ≡ g.V.Tick.count l.fn.counter + l.j;
+  counted : g.V.VisitCounter.count l.counter ≡ g.V.VisitCounter.count l.fn.counter + l.j;
 }

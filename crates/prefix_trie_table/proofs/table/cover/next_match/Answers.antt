@@ -32,8 +32,8 @@ returns-in_default-step_down g c = λ first at.
     reached_end _ first _ _ _ (c.down.invariant.2 first at) c.take_match.new.matches c.in_default.ensures
     (c.in_default-step_down.ensures.step c.args.path.now c.down.invariant.1.along c.down.invariant.3 (ap (λ n. n / 5) c.len-last.ensures.len))
 
-pub below-rest-requires : goal.below-rest-requires
-below-rest-requires g c =
+pub after_five-rest-requires : goal.after_five-rest-requires
+after_five-rest-requires g c =
     let next = c.in-Some-step_down.ensures.step c.args.path.now c.down.invariant.1.along c.down.invariant.3 (ap (λ n. n / 5) c.len-last.ensures.len) in
     let whole = next.1.whole in
     omega (arith, next.0, whole, left_length c.args.path.now c.down.rest c.down.here.level c.down.invariant.3)
@@ -47,7 +47,7 @@ down-smaller g c =
 pub down-preserved : goal.down-preserved
 down-preserved g c =
     let next = c.in-Some-step_down.ensures.step c.args.path.now c.down.invariant.1.along c.down.invariant.3 (ap (λ n. n / 5) c.len-last.ensures.len) in
-    let rest_is = c.below-rest.ensures ∙ left_next c.args.path.now c.down.rest c.down.here.level c.in-Some-step_down.next.level c.down.invariant.3 next.0 in
+    let rest_is = c.after_five-rest.ensures ∙ left_next c.args.path.now c.down.rest c.down.here.level c.in-Some-step_down.next.level c.down.invariant.3 next.0 in
     let left = c.matches_in.ensures c.args.path.now rest_is in
     let now = gone_down _ c.down.invariant.0 _ _ _ (reached_nowhere _ c.down.invariant.0 _ _ _ c.down.invariant.1) c.take_match.new.matches c.in_default.ensures _ _ next.0 next.1 left in (
       now.to,

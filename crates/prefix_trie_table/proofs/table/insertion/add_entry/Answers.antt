@@ -60,8 +60,8 @@ child_bit-child-requires g c =
 pub add_child-at-requires-clause-node : goal.add_child-at-requires-clause-node
 add_child-at-requires-clause-node g c = c.requires.ends.1.along.node_is
 
-pub below-rest-requires : goal.below-rest-requires
-below-rest-requires g c =
+pub after_five-rest-requires : goal.after_five-rest-requires
+after_five-rest-requires g c =
     let here = c.args.end.reached in
     let more = above_own here.level c.len-last.result (length c.args.path) c.len-last.ensures.len c.requires.ends.1.along.whole c.if-reached-last.false in
     step_left c.args.path c.args.end.rest here.level (c.len-last.result / 5) c.requires.rest (ap (λ n. n / 5) c.len-last.ensures.len) more.0
@@ -93,7 +93,7 @@ loop-level-init g c =
     let some_missing = next_missing q here v r at c.requires.rest five bit.result bit.ensures.value in
     let next = extended_more q v v w c.requires.table r here.level (slot_at here) start added.new.nodes bit.result _ five bit.ensures.value here.node at.along.node_is some_missing
     added.ensures.stays added.ensures.added in
-    rw c.below-rest.ensures (record {
+    rw c.after_five-rest.ensures (record {
       extended = next.0;
       blank = next.1;
       enough = free_next v.tiers added.new.nodes.tiers (child_need (Some here.node)) (length q / 5 - (here.level + 1))
@@ -108,8 +108,8 @@ pub child_bit-child-requires-in-loop-level : goal.child_bit-child-requires-in-lo
 child_bit-child-requires-in-loop-level g c =
     step_left c.args.path c.loop-level.rest c.loop-level._level (c.len-last.result / 5) c.loop-level.invariant.extended.rest_is (ap (λ n. n / 5) c.len-last.ensures.len) c.loop-level-test.true
 
-pub below-rest-requires-in-loop-level : goal.below-rest-requires-in-loop-level
-below-rest-requires-in-loop-level g c =
+pub after_five-rest-requires-in-loop-level : goal.after_five-rest-requires-in-loop-level
+after_five-rest-requires-in-loop-level g c =
     step_left c.args.path c.loop-level.rest c.loop-level._level (c.len-last.result / 5) c.loop-level.invariant.extended.rest_is (ap (λ n. n / 5) c.len-last.ensures.len) c.loop-level-test.true
 
 pub add_child-at-requires-in-loop-level-clause-is_there : goal.add_child-at-requires-in-loop-level-clause-is_there
@@ -137,7 +137,7 @@ loop-level-preserved g c =
     let some_missing = ap (λ (k : Node). has_bit k.child_bitmap bit.result) c.blank.ensures ∙ has_bit-zero bit.result in
     let next = extended_more q v old.nodes w c.requires.table old.rest old._level _ inv.extended added.new.nodes bit.result _ five bit.ensures.value c.blank.result (c.blank.ensures ∙ sym inv.blank) some_missing
     added.ensures.stays added.ensures.added in
-    rw c.below-rest-in-loop-level.ensures (record {
+    rw c.after_five-rest-in-loop-level.ensures (record {
       extended = next.0;
       blank = next.1;
       enough =

@@ -12,8 +12,8 @@ step_down-requires-clause-along g c = let at = c.down.invariant in (c.args.path,
 pub returns-in_default-clause-last : goal.returns-in_default-clause-last
 returns-in_default-clause-last g c = c.in_default.ensures.step c.args.path c.down.invariant.along c.down.invariant.rest_is (ap (λ n. n / 5) c.len-len.ensures.len)
 
-pub below-rest-requires : goal.below-rest-requires
-below-rest-requires g c =
+pub after_five-rest-requires : goal.after_five-rest-requires
+after_five-rest-requires g c =
     let at = c.down.invariant in
     let next = c.in-Some.ensures.step c.args.path at.along at.rest_is (ap (λ n. n / 5) c.len-len.ensures.len) in
     let whole = next.1.whole in
@@ -22,7 +22,7 @@ below-rest-requires g c =
 pub down-preserved : goal.down-preserved
 down-preserved g c =
     let at = c.down.invariant in
-    rw c.below-rest.ensures (followed_next c.args.path c.down.here c.in-Some.next c.args.nodes.now _ _ _ _ at (c.in-Some.ensures.step c.args.path at.along at.rest_is (ap (λ n. n / 5) c.len-len.ensures.len)) c.in-Some.ensures.visits)
+    rw c.after_five-rest.ensures (followed_next c.args.path c.down.here c.in-Some.next c.args.nodes.now _ _ _ _ at (c.in-Some.ensures.step c.args.path at.along at.rest_is (ap (λ n. n / 5) c.len-len.ensures.len)) c.in-Some.ensures.visits)
 
 -- goals whose proofs `search` takes seconds to find
 

@@ -50,7 +50,7 @@ down-preserved g c =
     let q = c.args.path in
     let at = c.down.invariant in
     let next = c.in-Some.ensures.step q at.descent.along at.descent.rest_is in
-    rw c.below-rest.ensures (record {
+    rw c.after_five-rest.ensures (record {
       descent = followed_next q c.down.here c.in-Some.next c.args.nodes.now _ _ _ _ at.descent next c.in-Some.ensures.visits;
       best = λ reading paths hold.
           let found = best_now q c.down.here c.args.nodes.now at.descent.along reading paths hold c.down.best c.longest_in-in-down.result c.or-best.result (at.best reading paths hold)
@@ -77,8 +77,8 @@ step_to_child-requires-clause-along g c =
     let five = step_left c.args.path c.down.rest c.down.here.level _ c.down.invariant.descent.rest_is (ap (λ n. n / 5) c.len-last.ensures.len) (omega (arith, c.if-here-last.false)) in
     (c.args.path, at.along, at.rest_is, at.short, five)
 
-pub below-rest-requires : goal.below-rest-requires
-below-rest-requires g c = step_left c.args.path c.down.rest c.down.here.level _ c.down.invariant.descent.rest_is (ap (λ n. n / 5) c.len-last.ensures.len) (omega (arith, c.if-here-last.false))
+pub after_five-rest-requires : goal.after_five-rest-requires
+after_five-rest-requires g c = step_left c.args.path c.down.rest c.down.here.level _ c.down.invariant.descent.rest_is (ap (λ n. n / 5) c.len-last.ensures.len) (omega (arith, c.if-here-last.false))
 
 pub down-smaller : goal.down-smaller
 down-smaller g c =

@@ -57,7 +57,7 @@ down-preserved g c =
     let at = c.down.invariant in
     let next = c.in-Some-step_to_child.ensures.step q at.descent.along at.descent.rest_is in
     let level = c.down.here.level in
-    rw c.below-rest.ensures (record {
+    rw c.after_five-rest.ensures (record {
       descent = followed_next q c.down.here c.in-Some-step_to_child.next c.args.nodes.now _ _ _ _ at.descent next c.in-Some-step_to_child.ensures.visits;
       none = λ reading paths hold.
           let is = along_is q c.down.here c.args.nodes.now at.descent.along reading paths hold in
@@ -83,8 +83,8 @@ step_to_child-requires-clause-along g c =
     let five = step_left c.args.path c.down.rest c.down.here.level _ c.down.invariant.descent.rest_is (ap (λ n. n / 5) c.len-last.ensures.len) (omega (arith, c.if-here-last.false)) in
     (c.args.path, at.along, at.rest_is, at.short, five)
 
-pub below-rest-requires : goal.below-rest-requires
-below-rest-requires g c = step_left c.args.path c.down.rest c.down.here.level _ c.down.invariant.descent.rest_is (ap (λ n. n / 5) c.len-last.ensures.len) (omega (arith, c.if-here-last.false))
+pub after_five-rest-requires : goal.after_five-rest-requires
+after_five-rest-requires g c = step_left c.args.path c.down.rest c.down.here.level _ c.down.invariant.descent.rest_is (ap (λ n. n / 5) c.len-last.ensures.len) (omega (arith, c.if-here-last.false))
 
 pub down-smaller : goal.down-smaller
 down-smaller g c =

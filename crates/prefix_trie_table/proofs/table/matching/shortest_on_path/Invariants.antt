@@ -6,7 +6,7 @@ use Rattle.prefix_trie_table.proofs.table.matching.shortest_on_path.Given as goa
 abbrev pub invariant-down : goal.invariant-down
 invariant-down g l =
     record {
-      descent : IsFollowed l.fn.path l.here l.nodes l.rest (g.V.Tick.count l.fn.counter) (g.V.Tick.count l.counter);
+      descent : IsFollowed l.fn.path l.here l.nodes l.rest (g.V.VisitCounter.count l.fn.counter) (g.V.VisitCounter.count l.counter);
       none : (reading : List ℕ → Option Node) (paths : List (List ℕ)) → NodesHold node_sizes reading paths l.nodes → NoneHeld reading l.fn.path 0 (5 * l.here.level);
     }
 

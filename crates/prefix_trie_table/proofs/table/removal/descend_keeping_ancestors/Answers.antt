@@ -11,7 +11,7 @@ loop-here-init g c =
     let above = above_root c.args.path.now c.root-here.result.level c.args.above.now.items c.args.nodes.now top c.requires.empty in
     record {
       along = c.root-here.ensures.along c.args.path.now;
-      rest_is = c.again-rest.ensures ∙ ap (λ n. drop (5 * n) c.args.path.now) (sym top);
+      rest_is = c.copy-rest.ensures ∙ ap (λ n. drop (5 * n) c.args.path.now) (sym top);
       short = omega (arith, c.len-last.ensures.len, c.len-last.ensures.short);
       long = above.long;
       slots = above.slots;
@@ -27,8 +27,8 @@ returns-in_default-clause-missing g c = λ reading paths hold.
     path_none c.args.path.now c.loop-here.here c.args.nodes.now (c.in_default.ensures.step c.args.path.now at.along at.rest_is last) reading paths hold c.loop-here.rest at.rest_is
     (step_left c.args.path.now c.loop-here.rest c.loop-here.here.level _ at.rest_is last c.loop-here-test.true)
 
-pub below-rest-requires : goal.below-rest-requires
-below-rest-requires g c = step_left c.args.path.now c.loop-here.rest c.loop-here.here.level _ c.loop-here.invariant.rest_is (ap (λ n. n / 5) c.len-last.ensures.len) c.loop-here-test.true
+pub after_five-rest-requires : goal.after_five-rest-requires
+after_five-rest-requires g c = step_left c.args.path.now c.loop-here.rest c.loop-here.here.level _ c.loop-here.invariant.rest_is (ap (λ n. n / 5) c.len-last.ensures.len) c.loop-here-test.true
 
 pub loop-here-preserved : goal.loop-here-preserved
 loop-here-preserved g c =
@@ -37,7 +37,7 @@ loop-here-preserved g c =
     let above = above_next c.args.path.now c.loop-here.here c.loop-here.above.items c.push.new.self.items c.args.nodes.now c.in-Some.next.level (record { long = at.long; slots = at.slots }) at.along next.0 c.push.ensures.items in
     record {
       along = next.1;
-      rest_is = c.below-rest.ensures ∙ left_next c.args.path.now c.loop-here.rest c.loop-here.here.level c.in-Some.next.level at.rest_is next.0;
+      rest_is = c.after_five-rest.ensures ∙ left_next c.args.path.now c.loop-here.rest c.loop-here.here.level c.in-Some.next.level at.rest_is next.0;
       short = at.short;
       long = above.long;
       slots = above.slots;
@@ -50,3 +50,6 @@ returns-clause-found g c =
       record { along = at.along; last = omega (arith, whole, path-length c.args.path.now, c.len-last.ensures.len, c.loop-here-test.false); short = at.short },
       record { long = at.long; slots = at.slots },
     )
+
+pub returns-clause-rest : goal.returns-clause-rest
+returns-clause-rest g c = c.loop-here.invariant.rest_is

@@ -43,7 +43,7 @@ retain_place-retain_places-left-requires g t c κs within =
     let site = lower_site g.K.Key.IsKey g.K.Key.bits g.K.Key.bit_width g.met.K.Key.key_laws.bits_length c.args.nodes.now c.args.site c.args.node c.requires.site c.args.entries.now c.args.cells.now c.requires.trie.0 c.requires.trie.1 c.requires.place c.in-Child.child c.in-Child.is c.child_slot-slot.result c.child_slot-slot.ensures c.extend.result c.extend.ensures.key c.extend.ensures.value c.visit-lower.result c.visit-lower.ensures.node in
     let each : All (IsPlaceOf c.visit-lower.result) (to_come c.new-places.result) = All-weaker (Contains (to_come c.new-places.result)) (IsPlaceOf c.visit-lower.result) (λ u m. (c.new-places.ensures.each u).0 m) (to_come c.new-places.result) (All-contains_itself (to_come c.new-places.result)) in
     let may = λ (x : State g.row.T.Denot) (h : IsTrie g.K.Key.bit_width c.args.entries.now c.args.nodes.now c.args.cells.now x).
-    may_ask_lower g.K.Key.IsKey g.K.Key.bits g.K.Key.bit_width g.met.K.Key.key_laws.bits_length c.args.nodes.now c.args.site c.args.node c.requires.site c.args.entries.now c.args.cells.now x h c.requires.place c.in-Child.child c.in-Child.is c.child_slot-slot.result c.child_slot-slot.ensures c.extend.result c.extend.ensures.key c.extend.ensures.value c.visit-lower.result c.visit-lower.ensures.node g.F.Keep.asks g.F.Keep.accepts c.args.keep.now (to_come c.new-places.result) c.new-places.ensures.places (c.requires.may_ask place.string place.short place.is x h) in
+    may_ask_lower g.K.Key.IsKey g.K.Key.bits g.K.Key.bit_width g.met.K.Key.key_laws.bits_length c.args.nodes.now c.args.site c.args.node c.requires.site c.args.entries.now c.args.cells.now x h c.requires.place c.in-Child.child c.in-Child.is c.child_slot-slot.result c.child_slot-slot.ensures c.extend.result c.extend.ensures.key c.extend.ensures.value c.visit-lower.result c.visit-lower.ensures.node g.F.Keep.may_return g.F.Keep.accepts c.args.keep.now (to_come c.new-places.result) c.new-places.ensures.places (c.requires.may_ask place.string place.short place.is x h) in
     (omega (arith, fits), (within.0, (within.1.0, (within.1.1.0, (within.1.1.1.0, (within.1.1.1.1, (c.requires.trie, (site, (each, may)))))))))
 
 pub retain_place-drop_child-requires : goal.retain_place-drop_child-requires
@@ -51,10 +51,10 @@ retain_place-drop_child-requires g t c =
     let place = c.requires.place in
     let long = g.met.K.Key.key_laws.bits_length c.args.site.key c.requires.site.key in
     let to = c.retain_places-left.ensures.retains c.requires.trie.0 c.requires.trie.1 in
-    let held = site_holds g.K.Key.IsKey g.K.Key.bits g.K.Key.bit_width c.retain_places-left.new.nodes c.args.site c.args.node (still_site g.K.Key.IsKey g.K.Key.bits g.K.Key.bit_width g.met.K.Key.key_laws.bits_length c.args.nodes.now c.args.site c.args.node c.requires.site c.args.entries.now c.args.cells.now c.requires.trie.0 c.requires.trie.1 c.requires.place c.in-Child.child c.in-Child.is c.child_slot-slot.result c.child_slot-slot.ensures c.extend.result c.extend.ensures.key c.extend.ensures.value c.visit-lower.result c.visit-lower.ensures.node g.F.Keep.asks g.F.Keep.accepts (to_come c.new-places.result) c.new-places.ensures.places c.new-places.ensures.each c.args.keep.now c.retain_places-left.new.keep c.retain_places-left.new.entries c.retain_places-left.new.nodes c.retain_places-left.new.cells (c.retain_places-left.ensures.retains c.requires.trie.0 c.requires.trie.1) c.retain_places-left.result c.retain_places-left.ensures.node c.retain_places-left.ensures.preserves) long c.retain_places-left.new.entries c.retain_places-left.new.cells to.after to.trie in
+    let held = site_holds g.K.Key.IsKey g.K.Key.bits g.K.Key.bit_width c.retain_places-left.new.nodes c.args.site c.args.node (still_site g.K.Key.IsKey g.K.Key.bits g.K.Key.bit_width g.met.K.Key.key_laws.bits_length c.args.nodes.now c.args.site c.args.node c.requires.site c.args.entries.now c.args.cells.now c.requires.trie.0 c.requires.trie.1 c.requires.place c.in-Child.child c.in-Child.is c.child_slot-slot.result c.child_slot-slot.ensures c.extend.result c.extend.ensures.key c.extend.ensures.value c.visit-lower.result c.visit-lower.ensures.node g.F.Keep.may_return g.F.Keep.accepts (to_come c.new-places.result) c.new-places.ensures.places c.new-places.ensures.each c.args.keep.now c.retain_places-left.new.keep c.retain_places-left.new.entries c.retain_places-left.new.nodes c.retain_places-left.new.cells (c.retain_places-left.ensures.retains c.requires.trie.0 c.requires.trie.1) c.retain_places-left.result c.retain_places-left.ensures.node c.retain_places-left.ensures.preserves) long c.retain_places-left.new.entries c.retain_places-left.new.cells to.after to.trie in
     record {
       child = place-child-small place.string c.in-Child.child place.short (sym c.in-Child.is ∙ place.is);
-      is_there = site_node g.K.Key.IsKey g.K.Key.bits g.K.Key.bit_width c.retain_places-left.new.nodes c.args.site c.args.node (still_site g.K.Key.IsKey g.K.Key.bits g.K.Key.bit_width g.met.K.Key.key_laws.bits_length c.args.nodes.now c.args.site c.args.node c.requires.site c.args.entries.now c.args.cells.now c.requires.trie.0 c.requires.trie.1 c.requires.place c.in-Child.child c.in-Child.is c.child_slot-slot.result c.child_slot-slot.ensures c.extend.result c.extend.ensures.key c.extend.ensures.value c.visit-lower.result c.visit-lower.ensures.node g.F.Keep.asks g.F.Keep.accepts (to_come c.new-places.result) c.new-places.ensures.places c.new-places.ensures.each c.args.keep.now c.retain_places-left.new.keep c.retain_places-left.new.entries c.retain_places-left.new.nodes c.retain_places-left.new.cells (c.retain_places-left.ensures.retains c.requires.trie.0 c.requires.trie.1) c.retain_places-left.result c.retain_places-left.ensures.node c.retain_places-left.ensures.preserves) long c.retain_places-left.new.entries c.retain_places-left.new.cells to.after to.trie;
+      is_there = site_node g.K.Key.IsKey g.K.Key.bits g.K.Key.bit_width c.retain_places-left.new.nodes c.args.site c.args.node (still_site g.K.Key.IsKey g.K.Key.bits g.K.Key.bit_width g.met.K.Key.key_laws.bits_length c.args.nodes.now c.args.site c.args.node c.requires.site c.args.entries.now c.args.cells.now c.requires.trie.0 c.requires.trie.1 c.requires.place c.in-Child.child c.in-Child.is c.child_slot-slot.result c.child_slot-slot.ensures c.extend.result c.extend.ensures.key c.extend.ensures.value c.visit-lower.result c.visit-lower.ensures.node g.F.Keep.may_return g.F.Keep.accepts (to_come c.new-places.result) c.new-places.ensures.places c.new-places.ensures.each c.args.keep.now c.retain_places-left.new.keep c.retain_places-left.new.entries c.retain_places-left.new.nodes c.retain_places-left.new.cells (c.retain_places-left.ensures.retains c.requires.trie.0 c.requires.trie.1) c.retain_places-left.result c.retain_places-left.ensures.node c.retain_places-left.ensures.preserves) long c.retain_places-left.new.entries c.retain_places-left.new.cells to.after to.trie;
       there = ap (λ n. has_bit n.child_bitmap c.in-Child.child) held.0 ∙ child_there g.K.Key.IsKey g.K.Key.bits g.K.Key.bit_width g.met.K.Key.key_laws.bits_length c.args.nodes.now c.args.site c.args.node c.requires.site c.args.entries.now c.args.cells.now c.requires.trie.0 c.requires.trie.1 c.requires.place c.in-Child.child c.in-Child.is c.child_slot-slot.result c.child_slot-slot.ensures;
     }
 
@@ -70,32 +70,32 @@ retain_place-returns-in-Value g t c = record {
 pub retain_place-returns-then-is_bare-clause-retains : goal.retain_place-returns-then-is_bare-clause-retains
 retain_place-returns-then-is_bare-clause-retains g t c = λ u few is x h.
     let place = c.requires.place in
-    subst (λ r. RetainsTo g.F.Keep.asks g.F.Keep.accepts g.K.Key.bit_width (take c.args.site.depth (g.K.Key.bits c.args.site.key)) (r ∷ []) c.args.keep.now x c.retain_places-left.new.keep c.retain_places-left.new.entries c.drop_child.new.nodes c.retain_places-left.new.cells)
+    subst (λ r. RetainsTo g.F.Keep.may_return g.F.Keep.accepts g.K.Key.bit_width (take c.args.site.depth (g.K.Key.bits c.args.site.key)) (r ∷ []) c.args.keep.now x c.retain_places-left.new.keep c.retain_places-left.new.entries c.drop_child.new.nodes c.retain_places-left.new.cells)
     (same_place place.string u place.short few (sym place.is ∙ is))
-    (child_goes g.K.Key.IsKey g.K.Key.bits g.K.Key.bit_width g.met.K.Key.key_laws.bits_length c.args.nodes.now c.args.site c.args.node c.requires.site c.args.entries.now c.args.cells.now x h c.requires.place c.in-Child.child c.in-Child.is c.child_slot-slot.result c.child_slot-slot.ensures c.extend.result c.extend.ensures.key c.extend.ensures.value c.visit-lower.result c.visit-lower.ensures.node g.F.Keep.asks g.F.Keep.accepts (to_come c.new-places.result) c.new-places.ensures.places c.new-places.ensures.each c.args.keep.now c.retain_places-left.new.keep c.retain_places-left.new.entries c.retain_places-left.new.nodes c.retain_places-left.new.cells (c.retain_places-left.ensures.retains x h) c.retain_places-left.result c.retain_places-left.ensures.node c.retain_places-left.ensures.preserves (c.is_bare.ensures.bare c.if-is_bare.true) c.drop_child.result c.drop_child.new.nodes c.drop_child.ensures.dropped c.drop_child.ensures.space)
+    (child_goes g.K.Key.IsKey g.K.Key.bits g.K.Key.bit_width g.met.K.Key.key_laws.bits_length c.args.nodes.now c.args.site c.args.node c.requires.site c.args.entries.now c.args.cells.now x h c.requires.place c.in-Child.child c.in-Child.is c.child_slot-slot.result c.child_slot-slot.ensures c.extend.result c.extend.ensures.key c.extend.ensures.value c.visit-lower.result c.visit-lower.ensures.node g.F.Keep.may_return g.F.Keep.accepts (to_come c.new-places.result) c.new-places.ensures.places c.new-places.ensures.each c.args.keep.now c.retain_places-left.new.keep c.retain_places-left.new.entries c.retain_places-left.new.nodes c.retain_places-left.new.cells (c.retain_places-left.ensures.retains x h) c.retain_places-left.result c.retain_places-left.ensures.node c.retain_places-left.ensures.preserves (c.is_bare.ensures.bare c.if-is_bare.true) c.drop_child.result c.drop_child.new.nodes c.drop_child.ensures.dropped c.drop_child.ensures.space)
 
 pub retain_place-returns-then-is_bare-clause-node : goal.retain_place-returns-then-is_bare-clause-node
 retain_place-returns-then-is_bare-clause-node g t c =
-    site3 g.K.Key.IsKey g.K.Key.bits g.K.Key.bit_width g.met.K.Key.key_laws.bits_length c.args.nodes.now c.args.site c.args.node c.requires.site c.args.entries.now c.args.cells.now c.requires.trie.0 c.requires.trie.1 c.requires.place c.in-Child.child c.in-Child.is c.child_slot-slot.result c.child_slot-slot.ensures c.extend.result c.extend.ensures.key c.extend.ensures.value c.visit-lower.result c.visit-lower.ensures.node g.F.Keep.asks g.F.Keep.accepts (to_come c.new-places.result) c.new-places.ensures.places c.new-places.ensures.each c.args.keep.now c.retain_places-left.new.keep c.retain_places-left.new.entries c.retain_places-left.new.nodes c.retain_places-left.new.cells (c.retain_places-left.ensures.retains c.requires.trie.0 c.requires.trie.1) c.retain_places-left.result c.retain_places-left.ensures.node c.retain_places-left.ensures.preserves (c.is_bare.ensures.bare c.if-is_bare.true) c.drop_child.result c.drop_child.new.nodes c.drop_child.ensures.dropped c.drop_child.ensures.space
+    site3 g.K.Key.IsKey g.K.Key.bits g.K.Key.bit_width g.met.K.Key.key_laws.bits_length c.args.nodes.now c.args.site c.args.node c.requires.site c.args.entries.now c.args.cells.now c.requires.trie.0 c.requires.trie.1 c.requires.place c.in-Child.child c.in-Child.is c.child_slot-slot.result c.child_slot-slot.ensures c.extend.result c.extend.ensures.key c.extend.ensures.value c.visit-lower.result c.visit-lower.ensures.node g.F.Keep.may_return g.F.Keep.accepts (to_come c.new-places.result) c.new-places.ensures.places c.new-places.ensures.each c.args.keep.now c.retain_places-left.new.keep c.retain_places-left.new.entries c.retain_places-left.new.nodes c.retain_places-left.new.cells (c.retain_places-left.ensures.retains c.requires.trie.0 c.requires.trie.1) c.retain_places-left.result c.retain_places-left.ensures.node c.retain_places-left.ensures.preserves (c.is_bare.ensures.bare c.if-is_bare.true) c.drop_child.result c.drop_child.new.nodes c.drop_child.ensures.dropped c.drop_child.ensures.space
 
 pub retain_place-returns-then-is_bare-clause-preserves : goal.retain_place-returns-then-is_bare-clause-preserves
 retain_place-returns-then-is_bare-clause-preserves g t c =
-    lasts3 g.K.Key.IsKey g.K.Key.bits g.K.Key.bit_width g.met.K.Key.key_laws.bits_length c.args.nodes.now c.args.site c.args.node c.requires.site c.args.entries.now c.args.cells.now c.requires.trie.0 c.requires.trie.1 c.requires.place c.in-Child.child c.in-Child.is c.child_slot-slot.result c.child_slot-slot.ensures c.extend.result c.extend.ensures.key c.extend.ensures.value c.visit-lower.result c.visit-lower.ensures.node g.F.Keep.asks g.F.Keep.accepts (to_come c.new-places.result) c.new-places.ensures.places c.new-places.ensures.each c.args.keep.now c.retain_places-left.new.keep c.retain_places-left.new.entries c.retain_places-left.new.nodes c.retain_places-left.new.cells (c.retain_places-left.ensures.retains c.requires.trie.0 c.requires.trie.1) c.retain_places-left.result c.retain_places-left.ensures.node c.retain_places-left.ensures.preserves (c.is_bare.ensures.bare c.if-is_bare.true) c.drop_child.result c.drop_child.new.nodes c.drop_child.ensures.dropped c.drop_child.ensures.space
+    lasts3 g.K.Key.IsKey g.K.Key.bits g.K.Key.bit_width g.met.K.Key.key_laws.bits_length c.args.nodes.now c.args.site c.args.node c.requires.site c.args.entries.now c.args.cells.now c.requires.trie.0 c.requires.trie.1 c.requires.place c.in-Child.child c.in-Child.is c.child_slot-slot.result c.child_slot-slot.ensures c.extend.result c.extend.ensures.key c.extend.ensures.value c.visit-lower.result c.visit-lower.ensures.node g.F.Keep.may_return g.F.Keep.accepts (to_come c.new-places.result) c.new-places.ensures.places c.new-places.ensures.each c.args.keep.now c.retain_places-left.new.keep c.retain_places-left.new.entries c.retain_places-left.new.nodes c.retain_places-left.new.cells (c.retain_places-left.ensures.retains c.requires.trie.0 c.requires.trie.1) c.retain_places-left.result c.retain_places-left.ensures.node c.retain_places-left.ensures.preserves (c.is_bare.ensures.bare c.if-is_bare.true) c.drop_child.result c.drop_child.new.nodes c.drop_child.ensures.dropped c.drop_child.ensures.space
 
 pub retain_place-returns-else-is_bare-clause-retains : goal.retain_place-returns-else-is_bare-clause-retains
 retain_place-returns-else-is_bare-clause-retains g t c = λ u few is x h.
     let place = c.requires.place in
-    subst (λ r. RetainsTo g.F.Keep.asks g.F.Keep.accepts g.K.Key.bit_width (take c.args.site.depth (g.K.Key.bits c.args.site.key)) (r ∷ []) c.args.keep.now x c.retain_places-left.new.keep c.retain_places-left.new.entries c.retain_places-left.new.nodes c.retain_places-left.new.cells)
+    subst (λ r. RetainsTo g.F.Keep.may_return g.F.Keep.accepts g.K.Key.bit_width (take c.args.site.depth (g.K.Key.bits c.args.site.key)) (r ∷ []) c.args.keep.now x c.retain_places-left.new.keep c.retain_places-left.new.entries c.retain_places-left.new.nodes c.retain_places-left.new.cells)
     (same_place place.string u place.short few (sym place.is ∙ is))
-    (child_stays g.K.Key.IsKey g.K.Key.bits g.K.Key.bit_width g.met.K.Key.key_laws.bits_length c.args.nodes.now c.args.site c.args.node c.requires.site c.args.entries.now c.args.cells.now x h c.requires.place c.in-Child.child c.in-Child.is c.child_slot-slot.result c.child_slot-slot.ensures c.extend.result c.extend.ensures.key c.extend.ensures.value c.visit-lower.result c.visit-lower.ensures.node g.F.Keep.asks g.F.Keep.accepts (to_come c.new-places.result) c.new-places.ensures.places c.new-places.ensures.each c.args.keep.now c.retain_places-left.new.keep c.retain_places-left.new.entries c.retain_places-left.new.nodes c.retain_places-left.new.cells (c.retain_places-left.ensures.retains x h) c.retain_places-left.result c.retain_places-left.ensures.node c.retain_places-left.ensures.preserves (c.is_bare.ensures.stocked c.if-is_bare.false))
+    (child_stays g.K.Key.IsKey g.K.Key.bits g.K.Key.bit_width g.met.K.Key.key_laws.bits_length c.args.nodes.now c.args.site c.args.node c.requires.site c.args.entries.now c.args.cells.now x h c.requires.place c.in-Child.child c.in-Child.is c.child_slot-slot.result c.child_slot-slot.ensures c.extend.result c.extend.ensures.key c.extend.ensures.value c.visit-lower.result c.visit-lower.ensures.node g.F.Keep.may_return g.F.Keep.accepts (to_come c.new-places.result) c.new-places.ensures.places c.new-places.ensures.each c.args.keep.now c.retain_places-left.new.keep c.retain_places-left.new.entries c.retain_places-left.new.nodes c.retain_places-left.new.cells (c.retain_places-left.ensures.retains x h) c.retain_places-left.result c.retain_places-left.ensures.node c.retain_places-left.ensures.preserves (c.is_bare.ensures.stocked c.if-is_bare.false))
 
 pub retain_place-returns-else-is_bare-clause-node : goal.retain_place-returns-else-is_bare-clause-node
 retain_place-returns-else-is_bare-clause-node g t c =
-    still_site g.K.Key.IsKey g.K.Key.bits g.K.Key.bit_width g.met.K.Key.key_laws.bits_length c.args.nodes.now c.args.site c.args.node c.requires.site c.args.entries.now c.args.cells.now c.requires.trie.0 c.requires.trie.1 c.requires.place c.in-Child.child c.in-Child.is c.child_slot-slot.result c.child_slot-slot.ensures c.extend.result c.extend.ensures.key c.extend.ensures.value c.visit-lower.result c.visit-lower.ensures.node g.F.Keep.asks g.F.Keep.accepts (to_come c.new-places.result) c.new-places.ensures.places c.new-places.ensures.each c.args.keep.now c.retain_places-left.new.keep c.retain_places-left.new.entries c.retain_places-left.new.nodes c.retain_places-left.new.cells (c.retain_places-left.ensures.retains c.requires.trie.0 c.requires.trie.1) c.retain_places-left.result c.retain_places-left.ensures.node c.retain_places-left.ensures.preserves
+    still_site g.K.Key.IsKey g.K.Key.bits g.K.Key.bit_width g.met.K.Key.key_laws.bits_length c.args.nodes.now c.args.site c.args.node c.requires.site c.args.entries.now c.args.cells.now c.requires.trie.0 c.requires.trie.1 c.requires.place c.in-Child.child c.in-Child.is c.child_slot-slot.result c.child_slot-slot.ensures c.extend.result c.extend.ensures.key c.extend.ensures.value c.visit-lower.result c.visit-lower.ensures.node g.F.Keep.may_return g.F.Keep.accepts (to_come c.new-places.result) c.new-places.ensures.places c.new-places.ensures.each c.args.keep.now c.retain_places-left.new.keep c.retain_places-left.new.entries c.retain_places-left.new.nodes c.retain_places-left.new.cells (c.retain_places-left.ensures.retains c.requires.trie.0 c.requires.trie.1) c.retain_places-left.result c.retain_places-left.ensures.node c.retain_places-left.ensures.preserves
 
 pub retain_place-returns-else-is_bare-clause-preserves : goal.retain_place-returns-else-is_bare-clause-preserves
 retain_place-returns-else-is_bare-clause-preserves g t c =
-    still_preserved g.K.Key.IsKey g.K.Key.bits g.K.Key.bit_width g.met.K.Key.key_laws.bits_length c.args.nodes.now c.args.site c.args.node c.requires.site c.args.entries.now c.args.cells.now c.requires.trie.0 c.requires.trie.1 c.requires.place c.in-Child.child c.in-Child.is c.child_slot-slot.result c.child_slot-slot.ensures c.extend.result c.extend.ensures.key c.extend.ensures.value c.visit-lower.result c.visit-lower.ensures.node g.F.Keep.asks g.F.Keep.accepts (to_come c.new-places.result) c.new-places.ensures.places c.new-places.ensures.each c.args.keep.now c.retain_places-left.new.keep c.retain_places-left.new.entries c.retain_places-left.new.nodes c.retain_places-left.new.cells (c.retain_places-left.ensures.retains c.requires.trie.0 c.requires.trie.1) c.retain_places-left.result c.retain_places-left.ensures.node c.retain_places-left.ensures.preserves
+    still_preserved g.K.Key.IsKey g.K.Key.bits g.K.Key.bit_width g.met.K.Key.key_laws.bits_length c.args.nodes.now c.args.site c.args.node c.requires.site c.args.entries.now c.args.cells.now c.requires.trie.0 c.requires.trie.1 c.requires.place c.in-Child.child c.in-Child.is c.child_slot-slot.result c.child_slot-slot.ensures c.extend.result c.extend.ensures.key c.extend.ensures.value c.visit-lower.result c.visit-lower.ensures.node g.F.Keep.may_return g.F.Keep.accepts (to_come c.new-places.result) c.new-places.ensures.places c.new-places.ensures.each c.args.keep.now c.retain_places-left.new.keep c.retain_places-left.new.entries c.retain_places-left.new.nodes c.retain_places-left.new.cells (c.retain_places-left.ensures.retains c.requires.trie.0 c.requires.trie.1) c.retain_places-left.result c.retain_places-left.ensures.node c.retain_places-left.ensures.preserves
 
 pub retain_places-loop-place-init : goal.retain_places-loop-place-init
 retain_places-loop-place-init g t c = record {
@@ -104,7 +104,7 @@ retain_places-loop-place-init g t c = record {
   before = [];
   all = refl;
   apart = λ q some coming. absurd (false≢true some);
-  done = λ x is. record { after = x; trie = is; retains = none_asked g.F.Keep.asks g.F.Keep.accepts (take c.args.site.depth (g.K.Key.bits c.args.site.key)) c.args.keep.now x };
+  done = λ x is. record { after = x; trie = is; retains = none_asked g.F.Keep.may_return g.F.Keep.accepts (take c.args.site.depth (g.K.Key.bits c.args.site.key)) c.args.keep.now x };
   preserves = preserves_none (c.args.site.depth / 5) c.args.nodes.now c.args.cells.now;
 }
 
@@ -114,10 +114,10 @@ retain_places-retain_place-node-requires g t c κs within =
     let taken = c.in-Some.ensures.place in
     let long = g.met.K.Key.key_laws.bits_length c.args.site.key c.requires.site.key in
     let one = inv.done c.requires.trie.0 c.requires.trie.1 in
-    let here = this_place g.K.Key.IsKey g.K.Key.bits g.K.Key.bit_width g.F.Keep.asks g.F.Keep.accepts c.args.site long (to_come c.loop-place.places) inv.before taken.string (to_come c.next_place.new.self) taken.first taken.short c.in-Some.ensures.sorted inv.apart c.loop-place.node inv.each c.args.keep.now c.loop-place.keep c.args.entries.now c.loop-place.entries c.args.nodes.now c.loop-place.nodes c.args.cells.now c.loop-place.cells inv.done in
+    let here = this_place g.K.Key.IsKey g.K.Key.bits g.K.Key.bit_width g.F.Keep.may_return g.F.Keep.accepts c.args.site long (to_come c.loop-place.places) inv.before taken.string (to_come c.next_place.new.self) taken.first taken.short c.in-Some.ensures.sorted inv.apart c.loop-place.node inv.each c.args.keep.now c.loop-place.keep c.args.entries.now c.loop-place.entries c.args.nodes.now c.loop-place.nodes c.args.cells.now c.loop-place.cells inv.done in
     let may = λ (x : State g.row.T.Denot) (is : IsTrie g.K.Key.bit_width c.args.entries.now c.args.nodes.now c.args.cells.now x).
-    subst (λ us. CallableOnEachEntry g.F.Keep.asks g.F.Keep.accepts c.args.keep.now (listing_at_places x.entries (take c.args.site.depth (g.K.Key.bits c.args.site.key)) us)) inv.all (c.requires.may_ask x is) in
-    let ask = may_ask_this g.K.Key.IsKey g.K.Key.bits g.K.Key.bit_width g.F.Keep.asks g.F.Keep.accepts c.args.site long (to_come c.loop-place.places) inv.before taken.string (to_come c.next_place.new.self) taken.first taken.short c.in-Some.ensures.sorted inv.apart c.loop-place.node inv.each c.args.keep.now c.loop-place.keep c.args.entries.now c.loop-place.entries c.args.nodes.now c.loop-place.nodes c.args.cells.now c.loop-place.cells inv.done c.requires.trie.0 c.requires.trie.1 may in
+    subst (λ us. CallableOnEachEntry g.F.Keep.may_return g.F.Keep.accepts c.args.keep.now (listing_at_places x.entries (take c.args.site.depth (g.K.Key.bits c.args.site.key)) us)) inv.all (c.requires.may_ask x is) in
+    let ask = may_ask_this g.K.Key.IsKey g.K.Key.bits g.K.Key.bit_width g.F.Keep.may_return g.F.Keep.accepts c.args.site long (to_come c.loop-place.places) inv.before taken.string (to_come c.next_place.new.self) taken.first taken.short c.in-Some.ensures.sorted inv.apart c.loop-place.node inv.each c.args.keep.now c.loop-place.keep c.args.entries.now c.loop-place.entries c.args.nodes.now c.loop-place.nodes c.args.cells.now c.loop-place.cells inv.done c.requires.trie.0 c.requires.trie.1 may in
     let place : HasPlace c.loop-place.node c.in-Some.place = record { string = taken.string; short = taken.short; is = taken.place; set = here.1 } in
     (omega arith, (within.0, (within.1.0, (within.1.1.0, (within.1.1.1.0, (within.1.1.1.1, ((one.after, one.trie), (inv.site, (place, λ u few is. ask u few (sym taken.place ∙ is))))))))))
 
@@ -133,11 +133,11 @@ retain_places-loop-place-preserved g t c =
     let long = g.met.K.Key.key_laws.bits_length c.args.site.key c.requires.site.key in
     record {
       site = c.retain_place-node.ensures.node;
-      each = each_next g.K.Key.IsKey g.K.Key.bits g.K.Key.bit_width g.F.Keep.asks g.F.Keep.accepts c.args.site long (to_come c.loop-place.places) inv.before taken.string (to_come c.next_place.new.self) taken.first taken.short c.in-Some.ensures.sorted inv.apart c.loop-place.node inv.each c.args.keep.now c.loop-place.keep c.args.entries.now c.loop-place.entries c.args.nodes.now c.loop-place.nodes c.args.cells.now c.loop-place.cells inv.done c.requires.trie.0 c.requires.trie.1 inv.site c.retain_place-node.result c.retain_place-node.new.keep c.retain_place-node.new.entries c.retain_place-node.new.nodes c.retain_place-node.new.cells c.retain_place-node.ensures.node (c.retain_place-node.ensures.retains taken.string taken.short taken.place);
+      each = each_next g.K.Key.IsKey g.K.Key.bits g.K.Key.bit_width g.F.Keep.may_return g.F.Keep.accepts c.args.site long (to_come c.loop-place.places) inv.before taken.string (to_come c.next_place.new.self) taken.first taken.short c.in-Some.ensures.sorted inv.apart c.loop-place.node inv.each c.args.keep.now c.loop-place.keep c.args.entries.now c.loop-place.entries c.args.nodes.now c.loop-place.nodes c.args.cells.now c.loop-place.cells inv.done c.requires.trie.0 c.requires.trie.1 inv.site c.retain_place-node.result c.retain_place-node.new.keep c.retain_place-node.new.entries c.retain_place-node.new.nodes c.retain_place-node.new.cells c.retain_place-node.ensures.node (c.retain_place-node.ensures.retains taken.string taken.short taken.place);
       before = inv.before ++ taken.string ∷ [];
       all = inv.all ∙ ap (λ us. inv.before ++ us) taken.first ∙ sym (append_assoc inv.before (taken.string ∷ []) (to_come c.next_place.new.self));
-      apart = apart_next g.K.Key.IsKey g.K.Key.bits g.K.Key.bit_width g.F.Keep.asks g.F.Keep.accepts c.args.site long (to_come c.loop-place.places) inv.before taken.string (to_come c.next_place.new.self) taken.first taken.short c.in-Some.ensures.sorted inv.apart c.loop-place.node inv.each c.args.keep.now c.loop-place.keep c.args.entries.now c.loop-place.entries c.args.nodes.now c.loop-place.nodes c.args.cells.now c.loop-place.cells inv.done;
-      done = done_next g.K.Key.IsKey g.K.Key.bits g.K.Key.bit_width g.F.Keep.asks g.F.Keep.accepts c.args.site long (to_come c.loop-place.places) inv.before taken.string (to_come c.next_place.new.self) taken.first taken.short c.in-Some.ensures.sorted inv.apart c.loop-place.node inv.each c.args.keep.now c.loop-place.keep c.args.entries.now c.loop-place.entries c.args.nodes.now c.loop-place.nodes c.args.cells.now c.loop-place.cells inv.done c.retain_place-node.new.keep c.retain_place-node.new.entries c.retain_place-node.new.nodes c.retain_place-node.new.cells (c.retain_place-node.ensures.retains taken.string taken.short taken.place);
+      apart = apart_next g.K.Key.IsKey g.K.Key.bits g.K.Key.bit_width g.F.Keep.may_return g.F.Keep.accepts c.args.site long (to_come c.loop-place.places) inv.before taken.string (to_come c.next_place.new.self) taken.first taken.short c.in-Some.ensures.sorted inv.apart c.loop-place.node inv.each c.args.keep.now c.loop-place.keep c.args.entries.now c.loop-place.entries c.args.nodes.now c.loop-place.nodes c.args.cells.now c.loop-place.cells inv.done;
+      done = done_next g.K.Key.IsKey g.K.Key.bits g.K.Key.bit_width g.F.Keep.may_return g.F.Keep.accepts c.args.site long (to_come c.loop-place.places) inv.before taken.string (to_come c.next_place.new.self) taken.first taken.short c.in-Some.ensures.sorted inv.apart c.loop-place.node inv.each c.args.keep.now c.loop-place.keep c.args.entries.now c.loop-place.entries c.args.nodes.now c.loop-place.nodes c.args.cells.now c.loop-place.cells inv.done c.retain_place-node.new.keep c.retain_place-node.new.entries c.retain_place-node.new.nodes c.retain_place-node.new.cells (c.retain_place-node.ensures.retains taken.string taken.short taken.place);
       preserves = preserves_both (c.args.site.depth / 5) c.args.nodes.now c.loop-place.nodes c.retain_place-node.new.nodes c.args.cells.now c.loop-place.cells c.retain_place-node.new.cells inv.preserves c.retain_place-node.ensures.preserves;
     }
 
@@ -145,7 +145,7 @@ pub retain_places-returns-clause-retains : goal.retain_places-returns-clause-ret
 retain_places-returns-clause-retains g t c = λ x is.
     let inv = c.loop-place.invariant in
     let none : to_come c.loop-place.places ≡ [] = c.in_default.ensures.place.0 in
-    subst (λ us. RetainsTo g.F.Keep.asks g.F.Keep.accepts g.K.Key.bit_width (take c.args.site.depth (g.K.Key.bits c.args.site.key)) us c.args.keep.now x c.loop-place.keep c.loop-place.entries c.loop-place.nodes c.loop-place.cells)
+    subst (λ us. RetainsTo g.F.Keep.may_return g.F.Keep.accepts g.K.Key.bit_width (take c.args.site.depth (g.K.Key.bits c.args.site.key)) us c.args.keep.now x c.loop-place.keep c.loop-place.entries c.loop-place.nodes c.loop-place.cells)
     (sym (inv.all ∙ ap (λ us. inv.before ++ us) none ∙ append-nil inv.before)) (inv.done x is)
 
 pub retain_places-returns-clause-node : goal.retain_places-returns-clause-node

@@ -17,7 +17,7 @@ invariant-retain_places-loop-place g l =
       all : to_come l.fn.places ≡ before ++ to_come l.places;
       apart : (q : List Bool) → is_at_some (take l.site.depth (g.K.Key.bits l.site.key)) before q ≡ true →
           is_at_some (take l.site.depth (g.K.Key.bits l.site.key)) (to_come l.places) q ≡ true → ⊥;
-      done : RetainsIn g.F.Keep.asks g.F.Keep.accepts g.K.Key.bit_width (take l.site.depth (g.K.Key.bits l.site.key)) before
+      done : RetainsIn g.F.Keep.may_return g.F.Keep.accepts g.K.Key.bit_width (take l.site.depth (g.K.Key.bits l.site.key)) before
           l.fn.keep l.fn.entries l.fn.nodes l.fn.cells l.keep l.entries l.nodes l.cells;
       preserves : PreservesBelow (l.site.depth / 5) l.fn.nodes l.nodes l.fn.cells l.cells;
     }

@@ -30,15 +30,15 @@ pub keeps-requires : goal.keeps-requires
 keeps-requires g c =
     let got = value_got g.K.Key.IsKey g.K.Key.bits g.K.Key.bit_width c.args.nodes.now c.args.site c.args.node c.requires.site g.met.K.Key.key_laws.bits_length c.args.entries.now c.args.cells.now c.requires.trie.0 c.requires.trie.1 c.args.bit c.string_of-n.result.0 c.string_of-n.result.1 c.requires.bit c.string_of-n.ensures.short c.string_of-n.ensures.bit c.requires.set c.value_seat.result.slot c.at.result.now (ap (λ s. s.slot) c.value_seat.ensures) c.at.ensures.slot in
     let few = short g.K.Key.IsKey g.K.Key.bits g.K.Key.bit_width c.args.nodes.now c.args.site c.args.node c.requires.site g.met.K.Key.key_laws.bits_length c.args.entries.now c.args.cells.now c.requires.trie.0 c.requires.trie.1 c.args.bit c.string_of-n.result.0 c.string_of-n.result.1 c.requires.bit c.string_of-n.ensures.short c.string_of-n.ensures.bit c.requires.set in
-    may_ask_here g.K.Key.IsKey g.K.Key.bits g.K.Key.bit_width c.args.nodes.now c.args.site c.args.node c.requires.site g.met.K.Key.key_laws.bits_length c.args.entries.now c.args.cells.now c.requires.trie.0 c.requires.trie.1 c.args.bit c.string_of-n.result.0 c.string_of-n.result.1 c.requires.bit c.string_of-n.ensures.short c.string_of-n.ensures.bit c.requires.set c.new-path.result (c.new-path.ensures ∙ key_taken g.K.Key.IsKey g.K.Key.bits g.K.Key.bit_width c.args.nodes.now c.args.site c.args.node c.requires.site g.met.K.Key.key_laws.bits_length c.args.entries.now c.args.cells.now c.requires.trie.0 c.requires.trie.1 c.args.bit c.string_of-n.result.0 c.string_of-n.result.1 c.requires.bit c.string_of-n.ensures.short c.string_of-n.ensures.bit c.requires.set c.extend-key.result c.extend-key.ensures.value) g.F.Keep.asks g.F.Keep.accepts c.in-Some.value.now (got ∙ (sym c.as_ref.ensures.value ∙ ap option_copied c.in-Some.is)) c.args.keep.now
+    may_ask_here g.K.Key.IsKey g.K.Key.bits g.K.Key.bit_width c.args.nodes.now c.args.site c.args.node c.requires.site g.met.K.Key.key_laws.bits_length c.args.entries.now c.args.cells.now c.requires.trie.0 c.requires.trie.1 c.args.bit c.string_of-n.result.0 c.string_of-n.result.1 c.requires.bit c.string_of-n.ensures.short c.string_of-n.ensures.bit c.requires.set c.new-path.result (c.new-path.ensures ∙ key_taken g.K.Key.IsKey g.K.Key.bits g.K.Key.bit_width c.args.nodes.now c.args.site c.args.node c.requires.site g.met.K.Key.key_laws.bits_length c.args.entries.now c.args.cells.now c.requires.trie.0 c.requires.trie.1 c.args.bit c.string_of-n.result.0 c.string_of-n.result.1 c.requires.bit c.string_of-n.ensures.short c.string_of-n.ensures.bit c.requires.set c.extend-key.result c.extend-key.ensures.value) g.F.Keep.may_return g.F.Keep.accepts c.in-Some.value.now (got ∙ (sym c.as_ref.ensures.value ∙ ap option_copied c.in-Some.is)) c.args.keep.now
     (c.requires.may_ask (digits c.string_of-n.result.0 c.string_of-n.result.1) few c.string_of-n.ensures.bit c.requires.trie.0 c.requires.trie.1)
 
 pub returns-then-keeps-clause-retains : goal.returns-then-keeps-clause-retains
 returns-then-keeps-clause-retains g c = λ t few is before trie.
     let got = value_got g.K.Key.IsKey g.K.Key.bits g.K.Key.bit_width c.args.nodes.now c.args.site c.args.node c.requires.site g.met.K.Key.key_laws.bits_length c.args.entries.now c.args.cells.now before trie c.args.bit c.string_of-n.result.0 c.string_of-n.result.1 c.requires.bit c.string_of-n.ensures.short c.string_of-n.ensures.bit c.requires.set c.value_seat.result.slot c.at.result.now (ap (λ s. s.slot) c.value_seat.ensures) c.at.ensures.slot in
-    subst (λ u. RetainsTo g.F.Keep.asks g.F.Keep.accepts g.K.Key.bit_width (take c.args.site.depth (g.K.Key.bits c.args.site.key)) (u ∷ []) c.args.keep.now before c.keeps.new.self c.args.entries.now c.args.nodes.now c.args.cells.now)
+    subst (λ u. RetainsTo g.F.Keep.may_return g.F.Keep.accepts g.K.Key.bit_width (take c.args.site.depth (g.K.Key.bits c.args.site.key)) (u ∷ []) c.args.keep.now before c.keeps.new.self c.args.entries.now c.args.nodes.now c.args.cells.now)
     (sym (c.string_of-n.ensures.only t is))
-    (stays_here g.K.Key.IsKey g.K.Key.bits g.K.Key.bit_width c.args.nodes.now c.args.site c.args.node c.requires.site g.met.K.Key.key_laws.bits_length c.args.entries.now c.args.cells.now before trie c.args.bit c.string_of-n.result.0 c.string_of-n.result.1 c.requires.bit c.string_of-n.ensures.short c.string_of-n.ensures.bit c.requires.set c.new-path.result (c.new-path.ensures ∙ key_taken g.K.Key.IsKey g.K.Key.bits g.K.Key.bit_width c.args.nodes.now c.args.site c.args.node c.requires.site g.met.K.Key.key_laws.bits_length c.args.entries.now c.args.cells.now before trie c.args.bit c.string_of-n.result.0 c.string_of-n.result.1 c.requires.bit c.string_of-n.ensures.short c.string_of-n.ensures.bit c.requires.set c.extend-key.result c.extend-key.ensures.value) g.F.Keep.asks g.F.Keep.accepts c.in-Some.value.now (got ∙ (sym c.as_ref.ensures.value ∙ ap option_copied c.in-Some.is)) c.args.keep.now c.keeps.new.self true (c.keeps.ensures.yes c.if-keeps.true) refl)
+    (stays_here g.K.Key.IsKey g.K.Key.bits g.K.Key.bit_width c.args.nodes.now c.args.site c.args.node c.requires.site g.met.K.Key.key_laws.bits_length c.args.entries.now c.args.cells.now before trie c.args.bit c.string_of-n.result.0 c.string_of-n.result.1 c.requires.bit c.string_of-n.ensures.short c.string_of-n.ensures.bit c.requires.set c.new-path.result (c.new-path.ensures ∙ key_taken g.K.Key.IsKey g.K.Key.bits g.K.Key.bit_width c.args.nodes.now c.args.site c.args.node c.requires.site g.met.K.Key.key_laws.bits_length c.args.entries.now c.args.cells.now before trie c.args.bit c.string_of-n.result.0 c.string_of-n.result.1 c.requires.bit c.string_of-n.ensures.short c.string_of-n.ensures.bit c.requires.set c.extend-key.result c.extend-key.ensures.value) g.F.Keep.may_return g.F.Keep.accepts c.in-Some.value.now (got ∙ (sym c.as_ref.ensures.value ∙ ap option_copied c.in-Some.is)) c.args.keep.now c.keeps.new.self true (c.keeps.ensures.yes c.if-keeps.true) refl)
 
 pub returns-then-keeps-clause-node : goal.returns-then-keeps-clause-node
 returns-then-keeps-clause-node g c = c.requires.site
@@ -93,9 +93,9 @@ returns-clause-retains g c = λ t few is before trie.
     let no = subst (λ v. g.F.Keep.refuses c.args.keep.now c.new-path.result v c.keeps.new.self)
     (ap (λ o. unwrap_or o c.in-Some-found.value) asked) (c.keeps.ensures.no c.if-keeps.false) in
     let later = trie_goes g.K.Key.IsKey g.K.Key.bits g.K.Key.bit_width c.args.nodes.now c.args.site c.args.node c.requires.site g.met.K.Key.key_laws.bits_length c.args.entries.now c.args.cells.now before trie c.args.bit c.string_of-n.result.0 c.string_of-n.result.1 c.requires.bit c.string_of-n.ensures.short c.string_of-n.ensures.bit c.requires.set c.take_value-found.result.0 c.take_value-found.result.1 c.take_value-found.new.nodes c.take_value-found.new.cells c.take_value-found.ensures.value c.take_value-found.ensures.taken (c.args.entries.now - 1) refl (Grows-none _ _ 24 c.take_value-found.ensures.node_blocks.space c.take_value-found.ensures.node_blocks.tiers) c.take_value-found.ensures.cell_space in
-    subst (λ u. RetainsTo g.F.Keep.asks g.F.Keep.accepts g.K.Key.bit_width (take c.args.site.depth (g.K.Key.bits c.args.site.key)) (u ∷ []) c.args.keep.now before c.taken.new.self (c.args.entries.now - 1) c.take_value-found.new.nodes c.take_value-found.new.cells)
+    subst (λ u. RetainsTo g.F.Keep.may_return g.F.Keep.accepts g.K.Key.bit_width (take c.args.site.depth (g.K.Key.bits c.args.site.key)) (u ∷ []) c.args.keep.now before c.taken.new.self (c.args.entries.now - 1) c.take_value-found.new.nodes c.take_value-found.new.cells)
     (sym (c.string_of-n.ensures.only t is))
-    (goes_here g.K.Key.IsKey g.K.Key.bits g.K.Key.bit_width c.args.nodes.now c.args.site c.args.node c.requires.site g.met.K.Key.key_laws.bits_length c.args.entries.now c.args.cells.now before trie c.args.bit c.string_of-n.result.0 c.string_of-n.result.1 c.requires.bit c.string_of-n.ensures.short c.string_of-n.ensures.bit c.requires.set c.new-path.result (c.new-path.ensures ∙ key_taken g.K.Key.IsKey g.K.Key.bits g.K.Key.bit_width c.args.nodes.now c.args.site c.args.node c.requires.site g.met.K.Key.key_laws.bits_length c.args.entries.now c.args.cells.now before trie c.args.bit c.string_of-n.result.0 c.string_of-n.result.1 c.requires.bit c.string_of-n.ensures.short c.string_of-n.ensures.bit c.requires.set c.extend-key.result c.extend-key.ensures.value) g.F.Keep.asks g.F.Keep.accepts c.in-Some-found.value (there ∙ c.in-Some-found.is) c.args.keep.now c.taken.new.self false (c.args.entries.now - 1) c.take_value-found.new.nodes c.take_value-found.new.cells (c.taken.ensures c.args.keep.now no) refl later)
+    (goes_here g.K.Key.IsKey g.K.Key.bits g.K.Key.bit_width c.args.nodes.now c.args.site c.args.node c.requires.site g.met.K.Key.key_laws.bits_length c.args.entries.now c.args.cells.now before trie c.args.bit c.string_of-n.result.0 c.string_of-n.result.1 c.requires.bit c.string_of-n.ensures.short c.string_of-n.ensures.bit c.requires.set c.new-path.result (c.new-path.ensures ∙ key_taken g.K.Key.IsKey g.K.Key.bits g.K.Key.bit_width c.args.nodes.now c.args.site c.args.node c.requires.site g.met.K.Key.key_laws.bits_length c.args.entries.now c.args.cells.now before trie c.args.bit c.string_of-n.result.0 c.string_of-n.result.1 c.requires.bit c.string_of-n.ensures.short c.string_of-n.ensures.bit c.requires.set c.extend-key.result c.extend-key.ensures.value) g.F.Keep.may_return g.F.Keep.accepts c.in-Some-found.value (there ∙ c.in-Some-found.is) c.args.keep.now c.taken.new.self false (c.args.entries.now - 1) c.take_value-found.new.nodes c.take_value-found.new.cells (c.taken.ensures c.args.keep.now no) refl later)
 
 pub returns-clause-node : goal.returns-clause-node
 returns-clause-node g c =

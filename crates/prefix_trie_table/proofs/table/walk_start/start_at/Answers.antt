@@ -49,8 +49,8 @@ loop-depth-preserved g c =
       built = built_next _ _ _ _ _ c.requires.begun within (key_reach _ _ _ (g.met.K.Key.key_laws.bits_length _ c.is_key.ensures.key) within) _ _ _ at.built c.spot_in.result c.spot_in.ensures.node c.spot_in.ensures.depth c.spot_in.ensures.each c.push.new.self.items c.push.ensures.items
           (omega (arith, c.loop-depth-test.true, c.len-len.ensures.len)) c.places_after.result.0 c.places_after.result.1 c.spot_in.ensures.places c.child_bit-child.result (c.child_bit-child.ensures.value ∙ ap (λ r. number (take 5 r)) at.rest_is) c.places_after.ensures c.requires.tree.0 c.requires.tree.1 (sym c.has_bit.ensures ∙ c.if-not-has_bit.false) _ c.child_slot.ensures
           c.visit-node-in-loop-depth.result c.visit-node-in-loop-depth.ensures.node;
-      rest_is = c.below-rest.ensures ∙ ap (drop 5) at.rest_is ∙ drop-drop 5 c.loop-depth.depth c.args.path;
-      left = omega (arith, ap length c.below-rest.ensures, length-drop 5 c.loop-depth.rest, left, c.loop-depth-test.true);
+      rest_is = c.after_five-rest.ensures ∙ ap (drop 5) at.rest_is ∙ drop-drop 5 c.loop-depth.depth c.args.path;
+      left = omega (arith, ap length c.after_five-rest.ensures, length-drop 5 c.loop-depth.rest, left, c.loop-depth-test.true);
     }
 
 pub places_kept-requires : goal.places_kept-requires

@@ -1,5 +1,5 @@
 -- The invariant of the loop: inserting the items still to come leads to all entries of the source.
-use Rattle.prefix_trie.specs.Words.{Leads}
+use Rattle.prefix_trie.specs.Terms.{Leads}
 use Rattle.prefix_trie_tests.proofs.examples.copy.copy_of.Given as goal
 
 abbrev pub invariant-loop-prefix : goal.invariant-loop-prefix

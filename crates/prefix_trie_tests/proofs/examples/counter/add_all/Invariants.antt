@@ -1,6 +1,6 @@
 -- The invariant of the loop: adding the counts still to come leads to the sums of both maps.
 use Rattle.prefix_trie_tests.proofs.Prelude.{◌+◌, ◌%◌, ◌^◌, Joins}
-use Rattle.prefix_trie.specs.Words.{join_all, listing, prefix_pairs}
+use Rattle.prefix_trie.specs.Terms.{join_all, listing, prefix_pairs}
 use Rattle.prefix_trie_tests.proofs.examples.counter.add_all.Given as goal
 
 abbrev pub invariant-loop-prefix : goal.invariant-loop-prefix

@@ -1,6 +1,6 @@
 -- The invariant of the loop: the total and the values still to come have the same sum as all values, modulo 2^64.
 use Rattle.prefix_trie_tests.proofs.Prelude.{◌≡◌, ◌+◌, ◌%◌, ◌^◌, map, sum}
-use Rattle.prefix_trie.specs.Words.{listing}
+use Rattle.prefix_trie.specs.Terms.{listing}
 use Rattle.prefix_trie_tests.proofs.examples.counter.total.Given as goal
 
 abbrev pub invariant-loop-count : goal.invariant-loop-count

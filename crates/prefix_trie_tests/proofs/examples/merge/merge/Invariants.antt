@@ -1,5 +1,5 @@
 -- The invariant of the loop: inserting the items still to come leads to the map with all entries of both.
-use Rattle.prefix_trie.specs.Words.{Leads, put_all, prefix_pairs, listing}
+use Rattle.prefix_trie.specs.Terms.{Leads, put_all, prefix_pairs, listing}
 use Rattle.prefix_trie_tests.proofs.examples.merge.merge.Given as goal
 
 abbrev pub invariant-loop-prefix : goal.invariant-loop-prefix

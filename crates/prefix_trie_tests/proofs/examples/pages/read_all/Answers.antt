@@ -1,6 +1,6 @@
 -- Each page reads at least one more entry, so the loop ends with the whole listing.
 use Rattle.prefix_trie_tests.proofs.Prelude.{rules, ◌++◌, sym, ap}
-use Rattle.prefix_trie.specs.Words.{listing, prefix_pairs}
+use Rattle.prefix_trie.specs.Terms.{listing, prefix_pairs}
 use Rattle.prefix_trie.proofs.Callers.{all_read, page_begins, page_goes_on}
 use Rattle.prefix_trie_tests.proofs.examples.pages.read_all.Goals as goal
 

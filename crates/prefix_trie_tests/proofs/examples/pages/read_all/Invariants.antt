@@ -1,6 +1,6 @@
 -- The invariant of the loop: what is read so far begins the listing.
 use Rattle.prefix_trie_tests.proofs.Prelude.{◌≡◌, ℕ, ◌++◌, ◌-◌, List, length, len}
-use Rattle.prefix_trie.specs.Words.{listing, prefix_pairs}
+use Rattle.prefix_trie.specs.Terms.{listing, prefix_pairs}
 use Rattle.prefix_trie_tests.proofs.examples.pages.read_all.Given as goal
 
 abbrev pub invariant-loop-read : goal.invariant-loop-read

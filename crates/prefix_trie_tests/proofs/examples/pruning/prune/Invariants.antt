@@ -1,6 +1,6 @@
 -- The invariant of the loop: the prefixes still to come fit, and the map is tidy.
 use Rattle.prefix_trie_tests.proofs.Prelude.{All}
-use Rattle.prefix_trie.specs.Words.{IsTidy}
+use Rattle.prefix_trie.specs.Terms.{IsTidy}
 use Rattle.prefix_trie_tests.proofs.examples.pruning.prune.Given as goal
 
 abbrev pub invariant-loop-prefix : goal.invariant-loop-prefix

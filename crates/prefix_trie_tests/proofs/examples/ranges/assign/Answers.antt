@@ -1,6 +1,6 @@
 -- Two numbers share their first bits exactly if dividing them by a power of two gives the same, by `narrow_laws`.
 use Rattle.prefix_trie_tests.proofs.Prelude.{rules, ◌<◌, ◌≤◌, ◌^◌, ℕ, List, Bool, length, take, sym, ◌∙◌, subst, eq-eqb, IfSome, longest_match}
-use Rattle.prefix_trie.specs.Words.{digits, narrow_width}
+use Rattle.prefix_trie.specs.Terms.{digits, narrow_width}
 use Rattle.prefix_trie_tests.proofs.examples.ranges.assign.Goals as goal
 
 pub returns-clause-owned : goal.returns-clause-owned

@@ -1,6 +1,6 @@
 -- The invariant of the loop: the text so far and the lines of the routes still to come are all lines.
 use Rattle.std.specs.Prelude.{◌≡◌, ◌++◌, ℕ, List, codes, decimal, flat_map, string_bytes}
-use Rattle.prefix_trie.specs.Words.{ipv4_back, ipv4_network_text, listing, prefix_pairs}
+use Rattle.prefix_trie.specs.Terms.{ipv4_back, ipv4_network_text, listing, prefix_pairs}
 use Rattle.prefix_trie_tests.proofs.examples.routes_from_text.print.Given as goal
 
 -- The line of a route.

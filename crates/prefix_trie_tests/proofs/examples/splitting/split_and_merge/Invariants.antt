@@ -1,5 +1,5 @@
 -- The invariant of the loop: inserting the items still to come leads to the table as it was.
-use Rattle.prefix_trie.specs.Words.{Leads}
+use Rattle.prefix_trie.specs.Terms.{Leads}
 use Rattle.prefix_trie_tests.proofs.examples.splitting.split_and_merge.Given as goal
 
 abbrev pub invariant-loop-key : goal.invariant-loop-key

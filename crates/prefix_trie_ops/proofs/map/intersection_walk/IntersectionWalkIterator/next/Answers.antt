@@ -1,7 +1,7 @@
 -- Each step gives the first of the common keys, which is in both maps.
 use Rattle.std.proofs.Common.{◌∙◌, inl, inr, arith, ap, length, sym}
 use Rattle.std.specs.Option.{option_copied}
-use Rattle.prefix_trie.specs.Words.{prefix_pairs}
+use Rattle.prefix_trie.specs.Terms.{prefix_pairs}
 use Rattle.prefix_trie_ops.specs.Combining.{common}
 use Rattle.prefix_trie_ops.proofs.Joint.{common_combines, common_first, common_some}
 use Rattle.prefix_trie_ops.proofs.map.intersection_walk.IntersectionWalkIterator.next.Goals as goal

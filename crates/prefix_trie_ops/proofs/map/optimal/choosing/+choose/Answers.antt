@@ -5,7 +5,7 @@ use Rattle.std.specs.List.{Contains, slice_set}
 use Rattle.std.specs.Option.{option_or}
 use Rattle.std.specs.FinMap.{get}
 use Rattle.prefix_trie_bits.specs.Keys.{path_length}
-use Rattle.prefix_trie.specs.Words.{listing, listing_after, listing_from, prefix_pairs}
+use Rattle.prefix_trie.specs.Terms.{listing, listing_after, listing_from, prefix_pairs}
 use Rattle.prefix_trie_ops.specs.declared.map.optimal.sets.Set.TheVariants.{Missing}
 use Rattle.prefix_trie_ops.specs.Choosing.{Chooses}
 use Rattle.prefix_trie_ops.specs.Optimal.{is_first_below, listing_past, value_along}

@@ -1,6 +1,6 @@
 -- The invariant of the loop of `copied`: the entries copied so far and those still to come are the listing.
 use Rattle.std.proofs.Common.{◌≡◌, ◌++◌}
-use Rattle.prefix_trie.specs.Words.{listing, prefix_pairs}
+use Rattle.prefix_trie.specs.Terms.{listing, prefix_pairs}
 use Rattle.prefix_trie_ops.proofs.map.optimal.entries.copied.Given as goal
 
 abbrev pub invariant-loop-prefix : goal.invariant-loop-prefix

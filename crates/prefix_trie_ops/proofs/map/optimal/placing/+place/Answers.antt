@@ -7,7 +7,7 @@ use Rattle.std.specs.FinMap.{get}
 use Rattle.std.proofs.lemmas.List.{append_assoc}
 use Rattle.prefix_trie_bits.specs.Begins.{begins-refl}
 use Rattle.prefix_trie_bits.specs.Keys.{path_length}
-use Rattle.prefix_trie.specs.Words.{listing, listing_after, listing_from, prefix_pairs}
+use Rattle.prefix_trie.specs.Terms.{listing, listing_after, listing_from, prefix_pairs}
 use Rattle.prefix_trie_ops.specs.Choosing.{part_values, AreToCome}
 use Rattle.prefix_trie_ops.specs.Optimal.{is_first_below, listing_past, value_along, HasNoneBelow, Rebuilds}
 use Rattle.prefix_trie_ops.specs.Parts.{as_list, best_value, first_values}

@@ -1,6 +1,6 @@
 -- The path of a half is the prefix's path and one more bit, which is 0 for the lower half and 1 for the upper.
 use Rattle.std.proofs.Common.{◌≡◌, ◌∙◌, ◌+◌, ◌-◌, ◌≤◌, ◌++◌, ap, arith, take}
-use Rattle.prefix_trie.specs.Words.{digits, zeros}
+use Rattle.prefix_trie.specs.Terms.{digits, zeros}
 use Rattle.prefix_trie_bits.specs.Keys.{path_length}
 use Rattle.prefix_trie_ops.proofs.Optimal.Positions.{half_path, one_digit}
 use Rattle.prefix_trie_ops.proofs.map.optimal.position.half.Goals as goal

@@ -2,7 +2,7 @@
 use Rattle.std.proofs.Common.{◌≡◌, ◌∙◌, ◌∷◌, ◌<◌, ◌≤◌, nat_lt, lt-ltb, true, false, length, All, ap, sym, subst, arith}
 use Rattle.std.proofs.lemmas.Bool.Decides.{nat_tests}
 use Rattle.std.proofs.lemmas.List.Elements.{All-head, All-tail}
-use Rattle.prefix_trie.specs.Words.{begins}
+use Rattle.prefix_trie.specs.Terms.{begins}
 use Rattle.prefix_trie_bits.specs.Keys.{path_length}
 use Rattle.prefix_trie_ops.proofs.Optimal.Positions.{begun, is_below, longer, not_begun, other_items, other_value, taken_items, taken_value}
 use Rattle.prefix_trie_ops.proofs.map.optimal.position.take_at.Goals as goal

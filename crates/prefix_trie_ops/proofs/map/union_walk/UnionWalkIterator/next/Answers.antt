@@ -1,6 +1,6 @@
 -- Each step gives the first item of the union, which is in one of the two maps.
 use Rattle.std.proofs.Common.{◌∙◌, arith, ap, length, sym}
-use Rattle.prefix_trie.specs.Words.{prefix_pairs}
+use Rattle.prefix_trie.specs.Terms.{prefix_pairs}
 use Rattle.prefix_trie_ops.specs.Merging.{union_of}
 use Rattle.prefix_trie_ops.proofs.Joint.{union_combines, union_first, union_some}
 use Rattle.prefix_trie_ops.proofs.map.union_walk.UnionWalkIterator.next.Goals as goal

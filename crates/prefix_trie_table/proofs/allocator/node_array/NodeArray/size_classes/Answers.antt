@@ -1,5 +1,5 @@
 -- The size classes of a node are those that are packed into its byte.
-use Rattle.prefix_trie_table.proofs.Prelude.{◌≡◌, ◌<◌, length, get_or, ap, ◌∙◌, arith, blank_node, Node}
+use Rattle.prefix_trie_table.proofs.Prelude.{◌<◌, length, get_or, ap, ◌∙◌, arith, blank_node}
 use Rattle.prefix_trie_table.specs.Blocks.Cells.{size_classes}
 use Rattle.prefix_trie_table.specs.Blocks.NodeArrays.{NodeList, node_of, nodes_of}
 use Rattle.prefix_trie_table.proofs.Blocks.NodeLists.{length-nodes, get_or-nodes, blank_head}

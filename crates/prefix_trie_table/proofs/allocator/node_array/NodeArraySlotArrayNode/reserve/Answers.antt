@@ -1,5 +1,5 @@
 -- Each of the two vectors of a node array reserves memory by itself, and both are equally long.
-use Rattle.prefix_trie_table.proofs.Prelude.{◌≡◌, ◌+◌, ◌≤◌, [], ◌∷◌, IsOk, length, sym, ap, ◌∙◌, subst, true≢false, arith, vec_len, vec_capacity, on_ok_weaker, refl}
+use Rattle.prefix_trie_table.proofs.Prelude.{◌≡◌, ◌+◌, ◌≤◌, [], ◌∷◌, IsOk, length, sym, ap, ◌∙◌, subst, true≢false, arith, vec_len, vec_capacity, on_ok_weaker}
 use Rattle.prefix_trie_table.specs.Blocks.NodeArrays.{NodeList, nodes_of}
 use Rattle.prefix_trie_table.specs.Blocks.Growth.{EachHolds, Reserves}
 use Rattle.prefix_trie_table.proofs.Blocks.Capacity.{EachHolds-both, EachHolds-first, EachHolds-second}

@@ -1,7 +1,7 @@
 -- The items of the union that differ are the changes, and each is a key at which the two tables differ.
 use Rattle.std.proofs.Common.{◌∙◌}
 use Rattle.route_tables.proofs.Differing.{changes_are, changes_shown}
-use Rattle.route_tables.proofs.diff.diff.Goals as goal
+use Rattle.route_tables.proofs.diff.changes.Goals as goal
 
 pub loop-network-init : goal.loop-network-init
 loop-network-init g c =

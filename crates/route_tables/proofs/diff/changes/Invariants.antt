@@ -1,9 +1,9 @@
 -- The invariant of `diff`: the changes so far, with the changes at the networks still to come, are all changes.
 use Rattle.std.proofs.Common.{◌≡◌, ◌++◌, filter, map}
-use Rattle.prefix_trie.specs.Words.{prefix_pairs}
+use Rattle.prefix_trie.specs.Terms.{prefix_pairs}
 use Rattle.prefix_trie_ops.specs.Merging.{lent_side}
 use Rattle.route_tables.specs.Changes.{changes_of, differ}
-use Rattle.route_tables.proofs.diff.diff.Given as goal
+use Rattle.route_tables.proofs.diff.changes.Given as goal
 
 abbrev pub invariant-loop-network : goal.invariant-loop-network
 invariant-loop-network g l =

@@ -1,8 +1,8 @@
 -- The next entry to come in the second table has the key of the value that is passed, so the value is put into its seat.
 use Rattle.prefix_trie_table.proofs.Prelude.{◌≡◌, Bool, false, List, refl, subst, sym, Seats, AwaitsNext, HasCome}
 use Rattle.prefix_trie_table.proofs.Moving.NextValue.{whole_tree, some_comes, seat_inside, has_come}
-use Rattle.prefix_trie_table.proofs.table.split_move.SeatsKeep.taken.Given as given
-use Rattle.prefix_trie_table.proofs.table.split_move.SeatsKeep.taken.Goals as goal
+use Rattle.prefix_trie_table.proofs.table.part_moving.SeatsKeep.taken.Given as given
+use Rattle.prefix_trie_table.proofs.table.part_moving.SeatsKeep.taken.Goals as goal
 
 -- the next to come at a state
 abbrev Next : (g : given.Over) → List Bool → g.row.T.Denot → Seats g.row.K.Denot g.row.T.Denot g.row.A.Denot g.row.V.Denot → Type 0

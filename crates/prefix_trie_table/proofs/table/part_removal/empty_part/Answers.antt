@@ -3,7 +3,7 @@ use Rattle.prefix_trie_table.proofs.Prelude.{◌≡◌, ◌*◌, ◌/◌, sym, a
 use Rattle.std.specs.List.{Contains}
 use Rattle.prefix_trie_table.proofs.Lookup.SearchPaths.{own_short}
 use Rattle.prefix_trie_table.proofs.Removal.PartTaken.{home_steps, own_site, part_emptied, part_listed}
-use Rattle.prefix_trie_table.proofs.table.children.empty_part.Goals as goal
+use Rattle.prefix_trie_table.proofs.table.part_removal.empty_part.Goals as goal
 
 pub overflow_mul-depth : goal.overflow_mul-depth
 overflow_mul-depth g c = let own = c.requires.own in let whole = own.along.whole in let short = own.short in omega (arith, whole, short)
@@ -32,7 +32,7 @@ retain_places-requires-clause-each g c =
 
 pub retain_places-requires-clause-may_ask : goal.retain_places-requires-clause-may_ask
 retain_places-requires-clause-may_ask g c = λ s trie.
-    subst (CallableOnEachEntry g.F.Keep.asks g.F.Keep.accepts c.args.keep.now)
+    subst (CallableOnEachEntry g.F.Keep.may_return g.F.Keep.accepts c.args.keep.now)
     (sym (part_listed g.K.Key.IsKey g.K.Key.bits g.K.Key.bit_width c.key.result c.key.ensures.key c.args.path.now c.key.ensures.bits c.key.ensures.within c.args.here c.args.nodes.now c.requires.own
     c.args.entries.now c.args.cells.now s trie c.after-rest.result c.after-rest.ensures c.value_cover_mask.result c.child_cover_mask.result c.value_cover_mask.ensures c.child_cover_mask.ensures
     (to_come c.new-places.result) c.new-places.ensures.each c.new-places.ensures.places))
@@ -47,7 +47,7 @@ returns-clause-emptied g c = λ s trie.
           c.args.entries.now c.args.cells.now s trie c.after-rest.result c.after-rest.ensures c.value_cover_mask.result c.child_cover_mask.result c.value_cover_mask.ensures c.child_cover_mask.ensures
           (to_come c.new-places.result) c.new-places.ensures.each _ c.requires.none _ _ _ _ _ _ to;
       up_to =
-          subst (λ es. AsksUpTo g.F.Keep.asks c.args.keep.now es c.retain_places.new.keep)
+          subst (λ es. AsksUpTo g.F.Keep.may_return c.args.keep.now es c.retain_places.new.keep)
           (part_listed g.K.Key.IsKey g.K.Key.bits g.K.Key.bit_width c.key.result c.key.ensures.key c.args.path.now c.key.ensures.bits c.key.ensures.within c.args.here c.args.nodes.now c.requires.own
           c.args.entries.now c.args.cells.now s trie c.after-rest.result c.after-rest.ensures c.value_cover_mask.result c.child_cover_mask.result c.value_cover_mask.ensures c.child_cover_mask.ensures
           (to_come c.new-places.result) c.new-places.ensures.each c.new-places.ensures.places)

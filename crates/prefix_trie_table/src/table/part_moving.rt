@@ -11,8 +11,8 @@ ghost use Rattle.prefix_trie_table.specs.Splitting.Skeleton.{IsSecond};
 ghost use Rattle.prefix_trie_table.specs.Tables.{IsTrie};
 
 use crate::allocator::blocks::Cells;
-use crate::allocator::nodes::{NodeAllocator, Tick};
-use crate::table::children::remove_part;
+use crate::allocator::nodes::{NodeAllocator, VisitCounter};
+use crate::table::part_removal::remove_part;
 use crate::table::retain::Keep;
 use crate::table::spot::Spot;
 use crate::table::walk::advance;
@@ -26,7 +26,7 @@ use std::alloc::Allocator;
 /// The spots of its walk are before the seat of the next value. As a test it returns `false` for each entry, so it is
 /// given every value.
 #[derive(Drop)]
-struct Seats<K: Key, T: Drop, A: Allocator, V: Tick> {
+struct Seats<K: Key, T: Drop, A: Allocator, V: VisitCounter> {
     nodes: NodeAllocator<A, V>,
     cells: Cells<T, A>,
     // The path of each spot begins this key.
@@ -34,11 +34,11 @@ struct Seats<K: Key, T: Drop, A: Allocator, V: Tick> {
     stack: ArrayVec<Spot, 26>,
 }
 
-impl<K: Key, T: Drop, A: Allocator, V: Tick> Keep<K, T, V> for Seats<K, T, A, V> {
+impl<K: Key, T: Drop, A: Allocator, V: VisitCounter> Keep<K, T, V> for Seats<K, T, A, V> {
     ghost accepts = { λ f q x. AwaitsNext K.IsKey K.bits K.bit_width f.nodes f.cells f.key
         f.stack.items q x };
 
-    ghost asks = { λ f q x answer g. (answer ≡ false)
+    ghost may_return = { λ f q x answer g. (answer ≡ false)
         × HasCome K.IsKey K.bits K.bit_width f.nodes g.nodes f.cells g.cells
         f.key f.stack.items g.key g.stack.items q x };
 
@@ -65,7 +65,7 @@ impl<K: Key, T: Drop, A: Allocator, V: Tick> Keep<K, T, V> for Seats<K, T, A, V>
 /// Removes all entries whose keys begin with a bit string, and moves their values to a second table that is built for them.
 ///
 /// Returns the arrays of the second table. Only the blocks of the first table may need memory.
-pub(super) fn move_part<K: Key, T: Drop, A: Allocator, V: Tick>(
+pub(super) fn move_part<K: Key, T: Drop, A: Allocator, V: VisitCounter>(
     nodes: &mut NodeAllocator<A, V>,
     cells: &mut Cells<T, A>,
     entries: &mut usize,
@@ -89,7 +89,7 @@ pub(super) fn move_part<K: Key, T: Drop, A: Allocator, V: Tick>(
     ensures cells { result.1 ≡ record vacant { slots = result.1.slots } }
 {
     let key = path.key();
-    let from = path.again();
+    let from = path.copy();
     let stack = start_at::<K, T, A, V>(&built, key, from, Start::Below, counter);
     let mut seats = Seats {
         nodes: built,

@@ -2,14 +2,14 @@
 use Rattle.prefix_trie_table.proofs.Prelude.{refl, sym, subst, AsksUpTo}
 use Rattle.prefix_trie_table.proofs.Removal.PartTaken.{some_end, part_taken, part_preserved, part_missing, part_unlisted}
 use Rattle.prefix_trie_table.proofs.Retain.CurrentPlaces.{preserves_none}
-use Rattle.prefix_trie_table.proofs.table.children.remove_part.Goals as goal
+use Rattle.prefix_trie_table.proofs.table.part_removal.remove_part.Goals as goal
 
 pub returns-in_default-clause-removed : goal.returns-in_default-clause-removed
 returns-in_default-clause-removed g c = λ s trie. part_missing g.K.Key.bit_width c.args.path c.args.nodes.now c.args.cells.now c.args.entries.now s trie c.in_default.ensures.missing
 
 pub returns-in_default-clause-up_to : goal.returns-in_default-clause-up_to
 returns-in_default-clause-up_to g c = λ s trie.
-    subst (λ es. AsksUpTo g.F.Keep.asks c.args.keep.now es c.args.keep.now)
+    subst (λ es. AsksUpTo g.F.Keep.may_return c.args.keep.now es c.args.keep.now)
     (sym (part_unlisted g.K.Key.bit_width c.args.path c.args.nodes.now c.args.cells.now c.args.entries.now s trie c.in_default.ensures.missing)) refl
 
 pub returns-in_default-clause-preserves : goal.returns-in_default-clause-preserves

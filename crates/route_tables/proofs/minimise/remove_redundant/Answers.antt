@@ -1,10 +1,10 @@
 -- An entry that is kept is one of the listing before, so it is an entry of the old table.
 use Rattle.std.proofs.Common.{◌≡◌, ◌∙◌, not, Bool, List, bytes_eq, filter, subst, ap}
 use Rattle.std.specs.List.{Contains}
-use Rattle.prefix_trie.specs.Words.{listing}
+use Rattle.prefix_trie.specs.Terms.{listing}
 use Rattle.prefix_trie_ops.specs.Values.{is_redundant}
 use Rattle.route_tables.proofs.Lists.{from_filter}
-use Rattle.route_tables.proofs.minimise.minimise.Goals as goal
+use Rattle.route_tables.proofs.minimise.remove_redundant.Goals as goal
 
 pub returns-clause-part : goal.returns-clause-part
 returns-clause-part g c = λ s v here.

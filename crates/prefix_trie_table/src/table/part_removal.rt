@@ -12,7 +12,7 @@ ghost use Rattle.prefix_trie_table.specs.Retaining.{AsksUpTo, ReturnsFalse, MayA
 
 use crate::allocator::blocks::Cells;
 use crate::allocator::node::Node;
-use crate::allocator::nodes::{NodeAllocator, Tick};
+use crate::allocator::nodes::{NodeAllocator, VisitCounter};
 use crate::table::lookup::Reached;
 use crate::table::removal::{descend_keeping_ancestors, prune_up};
 use crate::table::retain::{Keep, Site, retain_places};
@@ -25,10 +25,10 @@ use std::alloc::Allocator;
 #[derive(Drop)]
 pub struct KeepNothing;
 
-impl<K: Key, T: Drop, V: Tick> Keep<K, T, V> for KeepNothing {
+impl<K: Key, T: Drop, V: VisitCounter> Keep<K, T, V> for KeepNothing {
     ghost accepts = { λ _ _ _. ⊤ };
 
-    ghost asks = { λ _ _ _ answer _. answer ≡ false };
+    ghost may_return = { λ _ _ _ answer _. answer ≡ false };
 
     ghost refuses = { λ _ _ _ _. ⊤ };
 
@@ -42,7 +42,7 @@ impl<K: Key, T: Drop, V: Tick> Keep<K, T, V> for KeepNothing {
 /// Removes what begins with a bit string, at its own node and below it, and returns the node as it is then.
 ///
 /// The test returns `false` for each entry, and is given the values.
-fn empty_part<K: Key, T: Drop, A: Allocator, V: Tick, F: Keep<K, T, V>>(
+fn empty_part<K: Key, T: Drop, A: Allocator, V: VisitCounter, F: Keep<K, T, V>>(
     nodes: &mut NodeAllocator<A, V>,
     cells: &mut Cells<T, A>,
     entries: &mut usize,
@@ -53,11 +53,11 @@ fn empty_part<K: Key, T: Drop, A: Allocator, V: Tick, F: Keep<K, T, V>>(
 ) -> Node
     requires trie { (s : State T) × IsTrie K.bit_width entries.old nodes.old cells.old s }
     requires own { IsOwn path.now here nodes.old }
-    requires none { ReturnsFalse F.asks }
-    requires may_ask { MayAskBelow F.asks F.accepts K.bit_width path.now keep.old entries.old
+    requires none { ReturnsFalse F.may_return }
+    requires may_ask { MayAskBelow F.may_return F.accepts K.bit_width path.now keep.old entries.old
         nodes.old cells.old }
     ensures emptied { (s : State T) → IsTrie K.bit_width entries.old nodes.old cells.old s
-        → TakesBelow F.asks F.accepts K.bit_width path.now keep.old s keep.new
+        → TakesBelow F.may_return F.accepts K.bit_width path.now keep.old s keep.new
         (nodes_not_below s.nodes path.now) entries.new nodes.new cells.new }
     ensures node { read nodes.new.slots (chunks_of path.now) ≡ Some result }
     ensures preserves { PreservesBelow here.level nodes.old nodes.new cells.old cells.new }
@@ -82,7 +82,7 @@ fn empty_part<K: Key, T: Drop, A: Allocator, V: Tick, F: Keep<K, T, V>>(
 ///
 /// Then the nodes of its search path that have no value and no child are removed, from its own node upward. If that
 /// node is missing, nothing changes. The test returns `false` for each entry, and is given the values.
-pub fn remove_part<K: Key, T: Drop, A: Allocator, V: Tick, F: Keep<K, T, V>>(
+pub fn remove_part<K: Key, T: Drop, A: Allocator, V: VisitCounter, F: Keep<K, T, V>>(
     nodes: &mut NodeAllocator<A, V>,
     cells: &mut Cells<T, A>,
     entries: &mut usize,
@@ -91,20 +91,20 @@ pub fn remove_part<K: Key, T: Drop, A: Allocator, V: Tick, F: Keep<K, T, V>>(
     counter: &mut V,
 )
     requires trie { (s : State T) × IsTrie K.bit_width entries.old nodes.old cells.old s }
-    requires none { ReturnsFalse F.asks }
-    requires may_ask { MayAskBelow F.asks F.accepts K.bit_width path keep.old entries.old nodes.old
-        cells.old }
+    requires none { ReturnsFalse F.may_return }
+    requires may_ask { MayAskBelow F.may_return F.accepts K.bit_width path keep.old entries.old
+        nodes.old cells.old }
     ensures removed { (s : State T) → IsTrie K.bit_width entries.old nodes.old cells.old s
         → IsTrie K.bit_width entries.new nodes.new cells.new (record {
           entries = without_below s.entries path;
           nodes = nodes_without_below s.nodes s.entries path;
         }) }
     ensures up_to { (s : State T) → IsTrie K.bit_width entries.old nodes.old cells.old s
-        → AsksUpTo F.asks keep.old (listing_below s.entries path) keep.new }
+        → AsksUpTo F.may_return keep.old (listing_below s.entries path) keep.new }
     ensures preserves { PreservesBelow 0 nodes.old nodes.new cells.old cells.new }
 {
     let mut above = ArrayVec::new();
-    let Some(here) = descend_keeping_ancestors(nodes, &path, &mut above, counter) else {
+    let Some((here, _)) = descend_keeping_ancestors(nodes, &path, &mut above, counter) else {
         return;
     };
     let left = empty_part(nodes, cells, entries, keep, &path, here, counter);
