@@ -179,6 +179,7 @@ fn beside<'a, P: Prefix, T>(
 }
 
 // Drops the counter.
+// It is a function so that the body of `get_lpm_mut`, whose proof is written by hand, is two calls.
 #[inline]
 fn not_counted<'a, P, T>(counted: (Option<(P, &'a mut T)>, Visits)) -> Option<(P, &'a mut T)>
     ensures { result ≡ counted.entry.0 }

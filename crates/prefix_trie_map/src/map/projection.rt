@@ -33,6 +33,13 @@ impl<I: Keyed> Model for KeysOf<I> {
 
 impl<I: Keyed> KeysOf<I> {
     /// Returns the keys that a walk has still to give.
+    ///
+    /// # Examples
+    ///
+    /// ```rust
+    /// // map = {10.0.0.0/8: 1, 10.1.0.0/16: 2}
+    /// KeysOf::new(map.cover(&"10.1.2.3/32".parse()?));        // [10.0.0.0/8, 10.1.0.0/16]
+    /// ```
     #[inline]
     pub fn new(inner: I) -> Self
         ensures { result ≡ I.keys inner }

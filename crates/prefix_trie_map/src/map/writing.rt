@@ -90,6 +90,15 @@ impl<C: Source> WalkOf<C> {
     }
 
     /// Returns the value at an item of this walk, for writing.
+    ///
+    /// # Examples
+    ///
+    /// ```rust
+    /// // map = {10.0.0.0/8: 1, 10.1.0.0/16: 2}
+    /// let mut walk = map.iter_mut();
+    /// while let Some((_network, stop)) = walk.step() { *walk.value(stop) *= 10; }
+    /// map.values();       // [10, 20]
+    /// ```
     #[inline]
     pub fn value(&mut self, item: C::CursorItem) -> &mut C::Value
         requires { AtIn C.IsAt self.old.source item }

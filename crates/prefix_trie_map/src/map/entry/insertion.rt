@@ -26,6 +26,14 @@ impl<'a, P: Prefix, T: Drop, A: Allocator> Put<'a, P, T, A> {
     /// # Errors
     ///
     /// Returns the value back, with the cause, as `PrefixMap::insert` does.
+    ///
+    /// # Examples
+    ///
+    /// ```rust
+    /// // map = {10.1.0.0/16: 1}
+    /// let put = map.entry("10.1.0.0/16".parse()?).put(2);
+    /// put.answer();       // Ok(Some(1))
+    /// ```
     pub fn answer(self) -> Result<Option<T>, Refused<T>>
         ensures answer { result ≡ self.entry.answer }
         ensures unchanged { self.exit.0.now ≡ self.entry.map.now }
