@@ -8,7 +8,7 @@ use Rattle.std.specs.FinMap.{get, contains_key, get-retain_keys, same_entries_ma
 use Rattle.prefix_trie_bits.specs.Order.{listing_same}
 use Rattle.prefix_trie_bits.proofs.Model.Ordered.{entries-retained}
 use Rattle.prefix_trie_bits.specs.Begins.{begins-take, begins-trans, take-begins, begins-length, begins-from-take}
-use Rattle.prefix_trie.specs.Words.{Entries, begins, listing, longest_match, IsLongestMatch, IsUncovered}
+use Rattle.prefix_trie.specs.Terms.{Entries, begins, listing, longest_match, IsLongestMatch, IsUncovered}
 use Rattle.prefix_trie.specs.Laws.Lookups.{LookupLaws}
 use Rattle.prefix_trie_ops.specs.Values.{value_of, value_above, are_equal, is_redundant, stays, without_redundant}
 
@@ -41,13 +41,6 @@ module _ {T : Type 0} where
   ]
 
   module _ (eq : T → T → Bool) (m n : Entries T) (left_as : (s : List Bool) → get n s ≡ cond (is_redundant eq m s) None (get m s)) where
-    -- each entry that is left was there before
-    left_was : (s : List Bool) (v : T) → get n s ≡ Some v → get m s ≡ Some v
-    left_was s v h = elim (is_redundant eq m s) as (λ b. get n s ≡ cond b None (get m s) → get m s ≡ Some v) [
-      | true ↦ λ e. let no : None ≡ Some v = sym e ∙ h in cc
-      | false ↦ λ e. sym e ∙ h
-    ] (left_as s)
-
     left_key : (s : List Bool) → contains_key n s ≡ true → contains_key m s ≡ true
     left_key s h = elim (is_redundant eq m s) as (λ b. get n s ≡ cond b None (get m s) → contains_key m s ≡ true) [
       | true ↦ λ e. absurd (true≢false (sym h ∙ ap is_some e))

@@ -1,7 +1,7 @@
 //! The table with the fewest entries for the same full-width lookups.
 ghost use Rattle.std.specs.Prelude.{◌≡◌, All, Bool, true, false, List, [], None, IfErr, IfOk, OnOk};
 ghost use Rattle.std.specs.FinMap.{get};
-ghost use Rattle.prefix_trie.specs.Words.{AreWithin, Entries, listing, prefix_pairs};
+ghost use Rattle.prefix_trie.specs.Terms.{AreWithin, Entries, listing, prefix_pairs};
 ghost use Rattle.prefix_trie_ops.specs.Optimal.{Rebuilds};
 ghost use Rattle.prefix_trie_ops.specs.Smallest.{HaveSameAnswers, IsSmallest};
 ghost use Rattle.prefix_trie_ops.specs.Values.{is_redundant};
@@ -80,13 +80,8 @@ fn rebuilt<P: Prefix, T: Copy + Ord, A: Allocator + Clone, B: Allocator>(
     stored_laws::<T>();
     // The proof learns from it that no key is longer than the width.
     let _ = table.len();
-    let Ok(entries) = copied(table, alloc) else {
-        return Err(Refusal::Memory);
-    };
-    let Ok(mut made) = table.clone() else {
-        return Err(Refusal::Memory);
-    };
-    made.clear();
+    let entries = copied(table, alloc)?;
+    let mut made = table.new_like()?;
     place_all(entries.as_slice(), &mut made, alloc)?;
     Ok(made)
 }
@@ -107,9 +102,7 @@ fn place_all<P: Prefix, T: Copy + Ord, A: Allocator, B: Allocator>(
         made.new.entries) }
 {
     let root = P::from_repr_len(P::R::zero(), 0);
-    let Ok(mut choices) = choices_of(Upcoming::of(entries), &root, alloc) else {
-        return Err(Refusal::Memory);
-    };
+    let mut choices = choices_of(Upcoming::of(entries), &root, alloc)?;
     let mut walk = Upcoming::of(entries);
     place(&mut walk, &mut choices, made, &root, None, None)?;
     Ok(())

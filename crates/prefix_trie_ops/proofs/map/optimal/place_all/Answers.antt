@@ -1,6 +1,6 @@
 -- Placing the entries from the root rebuilds the whole map.
 use Rattle.std.proofs.Common.{◌≡◌, ◌∙◌, ◌+◌, ◌++◌, [], None, length, ap, sym, refl, subst, arith, append-nil}
-use Rattle.prefix_trie.specs.Words.{listing_from, prefix_pairs}
+use Rattle.prefix_trie.specs.Terms.{listing_from, prefix_pairs}
 use Rattle.prefix_trie_ops.specs.Choosing.{part_values, AreToCome}
 use Rattle.prefix_trie_ops.specs.Optimal.{Rebuilds}
 use Rattle.prefix_trie_ops.proofs.Optimal.Whole.{all_from_root}
@@ -21,8 +21,8 @@ returns g c source within listed empty exact =
     let root : path prefix ≡ [] = ap path c.from_repr_len-root.ensures ∙ g.met.P.Prefix.prefix_laws.path_from_parts c.zero.result 0 c.zero.ensures.key (omega arith) in
     let long : length (path prefix) + width ≡ width = let l = ap length root in omega arith in
     let all = listed ∙ ap (prefix_pairs back) (all_from_root source) ∙ ap (λ t. prefix_pairs back (listing_from source t)) (sym root) in
-    let sets : AreToCome c.in-Ok.choices (part_values eq cmp source width [] None) = c.in-Ok.ensures source within (c.of.ensures ∙ all) root exact in
-    let come : AreToCome c.in-Ok.choices (part_values eq cmp source width (path prefix) None ++ []) =
-    subst (AreToCome c.in-Ok.choices) (ap (λ t. part_values eq cmp source width t None) (sym root) ∙ sym (append-nil (part_values eq cmp source width (path prefix) None))) sets in
+    let sets : AreToCome c.in_ok-choices.choices (part_values eq cmp source width [] None) = c.in_ok-choices.ensures source within (c.of.ensures ∙ all) root exact in
+    let come : AreToCome c.in_ok-choices.choices (part_values eq cmp source width (path prefix) None ++ []) =
+    subst (AreToCome c.in_ok-choices.choices) (ap (λ t. part_values eq cmp source width t None) (sym root) ∙ sym (append-nil (part_values eq cmp source width (path prefix) None))) sets in
     subst (λ t. Rebuilds eq cmp width source t None None c.args.made.now.entries c.place.new.made.entries) root
     (c.in_ok-place.ensures.rebuilds source width [] within long (c.of-walk.ensures ∙ all) come (λ t _. empty t) exact (λ _. refl))
