@@ -1,4 +1,4 @@
--- The keys at which two tables differ: for `diff`.
+-- The keys at which two tables differ: for `changes`.
 use Rattle.std.proofs.Common.{◌≡◌, ◌≢◌, ◌↔◌, ℕ, Bool, true, false, not, List, Option, Some, None, Contains, bytes_eq, filter, refl, sym, ap, subst, ◌∙◌, true≢false}
 use Rattle.std.proofs.lemmas.Slice.Eq.{bytes_eq-Decides}
 use Rattle.std.specs.FinMap.{get}

@@ -1,4 +1,4 @@
--- The invariant of `diff`: the changes so far, with the changes at the networks still to come, are all changes.
+-- The invariant of `changes`: the changes so far, with the changes at the networks still to come, are all changes.
 use Rattle.std.proofs.Common.{◌≡◌, ◌++◌, filter, map}
 use Rattle.prefix_trie.specs.Terms.{prefix_pairs}
 use Rattle.prefix_trie_ops.specs.Merging.{lent_side}
