@@ -6,8 +6,6 @@
 #[cfg(test)]
 mod any_map;
 #[cfg(test)]
-mod bulk;
-#[cfg(test)]
 mod cases;
 #[cfg(test)]
 mod clones;
@@ -24,8 +22,6 @@ mod examples;
 #[cfg(test)]
 mod networks;
 #[cfg(test)]
-mod node;
-#[cfg(test)]
 mod on_new;
 #[cfg(test)]
 mod prefix;
@@ -36,6 +32,8 @@ mod retain;
 mod runs;
 #[cfg(test)]
 mod sets;
+#[cfg(test)]
+mod sizes;
 #[cfg(test)]
 mod splitting;
 #[cfg(test)]

@@ -66,17 +66,3 @@ impl Key for Octet {
         Some(Octet { byte })
     }
 }
-
-/// Returns whether the provided methods return what those of the number type return.
-fn are_alike(byte: u8, n: u32) -> bool {
-    n <= 8
-        && Octet { byte }.behind(n).byte == byte.behind(n)
-        && (n == 8 || Octet::power(n).byte == u8::power(n))
-}
-
-#[test]
-fn provided_methods_return_what_those_of_u8_return(rt: HostRuntime) {
-    for n in 0..9_u32 {
-        assert!(rt; are_alike(0xb5, n) && are_alike(0xff, n));
-    }
-}

@@ -1,7 +1,6 @@
 //! IPv4 networks.
 use prefix_trie::ParseNetworkError::{self, Address, Length, MissingSlash};
 use prefix_trie::{Ipv4Prefix, Prefix};
-use std::net::Ipv4Addr;
 use std::test::Fail;
 
 /// A text, and its address and length. Each network is printed as it was read.
@@ -83,65 +82,4 @@ fn other_texts_are_refused_as_ipv4_networks(rt: HostRuntime) {
     for (text, reason) in REFUSED {
         assert!(rt; text.parse::<Ipv4Prefix>() == Err(*reason), "{text}");
     }
-}
-
-/// A network, its lowest and its highest address, and its parent.
-const ENDS: &[(&str, &str, &str, Option<&str>)] = &[
-    (
-        "10.1.2.3/8",
-        "10.0.0.0",
-        "10.255.255.255",
-        Some("10.0.0.0/7"),
-    ),
-    (
-        "192.0.2.1/24",
-        "192.0.2.0",
-        "192.0.2.255",
-        Some("192.0.2.0/23"),
-    ),
-    ("1.2.3.4/31", "1.2.3.4", "1.2.3.5", Some("1.2.3.4/30")),
-    (
-        "255.255.255.255/32",
-        "255.255.255.255",
-        "255.255.255.255",
-        Some("255.255.255.254/31"),
-    ),
-    (
-        "128.0.0.1/1",
-        "128.0.0.0",
-        "255.255.255.255",
-        Some("0.0.0.0/0"),
-    ),
-    ("1.2.3.4/0", "0.0.0.0", "255.255.255.255", None),
-];
-
-/// Returns whether these are a network's lowest and highest address.
-fn has_ends(network: Ipv4Prefix, lowest: &str, highest: &str) -> Result<bool, Fail> {
-    let (lowest, highest): (Ipv4Addr, Ipv4Addr) = (lowest.parse()?, highest.parse()?);
-    Ok(network.network() == lowest && network.last() == highest)
-}
-
-/// Returns whether a network's printed parent is the expected one.
-fn has_parent(rt: &HostRuntime, network: Ipv4Prefix, expected: Option<&str>) -> Result<bool, Fail> {
-    Ok(match (network.parent(), expected) {
-        (Some(parent), Some(text)) => format!(in rt.alloc(); "{parent}")?.as_str() == text,
-        (None, None) => true,
-        _ => false,
-    })
-}
-
-#[test]
-fn ipv4_networks_have_ends(rt: HostRuntime) -> Result<(), Fail> {
-    for (text, lowest, highest, _) in ENDS {
-        assert!(rt; has_ends(text.parse()?, lowest, highest)?, "{text}");
-    }
-    Ok(())
-}
-
-#[test]
-fn ipv4_networks_have_parents(rt: HostRuntime) -> Result<(), Fail> {
-    for (text, _, _, parent) in ENDS {
-        assert!(rt; has_parent(&rt, text.parse()?, *parent)?, "{text}");
-    }
-    Ok(())
 }

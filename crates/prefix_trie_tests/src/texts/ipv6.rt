@@ -1,7 +1,6 @@
 //! IPv6 networks.
 use prefix_trie::ParseNetworkError::{self, Address, Length, MissingSlash};
 use prefix_trie::{Ipv6Prefix, Prefix};
-use std::net::Ipv6Addr;
 use std::test::Fail;
 
 /// A text, its address and length, and the printed text.
@@ -293,65 +292,5 @@ fn longest_text_is_padded(rt: HostRuntime) -> Result<(), Fail> {
     let network: Ipv6Prefix = LONGEST[0].0.parse()?;
     let printed = format!(in rt.alloc(); "{network:>44}")?;
     assert!(rt; printed.as_str() == " 1111:2222:3333:4444:5555:6666:7777:8888/128");
-    Ok(())
-}
-
-/// A network, its lowest and its highest address, and its parent.
-const ENDS: &[(&str, &str, &str, Option<&str>)] = &[
-    (
-        "2001:db8::1/32",
-        "2001:db8::",
-        "2001:db8:ffff:ffff:ffff:ffff:ffff:ffff",
-        Some("2001:db8::/31"),
-    ),
-    (
-        "2001:db8:0:cd30::/60",
-        "2001:db8:0:cd30::",
-        "2001:db8:0:cd3f:ffff:ffff:ffff:ffff",
-        Some("2001:db8:0:cd20::/59"),
-    ),
-    (
-        "fe80::1/10",
-        "fe80::",
-        "febf:ffff:ffff:ffff:ffff:ffff:ffff:ffff",
-        Some("fe80::/9"),
-    ),
-    ("::1/128", "::1", "::1", Some("::/127")),
-    (
-        "::1/0",
-        "::",
-        "ffff:ffff:ffff:ffff:ffff:ffff:ffff:ffff",
-        None,
-    ),
-];
-
-/// Returns whether these are a network's lowest and highest address.
-fn has_ends(network: Ipv6Prefix, lowest: &str, highest: &str) -> Result<bool, Fail> {
-    let (lowest, highest): (Ipv6Addr, Ipv6Addr) = (lowest.parse()?, highest.parse()?);
-    Ok(network.network() == lowest && network.last() == highest)
-}
-
-/// Returns whether a network's printed parent is the expected one.
-fn has_parent(rt: &HostRuntime, network: Ipv6Prefix, expected: Option<&str>) -> Result<bool, Fail> {
-    Ok(match (network.parent(), expected) {
-        (Some(parent), Some(text)) => format!(in rt.alloc(); "{parent}")?.as_str() == text,
-        (None, None) => true,
-        _ => false,
-    })
-}
-
-#[test]
-fn ipv6_networks_have_ends(rt: HostRuntime) -> Result<(), Fail> {
-    for (text, lowest, highest, _) in ENDS {
-        assert!(rt; has_ends(text.parse()?, lowest, highest)?, "{text}");
-    }
-    Ok(())
-}
-
-#[test]
-fn ipv6_networks_have_parents(rt: HostRuntime) -> Result<(), Fail> {
-    for (text, _, _, parent) in ENDS {
-        assert!(rt; has_parent(&rt, text.parse()?, *parent)?, "{text}");
-    }
     Ok(())
 }

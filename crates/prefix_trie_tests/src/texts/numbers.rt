@@ -2,7 +2,6 @@
 use prefix_trie::{Ipv4Prefix, Ipv6Prefix, Narrow, ParseNarrowError, ParseNetworkError, PrefixMap};
 use std::alloc::Global;
 use std::hash::{DefaultHasher, Hash, Hasher};
-use std::net::{Ipv4Addr, Ipv6Addr};
 use std::test::Fail;
 
 const READ: &[(&str, u64)] = &[("0", 0), ("7", 7), ("100", 100), ("4095", 4095)];
@@ -73,28 +72,6 @@ fn errors_are_printed(rt: HostRuntime) -> Result<(), Fail> {
         printed.as_str()
             == "missing slash between address and length, invalid address before the slash, invalid length after the slash, not a plain decimal number within the width"
     );
-    Ok(())
-}
-
-#[test]
-fn ipv4_networks_are_made_of_addresses(rt: HostRuntime) -> Result<(), Fail> {
-    let address = Ipv4Addr::new(10, 1, 2, 3);
-    let (host, network): (Ipv4Prefix, Ipv4Prefix) = ("10.1.2.3/32".parse()?, "10.1.2.3/8".parse()?);
-    assert!(rt; Ipv4Prefix::from(address) == host);
-    assert!(rt; Ipv4Prefix::from_address(address, 8) == Some(network));
-    assert!(rt; Ipv4Prefix::from_address(address, 33).is_none());
-    assert!(rt; network.address() == address);
-    Ok(())
-}
-
-#[test]
-fn ipv6_networks_are_made_of_addresses(rt: HostRuntime) -> Result<(), Fail> {
-    let address = Ipv6Addr::LOCALHOST;
-    let (host, network): (Ipv6Prefix, Ipv6Prefix) = ("::1/128".parse()?, "::1/64".parse()?);
-    assert!(rt; Ipv6Prefix::from(address) == host);
-    assert!(rt; Ipv6Prefix::from_address(address, 64) == Some(network));
-    assert!(rt; Ipv6Prefix::from_address(address, 129).is_none());
-    assert!(rt; network.address() == address);
     Ok(())
 }
 
