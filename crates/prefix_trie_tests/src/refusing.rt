@@ -35,11 +35,6 @@ impl<B: Allocator> Refusing<B> {
         self.meter.refused.set(refused);
     }
 
-    /// Returns the number of allocations still to pass on before any fails.
-    pub fn to_pass(&self) -> u64 {
-        self.meter.passed.get()
-    }
-
     /// Returns the number of allocations still to fail.
     pub fn left(&self) -> u64 {
         self.meter.refused.get()

@@ -1,13 +1,11 @@
-//! Runs: with each allocation failing, with removals that prune nodes, and with a long list.
+//! Runs: with each allocation failing, and beside a sorted list.
 
 mod callers;
 mod mixed;
-mod mixed_sets;
 
-use crate::cases::lookups::slots_add_up;
-use crate::contents::{put, stores};
+use crate::cases::found::slots_add_up;
+use crate::contents::stores;
 use crate::networks::v4;
-use crate::on_new::on_new;
 use crate::refusing::Refusing;
 use prefix_trie::replay::{Call, Reply, run};
 use prefix_trie::{PrefixMap, Refusal};
@@ -177,114 +175,4 @@ fn a_run_loses_only_calls_whose_allocation_fails(rt: HostRuntime) {
     let heap = Refusing::new(rt.alloc());
     assert!(rt; each_part_is_refused_once(&heap, &heap, 1) == Ok(true));
     assert!(rt; each_part_is_refused_once(&heap, &heap, u64::MAX) == Ok(true));
-}
-
-/// The numbers of nodes after each change of a map.
-///
-/// They are counted after inserting 24 bits, after `remove_keep_tree`, after `remove`, after inserting 8, 16 and 7
-/// bits, after keeping 8 bits and more, after removing the children of the 16 bits, and after removing the 8 bits.
-const NODES_LEFT: [usize; 7] = [5, 5, 1, 5, 4, 2, 1];
-
-/// Runs removals, and counts the nodes after each.
-fn run_removals(
-    alloc: Global,
-    map: &mut Map<Global>,
-) -> Result<Vec<Reply<Key, Global>>, AllocError> {
-    let calls = [
-        Call::Insert(v4!(10, 1, 1, 0; 24), 1),
-        Call::NodeCount,
-        Call::RemoveKeepTree(v4!(10, 1, 1, 255; 24)),
-        Call::NodeCount,
-        Call::Remove(v4!(10, 1, 1, 0; 24)),
-        Call::NodeCount,
-        Call::Insert(v4!(10, 0, 0, 0; 8), 2),
-        Call::Insert(v4!(10, 1, 0, 0; 16), 3),
-        Call::Insert(v4!(192, 0, 0, 0; 7), 4),
-        Call::NodeCount,
-        Call::RetainAtLeast(8),
-        Call::NodeCount,
-        Call::RemoveChildren(v4!(10, 1, 255, 255; 16)),
-        Call::NodeCount,
-        Call::Remove(v4!(10, 255, 255, 255; 8)),
-        Call::NodeCount,
-    ];
-    run(alloc, map, &calls)
-}
-
-/// Returns whether these are the counts among the replies, in order.
-fn has_counts(replies: &[Reply<Key, Global>], wanted: &[usize]) -> bool {
-    let mut index = 0_usize;
-    for reply in replies {
-        if let Reply::Count(count) = reply {
-            if wanted.get(index) != Some(count) {
-                return false;
-            }
-            index = index.wrapping_add(1);
-        }
-    }
-    index == wanted.len()
-}
-
-/// Returns whether removals leave the expected numbers of nodes in an empty map.
-fn leaves_nodes(map: &mut Map<Global>, alloc: Global) -> bool {
-    match run_removals(alloc, map) {
-        Ok(replies) => has_counts(&replies, &NODES_LEFT),
-        Err(AllocError) => false,
-    }
-}
-
-#[test]
-fn removals_leave_the_needed_nodes(rt: HostRuntime) {
-    assert!(rt; on_new(PrefixMap::new(rt.alloc()), rt.alloc(), leaves_nodes) == Ok(true));
-}
-
-/// The number of entries of the long list. It is a prime, so the multiples of a smaller number come in another order.
-const LIST_LEN: u32 = 1_031;
-
-/// Returns the network of 16 bits with this number, and the number as its value.
-fn numbered_entry(number: u32) -> (Key, u64) {
-    ((number << 16, 16), u64::from(number))
-}
-
-/// Inserts all networks, in another order than listing order. Returns whether each is new.
-fn stores_all(map: &mut Map<Global>) -> bool {
-    for step in 0..LIST_LEN {
-        let number = step * 389 % LIST_LEN;
-        if put(map, (number << 16, 16), u64::from(number)) != Ok(None) {
-            return false;
-        }
-    }
-    true
-}
-
-/// Returns whether a list has all networks, in order.
-fn has_all(list: &[(Key, u64)]) -> bool {
-    for (entry, number) in list.iter().zip(0..LIST_LEN) {
-        if *entry != numbered_entry(number) {
-            return false;
-        }
-    }
-    list.len() == LIST_LEN as usize
-}
-
-/// Returns whether the only reply is the list of all networks.
-fn lists_all(replies: &[Reply<Key, Global>]) -> bool {
-    match replies {
-        [Reply::Entries(entries)] => has_all(entries),
-        _ => false,
-    }
-}
-
-/// Returns whether a run lists all networks after they are inserted.
-fn lists_all_stored(map: &mut Map<Global>, alloc: Global) -> bool {
-    let is_stored = stores_all(map);
-    match run(alloc, map, &[Call::List]) {
-        Ok(replies) => is_stored & lists_all(&replies),
-        Err(AllocError) => false,
-    }
-}
-
-#[test]
-fn a_run_lists_more_than_a_thousand_entries(rt: HostRuntime) {
-    assert!(rt; on_new(PrefixMap::new(rt.alloc()), rt.alloc(), lists_all_stored) == Ok(true));
 }

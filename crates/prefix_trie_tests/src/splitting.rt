@@ -1,5 +1,5 @@
 //! Maps and sets that are split: what stays if an allocation fails, and when values are dropped.
-use crate::cases::lookups::{has_cells, pair_of};
+use crate::cases::found::{has_blocks, pair_of};
 use crate::cases::prefix_of;
 use crate::cases::sets::adds_key;
 use crate::contents::adds;
@@ -97,7 +97,7 @@ fn is_part<A: Allocator>(map: &Map<'_, A>) -> bool {
         & (map.node_count() == 5)
         & (map.node_slots() == 5)
         & (map.cell_slots() == 4)
-        & has_cells(map, 4, 1, 0)
+        & has_blocks(&map.cell_blocks(), 4, 1, 0)
 }
 
 /// Splits a map of the six networks along the second.

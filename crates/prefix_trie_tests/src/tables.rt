@@ -7,17 +7,16 @@ mod growth;
 mod lookups;
 mod removals;
 mod shrinking;
-mod walks;
 
 use crate::trials::{FaultPlan, Table, run_all};
+use std::test::Fail;
 
 /// The tables that run with each allocation failing. Checking a static list costs a third of checking a constant one.
-static EACH_REQUEST: [&[Table<'static, u32>]; 10] = [
+static EACH_REQUEST: [&[Table<'static, u32>]; 9] = [
     &growth::NEW_MAPS,
     &growth::GROWTHS,
     &growth::LIMITS,
     &lookups::ONE_NETWORK,
-    &walks::ROUTES,
     &entries::VACANT,
     &copies::INDEPENDENT,
     &removals::OFF_THE_PATH,
@@ -34,17 +33,11 @@ static NO_REQUESTS: [&[Table<'static, u32>]; 4] = [
 ];
 
 #[test]
-fn tables_hold_with_each_allocation_failing(rt: HostRuntime) {
-    assert_eq!(rt;
-        run_all(rt.alloc(), &EACH_REQUEST, FaultPlan::EachRequest),
-        Ok(())
-    );
+fn tables_hold_with_each_allocation_failing(rt: HostRuntime) -> Result<(), Fail> {
+    Ok(run_all(rt.alloc(), &EACH_REQUEST, FaultPlan::EachRequest)?)
 }
 
 #[test]
-fn tables_hold_without_allocating(rt: HostRuntime) {
-    assert_eq!(rt;
-        run_all(rt.alloc(), &NO_REQUESTS, FaultPlan::NoRequests),
-        Ok(())
-    );
+fn tables_hold_without_allocating(rt: HostRuntime) -> Result<(), Fail> {
+    Ok(run_all(rt.alloc(), &NO_REQUESTS, FaultPlan::NoRequests)?)
 }

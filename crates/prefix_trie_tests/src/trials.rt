@@ -1,4 +1,4 @@
-//! Runs tables of cases on maps and on sets, with each allocation failing or with all failing.
+//! Runs tables of cases on maps and on sets, with each allocation failing, or with all failing where none may be made.
 use crate::cases::Case;
 use crate::cases::under_test::{UnderTest, first_failure};
 use crate::refusing::Refusing;
@@ -16,14 +16,12 @@ pub type Table<'a, K> = (&'a [Case<'a, K>], &'a [Case<'a, K>]);
 pub enum FaultPlan {
     /// Each one, alone and with all later ones.
     EachRequest,
-    /// All of them.
-    AllRequests,
     /// All of them, and the second part must not allocate. Before that, each allocation of the first part fails.
     NoRequests,
 }
 
 /// Where a table fails.
-#[derive(Clone, Copy, PartialEq, Eq, Debug)]
+#[derive(Debug, Drop)]
 pub enum Failure {
     /// At this case of the first part.
     FirstPart(usize),
@@ -141,38 +139,19 @@ fn run_plan<K: Key, A: Allocator + Copy, M: UnderTest<K, A>>(
 ) -> Result<(), Failure> {
     match plan {
         FaultPlan::EachRequest => fail_each::<K, A, M>(heap, alloc, table),
-        FaultPlan::AllRequests => run_anew::<K, A, M>(heap, alloc, table, (0, u64::MAX)),
         FaultPlan::NoRequests => fail_if_requested::<K, A, M>(heap, alloc, table),
     }
 }
 
-/// Runs a table on maps that use this allocator.
-fn run_on_maps<P: Prefix + Copy + PartialEq, A: Allocator + Copy>(
+/// Runs a table on maps and on sets that use this allocator.
+fn run_on_both<P: Prefix + Copy + PartialEq, A: Allocator + Copy>(
     heap: &Refusing<Global>,
     alloc: A,
     table: &Table<'_, P::R>,
     plan: FaultPlan,
 ) -> Result<(), Failure> {
-    run_plan::<P::R, A, PrefixMap<P, u64, A>>(heap, alloc, table, plan)
-}
-
-/// Runs a table on sets that use this allocator.
-fn run_on_sets<P: Prefix + Copy + PartialEq, A: Allocator + Copy>(
-    heap: &Refusing<Global>,
-    alloc: A,
-    table: &Table<'_, P::R>,
-    plan: FaultPlan,
-) -> Result<(), Failure> {
+    run_plan::<P::R, A, PrefixMap<P, u64, A>>(heap, alloc, table, plan)?;
     run_plan::<P::R, A, PrefixSet<P, A>>(heap, alloc, table, plan)
-}
-
-/// Runs a table on maps.
-pub fn on_maps<P: Prefix + Copy + PartialEq>(
-    heap: &Refusing<Global>,
-    table: &Table<'_, P::R>,
-    plan: FaultPlan,
-) -> Result<(), Failure> {
-    run_on_maps::<P, &Refusing<Global>>(heap, heap, table, plan)
 }
 
 /// Runs a table on maps and on sets.
@@ -181,8 +160,7 @@ pub fn on_both<P: Prefix + Copy + PartialEq>(
     table: &Table<'_, P::R>,
     plan: FaultPlan,
 ) -> Result<(), Failure> {
-    on_maps::<P>(heap, table, plan)?;
-    run_on_sets::<P, &Refusing<Global>>(heap, heap, table, plan)
+    run_on_both::<P, &Refusing<Global>>(heap, heap, table, plan)
 }
 
 /// Runs tables on maps and on sets, with networks and with pairs as prefixes.

@@ -1,17 +1,12 @@
 //! Cases as calls of a map.
-use crate::cases::entries::{InsertVia, changes_entry, insert_via, is_vacant, removes_entry};
-use crate::cases::lookups::{finds, has_cells, has_nodes, slots_add_up, was_refused};
-use crate::cases::under_test::{InsertResult, Shrinking, State, UnderTest};
-use crate::cases::walks::{
-    covers, entries_of, gives, gives_before_and_after_next, gives_from, gives_same, lends_from,
-};
-use crate::cases::writes::{writes, writes_longest};
-use crate::cases::{Case, Entry, Pair, prefix_of};
-use crate::examples::expiry::keep_from;
-use crate::refusing::Refusing;
+use crate::cases::entries::{InsertVia, insert_via, removes_entry};
+use crate::cases::found::{as_entry, gives, has_blocks, slots_add_up};
+use crate::cases::under_test::{Shrinking, UnderTest, is_result, replaces};
+use crate::cases::{Case, Entry, prefix_of};
 use crate::retain::retain_long;
 use prefix_trie::{Prefix, PrefixMap, Refusal};
-use std::alloc::{AllocError, Allocator, Global};
+use std::alloc::Allocator;
+use std::mem;
 
 impl<P: Prefix + Copy + PartialEq, A: Allocator + Copy> UnderTest<P::R, A>
     for PrefixMap<P, u64, A> {
@@ -22,97 +17,75 @@ impl<P: Prefix + Copy + PartialEq, A: Allocator + Copy> UnderTest<P::R, A>
         }
     }
 
-    fn copy(&self) -> Result<Self, AllocError> {
-        self.clone()
-    }
-
-    fn split_off(&mut self, at: Pair<P::R>) -> Option<Self> {
-        self.remove_children(&prefix_of(at)).ok()
-    }
-
-    fn shrink(&mut self, call: Shrinking) -> Result<(), Refusal> {
-        match call {
-            Shrinking::Compact => self.compact(),
-            Shrinking::ShrinkToFit => self.shrink_to_fit().map_err(|_| Refusal::Memory),
+    fn makes(
+        &mut self,
+        other: &mut Self,
+        alloc: A,
+        case: &Case<'_, P::R>,
+    ) -> Result<bool, Refusal> {
+        match case {
+            Case::StartsAnew(limit) => replaces(self, Self::create(alloc, *limit)),
+            Case::Copies => replaces(other, self.clone()),
+            Case::AreSame => Ok(are_same(self, other)),
+            Case::Swaps => {
+                mem::swap(self, other);
+                Ok(true)
+            }
+            _ => may_fail(self, case),
         }
-    }
-
-    fn store(&mut self, call: InsertVia, at: Pair<P::R>, value: u64) -> InsertResult {
-        insert_via(self, call, at, value)
-    }
-
-    fn stored_value(value: u64) -> u64 {
-        value
-    }
-
-    fn state(&self, alloc: Global) -> Result<State<P::R>, AllocError> {
-        Ok((entries_of(alloc, self)?, self.node_count()))
-    }
-
-    fn has_state(&self, state: &State<P::R>) -> bool {
-        gives(self.iter(), &state.0)
-            & (self.len() == state.0.len())
-            & (self.node_count() == state.1)
-            & slots_add_up(self)
-    }
-
-    fn is_same(&self, other: &Self) -> bool {
-        (*self == *other)
-            & gives_same(self.iter(), other.iter())
-            & (self.node_count() == other.node_count())
-            & (self.node_blocks() == other.node_blocks())
-            & (self.cell_blocks() == other.cell_blocks())
     }
 
     fn slots_add_up(&self) -> bool {
         slots_add_up(self)
     }
+}
 
-    fn check_call(&mut self, heap: &Refusing<Global>, case: &Case<'_, P::R>) -> bool {
-        match case {
-            Case::Removes(at, before) => self.remove(&prefix_of(*at)) == *before,
-            Case::RemovesKeepTree(at, before) => self.remove_keep_tree(&prefix_of(*at)) == *before,
-            Case::DropsChildren(_) | Case::RetainsFrom(_) | Case::RetainsLong(_) | Case::Clears =>
-                is_reduced(self, case),
-            Case::Writes(..)
-            | Case::WritesLongest(..)
-            | Case::LeavesVacant(_)
-            | Case::RemovesEntry(..)
-            | Case::ChangesEntry(..) => is_written(self, case),
-            Case::Finds(at, exact, longest, shortest) => {
-                finds(heap.inner(), self, *at, *exact, *longest, *shortest)
-            }
-            Case::Lists(entries) => lists(self, entries),
-            Case::ListsFrom(at, entries) => {
-                gives_from(self, *at, entries) & lends_from(self, *at, entries)
-            }
-            Case::Covers(at, entries) => covers(self, *at, entries),
-            Case::Len(len) => (self.len(), self.is_empty()) == (*len, *len == 0),
-            Case::AddressCount(count) => self.address_count() == *count,
-            Case::NodeCount(nodes) => self.node_count() == *nodes,
-            Case::Slots(..) | Case::NodeBlocks(..) | Case::CellBlocks(..) => {
-                was_refused(heap) || is_stored_in(self, case)
-            }
-            // `under_test` makes these calls itself.
-            Case::StartsAnew(_) | Case::Copies | Case::AreSame | Case::Swaps => false,
-            Case::Inserts(..) | Case::ExceedsLimit(..) | Case::InsertsVia(..) => false,
-            Case::Shrinks(_) => false,
+/// Returns whether two maps have the same entries, nodes and blocks.
+fn are_same<P: Prefix + PartialEq, A: Allocator>(
+    map: &PrefixMap<P, u64, A>,
+    other: &PrefixMap<P, u64, A>,
+) -> bool {
+    (*map == *other)
+        & (map.node_count() == other.node_count())
+        & (map.node_blocks() == other.node_blocks())
+        & (map.cell_blocks() == other.cell_blocks())
+}
+
+/// Makes a call that needs no second map and may fail. Any other call is passed on.
+fn may_fail<P: Prefix + Copy, A: Allocator + Copy>(
+    map: &mut PrefixMap<P, u64, A>,
+    case: &Case<'_, P::R>,
+) -> Result<bool, Refusal> {
+    match case {
+        Case::Inserts(at, value, before) => {
+            is_result(insert_via(map, InsertVia::Map, *at, *value), Ok(*before))
         }
+        Case::InsertsVia(call, at, value, before) => {
+            is_result(insert_via(map, *call, *at, *value), Ok(*before))
+        }
+        Case::ExceedsLimit(at, value) => is_result(
+            insert_via(map, InsertVia::Map, *at, *value),
+            Err(Refusal::IndexRange),
+        ),
+        Case::Shrinks(Shrinking::Compact) => is_result(map.compact(), Ok(())),
+        Case::Shrinks(Shrinking::ShrinkToFit) => {
+            is_result(map.shrink_to_fit().map_err(|_| Refusal::Memory), Ok(()))
+        }
+        _ => Ok(changes(map, case)),
     }
 }
 
-/// Makes the call of a case that removes all children of a prefix, all entries that a test rejects, or all entries.
-fn is_reduced<P: Prefix, A: Allocator>(
+/// Makes a call that cannot fail. Returns whether the result is that of a case.
+fn changes<P: Prefix + Copy, A: Allocator>(
     map: &mut PrefixMap<P, u64, A>,
     case: &Case<'_, P::R>,
 ) -> bool {
     match case {
+        Case::Removes(at, before) => map.remove(&prefix_of(*at)) == *before,
+        Case::RemovesKeepTree(at, before) => map.remove_keep_tree(&prefix_of(*at)) == *before,
+        Case::RemovesEntry(at, before) => removes_entry(map, *at, *before),
         Case::DropsChildren(at) => {
             map.drop_children(&prefix_of(*at));
-            true
-        }
-        Case::RetainsFrom(least) => {
-            keep_from(map, *least);
             true
         }
         Case::RetainsLong(len) => {
@@ -121,48 +94,46 @@ fn is_reduced<P: Prefix, A: Allocator>(
         }
         Case::Clears => {
             map.clear();
-            map.is_empty()
+            true
+        }
+        _ => is_as(map, case),
+    }
+}
+
+/// Returns whether a call that changes nothing has the result of a case.
+fn is_as<P: Prefix + Copy, A: Allocator>(
+    map: &PrefixMap<P, u64, A>,
+    case: &Case<'_, P::R>,
+) -> bool {
+    match case {
+        Case::Finds(at, exact, longest, shortest) => {
+            finds(map, &prefix_of(*at), *exact, *longest, *shortest)
+        }
+        Case::Lists(entries) => gives(map.iter(), entries),
+        Case::Len(len) => (map.len(), map.is_empty()) == (*len, *len == 0),
+        Case::NodeCount(nodes) => map.node_count() == *nodes,
+        Case::Slots(nodes, cells) => (map.node_slots(), map.cell_slots()) == (*nodes, *cells),
+        Case::NodeBlocks(size, used, free) => {
+            has_blocks(&map.node_blocks(), *size, *used, *free)
+        }
+        Case::CellBlocks(size, used, free) => {
+            has_blocks(&map.cell_blocks(), *size, *used, *free)
         }
         _ => false,
     }
 }
 
-/// Returns whether the call of a case that writes a value or removes an entry returns what it should.
-fn is_written<P: Prefix + Copy, A: Allocator>(
-    map: &mut PrefixMap<P, u64, A>,
-    case: &Case<'_, P::R>,
-) -> bool {
-    match case {
-        Case::Writes(at, value, before) => writes(map, *at, *value, *before),
-        Case::WritesLongest(at, value, before) => writes_longest(map, *at, *value, *before),
-        Case::LeavesVacant(at) => is_vacant(map, *at),
-        Case::RemovesEntry(at, before) => removes_entry(map, *at, *before),
-        Case::ChangesEntry(at, value, before) => changes_entry(map, *at, *value, *before),
-        _ => false,
-    }
-}
-
-/// Returns whether all walks return these entries.
-fn lists<P: Prefix + Copy, A: Allocator>(
+/// Returns whether the lookups of a prefix find these entries.
+fn finds<P: Prefix + Copy, A: Allocator>(
     map: &PrefixMap<P, u64, A>,
-    entries: &[Entry<P::R>],
-) -> bool {
-    (map.len() == entries.len())
-        & gives(map.into_iter(), entries)
-        & gives_before_and_after_next(map.iter(), map.keys(), map.values(), entries)
-}
-
-/// Returns whether the slots or blocks of a map are those of a case.
-///
-/// After a failed allocation this is not checked, because a removal may keep its larger block.
-fn is_stored_in<P: Prefix, A: Allocator>(
-    map: &PrefixMap<P, u64, A>,
-    case: &Case<'_, P::R>,
-) -> bool {
-    match case {
-        Case::Slots(nodes, cells) => (map.node_slots(), map.cell_slots()) == (*nodes, *cells),
-        Case::NodeBlocks(size, used, free) => has_nodes(map, *size, *used, *free),
-        Case::CellBlocks(size, used, free) => has_cells(map, *size, *used, *free),
-        _ => false,
-    }
+    prefix: &P,
+    exact: Option<Entry<P::R>>,
+    longest: Option<Entry<P::R>>,
+    shortest: Option<Entry<P::R>>,
+) -> bool
+    requires { P.IsFitting prefix.now }
+{
+    (as_entry(map.get_key_value(prefix)) == exact)
+        & (as_entry(map.get_lpm(prefix)) == longest)
+        & (as_entry(map.get_spm(prefix)) == shortest)
 }

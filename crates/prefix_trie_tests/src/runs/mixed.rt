@@ -2,7 +2,7 @@
 ghost use Rattle.std.specs.Prelude.{◌≤◌, All, IfOk};
 ghost use Rattle.prefix_trie.specs.Terms.{IsFittingCall};
 
-use crate::cases::lookups::slots_add_up;
+use crate::cases::found::slots_add_up;
 use crate::cases::{Pair, prefix_of};
 use crate::on_new::on_new;
 use prefix_trie::replay::{Call, Reply, run};

@@ -1,7 +1,5 @@
 //! Clones of a map.
-use crate::cases::Case::{
-    AddressCount, AreSame, Clears, Copies, Finds, Inserts, Lists, NodeCount, Removes, Swaps,
-};
+use crate::cases::Case::{AreSame, Clears, Copies, Inserts, Lists, NodeCount, Removes, Swaps};
 use crate::cases::Entry;
 use crate::networks::v4;
 use crate::trials::Table;
@@ -22,23 +20,11 @@ pub const INDEPENDENT: [Table<'static, u32>; 1] = [(
         Swaps,
         NodeCount(4),
         Lists(&TWO_NETWORKS),
-        Finds(
-            v4!(10, 2, 0, 0; 32),
-            None,
-            Some((v4!(10, 0, 0, 0; 8), 8)),
-            Some((v4!(10, 0, 0, 0; 8), 8)),
-        ),
         Inserts(v4!(10, 1, 0, 0; 16), 1, Some(16)),
         Removes(v4!(10, 0, 0, 0; 8), Some(8)),
         Swaps,
         NodeCount(4),
         Lists(&TWO_NETWORKS),
-        Finds(
-            v4!(10, 2, 0, 0; 32),
-            None,
-            Some((v4!(10, 0, 0, 0; 8), 8)),
-            Some((v4!(10, 0, 0, 0; 8), 8)),
-        ),
         Clears,
         Swaps,
         Lists(&[(v4!(10, 1, 0, 0; 16), 1)]),
@@ -57,9 +43,7 @@ pub const INTO_FREE_BLOCKS: [Table<'static, u32>; 1] = [(
     ],
     &[
         Inserts(v4!(192, 168, 1, 0; 24), 1, None),
-        AddressCount(Some(0x0100_0100)),
         Removes(v4!(192, 168, 1, 0; 24), Some(1)),
-        AddressCount(Some(0x0100_0000)),
         Lists(&TWO_NETWORKS),
         AreSame,
         Swaps,
