@@ -5,14 +5,11 @@ ghost use Rattle.prefix_trie.specs.Terms.{listing, needed, IsTidy};
 ghost use Rattle.prefix_trie_bits.specs.Laws.Slots.{MakesSlots};
 ghost use Rattle.prefix_trie_map.specs.Steps.{storage};
 
-use crate::contents::{has_keys, stores};
 use crate::examples::expiry::keep_from;
-use crate::examples::merge::merge;
-use crate::on_new::{on_new, on_two_new};
 use prefix_trie::{Prefix, PrefixMap};
 use prefix_trie_bits::laws::slot_laws;
 use prefix_trie_map::laws::copy_laws;
-use std::alloc::{AllocError, Allocator, Global};
+use std::alloc::{AllocError, Allocator};
 
 // Keeps the entries whose prefixes another map also stores.
 fn keep_common<P: Prefix, A: Allocator>(
@@ -128,66 +125,4 @@ fn tidy_copy<P: Prefix, T: Clone, A: Allocator + Clone>(
 {
     copy_laws::<T>();
     map.clone()
-}
-
-type Numbers = PrefixMap<(u16, u8), u64, Global>;
-
-/// Two numbers, one of them less than ten.
-const TWO: [((u16, u8), u64); 2] = [((0x0a00, 8), 9), ((0x0a0b, 16), 10)];
-
-/// Merges one map into the other. Returns whether keeping the common keys leaves exactly the two entries of the first.
-fn has_common(to: &mut Numbers, from: &Numbers) -> bool {
-    let is_put = stores(to, &[((0x0b00, 8), 1)]) & merge(to, from).is_ok();
-    let len = to.len();
-    keep_common(to, from);
-    is_put & (len == 3) & has_keys(to, &[(0x0a00, 8), (0x0a0b, 16)])
-}
-
-/// Fills the other map with the two entries, and then does the same.
-fn has_common_with_two(to: &mut Numbers, from: &mut Numbers, _alloc: Global) -> bool {
-    stores(from, &TWO) & has_common(to, from)
-}
-
-#[test]
-fn keeping_common_keys_intersects_two_maps(rt: HostRuntime) {
-    assert!(rt;
-        on_two_new(
-            PrefixMap::new(rt.alloc()),
-            PrefixMap::new(rt.alloc()),
-            rt.alloc(),
-            has_common_with_two
-        ) == Ok(true)
-    );
-}
-
-/// Returns whether a used map has exactly the needed nodes, and keeps them when a key is inserted and removed.
-fn has_needed_nodes(map: &mut Numbers) -> bool {
-    let nodes = use_retained(map, 10, (0x0a0b, 11), &(0x0a0b, 16));
-    if map.contains_key(&(0xffff, 16)) {
-        return false;
-    }
-    insert_and_remove_again(map, (0xffff, 16), 1, &(0xffff, 16));
-    (nodes, map.node_count()) == (3, 3)
-}
-
-/// Returns whether a map that is cleared and used again, and its clone, have exactly the needed nodes.
-fn has_tidy_copy(map: &mut Numbers) -> bool {
-    let nodes = use_emptied(map, (0x0a0b, 16), 1, &(0x0a0b, 8));
-    match tidy_copy(map) {
-        Ok(copy) => (nodes, copy.node_count()) == (4, 4),
-        Err(AllocError) => false,
-    }
-}
-
-/// Returns whether both checks hold for a map of two numbers, with an insertion between them.
-fn stays_tidy(map: &mut Numbers, _alloc: Global) -> bool {
-    stores(map, &TWO)
-        & has_needed_nodes(map)
-        & insert_within_bound(map, (0x0a0b, 16), 12)
-        & has_tidy_copy(map)
-}
-
-#[test]
-fn a_used_map_has_exactly_the_needed_nodes(rt: HostRuntime) {
-    assert!(rt; on_new(PrefixMap::new(rt.alloc()), rt.alloc(), stays_tidy) == Ok(true));
 }

@@ -1,5 +1,4 @@
-//! Maps that are collected from an iterator, and maps that are compared: what callers learn, and what is dropped if an
-//! allocation fails.
+//! Maps that are collected from an iterator: what callers learn, and what is dropped if an allocation fails.
 ghost use Rattle.std.specs.Prelude.{◌≡◌, All, IfOk, IsTrue};
 ghost use Rattle.prefix_trie.specs.Terms.{listing, no_entries, put_all, prefix_pairs, IsTidy};
 
@@ -103,32 +102,4 @@ fn from_iter_fails_exactly_if_an_allocation_fails(rt: HostRuntime) {
     let heap = Refusing::new(rt.alloc());
     assert!(rt; requests_if_each_fails(&heap, 1).unwrap_or(0) > 0);
     assert!(rt; requests_if_each_fails(&heap, u64::MAX).unwrap_or(0) > 0);
-}
-
-/// Returns whether a map of one entry is equal to its clone.
-fn one_entry_equals_its_copy(alloc: Global) -> Result<bool, Refusal> {
-    let Ok(pairs) = vec![in alloc; ((0_u8, 1_u8), 1_u64)] else {
-        return Err(Refusal::Memory);
-    };
-    let map = map_of_pairs(alloc, pairs)?;
-    Ok(equals_its_copy(&map) == Ok(true))
-}
-
-#[test]
-fn a_map_is_equal_to_its_copy(rt: HostRuntime) {
-    assert!(rt; one_entry_equals_its_copy(rt.alloc()) == Ok(true));
-}
-
-/// Collects two items with one key. Returns the number of entries, and the value.
-fn later_of_two(alloc: Global) -> Result<(usize, Option<u64>), Refusal> {
-    let Ok(pairs) = vec![in alloc; ((0_u32, 1_u8), 1_u64), ((0, 1), 2)] else {
-        return Err(Refusal::Memory);
-    };
-    let map = map_of_pairs(alloc, pairs)?;
-    Ok((map.len(), map.get(&(0, 1)).copied()))
-}
-
-#[test]
-fn the_later_of_two_items_wins(rt: HostRuntime) {
-    assert!(rt; later_of_two(rt.alloc()) == Ok((1, Some(2))));
 }

@@ -56,17 +56,3 @@ pub fn has_keys<P: Prefix + Copy + PartialEq, T: Drop, A: Allocator>(
     }
     keys.next().is_none()
 }
-
-/// Returns whether these are all values, in listing order.
-pub fn has_values<P: Prefix, T: Copy + PartialEq + Drop, A: Allocator>(
-    map: &PrefixMap<P, T, A>,
-    expected: &[T],
-) -> bool {
-    let mut values = map.values();
-    for value in expected {
-        if values.next() != Some(value) {
-            return false;
-        }
-    }
-    values.next().is_none()
-}

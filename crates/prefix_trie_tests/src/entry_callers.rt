@@ -4,12 +4,9 @@ ghost use Rattle.std.specs.FinMap.{get, contains_key, len};
 ghost use Rattle.prefix_trie.specs.Terms.{listing, put_all, prefix_pairs, with_entry, with_needed, with_value_at, without_entry};
 ghost use Rattle.prefix_trie_bits.specs.Model.Space.{LeavesSpace};
 
-use crate::contents::{has_values, stores};
-use crate::examples::counter::count;
-use crate::on_new::{on_new, on_two_new};
 use prefix_trie::map::Entry;
 use prefix_trie::{Prefix, PrefixMap, Refusal, Refused};
-use std::alloc::{Allocator, Global};
+use std::alloc::Allocator;
 
 // Sets a value to nine, whether the prefix is new or not.
 fn store_nine<P: Prefix, A: Allocator>(
@@ -156,76 +153,4 @@ fn fill_from<P: Prefix, A: Allocator>(
         to.entry(prefix).put(*value).answer()?;
     }
     Ok(())
-}
-
-/// Returns whether a stored value is replaced.
-fn writes_stored(map: &mut PrefixMap<(u8, u8), u64, Global>) -> bool {
-    if !map.contains_key(&(0xa5, 8)) {
-        return false;
-    }
-    write_stored(map, (0xa5, 8), 6);
-    map.get(&(0xa5, 8)) == Some(&6)
-}
-
-/// Returns whether the entry of a missing prefix lends no value.
-fn lends_none(map: &mut PrefixMap<(u8, u8), u64, Global>) -> bool {
-    let mut entry = map.entry((0xc0, 3));
-    entry.get_mut().is_none()
-}
-
-/// Returns whether a stored count grows by one and a missing one stays missing.
-///
-/// Looking at a vacant entry changes nothing.
-fn counts_once_more(map: &mut PrefixMap<(u8, u8), u64, Global>) -> bool {
-    count_again(map, (0xa0, 3));
-    count_again(map, (0xc0, 3));
-    lends_none(map)
-        & (read_and_release(map, (0xa0, 3)) == Some(4))
-        & read_and_release(map, (0xc0, 3)).is_none()
-}
-
-/// Returns whether counting and setting return what they should.
-fn counts(map: &mut PrefixMap<(u8, u8), u64, Global>) -> bool {
-    count(map, (0xa5, 8)).is_ok()
-        & count(map, (0xa5, 8)).is_ok()
-        & writes_stored(map)
-        & rewrite(map, (0xa5, 8), 7)
-        & (swap(map, (0xa5, 8), 8) == Some(7))
-        & store_nine(map, (0xa0, 3)).is_ok()
-        & (set(map, (0xbf, 3), 3) == Ok(Some(9)))
-        & counts_once_more(map)
-}
-
-/// Returns whether one of the two entries is removed, and only once.
-fn removes_one(map: &mut PrefixMap<(u8, u8), u64, Global>) -> bool {
-    has_values(map, &[4, 8])
-        & (remove_if_stored(map, (0xa5, 8)) == Some(8))
-        & remove_if_stored(map, (0xa5, 8)).is_none()
-        & (map.len() == 1)
-}
-
-/// Returns whether both checks hold.
-fn counts_and_removes(map: &mut PrefixMap<(u8, u8), u64, Global>, _: ()) -> bool {
-    counts(map) & removes_one(map)
-}
-
-#[test]
-fn entries_count_and_remove(rt: HostRuntime) {
-    assert!(rt; on_new(PrefixMap::new(rt.alloc()), (), counts_and_removes) == Ok(true));
-}
-
-type Numbers = PrefixMap<(u16, u8), u64, Global>;
-
-/// Returns whether a number of one map replaces the number in another.
-fn replaces_stored(from: &mut Numbers, to: &mut Numbers, _: ()) -> bool {
-    stores(from, &[((0x0a00, 8), 9)])
-        & stores(to, &[((0x0a00, 8), 1)])
-        & fill_from(to, from).is_ok()
-        & has_values(to, &[9])
-}
-
-#[test]
-fn entries_of_another_map_are_inserted(rt: HostRuntime) {
-    let (from, to) = (PrefixMap::new(rt.alloc()), PrefixMap::new(rt.alloc()));
-    assert!(rt; on_two_new(from, to, (), replaces_stored) == Ok(true));
 }

@@ -5,10 +5,9 @@ ghost use Rattle.prefix_trie.specs.Terms.{longest_match, needed, replies_of, pre
 ghost use Rattle.prefix_trie_map.specs.Steps.{state};
 ghost use Rattle.prefix_trie_bits.specs.Model.Step.{Match, Done, Count, Reply as Answer};
 
-use crate::on_new::on_new;
 use prefix_trie::replay::{Call, Reads, Reply, run, run_counted};
 use prefix_trie::{Key, Prefix, PrefixMap, Refusal};
-use std::alloc::{AllocError, Allocator, Global};
+use std::alloc::{AllocError, Allocator};
 
 type Pair = (u16, u8);
 
@@ -63,47 +62,4 @@ fn nodes_of_new<A: Allocator + Clone>(
         Ok(replies) => Ok((map, replies)),
         Err(AllocError) => Err(Refusal::Memory),
     }
-}
-
-/// Returns whether the last reply is this number of nodes.
-fn ends_in(replies: &[Reply<Pair, Global>], nodes: usize) -> bool {
-    match replies.last() {
-        Some(Reply::Count(count)) => *count == nodes,
-        _ => false,
-    }
-}
-
-/// Returns whether a map that is cleared and gets a key of eight bits has two nodes.
-fn has_two(map: &mut Numbers<Global>, alloc: Global) -> bool {
-    match nodes_once_cleared(alloc, map, (0x0a00, 8)) {
-        Ok(replies) => ends_in(&replies, 2),
-        Err(AllocError) => false,
-    }
-}
-
-/// Returns whether one match is found.
-fn finds_one(map: &mut Numbers<Global>, alloc: Global) -> bool {
-    match longest_of(alloc, map, (0x0a0b, 16)) {
-        Ok(found) => found.0.len() == 1,
-        Err(AllocError) => false,
-    }
-}
-
-/// Returns whether both checks hold.
-fn is_counted(map: &mut Numbers<Global>, alloc: Global) -> bool {
-    has_two(map, alloc) & finds_one(map, alloc)
-}
-
-/// Returns whether a new map with a key of eight bits has two nodes.
-fn has_two_anew(alloc: Global) -> bool {
-    match nodes_of_new(alloc, alloc, (0x0a00, 8)) {
-        Ok(made) => ends_in(&made.1, 2),
-        Err(_) => false,
-    }
-}
-
-#[test]
-fn runs_return_counts_and_matches(rt: HostRuntime) {
-    assert!(rt; has_two_anew(rt.alloc()));
-    assert!(rt; on_new(PrefixMap::new(rt.alloc()), rt.alloc(), is_counted) == Ok(true));
 }

@@ -4,12 +4,10 @@ ghost use Rattle.std.specs.FinMap.{len};
 ghost use Rattle.std.specs.List.{list_all};
 ghost use Rattle.prefix_trie.specs.Terms.{listing, prefix_pairs};
 
-use crate::contents::stores;
-use crate::on_new::on_new;
 use prefix_trie::map::Iter;
 use prefix_trie::{Prefix, PrefixMap};
 use prefix_trie_map::laws::resume_laws;
-use std::alloc::{AllocError, Allocator, Global};
+use std::alloc::{AllocError, Allocator};
 
 // Returns the number of entries that a walk and its clone yield.
 fn count_twice<P: Prefix, T: Drop, A: Allocator>(m: &PrefixMap<P, T, A>) -> (usize, usize)
@@ -61,59 +59,4 @@ fn resume<'m, P: Prefix, T: Drop, A: Allocator>(
         return None;
     };
     Some(m.iter_from(&last, false))
-}
-
-type Numbers = PrefixMap<(u8, u8), u32, Global>;
-
-/// Four numbers, two of them within a key of three bits.
-const FOUR: [((u8, u8), u32); 4] = [
-    ((0xa5, 8), 6),
-    ((0xbf, 3), 4),
-    ((0xff, 1), 3),
-    ((0xa3, 7), 5),
-];
-
-/// Returns whether all prefixes come in listing order.
-fn lists_four(map: &Numbers, alloc: Global) -> bool {
-    match all_keys(alloc, map) {
-        Ok(keys) => keys.as_slice() == [(0x80, 1), (0xa0, 3), (0xa2, 7), (0xa5, 8)].as_slice(),
-        Err(AllocError) => false,
-    }
-}
-
-/// Returns whether a walk yields these values.
-fn gives(mut walk: Iter<'_, (u8, u8), u32, Global>, values: &[u32]) -> bool {
-    for expected in values {
-        match walk.next() {
-            Some((_, value)) if value == expected => {}
-            _ => return false,
-        }
-    }
-    walk.next().is_none()
-}
-
-/// Returns whether a walk that resumes after the first of four entries yields the rest.
-fn goes_on(map: &Numbers) -> bool {
-    match resume(map, map.iter()) {
-        Some(walk) => gives(walk, &[4, 5, 6]),
-        None => false,
-    }
-}
-
-/// Returns whether the callers above return what they should for the four numbers.
-fn has_four(map: &mut Numbers, alloc: Global) -> bool {
-    let answers = [
-        stores(map, &FOUR),
-        count_twice(map) == (4, 4),
-        none_below(map, 3),
-        !none_below(map, 4),
-        lists_four(map, alloc),
-        goes_on(map),
-    ];
-    answers == [true; 6]
-}
-
-#[test]
-fn four_are_counted_and_listed(rt: HostRuntime) {
-    assert!(rt; on_new(PrefixMap::new(rt.alloc()), rt.alloc(), has_four) == Ok(true));
 }
