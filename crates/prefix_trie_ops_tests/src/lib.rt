@@ -2,11 +2,7 @@
 #![tactic(auto)]
 
 #[cfg(test)]
-mod aggregation;
-#[cfg(test)]
 mod examples;
-#[cfg(test)]
-mod ops;
 #[cfg(test)]
 mod refusals;
 #[cfg(test)]

@@ -114,10 +114,8 @@ fn long_text(before: &str, middle: u8, after: &str, alloc: Global) -> Result<Vec
 fn a_long_value_is_kept(rt: HostRuntime) -> Result<(), Fail> {
     let text = long_text("10.0.0.0/8 a\n::/0 ", b'x', "\n10.0.0.0/8 b\n", rt.alloc())?;
     let printed = reading(text.as_slice(), rt.alloc())?;
-    assert_eq!(rt;
-        printed.len(),
-        10_000_000 + "10.0.0.0/8 b\n::/0 \nline 3: 10.0.0.0/8\n".len()
-    );
+    let rest = "10.0.0.0/8 b\n::/0 \nline 3: 10.0.0.0/8\n";
+    assert!(rt; printed.len() == 10_000_000 + rest.len());
     Ok(())
 }
 
@@ -125,10 +123,7 @@ fn a_long_value_is_kept(rt: HostRuntime) -> Result<(), Fail> {
 fn a_long_line_is_refused(rt: HostRuntime) -> Result<(), Fail> {
     let text = long_text("10.0.0.0/8 a\n", b'1', "\n", rt.alloc())?;
     let printed = reading(text.as_slice(), rt.alloc())?;
-    assert_eq!(rt;
-        printed.as_str(),
-        "line 2: missing slash between address and length"
-    );
+    assert!(rt; printed.as_str() == "line 2: missing slash between address and length");
     Ok(())
 }
 
