@@ -1,20 +1,22 @@
 //! Tables: calls of a map with the expected results, and what makes these calls.
-ghost use Rattle.std.specs.Prelude.{IfSome};
-
+mod blocks;
 mod comparing;
 mod consuming;
 mod entries;
+mod lookups;
 pub mod narrow;
 mod numbers;
+mod prefixes;
 pub mod sets;
 mod splitting;
 mod texts;
 mod walks;
 mod writing;
 
-use numbers::key_of;
+use blocks::{CELL_SIZES, NODE_SIZES, has_blocks};
 pub use numbers::{Number, is_number};
-use prefix_trie::{BlockCount, Ipv4Prefix, Ipv6Prefix, Key, Prefix, PrefixMap, Refusal, Refused};
+use prefix_trie::{Prefix, PrefixMap, Refusal, Refused};
+pub use prefixes::{TablePrefix, fitting_prefix, is_prefix};
 use std::alloc::Global;
 
 /// The map of a table, from prefixes to numbers.
@@ -113,46 +115,6 @@ pub enum Line {
     Contains(Pair, Pair, bool),
 }
 
-/// A prefix type whose prefixes tables write as a number and a length.
-pub trait TablePrefix: Prefix + PartialEq {
-    /// Returns the prefix with this number and length, if there is one.
-    fn of(number: Number, len: u8) -> Option<Self>;
-}
-
-/// There is a pair for each key. It need not fit.
-impl<R: Key> TablePrefix for (R, u8) {
-    fn of(number: Number, len: u8) -> Option<Self> {
-        Some((key_of(number)?, len))
-    }
-}
-
-impl TablePrefix for Ipv4Prefix {
-    fn of(number: Number, len: u8) -> Option<Self> {
-        Ipv4Prefix::new(key_of(number)?, len)
-    }
-}
-
-impl TablePrefix for Ipv6Prefix {
-    fn of(number: Number, len: u8) -> Option<Self> {
-        Ipv6Prefix::new(key_of(number)?, len)
-    }
-}
-
-/// Returns the prefix that is written so, if there is one and it fits.
-pub fn fitting_prefix<P: TablePrefix>(pair: Pair) -> Option<P>
-    ensures { IfSome result P.IsFitting }
-{
-    match P::of(pair.0, pair.1) {
-        Some(prefix) if prefix.fits() => Some(prefix),
-        _ => None,
-    }
-}
-
-/// Returns whether tables write a prefix so.
-pub fn is_prefix<P: Prefix>(prefix: &P, (number, len): Pair) -> bool {
-    key_of(number) == Some(prefix.repr()) && prefix.prefix_len() == len
-}
-
 /// Returns whether all calls of a table have the expected results.
 ///
 /// # Errors
@@ -218,11 +180,11 @@ fn holds_at_entry<P: TablePrefix>(map: &mut Map<P>, line: &Line) -> bool {
 /// Returns whether a call that does not change the map has the expected result.
 fn holds_unchanged<P: TablePrefix>(map: &Map<P>, line: &Line) -> bool {
     match line {
-        Line::Get(pair, expected) => gets(map, *pair, *expected),
-        Line::GetKeyValue(pair, expected) => finds(map, *pair, *expected),
-        Line::GetLpm(pair, expected) => finds_longest(map, *pair, *expected),
-        Line::GetSpm(pair, expected) => finds_shortest(map, *pair, *expected),
-        Line::IsCovered(pair, expected) => is_covered(map, *pair, *expected),
+        Line::Get(pair, expected) => lookups::gets(map, *pair, *expected),
+        Line::GetKeyValue(pair, expected) => lookups::finds(map, *pair, *expected),
+        Line::GetLpm(pair, expected) => lookups::finds_longest(map, *pair, *expected),
+        Line::GetSpm(pair, expected) => lookups::finds_shortest(map, *pair, *expected),
+        Line::IsCovered(pair, expected) => lookups::is_covered(map, *pair, *expected),
         Line::Entries(entries) => walks::lists_entries(map, entries),
         Line::Iter(pairs) => walks::lists(map, pairs),
         Line::Values(values) => map.values().eq(*values),
@@ -242,22 +204,9 @@ fn holds_unchanged<P: TablePrefix>(map: &Map<P>, line: &Line) -> bool {
         Line::IntoChildren(pair, entries) => consuming::gives_children(map, *pair, entries),
         Line::IntoKeys(pairs) => consuming::gives_keys(map, pairs),
         Line::Clone => comparing::clones(map),
-        _ => holds_of_prefix::<P>(line),
+        _ => prefixes::holds_of_prefix::<P>(line),
     }
 }
-
-/// Returns whether a call of a prefix has the expected result.
-fn holds_of_prefix<P: TablePrefix>(line: &Line) -> bool {
-    match line {
-        Line::IsPrefix((number, len), expected) => P::of(*number, *len).is_some() == *expected,
-        Line::Fits((number, len), expected) => fits::<P>(*number, *len) == Some(*expected),
-        Line::Mask(pair, expected) => masks::<P>(*pair, *expected),
-        Line::Contains(outer, inner, expected) => contains::<P>(*outer, *inner) == Some(*expected),
-        _ => false,
-    }
-}
-
-// ---- calls that change a map
 
 /// Continues with another map, if it could be made.
 fn replaces<P: Prefix>(
@@ -363,90 +312,4 @@ fn keep_where<P: Prefix, F: FnMut(&P, &u64) -> bool + Drop>(map: &mut Map<P>, te
 fn clears<P: Prefix>(map: &mut Map<P>) -> bool {
     map.clear();
     true
-}
-
-// ---- calls that read a map
-
-fn gets<P: TablePrefix>(map: &Map<P>, pair: Pair, expected: Option<u64>) -> bool {
-    match fitting_prefix::<P>(pair) {
-        Some(prefix) => map.get(&prefix).copied() == expected,
-        None => false,
-    }
-}
-
-/// Returns whether a lookup or a walk returned this entry.
-fn is_entry<P: Prefix>(found: Option<(P, &u64)>, expected: Option<Entry>) -> bool {
-    match (found, expected) {
-        (Some((prefix, value)), Some((pair, expected))) => is_prefix(&prefix, pair)
-            && *value == expected,
-        (None, None) => true,
-        _ => false,
-    }
-}
-
-fn finds<P: TablePrefix>(map: &Map<P>, pair: Pair, expected: Option<Entry>) -> bool {
-    match fitting_prefix::<P>(pair) {
-        Some(prefix) => is_entry(map.get_key_value(&prefix), expected),
-        None => false,
-    }
-}
-
-fn finds_longest<P: TablePrefix>(map: &Map<P>, pair: Pair, expected: Option<Entry>) -> bool {
-    match fitting_prefix::<P>(pair) {
-        Some(prefix) => is_entry(map.get_lpm(&prefix), expected),
-        None => false,
-    }
-}
-
-fn finds_shortest<P: TablePrefix>(map: &Map<P>, pair: Pair, expected: Option<Entry>) -> bool {
-    match fitting_prefix::<P>(pair) {
-        Some(prefix) => is_entry(map.get_spm(&prefix), expected),
-        None => false,
-    }
-}
-
-fn is_covered<P: TablePrefix>(map: &Map<P>, pair: Pair, expected: bool) -> bool {
-    match fitting_prefix::<P>(pair) {
-        Some(prefix) => map.is_covered(&prefix) == expected,
-        None => false,
-    }
-}
-
-// ---- how a map is stored
-
-/// The sizes of blocks of nodes, and of blocks of values.
-const NODE_SIZES: [usize; 7] = [1, 2, 4, 8, 16, 24, 32];
-
-const CELL_SIZES: [usize; 7] = [1, 2, 4, 8, 16, 24, 31];
-
-/// Returns whether the blocks have these sizes, and this many of each size are used and free.
-fn has_blocks(
-    blocks: [BlockCount; 7],
-    sizes: [usize; 7],
-    used: [usize; 7],
-    free: [usize; 7],
-) -> bool {
-    blocks.iter().map(|block| block.size).eq(sizes)
-        && blocks.iter().map(|block| block.used).eq(used)
-        && blocks.iter().map(|block| block.free).eq(free)
-}
-
-// ---- calls of a prefix
-
-fn fits<P: TablePrefix>(number: Number, len: u8) -> Option<bool> {
-    P::of(number, len).map(|prefix| prefix.fits())
-}
-
-fn masks<P: TablePrefix>(pair: Pair, expected: Number) -> bool {
-    match fitting_prefix::<P>(pair) {
-        Some(prefix) => key_of(expected) == Some(prefix.mask()),
-        None => false,
-    }
-}
-
-fn contains<P: TablePrefix>(outer: Pair, inner: Pair) -> Option<bool> {
-    match (fitting_prefix::<P>(outer), fitting_prefix::<P>(inner)) {
-        (Some(outer), Some(inner)) => Some(outer.contains(&inner)),
-        _ => None,
-    }
 }

@@ -1,5 +1,6 @@
 //! The walks of a map.
-use crate::table::{Entry, Map, Pair, TablePrefix, fitting_prefix, is_entry};
+use crate::table::lookups::is_entry;
+use crate::table::{Entry, Map, Pair, TablePrefix, fitting_prefix};
 use prefix_trie::Prefix;
 
 pub fn lists<P: Prefix>(map: &Map<P>, pairs: &[Pair]) -> bool {
