@@ -15,6 +15,7 @@ pub mod Clones
 pub mod Placing
 pub mod Entries
 pub mod Occupied
+pub mod Variants
 pub mod Resumed
 pub mod Writing
 pub mod Collected

@@ -2,7 +2,7 @@
 -- documentation of entries. When filling fails, and what it leaves then, is this project's own.
 use Rattle.std.specs.Prelude.{◌≡◌, Bool, true, cond, List, [], Option, Some, is_some, Result, IfErr, refl}
 use Rattle.std.proofs.Common.{ap, ◌∙◌}
-use Rattle.std.specs.Borrow.{Lends, LendsSoOk, Fml, RattleType, MutBor}
+use Rattle.std.specs.Borrow.{Lends, LendsIf, LendsSoOk, Fml, RattleType, MutBor}
 use Rattle.std.specs.FinMap.{get, contains_key}
 use denote.Param.Members.{Once}
 use Rattle.std.specs.declared.alloc.Allocator as alloc
@@ -20,6 +20,7 @@ use Rattle.prefix_trie_table.specs.Model.Contents.{Contents}
 use Rattle.prefix_trie_table.specs.Shape.{with_value_at}
 use Rattle.prefix_trie_map.specs.Steps.{stored_state}
 use Rattle.prefix_trie_map.specs.contracts.map.PrefixMap as map
+use Rattle.prefix_trie_map.specs.contracts.map.entry.Entry as entry
 use Rattle.prefix_trie_map.specs.contracts.map.entry.OccupiedEntry as occupied
 use mir.Syntax.{named}
 pub use Rattle.prefix_trie_map.specs.declared.map.entry.Entry.{Entry}
@@ -94,6 +95,11 @@ module _ {P T A R : Type 0} {p : prefix.Ghosts P R} {shows : debug.Ghosts P} {k 
     stored = stays_stored o value;
   }
 
+  -- the entry after the value at its key is written, unchanged if it is vacant
+  abbrev pub with_entry_value : Entry P T A R p shows k same writes → T → Entry P T A R p shows k same writes
+  with_entry_value (Vacant e) value = Vacant e
+  with_entry_value (Occupied o) value = Occupied (with_value_in o value)
+
 module _ (P T A R : RattleType) {p : prefix.Ghosts P.Denot R.Denot} (shows : debug.Ghosts P.Denot) {k : key.Ghosts R.Denot}
     (same : partial.Ghosts R.Denot) (writes : debug.Ghosts R.Denot) (a : alloc.Ghosts A.Denot) where
   -- once the borrow r ends, the map has the last value written through r at e's key, and is unchanged otherwise
@@ -104,6 +110,11 @@ module _ (P T A R : RattleType) {p : prefix.Ghosts P.Denot R.Denot} (shows : deb
   -- otherwise
   abbrev pub lends_occupied : MutBor (OccupiedEntry P.Denot T.Denot A.Denot R.Denot p shows k same writes) → MutBor T.Denot → Fml
   lends_occupied o r = Lends (occupied.the_row (record { mir = named 1; lft = [] }) P T A R p shows k same writes a) T o r (with_value_in o.now)
+
+  -- when the borrow r ends, the entry e has the last value written through r, and is unchanged
+  -- otherwise; without r, too
+  abbrev pub lends_entry : MutBor (Entry P.Denot T.Denot A.Denot R.Denot p shows k same writes) → Option (MutBor T.Denot) → Fml
+  lends_entry e r = LendsIf (entry.the_row (record { mir = named 1; lft = [] }) P T A R p shows k same writes a) T e r (with_entry_value e.now) e.now
 
   -- once the borrow r ends, the map is what the insertion of the last value written through r leaves; without r it was refused
   abbrev pub lends_filled : {E : Type 0} → (E → Refusal) → Entry P.Denot T.Denot A.Denot R.Denot p shows k same writes → Result (MutBor T.Denot) E → Fml

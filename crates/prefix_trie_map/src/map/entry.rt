@@ -153,7 +153,7 @@ impl<P: Prefix, T: Drop, A: Allocator> PrefixMap<P, T, A> {
 }
 
 impl<'a, P: Prefix, T: Drop, A: Allocator> Entry<'a, P, T, A> {
-    ghost use Rattle.prefix_trie_map.specs.Entry.{entry_map_ref, entry_map, entry_key, entry_value, MatchEntry, ModifiesEntry, lends_filled};
+    ghost use Rattle.prefix_trie_map.specs.Entry.{entry_map_ref, entry_map, entry_key, entry_value, MatchEntry, ModifiesEntry, lends_entry, lends_filled};
 
     /// Returns the prefix: without host bits if it is stored, otherwise as it was passed.
     ///
@@ -208,7 +208,10 @@ impl<'a, P: Prefix, T: Drop, A: Allocator> Entry<'a, P, T, A> {
     /// ```
     #[inline]
     pub fn get_mut(&mut self) -> Option<&mut T>
-        ensures { option_copied_mut result ≡ entry_value self.old }
+        ensures* writes_back { sem 𝓛
+            (lends_entry P.row T.row A.row P.R.row P.Debug P.R.PartialEq P.R.Debug A.Allocator
+            self.entry result) }
+        ensures value { option_copied_mut result ≡ entry_value self.old }
     {
         match self {
             Entry::Vacant(_) => None,
