@@ -111,10 +111,9 @@ module _ (P T A R : RattleType) {p : prefix.Ghosts P.Denot R.Denot} (shows : deb
   abbrev pub lends_occupied : MutBor (OccupiedEntry P.Denot T.Denot A.Denot R.Denot p shows k same writes) → MutBor T.Denot → Fml
   lends_occupied o r = Lends (occupied.the_row (record { mir = named 1; lft = [] }) P T A R p shows k same writes a) T o r (with_value_in o.now)
 
-  -- when the borrow r ends, the entry e has the last value written through r, and is unchanged
-  -- otherwise; without r, too
-  abbrev pub lends_entry : MutBor (Entry P.Denot T.Denot A.Denot R.Denot p shows k same writes) → Option (MutBor T.Denot) → Fml
-  lends_entry e r = LendsIf (entry.the_row (record { mir = named 1; lft = [] }) P T A R p shows k same writes a) T e r (with_entry_value e.now) e.now
+  -- the same of an entry that may be vacant; without r it is unchanged
+  abbrev pub lends_if_occupied : MutBor (Entry P.Denot T.Denot A.Denot R.Denot p shows k same writes) → Option (MutBor T.Denot) → Fml
+  lends_if_occupied e r = LendsIf (entry.the_row (record { mir = named 1; lft = [] }) P T A R p shows k same writes a) T e r (with_entry_value e.now) e.now
 
   -- once the borrow r ends, the map is what the insertion of the last value written through r leaves; without r it was refused
   abbrev pub lends_filled : {E : Type 0} → (E → Refusal) → Entry P.Denot T.Denot A.Denot R.Denot p shows k same writes → Result (MutBor T.Denot) E → Fml

@@ -1,8 +1,11 @@
 //! Callers of entries, and what they learn about the map.
-ghost use Rattle.std.specs.Prelude.{◌≡◌, true, ℕ, ◌+◌, ◌-◌, ◌<◌, ◌^◌, IfOk, OnOk, OnErr, None, Some, IsTrue, IsFalse, is_some};
+ghost use Rattle.std.specs.Prelude.{◌≡◌, true, ℕ, ◌+◌, ◌-◌, ◌<◌, ◌^◌, IfOk, OnOk, OnErr, Option, None, Some, IsTrue, IsFalse, is_some};
+ghost use Rattle.std.specs.Borrow.{sem, LendsIf};
 ghost use Rattle.std.specs.FinMap.{get, contains_key, len};
+ghost use Rattle.std.specs.Option.{option_copied_mut};
 ghost use Rattle.prefix_trie.specs.Terms.{listing, put_all, prefix_pairs, with_entry, with_needed, with_value_at, without_entry};
 ghost use Rattle.prefix_trie_bits.specs.Model.Space.{LeavesSpace};
+ghost use Rattle.prefix_trie_map.specs.Entry.{entry_value, with_entry_value};
 
 use prefix_trie::map::Entry;
 use prefix_trie::{Prefix, PrefixMap, Refusal, Refused};
@@ -103,6 +106,62 @@ fn count_again<P: Prefix, A: Allocator>(map: &mut PrefixMap<P, u64, A>, prefix: 
         Entry::Occupied(entry) => entry.release(),
         Entry::Vacant(_unfilled) => {}
     }
+}
+
+// What lends its value for writing, if it has one. Through such a bound, a proof follows the loan of an entry.
+trait LendsValue: Sized {
+    type Value: Drop;
+
+    ghost held: { Self → Option Self.Value };
+
+    ghost with: { Self → Self.Value → Self };
+
+    // Returns the value for writing, if there is one.
+    fn lend(&mut self) -> Option<&mut Self::Value>
+        ensures* writes_back { sem 𝓛
+            (LendsIf Self.row Self.Value.row self.entry result (with self.old) self.old) }
+        ensures value { option_copied_mut result ≡ held self.old };
+}
+
+impl<'a, P: Prefix, T: Drop, A: Allocator> LendsValue for Entry<'a, P, T, A> {
+    type Value = T;
+
+    ghost held = { entry_value };
+
+    ghost with = { with_entry_value };
+
+    fn lend(&mut self) -> Option<&mut T> {
+        self.get_mut()
+    }
+}
+
+// Sets a value in its place. Returns whether there was one.
+fn set_in_place<L: LendsValue>(lender: &mut L, value: L::Value) -> bool
+    ensures held { result ≡ is_some (L.held lender.old) }
+    ensures written { IsTrue result → lender.new ≡ L.with lender.old value }
+    ensures unchanged { IsFalse result → lender.new ≡ lender.old }
+{
+    if let Some(lent) = lender.lend() {
+        *lent = value;
+        return true;
+    }
+    false
+}
+
+// Sets a stored value to nine in its place, and ends the entry. Returns whether there was one.
+fn set_nine_in_place<P: Prefix, A: Allocator>(map: &mut PrefixMap<P, u64, A>, prefix: P) -> bool
+    requires { P.IsFitting prefix }
+    ensures held { result ≡ contains_key map.old.entries (P.path prefix) }
+    ensures written { IsTrue result → map.new ≡ with_value_at map.old (P.path prefix) 9 }
+    ensures unchanged { IsFalse result → map.new ≡ map.old }
+{
+    let mut entry = map.entry(prefix);
+    let held = set_in_place(&mut entry, 9);
+    match entry {
+        Entry::Occupied(entry) => entry.release(),
+        Entry::Vacant(_unfilled) => {}
+    }
+    held
 }
 
 // Swaps a stored value for another.

@@ -153,7 +153,7 @@ impl<P: Prefix, T: Drop, A: Allocator> PrefixMap<P, T, A> {
 }
 
 impl<'a, P: Prefix, T: Drop, A: Allocator> Entry<'a, P, T, A> {
-    ghost use Rattle.prefix_trie_map.specs.Entry.{entry_map_ref, entry_map, entry_key, entry_value, MatchEntry, ModifiesEntry, lends_entry, lends_filled};
+    ghost use Rattle.prefix_trie_map.specs.Entry.{entry_map_ref, entry_map, entry_key, entry_value, MatchEntry, ModifiesEntry, lends_if_occupied, lends_filled};
 
     /// Returns the prefix: without host bits if it is stored, otherwise as it was passed.
     ///
@@ -193,10 +193,11 @@ impl<'a, P: Prefix, T: Drop, A: Allocator> Entry<'a, P, T, A> {
         }
     }
 
-    /// Returns the value for writing if the prefix is stored.
+    /// Returns the value for writing if the prefix is stored. What is written becomes the entry's value, and nothing else
+    /// changes.
     ///
-    /// Only the contracts of `OccupiedEntry::get_mut` and `OccupiedEntry::into_mut` tell a caller's proof what was
-    /// written.
+    /// A caller's proof learns this only through the bound of a trait whose method calls `get_mut`. The contracts of
+    /// `OccupiedEntry::get_mut` and `OccupiedEntry::into_mut` tell it directly.
     ///
     /// # Examples
     ///
@@ -209,7 +210,7 @@ impl<'a, P: Prefix, T: Drop, A: Allocator> Entry<'a, P, T, A> {
     #[inline]
     pub fn get_mut(&mut self) -> Option<&mut T>
         ensures* writes_back { sem 𝓛
-            (lends_entry P.row T.row A.row P.R.row P.Debug P.R.PartialEq P.R.Debug A.Allocator
+            (lends_if_occupied P.row T.row A.row P.R.row P.Debug P.R.PartialEq P.R.Debug A.Allocator
             self.entry result) }
         ensures value { option_copied_mut result ≡ entry_value self.old }
     {

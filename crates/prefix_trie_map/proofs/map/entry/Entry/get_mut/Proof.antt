@@ -1,6 +1,6 @@
 -- `get_mut` lends what the occupied entry lends, and a vacant entry stays. Assumes `Logic`.
 use Rattle.prefix_trie_map.proofs.Loans.{◌≡◌, ℕ, None, Some, Option, [], ◌∷◌, refl, sym, MutBor, proved, Args, named, a_type, dcons, dnil, Val, vptr, vcons, vnil, inst_fn, full_share, ent, emp, id⊢, Fml, GName, ftrue, fat, flft, fres, fact, fact_i, tables, ‵, raw, ◌⊛◌, some, later, ◌$◌, ◌∵◌, !, qed, done, move, keep, drop, use0, use1, use2, split, join, fjoin, pick, await, rewrite, suffices, frame, agg, enter, of_opd, lit, addr, stop, no_more, and_then, returns, alloc_all, pass_all, free_all, look_at, get, through, sets, lands_as, param, copied, bounded, Laws, no, lone, mem, part_at, RattleType, MutRef, mut_vals, mut_Tells, plain, mut_ref_to, nothing, heard, peeks, shows, calls_at, lasts, triple_of, framed, Stays, stay_dropped, walk_of, ends_at, Goes-spent_ref, option_laws, Lent, lent_laws}
-use Rattle.std.proofs.Common.{List, Bool, true, false, true≢false, ap, is_some}
+use Rattle.prefix_trie_map.proofs.Prelude.{false, true≢false, ap, is_some}
 use Rattle.std.proofs.RcSteps.{Some-of, none_of}
 use Rattle.prefix_trie_map.proofs.Variants.{variants, opened, lends}
 use native.Mathlib.Nat.{suc-ne-zero}
@@ -8,7 +8,6 @@ use Prim.Native.Nat.{◌+◌}
 use mir.Syntax.{Ty, erased, ty_enum}
 use prog.Memory.{up, align}
 use prog.Wp.{WpFn}
-use contract.Lifetimes.{Lfts}
 use types.Kit.{at_ret, split3, fsplit3, group}
 use types.Part.{whole}
 use types.Run.{fld, load, first, exec}
@@ -22,7 +21,7 @@ use denote.Steps.{only}
 use borrow.Table.OneValue.{part_in_at, part_out_at}
 use Rattle.std.proofs.VecSteps.Shapes.{after}
 use Rattle.std.specs.contracts.option.Option as option
-use Rattle.std.specs.FinMap.{get as lookup, contains_key}
+use Rattle.std.specs.FinMap.{get as lookup}
 use Rattle.prefix_trie_map.specs.Entry.{Occupied, Vacant, entry_value, with_value_in}
 use Rattle.prefix_trie_map.specs.contracts.map.entry.Entry as entry
 use Rattle.prefix_trie_map.specs.contracts.map.entry.OccupiedEntry as occupied
