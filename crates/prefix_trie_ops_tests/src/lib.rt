@@ -2,6 +2,8 @@
 #![tactic(auto)]
 
 #[cfg(test)]
+mod aggregation;
+#[cfg(test)]
 mod examples;
 #[cfg(test)]
 mod refusals;
