@@ -24,7 +24,9 @@ pub use Rattle.prefix_trie_bits.specs.Model.Matches.{first_item, last_item, pref
 pub use Rattle.prefix_trie_bits.specs.Model.Nodes.{Nodes, has_node, home, is_node_depth, is_pruned, is_root, needed, nodes_above, nodes_not_below, nodes_without, nodes_without_below, pruned, root_alone, with_nodes}
 pub use Rattle.prefix_trie_bits.specs.Model.Space.{MayPassLimit, Space}
 pub use Rattle.prefix_trie_bits.specs.Model.Selections.{listing_after, prefix_pairs}
-pub use Rattle.prefix_trie_bits.specs.Model.Step.{AddressCount, Addresses, Call, Children, Clear, Count, Cover, Done, Get, IndexRange, Insert, Items, Len, ListAll, ListFrom, Lpm, Match, Memory, NodeCount, Refusal, Refused, Remove, RemoveChildren, RemoveKeepTree, Reply, RetainAtLeast, Run, Spm, State, Step, Value}
+pub use Rattle.prefix_trie_bits.specs.Model.Step.{AddressCount, Addresses, Call, Children, Clear, Count, Cover, Done, Get, Insert, Items, Len, ListAll, ListFrom, Lpm, Match, NodeCount, Refused, Remove, RemoveChildren, RemoveKeepTree, Reply, RetainAtLeast, Run, Spm, State, Step, Value}
+pub use Rattle.prefix_trie_bits.specs.declared.prefix.Refusal.{Refusal}
+pub use Rattle.prefix_trie_bits.specs.declared.prefix.Refusal.TheVariants.{IndexRange, Memory}
 pub use Rattle.prefix_trie_bits.specs.Model.Visits.{visits_of_match, visits_to_match}
 pub use Rattle.prefix_trie_bits.specs.Calls.WritingWalk.{WritingWalk, walk_over}
 pub use Rattle.prefix_trie_bits.specs.Order.{listing_total}

@@ -4,7 +4,9 @@ use Rattle.std.specs.FinMap.{empty}
 use Rattle.prefix_trie_bits.specs.Model.Blocks.{Layout, KeepsBlocks, value_block_sizes, own_entries}
 use Rattle.prefix_trie_bits.specs.Calls.Blocks.{NodesHaveBlocks}
 use Rattle.prefix_trie_bits.specs.Model.Insertion.{value_block_needed, TakesBlocks}
-use Rattle.prefix_trie_bits.specs.Model.Step.{State, Call, Insert, Remove, RemoveKeepTree, RemoveChildren, RetainAtLeast, Reply, Refused, Refusal, Memory, IndexRange}
+use Rattle.prefix_trie_bits.specs.Model.Step.{State, Call, Insert, Remove, RemoveKeepTree, RemoveChildren, RetainAtLeast, Reply, Refused}
+use Rattle.prefix_trie_bits.specs.declared.prefix.Refusal.{Refusal}
+use Rattle.prefix_trie_bits.specs.declared.prefix.Refusal.TheVariants.{Memory, IndexRange}
 use Rattle.prefix_trie_bits.specs.Model.Storage.{Storage, empty_storage, StepInStorage}
 use Rattle.prefix_trie_facts.specs.Rows.Examples.{path_at, back_at, LeadsTo, sets}
 use Rattle.prefix_trie_facts.specs.Facts.Blocks.{none_free, space_of}

@@ -1,7 +1,8 @@
 -- Worked rows: full maps, and new keys that are refused with `IndexRange`.
 -- The model lets any new key be refused. These rows say what is unchanged then.
 use Rattle.std.specs.Prelude.{ℕ, ◌++◌, List, [], ◌∷◌, Some, None}
-use Rattle.prefix_trie_bits.specs.Model.Step.{Insert, Remove, Clear, Len, NodeCount, AddressCount, ListAll, Value, Done, Count, Addresses, Items, Refused, IndexRange}
+use Rattle.prefix_trie_bits.specs.Model.Step.{Insert, Remove, Clear, Len, NodeCount, AddressCount, ListAll, Value, Done, Count, Addresses, Items, Refused}
+use Rattle.prefix_trie_bits.specs.declared.prefix.Refusal.TheVariants.{IndexRange}
 use Rattle.prefix_trie_facts.specs.Rows.Examples.{Gives, counted, full_pairs, sets}
 
 -- the 31 pairs of lengths 0 to 4 of eight bits, in listing order
