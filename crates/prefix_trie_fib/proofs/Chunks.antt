@@ -1,19 +1,11 @@
--- Chunks of addresses: the number of an address's first bits, and what an entry says of its chunk.
-use Rattle.std.proofs.Common.{◌≡◌, ◌∙◌, inl, inr, zero, suc, ℕ, ◌+◌, ◌-◌, ◌*◌, ◌/◌, ◌^◌, ◌<◌, ◌≤◌, Bool, false, List, [], ◌∷◌, ◌++◌, length, length-append, take, drop, get_or, Option, None, Some, ap, sym, subst, arith, refl, append_assoc, pow-add, pow_mono, pow_pos, take-append-drop}
-use Rattle.std.proofs.Math.Nat.{lt_of_mul-lt-mul_right, mul-lt-mul_of_pos_right}
-use Rattle.std.proofs.Math.Seq.{drop-append-add, get_or-append_seam, take-add}
-use Rattle.std.proofs.lemmas.Bool.{cases_lt}
-use Rattle.std.proofs.lemmas.List.{get_or_append_left, length-drop, length-replicate, length-take-le, take-append-le, take-take}
+-- Chunks of addresses: the number of an address's first bits.
+use Rattle.std.proofs.Common.{◌≡◌, ◌∙◌, zero, suc, ℕ, ◌+◌, ◌-◌, ◌*◌, ◌/◌, ◌%◌, ◌^◌, ◌<◌, ◌≤◌, Bool, false, List, ◌++◌, length, length-append, take, drop, ap, sym, subst, arith, refl, append_assoc, pow_mono, take-append-drop}
+use Rattle.std.proofs.Math.Seq.{drop-append-add, take-add}
+use Rattle.std.proofs.lemmas.List.{length-drop, length-replicate, length-take-le, take-append-le, take-take}
 use Rattle.std.proofs.lemmas.Nat.{shr_high}
-use Rattle.std.specs.Option.{IfSome, IsSomeAnd, MatchOption}
 use Rattle.prefix_trie_bits.specs.BitStrings.{number-lt}
 use Rattle.prefix_trie_bits.specs.Model.Bits.{number, zeros}
 use Rattle.prefix_trie_bits.specs.Windows.{window-inside}
-use Rattle.prefix_trie_fib.specs.declared.index.chunk.Chunk.{Chunk}
-use Rattle.prefix_trie_fib.specs.Index.{IsChunk, IsIndex}
-use Rattle.prefix_trie_fib.specs.Line.{IsDivision, value_along}
-use Rattle.prefix_trie_fib.specs.Search.{StartsBy}
-use Rattle.prefix_trie_fib.proofs.Along.{value_of_range}
 use Rattle.prefix_trie_fib.proofs.Between.{number_parts}
 
 -- a string's number, by its first k bits and the rest
@@ -46,99 +38,63 @@ zeros_taken zero m = refl
 zeros_taken (suc n) zero = refl
 zeros_taken (suc n) (suc m) = let e = zeros_taken n m in omega (arith, e)
 
--- ---- the first bits of an address and of 20 zeros after it, five at a time
+-- ---- the first bits of an address and of 30 zeros after it, five at a time
 
-module _ (b : List Bool) (d u x : ℕ) (few : d ≤ 15) where
-  pub window_padded : d ≤ length b → number (take 5 (drop d (b ++ zeros 5))) ≡ number (take 5 (drop d (b ++ zeros 20)))
+module _ (b : List Bool) (d u x : ℕ) (few : d ≤ 25) where
+  pub window_padded : d ≤ length b → number (take 5 (drop d (b ++ zeros 5))) ≡ number (take 5 (drop d (b ++ zeros 30)))
   window_padded inside =
-      sym (ap number (window-inside (b ++ zeros 5) (zeros 15) d 5 (omega (arith, inside, length-append b (zeros 5), length-replicate 5 false))))
-      ∙ ap (λ s. number (take 5 (drop d s))) (append_assoc b (zeros 5) (zeros 15))
+      sym (ap number (window-inside (b ++ zeros 5) (zeros 25) d 5 (omega (arith, inside, length-append b (zeros 5), length-replicate 5 false))))
+      ∙ ap (λ s. number (take 5 (drop d s))) (append_assoc b (zeros 5) (zeros 25))
 
-  pub window_past : length b < d → 0 ≡ number (take 5 (drop d (b ++ zeros 20)))
+  pub window_past : length b < d → 0 ≡ number (take 5 (drop d (b ++ zeros 30)))
   window_past past =
       let at : d ≡ length b + (d - length b) = omega (arith, past) in
-      sym (ap (λ k. number (take 5 (drop k (b ++ zeros 20)))) at ∙ ap (λ s. number (take 5 s)) (drop-append-add b (zeros 20) (d - length b) ∙ zeros_dropped (d - length b) 20) ∙ zeros_taken 5 (20 - (d - length b)))
+      sym (ap (λ k. number (take 5 (drop k (b ++ zeros 30)))) at ∙ ap (λ s. number (take 5 s)) (drop-append-add b (zeros 30) (d - length b) ∙ zeros_dropped (d - length b) 30) ∙ zeros_taken 5 (30 - (d - length b)))
 
-  pub window_joined : u ≡ number (take d (b ++ zeros 20)) → x ≡ number (take 5 (drop d (b ++ zeros 20))) → u * 32 + x ≡ number (take (d + 5) (b ++ zeros 20))
+  pub window_joined : u ≡ number (take d (b ++ zeros 30)) → x ≡ number (take 5 (drop d (b ++ zeros 30))) → u * 32 + x ≡ number (take (d + 5) (b ++ zeros 30))
   window_joined upper window =
-      let long : length (b ++ zeros 20) ≡ length b + 20 = length-append b (zeros 20) in
-      let five : length (take 5 (drop d (b ++ zeros 20))) ≡ 5 = length-take-le 5 (drop d (b ++ zeros 20)) (omega (arith, long, few, length-drop d (b ++ zeros 20))) in
-      let parts : number (take (d + 5) (b ++ zeros 20)) ≡ number (take d (b ++ zeros 20)) * 2 ^ 5 + number (take 5 (drop d (b ++ zeros 20))) =
-      ap number (take-add d 5 (b ++ zeros 20)) ∙ number_parts (take d (b ++ zeros 20)) (take 5 (drop d (b ++ zeros 20))) ∙ ap (λ n. number (take d (b ++ zeros 20)) * 2 ^ n + number (take 5 (drop d (b ++ zeros 20)))) five in
+      let long : length (b ++ zeros 30) ≡ length b + 30 = length-append b (zeros 30) in
+      let five : length (take 5 (drop d (b ++ zeros 30))) ≡ 5 = length-take-le 5 (drop d (b ++ zeros 30)) (omega (arith, long, few, length-drop d (b ++ zeros 30))) in
+      let parts : number (take (d + 5) (b ++ zeros 30)) ≡ number (take d (b ++ zeros 30)) * 2 ^ 5 + number (take 5 (drop d (b ++ zeros 30))) =
+      ap number (take-add d 5 (b ++ zeros 30)) ∙ number_parts (take d (b ++ zeros 30)) (take 5 (drop d (b ++ zeros 30))) ∙ ap (λ n. number (take d (b ++ zeros 30)) * 2 ^ n + number (take 5 (drop d (b ++ zeros 30)))) five in
       omega (arith, upper, window, parts)
 
-  pub window_fits : number (take (d + 5) (b ++ zeros 20)) < 2 ^ 20
+  pub window_fits : number (take (d + 5) (b ++ zeros 30)) < 2 ^ 30
   window_fits =
-      let long : length (take (d + 5) (b ++ zeros 20)) ≡ d + 5 = length-take-le (d + 5) (b ++ zeros 20) (omega (arith, few, length-append b (zeros 20))) in
-      let small : number (take (d + 5) (b ++ zeros 20)) < 2 ^ (d + 5) = subst (λ n. number (take (d + 5) (b ++ zeros 20)) < 2 ^ n) long (number-lt (take (d + 5) (b ++ zeros 20))) in
-      let most : 2 ^ (d + 5) ≤ 2 ^ 20 = pow_mono {i = d + 5} {j = 20} (omega (arith, few)) in
+      let long : length (take (d + 5) (b ++ zeros 30)) ≡ d + 5 = length-take-le (d + 5) (b ++ zeros 30) (omega (arith, few, length-append b (zeros 30))) in
+      let small : number (take (d + 5) (b ++ zeros 30)) < 2 ^ (d + 5) = subst (λ n. number (take (d + 5) (b ++ zeros 30)) < 2 ^ n) long (number-lt (take (d + 5) (b ++ zeros 30))) in
+      let most : 2 ^ (d + 5) ≤ 2 ^ 30 = pow_mono {i = d + 5} {j = 30} (omega (arith, few)) in
       omega (arith, small, most)
 
-  pub upper_fits : u ≡ number (take d (b ++ zeros 20)) → u < 2 ^ 15
+  pub upper_fits : u ≡ number (take d (b ++ zeros 30)) → u < 2 ^ 25
   upper_fits is =
-      let long : length (take d (b ++ zeros 20)) ≡ d = length-take-le d (b ++ zeros 20) (omega (arith, few, length-append b (zeros 20))) in
-      let small : number (take d (b ++ zeros 20)) < 2 ^ d = subst (λ n. number (take d (b ++ zeros 20)) < 2 ^ n) long (number-lt (take d (b ++ zeros 20))) in
-      let most : 2 ^ d ≤ 2 ^ 15 = pow_mono {i = d} {j = 15} few in
+      let long : length (take d (b ++ zeros 30)) ≡ d = length-take-le d (b ++ zeros 30) (omega (arith, few, length-append b (zeros 30))) in
+      let small : number (take d (b ++ zeros 30)) < 2 ^ d = subst (λ n. number (take d (b ++ zeros 30)) < 2 ^ n) long (number-lt (take d (b ++ zeros 30))) in
+      let most : 2 ^ d ≤ 2 ^ 25 = pow_mono {i = d} {j = 25} few in
       omega (arith, is, small, most)
 
--- the first k of 20 bits
-pub chunk_number : (b : List Bool) (k top : ℕ) → k ≤ 20 → k ≤ length b → top ≡ number (take 20 (b ++ zeros 20)) → top / 2 ^ (20 - k) ≡ number (take k b)
+-- the first k of 30 bits
+pub chunk_number : (b : List Bool) (k top : ℕ) → k ≤ 30 → k ≤ length b → top ≡ number (take 30 (b ++ zeros 30)) → top / 2 ^ (30 - k) ≡ number (take k b)
 chunk_number b k top few within is =
-    let long : length (take 20 (b ++ zeros 20)) ≡ 20 = length-take-le 20 (b ++ zeros 20) (omega (arith, length-append b (zeros 20))) in
-    ap (λ n. n / 2 ^ (20 - k)) is
-    ∙ subst (λ n. number (take 20 (b ++ zeros 20)) / 2 ^ (n - k) ≡ number (take k (take 20 (b ++ zeros 20)))) long (number_shifted (take 20 (b ++ zeros 20)) k)
-    ∙ ap number (take-take k 20 (b ++ zeros 20) few) ∙ ap number (take-append-le k b (zeros 20) within)
+    let long : length (take 30 (b ++ zeros 30)) ≡ 30 = length-take-le 30 (b ++ zeros 30) (omega (arith, length-append b (zeros 30))) in
+    ap (λ n. n / 2 ^ (30 - k)) is
+    ∙ subst (λ n. number (take 30 (b ++ zeros 30)) / 2 ^ (n - k) ≡ number (take k (take 30 (b ++ zeros 30)))) long (number_shifted (take 30 (b ++ zeros 30)) k)
+    ∙ ap number (take-take k 30 (b ++ zeros 30) few) ∙ ap number (take-append-le k b (zeros 30) within)
 
--- ---- entries
-
--- where no range after the first one starts in a chunk, all of it has the value of the first
-pub alone_value : {T : Type 0} (rs : List (ℕ × Option T)) → IsDivision rs → (first low high : ℕ) (d : ℕ × Option T) → StartsBy rs first low
-    → ((d : ℕ × Option T) → first + 1 < length rs → high ≤ (get_or rs (first + 1) d).0) → (n : ℕ) → low ≤ n → n < high → value_along None rs n ≡ (get_or rs first d).1
-alone_value rs division first low high d starts ends n lo hi = value_of_range rs division None first n d (record {
-  starts = record { inside = starts.inside; by = λ e. (let b = starts.by e in omega (arith, b, lo)) };
-  ends = λ e more. let b = ends e more in omega (arith, b, hi);
-})
-
-pub up_to_next : {K : Type 0} (o : Option K) (f : K → ℕ) (high x : ℕ) → IfSome o (λ k. high ≤ f k) → IsSomeAnd o (λ k. f k ≤ x) → high ≤ x
-up_to_next None f high x le h = absurd h
-up_to_next (Some k) f high x le h = omega (arith, le, h)
-
--- ---- entries that are appended chunk by chunk
-
-pub index_pushed : {T : Type 0} (size : ℕ) (rs : List (ℕ × Option T)) (index : List (Chunk T)) (x : Chunk T) → IsIndex size rs index → IsChunk rs (length index * size) ((length index + 1) * size) x
-    → IsIndex size rs (index ++ x ∷ [])
-index_pushed size rs index x right here c d in_it =
-    let longer : length (index ++ x ∷ []) ≡ length index + 1 = length-append index (x ∷ []) in
-    elim (cases_lt c (length index)) [
-      | inl old ↦ subst (IsChunk rs (c * size) ((c + 1) * size)) (sym (get_or_append_left index (x ∷ []) d c old)) (right c d old)
-      | inr new ↦
-          let is : c ≡ length index = omega (arith, in_it, new, longer) in
-          subst (IsChunk rs (c * size) ((c + 1) * size)) (sym (ap (λ k. get_or (index ++ x ∷ []) k d) is ∙ get_or-append_seam index x [] d))
-          (subst (λ k. IsChunk rs (k * size) ((k + 1) * size) x) (sym is) here)
-    ]
-
-pub match_option : {K : Type 0} (o : Option K) (P P' : Type 0) (Q Q' : K → Type 0) → (P → P') → ((k : K) → Q k → Q' k) → MatchOption o P Q → MatchOption o P' Q'
-match_option None P P' Q Q' f g h = f h
-match_option (Some k) P P' Q Q' f g h = g k h
-
-pub if_some : {K : Type 0} (o : Option K) (P : Type 0) (Q Q' : K → Type 0) → ((k : K) → Q k → Q' k) → MatchOption o P Q → IfSome o Q'
-if_some None P Q Q' g h = tt
-if_some (Some k) P Q Q' g h = g k h
-
-module _ (w bits c at step : ℕ) (within : bits ≤ w) (is_step : step ≡ 2 ^ (w - bits)) (is_at : at ≡ c * 2 ^ (w - bits)) where
-  whole : 2 ^ w ≡ 2 ^ bits * 2 ^ (w - bits)
-  whole = ap (λ n. 2 ^ n) (let e : w ≡ bits + (w - bits) = omega (arith, within) in e) ∙ pow-add 2 bits (w - bits)
-
-  pub next_at : at + step ≡ (c + 1) * 2 ^ (w - bits)
-  next_at = let e : (c + 1) * 2 ^ (w - bits) ≡ c * 2 ^ (w - bits) + 2 ^ (w - bits) = omega arith in omega (arith, e, is_step, is_at)
-
-  pub more_chunks : at + step < 2 ^ w → c + 1 < 2 ^ bits
-  more_chunks low = lt_of_mul-lt-mul_right (2 ^ (w - bits)) {m = c + 1} {n = 2 ^ bits} (omega (arith, low, whole, next_at))
-
-  pub last_chunk : c < 2 ^ bits → 2 ^ w ≤ at + step → c + 1 ≡ 2 ^ bits
-  last_chunk in_it over = elim (cases_lt (c + 1) (2 ^ bits)) [
-    | inl more ↦
-        let lt : (c + 1) * 2 ^ (w - bits) < 2 ^ bits * 2 ^ (w - bits) = mul-lt-mul_of_pos_right {m = c + 1} {n = 2 ^ bits} {k = 2 ^ (w - bits)} more (pow_pos (w - bits)) in
-        absurd (omega (arith, lt, over, whole, next_at))
-    | inr at_end ↦ omega (arith, in_it, at_end)
-  ]
+-- the first k bits and the 8 after them
+pub part_number : (b : List Bool) (k top : ℕ) → k ≤ 20 → k + 8 ≤ length b → top ≡ number (take 30 (b ++ zeros 30)) → number (take k b) * 256 + top / 2 ^ (22 - k) % 256 ≡ number (take (k + 8) b)
+part_number b k top few within is =
+    let finer : List Bool = take (k + 8) b in
+    let shift : 30 - (k + 8) ≡ 22 - k = omega (arith, few) in
+    let top_is : top / 2 ^ (22 - k) ≡ number finer = subst (λ n. top / 2 ^ n ≡ number finer) shift (chunk_number b (k + 8) top (omega (arith, few)) within is) in
+    let (parts, small) = number_split finer k in
+    let rest : length finer - k ≡ 8 = (let l = length-take-le (k + 8) b within in omega (arith, l)) in
+    let first : take k finer ≡ take k b = take-take k (k + 8) b (omega arith) in
+    let parts' : number finer ≡ number (take k b) * 256 + number (drop k finer) =
+    parts ∙ ap (λ n. number (take k finer) * 2 ^ n + number (drop k finer)) rest ∙ ap (λ s. number s * 256 + number (drop k finer)) first in
+    let small' : number (drop k finer) < 256 = subst (λ n. number (drop k finer) < 2 ^ n) rest small in
+    let last : top / 2 ^ (22 - k) % 256 ≡ number (drop k finer) = ap (λ n. n % 256) top_is ∙ remainder (number finer) (number (take k b)) (number (drop k finer)) parts' small' in
+    omega (arith, last, parts')
+  where
+    remainder : (n a r : ℕ) → n ≡ a * 256 + r → r < 256 → n % 256 ≡ r
+    remainder n a r is lt = omega (arith, is, lt)

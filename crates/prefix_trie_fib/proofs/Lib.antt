@@ -3,6 +3,8 @@ pub mod Along
 pub mod Between
 pub mod Chunks
 pub mod Cutting
+pub mod Entries
+pub mod Finding
 pub mod Matching
 pub mod Merging
 pub mod Results

@@ -1,17 +1,45 @@
 -- The index of a division: which ranges each chunk of addresses has.
-use Rattle.std.specs.Prelude.{◌≡◌, ℕ, ◌+◌, ◌*◌, ◌<◌, ◌≤◌, List, length, Option, None, Some, slice_index_or}
+use Rattle.std.specs.Prelude.{◌≡◌, ℕ, ◌+◌, ◌-◌, ◌*◌, ◌^◌, ◌<◌, ◌≤◌, List, length, Option, None, Some, slice_index_or, ⊤}
 use Rattle.prefix_trie_fib.specs.declared.index.chunk.Chunk.{Chunk}
-use Rattle.prefix_trie_fib.specs.declared.index.chunk.Chunk.TheVariants.{Gap, One, Several}
+use Rattle.prefix_trie_fib.specs.declared.index.chunk.Chunk.TheVariants.{Gap, Many, One, Several, Split}
 use Rattle.prefix_trie_fib.specs.Line.{value_along}
-use Rattle.prefix_trie_fib.specs.Search.{StartsBy}
+use Rattle.prefix_trie_fib.specs.Search.{IsAmong, StartsBy}
 
 module _ {T : Type 0} where
-  -- the entry is right for each number from low on and below high
+  -- the entry is right for each number from low on and below high, and is not split
   abbrev pub IsChunk : List (ℕ × Option T) → ℕ → ℕ → Chunk T → Type 0
   IsChunk rs low high Gap = (n : ℕ) → low ≤ n → n < high → value_along None rs n ≡ None
   IsChunk rs low high (One v) = (n : ℕ) → low ≤ n → n < high → value_along None rs n ≡ Some v
-  IsChunk rs low high (Several first) = StartsBy rs first low
+  IsChunk rs low high (Several count first) = (n : ℕ) → low ≤ n → n < high → IsAmong rs first count n
+  IsChunk rs low high (Many first) = StartsBy rs first low
+  IsChunk rs low high (Split base) = ⊥
 
-  -- the entries are those of chunks of so many numbers each, from 0 on
-  abbrev pub IsIndex : ℕ → List (ℕ × Option T) → List (Chunk T) → Type 0
-  IsIndex size rs index = (c : ℕ) (d : Chunk T) → c < length index → IsChunk rs (c * size) ((c + 1) * size) (slice_index_or index c d)
+  -- the chunk is not split
+  abbrev pub IsWhole : Chunk T → Type 0
+  IsWhole Gap = ⊤
+  IsWhole (One v) = ⊤
+  IsWhole (Several count first) = ⊤
+  IsWhole (Many first) = ⊤
+  IsWhole (Split base) = ⊥
+
+  -- the 256 entries from base on are those of chunks of so many numbers each, from chunk q on
+  pub record HasParts (rs : List (ℕ × Option T)) (size : ℕ) (parts : List (Chunk T)) (base q : ℕ) : Type 0 where
+    pub inside : base + 256 ≤ length parts
+    pub right : (p : ℕ) (d : Chunk T) → p < 256 → IsChunk rs ((q + p) * size) ((q + p + 1) * size) (slice_index_or parts (base + p) d)
+
+  -- the entry of chunk c of an index by so many bits: one for the whole chunk, or its parts by 8 more bits
+  abbrev pub IsEntry : ℕ → ℕ → List (ℕ × Option T) → List (Chunk T) → ℕ → Chunk T → Type 0
+  IsEntry width bits rs parts c (Split base) = (bits + 8 ≤ width) × HasParts rs (2 ^ (width - (bits + 8))) parts base (c * 256)
+  IsEntry width bits rs parts c Gap = IsChunk rs (c * 2 ^ (width - bits)) ((c + 1) * 2 ^ (width - bits)) Gap
+  IsEntry width bits rs parts c (One v) = IsChunk rs (c * 2 ^ (width - bits)) ((c + 1) * 2 ^ (width - bits)) (One v)
+  IsEntry width bits rs parts c (Several count first) = IsChunk rs (c * 2 ^ (width - bits)) ((c + 1) * 2 ^ (width - bits)) (Several count first)
+  IsEntry width bits rs parts c (Many first) = IsChunk rs (c * 2 ^ (width - bits)) ((c + 1) * 2 ^ (width - bits)) (Many first)
+
+  -- each entry is that of its chunk
+  abbrev pub IsIndex : ℕ → ℕ → List (ℕ × Option T) → List (Chunk T) → List (Chunk T) → Type 0
+  IsIndex width bits rs chunks parts = (c : ℕ) (d : Chunk T) → c < length chunks → IsEntry width bits rs parts c (slice_index_or chunks c d)
+
+  -- a list begins with another one
+  pub record Extends (before after : List (Chunk T)) : Type 0 where
+    pub longer : length before ≤ length after
+    pub same : (k : ℕ) (d : Chunk T) → k < length before → slice_index_or after k d ≡ slice_index_or before k d

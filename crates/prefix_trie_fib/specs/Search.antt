@@ -11,3 +11,10 @@ module _ {V : Type 0} where
   pub record IsRangeOf (rs : List (ℕ × V)) (i n : ℕ) : Type 0 where
     pub starts : StartsBy rs i n
     pub ends : (d : ℕ × V) → i + 1 < length rs → n < (slice_index_or rs (i + 1) d).0
+
+  -- that range is one of so many from the range i on
+  pub record IsAmong (rs : List (ℕ × V)) (i count n : ℕ) : Type 0 where
+    pub starts : StartsBy rs i n
+    pub some : 0 < count
+    pub inside : i + count ≤ length rs
+    pub above : (k : ℕ) (d : ℕ × V) → i + count ≤ k → k < length rs → n < (slice_index_or rs k d).0

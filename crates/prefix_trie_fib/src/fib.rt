@@ -5,11 +5,11 @@ ghost use Rattle.prefix_trie_fib.specs.Line.{AreMerged, IsDivision, are_same, va
 
 mod bulk;
 
-use crate::index::{Chunk, chunk_of, index_bits, index_of};
-use crate::ranges::{Line, ranges_of};
-use prefix_trie_bits::prefix::{Key, Prefix, Refusal};
+use crate::indexed::Indexed;
+use crate::ranges::ranges_of;
+use prefix_trie_bits::prefix::{Prefix, Refusal};
 use prefix_trie_map::map::PrefixMap;
-use std::alloc::{AllocError, Allocator};
+use std::alloc::Allocator;
 use std::marker::Model;
 
 /// The longest match of each address in a map, as ranges of addresses.
@@ -27,22 +27,20 @@ use std::marker::Model;
 /// ```
 #[derive(Drop)]
 pub struct Fib<P: Prefix, T: Copy + PartialEq, A: Allocator> {
-    line: Line<P::R, T, A>,
-    index: Vec<Chunk<T>, A>,
-    bits: u32,
+    indexed: Indexed<P::R, T, A>,
 }
 
 // a contract sees the first address of each range, as a number, and its value
 impl<P: Prefix, T: Copy + PartialEq, A: Allocator> Model for Fib<P, T, A> {
     ghost use Rattle.std.specs.Prelude.{List, ℕ, Option};
-    ghost use Rattle.prefix_trie_fib.specs.Compiled.{IsCompiled};
+    ghost use Rattle.prefix_trie_fib.specs.Line.{AreMerged, IsDivision, are_same};
 
     ghost Value = { List (ℕ × Option T) };
 
-    ghost view = { λ fib. fib.line };
+    ghost view = { λ fib. fib.indexed };
 
-    ghost invariant = { λ fib. IsCompiled T.PartialEq.eq P.R.bit_width fib.line fib.index.items
-        fib.bits };
+    ghost invariant = { λ fib. IsDivision fib.indexed
+        × AreMerged (are_same T.PartialEq.eq) fib.indexed };
 }
 
 impl<P: Prefix, T: Copy + PartialEq, A: Allocator + Clone> Fib<P, T, A> {
@@ -70,13 +68,11 @@ impl<P: Prefix, T: Copy + PartialEq, A: Allocator + Clone> Fib<P, T, A> {
     {
         let first = alloc.clone().map_err(|_| Refusal::Memory)?;
         let second = alloc.clone().map_err(|_| Refusal::Memory)?;
-        let line = ranges_of(map, first).map_err(|_| Refusal::Memory)?;
-        if line.len() > u32::MAX as usize {
-            return Err(Refusal::IndexRange);
-        }
-        let bits = index_bits(line.len(), P::num_bits());
-        let index = index_of(&line, bits, second).map_err(|_| Refusal::Memory)?;
-        Ok(Fib { line, index, bits })
+        let Ok(line) = ranges_of(map, first) else {
+            return Err(Refusal::Memory);
+        };
+        let indexed = Indexed::new(line, second, alloc)?;
+        Ok(Fib { indexed })
     }
 }
 
@@ -93,9 +89,7 @@ impl<P: Prefix, T: Copy + PartialEq, A: Allocator> Fib<P, T, A> {
     pub fn lookup(&self, address: P::R) -> Option<T>
         ensures { result ≡ value_along None self.now (number (P.R.bits address)) }
     {
-        let _ = address.is_key();
-        let chunk = chunk_of(address, self.bits);
-        self.index[chunk].value(&self.line, address)
+        self.indexed.lookup(address)
     }
 
     /// Returns the number of ranges, with those that have no value.
@@ -109,7 +103,7 @@ impl<P: Prefix, T: Copy + PartialEq, A: Allocator> Fib<P, T, A> {
     pub fn len(&self) -> usize
         ensures { result ≡ length self.now }
     {
-        self.line.len()
+        self.indexed.len()
     }
 
     /// Returns whether no address has a value.
@@ -123,7 +117,7 @@ impl<P: Prefix, T: Copy + PartialEq, A: Allocator> Fib<P, T, A> {
     pub fn is_empty(&self) -> bool
         ensures { IsTrue result ↔ (self.now ≡ (0, None) ∷ []) }
     {
-        self.line.len() == 1 && self.line.value(0).is_none()
+        self.indexed.len() == 1 && self.indexed.value(0).is_none()
     }
 
     /// Returns a range: its first address, the address after its last one, and its value.
@@ -147,16 +141,18 @@ impl<P: Prefix, T: Copy + PartialEq, A: Allocator> Fib<P, T, A> {
             → number (P.R.bits past) ≡ (slice_index_or self.now (i + 1) d).0)) }
         ensures value { (d : ℕ × Option T) → result.2 ≡ (slice_index_or self.now i d).1 }
     {
-        let len = self.line.len();
+        let len = self.indexed.len();
         let past = if i + 1 < len {
-            Some(self.line.start(i + 1))
+            Some(self.indexed.start(i + 1))
         } else {
             None
         };
-        (self.line.start(i), past, self.line.value(i))
+        (self.indexed.start(i), past, self.indexed.value(i))
     }
 
-    /// Returns the number of entries of the index. Each takes the size of a value and a tag.
+    /// Returns the number of chunks that the index cuts the line of addresses into.
+    ///
+    /// Each has an entry of the size of a value and a tag. A chunk with more than 32 ranges has 256 more entries.
     ///
     /// # Examples
     ///
@@ -167,6 +163,6 @@ impl<P: Prefix, T: Copy + PartialEq, A: Allocator> Fib<P, T, A> {
     pub fn index_slots(&self) -> usize
         ensures { result ≤ 2 ^ 20 }
     {
-        self.index.len()
+        self.indexed.chunks()
     }
 }

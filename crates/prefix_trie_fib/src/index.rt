@@ -1,19 +1,31 @@
 //! An index of a division of the line by the first bits of addresses.
-ghost use Rattle.std.specs.Prelude.{◌≡◌, ℕ, ◌+◌, ◌*◌, ◌-◌, ◌^◌, ◌<◌, ◌≤◌, ◌++◌, IfOk, IfSome, IsSomeAnd, None, Option, length, slice_index_or, take, true};
-ghost use Rattle.prefix_trie_bits.specs.Model.Bits.{number, zeros};
-ghost use Rattle.prefix_trie_fib.specs.Index.{IsChunk, IsIndex};
+ghost use Rattle.std.specs.Prelude.{◌≡◌, ℕ, ◌+◌, ◌*◌, ◌-◌, ◌^◌, ◌<◌, ◌≤◌, IfOk, IfSome, OnOk, Option, length, slice_index_or};
+ghost use Rattle.prefix_trie_bits.specs.Model.Bits.{number};
+ghost use Rattle.prefix_trie_fib.specs.Index.{Extends, HasParts, IsChunk, IsEntry, IsIndex};
 ghost use Rattle.prefix_trie_fib.specs.Line.{IsDivision};
 ghost use Rattle.prefix_trie_fib.specs.Search.{StartsBy};
 
 mod chunk;
+mod first_bits;
 
 use crate::ranges::{Line, is_at_most};
 pub(crate) use chunk::Chunk;
+pub(crate) use first_bits::{chunk_of, part_of};
 use prefix_trie_bits::prefix::Key;
 use std::alloc::{AllocError, Allocator};
 
-/// The most bits of an address that an index reads.
+/// The most bits of an address that select a chunk.
 const MOST_BITS: u32 = 20;
+
+/// The number of bits that select a part of a chunk.
+const PART_BITS: u32 = 8;
+
+/// An entry for each chunk, and the entries of the parts of chunks that are split.
+#[derive(Drop)]
+pub(crate) struct Index<T: Copy, A: Allocator> {
+    pub(crate) chunks: Vec<Chunk<T>, A>,
+    pub(crate) parts: Vec<Chunk<T>, A>,
+}
 
 /// Returns the index of a division by the first `bits` bits.
 ///
@@ -22,29 +34,104 @@ pub(crate) fn index_of<K: Key, T: Copy, A: Allocator, B: Allocator>(
     line: &Line<K, T, A>,
     bits: u32,
     alloc: B,
-) -> Result<Vec<Chunk<T>, B>, AllocError>
+    parts_alloc: B,
+) -> Result<Index<T, B>, AllocError>
     requires division { IsDivision line.now }
     requires few { length line.now < 2 ^ 32 }
     requires some { 0 < bits }
     requires at_most { bits ≤ 20 }
     requires within { bits ≤ K.bit_width }
-    ensures long { IfOk result (λ index. length index.items ≡ 2 ^ bits) }
-    ensures right { IfOk result (λ index. IsIndex (2 ^ (K.bit_width - bits)) line.now index.items) }
+    ensures long { IfOk result (λ index. length index.chunks.items ≡ 2 ^ bits) }
+    ensures right { IfOk result
+        (λ index. IsIndex K.bit_width bits line.now index.chunks.items index.parts.items) }
 {
     let step = K::power(K::width() - bits);
-    let mut index = Vec::with_capacity(alloc, 1 << bits)?;
+    let mut chunks = Vec::with_capacity(alloc, 1 << bits)?;
+    let mut parts = Vec::new(parts_alloc);
     let mut first = 0;
     let mut low = Some(K::zero());
     while let Some(at) = low {
         let next = at.plus(step);
         first = line.range_from(first, at);
-        index.push(chunk_at(line, first, next))?;
+        let entry = entry_at(line, bits, first, at, next, &mut parts)?;
+        chunks.push(entry)?;
         low = next;
     }
-    Ok(index)
+    Ok(Index { chunks, parts })
+}
+
+/// Returns the entry of the chunk from the address `low` up to the address `next`, or to the end of the line.
+///
+/// Its parts are appended if it is split.
+fn entry_at<K: Key, T: Copy, A: Allocator, B: Allocator>(
+    line: &Line<K, T, A>,
+    bits: u32,
+    first: usize,
+    low: K,
+    next: Option<K>,
+    parts: &mut Vec<Chunk<T>, B>,
+) -> Result<Chunk<T>, AllocError>
+    requires division { IsDivision line.now }
+    requires few { length line.now < 2 ^ 32 }
+    requires within { bits ≤ K.bit_width }
+    requires starts { StartsBy line.now first (number (K.bits low)) }
+    requires up { IfSome next (λ k. number (K.bits low) ≤ number (K.bits k)) }
+    requires line { number (K.bits low) + 2 ^ (K.bit_width - bits) ≤ 2 ^ K.bit_width }
+    ensures kept { OnOk result (Extends parts.old.items parts.new.items) }
+    ensures right { IfOk result (λ entry. (c : ℕ)
+        → number (K.bits low) ≡ c * 2 ^ (K.bit_width - bits)
+        → IfSome next (λ k. (c + 1) * 2 ^ (K.bit_width - bits) ≤ number (K.bits k))
+        → IsEntry K.bit_width bits line.now parts.new.items c entry) }
+{
+    let chunk = chunk_at(line, first, next);
+    let base = parts.len();
+    if !chunk.is_crowded() || bits + PART_BITS > K::width() || base > u32::MAX as usize {
+        return Ok(chunk);
+    }
+    push_parts(
+        line,
+        first,
+        low,
+        K::power(K::width() - (bits + PART_BITS)),
+        parts,
+    )?;
+    Ok(Chunk::Split(base as u32))
+}
+
+/// Appends the entries of 256 chunks, from the address `low` on and each of `step` addresses.
+fn push_parts<K: Key, T: Copy, A: Allocator, B: Allocator>(
+    line: &Line<K, T, A>,
+    first: usize,
+    low: K,
+    step: K,
+    parts: &mut Vec<Chunk<T>, B>,
+) -> Result<(), AllocError>
+    requires division { IsDivision line.now }
+    requires few { length line.now < 2 ^ 32 }
+    requires starts { StartsBy line.now first (number (K.bits low)) }
+    requires some { 0 < number (K.bits step) }
+    requires fits { number (K.bits low) + 256 * number (K.bits step) ≤ 2 ^ K.bit_width }
+    ensures kept { OnOk result (Extends parts.old.items parts.new.items) }
+    ensures right { OnOk result
+        ((q : ℕ) → number (K.bits low) ≡ q * number (K.bits step)
+        → HasParts line.now (number (K.bits step)) parts.new.items (length parts.old.items) q) }
+{
+    let mut from = first;
+    let mut at = low;
+    for part in 0..256_usize {
+        // The proof counts the parts by it.
+        let _ = part;
+        let next = at.plus(step);
+        from = line.range_from(from, at);
+        parts.push(chunk_at(line, from, next))?;
+        at = next.unwrap_or(at);
+    }
+    Ok(())
 }
 
 /// Returns the entry of the chunk from an address in the range `first` up to the address `next`, or to the end of the line.
+///
+/// It is not split.
 fn chunk_at<K: Key, T: Copy, A: Allocator>(
     line: &Line<K, T, A>,
     first: usize,
@@ -53,70 +140,47 @@ fn chunk_at<K: Key, T: Copy, A: Allocator>(
     requires division { IsDivision line.now }
     requires few { length line.now < 2 ^ 32 }
     requires inside { first < length line.now }
+    requires starts { IfSome next (λ k. StartsBy line.now first (number (K.bits k))) }
     ensures { (low high : ℕ) → StartsBy line.now first low
         → IfSome next (λ k. high ≤ number (K.bits k)) → IsChunk line.now low high result }
 {
-    if is_alone(line, first, next) {
+    let count = count_until(line, first, next);
+    if count <= 1 {
         match line.value(first) {
             Some(value) => Chunk::One(value),
             None => Chunk::Gap,
         }
+    } else if count <= u16::MAX as usize {
+        Chunk::Several(count as u16, first as u32)
     } else {
-        Chunk::Several(first as u32)
+        Chunk::Many(first as u32)
     }
 }
 
-/// Returns whether no range after `first` starts before the address `next`.
-fn is_alone<K: Key, T: Copy, A: Allocator>(
+/// Returns how many ranges from `first` on start before the address `next`, or how many there are.
+fn count_until<K: Key, T: Copy, A: Allocator>(
     line: &Line<K, T, A>,
     first: usize,
     next: Option<K>,
-) -> bool
-    requires { first < length line.now }
-    ensures { result ≡ true → (d : ℕ × Option T) → first + 1 < length line.now
-        → IsSomeAnd next (λ k. number (K.bits k) ≤ (slice_index_or line.now (first + 1) d).0) }
+) -> usize
+    requires division { IsDivision line.now }
+    requires inside { first < length line.now }
+    requires starts { IfSome next (λ k. StartsBy line.now first (number (K.bits k))) }
+    ensures inside { first + result ≤ length line.now }
+    ensures above { (k : ℕ) (d : ℕ × Option T) → first + result ≤ k → k < length line.now
+        → (high : ℕ) → IfSome next (λ k. high ≤ number (K.bits k))
+        → high ≤ (slice_index_or line.now k d).0 }
 {
     let len = line.len();
-    if first + 1 == len {
-        return true;
-    }
-    match next {
-        Some(end) => is_at_most(end, line.start(first + 1)),
-        None => false,
-    }
-}
-
-/// Returns the number of the first `bits` bits of an address.
-///
-/// The windows become one shift: their depths are constants.
-#[inline(always)]
-pub(crate) fn chunk_of<K: Key>(address: K, bits: u32) -> usize
-    requires at_most { bits ≤ 20 }
-    requires within { bits ≤ K.bit_width }
-    ensures { result ≡ number (take bits (K.bits address)) }
-{
-    let _ = address.is_key();
-    let first = with_window(0, address, 0);
-    let second = with_window(first, address, 5);
-    let third = with_window(second, address, 10);
-    let top = with_window(third, address, 15);
-    (top >> (MOST_BITS - bits)) as usize
-}
-
-/// Returns the number of the first `depth + 5` bits of an address, from that of the first `depth`. Bits past the end are 0.
-#[inline(always)]
-fn with_window<K: Key>(upper: u32, address: K, depth: u32) -> u32
-    requires few { depth ≤ 15 }
-    requires upper { upper ≡ number (take depth (K.bits address ++ zeros 20)) }
-    ensures { result ≡ number (take (depth + 5) (K.bits address ++ zeros 20)) }
-{
-    let _ = address.is_key();
-    let next = if depth <= K::width() {
-        address.window(depth, 5)
-    } else {
-        0
+    let Some(end) = next else {
+        return len - first;
     };
-    upper * 32 + next
+    let last = line.range_from(first, end);
+    if is_at_most(end, line.start(last)) {
+        last - first
+    } else {
+        last - first + 1
+    }
 }
 
 /// Returns how many bits the index of so many ranges reads: at most as many chunks as ranges, but at least 2^8.

@@ -3,6 +3,7 @@
 
 mod fib;
 mod index;
+mod indexed;
 pub mod laws;
 pub mod ranges;
 

@@ -1,12 +1,16 @@
 //! What a lookup reads first: the entry of a chunk of addresses.
-ghost use Rattle.std.specs.Prelude.{◌≡◌, ℕ, ◌<◌, ◌≤◌, None};
+ghost use Rattle.std.specs.Prelude.{◌≡◌, ℕ, ◌<◌, ◌≤◌, MatchOption, None};
 ghost use Rattle.prefix_trie_bits.specs.Model.Bits.{number};
-ghost use Rattle.prefix_trie_fib.specs.Index.{IsChunk};
+ghost use Rattle.prefix_trie_fib.specs.Index.{IsChunk, IsWhole};
+ghost use Rattle.prefix_trie_fib.specs.declared.index.chunk.Chunk.TheVariants.{Split};
 ghost use Rattle.prefix_trie_fib.specs.Line.{IsDivision, value_along};
 
 use crate::ranges::Line;
 use prefix_trie_bits::prefix::Key;
 use std::alloc::Allocator;
+
+/// A chunk with more ranges is split.
+const MOST_RANGES: u16 = 32;
 
 /// Which ranges a chunk of addresses has.
 #[derive(Clone, Copy)]
@@ -15,12 +19,38 @@ pub(crate) enum Chunk<T> {
     Gap,
     /// One range, with this value.
     One(T),
-    /// Several ranges, of which this is the first.
-    Several(u32),
+    /// So many ranges, from this one on.
+    Several(u16, u32),
+    /// More ranges than a `u16` counts, from this one on.
+    Many(u32),
+    /// The chunk is split into parts, whose entries begin at this place.
+    Split(u32),
 }
 
 impl<T: Copy> Chunk<T> {
+    /// Returns whether the chunk has so many ranges that it should be split.
+    pub(super) fn is_crowded(self) -> bool {
+        match self {
+            Chunk::Several(count, _) => count > MOST_RANGES,
+            Chunk::Many(_) => true,
+            Chunk::Gap | Chunk::One(_) | Chunk::Split(_) => false,
+        }
+    }
+
+    /// Returns the place of the entries of the parts, if the chunk is split.
+    #[inline(always)]
+    pub(crate) fn parts(self) -> Option<u32>
+        ensures { MatchOption result (IsWhole self) (λ base. self ≡ Split base) }
+    {
+        match self {
+            Chunk::Split(base) => Some(base),
+            Chunk::Gap | Chunk::One(_) | Chunk::Several(_, _) | Chunk::Many(_) => None,
+        }
+    }
+
     /// Returns the value of an address in the chunk.
+    ///
+    /// Requires that the chunk is not split.
     #[inline(always)]
     pub(crate) fn value<K: Key, A: Allocator>(self, line: &Line<K, T, A>, address: K) -> Option<T>
         requires division { IsDivision line.now }
@@ -29,9 +59,12 @@ impl<T: Copy> Chunk<T> {
         ensures { result ≡ value_along None line.now (number (K.bits address)) }
     {
         match self {
-            Chunk::Gap => None,
             Chunk::One(value) => Some(value),
-            Chunk::Several(first) => line.value(line.range_from(first as usize, address)),
+            Chunk::Several(count, first) => {
+                line.value(line.range_among(first as usize, count as usize, address))
+            }
+            Chunk::Many(first) => line.value(line.range_from(first as usize, address)),
+            Chunk::Gap | Chunk::Split(_) => None,
         }
     }
 }

@@ -6,14 +6,14 @@ use Rattle.prefix_trie_bits.specs.Model.Bits.{number}
 use Rattle.prefix_trie_fib.specs.Index.{IsIndex}
 use Rattle.prefix_trie_fib.specs.Search.{StartsBy}
 use Rattle.prefix_trie_fib.proofs.Between.{number_zeros}
-use Rattle.prefix_trie_fib.proofs.Chunks.{if_some, index_pushed, last_chunk, match_option, more_chunks, next_at}
+use Rattle.prefix_trie_fib.proofs.Entries.{if_some, index_pushed, last_chunk, match_option, more_chunks, next_at, within_line}
 use Rattle.prefix_trie_fib.proofs.index.index_of.Goals as goal
 
 pub loop-low-init : goal.loop-low-init
 loop-low-init g c =
-    let none : length c.in_ok-index.index.items ≡ 0 = ap length c.in_ok-index.ensures.items in
+    let none : length c.in_ok-chunks.chunks.items ≡ 0 = ap length c.in_ok-chunks.ensures.items in
     let size = 2 ^ (g.K.Key.bit_width - c.args.bits) in
-    let start : length c.in_ok-index.index.items * size ≡ 0 = ap (λ n. n * size) none ∙ (let z : 0 * size ≡ 0 = omega arith in z) in
+    let start : length c.in_ok-chunks.chunks.items * size ≡ 0 = ap (λ n. n * size) none ∙ (let z : 0 * size ≡ 0 = omega arith in z) in
     record {
       right = λ k d lt. absurd (omega (arith, lt, none));
       by = record { inside = c.requires.division.some; by = λ d. let f = c.requires.division.first d in omega (arith, f) };
@@ -25,16 +25,17 @@ loop-low-preserved g c =
     let w = g.K.Key.bit_width in
     let bits = c.args.bits in
     let size = 2 ^ (g.K.Key.bit_width - c.args.bits) in
-    let count = length c.loop-low.index.items in
+    let count = length c.loop-low.chunks.items in
     let now : (number (g.K.Key.bits c.in-Some.at) ≡ count * size) × (count < 2 ^ bits) =
     subst (λ o. MatchOption o (count ≡ 2 ^ bits) (λ at. (number (g.K.Key.bits at) ≡ count * size) × (count < 2 ^ bits))) c.in-Some.is c.loop-low.invariant.next in
     let step : number (g.K.Key.bits c.power-step.result) ≡ size = c.power-step.ensures.value ∙ ap (λ n. 2 ^ (n - bits)) c.width.ensures in
-    let longer : length c.push.new.self.items ≡ count + 1 = ap length c.in_ok-push.ensures.items ∙ length-append c.loop-low.index.items (c.chunk_at.result ∷ []) in
+    let longer : length c.push.new.self.items ≡ count + 1 = ap length c.in_ok-push.ensures.items ∙ length-append c.loop-low.chunks.items (c.in_ok-entry.entry ∷ []) in
     let sum = next_at w bits count (number (g.K.Key.bits c.in-Some.at)) (number (g.K.Key.bits c.power-step.result)) c.requires.within step now.0 in
     let starts : StartsBy c.args.line.now c.range_from-first.result (count * size) = subst (StartsBy c.args.line.now c.range_from-first.result) now.0 c.range_from-first.ensures.starts in
     record {
-      right = subst (IsIndex size c.args.line.now) (sym c.in_ok-push.ensures.items) (index_pushed size c.args.line.now c.loop-low.index.items c.chunk_at.result c.loop-low.invariant.right
-          (c.chunk_at.ensures (count * size) ((count + 1) * size) starts
+      right = subst (λ xs. IsIndex w bits c.args.line.now xs c.entry_at.new.parts.items) (sym c.in_ok-push.ensures.items)
+          (index_pushed c.args.line.now w bits c.loop-low.chunks.items c.loop-low.parts.items c.entry_at.new.parts.items c.in_ok-entry.entry c.in_ok-entry.ensures.kept c.loop-low.invariant.right
+          (c.in_ok-entry.ensures.right count now.0
           (if_some c.plus-next.result _ _ (λ k. (count + 1) * size ≤ number (g.K.Key.bits k)) (λ k h. (let e = h.1 in omega (arith, e, sum))) c.plus-next.ensures)));
       by = record {
         inside = starts.inside;
@@ -51,3 +52,14 @@ loop-low-preserved g c =
                 omega (arith, longer, more)),
           )) c.plus-next.ensures;
     }
+
+pub entry_at-requires-clause-line : goal.entry_at-requires-clause-line
+entry_at-requires-clause-line g c =
+    let w = g.K.Key.bit_width in
+    let bits = c.args.bits in
+    let size = 2 ^ (g.K.Key.bit_width - c.args.bits) in
+    let count = length c.loop-low.chunks.items in
+    let now : (number (g.K.Key.bits c.in-Some.at) ≡ count * size) × (count < 2 ^ bits) =
+    subst (λ o. MatchOption o (count ≡ 2 ^ bits) (λ at. (number (g.K.Key.bits at) ≡ count * size) × (count < 2 ^ bits))) c.in-Some.is c.loop-low.invariant.next in
+    let step : number (g.K.Key.bits c.power-step.result) ≡ size = c.power-step.ensures.value ∙ ap (λ n. 2 ^ (n - bits)) c.width.ensures in
+    within_line w bits count (number (g.K.Key.bits c.in-Some.at)) (number (g.K.Key.bits c.power-step.result)) c.requires.within step now.0 now.1

@@ -8,11 +8,11 @@ use Rattle.prefix_trie_fib.proofs.index.index_of.Given as goal
 
 abbrev pub invariant-loop-low : goal.invariant-loop-low
 invariant-loop-low g l = record {
-  right : IsIndex (2 ^ (g.K.Key.bit_width - l.bits)) l.line l.index.items;
-  by : StartsBy l.line l.first (length l.index.items * 2 ^ (g.K.Key.bit_width - l.bits));
-  next : MatchOption l.low (length l.index.items ≡ 2 ^ l.bits)
-      (λ at. (number (g.K.Key.bits at) ≡ length l.index.items * 2 ^ (g.K.Key.bit_width - l.bits)) × (length l.index.items < 2 ^ l.bits));
+  right : IsIndex g.K.Key.bit_width l.bits l.line l.chunks.items l.parts.items;
+  by : StartsBy l.line l.first (length l.chunks.items * 2 ^ (g.K.Key.bit_width - l.bits));
+  next : MatchOption l.low (length l.chunks.items ≡ 2 ^ l.bits)
+      (λ at. (number (g.K.Key.bits at) ≡ length l.chunks.items * 2 ^ (g.K.Key.bit_width - l.bits)) × (length l.chunks.items < 2 ^ l.bits));
 }
 
 abbrev pub decreases-loop-low : goal.decreases-loop-low
-decreases-loop-low g l = 2 ^ l.bits - length l.index.items
+decreases-loop-low g l = 2 ^ l.bits - length l.chunks.items

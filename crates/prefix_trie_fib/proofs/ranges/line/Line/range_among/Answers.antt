@@ -3,8 +3,8 @@ use Rattle.std.proofs.Common.{◌+◌, ◌/◌, subst, sym, arith}
 use Rattle.prefix_trie_bits.specs.Model.Bits.{number}
 use Rattle.prefix_trie_fib.specs.Search.{StartsBy}
 use Rattle.prefix_trie_fib.proofs.Along.{above_middle}
-use Rattle.prefix_trie_fib.proofs.ranges.line.Line.range_after.Goals.{then-is_at_most, else-is_at_most}
-use Rattle.prefix_trie_fib.proofs.ranges.line.Line.range_after.Goals as goal
+use Rattle.prefix_trie_fib.proofs.ranges.line.Line.range_among.Goals.{then-is_at_most, else-is_at_most}
+use Rattle.prefix_trie_fib.proofs.ranges.line.Line.range_among.Goals as goal
 
 pub loop-size-preserved : goal.loop-size-preserved
 loop-size-preserved g c = elim c.if-is_at_most.branch [

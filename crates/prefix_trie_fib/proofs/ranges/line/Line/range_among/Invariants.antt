@@ -2,7 +2,7 @@
 use Rattle.std.proofs.Common.{◌<◌, ◌≤◌, ℕ, ◌+◌, length, get_or}
 use Rattle.prefix_trie_bits.specs.Model.Bits.{number}
 use Rattle.prefix_trie_fib.specs.Search.{StartsBy}
-use Rattle.prefix_trie_fib.proofs.ranges.line.Line.range_after.Given as goal
+use Rattle.prefix_trie_fib.proofs.ranges.line.Line.range_among.Given as goal
 
 abbrev pub invariant-loop-size : goal.invariant-loop-size
 invariant-loop-size g l = record {

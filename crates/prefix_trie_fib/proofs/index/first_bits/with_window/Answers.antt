@@ -1,8 +1,8 @@
 -- One more window, which is 0 past the end of the address.
 use Rattle.std.proofs.Common.{◌≡◌, ◌∙◌, length, arith}
 use Rattle.prefix_trie_fib.proofs.Chunks.{upper_fits, window_fits, window_joined, window_padded, window_past}
-use Rattle.prefix_trie_fib.proofs.index.with_window.Goals.{then-depth-width, else-depth-width}
-use Rattle.prefix_trie_fib.proofs.index.with_window.Goals as goal
+use Rattle.prefix_trie_fib.proofs.index.first_bits.with_window.Goals.{then-depth-width, else-depth-width}
+use Rattle.prefix_trie_fib.proofs.index.first_bits.with_window.Goals as goal
 
 pub returns : goal.returns
 returns g c =

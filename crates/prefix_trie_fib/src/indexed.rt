@@ -1,0 +1,108 @@
+//! A division of the line of addresses with an index of it.
+ghost use Rattle.std.specs.Prelude.{◌≡◌, ℕ, ◌^◌, ◌<◌, ◌≤◌, IfOk, None, Option, length, slice_index_or};
+ghost use Rattle.prefix_trie_bits.specs.Model.Bits.{number};
+ghost use Rattle.prefix_trie_fib.specs.Index.{IsChunk};
+ghost use Rattle.prefix_trie_fib.specs.Line.{IsDivision, value_along};
+
+use crate::index::{Chunk, Index, chunk_of, index_bits, index_of, part_of};
+use crate::ranges::Line;
+use prefix_trie_bits::prefix::{Key, Refusal};
+use std::alloc::Allocator;
+use std::marker::Model;
+
+/// Ranges of addresses, found by the first bits of an address.
+#[derive(Drop)]
+pub(crate) struct Indexed<K: Key, T: Copy, A: Allocator> {
+    line: Line<K, T, A>,
+    index: Index<T, A>,
+    bits: u32,
+}
+
+// a contract sees the first address of each range, as a number, and its value
+impl<K: Key, T: Copy, A: Allocator> Model for Indexed<K, T, A> {
+    ghost use Rattle.std.specs.Prelude.{List, ℕ, Option};
+    ghost use Rattle.prefix_trie_fib.specs.Compiled.{IsCompiled};
+
+    ghost Value = { List (ℕ × Option T) };
+
+    ghost view = { λ indexed. indexed.line };
+
+    ghost invariant = { λ indexed. IsCompiled K.bit_width indexed.line indexed.index.chunks.items
+        indexed.index.parts.items indexed.bits };
+}
+
+impl<K: Key, T: Copy, A: Allocator> Indexed<K, T, A> {
+    /// Creates the index of a division.
+    ///
+    /// # Errors
+    ///
+    /// Returns `Memory` if an allocation fails, and `IndexRange` if there are 2^32 ranges or more.
+    pub(crate) fn new(line: Line<K, T, A>, alloc: A, parts_alloc: A) -> Result<Self, Refusal>
+        requires { IsDivision line }
+        ensures { IfOk result (λ indexed. indexed ≡ line) }
+    {
+        if line.len() > u32::MAX as usize {
+            return Err(Refusal::IndexRange);
+        }
+        let bits = index_bits(line.len(), K::width());
+        let index = index_of(&line, bits, alloc, parts_alloc).map_err(|_| Refusal::Memory)?;
+        Ok(Indexed { line, index, bits })
+    }
+
+    /// Returns the number of ranges.
+    pub(crate) fn len(&self) -> usize
+        ensures { result ≡ length self.now }
+    {
+        self.line.len()
+    }
+
+    /// Returns the first address of a range.
+    ///
+    /// Requires that `i` is below the number of ranges.
+    pub(crate) fn start(&self, i: usize) -> K
+        requires { i < length self.now }
+        ensures { (d : ℕ × Option T) → number (K.bits result) ≡ (slice_index_or self.now i d).0 }
+    {
+        self.line.start(i)
+    }
+
+    /// Returns the value of a range.
+    ///
+    /// Requires that `i` is below the number of ranges.
+    pub(crate) fn value(&self, i: usize) -> Option<T>
+        requires { i < length self.now }
+        ensures { (d : ℕ × Option T) → result ≡ (slice_index_or self.now i d).1 }
+    {
+        self.line.value(i)
+    }
+
+    /// Returns the number of chunks of the index.
+    pub(crate) fn chunks(&self) -> usize
+        ensures { result ≤ 2 ^ 20 }
+    {
+        self.index.chunks.len()
+    }
+
+    /// Returns the value of the range of an address.
+    #[inline(always)]
+    pub(crate) fn lookup(&self, address: K) -> Option<T>
+        ensures { result ≡ value_along None self.now (number (K.bits address)) }
+    {
+        self.chunk(address).value(&self.line, address)
+    }
+
+    /// Returns the entry of an address: that of its chunk, or of its part of the chunk if the chunk is split.
+    #[inline(always)]
+    fn chunk(&self, address: K) -> Chunk<T>
+        ensures { (low : ℕ) × (high : ℕ) × IsChunk self.now low high result
+            × (low ≤ number (K.bits address)) × (number (K.bits address) < high) }
+    {
+        let _ = address.is_key();
+        let chunk = chunk_of(address, self.bits);
+        let entry = self.index.chunks[chunk];
+        match entry.parts() {
+            Some(base) => self.index.parts[base as usize + part_of(address, self.bits)],
+            None => entry,
+        }
+    }
+}
