@@ -1,0 +1,9 @@
+-- The invariant of `fill`: the set has the networks that the iterator gave so far.
+use Rattle.std.proofs.Common.{◌≡◌, map}
+use Rattle.prefix_trie.specs.Words.{as_item, put_all}
+use Rattle.prefix_trie_joint.specs.Joined.{keys_of}
+use Rattle.prefix_trie_joint.specs.Networks.{ip_path}
+use Rattle.prefix_trie_joint.proofs.set.collecting.fill.Given as goal
+
+abbrev pub invariant-loop-prefix : goal.invariant-loop-prefix
+invariant-loop-prefix g l = keys_of l.set ≡ put_all ip_path (map as_item l.yielded) (keys_of l.fn.set)

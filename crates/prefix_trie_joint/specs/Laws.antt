@@ -1,0 +1,25 @@
+-- How the joined entries follow from those of each family, as a statement for contracts. This project's own.
+use Rattle.std.specs.Prelude.{◌≡◌, ◌+◌, Bool, true, false, List, [], ◌∷◌, ◌++◌, None}
+use Rattle.std.specs.FinMap.{get, len}
+use Rattle.prefix_trie.specs.Words.{Entries, listing, with_entry}
+use Rattle.prefix_trie_joint.specs.declared.prefix.IpPrefix.{IpPrefix}
+use Rattle.prefix_trie_joint.specs.declared.map.JointPrefixMap.{JointPrefixMap}
+use Rattle.prefix_trie_joint.specs.Joined.{entries_of, joined, under}
+use Rattle.prefix_trie_joint.specs.Lending.{with_value_of}
+use Rattle.prefix_trie_joint.specs.Networks.{ip_path}
+
+pub record FamilyLaws (T A : Type 0) : Type 0 where
+  -- the value of a key is the one that its family has
+  pub ipv4 : (a b : Entries T) (s : List Bool) → get (joined a b) (false ∷ s) ≡ get a s
+  pub ipv6 : (a b : Entries T) (s : List Bool) → get (joined a b) (true ∷ s) ≡ get b s
+  -- no network has the empty key
+  pub neither : (a b : Entries T) → get (joined a b) [] ≡ None
+  -- the IPv4 entries come first, and then the IPv6 entries
+  pub listed : (a b : Entries T) → listing (joined a b) ≡ under false (listing a) ++ under true (listing b)
+  -- there are as many as both families have
+  pub count : (a b : Entries T) → len (joined a b) ≡ len a + len b
+  -- they determine the entries of each family
+  pub ipv4_determined : (a b c d : Entries T) → joined a b ≡ joined c d → a ≡ c
+  pub ipv6_determined : (a b c d : Entries T) → joined a b ≡ joined c d → b ≡ d
+  -- what is written through a `&mut` to a value is the new value of its network
+  pub written : (m : JointPrefixMap T A) (p : IpPrefix) (x : T) → entries_of (with_value_of m p x) ≡ with_entry (entries_of m) (ip_path p) x

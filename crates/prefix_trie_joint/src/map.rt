@@ -1,0 +1,195 @@
+//! Maps from networks of both families to values.
+//!
+//! Contracts see the entries of both families as one finite map. Its keys are the bit of the family,
+//! 0 for IPv4 and 1 for IPv6, and then the path of the network.
+ghost use Rattle.std.specs.Prelude.{◌≡◌, ◌<◌, ◌^◌, ◌↔◌, IfErr, IfOk, IsErr, IsTrue, OnErr, OnOk};
+ghost use Rattle.std.specs.FinMap.{get, len};
+ghost use Rattle.prefix_trie_bits.specs.declared.prefix.Refusal.TheVariants.{IndexRange, Memory};
+ghost use Rattle.prefix_trie.specs.Words.{no_entries, with_entry};
+ghost use Rattle.prefix_trie_joint.specs.Joined.{entries_of};
+ghost use Rattle.prefix_trie_joint.specs.Networks.{ip_path};
+
+mod collecting;
+mod copying;
+mod cover;
+mod equality;
+mod fmt;
+mod into_iter;
+mod lending;
+mod lookup;
+mod memory;
+mod removal;
+mod splitting;
+mod walks;
+
+use crate::prefix::IpPrefix;
+pub use cover::{Cover, CoverKeys, CoverValues};
+pub use into_iter::{IntoIter, IntoKeys, IntoValues};
+use prefix_trie::{Ipv4Prefix, Ipv6Prefix, PrefixMap, Refusal, Refused};
+use std::alloc::Allocator;
+pub use walks::{Iter, Keys, Values};
+
+/// A map from IPv4 and IPv6 networks to values, in memory of the allocator `A`.
+///
+/// It is a map for each family, and both may be used directly: `map.ipv6.node_count()`. No call has a
+/// `requires`: a network of either family always fits.
+///
+/// In examples, a comment `map = {..}` says what a map with `u32` values holds at the start. The
+/// comment after an expression is its value as `{:?}` prints it, or the list of what an iterator
+/// returns.
+///
+/// # Examples
+///
+/// ```rust
+/// let mut map: JointPrefixMap<u32, Global> = JointPrefixMap::new(alloc)?;
+/// map.insert("10.0.0.0/8".parse()?, 1)?;          // None
+/// map.insert("2001:db8::/32".parse()?, 2)?;       // None
+/// map.get_lpm(&"10.1.2.3/32".parse()?);           // Some((V4(10.0.0.0/8), 1))
+/// map.get_lpm_value(&"2001:db8::1/128".parse()?); // Some(2)
+/// map.ipv6.len();                                 // 1
+/// ```
+#[derive(Drop)]
+pub struct JointPrefixMap<T: Drop, A: Allocator> {
+    /// The IPv4 networks.
+    pub ipv4: PrefixMap<Ipv4Prefix, T, A>,
+    /// The IPv6 networks.
+    pub ipv6: PrefixMap<Ipv6Prefix, T, A>,
+}
+
+impl<T: Drop, A: Allocator + Clone> JointPrefixMap<T, A> {
+    /// Creates an empty map, with a clone of the allocator for the second family.
+    ///
+    /// No array of either family can ever be longer than `u32::MAX` slots.
+    ///
+    /// # Errors
+    ///
+    /// Returns `Memory` if an allocation fails. No map exists then.
+    ///
+    /// # Examples
+    ///
+    /// ```rust
+    /// let map: JointPrefixMap<u32, Global> = JointPrefixMap::new(alloc)?;
+    /// map.len();      // 0
+    /// ```
+    #[tactic(auto, using(crate::proofs::Changes::none_joined))]
+    pub fn new(alloc: A) -> Result<Self, Refusal>
+        ensures entries { IfOk result (λ map. entries_of map ≡ no_entries) }
+        ensures only_memory { IfErr result (λ refusal. refusal ≡ Memory) }
+    {
+        let Ok(second) = alloc.clone() else {
+            return Err(Refusal::Memory);
+        };
+        Ok(JointPrefixMap {
+            ipv4: PrefixMap::new(alloc)?,
+            ipv6: PrefixMap::new(second)?,
+        })
+    }
+
+    /// Creates an empty map, none of whose arrays is ever longer than `limit` slots.
+    ///
+    /// There are four arrays: those of nodes and of values, for each family.
+    ///
+    /// # Errors
+    ///
+    /// Returns `IndexRange` if `limit` is 0, since each root needs a slot. Otherwise returns `Memory`
+    /// if an allocation fails. No map exists then.
+    ///
+    /// # Examples
+    ///
+    /// ```rust
+    /// let mut map: JointPrefixMap<u32, Global> = JointPrefixMap::with_slot_limit(alloc, 4)?;
+    /// map.insert("0.0.0.0/32".parse()?, 1);       // Err(Refused { cause: IndexRange, value: 1 }): it needs six more nodes
+    /// map.insert("::/4".parse()?, 2);             // Ok(None)
+    /// ```
+    #[tactic(auto, using(crate::proofs::Changes::none_joined))]
+    pub fn with_slot_limit(alloc: A, limit: u32) -> Result<Self, Refusal>
+        ensures entries { IfOk result (λ map. entries_of map ≡ no_entries) }
+        ensures limit { IfOk result
+            (λ map. (map.ipv4.space.limit ≡ limit) × (map.ipv6.space.limit ≡ limit)) }
+        ensures range { IfErr result (λ cause. (cause ≡ IndexRange) ↔ (limit ≡ 0)) }
+        ensures none { limit ≡ 0 → IsErr result }
+    {
+        if limit == 0 {
+            return Err(Refusal::IndexRange);
+        }
+        let Ok(second) = alloc.clone() else {
+            return Err(Refusal::Memory);
+        };
+        Ok(JointPrefixMap {
+            ipv4: PrefixMap::with_slot_limit(alloc, limit)?,
+            ipv6: PrefixMap::with_slot_limit(second, limit)?,
+        })
+    }
+}
+
+impl<T: Drop, A: Allocator> JointPrefixMap<T, A> {
+    /// Returns the number of entries of both families.
+    ///
+    /// # Examples
+    ///
+    /// ```rust
+    /// // map = {10.0.0.0/8: 1, 2001:db8::/32: 2, 2001:db8:1::/48: 3}
+    /// (map.len(), map.ipv4.len());        // (3, 1)
+    /// ```
+    #[inline]
+    #[tactic(auto, using(crate::proofs::Walks::len_joined))]
+    pub fn len(&self) -> usize
+        ensures count { result ≡ len (entries_of self.now) }
+        ensures few { len (entries_of self.now) < 2 ^ 33 }
+    {
+        self.ipv4.len() + self.ipv6.len()
+    }
+
+    /// Returns whether there are no entries of either family.
+    ///
+    /// # Examples
+    ///
+    /// ```rust
+    /// // map = {2001:db8::/32: 1}
+    /// map.is_empty();     // false
+    /// map.clear();
+    /// map.is_empty();     // true
+    /// ```
+    #[inline]
+    #[tactic(auto, using(crate::proofs::Changes::none_joined, crate::proofs::Changes::none_ipv4, crate::proofs::Changes::none_ipv6))]
+    pub fn is_empty(&self) -> bool
+        ensures { IsTrue result ↔ (entries_of self.now ≡ no_entries) }
+    {
+        self.ipv4.is_empty() && self.ipv6.is_empty()
+    }
+
+    /// Sets the value of a network and returns the previous one.
+    ///
+    /// Inserting a network that is already stored never fails and does not allocate.
+    ///
+    /// # Errors
+    ///
+    /// Returns the value back, with the cause, if a new network needs a block that cannot be made:
+    /// `Memory` if an allocation fails, `IndexRange` if the missing blocks would exceed the slot
+    /// limit. The entries are unchanged then.
+    ///
+    /// # Examples
+    ///
+    /// ```rust
+    /// // map = {}
+    /// map.insert("2001:db8::/32".parse()?, 1)?;       // None
+    /// map.insert("2001:db8::1/32".parse()?, 2)?;      // Some(1): both have one path
+    /// map.insert("0.0.0.0/0".parse()?, 3)?;           // None
+    /// map.insert("::/0".parse()?, 4)?;                // None: the families are apart
+    /// ```
+    #[inline]
+    #[tactic(auto, using(crate::proofs::Joined::get_ipv4, crate::proofs::Joined::get_ipv6, crate::proofs::Changes::with_ipv4, crate::proofs::Changes::with_ipv6))]
+    pub fn insert(&mut self, prefix: IpPrefix, value: T) -> Result<Option<T>, Refused<T>>
+        ensures before { IfOk result
+            (λ before. before ≡ get (entries_of self.old) (ip_path prefix)) }
+        ensures entries { OnOk result
+            (entries_of self.new ≡ with_entry (entries_of self.old) (ip_path prefix) value) }
+        ensures unchanged { OnErr result (entries_of self.new ≡ entries_of self.old) }
+        ensures returned { IfErr result (λ refused. refused.value ≡ value) }
+    {
+        match prefix {
+            IpPrefix::V4(network) => self.ipv4.insert(network, value),
+            IpPrefix::V6(network) => self.ipv6.insert(network, value),
+        }
+    }
+}

@@ -1,0 +1,175 @@
+//! Walks of both families that consume a map and move its values out.
+//!
+//! Contracts see each walk as the list of the items still to come.
+ghost use Rattle.std.specs.Prelude.{◌≡◌, ◌<◌, ◌^◌, length, map};
+ghost use Rattle.std.specs.FinMap.{len};
+ghost use Rattle.std.specs.Iterator.{at_most};
+ghost use Rattle.std.specs.Map.Iter.{GivesInOrder, TakesFirst};
+ghost use Rattle.prefix_trie.specs.Words.{listing, prefix_pairs};
+ghost use Rattle.prefix_trie_joint.specs.Joined.{entries_of};
+ghost use Rattle.prefix_trie_joint.specs.Networks.{ip_back};
+
+use crate::map::JointPrefixMap;
+use crate::prefix::IpPrefix;
+use prefix_trie::map::{self, Keyed, KeysOf};
+use prefix_trie::{Ipv4Prefix, Ipv6Prefix};
+use std::alloc::Allocator;
+use std::iter::IntoIterator;
+use std::marker::Model;
+
+impl<T: Drop, A: Allocator> JointPrefixMap<T, A> {
+    /// Consumes the map and returns a walk over its networks, in the order of `iter`.
+    ///
+    /// Each value is dropped when its network is returned, and the rest with the walk.
+    ///
+    /// # Examples
+    ///
+    /// ```rust
+    /// // map = {::/0: 1, 10.0.0.0/8: 2}
+    /// map.into_keys().next();     // Some(V4(10.0.0.0/8))
+    /// ```
+    #[inline]
+    pub fn into_keys(self) -> IntoKeys<T, A>
+        ensures items { result ≡ map (λ e. ip_back e.0) (listing (entries_of self)) }
+        ensures counted { length result ≡ len (entries_of self) }
+        ensures fits { len (entries_of self) < 2 ^ 64 }
+        ensures runs { GivesInOrder IpPrefix }
+    {
+        KeysOf::new(self.into_iter())
+    }
+
+    /// Consumes the map and returns a walk over its values, in the order of `iter`.
+    ///
+    /// # Examples
+    ///
+    /// ```rust
+    /// // map = {::/0: 1, 10.0.0.0/8: 2}
+    /// map.into_values();      // [2, 1]
+    /// ```
+    #[inline]
+    pub fn into_values(self) -> IntoValues<T, A>
+        ensures items { result ≡ map (λ e. e.1) (listing (entries_of self)) }
+        ensures counted { length result ≡ len (entries_of self) }
+        ensures fits { len (entries_of self) < 2 ^ 64 }
+        ensures runs { GivesInOrder T }
+    {
+        IntoValues {
+            inner: self.into_iter(),
+        }
+    }
+}
+
+impl<T: Drop, A: Allocator> IntoIterator for JointPrefixMap<T, A> {
+    type Item = (IpPrefix, T);
+
+    type IntoIter = IntoIter<T, A>;
+
+    ghost use Rattle.prefix_trie_joint.specs.declared.prefix.IpPrefix.{IpPrefix};
+
+    ghost into_iter_gives = { λ s it. (it ≡ prefix_pairs ip_back (listing (entries_of s)))
+        × (length it ≡ len (entries_of s)) × (len (entries_of s) < 2 ^ 64)
+        × GivesInOrder (IpPrefix × T) };
+
+    #[inline]
+    fn into_iter(self) -> IntoIter<T, A> {
+        IntoIter {
+            ipv4: self.ipv4.into_iter(),
+            ipv6: self.ipv6.into_iter(),
+        }
+    }
+}
+
+/// The entries of a joint map in the order of `iter`: each network, without host bits, with its value, which is moved out.
+///
+/// The walk does not allocate. After its last item it returns `None` each time. Entries that it has not
+/// returned are dropped with it.
+///
+/// # Examples
+///
+/// ```rust
+/// // map = {::/0: 1, 10.0.0.0/8: 2}
+/// map.into_iter().next();     // Some((V4(10.0.0.0/8), 2))
+/// ```
+#[derive(Drop)]
+pub struct IntoIter<T: Drop, A: Allocator> {
+    ipv4: map::IntoIter<Ipv4Prefix, T, A>,
+    ipv6: map::IntoIter<Ipv6Prefix, T, A>,
+}
+
+impl<T: Drop, A: Allocator> Model for IntoIter<T, A> {
+    ghost use Rattle.std.specs.Prelude.{List};
+    ghost use Rattle.prefix_trie_joint.specs.Joined.{both};
+    ghost use Rattle.prefix_trie_joint.specs.declared.prefix.IpPrefix.{IpPrefix};
+
+    ghost Value = { List (IpPrefix × T) };
+
+    ghost view = { λ it. both it.ipv4 it.ipv6 };
+}
+
+impl<T: Drop, A: Allocator> Iterator for IntoIter<T, A> {
+    type Item = (IpPrefix, T);
+
+    ghost next_gives = { TakesFirst (λ item. item) };
+
+    ghost remaining = { λ items. at_most (length items) };
+
+    #[inline]
+    fn next(&mut self) -> Option<(IpPrefix, T)> {
+        if let Some((network, value)) = self.ipv4.next() {
+            return Some((IpPrefix::V4(network), value));
+        }
+        let Some((network, value)) = self.ipv6.next() else {
+            return None;
+        };
+        Some((IpPrefix::V6(network), value))
+    }
+}
+
+impl<T: Drop, A: Allocator> Keyed for IntoIter<T, A> {
+    ghost use Rattle.std.specs.Prelude.{map};
+
+    type Key = IpPrefix;
+
+    ghost keys = { map (λ e. e.0) };
+
+    #[inline]
+    fn next_key(&mut self) -> Option<IpPrefix> {
+        let Some((network, _value)) = self.next() else {
+            return None;
+        };
+        Some(network)
+    }
+}
+
+/// The networks of a joint map in the order of `iter`, without host bits. The values are dropped.
+pub type IntoKeys<T, A> = KeysOf<IntoIter<T, A>>;
+
+/// The values of a joint map, moved out in the order of `iter`.
+#[derive(Drop)]
+pub struct IntoValues<T: Drop, A: Allocator> {
+    inner: IntoIter<T, A>,
+}
+
+impl<T: Drop, A: Allocator> Model for IntoValues<T, A> {
+    ghost use Rattle.std.specs.Prelude.{List, map};
+
+    ghost Value = { List T };
+
+    ghost view = { λ it. map (λ e. e.1) it.inner };
+}
+
+impl<T: Drop, A: Allocator> Iterator for IntoValues<T, A> {
+    type Item = T;
+
+    ghost next_gives = { TakesFirst (λ v. v) };
+
+    ghost remaining = { λ items. at_most (length items) };
+
+    #[inline]
+    fn next(&mut self) -> Option<T> {
+        let Some((_, value)) = self.inner.next() else {
+            return None;
+        };
+        Some(value)
+    }
+}

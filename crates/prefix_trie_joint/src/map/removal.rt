@@ -1,0 +1,105 @@
+//! Removing entries.
+ghost use Rattle.std.specs.Prelude.{◌≡◌};
+ghost use Rattle.std.specs.FinMap.{get};
+ghost use Rattle.prefix_trie.specs.Words.{no_entries, without_below, without_entry};
+ghost use Rattle.prefix_trie_joint.specs.Joined.{entries_of};
+ghost use Rattle.prefix_trie_joint.specs.Networks.{ip_path};
+
+use crate::map::JointPrefixMap;
+use crate::prefix::IpPrefix;
+use std::alloc::Allocator;
+
+impl<T: Drop, A: Allocator> JointPrefixMap<T, A> {
+    /// Removes the value of a network and returns it.
+    ///
+    /// Then the nodes that have no value and no child are removed, from the network's own node
+    /// upward, as by `PrefixMap::remove`. The call never fails.
+    ///
+    /// # Examples
+    ///
+    /// ```rust
+    /// // map = {2001:db8::/32: 1}
+    /// map.remove(&"2001:db8::1/32".parse()?);     // Some(1)
+    /// map.remove(&"2001:db8::/32".parse()?);      // None
+    /// ```
+    #[inline]
+    #[tactic(auto, using(crate::proofs::Joined::get_ipv4, crate::proofs::Joined::get_ipv6, crate::proofs::Changes::without_ipv4, crate::proofs::Changes::without_ipv6))]
+    pub fn remove(&mut self, prefix: &IpPrefix) -> Option<T>
+        ensures value { result ≡ get (entries_of self.old) (ip_path prefix.now) }
+        ensures entries { entries_of self.new
+            ≡ without_entry (entries_of self.old) (ip_path prefix.now) }
+    {
+        match prefix.again() {
+            IpPrefix::V4(network) => self.ipv4.remove(&network),
+            IpPrefix::V6(network) => self.ipv6.remove(&network),
+        }
+    }
+
+    /// Removes the value of a network and returns it, and keeps all nodes.
+    ///
+    /// The call never fails.
+    ///
+    /// # Examples
+    ///
+    /// ```rust
+    /// // map = {0.0.0.0/32: 1}
+    /// map.remove_keep_tree(&"0.0.0.0/32".parse()?);       // Some(1)
+    /// map.ipv4.node_count();                              // 7: as before
+    /// ```
+    #[inline]
+    #[tactic(auto, using(crate::proofs::Joined::get_ipv4, crate::proofs::Joined::get_ipv6, crate::proofs::Changes::without_ipv4, crate::proofs::Changes::without_ipv6))]
+    pub fn remove_keep_tree(&mut self, prefix: &IpPrefix) -> Option<T>
+        ensures value { result ≡ get (entries_of self.old) (ip_path prefix.now) }
+        ensures entries { entries_of self.new
+            ≡ without_entry (entries_of self.old) (ip_path prefix.now) }
+        ensures ipv4_nodes { self.new.ipv4.nodes ≡ self.old.ipv4.nodes }
+        ensures ipv6_nodes { self.new.ipv6.nodes ≡ self.old.ipv6.nodes }
+    {
+        match prefix.again() {
+            IpPrefix::V4(network) => self.ipv4.remove_keep_tree(&network),
+            IpPrefix::V6(network) => self.ipv6.remove_keep_tree(&network),
+        }
+    }
+
+    /// Removes the entries that this network contains, its own included, and drops their values.
+    ///
+    /// The call never fails. `remove_children` returns the entries instead.
+    ///
+    /// # Examples
+    ///
+    /// ```rust
+    /// // map = {10.1.0.0/16: 1, 10.1.2.0/24: 2, 2001:db8::/32: 3}
+    /// map.drop_children(&"0.0.0.0/0".parse()?);
+    /// map.values();       // [3]
+    /// ```
+    #[inline]
+    #[tactic(auto, using(crate::proofs::Changes::below_kept_ipv4, crate::proofs::Changes::below_kept_ipv6))]
+    pub fn drop_children(&mut self, prefix: &IpPrefix)
+        ensures { entries_of self.new ≡ without_below (entries_of self.old) (ip_path prefix.now) }
+    {
+        match prefix.again() {
+            IpPrefix::V4(network) => self.ipv4.drop_children(&network),
+            IpPrefix::V6(network) => self.ipv6.drop_children(&network),
+        }
+    }
+
+    /// Removes all entries of both families, and all nodes but the two roots.
+    ///
+    /// The call does not allocate, and it never fails.
+    ///
+    /// # Examples
+    ///
+    /// ```rust
+    /// // map = {10.1.0.0/16: 1, 2001:db8::/32: 2}
+    /// map.clear();
+    /// map.len();      // 0
+    /// ```
+    #[inline]
+    #[tactic(auto, using(crate::proofs::Changes::none_joined))]
+    pub fn clear(&mut self)
+        ensures { entries_of self.new ≡ no_entries }
+    {
+        self.ipv4.clear();
+        self.ipv6.clear();
+    }
+}

@@ -1,0 +1,78 @@
+//! Splitting entries off as a second map.
+ghost use Rattle.std.specs.Prelude.{◌≡◌, IfErr, IfOk, OnErr, OnOk};
+ghost use Rattle.prefix_trie_bits.specs.declared.prefix.Refusal.TheVariants.{Memory};
+ghost use Rattle.prefix_trie.specs.Words.{no_entries, part_below, without_below};
+ghost use Rattle.prefix_trie_joint.specs.Joined.{entries_of};
+ghost use Rattle.prefix_trie_joint.specs.Networks.{ip_path};
+
+use crate::map::JointPrefixMap;
+use crate::prefix::IpPrefix;
+use prefix_trie::Refusal;
+use std::alloc::Allocator;
+
+impl<T: Drop, A: Allocator + Clone> JointPrefixMap<T, A> {
+    /// Creates an empty map with clones of this map's allocators, and the same slot limits.
+    ///
+    /// # Errors
+    ///
+    /// Returns `Memory` if an allocation fails. No map exists then.
+    ///
+    /// # Examples
+    ///
+    /// ```rust
+    /// // map = {10.1.0.0/16: 1}
+    /// map.new_like()?.len();      // 0
+    /// ```
+    #[tactic(auto, using(crate::proofs::Changes::none_joined))]
+    pub fn new_like(&self) -> Result<Self, Refusal>
+        ensures entries { IfOk result (λ map. entries_of map ≡ no_entries) }
+        ensures only_memory { IfErr result (λ refusal. refusal ≡ Memory) }
+    {
+        Ok(JointPrefixMap {
+            ipv4: self.ipv4.new_like()?,
+            ipv6: self.ipv6.new_like()?,
+        })
+    }
+
+    /// Removes the entries that this network contains, its own included, and returns them as a second map.
+    ///
+    /// Values move: none is cloned or dropped. The second map has clones of this map's allocators, and
+    /// its slot limits. It has no entry of the other family.
+    ///
+    /// # Errors
+    ///
+    /// Returns `Memory` if an allocation fails. The entries are unchanged then, and no second map
+    /// exists.
+    ///
+    /// # Examples
+    ///
+    /// ```rust
+    /// // map = {10.1.0.0/16: 1, 10.2.0.0/16: 2, 2001:db8::/32: 3}
+    /// let part = map.remove_children(&"10.1.0.0/16".parse()?)?;
+    /// part.values();      // [1]
+    /// map.values();       // [2, 3]
+    /// ```
+    #[tactic(auto, using(crate::proofs::Changes::part_ipv4, crate::proofs::Changes::part_ipv6, crate::proofs::Changes::below_kept_ipv4, crate::proofs::Changes::below_kept_ipv6))]
+    pub fn remove_children(&mut self, prefix: &IpPrefix) -> Result<Self, Refusal>
+        ensures split_off { IfOk result
+            (λ second. entries_of second
+            ≡ part_below (entries_of self.old) (ip_path prefix.now)) }
+        ensures entries { OnOk result
+            (entries_of self.new ≡ without_below (entries_of self.old) (ip_path prefix.now)) }
+        ensures unchanged { OnErr result (entries_of self.new ≡ entries_of self.old) }
+        ensures only_memory { IfErr result (λ cause. cause ≡ Memory) }
+    {
+        match prefix.again() {
+            IpPrefix::V4(network) => {
+                let ipv6 = self.ipv6.new_like()?;
+                let ipv4 = self.ipv4.remove_children(&network)?;
+                Ok(JointPrefixMap { ipv4, ipv6 })
+            }
+            IpPrefix::V6(network) => {
+                let ipv4 = self.ipv4.new_like()?;
+                let ipv6 = self.ipv6.remove_children(&network)?;
+                Ok(JointPrefixMap { ipv4, ipv6 })
+            }
+        }
+    }
+}
