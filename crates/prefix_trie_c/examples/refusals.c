@@ -1,0 +1,99 @@
+/*
+ * Each allocation refused once: the call says so, the table has the entries that it had, and the call succeeds when it
+ * is made again. Linked with --wrap=malloc and --wrap=realloc.
+ */
+#include <stdio.h>
+#include <stdlib.h>
+
+#include "prefix_trie.h"
+
+void *__real_malloc(size_t size);
+void *__real_realloc(void *block, size_t size);
+
+/* The allocation that is refused: the next one is number 1. 0 refuses none. */
+static unsigned long refused;
+
+static int refuses(void) {
+    return refused > 0 && --refused == 0;
+}
+
+void *__wrap_malloc(size_t size) {
+    return refuses() ? NULL : __real_malloc(size);
+}
+
+void *__wrap_realloc(void *block, size_t size) {
+    return refuses() ? NULL : __real_realloc(block, size);
+}
+
+#define COUNT 200
+
+static uint32_t address(uint32_t i) {
+    return i * UINT32_C(2654435761);
+}
+
+static uint8_t length(uint32_t i) {
+    return (uint8_t)(8 + i % 25);
+}
+
+static void must(int holds, const char *what, unsigned long n, uint32_t i) {
+    if (holds) return;
+    fprintf(stderr, "allocation %lu refused, insertion %u: %s\n", n, (unsigned)i, what);
+    exit(1);
+}
+
+/* Whether the table has the first networks and no others. */
+static int holds_first(prefix_trie *table, uint32_t networks, size_t count) {
+    uint64_t value;
+    size_t len4, len6;
+    for (uint32_t i = 0; i < COUNT; i++) {
+        uint32_t code = prefix_trie_v6_get(table, address(i), 0, 64, &value);
+        if (code != (i < networks ? PREFIX_TRIE_DONE : PREFIX_TRIE_MISSING)) return 0;
+        if (i < networks && value != i) return 0;
+    }
+    return prefix_trie_v4_len(table, &len4) == PREFIX_TRIE_DONE && len4 == count &&
+           prefix_trie_v6_len(table, &len6) == PREFIX_TRIE_DONE && len6 == networks;
+}
+
+/* Fills a table while the n-th allocation is refused, and returns how many calls were refused. */
+static int fill(unsigned long n) {
+    prefix_trie table = PREFIX_TRIE_EMPTY;
+    int met = 0;
+    size_t before, count = 0;
+    uint32_t code;
+    refused = n;
+    code = prefix_trie_new(&table);
+    if (code == PREFIX_TRIE_MEMORY) {
+        met++;
+        must(table.table == NULL, "the handle is not empty", n, 0);
+        code = prefix_trie_new(&table);
+    }
+    must(code == PREFIX_TRIE_DONE, "no table", n, 0);
+    for (uint32_t i = 0; i < COUNT; i++) {
+        prefix_trie_v4_len(&table, &before);
+        code = prefix_trie_v4_insert(&table, address(i), length(i), i);
+        if (code == PREFIX_TRIE_MEMORY) {
+            met++;
+            must(holds_first(&table, i, before), "an IPv4 insertion changed entries", n, i);
+            code = prefix_trie_v4_insert(&table, address(i), length(i), i);
+        }
+        must(code == PREFIX_TRIE_DONE, "an IPv4 insertion failed twice", n, i);
+        prefix_trie_v4_len(&table, &count);
+        code = prefix_trie_v6_insert(&table, address(i), 0, 64, i);
+        if (code == PREFIX_TRIE_MEMORY) {
+            met++;
+            must(holds_first(&table, i, count), "an IPv6 insertion changed entries", n, i);
+            code = prefix_trie_v6_insert(&table, address(i), 0, 64, i);
+        }
+        must(code == PREFIX_TRIE_DONE, "an IPv6 insertion failed twice", n, i);
+    }
+    must(holds_first(&table, COUNT, count), "the end", n, COUNT);
+    prefix_trie_free(&table);
+    return met;
+}
+
+int main(void) {
+    unsigned long n = 1;
+    while (fill(n) > 0) n++;
+    printf("%lu allocations, each refused once\n", n - 1);
+    return n > 1 && refused > 0 ? 0 : 1;
+}

@@ -1,0 +1,4 @@
+-- What the contracts of the C interface say.
+pub mod Calls
+pub mod Entries
+pub mod Held

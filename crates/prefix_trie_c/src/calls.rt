@@ -1,0 +1,113 @@
+//! What the calls do with one map.
+ghost use Rattle.std.specs.Prelude.{◌≡◌, length, map};
+ghost use Rattle.std.specs.FinMap.{get};
+ghost use Rattle.std.specs.Option.{option_map};
+ghost use Rattle.prefix_trie.specs.Words.{lent_item, without_entry};
+ghost use Rattle.prefix_trie_c.specs.Calls.{Gives, Inserts};
+ghost use Rattle.prefix_trie_c.specs.Entries.{Fills, Matches, match_of};
+
+use crate::codes::{DONE, MISSING, code_of};
+use crate::entries::{Address, Entry};
+use prefix_trie::{Prefix, PrefixMap};
+use std::alloc::Global;
+
+/// A map of a table.
+type Map<P> = PrefixMap<P, u64, Global>;
+
+/// Writes what was found, if something was.
+fn give<X: Drop>(found: Option<X>, out: &mut X) -> u32
+    ensures { Gives found result out.old out.new }
+{
+    match found {
+        Some(x) => {
+            *out = x;
+            DONE
+        }
+        None => MISSING,
+    }
+}
+
+/// Sets the value of a prefix.
+pub(crate) fn insert<P: Prefix>(map: &mut Map<P>, prefix: P, value: u64) -> u32
+    requires { P.IsFitting prefix }
+    ensures { Inserts (P.path prefix) value map.old.entries map.new.entries result }
+{
+    match map.insert(prefix, value) {
+        Ok(_) => DONE,
+        Err(refused) => code_of(refused.cause),
+    }
+}
+
+/// Removes the value of a prefix and writes it.
+pub(crate) fn remove<P: Prefix>(map: &mut Map<P>, prefix: &P, value: &mut u64) -> u32
+    requires { P.IsFitting prefix.now }
+    ensures entries { map.new.entries ≡ without_entry map.old.entries (P.path prefix.now) }
+    ensures value { Gives (get map.old.entries (P.path prefix.now)) result value.old value.new }
+{
+    give(map.remove(prefix), value)
+}
+
+/// Writes the value of a prefix.
+pub(crate) fn find<P: Prefix>(map: &Map<P>, prefix: &P, value: &mut u64) -> u32
+    requires { P.IsFitting prefix.now }
+    ensures { Gives (get map.now.entries (P.path prefix.now)) result value.old value.new }
+{
+    give(map.get(prefix).copied(), value)
+}
+
+/// Writes the longest match of a prefix.
+pub(crate) fn find_longest<P: Prefix, E: Entry<P>>(map: &Map<P>, prefix: &P, entry: &mut E) -> u32
+    requires { P.IsFitting prefix.now }
+    ensures { Matches P.back map.now.entries E.made (P.path prefix.now) result entry.old entry.new }
+{
+    match map.get_lpm(prefix) {
+        Some((prefix, value)) => give(Some(E::of(Some((prefix, *value)))), entry),
+        None => MISSING,
+    }
+}
+
+/// Returns a match with its value copied.
+fn copied<P: Prefix>(found: Option<(P, &u64)>) -> Option<(P, u64)>
+    ensures { result ≡ option_map lent_item found.entry }
+{
+    match found {
+        Some((prefix, value)) => Some((prefix, *value)),
+        None => None,
+    }
+}
+
+/// Writes the longest match of each address.
+pub(crate) fn find_longest_each<P: Prefix, A: Address<P>, E: Entry<P>>(
+    routes: &Map<P>,
+    addresses: &[A],
+    entries: &mut [E],
+)
+    requires same_length { length entries.old ≡ length addresses.now }
+    ensures { entries.new ≡ map (λ a. E.made (match_of P.back routes.now.entries
+        (P.path (A.host_of a)))) addresses.now }
+{
+    for i in 0..addresses.len() {
+        entries[i] = E::of(copied(routes.get_lpm(&addresses[i].host())));
+    }
+}
+
+/// Writes the next entries after a prefix, and returns how many.
+pub(crate) fn read_after<P: Prefix, E: Entry<P>>(
+    map: &Map<P>,
+    prefix: &P,
+    inclusive: bool,
+    entries: &mut [E],
+) -> usize
+    requires { P.IsFitting prefix.now }
+    ensures { Fills P.back map.now.entries E.made (P.path prefix.now) inclusive result
+        entries.old entries.new }
+{
+    let mut walk = map.iter_from(prefix, inclusive);
+    for i in 0..entries.len() {
+        let Some((prefix, value)) = walk.next() else {
+            return i;
+        };
+        entries[i] = E::of(Some((prefix, *value)));
+    }
+    entries.len()
+}

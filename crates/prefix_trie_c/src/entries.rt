@@ -1,0 +1,131 @@
+//! Entries and addresses as C reads and writes them.
+ghost use Rattle.std.specs.Prelude.{◌≡◌, ℕ, ◌+◌, ◌*◌, ◌^◌, Option};
+ghost use Rattle.prefix_trie_c.specs.Entries.{v4_entry, v6_entry};
+
+use prefix_trie::{Ipv4Prefix, Ipv6Prefix, Prefix};
+
+/// An IPv4 network and its value, if `found`.
+#[repr(C)]
+#[derive(Clone, Copy)]
+pub struct V4Entry {
+    pub value: u64,
+    pub address: u32,
+    pub length: u8,
+    pub found: bool,
+}
+
+/// An IPv6 network and its value, if `found`.
+#[repr(C)]
+#[derive(Clone, Copy)]
+pub struct V6Entry {
+    pub value: u64,
+    pub high: u64,
+    pub low: u64,
+    pub length: u8,
+    pub found: bool,
+}
+
+/// An IPv6 address: its first and its last 64 bits.
+#[repr(C)]
+#[derive(Clone, Copy)]
+pub struct V6Address {
+    pub high: u64,
+    pub low: u64,
+}
+
+/// An entry as C reads it.
+pub(crate) trait Entry<P: Prefix>: Drop + Sized {
+    // the entry of a prefix and its value, or of none
+    ghost made: { Option (P × ℕ) → Self };
+
+    fn of(found: Option<(P, u64)>) -> Self
+        ensures { result ≡ made found };
+}
+
+impl Entry<Ipv4Prefix> for V4Entry {
+    ghost made = { v4_entry };
+
+    #[inline]
+    fn of(found: Option<(Ipv4Prefix, u64)>) -> V4Entry
+        ensures { result ≡ v4_entry found }
+    {
+        match found {
+            Some((prefix, value)) => V4Entry {
+                value,
+                address: prefix.addr(),
+                length: prefix.prefix_len(),
+                found: true,
+            },
+            None => V4Entry {
+                value: 0,
+                address: 0,
+                length: 0,
+                found: false,
+            },
+        }
+    }
+}
+
+impl Entry<Ipv6Prefix> for V6Entry {
+    ghost made = { v6_entry };
+
+    #[inline]
+    fn of(found: Option<(Ipv6Prefix, u64)>) -> V6Entry
+        ensures { result ≡ v6_entry found }
+    {
+        match found {
+            Some((prefix, value)) => V6Entry {
+                value,
+                high: (prefix.addr() / TWO_TO_64) as u64,
+                low: (prefix.addr() % TWO_TO_64) as u64,
+                length: prefix.prefix_len(),
+                found: true,
+            },
+            None => V6Entry {
+                value: 0,
+                high: 0,
+                low: 0,
+                length: 0,
+                found: false,
+            },
+        }
+    }
+}
+
+const TWO_TO_64: u128 = 0x1_0000_0000_0000_0000;
+
+/// Returns the number of an IPv6 address.
+#[inline]
+pub(crate) fn joined(high: u64, low: u64) -> u128
+    ensures { result ≡ high * 2 ^ 64 + low }
+{
+    u128::from(high) * TWO_TO_64 + u128::from(low)
+}
+
+/// An address as C writes it.
+pub(crate) trait Address<P: Prefix>: Copy {
+    // the network of the address alone
+    ghost host_of: { Self → P };
+
+    fn host(self) -> P
+        ensures value { result ≡ host_of self }
+        ensures fits { P.IsFitting result };
+}
+
+impl Address<Ipv4Prefix> for u32 {
+    ghost host_of = { λ a. (a, 32) };
+
+    #[inline]
+    fn host(self) -> Ipv4Prefix {
+        Ipv4Prefix::host(self)
+    }
+}
+
+impl Address<Ipv6Prefix> for V6Address {
+    ghost host_of = { λ a. (a.high * 2 ^ 64 + a.low, 128) };
+
+    #[inline]
+    fn host(self) -> Ipv6Prefix {
+        Ipv6Prefix::host(joined(self.high, self.low))
+    }
+}

@@ -1,0 +1,92 @@
+//! Handles: what C keeps of a table.
+ghost use Rattle.std.specs.Prelude.{◌≡◌, Option, Some, None};
+ghost use Rattle.std.specs.Option.{option_map};
+ghost use Rattle.prefix_trie_c.specs.declared.tables.Tables.{Tables};
+ghost use Rattle.prefix_trie_c.specs.Held.{handle_owns, held_coded, loose_value, box_value};
+
+use crate::loose::Loose;
+use crate::tables::Tables;
+use std::alloc::Global;
+use std::marker::Model;
+use std::mem::{forget, replace};
+use std::ptr::null_mut;
+
+/// A pointer to a table, or null.
+///
+/// It is empty while the pointer is null. Else it owns the table and the right to free its block.
+#[repr(C)]
+pub struct Handle {
+    at: *mut u8,
+    alloc: Global,
+    pub ghost tables: { Option Tables } by { held_coded },
+}
+
+impl Model for Handle {
+    ghost also_owns = { λ h. handle_owns h.alloc h.at h.tables };
+}
+
+impl Handle {
+    /// Returns an empty handle.
+    fn empty(alloc: Global) -> Handle
+        ensures { result.tables ≡ None }
+    {
+        Handle {
+            at: null_mut(),
+            alloc,
+        }
+    }
+
+    /// Returns the handle of a table that lies on the heap.
+    fn of_loose(loose: Loose<Tables, Global>) -> Handle
+        ensures { result.tables ≡ Some loose.value }
+    {
+        let Loose { at, alloc } = loose;
+        Handle {
+            at: at as *mut u8,
+            alloc,
+        }
+    }
+
+    /// Returns the handle's table, if it has one.
+    fn into_loose(self) -> Option<Loose<Tables, Global>>
+        ensures { option_map loose_value result ≡ self.tables }
+    {
+        let Handle { at, alloc } = self;
+        if at.is_null() {
+            None
+        } else {
+            Some(Loose {
+                at: at as *mut Tables,
+                alloc,
+            })
+        }
+    }
+
+    /// Takes the table out of a handle, which is empty afterwards.
+    pub(crate) fn open(&mut self, alloc: Global) -> Option<Box<Tables, Global>>
+        ensures value { option_map box_value result ≡ self.old.tables }
+        ensures emptied { self.new.tables ≡ None }
+    {
+        match replace(self, Handle::empty(alloc)).into_loose() {
+            Some(loose) => Some(loose.into_box()),
+            None => None,
+        }
+    }
+
+    /// Puts a table into an empty handle.
+    pub(crate) fn close(&mut self, tables: Box<Tables, Global>)
+        requires { self.old.tables ≡ None }
+        ensures { self.new.tables ≡ Some tables.value }
+    {
+        // The empty handle owns nothing that its drop would free.
+        forget(replace(self, Handle::of_loose(Loose::of(tables))));
+    }
+}
+
+impl Drop for Handle {
+    fn drop(self) {
+        if let Some(loose) = self.into_loose() {
+            drop(loose.into_box());
+        }
+    }
+}

@@ -1,0 +1,188 @@
+//! The calls for IPv4.
+ghost use Rattle.std.specs.Prelude.{◌≡◌, length, map};
+ghost use Rattle.std.specs.FinMap.{get, len};
+ghost use Rattle.prefix_trie.specs.Words.{ipv4_back, ipv4_path, without_entry};
+ghost use Rattle.prefix_trie_c.specs.Calls.{Gives, Inserts, OnPrefix, OnTables};
+ghost use Rattle.prefix_trie_c.specs.Entries.{Fills, Matches, match_of, v4_entry};
+ghost use Rattle.prefix_trie_c.specs.declared.codes.TheConstants.{COUNTS, DONE};
+
+use crate::calls;
+use crate::codes::{COUNTS, DONE, LENGTH, NO_TABLES};
+use crate::entries::V4Entry;
+use crate::handle::Handle;
+use prefix_trie::Ipv4Prefix;
+use std::alloc::Global;
+
+/// Sets the value of a network.
+#[unsafe(no_mangle)]
+pub extern "C" fn prefix_trie_c_v4_insert(
+    handle: &mut Handle,
+    alloc: Global,
+    address: u32,
+    length: u8,
+    value: u64,
+) -> u32
+    ensures answer { OnPrefix 32 length handle.old.tables handle.new.tables result
+        (λ t u. Inserts (ipv4_path (address, length)) value t.v4.entries u.v4.entries result
+        × (u.v6 ≡ t.v6)) }
+{
+    let Some(prefix) = Ipv4Prefix::new(address, length) else {
+        return LENGTH;
+    };
+    let Some(mut tables) = handle.open(alloc) else {
+        return NO_TABLES;
+    };
+    let code = calls::insert(&mut tables.v4, prefix, value);
+    handle.close(tables);
+    code
+}
+
+/// Removes the value of a network, and writes it to `value`.
+#[unsafe(no_mangle)]
+pub extern "C" fn prefix_trie_c_v4_remove(
+    handle: &mut Handle,
+    alloc: Global,
+    address: u32,
+    length: u8,
+    value: &mut u64,
+) -> u32
+    ensures answer { OnPrefix 32 length handle.old.tables handle.new.tables result
+        (λ t u. (u.v4.entries ≡ without_entry t.v4.entries (ipv4_path (address, length)))
+        × (u.v6 ≡ t.v6)
+        × Gives (get t.v4.entries (ipv4_path (address, length))) result value.old value.new) }
+    ensures kept { (result ≡ DONE → ⊥) → value.new ≡ value.old }
+{
+    let Some(prefix) = Ipv4Prefix::new(address, length) else {
+        return LENGTH;
+    };
+    let Some(mut tables) = handle.open(alloc) else {
+        return NO_TABLES;
+    };
+    let code = calls::remove(&mut tables.v4, &prefix, value);
+    handle.close(tables);
+    code
+}
+
+/// Writes the value of a network to `value`.
+#[unsafe(no_mangle)]
+pub extern "C" fn prefix_trie_c_v4_get(
+    handle: &mut Handle,
+    alloc: Global,
+    address: u32,
+    length: u8,
+    value: &mut u64,
+) -> u32
+    ensures answer { OnPrefix 32 length handle.old.tables handle.new.tables result
+        (λ t u. (u ≡ t)
+        × Gives (get t.v4.entries (ipv4_path (address, length))) result value.old value.new) }
+    ensures kept { (result ≡ DONE → ⊥) → value.new ≡ value.old }
+{
+    let Some(prefix) = Ipv4Prefix::new(address, length) else {
+        return LENGTH;
+    };
+    let Some(tables) = handle.open(alloc) else {
+        return NO_TABLES;
+    };
+    let code = calls::find(&tables.v4, &prefix, value);
+    handle.close(tables);
+    code
+}
+
+/// Writes the number of networks to `count`.
+#[unsafe(no_mangle)]
+pub extern "C" fn prefix_trie_c_v4_len(handle: &mut Handle, alloc: Global, count: &mut usize) -> u32
+    ensures answer { OnTables handle.old.tables handle.new.tables result
+        (λ t u. (u ≡ t) × (result ≡ DONE) × (count.new ≡ len t.v4.entries)) }
+    ensures kept { (result ≡ DONE → ⊥) → count.new ≡ count.old }
+{
+    let Some(tables) = handle.open(alloc) else {
+        return NO_TABLES;
+    };
+    *count = tables.v4.len();
+    handle.close(tables);
+    DONE
+}
+
+/// Writes the longest match of a network, and its value, to `entry`.
+#[unsafe(no_mangle)]
+pub extern "C" fn prefix_trie_c_v4_match(
+    handle: &mut Handle,
+    alloc: Global,
+    address: u32,
+    length: u8,
+    entry: &mut V4Entry,
+) -> u32
+    ensures answer { OnPrefix 32 length handle.old.tables handle.new.tables result
+        (λ t u. (u ≡ t)
+        × Matches ipv4_back t.v4.entries v4_entry (ipv4_path (address, length)) result
+        entry.old entry.new) }
+    ensures kept { (result ≡ DONE → ⊥) → entry.new ≡ entry.old }
+{
+    let Some(prefix) = Ipv4Prefix::new(address, length) else {
+        return LENGTH;
+    };
+    let Some(tables) = handle.open(alloc) else {
+        return NO_TABLES;
+    };
+    let code = calls::find_longest(&tables.v4, &prefix, entry);
+    handle.close(tables);
+    code
+}
+
+/// Writes the longest match of each address to the entry at its place.
+#[unsafe(no_mangle)]
+pub extern "C" fn prefix_trie_c_v4_match_all(
+    handle: &mut Handle,
+    alloc: Global,
+    addresses: &[u32],
+    entries: &mut [V4Entry],
+) -> u32
+    ensures counts { (length entries.old ≡ length addresses.now → ⊥)
+        → (result ≡ COUNTS) × (handle.new.tables ≡ handle.old.tables) }
+    ensures matches { length entries.old ≡ length addresses.now
+        → OnTables handle.old.tables handle.new.tables result (λ t u. (u ≡ t) × (result ≡ DONE)
+        × (entries.new ≡ map (λ a. v4_entry (match_of ipv4_back t.v4.entries (ipv4_path (a, 32))))
+        addresses.now)) }
+    ensures kept { (result ≡ DONE → ⊥) → entries.new ≡ entries.old }
+{
+    if addresses.len() != entries.len() {
+        return COUNTS;
+    }
+    let Some(tables) = handle.open(alloc) else {
+        return NO_TABLES;
+    };
+    calls::find_longest_each(&tables.v4, addresses, entries);
+    handle.close(tables);
+    DONE
+}
+
+/// Writes the next entries after a network in listing order, as many as there are and fit, and their number to `count`.
+///
+/// The network's own entry comes first if `inclusive` is true and it is stored.
+#[unsafe(no_mangle)]
+pub extern "C" fn prefix_trie_c_v4_next(
+    handle: &mut Handle,
+    alloc: Global,
+    address: u32,
+    length: u8,
+    inclusive: bool,
+    entries: &mut [V4Entry],
+    count: &mut usize,
+) -> u32
+    ensures answer { OnPrefix 32 length handle.old.tables handle.new.tables result
+        (λ t u. (u ≡ t) × (result ≡ DONE)
+        × Fills ipv4_back t.v4.entries v4_entry (ipv4_path (address, length)) inclusive count.new
+        entries.old entries.new) }
+    ensures kept { (result ≡ DONE → ⊥)
+        → (entries.new ≡ entries.old) × (count.new ≡ count.old) }
+{
+    let Some(prefix) = Ipv4Prefix::new(address, length) else {
+        return LENGTH;
+    };
+    let Some(tables) = handle.open(alloc) else {
+        return NO_TABLES;
+    };
+    *count = calls::read_after(&tables.v4, &prefix, inclusive, entries);
+    handle.close(tables);
+    DONE
+}

@@ -1,0 +1,193 @@
+//! The calls for IPv6. An address is passed as its first and its last 64 bits.
+ghost use Rattle.std.specs.Prelude.{◌≡◌, length, map};
+ghost use Rattle.std.specs.FinMap.{get, len};
+ghost use Rattle.prefix_trie.specs.Words.{ipv6_back, without_entry};
+ghost use Rattle.prefix_trie_c.specs.Calls.{Gives, Inserts, OnPrefix, OnTables};
+ghost use Rattle.prefix_trie_c.specs.Entries.{Fills, Matches, match_of, v6_entry, v6_path};
+ghost use Rattle.prefix_trie_c.specs.declared.codes.TheConstants.{COUNTS, DONE};
+
+use crate::calls;
+use crate::codes::{COUNTS, DONE, LENGTH, NO_TABLES};
+use crate::entries::{V6Address, V6Entry, joined};
+use crate::handle::Handle;
+use prefix_trie::Ipv6Prefix;
+use std::alloc::Global;
+
+/// Sets the value of a network.
+#[unsafe(no_mangle)]
+pub extern "C" fn prefix_trie_c_v6_insert(
+    handle: &mut Handle,
+    alloc: Global,
+    high: u64,
+    low: u64,
+    length: u8,
+    value: u64,
+) -> u32
+    ensures answer { OnPrefix 128 length handle.old.tables handle.new.tables result
+        (λ t u. Inserts (v6_path high low length) value t.v6.entries u.v6.entries result
+        × (u.v4 ≡ t.v4)) }
+{
+    let Some(prefix) = Ipv6Prefix::new(joined(high, low), length) else {
+        return LENGTH;
+    };
+    let Some(mut tables) = handle.open(alloc) else {
+        return NO_TABLES;
+    };
+    let code = calls::insert(&mut tables.v6, prefix, value);
+    handle.close(tables);
+    code
+}
+
+/// Removes the value of a network, and writes it to `value`.
+#[unsafe(no_mangle)]
+pub extern "C" fn prefix_trie_c_v6_remove(
+    handle: &mut Handle,
+    alloc: Global,
+    high: u64,
+    low: u64,
+    length: u8,
+    value: &mut u64,
+) -> u32
+    ensures answer { OnPrefix 128 length handle.old.tables handle.new.tables result
+        (λ t u. (u.v6.entries ≡ without_entry t.v6.entries (v6_path high low length))
+        × (u.v4 ≡ t.v4)
+        × Gives (get t.v6.entries (v6_path high low length)) result value.old value.new) }
+    ensures kept { (result ≡ DONE → ⊥) → value.new ≡ value.old }
+{
+    let Some(prefix) = Ipv6Prefix::new(joined(high, low), length) else {
+        return LENGTH;
+    };
+    let Some(mut tables) = handle.open(alloc) else {
+        return NO_TABLES;
+    };
+    let code = calls::remove(&mut tables.v6, &prefix, value);
+    handle.close(tables);
+    code
+}
+
+/// Writes the value of a network to `value`.
+#[unsafe(no_mangle)]
+pub extern "C" fn prefix_trie_c_v6_get(
+    handle: &mut Handle,
+    alloc: Global,
+    high: u64,
+    low: u64,
+    length: u8,
+    value: &mut u64,
+) -> u32
+    ensures answer { OnPrefix 128 length handle.old.tables handle.new.tables result
+        (λ t u. (u ≡ t)
+        × Gives (get t.v6.entries (v6_path high low length)) result value.old value.new) }
+    ensures kept { (result ≡ DONE → ⊥) → value.new ≡ value.old }
+{
+    let Some(prefix) = Ipv6Prefix::new(joined(high, low), length) else {
+        return LENGTH;
+    };
+    let Some(tables) = handle.open(alloc) else {
+        return NO_TABLES;
+    };
+    let code = calls::find(&tables.v6, &prefix, value);
+    handle.close(tables);
+    code
+}
+
+/// Writes the number of networks to `count`.
+#[unsafe(no_mangle)]
+pub extern "C" fn prefix_trie_c_v6_len(handle: &mut Handle, alloc: Global, count: &mut usize) -> u32
+    ensures answer { OnTables handle.old.tables handle.new.tables result
+        (λ t u. (u ≡ t) × (result ≡ DONE) × (count.new ≡ len t.v6.entries)) }
+    ensures kept { (result ≡ DONE → ⊥) → count.new ≡ count.old }
+{
+    let Some(tables) = handle.open(alloc) else {
+        return NO_TABLES;
+    };
+    *count = tables.v6.len();
+    handle.close(tables);
+    DONE
+}
+
+/// Writes the longest match of a network, and its value, to `entry`.
+#[unsafe(no_mangle)]
+pub extern "C" fn prefix_trie_c_v6_match(
+    handle: &mut Handle,
+    alloc: Global,
+    high: u64,
+    low: u64,
+    length: u8,
+    entry: &mut V6Entry,
+) -> u32
+    ensures answer { OnPrefix 128 length handle.old.tables handle.new.tables result
+        (λ t u. (u ≡ t)
+        × Matches ipv6_back t.v6.entries v6_entry (v6_path high low length) result
+        entry.old entry.new) }
+    ensures kept { (result ≡ DONE → ⊥) → entry.new ≡ entry.old }
+{
+    let Some(prefix) = Ipv6Prefix::new(joined(high, low), length) else {
+        return LENGTH;
+    };
+    let Some(tables) = handle.open(alloc) else {
+        return NO_TABLES;
+    };
+    let code = calls::find_longest(&tables.v6, &prefix, entry);
+    handle.close(tables);
+    code
+}
+
+/// Writes the longest match of each address to the entry at its place.
+#[unsafe(no_mangle)]
+pub extern "C" fn prefix_trie_c_v6_match_all(
+    handle: &mut Handle,
+    alloc: Global,
+    addresses: &[V6Address],
+    entries: &mut [V6Entry],
+) -> u32
+    ensures counts { (length entries.old ≡ length addresses.now → ⊥)
+        → (result ≡ COUNTS) × (handle.new.tables ≡ handle.old.tables) }
+    ensures matches { length entries.old ≡ length addresses.now
+        → OnTables handle.old.tables handle.new.tables result (λ t u. (u ≡ t) × (result ≡ DONE)
+        × (entries.new ≡ map (λ a. v6_entry (match_of ipv6_back t.v6.entries
+        (v6_path a.high a.low 128))) addresses.now)) }
+    ensures kept { (result ≡ DONE → ⊥) → entries.new ≡ entries.old }
+{
+    if addresses.len() != entries.len() {
+        return COUNTS;
+    }
+    let Some(tables) = handle.open(alloc) else {
+        return NO_TABLES;
+    };
+    calls::find_longest_each(&tables.v6, addresses, entries);
+    handle.close(tables);
+    DONE
+}
+
+/// Writes the next entries after a network in listing order, as many as there are and fit, and their number to `count`.
+///
+/// The network's own entry comes first if `inclusive` is true and it is stored.
+#[unsafe(no_mangle)]
+pub extern "C" fn prefix_trie_c_v6_next(
+    handle: &mut Handle,
+    alloc: Global,
+    high: u64,
+    low: u64,
+    length: u8,
+    inclusive: bool,
+    entries: &mut [V6Entry],
+    count: &mut usize,
+) -> u32
+    ensures answer { OnPrefix 128 length handle.old.tables handle.new.tables result
+        (λ t u. (u ≡ t) × (result ≡ DONE)
+        × Fills ipv6_back t.v6.entries v6_entry (v6_path high low length) inclusive count.new
+        entries.old entries.new) }
+    ensures kept { (result ≡ DONE → ⊥)
+        → (entries.new ≡ entries.old) × (count.new ≡ count.old) }
+{
+    let Some(prefix) = Ipv6Prefix::new(joined(high, low), length) else {
+        return LENGTH;
+    };
+    let Some(tables) = handle.open(alloc) else {
+        return NO_TABLES;
+    };
+    *count = calls::read_after(&tables.v6, &prefix, inclusive, entries);
+    handle.close(tables);
+    DONE
+}
