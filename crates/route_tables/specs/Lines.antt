@@ -1,7 +1,9 @@
 -- The lines of a text, and the fields of a line. This project's own.
-use Rattle.std.specs.Prelude.{ℕ, ◌==◌, Bool, false, not, cond, List, [], ◌∷◌}
-use Rattle.std.specs.Char.{is_ascii_whitespace}
-use Rattle.std.specs.List.{before_first, onto_first}
+use Rattle.std.specs.Prelude.{ℕ, ◌-◌, ◌==◌, Bool, ◌||◌, false, not, cond, List, [], ◌∷◌, length, take}
+use Rattle.std.specs.Char.{is_ascii_whitespace, is_control}
+use Rattle.std.specs.Int.{is_in_range}
+use Rattle.std.specs.List.{before_first, list_any, onto_first}
+use Rattle.std.specs.Str.{chars}
 
 -- the lines of a text; a line feed ends each one, and may be missing after the last
 abbrev pub lines : List ℕ → List (List ℕ)
@@ -26,3 +28,19 @@ begins_comment (b ∷ bs) = b == 35
 -- the fields of a line: its words before the first that begins with `#`
 abbrev pub fields : List ℕ → List (List ℕ)
 fields line = before_first begins_comment (words line)
+
+-- whether a carriage return is before the last byte of a line, so that no line feed follows it
+abbrev pub has_bare_return : List ℕ → Bool
+has_bare_return line = list_any (λ b. b == 13) (take (length line - 1) line)
+
+-- whether a character changes the direction of the text after it: U+061C, U+200E, U+200F, U+202A to U+202E, U+2066 to U+2069
+abbrev pub is_direction : ℕ → Bool
+is_direction c = ((c == 0x61C || is_in_range 0x200E 0x200F c) || is_in_range 0x202A 0x202E c) || is_in_range 0x2066 0x2069 c
+
+-- whether a character can hide or change what a terminal shows: a control character, or one that changes the direction
+abbrev pub is_hidden : ℕ → Bool
+is_hidden c = is_control c || is_direction c
+
+-- whether a text has such a character
+abbrev pub has_hidden : List ℕ → Bool
+has_hidden text = list_any is_hidden (chars text)

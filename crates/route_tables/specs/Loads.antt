@@ -1,7 +1,6 @@
 -- What reading a text adds to the tables, and which errors it returns. This project's own.
-use Rattle.std.specs.Prelude.{◌≡◌, ◌⊎◌, ℕ, ◌+◌, ⊤, List, []}
-use Rattle.route_tables.specs.Lines.{fields}
-use Rattle.route_tables.specs.Routes.{IsBad, IsFirstBad, IsRoute, Route}
+use Rattle.std.specs.Prelude.{◌≡◌, ◌⊎◌, ℕ, ◌+◌, ⊤, List}
+use Rattle.route_tables.specs.Routes.{IsBad, IsBlank, IsFirstBad, IsRoute, Route}
 use Rattle.route_tables.specs.Tables.{Values, ipv4_with, ipv6_with}
 use Rattle.route_tables.specs.declared.load.LoadError.{LoadError}
 use Rattle.route_tables.specs.declared.load.LoadError.TheVariants.{Line, Refused}
@@ -9,7 +8,7 @@ use Rattle.route_tables.specs.declared.load.LoadError.TheVariants.{Line, Refused
 -- the entries of both families after a line: a route is added, and other lines change nothing
 abbrev pub AddsLine : List ℕ → Values → Values → Values → Values → Type 0
 AddsLine line ipv4 ipv6 ipv4_after ipv6_after =
-    ((fields line ≡ []) × (ipv4_after ≡ ipv4) × (ipv6_after ≡ ipv6))
+    (IsBlank line × (ipv4_after ≡ ipv4) × (ipv6_after ≡ ipv6))
     ⊎ ((route : Route) × IsRoute line route × (ipv4_after ≡ ipv4_with ipv4 route) × (ipv6_after ≡ ipv6_with ipv6 route))
 
 -- if the error names a line, it is this one, which is bad

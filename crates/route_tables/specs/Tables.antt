@@ -1,6 +1,6 @@
 -- The entries of the tables of both families. This project's own.
-use Rattle.std.specs.Prelude.{ℕ, Bool, List, [], ◌∷◌}
-use Rattle.std.specs.FinMap.{contains_key}
+use Rattle.std.specs.Prelude.{ℕ, List, [], ◌∷◌, Option}
+use Rattle.std.specs.FinMap.{get}
 use Rattle.prefix_trie.specs.Terms.{Entries, ipv4_path, ipv6_path, with_entry}
 use Rattle.route_tables.specs.Routes.{Route}
 use Rattle.route_tables.specs.declared.network.Network.{Network}
@@ -28,7 +28,7 @@ abbrev pub ipv6_with_all : Values → List Route → Values
 ipv6_with_all m [] = m
 ipv6_with_all m (route ∷ routes) = ipv6_with_all (ipv6_with m route) routes
 
--- whether the table of its family has a network
-abbrev pub is_stored : Values → Values → Network → Bool
-is_stored ipv4 ipv6 (V4 network) = contains_key ipv4 (ipv4_path network)
-is_stored ipv4 ipv6 (V6 network) = contains_key ipv6 (ipv6_path network)
+-- the value of a network in the table of its family
+abbrev pub value_at : Values → Values → Network → Option (List ℕ)
+value_at ipv4 ipv6 (V4 network) = get ipv4 (ipv4_path network)
+value_at ipv4 ipv6 (V6 network) = get ipv6 (ipv6_path network)

@@ -1,38 +1,29 @@
 //! The command line of the program.
 
+use crate::help::TOPICS;
 use std::error::Error;
 use std::fmt::{self, Display, Formatter, Write};
 
-/// What `routes --help` prints.
-pub const HELP: &str = "Tables of IP networks, each with a value.
-
-Usage:
-  routes lookup TABLE [ADDRESS..]   print each address with its longest network and the value
-  routes list TABLE [NETWORK]       print the table, or what a network contains, in order
-  routes diff OLD NEW               print what was added (+), removed (-) and changed (~)
-  routes minimise TABLE             print the table without networks that change no lookup
-  routes check TABLE [ADDRESS..]    print whether an access list allows each address
-  routes stats TABLE                print counts, memory and lengths of networks
-
-TABLE, OLD and NEW are files, or `-` for standard input. Each line has a network and a value,
-such as `10.0.0.0/8 core` or `2001:db8::/32 edge`. A value is any text without white space.
-Bits of an address after the length must be 0. A word that begins with `#` begins a comment.
-If two lines have one network, the later line wins, with a warning.
-
-Without an ADDRESS, `lookup` and `check` read addresses from standard input, one per line.
-In an access list each value is `allow` or `deny`. An address is allowed if a network with
-`allow` contains it and no network with `deny` does.
-
-Exit status: 0, or 1 if `check` does not allow an address, or 2 after an error.
-";
+/// What a command does if a text is not an address.
+#[derive(Clone, Copy, Debug, PartialEq, Eq)]
+pub enum BadAddresses {
+    /// It ends with an error.
+    Refused,
+    /// It warns, and goes on with the other addresses.
+    Skipped,
+}
 
 /// What the program is to do.
 #[derive(Clone, Copy, Debug, PartialEq, Eq)]
 pub enum Command<'a> {
     /// Print the help.
     Help,
+    /// Print this text, the help of one command.
+    Topic(&'a str),
+    /// Print the version.
+    Version,
     /// Look up addresses in a table.
-    Lookup(&'a str, &'a [&'a str]),
+    Lookup(&'a str, &'a [&'a str], BadAddresses),
     /// Print a table.
     List(&'a str),
     /// Print what a network of a table contains.
@@ -42,7 +33,7 @@ pub enum Command<'a> {
     /// Print a table without the networks that change no lookup.
     Minimise(&'a str),
     /// Check addresses against an access list.
-    Check(&'a str, &'a [&'a str]),
+    Check(&'a str, &'a [&'a str], BadAddresses),
     /// Describe a table.
     Stats(&'a str),
 }
@@ -66,14 +57,47 @@ impl Error for UsageError {}
 /// Returns an error if the words are not those of a command.
 pub fn parse<'a>(words: &'a [&'a str]) -> Result<Command<'a>, UsageError> {
     match *words {
+        ["lookup", "--skip-bad", table, ..] => {
+            let addresses = &words[3..];
+            Ok(Command::Lookup(table, addresses, BadAddresses::Skipped))
+        }
+        ["lookup", table, ..] => {
+            let addresses = &words[2..];
+            Ok(Command::Lookup(table, addresses, BadAddresses::Refused))
+        }
+        ["check", "--skip-bad", table, ..] => {
+            let addresses = &words[3..];
+            Ok(Command::Check(table, addresses, BadAddresses::Skipped))
+        }
+        ["check", table, ..] => {
+            let addresses = &words[2..];
+            Ok(Command::Check(table, addresses, BadAddresses::Refused))
+        }
+        _ => parse_fixed(words),
+    }
+}
+
+// Reads the words of a command with a fixed number of arguments.
+fn parse_fixed<'a>(words: &'a [&'a str]) -> Result<Command<'a>, UsageError> {
+    match *words {
         ["help" | "-h" | "--help"] => Ok(Command::Help),
+        ["help", command] => parse_topic(command),
+        ["-V" | "--version"] => Ok(Command::Version),
         ["list", table] => Ok(Command::List(table)),
         ["list", table, network] => Ok(Command::ListWithin(table, network)),
         ["diff", old, new] => Ok(Command::Diff(old, new)),
         ["minimise", table] => Ok(Command::Minimise(table)),
         ["stats", table] => Ok(Command::Stats(table)),
-        ["lookup", table, ..] => Ok(Command::Lookup(table, &words[2..])),
-        ["check", table, ..] => Ok(Command::Check(table, &words[2..])),
         _ => Err(UsageError),
     }
+}
+
+// Finds the help of a command.
+fn parse_topic<'a>(command: &str) -> Result<Command<'a>, UsageError> {
+    for (name, text) in TOPICS {
+        if *name == command {
+            return Ok(Command::Topic(text));
+        }
+    }
+    Err(UsageError)
 }

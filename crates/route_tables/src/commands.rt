@@ -1,6 +1,7 @@
 //! What the commands print, over tables and a writer.
 
-use crate::access::is_allowed;
+use crate::access::{Decision, decide};
+use crate::addresses::Address;
 use crate::diff::{Values, changes};
 use crate::lookup::longest;
 use crate::minimise::remove_redundant;
@@ -15,11 +16,11 @@ use std::io::{self, Write};
 use std::net::IpAddr;
 
 /// Prints each address with the longest network that contains it and its value, or with `none`.
-pub fn lookup<W: Write>(tables: &Tables, addresses: &[IpAddr], out: &mut W) -> io::Result<()> {
-    for address in addresses {
-        match *address {
-            IpAddr::V4(host) => print_match(&tables.ipv4, &Ipv4Prefix::from(host), address, out)?,
-            IpAddr::V6(host) => print_match(&tables.ipv6, &Ipv6Prefix::from(host), address, out)?,
+pub fn lookup<W: Write>(tables: &Tables, addresses: &[Address<'_>], out: &mut W) -> io::Result<()> {
+    for Address { text, ip } in addresses {
+        match *ip {
+            IpAddr::V4(host) => print_match(&tables.ipv4, &Ipv4Prefix::from(host), text, out)?,
+            IpAddr::V6(host) => print_match(&tables.ipv6, &Ipv6Prefix::from(host), text, out)?,
         }
     }
     Ok(())
@@ -29,14 +30,14 @@ pub fn lookup<W: Write>(tables: &Tables, addresses: &[IpAddr], out: &mut W) -> i
 fn print_match<P: Prefix + Display, W: Write>(
     table: &Table<P>,
     host: &P,
-    address: &IpAddr,
+    text: &str,
     out: &mut W,
 ) -> io::Result<()>
     requires { P.IsFitting host.now }
 {
     match longest(table, host) {
-        Some((network, value)) => writeln!(out, "{address} {network} {value}"),
-        None => writeln!(out, "{address} none"),
+        Some((network, value)) => writeln!(out, "{text} {network} {value}"),
+        None => writeln!(out, "{text} none"),
     }
 }
 
@@ -77,22 +78,27 @@ fn print_within<P: Prefix + Display, W: Write>(
 }
 
 /// Prints what changes from old tables to new ones: added, removed and changed networks, in listing order.
-pub fn diff<W: Write>(old: &Tables, new: &Tables, alloc: Global, out: &mut W) -> io::Result<()> {
-    print_changes(&old.ipv4, &new.ipv4, alloc, out)?;
-    print_changes(&old.ipv6, &new.ipv6, alloc, out)
+///
+/// Returns whether nothing changes.
+pub fn diff<W: Write>(old: &Tables, new: &Tables, alloc: Global, out: &mut W) -> io::Result<bool> {
+    let is_ipv4_same = print_changes(&old.ipv4, &new.ipv4, alloc, out)?;
+    let is_ipv6_same = print_changes(&old.ipv6, &new.ipv6, alloc, out)?;
+    Ok(is_ipv4_same && is_ipv6_same)
 }
 
-// Prints what changes from one table to another.
+// Prints what changes from one table to another, and returns whether nothing does.
 fn print_changes<P: Prefix + Display, W: Write>(
     old: &Table<P>,
     new: &Table<P>,
     alloc: Global,
     out: &mut W,
-) -> io::Result<()> {
-    for (network, values) in changes(old, new, alloc)? {
+) -> io::Result<bool> {
+    let changes = changes(old, new, alloc)?;
+    let is_same = changes.is_empty();
+    for (network, values) in changes {
         print_change(&network, &values, out)?;
     }
-    Ok(())
+    Ok(is_same)
 }
 
 // Prints one change.
@@ -117,26 +123,41 @@ pub fn minimise<W: Write>(tables: &mut Tables, alloc: Global, out: &mut W) -> io
     list(tables, out)
 }
 
-/// Prints for each address whether the access list allows it, and returns whether it allows all.
-pub fn check<W: Write>(tables: &Tables, addresses: &[IpAddr], out: &mut W) -> io::Result<bool> {
+/// Prints for each address whether the access list allows it and which network decides, and returns whether it allows all.
+pub fn check<W: Write>(
+    tables: &Tables,
+    addresses: &[Address<'_>],
+    out: &mut W,
+) -> io::Result<bool> {
     let mut are_all_allowed = true;
-    for address in addresses {
-        if allows(tables, address) {
-            writeln!(out, "{address} allowed")?;
-        } else {
-            writeln!(out, "{address} denied")?;
-            are_all_allowed = false;
-        }
+    for Address { text, ip } in addresses {
+        let is_allowed = match *ip {
+            IpAddr::V4(host) => print_decision(&tables.ipv4, &Ipv4Prefix::from(host), text, out)?,
+            IpAddr::V6(host) => print_decision(&tables.ipv6, &Ipv6Prefix::from(host), text, out)?,
+        };
+        are_all_allowed &= is_allowed;
     }
     Ok(are_all_allowed)
 }
 
-// Returns whether the access list allows an address.
-fn allows(tables: &Tables, address: &IpAddr) -> bool {
-    match *address {
-        IpAddr::V4(host) => is_allowed(&tables.ipv4, &Ipv4Prefix::from(host)),
-        IpAddr::V6(host) => is_allowed(&tables.ipv6, &Ipv6Prefix::from(host)),
+// Prints what an access list says of an address, and returns whether it allows it.
+fn print_decision<P: Prefix + Display, W: Write>(
+    table: &Table<P>,
+    host: &P,
+    text: &str,
+    out: &mut W,
+) -> io::Result<bool>
+    requires { P.IsFitting host.now }
+{
+    match decide(table, host) {
+        Decision::Allowed(network) => {
+            writeln!(out, "{text} allowed {network}")?;
+            return Ok(true);
+        }
+        Decision::Denied(network) => writeln!(out, "{text} denied {network}")?,
+        Decision::Unlisted => writeln!(out, "{text} denied none")?,
     }
+    Ok(false)
 }
 
 /// Prints counts and memory of both tables, and a bar for each length of networks.

@@ -2,7 +2,7 @@
 ghost use Rattle.std.specs.Prelude.{◌≡◌, ◌==◌, [], ◌∷◌, ◌<◌, ◌≤◌, length, MatchOption};
 ghost use Rattle.std.specs.Char.{is_ascii_whitespace};
 ghost use Rattle.std.specs.List.{position, position_or_len};
-ghost use Rattle.route_tables.specs.Lines.{fields, lines, words};
+ghost use Rattle.route_tables.specs.Lines.{fields, has_bare_return, lines, words};
 
 // Returns the number of bytes before the first line feed, or of all bytes.
 #[tactic(auto, using(crate::proofs::Cutting::or_length))]
@@ -87,4 +87,14 @@ pub fn split_field(text: &[u8]) -> Option<(&[u8], &[u8])>
         return None;
     }
     Some((word, rest))
+}
+
+/// Returns whether a carriage return is before the last byte of a line.
+///
+/// A line feed follows only one at the end.
+pub fn has_bare_return(line: &[u8]) -> bool
+    ensures { result ≡ has_bare_return line.now }
+{
+    let before_end = &line[..line.len().saturating_sub(1)];
+    before_end.iter().any(|byte| *byte == b'\r')
 }

@@ -1,9 +1,10 @@
 //! Reading tables from text.
 //!
-//! Each line is blank, or a network without host bits and its value: any text without white space.
+//! Each line is blank, or a network without host bits and its value: any text without white space and control
+//! characters.
 //!
 //! A field that begins with `#` begins a comment. White space separates fields. Both ends of a line may have white
-//! space, so lines may end with CR LF.
+//! space, so lines may end with CR LF. A CR elsewhere is an error.
 ghost use Rattle.std.specs.Prelude.{◌≡◌, List, IfErr, IfOk};
 ghost use Rattle.prefix_trie.specs.Terms.{no_entries};
 ghost use Rattle.route_tables.specs.Lines.{lines};
@@ -21,21 +22,21 @@ use std::alloc::{AllocError, AllocFailed, Global};
 use std::error::Error;
 use std::fmt::{self, Display, Formatter, Write};
 
-/// A line that replaces the value of a network.
+/// A line that replaces the value of a network by another.
 #[derive(Clone, Copy, Debug, PartialEq, Eq)]
 pub struct Replaced {
     /// The number of the line, from 1 on.
     pub line: usize,
-    /// The network, which an earlier line has too.
+    /// The network, to which an earlier line gives another value.
     pub network: Network,
 }
 
-/// The tables of a text, and the lines that replace a value.
+/// The tables of a text, and the lines that replace a value by another.
 #[derive(Drop)]
 pub struct Loaded {
     /// The tables.
     pub tables: Tables,
-    /// The lines whose network an earlier line has too, in order.
+    /// The lines that give a network another value than the last line before them with this network, in order.
     pub replaced: Vec<Replaced>,
 }
 
@@ -131,7 +132,7 @@ pub fn load(text: &[u8], alloc: Global) -> Result<Loaded, LoadError>
     Ok(Loaded { tables, replaced })
 }
 
-// Adds what the line with this number says. Returns its network if the tables have it already.
+// Adds what the line with this number says. Returns its network if the tables have it with another value.
 fn add_line(
     tables: &mut Tables,
     line: &[u8],
@@ -150,7 +151,7 @@ fn add_line(
     }
 }
 
-// Adds a route. Returns its network if the tables have it already.
+// Adds a route. Returns its network if the tables have it with another value.
 fn add_route(
     tables: &mut Tables,
     network: Network,
@@ -163,6 +164,10 @@ fn add_route(
         (λ _. tables.new.ipv6.entries ≡ ipv6_with tables.old.ipv6.entries (network, value.now)) }
     ensures no_line { IfErr result IsRefusal }
 {
-    let value = Value::new(value, alloc)?;
-    Ok(tables.insert(network, value)?)
+    let added = Value::new(value, alloc)?;
+    let previous = tables.insert(network, added)?;
+    Ok(match previous {
+        Some(previous) if previous.as_str() != value => Some(network),
+        _ => None,
+    })
 }

@@ -1,7 +1,7 @@
 //! Tables: networks, each with a value.
-ghost use Rattle.std.specs.Prelude.{◌≡◌, cond, IfOk, OnErr, OnOk};
+ghost use Rattle.std.specs.Prelude.{◌≡◌, IfOk, OnErr, OnOk};
 ghost use Rattle.prefix_trie.specs.Terms.{no_entries};
-ghost use Rattle.route_tables.specs.Tables.{ipv4_with, ipv6_with, is_stored};
+ghost use Rattle.route_tables.specs.Tables.{ipv4_with, ipv6_with, value_at};
 
 use crate::network::Network;
 use crate::value::Value;
@@ -42,7 +42,7 @@ impl Tables {
         })
     }
 
-    /// Sets the value of a network, and returns the network if it had a value before.
+    /// Sets the value of a network, and returns the previous value.
     ///
     /// # Errors
     ///
@@ -53,31 +53,23 @@ impl Tables {
     /// ```rust
     /// let mut tables = Tables::new(alloc)?;
     /// let network = parse_network("10.0.0.0/8")?;
-    /// tables.insert(network, Value::new("core", alloc)?)?;       // None
-    /// tables.insert(network, Value::new("edge", alloc)?)?;       // Some(V4(10.0.0.0/8))
+    /// tables.insert(network, Value::new("core", alloc)?)?.is_none();       // true
+    /// tables.insert(network, Value::new("edge", alloc)?)?.is_some();       // true
     /// ```
-    pub fn insert(&mut self, network: Network, value: Value) -> Result<Option<Network>, Refusal>
+    pub fn insert(&mut self, network: Network, value: Value) -> Result<Option<Value>, Refusal>
         ensures ipv4 { OnOk result
             (self.new.ipv4.entries ≡ ipv4_with self.old.ipv4.entries (network, value)) }
         ensures ipv6 { OnOk result
             (self.new.ipv6.entries ≡ ipv6_with self.old.ipv6.entries (network, value)) }
-        ensures known { IfOk result
-            (λ known. known
-            ≡ cond (is_stored self.old.ipv4.entries self.old.ipv6.entries network)
-            (Some network) None) }
+        ensures previous { IfOk result
+            (λ previous. previous ≡ value_at self.old.ipv4.entries self.old.ipv6.entries network) }
         ensures unchanged { OnErr result
             ((self.new.ipv4.entries ≡ self.old.ipv4.entries)
             × (self.new.ipv6.entries ≡ self.old.ipv6.entries)) }
     {
         match network {
-            Network::V4(network) => {
-                let before = self.ipv4.insert(network, value)?;
-                Ok(before.is_some().then_some(Network::V4(network)))
-            }
-            Network::V6(network) => {
-                let before = self.ipv6.insert(network, value)?;
-                Ok(before.is_some().then_some(Network::V6(network)))
-            }
+            Network::V4(network) => Ok(self.ipv4.insert(network, value)?),
+            Network::V6(network) => Ok(self.ipv6.insert(network, value)?),
         }
     }
 }
