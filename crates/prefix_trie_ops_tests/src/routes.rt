@@ -4,15 +4,15 @@
 //! texts `old` and `new`, and what the command prints. The expected texts are written by hand.
 
 use route_tables::access::first_other;
-use route_tables::addresses::read_addresses;
-use route_tables::arguments::{Command, HELP, UsageError, parse};
+use route_tables::addresses::{Address, parse_address};
+use route_tables::arguments::{Command, UsageError, parse};
 use route_tables::commands;
+use route_tables::help::{HELP, VERSION};
 use route_tables::load::{Loaded, load};
 use route_tables::network::parse_network;
 use route_tables::table::Tables;
 use std::alloc::Global;
 use std::io::Write;
-use std::net::IpAddr;
 use std::str;
 use std::test::Fail;
 
@@ -172,9 +172,12 @@ const PRINTINGS: &[Printing] = &[
     (&["minimise", "new"], NEW),
     (
         &["check", "access", "10.9.9.9", "10.1.2.3", "11.0.0.1", "::1"],
-        "10.9.9.9 allowed\n10.1.2.3 denied\n11.0.0.1 denied\n::1 allowed\nfalse\n",
+        "10.9.9.9 allowed 10.0.0.0/8\n10.1.2.3 denied 10.1.0.0/16\n11.0.0.1 denied none\n::1 allowed ::/0\nfalse\n",
     ),
-    (&["check", "access", "10.9.9.9"], "10.9.9.9 allowed\ntrue\n"),
+    (
+        &["check", "access", "10.9.9.9"],
+        "10.9.9.9 allowed 10.0.0.0/8\ntrue\n",
+    ),
     (&["check", "old", "10.9.9.9"], "0.0.0.0/0 up\n"),
 ];
 
@@ -192,14 +195,13 @@ fn tables(name: &str, alloc: Global) -> Result<Tables, Fail> {
     Ok(tables)
 }
 
-/// Returns addresses that are separated by line feeds.
-fn addresses(words: &[&str], alloc: Global) -> Result<Vec<IpAddr>, Fail> {
-    let mut text = Vec::new(alloc);
+/// Returns the addresses of words.
+fn addresses<'a>(words: &[&'a str], alloc: Global) -> Result<Vec<Address<'a>>, Fail> {
+    let mut addresses = Vec::new(alloc);
     for word in words {
-        text.extend_from_slice(word.as_bytes())?;
-        text.push(b'\n')?;
+        addresses.push(parse_address(word)?)?;
     }
-    Ok(read_addresses(text.as_slice(), alloc)?)
+    Ok(addresses)
 }
 
 fn lookup(name: &str, words: &[&str], out: &mut Vec<u8>, alloc: Global) -> Result<(), Fail> {
@@ -240,7 +242,7 @@ fn check(name: &str, words: &[&str], out: &mut Vec<u8>, alloc: Global) -> Result
 }
 
 /// Prints what `check` prints and returns, or the first entry that is no rule.
-fn check_in(tables: &Tables, addresses: &[IpAddr], out: &mut Vec<u8>) -> Result<(), Fail> {
+fn check_in(tables: &Tables, addresses: &[Address<'_>], out: &mut Vec<u8>) -> Result<(), Fail> {
     if let Some((network, value)) = first_other(&tables.ipv4) {
         writeln!(out, "{network} {value}")?;
         return Ok(());
@@ -259,12 +261,14 @@ fn stats(name: &str, out: &mut Vec<u8>, alloc: Global) -> Result<(), Fail> {
 fn carry_out(words: &[&str], out: &mut Vec<u8>, alloc: Global) -> Result<(), Fail> {
     match parse(words)? {
         Command::Help => Ok(out.extend_from_slice(HELP.as_bytes())?),
-        Command::Lookup(name, words) => lookup(name, words, out, alloc),
+        Command::Topic(text) => Ok(out.extend_from_slice(text.as_bytes())?),
+        Command::Version => Ok(out.extend_from_slice(VERSION.as_bytes())?),
+        Command::Lookup(name, words, _) => lookup(name, words, out, alloc),
         Command::List(name) => list(name, out, alloc),
         Command::ListWithin(name, network) => list_within(name, network, out, alloc),
         Command::Diff(old, new) => diff(old, new, out, alloc),
         Command::Minimise(name) => minimised(name, out, alloc),
-        Command::Check(name, words) => check(name, words, out, alloc),
+        Command::Check(name, words, _) => check(name, words, out, alloc),
         Command::Stats(name) => stats(name, out, alloc),
     }
 }
