@@ -1,6 +1,6 @@
 -- What the calls of the C interface return, and how they change a table.
 use Rattle.std.specs.Prelude.{◌≡◌, ℕ, ◌<◌, ◌≤◌, ◌⊎◌, Bool, List, Option, None, Some, MatchOption}
-use Rattle.prefix_trie.specs.Words.{Entries, no_entries, with_entry}
+use Rattle.prefix_trie.specs.Terms.{Entries, no_entries, with_entry}
 use Rattle.prefix_trie_bits.specs.declared.prefix.Refusal.{Refusal}
 use Rattle.prefix_trie_bits.specs.declared.prefix.Refusal.TheVariants.{Memory, IndexRange}
 use Rattle.prefix_trie_c.specs.declared.tables.Tables.{Tables}

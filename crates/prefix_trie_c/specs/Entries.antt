@@ -1,7 +1,7 @@
 -- Entries as C reads them, and what the calls on arrays of them write.
 use Rattle.std.specs.Prelude.{◌≡◌, ℕ, ◌+◌, ◌*◌, ◌^◌, ◌/◌, ◌%◌, Bool, true, false, List, length, map, take, Option, None, Some, cond}
 use Rattle.std.specs.Option.{option_map}
-use Rattle.prefix_trie.specs.Words.{Entries, ipv6_path, longest_match, prefix_pair, listing_from, listing_after, prefix_pairs}
+use Rattle.prefix_trie.specs.Terms.{Entries, ipv6_path, longest_match, prefix_pair, listing_from, listing_after, prefix_pairs}
 use Rattle.prefix_trie_c.specs.Calls.{Gives}
 use Rattle.prefix_trie_c.specs.declared.entries.V4Entry.{V4Entry}
 use Rattle.prefix_trie_c.specs.declared.entries.V6Entry.{V6Entry}

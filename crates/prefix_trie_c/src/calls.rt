@@ -2,7 +2,7 @@
 ghost use Rattle.std.specs.Prelude.{◌≡◌, length, map};
 ghost use Rattle.std.specs.FinMap.{get};
 ghost use Rattle.std.specs.Option.{option_map};
-ghost use Rattle.prefix_trie.specs.Words.{lent_item, without_entry};
+ghost use Rattle.prefix_trie.specs.Terms.{lent_item, without_entry};
 ghost use Rattle.prefix_trie_c.specs.Calls.{Gives, Inserts};
 ghost use Rattle.prefix_trie_c.specs.Entries.{Fills, Matches, match_of};
 

@@ -1,6 +1,6 @@
 //! The two maps of a table.
 ghost use Rattle.std.specs.Prelude.{◌≡◌, IfOk, IfErr};
-ghost use Rattle.prefix_trie.specs.Words.{no_entries};
+ghost use Rattle.prefix_trie.specs.Terms.{no_entries};
 ghost use Rattle.prefix_trie_bits.specs.declared.prefix.Refusal.TheVariants.{Memory};
 
 use prefix_trie::{Ipv4Prefix, Ipv6Prefix, PrefixMap, Refusal};

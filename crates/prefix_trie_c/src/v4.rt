@@ -1,7 +1,7 @@
 //! The calls for IPv4.
 ghost use Rattle.std.specs.Prelude.{◌≡◌, length, map};
 ghost use Rattle.std.specs.FinMap.{get, len};
-ghost use Rattle.prefix_trie.specs.Words.{ipv4_back, ipv4_path, without_entry};
+ghost use Rattle.prefix_trie.specs.Terms.{ipv4_back, ipv4_path, without_entry};
 ghost use Rattle.prefix_trie_c.specs.Calls.{Gives, Inserts, OnPrefix, OnTables};
 ghost use Rattle.prefix_trie_c.specs.Entries.{Fills, Matches, match_of, v4_entry};
 ghost use Rattle.prefix_trie_c.specs.declared.codes.TheConstants.{COUNTS, DONE};

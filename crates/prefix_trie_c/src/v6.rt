@@ -1,7 +1,7 @@
 //! The calls for IPv6. An address is passed as its first and its last 64 bits.
 ghost use Rattle.std.specs.Prelude.{◌≡◌, length, map};
 ghost use Rattle.std.specs.FinMap.{get, len};
-ghost use Rattle.prefix_trie.specs.Words.{ipv6_back, without_entry};
+ghost use Rattle.prefix_trie.specs.Terms.{ipv6_back, without_entry};
 ghost use Rattle.prefix_trie_c.specs.Calls.{Gives, Inserts, OnPrefix, OnTables};
 ghost use Rattle.prefix_trie_c.specs.Entries.{Fills, Matches, match_of, v6_entry, v6_path};
 ghost use Rattle.prefix_trie_c.specs.declared.codes.TheConstants.{COUNTS, DONE};

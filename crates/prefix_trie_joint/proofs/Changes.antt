@@ -2,7 +2,7 @@
 use Rattle.std.proofs.Common.{◌≡◌, Bool, true, false, not, cond, List, [], ◌∷◌, Option, Some, None, refl, sym, ap, ap₂, ◌∙◌}
 use Rattle.std.specs.Ordering.{eq_by_cmp}
 use Rattle.std.specs.FinMap.{get, get-empty, get-insert, get-remove, get-retain_keys, retain_keys, same_map}
-use Rattle.prefix_trie.specs.Words.{Entries, listing_cmp, no_entries, with_entry, part_below, without_below, without_entry}
+use Rattle.prefix_trie.specs.Terms.{Entries, listing_cmp, no_entries, with_entry, part_below, without_below, without_entry}
 use Rattle.prefix_trie_table.specs.Copies.{AreCloned}
 use Rattle.prefix_trie_bits.specs.Order.{listing_same, listing_total}
 use Rattle.prefix_trie_joint.specs.Joined.{joined}

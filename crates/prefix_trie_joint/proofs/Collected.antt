@@ -1,6 +1,6 @@
 -- Inserting a list with one more item at its end sets that item last: for `from_iter`.
 use Rattle.std.proofs.Common.{◌≡◌, Bool, List, [], ◌∷◌, ◌++◌, map, refl, sym, ap, ◌∙◌}
-use Rattle.prefix_trie.specs.Words.{as_item, Entries, put_all, with_entry}
+use Rattle.prefix_trie.specs.Terms.{as_item, Entries, put_all, with_entry}
 
 module _ {P T : Type 0} (path : P → List Bool) where
   put_last : (xs : List (P × T)) (x : P × T) (m : Entries T) → put_all path (xs ++ x ∷ []) m ≡ with_entry (put_all path xs m) (path x.0) x.1

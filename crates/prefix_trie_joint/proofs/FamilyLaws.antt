@@ -1,6 +1,6 @@
 -- The joined entries follow from those of each family: the law for callers.
 use Rattle.std.proofs.Common.{◌≡◌, refl}
-use Rattle.prefix_trie.specs.Words.{ipv4_path, ipv6_path, with_entry}
+use Rattle.prefix_trie.specs.Terms.{ipv4_path, ipv6_path, with_entry}
 use Rattle.prefix_trie_joint.specs.declared.prefix.IpPrefix.{IpPrefix}
 use Rattle.prefix_trie_joint.specs.declared.prefix.IpPrefix.TheVariants.{V4, V6}
 use Rattle.prefix_trie_joint.specs.declared.map.JointPrefixMap.{JointPrefixMap}

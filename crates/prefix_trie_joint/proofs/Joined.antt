@@ -3,7 +3,7 @@ use Rattle.std.proofs.Common.{◌≡◌, Bool, true, false, cond, ◌&&◌, List
 use Rattle.std.specs.Ordering.{eq_by_cmp}
 use Rattle.std.specs.FinMap.{entries_sorted, entries-from_sorted, get, get-entries, is_sorted, find, same_map}
 use Rattle.std.specs.FinMap.Entries.{below_all}
-use Rattle.prefix_trie.specs.Words.{Entries, listing, listing_cmp}
+use Rattle.prefix_trie.specs.Terms.{Entries, listing, listing_cmp}
 use Rattle.prefix_trie_bits.specs.Order.{listing_same, listing_total}
 use Rattle.prefix_trie_joint.specs.Joined.{joined, under}
 

@@ -3,7 +3,7 @@ use Rattle.std.proofs.Common.{◌≡◌, ℕ, Bool, true, false, cond, List, [],
 use Rattle.std.specs.Borrow.{Bor}
 use Rattle.std.specs.Option.{option_map}
 use Rattle.std.specs.FinMap.{get}
-use Rattle.prefix_trie.specs.Words.{begins, covers, Entries, first_item, last_item, listing, listing_below, lent_item, longest_match, prefix_pair, shortest_match}
+use Rattle.prefix_trie.specs.Terms.{begins, covers, Entries, first_item, last_item, listing, listing_below, lent_item, longest_match, prefix_pair, shortest_match}
 use Rattle.prefix_trie_bits.specs.Networks.{network_back}
 use Rattle.prefix_trie_joint.specs.declared.prefix.IpPrefix.{IpPrefix}
 use Rattle.prefix_trie_joint.specs.declared.prefix.IpPrefix.TheVariants.{V4, V6}

@@ -1,7 +1,7 @@
 -- The items of walks over both families.
 use Rattle.std.proofs.Common.{◌≡◌, ℕ, ◌+◌, ◌<◌, ◌≤◌, ◌^◌, Bool, true, false, cond, List, [], ◌∷◌, ◌++◌, length, map, filter, refl, sym, ap, ap₂, ◌∙◌, is_lt, is_le, arith}
 use Rattle.std.specs.FinMap.{len, len-entries}
-use Rattle.prefix_trie.specs.Words.{covers, Entries, listing, listing_after, listing_below, listing_cmp, listing_from, prefix_pairs}
+use Rattle.prefix_trie.specs.Terms.{covers, Entries, listing, listing_after, listing_below, listing_cmp, listing_from, prefix_pairs}
 use Rattle.prefix_trie_bits.specs.Networks.{network_back}
 use Rattle.prefix_trie_table.specs.Model.Contents.{Contents}
 use Rattle.prefix_trie_map.specs.Whole.{IsWhole}

@@ -1,7 +1,7 @@
 -- How the joined entries follow from those of each family, as a statement for contracts. This project's own.
 use Rattle.std.specs.Prelude.{◌≡◌, ◌+◌, Bool, true, false, List, [], ◌∷◌, ◌++◌, None}
 use Rattle.std.specs.FinMap.{get, len}
-use Rattle.prefix_trie.specs.Words.{Entries, listing, with_entry}
+use Rattle.prefix_trie.specs.Terms.{Entries, listing, with_entry}
 use Rattle.prefix_trie_joint.specs.declared.prefix.IpPrefix.{IpPrefix}
 use Rattle.prefix_trie_joint.specs.declared.map.JointPrefixMap.{JointPrefixMap}
 use Rattle.prefix_trie_joint.specs.Joined.{entries_of, joined, under}

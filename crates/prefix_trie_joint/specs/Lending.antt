@@ -2,7 +2,7 @@
 use Rattle.std.specs.Prelude.{Option}
 use Rattle.std.specs.Borrow.{LendsIf, Fml, RattleType, MutBor}
 use Rattle.std.specs.declared.alloc.Allocator as alloc
-use Rattle.prefix_trie.specs.Words.{ipv4_path, ipv6_path, with_longest_at, with_value_at}
+use Rattle.prefix_trie.specs.Terms.{ipv4_path, ipv6_path, with_longest_at, with_value_at}
 use Rattle.prefix_trie_joint.specs.declared.prefix.IpPrefix.{IpPrefix}
 use Rattle.prefix_trie_joint.specs.declared.prefix.IpPrefix.TheVariants.{V4, V6}
 use Rattle.prefix_trie_joint.specs.declared.map.JointPrefixMap.{JointPrefixMap}

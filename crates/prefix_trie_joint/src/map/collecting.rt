@@ -1,7 +1,7 @@
 //! Maps from the items of an iterator.
 ghost use Rattle.std.specs.Prelude.{◌≡◌, List, IfOk, OnOk};
 ghost use Rattle.std.specs.Iterator.{Drains, IsFinite};
-ghost use Rattle.prefix_trie.specs.Words.{no_entries, put_all};
+ghost use Rattle.prefix_trie.specs.Terms.{no_entries, put_all};
 ghost use Rattle.prefix_trie_joint.specs.Joined.{entries_of};
 ghost use Rattle.prefix_trie_joint.specs.Networks.{ip_path};
 

@@ -4,7 +4,7 @@
 ghost use Rattle.std.specs.Prelude.{◌≡◌, ◌≤◌, length, map};
 ghost use Rattle.std.specs.Iterator.{at_most};
 ghost use Rattle.std.specs.Map.Iter.{GivesInOrder, ShowsInOrder, TakesFirst, deref};
-ghost use Rattle.prefix_trie.specs.Words.{covers, lent_item, prefix_pairs};
+ghost use Rattle.prefix_trie.specs.Terms.{covers, lent_item, prefix_pairs};
 ghost use Rattle.prefix_trie_joint.specs.Joined.{entries_of, items_of, joined};
 ghost use Rattle.prefix_trie_joint.specs.Networks.{ip_back, ip_path};
 

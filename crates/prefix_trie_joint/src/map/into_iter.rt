@@ -5,7 +5,7 @@ ghost use Rattle.std.specs.Prelude.{◌≡◌, ◌<◌, ◌^◌, length, map};
 ghost use Rattle.std.specs.FinMap.{len};
 ghost use Rattle.std.specs.Iterator.{at_most};
 ghost use Rattle.std.specs.Map.Iter.{GivesInOrder, TakesFirst};
-ghost use Rattle.prefix_trie.specs.Words.{listing, prefix_pairs};
+ghost use Rattle.prefix_trie.specs.Terms.{listing, prefix_pairs};
 ghost use Rattle.prefix_trie_joint.specs.Joined.{entries_of};
 ghost use Rattle.prefix_trie_joint.specs.Networks.{ip_back};
 

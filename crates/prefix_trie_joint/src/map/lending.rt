@@ -3,7 +3,7 @@ ghost use Rattle.std.specs.Prelude.{◌≡◌};
 ghost use Rattle.std.specs.Borrow.{sem};
 ghost use Rattle.std.specs.FinMap.{get};
 ghost use Rattle.std.specs.Option.{option_copied_mut, option_map};
-ghost use Rattle.prefix_trie.specs.Words.{longest_match};
+ghost use Rattle.prefix_trie.specs.Terms.{longest_match};
 ghost use Rattle.prefix_trie_joint.specs.Joined.{entries_of};
 ghost use Rattle.prefix_trie_joint.specs.Lending.{lends_longest_if, lends_value_if};
 ghost use Rattle.prefix_trie_joint.specs.Networks.{ip_path};

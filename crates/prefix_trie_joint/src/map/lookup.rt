@@ -4,7 +4,7 @@
 ghost use Rattle.std.specs.Prelude.{◌≡◌};
 ghost use Rattle.std.specs.FinMap.{contains_key, get};
 ghost use Rattle.std.specs.Option.{is_some, option_copied, option_map};
-ghost use Rattle.prefix_trie.specs.Words.{lent_item, longest_match, prefix_pair, shortest_match};
+ghost use Rattle.prefix_trie.specs.Terms.{lent_item, longest_match, prefix_pair, shortest_match};
 ghost use Rattle.prefix_trie_joint.specs.Joined.{entries_of};
 ghost use Rattle.prefix_trie_joint.specs.Networks.{ip_back, ip_path};
 

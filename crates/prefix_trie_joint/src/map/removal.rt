@@ -1,7 +1,7 @@
 //! Removing entries.
 ghost use Rattle.std.specs.Prelude.{◌≡◌};
 ghost use Rattle.std.specs.FinMap.{get};
-ghost use Rattle.prefix_trie.specs.Words.{no_entries, without_below, without_entry};
+ghost use Rattle.prefix_trie.specs.Terms.{no_entries, without_below, without_entry};
 ghost use Rattle.prefix_trie_joint.specs.Joined.{entries_of};
 ghost use Rattle.prefix_trie_joint.specs.Networks.{ip_path};
 

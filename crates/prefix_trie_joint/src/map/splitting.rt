@@ -1,7 +1,7 @@
 //! Splitting entries off as a second map.
 ghost use Rattle.std.specs.Prelude.{◌≡◌, IfErr, IfOk, OnErr, OnOk};
 ghost use Rattle.prefix_trie_bits.specs.declared.prefix.Refusal.TheVariants.{Memory};
-ghost use Rattle.prefix_trie.specs.Words.{no_entries, part_below, without_below};
+ghost use Rattle.prefix_trie.specs.Terms.{no_entries, part_below, without_below};
 ghost use Rattle.prefix_trie_joint.specs.Joined.{entries_of};
 ghost use Rattle.prefix_trie_joint.specs.Networks.{ip_path};
 

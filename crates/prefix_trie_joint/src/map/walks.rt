@@ -5,7 +5,7 @@ ghost use Rattle.std.specs.Prelude.{◌≡◌, ◌<◌, ◌^◌, [], cond, lengt
 ghost use Rattle.std.specs.FinMap.{len};
 ghost use Rattle.std.specs.Iterator.{at_most};
 ghost use Rattle.std.specs.Map.Iter.{GivesInOrder, ShowsInOrder, TakesFirst, deref};
-ghost use Rattle.prefix_trie.specs.Words.{lent_item, listing, listing_after, listing_below, listing_from, prefix_pairs};
+ghost use Rattle.prefix_trie.specs.Terms.{lent_item, listing, listing_after, listing_below, listing_from, prefix_pairs};
 ghost use Rattle.prefix_trie_joint.specs.Joined.{entries_of, joined};
 ghost use Rattle.prefix_trie_joint.specs.Networks.{ip_back, ip_path};
 

@@ -1,7 +1,7 @@
 //! Sets from the networks of an iterator.
 ghost use Rattle.std.specs.Prelude.{◌≡◌, List, map, IfOk, OnOk};
 ghost use Rattle.std.specs.Iterator.{Drains, IsFinite};
-ghost use Rattle.prefix_trie.specs.Words.{as_item, no_entries, put_all};
+ghost use Rattle.prefix_trie.specs.Terms.{as_item, no_entries, put_all};
 ghost use Rattle.prefix_trie_joint.specs.Joined.{keys_of};
 ghost use Rattle.prefix_trie_joint.specs.Networks.{ip_path};
 

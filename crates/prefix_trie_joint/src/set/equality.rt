@@ -2,7 +2,7 @@
 ghost use Rattle.std.specs.Prelude.{◌≡◌, ◌↔◌, ◌&&◌, IsTrue};
 ghost use Rattle.std.specs.Cmp.{and_equiv, and_per, on_equiv, on_per, partial_equiv_from_equiv};
 ghost use Rattle.prefix_trie.specs.Sets.{same_keys_equiv};
-ghost use Rattle.prefix_trie.specs.Words.{same_keys};
+ghost use Rattle.prefix_trie.specs.Terms.{same_keys};
 ghost use Rattle.prefix_trie_joint.specs.Joined.{keys_of};
 
 use crate::set::JointPrefixSet;

@@ -5,7 +5,7 @@ ghost use Rattle.std.specs.Prelude.{◌≡◌, ◌<◌, ◌^◌, length, map};
 ghost use Rattle.std.specs.FinMap.{len};
 ghost use Rattle.std.specs.Iterator.{at_most};
 ghost use Rattle.std.specs.Map.Iter.{GivesInOrder, TakesFirst};
-ghost use Rattle.prefix_trie.specs.Words.{listing};
+ghost use Rattle.prefix_trie.specs.Terms.{listing};
 ghost use Rattle.prefix_trie_joint.specs.Joined.{keys_of};
 ghost use Rattle.prefix_trie_joint.specs.Networks.{ip_back};
 

@@ -2,7 +2,7 @@
 ghost use Rattle.std.specs.Prelude.{◌≡◌};
 ghost use Rattle.std.specs.FinMap.{contains_key};
 ghost use Rattle.std.specs.Option.{is_some, option_map};
-ghost use Rattle.prefix_trie.specs.Words.{longest_match, shortest_match};
+ghost use Rattle.prefix_trie.specs.Terms.{longest_match, shortest_match};
 ghost use Rattle.prefix_trie_joint.specs.Joined.{keys_of};
 ghost use Rattle.prefix_trie_joint.specs.Networks.{ip_back, ip_path};
 

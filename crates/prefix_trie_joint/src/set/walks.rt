@@ -4,7 +4,7 @@
 ghost use Rattle.std.specs.Prelude.{◌≡◌, ◌<◌, ◌^◌, cond, length, map};
 ghost use Rattle.std.specs.FinMap.{len};
 ghost use Rattle.std.specs.Map.Iter.{GivesInOrder};
-ghost use Rattle.prefix_trie.specs.Words.{covers, listing, listing_after, listing_below, listing_from};
+ghost use Rattle.prefix_trie.specs.Terms.{covers, listing, listing_after, listing_below, listing_from};
 ghost use Rattle.prefix_trie_joint.specs.Joined.{keys_of};
 ghost use Rattle.prefix_trie_joint.specs.Networks.{ip_back, ip_path};
 

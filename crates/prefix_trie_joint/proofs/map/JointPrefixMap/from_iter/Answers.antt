@@ -1,6 +1,6 @@
 -- A map made from an iterator has the entries of inserting its items in order.
 use Rattle.std.proofs.Common.{◌∙◌, ap}
-use Rattle.prefix_trie.specs.Words.{put_all}
+use Rattle.prefix_trie.specs.Terms.{put_all}
 use Rattle.prefix_trie_joint.specs.Networks.{ip_path}
 use Rattle.prefix_trie_joint.proofs.map.JointPrefixMap.from_iter.Goals as goal
 

@@ -1,5 +1,5 @@
 -- A loop over the walk takes its items in order.
-use Rattle.prefix_trie.specs.Words.{lent_item}
+use Rattle.prefix_trie.specs.Terms.{lent_item}
 use Rattle.prefix_trie_map.proofs.Runs.{shows_in_order}
 use Rattle.prefix_trie_joint.proofs.map.JointPrefixMap.iter.Goals as goal
 

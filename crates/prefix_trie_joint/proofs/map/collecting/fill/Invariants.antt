@@ -1,6 +1,6 @@
 -- The invariant of `fill`: the map has the items that the iterator gave so far.
 use Rattle.std.proofs.Common.{◌≡◌}
-use Rattle.prefix_trie.specs.Words.{put_all}
+use Rattle.prefix_trie.specs.Terms.{put_all}
 use Rattle.prefix_trie_joint.specs.Joined.{entries_of}
 use Rattle.prefix_trie_joint.specs.Networks.{ip_path}
 use Rattle.prefix_trie_joint.proofs.map.collecting.fill.Given as goal

@@ -1,6 +1,6 @@
 -- The networks are the first parts of the items of a walk over both maps of units.
 use Rattle.std.proofs.Common.{◌∙◌, ap₂}
-use Rattle.prefix_trie.specs.Words.{covers, prefix_pairs}
+use Rattle.prefix_trie.specs.Terms.{covers, prefix_pairs}
 use Rattle.prefix_trie_table.specs.Model.Contents.{Contents}
 use Rattle.prefix_trie_map.proofs.Runs.{parts_are, gives_in_order}
 use Rattle.prefix_trie_joint.specs.Joined.{joined}

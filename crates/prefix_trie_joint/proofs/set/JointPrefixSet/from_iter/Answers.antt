@@ -1,6 +1,6 @@
 -- A set made from an iterator has the keys of inserting its networks in order.
 use Rattle.std.proofs.Common.{◌∙◌, ap, map}
-use Rattle.prefix_trie.specs.Words.{as_item, put_all}
+use Rattle.prefix_trie.specs.Terms.{as_item, put_all}
 use Rattle.prefix_trie_joint.specs.Networks.{ip_path}
 use Rattle.prefix_trie_joint.proofs.set.JointPrefixSet.from_iter.Goals as goal
 

@@ -1,7 +1,7 @@
 -- The networks are the first parts of the items of a walk over both maps of units.
 use Rattle.std.proofs.Common.{◌∙◌, ap₂}
 use Rattle.std.specs.FinMap.{len}
-use Rattle.prefix_trie.specs.Words.{listing, prefix_pairs}
+use Rattle.prefix_trie.specs.Terms.{listing, prefix_pairs}
 use Rattle.prefix_trie_table.specs.Model.Contents.{Contents}
 use Rattle.prefix_trie_map.proofs.Runs.{parts_are, parts_count, gives_in_order}
 use Rattle.prefix_trie_joint.specs.Joined.{joined}

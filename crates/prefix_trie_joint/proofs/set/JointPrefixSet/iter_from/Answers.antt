@@ -1,6 +1,6 @@
 -- The networks are the first parts of the items of a walk over both maps of units.
 use Rattle.std.proofs.Common.{◌∙◌, ap₂, cond}
-use Rattle.prefix_trie.specs.Words.{listing_after, listing_from, prefix_pairs}
+use Rattle.prefix_trie.specs.Terms.{listing_after, listing_from, prefix_pairs}
 use Rattle.prefix_trie_table.specs.Model.Contents.{Contents}
 use Rattle.prefix_trie_map.proofs.Runs.{parts_are, gives_in_order}
 use Rattle.prefix_trie_joint.specs.Joined.{joined}

@@ -1,6 +1,6 @@
 -- The invariant of `fill`: the set has the networks that the iterator gave so far.
 use Rattle.std.proofs.Common.{◌≡◌, map}
-use Rattle.prefix_trie.specs.Words.{as_item, put_all}
+use Rattle.prefix_trie.specs.Terms.{as_item, put_all}
 use Rattle.prefix_trie_joint.specs.Joined.{keys_of}
 use Rattle.prefix_trie_joint.specs.Networks.{ip_path}
 use Rattle.prefix_trie_joint.proofs.set.collecting.fill.Given as goal

@@ -1,7 +1,7 @@
 -- Two maps are equal if their walks are, item by item.
 use Rattle.std.proofs.Common.{◌∙◌, ◌&&◌, Bool}
 use Rattle.std.specs.Cmp.Lexicographic.{pointwise}
-use Rattle.prefix_trie.specs.Words.{lent_item}
+use Rattle.prefix_trie.specs.Terms.{lent_item}
 use Rattle.prefix_trie_map.proofs.Equality.{eq_is}
 use Rattle.prefix_trie_joint.specs.contracts.prefix.IpPrefixPartialEq.TheImpl.{ghosts as networks}
 use Rattle.prefix_trie_joint.specs.declared.prefix.IpPrefix.{IpPrefix}
