@@ -68,70 +68,73 @@ get_mut_spec 𝓤 𝓛 𝓜 𝓡 wired P T A R lP lT lA lR cR p p' d d' k k' n n
     let found_laws : Laws Found = option_laws (Lent 1 T κ) (lent_laws 1 T lT κ) in
     let cell : Val → Fml = λ w. fat full_share ω b o w in
     elim xs.0.now as (λ e. ent 𝓤 (W.pre (y e)) (WpFn 𝓤 𝓛.H 𝓣.C 𝓣.Λ fn vs (W.post (y e)))) [
-      Vacant v ↦
-        let e : G.Denot = Vacant v in let none : Val = live 0 vnil in
-        let Value : Type 0 = None ≡ lookup v.map.now.entries (p.path v.key) in
-        qed 𝓛 (((tok ⊛ others) ⊛ ‵ ((MutRef (named 0) κ G).own_val (record xs.0 { now = e }) vs) ⊛ ‵ ftrue) ∷ raw ((c κs (record xs.0 { now = e }, tt)).requires tt) ∷ []) ∵
-        split ! $ split ! $ move ! (2 ∷ []) $ split ! $ fsplit3 ! $ keep ! (1 ∷ 2 ∷ 4 ∷ 5 ∷ []) $
-        enter ! _ _ _ _ _ $ alloc_all ! (λ l. pass_all ! refl ((tt, tt), tt) $
-        open_ref ! tt (mem G) $
-        use1 𝓛 (some (λ (w : Val). ‵ (cell w) ⊛ ‵ (G.own_val e (w ∷ [])))) (part_out_at 𝓛 G refl full_share e b o ω refl) $ pick ! (λ w. split ! $
-        move ! (1 ∷ []) $ peeks ! G _ (shows 𝓛 G) e (w ∷ []) (λ is.
-        rewrite ! 1 (λ (u : Val). ‵ (cell u)) (ap only is.1.0) refl $
-        -- [what the entry owns; its cell; the open borrow, in three entries; the other tokens]
-        use0 𝓛 (‵ (Found.own_val None (none ∷ []))) (none_of 𝓛 (Lent 1 T κ)) $
-        peeks ! Found _ (shows 𝓛 Found) None (none ∷ []) (λ is_none. let none_ok = ((found_laws.lawful 𝓛).typed None (none ∷ []) is_none).0 in
-        first ! $ by_variants ! 2 (whole !) (load ! (through ! refl (vrt ! refl (fld ! refl (stop !)))) (look_tag ! 2 (whole !))) tt (
-          (λ _. sets_last ! (agg ! (and_then ! (lit ! tt) (no_more !))) refl none_ok $
-              exec ! 𝓣.C 𝓣.Λ (env fn.locals l) (after 1 fn.body) (at_ret _ (W.post (y e))) $ sets ! (of_opd ! (get ! refl)) refl none_ok $
-              rewrite ! 2 (λ (u : Val). ‵ (cell u)) (sym (ap only is.1.0)) refl $ move ! (2 ∷ 1 ∷ []) $
-              use2 𝓛 (‵ (part_at G full_share e b o)) (part_in_at 𝓛 G refl full_share e b o ω refl w) $ move ! (0 ∷ 2 ∷ 3 ∷ 4 ∷ []) $
-              close_ref ! tt (mem G) e $ use1 𝓛 (‵ (fres γ (G.coded.code e))) (𝓛.names.obs-res γ (G.coded.code e)) $ move ! (1 ∷ []) $ drop ! $
-              -- [the entry's last value; its token; what is returned; the other tokens]
-              returns ! (look_at ! 0 refl) $ free_all ! refl $ move ! (2 ∷ []) $
-              suffices ! _ (ends_at 𝓛 En hs c (y e) none None (tt, tt) (tt, tt)) $
-              nothing ! $ nothing ! $ fjoin ! $ join ! $ move ! (2 ∷ 3 ∷ []) $ join ! $ join ! $ frame ! $ frame ! $
-              use0 𝓛 (raw (fact 𝓤 Value)) (fact_i 𝓤 Value (emp 𝓤) (missing (lookup v.map.now.entries (p.path v.key)) v.absent)) $ done !),
-          ((λ is_one. absurd (suc-ne-zero 0 (sym is_one))), tt),
-        )))))
-    | Occupied v ↦
-        let e : G.Denot = Occupied v in
-        qed 𝓛 (((tok ⊛ others) ⊛ ‵ ((MutRef (named 0) κ G).own_val (record xs.0 { now = e }) vs) ⊛ ‵ ftrue) ∷ raw ((c κs (record xs.0 { now = e }, tt)).requires tt) ∷ []) ∵
-        split ! $ split ! $ move ! (2 ∷ []) $ split ! $ fsplit3 ! $ keep ! (1 ∷ 2 ∷ 4 ∷ 5 ∷ 6 ∷ []) $
-        enter ! _ _ _ _ _ $ alloc_all ! (λ l. pass_all ! refl ((tt, tt), tt) $
-        open_ref ! tt (mem G) $
-        use1 𝓛 (some (λ (w : Val). ‵ (cell (live 1 (vcons w vnil))) ⊛ ‵ (F.own_val v (w ∷ [])))) (opened G F Occupied ν σ τ refl refl refl refl (λ y us. refl) 𝓛 b o v) $ pick ! (λ w. split ! $
-        first ! $ by_variants ! 0 (whole !) (load ! (through ! refl (vrt ! refl (fld ! refl (stop !)))) (look_tag ! 0 (whole !))) tt (
-          (λ is_none. absurd (suc-ne-zero 0 is_none)),
-          ((λ _. sets ! (addr ! (through ! refl (vrt ! refl (fld ! refl (stop !))))) refl (tt, tt) $
-              sets ! (addr ! (through ! refl (stop !))) refl (tt, tt) $ group ! 5 $
-              use1 𝓛 (later (some (λ (δ : GName). ‵ ((MutRef (named 0) κ F).own_val (record { ref_ptr = (b, at); ghost_name = δ; now = v }) (vptr b at ∷ [])) ⊛ tok ⊛ ‵ (follows G F γ δ Occupied))))
-              (lends G F Occupied ν σ τ refl refl refl refl (λ y us. refl) 𝓛 b o κ qs.0 γ v w (G.coded.code e)) $ await ! tt $ pick ! (λ δ. split3 ! $
-              -- [the occupied entry, lent; its token; what the entry follows; the other tokens; what is required]
-              let lent : MutBor F.Denot = record { ref_ptr = (b, at); ghost_name = δ; now = v } in
-              let Q = triple_of 𝓛 (h.signature P T A R p p' d d' k k' n n' e₁ e₁' s s' w₁ w₁' g g' xP xT xA) (h.spec P T A R p p' d d' k k' n n' e₁ e₁' s s' w₁ w₁' g g' xP xT xA 𝓛 𝓜.mem 𝓡.returns) in
-              let z : Q.Ghost = ((κs, qs, bounds, (lent, tt), (mut_vals lent, tt)), tt) in
-              nothing ! $ move ! (1 ∷ 0 ∷ []) $ join ! $ move ! (1 ∷ 3 ∷ []) $ join ! $ join ! $ move ! (0 ∷ 2 ∷ []) $ use2 𝓛 (raw (Q.pre z)) (id⊢ 𝓤 _) $
-              calls_at ! (framed 𝓤 𝓛.H 𝓜 𝓣) Q (h_met 𝓤 𝓛 𝓜 𝓡 (code.calls-prefix_trie_map::map::entry::OccupiedEntry::get_mut 𝓡.env wired) P T A R lP lT lA lR cR p p' d d' k k' n n' e₁ e₁' s s' w₁ w₁' g g' xP xT xA mp md mk mn me ms mw mg gP gT gA) z
-              (and_then ! (get ! refl) (no_more !)) (λ u.
-              let Value : MutBor T.Denot → Type 0 = λ r. entry_value (Occupied v) ≡ Some r.now in
-              let Written : T.Denot → F.Denot = with_value_in v in
-              use1 𝓛 (later (some (λ (r : MutBor T.Denot). ((tok ⊛ others) ⊛ ‵ ((Lent 1 T κ).own_val r (u ∷ [])))
-              ⊛ some (λ (es : Unit {0} × Unit {0}). ‵ (lasts (h.ended P T A R p p' d d' k k' n n' e₁ e₁' s s' w₁ w₁' g g' xP xT xA) z.0.0 z.0.3 es) ⊛ ‵ (follows F (param 1 T) δ r.ghost_name Written) ⊛ raw (fact 𝓤 (Value r)))))) (id⊢ 𝓤 _) $
-              await ! tt $ pick ! (λ r. split ! $ move ! (1 ∷ []) $ pick ! (λ es. split ! $ drop ! $ split ! $ move ! (1 ∷ []) $ heard ! (Value r) (λ value.
-              move ! (2 ∷ 0 ∷ []) $ use2 𝓛 (‵ (follows G (param 1 T) γ r.ghost_name (λ t. Occupied (Written t)))) (follows_then 𝓛 G F (param 1 T) Occupied Written γ δ r.ghost_name) $
-              move ! (1 ∷ []) $ split ! $ move ! (1 ∷ []) $
-              -- [the value, lent; the tokens; what the entry follows]
-              peeks ! (Lent 1 T κ) _ (shows 𝓛 (Lent 1 T κ)) r (u ∷ []) (λ is_lent.
-              lands_as ! refl refl (((lent_laws 1 T lT κ).lawful 𝓛).typed r (u ∷ []) is_lent).0 $
-              let found : Val = live 1 (vcons u vnil) in
-              use1 𝓛 (‵ (Found.own_val (Some r) (found ∷ []))) (Some-of 𝓛 (Lent 1 T κ) r u) $
-              peeks ! Found _ (shows 𝓛 Found) (Some r) (found ∷ []) (λ is_found. let found_ok = ((found_laws.lawful 𝓛).typed (Some r) (found ∷ []) is_found).0 in
-              sets_last ! (agg ! (and_then ! (lit ! tt) (and_then ! (get ! refl) (no_more !)))) refl found_ok $
-              exec ! 𝓣.C 𝓣.Λ (env fn.locals l) (after 1 fn.body) (at_ret _ (W.post (y e))) $ sets ! (of_opd ! (get ! refl)) refl found_ok $
-              returns ! (look_at ! 0 refl) $ free_all ! refl $
-              suffices ! _ (ends_at 𝓛 En hs c (y e) found (Some r) (tt, tt) (tt, tt)) $
-              nothing ! $ nothing ! $ fjoin ! $ join ! $ move ! (1 ∷ 0 ∷ []) $ join ! $ frame ! $ frame ! $
-              use0 𝓛 (raw (fact 𝓤 (Some r.now ≡ entry_value (Occupied v)))) (fact_i 𝓤 (Some r.now ≡ entry_value (Occupied v)) (emp 𝓤) (sym value)) $ done !)))))))), tt),
-        )))
+      | Vacant v ↦
+          let e : G.Denot = Vacant v in let none : Val = live 0 vnil in
+          let Value : Type 0 = None ≡ lookup v.map.now.entries (p.path v.key) in
+          qed 𝓛 (((tok ⊛ others) ⊛ ‵ ((MutRef (named 0) κ G).own_val (record xs.0 { now = e }) vs) ⊛ ‵ ftrue) ∷ raw ((c κs (record xs.0 { now = e }, tt)).requires tt) ∷ []) ∵
+          split ! $ split ! $ move ! (2 ∷ []) $ split ! $ fsplit3 ! $ keep ! (1 ∷ 2 ∷ 4 ∷ 5 ∷ []) $
+          enter ! _ _ _ _ _ $ alloc_all ! (λ l. pass_all ! refl ((tt, tt), tt) $
+          open_ref ! tt (mem G) $
+          use1 𝓛 (some (λ (w : Val). ‵ (cell w) ⊛ ‵ (G.own_val e (w ∷ [])))) (part_out_at 𝓛 G refl full_share e b o ω refl) $ pick ! (λ w. split ! $
+          move ! (1 ∷ []) $ peeks ! G _ (shows 𝓛 G) e (w ∷ []) (λ is.
+          rewrite ! 1 (λ (u : Val). ‵ (cell u)) (ap only is.1.0) refl $
+          -- [what the entry owns; its cell; the open borrow, in three entries; the other tokens]
+          use0 𝓛 (‵ (Found.own_val None (none ∷ []))) (none_of 𝓛 (Lent 1 T κ)) $
+          peeks ! Found _ (shows 𝓛 Found) None (none ∷ []) (λ is_none. let none_ok = ((found_laws.lawful 𝓛).typed None (none ∷ []) is_none).0 in
+          first ! $ by_variants ! 2 (whole !) (load ! (through ! refl (vrt ! refl (fld ! refl (stop !)))) (look_tag ! 2 (whole !))) tt (
+            (λ _. sets_last ! (agg ! (and_then ! (lit ! tt) (no_more !))) refl none_ok $
+                exec ! 𝓣.C 𝓣.Λ (env fn.locals l) (after 1 fn.body) (at_ret _ (W.post (y e))) $ sets ! (of_opd ! (get ! refl)) refl none_ok $
+                rewrite ! 2 (λ (u : Val). ‵ (cell u)) (sym (ap only is.1.0)) refl $ move ! (2 ∷ 1 ∷ []) $
+                use2 𝓛 (‵ (part_at G full_share e b o)) (part_in_at 𝓛 G refl full_share e b o ω refl w) $ move ! (0 ∷ 2 ∷ 3 ∷ 4 ∷ []) $
+                close_ref ! tt (mem G) e $ use1 𝓛 (‵ (fres γ (G.coded.code e))) (𝓛.names.obs-res γ (G.coded.code e)) $ move ! (1 ∷ []) $ drop ! $
+                -- [the entry's last value; its token; what is returned; the other tokens]
+                returns ! (look_at ! 0 refl) $ free_all ! refl $ move ! (2 ∷ []) $
+                suffices ! _ (ends_at 𝓛 En hs c (y e) none None (tt, tt) (tt, tt)) $
+                nothing ! $ nothing ! $ fjoin ! $ join ! $ move ! (2 ∷ 3 ∷ []) $ join ! $ join ! $ frame ! $ frame ! $
+                use0 𝓛 (raw (fact 𝓤 Value)) (fact_i 𝓤 Value (emp 𝓤) (missing (lookup v.map.now.entries (p.path v.key)) v.absent)) $ done !),
+            ((λ is_one. absurd (suc-ne-zero 0 (sym is_one))), tt),
+          )))))
+      | Occupied v ↦
+          let e : G.Denot = Occupied v in
+          qed 𝓛 (((tok ⊛ others) ⊛ ‵ ((MutRef (named 0) κ G).own_val (record xs.0 { now = e }) vs) ⊛ ‵ ftrue) ∷ raw ((c κs (record xs.0 { now = e }, tt)).requires tt) ∷ []) ∵
+          split ! $ split ! $ move ! (2 ∷ []) $ split ! $ fsplit3 ! $ keep ! (1 ∷ 2 ∷ 4 ∷ 5 ∷ 6 ∷ []) $
+          enter ! _ _ _ _ _ $ alloc_all ! (λ l. pass_all ! refl ((tt, tt), tt) $
+          open_ref ! tt (mem G) $
+          use1 𝓛 (some (λ (w : Val). ‵ (cell (live 1 (vcons w vnil))) ⊛ ‵ (F.own_val v (w ∷ [])))) (opened G F Occupied ν σ τ refl refl refl refl (λ y us. refl) 𝓛 b o v) $ pick ! (λ w. split ! $
+          first ! $ by_variants ! 0 (whole !) (load ! (through ! refl (vrt ! refl (fld ! refl (stop !)))) (look_tag ! 0 (whole !))) tt (
+            (λ is_none. absurd (suc-ne-zero 0 is_none)),
+            (
+              (λ _. sets ! (addr ! (through ! refl (vrt ! refl (fld ! refl (stop !))))) refl (tt, tt) $
+                  sets ! (addr ! (through ! refl (stop !))) refl (tt, tt) $ group ! 5 $
+                  use1 𝓛 (later (some (λ (δ : GName). ‵ ((MutRef (named 0) κ F).own_val (record { ref_ptr = (b, at); ghost_name = δ; now = v }) (vptr b at ∷ [])) ⊛ tok ⊛ ‵ (follows G F γ δ Occupied))))
+                  (lends G F Occupied ν σ τ refl refl refl refl (λ y us. refl) 𝓛 b o κ qs.0 γ v w (G.coded.code e)) $ await ! tt $ pick ! (λ δ. split3 ! $
+                  -- [the occupied entry, lent; its token; what the entry follows; the other tokens; what is required]
+                  let lent : MutBor F.Denot = record { ref_ptr = (b, at); ghost_name = δ; now = v } in
+                  let Q = triple_of 𝓛 (h.signature P T A R p p' d d' k k' n n' e₁ e₁' s s' w₁ w₁' g g' xP xT xA) (h.spec P T A R p p' d d' k k' n n' e₁ e₁' s s' w₁ w₁' g g' xP xT xA 𝓛 𝓜.mem 𝓡.returns) in
+                  let z : Q.Ghost = ((κs, qs, bounds, (lent, tt), (mut_vals lent, tt)), tt) in
+                  nothing ! $ move ! (1 ∷ 0 ∷ []) $ join ! $ move ! (1 ∷ 3 ∷ []) $ join ! $ join ! $ move ! (0 ∷ 2 ∷ []) $ use2 𝓛 (raw (Q.pre z)) (id⊢ 𝓤 _) $
+                  calls_at ! (framed 𝓤 𝓛.H 𝓜 𝓣) Q (h_met 𝓤 𝓛 𝓜 𝓡 (code.calls-prefix_trie_map::map::entry::OccupiedEntry::get_mut 𝓡.env wired) P T A R lP lT lA lR cR p p' d d' k k' n n' e₁ e₁' s s' w₁ w₁' g g' xP xT xA mp md mk mn me ms mw mg gP gT gA) z
+                  (and_then ! (get ! refl) (no_more !)) (λ u.
+                  let Value : MutBor T.Denot → Type 0 = λ r. entry_value (Occupied v) ≡ Some r.now in
+                  let Written : T.Denot → F.Denot = with_value_in v in
+                  use1 𝓛 (later (some (λ (r : MutBor T.Denot). ((tok ⊛ others) ⊛ ‵ ((Lent 1 T κ).own_val r (u ∷ [])))
+                  ⊛ some (λ (es : Unit {0} × Unit {0}). ‵ (lasts (h.ended P T A R p p' d d' k k' n n' e₁ e₁' s s' w₁ w₁' g g' xP xT xA) z.0.0 z.0.3 es) ⊛ ‵ (follows F (param 1 T) δ r.ghost_name Written) ⊛ raw (fact 𝓤 (Value r)))))) (id⊢ 𝓤 _) $
+                  await ! tt $ pick ! (λ r. split ! $ move ! (1 ∷ []) $ pick ! (λ es. split ! $ drop ! $ split ! $ move ! (1 ∷ []) $ heard ! (Value r) (λ value.
+                  move ! (2 ∷ 0 ∷ []) $ use2 𝓛 (‵ (follows G (param 1 T) γ r.ghost_name (λ t. Occupied (Written t)))) (follows_then 𝓛 G F (param 1 T) Occupied Written γ δ r.ghost_name) $
+                  move ! (1 ∷ []) $ split ! $ move ! (1 ∷ []) $
+                  -- [the value, lent; the tokens; what the entry follows]
+                  peeks ! (Lent 1 T κ) _ (shows 𝓛 (Lent 1 T κ)) r (u ∷ []) (λ is_lent.
+                  lands_as ! refl refl (((lent_laws 1 T lT κ).lawful 𝓛).typed r (u ∷ []) is_lent).0 $
+                  let found : Val = live 1 (vcons u vnil) in
+                  use1 𝓛 (‵ (Found.own_val (Some r) (found ∷ []))) (Some-of 𝓛 (Lent 1 T κ) r u) $
+                  peeks ! Found _ (shows 𝓛 Found) (Some r) (found ∷ []) (λ is_found. let found_ok = ((found_laws.lawful 𝓛).typed (Some r) (found ∷ []) is_found).0 in
+                  sets_last ! (agg ! (and_then ! (lit ! tt) (and_then ! (get ! refl) (no_more !)))) refl found_ok $
+                  exec ! 𝓣.C 𝓣.Λ (env fn.locals l) (after 1 fn.body) (at_ret _ (W.post (y e))) $ sets ! (of_opd ! (get ! refl)) refl found_ok $
+                  returns ! (look_at ! 0 refl) $ free_all ! refl $
+                  suffices ! _ (ends_at 𝓛 En hs c (y e) found (Some r) (tt, tt) (tt, tt)) $
+                  nothing ! $ nothing ! $ fjoin ! $ join ! $ move ! (1 ∷ 0 ∷ []) $ join ! $ frame ! $ frame ! $
+                  use0 𝓛 (raw (fact 𝓤 (Some r.now ≡ entry_value (Occupied v)))) (fact_i 𝓤 (Some r.now ≡ entry_value (Occupied v)) (emp 𝓤) (sym value)) $ done !)))))))),
+              tt,
+            ),
+          )))
     ])
