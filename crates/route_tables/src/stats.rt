@@ -46,7 +46,7 @@ pub fn by_length<P: Prefix>(table: &Table<P>, alloc: Global) -> Result<Vec<usize
 ///
 /// ```rust
 /// let tables = load(b"10.0.0.0/8 core\n", alloc)?.tables;
-/// array_bytes(&tables.ipv4);      // 58: two slots of nodes and one of values
+/// array_bytes(&tables.ipv4);      // 66: two slots of nodes and one of values
 /// ```
 pub fn array_bytes<P: Prefix>(table: &Table<P>) -> usize {
     let nodes = table.node_slots().saturating_mul(NODE_BYTES);
