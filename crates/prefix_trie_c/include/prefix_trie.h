@@ -150,17 +150,20 @@ static inline uint32_t prefix_trie_v4_next(prefix_trie *table, uint32_t address,
 }
 
 /* Sets the value of a network. */
-static inline uint32_t prefix_trie_v6_insert(prefix_trie *table, uint64_t high, uint64_t low, uint8_t length, uint64_t value) {
+static inline uint32_t prefix_trie_v6_insert(prefix_trie *table, uint64_t high, uint64_t low, uint8_t length,
+                                             uint64_t value) {
     return table ? prefix_trie_c_v6_insert(table, high, low, length, value) : PREFIX_TRIE_NULL;
 }
 
 /* Removes a network and writes its value. */
-static inline uint32_t prefix_trie_v6_remove(prefix_trie *table, uint64_t high, uint64_t low, uint8_t length, uint64_t *value) {
+static inline uint32_t prefix_trie_v6_remove(prefix_trie *table, uint64_t high, uint64_t low, uint8_t length,
+                                             uint64_t *value) {
     return table && value ? prefix_trie_c_v6_remove(table, high, low, length, value) : PREFIX_TRIE_NULL;
 }
 
 /* Writes the value of a network. */
-static inline uint32_t prefix_trie_v6_get(prefix_trie *table, uint64_t high, uint64_t low, uint8_t length, uint64_t *value) {
+static inline uint32_t prefix_trie_v6_get(prefix_trie *table, uint64_t high, uint64_t low, uint8_t length,
+                                          uint64_t *value) {
     return table && value ? prefix_trie_c_v6_get(table, high, low, length, value) : PREFIX_TRIE_NULL;
 }
 
@@ -187,7 +190,8 @@ static inline uint32_t prefix_trie_v6_match_all(prefix_trie *table, const prefix
  * contains. Of two others the lower address comes first. `inclusive` says whether the network's own entry counts too,
  * if there is one: a walk over all begins with length 0 and true, and goes on after the last entry with false.
  */
-static inline uint32_t prefix_trie_v6_next(prefix_trie *table, uint64_t high, uint64_t low, uint8_t length, bool inclusive,
+static inline uint32_t prefix_trie_v6_next(prefix_trie *table, uint64_t high, uint64_t low, uint8_t length,
+                                           bool inclusive,
                                            prefix_trie_v6_entry *entries, size_t limit, size_t *count) {
     return table && entries && count
                ? prefix_trie_c_v6_next(table, high, low, length, inclusive, entries, limit, count)

@@ -1,5 +1,5 @@
 -- The array ends with the walk or is full, and begins with the next entries in both cases.
-use Rattle.std.proofs.Common.{arith, length, rules}
+use Rattle.std.proofs.Common.{length, rules}
 use Rattle.prefix_trie_c.proofs.Arrays.{reads_none, reads_more, reads_to_end, reads_full}
 use Rattle.prefix_trie_c.proofs.calls.read_after.Goals as goal
 

@@ -1,33 +1,28 @@
 -- `empty` owns nothing.
-use Rattle.std.proofs.Common.{◌≡◌, List, [], ◌∷◌, ◌++◌, refl, sym, ap, subst, lit<}
-use mir.Val.{Val, vptr, vnull, vcons, vnil}
+use Rattle.std.proofs.Common.{◌≡◌, List, [], ◌∷◌, ◌++◌, refl, sym, subst}
+use mir.Val.{Val, vnull}
 use base.Logic.{SProp, ent, emp, id⊢}
 use base.Fml.{ftrue}
 use prog.Wp.{WpFn}
-use types.Kit.{‵, raw, ◌⊛◌, at_ret, ◌$◌, ◌∵◌, !, qed, by, move, keep, drop, split, fsplit, fjoin, suffices, use0, use1, rewrite}
-use types.Run.{stop, fld, lit, of_opd, bin, no_more, and_then, first, branches, exec, returns, enter}
-use types.ByLocal.{alloc_all, pass_all, free_all, look_at, get, get_in, sets, sets_last, env}
-use types.Part.{agg, sub, whole}
-use types.Match.{live}
+use types.Kit.{‵, raw, ◌⊛◌, ◌$◌, ◌∵◌, !, qed, by, move, keep, split, fsplit, fjoin, suffices, use0, rewrite}
+use types.Run.{lit, no_more, and_then, returns, enter}
+use types.ByLocal.{alloc_all, pass_all, free_all, look_at, get, sets, env}
+use types.Part.{agg}
 use contract.Monad.{fact, fact_i}
 use contract.Running.{tables}
-use denote.Exit.{yes, no}
-use denote.RattleType.{RattleType, owns}
-use denote.Signature.{types_at, type_at, plain}
-use denote.RawPtr.{block_ptr, null_ptr, tests_null}
+use denote.Exit.{yes}
+use denote.RattleType.{owns}
+use denote.Signature.{types_at, plain}
+use denote.RawPtr.{null_ptr}
 use denote.Steps.{nothing}
 use denote.Param.{layout}
 use denote.Triple.Walked.{Stays, stay_dropped, walk_of, Goes-dropped}
-use Rattle.core.specs.declared.option.Option.TheVariants.{None, Some}
-use Rattle.core.proofs.alloc.Shapes.{after}
-use Rattle.core.proofs.cell.Inside.{Good, one}
-use Rattle.core.proofs.option.Made.{Some-of, none_of}
-use Rattle.std_heap.specs.contracts.GlobalAllocator.TheImpl.{ghosts}
+use Rattle.core.specs.declared.option.Option.TheVariants.{None}
+use Rattle.core.proofs.cell.Inside.{one}
 use Rattle.std_heap.proofs.Global.TheLaws as heap_laws
-use Rattle.std_alloc.proofs.ResultValues.{and_tt}
 use Rattle.std.proofs.raw_atomic.Walks.{proved_at, leaves}
-use Rattle.prefix_trie_c.proofs.Values.{both, Loose, loose_good, loose_in, loose_out}
-use Rattle.prefix_trie_c.proofs.Handles.{R, Z, null_good, handle_out, empty_in, full_in}
+use Rattle.prefix_trie_c.proofs.Values.{both}
+use Rattle.prefix_trie_c.proofs.Handles.{Z, null_good, empty_in}
 use Rattle.prefix_trie_c.specs.contracts.handle.Handle as handle
 use Rattle.prefix_trie_c.specs.contracts.handle.Handle.empty.{ended, clauses}
 use Rattle.prefix_trie_c.specs.contracts.handle.Handle.empty.Key.{name as #self}
