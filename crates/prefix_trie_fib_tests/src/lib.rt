@@ -1,0 +1,11 @@
+//! The tests of `prefix_trie_fib`.
+#![tactic(auto)]
+
+#[cfg(test)]
+mod edges;
+#[cfg(test)]
+mod every_map;
+#[cfg(test)]
+mod refusals;
+#[cfg(test)]
+mod tables;
