@@ -3,13 +3,14 @@ ghost use Rattle.std.specs.Prelude.{◌≡◌, ℕ, ◌+◌, ◌^◌, ◌<◌, �
 ghost use Rattle.prefix_trie_bits.specs.Model.Bits.{number};
 ghost use Rattle.prefix_trie_fib.specs.Line.{AreMerged, IsDivision, are_same, value_along, value_of};
 
+mod addresses;
 mod bulk;
 
 use crate::indexed::Indexed;
 use crate::ranges::ranges_of;
 use prefix_trie_bits::prefix::{Prefix, Refusal};
 use prefix_trie_map::map::PrefixMap;
-use std::alloc::Allocator;
+use std::alloc::{AllocError, Allocator};
 use std::marker::Model;
 
 /// The longest match of each address in a map, as ranges of addresses.
@@ -72,6 +73,25 @@ impl<P: Prefix, T: Copy + PartialEq, A: Allocator + Clone> Fib<P, T, A> {
             return Err(Refusal::Memory);
         };
         let indexed = Indexed::new(line, second, alloc)?;
+        Ok(Fib { indexed })
+    }
+
+    /// Copies the table, in memory of its own.
+    ///
+    /// # Errors
+    ///
+    /// Returns an error if an allocation fails. No copy exists then.
+    ///
+    /// # Examples
+    ///
+    /// ```rust
+    /// // map = {10.0.0.0/8: 1}
+    /// Fib::new(&map, alloc)?.clone()?.len();      // 3
+    /// ```
+    pub fn clone(&self) -> Result<Self, AllocError>
+        ensures { IfOk result (λ copy. copy ≡ self.now) }
+    {
+        let indexed = self.indexed.clone()?;
         Ok(Fib { indexed })
     }
 }

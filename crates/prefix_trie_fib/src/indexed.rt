@@ -4,10 +4,11 @@ ghost use Rattle.prefix_trie_bits.specs.Model.Bits.{number};
 ghost use Rattle.prefix_trie_fib.specs.Index.{IsChunk};
 ghost use Rattle.prefix_trie_fib.specs.Line.{IsDivision, value_along};
 
+use crate::copies::copy_of;
 use crate::index::{Chunk, Index, chunk_of, index_bits, index_of, part_of};
 use crate::ranges::Line;
 use prefix_trie_bits::prefix::{Key, Refusal};
-use std::alloc::Allocator;
+use std::alloc::{AllocError, Allocator};
 use std::marker::Model;
 
 /// Ranges of addresses, found by the first bits of an address.
@@ -104,5 +105,22 @@ impl<K: Key, T: Copy, A: Allocator> Indexed<K, T, A> {
             Some(base) => self.index.parts[base as usize + part_of(address, self.bits)],
             None => entry,
         }
+    }
+}
+
+impl<K: Key, T: Copy, A: Allocator + Clone> Indexed<K, T, A> {
+    /// Copies the ranges and the index.
+    pub(crate) fn clone(&self) -> Result<Self, AllocError>
+        ensures { IfOk result (λ copy. copy ≡ self.now) }
+    {
+        let line = self.line.clone()?;
+        let chunks = copy_of(&self.index.chunks)?;
+        let parts = copy_of(&self.index.parts)?;
+        let index = Index { chunks, parts };
+        Ok(Indexed {
+            line,
+            index,
+            bits: self.bits,
+        })
     }
 }

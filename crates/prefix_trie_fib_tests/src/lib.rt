@@ -6,6 +6,8 @@ mod edges;
 #[cfg(test)]
 mod every_map;
 #[cfg(test)]
+mod networks;
+#[cfg(test)]
 mod refusals;
 #[cfg(test)]
 mod tables;

@@ -1,4 +1,4 @@
-//! Compiling a map with each allocation failing.
+//! Compiling a map, and copying its table, with each allocation failing.
 use prefix_trie::{Prefix, PrefixMap, Refusal};
 use prefix_trie_fib::Fib;
 use prefix_trie_tests::refusing::Refusing;
@@ -9,6 +9,12 @@ const MANY: u64 = 200;
 
 /// The ranges of the map: one before the 40 networks, and one after each.
 const RANGES: usize = 81;
+
+#[derive(Clone, Copy)]
+enum Step {
+    Compile,
+    Copy,
+}
 
 /// Creates a map of 40 host networks, every second address. They share a chunk, which is split.
 fn filled<A: Allocator + Copy>(alloc: A) -> Result<PrefixMap<(u32, u8), u32, A>, Refusal> {
@@ -22,26 +28,39 @@ fn filled<A: Allocator + Copy>(alloc: A) -> Result<PrefixMap<(u32, u8), u32, A>,
     Ok(map)
 }
 
-/// Compiles the map and lets allocations fail after `passed` of them. Returns the number of ranges.
-fn compiled_len<A: Allocator + Copy>(
+/// Compiles the map, or compiles and copies it, and lets allocations of the last step fail after `passed` of them.
+///
+/// Returns the number of ranges.
+fn outcome<A: Allocator + Copy>(
     heap: &Refusing<Global>,
     alloc: A,
+    step: Step,
     passed: u64,
     refused: u64,
 ) -> Result<Result<usize, Refusal>, Refusal> {
     heap.refuse(0, 0);
     let map = filled(alloc)?;
-    heap.refuse(passed, refused);
-    match Fib::new(&map, alloc) {
+    let compiled = match step {
+        Step::Compile => {
+            heap.refuse(passed, refused);
+            Fib::new(&map, alloc)
+        }
+        Step::Copy => {
+            let fib = Fib::new(&map, alloc)?;
+            heap.refuse(passed, refused);
+            fib.clone().map_err(|_| Refusal::Memory)
+        }
+    };
+    match compiled {
         Ok(fib) => Ok(Ok(fib.len())),
         Err(cause) => Ok(Err(cause)),
     }
 }
 
-/// Returns whether compiling fails exactly if an allocation does.
-fn fails_exactly_if_refused(heap: &Refusing<Global>, refused: u64) -> bool {
+/// Returns whether a step fails exactly if an allocation does.
+fn fails_exactly_if_refused(heap: &Refusing<Global>, step: Step, refused: u64) -> bool {
     for passed in 0..MANY {
-        let Ok(result) = compiled_len(heap, heap, passed, refused) else {
+        let Ok(result) = outcome(heap, heap, step, passed, refused) else {
             return false;
         };
         if heap.left() == refused {
@@ -57,6 +76,13 @@ fn fails_exactly_if_refused(heap: &Refusing<Global>, refused: u64) -> bool {
 #[test]
 fn compiling_fails_exactly_if_an_allocation_fails(rt: HostRuntime) {
     let heap = Refusing::new(rt.alloc());
-    assert!(rt; fails_exactly_if_refused(&heap, 1));
-    assert!(rt; fails_exactly_if_refused(&heap, u64::MAX));
+    assert!(rt; fails_exactly_if_refused(&heap, Step::Compile, 1));
+    assert!(rt; fails_exactly_if_refused(&heap, Step::Compile, u64::MAX));
+}
+
+#[test]
+fn copying_fails_exactly_if_an_allocation_fails(rt: HostRuntime) {
+    let heap = Refusing::new(rt.alloc());
+    assert!(rt; fails_exactly_if_refused(&heap, Step::Copy, 1));
+    assert!(rt; fails_exactly_if_refused(&heap, Step::Copy, u64::MAX));
 }

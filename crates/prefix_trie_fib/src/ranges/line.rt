@@ -1,7 +1,8 @@
 //! A division of the line of addresses into ranges.
-ghost use Rattle.std.specs.Prelude.{◌≡◌, ℕ, ◌<◌, ◌++◌, ◌∷◌, [], Option, OnErr, OnOk, length, slice_index_or};
+ghost use Rattle.std.specs.Prelude.{◌≡◌, ℕ, ◌<◌, ◌++◌, ◌∷◌, [], IfOk, Option, OnErr, OnOk, length, slice_index_or};
 ghost use Rattle.prefix_trie_bits.specs.Model.Bits.{number};
 
+use crate::copies::copy_of;
 use prefix_trie_bits::prefix::Key;
 use std::alloc::{AllocError, Allocator};
 use std::marker::Model;
@@ -69,5 +70,15 @@ impl<K: Key, T: Copy, A: Allocator> Line<K, T, A> {
         ensures { (d : ℕ × Option T) → result ≡ (slice_index_or self.now i d).1 }
     {
         self.pairs[i].1
+    }
+}
+
+impl<K: Key, T: Copy, A: Allocator + Clone> Line<K, T, A> {
+    /// Copies the ranges.
+    pub(crate) fn clone(&self) -> Result<Self, AllocError>
+        ensures { IfOk result (λ copy. copy ≡ self.now) }
+    {
+        let pairs = copy_of(&self.pairs)?;
+        Ok(Line { pairs })
     }
 }
