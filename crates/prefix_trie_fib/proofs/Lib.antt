@@ -4,6 +4,7 @@ pub mod Between
 pub mod Chunks
 pub mod Cutting
 pub mod Entries
+pub mod Equality
 pub mod Finding
 pub mod Matching
 pub mod Merging

@@ -1,5 +1,6 @@
 -- The definitions of this crate: divisions of the line of addresses, searches, the index, and laws.
 pub mod Compiled
+pub mod Equality
 pub mod Index
 pub mod Laws
 pub mod Line

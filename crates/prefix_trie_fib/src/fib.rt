@@ -5,6 +5,8 @@ ghost use Rattle.prefix_trie_fib.specs.Line.{AreMerged, IsDivision, are_same, va
 
 mod addresses;
 mod bulk;
+mod equality;
+mod fmt;
 
 use crate::indexed::Indexed;
 use crate::ranges::ranges_of;
