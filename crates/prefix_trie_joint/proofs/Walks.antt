@@ -1,10 +1,11 @@
 -- The items of walks over both families.
 use Rattle.std.proofs.Common.{◌≡◌, ℕ, ◌+◌, ◌<◌, ◌≤◌, ◌^◌, Bool, true, false, cond, List, [], ◌∷◌, ◌++◌, length, map, filter, refl, sym, ap, ap₂, ◌∙◌, is_lt, is_le, arith}
 use Rattle.std.specs.FinMap.{len, len-entries}
-use Rattle.prefix_trie.specs.Terms.{covers, Entries, listing, listing_after, listing_below, listing_cmp, listing_from, prefix_pairs}
+use Rattle.prefix_trie.specs.Terms.{begins, covers, Entries, listing, listing_after, listing_below, listing_cmp, listing_from, prefix_pairs}
 use Rattle.prefix_trie_bits.specs.Networks.{network_back}
 use Rattle.prefix_trie_table.specs.Model.Contents.{Contents}
 use Rattle.prefix_trie_map.specs.Whole.{IsWhole}
+use Rattle.prefix_trie_map.proofs.Listed.{few_from, few_shown}
 use Rattle.prefix_trie_joint.specs.declared.prefix.IpPrefix.TheVariants.{V4, V6}
 use Rattle.prefix_trie_joint.specs.Joined.{both, both_networks, joined, under}
 use Rattle.prefix_trie_joint.specs.Networks.{ip_back}
@@ -80,6 +81,24 @@ module _ {T : Type 0} where
 
   pub count_joined : (a b : Entries T) (xs ys : List ((ℕ × ℕ) × T)) → length xs ≡ len a → length ys ≡ len b → length (both xs ys) ≡ len (joined a b)
   count_joined a b xs ys h k = length_pairs xs ys ∙ ap₂ (λ m n. m + n) h k ∙ sym (len_joined a b)
+
+  -- ---- a part of a listing is no longer than the listing
+
+  pub few_from_ipv4 : (a b : Entries T) (q : List Bool) (inclusive : Bool) (xs ys : List ((ℕ × ℕ) × T)) → xs ≡ prefix_pairs (network_back 32) (cond inclusive (listing_from a q) (listing_after a q)) → ys ≡ prefix_pairs (network_back 128) (listing b)
+      → len (joined a b) < 2 ^ 64 → length (both xs ys) < 2 ^ 64
+  few_from_ipv4 a b q inclusive xs ys e f h = omega (arith, ap length (from_ipv4 a b q inclusive xs ys e f), few_from ip_back (joined a b) inclusive (false ∷ q), h)
+
+  pub few_from_ipv6 : (a b : Entries T) (q : List Bool) (inclusive : Bool) (xs ys : List ((ℕ × ℕ) × T)) → xs ≡ [] → ys ≡ prefix_pairs (network_back 128) (cond inclusive (listing_from b q) (listing_after b q))
+      → len (joined a b) < 2 ^ 64 → length (both xs ys) < 2 ^ 64
+  few_from_ipv6 a b q inclusive xs ys e f h = omega (arith, ap length (from_ipv6 a b q inclusive xs ys e f), few_from ip_back (joined a b) inclusive (true ∷ q), h)
+
+  pub few_below_ipv4 : (a b : Entries T) (q : List Bool) (xs ys : List ((ℕ × ℕ) × T)) → xs ≡ prefix_pairs (network_back 32) (listing_below a q) → ys ≡ []
+      → len (joined a b) < 2 ^ 64 → length (both xs ys) < 2 ^ 64
+  few_below_ipv4 a b q xs ys e f h = omega (arith, ap length (walk_below_ipv4 a b q xs ys e f), few_shown ip_back (joined a b) (λ e. begins (false ∷ q) e.0), h)
+
+  pub few_below_ipv6 : (a b : Entries T) (q : List Bool) (xs ys : List ((ℕ × ℕ) × T)) → xs ≡ [] → ys ≡ prefix_pairs (network_back 128) (listing_below b q)
+      → len (joined a b) < 2 ^ 64 → length (both xs ys) < 2 ^ 64
+  few_below_ipv6 a b q xs ys e f h = omega (arith, ap length (walk_below_ipv6 a b q xs ys e f), few_shown ip_back (joined a b) (λ e. begins (true ∷ q) e.0), h)
 
   -- ---- the networks that contain a network
 

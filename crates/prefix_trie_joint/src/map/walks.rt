@@ -94,6 +94,7 @@ impl<T: Drop, A: Allocator> JointPrefixMap<T, A> {
         ensures items { result ≡ prefix_pairs ip_back (cond inclusive
             (listing_from (entries_of self.now) (ip_path prefix.now))
             (listing_after (entries_of self.now) (ip_path prefix.now))) }
+        ensures fits { length result < 2 ^ 64 }
         ensures runs { ShowsInOrder (lent_item {P = IpPrefix} {T = T}) }
     {
         Iter::after(&self.ipv4, &self.ipv6, prefix, inclusive)
@@ -112,6 +113,7 @@ impl<T: Drop, A: Allocator> JointPrefixMap<T, A> {
     pub fn children(&self, prefix: &IpPrefix) -> Iter<'_, T, A>
         ensures items { result
             ≡ prefix_pairs ip_back (listing_below (entries_of self.now) (ip_path prefix.now)) }
+        ensures fits { length result < 2 ^ 64 }
         ensures runs { ShowsInOrder (lent_item {P = IpPrefix} {T = T}) }
     {
         Iter::below(&self.ipv4, &self.ipv6, prefix)
@@ -176,17 +178,19 @@ impl<'a, T: Drop, A: Allocator> Iter<'a, T, A> {
 
     /// Returns a walk over the entries after a network, its own included if `inclusive` is true.
     #[inline]
-    #[tactic(auto, using(crate::proofs::Walks::from_ipv4, crate::proofs::Walks::from_ipv6))]
+    #[tactic(auto, using(crate::proofs::Walks::from_ipv4, crate::proofs::Walks::from_ipv6, crate::proofs::Walks::few_from_ipv6))]
     pub(crate) fn after(
         ipv4: &'a PrefixMap<Ipv4Prefix, T, A>,
         ipv6: &'a PrefixMap<Ipv6Prefix, T, A>,
         prefix: &IpPrefix,
         inclusive: bool,
     ) -> Self
-        ensures { result ≡ prefix_pairs ip_back (cond inclusive
+        ensures items { result ≡ prefix_pairs ip_back (cond inclusive
             (listing_from (joined ipv4.now.entries ipv6.now.entries) (ip_path prefix.now))
             (listing_after (joined ipv4.now.entries ipv6.now.entries) (ip_path prefix.now))) }
+        ensures fits { length result < 2 ^ 64 }
     {
+        known_few(ipv4, ipv6);
         match prefix.again() {
             IpPrefix::V4(network) => Iter {
                 ipv4: ipv4.iter_from(&network, inclusive),
@@ -201,15 +205,17 @@ impl<'a, T: Drop, A: Allocator> Iter<'a, T, A> {
 
     /// Returns a walk over the entries that a network contains.
     #[inline]
-    #[tactic(auto, using(crate::proofs::Walks::walk_below_ipv4, crate::proofs::Walks::walk_below_ipv6))]
+    #[tactic(auto, using(crate::proofs::Walks::walk_below_ipv4, crate::proofs::Walks::walk_below_ipv6, crate::proofs::Walks::few_below_ipv4, crate::proofs::Walks::few_below_ipv6))]
     pub(crate) fn below(
         ipv4: &'a PrefixMap<Ipv4Prefix, T, A>,
         ipv6: &'a PrefixMap<Ipv6Prefix, T, A>,
         prefix: &IpPrefix,
     ) -> Self
-        ensures { result ≡ prefix_pairs ip_back
+        ensures items { result ≡ prefix_pairs ip_back
             (listing_below (joined ipv4.now.entries ipv6.now.entries) (ip_path prefix.now)) }
+        ensures fits { length result < 2 ^ 64 }
     {
+        known_few(ipv4, ipv6);
         match prefix.again() {
             IpPrefix::V4(network) => Iter {
                 ipv4: ipv4.children(&network),
@@ -232,6 +238,19 @@ impl<'a, T: Drop, A: Allocator> Iter<'a, T, A> {
             ipv6: self.ipv6.clone(),
         }
     }
+}
+
+// Brings into the caller's proof that the maps have few entries together. The compiler removes it.
+#[inline]
+#[tactic(auto, using(crate::proofs::Walks::few_joined))]
+fn known_few<T: Drop, A: Allocator>(
+    ipv4: &PrefixMap<Ipv4Prefix, T, A>,
+    ipv6: &PrefixMap<Ipv6Prefix, T, A>,
+)
+    ensures { len (joined ipv4.now.entries ipv6.now.entries) < 2 ^ 64 }
+{
+    let _ = ipv4.len();
+    let _ = ipv6.len();
 }
 
 impl<'a, T: Drop, A: Allocator> Default for Iter<'a, T, A> {

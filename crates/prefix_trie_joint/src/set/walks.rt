@@ -56,6 +56,7 @@ impl<A: Allocator> JointPrefixSet<A> {
         ensures items { result ≡ map (λ e. ip_back e.0) (cond inclusive
             (listing_from (keys_of self.now) (ip_path prefix.now))
             (listing_after (keys_of self.now) (ip_path prefix.now))) }
+        ensures fits { length result < 2 ^ 64 }
         ensures runs { GivesInOrder IpPrefix }
     {
         KeysOf::new(map::Iter::after(self.ipv4.as_map(), self.ipv6.as_map(), prefix, inclusive))
@@ -73,6 +74,7 @@ impl<A: Allocator> JointPrefixSet<A> {
     pub fn children(&self, prefix: &IpPrefix) -> Iter<'_, A>
         ensures items { result
             ≡ map (λ e. ip_back e.0) (listing_below (keys_of self.now) (ip_path prefix.now)) }
+        ensures fits { length result < 2 ^ 64 }
         ensures runs { GivesInOrder IpPrefix }
     {
         KeysOf::new(map::Iter::below(self.ipv4.as_map(), self.ipv6.as_map(), prefix))

@@ -1,8 +1,8 @@
 -- The networks are the first parts of the items of a walk over both maps of units.
-use Rattle.std.proofs.Common.{◌∙◌, ap₂, cond}
+use Rattle.std.proofs.Common.{◌∙◌, arith, refl, ap₂, cond}
 use Rattle.prefix_trie.specs.Terms.{listing_after, listing_from, prefix_pairs}
 use Rattle.prefix_trie_table.specs.Model.Contents.{Contents}
-use Rattle.prefix_trie_map.proofs.Runs.{parts_are, gives_in_order}
+use Rattle.prefix_trie_map.proofs.Runs.{parts_are, parts_count, gives_in_order}
 use Rattle.prefix_trie_joint.specs.Joined.{joined}
 use Rattle.prefix_trie_joint.specs.Networks.{ip_back, ip_path}
 use Rattle.prefix_trie_joint.proofs.set.JointPrefixSet.iter_from.Goals as goal
@@ -10,7 +10,10 @@ use Rattle.prefix_trie_joint.proofs.set.JointPrefixSet.iter_from.Goals as goal
 pub returns-clause-items : goal.returns-clause-items
 returns-clause-items g c =
     parts_are (λ e. e.0) c.new.ensures _ _
-    (c.after.ensures ∙ ap₂ (λ (m n : Contents (Unit {0})). prefix_pairs ip_back (cond c.args.inclusive (listing_from (joined m.entries n.entries) (ip_path c.args.prefix.now)) (listing_after (joined m.entries n.entries) (ip_path c.args.prefix.now)))) c.as_map.ensures c.as_map-2.ensures)
+    (c.after.ensures.items ∙ ap₂ (λ (m n : Contents (Unit {0})). prefix_pairs ip_back (cond c.args.inclusive (listing_from (joined m.entries n.entries) (ip_path c.args.prefix.now)) (listing_after (joined m.entries n.entries) (ip_path c.args.prefix.now)))) c.as_map.ensures c.as_map-2.ensures)
+
+pub returns-clause-fits : goal.returns-clause-fits
+returns-clause-fits g c = omega (arith, parts_count (λ e. e.0) _ c.new.ensures refl, c.after.ensures.fits)
 
 pub returns-clause-runs : goal.returns-clause-runs
 returns-clause-runs g c = gives_in_order
