@@ -1,0 +1,11 @@
+//! The tests of `prefix_trie_joint`: tables of calls on joint maps, with each allocation failing once.
+#![tactic(auto)]
+
+#[cfg(test)]
+mod cases;
+#[cfg(test)]
+mod examples;
+#[cfg(test)]
+mod tables;
+#[cfg(test)]
+mod trials;
