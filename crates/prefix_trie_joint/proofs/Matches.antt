@@ -1,14 +1,14 @@
 -- The parts of the joined listing that one family has, and matches.
-use Rattle.std.proofs.Common.{◌≡◌, ℕ, Bool, true, false, cond, List, [], ◌∷◌, ◌++◌, filter, Option, Some, None, is_some, refl, sym, ap, ap₂, ◌∙◌}
+use Rattle.std.proofs.Common.{◌≡◌, ℕ, Bool, true, false, cond, List, [], ◌∷◌, ◌++◌, filter, Option, Some, None, is_some, refl, sym, subst, ap, ap₂, ◌∙◌}
 use Rattle.std.specs.Borrow.{Bor}
 use Rattle.std.specs.Option.{option_map}
 use Rattle.std.specs.FinMap.{get}
 use Rattle.prefix_trie.specs.Terms.{begins, covers, Entries, first_item, last_item, listing, listing_below, lent_item, longest_match, prefix_pair, shortest_match}
-use Rattle.prefix_trie_bits.specs.Networks.{network_back}
+use Rattle.prefix_trie_bits.specs.Networks.{network_back, network_path}
 use Rattle.prefix_trie_joint.specs.declared.prefix.IpPrefix.{IpPrefix}
 use Rattle.prefix_trie_joint.specs.declared.prefix.IpPrefix.TheVariants.{V4, V6}
 use Rattle.prefix_trie_joint.specs.Joined.{joined, under}
-use Rattle.prefix_trie_joint.specs.Networks.{ip_back}
+use Rattle.prefix_trie_joint.specs.Networks.{ip_back, ip_path}
 use Rattle.prefix_trie_joint.proofs.Families.{begins_ipv4, begins_ipv6, begins_apart, begins_apart_too}
 use Rattle.prefix_trie_joint.proofs.Joined.{listing_joined, get_ipv4, get_ipv6}
 
@@ -173,6 +173,29 @@ module _ {T : Type 0} where
 
   pub shortest_prefix_ipv6 : (a b : Entries T) (q : List Bool) → option_map {T = List Bool × T} (λ e. ip_back e.0) (shortest_match (joined a b) (true ∷ q)) ≡ option_map V6 (option_map {T = List Bool × T} (λ e. network_back 128 e.0) (shortest_match b q))
   shortest_prefix_ipv6 a b q = ap (option_map {T = List Bool × T} (λ e. ip_back e.0)) (shortest_ipv6 a b q) ∙ network_ipv6 (shortest_match b q)
+
+  -- the network of an exact lookup
+  stored_ipv4 : (network : ℕ × ℕ) (found : Option T) → option_map {T = T} (λ _. V4 network) found ≡ option_map V4 (option_map {T = T} (λ _. network) found)
+  stored_ipv4 network None = refl
+  stored_ipv4 network (Some value) = refl
+
+  stored_ipv6 : (network : ℕ × ℕ) (found : Option T) → option_map {T = T} (λ _. V6 network) found ≡ option_map V6 (option_map {T = T} (λ _. network) found)
+  stored_ipv6 network None = refl
+  stored_ipv6 network (Some value) = refl
+
+  pub stored_network_ipv4 : (a b : Entries T) (network : ℕ × ℕ) (prefix : IpPrefix) → V4 network ≡ prefix → (before after : Option (ℕ × ℕ))
+      → before ≡ option_map {T = T} (λ _. network_back 32 (network_path 32 network)) (get a (network_path 32 network)) → before ≡ after → option_map V4 after ≡ option_map {T = T} (λ _. ip_back (ip_path prefix)) (get (joined a b) (ip_path prefix))
+  stored_network_ipv4 a b network prefix this before after e is =
+      let q = network_path 32 network in
+      subst (λ p. option_map V4 after ≡ option_map {T = T} (λ _. ip_back (ip_path p)) (get (joined a b) (ip_path p))) this
+      (ap (option_map V4) (sym is ∙ e) ∙ sym (ap (option_map {T = T} (λ _. V4 (network_back 32 q))) (get_ipv4 a b q) ∙ stored_ipv4 (network_back 32 q) (get a q)))
+
+  pub stored_network_ipv6 : (a b : Entries T) (network : ℕ × ℕ) (prefix : IpPrefix) → V6 network ≡ prefix → (before after : Option (ℕ × ℕ))
+      → before ≡ option_map {T = T} (λ _. network_back 128 (network_path 128 network)) (get b (network_path 128 network)) → before ≡ after → option_map V6 after ≡ option_map {T = T} (λ _. ip_back (ip_path prefix)) (get (joined a b) (ip_path prefix))
+  stored_network_ipv6 a b network prefix this before after e is =
+      let q = network_path 128 network in
+      subst (λ p. option_map V6 after ≡ option_map {T = T} (λ _. ip_back (ip_path p)) (get (joined a b) (ip_path p))) this
+      (ap (option_map V6) (sym is ∙ e) ∙ sym (ap (option_map {T = T} (λ _. V6 (network_back 128 q))) (get_ipv6 a b q) ∙ stored_ipv6 (network_back 128 q) (get b q)))
 
   -- the network of an exact lookup with its value
   at_ipv4 : (q : List Bool) (o : Option T) → option_map {T = (ℕ × ℕ) × T} (λ e. (V4 e.0, e.1)) (option_map {U = (ℕ × ℕ) × T} (λ v. (network_back 32 q, v)) o) ≡ option_map {U = IpPrefix × T} (λ v. (ip_back (false ∷ q), v)) o

@@ -1,6 +1,6 @@
 //! Lookups in a set by exact network, by longest match and by shortest match.
 ghost use Rattle.std.specs.Prelude.{◌≡◌};
-ghost use Rattle.std.specs.FinMap.{contains_key};
+ghost use Rattle.std.specs.FinMap.{contains_key, get};
 ghost use Rattle.std.specs.Option.{is_some, option_map};
 ghost use Rattle.prefix_trie.specs.Terms.{longest_match, shortest_match};
 ghost use Rattle.prefix_trie_joint.specs.Joined.{keys_of};
@@ -48,6 +48,37 @@ impl<A: Allocator> JointPrefixSet<A> {
         match prefix.again() {
             IpPrefix::V4(network) => self.ipv4.is_covered(&network),
             IpPrefix::V6(network) => self.ipv6.is_covered(&network),
+        }
+    }
+
+    /// Returns this network without its host bits, if exactly it is in the set.
+    ///
+    /// # Examples
+    ///
+    /// ```rust
+    /// // set = {10.1.0.0/16}
+    /// set.get(&"10.1.2.3/16".parse()?);       // Some(V4(10.1.0.0/16))
+    /// set.get(&"10.1.2.3/24".parse()?);       // None
+    /// ```
+    #[inline]
+    pub fn get(&self, prefix: &IpPrefix) -> Option<IpPrefix>
+        ensures { result
+            ≡ option_map (λ _. ip_back (ip_path prefix.now))
+            (get (keys_of self.now) (ip_path prefix.now)) }
+    {
+        match prefix.again() {
+            IpPrefix::V4(network) => {
+                let Some(stored) = self.ipv4.get(&network) else {
+                    return None;
+                };
+                Some(IpPrefix::V4(stored))
+            }
+            IpPrefix::V6(network) => {
+                let Some(stored) = self.ipv6.get(&network) else {
+                    return None;
+                };
+                Some(IpPrefix::V6(stored))
+            }
         }
     }
 
