@@ -1,7 +1,7 @@
 -- Extending a list by a walk that copies each item makes the copies of all its items, in order.
 use Rattle.prefix_trie.proofs.Prelude.{ap, ◌∙◌, map_source, lent_item}
 use Rattle.prefix_trie.proofs.WalkItems.{takes_copies}
-use Rattle.prefix_trie.proofs.replay.copied.Goals as goal
+use Rattle.prefix_trie.proofs.replay.listings.copied.Goals as goal
 
 pub returns : goal.returns
 returns g c =
