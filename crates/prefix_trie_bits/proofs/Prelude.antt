@@ -68,7 +68,7 @@ pub use Rattle.prefix_trie_bits.specs.Model.Visits.{ReadsExactly, visits, visits
 pub use Rattle.prefix_trie_bits.specs.Order.{IsBefore, listing-common, listing-extension, listing-refl, listing_same, listing_total}
 pub use Rattle.prefix_trie_bits.specs.Model.Order.{listing_cmp, same_string}
 pub use Rattle.prefix_trie_bits.specs.Places.{HoldsChildren, HoldsPlaces, HoldsPositions, HoldsValues, IsLongest, IsShortest, NoneBegins, Sets, TakesPlace, has, heap_number, is_before, is_in, place_of, places, has_first, value_bit}
-unfoldable pub use Rattle.prefix_trie_bits.specs.Places.{ones_below, pick, strings}
+unfoldable pub use Rattle.prefix_trie_bits.specs.Places.{pick, strings}
 pub use Rattle.prefix_trie_bits.specs.Windows.{window-inside, window-of-front, window_joined, window_small}
 pub use Rattle.prefix_trie_bits.specs.declared.node.Place.{Place}
 pub use Rattle.prefix_trie_bits.specs.declared.node.masks.TheConstants.{CHILDREN_COVERED, MATCHES, VALUES_COVERED}

@@ -1,5 +1,7 @@
 -- The rank of a bit, which is the number of set bits below it: for `rank` and the lists of a node.
-use Rattle.prefix_trie_bits.proofs.Prelude.{◌≡◌, ℕ, zero, suc, ◌+◌, ◌-◌, ◌*◌, ◌/◌, ◌%◌, ◌^◌, ◌<◌, ◌≤◌, true, false, cond, eqb, refl, sym, ap, ap₂, ◌∙◌, subst, arith, inl, inr, one-add, pow_pos, eqb-true, bit_and, mod-eq_of_lt, bit_or, bit_at, bit_not, w32, count_ones, ones_cat, ones_le_self, zero_from_ones, and_le_l, mod-pow-add, mod_below, one_shl, or_lt, pow_below, bit_at-lt, bit_at-suc, bit_at_set_same, bit_at_set_other, bit_at_clear_same, bit_at_clear_other, bit_at_above, cases_lt, has, ones_below, Sets}
+use Rattle.prefix_trie_bits.proofs.Prelude.{◌≡◌, ℕ, zero, suc, ◌+◌, ◌-◌, ◌*◌, ◌/◌, ◌%◌, ◌^◌, ◌<◌, ◌≤◌, true, false, cond, eqb, refl, sym, ap, ap₂, ◌∙◌, subst, arith, inl, inr, one-add, pow_pos, eqb-true, bit_and, mod-eq_of_lt, bit_or, bit_at, bit_not, w32, count_ones, ones_cat, ones_le_self, zero_from_ones, and_le_l, mod-pow-add, mod_below, one_shl, or_lt, pow_below, bit_at-lt, bit_at-suc, bit_at_set_same, bit_at_set_other, bit_at_clear_same, bit_at_clear_other, bit_at_above, cases_lt, has, Sets, length, length-append, lt-ltb, Bool}
+use Rattle.prefix_trie_bits.specs.Bitmaps.{bits_below, if_set}
+unfoldable use Rattle.prefix_trie_bits.specs.Bitmaps.{has_bit, rank}
 use Rattle.std.proofs.Common.{add-mul, mul_assoc}
 use Rattle.std.proofs.Math.Pow.{pow-add, shl_lt, split}
 use Rattle.std.proofs.lemmas.Nat.{mod-mul-add, mul-mod_first}
@@ -45,15 +47,26 @@ pub ones-mod-suc : (m b : ℕ) → count_ones (m % 2 ^ suc b) ≡ bit_at m b + c
 ones-mod-suc m b =
     ap count_ones (mod-suc m b) ∙ ones_cat b (bit_at m b) (m % 2 ^ b) (low m b) ∙ ap (λ x. x + count_ones (m % 2 ^ b)) (ones-bit (bit_at m b) (bit_at-lt m b))
 
+-- for a bit below 32, `has_bit` is the bit of the bitmap
+pub has_bit-is : (n b : ℕ) → b < 32 → has_bit n b ≡ has n b
+unfolding has_bit
+has_bit-is n b h = ap (λ t. cond t (has n b) false) (lt-ltb b 32 h)
+
+pub if_set-length : (s : Bool) (b : ℕ) → length (if_set s b) ≡ cond s 1 0
+if_set-length true b = refl
+if_set-length false b = refl
+
 -- the rank of bit b is the number of ones among the b lowest bits
-pub ones_below-is : (b m : ℕ) → ones_below b m ≡ count_ones (m % 2 ^ b)
-unfolding ones_below
-ones_below-is zero m =
+rank-ones : (m b : ℕ) → b ≤ 32 → rank m b ≡ count_ones (m % 2 ^ b)
+unfolding rank
+rank-ones m zero h =
     let l : m % 2 ^ 0 < 1 = low m 0 in
     let e : m % 2 ^ 0 ≡ 0 = omega arith in
     sym (ap count_ones e ∙ ones-bit 0 (omega arith))
-ones_below-is (suc b) m =
-    ap₂ (λ x y. x + y) (ones_below-is b m) (bit-of m b) ∙ omega (arith, ones-mod-suc m b)
+rank-ones m (suc b) h =
+    length-append (bits_below m b) (if_set (has_bit m b) b)
+    ∙ ap₂ (λ x y. x + y) (rank-ones m b (omega arith)) (if_set-length (has_bit m b) b ∙ ap (λ s. cond s 1 0) (has_bit-is m b (omega arith)) ∙ bit-of m b)
+    ∙ omega (arith, ones-mod-suc m b)
 
 -- a number that is shifted to the top of a word of 32 bits keeps its lowest bits alone
 top_bits : (m b c : ℕ) → b + c ≡ 32 → m * 2 ^ c % 4294967296 ≡ m % 2 ^ b * 2 ^ c
@@ -65,13 +78,13 @@ top_bits m b c e =
     ap (λ x. x % 4294967296) whole ∙ mod-mul-add (m / 2 ^ b) 4294967296 (m % 2 ^ b * 2 ^ c) (subst (λ k. m % 2 ^ b * 2 ^ c < 2 ^ k) e (shl_lt b c (low m b)))
 
 -- `(m << 1 << (31 - b)).count_ones()` is the rank of bit b
-pub rank_is : (m b : ℕ) → b < 32 → count_ones (m * 2 % 4294967296 * 2 ^ (31 - b) % 4294967296) ≡ ones_below b m
+pub rank_is : (m b : ℕ) → b < 32 → count_ones (m * 2 % 4294967296 * 2 ^ (31 - b) % 4294967296) ≡ rank m b
 rank_is m b l =
     let shift : 2 * 2 ^ (31 - b) ≡ 2 ^ (32 - b) = sym (pow-add 2 1 (31 - b)) ∙ ap (λ k. 2 ^ k) (omega (arith, l)) in
     let none : count_ones 0 ≡ 0 = ones-bit 0 (omega arith) in
     ap count_ones (mul-mod_first (m * 2) (2 ^ (31 - b)) 4294967296 ∙ ap (λ x. x % 4294967296) (mul_assoc m 2 (2 ^ (31 - b)) ∙ ap (λ x. m * x) shift)
     ∙ top_bits m b (32 - b) (omega (arith, l)) ∙ omega arith)
-    ∙ ones_cat (32 - b) (m % 2 ^ b) 0 (pow_pos (32 - b)) ∙ omega (arith, none) ∙ sym (ones_below-is b m)
+    ∙ ones_cat (32 - b) (m % 2 ^ b) 0 (pow_pos (32 - b)) ∙ omega (arith, none) ∙ sym (rank-ones m b (omega (arith, l)))
 
 -- ---- the lowest bit
 
@@ -83,8 +96,8 @@ has-suc m b = ap (λ x. eqb x 1) (bit_at-suc m b)
 
 -- ---- a bit set or cleared
 
-pub count_ones_below : (w m : ℕ) → m < 2 ^ w → ones_below w m ≡ count_ones m
-count_ones_below w m small = ones_below-is w m ∙ ap count_ones (mod-eq_of_lt small)
+pub count_ones_all : (m : ℕ) → m < 2 ^ 32 → rank m 32 ≡ count_ones m
+count_ones_all m small = rank-ones m 32 (omega arith) ∙ ap count_ones (mod-eq_of_lt small)
 
 -- `m | 1 << k` sets a bit that was clear
 pub set_bit_sets : (m k : ℕ) → k < 32 → has m k ≡ false → Sets m k (bit_or m (1 * 2 ^ k % 4294967296))

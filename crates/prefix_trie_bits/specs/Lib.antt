@@ -6,6 +6,7 @@ pub mod Order
 pub mod Comparing
 pub mod Keys
 pub mod Places
+pub mod Bitmaps
 pub mod Walks
 pub mod Model
 pub mod Refusals

@@ -26,11 +26,6 @@ unfoldable pub strings : ℕ → List (List Bool)
 strings zero = [] ∷ []
 strings (suc n) = [] ∷ (map (λ s. false ∷ s) (strings n) ++ map (λ s. true ∷ s) (strings n))
 
--- how many of the bits below b are set
-unfoldable pub ones_below : ℕ → ℕ → ℕ
-ones_below zero bitmap = 0
-ones_below (suc b) bitmap = ones_below b bitmap + cond (has bitmap b) 1 0
-
 -- the elements at the set bits of m
 unfoldable pub pick : {X : Type 0} → ℕ → List X → List X
 pick m [] = []

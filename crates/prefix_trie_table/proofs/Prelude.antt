@@ -78,7 +78,6 @@ pub use Rattle.prefix_trie_bits.specs.Model.Visits.{visits, visits_of_match, vis
 pub use Rattle.prefix_trie_bits.specs.Order.{listing-apart, listing-common, listing-refl, listing_same, listing_total}
 pub use Rattle.prefix_trie_bits.specs.Model.Order.{listing_cmp, same_string}
 pub use Rattle.prefix_trie_bits.specs.Places.{HoldsChildren, HoldsPlaces, HoldsValues, IsLongest, IsShortest, NoneBegins, Sets, has, is_before, is_in, place_of, places, has_first, strings, value_bit}
-unfoldable pub use Rattle.prefix_trie_bits.specs.Places.{ones_below}
 pub use Rattle.prefix_trie_bits.specs.Walks.{to_come}
 pub use Rattle.prefix_trie_bits.specs.Windows.{take-extend, window-of-front}
 pub use Rattle.prefix_trie_bits.specs.declared.node.Place.{Place}
@@ -88,8 +87,8 @@ pub use Rattle.prefix_trie_bits.specs.declared.prefix.Refusal.{Refusal}
 pub use Rattle.prefix_trie_bits.specs.declared.prefix.Refusal.TheVariants.{IndexRange, Memory, the_data}
 pub use Rattle.prefix_trie_bits.specs.declared.prefix.Refused.{Refused}
 pub use Rattle.prefix_trie_table.specs.Needs.{Made, MadeAtMost, Makes, ObtainsBoth, cells_needed, nodes_needed}
-pub use Rattle.prefix_trie_table.specs.Bitmaps.{bits_below, if_set}
-unfoldable pub use Rattle.prefix_trie_table.specs.Bitmaps.{bits, has_bit, rank}
+pub use Rattle.prefix_trie_bits.specs.Bitmaps.{bits_below, if_set}
+unfoldable pub use Rattle.prefix_trie_bits.specs.Bitmaps.{bits, has_bit, rank}
 pub use Rattle.prefix_trie_table.specs.Blocks.BlockCounts.{block_counts, slots_counted, tier_count, used_blocks}
 pub use Rattle.prefix_trie_table.specs.Bulk.{HaveMatches, AreMatchesFound, AreCosts, AreRead, EachOf, GoOn, HasFound, IsAhead, IsMatchFound, IsLongestFound, IsNew, cost_of, found_of, new_descent, question_of, reached_by, slot_of}
 pub use Rattle.prefix_trie_table.specs.Blocks.Cells.{blank_node, cell_sizes, node_at, node_sizes}

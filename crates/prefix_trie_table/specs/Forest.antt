@@ -6,7 +6,7 @@ use Rattle.std.specs.Ordering.{nat_cmp, eq_by_cmp}
 use Rattle.std.specs.Cmp.Lexicographic.{slice_cmp}
 use Rattle.std.specs.List.{list_any}
 use Rattle.prefix_trie_table.specs.declared.allocator.node.Node.{Node}
-use Rattle.prefix_trie_table.specs.Bitmaps.{has_bit, rank, bits}
+use Rattle.prefix_trie_bits.specs.Bitmaps.{has_bit, rank, bits}
 use Rattle.prefix_trie_table.specs.Blocks.Cells.{blank_node, node_at, node_sizes, cell_sizes}
 pub use Rattle.prefix_trie_table.specs.Blocks.Store.{held, size_in, tier_sizes}
 use Rattle.prefix_trie_table.specs.Blocks.Store.{Store, UsedBlock, Sound}

@@ -8,7 +8,7 @@ use Rattle.prefix_trie_bits.specs.Model.Blocks.{Sizes, Layout}
 use Rattle.prefix_trie_bits.specs.Model.Nodes.{is_node_depth}
 use Rattle.prefix_trie_bits.proofs.Model.Members.{same_entries}
 use Rattle.prefix_trie_table.specs.declared.allocator.node.Node.{Node}
-use Rattle.prefix_trie_table.specs.Bitmaps.{rank}
+use Rattle.prefix_trie_bits.specs.Bitmaps.{rank}
 use Rattle.prefix_trie_table.specs.Digits.{chunks_of}
 use Rattle.prefix_trie_table.specs.Forest.{read}
 pub use Rattle.prefix_trie_table.specs.OwnBlocks.{child_block_size, value_block_size}

@@ -1,5 +1,4 @@
 -- The definitions of this crate: blocks, the tree by path, and what the private functions on nodes and values promise.
-pub mod Bitmaps
 pub mod Digits
 pub mod OwnBlocks
 pub mod Forest

@@ -12,7 +12,7 @@ use Rattle.prefix_trie_table.specs.declared.table.seat.Seat.{Seat}
 use Rattle.prefix_trie_table.specs.declared.table.seat.SearchEnd.{SearchEnd}
 use Rattle.prefix_trie_table.specs.declared.table.seat.Location.{Location}
 use Rattle.prefix_trie_table.specs.declared.table.seat.Location.TheVariants.{Stored, Missing}
-use Rattle.prefix_trie_table.specs.Bitmaps.{has_bit, rank}
+use Rattle.prefix_trie_bits.specs.Bitmaps.{has_bit, rank}
 use Rattle.prefix_trie_table.specs.Blocks.Cells.{node_at}
 use Rattle.prefix_trie_table.specs.Digits.{chunks_of, bit_of}
 use Rattle.prefix_trie_table.specs.Forest.{child_slot, read}

@@ -3,7 +3,7 @@ use Rattle.std.specs.Prelude.{ℕ, Option, None, Some}
 use Rattle.prefix_trie_bits.specs.Model.Blocks.{child_block_sizes, value_block_sizes}
 use Rattle.prefix_trie_bits.specs.Model.Insertion.{block_needed}
 use Rattle.prefix_trie_table.specs.declared.allocator.node.Node.{Node}
-use Rattle.prefix_trie_table.specs.Bitmaps.{rank}
+use Rattle.prefix_trie_bits.specs.Bitmaps.{rank}
 use Rattle.prefix_trie_table.specs.Blocks.Cells.{node_sizes, cell_sizes}
 use Rattle.prefix_trie_table.specs.Blocks.Store.{size_if_any, size_in}
 

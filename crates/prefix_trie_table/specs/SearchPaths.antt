@@ -2,7 +2,7 @@
 use Rattle.std.specs.Prelude.{◌≡◌, ℕ, ◌+◌, ◌*◌, ◌≤◌, Bool, false, List, Option, length, slice_index_or}
 use Rattle.prefix_trie_table.specs.declared.allocator.node.Node.{Node}
 use Rattle.prefix_trie_table.specs.declared.table.lookup.Reached.{Reached}
-use Rattle.prefix_trie_table.specs.Bitmaps.{has_bit}
+use Rattle.prefix_trie_bits.specs.Bitmaps.{has_bit}
 use Rattle.prefix_trie_table.specs.Blocks.Cells.{node_at, node_sizes}
 use Rattle.prefix_trie_table.specs.Digits.{chunks_of}
 use Rattle.prefix_trie_table.specs.Blocks.Store.{Store}

@@ -1,7 +1,8 @@
 //! The bits of short strings in a node's two bitmaps, and ranks.
 ghost use Rattle.std.specs.Prelude.{◌≡◌, ◌^◌, ◌<◌, ◌≤◌, List, Bool, true, false};
 ghost use Rattle.prefix_trie_bits.specs.Model.Bits.{digits};
-ghost use Rattle.prefix_trie_bits.specs.Places.{has, value_bit, ones_below, Sets};
+ghost use Rattle.prefix_trie_bits.specs.Bitmaps.{rank as rank_of};
+ghost use Rattle.prefix_trie_bits.specs.Places.{has, value_bit, Sets};
 
 /// Returns whether bit `k` of a bitmap is set.
 #[inline]
@@ -20,16 +21,16 @@ pub fn has_bit(bitmap: u32, k: u32) -> bool
 #[inline]
 pub fn rank(bitmap: u32, k: u32) -> u32
     requires { k < 32 }
-    ensures { result ≡ ones_below k bitmap }
+    ensures { result ≡ rank_of bitmap k }
 {
     (bitmap << 1 << (31 - k)).count_ones()
 }
 
 /// Returns how many bits are set: the number of items in the node's block.
 #[inline]
-#[tactic(auto, using(crate::proofs::Ranks::count_ones_below))]
+#[tactic(auto, using(crate::proofs::Ranks::count_ones_all))]
 pub fn count(bitmap: u32) -> u32
-    ensures { result ≡ ones_below 32 bitmap }
+    ensures { result ≡ rank_of bitmap 32 }
 {
     bitmap.count_ones()
 }

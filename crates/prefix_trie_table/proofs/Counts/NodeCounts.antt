@@ -1,6 +1,5 @@
 -- The number of nodes is one for the root, and the number of child bits in all slots: for `node_count`.
-use Rattle.prefix_trie_table.proofs.Prelude.{◌≡◌, ℕ, ◌+◌, ◌^◌, ◌<◌, ◌≤◌, List, [], ◌∷◌, length, take, flat_map, sum_by, All, Option, None, Some, refl, sym, ap, ◌∙◌, arith, All-nil, All-cons, length-flat_map, sum_by-cons, sum_by_more, sum_by_more_le, sum_by-le, sum_by-IsPermutation, length_permutation, ones_below, Node, bits, rank, blank_node, node_at, Store, held, size_in, node_or_blank, child_items, child_blocks, child_blocks_of, NodesHold}
-use Rattle.prefix_trie_table.proofs.Strings.Bits.{rank-ones}
+use Rattle.prefix_trie_table.proofs.Prelude.{◌≡◌, ℕ, ◌+◌, ◌^◌, ◌<◌, ◌≤◌, List, [], ◌∷◌, length, take, flat_map, sum_by, All, Option, None, Some, refl, sym, ap, ◌∙◌, arith, All-nil, All-cons, length-flat_map, sum_by-cons, sum_by_more, sum_by_more_le, sum_by-le, sum_by-IsPermutation, length_permutation, Node, bits, rank, blank_node, node_at, Store, held, size_in, node_or_blank, child_items, child_blocks, child_blocks_of, NodesHold}
 use Rattle.prefix_trie_table.proofs.Strings.BitLists.{rank-all, rank-le, rank-zero-all}
 use Rattle.prefix_trie_table.proofs.Blocks.Soundness.{first_place}
 use Rattle.prefix_trie_table.proofs.Blocks.SlotSums.{sum_by-flat_map, sum_by-same, sum_by-mapped, items_sum, slots_sum}
@@ -65,9 +64,9 @@ module _ (sizes : List ℕ) (nodes : List ℕ → Option Node) (paths : List (Li
 
 -- the loop over the slots: the number so far, and the children in the next slot
 module _ (slots : List Node) (i number n : ℕ) (m : Node) (inside : i < length slots) (so_far : number ≡ 1 + sum_by child_count (take i slots))
-    (is : m ≡ node_at slots i) (ones : n ≡ ones_below 32 m.child_bitmap) where
+    (is : m ≡ node_at slots i) (ones : n ≡ rank m.child_bitmap 32) where
   next_count : n ≡ child_count (node_at slots i)
-  next_count = ones ∙ sym (rank-ones m.child_bitmap 32 (omega arith)) ∙ ap child_count is
+  next_count = ones ∙ ap child_count is
 
   pub children_more : number + n ≡ 1 + sum_by child_count (take (i + 1) slots)
   children_more = omega (arith, sum_by_more child_count slots i blank_node inside, so_far, next_count)

@@ -1,6 +1,7 @@
 -- Bits of a bitmap of 32 bits, and what the functions of `node` promise about them.
-use Rattle.prefix_trie_table.proofs.Prelude.{◌≡◌, ◌≢◌, ℕ, zero, suc, ◌+◌, ◌<◌, ◌≤◌, inl, inr, Bool, true, false, cond, ◌||◌, length, length-append, refl, sym, ap, ap₂, ◌∙◌, arith, nat_eq, ltb, eqb, bit_at, bit_at-zero, false≢true, eqb_tells, has, ones_below, Sets, has_bit, if_set, bits_below, rank}
-use Rattle.std.proofs.lemmas.Bool.{ltb-true, lt-ltb}
+use Rattle.prefix_trie_table.proofs.Prelude.{◌≡◌, ◌≢◌, ℕ, ◌<◌, inl, inr, Bool, true, false, cond, ◌||◌, refl, sym, ap, ◌∙◌, nat_eq, ltb, eqb, bit_at, bit_at-zero, false≢true, eqb_tells, has, Sets, has_bit}
+use Rattle.std.proofs.lemmas.Bool.{ltb-true}
+pub use Rattle.prefix_trie_bits.proofs.Ranks.{has_bit-is, if_set-length}
 
 cond_left : (a b : Bool) → cond a b false ≡ true → (a ≡ true) × (b ≡ true)
 cond_left true b e = (refl, e)
@@ -13,11 +14,6 @@ has_bit-below n b h = ltb-true b 32 (cond_left _ _ h).0
 pub has_bit-zero : (b : ℕ) → has_bit 0 b ≡ false
 unfolding has_bit
 has_bit-zero b = elim (ltb b 32) as (λ v. cond v (eqb (bit_at 0 b) 1) false ≡ false) [ true ↦ ap (λ n. eqb n 1) (bit_at-zero b) | false ↦ refl ]
-
--- for a bit below 32, `has_bit` is the bit of the bitmap
-pub has_bit-is : (n b : ℕ) → b < 32 → has_bit n b ≡ has n b
-unfolding has_bit
-has_bit-is n b h = ap (λ t. cond t (has n b) false) (lt-ltb b 32 h)
 
 pub has_bit-past : (n b : ℕ) → ltb b 32 ≡ false → has_bit n b ≡ false
 unfolding has_bit
@@ -34,15 +30,3 @@ has_bit-sets m k m' i sets h =
     go : (b : Bool) → ltb i 32 ≡ b → i ≢ k → has_bit m' i ≡ has_bit m i
     go true e ne = has_bit-is m' i (ltb-true i 32 e) ∙ sets.others i ne ∙ sym (has_bit-is m i (ltb-true i 32 e))
     go false e ne = has_bit-past m' i e ∙ sym (has_bit-past m i e)
-
-pub if_set-length : (s : Bool) (b : ℕ) → length (if_set s b) ≡ cond s 1 0
-if_set-length true b = refl
-if_set-length false b = refl
-
--- the rank is the number that the calls of `node` compute
-pub rank-ones : (m b : ℕ) → b ≤ 32 → rank m b ≡ ones_below b m
-unfolding rank ones_below
-rank-ones m zero h = refl
-rank-ones m (suc b) h =
-    length-append (bits_below m b) (if_set (has_bit m b) b) ∙
-    ap₂ (λ x y. x + y) (rank-ones m b (omega arith)) (if_set-length (has_bit m b) b ∙ ap (λ s. cond s 1 0) (has_bit-is m b (omega arith)))

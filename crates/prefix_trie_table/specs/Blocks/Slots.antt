@@ -2,7 +2,7 @@
 use Rattle.std.specs.Prelude.{◌≡◌, ℕ, ◌+◌, ◌<◌, true, List, Option, None, Some, IsSome, length, slice_index_or, slice_set}
 use Rattle.prefix_trie_table.specs.declared.allocator.node.Node.{Node}
 use Rattle.prefix_trie_table.specs.declared.table.seat.Seat.{Seat}
-use Rattle.prefix_trie_table.specs.Bitmaps.{has_bit, rank}
+use Rattle.prefix_trie_bits.specs.Bitmaps.{has_bit, rank}
 use Rattle.prefix_trie_table.specs.Blocks.Store.{Store}
 
 -- the array with x in slot i

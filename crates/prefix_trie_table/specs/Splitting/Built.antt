@@ -4,7 +4,7 @@ use Rattle.prefix_trie_bits.specs.Model.Bits.{begins, number}
 use Rattle.prefix_trie_bits.specs.Places.{value_bit}
 use Rattle.prefix_trie_bits.specs.Calls.SplitsOff.{packed_block, packed_slots}
 use Rattle.prefix_trie_table.specs.declared.allocator.node.Node.{Node}
-use Rattle.prefix_trie_table.specs.Bitmaps.{has_bit, rank}
+use Rattle.prefix_trie_bits.specs.Bitmaps.{has_bit, rank}
 use Rattle.prefix_trie_table.specs.Blocks.Cells.{blank_node, node_at, node_sizes, cell_sizes}
 use Rattle.prefix_trie_table.specs.Digits.{chunks_of, bit_of}
 use Rattle.prefix_trie_table.specs.Splitting.Building.{Builds}

@@ -2,7 +2,7 @@
 ghost use Rattle.std.specs.Prelude.{◌≡◌, ◌<◌, true, false, All, length, filter};
 ghost use Rattle.prefix_trie_bits.specs.Places.{strings};
 ghost use Rattle.prefix_trie_bits.specs.Walks.{to_come};
-ghost use Rattle.prefix_trie_table.specs.Bitmaps.{has_bit as is_set};
+ghost use Rattle.prefix_trie_bits.specs.Bitmaps.{has_bit as is_set};
 ghost use Rattle.prefix_trie_table.specs.Forest.{child as child_of, child_slot as slot_of_child};
 ghost use Rattle.prefix_trie_table.specs.Locations.{seat_in};
 ghost use Rattle.prefix_trie_table.specs.Walking.Joint.{IsJointPlace, IsJointSpot, JointSteps, JointTrees, is_joint, is_chosen, kept_node};

@@ -1,7 +1,7 @@
 //! Removing values.
 ghost use Rattle.std.specs.Prelude.{◌≡◌, ℕ, ◌+◌, ◌*◌, ◌<◌, [], ◌∷◌, ◌++◌, List, Option, Some, drop, map, None, true, false, is_some, IfSome, IfNone};
 ghost use Rattle.prefix_trie_table.specs.declared.allocator.node.Node.{Node};
-ghost use Rattle.prefix_trie_table.specs.Bitmaps.{has_bit as is_set, rank as rank_of};
+ghost use Rattle.prefix_trie_bits.specs.Bitmaps.{has_bit as is_set, rank as rank_of};
 ghost use Rattle.prefix_trie_table.specs.Blocks.Cells.{blank_node, node_at, node_sizes, cell_sizes};
 ghost use Rattle.prefix_trie_table.specs.Digits.{chunks_of, bit_of};
 ghost use Rattle.prefix_trie_table.specs.Blocks.Store.{Sound, no_blocks};

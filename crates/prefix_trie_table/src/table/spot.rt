@@ -2,7 +2,7 @@
 ghost use Rattle.std.specs.Prelude.{◌≡◌, ◌+◌, ◌<◌, ◌≤◌, false, Some, None, All, length, slice_index_or};
 ghost use Rattle.prefix_trie_bits.specs.Places.{places};
 ghost use Rattle.prefix_trie_bits.specs.Walks.{to_come};
-ghost use Rattle.prefix_trie_table.specs.Bitmaps.{has_bit as is_set};
+ghost use Rattle.prefix_trie_bits.specs.Bitmaps.{has_bit as is_set};
 ghost use Rattle.prefix_trie_table.specs.Blocks.Cells.{node_at, without_sizes};
 ghost use Rattle.prefix_trie_table.specs.Tables.{IsTrie};
 ghost use Rattle.prefix_trie_table.specs.Walking.Starts.{places_in};

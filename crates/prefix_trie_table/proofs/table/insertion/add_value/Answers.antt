@@ -1,6 +1,6 @@
 -- A new value in its place of the block of values: the tree by path has one more value.
 use Rattle.prefix_trie_table.proofs.Prelude.{Node, inl, inr, ◌≡◌, ◌+◌, ◌<◌, None, Some, ap, sym, ◌∙◌, refl, subst, arith, option_or, block_needed, rank, cell_sizes, AreFree, size_in, size_if_any, list_size, list_need, needs}
-use Rattle.prefix_trie_table.proofs.Strings.Bits.{has_bit-is, rank-ones}
+use Rattle.prefix_trie_table.proofs.Strings.Bits.{has_bit-is}
 use Rattle.prefix_trie_table.proofs.Strings.BitLists.{rank-within}
 use Rattle.prefix_trie_table.proofs.Insertion.Adding.{at_is, at_values, has_values, tier_small, values_added}
 use Rattle.prefix_trie_table.proofs.Insertion.Inserting.{cell_fits, few_values}
@@ -12,14 +12,14 @@ use Rattle.prefix_trie_table.proofs.table.insertion.add_value.Goals as goal
 pub insert_at-block-requires-clause-holds : goal.insert_at-block-requires-clause-holds
 insert_at-block-requires-clause-holds g c =
     has_values c.args.nodes.now c.args.cells.now c.args.at c.args.node.now c.count.result c.requires.is_there c.requires.node
-    (c.count.ensures ∙ sym (rank-ones c.args.node.now.value_bitmap 32 (omega arith)))
+    c.count.ensures
 
 pub insert_at-block-requires-clause-sizes : goal.insert_at-block-requires-clause-sizes
 insert_at-block-requires-clause-sizes g c = cell_sized c.args.cells.now.tiers c.requires.is_there.0.holds.cells.sizes_are
 
 pub insert_at-block-requires-clause-ready : goal.insert_at-block-requires-clause-ready
 insert_at-block-requires-clause-ready g c =
-    let same : rank c.args.node.now.value_bitmap 32 ≡ c.count.result = rank-ones c.args.node.now.value_bitmap 32 (omega arith) ∙ sym c.count.ensures in
+    let same : rank c.args.node.now.value_bitmap 32 ≡ c.count.result = sym c.count.ensures in
     let t = c.requires.is_there.0 in
     let at = c.requires.is_there.1 in
     let is : t.reading at.path ≡ Some c.args.node.now = at.is ∙ ap Some (sym (c.requires.node ∙ (at_is c.args.nodes.now c.args.at (at_values _ _ _ c.requires.is_there)).0)) in
@@ -35,8 +35,6 @@ insert_at-block-requires-clause-offset g c =
     omega (
       arith,
       rank-within c.args.node.now.value_bitmap c.args.bit (omega (arith, c.requires.bit)),
-      rank-ones c.args.node.now.value_bitmap c.args.bit (omega (arith, c.requires.bit)),
-      rank-ones c.args.node.now.value_bitmap 32 (omega arith),
       c.rank-offset.ensures,
       c.count.ensures,
     )
@@ -47,7 +45,7 @@ with_bit-value_bitmap-requires-clause-clear g c = sym (has_bit-is c.args.node.no
 pub overflow_cast-block : goal.overflow_cast-block
 overflow_cast-block g c =
     let h = has_values c.args.nodes.now c.args.cells.now c.args.at c.args.node.now c.count.result c.requires.is_there
-    c.requires.node (c.count.ensures ∙ sym (rank-ones c.args.node.now.value_bitmap 32 (omega arith))) in
+    c.requires.node c.count.ensures in
     let s = c.insert_at-block.ensures.sound h.size h.items h.live h.sound h.is_count in
     let small : c.insert_at-block.result.tier < 7 = tier_small None _ h.live c.insert_at-block.new.self cell_sizes s
     (c.insert_at-block.ensures.turnover.keeps.sizes ∙ c.requires.is_there.0.holds.cells.sizes_are) in
@@ -56,7 +54,7 @@ overflow_cast-block g c =
 pub put-requires : goal.put-requires
 put-requires g c =
     let h = has_values c.args.nodes.now c.args.cells.now c.args.at c.args.node.now c.count.result c.requires.is_there
-    c.requires.node (c.count.ensures ∙ sym (rank-ones c.args.node.now.value_bitmap 32 (omega arith))) in
+    c.requires.node c.count.ensures in
     let s = c.insert_at-block.ensures.sound h.size h.items h.live h.sound h.is_count in
     let small : c.insert_at-block.result.tier < 7 = tier_small None _ h.live c.insert_at-block.new.self cell_sizes s
     (c.insert_at-block.ensures.turnover.keeps.sizes ∙ c.requires.is_there.0.holds.cells.sizes_are) in
@@ -73,18 +71,18 @@ returns-clause-cells g c = none_turned _ _ _ _ c.insert_at-block.ensures.turnove
 
 pub returns-clause-added : goal.returns-clause-added
 returns-clause-added g c = λ reading paths values p n hold cells is_there is.
-    let same : c.count.result ≡ rank c.args.node.now.value_bitmap 32 = c.count.ensures ∙ sym (rank-ones c.args.node.now.value_bitmap 32 (omega arith)) in
+    let same : c.count.result ≡ rank c.args.node.now.value_bitmap 32 = c.count.ensures in
     values_added c.args.nodes.now c.put.new.self c.args.cells.now c.insert_at-block.new.self c.args.at c.rank-offset.result
     c.args.bit c.insert_at-block.result.tier c.insert_at-block.result.start c.with_bit-value_bitmap.result c.args.node.now _ c.args.value
     c.requires.node c.with_bit-value_bitmap.ensures.sets refl c.insert_at-block.ensures.turnover.keeps
     (λ size xs live s count. c.insert_at-block.ensures.sound size xs live s (count ∙ sym same))
     (subst (λ n. list_size c.args.cells.now.tiers c.insert_at-block.result.tier (n + 1) ≡ option_or (list_need c.args.cells.now.tiers c.args.node.now.value_tier n)
     (list_size c.args.cells.now.tiers c.args.node.now.value_tier n)) same c.insert_at-block.ensures.is_there)
-    (c.rank-offset.ensures ∙ sym (rank-ones c.args.node.now.value_bitmap c.args.bit (omega (arith, c.requires.bit)))) (omega (arith, c.requires.bit))
+    c.rank-offset.ensures (omega (arith, c.requires.bit))
     c.requires.missing c.requires.bit c.put.ensures.slots reading paths values p n hold cells is_there is
 
 pub returns-clause-seat : goal.returns-clause-seat
 returns-clause-seat g c = added_seat c.args.nodes.now c.put.new.self c.args.at c.rank-offset.result c.args.bit
     c.with_bit-value_bitmap.result c.args.node.now _ c.with_bit-value_bitmap.ensures.sets refl (omega (arith, c.requires.bit))
-    (c.rank-offset.ensures ∙ sym (rank-ones c.args.node.now.value_bitmap c.args.bit (omega (arith, c.requires.bit))))
+    c.rank-offset.ensures
     (at_is c.args.nodes.now c.args.at (at_values _ _ _ c.requires.is_there)).1 c.put.ensures.slots

@@ -1,7 +1,6 @@
 -- The blocks to make: one of values, and one of children for each missing level if the value's own node is missing.
 use Rattle.prefix_trie_table.proofs.Prelude.{◌≡◌, ℕ, ◌+◌, ◌-◌, ◌/◌, length, Option, None, Some, inl, inr, [], Result, Err, refl, sym, ap, ◌∙◌, subst, arith, on_ok_weaker, err_from_is_err_and, IfErr-weaker, Refusal, Memory, IndexRange, Node, nodes_needed, cells_needed, ObtainsBoth, rank, value_block_sizes, block_needed, blank_node, cell_sizes, child_need, value_need, Store, Obtains, AreFree, tier_sizes, list_need, needs, GrowsBoth, MayPass}
 use Rattle.prefix_trie_table.specs.OwnBlocks.{child_block_size, value_block_size}
-use Rattle.prefix_trie_table.proofs.Strings.Bits.{rank-ones}
 use Rattle.prefix_trie_table.proofs.Blocks.BySize.{node_sized, cell_sized}
 use Rattle.prefix_trie_table.proofs.Blocks.Turnovers.{free_obtained}
 use Rattle.prefix_trie_table.proofs.Insertion.Adding.{at_values, has_list, has_values}
@@ -31,7 +30,7 @@ prepare-requires-clause-tier g c = λ some.
     let n = c.args.reached.now.node in
     list_tier None c.args.cells.now n.value_tier n.value_block c.count.result
     (has_values c.args.nodes.now c.args.cells.now _ n c.count.result (end_there c.args.path.now c.args.reached.now c.requires.table c.requires.ends) c.requires.ends.1.along.node_is
-    (c.count.ensures ∙ sym (rank-ones n.value_bitmap 32 (omega arith)))) some
+    c.count.ensures) some
 
 pub prepare-requires-clause-sizes : goal.prepare-requires-clause-sizes
 prepare-requires-clause-sizes g c = cell_sized c.args.cells.now.tiers c.requires.table.holds.cells.sizes_are
@@ -42,13 +41,13 @@ prepare-requires-clause-fits g c =
     let few = missing_few c.args.path.now c.args.reached.now c.args.nodes.now c.requires.ends t.reading t.paths t.holds.hold
     (at_own c.args.reached.now.level c.len-last.result (length c.args.path.now) c.len-last.ensures.len c.if-reached-last.true) t.values c.args.cells.now t.holds.cells in
     cell_fits c.args.cells.now.tiers (c.count.result + 1) c.requires.table.holds.cells.sizes_are
-    (omega (arith, few, rank-ones c.args.reached.now.node.value_bitmap 32 (omega arith), c.count.ensures))
+    (omega (arith, few, c.count.ensures))
 
 -- what the array of values says of it
 here : (g : given.Over) (c : goal.After-prepare g) → Obtains (λ e. e ≡ IndexRange) (λ e. e ≡ Memory) c.prepare.result c.args.cells.now c.prepare.new.self (needs (value_need (Some c.args.reached.now.node)) 0)
 here g c =
     let n = c.args.reached.now.node in
-    let same : c.count.result ≡ rank n.value_bitmap 32 = c.count.ensures ∙ sym (rank-ones n.value_bitmap 32 (omega arith)) in
+    let same : c.count.result ≡ rank n.value_bitmap 32 = c.count.ensures in
     subst (λ o. Obtains (λ e. e ≡ IndexRange) (λ e. e ≡ Memory) c.prepare.result c.args.cells.now c.prepare.new.self (needs o 0))
     (value_list_need c.args.cells.now n c.count.result c.requires.table.holds.cells.sizes_are same) c.prepare.ensures.obtains
 
@@ -129,7 +128,7 @@ prepare-requires-3-clause-tier g c = λ some.
     let n = c.args.reached.now.node in
     list_tier blank_node c.args.nodes.now n.child_tier n.child_block c.count-2.result
     (has_list c.args.nodes.now _ n c.count-2.result (at_values _ _ _ (end_there c.args.path.now c.args.reached.now c.requires.table c.requires.ends)) c.requires.ends.1.along.node_is
-    (c.count-2.ensures ∙ sym (rank-ones n.child_bitmap 32 (omega arith)))) some
+    c.count-2.ensures) some
 
 pub prepare-requires-3-clause-sizes : goal.prepare-requires-3-clause-sizes
 prepare-requires-3-clause-sizes g c = node_sized c.args.nodes.now.tiers c.requires.table.holds.hold.sizes_are
@@ -139,14 +138,14 @@ prepare-requires-3-clause-fits g c =
     let few = few_children c.args.path.now c.args.reached.now c.args.nodes.now c.requires.ends.1
     (above_own c.args.reached.now.level c.len-last.result (length c.args.path.now) c.len-last.ensures.len c.requires.ends.1.along.whole c.if-reached-last.false).1 in
     node_fits c.args.nodes.now.tiers (c.count-2.result + 1) c.requires.table.holds.hold.sizes_are
-    (omega (arith, few, rank-ones c.args.reached.now.node.child_bitmap 32 (omega arith), c.count-2.ensures))
+    (omega (arith, few, c.count-2.ensures))
 
 -- what the array of nodes says of them
 below : (g : given.Over) (c : goal.After-prepare-3 g) → Obtains (λ e. e ≡ IndexRange) (λ e. e ≡ Memory) c.prepare-3.result c.args.nodes.now c.prepare-3.new.self
     (needs (child_need (Some c.args.reached.now.node)) (length c.args.path.now / 5 - (c.args.reached.now.level + 1)))
 below g c =
     let n = c.args.reached.now.node in
-    let same : c.count-2.result ≡ rank n.child_bitmap 32 = c.count-2.ensures ∙ sym (rank-ones n.child_bitmap 32 (omega arith)) in
+    let same : c.count-2.result ≡ rank n.child_bitmap 32 = c.count-2.ensures in
     subst (λ o. Obtains (λ e. e ≡ IndexRange) (λ e. e ≡ Memory) c.prepare-3.result c.args.nodes.now c.prepare-3.new.self (needs o (length c.args.path.now / 5 - (c.args.reached.now.level + 1))))
     (child_list_need c.args.nodes.now n c.count-2.result c.requires.table.holds.hold.sizes_are same)
     (subst (λ l. Obtains (λ e. e ≡ IndexRange) (λ e. e ≡ Memory) c.prepare-3.result c.args.nodes.now c.prepare-3.new.self (needs (list_need c.args.nodes.now.tiers n.child_tier c.count-2.result) (l / 5 - (c.args.reached.now.level + 1)))) c.len-last.ensures.len c.prepare-3.ensures.obtains)

@@ -1,7 +1,7 @@
 -- Dropping a child without children from its parent's block: the tree by path has one node less.
 use Rattle.prefix_trie_table.proofs.Prelude.{inl, ◌≡◌, ap, sym, ◌∙◌, refl, arith, Node, has_bit, rank, blank_node, node_sizes}
 use Rattle.prefix_trie_table.proofs.Strings.Bare.{one_fewer}
-use Rattle.prefix_trie_table.proofs.Strings.Bits.{has_bit-is, rank-ones}
+use Rattle.prefix_trie_table.proofs.Strings.Bits.{has_bit-is}
 use Rattle.prefix_trie_table.proofs.Strings.BitLists.{rank-below}
 use Rattle.prefix_trie_table.proofs.Insertion.Adding.{at_is, has_list}
 use Rattle.prefix_trie_table.proofs.Removal.Items.{Lost, lost_one, children_dropped}
@@ -17,7 +17,7 @@ visit-node-requires g c = (at_is c.args.nodes.now c.args.at c.requires.is_there)
 pub remove_at-rest-requires-clause-holds : goal.remove_at-rest-requires-clause-holds
 remove_at-rest-requires-clause-holds g c =
     has_list c.args.nodes.now c.args.at c.visit-node.result c.count.result c.requires.is_there c.visit-node.ensures.node
-    (c.count.ensures ∙ sym (rank-ones c.visit-node.result.child_bitmap 32 (omega arith)))
+    c.count.ensures
 
 pub remove_at-rest-requires-clause-sizes : goal.remove_at-rest-requires-clause-sizes
 remove_at-rest-requires-clause-sizes g c = node_sized c.args.nodes.now.tiers c.requires.is_there.0.hold.sizes_are
@@ -28,8 +28,6 @@ remove_at-rest-requires-clause-offset g c =
       arith,
       rank-below c.visit-node.result.child_bitmap c.args.child c.requires.child
           (ap (λ (n : Node). has_bit n.child_bitmap c.args.child) c.visit-node.ensures.node ∙ c.requires.there),
-      rank-ones c.visit-node.result.child_bitmap c.args.child (omega (arith, c.requires.child)),
-      rank-ones c.visit-node.result.child_bitmap 32 (omega arith),
       c.rank.ensures,
       c.count.ensures,
     )
@@ -63,14 +61,14 @@ lost : (g : given.Over) (c : goal.After-put g) → Lost blank_node node_sizes c.
     c.visit-node.result.child_block (rank c.visit-node.result.child_bitmap 32) (rank c.visit-node.result.child_bitmap c.args.child)
     c.remove_at-rest.result.tier c.remove_at-rest.result.start
 lost g c =
-    let same : c.count.result ≡ rank c.visit-node.result.child_bitmap 32 = c.count.ensures ∙ sym (rank-ones c.visit-node.result.child_bitmap 32 (omega arith)) in
+    let same : c.count.result ≡ rank c.visit-node.result.child_bitmap 32 = c.count.ensures in
     let list = has_list c.args.nodes.now c.args.at c.visit-node.result c.count.result c.requires.is_there c.visit-node.ensures.node same in
     let left = c.remove_at-rest.ensures in
     lost_one blank_node c.args.nodes.now c.remove_at-rest.new.self c.visit-node.result.child_tier c.visit-node.result.child_block c.count.result c.rank.result
     c.remove_at-rest.result 32 c.requires.is_there.0.hold.sizes_are refl node_spaces list
     (let h = rank-below c.visit-node.result.child_bitmap c.args.child c.requires.child
     (ap (λ (n : Node). has_bit n.child_bitmap c.args.child) c.visit-node.ensures.node ∙ c.requires.there) in omega (arith, h, same)) left.tier left.loses left.sound _ _ same
-    (c.rank.ensures ∙ sym (rank-ones c.visit-node.result.child_bitmap c.args.child (omega (arith, c.requires.child))))
+    c.rank.ensures
 
 pub returns-clause-space : goal.returns-clause-space
 returns-clause-space g c = grows_written c.args.nodes.now c.remove_at-rest.new.self c.put.new.self _ _ 24 (lost g c).grows c.put.ensures.slots

@@ -1,6 +1,6 @@
 -- Taking a value at a bit, in two cases: the bit is not set, or the value is removed and the count falls by one.
 use Rattle.prefix_trie_table.proofs.Prelude.{◌≡◌, true, Some, is_some, refl, sym, ap, ◌∙◌, arith, one_if, node_sizes}
-use Rattle.prefix_trie_table.specs.Bitmaps.{has_bit as is_set}
+use Rattle.prefix_trie_bits.specs.Bitmaps.{has_bit as is_set}
 use Rattle.prefix_trie_table.proofs.Insertion.Spaces.{Grows-same}
 use Rattle.prefix_trie_table.proofs.Strings.Bits.{has_bit-is}
 use Rattle.prefix_trie_table.proofs.Removal.OneEntry.{kept_at, none_at, some_at, value_taken}

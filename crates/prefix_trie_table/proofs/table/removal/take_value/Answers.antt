@@ -2,7 +2,7 @@
 use Rattle.prefix_trie_table.proofs.Prelude.{Node, inl, inr, ◌≡◌, ◌<◌, Some, None, get_or, map, sym, ap, ◌∙◌, subst, refl, arith, length-set, rank, bits, node_sizes, cell_sizes}
 use Rattle.prefix_trie_table.specs.Removals.{SameBlocks}
 use Rattle.prefix_trie_table.proofs.Strings.Bare.{one_fewer}
-use Rattle.prefix_trie_table.proofs.Strings.Bits.{has_bit-is, rank-ones}
+use Rattle.prefix_trie_table.proofs.Strings.Bits.{has_bit-is}
 use Rattle.prefix_trie_table.proofs.Strings.BitLists.{rank-below, rank-all, map_get}
 use Rattle.prefix_trie_table.proofs.Insertion.Adding.{at_is, at_values, has_values}
 use Rattle.prefix_trie_table.proofs.Tree.Trees.{slot_holds}
@@ -17,7 +17,7 @@ use Rattle.prefix_trie_table.proofs.table.removal.take_value.Goals as goal
 pub remove_at-value-requires-clause-holds : goal.remove_at-value-requires-clause-holds
 remove_at-value-requires-clause-holds g c =
     has_values c.args.nodes.now c.args.cells.now c.args.at c.args.node c.count.result c.requires.is_there c.requires.node
-    (c.count.ensures ∙ sym (rank-ones c.args.node.value_bitmap 32 (omega arith)))
+    c.count.ensures
 
 pub remove_at-value-requires-clause-sizes : goal.remove_at-value-requires-clause-sizes
 remove_at-value-requires-clause-sizes g c = cell_sized c.args.cells.now.tiers c.requires.is_there.0.holds.cells.sizes_are
@@ -27,8 +27,6 @@ remove_at-value-requires-clause-offset g c =
     omega (
       arith,
       rank-below c.args.node.value_bitmap c.args.bit (omega (arith, c.requires.bit)) c.requires.there,
-      rank-ones c.args.node.value_bitmap c.args.bit (omega (arith, c.requires.bit)),
-      rank-ones c.args.node.value_bitmap 32 (omega arith),
       c.rank.ensures,
       c.count.ensures,
     )
@@ -60,7 +58,7 @@ lost : (g : given.Over) (c : goal.After-put g) → Lost None cell_sizes c.args.c
     c.args.node.value_block (rank c.args.node.value_bitmap 32) (rank c.args.node.value_bitmap c.args.bit)
     c.remove_at-value.result.1.tier c.remove_at-value.result.1.start
 lost g c =
-    let same : c.count.result ≡ rank c.args.node.value_bitmap 32 = c.count.ensures ∙ sym (rank-ones c.args.node.value_bitmap 32 (omega arith)) in
+    let same : c.count.result ≡ rank c.args.node.value_bitmap 32 = c.count.ensures in
     let list = has_values c.args.nodes.now c.args.cells.now c.args.at c.args.node c.count.result c.requires.is_there c.requires.node
     same in
     let left = c.remove_at-value.ensures in
@@ -68,7 +66,7 @@ lost g c =
     lost_one None c.args.cells.now c.remove_at-value.new.self c.args.node.value_tier c.args.node.value_block c.count.result c.rank.result
     c.remove_at-value.result.1 31 c.requires.is_there.0.holds.cells.sizes_are refl cell_spaces list
     (let h = rank-below c.args.node.value_bitmap c.args.bit bit c.requires.there in omega (arith, h, same)) left.tier left.loses left.sound _ _ same
-    (c.rank.ensures ∙ sym (rank-ones c.args.node.value_bitmap c.args.bit (omega (arith, bit))))
+    c.rank.ensures
 
 pub returns-clause-node_blocks : goal.returns-clause-node_blocks
 returns-clause-node_blocks g c =
@@ -89,8 +87,8 @@ pub returns-clause-value : goal.returns-clause-value
 returns-clause-value g c = λ reading paths values p n hold cells is_there is.
     let at = slot_holds node_sizes reading paths c.args.nodes.now hold p c.args.at n is_there is in
     let here = is ∙ ap Some (sym (c.requires.node ∙ at.0)) in
-    let same : c.count.result ≡ rank c.args.node.value_bitmap 32 = c.count.ensures ∙ sym (rank-ones c.args.node.value_bitmap 32 (omega arith)) in
-    let offset : c.rank.result ≡ rank c.args.node.value_bitmap c.args.bit = c.rank.ensures ∙ sym (rank-ones c.args.node.value_bitmap c.args.bit (omega (arith, c.requires.bit))) in
+    let same : c.count.result ≡ rank c.args.node.value_bitmap 32 = c.count.ensures in
+    let offset : c.rank.result ≡ rank c.args.node.value_bitmap c.args.bit = c.rank.ensures in
     let got = map_get (values p) c.args.node.value_bitmap c.args.bit c.remove_at-value.result.0 (omega (arith, c.requires.bit)) c.requires.there in
     c.remove_at-value.ensures.value _ (map (values p) (bits c.args.node.value_bitmap)) _
     (values_first cell_sizes node_sizes reading paths c.args.nodes.now hold values c.args.cells.now cells p c.args.node here)

@@ -8,7 +8,7 @@ use Rattle.prefix_trie_table.proofs.Splitting.Sources.{child_inside, some_level,
 use Rattle.prefix_trie_table.proofs.Splitting.Space.{values_few, built_tier, for_memory, values_packed, children_packed, slots_split, child_amount, child_space}
 use Rattle.prefix_trie_table.proofs.Insertion.Inserting.{node_fits, cell_fits}
 use Rattle.prefix_trie_table.proofs.Strings.Bare.{was_set, others_stay}
-use Rattle.prefix_trie_table.proofs.Strings.Bits.{has_bit-is, rank-ones}
+use Rattle.prefix_trie_table.proofs.Strings.Bits.{has_bit-is}
 use Rattle.prefix_trie_table.proofs.Strings.BitLists.{rank-le, rank-missing}
 use Rattle.prefix_trie_table.proofs.table.splitting.+build_node.Goals as goal
 
@@ -20,7 +20,7 @@ pub build_vacant-requires-clause-fits : goal.build_vacant-requires-clause-fits
 build_vacant-requires-clause-fits g t c =
     let values : ℕ = bit_and c.args.node.value_bitmap c.masks-values.result.0 in
     let few = values_few values (λ b set. own_within c.args.from.now c.args.node c.args.levels c.requires.source b (kept c.args.node.value_bitmap c.masks-values.result.0 b set)) in
-    let counted = c.count.ensures ∙ sym (rank-ones values 32 (omega arith)) in
+    let counted = c.count.ensures in
     cell_fits c.args.cells.now.tiers c.count.result c.requires.cells.sizes_are (omega (arith, few, counted))
 
 pub overflow_cast-built : goal.overflow_cast-built
@@ -30,7 +30,7 @@ pub returns-in_err-own : goal.returns-in_err-own
 returns-in_err-own g t c =
     let values : ℕ = bit_and c.args.node.value_bitmap c.masks-values.result.0 in
     let packed = values_packed c.args.node (tier_sizes c.args.cells.now.tiers) values c.count.result c.requires.cells.sizes_are
-    (c.count.ensures ∙ sym (rank-ones values 32 (omega arith))) (kept c.args.node.value_bitmap c.masks-values.result.0)
+    c.count.ensures (kept c.args.node.value_bitmap c.masks-values.result.0)
     (own_within c.args.from.now c.args.node c.args.levels c.requires.source) in
     let split = slots_split value_slots c.args.from.now.slots c.args.levels c.args.node in
     let memory : c.in_err-own.field-0.0 ≡ Memory = for_memory c.in_err-own.field-0.0 (λ is. let past = c.in_err-own.ensures.range is in absurd (omega (arith, past, packed, split, c.requires.cells.space))) in
@@ -39,7 +39,7 @@ returns-in_err-own g t c =
 pub loop-child-init : goal.loop-child-init
 loop-child-init g t c =
     let values : ℕ = bit_and c.args.node.value_bitmap c.masks-values.result.0 in
-    let counted = c.count.ensures ∙ sym (rank-ones values 32 (omega arith)) in
+    let counted = c.count.ensures in
     let packed = values_packed c.args.node (tier_sizes c.args.cells.now.tiers) values c.count.result c.requires.cells.sizes_are counted
     (kept c.args.node.value_bitmap c.masks-values.result.0) (own_within c.args.from.now c.args.node c.args.levels c.requires.source) in
     record {
