@@ -165,6 +165,21 @@ impl<P: Prefix, A: Allocator> PrefixSet<P, A> {
         &self.map
     }
 
+    /// Returns the set of a map's keys. The map becomes the set, and nothing is copied.
+    ///
+    /// # Examples
+    ///
+    /// ```rust
+    /// // set = {10.0.0.0/8, 10.1.0.0/16}
+    /// PrefixSet::from_map(set.as_map().clone()?).len();       // 2
+    /// ```
+    #[inline]
+    pub fn from_map(map: PrefixMap<P, (), A>) -> Self
+        ensures { result ≡ map }
+    {
+        PrefixSet { map }
+    }
+
     /// Returns the number of keys.
     ///
     /// # Examples
