@@ -46,7 +46,7 @@ pub use Rattle.prefix_trie_bits.specs.Laws.Total.{GivesCause, IsStoredMap, Total
 pub use Rattle.prefix_trie_bits.specs.Laws.Visits.{VisitLaws}
 pub use Rattle.prefix_trie_bits.specs.Model.Addresses.{address_total, addresses}
 unfoldable pub use Rattle.prefix_trie_bits.specs.Model.Addresses.{covered, full_strings}
-pub use Rattle.prefix_trie_bits.specs.Calls.Retaining.{RetainsEntries, CallableOnEachEntry, RetainsInStorage}
+pub use Rattle.prefix_trie_bits.specs.Calls.Retaining.{RetainsEntries, RetainsEntriesTo, CallableOnEachEntry, RetainsInStorage}
 pub use Rattle.prefix_trie_bits.specs.Calls.Blocks.{HasBlock, NodesHaveBlocks}
 pub use Rattle.prefix_trie_bits.specs.Model.Blocks.{Layout, LongerByOne, Sizes, SizesStepBetween, SizesStepDown, StepsBetween, StepsDown, child_block_count, child_block_sizes, child_count, free_of, made_of, no_layout, one_of, own_entries, smallest_size, used_of, value_block_count, value_block_sizes}
 pub use Rattle.prefix_trie_bits.specs.Model.Counted.{CountedFrom, CountedStep, CountsReads, TidyIf, tidy_after, tidy_after_all}

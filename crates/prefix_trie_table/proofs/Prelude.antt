@@ -57,7 +57,7 @@ pub use Rattle.prefix_trie_bits.specs.BitStrings.{digits-number, length-digits, 
 pub use Rattle.prefix_trie_bits.specs.Model.Bits.{number, same_bit, zeros}
 unfoldable pub use Rattle.prefix_trie_bits.specs.Model.Bits.{begins, digits}
 pub use Rattle.prefix_trie_bits.specs.Laws.Pruning.{IsPrunedNode, PruningLaws}
-pub use Rattle.prefix_trie_bits.specs.Calls.Retaining.{RetainsEntries, CallableOnEachEntry, RetainsInStorage}
+pub use Rattle.prefix_trie_bits.specs.Calls.Retaining.{RetainsEntries, RetainsEntriesTo, CallableOnEachEntry, RetainsInStorage}
 pub use Rattle.prefix_trie_bits.specs.Calls.Blocks.{AreBlocksOf, HasBlock, NodesHaveBlocks, Tiles}
 pub use Rattle.prefix_trie_bits.specs.Model.Blocks.{KeepsBlocks, Layout, LongerByOne, MakesAtMost, MakesBlocks, Sizes, SizesStepBetween, SizesStepDown, StepsBetween, StepsDown, child_block_count, child_block_sizes, child_count, free_of, made_of, no_layout, one_of, own_entries, smallest_size, used_of, value_block_count, value_block_sizes}
 pub use Rattle.prefix_trie_bits.specs.Calls.Entries.{AreWithin, part_below}

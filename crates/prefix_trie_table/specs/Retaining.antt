@@ -6,7 +6,7 @@ use Rattle.prefix_trie_bits.specs.Model.Bits.{begins}
 use Rattle.prefix_trie_bits.specs.Model.Order.{same_string}
 use Rattle.prefix_trie_bits.specs.Places.{is_in, place_of}
 use Rattle.prefix_trie_bits.specs.declared.node.Place.{Place}
-use Rattle.prefix_trie_bits.specs.Calls.Retaining.{RetainsEntries, CallableOnEachEntry}
+use Rattle.prefix_trie_bits.specs.Calls.Retaining.{RetainsEntriesTo, CallableOnEachEntry}
 use Rattle.prefix_trie_bits.specs.Model.Entries.{Entries, without_below}
 use Rattle.prefix_trie_bits.specs.Calls.NodeListings.{listing_at_places}
 use Rattle.prefix_trie_bits.specs.Model.Nodes.{Nodes, has_node, needed}
@@ -97,8 +97,8 @@ module _ {F T : Type 0} (may_return : F → List Bool → T → Bool → F → T
   -- The nodes under these places that no remaining key needs are removed. Everything else is unchanged.
   pub record Retains (s : List Bool) (ts : List (List Bool)) (f : F) (before : State T) (f' : F) (after : State T) : Type 0 where
     pub kept : List (List Bool × T)
-    pub asked : (rest later : List (List Bool × T)) → RetainsEntries may_return f' rest later →
-        RetainsEntries may_return f (listing_at_places before.entries s ts ++ rest) (kept ++ later)
+    pub asked : (rest later : List (List Bool × T)) (g : F) → RetainsEntriesTo may_return f' rest later g →
+        RetainsEntriesTo may_return f (listing_at_places before.entries s ts ++ rest) (kept ++ later) g
     pub up_to : AsksUpTo may_return f (listing_at_places before.entries s ts) f'
     pub may_ask : (rest : List (List Bool × T)) → CallableOnEachEntry may_return accepts f (listing_at_places before.entries s ts ++ rest) →
         CallableOnEachEntry may_return accepts f' rest
@@ -132,10 +132,10 @@ module _ {F T : Type 0} (may_return : F → List Bool → T → Bool → F → T
     pub trie : IsTrie width count v w (record { entries = without_below before.entries q; nodes = left })
     pub up_to : AsksUpTo may_return f (listing_below before.entries q) f'
 
-  -- the test was called on each entry of these arrays, in listing order
+  -- the test was called on each entry of these arrays, in listing order, and left in the state f'
   -- The arrays now have the entries for which it returned true, and the nodes that these need.
-  pub record RetainsAll (width : ℕ) (f : F) (before : State T) (count : ℕ) (v : Store Node) (w : Store (Option T)) : Type 0 where
+  pub record RetainsAll (width : ℕ) (f : F) (before : State T) (f' : F) (count : ℕ) (v : Store Node) (w : Store (Option T)) : Type 0 where
     pub after : State T
     pub trie : IsTrie width count v w after
-    pub asked : RetainsEntries may_return f (listing before.entries) (listing after.entries)
+    pub asked : RetainsEntriesTo may_return f (listing before.entries) (listing after.entries) f'
     pub tidy : after.nodes ≡ needed after.entries

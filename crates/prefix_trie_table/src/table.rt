@@ -34,7 +34,7 @@ pub mod walk_start;
 ghost use Rattle.std.specs.Prelude.{◌≡◌, ◌+◌, ◌^◌, ◌<◌, ◌≤◌, ℕ, cond, take, length, IfOk, IfErr, IsErr, ◌↔◌, MatchOption, None, Some};
 ghost use Rattle.std.specs.Option.{option_copied};
 ghost use Rattle.std.specs.FinMap.{get, len};
-ghost use Rattle.prefix_trie_bits.specs.Calls.Retaining.{CallableOnEachEntry, RetainsInStorage};
+ghost use Rattle.prefix_trie_bits.specs.Calls.Retaining.{CallableOnEachEntry, RetainsEntriesTo, RetainsInStorage};
 ghost use Rattle.prefix_trie_bits.specs.Model.Entries.{no_entries};
 ghost use Rattle.prefix_trie_bits.specs.Calls.Entries.{AreWithin};
 ghost use Rattle.prefix_trie_bits.specs.Calls.SplitsOff.{SplitsOffInStorage};
@@ -392,6 +392,7 @@ impl<T: Drop, A: Allocator, V: VisitCounter> Table<T, A, V> {
     }
 
     /// Calls a test with each entry, in listing order, and removes the entries for which it returns `false`.
+    /// The test is left in the state after the last call.
     ///
     /// Then all nodes that no remaining entry needs are removed. It never fails: the values of a node move to a smaller
     /// block only if one is free or can be made. So each node that there was makes at most one block of each smaller
@@ -400,12 +401,14 @@ impl<T: Drop, A: Allocator, V: VisitCounter> Table<T, A, V> {
     /// Requires that no key is longer than the width of `K`, that the nodes are such as the keys need, as in every map,
     /// and that the test may be called.
     #[inline]
-    pub fn retain<K: Key, F: Keep<K, T, V>>(&mut self, keep: F, counter: &mut V)
+    pub fn retain<K: Key, F: Keep<K, T, V>>(&mut self, keep: &mut F, counter: &mut V)
         requires within { AreWithin K.bit_width self.old.entries }
         requires nodes { AreNodes K.bit_width self.old.entries self.old.nodes }
-        requires may_ask { CallableOnEachEntry F.may_return F.accepts keep
+        requires may_ask { CallableOnEachEntry F.may_return F.accepts keep.old
             (listing self.old.entries) }
-        ensures step { RetainsInStorage F.may_return keep (stored_state self.old)
+        ensures kept { RetainsEntriesTo F.may_return keep.old (listing self.old.entries)
+            (listing self.new.entries) keep.new }
+        ensures step { RetainsInStorage F.may_return keep.old (stored_state self.old)
             (stored_state self.new) }
         ensures fits { AreWithin K.bit_width self.new.entries }
         ensures bounds_growth { BoundsStorageGrowth (storage self.old) (storage self.new) }

@@ -1,5 +1,5 @@
 -- `retain` calls its test on each entry in order: which entries are kept, and that they stay sorted.
-use Rattle.prefix_trie_bits.proofs.Prelude.{◌≡◌, Bool, true, false, List, [], ◌∷◌, ap, sym, ◌∙◌, subst, filter, cond, is_lt, ◌&&◌, below_all, listing_cmp, RetainsEntries, CallableOnEachEntry}
+use Rattle.prefix_trie_bits.proofs.Prelude.{◌≡◌, Bool, true, false, List, [], ◌∷◌, ap, sym, ◌∙◌, subst, filter, cond, is_lt, ◌&&◌, below_all, listing_cmp, RetainsEntries, RetainsEntriesTo, CallableOnEachEntry}
 use lib.Dec.{T as IsT}
 use Rattle.prefix_trie_bits.proofs.Model.Members.{and-first, and-second, and-join}
 use Rattle.prefix_trie_bits.proofs.Model.Ordered.{t-true, true-t}
@@ -9,6 +9,11 @@ module _ {F T : Type 0} (may_return : F → List Bool → T → Bool → F → T
   pub may_ask_always : (accepts : F → List Bool → T → Type 0) (f : F) (es : List (List Bool × T)) → ((f' : F) (k : List Bool) (v : T) → accepts f' k v) → CallableOnEachEntry may_return accepts f es
   may_ask_always accepts f [] always = tt
   may_ask_always accepts f (e ∷ es) always = (always f e.0 e.1, λ b f' called. may_ask_always accepts f' es always)
+
+  -- what a test keeps, without the state in which the last call leaves it
+  pub retains-from_to : (f : F) (es kept : List (List Bool × T)) (g : F) → RetainsEntriesTo may_return f es kept g → RetainsEntries may_return f es kept
+  retains-from_to f [] kept g h = h.0
+  retains-from_to f (e ∷ es) kept g (b, f', later, called, rest, is) = (b, f', later, called, retains-from_to f' es later g rest, is)
 
   -- a test that returns p of the entry and has no state keeps what `filter p` keeps
   pub keeps_filter : (p : List Bool × T → Bool) (f : F) (es kept : List (List Bool × T)) → ((e : List Bool × T) (b : Bool) (f' : F) → may_return f e.0 e.1 b f' → (b ≡ p e) × (f' ≡ f))

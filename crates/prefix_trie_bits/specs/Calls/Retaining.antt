@@ -18,6 +18,12 @@ module _ {F T : Type 0} (may_return : F → List Bool → T → Bool → F → T
   RetainsEntries f (e ∷ es) kept =
       (b : Bool) × (f' : F) × (later : List (List Bool × T)) × may_return f e.0 e.1 b f' × RetainsEntries f' es later × (kept ≡ cond b (e ∷ later) later)
 
+  -- the same, and the last call leaves the test in the state g
+  abbrev pub RetainsEntriesTo : F → List (List Bool × T) → List (List Bool × T) → F → Type 0
+  RetainsEntriesTo f [] kept g = (kept ≡ []) × (g ≡ f)
+  RetainsEntriesTo f (e ∷ es) kept g =
+      (b : Bool) × (f' : F) × (later : List (List Bool × T)) × may_return f e.0 e.1 b f' × RetainsEntriesTo f' es later g × (kept ≡ cond b (e ∷ later) later)
+
   -- the test may be called on each entry in order, whatever the calls before returned
   abbrev pub CallableOnEachEntry : (F → List Bool → T → Type 0) → F → List (List Bool × T) → Type 0
   CallableOnEachEntry accepts f [] = ⊤

@@ -1,5 +1,5 @@
 -- What is left of a table after a test returned false for each entry under a bit string.
-use Rattle.prefix_trie_table.proofs.Prelude.{◌≡◌, ◌↔◌, ℕ, ◌+◌, ◌*◌, ◌/◌, ◌<◌, ◌≤◌, Bool, true, false, cond, not, ◌&&◌, ◌||◌, ◌==◌, nat_lt, List, [], ◌∷◌, ◌++◌, length, take, drop, Option, None, Some, is_some, refl, sym, ap, ap₂, ◌∙◌, subst, arith, inl, inr, bit_and, append-nil, append_assoc, length-append, length-drop, false≢true, cases_Bool, cases_lt, le-ltb, append_cancel_left, All-weaker, All-contains_itself, list_any_at, get, find, get-entries, begins, number, digits, digits-number, begins-refl, begins-length, begins-linear, begins-longer, begins-rest, begins-from-rest, begins-same-length, begins-trans, listing_cmp, same_string, HoldsValues, HoldsChildren, is_in, RetainsEntries, Entries, part_below, without_entry, without_below, Nodes, has_node, home, is_node_depth, pruned, nodes_not_below, nodes_without, nodes_without_below, pair_of, listing_at_place, listing_at_places, listing_below, State, is_in-and, home-begins, home-depth, home-length, or-cases, and-join, and-second, same_string-is, is-same_string, has-retained, get-part_below, get-without_entry, get-without_below, same_entries, same_members, entries-retained, Node, chunks_of, read, below, Store, is_at, is_at_some, is_under, is_under_some, Retains, IsTrie}
+use Rattle.prefix_trie_table.proofs.Prelude.{◌≡◌, ◌↔◌, ℕ, ◌+◌, ◌*◌, ◌/◌, ◌<◌, ◌≤◌, Bool, true, false, cond, not, ◌&&◌, ◌||◌, ◌==◌, nat_lt, List, [], ◌∷◌, ◌++◌, length, take, drop, Option, None, Some, is_some, refl, sym, ap, ap₂, ◌∙◌, subst, arith, inl, inr, bit_and, append-nil, append_assoc, length-append, length-drop, false≢true, cases_Bool, cases_lt, le-ltb, append_cancel_left, All-weaker, All-contains_itself, list_any_at, get, find, get-entries, begins, number, digits, digits-number, begins-refl, begins-length, begins-linear, begins-longer, begins-rest, begins-from-rest, begins-same-length, begins-trans, listing_cmp, same_string, HoldsValues, HoldsChildren, is_in, RetainsEntriesTo, Entries, part_below, without_entry, without_below, Nodes, has_node, home, is_node_depth, pruned, nodes_not_below, nodes_without, nodes_without_below, pair_of, listing_at_place, listing_at_places, listing_below, State, is_in-and, home-begins, home-depth, home-length, or-cases, and-join, and-second, same_string-is, is-same_string, has-retained, get-part_below, get-without_entry, get-without_below, same_entries, same_members, entries-retained, Node, chunks_of, read, below, Store, is_at, is_at_some, is_under, is_under_some, Retains, IsTrie}
 use Rattle.std.specs.List.{All, Contains}
 use Rattle.std.proofs.lemmas.Bool.{lt-ltb}
 use Rattle.prefix_trie_table.proofs.Strings.Plain.{fifth_more, no_or_yes, whole_more}
@@ -77,15 +77,15 @@ module _ {T : Type 0} where
     pub nodes : after.nodes ≡ nodes_not_below before.nodes q
 
 module _ {F T : Type 0} (may_return : F → List Bool → T → Bool → F → Type 0) (no : (f : F) (k : List Bool) (x : T) (b : Bool) (g : F) → may_return f k x b g → b ≡ false) where
-  none_kept : (f : F) (es kept : List (List Bool × T)) → RetainsEntries may_return f es kept → kept ≡ []
-  none_kept f [] kept h = h
-  none_kept f (e ∷ es) kept h = h.5 ∙ ap (λ b. cond b (e ∷ h.2) h.2) (no f e.0 e.1 h.0 h.1 h.3) ∙ none_kept h.1 es h.2 h.4
+  none_kept : (f : F) (es kept : List (List Bool × T)) (g : F) → RetainsEntriesTo may_return f es kept g → kept ≡ []
+  none_kept f [] kept g h = h.0
+  none_kept f (e ∷ es) kept g h = h.5 ∙ ap (λ b. cond b (e ∷ h.2) h.2) (no f e.0 e.1 h.0 h.1 h.3) ∙ none_kept h.1 es h.2 g h.4
 
   module _ (accepts : F → List Bool → T → Type 0) (q : List Bool) (ts : List (List Bool)) (f g : F) (before after : State T)
       (retains : Retains may_return accepts (home q) ts f before g after) (are : AreBelow q ts before) where
     none_there : (k : List Bool) → is_at_some (home q) ts k ≡ true → get after.entries k ≡ None
     none_there k at =
-        let kept : retains.kept ≡ [] = sym (append-nil retains.kept) ∙ none_kept f (listing_at_places before.entries (home q) ts ++ []) (retains.kept ++ []) (retains.asked [] [] refl) in
+        let kept : retains.kept ≡ [] = sym (append-nil retains.kept) ∙ none_kept f (listing_at_places before.entries (home q) ts ++ []) (retains.kept ++ []) g (retains.asked [] [] g (refl, refl)) in
         places_none after.entries (home q) ts k (retains.stays ∙ kept) at
 
     entry_is : (k : List Bool) → get after.entries k ≡ get (without_below before.entries q) k

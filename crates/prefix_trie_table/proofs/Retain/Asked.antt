@@ -1,6 +1,6 @@
 -- Calling a test on the entries of some places of a node, and then on those of others, is calling it on the entries of
 -- all of them.
-use Rattle.prefix_trie_table.proofs.Prelude.{◌≡◌, ◌+◌, ◌≤◌, take, drop, length-drop, take-append-drop, Bool, true, false, cond, ◌||◌, nat_lt, List, [], ◌∷◌, ◌++◌, length, None, is_some, refl, sym, ap, ap₂, ◌∙◌, subst, arith, inl, inr, append_assoc, length-append, Less, AllByRecursion, All-head, All-tail, IsStrictlySortedBy, false≢true, cases_lt, le-ltb, append_cancel_left, list_any-append, get, entries, begins, begins-append, begins-refl, begins-rest, begins-from-rest, begins-length, begins-trans, begins-linear, begins-same-length, listing_cmp, same_string, RetainsEntries, CallableOnEachEntry, Entries, part_below, listing_below, pair_of, listing_at_place, listing_at_places, State, or-cases, or-left, or-right, same_string-is, is-same_string, get-part_below, same_entries, entries-retained, not_itself, is_at, is_at_some, is_under, is_under_some, Needs, AsksUpTo, Retains, or_parts}
+use Rattle.prefix_trie_table.proofs.Prelude.{◌≡◌, ◌+◌, ◌≤◌, take, drop, length-drop, take-append-drop, Bool, true, false, cond, ◌||◌, nat_lt, List, [], ◌∷◌, ◌++◌, length, None, is_some, refl, sym, ap, ap₂, ◌∙◌, subst, arith, inl, inr, append_assoc, length-append, Less, AllByRecursion, All-head, All-tail, IsStrictlySortedBy, false≢true, cases_lt, le-ltb, append_cancel_left, list_any-append, get, entries, begins, begins-append, begins-refl, begins-rest, begins-from-rest, begins-length, begins-trans, begins-linear, begins-same-length, listing_cmp, same_string, RetainsEntriesTo, CallableOnEachEntry, Entries, part_below, listing_below, pair_of, listing_at_place, listing_at_places, State, or-cases, or-left, or-right, same_string-is, is-same_string, get-part_below, same_entries, entries-retained, not_itself, is_at, is_at_some, is_under, is_under_some, Needs, AsksUpTo, Retains, or_parts}
 use Rattle.std.specs.List.{All}
 use Rattle.std.proofs.lemmas.Bool.{lt-ltb}
 use Rattle.std.proofs.lemmas.Grind.{flat_map-append}
@@ -154,7 +154,7 @@ module _ {F T : Type 0} (may_return : F → List Bool → T → Bool → F → T
   pub none_asked : (s : List Bool) (f : F) (x : State T) → Retains may_return accepts s [] f x f x
   none_asked s f x = record {
     kept = [];
-    asked = λ rest later h. h;
+    asked = λ rest later g h. h;
     up_to = refl;
     may_ask = λ rest h. h;
     stays = refl;
@@ -214,10 +214,10 @@ module _ {F T : Type 0} (may_return : F → List Bool → T → Bool → F → T
     pub asked_both : Retains may_return accepts s (ts ++ us) f x h z
     asked_both = record {
       kept = first.kept ++ second.kept;
-      asked = λ rest later after.
-          subst (λ es. RetainsEntries may_return f es ((first.kept ++ second.kept) ++ later)) (sym (spread rest))
-          (subst (RetainsEntries may_return f (listing_at_places x.entries s ts ++ (listing_at_places y.entries s us ++ rest))) (sym (append_assoc first.kept second.kept later))
-          (first.asked (listing_at_places y.entries s us ++ rest) (second.kept ++ later) (second.asked rest later after)));
+      asked = λ rest later last after.
+          subst (λ es. RetainsEntriesTo may_return f es ((first.kept ++ second.kept) ++ later) last) (sym (spread rest))
+          (subst (λ es. RetainsEntriesTo may_return f (listing_at_places x.entries s ts ++ (listing_at_places y.entries s us ++ rest)) es last) (sym (append_assoc first.kept second.kept later))
+          (first.asked (listing_at_places y.entries s us ++ rest) (second.kept ++ later) last (second.asked rest later last after)));
       up_to =
           subst (λ es. AsksUpTo may_return f es h) (ap (λ es. listing_at_places x.entries s ts ++ es) later_same ∙ sym (both_places x.entries))
           (up_to_both f g h (listing_at_places x.entries s ts) (listing_at_places y.entries s us) first.up_to second.up_to);

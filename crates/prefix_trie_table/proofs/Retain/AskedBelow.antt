@@ -1,5 +1,5 @@
 -- Calling a test on one value, on all places of a node, and on what is under a child: for the loop of `retain`.
-use Rattle.prefix_trie_table.proofs.Prelude.{◌≡◌, ℕ, ◌+◌, ◌%◌, ◌≤◌, Bool, true, false, cond, ◌||◌, List, [], ◌∷◌, ◌++◌, length, take, drop, get_or, None, Some, refl, sym, ap, ◌∙◌, subst, arith, inl, inr, append-nil, false≢true, cases_Bool, true_from_ne_false, Contains-get_or, list_any_at, get, begins, begins-refl, begins-append, begins-length, begins-same-length, same_string, is_in, places, RetainsEntries, CallableOnEachEntry, Entries, without_entry, listing, listing_below, listing_at_place, listing_at_places, Nodes, AreNodes, has_node, needed, State, get-without_entry, same_string-is, is-same_string, same_nodes, needs_root, listing_by_node_places, listing_at_value, listing_at_no_value, listing_at_child, listing_of_root, is_at, is_at_some, is_under, is_under_some, Needs, AsksUpTo, Retains, or_parts}
+use Rattle.prefix_trie_table.proofs.Prelude.{◌≡◌, ℕ, ◌+◌, ◌%◌, ◌≤◌, Bool, true, false, cond, ◌||◌, List, [], ◌∷◌, ◌++◌, length, take, drop, get_or, None, Some, refl, sym, ap, ◌∙◌, subst, arith, inl, inr, append-nil, false≢true, cases_Bool, true_from_ne_false, Contains-get_or, list_any_at, get, begins, begins-refl, begins-append, begins-length, begins-same-length, same_string, is_in, places, RetainsEntriesTo, CallableOnEachEntry, Entries, without_entry, listing, listing_below, listing_at_place, listing_at_places, Nodes, AreNodes, has_node, needed, State, get-without_entry, same_string-is, is-same_string, same_nodes, needs_root, listing_by_node_places, listing_at_value, listing_at_no_value, listing_at_child, listing_of_root, is_at, is_at_some, is_under, is_under_some, Needs, AsksUpTo, Retains, or_parts}
 use Rattle.std.specs.List.{All, Contains}
 use Rattle.prefix_trie_bits.proofs.Model.Members.{needs}
 use Rattle.prefix_trie_table.proofs.Strings.Plain.{fifth_more, no_or_yes}
@@ -20,7 +20,7 @@ module _ {F T : Type 0} (may_return : F → List Bool → T → Bool → F → T
   pub value_stays : (f g : F) → may_return f (s ++ t) v true g → Retains may_return accepts s (t ∷ []) f x g x
   value_stays f g called = record {
     kept = (s ++ t, v) ∷ [];
-    asked = λ rest later after. subst (λ es. RetainsEntries may_return f (es ++ rest) ((s ++ t, v) ∷ later)) (sym value_here) (true, g, later, called, after, refl);
+    asked = λ rest later h after. subst (λ es. RetainsEntriesTo may_return f (es ++ rest) ((s ++ t, v) ∷ later) h) (sym value_here) (true, g, later, called, after, refl);
     up_to = subst (λ es. AsksUpTo may_return f es g) (sym value_here) (true, g, called, refl);
     may_ask = λ rest may. (subst (λ es. CallableOnEachEntry may_return accepts f (es ++ rest)) value_here may).1 true g called;
     stays = value_here;
@@ -34,7 +34,7 @@ module _ {F T : Type 0} (may_return : F → List Bool → T → Bool → F → T
   pub value_goes : (f g : F) → may_return f (s ++ t) v false g → Retains may_return accepts s (t ∷ []) f x g (record { entries = without_entry x.entries (s ++ t); nodes = x.nodes })
   value_goes f g called = record {
     kept = [];
-    asked = λ rest later after. subst (λ es. RetainsEntries may_return f (es ++ rest) later) (sym value_here) (false, g, later, called, after, refl);
+    asked = λ rest later h after. subst (λ es. RetainsEntriesTo may_return f (es ++ rest) later h) (sym value_here) (false, g, later, called, after, refl);
     up_to = subst (λ es. AsksUpTo may_return f es g) (sym value_here) (false, g, called, refl);
     may_ask = λ rest may. (subst (λ es. CallableOnEachEntry may_return accepts f (es ++ rest)) value_here may).1 false g called;
     stays =
@@ -123,8 +123,8 @@ module _ {F T : Type 0} (may_return : F → List Bool → T → Bool → F → T
     pub child_asked : Retains may_return accepts s (t ∷ []) f x g (record { entries = y.entries; nodes = later })
     child_asked = record {
       kept = retains.kept;
-      asked = λ rest after h.
-          subst (λ es. RetainsEntries may_return f (es ++ rest) (retains.kept ++ after)) (below_before ∙ sym (place_is x.entries)) (retains.asked rest after h);
+      asked = λ rest after last h.
+          subst (λ es. RetainsEntriesTo may_return f (es ++ rest) (retains.kept ++ after) last) (below_before ∙ sym (place_is x.entries)) (retains.asked rest after last h);
       up_to = subst (λ es. AsksUpTo may_return f es g) (below_before ∙ sym (place_is x.entries)) retains.up_to;
       may_ask = λ rest may. retains.may_ask rest (subst (λ es. CallableOnEachEntry may_return accepts f (es ++ rest)) (place_is x.entries ∙ sym below_before) may);
       stays = place_is y.entries ∙ sym below_after ∙ retains.stays;
@@ -148,12 +148,12 @@ module _ {F T : Type 0} (may_return : F → List Bool → T → Bool → F → T
     listing_is : (m : Entries T) → listing_below m c ≡ listing m
     listing_is m = ap (listing_below m) root ∙ listing_of_root m
 
-    pub asked_all : RetainsEntries may_return f (listing x.entries) (listing y.entries)
+    pub asked_all : RetainsEntriesTo may_return f (listing x.entries) (listing y.entries) g
     asked_all =
         let kept : retains.kept ≡ listing y.entries = sym retains.stays ∙ below_after ∙ listing_is y.entries in
         let items : listing_at_places x.entries c ts ++ [] ≡ listing x.entries = append-nil (listing_at_places x.entries c ts) ∙ below_before ∙ listing_is x.entries in
-        subst (λ es. RetainsEntries may_return f es (listing y.entries)) items
-        (subst (RetainsEntries may_return f (listing_at_places x.entries c ts ++ [])) (append-nil retains.kept ∙ kept) (retains.asked [] [] refl))
+        subst (λ es. RetainsEntriesTo may_return f es (listing y.entries) g) items
+        (subst (λ es. RetainsEntriesTo may_return f (listing_at_places x.entries c ts ++ []) es g) (append-nil retains.kept ∙ kept) (retains.asked [] [] g (refl, refl)))
 
     pub nodes_tidy : (width : ℕ) → AreNodes width y.entries y.nodes → y.nodes ≡ needed y.entries
     nodes_tidy width are = same_nodes y.nodes (needed y.entries) (λ q there. elim (cases_Bool (same_string q c)) as (λ _. has_node (needed y.entries) q ≡ true) [

@@ -23,7 +23,7 @@ module _ {K : Type 0} (IsKey : K → Type 0) (bits : K → List Bool) (width : �
       root_may_ask may = subst (CallableOnEachEntry may_return accepts f) (sym root_listing) may
 
       pub root_asked : (each : (u : List Bool) → Contains ts u → IsPlaceOf n u) → (every : (u : List Bool) → IsPlaceOf n u → Contains ts u) → (g : F) (count2 : ℕ) (v2 : Store Node)
-          (w2 : Store (Option T)) → RetainsTo may_return accepts width [] ts f s g count2 v2 w2 → RetainsAll may_return accepts width f s count2 v2 w2
+          (w2 : Store (Option T)) → RetainsTo may_return accepts width [] ts f s g count2 v2 w2 → RetainsAll may_return accepts width f s g count2 v2 w2
       root_asked each every g count2 v2 w2 to =
           let unset = nothing_at IsKey bits width v (record { slot = 0; key = key; depth = 0 }) n root_site long count w s trie in
           let bare = none_below_it IsKey bits width v (record { slot = 0; key = key; depth = 0 }) n root_site long count w s trie in

@@ -198,17 +198,16 @@ pub fn retain_entries<K: Key, T: Drop, A: Allocator, V: VisitCounter, F: Keep<K,
     nodes: &mut NodeAllocator<A, V>,
     cells: &mut Cells<T, A>,
     entries: &mut usize,
-    keep: F,
+    keep: &mut F,
     counter: &mut V,
 )
     requires trie { (s : State T) × IsTrie K.bit_width entries.old nodes.old cells.old s }
     requires may_ask { (s : State T) → IsTrie K.bit_width entries.old nodes.old cells.old s
-        → CallableOnEachEntry F.may_return F.accepts keep (listing s.entries) }
+        → CallableOnEachEntry F.may_return F.accepts keep.old (listing s.entries) }
     ensures kept { (s : State T) → IsTrie K.bit_width entries.old nodes.old cells.old s
-        → RetainsAll F.may_return F.accepts K.bit_width keep s entries.new nodes.new cells.new }
+        → RetainsAll F.may_return F.accepts K.bit_width keep.old s keep.new entries.new nodes.new cells.new }
     ensures preserves { PreservesBelow 0 nodes.old nodes.new cells.old cells.new }
 {
-    let mut keep = keep;
     let site = Site {
         slot: ROOT,
         key: K::zero(),
@@ -216,7 +215,5 @@ pub fn retain_entries<K: Key, T: Drop, A: Allocator, V: VisitCounter, F: Keep<K,
     };
     let root = nodes.visit(ROOT, counter);
     let places = Places::new(root.value_bitmap, root.child_bitmap);
-    retain_places(
-        nodes, cells, entries, &mut keep, site, root, places, counter,
-    );
+    retain_places(nodes, cells, entries, keep, site, root, places, counter);
 }

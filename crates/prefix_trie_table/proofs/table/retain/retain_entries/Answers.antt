@@ -30,11 +30,11 @@ retain_places-requires-clause-each g c =
 pub retain_places-requires-clause-may_ask : goal.retain_places-requires-clause-may_ask
 retain_places-requires-clause-may_ask g c = λ s trie.
     root_may_ask g.K.Key.IsKey g.K.Key.bits g.K.Key.bit_width c.args.nodes.now c.zero.result c.zero.ensures.key
-    c.visit-root.result c.visit-root.ensures.node (g.met.K.Key.key_laws.bits_length c.zero.result c.zero.ensures.key) c.args.entries.now c.args.cells.now s trie (to_come c.new-places.result) c.new-places.ensures.places g.F.Keep.may_return g.F.Keep.accepts c.args.keep (c.requires.may_ask s trie)
+    c.visit-root.result c.visit-root.ensures.node (g.met.K.Key.key_laws.bits_length c.zero.result c.zero.ensures.key) c.args.entries.now c.args.cells.now s trie (to_come c.new-places.result) c.new-places.ensures.places g.F.Keep.may_return g.F.Keep.accepts c.args.keep.now (c.requires.may_ask s trie)
 
 pub returns-clause-kept : goal.returns-clause-kept
 returns-clause-kept g c = λ s trie.
     root_asked g.K.Key.IsKey g.K.Key.bits g.K.Key.bit_width c.args.nodes.now c.zero.result c.zero.ensures.key
-    c.visit-root.result c.visit-root.ensures.node (g.met.K.Key.key_laws.bits_length c.zero.result c.zero.ensures.key) c.args.entries.now c.args.cells.now s trie (to_come c.new-places.result) c.new-places.ensures.places g.F.Keep.may_return g.F.Keep.accepts c.args.keep
+    c.visit-root.result c.visit-root.ensures.node (g.met.K.Key.key_laws.bits_length c.zero.result c.zero.ensures.key) c.args.entries.now c.args.cells.now s trie (to_come c.new-places.result) c.new-places.ensures.places g.F.Keep.may_return g.F.Keep.accepts c.args.keep.now
     (λ u m. (c.new-places.ensures.each u).0 m) (λ u m. (c.new-places.ensures.each u).1 m) c.retain_places.new.keep c.retain_places.new.entries
     c.retain_places.new.nodes c.retain_places.new.cells (c.retain_places.ensures.retains s trie)
