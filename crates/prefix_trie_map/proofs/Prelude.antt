@@ -38,7 +38,7 @@ pub use Rattle.prefix_trie_bits.specs.Model.Keys.{KeyLaws, PrefixLaws}
 pub use Rattle.prefix_trie_bits.specs.Keys.{back_from_bits, fits_back, path_back, path_within}
 pub use Rattle.prefix_trie_bits.specs.Laws.Steps.{IsMap}
 pub use Rattle.prefix_trie_bits.specs.Model.Addresses.{address_total}
-pub use Rattle.prefix_trie_bits.specs.Calls.Retaining.{CallableOnEachEntry, RetainsInStorage}
+pub use Rattle.prefix_trie_bits.specs.Calls.Retaining.{CallableOnEachEntry, RetainsEntriesTo, RetainsInStorage}
 pub use Rattle.prefix_trie_bits.specs.Calls.Entries.{AreWithin, put_all}
 pub use Rattle.prefix_trie_bits.specs.Model.Entries.{Entries, no_entries, with_entry}
 pub use Rattle.prefix_trie_bits.specs.Calls.SplitsOff.{SplitsOffInStorage}
@@ -73,7 +73,7 @@ pub use Rattle.prefix_trie_table.specs.Walking.Cursors.{GivesKey, IsCursorIn, Is
 pub use Rattle.prefix_trie_table.specs.declared.allocator.node.Node.{Node}
 pub use Rattle.prefix_trie_table.specs.declared.table.bulk.Found.{Found}
 pub use Rattle.prefix_trie_table.specs.declared.table.cursor.Cursor.{Cursor}
-pub use Rattle.prefix_trie_map.specs.Calling.{CalledAtEntry, TakesEntry}
+pub use Rattle.prefix_trie_map.specs.Calling.{CalledAtEntry, CalledByReference, TakesEntry}
 pub use Rattle.prefix_trie_map.specs.Bulk.{HaveMatches, AreFound, ReadsMore, right_for, visits_of_all}
 pub use Rattle.prefix_trie_map.specs.Collected.{ManyMayPassLimit, Puts}
 pub use Rattle.prefix_trie_map.specs.Copied.{CopyLaws}
