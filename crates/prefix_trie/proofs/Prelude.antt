@@ -43,7 +43,7 @@ pub use Rattle.prefix_trie_bits.specs.Keys.{fits_back, len_back, narrow_width, p
 pub use Rattle.prefix_trie_bits.specs.Laws.Nodes.{NodeLaws}
 pub use Rattle.prefix_trie_bits.specs.Laws.Pruning.{PruningLaws}
 pub use Rattle.prefix_trie_bits.specs.Laws.Steps.{IsMap}
-pub use Rattle.prefix_trie_bits.specs.Calls.Retaining.{RetainsEntries, CallableOnEachEntry, RetainsInStorage}
+pub use Rattle.prefix_trie_bits.specs.Calls.Retaining.{RetainsEntries, RetainsEntriesTo, CallableOnEachEntry, RetainsInStorage}
 pub use Rattle.prefix_trie_bits.specs.Model.Counted.{CountedFrom, CountedRun}
 pub use Rattle.prefix_trie_bits.specs.Calls.Entries.{AreWithin, put_all}
 pub use Rattle.prefix_trie_bits.specs.Model.Entries.{Entries, no_entries, with_entry, without_entry}

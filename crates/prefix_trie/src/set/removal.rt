@@ -1,7 +1,7 @@
 //! Removing keys of a set.
 ghost use Rattle.std.specs.Prelude.{◌≡◌};
 ghost use Rattle.std.specs.FinMap.{contains_key};
-ghost use Rattle.prefix_trie_bits.specs.Calls.Retaining.{RetainsEntries, CallableOnEachEntry, RetainsInStorage};
+ghost use Rattle.prefix_trie_bits.specs.Calls.Retaining.{RetainsEntries, RetainsEntriesTo, CallableOnEachEntry, RetainsInStorage};
 ghost use Rattle.prefix_trie_bits.specs.Model.Entries.{no_entries, without_entry, without_below};
 ghost use Rattle.prefix_trie_bits.specs.Model.Nodes.{root_alone, needed, nodes_without, nodes_without_below};
 ghost use Rattle.prefix_trie_bits.specs.Model.Selections.{listing};
@@ -136,7 +136,7 @@ impl<P: Prefix, A: Allocator> PrefixSet<P, A> {
     /// set.retain(|prefix| prefix.prefix_len() < 20);
     /// set.iter();     // [10.0.0.0/8, 10.1.0.0/16]
     /// ```
-    pub fn retain<F: FnMut(&P) -> bool>(&mut self, mut test: F)
+    pub fn retain<F: FnMut(&P) -> bool>(&mut self, test: F)
         requires { CallableOnEachEntry (CalledAtKey F.FnMut P.back) (TakesKey F.FnMut P.back) test
             (listing self.old.entries) }
         ensures whole { IsWhole P.R.bit_width self.old }
@@ -148,10 +148,46 @@ impl<P: Prefix, A: Allocator> PrefixSet<P, A> {
         ensures step { RetainsInStorage (CalledAtKey F.FnMut P.back) test (stored_state self.old)
             (stored_state self.new) }
     {
-        self.map.retain(
-            move |prefix: &P, _value: &()|
-                requires { F.pre test prefix }
-            { test(prefix) },
-        );
+        let mut test = test;
+        self.retain_by_ref(&mut test);
+    }
+
+    /// Calls a test with each key as `retain` does, and leaves the test in the state after the last call.
+    ///
+    /// So several sets can share one test and its state.
+    ///
+    /// Requires that the test may be called with each key, from each state in which the calls before may have left it.
+    /// This always holds for a closure without a `requires`.
+    ///
+    /// # Examples
+    ///
+    /// ```rust
+    /// // set = {10.0.0.0/8, 10.1.0.0/16}
+    /// // other = {10.2.0.0/16}
+    /// let mut called = false;
+    /// let mut all_but_first = |_: &Ipv4Prefix| std::mem::replace(&mut called, true);
+    /// set.retain_by_ref(&mut all_but_first);
+    /// other.retain_by_ref(&mut all_but_first);
+    /// set.iter();         // [10.1.0.0/16]
+    /// other.iter();       // [10.2.0.0/16]: the test was called before
+    /// ```
+    pub fn retain_by_ref<F: FnMut(&P) -> bool>(&mut self, test: &mut F)
+        requires { CallableOnEachEntry (CalledAtKey F.FnMut P.back) (TakesKey F.FnMut P.back)
+            test.old (listing self.old.entries) }
+        ensures whole { IsWhole P.R.bit_width self.old }
+
+        // `test.new` is the state after the last call.
+        ensures kept { RetainsEntriesTo (CalledAtKey F.FnMut P.back) test.old
+            (listing self.old.entries) (listing self.new.entries) test.new }
+        ensures nodes { self.new.nodes ≡ needed self.new.entries }
+
+        // It is a step of the model and its storage, on a map of units.
+        ensures step { RetainsInStorage (CalledAtKey F.FnMut P.back) test.old
+            (stored_state self.old) (stored_state self.new) }
+    {
+        let mut by_key = |prefix: &P, _value: &()|
+            requires { F.pre test.now prefix }
+        { test(prefix) };
+        self.map.retain_by_ref(&mut by_key);
     }
 }

@@ -1,5 +1,4 @@
 -- The table calls the test through the reference of the adapter, so its calls are calls of the test.
-use Rattle.prefix_trie_map.proofs.Prelude.{RetainsEntriesTo, RetainsInStorage, CalledAtEntry, CalledByReference}
 use Rattle.prefix_trie_map.proofs.Calling.{may_ask_by_reference, retains_by_reference, step_by_reference}
 use Rattle.prefix_trie_map.proofs.map.retain.retain_in_table.Goals as goal
 

@@ -1,5 +1,5 @@
 -- The test is called with the prefix that is rebuilt from the key, and its result decides.
-use Rattle.prefix_trie_map.proofs.Prelude.{◌≡◌, Bool, refl, ap, ◌∙◌, subst, CalledByReference}
+use Rattle.prefix_trie_map.proofs.Prelude.{Bool, refl, ap, ◌∙◌, subst, CalledByReference}
 use Rattle.prefix_trie_map.proofs.map.retain.ByPrefixKeepR.keeps.Goals as goal
 
 pub returns : goal.returns
