@@ -60,12 +60,10 @@ fn add_child<A: Allocator, V: VisitCounter>(
     nodes.put(
         at,
         Node {
-            value_bitmap: node.value_bitmap,
             child_bitmap,
-            value_block: node.value_block,
             child_block: block.start,
-            value_tier: node.value_tier,
             child_tier: block.tier as u8,
+            ..*node
         },
     );
     block.start as usize + offset as usize
@@ -111,11 +109,9 @@ fn add_value<T: Drop, A: Allocator, V: VisitCounter>(
         at,
         Node {
             value_bitmap,
-            child_bitmap: node.child_bitmap,
             value_block: block.start,
-            child_block: node.child_block,
             value_tier: block.tier as u8,
-            child_tier: node.child_tier,
+            ..*node
         },
     );
     Seat {

@@ -88,11 +88,9 @@ pub fn take_value<T: Drop, A: Allocator, V: VisitCounter>(
     );
     let left = Node {
         value_bitmap: without_bit(node.value_bitmap, bit),
-        child_bitmap: node.child_bitmap,
         value_block: rest.start,
-        child_block: node.child_block,
         value_tier: rest.tier as u8,
-        child_tier: node.child_tier,
+        ..node
     };
     nodes.put(at, left);
     (value, left)
@@ -225,12 +223,10 @@ pub fn drop_child<A: Allocator, V: VisitCounter>(
         rank(node.child_bitmap, child),
     );
     let left = Node {
-        value_bitmap: node.value_bitmap,
         child_bitmap: without_bit(node.child_bitmap, child),
-        value_block: node.value_block,
         child_block: rest.start,
-        value_tier: node.value_tier,
         child_tier: rest.tier as u8,
+        ..node
     };
     nodes.put(at, left);
     left
