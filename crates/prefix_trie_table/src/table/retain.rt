@@ -205,7 +205,8 @@ pub fn retain_entries<K: Key, T: Drop, A: Allocator, V: VisitCounter, F: Keep<K,
     requires may_ask { (s : State T) → IsTrie K.bit_width entries.old nodes.old cells.old s
         → CallableOnEachEntry F.may_return F.accepts keep.old (listing s.entries) }
     ensures kept { (s : State T) → IsTrie K.bit_width entries.old nodes.old cells.old s
-        → RetainsAll F.may_return F.accepts K.bit_width keep.old s keep.new entries.new nodes.new cells.new }
+        → RetainsAll F.may_return F.accepts
+        K.bit_width keep.old s keep.new entries.new nodes.new cells.new }
     ensures preserves { PreservesBelow 0 nodes.old nodes.new cells.old cells.new }
 {
     let site = Site {
