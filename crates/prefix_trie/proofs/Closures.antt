@@ -1,5 +1,5 @@
 -- A closure that calls a test is called on an entry exactly as the test is: for `retain` of sets.
-use Rattle.prefix_trie.proofs.Prelude.{◌≡◌, Bool, List, [], ◌∷◌, ap, ◌∙◌, RetainsEntries, RetainsEntriesTo, CallableOnEachEntry, State, Storage, RetainsInStorage}
+use Rattle.prefix_trie.proofs.Prelude.{Bool, List, [], ◌∷◌, ap, RetainsEntries, RetainsEntriesTo, CallableOnEachEntry, State, Storage, RetainsInStorage}
 
 -- `test_of` is the test that the closure holds; each call of the closure is one call of that test
 module _ {F G T : Type 0} (may_return : F → List Bool → T → Bool → F → Type 0) (may_return' : G → List Bool → T → Bool → G → Type 0) (test_of : G → F)
@@ -19,12 +19,6 @@ module _ {F G T : Type 0} (may_return : F → List Bool → T → Bool → F →
   pub in_order_to : (g : G) (es kept : List (List Bool × T)) (g' : G) → RetainsEntriesTo may_return' g es kept g' → RetainsEntriesTo may_return (test_of g) es kept (test_of g')
   in_order_to g [] kept g' is = (is.0, ap test_of is.1)
   in_order_to g (e ∷ es) kept g' (b, next, later, asked, rest, is) = (b, test_of next, later, calls g e.0 e.1 b next asked, in_order_to next es later g' rest, is)
-
-  -- what no call changes of the closure is the same at the end
-  pub stays_to : {N : Type 0} (name_of : G → N) → ((g : G) (k : List Bool) (v : T) (b : Bool) (g' : G) → may_return' g k v b g' → name_of g' ≡ name_of g)
-      → (g : G) (es kept : List (List Bool × T)) (g' : G) → RetainsEntriesTo may_return' g es kept g' → name_of g' ≡ name_of g
-  stays_to name_of same g [] kept g' is = ap name_of is.1
-  stays_to name_of same g (e ∷ es) kept g' (b, next, later, asked, rest, is) = stays_to name_of same next es later g' rest ∙ same g e.0 e.1 b next asked
 
   -- `retain` keeps by the closure what it keeps by the test
   pub retains_by_test : (g : G) (s t : State T × Storage) → RetainsInStorage may_return' g s t → RetainsInStorage may_return (test_of g) s t

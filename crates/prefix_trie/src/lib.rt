@@ -12,8 +12,8 @@ pub mod replay;
 pub mod set;
 
 pub use prefix_trie_bits::prefix::{
-    Ipv4Prefix, Ipv6Prefix, Key, Narrow, ParseNarrowError, ParseNetworkError, Prefix, Refusal,
-    Refused,
+    Ipv4Prefix, Ipv4Subnets, Ipv6Prefix, Ipv6Subnets, Key, Narrow, ParseNarrowError,
+    ParseNetworkError, Prefix, Refusal, Refused,
 };
 pub use prefix_trie_map::map::{BlockCount, PrefixMap, Visits};
 pub use set::PrefixSet;

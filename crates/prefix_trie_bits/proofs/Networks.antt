@@ -2,3 +2,4 @@
 pub mod Ends
 pub mod Parents
 pub mod Order
+pub mod Subnets

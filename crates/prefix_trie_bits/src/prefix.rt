@@ -17,7 +17,7 @@ mod refusals;
 
 pub use bit_string::BitString;
 pub use narrow::{Narrow, ParseNarrowError};
-pub use networks::{Ipv4Prefix, Ipv6Prefix, ParseNetworkError};
+pub use networks::{Ipv4Prefix, Ipv4Subnets, Ipv6Prefix, Ipv6Subnets, ParseNetworkError};
 
 /// A number that is read as a string of bits, the most significant first.
 ///

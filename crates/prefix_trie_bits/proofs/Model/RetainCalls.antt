@@ -15,6 +15,12 @@ module _ {F T : Type 0} (may_return : F → List Bool → T → Bool → F → T
   retains-from_to f [] kept g h = h.0
   retains-from_to f (e ∷ es) kept g (b, f', later, called, rest, is) = (b, f', later, called, retains-from_to f' es later g rest, is)
 
+  -- what no call changes of a test is the same after the last call
+  pub unchanged_to : {N : Type 0} (name_of : F → N) → ((f : F) (k : List Bool) (v : T) (b : Bool) (f' : F) → may_return f k v b f' → name_of f' ≡ name_of f)
+      → (f : F) (es kept : List (List Bool × T)) (g : F) → RetainsEntriesTo may_return f es kept g → name_of g ≡ name_of f
+  unchanged_to name_of same f [] kept g is = ap name_of is.1
+  unchanged_to name_of same f (e ∷ es) kept g (b, f', later, called, rest, is) = unchanged_to name_of same f' es later g rest ∙ same f e.0 e.1 b f' called
+
   -- a test that returns p of the entry and has no state keeps what `filter p` keeps
   pub keeps_filter : (p : List Bool × T → Bool) (f : F) (es kept : List (List Bool × T)) → ((e : List Bool × T) (b : Bool) (f' : F) → may_return f e.0 e.1 b f' → (b ≡ p e) × (f' ≡ f))
       → RetainsEntries may_return f es kept → kept ≡ filter p es

@@ -9,8 +9,10 @@ use crate::prefix::{Key, Prefix};
 use std::marker::Model;
 
 mod addresses;
+mod subnets;
 mod text;
 
+pub use subnets::{Ipv4Subnets, Ipv6Subnets};
 pub use text::ParseNetworkError;
 
 /// An IPv4 network: an address, with its host bits, and a length of at most 32.

@@ -70,7 +70,7 @@ impl Ipv4Prefix {
 
     /// Returns the highest address of the network: each host bit is 1.
     ///
-    /// It is the broadcast address of a network of at most 30 bits.
+    /// It is the broadcast address of an IPv4 network of at most 30 bits.
     ///
     /// # Examples
     ///
@@ -187,7 +187,7 @@ impl From<Ipv6Addr> for Ipv6Prefix {
 }
 
 // Returns the number with zeros in the first `len` bits and ones after them.
-fn host_u32(len: u8) -> u32
+pub(super) fn host_u32(len: u8) -> u32
     requires { len ≤ 32 }
     ensures { result ≡ 2 ^ (32 - len) - 1 }
 {
@@ -206,7 +206,7 @@ fn last_u32(addr: u32, len: u8) -> u32
 }
 
 // Returns the number with zeros in the first `len` bits and ones after them.
-fn host_u128(len: u8) -> u128
+pub(super) fn host_u128(len: u8) -> u128
     requires { len ≤ 128 }
     ensures { result ≡ 2 ^ (128 - len) - 1 }
 {
