@@ -14,5 +14,6 @@ pub mod Joint
 pub mod Removing
 pub mod Selecting
 pub mod Smallest
+pub mod SmallestSets
 pub mod Uppermost
 pub mod Walking

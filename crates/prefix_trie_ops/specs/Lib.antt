@@ -1,4 +1,4 @@
--- The definitions of this crate: union, intersection and difference, coverage, redundant entries, and loans.
+-- The definitions of this crate: union, intersection and difference, coverage, redundant entries, smallest maps and sets, and loans.
 pub mod Choosing
 pub mod Combining
 pub mod Covered
@@ -8,6 +8,7 @@ pub mod Merging
 pub mod Optimal
 pub mod Parts
 pub mod Smallest
+pub mod SmallestSets
 pub mod Values
 pub mod ValueSets
 pub mod Swapped

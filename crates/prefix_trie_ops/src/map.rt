@@ -8,10 +8,10 @@ mod optimal;
 mod sides;
 mod union_walk;
 
-pub use aggregation::aggregate_consistent;
+pub use aggregation::{aggregate_consistent, keep_marked, marks_of};
 pub use covering_difference_walk::{CoveringDifferenceWalk, Uncovered, covering_difference};
 pub use difference_walk::{DifferenceWalk, Missing, difference};
 pub use intersection_walk::{IntersectionWalk, intersection};
-pub use optimal::aggregate;
+pub use optimal::{aggregate, aggregated};
 pub use sides::Side;
 pub use union_walk::{UnionWalk, union};

@@ -44,8 +44,19 @@ pub fn aggregate_consistent<P: Prefix, T: PartialEq + Drop, A: Allocator, B: All
     Ok(())
 }
 
-/// Returns a mark for each entry, in listing order: whether it stays.
-fn marks_of<P: Prefix, T: PartialEq + Drop, A: Allocator, B: Allocator + Clone>(
+/// Returns a mark for each entry, in listing order: whether `aggregate_consistent` keeps it.
+///
+/// # Errors
+///
+/// Returns the allocator's error if an allocation fails.
+///
+/// # Examples
+///
+/// ```rust
+/// // map = {10.0.0.0/8: 1, 10.1.0.0/16: 1, 10.1.2.0/24: 2}
+/// marks_of(&map, alloc)?.as_slice();      // [true, false, true]
+/// ```
+pub fn marks_of<P: Prefix, T: PartialEq + Drop, A: Allocator, B: Allocator + Clone>(
     table: &PrefixMap<P, T, A>,
     alloc: B,
 ) -> Result<Vec<bool, B>, AllocError>
@@ -94,8 +105,16 @@ fn pop_apart<P: Prefix, T, B: Allocator>(above: &mut Vec<(P, &T), B>, prefix: &P
 }
 
 /// Keeps the entries that are marked. There is a mark for each entry, in listing order.
+///
+/// # Examples
+///
+/// ```rust
+/// // map = {10.0.0.0/8: 1, 10.1.0.0/16: 1, 10.1.2.0/24: 2}
+/// keep_marked(&mut map, &[true, false, true]);
+/// map.iter();     // [(10.0.0.0/8, 1), (10.1.2.0/24, 2)]
+/// ```
 #[tactic(auto, using(prefix_trie::proofs::Callers::may_ask_always))]
-fn keep_marked<P: Prefix, T: Drop, A: Allocator>(table: &mut PrefixMap<P, T, A>, marks: &[bool])
+pub fn keep_marked<P: Prefix, T: Drop, A: Allocator>(table: &mut PrefixMap<P, T, A>, marks: &[bool])
     ensures kept { (keep : List Bool × T → Bool) → marks.now ≡ map keep (listing table.old.entries)
         → listing table.new.entries ≡ filter keep (listing table.old.entries) }
     ensures nodes { table.new.nodes ≡ needed table.new.entries }

@@ -58,15 +58,29 @@ pub fn aggregate<P: Prefix, T: Copy + Ord, A: Allocator + Clone, B: Allocator>(
         → (s : List Bool) → is_redundant T.PartialEq.eq table.new.entries s ≡ false) }
     ensures unchanged { IfErr result (λ _. table.new ≡ table.old) }
 {
-    let made = rebuilt(table, &alloc)?;
+    let made = aggregated(table, alloc)?;
     *table = made;
     Ok(())
 }
 
-/// Returns the smallest map with the same full-width lookups, in memory of its own.
-fn rebuilt<P: Prefix, T: Copy + Ord, A: Allocator + Clone, B: Allocator>(
+/// Returns the map that `aggregate` would leave, in memory of its own.
+///
+/// The new map has clones of this map's allocators and its slot limit.
+///
+/// # Errors
+///
+/// Returns `Memory` if an allocation fails, and `IndexRange` if the new map exceeds the slot limit. No map exists then.
+///
+/// # Examples
+///
+/// ```rust
+/// // map = {10.0.0.0/9: 1, 10.128.0.0/9: 1, 10.64.0.0/10: 2}
+/// aggregated(&map, alloc)?.iter();    // [(10.0.0.0/8, 1), (10.64.0.0/10, 2)]
+/// map.len();                          // 3
+/// ```
+pub fn aggregated<P: Prefix, T: Copy + Ord, A: Allocator + Clone, B: Allocator>(
     table: &PrefixMap<P, T, A>,
-    alloc: &B,
+    alloc: B,
 ) -> Result<PrefixMap<P, T, A>, Refusal>
     ensures values { IfOk result (λ made. ((x y : T) → T.PartialEq.eq x y ≡ true → x ≡ y)
         → HaveSameAnswers P.R.bit_width made.entries table.now.entries) }
@@ -80,9 +94,9 @@ fn rebuilt<P: Prefix, T: Copy + Ord, A: Allocator + Clone, B: Allocator>(
     stored_laws::<T>();
     // The proof learns from it that no key is longer than the width.
     let _ = table.len();
-    let entries = copied(table, alloc)?;
+    let entries = copied(table, &alloc)?;
     let mut made = table.new_like()?;
-    place_all(entries.as_slice(), &mut made, alloc)?;
+    place_all(entries.as_slice(), &mut made, &alloc)?;
     Ok(made)
 }
 

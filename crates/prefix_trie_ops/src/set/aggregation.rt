@@ -45,8 +45,19 @@ pub fn aggregate_consistent<P: Prefix, A: Allocator, B: Allocator>(
     Ok(())
 }
 
-/// Returns a mark for each key, in listing order: whether it stays.
-fn marks_of<P: Prefix, A: Allocator, B: Allocator>(
+/// Returns a mark for each key, in listing order: whether `aggregate_consistent` keeps it.
+///
+/// # Errors
+///
+/// Returns the allocator's error if an allocation fails.
+///
+/// # Examples
+///
+/// ```rust
+/// // set = {10.0.0.0/8, 10.1.0.0/16, 11.0.0.0/8}
+/// marks_of(&set, alloc)?.as_slice();      // [true, false, true]
+/// ```
+pub fn marks_of<P: Prefix, A: Allocator, B: Allocator>(
     set: &PrefixSet<P, A>,
     alloc: B,
 ) -> Result<Vec<bool, B>, AllocError>
@@ -81,8 +92,16 @@ fn does_contain<P: Prefix>(covering: &Option<P>, prefix: &P) -> bool
 }
 
 /// Keeps the keys that are marked. There is a mark for each key, in listing order.
+///
+/// # Examples
+///
+/// ```rust
+/// // set = {10.0.0.0/8, 10.1.0.0/16, 11.0.0.0/8}
+/// keep_marked(&mut set, &[true, false, true]);
+/// set.iter();     // [10.0.0.0/8, 11.0.0.0/8]
+/// ```
 #[tactic(auto, using(prefix_trie::proofs::Callers::may_ask_always))]
-fn keep_marked<P: Prefix, A: Allocator>(set: &mut PrefixSet<P, A>, marks: &[bool])
+pub fn keep_marked<P: Prefix, A: Allocator>(set: &mut PrefixSet<P, A>, marks: &[bool])
     ensures kept { (keep : List Bool × Unit {0} → Bool)
         → marks.now ≡ map keep (listing set.old.entries)
         → listing set.new.entries ≡ filter keep (listing set.old.entries) }

@@ -1,4 +1,6 @@
 //! Comparison of two sets by their keys.
+//!
+//! None of these functions compares the addresses that the keys contain.
 ghost use Rattle.std.specs.Prelude.{◌≡◌, ◌↔◌, Bool, true, false, List, IsTrue};
 ghost use Rattle.std.specs.FinMap.{contains_key};
 
@@ -9,6 +11,9 @@ use std::alloc::Allocator;
 
 /// Returns whether `right` has every key of `left`.
 ///
+/// It compares keys, not addresses. {10.1.0.0/16} is not a subset of {10.0.0.0/8}, although 10.0.0.0/8 contains all of
+/// its addresses. If `covering_difference` has no key, `right` has all addresses of `left`.
+///
 /// # Examples
 ///
 /// ```rust
@@ -16,6 +21,15 @@ use std::alloc::Allocator;
 /// // right = {10.0.0.0/8, 10.1.0.0/16}
 /// is_subset(&left, &right);       // true
 /// is_subset(&right, &left);       // false
+/// ```
+///
+/// A key that a shorter one covers is another key:
+///
+/// ```rust
+/// // left = {10.1.0.0/16}
+/// // right = {10.0.0.0/8}
+/// is_subset(&left, &right);                       // false
+/// right.is_covered(&"10.1.0.0/16".parse()?);      // true
 /// ```
 pub fn is_subset<P: Prefix, A: Allocator, B: Allocator>(
     left: &PrefixSet<P, A>,
@@ -29,14 +43,17 @@ pub fn is_subset<P: Prefix, A: Allocator, B: Allocator>(
     difference(left, right).next().is_none()
 }
 
-/// Returns whether the sets have no key in common. A key may still contain one of the other set.
+/// Returns whether the sets have no key in common.
+///
+/// It compares keys, not addresses: a key may still contain one of the other set.
 ///
 /// # Examples
 ///
 /// ```rust
 /// // left = {10.1.0.0/16}
 /// // right = {10.0.0.0/8}
-/// is_disjoint(&left, &right);     // true
+/// is_disjoint(&left, &right);                     // true
+/// right.is_covered(&"10.1.0.0/16".parse()?);      // true
 /// ```
 pub fn is_disjoint<P: Prefix, A: Allocator, B: Allocator>(
     left: &PrefixSet<P, A>,
@@ -52,12 +69,17 @@ pub fn is_disjoint<P: Prefix, A: Allocator, B: Allocator>(
 
 /// Returns whether the sets have a key in common.
 ///
+/// It compares keys, not addresses: sets without a common key may have common addresses.
+///
 /// # Examples
 ///
 /// ```rust
 /// // left = {10.0.0.0/8, 10.1.0.0/16}
 /// // right = {10.1.0.0/16}
 /// intersects(&left, &right);      // true
+/// right.remove(&"10.1.0.0/16".parse()?);
+/// right.insert("10.1.2.0/24".parse()?)?;
+/// intersects(&left, &right);      // false
 /// ```
 pub fn intersects<P: Prefix, A: Allocator, B: Allocator>(
     left: &PrefixSet<P, A>,

@@ -1,11 +1,11 @@
--- The rebuilt map has the old value for each full-width lookup, no redundant entry and as few entries as possible, since
+-- The new map has the old value for each full-width lookup, no redundant entry and as few entries as possible, since
 -- it is rebuilt from the root.
 use Rattle.std.proofs.Common.{◌∙◌, ap, sym, arith}
 use Rattle.std.specs.FinMap.{get, len, len-empty}
 use Rattle.prefix_trie.specs.Terms.{listing_cmp}
 use Rattle.prefix_trie_ops.proofs.Optimal.Along.{along_is_redundant, along_is_value}
 use Rattle.prefix_trie_ops.proofs.Optimal.Least.{is_smallest}
-use Rattle.prefix_trie_ops.proofs.map.optimal.rebuilt.Goals as goal
+use Rattle.prefix_trie_ops.proofs.map.optimal.aggregated.Goals as goal
 
 pub returns-clause-values : goal.returns-clause-values
 returns-clause-values g c exact q long =
