@@ -1,7 +1,8 @@
--- The definitions of this crate: divisions of the line of addresses, searches, the index, and laws.
+-- The definitions of this crate: divisions of the line of addresses, networks, searches, the index, and laws.
 pub mod Compiled
 pub mod Equality
 pub mod Index
 pub mod Laws
 pub mod Line
+pub mod Networks
 pub mod Search

@@ -6,6 +6,7 @@ mod fib;
 mod index;
 mod indexed;
 pub mod laws;
+pub mod networks;
 pub mod ranges;
 
 pub use fib::Fib;
