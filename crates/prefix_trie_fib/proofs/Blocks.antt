@@ -1,12 +1,12 @@
 -- Networks as blocks of numbers: two that share an address lie one in the other, and which blocks begin at an address.
-use Rattle.std.proofs.Common.{◌≡◌, ◌∙◌, ℕ, ◌+◌, ◌-◌, ◌*◌, ◌/◌, ◌^◌, ◌<◌, ◌≤◌, Bool, true, false, not, List, Option, None, Some, ◌++◌, length, take, drop, inl, inr, ap, sym, subst, arith, take-append-drop, pow-add, pow_pos, mul-le-mul_right}
+use Rattle.std.proofs.Common.{◌≡◌, ◌∙◌, ℕ, ◌+◌, ◌-◌, ◌*◌, ◌/◌, ◌^◌, ◌<◌, ◌≤◌, Bool, true, false, not, List, Option, None, Some, [], ◌∷◌, ◌++◌, length, length-append, take, drop, inl, inr, ap, ap₂, sym, subst, arith, take-append-drop, pow-add, pow_pos, mul-le-mul_right}
 use Rattle.std.proofs.lemmas.Bool.{cases_lt}
 use Rattle.std.specs.Bool.{MatchBool}
 use Rattle.std.specs.Option.{MatchOption}
 use Rattle.std.proofs.lemmas.List.{length-take-le, length-drop}
 use Rattle.std.proofs.lemmas.Nat.{shr_high}
 use Rattle.prefix_trie_bits.specs.BitStrings.{number-lt, number-below}
-use Rattle.prefix_trie_bits.specs.Model.Bits.{number, zeros}
+use Rattle.prefix_trie_bits.specs.Model.Bits.{bit, number, zeros}
 use Rattle.prefix_trie_fib.specs.Line.{first_address, past_address}
 use Rattle.prefix_trie_fib.specs.Networks.{IsBlock, end_of}
 use Rattle.prefix_trie_fib.proofs.Between.{first_is, number_parts}
@@ -51,6 +51,30 @@ nested w t s le short x a b c d =
     let l : number t * m * p ≤ number s * p = mul-le-mul_right p low in
     let h : (number s + 1) * p ≤ (number t * m + m) * p = mul-le-mul_right p high in
     (omega (arith, l, ft, fs, assoc), omega (arith, h, ft, fs, assoc, one, more, size))
+
+-- the number of a string with one more bit
+number_last : (s : List Bool) (b : Bool) → number (s ++ b ∷ []) ≡ number s * 2 + bit b
+unfolding number
+number_last s b = number_parts s (b ∷ []) ∙ (let e : number s * 2 ^ 1 + (bit b * 2 ^ 0 + 0) ≡ number s * 2 + bit b = omega arith in e)
+
+-- the halves of a network lie end to end
+pub halves_of : (w : ℕ) (s : List Bool) → length s + 1 ≤ w
+    → (first_address w (s ++ false ∷ []) ≡ first_address w s) × (past_address w (s ++ false ∷ []) ≡ first_address w (s ++ true ∷ [])) × (past_address w (s ++ true ∷ []) ≡ past_address w s)
+halves_of w s fits =
+    let p : ℕ = 2 ^ (w - (length s + 1)) in
+    let size : (b : Bool) → 2 ^ (w - length (s ++ b ∷ [])) ≡ p = λ b. ap (λ n. 2 ^ (w - n)) (length-append s (b ∷ [])) in
+    let whole : 2 ^ (w - length s) ≡ 2 ^ 1 * p = ap (λ n. 2 ^ n) (let e : w - length s ≡ 1 + (w - (length s + 1)) = omega (arith, fits) in e) ∙ pow-add 2 1 (w - (length s + 1)) in
+    let twice : 2 ^ 1 * p ≡ 2 * p = omega arith in
+    let half : (b : Bool) → first_address w (s ++ b ∷ []) ≡ (number s * 2 + bit b) * p = λ b. first_is w (s ++ b ∷ []) ∙ ap₂ (λ n k. n * k) (number_last s b) (size b) in
+    let all : first_address w s ≡ number s * (2 * p) = first_is w s ∙ ap (λ n. number s * n) (whole ∙ twice) in
+    let lower = half false in
+    let upper = half true in
+    let a : (number s * 2 + 0) * p ≡ number s * (2 * p) = omega arith in
+    let b : (number s * 2 + 1) * p ≡ number s * (2 * p) + p = omega arith in
+    let c : 2 * p ≡ p + p = omega arith in
+    let size_low = size false in
+    let size_high = size true in
+    (omega (arith, lower, all, a), omega (arith, lower, upper, size_low, a, b), omega (arith, upper, all, size_high, whole, twice, b, c))
 
 -- ---- blocks that begin at an address
 

@@ -1,10 +1,10 @@
 -- The fewest networks of all addresses that pass a test: they cover just these, each once, and no shorter list does.
-use Rattle.std.proofs.Common.{◌≡◌, ◌∙◌, zero, suc, ℕ, ◌+◌, ◌-◌, ◌*◌, ◌^◌, ◌<◌, ◌≤◌, ◌||◌, Bool, true, false, cond, List, [], ◌∷◌, ◌++◌, length, length-append, filter, get_or, leb, inl, inr, ap, sym, subst, arith, refl}
-use Rattle.std.proofs.lemmas.Bool.{cases_lt, le-leb, lt-leb}
+use Rattle.std.proofs.Common.{◌≡◌, ◌∙◌, zero, suc, ℕ, ◌^◌, ◌<◌, ◌≤◌, ◌||◌, Bool, true, false, cond, List, [], ◌∷◌, length, filter, leb, ap, sym, subst, arith, refl}
+use Rattle.std.proofs.lemmas.Bool.{le-leb, lt-leb}
 use Rattle.std.proofs.lemmas.List.Folds.{list_any_at}
-use Rattle.std.specs.List.{All, Contains, list_any}
+use Rattle.std.specs.List.{Contains, list_any}
 use Rattle.prefix_trie_bits.specs.Begins.{same_bool}
-use Rattle.prefix_trie_bits.specs.BitStrings.{bits-number, length-digits, number-below, number_of_digits}
+use Rattle.prefix_trie_bits.specs.BitStrings.{length-digits, number-below, number_of_digits}
 use Rattle.prefix_trie_bits.specs.Model.Bits.{begins, digits, number}
 use Rattle.prefix_trie_fib.specs.Line.{first_address, past_address}
 use Rattle.prefix_trie_fib.specs.Networks.{AreFewest, AreInOrder, IsInside, IsShortest, is_covered_by}

@@ -12,7 +12,7 @@ use Rattle.std.specs.List.Sorted.{IsNonDecreasingBy, IsPermutation}
 use Rattle.prefix_trie_bits.specs.Model.Bits.{number, zeros}
 use Rattle.prefix_trie_bits.specs.Model.Entries.{Entries}
 use Rattle.prefix_trie_bits.specs.Model.Selections.{listing, prefix_pairs}
-use Rattle.prefix_trie_fib.specs.Line.{AreCutsOf, IsCutOut, IsRising, first_address, numbers}
+use Rattle.prefix_trie_fib.specs.Line.{AreCutOut, AreCutsOf, IsCutOut, IsRising, first_address, numbers}
 use Rattle.prefix_trie_fib.proofs.Along.{get_or-any}
 
 module _ {K : Type 0} (bits : K → List Bool) (before after : List K) (k : K) (is : after ≡ before ++ k ∷ []) where
@@ -42,21 +42,20 @@ pub same_numbers : {K : Type 0} (bits : K → List Bool) (xs ys : List K) → Is
 same_numbers bits xs ys p n h = Contains-permutation (numbers bits xs) (numbers bits ys) n (IsPermutation-map (λ k. number (bits k)) xs ys p) h
 
 -- keys that have the numbers of other keys cut out as much
+pub cut_with : {K T : Type 0} (w : ℕ) (bits : K → List Bool) (m : Entries T) (xs ys : List K) → ((n : ℕ) → Contains (numbers bits xs) n → Contains (numbers bits ys) n)
+    → AreCutOut w bits m xs → AreCutOut w bits m ys
+cut_with w bits m xs ys more cut e at = ((cut e at).0, more_cut w (numbers bits xs) (numbers bits ys) e.0 more (cut e at).1)
+
 pub cuts_with : {K T : Type 0} (w : ℕ) (bits : K → List Bool) (m : Entries T) (xs ys : List K) → ((n : ℕ) → Contains (numbers bits xs) n → Contains (numbers bits ys) n)
     → AreCutsOf w bits m xs → AreCutsOf w bits m ys
-cuts_with w bits m xs ys more are = record {
-  at_zero = more 0 are.at_zero;
-  cut_out = λ e at. ((are.cut_out e at).0, more_cut w (numbers bits xs) (numbers bits ys) e.0 more (are.cut_out e at).1);
-}
+cuts_with w bits m xs ys more are = record { at_zero = more 0 are.at_zero; cut_out = cut_with w bits m xs ys more are.cut_out }
 
 -- the networks of a map are cut out if the paths of its listing are
-pub cuts_of_listing : {K P T : Type 0} (w : ℕ) (bits : K → List Bool) (path : P → List Bool) (back : List Bool → P) (m : Entries T) (xs : List K)
-    → ((s : List Bool) → length s ≤ w → path (back s) ≡ s) → ((e : List Bool × T) → Contains (listing m) e → length e.0 ≤ w) → Contains (numbers bits xs) 0
-    → All (λ e. IsCutOut w (numbers bits xs) (path e.0)) (prefix_pairs back (listing m)) → AreCutsOf w bits m xs
-cuts_of_listing {K} {P} {T} w bits path back m xs of_back short zero_in cut = record {
-  at_zero = zero_in;
-  cut_out = λ e at. (short e at, subst (λ s. IsCutOut w (numbers bits xs) s) (of_back e.0 (short e at)) (All-contains (λ e. IsCutOut w (numbers bits xs) (path e.0)) (prefix_pairs back (listing m)) (back e.0, e.1) cut (there e at)));
-}
+pub cut_of_listing : {K P T : Type 0} (w : ℕ) (bits : K → List Bool) (path : P → List Bool) (back : List Bool → P) (m : Entries T) (xs : List K)
+    → ((s : List Bool) → length s ≤ w → path (back s) ≡ s) → ((e : List Bool × T) → Contains (listing m) e → length e.0 ≤ w)
+    → All (λ e. IsCutOut w (numbers bits xs) (path e.0)) (prefix_pairs back (listing m)) → AreCutOut w bits m xs
+cut_of_listing {K} {P} {T} w bits path back m xs of_back short cut e at =
+    (short e at, subst (λ s. IsCutOut w (numbers bits xs) s) (of_back e.0 (short e at)) (All-contains (λ e. IsCutOut w (numbers bits xs) (path e.0)) (prefix_pairs back (listing m)) (back e.0, e.1) cut (there e at)))
   where
     there : (e : List Bool × T) → Contains (listing m) e → Contains (prefix_pairs back (listing m)) (back e.0, e.1)
     there e (k, lt, is) = (k, omega (arith, lt, length-map {A = List Bool × T} {B = P × T} (listing m) (λ e. (back e.0, e.1))), get_or-map {A = List Bool × T} {B = P × T} (λ r. (back r.0, r.1)) (listing m) k e ∙ ap {A = List Bool × T} (λ r. (back r.0, r.1)) is)

@@ -1,5 +1,6 @@
 -- The lemmas of this crate: cuts of the line of addresses, ranges, their networks, searches, and the index.
 pub mod Along
+pub mod Alternating
 pub mod Between
 pub mod Blocks
 pub mod Chunks
@@ -12,3 +13,4 @@ pub mod Finding
 pub mod Matching
 pub mod Merging
 pub mod Results
+pub mod Sets

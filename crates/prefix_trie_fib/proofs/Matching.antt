@@ -1,11 +1,13 @@
--- The longest match of an address is that of the last cut that is not after it.
-use Rattle.std.proofs.Common.{◌≡◌, ◌∙◌, suc, ℕ, ◌≤◌, Bool, cond, List, [], ◌∷◌, length, filter, ap, arith, refl}
+-- The matches of an address are those of the last cut that is not after it.
+use Rattle.std.proofs.Common.{◌≡◌, ◌∙◌, suc, ℕ, ◌≤◌, Bool, cond, List, [], ◌∷◌, length, filter, is_some, ap, arith, refl}
 use Rattle.std.specs.List.{Contains}
-use Rattle.prefix_trie_bits.specs.Model.Bits.{begins, number}
+use Rattle.std.specs.Option.{option_map}
+use Rattle.prefix_trie_bits.specs.Model.Bits.{begins}
 use Rattle.prefix_trie_bits.specs.Model.Entries.{Entries}
-use Rattle.prefix_trie_bits.specs.Model.Matches.{longest_match, last_item}
+use Rattle.prefix_trie_bits.specs.Model.Matches.{covers, first_item, last_item}
 use Rattle.prefix_trie_bits.specs.Model.Selections.{listing}
-use Rattle.prefix_trie_fib.specs.Line.{AreUncut, IsCutOut}
+use Rattle.prefix_trie_fib.specs.Addresses.{is_covered}
+use Rattle.prefix_trie_fib.specs.Line.{IsCutOut, IsSteady, value_of}
 use Rattle.prefix_trie_fib.proofs.Between.{same_begins}
 
 module _ {X : Type 0} where
@@ -22,7 +24,12 @@ module _ {X : Type 0} where
       ap (λ b. cond b (x ∷ filter p xs) (filter p xs)) (h x (contains_here x xs))
       ∙ ap (λ ys. cond (q x) (x ∷ ys) ys) (filter_agrees p q xs (λ y at. h y (contains_later x y xs at)))
 
-pub same_match : {T : Type 0} (w : ℕ) (m : Entries T) (cuts : List ℕ) → ((e : List Bool × T) → Contains (listing m) e → (length e.0 ≤ w) × IsCutOut w cuts e.0)
-    → (p q : List Bool) → length p ≡ w → length q ≡ w → number p ≤ number q → AreUncut cuts (number p) (number q) → longest_match m p ≡ longest_match m q
-same_match w m cuts cut p q lp lq le uncut =
-    ap last_item (filter_agrees (λ e. begins e.0 p) (λ e. begins e.0 q) (listing m) (λ e at. same_begins w cuts e.0 p q lp lq (cut e at).0 (cut e at).1 le uncut))
+module _ {T : Type 0} (w : ℕ) (m : Entries T) (cuts : List ℕ) (cut : (e : List Bool × T) → Contains (listing m) e → (length e.0 ≤ w) × IsCutOut w cuts e.0) where
+  same_covers : IsSteady w cuts (covers m)
+  same_covers p q lp lq le uncut = filter_agrees (λ e. begins e.0 p) (λ e. begins e.0 q) (listing m) (λ e at. same_begins w cuts e.0 p q lp lq (cut e at).0 (cut e at).1 le uncut)
+
+  pub same_value : IsSteady w cuts (value_of m)
+  same_value p q lp lq le uncut = ap (λ es. option_map (λ e. e.1) (last_item es)) (same_covers p q lp lq le uncut)
+
+  pub same_covered : IsSteady w cuts (is_covered m)
+  same_covered p q lp lq le uncut = ap (λ es. is_some (first_item es)) (same_covers p q lp lq le uncut)

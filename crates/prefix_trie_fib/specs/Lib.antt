@@ -1,4 +1,5 @@
 -- The definitions of this crate: divisions of the line of addresses, networks, searches, the index, and laws.
+pub mod Addresses
 pub mod Compiled
 pub mod Equality
 pub mod Index

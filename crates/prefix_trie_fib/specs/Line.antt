@@ -31,18 +31,26 @@ IsRising ns = (j k : ℕ) → j < k → k < length ns → slice_index ns j < sli
 abbrev pub numbers : {K : Type 0} → (K → List Bool) → List K → List ℕ
 numbers bits keys = map (λ k. number (bits k)) keys
 
--- each network of a map is cut out, and the line begins with a cut
+-- each network of a map is cut out
+abbrev pub AreCutOut : {K T : Type 0} → ℕ → (K → List Bool) → Entries T → List K → Type 0
+AreCutOut {K} {T} width bits m cuts = (e : List Bool × T) → Contains (listing m) e → (length e.0 ≤ width) × IsCutOut width (numbers bits cuts) e.0
+
+-- and the line begins with a cut
 pub record AreCutsOf {K T : Type 0} (width : ℕ) (bits : K → List Bool) (m : Entries T) (cuts : List K) : Type 0 where
   pub at_zero : Contains (numbers bits cuts) 0
-  pub cut_out : (e : List Bool × T) → Contains (listing m) e → (length e.0 ≤ width) × IsCutOut width (numbers bits cuts) e.0
+  pub cut_out : AreCutOut width bits m cuts
 
 -- the value of the longest key that begins the question
 abbrev pub value_of : {T : Type 0} → Entries T → List Bool → Option T
 value_of m q = option_map (λ e. e.1) (longest_match m q)
 
 -- values are those at the cuts
-abbrev pub AreValuesAt : {K T : Type 0} → (K → List Bool) → Entries T → List K → List (Option T) → Type 0
-AreValuesAt {K} {T} bits m cuts values = (i : ℕ) (d : K) (v : Option T) → i < length cuts → slice_index_or values i v ≡ value_of m (bits (slice_index_or cuts i d))
+abbrev pub AreValuesAt : {K V : Type 0} → (K → List Bool) → (List Bool → V) → List K → List V → Type 0
+AreValuesAt {K} {V} bits of cuts values = (i : ℕ) (d : K) (v : V) → i < length cuts → slice_index_or values i v ≡ of (bits (slice_index_or cuts i d))
+
+-- addresses that no cut parts have the same value
+abbrev pub IsSteady : {V : Type 0} → ℕ → List ℕ → (List Bool → V) → Type 0
+IsSteady width cuts of = (p q : List Bool) → length p ≡ width → length q ≡ width → number p ≤ number q → AreUncut cuts (number p) (number q) → of p ≡ of q
 
 -- whether both values are missing, or both exist and are equal
 abbrev pub are_same : {T : Type 0} → (T → T → Bool) → Option T → Option T → Bool

@@ -1,6 +1,7 @@
 //! Longest-prefix match of addresses in a table that does not change.
 #![tactic(auto)]
 
+pub mod addresses;
 mod copies;
 mod fib;
 mod index;

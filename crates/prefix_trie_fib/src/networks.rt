@@ -8,7 +8,7 @@ mod covering;
 
 use crate::ranges::is_at_most;
 use blocks::past_of;
-use covering::push_networks;
+pub(crate) use covering::push_networks;
 use prefix_trie_bits::prefix::{Key, Prefix};
 use std::alloc::{AllocError, Allocator};
 

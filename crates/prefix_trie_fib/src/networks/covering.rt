@@ -11,7 +11,7 @@ use std::alloc::{AllocError, Allocator};
 /// Appends the fewest networks that cover the addresses from `first` on and before `past`, and returns the last length.
 ///
 /// `None` is the end of the line. The search for each length begins at the length before, and for the first at `guess`.
-pub(super) fn push_networks<P: Prefix, B: Allocator>(
+pub(crate) fn push_networks<P: Prefix, B: Allocator>(
     networks: &mut Vec<P, B>,
     first: P::R,
     past: Option<P::R>,

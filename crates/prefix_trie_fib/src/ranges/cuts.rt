@@ -3,19 +3,46 @@ ghost use Rattle.std.specs.Prelude.{◌≡◌, ℕ, ◌-◌, ◌<◌, ◌≤◌,
 ghost use Rattle.std.specs.List.Sorted.{IsNonDecreasingBy, IsPermutation};
 ghost use Rattle.std.specs.Ordering.{nat_cmp};
 ghost use Rattle.prefix_trie_bits.specs.Model.Bits.{number};
-ghost use Rattle.prefix_trie_fib.specs.Line.{IsCutOut, IsRising, numbers};
+ghost use Rattle.prefix_trie_fib.specs.Line.{AreCutOut, IsCutOut, IsRising, numbers};
 
 use super::search::is_at_most;
 use prefix_trie_bits::laws::listing_laws;
 use prefix_trie_bits::prefix::{Key, Prefix};
+use prefix_trie_map::laws::listed_laws;
+use prefix_trie_map::map::PrefixMap;
 use std::alloc::{AllocError, Allocator};
 use std::cmp::Ordering;
 
-/// Appends the first address of a network, and the address after its last one if there is one.
-pub(super) fn push_cuts<P: Prefix, B: Allocator>(
+/// Returns a list of the address 0.
+pub(super) fn start_of_line<K: Key, B: Allocator>(alloc: B) -> Result<Vec<K, B>, AllocError>
+    ensures { IfOk result (λ cuts. Contains (numbers K.bits cuts.items) 0) }
+{
+    let mut cuts = Vec::new(alloc);
+    cuts.push(K::zero())?;
+    Ok(cuts)
+}
+
+/// Appends the first address of each network of a map, and the address after its last one if there is one.
+pub(super) fn push_cuts_of<P: Prefix, T: Drop, A: Allocator, B: Allocator>(
     cuts: &mut Vec<P::R, B>,
-    prefix: &P,
+    map: &PrefixMap<P, T, A>,
 ) -> Result<(), AllocError>
+    ensures kept { OnOk result
+        ((n : ℕ) → Contains (numbers P.R.bits cuts.old.items) n
+        → Contains (numbers P.R.bits cuts.new.items) n) }
+    ensures cut { OnOk result
+        (AreCutOut P.R.bit_width P.R.bits map.now.entries cuts.new.items) }
+{
+    listed_laws::<P, T>();
+    listing_laws::<T>();
+    for (prefix, _) in map.iter() {
+        push_cuts(cuts, &prefix)?;
+    }
+    Ok(())
+}
+
+/// Appends the first address of a network, and the address after its last one if there is one.
+fn push_cuts<P: Prefix, B: Allocator>(cuts: &mut Vec<P::R, B>, prefix: &P) -> Result<(), AllocError>
     requires { P.IsFitting prefix.now }
     ensures kept { OnOk result
         ((n : ℕ) → Contains (numbers P.R.bits cuts.old.items) n

@@ -1,8 +1,7 @@
 //! The ranges between cuts.
 ghost use Rattle.std.specs.Prelude.{◌≡◌, ℕ, ◌-◌, ◌<◌, ◌++◌, ◌∷◌, [], ◌⊎◌, Bool, Contains, List, None, IfOk, slice_index_or, Option, OnOk, length, true, false};
 ghost use Rattle.prefix_trie_bits.specs.Model.Bits.{number};
-ghost use Rattle.prefix_trie_bits.specs.Model.Entries.{Entries};
-ghost use Rattle.prefix_trie_fib.specs.Line.{AreCutsOf, AreMerged, AreValuesAt, IsDivision, IsRising, are_same, numbers, value_along, value_of};
+ghost use Rattle.prefix_trie_fib.specs.Line.{AreMerged, AreValuesAt, IsDivision, IsRising, IsSteady, are_same, numbers, value_along};
 
 use super::Line;
 use prefix_trie_bits::prefix::Key;
@@ -22,12 +21,12 @@ pub(crate) fn line_of<K: Key, T: Copy + PartialEq, B: Allocator>(
     ensures division { IfOk result (λ line. IsDivision line) }
     ensures merged { IfOk result (λ line. AreMerged (are_same T.PartialEq.eq) line) }
     // Values that `==` calls equal are the same.
-    ensures values { IfOk result
-        (λ line. (m : Entries T) → AreCutsOf K.bit_width K.bits m cuts.now
-        → AreValuesAt K.bits m cuts.now values.now
+    ensures values { IfOk result (λ line. (of : List Bool → Option T)
+        → IsSteady K.bit_width (numbers K.bits cuts.now) of
+        → AreValuesAt K.bits of cuts.now values.now
         → ((x y : T) → T.PartialEq.eq x y ≡ true → x ≡ y)
         → (q : List Bool) → length q ≡ K.bit_width
-        → value_along None line (number q) ≡ value_of m q) }
+        → value_along None line (number q) ≡ of q) }
 {
     let mut line = Line::new(alloc);
     for i in 0..cuts.len() {

@@ -4,11 +4,9 @@ ghost use Rattle.prefix_trie_bits.specs.Model.Bits.{number};
 ghost use Rattle.prefix_trie_fib.specs.Line.{AreCutsOf, AreMerged, AreValuesAt, IsDivision, IsRising, are_same, numbers, value_along, value_of};
 
 use super::Line;
-use super::cuts::{distinct, push_cuts, sort};
+use super::cuts::{distinct, push_cuts_of, sort, start_of_line};
 use super::merge::line_of;
-use prefix_trie_bits::laws::listing_laws;
 use prefix_trie_bits::prefix::{Key, Prefix};
-use prefix_trie_map::laws::listed_laws;
 use prefix_trie_map::map::PrefixMap;
 use std::alloc::{AllocError, Allocator};
 
@@ -50,13 +48,8 @@ fn unsorted_cuts<P: Prefix, T: Drop, A: Allocator, B: Allocator>(
 ) -> Result<Vec<P::R, B>, AllocError>
     ensures { IfOk result (λ cuts. AreCutsOf P.R.bit_width P.R.bits map.now.entries cuts.items) }
 {
-    listed_laws::<P, T>();
-    listing_laws::<T>();
-    let mut cuts = Vec::new(alloc);
-    cuts.push(P::R::zero())?;
-    for (prefix, _) in map.iter() {
-        push_cuts(&mut cuts, &prefix)?;
-    }
+    let mut cuts = start_of_line(alloc)?;
+    push_cuts_of(&mut cuts, map)?;
     Ok(cuts)
 }
 
@@ -68,7 +61,7 @@ fn values_at<P: Prefix, T: Copy, A: Allocator, B: Allocator>(
 ) -> Result<Vec<Option<T>, B>, AllocError>
     ensures same_length { IfOk result (λ values. length values.items ≡ length cuts.now) }
     ensures values { IfOk result
-        (λ values. AreValuesAt P.R.bits map.now.entries cuts.now values.items) }
+        (λ values. AreValuesAt P.R.bits (value_of map.now.entries) cuts.now values.items) }
 {
     let mut values = Vec::with_capacity(alloc, cuts.len())?;
     for i in 0..cuts.len() {

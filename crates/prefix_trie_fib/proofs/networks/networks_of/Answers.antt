@@ -1,9 +1,9 @@
 -- The networks are the fewest of all addresses, and no other address is in the range.
-use Rattle.std.proofs.Common.{◌≡◌, ◌∙◌, ◌+◌, ◌-◌, ◌^◌, ◌<◌, ◌≤◌, All, [], ap, arith, map, subst, sym}
+use Rattle.std.proofs.Common.{◌^◌, ◌<◌, All, arith, map, subst, sym}
 use Rattle.std.proofs.lemmas.List.Elements.{All-nil}
 use Rattle.prefix_trie_bits.specs.BitStrings.{number-below}
 use Rattle.prefix_trie_bits.specs.Model.Bits.{number}
-use Rattle.prefix_trie_fib.specs.Networks.{AreFewest, end_of, is_between}
+use Rattle.prefix_trie_fib.specs.Networks.{AreFewest, is_between}
 use Rattle.prefix_trie_fib.proofs.Covering.{covered_is, is_shortest, once}
 use Rattle.prefix_trie_fib.proofs.Fewest.{beyond_range, end_after, range_begun, range_done, range_empty, within_range}
 use Rattle.prefix_trie_fib.proofs.networks.networks_of.Goals as goal

@@ -1,6 +1,6 @@
 -- A block begins at an address if the network of its first bits does, and fits if that ends in time.
-use Rattle.std.proofs.Common.{◌≡◌, ◌∙◌, ◌+◌, ◌-◌, ◌^◌, ◌≤◌, ◌++◌, length, take, ap, arith}
-use Rattle.prefix_trie_bits.specs.Model.Bits.{number, zeros}
+use Rattle.std.proofs.Common.{◌≡◌, ◌≤◌, length, take, arith}
+use Rattle.prefix_trie_bits.specs.Model.Bits.{number}
 use Rattle.prefix_trie_fib.specs.Line.{first_address}
 use Rattle.prefix_trie_fib.proofs.Blocks.{block_fits, block_first, first_block, kept_first, match_false, match_with}
 use Rattle.prefix_trie_fib.proofs.networks.blocks.is_block.Goals as goal

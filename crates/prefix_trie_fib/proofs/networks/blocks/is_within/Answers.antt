@@ -1,6 +1,5 @@
 -- An address is before the end of the line.
-use Rattle.std.proofs.Common.{◌≡◌, ◌<◌, ◌^◌, arith}
-use Rattle.prefix_trie_bits.specs.Model.Bits.{number}
+use Rattle.std.proofs.Common.{arith}
 use Rattle.prefix_trie_fib.proofs.Blocks.{below_line, end_at_key, end_of_line, match_false, match_true, not_true}
 use Rattle.prefix_trie_fib.proofs.networks.blocks.is_within.Goals as goal
 

@@ -1,5 +1,5 @@
 -- One address is a block, so the search ends, and where a larger network is no block, no still larger one is.
-use Rattle.std.proofs.Common.{◌≡◌, ◌+◌, ◌-◌, ◌<◌, ◌≤◌, arith}
+use Rattle.std.proofs.Common.{◌<◌, arith}
 use Rattle.prefix_trie_bits.specs.Model.Bits.{number}
 use Rattle.prefix_trie_fib.specs.Networks.{end_of}
 use Rattle.prefix_trie_fib.proofs.Blocks.{none_larger, not_one}

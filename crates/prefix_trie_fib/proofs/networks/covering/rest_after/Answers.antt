@@ -1,5 +1,5 @@
 -- The network ends by the end of the range.
-use Rattle.std.proofs.Common.{◌≡◌, ◌+◌, ◌-◌, ◌^◌, ◌≤◌, arith}
+use Rattle.std.proofs.Common.{◌+◌, ◌-◌, ◌^◌, arith}
 use Rattle.prefix_trie_bits.specs.Model.Bits.{number}
 use Rattle.prefix_trie_fib.specs.Networks.{end_of}
 use Rattle.prefix_trie_fib.proofs.Blocks.{block_in_line, rest_is}

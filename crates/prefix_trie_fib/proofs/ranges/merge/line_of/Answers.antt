@@ -1,9 +1,9 @@
--- Each cut adds a range or keeps the last one, and at the end the ranges have the longest match of each address.
+-- Each cut adds a range or keeps the last one, and at the end the ranges have the value of each address.
 use Rattle.std.proofs.Common.{◌≡◌, ◌∙◌, ◌-◌, ◌+◌, ◌<◌, ◌++◌, ◌∷◌, [], inl, inr, ap, arith, sym, subst, get_or, length, ◌^◌, None}
 use Rattle.std.proofs.lemmas.List.{get_or-map, length-map}
 use Rattle.prefix_trie_bits.specs.BitStrings.{bits-number}
 use Rattle.prefix_trie_bits.specs.Model.Bits.{digits, number}
-use Rattle.prefix_trie_fib.specs.Line.{AreMerged, are_same, numbers, value_of}
+use Rattle.prefix_trie_fib.specs.Line.{AreMerged, are_same, numbers}
 use Rattle.prefix_trie_fib.proofs.Along.{AreOfCuts, AreRight, get_or-any, kept_of_cuts, kept_right, merged_pushed, pushed_of_cuts, pushed_right}
 use Rattle.prefix_trie_fib.proofs.Merging.{are_cuts, right_at_end, same_exact, zero_is_first}
 use Rattle.prefix_trie_fib.proofs.ranges.merge.line_of.Goals as goal
@@ -28,22 +28,22 @@ loop-i-preserved g c =
           record {
             of_cuts = subst (AreOfCuts ns (i + 1)) (sym new) (pushed_of_cuts ns i old v inside c.requires.rising zero_first c.loop-i.invariant.of_cuts);
             merged = subst (AreMerged (are_same g.T.PartialEq.eq)) (sym new) (merged_pushed (are_same g.T.PartialEq.eq) old (get_or ns i 0, v) c.loop-i.invariant.merged pushed.1);
-            right = λ m are values exact.
-                let is = c.index-values-i.is ∙ values i s v c.loop-i-test.true ∙ ap (value_of m) (sym (bits-number g.K.Key.bit_width (g.K.Key.bits (get_or cuts i s)) long)) ∙ ap (λ n. value_of m (digits g.K.Key.bit_width n)) at in
-                subst (AreRight (λ n. value_of m (digits g.K.Key.bit_width n)) None (2 ^ g.K.Key.bit_width) ns (i + 1)) (sym new)
-                (pushed_right ns i old v inside c.requires.rising zero_first c.loop-i.invariant.of_cuts (λ n. value_of m (digits g.K.Key.bit_width n)) None (2 ^ g.K.Key.bit_width)
-                (are_cuts g.K.Key.bit_width g.K.Key.bits m cuts are c.requires.rising) (c.loop-i.invariant.right m are values exact) is);
+            right = λ of steady values exact.
+                let is = c.index-values-i.is ∙ values i s v c.loop-i-test.true ∙ ap of (sym (bits-number g.K.Key.bit_width (g.K.Key.bits (get_or cuts i s)) long)) ∙ ap (λ n. of (digits g.K.Key.bit_width n)) at in
+                subst (AreRight (λ n. of (digits g.K.Key.bit_width n)) None (2 ^ g.K.Key.bit_width) ns (i + 1)) (sym new)
+                (pushed_right ns i old v inside c.requires.rising zero_first c.loop-i.invariant.of_cuts (λ n. of (digits g.K.Key.bit_width n)) None (2 ^ g.K.Key.bit_width)
+                (are_cuts g.K.Key.bit_width g.K.Key.bits of cuts c.requires.from_zero steady c.requires.rising) (c.loop-i.invariant.right of steady values exact) is);
           }
       | inr kept ↦
           let new : c.add_range.new.line ≡ old = kept.0 in
           record {
             of_cuts = subst (AreOfCuts ns (i + 1)) (sym new) (kept_of_cuts ns i old v inside c.requires.rising zero_first c.loop-i.invariant.of_cuts kept.1);
             merged = subst (AreMerged (are_same g.T.PartialEq.eq)) (sym new) c.loop-i.invariant.merged;
-            right = λ m are values exact.
-                let is = c.index-values-i.is ∙ values i s v c.loop-i-test.true ∙ ap (value_of m) (sym (bits-number g.K.Key.bit_width (g.K.Key.bits (get_or cuts i s)) long)) ∙ ap (λ n. value_of m (digits g.K.Key.bit_width n)) at in
-                subst (AreRight (λ n. value_of m (digits g.K.Key.bit_width n)) None (2 ^ g.K.Key.bit_width) ns (i + 1)) (sym new)
-                (kept_right ns i old v inside c.requires.rising zero_first c.loop-i.invariant.of_cuts (λ n. value_of m (digits g.K.Key.bit_width n)) None (2 ^ g.K.Key.bit_width)
-                (are_cuts g.K.Key.bit_width g.K.Key.bits m cuts are c.requires.rising) (c.loop-i.invariant.right m are values exact) (0, v) kept.1
+            right = λ of steady values exact.
+                let is = c.index-values-i.is ∙ values i s v c.loop-i-test.true ∙ ap of (sym (bits-number g.K.Key.bit_width (g.K.Key.bits (get_or cuts i s)) long)) ∙ ap (λ n. of (digits g.K.Key.bit_width n)) at in
+                subst (AreRight (λ n. of (digits g.K.Key.bit_width n)) None (2 ^ g.K.Key.bit_width) ns (i + 1)) (sym new)
+                (kept_right ns i old v inside c.requires.rising zero_first c.loop-i.invariant.of_cuts (λ n. of (digits g.K.Key.bit_width n)) None (2 ^ g.K.Key.bit_width)
+                (are_cuts g.K.Key.bit_width g.K.Key.bits of cuts c.requires.from_zero steady c.requires.rising) (c.loop-i.invariant.right of steady values exact) (0, v) kept.1
                 (same_exact g.T.PartialEq.eq exact (get_or old (length old - 1) (0, v)).1 v (kept.2 (0, v)) ∙ is));
           }
     ]
@@ -58,5 +58,5 @@ returns-clause-division g c =
     }
 
 pub returns-clause-values : goal.returns-clause-values
-returns-clause-values g c = λ m are values exact q long.
-    right_at_end g.K.Key.bit_width g.K.Key.bits m c.args.cuts.now are c.requires.rising c.loop-i.i c.loop-i.line c.loop-i-test.false (c.loop-i.invariant.right m are values exact) q long
+returns-clause-values g c = λ of steady values exact q long.
+    right_at_end g.K.Key.bit_width g.K.Key.bits of c.args.cuts.now c.requires.from_zero steady c.requires.rising None c.loop-i.i c.loop-i.line c.loop-i-test.false (c.loop-i.invariant.right of steady values exact) q long

@@ -1,44 +1,5 @@
--- Each network is cut out in its turn, and at the end those of the listing are.
-use Rattle.std.proofs.Common.{◌∙◌, ◌++◌, ◌∷◌, [], All, ap, append-nil, arith, is_some, subst, sym}
-use Rattle.std.proofs.lemmas.List.{append_assoc}
-use Rattle.std.proofs.lemmas.List.Elements.{All-append, All-cons, All-nil}
-use Rattle.prefix_trie_bits.specs.Keys.{path_back}
-use Rattle.prefix_trie_bits.specs.Model.Bits.{number}
-use Rattle.prefix_trie_fib.specs.Line.{IsCutOut, numbers}
-use Rattle.prefix_trie_fib.proofs.Between.{number_zeros}
-use Rattle.prefix_trie_fib.proofs.Cutting.{cuts_of_listing, has_pushed, more_cut}
+-- The line begins with a cut, and the networks of the map are cut out.
 use Rattle.prefix_trie_fib.proofs.ranges.of_map.unsorted_cuts.Goals as goal
 
-pub loop-prefix-init : goal.loop-prefix-init
-loop-prefix-init g c = (
-  tt,
-  tt,
-  has_pushed g.P.R.Key.bits c.new-cuts.result.items c.push.new.self.items c.zero.result c.in_ok-push.ensures.items 0 (ap number c.zero.ensures.value ∙ number_zeros g.P.R.Key.bit_width),
-  ([], c.into_iter-prefix-iterator.ensures.into_iter_gives ∙ c.iter-prefix-items.ensures.items, λ k d lt. absurd (omega (arith, lt))),
-)
-
-pub loop-prefix-preserved : goal.loop-prefix-preserved
-loop-prefix-preserved g c =
-    let inv = c.loop-prefix.invariant.3 in
-    let before = numbers g.P.R.Key.bits c.loop-prefix.cuts.items in
-    let after = numbers g.P.R.Key.bits c.push_cuts.new.cuts.items in (
-      tt,
-      tt,
-      c.in_ok-push_cuts.ensures.kept 0 c.loop-prefix.invariant.2,
-      (
-        inv.0 ++ (c.in-Some.prefix, c.in-Some.field-0-1.now) ∷ [],
-        append_assoc inv.0 ((c.in-Some.prefix, c.in-Some.field-0-1.now) ∷ []) c.next.new.self ∙ ap (λ es. inv.0 ++ es) (sym c.in-Some.ensures.steps) ∙ inv.1,
-        All-append (λ e. IsCutOut g.P.R.Key.bit_width after (g.P.Prefix.path e.0)) inv.0 ((c.in-Some.prefix, c.in-Some.field-0-1.now) ∷ [])
-            (λ k d lt. more_cut g.P.R.Key.bit_width before after _ c.in_ok-push_cuts.ensures.kept (inv.2 k d lt))
-            (All-cons (λ e. IsCutOut g.P.R.Key.bit_width after (g.P.Prefix.path e.0)) (c.in-Some.prefix, c.in-Some.field-0-1.now) [] c.in_ok-push_cuts.ensures.cut (All-nil (λ e. IsCutOut g.P.R.Key.bit_width after (g.P.Prefix.path e.0)))),
-      ),
-    )
-
 pub returns : goal.returns
-returns g c =
-    let inv = c.loop-prefix.invariant.3 in
-    let all = sym (append-nil inv.0) ∙ ap (λ es. inv.0 ++ es) (sym c.in-None.ensures.steps.0) ∙ inv.1 in
-    cuts_of_listing g.P.R.Key.bit_width g.P.R.Key.bits g.P.Prefix.path g.P.Prefix.back c.args.map.now.entries c.loop-prefix.cuts.items (path_back g.met.P.Prefix.prefix_laws)
-    (λ e at. c.iter-prefix-items.ensures.whole.is_map.keys_within e.0 (ap is_some ((c.listing_laws.ensures.has_each c.args.map.now.entries e.0 e.1).1 at)))
-    c.loop-prefix.invariant.2
-    (subst (All (λ e. IsCutOut g.P.R.Key.bit_width (numbers g.P.R.Key.bits c.loop-prefix.cuts.items) (g.P.Prefix.path e.0))) all inv.2)
+returns g c = record { at_zero = c.in_ok-push_cuts_of.ensures.kept 0 c.in_ok-cuts.ensures; cut_out = c.in_ok-push_cuts_of.ensures.cut }
