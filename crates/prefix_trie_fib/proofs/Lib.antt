@@ -10,6 +10,8 @@ pub mod Entries
 pub mod Equality
 pub mod Fewest
 pub mod Finding
+pub mod Halves
+pub mod Layouts
 pub mod Matching
 pub mod Merging
 pub mod Results

@@ -4,6 +4,7 @@ pub mod Compiled
 pub mod Equality
 pub mod Index
 pub mod Laws
+pub mod Layouts
 pub mod Line
 pub mod Networks
 pub mod Search

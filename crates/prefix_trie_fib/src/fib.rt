@@ -8,7 +8,7 @@ mod bulk;
 mod equality;
 mod fmt;
 
-use crate::indexed::Indexed;
+use crate::compact::Compact;
 use crate::ranges::ranges_of;
 use prefix_trie_bits::prefix::{Prefix, Refusal};
 use prefix_trie_map::map::PrefixMap;
@@ -30,7 +30,7 @@ use std::marker::Model;
 /// ```
 #[derive(Drop)]
 pub struct Fib<P: Prefix, T: Copy + PartialEq, A: Allocator> {
-    indexed: Indexed<P::R, T, A>,
+    ranges: Compact<P::R, T, A>,
 }
 
 // a contract sees the first address of each range, as a number, and its value
@@ -40,10 +40,10 @@ impl<P: Prefix, T: Copy + PartialEq, A: Allocator> Model for Fib<P, T, A> {
 
     ghost Value = { List (ℕ × Option T) };
 
-    ghost view = { λ fib. fib.indexed };
+    ghost view = { λ fib. fib.ranges };
 
-    ghost invariant = { λ fib. IsDivision fib.indexed
-        × AreMerged (are_same T.PartialEq.eq) fib.indexed };
+    ghost invariant = { λ fib. IsDivision fib.ranges
+        × AreMerged (are_same T.PartialEq.eq) fib.ranges };
 }
 
 impl<P: Prefix, T: Copy + PartialEq, A: Allocator + Clone> Fib<P, T, A> {
@@ -70,12 +70,11 @@ impl<P: Prefix, T: Copy + PartialEq, A: Allocator + Clone> Fib<P, T, A> {
             → value_along None fib (number q) ≡ value_of map.now.entries q) }
     {
         let first = alloc.clone().map_err(|_| Refusal::Memory)?;
-        let second = alloc.clone().map_err(|_| Refusal::Memory)?;
         let Ok(line) = ranges_of(map, first) else {
             return Err(Refusal::Memory);
         };
-        let indexed = Indexed::new(line, second, alloc)?;
-        Ok(Fib { indexed })
+        let ranges = Compact::new(line, alloc)?;
+        Ok(Fib { ranges })
     }
 
     /// Copies the table, in memory of its own.
@@ -93,8 +92,8 @@ impl<P: Prefix, T: Copy + PartialEq, A: Allocator + Clone> Fib<P, T, A> {
     pub fn clone(&self) -> Result<Self, AllocError>
         ensures { IfOk result (λ copy. copy ≡ self.now) }
     {
-        let indexed = self.indexed.clone()?;
-        Ok(Fib { indexed })
+        let ranges = self.ranges.clone()?;
+        Ok(Fib { ranges })
     }
 }
 
@@ -111,7 +110,7 @@ impl<P: Prefix, T: Copy + PartialEq, A: Allocator> Fib<P, T, A> {
     pub fn lookup(&self, address: P::R) -> Option<T>
         ensures { result ≡ value_along None self.now (number (P.R.bits address)) }
     {
-        self.indexed.lookup(address)
+        self.ranges.lookup(address)
     }
 
     /// Returns the number of ranges, with those that have no value.
@@ -125,7 +124,7 @@ impl<P: Prefix, T: Copy + PartialEq, A: Allocator> Fib<P, T, A> {
     pub fn len(&self) -> usize
         ensures { result ≡ length self.now }
     {
-        self.indexed.len()
+        self.ranges.len()
     }
 
     /// Returns whether no address has a value.
@@ -139,7 +138,7 @@ impl<P: Prefix, T: Copy + PartialEq, A: Allocator> Fib<P, T, A> {
     pub fn is_empty(&self) -> bool
         ensures { IsTrue result ↔ (self.now ≡ (0, None) ∷ []) }
     {
-        self.indexed.len() == 1 && self.indexed.value(0).is_none()
+        self.ranges.len() == 1 && self.ranges.value(0).is_none()
     }
 
     /// Returns a range: its first address, the address after its last one, and its value.
@@ -163,13 +162,13 @@ impl<P: Prefix, T: Copy + PartialEq, A: Allocator> Fib<P, T, A> {
             → number (P.R.bits past) ≡ (slice_index_or self.now (i + 1) d).0)) }
         ensures value { (d : ℕ × Option T) → result.2 ≡ (slice_index_or self.now i d).1 }
     {
-        let len = self.indexed.len();
+        let len = self.ranges.len();
         let past = if i + 1 < len {
-            Some(self.indexed.start(i + 1))
+            Some(self.ranges.start(i + 1))
         } else {
             None
         };
-        (self.indexed.start(i), past, self.indexed.value(i))
+        (self.ranges.start(i), past, self.ranges.value(i))
     }
 
     /// Returns the number of chunks that the index cuts the line of addresses into.
@@ -185,6 +184,6 @@ impl<P: Prefix, T: Copy + PartialEq, A: Allocator> Fib<P, T, A> {
     pub fn index_slots(&self) -> usize
         ensures { result ≤ 2 ^ 20 }
     {
-        self.indexed.chunks()
+        self.ranges.chunks()
     }
 }

@@ -10,7 +10,7 @@ mod first_bits;
 
 use crate::ranges::{Line, is_at_most};
 pub(crate) use chunk::Chunk;
-pub(crate) use first_bits::{chunk_of, part_of};
+pub(crate) use first_bits::{chunk_of, first_bits, part_of};
 use prefix_trie_bits::prefix::Key;
 use std::alloc::{AllocError, Allocator};
 
@@ -145,7 +145,8 @@ fn chunk_at<K: Key, T: Copy, A: Allocator>(
         → IfSome next (λ k. high ≤ number (K.bits k)) → IsChunk line.now low high result }
 {
     let count = count_until(line, first, next);
-    if count <= 1 {
+    let alone = count <= 1;
+    if alone {
         match line.value(first) {
             Some(value) => Chunk::One(value),
             None => Chunk::Gap,

@@ -2,6 +2,7 @@
 #![tactic(auto)]
 
 pub mod addresses;
+mod compact;
 mod copies;
 mod fib;
 mod index;

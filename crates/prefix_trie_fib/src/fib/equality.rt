@@ -25,8 +25,8 @@ impl<P: Prefix, T: Copy + PartialEq, A: Allocator> PartialEq for Fib<P, T, A> {
     ghost laws = { lists_per (range_per T.PartialEq.laws) };
 
     fn eq(&self, other: &Self) -> bool {
-        let len = self.indexed.len();
-        if len != other.indexed.len() {
+        let len = self.ranges.len();
+        if len != other.ranges.len() {
             return false;
         }
         for i in 0..len {
@@ -56,7 +56,7 @@ fn is_same_range<P: Prefix, T: Copy + PartialEq, A: Allocator>(
         → result ≡ range_eq T.PartialEq.eq
         (slice_index_or left.now i d) (slice_index_or right.now i d) }
 {
-    let (start, other) = (left.indexed.start(i), right.indexed.start(i));
+    let (start, other) = (left.ranges.start(i), right.ranges.start(i));
     let is_same_start = is_at_most(start, other) && is_at_most(other, start);
-    is_same_start && left.indexed.value(i) == right.indexed.value(i)
+    is_same_start && left.ranges.value(i) == right.ranges.value(i)
 }

@@ -16,8 +16,8 @@ use std::fmt::{self, Debug, Formatter, Write};
 impl<P: Prefix, T: Copy + PartialEq + Debug, A: Allocator> Debug for Fib<P, T, A> {
     fn fmt<F: Write>(&self, f: &mut Formatter<F>) -> fmt::Result {
         let mut ranges = f.debug_map();
-        for i in 0..self.indexed.len() {
-            ranges.entry(&self.indexed.start(i), &self.indexed.value(i));
+        for i in 0..self.ranges.len() {
+            ranges.entry(&self.ranges.start(i), &self.ranges.value(i));
         }
         ranges.finish()
     }

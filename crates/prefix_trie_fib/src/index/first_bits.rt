@@ -32,7 +32,7 @@ pub(crate) fn part_of<K: Key>(address: K, bits: u32) -> usize
 ///
 /// The windows become one shift: their depths are constants.
 #[inline(always)]
-fn first_bits<K: Key>(address: K) -> u32
+pub(crate) fn first_bits<K: Key>(address: K) -> u32
     ensures { result ≡ number (take 30 (K.bits address ++ zeros 30)) }
 {
     let _ = address.is_key();

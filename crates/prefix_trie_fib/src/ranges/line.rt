@@ -25,7 +25,7 @@ impl<K: Key, T: Copy, A: Allocator> Model for Line<K, T, A> {
 
 impl<K: Key, T: Copy, A: Allocator> Line<K, T, A> {
     /// Creates a line with no range.
-    pub(super) fn new(alloc: A) -> Self
+    pub(crate) fn new(alloc: A) -> Self
         ensures { result ≡ [] }
     {
         Line {
@@ -34,7 +34,7 @@ impl<K: Key, T: Copy, A: Allocator> Line<K, T, A> {
     }
 
     /// Appends a range.
-    pub(super) fn push(&mut self, start: K, value: Option<T>) -> Result<(), AllocError>
+    pub(crate) fn push(&mut self, start: K, value: Option<T>) -> Result<(), AllocError>
         ensures pushed { OnOk result (self.new ≡ self.old ++ (number (K.bits start), value) ∷ []) }
         ensures unchanged { OnErr result (self.new ≡ self.old) }
     {

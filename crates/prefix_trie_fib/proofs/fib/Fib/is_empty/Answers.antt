@@ -13,7 +13,7 @@ none_or_some (Some x) false h = (λ t. absurd (search rules), λ e. absurd (cc))
 pub returns-then-len-eq1 : goal.returns-then-len-eq1
 returns-then-len-eq1 g c =
     let test = none_or_some c.value.result c.is_none.result c.is_none.ensures in
-    let is : c.args.self.now ≡ c.self.inside.indexed = sym c.self.view_is in (
-      λ t. is ∙ single c.self.inside.indexed None c.self.invariant.0 (omega (arith, c.len.ensures, c.if-len-eq1.true)) (λ d. test.0 t ∙ c.value.ensures d),
+    let is : c.args.self.now ≡ c.self.inside.ranges = sym c.self.view_is in (
+      λ t. is ∙ single c.self.inside.ranges None c.self.invariant.0 (omega (arith, c.len.ensures, c.if-len-eq1.true)) (λ d. test.0 t ∙ c.value.ensures d),
       λ e. test.1 (c.value.ensures (0, None) ∙ ap (λ rs. (get_or {A = ℕ × Option g.row.T.Denot} rs 0 (0, None)).1) (sym is ∙ e)),
     )
