@@ -2,7 +2,7 @@
 use Rattle.std.proofs.Common.{◌≡◌, ◌∙◌, zero, suc, ℕ, ◌+◌, ◌-◌, ◌*◌, ◌/◌, ◌%◌, ◌^◌, ◌<◌, ◌≤◌, Bool, false, List, ◌++◌, length, length-append, take, drop, ap, sym, subst, arith, refl, append_assoc, pow_mono, take-append-drop}
 use Rattle.std.proofs.Math.Seq.{drop-append-add, take-add}
 use Rattle.std.proofs.lemmas.List.{length-drop, length-replicate, length-take-le, take-append-le, take-take}
-use Rattle.std.proofs.lemmas.Nat.{shr_high}
+use Rattle.std.proofs.lemmas.Nat.{mod_low, shr_high}
 use Rattle.prefix_trie_bits.specs.BitStrings.{number-lt}
 use Rattle.prefix_trie_bits.specs.Model.Bits.{number, zeros}
 use Rattle.prefix_trie_bits.specs.Windows.{window-inside}
@@ -81,20 +81,16 @@ chunk_number b k top few within is =
     ∙ subst (λ n. number (take 30 (b ++ zeros 30)) / 2 ^ (n - k) ≡ number (take k (take 30 (b ++ zeros 30)))) long (number_shifted (take 30 (b ++ zeros 30)) k)
     ∙ ap number (take-take k 30 (b ++ zeros 30) few) ∙ ap number (take-append-le k b (zeros 30) within)
 
--- the first k bits and the 8 after them
-pub part_number : (b : List Bool) (k top : ℕ) → k ≤ 20 → k + 8 ≤ length b → top ≡ number (take 30 (b ++ zeros 30)) → number (take k b) * 256 + top / 2 ^ (22 - k) % 256 ≡ number (take (k + 8) b)
-part_number b k top few within is =
-    let finer : List Bool = take (k + 8) b in
-    let shift : 30 - (k + 8) ≡ 22 - k = omega (arith, few) in
-    let top_is : top / 2 ^ (22 - k) ≡ number finer = subst (λ n. top / 2 ^ n ≡ number finer) shift (chunk_number b (k + 8) top (omega (arith, few)) within is) in
+-- the first k bits and the p after them
+pub part_number : (b : List Bool) (k p top : ℕ) → k + p ≤ 30 → k + p ≤ length b → top ≡ number (take 30 (b ++ zeros 30)) → number (take k b) * 2 ^ p + top / 2 ^ (30 - (k + p)) % 2 ^ p ≡ number (take (k + p) b)
+part_number b k p top few within is =
+    let finer : List Bool = take (k + p) b in
+    let top_is : top / 2 ^ (30 - (k + p)) ≡ number finer = chunk_number b (k + p) top few within is in
     let (parts, small) = number_split finer k in
-    let rest : length finer - k ≡ 8 = (let l = length-take-le (k + 8) b within in omega (arith, l)) in
-    let first : take k finer ≡ take k b = take-take k (k + 8) b (omega arith) in
-    let parts' : number finer ≡ number (take k b) * 256 + number (drop k finer) =
-    parts ∙ ap (λ n. number (take k finer) * 2 ^ n + number (drop k finer)) rest ∙ ap (λ s. number s * 256 + number (drop k finer)) first in
-    let small' : number (drop k finer) < 256 = subst (λ n. number (drop k finer) < 2 ^ n) rest small in
-    let last : top / 2 ^ (22 - k) % 256 ≡ number (drop k finer) = ap (λ n. n % 256) top_is ∙ remainder (number finer) (number (take k b)) (number (drop k finer)) parts' small' in
-    omega (arith, last, parts')
-  where
-    remainder : (n a r : ℕ) → n ≡ a * 256 + r → r < 256 → n % 256 ≡ r
-    remainder n a r is lt = omega (arith, is, lt)
+    let rest : length finer - k ≡ p = (let l = length-take-le (k + p) b within in omega (arith, l)) in
+    let first : take k finer ≡ take k b = take-take k (k + p) b (omega arith) in
+    let parts' : number finer ≡ number (take k b) * 2 ^ p + number (drop k finer) =
+    parts ∙ ap (λ n. number (take k finer) * 2 ^ n + number (drop k finer)) rest ∙ ap (λ s. number s * 2 ^ p + number (drop k finer)) first in
+    let small' : number (drop k finer) < 2 ^ p = subst (λ n. number (drop k finer) < 2 ^ n) rest small in
+    let last : top / 2 ^ (30 - (k + p)) % 2 ^ p ≡ number (drop k finer) = ap (λ n. n % 2 ^ p) (top_is ∙ parts') ∙ mod_low (number (take k b)) p (number (drop k finer)) small' in
+    ap (λ n. number (take k b) * 2 ^ p + n) last ∙ sym parts'

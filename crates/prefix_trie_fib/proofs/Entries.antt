@@ -7,7 +7,7 @@ use Rattle.std.proofs.lemmas.List.{get_or_append_left}
 use Rattle.std.specs.Option.{IfSome, MatchOption, unwrap_or}
 use Rattle.prefix_trie_fib.specs.declared.index.chunk.Chunk.{Chunk}
 use Rattle.prefix_trie_fib.specs.declared.index.chunk.Chunk.TheVariants.{Gap, Many, One, Several, Split}
-use Rattle.prefix_trie_fib.specs.Index.{Extends, HasParts, IsChunk, IsEntry, IsIndex, IsWhole}
+use Rattle.prefix_trie_fib.specs.Index.{Extends, HasParts, IsChunk, IsEntry, IsIndex, IsWhole, part_bits}
 use Rattle.prefix_trie_fib.specs.Line.{IsDivision, value_along}
 use Rattle.prefix_trie_fib.specs.Search.{IsRangeOf, StartsBy}
 use Rattle.prefix_trie_fib.proofs.Along.{value_of_range}
@@ -50,8 +50,8 @@ module _ {T : Type 0} where
   }
 
   module _ (rs : List (ℕ × Option T)) where
-    parts_kept : (size : ℕ) (parts more : List (Chunk T)) (base q : ℕ) → Extends parts more → HasParts rs size parts base q → HasParts rs size more base q
-    parts_kept size parts more base q ext has = record {
+    parts_kept : (size count : ℕ) (parts more : List (Chunk T)) (base q : ℕ) → Extends parts more → HasParts rs size count parts base q → HasParts rs size count more base q
+    parts_kept size count parts more base q ext has = record {
       inside = let i = has.inside in let l = ext.longer in omega (arith, i, l);
       right = λ p d lt. subst (IsChunk rs ((q + p) * size) ((q + p + 1) * size)) (sym (ext.same (base + p) d (let i = has.inside in omega (arith, i, lt)))) (has.right p d lt);
     }
@@ -61,7 +61,7 @@ module _ {T : Type 0} where
     entry_kept w bits c parts more (One v) ext h = h
     entry_kept w bits c parts more (Several count first) ext h = h
     entry_kept w bits c parts more (Many first) ext h = h
-    entry_kept w bits c parts more (Split base) ext h = (h.0, parts_kept (2 ^ (w - (bits + 8))) parts more base (c * 256) ext h.1)
+    entry_kept w bits c parts more (Split base) ext h = (h.0, parts_kept (2 ^ (w - (bits + part_bits w))) (2 ^ part_bits w) parts more base (c * 2 ^ part_bits w) ext h.1)
 
     -- an entry of the whole chunk
     pub whole_entry : (w bits c : ℕ) (parts : List (Chunk T)) (x : Chunk T) → IsChunk rs (c * 2 ^ (w - bits)) ((c + 1) * 2 ^ (w - bits)) x → IsEntry w bits rs parts c x
@@ -115,8 +115,8 @@ module _ {T : Type 0} where
       ];
     }
 
-    pub all_parts : (now : List (Chunk T)) (i q : ℕ) → 256 ≤ i → low ≡ q * step → PartsSoFar rs low step old now i → HasParts rs step now (length old) q
-    all_parts now i q all is so_far = record {
+    pub all_parts : (now : List (Chunk T)) (i q count : ℕ) → count ≤ i → low ≡ q * step → PartsSoFar rs low step old now i → HasParts rs step count now (length old) q
+    all_parts now i q count all is so_far = record {
       inside = let l = so_far.long in omega (arith, l, all);
       right = λ p d lt.
           let from : low + p * step ≡ (q + p) * step = (let m = add-mul q p step in omega (arith, m, is)) in
@@ -150,11 +150,11 @@ next_or f IsKey None at x step top h is = (let e = ap f is in omega (arith, e), 
 next_or f IsKey (Some k) at x step top h is = (let e = ap f is in let a = h.1 in omega (arith, e, a), λ lt. ap f is ∙ h.1)
 
 -- the parts of a chunk are as many addresses as the chunk
-pub split_size : (w bits : ℕ) → bits + 8 ≤ w → 256 * 2 ^ (w - (bits + 8)) ≡ 2 ^ (w - bits)
-split_size w bits fits = sym (ap (λ n. 2 ^ n) (let e : w - bits ≡ 8 + (w - (bits + 8)) = omega (arith, fits) in e) ∙ pow-add 2 8 (w - (bits + 8)))
+pub split_size : (w bits p : ℕ) → bits + p ≤ w → 2 ^ p * 2 ^ (w - (bits + p)) ≡ 2 ^ (w - bits)
+split_size w bits p fits = sym (ap (λ n. 2 ^ n) (let e : w - bits ≡ p + (w - (bits + p)) = omega (arith, fits) in e) ∙ pow-add 2 p (w - (bits + p)))
 
-pub split_at : (w bits c low : ℕ) → bits + 8 ≤ w → low ≡ c * 2 ^ (w - bits) → low ≡ c * 256 * 2 ^ (w - (bits + 8))
-split_at w bits c low fits is = is ∙ ap (λ n. c * n) (sym (split_size w bits fits)) ∙ sym (mul_assoc c 256 (2 ^ (w - (bits + 8))))
+pub split_at : (w bits p c low : ℕ) → bits + p ≤ w → low ≡ c * 2 ^ (w - bits) → low ≡ c * 2 ^ p * 2 ^ (w - (bits + p))
+split_at w bits p c low fits is = is ∙ ap (λ n. c * n) (sym (split_size w bits p fits)) ∙ sym (mul_assoc c (2 ^ p) (2 ^ (w - (bits + p))))
 
 module _ (w bits c at step : ℕ) (within : bits ≤ w) (is_step : step ≡ 2 ^ (w - bits)) (is_at : at ≡ c * 2 ^ (w - bits)) where
   whole : 2 ^ w ≡ 2 ^ bits * 2 ^ (w - bits)

@@ -1,12 +1,12 @@
 -- The entry of an address: that of its chunk, or of its part of a chunk that is split.
-use Rattle.std.proofs.Common.{◌≡◌, ℕ, ◌+◌, ◌-◌, ◌*◌, ◌^◌, ◌<◌, ◌≤◌, Bool, List, length, take, get_or, Option, subst, sym, arith}
+use Rattle.std.proofs.Common.{◌≡◌, ◌∙◌, ap, ℕ, ◌+◌, ◌-◌, ◌*◌, ◌^◌, ◌<◌, ◌≤◌, Bool, List, length, take, get_or, Option, subst, sym, arith}
 use Rattle.std.proofs.lemmas.List.{length-take-le}
 use Rattle.prefix_trie_bits.specs.BitStrings.{number-below}
 use Rattle.prefix_trie_bits.specs.Model.Bits.{number}
 use Rattle.prefix_trie_fib.specs.Compiled.{IsCompiled}
 use Rattle.prefix_trie_fib.specs.declared.index.chunk.Chunk.{Chunk}
 use Rattle.prefix_trie_fib.specs.declared.index.chunk.Chunk.TheVariants.{Split}
-use Rattle.prefix_trie_fib.specs.Index.{HasParts, IsChunk, IsEntry, IsWhole}
+use Rattle.prefix_trie_fib.specs.Index.{HasParts, IsChunk, IsEntry, IsWhole, part_bits}
 use Rattle.prefix_trie_fib.proofs.Chunks.{in_chunk}
 use Rattle.prefix_trie_fib.proofs.Entries.{entry_of_whole}
 
@@ -26,15 +26,15 @@ module _ {T : Type 0} (w : ℕ) (rs : List (ℕ × Option T)) (chunks parts : Li
     entry_is : IsEntry w bits rs parts k x
     entry_is = subst (IsEntry w bits rs parts k) (sym at) (are.right k x chunk_inside)
 
-    pub parts_of : (base : ℕ) → x ≡ Split base → (bits + 8 ≤ w) × HasParts rs (2 ^ (w - (bits + 8))) parts base (k * 256)
+    pub parts_of : (base : ℕ) → x ≡ Split base → (bits + part_bits w ≤ w) × HasParts rs (2 ^ (w - (bits + part_bits w))) (2 ^ part_bits w) parts base (k * 2 ^ part_bits w)
     parts_of base split = subst (IsEntry w bits rs parts k) split entry_is
 
-    pub in_part : (base : ℕ) → x ≡ Split base → (p : ℕ) (y : Chunk T) → p < 256 → number (take bits b) * 256 + p ≡ number (take (bits + 8) b) → y ≡ get_or parts (base + p) y → IsEntryOf rs (number b) y
+    pub in_part : (base : ℕ) → x ≡ Split base → (p : ℕ) (y : Chunk T) → p < 2 ^ part_bits w → number (take bits b) * 2 ^ part_bits w + p ≡ number (take (bits + part_bits w) b) → y ≡ get_or parts (base + p) y → IsEntryOf rs (number b) y
     in_part base split p y small joined there =
-        let size : ℕ = 2 ^ (w - (bits + 8)) in
-        let t : ℕ = k * 256 + p in
-        let e : number (take (bits + 8) b) ≡ k * 256 + p = omega (arith, is, joined) in
-        let bounds = in_chunk w b (bits + 8) long in (
+        let size : ℕ = 2 ^ (w - (bits + part_bits w)) in
+        let t : ℕ = k * 2 ^ part_bits w + p in
+        let e : number (take (bits + part_bits w) b) ≡ k * 2 ^ part_bits w + p = sym joined ∙ ap (λ n. n * 2 ^ part_bits w + p) (sym is) in
+        let bounds = in_chunk w b (bits + part_bits w) long in (
           t * size,
           (t + 1) * size,
           subst (IsChunk rs (t * size) ((t + 1) * size)) (sym there) ((parts_of base split).1.right p y small),

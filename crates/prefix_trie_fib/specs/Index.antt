@@ -1,9 +1,13 @@
 -- The index of a division: which ranges each chunk of addresses has.
-use Rattle.std.specs.Prelude.{◌≡◌, ℕ, ◌+◌, ◌-◌, ◌*◌, ◌^◌, ◌<◌, ◌≤◌, List, length, Option, None, Some, slice_index_or, ⊤}
+use Rattle.std.specs.Prelude.{◌≡◌, ℕ, ◌+◌, ◌-◌, ◌*◌, ◌^◌, ◌<◌, ◌≤◌, cond, nat_le, List, length, Option, None, Some, slice_index_or, ⊤}
 use Rattle.prefix_trie_fib.specs.declared.index.chunk.Chunk.{Chunk}
 use Rattle.prefix_trie_fib.specs.declared.index.chunk.Chunk.TheVariants.{Gap, Many, One, Several, Split}
 use Rattle.prefix_trie_fib.specs.Line.{value_along}
 use Rattle.prefix_trie_fib.specs.Search.{IsAmong, StartsBy}
+
+-- how many more bits select a part of a chunk
+unfoldable pub part_bits : ℕ → ℕ
+part_bits width = cond (nat_le width 32) 4 8
 
 module _ {T : Type 0} where
   -- the entry is right for each number from low on and below high, and is not split
@@ -22,14 +26,14 @@ module _ {T : Type 0} where
   IsWhole (Many first) = ⊤
   IsWhole (Split base) = ⊥
 
-  -- the 256 entries from base on are those of chunks of so many numbers each, from chunk q on
-  pub record HasParts (rs : List (ℕ × Option T)) (size : ℕ) (parts : List (Chunk T)) (base q : ℕ) : Type 0 where
-    pub inside : base + 256 ≤ length parts
-    pub right : (p : ℕ) (d : Chunk T) → p < 256 → IsChunk rs ((q + p) * size) ((q + p + 1) * size) (slice_index_or parts (base + p) d)
+  -- so many entries from base on are those of chunks of so many numbers each, from chunk q on
+  pub record HasParts (rs : List (ℕ × Option T)) (size count : ℕ) (parts : List (Chunk T)) (base q : ℕ) : Type 0 where
+    pub inside : base + count ≤ length parts
+    pub right : (p : ℕ) (d : Chunk T) → p < count → IsChunk rs ((q + p) * size) ((q + p + 1) * size) (slice_index_or parts (base + p) d)
 
-  -- the entry of chunk c of an index by so many bits: one for the whole chunk, or its parts by 8 more bits
+  -- the entry of chunk c of an index by so many bits: one for the whole chunk, or its parts by some more bits
   abbrev pub IsEntry : ℕ → ℕ → List (ℕ × Option T) → List (Chunk T) → ℕ → Chunk T → Type 0
-  IsEntry width bits rs parts c (Split base) = (bits + 8 ≤ width) × HasParts rs (2 ^ (width - (bits + 8))) parts base (c * 256)
+  IsEntry width bits rs parts c (Split base) = (bits + part_bits width ≤ width) × HasParts rs (2 ^ (width - (bits + part_bits width))) (2 ^ part_bits width) parts base (c * 2 ^ part_bits width)
   IsEntry width bits rs parts c Gap = IsChunk rs (c * 2 ^ (width - bits)) ((c + 1) * 2 ^ (width - bits)) Gap
   IsEntry width bits rs parts c (One v) = IsChunk rs (c * 2 ^ (width - bits)) ((c + 1) * 2 ^ (width - bits)) (One v)
   IsEntry width bits rs parts c (Several count first) = IsChunk rs (c * 2 ^ (width - bits)) ((c + 1) * 2 ^ (width - bits)) (Several count first)

@@ -173,7 +173,8 @@ impl<P: Prefix, T: Copy + PartialEq, A: Allocator> Fib<P, T, A> {
 
     /// Returns the number of chunks that the index cuts the line of addresses into.
     ///
-    /// Each has an entry of the size of a value and a tag. A chunk with more than 32 ranges has 256 more entries.
+    /// Each has an entry of the size of a value and a tag. A chunk with more than 8 ranges has 16 more entries for
+    /// addresses of at most 32 bits, and 256 more for longer ones.
     ///
     /// # Examples
     ///

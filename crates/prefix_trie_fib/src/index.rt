@@ -10,15 +10,13 @@ mod first_bits;
 
 use crate::ranges::{Line, is_at_most};
 pub(crate) use chunk::Chunk;
+use first_bits::{bits_of_part, parts_of_chunk};
 pub(crate) use first_bits::{chunk_of, first_bits, part_of};
 use prefix_trie_bits::prefix::Key;
 use std::alloc::{AllocError, Allocator};
 
 /// The most bits of an address that select a chunk.
 const MOST_BITS: u32 = 20;
-
-/// The number of bits that select a part of a chunk.
-const PART_BITS: u32 = 8;
 
 /// An entry for each chunk, and the entries of the parts of chunks that are split.
 #[derive(Drop)]
@@ -85,40 +83,37 @@ fn entry_at<K: Key, T: Copy, A: Allocator, B: Allocator>(
 {
     let chunk = chunk_at(line, first, next);
     let base = parts.len();
-    if !chunk.is_crowded() || bits + PART_BITS > K::width() || base > u32::MAX as usize {
+    let finer = bits + bits_of_part(K::width());
+    if !chunk.is_crowded() || finer > K::width() || base > u32::MAX as usize {
         return Ok(chunk);
     }
-    push_parts(
-        line,
-        first,
-        low,
-        K::power(K::width() - (bits + PART_BITS)),
-        parts,
-    )?;
+    let step = K::power(K::width() - finer);
+    push_parts(line, first, low, step, parts_of_chunk(K::width()), parts)?;
     Ok(Chunk::Split(base as u32))
 }
 
-/// Appends the entries of 256 chunks, from the address `low` on and each of `step` addresses.
+/// Appends the entries of `count` chunks, from the address `low` on and each of `step` addresses.
 fn push_parts<K: Key, T: Copy, A: Allocator, B: Allocator>(
     line: &Line<K, T, A>,
     first: usize,
     low: K,
     step: K,
+    count: usize,
     parts: &mut Vec<Chunk<T>, B>,
 ) -> Result<(), AllocError>
     requires division { IsDivision line.now }
     requires few { length line.now < 2 ^ 32 }
     requires starts { StartsBy line.now first (number (K.bits low)) }
     requires some { 0 < number (K.bits step) }
-    requires fits { number (K.bits low) + 256 * number (K.bits step) ≤ 2 ^ K.bit_width }
+    requires fits { number (K.bits low) + count * number (K.bits step) ≤ 2 ^ K.bit_width }
     ensures kept { OnOk result (Extends parts.old.items parts.new.items) }
     ensures right { OnOk result
         ((q : ℕ) → number (K.bits low) ≡ q * number (K.bits step)
-        → HasParts line.now (number (K.bits step)) parts.new.items (length parts.old.items) q) }
+        → HasParts line.now (number (K.bits step)) count parts.new.items (length parts.old.items) q) }
 {
     let mut from = first;
     let mut at = low;
-    for part in 0..256_usize {
+    for part in 0..count {
         // The proof counts the parts by it.
         let _ = part;
         let next = at.plus(step);

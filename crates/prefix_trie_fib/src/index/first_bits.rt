@@ -1,6 +1,7 @@
 //! The first bits of an address, as numbers: its chunk, and its part of the chunk.
-ghost use Rattle.std.specs.Prelude.{◌≡◌, ◌+◌, ◌*◌, ◌<◌, ◌≤◌, ◌++◌, take};
+ghost use Rattle.std.specs.Prelude.{◌≡◌, ◌+◌, ◌*◌, ◌^◌, ◌<◌, ◌≤◌, ◌++◌, take};
 ghost use Rattle.prefix_trie_bits.specs.Model.Bits.{number, zeros};
+ghost use Rattle.prefix_trie_fib.specs.Index.{part_bits};
 
 use prefix_trie_bits::prefix::Key;
 
@@ -15,17 +16,38 @@ pub(crate) fn chunk_of<K: Key>(address: K, bits: u32) -> usize
     (first_bits(address) >> (30 - bits)) as usize
 }
 
-/// Returns the number of the 8 bits of an address after the first `bits`.
+/// Returns the number of the bits of an address after the first `bits` that select a part of a chunk.
 #[inline(always)]
 pub(crate) fn part_of<K: Key>(address: K, bits: u32) -> usize
     requires at_most { bits ≤ 20 }
-    requires within { bits + 8 ≤ K.bit_width }
-    ensures part { number (take bits (K.bits address)) * 256 + result
-        ≡ number (take (bits + 8) (K.bits address)) }
-    ensures small { result < 256 }
+    requires within { bits + part_bits K.bit_width ≤ K.bit_width }
+    ensures part { number (take bits (K.bits address)) * 2 ^ part_bits K.bit_width + result
+        ≡ number (take (bits + part_bits K.bit_width) (K.bits address)) }
+    ensures small { result < 2 ^ part_bits K.bit_width }
 {
     let _ = address.is_key();
-    (first_bits(address) >> (22 - bits)) as usize % 256
+    let finer = bits + bits_of_part(K::width());
+    (first_bits(address) >> (30 - finer)) as usize % parts_of_chunk(K::width())
+}
+
+/// Returns how many more bits select a part of a chunk of addresses of this width.
+///
+/// A chunk of IPv4 addresses is small: 4 bits more leave parts of 256 addresses in a large table.
+#[inline(always)]
+pub(super) fn bits_of_part(width: u32) -> u32
+    ensures bits { result ≡ part_bits width }
+    ensures some { 0 < result }
+    ensures few { result ≤ 8 }
+{
+    if width <= 32 { 4 } else { 8 }
+}
+
+/// Returns how many parts a chunk of addresses of this width has if it is split.
+#[inline(always)]
+pub(super) fn parts_of_chunk(width: u32) -> usize
+    ensures { result ≡ 2 ^ part_bits width }
+{
+    if width <= 32 { 16 } else { 256 }
 }
 
 /// Returns the number of the first 30 bits of an address, where bits past the end are 0.

@@ -35,11 +35,11 @@ loop-part-preserved g c =
           (part_pushed c.args.line.now low step c.args.parts.now.items c.loop-part.parts.items i c.chunk_at.result c.loop-part.invariant.so_far (c.chunk_at.ensures (low + i * step) (low + (i + 1) * step) starts up));
       by = starts_later c.args.line.now c.range_from-from.result (number (g.K.Key.bits c.loop-part.at)) (number (g.K.Key.bits c.unwrap_or-at.result)) next.0 c.range_from-from.ensures.starts;
       next = λ lt.
-          let less : (i + 1) * step < 256 * step = mul-lt-mul_of_pos_right {m = i + 1} {n = 256} {k = step} lt c.requires.some in
+          let less : (i + 1) * step < c.args.count * step = mul-lt-mul_of_pos_right {m = i + 1} {n = c.args.count} {k = step} lt c.requires.some in
           let is = next.1 (let fits = c.requires.fits in omega (arith, less, fits, at_is, one_more)) in
           omega (arith, is, at_is, one_more);
     }
 
 pub returns-clause-right : goal.returns-clause-right
 returns-clause-right g c = λ q is.
-    all_parts c.args.line.now (number (g.K.Key.bits c.args.low)) (number (g.K.Key.bits c.args.step)) c.args.parts.now.items c.loop-part.parts.items c.loop-part.part q c.loop-part-test.false is c.loop-part.invariant.so_far
+    all_parts c.args.line.now (number (g.K.Key.bits c.args.low)) (number (g.K.Key.bits c.args.step)) c.args.parts.now.items c.loop-part.parts.items c.loop-part.part q c.args.count c.loop-part-test.false is c.loop-part.invariant.so_far

@@ -9,5 +9,5 @@ abbrev pub invariant-loop-part : goal.invariant-loop-part
 invariant-loop-part g l = record {
   so_far : PartsSoFar l.line (number (g.K.Key.bits l.fn.low)) (number (g.K.Key.bits l.fn.step)) l.fn.parts.items l.parts.items l.part;
   by : StartsBy l.line l.from (number (g.K.Key.bits l.at));
-  next : l.part < 256 → number (g.K.Key.bits l.at) ≡ number (g.K.Key.bits l.fn.low) + l.part * number (g.K.Key.bits l.fn.step);
+  next : l.part < l.fn.count → number (g.K.Key.bits l.at) ≡ number (g.K.Key.bits l.fn.low) + l.part * number (g.K.Key.bits l.fn.step);
 }

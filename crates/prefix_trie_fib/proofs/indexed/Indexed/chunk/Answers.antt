@@ -22,6 +22,15 @@ part_of-requires-clause-within g c =
     let split : c.index-entry.result.now ≡ Split c.in-Some.base = subst (λ o. MatchOption o (IsWhole c.index-entry.result.now) (λ base. c.index-entry.result.now ≡ Split base)) c.in-Some.is c.parts.ensures in
     (parts_of g.K.Key.bit_width c.self.inside.line c.self.inside.index.chunks.items c.self.inside.index.parts.items c.self.inside.bits b c.self.invariant long c.chunk_of-chunk.result c.chunk_of-chunk.ensures x c.index-entry.ensures c.in-Some.base split).0
 
+pub overflow_add-base : goal.overflow_add-base
+overflow_add-base g c =
+    let b = g.K.Key.bits c.args.address in
+    let long : length b ≡ g.K.Key.bit_width = g.met.K.Key.key_laws.bits_length c.args.address c.is_key.ensures.key in
+    let x = c.index-entry.result.now in
+    let split : c.index-entry.result.now ≡ Split c.in-Some.base = subst (λ o. MatchOption o (IsWhole c.index-entry.result.now) (λ base. c.index-entry.result.now ≡ Split base)) c.in-Some.is c.parts.ensures in
+    let has = (parts_of g.K.Key.bit_width c.self.inside.line c.self.inside.index.chunks.items c.self.inside.index.parts.items c.self.inside.bits b c.self.invariant long c.chunk_of-chunk.result c.chunk_of-chunk.ensures x c.index-entry.ensures c.in-Some.base split).1.inside in
+    omega (arith, has, c.part_of.ensures.small, c.self.inside.index.parts.ok.0)
+
 pub index-requires : goal.index-requires
 index-requires g c =
     let b = g.K.Key.bits c.args.address in
