@@ -68,6 +68,17 @@ fn are_split(alloc: Global) -> Result<bool, Refusal> {
     Ok(is_split(&map, &fib) & is_split(&map, &copy))
 }
 
+/// Returns whether the ranges of the table of these networks start at these addresses.
+fn start_at(networks: &[(u128, u8)], starts: &[u128], alloc: Global) -> Result<bool, Refusal> {
+    let map = map_of(networks, alloc)?;
+    let fib = Fib::new(&map, alloc)?;
+    let mut all = fib.len() == starts.len();
+    for (i, start) in starts.iter().enumerate() {
+        all &= i < fib.len() && fib.range(i).0 == *start;
+    }
+    Ok(all)
+}
+
 static WHOLE: [(u32, u8); 1] = [(0, 0)];
 
 static ENDS: [(u32, u8); 4] = [(0, 8), (0, 32), (0xff00_0000, 8), (0xffff_ffff, 32)];
@@ -96,6 +107,29 @@ static LONG_ADDRESSES: [u128; 6] = [
     (0x2001_0db8 << 96) + 1,
     (0x2001_0db8 << 96) + 2,
     0x2001_0db8_0000_0001 << 64,
+    u128::MAX,
+];
+
+static OF_64_BITS: [(u128, u8); 3] = [
+    (0x2001_0db8 << 96, 32),
+    (0x2001_0db8_0000_0001 << 64, 64),
+    (0xffff_ffff_ffff_ffff << 64, 64),
+];
+
+static STARTS_OF_64_BITS: [u128; 6] = [
+    0,
+    0x2001_0db8 << 96,
+    0x2001_0db8_0000_0001 << 64,
+    0x2001_0db8_0000_0002 << 64,
+    0x2001_0db9 << 96,
+    0xffff_ffff_ffff_ffff << 64,
+];
+
+static LAST_ADDRESSES: [u128; 5] = [
+    (0x2001_0db8 << 96) - 1,
+    (0x2001_0db8_0000_0001 << 64) - 1,
+    (0x2001_0db8_0000_0002 << 64) - 1,
+    (0x2001_0db9 << 96) - 1,
     u128::MAX,
 ];
 
@@ -139,6 +173,15 @@ fn other_widths_agree(rt: HostRuntime) {
     let alloc = rt.alloc();
     assert!(rt; is_right(&BYTES, &BYTE_ADDRESSES, alloc) == Ok(true));
     assert!(rt; is_right(&LONG, &LONG_ADDRESSES, alloc) == Ok(true));
+}
+
+#[test]
+fn networks_of_64_bits_agree(rt: HostRuntime) {
+    let alloc = rt.alloc();
+    assert!(rt; is_right(&OF_64_BITS, &LONG_ADDRESSES, alloc) == Ok(true));
+    assert!(rt; is_right(&OF_64_BITS, &STARTS_OF_64_BITS, alloc) == Ok(true));
+    assert!(rt; is_right(&OF_64_BITS, &LAST_ADDRESSES, alloc) == Ok(true));
+    assert!(rt; start_at(&OF_64_BITS, &STARTS_OF_64_BITS, alloc) == Ok(true));
 }
 
 #[test]
