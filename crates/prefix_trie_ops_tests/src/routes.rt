@@ -10,13 +10,13 @@ use route_tables::commands;
 use route_tables::help::{HELP, VERSION};
 use route_tables::load::{Loaded, load};
 use route_tables::network::parse_network;
-use route_tables::table::Tables;
+use route_tables::table::Table;
 use std::alloc::Global;
 use std::io::Write;
 use std::str;
 use std::test::Fail;
 
-/// A text, and what is printed of its tables and of the lines that replace a value, or the error.
+/// A text, and what is printed of its table and of the lines that replace a value, or the error.
 type Reading = (&'static [u8], &'static str);
 
 const READINGS: &[Reading] = &[
@@ -71,7 +71,7 @@ const READINGS: &[Reading] = &[
     (b"\xff\xfe1\0\n", "line 1: not UTF-8"),
 ];
 
-/// Returns what is printed of the tables of a text, and of the lines that replace a value, or the error.
+/// Returns what is printed of the table of a text, and of the lines that replace a value, or the error.
 fn reading(text: &[u8], alloc: Global) -> Result<String, Fail> {
     match load(text, alloc) {
         Ok(loaded) => shown(&loaded, alloc),
@@ -79,10 +79,10 @@ fn reading(text: &[u8], alloc: Global) -> Result<String, Fail> {
     }
 }
 
-/// Returns what is printed of tables, and of the lines that replace a value.
+/// Returns what is printed of a table, and of the lines that replace a value.
 fn shown(loaded: &Loaded, alloc: Global) -> Result<String, Fail> {
     let mut out = Vec::new(alloc);
-    commands::list(&loaded.tables, &mut out)?;
+    commands::list(&loaded.table, &mut out)?;
     let mut text = String::from_utf8(out)?;
     for line in &loaded.replaced {
         let (number, network) = (line.line, line.network);
@@ -181,18 +181,15 @@ const PRINTINGS: &[Printing] = &[
     (&["check", "old", "10.9.9.9"], "0.0.0.0/0 up\n"),
 ];
 
-/// Returns the tables of a text by its name.
-fn tables(name: &str, alloc: Global) -> Result<Tables, Fail> {
+/// Returns the table of a text by its name.
+fn table(name: &str, alloc: Global) -> Result<Table, Fail> {
     let text = match name {
         "old" => OLD,
         "new" => NEW,
         _ => ACCESS,
     };
-    let Loaded {
-        tables,
-        replaced: _,
-    } = load(text.as_bytes(), alloc)?;
-    Ok(tables)
+    let Loaded { table, replaced: _ } = load(text.as_bytes(), alloc)?;
+    Ok(table)
 }
 
 /// Returns the addresses of words.
@@ -206,54 +203,54 @@ fn addresses<'a>(words: &[&'a str], alloc: Global) -> Result<Vec<Address<'a>>, F
 
 fn lookup(name: &str, words: &[&str], out: &mut Vec<u8>, alloc: Global) -> Result<(), Fail> {
     let addresses = addresses(words, alloc)?;
-    commands::lookup(&tables(name, alloc)?, addresses.as_slice(), out)?;
+    commands::lookup(&table(name, alloc)?, addresses.as_slice(), out)?;
     Ok(())
 }
 
 fn list(name: &str, out: &mut Vec<u8>, alloc: Global) -> Result<(), Fail> {
-    commands::list(&tables(name, alloc)?, out)?;
+    commands::list(&table(name, alloc)?, out)?;
     Ok(())
 }
 
 fn list_within(name: &str, text: &str, out: &mut Vec<u8>, alloc: Global) -> Result<(), Fail> {
     let network = parse_network(text)?;
-    commands::list_within(&tables(name, alloc)?, network, out)?;
+    commands::list_within(&table(name, alloc)?, network, out)?;
     Ok(())
 }
 
 fn diff(old: &str, new: &str, out: &mut Vec<u8>, alloc: Global) -> Result<(), Fail> {
-    let old = tables(old, alloc)?;
+    let old = table(old, alloc)?;
     diff_to(&old, new, out, alloc)
 }
 
-fn diff_to(old: &Tables, new: &str, out: &mut Vec<u8>, alloc: Global) -> Result<(), Fail> {
-    commands::diff(old, &tables(new, alloc)?, alloc, out)?;
+fn diff_to(old: &Table, new: &str, out: &mut Vec<u8>, alloc: Global) -> Result<(), Fail> {
+    commands::diff(old, &table(new, alloc)?, alloc, out)?;
     Ok(())
 }
 
 fn minimised(name: &str, out: &mut Vec<u8>, alloc: Global) -> Result<(), Fail> {
-    commands::minimise(&mut tables(name, alloc)?, alloc, out)?;
+    commands::minimise(&mut table(name, alloc)?, alloc, out)?;
     Ok(())
 }
 
 fn check(name: &str, words: &[&str], out: &mut Vec<u8>, alloc: Global) -> Result<(), Fail> {
     let addresses = addresses(words, alloc)?;
-    check_in(&tables(name, alloc)?, addresses.as_slice(), out)
+    check_in(&table(name, alloc)?, addresses.as_slice(), out)
 }
 
 /// Prints what `check` prints and returns, or the first entry that is no rule.
-fn check_in(tables: &Tables, addresses: &[Address<'_>], out: &mut Vec<u8>) -> Result<(), Fail> {
-    if let Some((network, value)) = first_other(&tables.ipv4) {
+fn check_in(table: &Table, addresses: &[Address<'_>], out: &mut Vec<u8>) -> Result<(), Fail> {
+    if let Some((network, value)) = first_other(table) {
         writeln!(out, "{network} {value}")?;
         return Ok(());
     }
-    let are_allowed = commands::check(tables, addresses, out)?;
+    let are_allowed = commands::check(table, addresses, out)?;
     writeln!(out, "{are_allowed}")?;
     Ok(())
 }
 
 fn stats(name: &str, out: &mut Vec<u8>, alloc: Global) -> Result<(), Fail> {
-    commands::stats(&tables(name, alloc)?, alloc, out)?;
+    commands::stats(&table(name, alloc)?, alloc, out)?;
     Ok(())
 }
 

@@ -1,65 +1,64 @@
--- A search for a network with a given value that contains an address, and whether all values are rules: for the access list.
-use Rattle.std.proofs.Common.{◌≡◌, ◌≢◌, ◌≤◌, ℕ, Bool, List, [], ◌∷◌, All, ap, get_or, inl, inr, is_some, length, subst, sym, arith}
-use Rattle.std.proofs.lemmas.List.{get_or_default}
-use Rattle.std.proofs.lemmas.List.Elements.{All-cons, All-head, All-nil, All-rest, All-tail}
+-- The shortest network with a value that contains an address, and whether all values are rules: for the access list.
+use Rattle.std.proofs.Common.{◌≡◌, ◌≢◌, ℕ, Bool, true, false, cond, List, [], ◌∷◌, All, Option, None, Some, MatchOption, ap, bytes_eq, filter, is_some, refl, subst, sym, ◌∙◌, arith}
+use Rattle.std.proofs.lemmas.List.Elements.{All-cons}
+use Rattle.std.proofs.lemmas.Slice.Eq.{bytes_eq-Decides}
+use Rattle.std.specs.FinMap.{contains_key}
 use Rattle.std.specs.List.{Contains}
-use Rattle.prefix_trie.specs.Terms.{covers, prefix_pairs, AreWithin, IsMatch}
+use Rattle.std.specs.Option.{option_map}
+use Rattle.prefix_trie.specs.Terms.{covers, first_item, prefix_pairs, IsMatch}
 use Rattle.prefix_trie_bits.specs.Laws.Matches.{MatchLaws}
-use Rattle.route_tables.specs.Access.{IsCoveredBy, IsRule}
+use Rattle.prefix_trie_joint.specs.Networks.{ip_back, ip_path}
+use Rattle.prefix_trie_joint.specs.declared.prefix.IpPrefix.{IpPrefix}
+use Rattle.route_tables.specs.Access.{covers_with, shortest_with, IsCoveredBy, IsRule}
 use Rattle.route_tables.specs.Tables.{Values}
-use Rattle.route_tables.proofs.Lists.{in_cons, in_map}
+use Rattle.route_tables.proofs.Lists.{filter_of_map, from_filter, in_filter, in_here, in_map}
 
--- a search for a network with this value: each network still to come contains the address, and if any network with the
--- value contains it, one is still to come
-pub record Seeks {P : Type 0} (path : P → List Bool) (m : Values) (q : List Bool) (rule : List ℕ) (left : List (P × List ℕ)) : Type 0 where
-  pub matches : All (λ e. IsMatch m q (path e.0, e.1)) left
-  pub later : IsCoveredBy m q rule → (p : P) × Contains left (p, rule)
+not_in : {X : Type 0} (x : X) → ¬ (Contains [] x)
+not_in x (k, less, is) = omega arith
 
-module _ {P : Type 0} (path : P → List Bool) (back : List Bool → P) where
-  -- each network in the list of covers contains the address
-  all_match : (m : Values) (q : List Bool) → ((s : List Bool) (v : List ℕ) → IsMatch m q (s, v) → path (back s) ≡ s) → (es : List (List Bool × List ℕ))
-      → All (IsMatch m q) es → All (λ e. IsMatch m q (path e.0, e.1)) (prefix_pairs back es)
-  all_match m q of_back [] all = All-nil (λ e. IsMatch m q (path e.0, e.1))
-  all_match m q of_back (e ∷ es) all =
-      let here = All-head (IsMatch m q) e es all in
-      All-cons (λ d. IsMatch m q (path d.0, d.1)) (back e.0, e.1) (prefix_pairs back es)
-      (subst (λ s. IsMatch m q (s, e.1)) (sym (of_back e.0 e.1 here)) here)
-      (all_match m q of_back es (All-tail (IsMatch m q) e es all))
+-- the first network with this value in a walk
+abbrev pub first_with : List ℕ → List (IpPrefix × List ℕ) → Option IpPrefix
+first_with rule walk = option_map (λ e. e.0) (first_item (filter (λ e. bytes_eq rule e.1) walk))
 
-  -- the search begins with all covers
-  pub seeks_start : MatchLaws (List ℕ) → (m : Values) (q : List Bool) (rule : List ℕ) (width : ℕ) → AreWithin width m
-      → ((s : List Bool) → length s ≤ width → path (back s) ≡ s) → (walk : List (P × List ℕ)) → walk ≡ prefix_pairs back (covers m q) → Seeks path m q rule walk
-  seeks_start laws m q rule width within of_back walk is = subst (Seeks path m q rule) (sym is) (record {
-    matches = all_match m q (λ s v here. of_back s (within s (ap is_some here.stored))) (covers m q)
-        (λ k d less. (laws.are_matches m q (get_or (covers m q) k d)).0 (k, less, get_or_default (covers m q) k (get_or (covers m q) k d) d less));
-    later = λ covered.
-        (back covered.0, in_map (λ e. (back e.0, e.1)) (covers m q) (covered.0, rule) ((laws.are_matches m q (covered.0, rule)).1 covered.1));
-  })
+first_back : (es : List (List Bool × List ℕ)) → option_map (λ e. e.0) (first_item (prefix_pairs ip_back es)) ≡ option_map (λ e. ip_back e.0) (first_item es)
+first_back [] = refl
+first_back (e ∷ es) = refl
 
-module _ {P : Type 0} (path : P → List Bool) (m : Values) (q : List Bool) (rule : List ℕ) where
-  -- the search goes on after a network with another value
-  pub seeks_on : (p : P) (value : List ℕ) (rest left : List (P × List ℕ)) → left ≡ (p, value) ∷ rest → rule ≢ value → Seeks path m q rule left → Seeks path m q rule rest
-  seeks_on p value rest left split other old = record {
-    matches = All-rest (λ e. IsMatch m q (path e.0, e.1)) (p, value) rest left split old.matches;
-    later = λ covered.
-        let w = old.later covered in
-        elim (in_cons (p, value) rest (w.0, rule) (subst (λ l. Contains l (w.0, rule)) split w.1)) [
-          | inl same ↦ absurd (other (sym (ap (λ e. e.1) same)))
-          | inr at ↦ (w.0, at)
-        ];
-  }
+-- the walk over all covers gives the shortest network with the value
+pub first_of_covers : (m : Values) (q : List Bool) (rule : List ℕ) (walk : List (IpPrefix × List ℕ)) → walk ≡ prefix_pairs ip_back (covers m q)
+    → first_with rule walk ≡ shortest_with m q rule
+first_of_covers m q rule walk is =
+    ap (first_with rule) is ∙ ap (λ es. option_map (λ e. e.0) (first_item es)) (filter_of_map (λ e. (ip_back e.0, e.1)) (λ e. bytes_eq rule e.1) (covers m q))
+    ∙ first_back (covers_with m q rule)
 
-  -- the search ends at a network with the value, or with no network left
-  pub seeks_found : (p : P) (value : List ℕ) (rest left : List (P × List ℕ)) → left ≡ (p, value) ∷ rest → rule ≡ value → Seeks path m q rule left → IsMatch m q (path p, rule)
-  seeks_found p value rest left split same old =
-      let here = All-head (λ e. IsMatch m q (path e.0, e.1)) (p, value) rest (subst (All (λ e. IsMatch m q (path e.0, e.1))) split old.matches) in
-      subst (λ v. IsMatch m q (path p, v)) (sym same) here
+-- the search goes on after a network with another value, and ends at one with the value or with no network left
+pub first_later : (rule : List ℕ) (p : IpPrefix) (value : List ℕ) (rest left : List (IpPrefix × List ℕ)) → left ≡ (p, value) ∷ rest → bytes_eq rule value ≡ false
+    → first_with rule left ≡ first_with rule rest
+first_later rule p value rest left split other =
+    ap (first_with rule) split
+    ∙ ap (λ b. option_map (λ e. e.0) (first_item (cond b ((p, value) ∷ filter (λ e. bytes_eq rule e.1) rest) (filter (λ e. bytes_eq rule e.1) rest)))) other
 
-  pub seeks_end : (left : List (P × List ℕ)) → left ≡ [] → Seeks path m q rule left → ¬ (IsCoveredBy m q rule)
-  seeks_end left none old covered =
-      let w = old.later covered in
-      let at = subst (λ l. Contains l (w.0, rule)) none w.1 in
-      let less = at.1 in omega arith
+pub first_here : (rule : List ℕ) (p : IpPrefix) (value : List ℕ) (rest left : List (IpPrefix × List ℕ)) → left ≡ (p, value) ∷ rest → bytes_eq rule value ≡ true
+    → first_with rule left ≡ Some p
+first_here rule p value rest left split same =
+    ap (first_with rule) split
+    ∙ ap (λ b. option_map (λ e. e.0) (first_item (cond b ((p, value) ∷ filter (λ e. bytes_eq rule e.1) rest) (filter (λ e. bytes_eq rule e.1) rest)))) same
+
+module _ (laws : MatchLaws (List ℕ)) (m : Values) (paths : (s : List Bool) → contains_key m s ≡ true → ip_path (ip_back s) ≡ s) (q : List Bool) (rule : List ℕ) where
+  of_list : (es : List (List Bool × List ℕ)) → covers_with m q rule ≡ es
+      → MatchOption (option_map (λ e. ip_back e.0) (first_item es)) (¬ (IsCoveredBy m q rule)) (λ network. IsMatch m q (ip_path network, rule))
+  of_list [] none = λ covered.
+      let at = in_filter (λ e. bytes_eq rule e.1) (covers m q) (covered.0, rule) ((bytes_eq-Decides rule rule).1 refl) ((laws.are_matches m q (covered.0, rule)).1 covered.1) in
+      not_in (covered.0, rule) (subst (λ l. Contains l (covered.0, rule)) none at)
+  of_list (e ∷ es) some =
+      let w = from_filter (λ e. bytes_eq rule e.1) (covers m q) e (subst (λ l. Contains l e) (sym some) (in_here e es e refl)) in
+      let here : IsMatch m q e = (laws.are_matches m q e).0 w.0 in
+      let value : rule ≡ e.1 = (bytes_eq-Decides rule e.1).0 w.1 in
+      subst (λ s. IsMatch m q (s, rule)) (sym (paths e.0 (ap is_some here.stored))) (subst (λ v. IsMatch m q (e.0, v)) (sym value) here)
+
+  -- the shortest network with the value has the value and contains the address, or no network does
+  pub shortest_is : MatchOption (shortest_with m q rule) (¬ (IsCoveredBy m q rule)) (λ network. IsMatch m q (ip_path network, rule))
+  shortest_is = of_list (covers_with m q rule) refl
 
 -- the loop goes on after an item whose value is a rule
 pub rules_next : {P W : Type 0} (x : P × List ℕ) (rest left : List (P × List ℕ)) → (left ≡ x ∷ rest) → IsRule x.1

@@ -1,4 +1,5 @@
--- The lemmas of this crate: loading lines, comparing tables, coverage by a rule, host bits, and counting by length.
+-- The lemmas of this crate: loading lines, comparing tables, coverage by a rule, host bits, paths of networks, and counting by
+-- length.
 pub mod Counting
 pub mod Covering
 pub mod Cutting
@@ -6,3 +7,4 @@ pub mod Differing
 pub mod HostBits
 pub mod Lists
 pub mod Loading
+pub mod Paths

@@ -1,15 +1,19 @@
--- What reading a text adds to the tables, and which errors it returns. This project's own.
+-- What reading a text adds to a table, and which errors it returns. This project's own.
 use Rattle.std.specs.Prelude.{◌≡◌, ◌⊎◌, ℕ, ◌+◌, ⊤, List}
+use Rattle.prefix_trie.specs.Terms.{with_entry}
+use Rattle.prefix_trie_joint.specs.Networks.{ip_path}
 use Rattle.route_tables.specs.Routes.{IsBad, IsBlank, IsFirstBad, IsRoute, Route}
-use Rattle.route_tables.specs.Tables.{Values, ipv4_with, ipv6_with}
+use Rattle.route_tables.specs.Tables.{Values}
 use Rattle.route_tables.specs.declared.load.LoadError.{LoadError}
 use Rattle.route_tables.specs.declared.load.LoadError.TheVariants.{Line, Refused}
 
--- the entries of both families after a line: a route is added, and other lines change nothing
-abbrev pub AddsLine : List ℕ → Values → Values → Values → Values → Type 0
-AddsLine line ipv4 ipv6 ipv4_after ipv6_after =
-    (IsBlank line × (ipv4_after ≡ ipv4) × (ipv6_after ≡ ipv6))
-    ⊎ ((route : Route) × IsRoute line route × (ipv4_after ≡ ipv4_with ipv4 route) × (ipv6_after ≡ ipv6_with ipv6 route))
+-- the entries after a route is added; the later of two routes for one network stays
+abbrev pub with_route : Values → Route → Values
+with_route m route = with_entry m (ip_path route.0) route.1
+
+-- the entries after a line: a route is added, and other lines change nothing
+abbrev pub AddsLine : List ℕ → Values → Values → Type 0
+AddsLine line m after = (IsBlank line × (after ≡ m)) ⊎ ((route : Route) × IsRoute line route × (after ≡ with_route m route))
 
 -- if the error names a line, it is this one, which is bad
 abbrev pub IsBadAt : ℕ → List ℕ → LoadError → Type 0

@@ -1,10 +1,9 @@
--- Networks of both families. This project's own.
-use Rattle.std.specs.Prelude.{ℕ, List}
-use Rattle.prefix_trie.specs.Terms.{HasNoHostBits, IsIpv4NetworkText, IsIpv6NetworkText}
-use Rattle.route_tables.specs.declared.network.Network.{Network}
-use Rattle.route_tables.specs.declared.network.Network.TheVariants.{V4, V6}
+-- Networks of a table. This project's own.
+use Rattle.std.specs.Prelude.{◌≡◌, ℕ, List}
+use Rattle.prefix_trie_joint.specs.Networks.{lowest_ip}
+use Rattle.prefix_trie_joint.specs.Texts.{IsIpNetworkText}
+use Rattle.prefix_trie_joint.specs.declared.prefix.IpPrefix.{IpPrefix}
 
 -- the text is that of a network without host bits
-abbrev pub IsNetworkText : List ℕ → Network → Type 0
-IsNetworkText text (V4 network) = IsIpv4NetworkText text network × HasNoHostBits 32 network
-IsNetworkText text (V6 network) = IsIpv6NetworkText text network × HasNoHostBits 128 network
+abbrev pub IsNetworkText : List ℕ → IpPrefix → Type 0
+IsNetworkText text network = IsIpNetworkText text network × (network ≡ lowest_ip network)

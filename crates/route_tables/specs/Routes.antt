@@ -3,11 +3,11 @@ use Rattle.std.specs.Prelude.{◌≡◌, ◌⊎◌, ℕ, zero, suc, false, List,
 use Rattle.std.specs.Str.{IsUtf8}
 use Rattle.route_tables.specs.Lines.{fields, has_bare_return, has_hidden}
 use Rattle.route_tables.specs.Networks.{IsNetworkText}
-use Rattle.route_tables.specs.declared.network.Network.{Network}
+use Rattle.prefix_trie_joint.specs.declared.prefix.IpPrefix.{IpPrefix}
 
 -- a network and its value
 abbrev pub Route : Type 0
-Route = Network × List ℕ
+Route = IpPrefix × List ℕ
 
 -- the line is blank, or has only a comment
 abbrev pub IsBlank : List ℕ → Type 0

@@ -5,50 +5,28 @@ use crate::addresses::Address;
 use crate::diff::{Values, changes};
 use crate::lookup::longest;
 use crate::minimise::remove_redundant;
-use crate::network::Network;
 use crate::stats::{array_bytes, by_length, text_bytes};
-use crate::table::{Table, Tables};
-use prefix_trie::{Ipv4Prefix, Ipv6Prefix, Prefix};
+use crate::table::{FamilyTable, Table};
+use prefix_trie::Prefix;
+use prefix_trie_joint::IpPrefix;
 use prefix_trie_ops::map::Side;
 use std::alloc::Global;
 use std::fmt::Display;
 use std::io::{self, Write};
-use std::net::IpAddr;
 
 /// Prints each address with the longest network that contains it and its value, or with `none`.
-pub fn lookup<W: Write>(tables: &Tables, addresses: &[Address<'_>], out: &mut W) -> io::Result<()> {
+pub fn lookup<W: Write>(table: &Table, addresses: &[Address<'_>], out: &mut W) -> io::Result<()> {
     for Address { text, ip } in addresses {
-        match *ip {
-            IpAddr::V4(host) => print_match(&tables.ipv4, &Ipv4Prefix::from(host), text, out)?,
-            IpAddr::V6(host) => print_match(&tables.ipv6, &Ipv6Prefix::from(host), text, out)?,
+        match longest(table, &IpPrefix::host(*ip)) {
+            Some((network, value)) => writeln!(out, "{text} {network} {value}")?,
+            None => writeln!(out, "{text} none")?,
         }
     }
     Ok(())
 }
 
-// Prints an address with the longest network that contains it, or with `none`.
-fn print_match<P: Prefix + Display, W: Write>(
-    table: &Table<P>,
-    host: &P,
-    text: &str,
-    out: &mut W,
-) -> io::Result<()>
-    requires { P.IsFitting host.now }
-{
-    match longest(table, host) {
-        Some((network, value)) => writeln!(out, "{text} {network} {value}"),
-        None => writeln!(out, "{text} none"),
-    }
-}
-
-/// Prints both tables in listing order, a line for each network.
-pub fn list<W: Write>(tables: &Tables, out: &mut W) -> io::Result<()> {
-    print_table(&tables.ipv4, out)?;
-    print_table(&tables.ipv6, out)
-}
-
-// Prints a table in listing order.
-fn print_table<P: Prefix + Display, W: Write>(table: &Table<P>, out: &mut W) -> io::Result<()> {
+/// Prints a table in listing order, a line for each network.
+pub fn list<W: Write>(table: &Table, out: &mut W) -> io::Result<()> {
     for (network, value) in table {
         writeln!(out, "{network} {value}")?;
     }
@@ -56,40 +34,26 @@ fn print_table<P: Prefix + Display, W: Write>(table: &Table<P>, out: &mut W) -> 
 }
 
 /// Prints the networks that a network contains, in listing order.
-pub fn list_within<W: Write>(tables: &Tables, network: Network, out: &mut W) -> io::Result<()> {
-    match network {
-        Network::V4(network) => print_within(&tables.ipv4, &network, out),
-        Network::V6(network) => print_within(&tables.ipv6, &network, out),
-    }
-}
-
-// Prints the networks of a table that a network contains.
-fn print_within<P: Prefix + Display, W: Write>(
-    table: &Table<P>,
-    network: &P,
-    out: &mut W,
-) -> io::Result<()>
-    requires { P.IsFitting network.now }
-{
-    for (network, value) in table.children(network) {
+pub fn list_within<W: Write>(table: &Table, network: IpPrefix, out: &mut W) -> io::Result<()> {
+    for (network, value) in table.children(&network) {
         writeln!(out, "{network} {value}")?;
     }
     Ok(())
 }
 
-/// Prints what changes from old tables to new ones: added, removed and changed networks, in listing order.
+/// Prints what changes from an old table to a new one: added, removed and changed networks, in listing order.
 ///
 /// Returns whether nothing changes.
-pub fn diff<W: Write>(old: &Tables, new: &Tables, alloc: Global, out: &mut W) -> io::Result<bool> {
+pub fn diff<W: Write>(old: &Table, new: &Table, alloc: Global, out: &mut W) -> io::Result<bool> {
     let is_ipv4_same = print_changes(&old.ipv4, &new.ipv4, alloc, out)?;
     let is_ipv6_same = print_changes(&old.ipv6, &new.ipv6, alloc, out)?;
     Ok(is_ipv4_same && is_ipv6_same)
 }
 
-// Prints what changes from one table to another, and returns whether nothing does.
+// Prints what changes from one table of a family to another, and returns whether nothing does.
 fn print_changes<P: Prefix + Display, W: Write>(
-    old: &Table<P>,
-    new: &Table<P>,
+    old: &FamilyTable<P>,
+    new: &FamilyTable<P>,
     alloc: Global,
     out: &mut W,
 ) -> io::Result<bool> {
@@ -114,42 +78,28 @@ fn print_change<P: Prefix + Display, W: Write>(
     }
 }
 
-/// Removes the networks that change no lookup from both tables, and prints the rest.
+/// Removes the networks that change no lookup, and prints the rest.
 ///
-/// After an error, one table or both may have lost these networks already.
-pub fn minimise<W: Write>(tables: &mut Tables, alloc: Global, out: &mut W) -> io::Result<()> {
-    remove_redundant(&mut tables.ipv4, alloc)?;
-    remove_redundant(&mut tables.ipv6, alloc)?;
-    list(tables, out)
+/// After an error, the table may have lost these networks already, of one family or of both.
+pub fn minimise<W: Write>(table: &mut Table, alloc: Global, out: &mut W) -> io::Result<()> {
+    remove_redundant(&mut table.ipv4, alloc)?;
+    remove_redundant(&mut table.ipv6, alloc)?;
+    list(table, out)
 }
 
 /// Prints for each address whether the access list allows it and which network decides, and returns whether it allows all.
-pub fn check<W: Write>(
-    tables: &Tables,
-    addresses: &[Address<'_>],
-    out: &mut W,
-) -> io::Result<bool> {
+pub fn check<W: Write>(table: &Table, addresses: &[Address<'_>], out: &mut W) -> io::Result<bool> {
     let mut are_all_allowed = true;
     for Address { text, ip } in addresses {
-        let is_allowed = match *ip {
-            IpAddr::V4(host) => print_decision(&tables.ipv4, &Ipv4Prefix::from(host), text, out)?,
-            IpAddr::V6(host) => print_decision(&tables.ipv6, &Ipv6Prefix::from(host), text, out)?,
-        };
-        are_all_allowed &= is_allowed;
+        let decision = decide(table, &IpPrefix::host(*ip));
+        are_all_allowed &= print_decision(text, decision, out)?;
     }
     Ok(are_all_allowed)
 }
 
 // Prints what an access list says of an address, and returns whether it allows it.
-fn print_decision<P: Prefix + Display, W: Write>(
-    table: &Table<P>,
-    host: &P,
-    text: &str,
-    out: &mut W,
-) -> io::Result<bool>
-    requires { P.IsFitting host.now }
-{
-    match decide(table, host) {
+fn print_decision<W: Write>(text: &str, decision: Decision, out: &mut W) -> io::Result<bool> {
+    match decision {
         Decision::Allowed(network) => {
             writeln!(out, "{text} allowed {network}")?;
             return Ok(true);
@@ -160,17 +110,17 @@ fn print_decision<P: Prefix + Display, W: Write>(
     Ok(false)
 }
 
-/// Prints counts and memory of both tables, and a bar for each length of networks.
-pub fn stats<W: Write>(tables: &Tables, alloc: Global, out: &mut W) -> io::Result<()> {
+/// Prints counts and memory of both families, and a bar for each length of networks.
+pub fn stats<W: Write>(table: &Table, alloc: Global, out: &mut W) -> io::Result<()> {
     writeln!(out, "IPv4")?;
-    print_stats(&tables.ipv4, alloc, out)?;
+    print_stats(&table.ipv4, alloc, out)?;
     writeln!(out, "IPv6")?;
-    print_stats(&tables.ipv6, alloc, out)
+    print_stats(&table.ipv6, alloc, out)
 }
 
-// Prints counts and memory of a table, and a bar for each length of its networks.
+// Prints counts and memory of a family, and a bar for each length of its networks.
 fn print_stats<P: Prefix, W: Write>(
-    table: &Table<P>,
+    table: &FamilyTable<P>,
     alloc: Global,
     out: &mut W,
 ) -> io::Result<()> {
@@ -183,7 +133,7 @@ fn print_stats<P: Prefix, W: Write>(
 }
 
 // Prints the numbers of entries, nodes and slots, and the memory that they take.
-fn print_sizes<P: Prefix, W: Write>(table: &Table<P>, out: &mut W) -> io::Result<()> {
+fn print_sizes<P: Prefix, W: Write>(table: &FamilyTable<P>, out: &mut W) -> io::Result<()> {
     writeln!(out, "  entries    {}", table.len())?;
     writeln!(out, "  nodes      {}", table.node_count())?;
     writeln!(

@@ -6,7 +6,7 @@ ghost use Rattle.prefix_trie_ops.specs.Merging.{lent_side, sides};
 ghost use Rattle.prefix_trie_ops.specs.declared.map.sides.Side.{Side};
 ghost use Rattle.route_tables.specs.Changes.{changes_of, differ, lent};
 
-use crate::table::Table;
+use crate::table::FamilyTable;
 use crate::value::Value;
 use prefix_trie::Prefix;
 use prefix_trie::laws::listing_laws;
@@ -26,14 +26,14 @@ pub type Values<'a> = Side<&'a Value, &'a Value>;
 /// # Examples
 ///
 /// ```rust
-/// let old = load(b"10.0.0.0/8 core\n10.1.0.0/16 edge\n", alloc)?.tables;
-/// let new = load(b"10.0.0.0/8 core\n10.1.0.0/16 core\n", alloc)?.tables;
+/// let old = load(b"10.0.0.0/8 core\n10.1.0.0/16 edge\n", alloc)?.table;
+/// let new = load(b"10.0.0.0/8 core\n10.1.0.0/16 core\n", alloc)?.table;
 /// let changed = changes(&old.ipv4, &new.ipv4, alloc)?;
 /// changed.iter().map(|change| change.0);      // [10.1.0.0/16]
 /// ```
 pub fn changes<'a, P: Prefix>(
-    old: &'a Table<P>,
-    new: &'a Table<P>,
+    old: &'a FamilyTable<P>,
+    new: &'a FamilyTable<P>,
     alloc: Global,
 ) -> Result<Vec<(P, Values<'a>)>, AllocError>
     ensures listed { IfOk result

@@ -2,8 +2,8 @@
 //!
 //! Each network has a value.
 //!
-//! This is the proved core of the program `routes`. A table of one family is a map, `Table<P>`, and the functions on it
-//! are generic over `P: Prefix`. `Tables` is what a file holds: one table of IPv4 networks and one of IPv6 networks.
+//! This is the proved core of the program `routes`. A table is a joint map, `Table`, of IPv4 and IPv6 networks. What is
+//! done family by family is generic over `P: Prefix`, on a `FamilyTable<P>`.
 #![tactic(auto)]
 
 pub mod access;

@@ -1,13 +1,14 @@
 //! Reading one line of a table.
 ghost use Rattle.std.specs.Prelude.{◌≡◌, false, true, IfErr, IfOk, MatchOption, MatchResult};
 ghost use Rattle.std.specs.Str.{IsUtf8};
+ghost use Rattle.prefix_trie_joint.specs.declared.prefix.IpPrefix.{IpPrefix};
 ghost use Rattle.route_tables.specs.Lines.{has_bare_return, has_hidden, is_direction, is_hidden};
 ghost use Rattle.route_tables.specs.Networks.{IsNetworkText};
 ghost use Rattle.route_tables.specs.Routes.{IsBad, IsBlank, IsRoute};
-ghost use Rattle.route_tables.specs.declared.network.Network.{Network};
 
 use crate::lines::{has_bare_return, split_field};
-use crate::network::{Network, NetworkError, parse_network};
+use crate::network::{NetworkError, parse_network};
+use prefix_trie_joint::IpPrefix;
 use std::error::Error;
 use std::fmt::{self, Display, Formatter, Write};
 use std::str;
@@ -57,7 +58,7 @@ impl Error for LineError {}
 /// read_line(b"# a comment");                      // Ok(None)
 /// read_line(b"10.0.0.1/8 core");                  // Err(Network(HostBits))
 /// ```
-pub fn read_line(line: &[u8]) -> Result<Option<(Network, &str)>, LineError>
+pub fn read_line(line: &[u8]) -> Result<Option<(IpPrefix, &str)>, LineError>
     ensures read { IfOk result
         (λ found. MatchOption found (IsBlank line.now)
         (λ route. IsRoute line.now (route.0, route.1.now))) }
@@ -71,7 +72,7 @@ pub fn read_line(line: &[u8]) -> Result<Option<(Network, &str)>, LineError>
 }
 
 // Reads the fields of a line that ends at its carriage return, if it has one.
-fn read_fields(line: &[u8]) -> Result<Option<(Network, &str)>, LineError>
+fn read_fields(line: &[u8]) -> Result<Option<(IpPrefix, &str)>, LineError>
     requires { has_bare_return line.now ≡ false }
     ensures read { IfOk result
         (λ found. MatchOption found (IsBlank line.now)
@@ -130,9 +131,9 @@ fn is_direction(c: char) -> bool
 }
 
 // Reads the first field of a line.
-fn read_network(field: &[u8]) -> Result<Network, LineError>
+fn read_network(field: &[u8]) -> Result<IpPrefix, LineError>
     ensures { MatchResult result (λ network. IsNetworkText field.now network × IsUtf8 field.now)
-        (λ _. IsUtf8 field.now → (network : Network) → ¬ (IsNetworkText field.now network)) }
+        (λ _. IsUtf8 field.now → (network : IpPrefix) → ¬ (IsNetworkText field.now network)) }
 {
     let Ok(text) = str::from_utf8(field) else {
         return Err(LineError::NotUtf8);

@@ -6,18 +6,19 @@
 //! A field that begins with `#` begins a comment. White space separates fields. Both ends of a line may have white
 //! space, so lines may end with CR LF. A CR elsewhere is an error.
 ghost use Rattle.std.specs.Prelude.{◌≡◌, List, IfErr, IfOk};
-ghost use Rattle.prefix_trie.specs.Terms.{no_entries};
+ghost use Rattle.prefix_trie.specs.Terms.{no_entries, put_all};
+ghost use Rattle.prefix_trie_joint.specs.Joined.{entries_of};
+ghost use Rattle.prefix_trie_joint.specs.Networks.{ip_path};
 ghost use Rattle.route_tables.specs.Lines.{lines};
-ghost use Rattle.route_tables.specs.Loads.{AddsLine, IsBadAt, IsRefusal, NamesFirstBad};
+ghost use Rattle.route_tables.specs.Loads.{AddsLine, IsBadAt, IsRefusal, NamesFirstBad, with_route};
 ghost use Rattle.route_tables.specs.Routes.{HasRoutes, Route};
-ghost use Rattle.route_tables.specs.Tables.{ipv4_with, ipv4_with_all, ipv6_with, ipv6_with_all};
 
 use crate::line::{LineError, read_line};
 use crate::lines::split_line;
-use crate::network::Network;
-use crate::table::Tables;
+use crate::table::Table;
 use crate::value::Value;
-use prefix_trie::Refusal;
+use prefix_trie::{Refusal, Refused};
+use prefix_trie_joint::{IpPrefix, JointPrefixMap};
 use std::alloc::{AllocError, AllocFailed, Global};
 use std::error::Error;
 use std::fmt::{self, Display, Formatter, Write};
@@ -28,14 +29,14 @@ pub struct Replaced {
     /// The number of the line, from 1 on.
     pub line: usize,
     /// The network, to which an earlier line gives another value.
-    pub network: Network,
+    pub network: IpPrefix,
 }
 
-/// The tables of a text, and the lines that replace a value by another.
+/// The table of a text, and the lines that replace a value by another.
 #[derive(Drop)]
 pub struct Loaded {
-    /// The tables.
-    pub tables: Tables,
+    /// The table.
+    pub table: Table,
     /// The lines that give a network another value than the last line before them with this network, in order.
     pub replaced: Vec<Replaced>,
 }
@@ -70,6 +71,16 @@ impl From<Refusal> for LoadError {
     }
 }
 
+impl From<Refused<Value>> for LoadError {
+    ghost use Rattle.route_tables.specs.declared.load.LoadError.TheVariants.{Refused as OfCause};
+
+    ghost from_gives = { λ refused error. error ≡ OfCause refused.cause };
+
+    fn from(refused: Refused<Value>) -> LoadError {
+        LoadError::Refused(refused.cause)
+    }
+}
+
 impl From<AllocError> for LoadError {
     ghost use Rattle.prefix_trie_bits.specs.declared.prefix.Refusal.TheVariants.{Memory};
     ghost use Rattle.route_tables.specs.declared.load.LoadError.TheVariants.{Refused};
@@ -92,7 +103,7 @@ impl<T: Drop> From<AllocFailed<T>> for LoadError {
     }
 }
 
-/// Reads the tables of a text. If two lines have the same network, the later one counts.
+/// Reads the table of a text. If two lines have the same network, the later one counts.
 ///
 /// # Errors
 ///
@@ -103,18 +114,17 @@ impl<T: Drop> From<AllocFailed<T>> for LoadError {
 ///
 /// ```rust
 /// let loaded = load(b"10.0.0.0/8 core\n10.1.0.0/16 edge\n10.0.0.0/8 edge\n", alloc)?;
-/// loaded.tables.ipv4.keys();                 // [10.0.0.0/8, 10.1.0.0/16]
+/// loaded.table.keys();                       // [V4(10.0.0.0/8), V4(10.1.0.0/16)]
 /// loaded.replaced[0].line;                   // 3
 /// load(b"10.0.0.0 core", alloc).err();       // Some(Line(1, Network(Text(MissingSlash))))
 /// ```
 pub fn load(text: &[u8], alloc: Global) -> Result<Loaded, LoadError>
-    ensures tables { IfOk result
+    ensures table { IfOk result
         (λ loaded. (routes : List Route) × HasRoutes (lines text.now) routes
-        × (loaded.tables.ipv4.entries ≡ ipv4_with_all no_entries routes)
-        × (loaded.tables.ipv6.entries ≡ ipv6_with_all no_entries routes)) }
+        × (entries_of loaded.table ≡ put_all ip_path routes no_entries)) }
     ensures first_bad { IfErr result (NamesFirstBad (lines text.now)) }
 {
-    let mut tables = Tables::new(alloc)?;
+    let mut table: Table = JointPrefixMap::new(alloc)?;
     let mut replaced = Vec::new(alloc);
     let mut number = 0;
     let mut rest = text;
@@ -122,50 +132,47 @@ pub fn load(text: &[u8], alloc: Global) -> Result<Loaded, LoadError>
         let (line, later) = split_line(rest);
         number += 1;
         rest = later;
-        if let Some(network) = add_line(&mut tables, line, number, alloc)? {
+        if let Some(network) = add_line(&mut table, line, number, alloc)? {
             replaced.push(Replaced {
                 line: number,
                 network,
             })?;
         }
     }
-    Ok(Loaded { tables, replaced })
+    Ok(Loaded { table, replaced })
 }
 
-// Adds what the line with this number says. Returns its network if the tables have it with another value.
+// Adds what the line with this number says. Returns its network if the table has it with another value.
 fn add_line(
-    tables: &mut Tables,
+    table: &mut Table,
     line: &[u8],
     number: usize,
     alloc: Global,
-) -> Result<Option<Network>, LoadError>
+) -> Result<Option<IpPrefix>, LoadError>
     ensures added { IfOk result
-        (λ _. AddsLine line.now tables.old.ipv4.entries tables.old.ipv6.entries
-        tables.new.ipv4.entries tables.new.ipv6.entries) }
+        (λ _. AddsLine line.now (entries_of table.old) (entries_of table.new)) }
     ensures bad { IfErr result (IsBadAt number line.now) }
 {
     match read_line(line) {
         Ok(None) => Ok(None),
-        Ok(Some((network, value))) => add_route(tables, network, value, alloc),
+        Ok(Some((network, value))) => add_route(table, network, value, alloc),
         Err(error) => Err(LoadError::Line(number, error)),
     }
 }
 
-// Adds a route. Returns its network if the tables have it with another value.
+// Adds a route. Returns its network if the table has it with another value.
 fn add_route(
-    tables: &mut Tables,
-    network: Network,
+    table: &mut Table,
+    network: IpPrefix,
     value: &str,
     alloc: Global,
-) -> Result<Option<Network>, LoadError>
-    ensures ipv4 { IfOk result
-        (λ _. tables.new.ipv4.entries ≡ ipv4_with tables.old.ipv4.entries (network, value.now)) }
-    ensures ipv6 { IfOk result
-        (λ _. tables.new.ipv6.entries ≡ ipv6_with tables.old.ipv6.entries (network, value.now)) }
+) -> Result<Option<IpPrefix>, LoadError>
+    ensures added { IfOk result
+        (λ _. entries_of table.new ≡ with_route (entries_of table.old) (network, value.now)) }
     ensures no_line { IfErr result IsRefusal }
 {
     let added = Value::new(value, alloc)?;
-    let previous = tables.insert(network, added)?;
+    let previous = table.insert(network, added)?;
     Ok(match previous {
         Some(previous) if previous.as_str() != value => Some(network),
         _ => None,

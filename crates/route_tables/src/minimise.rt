@@ -3,7 +3,7 @@ ghost use Rattle.std.specs.Prelude.{◌≡◌, ◌≢◌, ℕ, Bool, List, IfErr
 ghost use Rattle.std.specs.FinMap.{get};
 ghost use Rattle.prefix_trie_ops.specs.Values.{value_above, value_of};
 
-use crate::table::Table;
+use crate::table::FamilyTable;
 use crate::value::Value;
 use prefix_trie::Prefix;
 use prefix_trie::laws::listing_laws;
@@ -21,11 +21,14 @@ use std::alloc::{AllocError, Global};
 /// # Examples
 ///
 /// ```rust
-/// let mut tables = load(b"10.0.0.0/8 core\n10.1.0.0/16 core\n10.2.0.0/16 edge\n", alloc)?.tables;
-/// remove_redundant(&mut tables.ipv4, alloc)?;
-/// tables.ipv4.keys();     // [10.0.0.0/8, 10.2.0.0/16]
+/// let mut table = load(b"10.0.0.0/8 core\n10.1.0.0/16 core\n10.2.0.0/16 edge\n", alloc)?.table;
+/// remove_redundant(&mut table.ipv4, alloc)?;
+/// table.ipv4.keys();     // [10.0.0.0/8, 10.2.0.0/16]
 /// ```
-pub fn remove_redundant<P: Prefix>(table: &mut Table<P>, alloc: Global) -> Result<(), AllocError>
+pub fn remove_redundant<P: Prefix>(
+    table: &mut FamilyTable<P>,
+    alloc: Global,
+) -> Result<(), AllocError>
     ensures same { OnOk result
         ((q : List Bool) → value_of table.new.entries q ≡ value_of table.old.entries q) }
     ensures least { OnOk result

@@ -1,31 +1,14 @@
-//! Networks of both families, and their texts.
-ghost use Rattle.std.specs.Prelude.{ℕ, MatchResult};
-ghost use Rattle.prefix_trie.specs.Terms.{HasNoHostBits, IsIpv4NetworkText, IsIpv6NetworkText};
+//! Networks of a table, and their texts.
+ghost use Rattle.std.specs.Prelude.{◌≡◌, MatchResult};
+ghost use Rattle.prefix_trie_joint.specs.Networks.{lowest_ip};
+ghost use Rattle.prefix_trie_joint.specs.declared.prefix.IpPrefix.{IpPrefix};
 ghost use Rattle.route_tables.specs.Networks.{IsNetworkText};
-ghost use Rattle.route_tables.specs.declared.network.Network.{Network};
 
-use prefix_trie::laws::text_laws;
-use prefix_trie::{Ipv4Prefix, Ipv6Prefix, ParseNetworkError, Prefix};
+use prefix_trie::{ParseNetworkError, Prefix};
+use prefix_trie_joint::IpPrefix;
+use prefix_trie_joint::laws::ip_text_laws;
 use std::error::Error;
 use std::fmt::{self, Display, Formatter, Write};
-
-/// An IPv4 or an IPv6 network.
-#[derive(Clone, Copy, Debug, PartialEq, Eq)]
-pub enum Network {
-    /// An IPv4 network.
-    V4(Ipv4Prefix),
-    /// An IPv6 network.
-    V6(Ipv6Prefix),
-}
-
-impl Display for Network {
-    fn fmt<W: Write>(&self, f: &mut Formatter<W>) -> fmt::Result {
-        match self {
-            Network::V4(network) => Display::fmt(network, f),
-            Network::V6(network) => Display::fmt(network, f),
-        }
-    }
-}
 
 /// Why a text is not a network of a table.
 #[derive(Clone, Copy, Debug, PartialEq, Eq)]
@@ -47,42 +30,6 @@ impl Display for NetworkError {
 
 impl Error for NetworkError {}
 
-// Reads an IPv4 network without host bits.
-fn parse_ipv4(text: &str) -> Result<Ipv4Prefix, NetworkError>
-    ensures { MatchResult result (λ p. IsIpv4NetworkText text.now p × HasNoHostBits 32 p)
-        (λ _. (p : ℕ × ℕ) → IsIpv4NetworkText text.now p → ¬ (HasNoHostBits 32 p)) }
-{
-    text_laws();
-    match text.parse::<Ipv4Prefix>() {
-        Ok(network) => {
-            if network.addr() == network.mask() {
-                Ok(network)
-            } else {
-                Err(NetworkError::HostBits)
-            }
-        }
-        Err(error) => Err(NetworkError::Text(error)),
-    }
-}
-
-// Reads an IPv6 network without host bits.
-fn parse_ipv6(text: &str) -> Result<Ipv6Prefix, NetworkError>
-    ensures { MatchResult result (λ p. IsIpv6NetworkText text.now p × HasNoHostBits 128 p)
-        (λ _. (p : ℕ × ℕ) → IsIpv6NetworkText text.now p → ¬ (HasNoHostBits 128 p)) }
-{
-    text_laws();
-    match text.parse::<Ipv6Prefix>() {
-        Ok(network) => {
-            if network.addr() == network.mask() {
-                Ok(network)
-            } else {
-                Err(NetworkError::HostBits)
-            }
-        }
-        Err(error) => Err(NetworkError::Text(error)),
-    }
-}
-
 /// Reads an IPv4 or an IPv6 network such as `10.0.0.0/8` or `2001:db8::/32`, without host bits.
 ///
 /// # Errors
@@ -96,16 +43,37 @@ fn parse_ipv6(text: &str) -> Result<Ipv6Prefix, NetworkError>
 /// parse_network("10.0.0.1/8");       // Err(HostBits)
 /// parse_network("ten");              // Err(Text(MissingSlash))
 /// ```
-pub fn parse_network(text: &str) -> Result<Network, NetworkError>
+pub fn parse_network(text: &str) -> Result<IpPrefix, NetworkError>
     ensures { MatchResult result (IsNetworkText text.now)
-        (λ _. (network : Network) → ¬ (IsNetworkText text.now network)) }
+        (λ _. (network : IpPrefix) → ¬ (IsNetworkText text.now network)) }
 {
-    let as_ipv4 = match parse_ipv4(text) {
-        Ok(network) => return Ok(Network::V4(network)),
-        Err(error) => error,
-    };
-    match parse_ipv6(text) {
-        Ok(network) => Ok(Network::V6(network)),
-        Err(error) => Err(if text.contains(':') { error } else { as_ipv4 }),
+    ip_text_laws();
+    match text.parse::<IpPrefix>() {
+        Ok(network) => refuse_host_bits(network),
+        Err(error) => Err(NetworkError::Text(error)),
+    }
+}
+
+// Returns a network back if each bit of its address after its length is 0.
+#[tactic(auto, using(crate::proofs::HostBits::lowest_ipv4, crate::proofs::HostBits::of_lowest_ipv4, crate::proofs::HostBits::lowest_ipv6, crate::proofs::HostBits::of_lowest_ipv6))]
+fn refuse_host_bits(network: IpPrefix) -> Result<IpPrefix, NetworkError>
+    ensures { MatchResult result (λ same. (same ≡ network) × (network ≡ lowest_ip network))
+        (λ _. ¬ (network ≡ lowest_ip network)) }
+{
+    match network {
+        IpPrefix::V4(network) => {
+            if network.addr() == network.mask() {
+                Ok(IpPrefix::V4(network))
+            } else {
+                Err(NetworkError::HostBits)
+            }
+        }
+        IpPrefix::V6(network) => {
+            if network.addr() == network.mask() {
+                Ok(IpPrefix::V6(network))
+            } else {
+                Err(NetworkError::HostBits)
+            }
+        }
     }
 }

@@ -2,7 +2,7 @@
 ghost use Rattle.std.specs.Prelude.{◌≡◌, ◌≤◌, ◌==◌, ◌+◌, ℕ, IfOk, filter, length, slice_index};
 ghost use Rattle.prefix_trie.specs.Terms.{listing, prefix_pairs};
 
-use crate::table::Table;
+use crate::table::FamilyTable;
 use crate::value::Value;
 use prefix_trie::Prefix;
 use prefix_trie::laws::listed_laws;
@@ -18,11 +18,11 @@ use std::mem::size_of;
 /// # Examples
 ///
 /// ```rust
-/// let tables = load(b"10.0.0.0/8 core\n10.1.0.0/16 edge\n", alloc)?.tables;
-/// let counts = by_length(&tables.ipv4, alloc)?;
+/// let table = load(b"10.0.0.0/8 core\n10.1.0.0/16 edge\n", alloc)?.table;
+/// let counts = by_length(&table.ipv4, alloc)?;
 /// (counts[8], counts[16], counts.len());      // (1, 1, 33)
 /// ```
-pub fn by_length<P: Prefix>(table: &Table<P>, alloc: Global) -> Result<Vec<usize>, AllocError>
+pub fn by_length<P: Prefix>(table: &FamilyTable<P>, alloc: Global) -> Result<Vec<usize>, AllocError>
     ensures each { IfOk result (λ counts. (len : ℕ) → len ≤ P.R.bit_width
         → slice_index counts.items len
         ≡ length (filter (λ e. P.len_of e.0 == len)
@@ -45,10 +45,10 @@ pub fn by_length<P: Prefix>(table: &Table<P>, alloc: Global) -> Result<Vec<usize
 /// # Examples
 ///
 /// ```rust
-/// let tables = load(b"10.0.0.0/8 core\n", alloc)?.tables;
-/// array_bytes(&tables.ipv4);      // 66: two slots of nodes and one of values
+/// let table = load(b"10.0.0.0/8 core\n", alloc)?.table;
+/// array_bytes(&table.ipv4);      // 66: two slots of nodes and one of values
 /// ```
-pub fn array_bytes<P: Prefix>(table: &Table<P>) -> usize {
+pub fn array_bytes<P: Prefix>(table: &FamilyTable<P>) -> usize {
     let nodes = table.node_slots().saturating_mul(NODE_BYTES);
     let values = table
         .cell_slots()
@@ -64,10 +64,10 @@ const NODE_BYTES: usize = 17;
 /// # Examples
 ///
 /// ```rust
-/// let tables = load(b"10.0.0.0/8 core\n10.1.0.0/16 edges\n", alloc)?.tables;
-/// text_bytes(&tables.ipv4);       // 9
+/// let table = load(b"10.0.0.0/8 core\n10.1.0.0/16 edges\n", alloc)?.table;
+/// text_bytes(&table.ipv4);       // 9
 /// ```
-pub fn text_bytes<P: Prefix>(table: &Table<P>) -> usize {
+pub fn text_bytes<P: Prefix>(table: &FamilyTable<P>) -> usize {
     let mut bytes: usize = 0;
     for value in table.values() {
         bytes = bytes.saturating_add(value.as_str().len());

@@ -4,7 +4,6 @@
 #![tactic(auto)]
 
 use anyhow::{Context, Error, Result, anyhow, ensure};
-use prefix_trie::Prefix;
 use route_tables::access::first_other;
 use route_tables::addresses::{Address, AddressList, parse_address, read_addresses};
 use route_tables::arguments::{BadAddresses, Command, parse};
@@ -13,10 +12,9 @@ use route_tables::excerpt::Excerpt;
 use route_tables::help::{HELP, VERSION};
 use route_tables::load::{Loaded, Replaced, load};
 use route_tables::network::parse_network;
-use route_tables::table::{Table, Tables};
+use route_tables::table::Table;
 use route_tables::warnings::{write_replaced, write_skipped};
 use std::env::{Env, FillError};
-use std::fmt::Display;
 use std::io::{self, BufWriter, Read, Write};
 use std::process::ExitCode;
 use std::{env, fs, str};
@@ -31,15 +29,15 @@ fn read_file(rt: &HostRuntime, path: &str) -> io::Result<Vec<u8>> {
     Ok(bytes)
 }
 
-/// Reads tables, and warns of lines that replace a value by another.
-fn read_tables(rt: &HostRuntime, path: &str) -> Result<Tables> {
+/// Reads a table, and warns of lines that replace a value by another.
+fn read_table(rt: &HostRuntime, path: &str) -> Result<Table> {
     let text = read_file(rt, path).context(path)?;
-    let Loaded { tables, replaced } = load(text.as_slice(), rt.alloc()).context(path)?;
+    let Loaded { table, replaced } = load(text.as_slice(), rt.alloc()).context(path)?;
     if !replaced.is_empty() {
         // A warning that cannot be written stops no command.
         let _ = warn_of_replaced(rt, path, replaced.as_slice());
     }
-    Ok(tables)
+    Ok(table)
 }
 
 /// Warns of lines of a file that replace a value by another.
@@ -131,7 +129,7 @@ fn word_addresses<'a>(
 }
 
 /// Returns an error if a value is not one of an access list.
-fn ensure_rules<P: Prefix + Display>(table: &Table<P>) -> Result<()> {
+fn ensure_rules(table: &Table) -> Result<()> {
     match first_other(table) {
         Some((network, value)) => Err(anyhow!(
             "neither allow nor deny: {network} {}",
@@ -150,24 +148,24 @@ fn print_lookup(
     out: &mut impl Write,
 ) -> Result<()> {
     ensure_one_input(path, words)?;
-    let tables = read_tables(rt, path)?;
+    let table = read_table(rt, path)?;
     let text = address_text(rt, words)?;
     let addresses = addresses(rt, text.as_slice(), words, bad)?;
-    Ok(commands::lookup(&tables, addresses.as_slice(), out)?)
+    Ok(commands::lookup(&table, addresses.as_slice(), out)?)
 }
 
 /// Prints a table.
 fn print_list(rt: &HostRuntime, path: &str, out: &mut impl Write) -> Result<()> {
-    let tables = read_tables(rt, path)?;
-    commands::list(&tables, out)?;
+    let table = read_table(rt, path)?;
+    commands::list(&table, out)?;
     Ok(())
 }
 
 /// Prints what a network contains.
 fn print_within(rt: &HostRuntime, path: &str, word: &str, out: &mut impl Write) -> Result<()> {
     let network = parse_network(word).context(Excerpt(word))?;
-    let tables = read_tables(rt, path)?;
-    commands::list_within(&tables, network, out)?;
+    let table = read_table(rt, path)?;
+    commands::list_within(&table, network, out)?;
     Ok(())
 }
 
@@ -177,20 +175,20 @@ fn print_diff(rt: &HostRuntime, old: &str, new: &str, out: &mut impl Write) -> R
         old != "-" || new != "-",
         "the two tables cannot both come from standard input"
     );
-    let old = read_tables(rt, old)?;
+    let old = read_table(rt, old)?;
     print_changes(rt, &old, new, out)
 }
 
 /// Prints what changes from this table to one that it reads, and returns whether nothing does.
-fn print_changes(rt: &HostRuntime, old: &Tables, new: &str, out: &mut impl Write) -> Result<bool> {
-    let new = read_tables(rt, new)?;
+fn print_changes(rt: &HostRuntime, old: &Table, new: &str, out: &mut impl Write) -> Result<bool> {
+    let new = read_table(rt, new)?;
     Ok(commands::diff(old, &new, rt.alloc(), out)?)
 }
 
 /// Prints a table without the networks that change no lookup.
 fn print_minimised(rt: &HostRuntime, path: &str, out: &mut impl Write) -> Result<()> {
-    let mut tables = read_tables(rt, path)?;
-    commands::minimise(&mut tables, rt.alloc(), out)?;
+    let mut table = read_table(rt, path)?;
+    commands::minimise(&mut table, rt.alloc(), out)?;
     Ok(())
 }
 
@@ -203,18 +201,17 @@ fn print_check(
     out: &mut impl Write,
 ) -> Result<bool> {
     ensure_one_input(path, words)?;
-    let tables = read_tables(rt, path)?;
-    ensure_rules(&tables.ipv4).context(path)?;
-    ensure_rules(&tables.ipv6).context(path)?;
+    let table = read_table(rt, path)?;
+    ensure_rules(&table).context(path)?;
     let text = address_text(rt, words)?;
     let addresses = addresses(rt, text.as_slice(), words, bad)?;
-    Ok(commands::check(&tables, addresses.as_slice(), out)?)
+    Ok(commands::check(&table, addresses.as_slice(), out)?)
 }
 
 /// Prints counts, memory and lengths of a table.
 fn print_stats(rt: &HostRuntime, path: &str, out: &mut impl Write) -> Result<()> {
-    let tables = read_tables(rt, path)?;
-    commands::stats(&tables, rt.alloc(), out)?;
+    let table = read_table(rt, path)?;
+    commands::stats(&table, rt.alloc(), out)?;
     Ok(())
 }
 
