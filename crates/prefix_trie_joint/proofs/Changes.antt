@@ -34,7 +34,7 @@ module _ {T : Type 0} where
       (λ t. get_ipv4 a _ t ∙ sym (get-remove listing_total (joined a b) (true ∷ s) (false ∷ t) ∙ get_ipv4 a b t))
       (λ t. get_ipv6 a _ t ∙ get-remove listing_total b s t ∙ sym (get-remove listing_total (joined a b) (true ∷ s) (true ∷ t) ∙ ap (cond (eq_by_cmp listing_cmp t s) None) (get_ipv6 a b t))))
 
-  get_kept : (m : Entries T) (p : List Bool → Bool) (q : List Bool) → get (retain_keys m p) q ≡ cond (p q) (get m q) None
+  pub get_kept : (m : Entries T) (p : List Bool → Bool) (q : List Bool) → get (retain_keys m p) q ≡ cond (p q) (get m q) None
   get_kept m p q = get-retain_keys m p q (λ x tie. ap p (sym (listing_same q x tie)))
 
   none_kept : (b : Bool) (o : Option T) → o ≡ None → cond b o None ≡ None

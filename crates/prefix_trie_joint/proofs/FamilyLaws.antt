@@ -12,7 +12,7 @@ use Rattle.prefix_trie_joint.proofs.Changes.{ipv4_of, ipv6_of, with_ipv4, with_i
 use Rattle.prefix_trie_joint.proofs.Joined.{get_ipv4, get_ipv6, get_neither, listing_joined}
 use Rattle.prefix_trie_joint.proofs.Walks.{len_joined}
 
-written : {T A : Type 0} (m : JointPrefixMap T A) (p : IpPrefix) (x : T) → entries_of (with_value_of m p x) ≡ with_entry (entries_of m) (ip_path p) x
+pub written : {T A : Type 0} (m : JointPrefixMap T A) (p : IpPrefix) (x : T) → entries_of (with_value_of m p x) ≡ with_entry (entries_of m) (ip_path p) x
 written m (V4 network) x = with_ipv4 m.ipv4.entries m.ipv6.entries _ (ipv4_path network) x refl
 written m (V6 network) x = with_ipv6 m.ipv4.entries m.ipv6.entries _ (ipv6_path network) x refl
 

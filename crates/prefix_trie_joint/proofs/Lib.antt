@@ -4,6 +4,9 @@ pub mod Joined
 pub mod Changes
 pub mod Matches
 pub mod Walks
+pub mod Writing
+pub mod Resuming
 pub mod Collected
 pub mod FamilyLaws
+pub mod Filling
 pub mod Texts

@@ -1,10 +1,11 @@
 -- The parts of the joined listing that one family has, and matches.
 use Rattle.std.proofs.Common.{◌≡◌, ℕ, Bool, true, false, cond, List, [], ◌∷◌, ◌++◌, filter, Option, Some, None, is_some, refl, sym, subst, ap, ap₂, ◌∙◌}
-use Rattle.std.specs.Borrow.{Bor}
+use Rattle.std.specs.Borrow.{Bor, MutBor}
 use Rattle.std.specs.Option.{option_map}
 use Rattle.std.specs.FinMap.{get}
 use Rattle.prefix_trie.specs.Terms.{begins, covers, Entries, first_item, last_item, listing, listing_below, lent_item, longest_match, prefix_pair, shortest_match}
 use Rattle.prefix_trie_bits.specs.Networks.{network_back, network_path}
+use Rattle.prefix_trie_map.specs.Walks.{lent_item_mut}
 use Rattle.prefix_trie_joint.specs.declared.prefix.IpPrefix.{IpPrefix}
 use Rattle.prefix_trie_joint.specs.declared.prefix.IpPrefix.TheVariants.{V4, V6}
 use Rattle.prefix_trie_joint.specs.Joined.{joined, under}
@@ -115,6 +116,27 @@ module _ {T : Type 0} where
       → None ≡ prefix_pair ip_back (longest_match (joined a b) (true ∷ q))
   lpm_none_ipv6 a b q r e is =
       ap (option_map (λ e. (V6 e.0, e.1))) (sym (ap (option_map lent_item) is) ∙ e) ∙ sym (ap (prefix_pair ip_back) (longest_ipv6 a b q) ∙ pair_ipv6 (longest_match b q))
+
+  -- the same of a value that is lent for writing
+  pub lpm_mut_ipv4 : (a b : Entries T) (q : List Bool) (r : Option ((ℕ × ℕ) × MutBor T)) (p : ℕ × ℕ) (v : MutBor T) → option_map lent_item_mut r ≡ prefix_pair (network_back 32) (longest_match a q) → r ≡ Some (p, v)
+      → Some (V4 p, v.now) ≡ prefix_pair ip_back (longest_match (joined a b) (false ∷ q))
+  lpm_mut_ipv4 a b q r p v e is =
+      ap (option_map (λ e. (V4 e.0, e.1))) (sym (ap (option_map lent_item_mut) is) ∙ e) ∙ sym (ap (prefix_pair ip_back) (longest_ipv4 a b q) ∙ pair_ipv4 (longest_match a q))
+
+  pub lpm_mut_none_ipv4 : (a b : Entries T) (q : List Bool) (r : Option ((ℕ × ℕ) × MutBor T)) → option_map lent_item_mut r ≡ prefix_pair (network_back 32) (longest_match a q) → r ≡ None
+      → None ≡ prefix_pair ip_back (longest_match (joined a b) (false ∷ q))
+  lpm_mut_none_ipv4 a b q r e is =
+      ap (option_map (λ e. (V4 e.0, e.1))) (sym (ap (option_map lent_item_mut) is) ∙ e) ∙ sym (ap (prefix_pair ip_back) (longest_ipv4 a b q) ∙ pair_ipv4 (longest_match a q))
+
+  pub lpm_mut_ipv6 : (a b : Entries T) (q : List Bool) (r : Option ((ℕ × ℕ) × MutBor T)) (p : ℕ × ℕ) (v : MutBor T) → option_map lent_item_mut r ≡ prefix_pair (network_back 128) (longest_match b q) → r ≡ Some (p, v)
+      → Some (V6 p, v.now) ≡ prefix_pair ip_back (longest_match (joined a b) (true ∷ q))
+  lpm_mut_ipv6 a b q r p v e is =
+      ap (option_map (λ e. (V6 e.0, e.1))) (sym (ap (option_map lent_item_mut) is) ∙ e) ∙ sym (ap (prefix_pair ip_back) (longest_ipv6 a b q) ∙ pair_ipv6 (longest_match b q))
+
+  pub lpm_mut_none_ipv6 : (a b : Entries T) (q : List Bool) (r : Option ((ℕ × ℕ) × MutBor T)) → option_map lent_item_mut r ≡ prefix_pair (network_back 128) (longest_match b q) → r ≡ None
+      → None ≡ prefix_pair ip_back (longest_match (joined a b) (true ∷ q))
+  lpm_mut_none_ipv6 a b q r e is =
+      ap (option_map (λ e. (V6 e.0, e.1))) (sym (ap (option_map lent_item_mut) is) ∙ e) ∙ sym (ap (prefix_pair ip_back) (longest_ipv6 a b q) ∙ pair_ipv6 (longest_match b q))
 
   pub spm_ipv4 : (a b : Entries T) (q : List Bool) (r : Option ((ℕ × ℕ) × Bor T)) (p : ℕ × ℕ) (v : Bor T) → option_map lent_item r ≡ prefix_pair (network_back 32) (shortest_match a q) → r ≡ Some (p, v)
       → Some (V4 p, v.now) ≡ prefix_pair ip_back (shortest_match (joined a b) (false ∷ q))

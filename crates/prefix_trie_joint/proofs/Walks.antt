@@ -1,8 +1,10 @@
 -- The items of walks over both families.
 use Rattle.std.proofs.Common.{◌≡◌, ℕ, ◌+◌, ◌<◌, ◌≤◌, ◌^◌, Bool, true, false, cond, List, [], ◌∷◌, ◌++◌, length, map, filter, refl, sym, ap, ap₂, ◌∙◌, is_lt, is_le, arith}
 use Rattle.std.specs.FinMap.{len, len-entries}
+use Rattle.std.specs.List.{AllZip}
 use Rattle.prefix_trie.specs.Terms.{begins, covers, Entries, listing, listing_after, listing_below, listing_cmp, listing_from, prefix_pairs}
 use Rattle.prefix_trie_bits.specs.Networks.{network_back}
+use Rattle.prefix_trie_table.specs.Copies.{IsPairCloned}
 use Rattle.prefix_trie_table.specs.Model.Contents.{Contents}
 use Rattle.prefix_trie_map.specs.Whole.{IsWhole}
 use Rattle.prefix_trie_map.proofs.Listed.{few_from, few_shown}
@@ -44,7 +46,7 @@ module _ {T : Type 0} where
   all_kept b p h [] = refl
   all_kept b p h (e ∷ es) = ap (λ x. cond x ((b ∷ e.0, e.1) ∷ filter (λ e. p e.0) (under b es)) (filter (λ e. p e.0) (under b es))) (h e.0) ∙ ap (λ r. (b ∷ e.0, e.1) ∷ r) (all_kept b p h es)
 
-  from_ipv4_listing : (a b : Entries T) (q : List Bool) → listing_from (joined a b) (false ∷ q) ≡ under false (listing_from a q) ++ under true (listing b)
+  pub from_ipv4_listing : (a b : Entries T) (q : List Bool) → listing_from (joined a b) (false ∷ q) ≡ under false (listing_from a q) ++ under true (listing b)
   from_ipv4_listing a b q =
       ap (filter _) (listing_joined a b) ∙ filter_append _ (under false (listing a)) (under true (listing b))
       ∙ ap₂ (λ xs ys. xs ++ ys) (filter_under false (λ s. is_le (listing_cmp (false ∷ q) s)) (λ s. is_le (listing_cmp q s)) (λ s. refl) (listing a)) (all_kept true (λ s. is_le (listing_cmp (false ∷ q) s)) (λ s. refl) (listing b))
@@ -156,3 +158,14 @@ few_joined m n h k =
     let e4 = h.entries_within in let c4 = h.cells_within in let l4 = h.limit_below in
     let e6 = k.entries_within in let c6 = k.cells_within in let l6 = k.limit_below in
     omega (arith, count, e4, c4, l4, e6, c6, l6)
+
+-- clones of the pairs of each family are clones of the pairs of both
+module _ {T : Type 0} (C : T → T → Type 0) where
+  pub both_cloned : (xs ys us vs : List ((ℕ × ℕ) × T)) → AllZip (IsPairCloned C) xs us → AllZip (IsPairCloned C) ys vs → AllZip (IsPairCloned C) (both xs ys) (both us vs)
+  both_cloned [] [] [] [] h k = tt
+  both_cloned [] [] [] (v ∷ vs) h k = absurd k
+  both_cloned [] (y ∷ ys) [] [] h k = absurd k
+  both_cloned [] (y ∷ ys) [] (v ∷ vs) h k = ((ap V6 k.0.0, k.0.1), both_cloned [] ys [] vs h k.1)
+  both_cloned [] ys (u ∷ us) vs h k = absurd h
+  both_cloned (x ∷ xs) ys [] vs h k = absurd h
+  both_cloned (x ∷ xs) ys (u ∷ us) vs h k = ((ap V4 h.0.0, h.0.1), both_cloned xs ys us vs h.1 k)

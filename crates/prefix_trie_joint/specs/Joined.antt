@@ -1,9 +1,10 @@
 -- The entries of both families as one finite map. This project's own.
-use Rattle.std.specs.Prelude.{ℕ, Bool, true, false, List, [], ◌∷◌, ◌++◌, map, Option, None, Some}
-use Rattle.std.specs.FinMap.{from_sorted}
+use Rattle.std.specs.Prelude.{◌≡◌, ℕ, Bool, true, false, List, [], ◌∷◌, ◌++◌, map, Option, None, Some}
+use Rattle.std.specs.FinMap.{contains_key, from_sorted}
 use Rattle.prefix_trie.specs.Terms.{Entries, listing}
 use Rattle.prefix_trie_joint.specs.declared.prefix.IpPrefix.{IpPrefix}
 use Rattle.prefix_trie_joint.specs.declared.prefix.IpPrefix.TheVariants.{V4, V6}
+use Rattle.prefix_trie_joint.specs.Networks.{ip_back, ip_path}
 use Rattle.prefix_trie_joint.specs.declared.map.JointPrefixMap.{JointPrefixMap}
 use Rattle.prefix_trie_joint.specs.declared.set.JointPrefixSet.{JointPrefixSet}
 
@@ -15,6 +16,10 @@ module _ {T : Type 0} where
   -- the entries of an IPv4 map and of an IPv6 map as one finite map
   unfoldable pub joined : Entries T → Entries T → Entries T
   joined ipv4 ipv6 = from_sorted (under false (listing ipv4) ++ under true (listing ipv6))
+
+  -- each key is the path of its network, as in every joint map
+  abbrev pub AreIpKeys : Entries T → Type 0
+  AreIpKeys m = (s : List Bool) → contains_key m s ≡ true → ip_path (ip_back s) ≡ s
 
   -- the pairs of both families, IPv4 first
   abbrev pub both : List ((ℕ × ℕ) × T) → List ((ℕ × ℕ) × T) → List (IpPrefix × T)

@@ -1,6 +1,6 @@
 -- What a joint map is when a `&mut` to one of its values ends. This project's own.
 use Rattle.std.specs.Prelude.{Option}
-use Rattle.std.specs.Borrow.{LendsIf, Fml, RattleType, MutBor}
+use Rattle.std.specs.Borrow.{Lends, LendsIf, Fml, RattleType, MutBor}
 use Rattle.std.specs.declared.alloc.Allocator as alloc
 use Rattle.prefix_trie.specs.Terms.{ipv4_path, ipv6_path, with_longest_at, with_value_at}
 use Rattle.prefix_trie_joint.specs.declared.prefix.IpPrefix.{IpPrefix}
@@ -26,3 +26,7 @@ module _ (T A : RattleType) (a : alloc.Ghosts A.Denot) (m : MutBor (JointPrefixM
   -- the same for the value of the longest match
   abbrev pub lends_longest_if : Option (MutBor T.Denot) → Fml
   lends_longest_if r = LendsIf (joint.the_row T A a) T m r (with_longest_of m.now p) m.now
+
+  -- the same if there is a borrow
+  abbrev pub lends_value : MutBor T.Denot → Fml
+  lends_value r = Lends (joint.the_row T A a) T m r (with_value_of m.now p)

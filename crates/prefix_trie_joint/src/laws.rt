@@ -3,7 +3,7 @@
 //! Each function does nothing at run time. Calling it brings a record of laws into the caller's
 //! proof. The laws of `prefix_trie::laws` that are about entries, such as `lookup_laws` and
 //! `stored_laws`, hold for the joint entries too.
-ghost use Rattle.prefix_trie_joint.specs.Laws.{FamilyLaws};
+ghost use Rattle.prefix_trie_joint.specs.Laws.{FamilyLaws, WritingLaws};
 ghost use Rattle.prefix_trie_joint.specs.Texts.{IpTextLaws};
 
 /// Brings the laws of texts into the proof.
@@ -21,4 +21,14 @@ pub fn ip_text_laws()
 #[tactic(auto, using(crate::proofs::FamilyLaws::family_laws))]
 pub fn family_laws<T, A>()
     ensures { FamilyLaws T A }
+{}
+
+/// Brings the laws of writing walks into the proof.
+///
+/// They say what a walk has still to come after its next entry, whatever value was left there, and
+/// what the joint entries are then. They require that each key is the path of its network, which the
+/// calls that make writing walks ensure.
+#[tactic(auto, using(crate::proofs::Resuming::writing_laws))]
+pub fn writing_laws<T, A>()
+    ensures { WritingLaws T A }
 {}

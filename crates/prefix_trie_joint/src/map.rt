@@ -11,7 +11,9 @@ ghost use Rattle.prefix_trie_joint.specs.Networks.{ip_path};
 
 mod collecting;
 mod copying;
+mod counting;
 mod cover;
+pub mod entry;
 mod equality;
 mod fmt;
 mod into_iter;
@@ -21,13 +23,16 @@ mod memory;
 mod removal;
 mod splitting;
 mod walks;
+mod writing;
 
 use crate::prefix::IpPrefix;
 pub use cover::{Cover, CoverKeys, CoverValues};
+pub use entry::Entry;
 pub use into_iter::{IntoIter, IntoKeys, IntoValues};
 use prefix_trie::{Ipv4Prefix, Ipv6Prefix, PrefixMap, Refusal, Refused};
 use std::alloc::Allocator;
 pub use walks::{Iter, Keys, Values};
+pub use writing::{IterMut, ValuesMut};
 
 /// A map from IPv4 and IPv6 networks to values, in memory of the allocator `A`.
 ///

@@ -75,7 +75,7 @@ impl IpPrefix {
 
     // Returns a copy. The proof learns from it that the network fits.
     #[inline]
-    pub(crate) fn again(&self) -> Self
+    pub(crate) fn copy(&self) -> Self
         ensures { result ≡ self.now }
     {
         *self

@@ -9,10 +9,12 @@ ghost use Rattle.prefix_trie_joint.specs.Joined.{keys_of};
 ghost use Rattle.prefix_trie_joint.specs.Networks.{ip_path};
 
 mod collecting;
+mod counting;
 mod equality;
 mod into_iter;
 mod lookup;
 mod removal;
+mod splitting;
 mod walks;
 
 use crate::prefix::IpPrefix;

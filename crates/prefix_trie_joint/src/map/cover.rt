@@ -118,7 +118,7 @@ impl<'a, T: Drop, A: Allocator> Cover<'a, T, A> {
         ensures fits { length
             (covers (joined ipv4.now.entries ipv6.now.entries) (ip_path prefix.now)) ≤ 129 }
     {
-        match prefix.again() {
+        match prefix.copy() {
             IpPrefix::V4(network) => Cover {
                 ipv4: Some(ipv4.cover(&network)),
                 ipv6: None,

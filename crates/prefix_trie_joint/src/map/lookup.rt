@@ -28,7 +28,7 @@ impl<T: Drop, A: Allocator> JointPrefixMap<T, A> {
     pub fn get(&self, prefix: &IpPrefix) -> Option<&T>
         ensures { option_copied result ≡ get (entries_of self.now) (ip_path prefix.now) }
     {
-        match prefix.again() {
+        match prefix.copy() {
             IpPrefix::V4(network) => self.ipv4.get(&network),
             IpPrefix::V6(network) => self.ipv6.get(&network),
         }
@@ -48,7 +48,7 @@ impl<T: Drop, A: Allocator> JointPrefixMap<T, A> {
     pub fn contains_key(&self, prefix: &IpPrefix) -> bool
         ensures { result ≡ contains_key (entries_of self.now) (ip_path prefix.now) }
     {
-        match prefix.again() {
+        match prefix.copy() {
             IpPrefix::V4(network) => self.ipv4.contains_key(&network),
             IpPrefix::V6(network) => self.ipv6.contains_key(&network),
         }
@@ -68,7 +68,7 @@ impl<T: Drop, A: Allocator> JointPrefixMap<T, A> {
             ≡ option_map (λ value. (ip_back (ip_path prefix.now), value))
             (get (entries_of self.now) (ip_path prefix.now)) }
     {
-        match prefix.again() {
+        match prefix.copy() {
             IpPrefix::V4(network) => {
                 let Some((found, value)) = self.ipv4.get_key_value(&network) else {
                     return None;
@@ -101,7 +101,7 @@ impl<T: Drop, A: Allocator> JointPrefixMap<T, A> {
         ensures { option_map lent_item result
             ≡ prefix_pair ip_back (longest_match (entries_of self.now) (ip_path prefix.now)) }
     {
-        match prefix.again() {
+        match prefix.copy() {
             IpPrefix::V4(network) => {
                 let Some((found, value)) = self.ipv4.get_lpm(&network) else {
                     return None;
@@ -135,7 +135,7 @@ impl<T: Drop, A: Allocator> JointPrefixMap<T, A> {
             ≡ option_map (λ found. found.1)
             (longest_match (entries_of self.now) (ip_path prefix.now)) }
     {
-        match prefix.again() {
+        match prefix.copy() {
             IpPrefix::V4(network) => self.ipv4.get_lpm_value(&network),
             IpPrefix::V6(network) => self.ipv6.get_lpm_value(&network),
         }
@@ -157,7 +157,7 @@ impl<T: Drop, A: Allocator> JointPrefixMap<T, A> {
             ≡ option_map (λ found. ip_back found.0)
             (longest_match (entries_of self.now) (ip_path prefix.now)) }
     {
-        match prefix.again() {
+        match prefix.copy() {
             IpPrefix::V4(network) => Some(IpPrefix::V4(self.ipv4.get_lpm_prefix(&network)?)),
             IpPrefix::V6(network) => Some(IpPrefix::V6(self.ipv6.get_lpm_prefix(&network)?)),
         }
@@ -180,7 +180,7 @@ impl<T: Drop, A: Allocator> JointPrefixMap<T, A> {
         ensures { option_map lent_item result
             ≡ prefix_pair ip_back (shortest_match (entries_of self.now) (ip_path prefix.now)) }
     {
-        match prefix.again() {
+        match prefix.copy() {
             IpPrefix::V4(network) => {
                 let Some((found, value)) = self.ipv4.get_spm(&network) else {
                     return None;
@@ -212,7 +212,7 @@ impl<T: Drop, A: Allocator> JointPrefixMap<T, A> {
             ≡ option_map (λ found. ip_back found.0)
             (shortest_match (entries_of self.now) (ip_path prefix.now)) }
     {
-        match prefix.again() {
+        match prefix.copy() {
             IpPrefix::V4(network) => Some(IpPrefix::V4(self.ipv4.get_spm_prefix(&network)?)),
             IpPrefix::V6(network) => Some(IpPrefix::V6(self.ipv6.get_spm_prefix(&network)?)),
         }
@@ -232,7 +232,7 @@ impl<T: Drop, A: Allocator> JointPrefixMap<T, A> {
     pub fn is_covered(&self, prefix: &IpPrefix) -> bool
         ensures { result ≡ is_some (shortest_match (entries_of self.now) (ip_path prefix.now)) }
     {
-        match prefix.again() {
+        match prefix.copy() {
             IpPrefix::V4(network) => self.ipv4.is_covered(&network),
             IpPrefix::V6(network) => self.ipv6.is_covered(&network),
         }

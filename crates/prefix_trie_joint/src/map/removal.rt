@@ -29,7 +29,7 @@ impl<T: Drop, A: Allocator> JointPrefixMap<T, A> {
         ensures entries { entries_of self.new
             ≡ without_entry (entries_of self.old) (ip_path prefix.now) }
     {
-        match prefix.again() {
+        match prefix.copy() {
             IpPrefix::V4(network) => self.ipv4.remove(&network),
             IpPrefix::V6(network) => self.ipv6.remove(&network),
         }
@@ -55,7 +55,7 @@ impl<T: Drop, A: Allocator> JointPrefixMap<T, A> {
         ensures ipv4_nodes { self.new.ipv4.nodes ≡ self.old.ipv4.nodes }
         ensures ipv6_nodes { self.new.ipv6.nodes ≡ self.old.ipv6.nodes }
     {
-        match prefix.again() {
+        match prefix.copy() {
             IpPrefix::V4(network) => self.ipv4.remove_keep_tree(&network),
             IpPrefix::V6(network) => self.ipv6.remove_keep_tree(&network),
         }
@@ -77,7 +77,7 @@ impl<T: Drop, A: Allocator> JointPrefixMap<T, A> {
     pub fn drop_children(&mut self, prefix: &IpPrefix)
         ensures { entries_of self.new ≡ without_below (entries_of self.old) (ip_path prefix.now) }
     {
-        match prefix.again() {
+        match prefix.copy() {
             IpPrefix::V4(network) => self.ipv4.drop_children(&network),
             IpPrefix::V6(network) => self.ipv6.drop_children(&network),
         }

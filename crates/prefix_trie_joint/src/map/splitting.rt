@@ -26,6 +26,8 @@ impl<T: Drop, A: Allocator + Clone> JointPrefixMap<T, A> {
     #[tactic(auto, using(crate::proofs::Changes::none_joined))]
     pub fn new_like(&self) -> Result<Self, Refusal>
         ensures entries { IfOk result (λ map. entries_of map ≡ no_entries) }
+        ensures limits { IfOk result (λ map. (map.ipv4.space.limit ≡ self.now.ipv4.space.limit)
+            × (map.ipv6.space.limit ≡ self.now.ipv6.space.limit)) }
         ensures only_memory { IfErr result (λ refusal. refusal ≡ Memory) }
     {
         Ok(JointPrefixMap {
@@ -62,7 +64,7 @@ impl<T: Drop, A: Allocator + Clone> JointPrefixMap<T, A> {
         ensures unchanged { OnErr result (entries_of self.new ≡ entries_of self.old) }
         ensures only_memory { IfErr result (λ cause. cause ≡ Memory) }
     {
-        match prefix.again() {
+        match prefix.copy() {
             IpPrefix::V4(network) => {
                 let ipv6 = self.ipv6.new_like()?;
                 let ipv4 = self.ipv4.remove_children(&network)?;

@@ -191,7 +191,7 @@ impl<'a, T: Drop, A: Allocator> Iter<'a, T, A> {
         ensures fits { length result < 2 ^ 64 }
     {
         known_few(ipv4, ipv6);
-        match prefix.again() {
+        match prefix.copy() {
             IpPrefix::V4(network) => Iter {
                 ipv4: ipv4.iter_from(&network, inclusive),
                 ipv6: ipv6.iter(),
@@ -216,7 +216,7 @@ impl<'a, T: Drop, A: Allocator> Iter<'a, T, A> {
         ensures fits { length result < 2 ^ 64 }
     {
         known_few(ipv4, ipv6);
-        match prefix.again() {
+        match prefix.copy() {
             IpPrefix::V4(network) => Iter {
                 ipv4: ipv4.children(&network),
                 ipv6: map::Iter::default(),
@@ -243,7 +243,7 @@ impl<'a, T: Drop, A: Allocator> Iter<'a, T, A> {
 // Brings into the caller's proof that the maps have few entries together. The compiler removes it.
 #[inline]
 #[tactic(auto, using(crate::proofs::Walks::few_joined))]
-fn known_few<T: Drop, A: Allocator>(
+pub(super) fn known_few<T: Drop, A: Allocator>(
     ipv4: &PrefixMap<Ipv4Prefix, T, A>,
     ipv6: &PrefixMap<Ipv6Prefix, T, A>,
 )
@@ -325,6 +325,17 @@ impl<'a, T: Drop, A: Allocator> Values<'a, T, A> {
     {
         Values {
             inner: self.inner.clone(),
+        }
+    }
+}
+
+impl<'a, T: Drop, A: Allocator> Default for Values<'a, T, A> {
+    ghost is_default = { λ it. it ≡ [] };
+
+    #[inline]
+    fn default() -> Self {
+        Values {
+            inner: Iter::default(),
         }
     }
 }

@@ -25,7 +25,7 @@ impl<A: Allocator> JointPrefixSet<A> {
     pub fn contains(&self, prefix: &IpPrefix) -> bool
         ensures { result ≡ contains_key (keys_of self.now) (ip_path prefix.now) }
     {
-        match prefix.again() {
+        match prefix.copy() {
             IpPrefix::V4(network) => self.ipv4.contains(&network),
             IpPrefix::V6(network) => self.ipv6.contains(&network),
         }
@@ -45,7 +45,7 @@ impl<A: Allocator> JointPrefixSet<A> {
     pub fn is_covered(&self, prefix: &IpPrefix) -> bool
         ensures { result ≡ is_some (shortest_match (keys_of self.now) (ip_path prefix.now)) }
     {
-        match prefix.again() {
+        match prefix.copy() {
             IpPrefix::V4(network) => self.ipv4.is_covered(&network),
             IpPrefix::V6(network) => self.ipv6.is_covered(&network),
         }
@@ -66,7 +66,7 @@ impl<A: Allocator> JointPrefixSet<A> {
             ≡ option_map (λ _. ip_back (ip_path prefix.now))
             (get (keys_of self.now) (ip_path prefix.now)) }
     {
-        match prefix.again() {
+        match prefix.copy() {
             IpPrefix::V4(network) => {
                 let Some(stored) = self.ipv4.get(&network) else {
                     return None;
@@ -98,7 +98,7 @@ impl<A: Allocator> JointPrefixSet<A> {
             ≡ option_map (λ found. ip_back found.0)
             (longest_match (keys_of self.now) (ip_path prefix.now)) }
     {
-        match prefix.again() {
+        match prefix.copy() {
             IpPrefix::V4(network) => Some(IpPrefix::V4(self.ipv4.get_lpm(&network)?)),
             IpPrefix::V6(network) => Some(IpPrefix::V6(self.ipv6.get_lpm(&network)?)),
         }
@@ -120,7 +120,7 @@ impl<A: Allocator> JointPrefixSet<A> {
             ≡ option_map (λ found. ip_back found.0)
             (shortest_match (keys_of self.now) (ip_path prefix.now)) }
     {
-        match prefix.again() {
+        match prefix.copy() {
             IpPrefix::V4(network) => Some(IpPrefix::V4(self.ipv4.get_spm(&network)?)),
             IpPrefix::V6(network) => Some(IpPrefix::V6(self.ipv6.get_spm(&network)?)),
         }

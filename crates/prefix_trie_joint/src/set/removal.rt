@@ -1,14 +1,12 @@
 //! Removing networks of a set.
-ghost use Rattle.std.specs.Prelude.{◌≡◌, IfErr, IfOk, OnErr, OnOk};
+ghost use Rattle.std.specs.Prelude.{◌≡◌};
 ghost use Rattle.std.specs.FinMap.{contains_key};
-ghost use Rattle.prefix_trie_bits.specs.declared.prefix.Refusal.TheVariants.{Memory};
-ghost use Rattle.prefix_trie.specs.Terms.{no_entries, part_below, without_below, without_entry};
+ghost use Rattle.prefix_trie.specs.Terms.{no_entries, without_below, without_entry};
 ghost use Rattle.prefix_trie_joint.specs.Joined.{keys_of};
 ghost use Rattle.prefix_trie_joint.specs.Networks.{ip_path};
 
 use crate::prefix::IpPrefix;
 use crate::set::JointPrefixSet;
-use prefix_trie::Refusal;
 use std::alloc::Allocator;
 
 impl<A: Allocator> JointPrefixSet<A> {
@@ -27,7 +25,7 @@ impl<A: Allocator> JointPrefixSet<A> {
         ensures was_in { result ≡ contains_key (keys_of self.old) (ip_path prefix.now) }
         ensures entries { keys_of self.new ≡ without_entry (keys_of self.old) (ip_path prefix.now) }
     {
-        match prefix.again() {
+        match prefix.copy() {
             IpPrefix::V4(network) => self.ipv4.remove(&network),
             IpPrefix::V6(network) => self.ipv6.remove(&network),
         }
@@ -48,7 +46,7 @@ impl<A: Allocator> JointPrefixSet<A> {
         ensures was_in { result ≡ contains_key (keys_of self.old) (ip_path prefix.now) }
         ensures entries { keys_of self.new ≡ without_entry (keys_of self.old) (ip_path prefix.now) }
     {
-        match prefix.again() {
+        match prefix.copy() {
             IpPrefix::V4(network) => self.ipv4.remove_keep_tree(&network),
             IpPrefix::V6(network) => self.ipv6.remove_keep_tree(&network),
         }
@@ -68,7 +66,7 @@ impl<A: Allocator> JointPrefixSet<A> {
     pub fn drop_children(&mut self, prefix: &IpPrefix)
         ensures { keys_of self.new ≡ without_below (keys_of self.old) (ip_path prefix.now) }
     {
-        match prefix.again() {
+        match prefix.copy() {
             IpPrefix::V4(network) => self.ipv4.drop_children(&network),
             IpPrefix::V6(network) => self.ipv6.drop_children(&network),
         }
@@ -90,43 +88,5 @@ impl<A: Allocator> JointPrefixSet<A> {
     {
         self.ipv4.clear();
         self.ipv6.clear();
-    }
-}
-
-impl<A: Allocator + Clone> JointPrefixSet<A> {
-    /// Removes the networks that this network contains, itself included, and returns them as a second set.
-    ///
-    /// # Errors
-    ///
-    /// Returns `Memory` if an allocation fails. The keys are unchanged then, and no second set exists.
-    ///
-    /// # Examples
-    ///
-    /// ```rust
-    /// // set = {10.1.0.0/16, 10.2.0.0/16, 2001:db8::/32}
-    /// let part = set.remove_children(&"10.1.0.0/16".parse()?)?;
-    /// (part.len(), set.len());        // (1, 2)
-    /// ```
-    #[tactic(auto, using(crate::proofs::Changes::part_ipv4, crate::proofs::Changes::part_ipv6, crate::proofs::Changes::below_kept_ipv4, crate::proofs::Changes::below_kept_ipv6))]
-    pub fn remove_children(&mut self, prefix: &IpPrefix) -> Result<Self, Refusal>
-        ensures split_off { IfOk result
-            (λ second. keys_of second ≡ part_below (keys_of self.old) (ip_path prefix.now)) }
-        ensures entries { OnOk result
-            (keys_of self.new ≡ without_below (keys_of self.old) (ip_path prefix.now)) }
-        ensures unchanged { OnErr result (keys_of self.new ≡ keys_of self.old) }
-        ensures only_memory { IfErr result (λ cause. cause ≡ Memory) }
-    {
-        match prefix.again() {
-            IpPrefix::V4(network) => {
-                let ipv6 = self.ipv6.new_like()?;
-                let ipv4 = self.ipv4.remove_children(&network)?;
-                Ok(JointPrefixSet { ipv4, ipv6 })
-            }
-            IpPrefix::V6(network) => {
-                let ipv4 = self.ipv4.new_like()?;
-                let ipv6 = self.ipv6.remove_children(&network)?;
-                Ok(JointPrefixSet { ipv4, ipv6 })
-            }
-        }
     }
 }
