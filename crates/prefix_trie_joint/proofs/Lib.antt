@@ -3,6 +3,7 @@ pub mod Families
 pub mod Joined
 pub mod Changes
 pub mod Matches
+pub mod Retain
 pub mod Walks
 pub mod Writing
 pub mod Resuming

@@ -21,6 +21,7 @@ mod lending;
 mod lookup;
 mod memory;
 mod removal;
+mod retain;
 mod splitting;
 mod walks;
 mod writing;

@@ -14,6 +14,7 @@ mod equality;
 mod into_iter;
 mod lookup;
 mod removal;
+mod retain;
 mod splitting;
 mod walks;
 

@@ -6,6 +6,8 @@ mod cases;
 #[cfg(test)]
 mod examples;
 #[cfg(test)]
+mod retain;
+#[cfg(test)]
 mod tables;
 #[cfg(test)]
 mod trials;

@@ -1,0 +1,25 @@
+-- The set calls the test with each IPv4 network, and leaves it as its own calls leave it.
+use Rattle.std.proofs.Common.{false, sym, ap, ◌∙◌, subst}
+use Rattle.prefix_trie.specs.Terms.{listing}
+use Rattle.prefix_trie_bits.specs.Calls.Retaining.{RetainsEntriesTo}
+use Rattle.prefix_trie_bits.proofs.Model.RetainCalls.{unchanged_to}
+use Rattle.prefix_trie.specs.Sets.{CalledAtKey, TakesKey}
+use Rattle.prefix_trie_joint.specs.declared.prefix.IpPrefix.TheVariants.{V4}
+use Rattle.prefix_trie_joint.specs.Joined.{under}
+use Rattle.prefix_trie_joint.specs.Networks.{ip_back}
+use Rattle.prefix_trie_joint.proofs.Retain.{callable_of_family, retains_of_family}
+use Rattle.prefix_trie_joint.proofs.set.retain.retain_ipv4.Goals as goal
+
+pub retain_by_ref-requires : goal.retain_by_ref-requires
+retain_by_ref-requires g c =
+    callable_of_family false (CalledAtKey g.F.FnMut ip_back) _ (λ f. f.0.now)
+    (λ f k v b f' asked. record { prefix = asked.called.met.1.0; shows = asked.called.met.1.1 ∙ ap V4 asked.shows; called = asked.called.met.1.2 })
+    (TakesKey g.F.FnMut ip_back) _ (λ f k v may p is p' here. may p' (here ∙ ap V4 is)) _ (listing c.args.set.now.entries) c.requires
+
+pub returns-clause-kept : goal.returns-clause-kept
+returns-clause-kept g c =
+    let calls = c.retain_by_ref.ensures.kept in
+    let same = unchanged_to _ (λ f. f.0.ghost_name) (λ f k v b f' asked. asked.called.met.0) _ _ _ _ calls in
+    subst (λ f. RetainsEntriesTo (CalledAtKey g.F.FnMut ip_back) c.args.test.now (under false (listing c.args.set.now.entries)) (under false (listing c.retain_by_ref.new.self.entries)) f) (sym (c.test-1.given.1 (sym same)))
+    (retains_of_family false (CalledAtKey g.F.FnMut ip_back) _ (λ f. f.0.now)
+    (λ f k v b f' asked. record { prefix = asked.called.met.1.0; shows = asked.called.met.1.1 ∙ ap V4 asked.shows; called = asked.called.met.1.2 }) _ _ _ _ calls)
