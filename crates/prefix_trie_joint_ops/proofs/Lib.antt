@@ -1,0 +1,5 @@
+-- The lemmas of this crate.
+pub mod Combined
+pub mod Reduced
+pub mod Least
+pub mod Compared

@@ -1,0 +1,15 @@
+-- A smallest set of each family is a smallest joint set, which covers the same addresses.
+use Rattle.prefix_trie_joint_ops.proofs.Least.{no_siblings, none_covered, same_addresses, smallest_cover}
+use Rattle.prefix_trie_joint_ops.proofs.set.optimal.aggregated.Goals as goal
+
+pub returns-clause-addresses : goal.returns-clause-addresses
+returns-clause-addresses g c = same_addresses _ _ _ _ c.in_ok-ipv4.ensures.addresses c.in_ok-ipv6.ensures.addresses
+
+pub returns-clause-smallest : goal.returns-clause-smallest
+returns-clause-smallest g c = smallest_cover _ _ c.in_ok-ipv4.ensures.smallest c.in_ok-ipv6.ensures.smallest
+
+pub returns-clause-uncovered : goal.returns-clause-uncovered
+returns-clause-uncovered g c = none_covered _ _ c.in_ok-ipv4.ensures.uncovered c.in_ok-ipv6.ensures.uncovered
+
+pub returns-clause-no_siblings : goal.returns-clause-no_siblings
+returns-clause-no_siblings g c = no_siblings _ _ c.in_ok-ipv4.ensures.no_siblings c.in_ok-ipv6.ensures.no_siblings

@@ -1,0 +1,78 @@
+//! The joint map with the fewest entries for the same lookups of addresses.
+ghost use Rattle.std.specs.Prelude.{◌≡◌, Bool, true, false, List, IfErr, IfOk};
+ghost use Rattle.prefix_trie_ops.specs.Values.{is_redundant};
+ghost use Rattle.prefix_trie_joint.specs.Joined.{entries_of};
+ghost use Rattle.prefix_trie_joint_ops.specs.Smallest.{HaveSameAnswers, IsSmallest};
+
+use prefix_trie::Refusal;
+use prefix_trie_joint::JointPrefixMap;
+use prefix_trie_ops::map;
+use std::alloc::Allocator;
+
+/// Replaces the entries of each family by as few as the same lookups of addresses need.
+///
+/// Every address has the same longest-match value as before, or still none. No joint map with the same answers to
+/// addresses has fewer entries. Each family is aggregated by itself: 0.0.0.0/0 and ::/0 with one value stay two entries.
+/// `prefix_trie_ops::map::aggregate` says the rest.
+///
+/// # Errors
+///
+/// Returns `Memory` if an allocation fails, and `IndexRange` if a new map exceeds the slot limit. The map is unchanged
+/// then, in both families.
+///
+/// # Examples
+///
+/// ```rust
+/// // map = {10.0.0.0/9: 1, 10.128.0.0/9: 1, 2001:db8::/33: 2, 2001:db8:8000::/33: 2}
+/// aggregate(&mut map, alloc)?;
+/// map.values();           // [1, 2]
+/// map.iter().next();      // Some((V4(10.0.0.0/8), 1))
+/// ```
+pub fn aggregate<T: Copy + Ord, A: Allocator + Clone, B: Allocator>(
+    table: &mut JointPrefixMap<T, A>,
+    alloc: B,
+) -> Result<(), Refusal>
+    // In the next three clauses, values that `==` calls equal are the same.
+    ensures values { IfOk result (λ _. ((x y : T) → T.PartialEq.eq x y ≡ true → x ≡ y)
+        → HaveSameAnswers (entries_of table.new) (entries_of table.old)) }
+    ensures smallest { IfOk result (λ _. ((x y : T) → T.PartialEq.eq x y ≡ true → x ≡ y)
+        → IsSmallest (entries_of table.new)) }
+    ensures tidy { IfOk result (λ _. ((x y : T) → T.PartialEq.eq x y ≡ true → x ≡ y)
+        → (s : List Bool) → is_redundant T.PartialEq.eq (entries_of table.new) s ≡ false) }
+    ensures unchanged { IfErr result (λ _. table.new ≡ table.old) }
+{
+    let made = aggregated(table, alloc)?;
+    *table = made;
+    Ok(())
+}
+
+/// Returns the map that `aggregate` would leave, in memory of its own.
+///
+/// The new map has clones of this map's allocators and its slot limits.
+///
+/// # Errors
+///
+/// Returns `Memory` if an allocation fails, and `IndexRange` if a new map exceeds the slot limit. No map exists then.
+///
+/// # Examples
+///
+/// ```rust
+/// // map = {10.0.0.0/9: 1, 10.128.0.0/9: 1, ::/0: 1}
+/// aggregated(&map, alloc)?.len();     // 2
+/// map.len();                          // 3
+/// ```
+pub fn aggregated<T: Copy + Ord, A: Allocator + Clone, B: Allocator>(
+    table: &JointPrefixMap<T, A>,
+    alloc: B,
+) -> Result<JointPrefixMap<T, A>, Refusal>
+    ensures values { IfOk result (λ made. ((x y : T) → T.PartialEq.eq x y ≡ true → x ≡ y)
+        → HaveSameAnswers (entries_of made) (entries_of table.now)) }
+    ensures smallest { IfOk result (λ made. ((x y : T) → T.PartialEq.eq x y ≡ true → x ≡ y)
+        → IsSmallest (entries_of made)) }
+    ensures tidy { IfOk result (λ made. ((x y : T) → T.PartialEq.eq x y ≡ true → x ≡ y)
+        → (s : List Bool) → is_redundant T.PartialEq.eq (entries_of made) s ≡ false) }
+{
+    let ipv4 = map::aggregated(&table.ipv4, &alloc)?;
+    let ipv6 = map::aggregated(&table.ipv6, &alloc)?;
+    Ok(JointPrefixMap { ipv4, ipv6 })
+}

@@ -1,0 +1,14 @@
+//! Operations on whole joint sets.
+
+mod aggregation;
+mod comparing;
+mod optimal;
+mod walks;
+
+pub use aggregation::aggregate_consistent;
+pub use comparing::{intersects, is_disjoint, is_subset};
+pub use optimal::{aggregate, aggregated};
+pub use walks::{
+    CoveringDifferenceWalk, DifferenceWalk, IntersectionWalk, UnionWalk, covering_difference,
+    difference, intersection, union,
+};

@@ -1,0 +1,51 @@
+//! Removal of keys that a shorter key covers, in both families.
+ghost use Rattle.std.specs.Prelude.{◌≡◌, Bool, true, false, List, IfErr, IfOk};
+ghost use Rattle.std.specs.Option.{is_some};
+ghost use Rattle.std.specs.FinMap.{contains_key};
+ghost use Rattle.prefix_trie.specs.Terms.{shortest_match};
+ghost use Rattle.prefix_trie_ops.specs.Covered.{is_below_another, without_covered};
+ghost use Rattle.prefix_trie_joint.specs.Joined.{keys_of};
+
+use prefix_trie::laws::{lookup_laws, match_laws};
+use prefix_trie_joint::{IpPrefix, JointPrefixSet};
+use prefix_trie_ops::set::{keep_marked, marks_of};
+use std::alloc::{AllocError, Allocator};
+
+/// Removes each network that a shorter one of its family covers.
+///
+/// `is_covered` returns the same as before for every question, of any length. No such network is left, and nothing else
+/// changes. It allocates one byte for each network.
+///
+/// # Errors
+///
+/// Returns the allocator's error if an allocation fails. The set is unchanged then, in both families.
+///
+/// # Examples
+///
+/// ```rust
+/// // set = {10.0.0.0/8, 10.1.0.0/16, ::/0, 2001:db8::/32}
+/// aggregate_consistent(&mut set, alloc)?;
+/// set.len();                  // 2
+/// set.iter().next();          // Some(V4(10.0.0.0/8))
+/// ```
+pub fn aggregate_consistent<A: Allocator, B: Allocator>(
+    set: &mut JointPrefixSet<A>,
+    alloc: B,
+) -> Result<(), AllocError>
+    ensures entries { IfOk result (λ _. keys_of set.new ≡ without_covered (keys_of set.old)) }
+    ensures covered { IfOk result
+        (λ _. (q : List Bool) → is_some (shortest_match (keys_of set.new) q)
+        ≡ is_some (shortest_match (keys_of set.old) q)) }
+    ensures tidy { IfOk result
+        (λ _. (s : List Bool) → contains_key (keys_of set.new) s ≡ true
+        → is_below_another (keys_of set.new) s ≡ false) }
+    ensures unchanged { IfErr result (λ _. set.new ≡ set.old) }
+{
+    lookup_laws::<IpPrefix, ()>();
+    match_laws::<()>();
+    let ipv4 = marks_of(&set.ipv4, &alloc)?;
+    let ipv6 = marks_of(&set.ipv6, &alloc)?;
+    keep_marked(&mut set.ipv4, ipv4.as_slice());
+    keep_marked(&mut set.ipv6, ipv6.as_slice());
+    Ok(())
+}
