@@ -13,7 +13,7 @@ use std::alloc::Allocator;
 ///
 /// Every address has the same longest-match value as before, or still none. No joint map with the same answers to
 /// addresses has fewer entries. Each family is aggregated by itself: 0.0.0.0/0 and ::/0 with one value stay two entries.
-/// `prefix_trie_ops::map::aggregate` says the rest.
+/// See `prefix_trie_ops::map::aggregate` for the time and memory it takes.
 ///
 /// # Errors
 ///

@@ -12,9 +12,9 @@ use std::alloc::Allocator;
 
 /// Replaces the networks of each family by as few as cover the same addresses.
 ///
-/// The same addresses are covered as before, and no joint set that covers them has fewer networks. So no network covers
+/// The same addresses are covered as before, and no joint set that covers them has fewer networks. No network covers
 /// another, and no two networks of a family differ in their last bit alone. Each family is aggregated by itself:
-/// 0.0.0.0/0 and ::/0 stay two networks. `prefix_trie_ops::set::aggregate` says the rest.
+/// 0.0.0.0/0 and ::/0 stay two networks. See `prefix_trie_ops::set::aggregate` for the time and memory it takes.
 ///
 /// # Errors
 ///

@@ -11,9 +11,9 @@ use std::alloc::Allocator;
 
 /// Replaces the keys by as few as cover the same addresses.
 ///
-/// An address is covered if a key begins it. The same addresses are covered as before, and no set that covers them has
-/// fewer keys. So no key covers another, and of two keys that differ in their last bit alone only one is in the set.
-/// Shorter questions may be covered that were not covered before. The set keeps its slot limit.
+/// The same addresses are covered as before: those that a key contains. No set that covers them has fewer keys. No key
+/// covers another, and no two keys differ in their last bit alone. A shorter question may be covered that was not
+/// covered before. The set keeps its slot limit.
 ///
 /// The time grows with the number of bits of the keys; bits that keys share count once. The new set is built beside the
 /// old one. Until then, the call also needs memory for a copy of the keys, and for a few numbers for each of these bits.
