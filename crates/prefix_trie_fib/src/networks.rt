@@ -23,9 +23,8 @@ use std::alloc::{AllocError, Allocator};
 /// # Examples
 ///
 /// ```rust
-/// // from 10.0.0.1 to 10.0.0.6
-/// let networks = networks_of::<Ipv4Prefix, Global>(0x0a00_0001, 0x0a00_0006, alloc)?;
-/// networks.iter();    // [10.0.0.1/32, 10.0.0.2/31, 10.0.0.4/31, 10.0.0.6/32]
+/// let networks = networks_of::<Ipv4Prefix, Global>(0x0a000001, 0x0a000006, alloc)?;
+/// networks.iter();    // [10.0.0.1/32, 10.0.0.2/31, 10.0.0.4/31, 10.0.0.6/32]: from 10.0.0.1 to 10.0.0.6
 /// ```
 pub fn networks_of<P: Prefix, A: Allocator>(
     first: P::R,
