@@ -17,8 +17,11 @@ use std::marker::Model;
 
 /// The longest match of each address in a map, as ranges of addresses.
 ///
-/// A lookup reads an index by the first bits of the address, and then the few ranges that begin with these bits. The
-/// table does not change: compile a new one from the changed map.
+/// A lookup reads an index by the first bits of the address, and then the few ranges that begin with these bits. First
+/// addresses are kept as 64 bits if no other bit of them is 1, as in most tables of IPv6 routes.
+///
+/// The table does not change. After changes of the map, compile a new table with `Fib::new`: this takes about as long
+/// as building the map.
 ///
 /// # Examples
 ///

@@ -10,6 +10,8 @@ use std::alloc::Allocator;
 impl<P: Prefix, T: Copy + PartialEq, A: Allocator> Fib<P, T, A> {
     /// Looks up each address, in the order of the addresses.
     ///
+    /// This is faster than calls of `lookup` whose results are used at once, because the processor overlaps the reads.
+    ///
     /// Requires that `out` is as long as `addresses`.
     ///
     /// # Examples
