@@ -171,6 +171,10 @@ const PRINTINGS: &[Printing] = &[
     ),
     (&["minimise", "new"], NEW),
     (
+        &["aggregate", "old"],
+        "0.0.0.0/0 up\n10.0.0.0/8 core\n10.1.2.0/24 lab\n192.0.2.0/24 test\n2001:db8::/32 six\n",
+    ),
+    (
         &["check", "access", "10.9.9.9", "10.1.2.3", "11.0.0.1", "::1"],
         "10.9.9.9 allowed 10.0.0.0/8\n10.1.2.3 denied 10.1.0.0/16\n11.0.0.1 denied none\n::1 allowed ::/0\nfalse\n",
     ),
@@ -233,6 +237,11 @@ fn minimised(name: &str, out: &mut Vec<u8>, alloc: Global) -> Result<(), Fail> {
     Ok(())
 }
 
+fn aggregated(name: &str, out: &mut Vec<u8>, alloc: Global) -> Result<(), Fail> {
+    commands::aggregate(&table(name, alloc)?, alloc, out)?;
+    Ok(())
+}
+
 fn check(name: &str, words: &[&str], out: &mut Vec<u8>, alloc: Global) -> Result<(), Fail> {
     let addresses = addresses(words, alloc)?;
     check_in(&table(name, alloc)?, addresses.as_slice(), out)
@@ -265,6 +274,7 @@ fn carry_out(words: &[&str], out: &mut Vec<u8>, alloc: Global) -> Result<(), Fai
         Command::ListWithin(name, network) => list_within(name, network, out, alloc),
         Command::Diff(old, new) => diff(old, new, out, alloc),
         Command::Minimise(name) => minimised(name, out, alloc),
+        Command::Aggregate(name) => aggregated(name, out, alloc),
         Command::Check(name, words, _) => check(name, words, out, alloc),
         Command::Stats(name) => stats(name, out, alloc),
     }

@@ -32,6 +32,8 @@ pub enum Command<'a> {
     Diff(&'a str, &'a str),
     /// Print a table without the networks that change no lookup.
     Minimise(&'a str),
+    /// Print the fewest networks with the same lookups of addresses.
+    Aggregate(&'a str),
     /// Check addresses against an access list.
     Check(&'a str, &'a [&'a str], BadAddresses),
     /// Describe a table.
@@ -87,6 +89,7 @@ fn parse_fixed<'a>(words: &'a [&'a str]) -> Result<Command<'a>, UsageError> {
         ["list", table, network] => Ok(Command::ListWithin(table, network)),
         ["diff", old, new] => Ok(Command::Diff(old, new)),
         ["minimise", table] => Ok(Command::Minimise(table)),
+        ["aggregate", table] => Ok(Command::Aggregate(table)),
         ["stats", table] => Ok(Command::Stats(table)),
         _ => Err(UsageError),
     }

@@ -3,6 +3,7 @@
 use crate::access::{Decision, decide};
 use crate::addresses::Address;
 use crate::diff::{Values, changes};
+use crate::fewest::fewest_networks;
 use crate::lookup::longest;
 use crate::minimise::remove_redundant;
 use crate::stats::{array_bytes, by_length, text_bytes};
@@ -85,6 +86,24 @@ pub fn minimise<W: Write>(table: &mut Table, alloc: Global, out: &mut W) -> io::
     remove_redundant(&mut table.ipv4, alloc)?;
     remove_redundant(&mut table.ipv6, alloc)?;
     list(table, out)
+}
+
+/// Prints the fewest networks that give each address the value that it has in a table.
+pub fn aggregate<W: Write>(table: &Table, alloc: Global, out: &mut W) -> io::Result<()> {
+    print_fewest(&table.ipv4, alloc, out)?;
+    print_fewest(&table.ipv6, alloc, out)
+}
+
+// Prints the fewest networks of a family, in listing order.
+fn print_fewest<P: Prefix + Display, W: Write>(
+    table: &FamilyTable<P>,
+    alloc: Global,
+    out: &mut W,
+) -> io::Result<()> {
+    for (network, value) in fewest_networks(table, alloc)? {
+        writeln!(out, "{network} {value}")?;
+    }
+    Ok(())
 }
 
 /// Prints for each address whether the access list allows it and which network decides, and returns whether it allows all.

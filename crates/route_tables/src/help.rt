@@ -11,6 +11,7 @@ Usage:
   routes list TABLE [NETWORK]       print the table, or what a network contains, in order
   routes diff OLD NEW               print what was added (+), removed (-) and changed (~)
   routes minimise TABLE             print the table without routes that a wider one makes redundant
+  routes aggregate TABLE            print the fewest networks with the same value for each address
   routes check TABLE [ADDRESS..]    print whether an access list allows each address
   routes stats TABLE                print counts, memory and lengths of networks
   routes help COMMAND               explain a command, with examples
@@ -58,10 +59,21 @@ exit status is 1 if there is one.
 const MINIMISE: &str = "routes minimise TABLE
 
 Removes each route whose next wider route has the same value. Each address keeps its value, and
-no route is added or changed, so the rest can be read beside the table line by line.
+no route is added or changed, so the rest can be read beside the table line by line. For the
+fewest networks, see `routes help aggregate`.
 
   routes minimise routes.txt
   routes minimise routes.txt | routes diff routes.txt -
+";
+
+const AGGREGATE: &str = "routes aggregate TABLE
+
+Prints the fewest networks in which each address has the value of its longest network, or none
+if it has none. Networks with the same value are merged, so some may be new. What a network of
+the table had as its longest network can change: only addresses keep their values.
+
+  routes aggregate routes.txt
+  routes aggregate routes.txt | routes stats -
 ";
 
 const CHECK: &str = "routes check [--skip-bad] TABLE [ADDRESS..]
@@ -89,6 +101,7 @@ pub const TOPICS: &[(&str, &str)] = &[
     ("list", LIST),
     ("diff", DIFF),
     ("minimise", MINIMISE),
+    ("aggregate", AGGREGATE),
     ("check", CHECK),
     ("stats", STATS),
 ];

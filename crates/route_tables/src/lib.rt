@@ -12,6 +12,7 @@ pub mod arguments;
 pub mod commands;
 pub mod diff;
 pub mod excerpt;
+pub mod fewest;
 pub mod help;
 pub mod line;
 pub mod lines;

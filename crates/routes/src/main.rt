@@ -1,4 +1,4 @@
-//! The program `routes`: looks up, prints, compares, minimises, checks and describes tables of IP networks.
+//! The program `routes`: looks up, prints, compares, minimises, aggregates, checks and describes tables of IP networks.
 //!
 //! The library `route_tables` does the work.
 #![tactic(auto)]
@@ -192,6 +192,13 @@ fn print_minimised(rt: &HostRuntime, path: &str, out: &mut impl Write) -> Result
     Ok(())
 }
 
+/// Prints the fewest networks that give each address its value.
+fn print_aggregated(rt: &HostRuntime, path: &str, out: &mut impl Write) -> Result<()> {
+    let table = read_table(rt, path)?;
+    commands::aggregate(&table, rt.alloc(), out)?;
+    Ok(())
+}
+
 /// Prints whether an access list allows each address, and returns whether it allows all.
 fn print_check(
     rt: &HostRuntime,
@@ -226,6 +233,7 @@ fn carry_out(rt: &HostRuntime, command: Command<'_>, out: &mut impl Write) -> Re
         Command::ListWithin(path, word) => print_within(rt, path, word, out)?,
         Command::Diff(old, new) => return print_diff(rt, old, new, out),
         Command::Minimise(path) => print_minimised(rt, path, out)?,
+        Command::Aggregate(path) => print_aggregated(rt, path, out)?,
         Command::Check(path, words, bad) => return print_check(rt, path, words, bad, out),
         Command::Stats(path) => print_stats(rt, path, out)?,
     }

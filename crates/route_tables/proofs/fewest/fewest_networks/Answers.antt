@@ -1,0 +1,13 @@
+-- The smallest map of ranks, with the texts of the ranks, is the smallest table.
+use Rattle.std.proofs.Common.{◌∙◌, ap, map}
+use Rattle.std.proofs.lemmas.Bool.{eqb-true}
+use Rattle.prefix_trie.specs.Terms.{lent_item}
+use Rattle.route_tables.specs.Fewest.{named_pairs, texts_of}
+use Rattle.route_tables.proofs.Ranks.{fewest_by_ranks}
+use Rattle.route_tables.proofs.fewest.fewest_networks.Goals as goal
+
+pub returns : goal.returns
+returns g c =
+    fewest_by_ranks c.lookup_laws.ensures g.P.R.Key.bit_width (texts_of c.in_ok-ranked.ranked.texts.keys) c.in_ok-ranked.ranked.ranks.entries c.aggregate.new.table.entries c.args.table.now.entries c.in_ok-ranked.ensures
+    g.P.Prefix.back (map lent_item c.in_ok-named.field-0.items) (c.in_ok-named.ensures ∙ ap (λ keys. named_pairs g.P.Prefix.back (texts_of keys) c.aggregate.new.table.entries) c.as_slice.ensures.keys)
+    (c.in_ok-aggregate.ensures.values eqb-true) (c.in_ok-aggregate.ensures.smallest eqb-true)

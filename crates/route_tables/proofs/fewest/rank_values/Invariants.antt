@@ -1,0 +1,10 @@
+-- The invariant of `rank_values`: the networks so far have ranks, and with those still to come they are all.
+use Rattle.route_tables.specs.Fewest.{texts_of}
+use Rattle.route_tables.proofs.Ranking.{Ranking}
+use Rattle.route_tables.proofs.fewest.rank_values.Given as goal
+
+abbrev pub invariant-loop-network : goal.invariant-loop-network
+invariant-loop-network g l =
+    (goal.iterator-loop-network g).can_next l.network-iterator
+    × (goal.iterator-loop-network g).is_finite l.network-iterator
+    × Ranking g.P.Prefix.path g.P.Prefix.IsFitting l.network-iterator (texts_of l.texts.keys) l.ranks.entries l.table.entries

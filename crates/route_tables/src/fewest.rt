@@ -1,0 +1,97 @@
+//! The fewest networks that give each address the value of its longest match.
+ghost use Rattle.std.specs.Prelude.{◌≡◌, IfOk, map};
+ghost use Rattle.prefix_trie.specs.Terms.{lent_item};
+ghost use Rattle.route_tables.specs.Fewest.{HasRanks, IsFewest, Ranks, named_pairs, text_at, texts_of};
+
+use crate::table::FamilyTable;
+use crate::value::Value;
+use indexmap::IndexSet;
+use prefix_trie::laws::{lookup_laws, put_laws};
+use prefix_trie::{Prefix, PrefixMap, Refusal};
+use prefix_trie_ops::map::aggregate;
+use std::alloc::{AllocError, Global};
+
+/// Returns the fewest networks, each with its value, that give each address the value of its longest match in a table.
+///
+/// They are in listing order. An address that no network of the table contains is in none of them.
+///
+/// # Errors
+///
+/// Returns `Memory` if an allocation fails, and `IndexRange` if a map with the ranks of the values would be too large.
+///
+/// # Examples
+///
+/// ```rust
+/// let table = load(b"10.0.0.0/9 core\n10.128.0.0/9 core\n10.1.0.0/16 edge\n", alloc)?.table;
+/// fewest_networks(&table.ipv4, alloc)?.iter();        // [(10.0.0.0/8, "core"), (10.1.0.0/16, "edge")]
+/// ```
+#[tactic(auto, using(crate::proofs::Ranks::fewest_by_ranks))]
+pub fn fewest_networks<P: Prefix>(
+    table: &FamilyTable<P>,
+    alloc: Global,
+) -> Result<Vec<(P, &str)>, Refusal>
+    ensures { IfOk result
+        (λ networks. IsFewest P.R.bit_width P.back table.now.entries
+        (map lent_item networks.items)) }
+{
+    lookup_laws::<P, usize>();
+    let mut ranked = rank_values(table, alloc)?;
+    aggregate(&mut ranked.ranks, alloc)?;
+    Ok(named(&ranked.ranks, ranked.texts.as_slice(), alloc)?)
+}
+
+/// The rank of each network's value, and the values in the order of their ranks.
+#[derive(Drop)]
+struct Ranked<'a, P: Prefix> {
+    ranks: PrefixMap<P, usize, Global>,
+    texts: IndexSet<&'a str>,
+}
+
+// Numbers the values of a table in the order in which they are listed first.
+fn rank_values<P: Prefix>(table: &FamilyTable<P>, alloc: Global) -> Result<Ranked<'_, P>, Refusal>
+    ensures { IfOk result
+        (λ made. HasRanks (texts_of made.texts.keys) made.ranks.entries table.now.entries) }
+{
+    put_laws::<P, Value>();
+    let mut ranks = PrefixMap::new(alloc)?;
+    let mut texts = IndexSet::new(alloc);
+    for (network, value) in table {
+        let rank = rank_of(&mut texts, value.as_str())?;
+        ranks.insert(network, rank)?;
+    }
+    Ok(Ranked { ranks, texts })
+}
+
+// Returns the rank of a text. A new text gets the next one.
+fn rank_of<'a>(texts: &mut IndexSet<&'a str>, text: &'a str) -> Result<usize, AllocError>
+    ensures { IfOk result
+        (λ rank. Ranks (texts_of texts.old.keys) (texts_of texts.new.keys) text.now rank) }
+{
+    let (rank, _) = texts.insert_full(text)?;
+    Ok(rank)
+}
+
+// Returns the networks in listing order, each with the text of its rank.
+fn named<'a, P: Prefix>(
+    ranks: &PrefixMap<P, usize, Global>,
+    texts: &[&'a str],
+    alloc: Global,
+) -> Result<Vec<(P, &'a str)>, AllocError>
+    ensures { IfOk result
+        (λ networks. map lent_item networks.items
+        ≡ named_pairs P.back (texts_of texts.now) ranks.now.entries) }
+{
+    let mut networks = Vec::new(alloc);
+    for (network, rank) in ranks {
+        networks.push((network, text_of(texts, *rank)))?;
+    }
+    Ok(networks)
+}
+
+// Returns the text of a rank, or an empty one if no text has this rank.
+#[tactic(auto, using(crate::proofs::Ranking::text_read, crate::proofs::Ranking::text_past))]
+fn text_of<'a>(texts: &[&'a str], rank: usize) -> &'a str
+    ensures { result.now ≡ text_at (texts_of texts.now) rank }
+{
+    if rank < texts.len() { texts[rank] } else { "" }
+}
