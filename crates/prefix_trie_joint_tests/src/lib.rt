@@ -1,10 +1,13 @@
-//! The tests of `prefix_trie_joint`: tables of calls on joint maps, with each allocation failing once.
+//! The tests of `prefix_trie_joint` and `prefix_trie_joint_ops`: tables of calls on joint maps, with each allocation
+//! failing once.
 #![tactic(auto)]
 
 #[cfg(test)]
 mod cases;
 #[cfg(test)]
 mod examples;
+#[cfg(test)]
+mod ops;
 #[cfg(test)]
 mod retain;
 #[cfg(test)]
