@@ -109,7 +109,8 @@ fn push_parts<K: Key, T: Copy, A: Allocator, B: Allocator>(
     ensures kept { OnOk result (Extends parts.old.items parts.new.items) }
     ensures right { OnOk result
         ((q : ℕ) → number (K.bits low) ≡ q * number (K.bits step)
-        → HasParts line.now (number (K.bits step)) count parts.new.items (length parts.old.items) q) }
+        → HasParts line.now (number (K.bits step)) count parts.new.items
+        (length parts.old.items) q) }
 {
     let mut from = first;
     let mut at = low;
