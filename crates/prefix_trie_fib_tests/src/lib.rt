@@ -2,6 +2,8 @@
 #![tactic(auto)]
 
 #[cfg(test)]
+mod addresses;
+#[cfg(test)]
 mod comparing;
 #[cfg(test)]
 mod edges;
@@ -9,6 +11,8 @@ mod edges;
 mod every_map;
 #[cfg(test)]
 mod networks;
+#[cfg(test)]
+mod ranges;
 #[cfg(test)]
 mod refusals;
 #[cfg(test)]
