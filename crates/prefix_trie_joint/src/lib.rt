@@ -2,8 +2,8 @@
 //!
 //! A joint map is two maps of `prefix_trie`, one for each family, which may be used directly. Its
 //! contracts see one finite map, whose keys begin with a bit for the family: 0 for IPv4 and 1 for
-//! IPv6. So each clause reads like the one of `PrefixMap`. No call has a `requires`: an `IpPrefix`
-//! always fits. Walks list IPv4 networks first, and then IPv6 networks.
+//! IPv6. So each clause reads like the one of `PrefixMap`. An `IpPrefix` always fits, so only the
+//! `retain` calls have a `requires`, on their test. Walks list IPv4 networks first, and then IPv6 networks.
 #![tactic(auto)]
 
 pub mod laws;

@@ -37,8 +37,8 @@ pub use writing::{IterMut, ValuesMut};
 
 /// A map from IPv4 and IPv6 networks to values, in memory of the allocator `A`.
 ///
-/// It is a map for each family, and both may be used directly: `map.ipv6.node_count()`. No call has a
-/// `requires`: a network of either family always fits.
+/// It is a map for each family, and both may be used directly: `map.ipv6.node_count()`. A
+/// network of either family always fits, so only the `retain` calls have a `requires`, on their test.
 ///
 /// In examples, a comment `map = {..}` says what a map with `u32` values holds at the start. The
 /// comment after an expression is its value as `{:?}` prints it, or the list of what an iterator

@@ -26,8 +26,8 @@ pub use walks::{Cover, Iter};
 
 /// A set of IPv4 and IPv6 networks, in memory of the allocator `A`.
 ///
-/// It is a set for each family, and both may be used directly: `set.ipv6.node_count()`. No call has a
-/// `requires`: a network of either family always fits.
+/// It is a set for each family, and both may be used directly: `set.ipv6.node_count()`. A
+/// network of either family always fits, so only the `retain` calls have a `requires`, on their test.
 ///
 /// # Examples
 ///
