@@ -7,6 +7,8 @@ mod cases;
 #[cfg(test)]
 mod examples;
 #[cfg(test)]
+mod one_family;
+#[cfg(test)]
 mod ops;
 #[cfg(test)]
 mod retain;

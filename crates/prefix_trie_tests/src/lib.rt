@@ -5,29 +5,25 @@
 
 #[cfg(test)]
 mod any_map;
-#[cfg(test)]
-mod cases;
+pub mod cases;
 #[cfg(test)]
 mod clones;
 #[cfg(test)]
 mod collecting;
-#[cfg(test)]
-mod contents;
+pub mod contents;
 #[cfg(test)]
 mod drops;
 #[cfg(test)]
 mod entry_callers;
 #[cfg(test)]
 mod examples;
-#[cfg(test)]
-mod networks;
+pub mod networks;
 #[cfg(test)]
 mod on_new;
 #[cfg(test)]
 mod prefix;
 pub mod refusing;
-#[cfg(test)]
-mod retain;
+pub mod retain;
 #[cfg(test)]
 mod runs;
 #[cfg(test)]
@@ -36,11 +32,9 @@ mod sets;
 mod sizes;
 #[cfg(test)]
 mod splitting;
-#[cfg(test)]
-mod tables;
+pub mod tables;
 #[cfg(test)]
 mod texts;
-#[cfg(test)]
-mod trials;
+pub mod trials;
 #[cfg(test)]
 mod walks;

@@ -12,7 +12,7 @@ use crate::trials::{FaultPlan, Table, run_all};
 use std::test::Fail;
 
 /// The tables that run with each allocation failing. Checking a static list costs a third of checking a constant one.
-static EACH_REQUEST: [&[Table<'static, u32>]; 9] = [
+pub static EACH_REQUEST: [&[Table<'static, u32>]; 9] = [
     &growth::NEW_MAPS,
     &growth::GROWTHS,
     &growth::LIMITS,
@@ -25,7 +25,7 @@ static EACH_REQUEST: [&[Table<'static, u32>]; 9] = [
 ];
 
 /// The tables whose second part does not allocate.
-static NO_REQUESTS: [&[Table<'static, u32>]; 4] = [
+pub static NO_REQUESTS: [&[Table<'static, u32>]; 4] = [
     &entries::OCCUPIED,
     &copies::INTO_FREE_BLOCKS,
     &blocks::AMONG_FREE,

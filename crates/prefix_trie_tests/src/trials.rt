@@ -131,7 +131,7 @@ fn fail_if_requested<K: Key, A: Allocator + Copy, M: UnderTest<K, A>>(
 }
 
 /// Runs a table under a plan.
-fn run_plan<K: Key, A: Allocator + Copy, M: UnderTest<K, A>>(
+pub fn run_plan<K: Key, A: Allocator + Copy, M: UnderTest<K, A>>(
     heap: &Refusing<Global>,
     alloc: A,
     table: &Table<'_, K>,

@@ -19,13 +19,13 @@ pub enum InsertVia {
 }
 
 /// The previous value, or why the insertion failed.
-type InsertResult = Result<Option<u64>, Refusal>;
+pub type InsertResult = Result<Option<u64>, Refusal>;
 
 /// A result that no table has.
 const WRONG_RESULT: InsertResult = Ok(Some(u64::MAX));
 
 /// Returns the result of an insertion without the value that it returns on failure.
-fn without_value(answer: Result<Option<u64>, Refused<u64>>) -> InsertResult {
+pub fn without_value(answer: Result<Option<u64>, Refused<u64>>) -> InsertResult {
     match answer {
         Ok(before) => Ok(before),
         Err(refused) => Err(refused.cause),
@@ -38,7 +38,7 @@ fn previous_value(lent: u64, value: u64) -> Option<u64> {
 }
 
 /// Turns a lent value, or an error that returns the new one, into the result of an insertion.
-fn result_of_lent(answer: Result<&mut u64, Refused<u64>>, value: u64) -> InsertResult {
+pub fn result_of_lent(answer: Result<&mut u64, Refused<u64>>, value: u64) -> InsertResult {
     match answer {
         Ok(lent) => Ok(previous_value(*lent, value)),
         Err(refused) => Err(refused.cause),
@@ -46,7 +46,7 @@ fn result_of_lent(answer: Result<&mut u64, Refused<u64>>, value: u64) -> InsertR
 }
 
 /// Turns a lent value that the call itself made, or an error, into the result of an insertion.
-fn result_of_new(answer: Result<&mut u64, Refusal>, value: u64) -> InsertResult {
+pub fn result_of_new(answer: Result<&mut u64, Refusal>, value: u64) -> InsertResult {
     match answer {
         Ok(lent) => Ok(previous_value(*lent, value)),
         Err(cause) => Err(cause),
