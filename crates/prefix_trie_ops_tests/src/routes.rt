@@ -40,10 +40,8 @@ const READINGS: &[Reading] = &[
         b"10.0.0.0/8 a\n10.0.0.0/8 b\n::/0 c\n10.0.0.0/8 d\n",
         "10.0.0.0/8 d\n::/0 c\nline 2: 10.0.0.0/8\nline 4: 10.0.0.0/8\n",
     ),
-    (
-        b"10.0.0.0 a\n",
-        "line 1: missing slash between address and length",
-    ),
+    (b"10.0.0.1 a\n::1\n", "10.0.0.1/32 a\n::1/128\n"),
+    (b"10.0.0 a\n", "line 1: neither a network nor an address"),
     (
         b"# first\n\n10.0.0.0/33 a\n",
         "line 3: invalid length after the slash",
@@ -62,7 +60,7 @@ const READINGS: &[Reading] = &[
         b"::1/64 a\n",
         "line 1: address has bits set after the length",
     ),
-    (b"10.0.0.0/8\n", "line 1: missing value after the network"),
+    (b"10.0.0.0/8\n", "10.0.0.0/8\n"),
     (
         b"10.0.0.0/8 a\n10.0.0.0/8 a b\nnonsense\n",
         "line 2: more than a network and a value",
@@ -123,7 +121,7 @@ fn a_long_value_is_kept(rt: HostRuntime) -> Result<(), Fail> {
 fn a_long_line_is_refused(rt: HostRuntime) -> Result<(), Fail> {
     let text = long_text("10.0.0.0/8 a\n", b'1', "\n", rt.alloc())?;
     let printed = reading(text.as_slice(), rt.alloc())?;
-    assert!(rt; printed.as_str() == "line 2: missing slash between address and length");
+    assert!(rt; printed.as_str() == "line 2: neither a network nor an address");
     Ok(())
 }
 

@@ -13,10 +13,14 @@ Route = IpPrefix × List ℕ
 abbrev pub IsBlank : List ℕ → Type 0
 IsBlank line = (fields line ≡ []) × (has_bare_return line ≡ false)
 
--- the line has two fields, the text of a network and its value
+-- the fields are a text and a value, or a text alone, whose value is empty
+abbrev pub AreTextAndValue : List (List ℕ) → List ℕ → List ℕ → Type 0
+AreTextAndValue fields text value = (fields ≡ text ∷ value ∷ []) ⊎ ((fields ≡ text ∷ []) × (value ≡ []))
+
+-- the line has the text of a network, and its value or none
 pub record IsRoute (line : List ℕ) (route : Route) : Type 0 where
   pub text : List ℕ
-  pub has_fields : fields line ≡ text ∷ route.1 ∷ []
+  pub has_fields : AreTextAndValue (fields line) text route.1
   pub network : IsNetworkText text route.0
   pub utf8 : IsUtf8 text × IsUtf8 route.1
   pub plain : has_hidden route.1 ≡ false

@@ -19,17 +19,29 @@ use std::io::{self, Write};
 pub fn lookup<W: Write>(table: &Table, addresses: &[Address<'_>], out: &mut W) -> io::Result<()> {
     for Address { text, ip } in addresses {
         match longest(table, &IpPrefix::host(*ip)) {
-            Some((network, value)) => writeln!(out, "{text} {network} {value}")?,
+            Some((network, value)) => {
+                write!(out, "{text} ")?;
+                print_route(&network, value.as_str(), out)?;
+            }
             None => writeln!(out, "{text} none")?,
         }
     }
     Ok(())
 }
 
+// Prints a network and its value. A network without a value is alone on its line.
+fn print_route<N: Display, W: Write>(network: &N, value: &str, out: &mut W) -> io::Result<()> {
+    if value.is_empty() {
+        writeln!(out, "{network}")
+    } else {
+        writeln!(out, "{network} {value}")
+    }
+}
+
 /// Prints a table in listing order, a line for each network.
 pub fn list<W: Write>(table: &Table, out: &mut W) -> io::Result<()> {
     for (network, value) in table {
-        writeln!(out, "{network} {value}")?;
+        print_route(&network, value.as_str(), out)?;
     }
     Ok(())
 }
@@ -37,7 +49,7 @@ pub fn list<W: Write>(table: &Table, out: &mut W) -> io::Result<()> {
 /// Prints the networks that a network contains, in listing order.
 pub fn list_within<W: Write>(table: &Table, network: IpPrefix, out: &mut W) -> io::Result<()> {
     for (network, value) in table.children(&network) {
-        writeln!(out, "{network} {value}")?;
+        print_route(&network, value.as_str(), out)?;
     }
     Ok(())
 }
@@ -73,8 +85,14 @@ fn print_change<P: Prefix + Display, W: Write>(
     out: &mut W,
 ) -> io::Result<()> {
     match values {
-        Side::Left(old) => writeln!(out, "- {network} {old}"),
-        Side::Right(new) => writeln!(out, "+ {network} {new}"),
+        Side::Left(old) => {
+            write!(out, "- ")?;
+            print_route(network, old.as_str(), out)
+        }
+        Side::Right(new) => {
+            write!(out, "+ ")?;
+            print_route(network, new.as_str(), out)
+        }
         Side::Both(old, new) => writeln!(out, "~ {network} {old} -> {new}"),
     }
 }
@@ -101,7 +119,7 @@ fn print_fewest<P: Prefix + Display, W: Write>(
     out: &mut W,
 ) -> io::Result<()> {
     for (network, value) in fewest_networks(table, alloc)? {
-        writeln!(out, "{network} {value}")?;
+        print_route(&network, value, out)?;
     }
     Ok(())
 }

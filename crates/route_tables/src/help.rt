@@ -18,10 +18,11 @@ Usage:
   routes --version                  print the version
 
 TABLE, OLD and NEW are files, or `-` for standard input. Each line has a network and a value,
-such as `10.0.0.0/8 core` or `2001:db8::/32 edge`. A value is any text without white space and
-control characters. Bits of an address after the length must be 0. A word that begins with `#`
-begins a comment. If two lines have one network, the later line wins, with a warning if it has
-another value.
+such as `10.0.0.0/8 core` or `2001:db8::/32 edge`, or a network alone. An address alone is its
+own network: `10.0.0.1` is `10.0.0.1/32`. A value is any text without white space and control
+characters. Bits of an address after the length must be 0. A word that begins with `#` begins
+a comment. If two lines have one network, the later line wins, with a warning if it has another
+value.
 
 Without an ADDRESS, `lookup` and `check` read addresses from standard input, one per line. With
 `--skip-bad` before TABLE they skip what is not an address, with a warning.
@@ -70,7 +71,8 @@ const AGGREGATE: &str = "routes aggregate TABLE
 
 Prints the fewest networks in which each address has the value of its longest network, or none
 if it has none. Networks with the same value are merged, so some may be new. What a network of
-the table had as its longest network can change: only addresses keep their values.
+the table had as its longest network can change: only addresses keep their values. For networks
+without values, it prints the smallest list.
 
   routes aggregate routes.txt
   routes aggregate routes.txt | routes stats -

@@ -22,8 +22,6 @@ pub enum LineError {
     NotUtf8,
     /// The first field is not a network.
     Network(NetworkError),
-    /// There is no second field.
-    MissingValue,
     /// The value has a control character, or one that changes the direction of text.
     HiddenCharacter,
     /// There is a third field.
@@ -36,7 +34,6 @@ impl Display for LineError {
             LineError::BareReturn => f.write_str("carriage return without a line feed"),
             LineError::NotUtf8 => f.write_str("not UTF-8"),
             LineError::Network(error) => Display::fmt(error, f),
-            LineError::MissingValue => f.write_str("missing value after the network"),
             LineError::HiddenCharacter => f.write_str("control character in the value"),
             LineError::ExtraField => f.write_str("more than a network and a value"),
         }
@@ -47,6 +44,8 @@ impl Error for LineError {}
 
 /// Reads a line: a network and its value, or nothing if the line is blank or a comment.
 ///
+/// The value of a network alone is empty.
+///
 /// # Errors
 ///
 /// Returns the first reason why the line is neither: of its network, then of its value, then of what follows.
@@ -55,6 +54,7 @@ impl Error for LineError {}
 ///
 /// ```rust
 /// read_line(b"10.0.0.0/8 core # a comment");      // Ok(Some((V4(10.0.0.0/8), "core")))
+/// read_line(b"10.0.0.1");                         // Ok(Some((V4(10.0.0.1/32), "")))
 /// read_line(b"# a comment");                      // Ok(None)
 /// read_line(b"10.0.0.1/8 core");                  // Err(Network(HostBits))
 /// ```
@@ -84,7 +84,7 @@ fn read_fields(line: &[u8]) -> Result<Option<(IpPrefix, &str)>, LineError>
     };
     let network = read_network(network)?;
     let Some((value, rest)) = split_field(rest) else {
-        return Err(LineError::MissingValue);
+        return Ok(Some((network, "")));
     };
     let value = read_value(value)?;
     if split_field(rest).is_some() {

@@ -1,7 +1,7 @@
 //! Reading tables from text.
 //!
 //! Each line is blank, or a network without host bits and its value: any text without white space and control
-//! characters.
+//! characters. An address is the network that has all its bits. A network alone has the empty value.
 //!
 //! A field that begins with `#` begins a comment. White space separates fields. Both ends of a line may have white
 //! space, so lines may end with CR LF. A CR elsewhere is an error.
@@ -116,7 +116,7 @@ impl<T: Drop> From<AllocFailed<T>> for LoadError {
 /// let loaded = load(b"10.0.0.0/8 core\n10.1.0.0/16 edge\n10.0.0.0/8 edge\n", alloc)?;
 /// loaded.table.keys();                       // [V4(10.0.0.0/8), V4(10.1.0.0/16)]
 /// loaded.replaced[0].line;                   // 3
-/// load(b"10.0.0.0 core", alloc).err();       // Some(Line(1, Network(Text(MissingSlash))))
+/// load(b"10.0.0.0/33 core", alloc).err();    // Some(Line(1, Network(Text(Length))))
 /// ```
 pub fn load(text: &[u8], alloc: Global) -> Result<Loaded, LoadError>
     ensures table { IfOk result

@@ -1,20 +1,23 @@
 //! Networks of a table, and their texts.
-ghost use Rattle.std.specs.Prelude.{◌≡◌, MatchResult};
+ghost use Rattle.std.specs.Prelude.{◌≡◌, MatchResult, false, true};
 ghost use Rattle.prefix_trie_joint.specs.Networks.{lowest_ip};
 ghost use Rattle.prefix_trie_joint.specs.declared.prefix.IpPrefix.{IpPrefix};
-ghost use Rattle.route_tables.specs.Networks.{IsNetworkText};
+ghost use Rattle.route_tables.specs.Networks.{IsNetworkText, IsTextBySlash, has_slash};
 
 use prefix_trie::{ParseNetworkError, Prefix};
 use prefix_trie_joint::IpPrefix;
 use prefix_trie_joint::laws::ip_text_laws;
 use std::error::Error;
 use std::fmt::{self, Display, Formatter, Write};
+use std::net::IpAddr;
 
 /// Why a text is not a network of a table.
 #[derive(Clone, Copy, Debug, PartialEq, Eq)]
 pub enum NetworkError {
-    /// The text is not the text of a network.
+    /// The text has a slash, and is not the text of a network.
     Text(ParseNetworkError),
+    /// The text has no slash, and is not the text of an address.
+    Address,
     /// A bit of the address after the length is not 0.
     HostBits,
 }
@@ -23,6 +26,7 @@ impl Display for NetworkError {
     fn fmt<W: Write>(&self, f: &mut Formatter<W>) -> fmt::Result {
         match self {
             NetworkError::Text(error) => Display::fmt(error, f),
+            NetworkError::Address => f.write_str("neither a network nor an address"),
             NetworkError::HostBits => f.write_str("address has bits set after the length"),
         }
     }
@@ -30,22 +34,56 @@ impl Display for NetworkError {
 
 impl Error for NetworkError {}
 
-/// Reads an IPv4 or an IPv6 network such as `10.0.0.0/8` or `2001:db8::/32`, without host bits.
+/// Reads a network without host bits, such as `10.0.0.0/8` or `2001:db8::/32`, or an address alone.
+///
+/// The network of an address has all its bits: `10.0.0.1` is `10.0.0.1/32`, and `::1` is `::1/128`.
 ///
 /// # Errors
 ///
-/// Returns why the text is not a network: as an IPv6 network if it has a colon, otherwise as an IPv4 network.
+/// Returns why the text is neither. If it has a slash, the error is that of an IPv6 network if it has a colon, otherwise
+/// that of an IPv4 network.
 ///
 /// # Examples
 ///
 /// ```rust
 /// parse_network("10.0.0.0/8");       // Ok(V4(10.0.0.0/8))
 /// parse_network("10.0.0.1/8");       // Err(HostBits)
-/// parse_network("ten");              // Err(Text(MissingSlash))
+/// parse_network("10.0.0.1");         // Ok(V4(10.0.0.1/32))
+/// parse_network("ten");              // Err(Address)
 /// ```
 pub fn parse_network(text: &str) -> Result<IpPrefix, NetworkError>
     ensures { MatchResult result (IsNetworkText text.now)
         (λ _. (network : IpPrefix) → ¬ (IsNetworkText text.now network)) }
+{
+    if has_slash(text) {
+        parse_with_length(text)
+    } else {
+        parse_host(text)
+    }
+}
+
+// Returns whether a text has a slash.
+fn has_slash(text: &str) -> bool
+    ensures { result ≡ has_slash text.now }
+{
+    text.as_bytes().iter().any(|byte| *byte == b'/')
+}
+
+// Reads an address, as the network that has all its bits.
+fn parse_host(text: &str) -> Result<IpPrefix, NetworkError>
+    ensures { MatchResult result (IsTextBySlash false text.now)
+        (λ _. (network : IpPrefix) → ¬ (IsTextBySlash false text.now network)) }
+{
+    match text.parse::<IpAddr>() {
+        Ok(address) => Ok(IpPrefix::host(address)),
+        Err(_) => Err(NetworkError::Address),
+    }
+}
+
+// Reads a network without host bits.
+fn parse_with_length(text: &str) -> Result<IpPrefix, NetworkError>
+    ensures { MatchResult result (IsTextBySlash true text.now)
+        (λ _. (network : IpPrefix) → ¬ (IsTextBySlash true text.now network)) }
 {
     ip_text_laws();
     match text.parse::<IpPrefix>() {
