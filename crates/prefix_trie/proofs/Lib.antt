@@ -4,19 +4,19 @@ pub mod Always
 pub mod Putting
 pub mod Rewriting
 pub mod Callers
-pub mod Collecting
+pub mod CollectedItems
 mod Stored
 mod Lookups
 mod Paths
 mod Networks
 mod Joining
-pub mod Modifying
+pub mod ModifiedEntries
 mod Comparing
 mod Paging
-mod Tidying
+mod TidyMaps
 mod ByPrefix
 mod CountedSteps
-mod Removed
+mod RemovalReplies
 mod SameKeys
 mod WalkItems
 mod Closures

@@ -31,8 +31,8 @@ pub use Rattle.prefix_trie_bits.proofs.Model.Counted.{StepsSoFar, all_fit_more, 
 pub use Rattle.prefix_trie_bits.proofs.Model.Matches.{match_laws, one_of_length}
 pub use Rattle.prefix_trie_bits.proofs.Model.Members.{and-first, and-join, and-second, get-with_entry, get-without_entry, is-same_string, of-key, or-left, or-right, same_entries, same_string-is, some-value}
 pub use Rattle.prefix_trie_bits.proofs.Model.NodeSets.{tidy-no_entries}
-pub use Rattle.prefix_trie_bits.proofs.Model.Ordered.{each-behind, found_first, not_itself, sorted-head, sorted-tail, t-true, true-t}
-pub use Rattle.prefix_trie_bits.proofs.Model.Retained.{at_least_step}
+pub use Rattle.prefix_trie_bits.proofs.Model.SortedListings.{each-behind, found_first, not_itself, sorted-head, sorted-tail, t-true, true-t}
+pub use Rattle.prefix_trie_bits.proofs.Model.LengthTests.{at_least_step}
 pub use Rattle.prefix_trie_bits.proofs.Model.Runs.{run_of_stored}
 pub use Rattle.prefix_trie_bits.proofs.Model.Steps.{stays_map, stays_tidy, step_laws}
 pub use Rattle.prefix_trie_bits.specs.Begins.{begins-from-masked, begins-from-take, begins-length, begins-linear, begins-longer, begins-take, begins-trans, leb-past, length-first, masked-from-begins, same_bool, take-begins}
@@ -69,7 +69,7 @@ pub use Rattle.prefix_trie_table.specs.Copies.{AreCloned}
 pub use Rattle.prefix_trie_table.specs.Model.Contents.{Contents}
 pub use Rattle.prefix_trie_table.specs.Shape.{with_value_at}
 pub use Rattle.prefix_trie_map.proofs.Listed.{listed_fit, listed_paths, may_ask_stored}
-pub use Rattle.prefix_trie_map.proofs.Placing.{entry_twice}
+pub use Rattle.prefix_trie_map.proofs.NewKeys.{entry_twice}
 pub use Rattle.prefix_trie_map.proofs.Resumed.{resume_laws}
 pub use Rattle.prefix_trie_map.proofs.Writing.{left_at_start, left_behind, none_left}
 pub use Rattle.prefix_trie_map.specs.Copied.{CopyLaws}

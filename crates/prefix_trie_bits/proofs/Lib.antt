@@ -4,12 +4,12 @@ pub mod Checks
 pub mod Tables
 pub mod Bitmaps
 pub mod Listing
-pub mod Ordered
-pub mod Selecting
+pub mod PlaceOrder
+pub mod MaskedPlaces
 pub mod Ranks
 pub mod Picks
 pub mod Strings
-pub mod Matches
+pub mod NodeMatches
 pub mod Model
 pub mod Networks
 pub mod Texts

@@ -3,7 +3,7 @@ pub mod Members
 pub mod Homes
 pub mod Pruning
 pub mod NodeSets
-pub mod Ordered
+pub mod SortedListings
 pub mod NodeListings
 pub mod Visits
 pub mod Matches
@@ -17,6 +17,6 @@ pub mod Determined
 pub mod Levels
 pub mod Total
 pub mod RetainCalls
-pub mod Retained
+pub mod LengthTests
 pub mod Storage
 pub mod SplitsOff

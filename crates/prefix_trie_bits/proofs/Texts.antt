@@ -2,7 +2,7 @@
 pub mod Bytes
 pub mod Decimals
 pub mod Slashes
-pub mod Parsing
+pub mod ParseResults
 pub mod Hosts
 pub mod Inline
 pub mod FullGroups

@@ -124,7 +124,7 @@ pub fn determined_laws<P, T>()
 /// fixes the slots and the used blocks. If its missing blocks were made before, it is not refused,
 /// and leaves what it would have left at once. Calling a test of lengths on each entry is the call
 /// `RetainAtLeast`.
-#[tactic(auto, using(crate::proofs::Model::Storage::Stored::storage_laws))]
+#[tactic(auto, using(crate::proofs::Model::Storage::StorageChanges::storage_laws))]
 pub fn storage_laws<P, T>()
     ensures { StorageLaws P T }
 {}

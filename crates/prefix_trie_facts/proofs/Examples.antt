@@ -1,7 +1,7 @@
 -- Proves the worked facts that are not about replies.
 use Rattle.prefix_trie_facts.proofs.Prelude.{◌≡◌, ℕ, ◌+◌, ◌%◌, ◌==◌, ◌&&◌, Bool, true, false, not, cond, List, [], ◌∷◌, map, filter, length, nat_lt, nat_le, is_lt, is_some, sum_by, Option, Some, None, refl, ap, ap₂, ◌∙◌, lit<, list_any, entries, len-entries, entries-insert, find, put, digits, number, begins, listing_cmp, listing_total, Entries, with_entry, part_below, without_below, listing_after, prefix_pairs, first_item, Nodes, home, needed, nodes_without_below, child_block_sizes, value_block_sizes, packed_slots, visits_of_match, visits_to_match, WritingWalk, walk_over, State, path_at, back_at, FactsHold, at_slot, RetainsEntries}
 use Rattle.prefix_trie_facts.proofs.Plain.{keys_of, Shows, Marks, needed-is, needed_marks, pruned_marks, marks_not_below, nodes_without_below-is}
-use Rattle.prefix_trie_bits.proofs.Model.Ordered.{entries-retained}
+use Rattle.prefix_trie_bits.proofs.Model.SortedListings.{entries-retained}
 use Rattle.prefix_trie_facts.proofs.Replies.{leads}
 use Rattle.prefix_trie_facts.proofs.Blocks.{differ}
 

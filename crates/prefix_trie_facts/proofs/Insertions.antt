@@ -2,7 +2,7 @@
 use Rattle.prefix_trie_facts.proofs.Prelude.{◌≡◌, ◌⊎◌, ℕ, ◌+◌, ◌-◌, ◌<◌, ◌≤◌, ◌==◌, ◌&&◌, Bool, not, cond, List, [], ◌∷◌, map, take, filter, filter_map, length, nat_lt, is_some, Option, None, refl, sym, ap, ap₂, ◌∙◌, inl, inr, arith, eqb-true, lit<, lit≤, cases_Bool, option_to_list, entries, entries-from_sorted, get-entries, find, is_sorted, digits, number, begins, listing_cmp, same_string, Entries, Nodes, is_node_depth, nodes_above, home, Sizes, Layout, value_block_sizes, child_block_sizes, free_of, no_layout, own_entries, child_count, block_needed, gains_child, child_block_needed, value_block_needed, child_blocks_needed, value_blocks_needed, missing_of, slots_of_missing, missing_node_slots, missing_cell_slots, MissingFitsLimit, Space, State, path_at, full_pairs, none_free, space_of, Blocks, by_path, sizes_at, layout_at, with_one, ones_free, lacking, far_children, far_layout, three_slots, InsertionsHold}
 use lib.Dec.{T as IsT}
 use Rattle.prefix_trie_facts.proofs.Plain.{Shows, Marks}
-use Rattle.prefix_trie_bits.proofs.Model.Ordered.{entries-empty}
+use Rattle.prefix_trie_bits.proofs.Model.SortedListings.{entries-empty}
 use Rattle.prefix_trie_facts.proofs.Replies.{leads}
 use Rattle.prefix_trie_facts.proofs.Examples.{said, holders_in, parents_in, own_in, children_in}
 

@@ -1,6 +1,6 @@
 -- A plain, slow model that computes, on sorted lists of entries and nodes. Each of its steps is a step of the model.
 use Rattle.prefix_trie_facts.proofs.Prelude.{◌≡◌, true≢false, ℕ, ◌^◌, ◌==◌, Bool, true, false, cond, not, ◌&&◌, ◌||◌, List, [], ◌∷◌, length, map, filter, flat_map, nat_le, Option, Some, None, is_some, is_lt, is_le, refl, sym, ap, ap₂, ◌∙◌, subst, inl, inr, list_any, list_all, FinMap, entries, contains_key, retain_keys, keys, empty, get-entries, len-entries, entries-insert, find, put, begins, listing_cmp, listing_total, same_string, Entries, no_entries, with_entry, without_entry, without_below, part_at_least, prefix_pairs, first_item, last_item, prefix_pair, Nodes, has_node, is_root, root_alone, with_nodes, nodes_above, home, needed, is_pruned, pruned, nodes_not_below, nodes_without, nodes_without_below, State, Call, Insert, Get, Lpm, Spm, Remove, RemoveKeepTree, RemoveChildren, RetainAtLeast, Clear, Len, NodeCount, AddressCount, ListAll, ListFrom, Children, Cover, Reply, Value, Match, Done, Count, Addresses, Items, Refused, Refusal, Step, Run}
-use Rattle.prefix_trie_bits.proofs.Model.Ordered.{entries-retained, entries-removed, entries-empty}
+use Rattle.prefix_trie_bits.proofs.Model.SortedListings.{entries-retained, entries-removed, entries-empty}
 use Rattle.prefix_trie_bits.proofs.Model.Halves.{halves, covered-halves}
 
 abbrev pub Marks : Type 0

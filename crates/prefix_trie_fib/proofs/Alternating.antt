@@ -5,7 +5,7 @@ use Rattle.std.specs.Bool.{then_some}
 use Rattle.prefix_trie_fib.specs.Addresses.{has_value, start_or_end}
 use Rattle.prefix_trie_fib.specs.Line.{AreMerged, IsDivision, are_same, value_along}
 use Rattle.prefix_trie_fib.specs.Networks.{AreFewest}
-use Rattle.prefix_trie_fib.proofs.Along.{get_or-any, value_of_range}
+use Rattle.prefix_trie_fib.proofs.RangeValues.{get_or-any, value_of_range}
 use Rattle.prefix_trie_fib.proofs.Fewest.{fewest_skipped}
 
 differs : (a b : Option (Unit {0})) → is_some a ≡ true → are_same (λ _ _. true) a b ≡ false → is_some b ≡ false

@@ -9,7 +9,7 @@ use Rattle.prefix_trie_bits.specs.BitStrings.{number-lt, number-below}
 use Rattle.prefix_trie_bits.specs.Model.Bits.{bit, number, zeros}
 use Rattle.prefix_trie_fib.specs.Line.{first_address, past_address}
 use Rattle.prefix_trie_fib.specs.Networks.{IsBlock, end_of}
-use Rattle.prefix_trie_fib.proofs.Between.{first_is, number_parts}
+use Rattle.prefix_trie_fib.proofs.CutIntervals.{first_is, number_parts}
 
 -- a block of a length is made of blocks of a greater length
 parts_of : (w k j : ℕ) → k ≤ j → j ≤ w → 2 ^ (w - k) ≡ 2 ^ (j - k) * 2 ^ (w - j)

@@ -8,8 +8,8 @@ use Rattle.prefix_trie_bits.specs.BitStrings.{length-digits, number-below, numbe
 use Rattle.prefix_trie_bits.specs.Model.Bits.{begins, digits, number}
 use Rattle.prefix_trie_fib.specs.Line.{first_address, past_address}
 use Rattle.prefix_trie_fib.specs.Networks.{AreFewest, AreInOrder, IsInside, IsShortest, is_covered_by}
-use Rattle.prefix_trie_fib.proofs.Along.{get_or-any}
-use Rattle.prefix_trie_fib.proofs.Between.{begins_within, within_begins}
+use Rattle.prefix_trie_fib.proofs.RangeValues.{get_or-any}
+use Rattle.prefix_trie_fib.proofs.CutIntervals.{begins_within, within_begins}
 use Rattle.prefix_trie_fib.proofs.Blocks.{nested, past_within, some_address}
 
 -- by whether a test passes

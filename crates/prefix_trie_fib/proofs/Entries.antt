@@ -10,7 +10,7 @@ use Rattle.prefix_trie_fib.specs.declared.index.chunk.Chunk.TheVariants.{Gap, Ma
 use Rattle.prefix_trie_fib.specs.Index.{Extends, HasParts, IsChunk, IsEntry, IsIndex, IsWhole, part_bits}
 use Rattle.prefix_trie_fib.specs.Line.{IsDivision, value_along}
 use Rattle.prefix_trie_fib.specs.Search.{IsRangeOf, StartsBy}
-use Rattle.prefix_trie_fib.proofs.Along.{value_of_range}
+use Rattle.prefix_trie_fib.proofs.RangeValues.{value_of_range}
 
 module _ {V : Type 0} (rs : List (ℕ × V)) where
   -- a range that starts by a number starts by a greater one

@@ -6,7 +6,7 @@ use Rattle.std.proofs.lemmas.List.{get_or_append_left}
 use Rattle.std.proofs.lemmas.List.Elements.{Contains-push, Contains-push_cases, Contains-append_left}
 use Rattle.prefix_trie_fib.specs.Line.{first_address, past_address}
 use Rattle.prefix_trie_fib.specs.Networks.{AreFewest, AreInOrder, IsBlock, IsInside, is_between}
-use Rattle.prefix_trie_fib.proofs.Along.{get_or-any}
+use Rattle.prefix_trie_fib.proofs.RangeValues.{get_or-any}
 use Rattle.prefix_trie_fib.proofs.Blocks.{block_of_network, nested, past_within, some_address}
 
 and_false : (b : Bool) → (b && false) ≡ false

@@ -2,7 +2,7 @@
 use Rattle.std.proofs.Common.{◌≡◌, ◌∙◌, ◌+◌, ◌<◌, ◌≤◌, ◌≢◌, ℕ, List, [], ◌∷◌, length, get_or, map, set, ap, arith, sym, inl, inr}
 use Rattle.std.proofs.lemmas.Bool.{cases_lt}
 use Rattle.std.proofs.lemmas.List.{get_or-map, get_or-set_other, get_or-set_same, length-map, same_lists}
-use Rattle.prefix_trie_fib.proofs.Along.{get_or-any}
+use Rattle.prefix_trie_fib.proofs.RangeValues.{get_or-any}
 
 module _ {K X : Type 0} (f : K → X) (keys : List K) (xs : List X) (i : ℕ) where
   pub result_set : (key : K) (x : X) → i < length keys → length xs ≡ length keys → key ≡ get_or keys i key → x ≡ f key

@@ -18,8 +18,8 @@ use Rattle.prefix_trie_bits.specs.Windows.{length-filled}
 use Rattle.prefix_trie_fib.specs.Addresses.{IsSmallest, is_covered}
 use Rattle.prefix_trie_fib.specs.Line.{first_address}
 use Rattle.prefix_trie_fib.specs.Networks.{AreFewest, IsInside, is_covered_by}
-use Rattle.prefix_trie_fib.proofs.Along.{get_or-any}
-use Rattle.prefix_trie_fib.proofs.Between.{begins_within}
+use Rattle.prefix_trie_fib.proofs.RangeValues.{get_or-any}
+use Rattle.prefix_trie_fib.proofs.CutIntervals.{begins_within}
 use Rattle.prefix_trie_fib.proofs.Covering.{any_has, covered_is, has_any, is_shortest}
 use Rattle.prefix_trie_fib.proofs.Blocks.{halves_of, some_address}
 

@@ -11,7 +11,7 @@ use Rattle.prefix_trie_bits.specs.Model.Order.{same_string}
 use Rattle.prefix_trie_bits.specs.Order.{listing_same, listing_total}
 use Rattle.prefix_trie_bits.proofs.Model.Members.{get-with_entry, is-same_string, same_string-is}
 use Rattle.prefix_trie_map.specs.Entry.{MayLeave}
-use Rattle.prefix_trie_map.proofs.Placing.{entry_twice}
+use Rattle.prefix_trie_map.proofs.NewKeys.{entry_twice}
 use Rattle.prefix_trie_joint.specs.declared.prefix.IpPrefix.{IpPrefix}
 use Rattle.prefix_trie_joint.specs.declared.prefix.IpPrefix.TheVariants.{V4, V6}
 use Rattle.prefix_trie_joint.specs.declared.map.JointPrefixMap.{JointPrefixMap}

@@ -7,7 +7,7 @@ pub mod Retain
 pub mod Walks
 pub mod Writing
 pub mod Resuming
-pub mod Collected
+pub mod CollectedItems
 pub mod FamilyLaws
 pub mod Filling
 pub mod Texts

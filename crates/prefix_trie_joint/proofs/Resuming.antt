@@ -8,7 +8,7 @@ use Rattle.prefix_trie_bits.specs.Model.Order.{same_string}
 use Rattle.prefix_trie_bits.specs.Order.{listing_same, listing_total}
 use Rattle.prefix_trie_bits.proofs.Model.Listings.{listing_laws}
 use Rattle.prefix_trie_bits.proofs.Model.Members.{get-with_entry, same_string-is}
-use Rattle.prefix_trie_bits.proofs.Model.Ordered.{entries-retained, lt-less}
+use Rattle.prefix_trie_bits.proofs.Model.SortedListings.{entries-retained, lt-less}
 use Rattle.prefix_trie_joint.specs.declared.map.writing.IterMut.{IterMut}
 use Rattle.prefix_trie_joint.specs.Joined.{entries_of, AreIpKeys}
 use Rattle.prefix_trie_joint.specs.Laws.{WritingLaws}

@@ -5,7 +5,7 @@ use Rattle.prefix_trie_bits.specs.Begins.{begins-longer}
 use Rattle.prefix_trie.specs.Terms.{begins, Entries, last_item, listing}
 use Rattle.prefix_trie_ops.specs.Covered.{is_below_another, is_uppermost, without_covered}
 use Rattle.prefix_trie_ops.specs.Values.{are_equal, is_redundant, stays, value_above, value_of, without_redundant}
-use Rattle.prefix_trie_ops.proofs.Removing.{gone_entries}
+use Rattle.prefix_trie_ops.proofs.RedundantEntries.{gone_entries}
 use Rattle.prefix_trie_ops.proofs.SmallestSets.{below_is_above}
 use Rattle.prefix_trie_ops.proofs.Uppermost.{uppermost_entries}
 use Rattle.prefix_trie_joint.specs.Joined.{joined, under}

@@ -7,7 +7,7 @@ use Rattle.prefix_trie_bits.specs.declared.prefix.Prefix as prefix
 use Rattle.prefix_trie_bits.specs.declared.prefix.Key as key
 use Rattle.prefix_trie_bits.specs.Model.Step.{Refused}
 use Rattle.prefix_trie_map.proofs.Insertions.{with_needed-stored}
-use Rattle.prefix_trie_map.proofs.Placing.{value_not_refused, entry_twice, written_step}
+use Rattle.prefix_trie_map.proofs.NewKeys.{value_not_refused, entry_twice, written_step}
 
 module _ {P T A R : Type 0} {p : prefix.Ghosts P R} {shows : debug.Ghosts P} {k : key.Ghosts R} {same : partial.Ghosts R} {writes : debug.Ghosts R} where
   module _ (e : VacantEntry P T A R p shows k same writes) (new : Contents T) where

@@ -12,9 +12,9 @@ pub mod Steps
 pub mod Calling
 pub mod Loans
 pub mod Clones
-pub mod Placing
+pub mod NewKeys
 pub mod Entries
-pub mod Occupied
+pub mod OccupiedEntries
 pub mod Variants
 pub mod Resumed
 pub mod Writing

@@ -25,7 +25,7 @@ pub use Rattle.prefix_trie_bits.proofs.Model.Matches.{match_laws}
 pub use Rattle.prefix_trie_bits.proofs.Model.Members.{and-first, and-second, get-with_entry, is-same_string, needs, or-cases, or-left, same_entries, same_nodes}
 pub use Rattle.prefix_trie_bits.proofs.Model.NodeListings.{listing_of_root}
 pub use Rattle.prefix_trie_bits.proofs.Model.NodeSets.{AreNodes-needed, AreNodes-no_entries, AreNodes-stored, has-with_needed, key_cases, needed_insert, tidy-no_entries}
-pub use Rattle.prefix_trie_bits.proofs.Model.Ordered.{entries-retained, lt-less}
+pub use Rattle.prefix_trie_bits.proofs.Model.SortedListings.{entries-retained, lt-less}
 pub use Rattle.prefix_trie_bits.proofs.Model.Outermost.{IsCounted, total-number, counted-all, counted-end, counted-next, counted-start}
 pub use Rattle.prefix_trie_bits.proofs.Model.Pruning.{needed_fewer}
 pub use Rattle.prefix_trie_bits.proofs.Model.Steps.{stays_map}
@@ -57,8 +57,8 @@ pub use Rattle.prefix_trie_bits.specs.Order.{listing_same, listing_total}
 pub use Rattle.prefix_trie_bits.specs.declared.prefix.Refusal.{Refusal}
 pub use Rattle.prefix_trie_bits.specs.declared.prefix.Refusal.TheVariants.{IndexRange, Memory}
 pub use Rattle.prefix_trie_bits.specs.declared.prefix.Refused.{Refused}
-pub use Rattle.prefix_trie_table.proofs.Lookup.Covered.{covers_few}
-pub use Rattle.prefix_trie_table.proofs.Tree.Copying.{cloned_there}
+pub use Rattle.prefix_trie_table.proofs.Lookup.EntryCovers.{covers_few}
+pub use Rattle.prefix_trie_table.proofs.Tree.TableCopies.{cloned_there}
 pub use Rattle.prefix_trie_table.proofs.Tree.Trees.{is_none-None}
 pub use Rattle.prefix_trie_table.proofs.Walk.KeySets.{pending_again}
 pub use Rattle.prefix_trie_table.specs.Bulk.{AreMatchesFound, IsMatchFound}

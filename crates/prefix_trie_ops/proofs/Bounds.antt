@@ -4,7 +4,7 @@ use Rattle.std.proofs.Common.{◌≡◌, ◌∙◌, ◌+◌, ◌≤◌, ◌<◌,
 use Rattle.std.specs.List.{cons_option, filter_map}
 use Rattle.std.specs.FinMap.{get, len, len-entries, retain_keys}
 use Rattle.prefix_trie_bits.specs.Model.Order.{listing_cmp}
-use Rattle.prefix_trie_bits.proofs.Model.Ordered.{entries-retained}
+use Rattle.prefix_trie_bits.proofs.Model.SortedListings.{entries-retained}
 use Rattle.prefix_trie.specs.Terms.{AreWithin, Entries, listing}
 use Rattle.prefix_trie_ops.specs.Combining.{both_values, common, with_partner}
 use Rattle.prefix_trie_ops.specs.Merging.{merged, sides, union_of}

@@ -4,7 +4,7 @@ use Rattle.std.proofs.Common.{◌≡◌, ◌∙◌, Bool, true, false, true≢fa
 use Rattle.std.specs.FinMap.{contains_key, get, get-entries, retain_keys}
 use Rattle.std.specs.FinMap.Entries.{find}
 use Rattle.prefix_trie_bits.specs.Model.Order.{listing_cmp}
-use Rattle.prefix_trie_bits.proofs.Model.Ordered.{found_first}
+use Rattle.prefix_trie_bits.proofs.Model.SortedListings.{found_first}
 use Rattle.prefix_trie.specs.Terms.{Entries, listing}
 use Rattle.prefix_trie_ops.proofs.Combining.{retained_at}
 

@@ -10,7 +10,7 @@ use Rattle.std.specs.FinMap.Entries.{is_sorted, below_all}
 use Rattle.prefix_trie_bits.specs.Begins.{begins-trans, begins-length, begins-refl, begins-same-length, begins-rest, begins-take, begins-from-take, take-begins, same_bool}
 use Rattle.prefix_trie_bits.specs.Model.Order.{listing_cmp}
 use Rattle.prefix_trie_bits.specs.Order.{listing-extension, listing-apart}
-use Rattle.prefix_trie_bits.proofs.Model.Ordered.{not_itself, not_less, sorted-head, sorted-tail, lt-less, t-true, true-t}
+use Rattle.prefix_trie_bits.proofs.Model.SortedListings.{not_itself, not_less, sorted-head, sorted-tail, lt-less, t-true, true-t}
 use Rattle.prefix_trie_bits.proofs.Model.Members.{and-first, and-second}
 use Rattle.prefix_trie.specs.Terms.{Entries, begins, covers, last_item, listing}
 use Rattle.prefix_trie_ops.specs.Values.{value_above, value_of}

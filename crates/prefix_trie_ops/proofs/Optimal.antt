@@ -1,10 +1,10 @@
 -- The proof that `aggregate` keeps each full-width lookup and leaves as few entries as possible.
-pub mod Along
+pub mod LongestMatches
 pub mod Order
 pub mod Fronts
 pub mod Positions
-pub mod Counting
+pub mod KeyCounts
 pub mod Choosing
-pub mod Rebuilding
+pub mod RebuiltParts
 pub mod Least
 pub mod Whole

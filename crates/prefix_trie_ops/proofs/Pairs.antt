@@ -6,7 +6,7 @@ use Rattle.std.specs.Ordering.{is_lt}
 use Rattle.std.specs.FinMap.{contains_key, entries_sorted, entries-from_sorted, get, get-entries, get-from_sorted}
 use Rattle.std.specs.FinMap.Entries.{below_all, find, is_sorted}
 use Rattle.prefix_trie_bits.specs.Model.Order.{listing_cmp, same_string}
-use Rattle.prefix_trie_bits.proofs.Model.Ordered.{entries-retained}
+use Rattle.prefix_trie_bits.proofs.Model.SortedListings.{entries-retained}
 use Rattle.prefix_trie.specs.Terms.{Entries, listing}
 use Rattle.prefix_trie_ops.specs.Combining.{both_values, common, restricted_to, with_partner}
 use Rattle.prefix_trie_ops.proofs.Sorted.{same_is, t_both, t_first, t_second}

@@ -4,6 +4,6 @@ pub mod Sets
 pub mod Costs
 pub mod Lower
 pub mod Ranges
-pub mod Joining
-pub mod Storing
+pub mod JoinedLists
+pub mod StoredSets
 pub mod InOrder

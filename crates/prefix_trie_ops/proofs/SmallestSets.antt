@@ -12,9 +12,9 @@ use Rattle.prefix_trie_ops.specs.Covered.{is_below_another}
 use Rattle.prefix_trie_ops.specs.Smallest.{HaveSameAnswers, IsSmallest}
 use Rattle.prefix_trie_ops.specs.SmallestSets.{CoverSameAddresses, HasNoSiblings, IsSmallestCover}
 use Rattle.prefix_trie_ops.specs.Values.{are_equal, is_redundant, value_above, value_of}
-use Rattle.prefix_trie_ops.proofs.Optimal.Counting.{one_more}
+use Rattle.prefix_trie_ops.proofs.Optimal.KeyCounts.{one_more}
 use Rattle.prefix_trie_ops.proofs.Optimal.Order.{above}
-use Rattle.prefix_trie_ops.proofs.Removing.{looked}
+use Rattle.prefix_trie_ops.proofs.RedundantEntries.{looked}
 
 module _ {T : Type 0} where
   first_or_last : (es : List (List Bool × T)) → is_some (first_item es) ≡ is_some (option_map (λ e. e.1) (last_item es))

@@ -7,14 +7,14 @@ use Rattle.std.specs.FinMap.{get, contains_key, get-retain_keys, same_entries_ma
 use Rattle.prefix_trie_bits.specs.Begins.{begins-linear, begins-trans}
 use Rattle.prefix_trie_bits.specs.Laws.Matches.{MatchLaws}
 use Rattle.prefix_trie_bits.specs.Order.{listing_same}
-use Rattle.prefix_trie_bits.proofs.Model.Ordered.{entries-retained}
+use Rattle.prefix_trie_bits.proofs.Model.SortedListings.{entries-retained}
 use Rattle.prefix_trie.specs.Laws.Lookups.{LookupLaws}
 use Rattle.prefix_trie.specs.Terms.{Entries, begins, covers, first_item, last_item, listing, longest_match, shortest_match}
 use Rattle.prefix_trie_ops.specs.Covered.{contains_path, is_below_another, is_uppermost, without_covered}
 use Rattle.prefix_trie_ops.specs.Values.{are_equal, is_redundant, value_above, value_of}
 use Rattle.prefix_trie_ops.proofs.Covers.{covers_none, covers_of, covers_push, covers_shorter, next_covers, shorter_covers}
 use Rattle.prefix_trie_ops.proofs.Lists.{contains_middle, filter_agrees, filter_none, head_of, tail_of, last_pushed, map_push}
-use Rattle.prefix_trie_ops.proofs.Removing.{none_left, same_values}
+use Rattle.prefix_trie_ops.proofs.RedundantEntries.{none_left, same_values}
 
 module _ {T' : Type 0} where
   -- an entry if its key begins the string, or none

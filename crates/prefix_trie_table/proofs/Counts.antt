@@ -1,5 +1,5 @@
 -- Counting nodes, entries and blocks: for `node_count`, `len` and the numbers of blocks.
-pub mod Counted
+pub mod VisitCounts
 pub mod EntryCounts
 pub mod NodeCounts
 pub mod BlockCounts

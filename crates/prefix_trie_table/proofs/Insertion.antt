@@ -1,10 +1,10 @@
 -- What an insertion needs, allocates and leaves.
-pub mod Adding
-pub mod Paths
-pub mod Inserted
-pub mod Inserting
+pub mod Additions
+pub mod ExtendedPaths
+pub mod InsertedStorage
+pub mod InsertionEffects
 pub mod Spaces
 pub mod Placements
 pub mod PredictedNeeds
-pub mod Resized
+pub mod NewSizes
 pub mod Needs

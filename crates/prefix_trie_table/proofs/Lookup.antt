@@ -1,14 +1,14 @@
 -- Lookups, matches and covers, and values lent.
-pub mod Going
-pub mod Finding
+pub mod Descents
+pub mod DescentEnds
 pub mod SearchPaths
-pub mod Locating
-pub mod Ends
-pub mod Matching
-pub mod Matched
-pub mod Covers
-pub mod Covered
+pub mod NodeSeats
+pub mod PathEnds
+pub mod NodeMatches
+pub mod EntryMatches
+pub mod NodeCovers
+pub mod EntryCovers
 pub mod Lending
-pub mod Located
+pub mod Locations
 pub mod Bulk
-pub mod Rounds
+pub mod BulkRounds

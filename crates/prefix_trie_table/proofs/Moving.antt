@@ -1,9 +1,9 @@
 -- The second table of a split, while values come to it.
-pub mod Putting
-pub mod Counting
-pub mod Second
-pub mod Moved
-pub mod Packed
-pub mod SplitOff
+pub mod ValueWrites
+pub mod ValueCounts
+pub mod FilledTables
+pub mod MovedParts
+pub mod PackedBlocks
+pub mod SplitTables
 pub mod NextValue
 pub mod SecondValues

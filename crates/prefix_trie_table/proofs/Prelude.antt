@@ -42,15 +42,15 @@ pub use Rattle.prefix_trie_bits.proofs.Model.Matches.{IsMatch-from_covers, cover
 pub use Rattle.prefix_trie_bits.proofs.Model.Members.{and-first, and-join, and-second, any-node_above, get-part_below, get-without_below, get-without_entry, has-empty, has-inserted, has-removed, has-retained, has-root_alone, has-with_nodes, is-same_string, needed_for, needs_root, or-cases, or-left, or-right, same_entries, same_members, same_nodes, same_string-is, some-value}
 pub use Rattle.prefix_trie_bits.proofs.Model.NodeListings.{listing_at_child, listing_at_inner, listing_at_no_value, listing_at_value, listing_below_none, listing_by_node_places, listing_by_places, listing_of_root, two-tests}
 pub use Rattle.prefix_trie_bits.proofs.Model.NodeSets.{AreNodes-needed, AreNodes-without_entry}
-pub use Rattle.prefix_trie_bits.proofs.Model.Ordered.{each-behind, entries-empty, entries-retained, find-from_Contains, lt-less, not_itself, shorter-first, sorted-head, sorted-tail, t-true, true-t}
+pub use Rattle.prefix_trie_bits.proofs.Model.SortedListings.{each-behind, entries-empty, entries-retained, find-from_Contains, lt-less, not_itself, shorter-first, sorted-head, sorted-tail, t-true, true-t}
 pub use Rattle.prefix_trie_bits.proofs.Model.Pruning.{begins-nil, pruning_laws, removed_fewer}
 pub use Rattle.prefix_trie_bits.proofs.Model.Storage.PreparedInsertions.{above, free_here, free_later, goes_up}
-pub use Rattle.prefix_trie_bits.proofs.Model.Storage.Shrinking.{IsSmallest, first_in, has_cases, has_some, in_cases, later_in, smallest_of}
+pub use Rattle.prefix_trie_bits.proofs.Model.Storage.ShrunkBlocks.{IsSmallest, first_in, has_cases, has_some, in_cases, later_in, smallest_of}
 pub use Rattle.prefix_trie_bits.proofs.Model.Storage.Slots.{how_many, how_many-more, needed_most, shrinks_few, sizes_to, slots_most, total_most}
 pub use Rattle.prefix_trie_bits.proofs.Model.Storage.Paths.{blocks_needed, none_needed}
 pub use Rattle.prefix_trie_bits.proofs.Model.Visits.{begins-within, visits-exact}
 pub use Rattle.prefix_trie_bits.proofs.Ranks.{bit-clear, bit-set, has-from}
-pub use Rattle.prefix_trie_bits.proofs.Selecting.{is_in-and}
+pub use Rattle.prefix_trie_bits.proofs.MaskedPlaces.{is_in-and}
 pub use Rattle.prefix_trie_bits.proofs.Strings.{length-short, string-bit, top_length, value_bit-injective, value_bit-longer, value_bit-small}
 pub use Rattle.prefix_trie_bits.specs.Begins.{begins-append, begins-from-rest, begins-from-take, begins-length, begins-linear, begins-longer, begins-refl, begins-rest, begins-same-length, begins-take, begins-trans, same_bool, take-begins}
 pub use Rattle.prefix_trie_bits.specs.BitStrings.{digits-number, length-digits, number-bits, number-digits, number-lt, same-from-number}

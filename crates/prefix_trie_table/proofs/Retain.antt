@@ -1,7 +1,7 @@
 -- Calling a test on entries one after another: for `retain`.
-pub mod Asked
-pub mod AskedBelow
-pub mod Retained
+pub mod TestCalls
+pub mod TestCallsBelow
+pub mod RetainedTables
 pub mod CurrentValue
 pub mod CurrentPlaces
 pub mod CurrentChild

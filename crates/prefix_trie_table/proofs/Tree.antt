@@ -4,11 +4,11 @@ pub mod Invariant
 pub mod Children
 pub mod Values
 pub mod Shapes
-pub mod Growing
+pub mod GrowthLoop
 pub mod SearchEnds
 pub mod Ancestors
 pub mod Subtrees
-pub mod Kept
-pub mod Copying
+pub mod KeptTables
+pub mod TableCopies
 pub mod Capacities
 pub mod ModelSteps

@@ -6,10 +6,10 @@ pub mod NextPlaces
 pub mod Spots
 pub mod JointNodes
 pub mod JointSpots
-pub mod Walking
-pub mod Selected
-pub mod Starts
-pub mod Skipping
+pub mod ItemsToCome
+pub mod Selections
+pub mod StartStacks
+pub mod SkippedEntries
 pub mod KeySets
 pub mod Seats
 pub mod Taking

@@ -17,7 +17,7 @@ pub use Rattle.std.specs.Vec.Iter.{into_iter_items, into_iter_steps}
 pub use Rattle.prefix_trie_bits.proofs.Model.RetainCalls.{keeps_filter}
 pub use Rattle.prefix_trie_bits.proofs.Model.Members.{is-same_string}
 pub use Rattle.prefix_trie_bits.proofs.Model.NodeSets.{tidy-no_entries}
-pub use Rattle.prefix_trie_bits.proofs.Model.Ordered.{found_first}
+pub use Rattle.prefix_trie_bits.proofs.Model.SortedListings.{found_first}
 pub use Rattle.prefix_trie_bits.proofs.Model.Steps.{stays_map, stays_tidy, step_laws}
 pub use Rattle.prefix_trie_bits.specs.Begins.{begins-from-masked, begins-longer, leb-past, length-first, masked-from-begins, same_bool}
 pub use Rattle.prefix_trie_bits.specs.BitStrings.{bits-length, digits-keep, kept_of_none, length-digits, number-bits}

@@ -3,7 +3,7 @@ use Rattle.prefix_trie_bits.proofs.Prelude.{◌≡◌, ◌≢◌, ◌↔◌, ◌
 use lib.Dec.{T as IsT}
 use Rattle.std.specs.List.{Contains}
 use Rattle.prefix_trie_bits.proofs.Model.Members.{and-first, and-second}
-use Rattle.prefix_trie_bits.proofs.Model.Ordered.{t-true, true-t, lt-less, not_itself, not_less, sorted-tail, sorted-head, sorted-neighbours, Contains-from_find, find-from_Contains, entries-retained}
+use Rattle.prefix_trie_bits.proofs.Model.SortedListings.{t-true, true-t, lt-less, not_itself, not_less, sorted-tail, sorted-head, sorted-neighbours, Contains-from_find, find-from_Contains, entries-retained}
 use Rattle.prefix_trie_bits.proofs.Model.NodeListings.{listing_by_places}
 use Rattle.prefix_trie_bits.proofs.Model.Pruning.{begins-nil}
 

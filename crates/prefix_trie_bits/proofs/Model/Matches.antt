@@ -3,7 +3,7 @@ use Rattle.prefix_trie_bits.proofs.Prelude.{◌≡◌, ◌⊎◌, ◌≤◌, ◌
 use lib.Dec.{T as IsT}
 use Rattle.std.specs.List.{Contains}
 use Rattle.prefix_trie_bits.proofs.Model.Members.{some-key, some-value, of-key, same_string-is}
-use Rattle.prefix_trie_bits.proofs.Model.Ordered.{each-behind, sorted-tail, sorted-head, sorted-neighbours, shorter-first, found_first, found_later, Contains-from_find, find-from_Contains}
+use Rattle.prefix_trie_bits.proofs.Model.SortedListings.{each-behind, sorted-tail, sorted-head, sorted-neighbours, shorter-first, found_first, found_later, Contains-from_find, find-from_Contains}
 
 pub one_of_length : (q s t : List Bool) → begins s q ≡ true → begins t q ≡ true → length s ≡ length t → s ≡ t
 one_of_length q s t e f l = begins-same-length s t (begins-linear s t q e f (omega (arith, l))) l

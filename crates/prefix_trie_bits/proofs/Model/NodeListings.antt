@@ -5,7 +5,7 @@ use lib.Dec.{T as IsT}
 use Rattle.prefix_trie_bits.proofs.Checks.{both, each}
 use Rattle.prefix_trie_bits.proofs.Listing.{strings-short}
 use Rattle.prefix_trie_bits.proofs.Model.Members.{and-first, and-second, same_string-is, get-part_below, same_entries}
-use Rattle.prefix_trie_bits.proofs.Model.Ordered.{t-true, true-t, lt-less, not_less, not_itself, sorted-tail, sorted-head, entries-retained, entries-empty}
+use Rattle.prefix_trie_bits.proofs.Model.SortedListings.{t-true, true-t, lt-less, not_less, not_itself, sorted-tail, sorted-head, entries-retained, entries-empty}
 
 -- ---- strings
 

@@ -3,7 +3,7 @@
 use Rattle.prefix_trie_bits.proofs.Prelude.{◌≡◌, ℕ, zero, suc, ◌+◌, ◌-◌, ◌^◌, ◌≤◌, ◌<◌, Bool, true, false, cond, not, ◌||◌, nat_le, nat_lt, List, [], ◌∷◌, length, map, filter, Some, None, is_some, refl, sym, ap, ap₂, ◌∙◌, subst, arith, inl, inr, eq-eqb, Less, ◌==◌, true≢false, ne_eqb, nat_tests, list_any, entries_sorted, is_sorted, keys, contains_key, get, get-entries, find, begins, same_bool, begins-refl, begins-trans, begins-linear, begins-length, begins-same-length, listing_cmp, listing-extension, same_string, Entries, without_below, listing, is_root, full_strings, covered, addresses, address_total, AddressLaws}
 use Rattle.std.proofs.Common.{T as IsT}
 use Rattle.prefix_trie_bits.proofs.Model.Members.{or-cases, or-left, or-right, and-first, and-second, and-join, not-true, from-not, some-value, same_string-is, some-key, of-key, has-retained}
-use Rattle.prefix_trie_bits.proofs.Model.Ordered.{sorted-head, each-behind, found_first, not_less, entries-empty, entries-retained}
+use Rattle.prefix_trie_bits.proofs.Model.SortedListings.{sorted-head, each-behind, found_first, not_less, entries-empty, entries-retained}
 use Rattle.prefix_trie_bits.proofs.Model.Halves.{covered-suc, covered-root, covered-none, covered-most}
 
 -- ---- counting

@@ -2,7 +2,7 @@
 use Rattle.prefix_trie_bits.proofs.Prelude.{◌≡◌, Bool, true, false, List, [], ◌∷◌, ap, sym, ◌∙◌, subst, filter, cond, is_lt, ◌&&◌, below_all, listing_cmp, RetainsEntries, RetainsEntriesTo, CallableOnEachEntry}
 use lib.Dec.{T as IsT}
 use Rattle.prefix_trie_bits.proofs.Model.Members.{and-first, and-second, and-join}
-use Rattle.prefix_trie_bits.proofs.Model.Ordered.{t-true, true-t}
+use Rattle.prefix_trie_bits.proofs.Model.SortedListings.{t-true, true-t}
 
 module _ {F T : Type 0} (may_return : F → List Bool → T → Bool → F → Type 0) where
   -- a test that may be called in every state may be called on each entry in order

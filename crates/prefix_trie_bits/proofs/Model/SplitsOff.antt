@@ -2,10 +2,10 @@
 use Rattle.prefix_trie_bits.proofs.Prelude.{◌≡◌, ℕ, ◌+◌, Bool, true, false, cond, not, List, [], ◌∷◌, length, Option, None, Some, is_some, refl, sym, ap, ap₂, ◌∙◌, subst, false≢true, length-filter_both, Contains-append_left, Contains-append_right, Contains-push, get, len, find, entries, len-entries, get-entries, entries_sorted, contains_key, begins, listing_cmp, same_string, Entries, with_entry, without_below, part_below, put_all, AreWithin, SplitsOff, AreNodes, needed, listing, State, Splits, SplitLaws, IsMap, Sizes, child_block_sizes, value_block_sizes, child_count, own_entries, ArePacked, SplitsOffInStorage, packed_node_slots, packed_cell_slots, Nodes, has_node, Storage, zero, suc, ◌<◌, ◌≤◌, lit<, Contains, HasBlock, NodesHaveBlocks, packed_block, IsStoredMap, RemoveChildren, Done}
 use Rattle.prefix_trie_bits.proofs.Model.Members.{and-second, has-retained, same_entries, same_string-is, get-with_entry, get-without_below, get-part_below}
 use Rattle.prefix_trie_bits.proofs.Model.NodeSets.{AreNodes-needed}
-use Rattle.prefix_trie_bits.proofs.Model.Ordered.{entries-retained, find-from_Contains}
+use Rattle.prefix_trie_bits.proofs.Model.SortedListings.{entries-retained, find-from_Contains}
 use Rattle.prefix_trie_bits.proofs.Model.Pruning.{remove_children_law, below_fewer}
 use Rattle.prefix_trie_bits.proofs.Model.Storage.PreparedInsertions.{goes_up}
-use Rattle.prefix_trie_bits.proofs.Model.Storage.Shrinking.{smallest_of}
+use Rattle.prefix_trie_bits.proofs.Model.Storage.ShrunkBlocks.{smallest_of}
 use Rattle.prefix_trie_bits.proofs.Model.Storage.StoredMaps.{stays_stored}
 use Rattle.prefix_trie_bits.proofs.Model.Storage.InsertedBlocks.{children_most, entries_most}
 

@@ -1,10 +1,10 @@
 -- What the calls of the model may leave of blocks and slots.
 pub mod Paths
-pub mod Stored
+pub mod StorageChanges
 pub mod Slots
-pub mod Counting
-pub mod Shrinking
-pub mod Refusing
+pub mod KeyCounts
+pub mod ShrunkBlocks
+pub mod Refusals
 pub mod Insertions
 pub mod Removals
 pub mod PreparedInsertions

@@ -5,7 +5,7 @@ use Rattle.prefix_trie_bits.proofs.Model.Storage.Insertions.{gained, gained_inse
 use Rattle.prefix_trie_bits.proofs.Model.Storage.Removals.{new_have, many_left, value_left, one_left}
 use Rattle.prefix_trie_bits.proofs.Model.Members.{from-not, has-empty}
 use Rattle.prefix_trie_bits.proofs.Model.Pruning.{remove_law}
-use Rattle.prefix_trie_bits.proofs.Model.Storage.Refusing.{refuses}
+use Rattle.prefix_trie_bits.proofs.Model.Storage.Refusals.{refuses}
 use Rattle.prefix_trie_bits.proofs.Model.Storage.Slots.{nodes_most, cells_most}
 use Rattle.prefix_trie_bits.proofs.Model.Storage.StoredMaps.{one_gone, longer_left, outside_left, emptied_have, stays_stored}
 use Rattle.prefix_trie_bits.proofs.Model.Steps.{stays_map}

@@ -5,7 +5,7 @@ use Rattle.prefix_trie_bits.proofs.Model.Homes.{home-depth, home-begins}
 use Rattle.prefix_trie_bits.proofs.Model.Matches.{match_laws}
 use Rattle.prefix_trie_bits.proofs.Model.Members.{same_string-is, needs, and-join, and-first, and-second, or-left, or-right, or-cases, is-same_string, of-key, same_nodes, has-retained, has-with_nodes, has-empty}
 use Rattle.prefix_trie_bits.proofs.Model.Pruning.{begins-nil, not-so}
-use Rattle.prefix_trie_bits.proofs.Model.Storage.Counting.{passing-len, few_behind}
+use Rattle.prefix_trie_bits.proofs.Model.Storage.KeyCounts.{passing-len, few_behind}
 
 pub fives : (l : ℕ) → l % 5 ≡ 0 → 5 * (l / 5) ≡ l
 fives l e = omega (arith, e)

@@ -16,7 +16,7 @@ use Rattle.prefix_trie_bits.proofs.Texts.Bytes.{bytes-below, segments-below, bit
 use Rattle.prefix_trie_bits.proofs.Texts.Decimals.{narrow_fits}
 use Rattle.prefix_trie_bits.proofs.Texts.FullGroups.{IsColonHex-full_groups}
 use Rattle.prefix_trie_bits.proofs.Texts.Slashes.{Free, Free-dotted, Free-colon_hex, same_cut}
-use Rattle.prefix_trie_bits.proofs.Texts.Parsing.{spelled}
+use Rattle.prefix_trie_bits.proofs.Texts.ParseResults.{spelled}
 
 module _ {A : Type 0} (Spells : List ℕ → A → Type 0) (bits : A → ℕ) (width : ℕ) (free : (front : List ℕ) (a : A) → Spells front a → Free front) (unique : (front : List ℕ) (a b : A) → Spells front a → Spells front b → a ≡ b) (small : width < 256) where
   at_most_one : (text : List ℕ) (p q : ℕ × ℕ) → IsNetworkText Spells bits width text p → IsNetworkText Spells bits width text q → p ≡ q

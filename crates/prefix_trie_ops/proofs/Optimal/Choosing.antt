@@ -13,9 +13,9 @@ use Rattle.prefix_trie_ops.specs.Choosing.{part_values, Chooses}
 use Rattle.prefix_trie_ops.specs.Optimal.{is_first_below, value_along}
 use Rattle.prefix_trie_ops.specs.Parts.{as_list, first_values, joint_values}
 use Rattle.prefix_trie_ops.specs.ValueSets.{Appends, Holds}
-use Rattle.prefix_trie_ops.proofs.Optimal.Along.{along_leaf}
+use Rattle.prefix_trie_ops.proofs.Optimal.LongestMatches.{along_leaf}
 use Rattle.prefix_trie_ops.proofs.Smallest.Lower.{uniform}
-use Rattle.prefix_trie_ops.proofs.Smallest.Storing.{all_joined, all_kept, nothing_appended}
+use Rattle.prefix_trie_ops.proofs.Smallest.StoredSets.{all_joined, all_kept, nothing_appended}
 
 -- a number from 1 on is one more than another
 pub by_more : (C : ℕ → Type 0) (n : ℕ) → 1 ≤ n → ((k : ℕ) → C (suc k)) → C n

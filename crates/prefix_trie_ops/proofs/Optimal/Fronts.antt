@@ -5,7 +5,7 @@ use Rattle.std.specs.FinMap.{entries_sorted, get, get-entries}
 use Rattle.std.specs.FinMap.Entries.{below_all, find, is_sorted}
 use Rattle.prefix_trie_bits.specs.Model.Order.{listing_cmp}
 use Rattle.prefix_trie_bits.specs.Order.{listing-extension, listing_same, listing_total}
-use Rattle.prefix_trie_bits.proofs.Model.Ordered.{Contains-from_find, not_itself, sorted-head, sorted-tail}
+use Rattle.prefix_trie_bits.proofs.Model.SortedListings.{Contains-from_find, not_itself, sorted-head, sorted-tail}
 use Rattle.prefix_trie.specs.Terms.{Entries, begins, listing, listing_after, listing_from, prefix_pairs}
 use Rattle.prefix_trie_ops.specs.Optimal.{first_value_at, is_first_below, items_after, listing_past}
 use Rattle.prefix_trie_ops.proofs.Covers.{behind_all, between, no_shorter}

@@ -8,8 +8,8 @@ use Rattle.prefix_trie.specs.Terms.{Entries}
 use Rattle.prefix_trie_ops.specs.Optimal.{value_along}
 use Rattle.prefix_trie_ops.specs.Parts.{least}
 use Rattle.prefix_trie_ops.specs.Smallest.{IsSmallest}
-use Rattle.prefix_trie_ops.proofs.Optimal.Along.{along_is_value}
-use Rattle.prefix_trie_ops.proofs.Optimal.Counting.{keys_all, keys_split, keys_under}
+use Rattle.prefix_trie_ops.proofs.Optimal.LongestMatches.{along_is_value}
+use Rattle.prefix_trie_ops.proofs.Optimal.KeyCounts.{keys_all, keys_split, keys_under}
 use Rattle.prefix_trie_ops.proofs.Smallest.Lower.{at_least}
 
 module _ {P X : Type 0} (laws : LookupLaws P X) (eq : X → X → Bool) (equal : IsEquivalence eq) (cmp : X → X → Ordering) (ties : (x y : X) → eq x y ≡ is_eq (cmp x y)) where

@@ -1,7 +1,7 @@
 -- The blocks of each size in an array are the used and the free ones, and no change loses one.
 use Rattle.prefix_trie_table.proofs.Prelude.{◌≡◌, ℕ, ◌+◌, ◌<◌, List, Option, length, refl, sym, ap, ◌∙◌, subst, arith, Contains, get_or_default, Sizes, used_of, free_of, MakesBlocks, MakesAtMost, KeepsBlocks, Node, HasSizes, node_sizes, cell_sizes, SomeTable, Sized, Store, KeepsMade, tier_at, tier_sizes, size_in, free_counts, free_in, made_in}
 use Rattle.prefix_trie_table.proofs.Blocks.BySize.{tiers_long, free_at, made_at, node_sized, cell_sized}
-use Rattle.prefix_trie_table.proofs.Blocks.Sizing.{layout_of}
+use Rattle.prefix_trie_table.proofs.Blocks.NodeLayouts.{layout_of}
 use Rattle.prefix_trie_table.proofs.Counts.BlockCounts.{nodes_made, cells_made}
 
 -- for each size, the blocks of the array are the used ones and the free ones

@@ -1,7 +1,7 @@
 -- The children of each node, and the values of each node, are in a block of one of the sizes that holds them: for the
 -- invariant.
 use Rattle.prefix_trie_table.proofs.Prelude.{◌≡◌, ℕ, zero, suc, ◌<◌, inl, inr, Bool, true, cond, ◌&&◌, List, length, map, flat_map, Option, None, Some, is_some, refl, sym, ap, ◌∙◌, subst, arith, cases_Bool, get_or_default, get, Sizes, HasBlock, NodesHaveBlocks, child_block_sizes, value_block_sizes, child_count, own_entries, Nodes, has_node, is_node_depth, State, and-first, Node, rank, bits, blank_node, node_sizes, cell_sizes, chunks_of, Holds, read, own_count, without, value_blocks, AreSizesBy, Sized, own_children, child_block_size, value_block_size, IsShapeOf, Store, HasList, size_in, tier_sizes, size_if_any}
-use Rattle.prefix_trie_table.proofs.Insertion.Adding.{children_list}
+use Rattle.prefix_trie_table.proofs.Insertion.Additions.{children_list}
 use Rattle.prefix_trie_table.proofs.Strings.BitLists.{rank-all}
 use Rattle.prefix_trie_table.proofs.Removal.Items.{held_fits}
 use Rattle.prefix_trie_table.proofs.Tree.Shapes.{reads_node, shape_nodes}

@@ -1,11 +1,11 @@
 -- The numbers of used and free blocks of each size: for `node_blocks` and `cell_blocks`.
 use Rattle.prefix_trie_table.proofs.Prelude.{◌≡◌, ℕ, suc, ◌+◌, ◌-◌, ◌*◌, ◌<◌, ◌≤◌, cond, ◌==◌, List, [], ◌∷◌, length, map, flat_map, count_by, sum_by, All, Option, None, Some, refl, sym, ap, ap₂, ◌∙◌, arith, eqb-true, eq-eqb, position, values, All-head, sum_by-cons, sum_by-append, same_bool, Sizes, used_of, Node, tier_count, block_counts, slots_counted, bits, node_sizes, cell_sizes, Tier, UsedBlock, Sound, Store, IsOfTier, tier_at, tier_sizes, slots_made, held, size_in, size_if_any, free_counts, NodesHold, CellsHold, child_items, child_blocks, child_blocks_of, value_blocks, value_blocks_of, of_any, Sized, child_block_size, value_block_size}
-use Rattle.prefix_trie_table.proofs.Strings.Plain.{some_same}
+use Rattle.prefix_trie_table.proofs.Strings.SmallFacts.{some_same}
 use Rattle.prefix_trie_table.proofs.Blocks.SevenTiers.{at_seven}
 use Rattle.prefix_trie_table.proofs.Blocks.BySize.{tiers_long}
 use Rattle.prefix_trie_table.proofs.Strings.BitLists.{rank-all}
 use Rattle.prefix_trie_table.proofs.Strings.PathStrings.{AreSteps, AreOnce, paths_steps, paths_once}
-use Rattle.prefix_trie_table.proofs.Blocks.Sizing.{sizes_at, sizes_sum, sizes_only}
+use Rattle.prefix_trie_table.proofs.Blocks.NodeLayouts.{sizes_at, sizes_sum, sizes_only}
 use Rattle.prefix_trie_table.proofs.Blocks.Tilings.{All-append_left, All-append_right}
 
 -- a list of seven tiers is the list of its tiers by index

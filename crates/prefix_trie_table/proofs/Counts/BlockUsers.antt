@@ -5,7 +5,7 @@ use Rattle.prefix_trie_table.specs.Forest.{size_in}
 use Rattle.prefix_trie_table.proofs.Counts.OwnCounts.{children_counted, values_counted}
 use Rattle.prefix_trie_table.proofs.Strings.PathSums.{sum_same}
 use Rattle.prefix_trie_table.proofs.Strings.BitLists.{rank-all}
-use Rattle.prefix_trie_table.proofs.Strings.Filling.{sum-fresh}
+use Rattle.prefix_trie_table.proofs.Strings.KeySums.{sum-fresh}
 use Rattle.prefix_trie_table.proofs.Strings.PathStrings.{string_at, string_path, string_depth, nodes_at, AreSteps, AreOnce, other_steps, other_once, new_string, paths_steps, paths_once, listed_some, same_nodes}
 use Rattle.prefix_trie_table.proofs.Blocks.SlotSums.{sum_by-mapped}
 use Rattle.prefix_trie_table.proofs.Tree.Trees.{is_some-Some}

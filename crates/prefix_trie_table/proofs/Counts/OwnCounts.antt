@@ -2,10 +2,10 @@
 use Rattle.prefix_trie_table.proofs.Prelude.{◌≡◌, ℕ, zero, suc, ◌+◌, ◌-◌, ◌*◌, ◌/◌, ◌%◌, ◌<◌, ◌≤◌, inl, inr, Bool, true, false, cond, ◌&&◌, nat_lt, ◌==◌, T, List, [], ◌∷◌, ◌++◌, length, length-append, length-drop, drop, map, filter, Option, None, Some, is_some, refl, sym, ap, ap₂, ◌∙◌, subst, arith, eqb-true, eq-eqb, ltb-true, ◌^◌, drop_at, false≢true, cases_Bool, cases_lt, cases_eq, false_from_ne_true, FinMap, empty, get, contains_key, keys, len, entries, entries_sorted, retain_keys, find, is_sorted, get-entries, len-empty, len-insert, len-remove, get-retain_keys, empty_of_len, begins, number, digits, digits-number, length-digits, number-lt, number-bits, same_bool, begins-append, begins-rest, listing_cmp, listing_total, listing_same, same_string, value_bit, child_count, own_entries, Entries, Nodes, has_node, is_node_depth, same_members, same_string-is, is-same_string, has-empty, has-inserted, get-without_entry, and-first, and-second, and-join, or-cases, or-left, or-right, entries-retained, sorted-tail, sorted-head, each-behind, not_itself, value_bit-injective, Node, has_bit, rank, chunks_of, bit_of, Store, NodesHold, CellsHold, has_child, has_value}
 use Rattle.std.proofs.lemmas.Bool.{lt-ltb}
 use Rattle.std.specs.FinMap.{insert, remove}
-use Rattle.prefix_trie_table.proofs.Strings.Plain.{five_times}
+use Rattle.prefix_trie_table.proofs.Strings.SmallFacts.{five_times}
 use Rattle.prefix_trie_table.proofs.Strings.Bits.{has_bit-below}
 use Rattle.prefix_trie_table.proofs.Strings.BitLists.{rank-zero, rank-more}
-use Rattle.prefix_trie_table.proofs.Strings.Placing.{below_node, step_below, string_at}
+use Rattle.prefix_trie_table.proofs.Strings.ChunkPlaces.{below_node, step_below, string_at}
 
 -- ---- lists of entries and sets with the same keys
 

@@ -2,7 +2,7 @@
 use Rattle.prefix_trie_table.proofs.Prelude.{◌≡◌, ℕ, ◌+◌, ◌-◌, ◌*◌, ◌/◌, ◌<◌, ◌≤◌, inl, inr, nat_lt, if◌then◌else◌, List, [], Bool, length, Option, None, Some, Result, Ok, Err, OnOk, ap, ◌∙◌, arith, le-ltb, Node, Reached, node_sizes, cell_sizes, HasSizes, child_need, value_need, Store, Keeps, MakesNone, Obtains, AreFree, tier_sizes, size_in, size_if_any, list_need, needs, missing_in, missing_slots, block_needed, rank, nodes_needed, cells_needed, Made, Makes, ObtainsBoth}
 use Rattle.std.proofs.lemmas.Bool.{lt-ltb}
 use Rattle.prefix_trie_table.proofs.Blocks.BySize.{sizes_up, slots_of-le, slots_of-none}
-use Rattle.prefix_trie_table.proofs.Blocks.Preparing.{missing_slots-are}
+use Rattle.prefix_trie_table.proofs.Blocks.Preparations.{missing_slots-are}
 use Rattle.prefix_trie_table.proofs.Blocks.Turnovers.{free_obtained}
 
 -- ---- which of the two cases it is

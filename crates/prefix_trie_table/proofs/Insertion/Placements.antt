@@ -1,10 +1,10 @@
 -- What a call leaves that adds a missing value where its search ends, stated as for an insertion.
 use Rattle.prefix_trie_table.proofs.Prelude.{◌≡◌, ℕ, ◌+◌, false, Bool, List, Option, None, Some, Result, Ok, Err, MatchResult, IfErr, sym, ◌∙◌, arith, get, contains_key, Refused, Memory, IndexRange, Insert, InsertsInStorage, RefusesInStorage, StepByPath, Node, Reached, Seat, IsLast, ObtainsBoth, nodes_needed, cells_needed, chunks_of, bit_of, Holds, EntryAdded, Sized, Shaped, insert_reply, insert_new_reply, Store, IsTable, ForHeld, GrowsBoth, MayPass}
 use Rattle.prefix_trie_table.proofs.Insertion.PredictedNeeds.{obtained}
-use Rattle.prefix_trie_table.proofs.Insertion.Inserted.{inserted_in}
-use Rattle.prefix_trie_table.proofs.Insertion.Resized.{sizes_left}
+use Rattle.prefix_trie_table.proofs.Insertion.InsertedStorage.{inserted_in}
+use Rattle.prefix_trie_table.proofs.Insertion.NewSizes.{sizes_left}
 use Rattle.prefix_trie_table.proofs.Tree.Shapes.{shape_entries, Leaves, Counts}
-use Rattle.prefix_trie_table.proofs.Blocks.Sizing.{storage_of}
+use Rattle.prefix_trie_table.proofs.Blocks.NodeLayouts.{storage_of}
 use Rattle.prefix_trie_table.proofs.Tree.ModelSteps.{inserts_step}
 use Rattle.prefix_trie_table.proofs.Tree.Trees.{is_none-None}
 

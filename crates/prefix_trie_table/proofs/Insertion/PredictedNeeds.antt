@@ -1,19 +1,19 @@
 -- The blocks that an insertion needs are those that the model states for the table's entries, nodes
 -- and layout.
 use Rattle.prefix_trie_table.proofs.Prelude.{◌≡◌, ℕ, ◌+◌, ◌-◌, ◌*◌, ◌/◌, ◌%◌, ◌<◌, ◌≤◌, inl, inr, Bool, true, cond, ◌&&◌, List, length, take, Option, None, Some, is_some, Result, refl, sym, ap, ap₂, ◌∙◌, subst, arith, eq-eqb, length-take-le, append-nil, false≢true, cases_Bool, cases_lt, take-take, option_to_list, get, child_block_sizes, value_block_sizes, child_count, own_entries, block_needed, child_blocks_needed, value_blocks_needed, has_node, is_node_depth, home, State, is-same_string, none_needed, blocks_needed, Node, Reached, nodes_needed, cells_needed, ObtainsBoth, IsTable, IsLast, slot_at, rank, node_sizes, cell_sizes, chunks_of, is_start, Holds, IsEnd, has_child, has_value, Sized, child_block_size, value_block_size, value_need, IsShapeOf, Shaped, Store, needs}
-use Rattle.prefix_trie_table.proofs.Strings.Plain.{whole_levels}
+use Rattle.prefix_trie_table.proofs.Strings.SmallFacts.{whole_levels}
 use Rattle.prefix_trie_table.proofs.Tree.Invariant.{some_table}
 use Rattle.prefix_trie_table.proofs.Insertion.Needs.{nodes_here, nodes_below, cells_here, cells_below}
 use Rattle.prefix_trie_table.proofs.Strings.Bits.{has_bit-zero}
 use Rattle.prefix_trie_table.proofs.Strings.BitLists.{rank-zero-all}
 use Rattle.prefix_trie_table.proofs.Strings.Digits.{path-length, path-take}
-use Rattle.prefix_trie_table.proofs.Lookup.Finding.{prefix_some}
-use Rattle.prefix_trie_table.proofs.Lookup.Going.{deepest_is}
+use Rattle.prefix_trie_table.proofs.Lookup.DescentEnds.{prefix_some}
+use Rattle.prefix_trie_table.proofs.Lookup.Descents.{deepest_is}
 use Rattle.prefix_trie_table.proofs.Lookup.SearchPaths.{path_end}
 use Rattle.prefix_trie_table.proofs.Counts.OwnCounts.{children_counted, values_counted}
 use Rattle.prefix_trie_table.proofs.Tree.Shapes.{shape_nodes, shape_entries}
-use Rattle.prefix_trie_table.proofs.Blocks.Sizing.{layout_of}
-use Rattle.prefix_trie_table.proofs.Strings.Starts.{is_start_take}
+use Rattle.prefix_trie_table.proofs.Blocks.NodeLayouts.{layout_of}
+use Rattle.prefix_trie_table.proofs.Strings.Beginnings.{is_start_take}
 use Rattle.prefix_trie_table.proofs.Tree.Trees.{reads, is_none-None}
 
 whole : (i l : ℕ) → i ≤ l / 5 → 5 * i ≤ l

@@ -1,7 +1,7 @@
 -- By how much an insertion lengthens the arrays.
 use Rattle.prefix_trie_table.proofs.Prelude.{◌≡◌, ℕ, ◌+◌, ◌-◌, ◌/◌, ◌≤◌, List, Option, None, Result, Ok, Err, refl, sym, ap, ◌∙◌, subst, arith, lit≤, child_block_sizes, value_block_sizes, block_needed, slots_of_missing, slots_most, total_most, needed_most, node_sizes, cell_sizes, HasSizes, Store, Turnover, Obtains, MakesNone, SameSpace, KeepsMade, tier_sizes, free_counts, needs, missing_in, missing_slots, Grows}
 use Rattle.prefix_trie_table.proofs.Blocks.BySize.{sizes_up, slots_of-le}
-use Rattle.prefix_trie_table.proofs.Blocks.Preparing.{missing_slots-are}
+use Rattle.prefix_trie_table.proofs.Blocks.Preparations.{missing_slots-are}
 use Rattle.prefix_trie_table.proofs.Blocks.Turnovers.{made_turned, made_kept, made_same, made_then}
 
 module _ {S : Type 0} where

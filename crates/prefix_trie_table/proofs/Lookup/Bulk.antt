@@ -2,7 +2,7 @@
 use Rattle.prefix_trie_table.proofs.Prelude.{◌≡◌, ℕ, ◌+◌, ◌*◌, ◌<◌, ◌≤◌, ◌⊎◌, inl, inr, Bool, List, [], ◌∷◌, ◌++◌, Option, None, Some, IfSome, MatchOption, Contains, option_map, map, take, drop, length, length-drop, get_or, set, sum_by, refl, sym, ap, ◌∙◌, subst, arith, option_or, add-mul, one-mul, cases_eq, length-map, map-append, length_push, take_more, take_more_set, get_or_default, get_or-map, get_or-drop, get_or-take, get_or-set_other, All-nil, All-push, Contains-append_cases, Contains-append_left, Contains-append_right, Contains-push_cases, sum_by_push, Node, Found, Descent, Match, HaveMatches, AreRead, GoOn, HasFound, cost_of, found_of, question_of, reached_by, slot_of, node_at, chunks_of, IsEnd, SomeNodes, Reached, IsAlong, IsLast, LongestHeld, Store}
 use Rattle.std.proofs.lemmas.List.{append_assoc, length-take-le, drop-drop, get_or-set_same}
 use Rattle.prefix_trie_table.specs.Bulk.{IsDescent}
-use Rattle.prefix_trie_table.proofs.Lookup.Matching.{best_now, best_at_last}
+use Rattle.prefix_trie_table.proofs.Lookup.NodeMatches.{best_now, best_at_last}
 
 -- a match has a value bit
 pub match_few : (reading : List ℕ → Option Node) (s : List Bool) (a b : ℕ) (o : Option Match) → LongestHeld reading s a b o → IfSome o (λ m. m.bit < 31)

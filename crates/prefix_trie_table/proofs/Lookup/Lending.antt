@@ -4,9 +4,9 @@ use Rattle.std.proofs.lemmas.List.{length-set}
 use borrow.Follows.Closed.{read_of}
 use Rattle.prefix_trie_table.proofs.Tree.Invariant.{some_table}
 use Rattle.prefix_trie_table.proofs.Strings.Keys.{same_key}
-use Rattle.prefix_trie_table.proofs.Insertion.Adding.{with_same}
-use Rattle.prefix_trie_table.proofs.Lookup.Matched.{cell_some, longest_at, longest_there, longest_none}
-use Rattle.prefix_trie_table.proofs.Blocks.Sizing.{layout_of}
+use Rattle.prefix_trie_table.proofs.Insertion.Additions.{with_same}
+use Rattle.prefix_trie_table.proofs.Lookup.EntryMatches.{cell_some, longest_at, longest_there, longest_none}
+use Rattle.prefix_trie_table.proofs.Blocks.NodeLayouts.{layout_of}
 use Rattle.prefix_trie_table.proofs.Tree.Shapes.{shape_of, shape_nodes, shape_entries}
 use Rattle.prefix_trie_table.proofs.Tree.Values.{value_is_there, value_replaced}
 

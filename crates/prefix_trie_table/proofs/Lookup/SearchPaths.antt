@@ -3,8 +3,8 @@ use Rattle.prefix_trie_table.proofs.Prelude.{◌≡◌, ◌≢◌, ℕ, ◌+◌,
 use Rattle.std.proofs.lemmas.List.{drop-drop, take_all}
 use Rattle.prefix_trie_table.proofs.Strings.Bits.{has_bit-is}
 use Rattle.prefix_trie_table.proofs.Strings.Digits.{path-length, step-is, rest-is}
-use Rattle.prefix_trie_table.proofs.Lookup.Going.{deepest_is, deepest_more, deepest_end}
-use Rattle.prefix_trie_table.proofs.Lookup.Finding.{none_below}
+use Rattle.prefix_trie_table.proofs.Lookup.Descents.{deepest_is, deepest_more, deepest_end}
+use Rattle.prefix_trie_table.proofs.Lookup.DescentEnds.{none_below}
 use Rattle.prefix_trie_table.proofs.Tree.Invariant.{deepest_there}
 use Rattle.prefix_trie_table.proofs.Tree.Trees.{is_none-None}
 

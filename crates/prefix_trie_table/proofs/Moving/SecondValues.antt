@@ -2,7 +2,7 @@
 use Rattle.prefix_trie_table.proofs.Prelude.{◌≡◌, ℕ, Bool, true, false, cond, List, [], ◌∷◌, ◌++◌, Option, None, Some, refl, sym, ap, ap₂, ◌∙◌, false≢true, All-head, All-tail, get, entries, entries_sorted, get-entries, is_sorted, find, listing_cmp, same_string, Entries, same_string-is, sorted-head, sorted-tail, each-behind, not_itself, Node, node_sizes, chunks_of, bit_of, same_path, has_value, with_value, NodesHold, no_value, Store}
 use Rattle.std.proofs.Common.{T as IsT}
 use Rattle.std.specs.List.{All}
-use Rattle.prefix_trie_table.proofs.Moving.Putting.{with_values, HasPlace}
+use Rattle.prefix_trie_table.proofs.Moving.ValueWrites.{with_values, HasPlace}
 use Rattle.prefix_trie_table.proofs.Strings.Keys.{same_key}
 use Rattle.prefix_trie_table.proofs.Strings.Paths.{same_path-true, snoc_inj}
 

@@ -2,10 +2,10 @@
 use Rattle.prefix_trie_table.proofs.Prelude.{◌≡◌, ◌↔◌, ℕ, ◌+◌, ◌*◌, ◌/◌, ◌<◌, ◌≤◌, Bool, true, false, cond, not, ◌&&◌, ◌||◌, ◌==◌, nat_lt, List, [], ◌∷◌, ◌++◌, length, take, drop, Option, None, Some, is_some, refl, sym, ap, ap₂, ◌∙◌, subst, arith, inl, inr, bit_and, append-nil, append_assoc, length-append, length-drop, false≢true, cases_Bool, cases_lt, le-ltb, append_cancel_left, All-weaker, All-contains_itself, list_any_at, get, find, get-entries, begins, number, digits, digits-number, begins-refl, begins-length, begins-linear, begins-longer, begins-rest, begins-from-rest, begins-same-length, begins-trans, listing_cmp, same_string, HoldsValues, HoldsChildren, is_in, RetainsEntriesTo, Entries, part_below, without_entry, without_below, Nodes, has_node, home, is_node_depth, pruned, nodes_not_below, nodes_without, nodes_without_below, pair_of, listing_at_place, listing_at_places, listing_below, State, is_in-and, home-begins, home-depth, home-length, or-cases, and-join, and-second, same_string-is, is-same_string, has-retained, get-part_below, get-without_entry, get-without_below, same_entries, same_members, entries-retained, Node, chunks_of, read, below, Store, is_at, is_at_some, is_under, is_under_some, Retains, IsTrie}
 use Rattle.std.specs.List.{All, Contains}
 use Rattle.std.proofs.lemmas.Bool.{lt-ltb}
-use Rattle.prefix_trie_table.proofs.Strings.Plain.{fifth_more, no_or_yes, whole_more}
-use Rattle.prefix_trie_table.proofs.Retain.Asked.{at_value, at_child, under_child, under_at_some, at_goes_on, at_some_one, five_further}
+use Rattle.prefix_trie_table.proofs.Strings.SmallFacts.{fifth_more, no_or_yes, whole_more}
+use Rattle.prefix_trie_table.proofs.Retain.TestCalls.{at_value, at_child, under_child, under_at_some, at_goes_on, at_some_one, five_further}
 use Rattle.prefix_trie_table.proofs.Strings.Bits.{has_bit-is}
-use Rattle.prefix_trie_table.proofs.Strings.Placing.{step_below}
+use Rattle.prefix_trie_table.proofs.Strings.ChunkPlaces.{step_below}
 use Rattle.prefix_trie_table.proofs.Tree.Subtrees.{nothing_below, unset, is_in-value, is_in-child, number-small}
 use Rattle.prefix_trie_table.proofs.Tree.Trees.{read-snoc, child-missing}
 

@@ -3,7 +3,7 @@ use Rattle.prefix_trie_table.proofs.Prelude.{◌≡◌, ℕ, ◌+◌, ◌≤◌,
 use Rattle.prefix_trie_table.proofs.Counts.NodeCounts.{slots_by_path}
 use Rattle.prefix_trie_table.proofs.Strings.PathStrings.{paths_steps, paths_once}
 use Rattle.prefix_trie_table.proofs.Removal.GrowthBounds.{no_children, no_own_values}
-use Rattle.prefix_trie_table.proofs.Blocks.Sizing.{sizes_at, sizes_sum, sizes_only}
+use Rattle.prefix_trie_table.proofs.Blocks.NodeLayouts.{sizes_at, sizes_sum, sizes_only}
 use Rattle.prefix_trie_table.proofs.Blocks.SlotSums.{sum_by-same}
 
 module _ (nodes : List ℕ → Option Node) (paths : List (List ℕ)) (v : Store Node) (hold : NodesHold node_sizes nodes paths v) where

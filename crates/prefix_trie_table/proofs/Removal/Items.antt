@@ -2,7 +2,7 @@
 use Rattle.prefix_trie_table.proofs.Prelude.{◌≡◌, ℕ, zero, suc, ◌+◌, ◌-◌, ◌<◌, ◌≤◌, true, List, [], ◌∷◌, ◌++◌, length, set, remove, map, flat_map, Option, None, Some, refl, sym, ap, ◌∙◌, subst, arith, Contains, same_Some, none-some, Sets, StepsDown, LongerByOne, made_of, goes_up, has_some, sizes_to, Node, BlockRef, has_bit, bits, rank, blank_node, node_at, node_sizes, cell_sizes, Store, UsedBlock, Sound, block, held, HasList, Keeps, Turnover, tier_at, tier_sizes, size_in, size_if_any, list_size, free_counts, made_in, without, child_items, child_blocks, IsSlot, NodesHold, CellsHold, value_blocks, with_node, with_child_removed, node_or_blank, LosesOne, SameChildren, SameValues, ShrinksList, MakesEntered, ValueTaken, ChildDropped, GivesBack, headroom_if_any, child_headroom, Grows}
 use Rattle.std.proofs.lemmas.List.{length-set}
 use Rattle.prefix_trie_table.specs.OwnBlocks.{child_block_size, value_block_size}
-use Rattle.prefix_trie_table.proofs.Strings.Bare.{no_bit, cleared, others_stay, one_fewer}
+use Rattle.prefix_trie_table.proofs.Strings.BareBitmaps.{no_bit, cleared, others_stay, one_fewer}
 use Rattle.prefix_trie_table.proofs.Strings.BitLists.{rank-all}
 use Rattle.prefix_trie_table.proofs.Tree.Children.{child_removed, node_changed}
 use Rattle.prefix_trie_table.proofs.Blocks.Soundness.{fits_block, tier_of_block}

@@ -1,9 +1,9 @@
 -- The sizes of blocks after a removal are those of the model.
 use Rattle.prefix_trie_table.proofs.Prelude.{◌≡◌, ℕ, ◌*◌, ◌%◌, ◌≤◌, inl, inr, Bool, true, false, cond, ◌&&◌, List, length, take, Option, None, Some, is_some, refl, sym, ap, ◌∙◌, subst, arith, eq-eqb, cases_Bool, get, Sizes, StepsDown, SizesStepDown, StepsBetween, SizesStepBetween, value_block_sizes, child_block_sizes, own_entries, child_count, Nodes, has_node, is_node_depth, home, State, RemovesValueInStorage, PrunesInStorage, home-depth, and-first, same_entries, Node, node_sizes, cell_sizes, chunks_of, bit_of, NodesHold, Holds, SomeTable, has_bit, rank, has_child, has_value, own_count, read, with_value, AreSizesBy, Sized, own_children, child_block_size, value_block_size, EntryTaken, EntryRemoved, GrowsBy, MakesEntered, MakesFew, BlocksBetween, IsShapeOf, Shaped, Store, free_counts, IsTable, ForHeld}
 use Rattle.std.proofs.lemmas.List.{length-take-le}
-use Rattle.prefix_trie_table.proofs.Strings.Plain.{fifths}
+use Rattle.prefix_trie_table.proofs.Strings.SmallFacts.{fifths}
 use Rattle.prefix_trie_table.proofs.Tree.Invariant.{some_table}
-use Rattle.prefix_trie_table.proofs.Strings.Bare.{no_bit}
+use Rattle.prefix_trie_table.proofs.Strings.BareBitmaps.{no_bit}
 use Rattle.prefix_trie_table.proofs.Strings.BitLists.{rank-zero-all}
 use Rattle.prefix_trie_table.proofs.Strings.Digits.{path-length, path-take}
 use Rattle.prefix_trie_table.proofs.Counts.OwnCounts.{children_counted, values_counted}
@@ -11,7 +11,7 @@ use Rattle.prefix_trie_table.proofs.Removal.NodesLeft.{home_path, pruned_holds}
 use Rattle.prefix_trie_table.proofs.Tree.Shapes.{shape_entries, shape_nodes}
 use Rattle.prefix_trie_table.proofs.Removal.BlockSizes.{ValuesStep, ChildrenStep, steps_read, children_kept, taken_gone, taken_values, taken_children, drops_gone, drops_values, pruned_children, pruned_grows, grows_same, grows_not}
 use Rattle.prefix_trie_table.proofs.Blocks.KeptBlocks.{blocks_made, blocks_at_most, nodes_cut, cells_cut}
-use Rattle.prefix_trie_table.proofs.Blocks.Sizing.{storage_of}
+use Rattle.prefix_trie_table.proofs.Blocks.NodeLayouts.{storage_of}
 use Rattle.prefix_trie_table.proofs.Tree.Trees.{reads, is_none-None}
 
 -- the size by the string of a node is that by its path

@@ -1,18 +1,18 @@
 -- What contracts see of a removal that prunes: the nodes left are those of the model.
 use Rattle.prefix_trie_table.proofs.Prelude.{◌≡◌, ℕ, ◌+◌, ◌*◌, ◌/◌, ◌%◌, ◌≤◌, ◌⊎◌, inl, inr, Bool, true, false, cond, not, ◌&&◌, ◌||◌, List, [], ◌∷◌, ◌++◌, length, take, Option, None, Some, is_some, refl, sym, ap, ap₂, ◌∙◌, subst, arith, eqb-true, eq-eqb, length-append, false≢true, cases_Bool, cases_lt, true_from_ne_false, false_from_ne_true, nil_from_length, take_at, take-take, contains_key, retain_keys, begins-trans, begins, digits, length-digits, IsPrunedNode, PruningLaws, without_entry, has_node, is_node_depth, home, is_pruned, nodes_without, State, value_bit, home-begins, home-depth, home-longest, and-first, and-second, and-join, pruning_laws, Node, has_bit, node_sizes, chunks_of, bit_of, Store, is_start, same_path, one_if, entry_count, SomeTable, Holds, has_child, has_value, with_value, EntryTaken, Pruned, EntryRemoved, IsShapeOf, Shaped, IsTable, ForHeld}
 use Rattle.std.proofs.lemmas.List.{take_all, length-take-le}
-use Rattle.prefix_trie_table.proofs.Strings.Plain.{fifths}
+use Rattle.prefix_trie_table.proofs.Strings.SmallFacts.{fifths}
 use Rattle.prefix_trie_table.proofs.Tree.Invariant.{some_table}
-use Rattle.prefix_trie_table.proofs.Strings.Bare.{some_bit}
+use Rattle.prefix_trie_table.proofs.Strings.BareBitmaps.{some_bit}
 use Rattle.prefix_trie_table.proofs.Strings.Bits.{has_bit-below}
 use Rattle.prefix_trie_table.proofs.Strings.Digits.{path-length, path-take}
 use Rattle.prefix_trie_table.proofs.Removal.OneEntry.{TakenOut, left_without, entries_without, shape_taken}
-use Rattle.prefix_trie_table.proofs.Lookup.Finding.{prefix_some}
+use Rattle.prefix_trie_table.proofs.Lookup.DescentEnds.{prefix_some}
 use Rattle.prefix_trie_table.proofs.Strings.Keys.{begins-search_path}
-use Rattle.prefix_trie_table.proofs.Strings.Placing.{below_node, step_below, string_at}
+use Rattle.prefix_trie_table.proofs.Strings.ChunkPlaces.{below_node, step_below, string_at}
 use Rattle.prefix_trie_table.proofs.Removal.Pruning.{drops_cells, drops_count}
 use Rattle.prefix_trie_table.proofs.Tree.Shapes.{shape_of, shape_nodes}
-use Rattle.prefix_trie_table.proofs.Strings.Starts.{is_start-is, is_start_take, is_start-snoc}
+use Rattle.prefix_trie_table.proofs.Strings.Beginnings.{is_start-is, is_start_take, is_start-snoc}
 
 -- a beginning of a path is its first steps
 pub start_is : (x path : List ℕ) → is_start x path ≡ true → (take (length x) path ≡ x) × (length x ≤ length path)

@@ -2,12 +2,12 @@
 use Rattle.prefix_trie_table.proofs.Prelude.{◌≡◌, ◌≢◌, ℕ, ◌+◌, ◌<◌, ◌≤◌, inl, inr, true, List, [], ◌∷◌, ◌++◌, length, get_or, take, Option, None, Some, is_some, refl, sym, ap, ◌∙◌, subst, arith, length-append, false≢true, cases_lt, take_more, Node, has_bit, rank, node_at, node_sizes, cell_sizes, Store, tier_sizes, free_counts, NodesHold, CellsHold, IsSlot, at_root, at_child, has_child, is_start, without, own_count, entry_count, with_child_removed, node_or_blank, ShrinksList, MakesEntered, MakesFew, SameValues, IsBare, AreAncestors, GivesBack, ChildDropped, Drops, none, more, PrunedTo, IsAtEnd, slot_in, LongerByOne, free_of, own_children, child_block_size}
 use Rattle.std.proofs.lemmas.List.{take_all, length-take-le}
 use Rattle.prefix_trie_table.proofs.Removal.ShrinkingLists.{shrinks_none, children_none}
-use Rattle.prefix_trie_table.proofs.Strings.Bare.{no_bit}
+use Rattle.prefix_trie_table.proofs.Strings.BareBitmaps.{no_bit}
 use Rattle.prefix_trie_table.proofs.Tree.Children.{changed, changed_below, changed_here, changed_other}
 use Rattle.prefix_trie_table.proofs.Counts.EntryCounts.{count_sum}
 use Rattle.prefix_trie_table.proofs.Strings.PathSums.{sum_lacking}
 use Rattle.prefix_trie_table.proofs.Removal.GrowthBounds.{bounds_growth_none, bounds_growth_then}
-use Rattle.prefix_trie_table.proofs.Strings.Starts.{is_start_take}
+use Rattle.prefix_trie_table.proofs.Strings.Beginnings.{is_start_take}
 use Rattle.prefix_trie_table.proofs.Tree.Trees.{listed_once, slot_holds}
 use Rattle.prefix_trie_table.proofs.Tree.Values.{cells_lacking_child}
 

@@ -2,7 +2,7 @@
 use Rattle.prefix_trie_table.proofs.Prelude.{◌≡◌, ℕ, ◌+◌, ◌-◌, ◌<◌, ◌≤◌, ◌⊎◌, inl, inr, Bool, true, not, ◌||◌, nat_lt, nat_le, List, length, Option, None, Some, refl, sym, ap, ◌∙◌, subst, arith, Contains, cases_eq, cases_lt, get_or_default, same_Some, none-some, at_below, HasBlock, StepsDown, StepsBetween, LongerByOne, free_of, made_of, one_of, smallest_size, or-cases, goes_up, has_cases, smallest_of, sizes_to, shrinks_few, Node, node_sizes, cell_sizes, own_count, own_children, child_block_size, value_block_size, ShrinksList, GivesBack, headroom, headroom_if_any, Store, Turnover, tier_sizes, size_in, size_if_any, free_counts, many_of, SameBlock, SameChildren, rank}
 use Rattle.std.proofs.lemmas.Bool.{true≢false, lt-ltb, leb-true}
 use Rattle.prefix_trie_bits.proofs.Checks.{below}
-use Rattle.prefix_trie_bits.proofs.Model.Storage.Shrinking.{Holds}
+use Rattle.prefix_trie_bits.proofs.Model.Storage.ShrunkBlocks.{Holds}
 use Rattle.prefix_trie_table.proofs.Blocks.BySize.{slots_of-same, slots_of-many, many-none}
 use Rattle.prefix_trie_table.proofs.Blocks.Losing.{none_made, same_made, one_made}
 use Rattle.prefix_trie_table.proofs.Blocks.Turnovers.{space_kept}

@@ -4,19 +4,19 @@ use Rattle.prefix_trie_table.proofs.Prelude.{◌≡◌, ◌↔◌, ℕ, ◌+◌,
 use Rattle.std.specs.List.{Contains}
 use Rattle.std.specs.FinMap.{remove}
 use Rattle.prefix_trie_bits.specs.declared.node.Place.TheVariants.{Child as ChildPlace}
-use Rattle.prefix_trie_table.proofs.Strings.Plain.{no_or_yes}
+use Rattle.prefix_trie_table.proofs.Strings.SmallFacts.{no_or_yes}
 use Rattle.prefix_trie_table.proofs.Tree.Invariant.{some_table}
-use Rattle.prefix_trie_table.proofs.Removal.Between.{blocks_then, dropped_between, stays_grown, stays_then}
-use Rattle.prefix_trie_table.proofs.Retain.AskedBelow.{child_asked, needed_below}
-use Rattle.prefix_trie_table.proofs.Strings.Bare.{some_bit}
+use Rattle.prefix_trie_table.proofs.Removal.SizeBounds.{blocks_then, dropped_between, stays_grown, stays_then}
+use Rattle.prefix_trie_table.proofs.Retain.TestCallsBelow.{child_asked, needed_below}
+use Rattle.prefix_trie_table.proofs.Strings.BareBitmaps.{some_bit}
 use Rattle.prefix_trie_table.proofs.Strings.Bits.{has_bit-is, has_bit-below}
 use Rattle.prefix_trie_table.proofs.Tree.Children.{changed_below, changed_here, changed_other, some_stays}
 use Rattle.prefix_trie_table.proofs.Strings.Keys.{same_above}
-use Rattle.prefix_trie_table.proofs.Strings.Placing.{step_below, string_at}
+use Rattle.prefix_trie_table.proofs.Strings.ChunkPlaces.{step_below, string_at}
 use Rattle.prefix_trie_table.proofs.Retain.CurrentPlaces.{value_iff, child_iff, nothing_at, none_below_it}
 use Rattle.prefix_trie_table.proofs.Removal.Pruning.{drops_cells, drops_count}
 use Rattle.prefix_trie_table.proofs.Removal.GrowthBounds.{bounds_growth_nodes, bounds_growth_then}
-use Rattle.prefix_trie_table.proofs.Retain.Retained.{are_nodes, read_held, here_length, here_whole, here_levels, path_levels, site_stays}
+use Rattle.prefix_trie_table.proofs.Retain.RetainedTables.{are_nodes, read_held, here_length, here_whole, here_levels, path_levels, site_stays}
 use Rattle.prefix_trie_table.proofs.Tree.Shapes.{reads_node, shape_of, shape_entries}
 use Rattle.prefix_trie_table.proofs.Tree.Subtrees.{child_is, child_inside, child_few, child_fits, few_at, all_places, is_in-child, number-small}
 use Rattle.prefix_trie_table.proofs.Walk.NextPlaces.{place-child}

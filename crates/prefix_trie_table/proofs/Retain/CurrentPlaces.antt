@@ -2,15 +2,15 @@
 use Rattle.prefix_trie_table.proofs.Prelude.{◌≡◌, ℕ, ◌/◌, ◌≤◌, Bool, true, false, cond, ◌&&◌, ◌==◌, List, [], ◌∷◌, ◌++◌, length, take, Option, is_some, refl, sym, ap, ap₂, ◌∙◌, subst, arith, inl, inr, append-nil, length-append, Less, IsStrictlySortedBy, false≢true, cases_lt, le-ltb, All-head, All-tail, All-weaker, All-from_recursion, list_any-append, get, begins, number, digits, digits-number, listing_cmp, has, value_bit, is_in, place_of, Child, CallableOnEachEntry, listing_at_place, listing_at_places, has_node, is_node_depth, State, value_bit-injective, value_bit-small, or-cases, or-left, or-right, is-same_string, not_itself, begins-refl, Node, Site, chunks_of, bit_of, Store, read, has_value, has_child, same_shape, IsPlaceOf, is_at, is_at_some, is_under_some, IsSite, Retains, RetainsIn, MayAskAt, PreservesBelow, IsTrie, Value}
 use Rattle.std.specs.List.{All}
 use Rattle.std.proofs.lemmas.Bool.{lt-ltb}
-use Rattle.prefix_trie_table.proofs.Strings.Plain.{no_or_yes, whole_more}
+use Rattle.prefix_trie_table.proofs.Strings.SmallFacts.{no_or_yes, whole_more}
 use Rattle.prefix_trie_table.proofs.Blocks.Soundness.{All-both}
 use Rattle.prefix_trie_table.proofs.Tree.Invariant.{some_table}
-use Rattle.prefix_trie_table.proofs.Removal.Between.{blocks_still, blocks_then, stays_none, stays_then}
-use Rattle.prefix_trie_table.proofs.Retain.Asked.{only_one, at_value, at_child, under_at_some, one_place, apart_first, asked_both, may_ask_first, may_ask_then}
+use Rattle.prefix_trie_table.proofs.Removal.SizeBounds.{blocks_still, blocks_then, stays_none, stays_then}
+use Rattle.prefix_trie_table.proofs.Retain.TestCalls.{only_one, at_value, at_child, under_at_some, one_place, apart_first, asked_both, may_ask_first, may_ask_then}
 use Rattle.prefix_trie_table.proofs.Strings.Bits.{has_bit-is}
-use Rattle.prefix_trie_table.proofs.Strings.Placing.{below_node, step_below}
+use Rattle.prefix_trie_table.proofs.Strings.ChunkPlaces.{below_node, step_below}
 use Rattle.prefix_trie_table.proofs.Removal.GrowthBounds.{bounds_growth_none, bounds_growth_then}
-use Rattle.prefix_trie_table.proofs.Retain.Retained.{here_levels, here_whole}
+use Rattle.prefix_trie_table.proofs.Retain.RetainedTables.{here_levels, here_whole}
 use Rattle.prefix_trie_table.proofs.Tree.Shapes.{shape_entries, shape_nodes, reads_node}
 use Rattle.prefix_trie_table.proofs.Walk.NextPlaces.{place-value, place-child}
 use Rattle.prefix_trie_table.proofs.Tree.Subtrees.{unset, is_in-value, is_in-child, number-small}

@@ -1,8 +1,8 @@
 -- The value at a bit of the current node: its slot, its key, and what calling the test on it leaves.
 use Rattle.prefix_trie_table.proofs.Prelude.{◌≡◌, ℕ, ◌+◌, ◌-◌, ◌/◌, ◌<◌, ◌≤◌, Bool, true, false, cond, List, [], ◌∷◌, ◌++◌, length, take, get_or, Option, None, Some, is_some, sym, ap, ap₂, ◌∙◌, subst, arith, get_or_default, get, digits, zeros, length-digits, take-extend, has, value_bit, CallableOnEachEntry, without_entry, listing_at_places, State, Node, Site, rank, Store, Grows, IsTrie, read, value_in, value_of, NodesHold, CellsHold, IsSlot, node_sizes, cell_sizes, ValueTaken, IsSite, RetainsTo, BlocksBetween}
 use Rattle.prefix_trie_table.proofs.Tree.Invariant.{some_table}
-use Rattle.prefix_trie_table.proofs.Retain.AskedBelow.{may_ask_value, value_stays, value_goes}
-use Rattle.prefix_trie_table.proofs.Retain.Retained.{here_length, here_whole, key_path, key_bit, bit_set, some_there, site_stays, some_counted, removed_is, value_above, blocks_after, value_read_after, trie_taken}
+use Rattle.prefix_trie_table.proofs.Retain.TestCallsBelow.{may_ask_value, value_stays, value_goes}
+use Rattle.prefix_trie_table.proofs.Retain.RetainedTables.{here_length, here_whole, key_path, key_bit, bit_set, some_there, site_stays, some_counted, removed_is, value_above, blocks_after, value_read_after, trie_taken}
 use Rattle.prefix_trie_table.proofs.Tree.Shapes.{shape_entries}
 use Rattle.prefix_trie_table.proofs.Tree.Subtrees.{value_inside, value_fits}
 

@@ -1,7 +1,7 @@
 -- The calls from the root on are the calls on the whole listing: for `retain`.
 use Rattle.prefix_trie_table.proofs.Prelude.{◌≡◌, ℕ, Bool, List, [], length, Option, Some, refl, sym, ap, ◌∙◌, subst, arith, places, CallableOnEachEntry, listing_at_places, listing, State, listing_of_root, Node, node_at, Store, at_root, IsPlaceOf, IsSite, RetainsTo, RetainsAll, IsTrie}
 use Rattle.std.specs.List.{Contains}
-use Rattle.prefix_trie_table.proofs.Retain.AskedBelow.{asked_all, nodes_tidy}
+use Rattle.prefix_trie_table.proofs.Retain.TestCallsBelow.{asked_all, nodes_tidy}
 use Rattle.prefix_trie_table.proofs.Retain.CurrentPlaces.{nothing_at, none_below_it}
 use Rattle.prefix_trie_table.proofs.Tree.Subtrees.{all_places}
 use Rattle.prefix_trie_table.proofs.Tree.Trees.{read-nil}

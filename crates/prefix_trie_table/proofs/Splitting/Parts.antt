@@ -2,7 +2,7 @@
 use Rattle.prefix_trie_table.proofs.Prelude.{lit<, ◌≡◌, ℕ, ◌<◌, ◌≤◌, inl, inr, Bool, true, false, ◌&&◌, List, [], ◌∷◌, ◌++◌, length, take, drop, take_all, Some, refl, sym, ap, ap₂, ◌∙◌, subst, arith, bit_and, nat_lt, cases_Bool, cases_lt, le-ltb, begins-refl, begins-longer, begins-same-length, begins, number, same_bit, same-from-number, HoldsValues, HoldsChildren, Sets, has, value_bit, has-and, and-first, and-second, value_bit-small, Node, has_bit, node_at, chunks_of, bit_of, child_slot, child, read_from, has_value, in_part, in_child, and_comm, and_assoc, and-false}
 use Rattle.prefix_trie_table.proofs.Tree.Subtrees.{number-small, read_from-none}
 use Rattle.prefix_trie_table.proofs.Strings.Bits.{has_bit-is, has_bit-past, has_bit-zero}
-use Rattle.prefix_trie_table.proofs.Strings.Plain.{no_or_yes}
+use Rattle.prefix_trie_table.proofs.Strings.SmallFacts.{no_or_yes}
 use Rattle.prefix_trie_table.proofs.Tree.Children.{number_or}
 use Rattle.prefix_trie_table.proofs.Tree.Trees.{child-missing, child-there}
 

@@ -5,7 +5,7 @@ use Rattle.prefix_trie_table.proofs.Blocks.ListBlocks.{children_housed, values_h
 use Rattle.prefix_trie_table.proofs.Blocks.SlotSums.{sum_by-flat_map, sum_by-mapped}
 use Rattle.prefix_trie_table.proofs.Blocks.Tilings.{blocks_sum}
 use Rattle.prefix_trie_table.proofs.Counts.EntryCounts.{size_of_extent, tiling-sum}
-use Rattle.prefix_trie_table.proofs.Blocks.Building.{slots_found}
+use Rattle.prefix_trie_table.proofs.Blocks.BuiltLists.{slots_found}
 use Rattle.prefix_trie_table.proofs.Splitting.WholeTree.{own_of, whole_tree}
 use Rattle.prefix_trie_table.proofs.Strings.BitLists.{rank-all}
 use Rattle.prefix_trie_table.proofs.Tree.Invariant.{some_table}

@@ -2,9 +2,9 @@
 use Rattle.prefix_trie_table.proofs.Prelude.{◌≡◌, ◌≢◌, ℕ, zero, suc, ◌+◌, ◌-◌, ◌<◌, ◌≤◌, inl, inr, Bool, true, false, cond, List, [], ◌∷◌, length, refl, sym, ap, ◌∙◌, subst, arith, cases_lt, false≢true, get_or_default, Memory, IndexRange, the_data, packed_slots, goes_up, smallest_of, Node, has_bit, rank, node_at, node_sizes, cell_sizes, child_slot, child_slots, value_slots, sum_to, slots_below, slots_at_child, Store, size_in, tier_sizes, BlockRef, BuildsList}
 use Rattle.std.specs.List.{Contains}
 use Rattle.prefix_trie_table.proofs.Blocks.BySize.{tiers_long}
-use Rattle.prefix_trie_table.proofs.Blocks.Building.{slots_found}
+use Rattle.prefix_trie_table.proofs.Blocks.BuiltLists.{slots_found}
 use Rattle.prefix_trie_table.proofs.Strings.BitLists.{rank-missing, rank-le, rank-more, rank-zero}
-use Rattle.prefix_trie_table.proofs.Strings.Plain.{no_or_yes}
+use Rattle.prefix_trie_table.proofs.Strings.SmallFacts.{no_or_yes}
 
 -- a refusal that is not for the slot limit
 pub for_memory : (cause : the_data) → cause ≢ IndexRange → cause ≡ Memory

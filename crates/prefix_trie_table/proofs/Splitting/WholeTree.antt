@@ -3,8 +3,8 @@ use Rattle.prefix_trie_table.proofs.Prelude.{◌≡◌, ◌≢◌, ℕ, zero, su
 use Rattle.prefix_trie_table.proofs.Splitting.Space.{sum_to_none}
 use Rattle.prefix_trie_table.proofs.Strings.Paths.{same_path-itself, same_path-true}
 use Rattle.prefix_trie_table.proofs.Strings.PathSums.{sum_out}
-use Rattle.prefix_trie_table.proofs.Strings.Plain.{no_or_yes}
-use Rattle.prefix_trie_table.proofs.Strings.Starts.{is_start-is, is_start_take}
+use Rattle.prefix_trie_table.proofs.Strings.SmallFacts.{no_or_yes}
+use Rattle.prefix_trie_table.proofs.Strings.Beginnings.{is_start-is, is_start_take}
 use Rattle.prefix_trie_table.proofs.Tree.Children.{number_or}
 use Rattle.prefix_trie_table.proofs.Tree.Trees.{child_is_there, is_some-Some}
 

@@ -1,10 +1,10 @@
 -- Tests on bit strings as tests on their chunks.
 use Rattle.prefix_trie_table.proofs.Prelude.{◌≡◌, ℕ, ◌*◌, ◌%◌, ◌≤◌, Bool, true, List, [], ◌∷◌, ◌++◌, length, length-append, take, refl, sym, ap, ◌∙◌, subst, arith, take_at, drop_all, begins, same_bool, begins-take, begins-from-take, begins-length, same_string, value_bit, same_string-is, is-same_string, chunks_of, rest_of, bit_of, same_path, is_start}
 use Rattle.std.proofs.lemmas.List.{length-take-le}
-use Rattle.prefix_trie_table.proofs.Strings.Plain.{five_times, fifths}
+use Rattle.prefix_trie_table.proofs.Strings.SmallFacts.{five_times, fifths}
 use Rattle.prefix_trie_table.proofs.Strings.Digits.{string_is, path-length, path-take, rest-is}
 use Rattle.prefix_trie_table.proofs.Strings.Paths.{same_path-true, same_path-equal, snoc_inj}
-use Rattle.prefix_trie_table.proofs.Strings.Starts.{is_start-is, is_start_take}
+use Rattle.prefix_trie_table.proofs.Strings.Beginnings.{is_start-is, is_start_take}
 
 -- two strings are equal exactly if their chunks and their value bits are
 pub same_key : (s t : List Bool) → same_string s t ≡ same_path (chunks_of s ++ bit_of s ∷ []) (chunks_of t ++ bit_of t ∷ [])

@@ -2,7 +2,7 @@
 use Rattle.prefix_trie_table.proofs.Prelude.{◌≡◌, ◌≢◌, ℕ, ◌+◌, ◌<◌, ◌⊎◌, inl, inr, ⊎_elim, true, false, cond, ◌||◌, nat_eq, List, [], ◌∷◌, ◌++◌, length, set, insert, remove, map, flat_map, Option, None, Some, is_some, IsPermutation, refl, sym, ap, ◌∙◌, subst, arith, length-append, false≢true, cases_Bool, eqb_tells, get_or-set_other, length-insert, Node, has_bit, bits, rank, Store, UsedBlock, Sound, block, child_slot, same_path, one_if, times, without, node_or_blank, has_child, child_items, child_blocks_of, child_blocks, IsSlot, at_root, at_child, NodesHold, with_child, with_child_removed, with_node, blank_node, node_at, IsPermutation-append_right}
 use Rattle.std.proofs.lemmas.List.{get_or-set_same}
 use Rattle.prefix_trie_table.specs.Forest.{held, size_in, tier_sizes}
-use Rattle.prefix_trie_table.proofs.Strings.Plain.{needs_node}
+use Rattle.prefix_trie_table.proofs.Strings.SmallFacts.{needs_node}
 use Rattle.prefix_trie_table.proofs.Strings.Bits.{has_bit-zero}
 use Rattle.prefix_trie_table.proofs.Strings.BitLists.{map_same, map_insert, map_remove, bits_below-none}
 use Rattle.prefix_trie_table.proofs.Strings.Paths.{same_path-true, same_path-equal, same_path-not, snoc_inj, snoc_not_nil, snoc_not_same, flat_map_out}

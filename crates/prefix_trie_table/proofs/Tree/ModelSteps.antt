@@ -3,10 +3,10 @@ use Rattle.prefix_trie_table.proofs.Prelude.{◌≡◌, ℕ, ◌+◌, ◌<◌, �
 use Rattle.prefix_trie_bits.specs.Model.Step.{Value}
 use Rattle.prefix_trie_table.proofs.Tree.Invariant.{some_table}
 use Rattle.prefix_trie_table.proofs.Blocks.KeptBlocks.{kept_blocks}
-use Rattle.prefix_trie_table.proofs.Removal.PartTaken.{all_gone, root_left}
+use Rattle.prefix_trie_table.proofs.Removal.RemovedParts.{all_gone, root_left}
 use Rattle.prefix_trie_table.proofs.Removal.GrowthBounds.{bounded_space, some_nodes}
 use Rattle.prefix_trie_table.proofs.Tree.Shapes.{Leaves, before_left, left_only, shape_nodes}
-use Rattle.prefix_trie_table.proofs.Blocks.Sizing.{storage_of}
+use Rattle.prefix_trie_table.proofs.Blocks.NodeLayouts.{storage_of}
 use Rattle.prefix_trie_table.proofs.Removal.ModelSizes.{retained_values, retained_children}
 use Rattle.prefix_trie_table.proofs.Removal.GrowthOfArrays.{nodes_bounded, cells_bounded, still}
 

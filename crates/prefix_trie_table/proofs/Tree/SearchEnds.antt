@@ -1,6 +1,6 @@
 -- The slots of nodes by their paths, and where a search ends: for entries, which remember it.
 use Rattle.prefix_trie_table.proofs.Prelude.{◌≡◌, ℕ, true, List, [], ◌∷◌, ◌++◌, Option, is_some, refl, sym, ap, ◌∙◌, subst, Node, node_at, node_sizes, child_slot, IsSlot, at_root, at_child, NodesHold, has_child, node_or_blank, slot_from, Store}
-use Rattle.prefix_trie_table.proofs.Strings.Plain.{needs_node}
+use Rattle.prefix_trie_table.proofs.Strings.SmallFacts.{needs_node}
 use Rattle.prefix_trie_table.proofs.Strings.Paths.{snoc_ind}
 use Rattle.prefix_trie_table.proofs.Tree.Trees.{slot_holds, is_some-Some}
 

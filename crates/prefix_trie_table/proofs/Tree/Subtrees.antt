@@ -1,13 +1,13 @@
 -- What a table has at the places of a node and under them: for walks and `retain`.
 use Rattle.prefix_trie_table.proofs.Prelude.{◌≡◌, ℕ, ◌+◌, ◌%◌, ◌^◌, ◌<◌, ◌≤◌, Bool, true, false, cond, List, [], ◌∷◌, ◌++◌, length, drop, get_or, Option, None, Some, is_some, refl, sym, ap, ap₂, ◌∙◌, subst, arith, inl, inr, append-nil, length-append, ◌==◌, false≢true, cases_lt, le-ltb, get, number, begins, begins-rest, number-lt, has, value_bit, is_in, places, has_node, is_node_depth, listing_below, listing_at_place, listing_at_places, value_bit-small, listing_by_node_places, listing_at_value, listing_at_no_value, listing_at_child, listing_below_none, Node, has_bit, rank, node_at, node_sizes, cell_sizes, chunks_of, bit_of, Store, read, read_from, below, child, child_slot, has_value, value_of, at_root, Tree, IsTrie}
 use Rattle.std.proofs.lemmas.Bool.{lt-ltb}
-use Rattle.prefix_trie_table.proofs.Strings.Plain.{both_true, no_or_yes}
+use Rattle.prefix_trie_table.proofs.Strings.SmallFacts.{both_true, no_or_yes}
 use Rattle.prefix_trie_table.proofs.Tree.Invariant.{some_table}
 use Rattle.prefix_trie_table.proofs.Strings.Bits.{has_bit-is}
 use Rattle.prefix_trie_table.proofs.Tree.Trees.{is_none-None, reads, slot_holds, read-snoc, child-there, child-missing, child_is_there}
 use Rattle.prefix_trie_table.proofs.Tree.Values.{value_is_there}
 use Rattle.prefix_trie_table.proofs.Tree.Shapes.{reads_node, shape_entries}
-use Rattle.prefix_trie_table.proofs.Lookup.Matched.{has_nodes}
+use Rattle.prefix_trie_table.proofs.Lookup.EntryMatches.{has_nodes}
 use Rattle.prefix_trie_table.proofs.Strings.Digits.{short_path, five_path, search_paths-append}
 pub use Rattle.prefix_trie_table.proofs.Strings.Digits.{path-append}
 

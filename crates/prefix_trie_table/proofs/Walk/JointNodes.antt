@@ -6,9 +6,9 @@ use Rattle.prefix_trie_table.specs.declared.table.joint_spot.Combination.{Combin
 use Rattle.prefix_trie_table.specs.declared.table.joint_spot.Combination.TheVariants.{Union, Intersection}
 use Rattle.prefix_trie_table.proofs.Strings.Bits.{has_bit-is, has_bit-zero}
 use Rattle.prefix_trie_table.proofs.Strings.Digits.{path-append}
-use Rattle.prefix_trie_table.proofs.Strings.Placing.{below_node, five_below}
-use Rattle.prefix_trie_table.proofs.Strings.Plain.{no_or_yes, whole_levels}
-use Rattle.prefix_trie_table.proofs.Lookup.Located.{stored_if}
+use Rattle.prefix_trie_table.proofs.Strings.ChunkPlaces.{below_node, five_below}
+use Rattle.prefix_trie_table.proofs.Strings.SmallFacts.{no_or_yes, whole_levels}
+use Rattle.prefix_trie_table.proofs.Lookup.Locations.{stored_if}
 use Rattle.prefix_trie_table.proofs.Tree.Subtrees.{is_in-value, is_in-child, number-small, child_inside, child_fits, few_at, read-missing}
 use Rattle.prefix_trie_table.proofs.Tree.Trees.{is_none-None, read-snoc, child-missing}
 

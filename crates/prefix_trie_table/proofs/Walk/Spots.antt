@@ -6,8 +6,8 @@ use Rattle.prefix_trie_table.specs.Blocks.Cells.{without_sizes}
 use Rattle.prefix_trie_table.specs.Walking.Walks.{EndsAt, slot_of}
 use Rattle.prefix_trie_table.proofs.Walk.NextPlaces.{moved_on, weight_is, weight-child, still_is, extended_by, filled_by, child_digits}
 use Rattle.prefix_trie_table.proofs.Walk.Stacks.{others_after, spot_as}
-use Rattle.prefix_trie_table.proofs.Strings.Plain.{whole_levels}
-use Rattle.prefix_trie_table.proofs.Lookup.Locating.{seat_below}
+use Rattle.prefix_trie_table.proofs.Strings.SmallFacts.{whole_levels}
+use Rattle.prefix_trie_table.proofs.Lookup.NodeSeats.{seat_below}
 use Rattle.prefix_trie_table.proofs.Tree.Subtrees.{is_in-value, is_in-child, stored_value, value_read, value_inside, value_listed, value_fits, child_is, child_inside, child_few, child_fits, all_places}
 
 -- ---- a spot

@@ -6,11 +6,11 @@ use Rattle.std.proofs.lemmas.List.{length-set}
 use Rattle.prefix_trie_table.specs.Walking.Walks.{slot_of}
 use Rattle.prefix_trie_table.proofs.Tree.Invariant.{some_table}
 use Rattle.prefix_trie_table.proofs.Walk.KeySets.{bare, strings_of, has-strings_of, pending_bare}
-use Rattle.prefix_trie_table.proofs.Lookup.Located.{stored_if}
-use Rattle.prefix_trie_table.proofs.Lookup.Locating.{is_seat}
+use Rattle.prefix_trie_table.proofs.Lookup.Locations.{stored_if}
+use Rattle.prefix_trie_table.proofs.Lookup.NodeSeats.{is_seat}
 use Rattle.prefix_trie_table.proofs.Walk.Seats.{seats_differ}
 use Rattle.prefix_trie_table.proofs.Blocks.Capacity.{IsTrie-capacities}
-use Rattle.prefix_trie_table.proofs.Tree.Copying.{clones_at, cloned_there, cells_cloned}
+use Rattle.prefix_trie_table.proofs.Tree.TableCopies.{clones_at, cloned_there, cells_cloned}
 
 -- ---- cells and seats
 

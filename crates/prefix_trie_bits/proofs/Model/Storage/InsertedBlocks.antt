@@ -1,13 +1,13 @@
 -- After an insertion each list has its block again: for `total_laws`.
 use Rattle.prefix_trie_bits.proofs.Prelude.{◌≡◌, ℕ, ◌+◌, ◌%◌, ◌<◌, ◌≤◌, ◌==◌, inl, inr, Bool, true, false, cond, not, ◌&&◌, ◌||◌, nat_lt, List, length, take, drop, filter, Option, None, Some, refl, sym, ap, ◌∙◌, subst, arith, eqb-true, eq-eqb, ltb-true, true≢false, length-take-le, length-drop, cases_Bool, lt-ltb, Contains, option_or, list_any, get, insert, retain_keys, contains_key, len, same_bool, begins-length, begins-linear, begins-take, begins-trans, take-begins, begins, same_string, strings, IsMap, Sizes, child_block_sizes, value_block_sizes, child_count, own_entries, smallest_size, HasBlock, NodesHaveBlocks, Entries, with_entry, block_needed, gains_child, TakesBlocks, Nodes, has_node, home, is_node_depth, with_needed, State, Storage, HaveBlocks, InsertsInStorage, and-true, and_assoc, or_comm}
 use Rattle.prefix_trie_bits.proofs.Checks.{each, at_string}
-use Rattle.prefix_trie_bits.proofs.Model.Storage.Counting.{passing-len, passing-inserted, few_behind}
+use Rattle.prefix_trie_bits.proofs.Model.Storage.KeyCounts.{passing-len, passing-inserted, few_behind}
 use Rattle.prefix_trie_bits.proofs.Model.Homes.{home-begins, home-length, home-depth, own_home}
 use Rattle.prefix_trie_bits.proofs.Model.Levels.{no_children, no_entries}
 use Rattle.prefix_trie_bits.proofs.Model.Members.{or-right, and-first, and-second, and-join, same_string-is, is-same_string, has-retained, has-inserted, same_members}
 use Rattle.prefix_trie_bits.proofs.Model.NodeSets.{has-with_needed}
 use Rattle.prefix_trie_bits.proofs.Model.Storage.PreparedInsertions.{goes_up}
-use Rattle.prefix_trie_bits.proofs.Model.Storage.Shrinking.{has_none, has_some, has_cases, smallest_of}
+use Rattle.prefix_trie_bits.proofs.Model.Storage.ShrunkBlocks.{has_none, has_some, has_cases, smallest_of}
 
 -- ---- one more item
 

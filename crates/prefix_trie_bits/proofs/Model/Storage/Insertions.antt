@@ -2,7 +2,7 @@
 -- made. It shows that a step exists.
 use Rattle.prefix_trie_bits.proofs.Prelude.{◌≡◌, ℕ, ◌+◌, ◌≤◌, Bool, true, false, cond, not, ◌&&◌, ◌||◌, nat_lt, List, [], ◌∷◌, length, take, Option, None, Some, refl, sym, ap, ◌∙◌, subst, arith, filter_map, option_to_list, option_or, list_any, cons_option, get, same_string, Sizes, child_block_sizes, value_block_sizes, free_of, used_of, one_of, gains_child, child_block_needed, value_block_needed, child_blocks_needed, value_blocks_needed, missing_child_blocks, missing_value_blocks, missing_node_slots, missing_cell_slots, missing_of, TakesBlocks, has_node, home, nodes_above, State, Storage, InsertsInStorage}
 use Rattle.prefix_trie_bits.proofs.Model.Members.{same_string-is, any-node_above}
-use Rattle.prefix_trie_bits.proofs.Model.Storage.Shrinking.{rest_free, as_many, with_taken, with_taken_at, with_taken_used}
+use Rattle.prefix_trie_bits.proofs.Model.Storage.ShrunkBlocks.{rest_free, as_many, with_taken, with_taken_at, with_taken_used}
 use Rattle.prefix_trie_bits.proofs.Model.Storage.Slots.{how_many, how_many-more}
 
 -- ---- blocks that are taken

@@ -2,13 +2,13 @@
 -- smaller block is free. It shows that a step exists.
 use Rattle.prefix_trie_bits.proofs.Prelude.{◌≡◌, ℕ, ◌+◌, ◌*◌, ◌/◌, ◌%◌, ◌<◌, ◌≤◌, ◌==◌, ◌⊎◌, inl, inr, Bool, true, false, not, ◌&&◌, nat_lt, List, [], length, take, None, is_some, refl, sym, ap, ◌∙◌, subst, arith, eqb-true, ltb-true, true≢false, cases_Bool, cases_eq, cases_lt, false_from_ne_true, Contains, get, retain_keys, contains_key, contains_key-keys, keys, get-empty, begins-length, begins-take, begins-trans, begins, listing_cmp, same_string, IsMap, Sizes, no_layout, child_block_sizes, value_block_sizes, child_count, own_entries, free_of, used_of, made_of, SizesStepDown, SizesStepBetween, NodesHaveBlocks, Entries, without_entry, Nodes, has_node, root_alone, home, AreNodes, nodes_without, State, Storage, HaveBlocks, RemovesValueInStorage, PrunesInStorage, RemovesManyInStorage, and-false}
 use Rattle.prefix_trie_bits.specs.Model.Entries.{no_entries as new_entries}
-use Rattle.prefix_trie_bits.proofs.Model.Storage.Counting.{passing-fewer, passing-same, get-kept, used-kept}
+use Rattle.prefix_trie_bits.proofs.Model.Storage.KeyCounts.{passing-fewer, passing-same, get-kept, used-kept}
 use Rattle.prefix_trie_bits.proofs.Model.Homes.{home-begins, home-length, own_home}
 use Rattle.prefix_trie_bits.proofs.Model.Levels.{none_pass, at_level, closed, no_children, no_entries, split_at}
 use Rattle.prefix_trie_bits.proofs.Model.Members.{has-root_alone, not-true, and-first, and-second, same_string-is, is-same_string, has-retained, get-without_entry, same_entries, same_members, turned}
 use Rattle.prefix_trie_bits.proofs.Model.Pruning.{not-so, pruning_laws}
 use Rattle.prefix_trie_bits.proofs.Model.Storage.PreparedInsertions.{goes_up}
-use Rattle.prefix_trie_bits.proofs.Model.Storage.Shrinking.{has_none, rest_free, as_many, keeping_all, keeping_steps, keeping_have, lowered_at_one, lowered_steps, lowered_few, lowered_makes_none, lowered_have}
+use Rattle.prefix_trie_bits.proofs.Model.Storage.ShrunkBlocks.{has_none, rest_free, as_many, keeping_all, keeping_steps, keeping_have, lowered_at_one, lowered_steps, lowered_few, lowered_makes_none, lowered_have}
 use Rattle.prefix_trie_bits.proofs.Model.Visits.{fives}
 
 -- ---- one array

@@ -4,9 +4,9 @@ use Rattle.prefix_trie_bits.proofs.Model.Storage.Removals.{IsLeft, removed_is, b
 use Rattle.prefix_trie_bits.proofs.Model.Members.{has-retained}
 use Rattle.prefix_trie_bits.proofs.Model.Pruning.{begins-nil, needed_fewer, near_is, pruning_laws, remove_law, remove_children_law}
 use Rattle.prefix_trie_bits.proofs.Model.Storage.PreparedInsertions.{goes_up}
-use Rattle.prefix_trie_bits.proofs.Model.Storage.Shrinking.{has_none, has_some, has_cases, smallest_of}
+use Rattle.prefix_trie_bits.proofs.Model.Storage.ShrunkBlocks.{has_none, has_some, has_cases, smallest_of}
 use Rattle.prefix_trie_bits.proofs.Model.Steps.{part_fewer, stays_map}
-use Rattle.prefix_trie_bits.proofs.Model.Storage.Stored.{unchanged}
+use Rattle.prefix_trie_bits.proofs.Model.Storage.StorageChanges.{unchanged}
 use Rattle.prefix_trie_bits.proofs.Model.Storage.InsertedBlocks.{supplied, stored_have}
 
 -- ---- a list that lost items has its block

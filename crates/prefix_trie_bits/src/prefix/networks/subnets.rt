@@ -25,7 +25,8 @@ impl Ipv4Prefix {
     /// ```
     pub fn subnets(&self, len: u8) -> Option<Ipv4Subnets>
         ensures { MatchOption result (¬ ((self.now.1 ≤ len) × (len ≤ 32)))
-            (λ networks. (self.now.1 ≤ len) × (len ≤ 32) × (networks ≡ subnets_of 32 self.now len)) }
+            (λ networks. (self.now.1 ≤ len) × (len ≤ 32)
+            × (networks ≡ subnets_of 32 self.now len)) }
     {
         if len < self.len || len > 32 {
             return None;
@@ -101,7 +102,8 @@ impl Ipv6Prefix {
     /// ```
     pub fn subnets(&self, len: u8) -> Option<Ipv6Subnets>
         ensures { MatchOption result (¬ ((self.now.1 ≤ len) × (len ≤ 128)))
-            (λ networks. (self.now.1 ≤ len) × (len ≤ 128) × (networks ≡ subnets_of 128 self.now len)) }
+            (λ networks. (self.now.1 ≤ len) × (len ≤ 128)
+            × (networks ≡ subnets_of 128 self.now len)) }
     {
         if len < self.len || len > 128 {
             return None;

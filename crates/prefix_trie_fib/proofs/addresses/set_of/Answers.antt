@@ -4,7 +4,7 @@ use Rattle.std.proofs.IntoIterSteps.{All-taken}
 use Rattle.std.proofs.lemmas.List.Elements.{All-same}
 use Rattle.std.proofs.lemmas.Result.{IfOk-weaker}
 use Rattle.std.specs.Vec.Iter.{into_iter_items, into_iter_steps}
-use Rattle.prefix_trie.proofs.Collecting.{all_along}
+use Rattle.prefix_trie.proofs.CollectedItems.{all_along}
 use Rattle.prefix_trie.specs.Terms.{as_item, no_entries, put_all}
 use Rattle.prefix_trie_fib.proofs.addresses.set_of.Goals as goal
 

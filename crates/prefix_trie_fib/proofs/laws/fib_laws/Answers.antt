@@ -1,6 +1,6 @@
 -- The laws follow from those of keys and from the order of the ranges.
 use Rattle.std.proofs.Common.{None}
-use Rattle.prefix_trie_fib.proofs.Along.{one_range, value_of_range}
+use Rattle.prefix_trie_fib.proofs.RangeValues.{one_range, value_of_range}
 use Rattle.prefix_trie_fib.proofs.laws.fib_laws.Goals as goal
 
 pub returns : goal.returns

@@ -1,6 +1,6 @@
 -- The iterator of a list gives its items in order, and each of them fits.
 use Rattle.prefix_trie_tests.proofs.Prelude.{ap, ◌∙◌, All-taken, All-same, IfOk-weaker, into_iter_items, into_iter_steps, no_entries, put_all}
-use Rattle.prefix_trie.proofs.Collecting.{all_along}
+use Rattle.prefix_trie.proofs.CollectedItems.{all_along}
 use Rattle.prefix_trie_tests.proofs.collecting.map_of_pairs.Goals as goal
 
 pub from_iter-requires-clause-fit : goal.from_iter-requires-clause-fit

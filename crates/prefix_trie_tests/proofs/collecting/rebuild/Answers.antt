@@ -1,6 +1,6 @@
 -- A consumed map gives its listing in order, and each listed prefix fits.
 use Rattle.prefix_trie_tests.proofs.Prelude.{ap, ◌∙◌, All-same, IfOk-weaker, TakesFirst, no_entries, put_all, listing, prefix_pairs, listed_fit}
-use Rattle.prefix_trie.proofs.Collecting.{all_along, all_given}
+use Rattle.prefix_trie.proofs.CollectedItems.{all_along, all_given}
 use Rattle.prefix_trie_tests.proofs.collecting.rebuild.Goals as goal
 
 pub from_iter-requires-clause-fit : goal.from_iter-requires-clause-fit

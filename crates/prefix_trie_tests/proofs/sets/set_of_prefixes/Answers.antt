@@ -1,6 +1,6 @@
 -- The iterator of a list gives its prefixes in order, and each of them fits.
 use Rattle.prefix_trie_tests.proofs.Prelude.{All-same, into_iter_items, into_iter_steps}
-use Rattle.prefix_trie.proofs.Collecting.{all_along}
+use Rattle.prefix_trie.proofs.CollectedItems.{all_along}
 use Rattle.prefix_trie_tests.proofs.sets.set_of_prefixes.Goals as goal
 
 pub from_iter-requires-clause-fit : goal.from_iter-requires-clause-fit

@@ -1,6 +1,6 @@
 -- The items of the union that differ are the changes, and each is a key at which the two tables differ.
 use Rattle.std.proofs.Common.{◌∙◌}
-use Rattle.route_tables.proofs.Differing.{changes_are, changes_shown}
+use Rattle.route_tables.proofs.Changes.{changes_are, changes_shown}
 use Rattle.route_tables.proofs.diff.changes.Goals as goal
 
 pub loop-network-init : goal.loop-network-init

@@ -2,7 +2,7 @@
 use Rattle.std.proofs.Common.{◌+◌, ◌≤◌, length}
 use Rattle.prefix_trie_joint.specs.Joined.{entries_of}
 use Rattle.route_tables.specs.Lines.{lines}
-use Rattle.route_tables.proofs.Loading.{Loads}
+use Rattle.route_tables.proofs.Loads.{Loads}
 use Rattle.route_tables.proofs.load.load.Given as goal
 
 abbrev pub invariant-loop-rest : goal.invariant-loop-rest

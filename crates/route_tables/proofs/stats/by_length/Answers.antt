@@ -4,7 +4,7 @@ use Rattle.std.proofs.Math.ListN.{length-set}
 use Rattle.std.proofs.lemmas.List.{get_or_read}
 use Rattle.std.proofs.lemmas.List.Elements.{All-head, All-rest}
 use Rattle.prefix_trie.specs.Terms.{listing, prefix_pairs}
-use Rattle.route_tables.proofs.Counting.{count_fits, counted_on}
+use Rattle.route_tables.proofs.SizeCounts.{count_fits, counted_on}
 use Rattle.route_tables.proofs.stats.by_length.Goals as goal
 
 pub overflow_add-index_mut : goal.overflow_add-index_mut

@@ -1,6 +1,6 @@
 -- Removing from a set is removing a unit from its map: the prefix was in the set if there was one.
 use Rattle.prefix_trie.proofs.Prelude.{subst, Remove, StepByPath, stored_state}
-use Rattle.prefix_trie.proofs.Removed.{as_removed}
+use Rattle.prefix_trie.proofs.RemovalReplies.{as_removed}
 use Rattle.prefix_trie.proofs.set.PrefixSet.remove.Goals as goal
 
 pub returns-clause-entries : goal.returns-clause-entries

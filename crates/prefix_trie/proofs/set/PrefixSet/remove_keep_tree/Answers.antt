@@ -1,6 +1,6 @@
 -- Removing a key and no node is removing a unit and no node from the map.
 use Rattle.prefix_trie.proofs.Prelude.{rules, subst, RemoveKeepTree, StepByPath, stored_state}
-use Rattle.prefix_trie.proofs.Removed.{as_removed}
+use Rattle.prefix_trie.proofs.RemovalReplies.{as_removed}
 use Rattle.prefix_trie.proofs.set.PrefixSet.remove_keep_tree.Goals as goal
 
 pub returns-clause-was_in : goal.returns-clause-was_in

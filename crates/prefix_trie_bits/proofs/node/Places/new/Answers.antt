@@ -1,7 +1,7 @@
 -- The loop of `Places::new` brings the bits of both bitmaps into listing order, one bit in each iteration.
 use Rattle.prefix_trie_bits.proofs.Prelude.{◌≡◌, ◌<◌, ◌≤◌, ◌↔◌, true, length, sym, subst, arith, Contains, is_in}
 use Rattle.prefix_trie_bits.proofs.Listing.{low_positive, moved_fits, still_even, moved_bits, all_moved, listing_places}
-use Rattle.prefix_trie_bits.proofs.Ordered.{in_places, walk_sorted}
+use Rattle.prefix_trie_bits.proofs.PlaceOrder.{in_places, walk_sorted}
 use Rattle.prefix_trie_bits.proofs.node.Places.new.Goals as goal
 
 pub position_of-requires-clause-some : goal.position_of-requires-clause-some

@@ -2,7 +2,7 @@
 use Rattle.prefix_trie_bits.proofs.Prelude.{ap, ◌∙◌, strings, pick}
 use Rattle.prefix_trie_bits.proofs.Picks.{pick-none}
 use Rattle.prefix_trie_bits.proofs.Listing.{first_below, takes_first}
-use Rattle.prefix_trie_bits.proofs.Ordered.{walk_sorted}
+use Rattle.prefix_trie_bits.proofs.PlaceOrder.{walk_sorted}
 use Rattle.prefix_trie_bits.proofs.node.Places.next_place.Goals as goal
 
 pub returns-then-self-eq0-clause-place : goal.returns-then-self-eq0-clause-place

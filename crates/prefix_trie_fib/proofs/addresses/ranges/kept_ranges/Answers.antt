@@ -3,7 +3,7 @@ use Rattle.std.proofs.Common.{◌∙◌, ap₂, refl, subst, sym, Bool, List, Op
 use Rattle.std.specs.Bool.{then_some}
 use Rattle.prefix_trie_fib.specs.Addresses.{is_covered, keeps}
 use Rattle.prefix_trie_fib.specs.Line.{AreCutOut, AreValuesAt, numbers}
-use Rattle.prefix_trie_fib.proofs.Matching.{same_covered}
+use Rattle.prefix_trie_fib.proofs.CutMatches.{same_covered}
 use Rattle.prefix_trie_fib.proofs.addresses.ranges.kept_ranges.Goals as goal
 
 pub returns-clause-values : goal.returns-clause-values

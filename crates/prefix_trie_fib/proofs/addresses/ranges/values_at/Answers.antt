@@ -2,7 +2,7 @@
 use Rattle.std.proofs.Common.{◌∙◌, ◌∷◌, [], ap, arith, length, length-append, get_or}
 use Rattle.std.specs.Bool.{then_some}
 use Rattle.prefix_trie_fib.specs.Addresses.{is_covered, keeps}
-use Rattle.prefix_trie_fib.proofs.Cutting.{values_pushed}
+use Rattle.prefix_trie_fib.proofs.CutKeys.{values_pushed}
 use Rattle.prefix_trie_fib.proofs.addresses.ranges.values_at.Goals as goal
 
 pub loop-i-preserved : goal.loop-i-preserved

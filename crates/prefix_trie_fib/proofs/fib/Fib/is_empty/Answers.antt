@@ -1,6 +1,6 @@
 -- One range alone starts at 0, and has a value or none.
 use Rattle.std.proofs.Common.{◌≡◌, ◌∙◌, Bool, true, false, not, None, Option, Some, IsTrue, ap, arith, get_or, is_some, refl, rules, sym, ℕ}
-use Rattle.prefix_trie_fib.proofs.Along.{single}
+use Rattle.prefix_trie_fib.proofs.RangeValues.{single}
 use Rattle.prefix_trie_fib.proofs.fib.Fib.is_empty.Goals as goal
 
 -- what `is_none` returns

@@ -4,7 +4,7 @@ use Rattle.std.specs.Option.{MatchOption}
 use Rattle.prefix_trie_bits.specs.Model.Bits.{number}
 use Rattle.prefix_trie_fib.specs.declared.index.chunk.Chunk.TheVariants.{Split}
 use Rattle.prefix_trie_fib.specs.Index.{IsWhole}
-use Rattle.prefix_trie_fib.proofs.Finding.{IsEntryOf, chunk_inside, in_part, in_whole, parts_of}
+use Rattle.prefix_trie_fib.proofs.FoundEntries.{IsEntryOf, chunk_inside, in_part, in_whole, parts_of}
 use Rattle.prefix_trie_fib.proofs.indexed.Indexed.chunk.Goals as goal
 
 pub index-entry-requires : goal.index-entry-requires

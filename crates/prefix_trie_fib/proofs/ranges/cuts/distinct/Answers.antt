@@ -1,6 +1,6 @@
 -- Each key is appended or has the number of the last one.
 use Rattle.std.proofs.Common.{◌+◌, inl, inr, subst, sym}
-use Rattle.prefix_trie_fib.proofs.Cutting.{AreDistinct, distinct_kept, distinct_pushed, has_numbers}
+use Rattle.prefix_trie_fib.proofs.CutKeys.{AreDistinct, distinct_kept, distinct_pushed, has_numbers}
 use Rattle.prefix_trie_fib.proofs.ranges.cuts.distinct.Goals as goal
 
 pub loop-i-preserved : goal.loop-i-preserved

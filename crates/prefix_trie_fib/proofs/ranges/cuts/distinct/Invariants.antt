@@ -1,5 +1,5 @@
 -- The invariant: the keys so far rise, and have the number of each key read.
-use Rattle.prefix_trie_fib.proofs.Cutting.{AreDistinct}
+use Rattle.prefix_trie_fib.proofs.CutKeys.{AreDistinct}
 use Rattle.prefix_trie_fib.proofs.ranges.cuts.distinct.Given as goal
 
 abbrev pub invariant-loop-i : goal.invariant-loop-i

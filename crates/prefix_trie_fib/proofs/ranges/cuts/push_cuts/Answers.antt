@@ -2,7 +2,7 @@
 use Rattle.std.proofs.Common.{◌≡◌, ◌∙◌, ◌-◌, ◌+◌, ◌^◌, ◌≤◌, length, arith, ap}
 use Rattle.prefix_trie_bits.specs.Keys.{path_length}
 use Rattle.prefix_trie_bits.specs.Model.Bits.{number}
-use Rattle.prefix_trie_fib.proofs.Cutting.{first_of, has_pushed, size_of, still_has}
+use Rattle.prefix_trie_fib.proofs.CutKeys.{first_of, has_pushed, size_of, still_has}
 use Rattle.prefix_trie_fib.proofs.ranges.cuts.push_cuts.Goals as goal
 
 pub returns-then-len-eq0-clause-kept : goal.returns-then-len-eq0-clause-kept

@@ -4,7 +4,7 @@ use Rattle.std.proofs.lemmas.List.{append_assoc}
 use Rattle.std.proofs.lemmas.List.Elements.{All-append, All-cons, All-nil}
 use Rattle.prefix_trie_bits.specs.Keys.{path_back}
 use Rattle.prefix_trie_fib.specs.Line.{IsCutOut, numbers}
-use Rattle.prefix_trie_fib.proofs.Cutting.{cut_of_listing, more_cut}
+use Rattle.prefix_trie_fib.proofs.CutKeys.{cut_of_listing, more_cut}
 use Rattle.prefix_trie_fib.proofs.ranges.cuts.push_cuts_of.Goals as goal
 
 pub loop-prefix-init : goal.loop-prefix-init

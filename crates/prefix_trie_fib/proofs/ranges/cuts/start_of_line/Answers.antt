@@ -1,8 +1,8 @@
 -- The key without bits that are 1 has the number 0.
 use Rattle.std.proofs.Common.{◌∙◌, ap}
 use Rattle.prefix_trie_bits.specs.Model.Bits.{number}
-use Rattle.prefix_trie_fib.proofs.Between.{number_zeros}
-use Rattle.prefix_trie_fib.proofs.Cutting.{has_pushed}
+use Rattle.prefix_trie_fib.proofs.CutIntervals.{number_zeros}
+use Rattle.prefix_trie_fib.proofs.CutKeys.{has_pushed}
 use Rattle.prefix_trie_fib.proofs.ranges.cuts.start_of_line.Goals as goal
 
 pub returns : goal.returns

@@ -4,8 +4,8 @@ use Rattle.std.proofs.lemmas.List.{get_or-map, length-map}
 use Rattle.prefix_trie_bits.specs.BitStrings.{bits-number}
 use Rattle.prefix_trie_bits.specs.Model.Bits.{digits, number}
 use Rattle.prefix_trie_fib.specs.Line.{AreMerged, are_same, numbers}
-use Rattle.prefix_trie_fib.proofs.Along.{AreOfCuts, AreRight, get_or-any, kept_of_cuts, kept_right, merged_pushed, pushed_of_cuts, pushed_right}
-use Rattle.prefix_trie_fib.proofs.Merging.{are_cuts, right_at_end, same_exact, zero_is_first}
+use Rattle.prefix_trie_fib.proofs.RangeValues.{AreOfCuts, AreRight, get_or-any, kept_of_cuts, kept_right, merged_pushed, pushed_of_cuts, pushed_right}
+use Rattle.prefix_trie_fib.proofs.MergedRanges.{are_cuts, right_at_end, same_exact, zero_is_first}
 use Rattle.prefix_trie_fib.proofs.ranges.merge.line_of.Goals as goal
 
 pub loop-i-preserved : goal.loop-i-preserved

@@ -2,7 +2,7 @@
 use Rattle.std.proofs.Common.{◌≡◌, ◌^◌, Bool, List, Option, None, true}
 use Rattle.prefix_trie_bits.specs.Model.Bits.{digits}
 use Rattle.prefix_trie_fib.specs.Line.{AreMerged, AreValuesAt, IsSteady, are_same, numbers}
-use Rattle.prefix_trie_fib.proofs.Along.{AreOfCuts, AreRight}
+use Rattle.prefix_trie_fib.proofs.RangeValues.{AreOfCuts, AreRight}
 use Rattle.prefix_trie_fib.proofs.ranges.merge.line_of.Given as goal
 
 abbrev pub invariant-loop-i : goal.invariant-loop-i

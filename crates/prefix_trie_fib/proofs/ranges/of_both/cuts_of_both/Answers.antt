@@ -2,7 +2,7 @@
 use Rattle.std.proofs.Common.{ℕ, subst, sym}
 use Rattle.std.specs.List.{Contains}
 use Rattle.prefix_trie_fib.specs.Line.{numbers}
-use Rattle.prefix_trie_fib.proofs.Cutting.{cut_with, same_numbers}
+use Rattle.prefix_trie_fib.proofs.CutKeys.{cut_with, same_numbers}
 use Rattle.prefix_trie_fib.proofs.ranges.of_both.cuts_of_both.Goals as goal
 
 pub returns-clause-of_left : goal.returns-clause-of_left

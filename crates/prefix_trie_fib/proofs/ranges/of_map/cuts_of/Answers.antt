@@ -2,7 +2,7 @@
 use Rattle.std.proofs.Common.{subst, sym}
 use Rattle.std.specs.List.{Contains}
 use Rattle.prefix_trie_fib.specs.Line.{numbers}
-use Rattle.prefix_trie_fib.proofs.Cutting.{cuts_with, same_numbers}
+use Rattle.prefix_trie_fib.proofs.CutKeys.{cuts_with, same_numbers}
 use Rattle.prefix_trie_fib.proofs.ranges.of_map.cuts_of.Goals as goal
 
 pub returns-clause-cuts : goal.returns-clause-cuts

@@ -1,7 +1,7 @@
 -- The ranges between the cuts of a map have its longest matches.
 use Rattle.std.proofs.Common.{◌∙◌, subst, sym}
 use Rattle.prefix_trie_fib.specs.Line.{AreCutsOf, AreValuesAt, numbers, value_of}
-use Rattle.prefix_trie_fib.proofs.Matching.{same_value}
+use Rattle.prefix_trie_fib.proofs.CutMatches.{same_value}
 use Rattle.prefix_trie_fib.proofs.ranges.of_map.ranges_of.Goals as goal
 
 pub returns-clause-values : goal.returns-clause-values

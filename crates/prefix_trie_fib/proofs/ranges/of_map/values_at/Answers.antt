@@ -1,7 +1,7 @@
 -- One more value, and at the end one for each address.
 use Rattle.std.proofs.Common.{◌∙◌, ◌∷◌, [], ap, arith, length, length-append, get_or}
 use Rattle.prefix_trie_fib.specs.Line.{value_of}
-use Rattle.prefix_trie_fib.proofs.Cutting.{values_pushed}
+use Rattle.prefix_trie_fib.proofs.CutKeys.{values_pushed}
 use Rattle.prefix_trie_fib.proofs.ranges.of_map.values_at.Goals as goal
 
 pub loop-i-preserved : goal.loop-i-preserved

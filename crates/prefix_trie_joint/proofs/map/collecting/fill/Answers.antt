@@ -2,7 +2,7 @@
 use Rattle.std.proofs.Common.{refl}
 use Rattle.prefix_trie_joint.specs.Joined.{entries_of}
 use Rattle.prefix_trie_joint.specs.Networks.{ip_path}
-use Rattle.prefix_trie_joint.proofs.Collected.{put_more}
+use Rattle.prefix_trie_joint.proofs.CollectedItems.{put_more}
 use Rattle.prefix_trie_joint.proofs.map.collecting.fill.Goals as goal
 
 pub loop-prefix-init : goal.loop-prefix-init

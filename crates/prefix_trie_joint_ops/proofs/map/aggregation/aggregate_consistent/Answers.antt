@@ -1,7 +1,7 @@
 -- Removing the entries that are not marked removes the redundant ones, so no lookup changes and none is redundant.
 use Rattle.std.proofs.Common.{◌∙◌}
 use Rattle.prefix_trie_ops.specs.Values.{stays}
-use Rattle.prefix_trie_ops.proofs.Removing.{gone_get, none_left, same_values}
+use Rattle.prefix_trie_ops.proofs.RedundantEntries.{gone_get, none_left, same_values}
 use Rattle.prefix_trie_joint.specs.Joined.{entries_of}
 use Rattle.prefix_trie_joint_ops.proofs.Reduced.{reduced}
 use Rattle.prefix_trie_joint_ops.proofs.map.aggregation.aggregate_consistent.Goals as goal

@@ -1,6 +1,6 @@
 -- Inserting at a remembered end of a search is a step of the model, or a refusal.
 use Rattle.prefix_trie_map.proofs.Prelude.{◌≡◌, Some, IfOk, sym, subst, Insert, StepByPath, seat_of, IsSearchEnd, Contents, stored_state, insert_new_reply}
-use Rattle.prefix_trie_map.proofs.Placing.{Places, places}
+use Rattle.prefix_trie_map.proofs.NewKeys.{Places, places}
 use Rattle.prefix_trie_map.proofs.Steps.{by_key, is_map, stays}
 use Rattle.prefix_trie_map.proofs.map.PrefixMap.insert_located.Given as given
 use Rattle.prefix_trie_map.proofs.map.PrefixMap.insert_located.Goals as goal

@@ -1,6 +1,6 @@
 -- Making the blocks for a missing key leaves entries and nodes, and the insertion that follows cannot be refused.
 use Rattle.prefix_trie_map.proofs.Prelude.{◌≡◌, Bool, List, IfErr, MatchResult, sym, subst, len, IndexRange, MayPassLimit, LeavesSpace, PreparesInStorage, RefusesInStorage, IsSearchEnd, Contents, state, storage}
-use Rattle.prefix_trie_map.proofs.Placing.{space_refused, space_prepared}
+use Rattle.prefix_trie_map.proofs.NewKeys.{space_refused, space_prepared}
 use Rattle.prefix_trie_map.proofs.Steps.{by_key}
 use Rattle.prefix_trie_map.proofs.map.PrefixMap.reserve.Given as given
 use Rattle.prefix_trie_map.proofs.map.PrefixMap.reserve.Goals as goal

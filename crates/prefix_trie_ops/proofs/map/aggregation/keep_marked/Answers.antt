@@ -1,6 +1,6 @@
 -- The marks left are the marks of the entries still to be tested, so `retain` keeps exactly the marked ones.
 use Rattle.std.proofs.Common.{rules, of_calls, ◌∙◌}
-use Rattle.prefix_trie_ops.proofs.Marking.{keeps_marked}
+use Rattle.prefix_trie_ops.proofs.Marks.{keeps_marked}
 use Rattle.prefix_trie_ops.proofs.map.aggregation.keep_marked.Goals as goal
 
 pub returns-clause-kept : goal.returns-clause-kept

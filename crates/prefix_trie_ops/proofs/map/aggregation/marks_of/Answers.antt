@@ -4,7 +4,7 @@ use Rattle.std.proofs.lemmas.List.Elements.{All-nil, All-head, All-rest}
 use Rattle.prefix_trie.specs.Terms.{begins, lent_item}
 use Rattle.prefix_trie_ops.specs.Values.{IsChain}
 use Rattle.prefix_trie_ops.proofs.Chains.{filter_lent, push_lent, chain-next, fits-next}
-use Rattle.prefix_trie_ops.proofs.Walking.{walks_start, walks_on}
+use Rattle.prefix_trie_ops.proofs.PrefixStacks.{walks_start, walks_on}
 use Rattle.prefix_trie_ops.proofs.map.aggregation.marks_of.Goals as goal
 
 pub loop-prefix-init : goal.loop-prefix-init

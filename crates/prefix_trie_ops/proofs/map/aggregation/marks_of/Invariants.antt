@@ -2,7 +2,7 @@
 use Rattle.std.proofs.Common.{All, map}
 use Rattle.prefix_trie.specs.Terms.{lent_item}
 use Rattle.prefix_trie_ops.specs.Values.{IsChain}
-use Rattle.prefix_trie_ops.proofs.Walking.{Walks}
+use Rattle.prefix_trie_ops.proofs.PrefixStacks.{Walks}
 use Rattle.prefix_trie_ops.proofs.map.aggregation.marks_of.Given as goal
 
 abbrev pub invariant-loop-prefix : goal.invariant-loop-prefix

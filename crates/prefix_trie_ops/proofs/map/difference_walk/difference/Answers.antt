@@ -4,7 +4,7 @@ use Rattle.std.specs.FinMap.{contains_key, len}
 use Rattle.prefix_trie.specs.Terms.{listing}
 use Rattle.prefix_trie_ops.specs.Combining.{minus}
 use Rattle.prefix_trie_ops.proofs.Bounds.{items_below, retained_fewer, retained_within}
-use Rattle.prefix_trie_ops.proofs.Selecting.{selected}
+use Rattle.prefix_trie_ops.proofs.SelectedItems.{selected}
 use Rattle.prefix_trie_ops.proofs.map.difference_walk.difference.Goals as goal
 
 pub returns-clause-items : goal.returns-clause-items

@@ -3,7 +3,7 @@
 use Rattle.std.proofs.Common.{◌∙◌, ap, sym, arith}
 use Rattle.std.specs.FinMap.{get, len, len-empty}
 use Rattle.prefix_trie.specs.Terms.{listing_cmp}
-use Rattle.prefix_trie_ops.proofs.Optimal.Along.{along_is_redundant, along_is_value}
+use Rattle.prefix_trie_ops.proofs.Optimal.LongestMatches.{along_is_redundant, along_is_value}
 use Rattle.prefix_trie_ops.proofs.Optimal.Least.{is_smallest}
 use Rattle.prefix_trie_ops.proofs.map.optimal.aggregated.Goals as goal
 

@@ -2,7 +2,7 @@
 use Rattle.std.proofs.Common.{rules, ◌≡◌, ◌∙◌, ◌++◌, [], ◌∷◌, true, false, not, cond, Some, map, All, ap, sym, subst, is_some}
 use Rattle.std.proofs.lemmas.List.Elements.{All-head, All-rest}
 use Rattle.prefix_trie.specs.Terms.{listing}
-use Rattle.prefix_trie_ops.proofs.Selecting.{keys_fit}
+use Rattle.prefix_trie_ops.proofs.SelectedItems.{keys_fit}
 use Rattle.prefix_trie_ops.proofs.Uppermost.{uppermost_on, uppermost_start}
 use Rattle.prefix_trie_ops.proofs.set.aggregation.marks_of.Goals as goal
 

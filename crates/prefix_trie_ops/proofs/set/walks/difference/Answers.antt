@@ -3,7 +3,7 @@ use Rattle.std.proofs.Common.{◌∙◌, All, ap, ap₂, map, subst, sym}
 use Rattle.prefix_trie.specs.Terms.{listing, prefix_pairs}
 use Rattle.prefix_trie_map.proofs.Runs.{gives_in_order}
 use Rattle.prefix_trie_ops.specs.Combining.{minus}
-use Rattle.prefix_trie_ops.proofs.Selecting.{prefixes_fit, prefixes_shown}
+use Rattle.prefix_trie_ops.proofs.SelectedItems.{prefixes_fit, prefixes_shown}
 use Rattle.prefix_trie_ops.proofs.set.walks.difference.Goals as goal
 
 pub returns-clause-items : goal.returns-clause-items

@@ -4,7 +4,7 @@ use Rattle.prefix_trie.specs.Terms.{listing, prefix_pairs}
 use Rattle.prefix_trie_map.proofs.Runs.{gives_in_order}
 use Rattle.prefix_trie_ops.specs.Combining.{common}
 use Rattle.prefix_trie_ops.proofs.Pairs.{common_keys}
-use Rattle.prefix_trie_ops.proofs.Selecting.{prefixes_fit, prefixes_shown}
+use Rattle.prefix_trie_ops.proofs.SelectedItems.{prefixes_fit, prefixes_shown}
 use Rattle.prefix_trie_ops.proofs.set.walks.intersection.Goals as goal
 
 pub returns-clause-items : goal.returns-clause-items

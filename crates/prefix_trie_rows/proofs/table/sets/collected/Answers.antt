@@ -1,7 +1,7 @@
 -- All prefixes that the iterator of a list gives are in the list, so they fit, as `from_iter` requires.
 use Rattle.std.proofs.lemmas.List.Elements.{All-same}
 use Rattle.std.specs.Vec.Iter.{into_iter_items, into_iter_steps}
-use Rattle.prefix_trie.proofs.Collecting.{all_along}
+use Rattle.prefix_trie.proofs.CollectedItems.{all_along}
 use Rattle.prefix_trie_rows.proofs.table.sets.collected.Goals as goal
 
 pub from_iter-requires-clause-fit : goal.from_iter-requires-clause-fit

@@ -1,6 +1,6 @@
 -- A seat of a stored bit string is a slot of the array that has its value, so the cell there is not vacant.
 use Rattle.prefix_trie_table.proofs.Prelude.{is_some, sym, ap, ◌∙◌, false≢true, get, Contents}
-use Rattle.prefix_trie_table.proofs.Lookup.Located.{found_inside, found_value, found_some}
+use Rattle.prefix_trie_table.proofs.Lookup.Locations.{found_inside, found_value, found_some}
 use Rattle.prefix_trie_table.proofs.table.Table.at.Goals as goal
 
 pub at-requires : goal.at-requires

@@ -2,7 +2,7 @@
 use Rattle.prefix_trie_table.proofs.Prelude.{Some, refl, sym, ap, ◌∙◌, get, Contents, with_value_at}
 use Rattle.prefix_trie_table.proofs.Tree.Invariant.{some_table}
 use Rattle.prefix_trie_table.proofs.Lookup.Lending.{cell_there, seat_has, left_shape, table_left, stored_is, written_seen}
-use Rattle.prefix_trie_table.proofs.Lookup.Located.{seat_found}
+use Rattle.prefix_trie_table.proofs.Lookup.Locations.{seat_found}
 use Rattle.prefix_trie_table.proofs.table.Table.at_mut.Goals as goal
 
 pub lend-requires : goal.lend-requires

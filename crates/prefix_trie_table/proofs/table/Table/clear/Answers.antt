@@ -1,9 +1,9 @@
 -- `clear` leaves the root alone, with no free block either, which is the model's step `Clear`.
 use Rattle.prefix_trie_table.proofs.Prelude.{[], ◌∷◌, Option, length, ap, sym, subst, arith, IsTable, Node, node_sizes, Store}
 use Rattle.prefix_trie_table.proofs.Tree.Invariant.{some_table}
-use Rattle.prefix_trie_table.proofs.Removal.Clearing.{under_limit, root_slot}
+use Rattle.prefix_trie_table.proofs.Removal.ClearedTables.{under_limit, root_slot}
 use Rattle.prefix_trie_table.proofs.Tree.Shapes.{root_shape, root_reading, new_holds, new_shape, new_only, new_table}
-use Rattle.prefix_trie_table.proofs.Blocks.Sizing.{sizes_of, root_layout}
+use Rattle.prefix_trie_table.proofs.Blocks.NodeLayouts.{sizes_of, root_layout}
 use Rattle.prefix_trie_table.proofs.Tree.ModelSteps.{clears_step}
 use Rattle.prefix_trie_table.proofs.table.Table.clear.Goals as goal
 

@@ -1,6 +1,6 @@
 -- A copy with equal nodes and cloned values has the same shape, so entries, nodes and layout are the original's.
 use Rattle.prefix_trie_table.proofs.Prelude.{refl}
-use Rattle.prefix_trie_table.proofs.Tree.Copying.{option_pairs, copied_shape, copied_table, copied_entries, copied_nodes, copied_space, copied_sizes, copied_layout, copied_same}
+use Rattle.prefix_trie_table.proofs.Tree.TableCopies.{option_pairs, copied_shape, copied_table, copied_entries, copied_nodes, copied_space, copied_sizes, copied_layout, copied_same}
 use Rattle.prefix_trie_table.proofs.table.Table.clone.Goals as goal
 
 pub invariant_of-result : goal.invariant_of-result

@@ -1,9 +1,9 @@
 -- The matches of the root and of the nodes after it on the search path are all covers of the bit string, shortest first.
 use Rattle.prefix_trie_table.proofs.Prelude.{◌*◌, drop, ap, sym, ◌∙◌, arith, covers, State, Contents, same_shape}
 use Rattle.prefix_trie_table.proofs.Tree.Invariant.{some_table}
-use Rattle.prefix_trie_table.proofs.Lookup.Covers.{at_root}
-use Rattle.prefix_trie_table.proofs.Lookup.Covered.{all_ahead}
-use Rattle.prefix_trie_table.proofs.Lookup.Matched.{has_nodes}
+use Rattle.prefix_trie_table.proofs.Lookup.NodeCovers.{at_root}
+use Rattle.prefix_trie_table.proofs.Lookup.EntryCovers.{all_ahead}
+use Rattle.prefix_trie_table.proofs.Lookup.EntryMatches.{has_nodes}
 use Rattle.prefix_trie_table.proofs.table.Table.cover.Goals as goal
 
 pub root-here-requires : goal.root-here-requires

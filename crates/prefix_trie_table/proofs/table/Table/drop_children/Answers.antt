@@ -1,9 +1,9 @@
 -- Removing what a bit string begins is a step of the model, in two cases: the empty string clears, and others remove a part.
 use Rattle.prefix_trie_table.proofs.Prelude.{refl, sym, ◌∙◌, arith, stored_state}
 use Rattle.prefix_trie_table.proofs.Tree.Invariant.{some_table}
-use Rattle.prefix_trie_table.proofs.Removal.PartTaken.{may_ask_all, seen_trie}
-use Rattle.prefix_trie_table.proofs.Blocks.Sizing.{table_sizes}
-use Rattle.prefix_trie_table.proofs.Moving.SplitOff.{shape_seen, table_seen}
+use Rattle.prefix_trie_table.proofs.Removal.RemovedParts.{may_ask_all, seen_trie}
+use Rattle.prefix_trie_table.proofs.Blocks.NodeLayouts.{table_sizes}
+use Rattle.prefix_trie_table.proofs.Moving.SplitTables.{shape_seen, table_seen}
 use Rattle.prefix_trie_table.proofs.Tree.ModelSteps.{all_step, part_step, bounds_growth_in}
 use Rattle.prefix_trie_table.proofs.table.Table.drop_children.Goals as goal
 

@@ -1,6 +1,6 @@
 -- The match that is found last on the search path is the longest in the model, and each node of the path is read once.
 use Rattle.prefix_trie_table.proofs.Tree.Invariant.{some_table}
-use Rattle.prefix_trie_table.proofs.Lookup.Matched.{has_nodes, cell_inside, longest_none, longest_returned, met_is}
+use Rattle.prefix_trie_table.proofs.Lookup.EntryMatches.{has_nodes, cell_inside, longest_none, longest_returned, met_is}
 use Rattle.prefix_trie_table.proofs.table.Table.find_longest.Goals as goal
 
 pub longest_on_path-requires : goal.longest_on_path-requires

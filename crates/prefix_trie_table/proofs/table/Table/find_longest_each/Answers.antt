@@ -1,7 +1,7 @@
 -- Each match that `match_each` stores is right for its prefix, and the reads are the sum of the visits of all.
 use Rattle.prefix_trie_table.proofs.Prelude.{◌≡◌, ◌+◌, map, sum_by, ap, ◌∙◌, subst, length-map, visits, AreMatchesFound, Contents}
-use Rattle.prefix_trie_table.proofs.Lookup.Matched.{has_nodes}
-use Rattle.prefix_trie_table.proofs.Lookup.Rounds.{are_matches_found, costs_are, costs_sum}
+use Rattle.prefix_trie_table.proofs.Lookup.EntryMatches.{has_nodes}
+use Rattle.prefix_trie_table.proofs.Lookup.BulkRounds.{are_matches_found, costs_are, costs_sum}
 use Rattle.prefix_trie_table.proofs.Tree.Invariant.{some_table}
 use Rattle.prefix_trie_table.proofs.table.Table.find_longest_each.Goals as goal
 

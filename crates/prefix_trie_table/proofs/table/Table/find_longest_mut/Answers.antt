@@ -1,7 +1,7 @@
 -- Lending the value of the longest match keeps the table a table, whatever is written to it.
 use Rattle.prefix_trie_table.proofs.Prelude.{◌+◌, take, length}
 use Rattle.prefix_trie_table.proofs.Tree.Invariant.{some_table}
-use Rattle.prefix_trie_table.proofs.Lookup.Matched.{has_nodes, met_is}
+use Rattle.prefix_trie_table.proofs.Lookup.EntryMatches.{has_nodes, met_is}
 use Rattle.prefix_trie_table.proofs.Lookup.Lending.{can_lend, left_shape, table_left, table_kept, lender_left, longest_seat, longest_written, longest_lent, longest_small}
 use Rattle.prefix_trie_table.proofs.table.Table.find_longest_mut.Goals as goal
 

@@ -1,7 +1,7 @@
 -- The match that is found first on the search path is the shortest in the model, and no node after it is read.
 use Rattle.prefix_trie_table.proofs.Prelude.{◌+◌, ap, sym, ◌∙◌}
 use Rattle.prefix_trie_table.proofs.Tree.Invariant.{some_table}
-use Rattle.prefix_trie_table.proofs.Lookup.Matched.{has_nodes, cell_inside, shortest_none, shortest_returned, met_none, met_shortest}
+use Rattle.prefix_trie_table.proofs.Lookup.EntryMatches.{has_nodes, cell_inside, shortest_none, shortest_returned, met_none, met_shortest}
 use Rattle.prefix_trie_table.proofs.table.Table.find_shortest.Goals as goal
 
 pub shortest_on_path-requires : goal.shortest_on_path-requires

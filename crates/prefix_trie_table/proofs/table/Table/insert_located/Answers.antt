@@ -1,10 +1,10 @@
 -- Inserting at the end of the search of a missing bit string is a step of the model, or a refusal that keeps the entries.
 use Rattle.prefix_trie_table.proofs.Prelude.{ap, Contents}
 use Rattle.prefix_trie_table.proofs.Tree.Invariant.{some_table, some_counted}
-use Rattle.prefix_trie_table.proofs.Tree.Kept.{ends_at, end_last}
+use Rattle.prefix_trie_table.proofs.Tree.KeptTables.{ends_at, end_last}
 use Rattle.prefix_trie_table.proofs.Insertion.Placements.{inserting, placed_leaves, placed_counts, placed_step}
 use Rattle.prefix_trie_table.proofs.Tree.Shapes.{left_shape, table_left}
-use Rattle.prefix_trie_table.proofs.Blocks.Sizing.{table_sizes}
+use Rattle.prefix_trie_table.proofs.Blocks.NodeLayouts.{table_sizes}
 use Rattle.prefix_trie_table.proofs.table.Table.insert_located.Goals as goal
 
 pub insert_entry-requires-clause-table : goal.insert_entry-requires-clause-table

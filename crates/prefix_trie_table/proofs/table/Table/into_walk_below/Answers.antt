@@ -1,7 +1,7 @@
 -- The stack that `start_at` builds at a bit string has exactly the entries whose keys it begins.
 use Rattle.prefix_trie_table.proofs.Prelude.{◌∙◌, ap, listing_below, Contents}
 use Rattle.prefix_trie_table.proofs.Tree.Invariant.{sized_trie}
-use Rattle.prefix_trie_table.proofs.Walk.Walking.{tree_of}
+use Rattle.prefix_trie_table.proofs.Walk.ItemsToCome.{tree_of}
 use Rattle.prefix_trie_table.proofs.Walk.Taking.{seated, walk_below, below_given}
 use Rattle.prefix_trie_table.proofs.table.Table.into_walk_below.Goals as goal
 

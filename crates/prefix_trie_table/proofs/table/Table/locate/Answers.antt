@@ -1,7 +1,7 @@
 -- What `locate_in` finds in the array of nodes is the value's seat, or the end of the search path, in the tree by path.
 use Rattle.prefix_trie_table.proofs.Tree.Invariant.{some_table}
-use Rattle.prefix_trie_table.proofs.Lookup.Matched.{met_on_path}
-use Rattle.prefix_trie_table.proofs.Lookup.Located.{located}
+use Rattle.prefix_trie_table.proofs.Lookup.EntryMatches.{met_on_path}
+use Rattle.prefix_trie_table.proofs.Lookup.Locations.{located}
 use Rattle.prefix_trie_table.proofs.table.Table.locate.Goals as goal
 
 pub returns : goal.returns

@@ -1,7 +1,7 @@
 -- A new table has a blank root and no blocks, which is the empty map with the root alone.
 use Rattle.prefix_trie_table.proofs.Prelude.{rules, [], ◌∷◌, Option, ap, false≢true, State, Node, node_sizes, Store}
 use Rattle.prefix_trie_table.proofs.Tree.Shapes.{root_shape, root_reading, some_limit, new_holds, new_shape, new_only, new_table}
-use Rattle.prefix_trie_table.proofs.Blocks.Sizing.{sizes_of, root_layout}
+use Rattle.prefix_trie_table.proofs.Blocks.NodeLayouts.{sizes_of, root_layout}
 use Rattle.prefix_trie_table.proofs.table.Table.new.Goals as goal
 
 pub invariant_of-result : goal.invariant_of-result

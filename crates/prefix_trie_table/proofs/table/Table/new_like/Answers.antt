@@ -1,6 +1,6 @@
 -- The new table has the limit of the array of nodes, which holds the root: so only an allocation can fail.
 use Rattle.prefix_trie_table.proofs.Prelude.{◌≡◌, ◌<◌, ◌↔◌, arith, IfErr-weaker, Memory, IndexRange}
-use Rattle.prefix_trie_table.proofs.Removal.Clearing.{root_slot}
+use Rattle.prefix_trie_table.proofs.Removal.ClearedTables.{root_slot}
 use Rattle.prefix_trie_table.proofs.Splitting.Space.{for_memory}
 use Rattle.prefix_trie_table.proofs.Tree.Invariant.{some_table}
 use Rattle.prefix_trie_table.proofs.table.Table.new_like.Goals as goal

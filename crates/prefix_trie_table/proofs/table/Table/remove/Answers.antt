@@ -1,7 +1,7 @@
 -- Removing a value and then the empty nodes of its path is the model's step `Remove`, and the table keeps its invariant.
 use Rattle.prefix_trie_table.proofs.Tree.Invariant.{some_table, some_counted}
 use Rattle.prefix_trie_table.proofs.Removal.NodesLeft.{removed_without}
-use Rattle.prefix_trie_table.proofs.Blocks.Sizing.{table_sizes}
+use Rattle.prefix_trie_table.proofs.Blocks.NodeLayouts.{table_sizes}
 use Rattle.prefix_trie_table.proofs.Tree.ModelSteps.{removes_step}
 use Rattle.prefix_trie_table.proofs.Removal.ModelSizes.{removed_in, pruned_in}
 use Rattle.prefix_trie_table.proofs.table.Table.remove.Goals as goal

@@ -1,9 +1,9 @@
 -- Splitting off a table is a step of the model: this table is left without the part, and the second one has just that part.
 use Rattle.prefix_trie_table.proofs.Prelude.{ℕ, refl, sym, ap, ap₂, ◌∙◌, subst, arith, RemoveChildren, Done, StepByPath, Sized-prop, Contents, Shaped-prop, stored_state, Store, IsTable}
-use Rattle.prefix_trie_table.proofs.Blocks.Sizing.{table_sizes, storage_of}
-use Rattle.prefix_trie_table.proofs.Removal.Clearing.{root_slot}
-use Rattle.prefix_trie_table.proofs.Moving.SplitOff.{rest_counted, shape_seen, table_seen, clear_behind, split_off_map, second_packed}
-use Rattle.prefix_trie_table.proofs.Removal.PartTaken.{seen_trie}
+use Rattle.prefix_trie_table.proofs.Blocks.NodeLayouts.{table_sizes, storage_of}
+use Rattle.prefix_trie_table.proofs.Removal.ClearedTables.{root_slot}
+use Rattle.prefix_trie_table.proofs.Moving.SplitTables.{rest_counted, shape_seen, table_seen, clear_behind, split_off_map, second_packed}
+use Rattle.prefix_trie_table.proofs.Removal.RemovedParts.{seen_trie}
 use Rattle.prefix_trie_table.proofs.Tree.Invariant.{some_table}
 use Rattle.prefix_trie_table.proofs.Tree.ModelSteps.{all_step, part_step, bounds_growth_in}
 use Rattle.prefix_trie_table.proofs.table.Table.remove_children.Goals as goal

@@ -2,7 +2,7 @@
 use Rattle.prefix_trie_table.proofs.Tree.Invariant.{some_table, some_counted}
 use Rattle.prefix_trie_table.proofs.Removal.OneEntry.{kept_without}
 use Rattle.prefix_trie_table.proofs.Insertion.Spaces.{Grows-none}
-use Rattle.prefix_trie_table.proofs.Blocks.Sizing.{table_sizes}
+use Rattle.prefix_trie_table.proofs.Blocks.NodeLayouts.{table_sizes}
 use Rattle.prefix_trie_table.proofs.Tree.ModelSteps.{takes_step}
 use Rattle.prefix_trie_table.proofs.Removal.ModelSizes.{kept_in, kept_children}
 use Rattle.prefix_trie_table.proofs.table.Table.remove_keep_tree.Goals as goal

@@ -1,8 +1,8 @@
 -- Making blocks changes neither entries nor nodes, so the end of the search stays right and the table keeps its invariant.
 use Rattle.prefix_trie_table.proofs.Prelude.{rules, ap, State, Contents}
 use Rattle.prefix_trie_table.proofs.Tree.Invariant.{some_table}
-use Rattle.prefix_trie_table.proofs.Tree.Kept.{ends_at, end_last, kept_shape, kept_same, kept_table, kept_end, kept_prepares}
-use Rattle.prefix_trie_table.proofs.Blocks.Sizing.{table_sizes}
+use Rattle.prefix_trie_table.proofs.Tree.KeptTables.{ends_at, end_last, kept_shape, kept_same, kept_table, kept_end, kept_prepares}
+use Rattle.prefix_trie_table.proofs.Blocks.NodeLayouts.{table_sizes}
 use Rattle.prefix_trie_table.proofs.Tree.ModelSteps.{longer_space}
 use Rattle.prefix_trie_table.proofs.table.Table.reserve.Goals as goal
 

@@ -1,9 +1,9 @@
 -- Removing the entries that the test rejects is the model's step, and the table keeps its invariant.
 use Rattle.prefix_trie_table.proofs.Prelude.{◌≡◌, refl, sym, subst, CallableOnEachEntry, RetainsEntriesTo, AreWithin, listing, State, Contents, same_shape}
 use Rattle.prefix_trie_table.proofs.Tree.Invariant.{some_table}
-use Rattle.prefix_trie_table.proofs.Removal.PartTaken.{seen_trie}
-use Rattle.prefix_trie_table.proofs.Blocks.Sizing.{table_sizes}
-use Rattle.prefix_trie_table.proofs.Moving.SplitOff.{shape_seen, table_seen}
+use Rattle.prefix_trie_table.proofs.Removal.RemovedParts.{seen_trie}
+use Rattle.prefix_trie_table.proofs.Blocks.NodeLayouts.{table_sizes}
+use Rattle.prefix_trie_table.proofs.Moving.SplitTables.{shape_seen, table_seen}
 use Rattle.prefix_trie_table.proofs.Tree.ModelSteps.{retains_step, bounds_growth_in}
 use Rattle.prefix_trie_bits.proofs.Model.RetainCalls.{retains-from_to}
 use Rattle.prefix_trie_table.proofs.table.Table.retain.Goals as goal

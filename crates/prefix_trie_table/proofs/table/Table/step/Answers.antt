@@ -1,7 +1,7 @@
 -- An advance gives the first key to come and the seat of its value, so that key is stored.
 use Rattle.prefix_trie_table.proofs.Prelude.{sym, subst, Contents, IsCursorIn, Tree, pending}
 use Rattle.prefix_trie_table.proofs.Tree.Invariant.{trie_of}
-use Rattle.prefix_trie_table.proofs.Walk.Walking.{step_gives, seated_stored}
+use Rattle.prefix_trie_table.proofs.Walk.ItemsToCome.{step_gives, seated_stored}
 use Rattle.prefix_trie_table.proofs.table.Table.step.Goals as goal
 
 pub advance-requires : goal.advance-requires

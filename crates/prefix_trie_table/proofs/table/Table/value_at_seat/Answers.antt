@@ -1,7 +1,7 @@
 -- The cell at the seat of a string has its value, and a string without a seat has none.
 use Rattle.prefix_trie_table.proofs.Prelude.{◌∙◌, None, is_some, sym, ap, get, get_or, seat_of, some-value, Contents}
 use Rattle.prefix_trie_table.specs.Walking.Walks.{slot_of}
-use Rattle.prefix_trie_table.proofs.Lookup.Located.{stored_if, found_inside, found_read, found_some}
+use Rattle.prefix_trie_table.proofs.Lookup.Locations.{stored_if, found_inside, found_read, found_some}
 use Rattle.prefix_trie_table.proofs.Tree.Trees.{is_none-None}
 use Rattle.prefix_trie_table.proofs.table.Table.value_at_seat.Goals as goal
 

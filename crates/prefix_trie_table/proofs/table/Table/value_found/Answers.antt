@@ -1,7 +1,7 @@
 -- A match that was stored by `find_longest_each` gives the model's longest match, with its value.
 use Rattle.prefix_trie_table.proofs.Prelude.{◌+◌, length}
-use Rattle.prefix_trie_table.proofs.Lookup.Matched.{cell_inside, longest_none, longest_returned}
-use Rattle.prefix_trie_table.proofs.Lookup.Rounds.{answer_is, found_some, found_none}
+use Rattle.prefix_trie_table.proofs.Lookup.EntryMatches.{cell_inside, longest_none, longest_returned}
+use Rattle.prefix_trie_table.proofs.Lookup.BulkRounds.{answer_is, found_some, found_none}
 use Rattle.prefix_trie_table.proofs.Tree.Invariant.{some_table}
 use Rattle.prefix_trie_table.proofs.table.Table.value_found.Goals as goal
 

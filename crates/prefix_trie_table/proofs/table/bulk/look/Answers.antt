@@ -1,7 +1,7 @@
 -- A look at a search's node gives the longest match down to that node, and the next node of the path unless it is the last.
 use Rattle.prefix_trie_table.proofs.Prelude.{take, arith, reached_by, ◌/◌, ap}
 use Rattle.prefix_trie_table.proofs.Lookup.Bulk.{match_few, found_now}
-use Rattle.prefix_trie_table.proofs.Lookup.Matching.{along_is, no_last_bit}
+use Rattle.prefix_trie_table.proofs.Lookup.NodeMatches.{along_is, no_last_bit}
 use Rattle.prefix_trie_table.proofs.Lookup.SearchPaths.{step_left}
 use Rattle.prefix_trie_table.proofs.table.bulk.look.Goals as goal
 

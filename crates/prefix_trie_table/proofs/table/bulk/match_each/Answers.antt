@@ -2,7 +2,7 @@
 use Rattle.prefix_trie_table.proofs.Prelude.{◌≡◌, ◌+◌, ◌*◌, ◌≤◌, length, map, take, sum, sum_by, refl, ap, ◌∙◌, subst, arith, inl, length-map, HaveMatches, cost_of, question_of}
 use Rattle.std.proofs.lemmas.List.{length-take-le, take_all}
 use Rattle.prefix_trie_bits.specs.Keys.{path_within}
-use Rattle.prefix_trie_table.proofs.Lookup.Rounds.{new_descents, new_under_way, new_costs, ahead_inside, level_fits, are_read, matched_next, counted_next, sums_first, sums_last}
+use Rattle.prefix_trie_table.proofs.Lookup.BulkRounds.{new_descents, new_under_way, new_costs, ahead_inside, level_fits, are_read, matched_next, counted_next, sums_first, sums_last}
 use Rattle.prefix_trie_table.proofs.table.bulk.match_each.Goals as goal
 
 pub round-init : goal.round-init

@@ -1,6 +1,6 @@
 -- The value bits under the match mask are the matches of a node that are still to come.
 use Rattle.prefix_trie_table.proofs.Prelude.{begins, subst, HoldsValues}
-use Rattle.prefix_trie_table.proofs.Lookup.Covers.{all_left}
+use Rattle.prefix_trie_table.proofs.Lookup.NodeCovers.{all_left}
 use Rattle.prefix_trie_table.proofs.table.cover.matches_in.Goals as goal
 
 pub returns : goal.returns

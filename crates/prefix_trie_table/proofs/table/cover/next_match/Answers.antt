@@ -1,7 +1,7 @@
 -- The next match is the shortest one left in this node, or in the first node after it that has one.
 use Rattle.prefix_trie_table.proofs.Prelude.{arith, ◌/◌, ap, ◌∙◌}
 use Rattle.prefix_trie_table.proofs.Lookup.SearchPaths.{left_length, left_next}
-use Rattle.prefix_trie_table.proofs.Lookup.Covers.{reached_nowhere, reached_match, reached_end, gone_down}
+use Rattle.prefix_trie_table.proofs.Lookup.NodeCovers.{reached_nowhere, reached_match, reached_end, gone_down}
 use Rattle.prefix_trie_table.proofs.table.cover.next_match.Goals as goal
 
 pub down-init : goal.down-init

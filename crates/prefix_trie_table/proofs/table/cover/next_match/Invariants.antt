@@ -1,6 +1,6 @@
 -- The invariant of `next_match`: the walk is at a node of the path, and no match was passed over.
 use Rattle.prefix_trie_table.proofs.Prelude.{◌≡◌, ℕ, drop, ◌+◌, ◌*◌, ◌-◌, length, IsCovering}
-use Rattle.prefix_trie_table.proofs.Lookup.Covers.{HasReached}
+use Rattle.prefix_trie_table.proofs.Lookup.NodeCovers.{HasReached}
 use Rattle.prefix_trie_table.proofs.table.cover.next_match.Given as goal
 
 abbrev pub invariant-down : goal.invariant-down

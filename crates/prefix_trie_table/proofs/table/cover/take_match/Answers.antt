@@ -1,7 +1,7 @@
 -- The lowest of a node's match bits is its shortest match, and clearing it leaves the longer ones.
 use Rattle.prefix_trie_table.proofs.Prelude.{◌≡◌, ◌^◌, ◌<◌, ℕ, arith, bit_at, trailing_zeros, bit_at-trailing_zeros, has-from}
 use Rattle.std.specs.Int.{w32}
-use Rattle.prefix_trie_table.proofs.Lookup.Covers.{takes_none, takes_some, match-small}
+use Rattle.prefix_trie_table.proofs.Lookup.NodeCovers.{takes_none, takes_some, match-small}
 use Rattle.prefix_trie_table.proofs.table.cover.take_match.Goals as goal
 
 lowest : (m : ℕ) → m < 2 ^ 31 → (m ≡ 0 → ⊥) → (trailing_zeros w32 m < 32) × (bit_at m (trailing_zeros w32 m) ≡ 1) × ((i : ℕ) → i < trailing_zeros w32 m → bit_at m i ≡ 0)

@@ -3,8 +3,8 @@ use Rattle.prefix_trie_table.specs.Blocks.NodeArrays.{FitsByte}
 use Rattle.prefix_trie_table.proofs.Prelude.{inl, ◌≡◌, ◌+◌, ◌<◌, ◌≤◌, Some, ap, sym, ◌∙◌, refl, subst, arith, option_or, one_of, block_needed, Node, rank, blank_node, node_sizes, child_need, Store, AreFree, free_in, size_in, size_if_any, list_size, list_need, needs}
 use Rattle.prefix_trie_table.proofs.Strings.Bits.{has_bit-is}
 use Rattle.prefix_trie_table.proofs.Strings.BitLists.{rank-within, rank-missing}
-use Rattle.prefix_trie_table.proofs.Insertion.Adding.{at_is, has_list, tier_small, added}
-use Rattle.prefix_trie_table.proofs.Insertion.Inserting.{node_fits}
+use Rattle.prefix_trie_table.proofs.Insertion.Additions.{at_is, has_list, tier_small, added}
+use Rattle.prefix_trie_table.proofs.Insertion.InsertionEffects.{node_fits}
 use Rattle.prefix_trie_table.proofs.Blocks.BySize.{node_sized}
 use Rattle.prefix_trie_table.proofs.Blocks.Turnovers.{none_turned, none_written, free_entered}
 use Rattle.prefix_trie_table.proofs.table.insertion.add_child.Goals as goal

@@ -1,14 +1,14 @@
 -- Adding an entry, in two cases: its own node is there, or the missing nodes of its path are added first.
 use Rattle.prefix_trie_table.proofs.Prelude.{◌≡◌, ◌+◌, ◌-◌, ◌*◌, ◌/◌, ◌≤◌, length, sym, ap, ◌∙◌, subst, arith, Node, Some, has_bit, one_of, child_need, AreFree, needs, slot_at}
-use Rattle.prefix_trie_table.proofs.Lookup.Locating.{end_there, missing_bit}
+use Rattle.prefix_trie_table.proofs.Lookup.NodeSeats.{end_there, missing_bit}
 use Rattle.prefix_trie_table.proofs.Strings.Bits.{has_bit-zero}
 use Rattle.prefix_trie_table.proofs.Blocks.BySize.{many_here}
-use Rattle.prefix_trie_table.proofs.Insertion.Adding.{at_values}
+use Rattle.prefix_trie_table.proofs.Insertion.Additions.{at_values}
 use Rattle.prefix_trie_table.proofs.Insertion.Needs.{nodes_below, cells_below}
 use Rattle.prefix_trie_table.proofs.Lookup.SearchPaths.{above_own, at_own, rest_bit, step_left, none_left}
-use Rattle.prefix_trie_table.proofs.Tree.Growing.{free_next, free_one, blank_child, blank_value}
+use Rattle.prefix_trie_table.proofs.Tree.GrowthLoop.{free_next, free_one, blank_child, blank_value}
 use Rattle.prefix_trie_table.proofs.Insertion.Spaces.{none_then}
-use Rattle.prefix_trie_table.proofs.Insertion.Paths.{extended_start, extended_there, extended_more, next_missing, end_added, end_seat}
+use Rattle.prefix_trie_table.proofs.Insertion.ExtendedPaths.{extended_start, extended_there, extended_more, next_missing, end_added, end_seat}
 use Rattle.prefix_trie_table.proofs.table.insertion.add_entry.Goals as goal
 
 -- ---- a value in a node that is there

@@ -1,6 +1,6 @@
 -- The invariant of the loop that adds nodes: the path is extended down to a blank node, and enough blocks of one slot are free.
 use Rattle.prefix_trie_table.proofs.Prelude.{◌≡◌, ◌-◌, ◌/◌, ◌≤◌, ◌<◌, length, blank_node, node_at, free_in}
-use Rattle.prefix_trie_table.proofs.Insertion.Paths.{IsExtended}
+use Rattle.prefix_trie_table.proofs.Insertion.ExtendedPaths.{IsExtended}
 use Rattle.prefix_trie_table.proofs.table.insertion.add_entry.Given as goal
 
 abbrev pub invariant-loop-level : goal.invariant-loop-level

@@ -2,9 +2,9 @@
 use Rattle.prefix_trie_table.proofs.Prelude.{Node, inl, inr, ◌≡◌, ◌+◌, ◌<◌, None, Some, ap, sym, ◌∙◌, refl, subst, arith, option_or, block_needed, rank, cell_sizes, AreFree, size_in, size_if_any, list_size, list_need, needs}
 use Rattle.prefix_trie_table.proofs.Strings.Bits.{has_bit-is}
 use Rattle.prefix_trie_table.proofs.Strings.BitLists.{rank-within}
-use Rattle.prefix_trie_table.proofs.Insertion.Adding.{at_is, at_values, has_values, tier_small, values_added}
-use Rattle.prefix_trie_table.proofs.Insertion.Inserting.{cell_fits, few_values}
-use Rattle.prefix_trie_table.proofs.Lookup.Locating.{added_seat}
+use Rattle.prefix_trie_table.proofs.Insertion.Additions.{at_is, at_values, has_values, tier_small, values_added}
+use Rattle.prefix_trie_table.proofs.Insertion.InsertionEffects.{cell_fits, few_values}
+use Rattle.prefix_trie_table.proofs.Lookup.NodeSeats.{added_seat}
 use Rattle.prefix_trie_table.proofs.Blocks.BySize.{cell_sized}
 use Rattle.prefix_trie_table.proofs.Blocks.Turnovers.{none_turned, none_written, none_same}
 use Rattle.prefix_trie_table.proofs.table.insertion.add_value.Goals as goal

@@ -2,7 +2,7 @@
 use Rattle.prefix_trie_table.proofs.Prelude.{◌≡◌, is_some, refl, ap, arith, chunks_of, bit_of, one_if}
 use Rattle.prefix_trie_table.proofs.Insertion.Needs.{Made-then}
 use Rattle.prefix_trie_table.proofs.Counts.EntryCounts.{entries_bound}
-use Rattle.prefix_trie_table.proofs.Lookup.Locating.{missing_value, ends_still}
+use Rattle.prefix_trie_table.proofs.Lookup.NodeSeats.{missing_value, ends_still}
 use Rattle.prefix_trie_table.proofs.Insertion.Spaces.{Grows-then}
 use Rattle.prefix_trie_table.proofs.table.insertion.insert_entry.Goals as goal
 

@@ -3,11 +3,11 @@ use Rattle.prefix_trie_table.proofs.Prelude.{◌≡◌, ℕ, ◌+◌, ◌-◌, �
 use Rattle.prefix_trie_table.specs.OwnBlocks.{child_block_size, value_block_size}
 use Rattle.prefix_trie_table.proofs.Blocks.BySize.{node_sized, cell_sized}
 use Rattle.prefix_trie_table.proofs.Blocks.Turnovers.{free_obtained}
-use Rattle.prefix_trie_table.proofs.Insertion.Adding.{at_values, has_list, has_values}
+use Rattle.prefix_trie_table.proofs.Insertion.Additions.{at_values, has_list, has_values}
 use Rattle.prefix_trie_table.proofs.Insertion.Needs.{nodes_here, nodes_below, cells_here, cells_below, child_list_need, value_list_need, first_list_need, keeps_by, free_by, cells_alone, cells_refused, nodes_then}
-use Rattle.prefix_trie_table.proofs.Insertion.Inserting.{list_tier, node_fits, cell_fits, few_children, nodes_prepared, cells_prepared}
+use Rattle.prefix_trie_table.proofs.Insertion.InsertionEffects.{list_tier, node_fits, cell_fits, few_children, nodes_prepared, cells_prepared}
 use Rattle.prefix_trie_table.proofs.Insertion.Spaces.{Grows-same, Grows-obtained, missing_nodes, missing_cells, few_steps}
-use Rattle.prefix_trie_table.proofs.Lookup.Locating.{missing_few, end_there}
+use Rattle.prefix_trie_table.proofs.Lookup.NodeSeats.{missing_few, end_there}
 use Rattle.prefix_trie_table.proofs.Lookup.SearchPaths.{above_own, at_own}
 use Rattle.prefix_trie_table.proofs.table.insertion.prepare.Given as given
 use Rattle.prefix_trie_table.proofs.table.insertion.prepare.Goals as goal

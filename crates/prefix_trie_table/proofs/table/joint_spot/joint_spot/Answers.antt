@@ -2,7 +2,7 @@
 use Rattle.prefix_trie_table.proofs.Prelude.{◌∙◌, ap, sym, filter, arith, All-weaker, All-contains_itself, strings, to_come}
 use Rattle.std.specs.List.{Contains}
 use Rattle.prefix_trie_table.specs.Walking.Joint.{IsJointPlace}
-use Rattle.prefix_trie_table.proofs.Lookup.Matching.{clear-small}
+use Rattle.prefix_trie_table.proofs.Lookup.NodeMatches.{clear-small}
 use Rattle.prefix_trie_table.proofs.Walk.JointNodes.{joint-bits}
 use Rattle.prefix_trie_table.proofs.table.joint_spot.joint_spot.Goals as goal
 

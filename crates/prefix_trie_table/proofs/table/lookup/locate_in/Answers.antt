@@ -1,7 +1,7 @@
 -- Locating a value, in three cases: its node is missing, its bit is not set, or it is stored at the seat of its bit.
 use Rattle.prefix_trie_table.proofs.Prelude.{◌<◌, ◌/◌, ◌∙◌, length, sym, ap, arith}
-use Rattle.prefix_trie_table.proofs.Lookup.Ends.{is_end, seat_none, seat_here}
-use Rattle.prefix_trie_table.proofs.Lookup.Locating.{no_seat}
+use Rattle.prefix_trie_table.proofs.Lookup.PathEnds.{is_end, seat_none, seat_here}
+use Rattle.prefix_trie_table.proofs.Lookup.NodeSeats.{no_seat}
 use Rattle.prefix_trie_table.proofs.Lookup.SearchPaths.{none_at_end, none_left, path_read, step_left}
 use Rattle.prefix_trie_table.proofs.table.lookup.locate_in.Goals as goal
 

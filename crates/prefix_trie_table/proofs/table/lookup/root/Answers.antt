@@ -1,6 +1,6 @@
 -- The root is in slot 0 and on every search path.
 use Rattle.prefix_trie_table.proofs.Prelude.{[], arith, chunks_of}
-use Rattle.prefix_trie_table.proofs.Lookup.Going.{deepest_root, deepest_in}
+use Rattle.prefix_trie_table.proofs.Lookup.Descents.{deepest_root, deepest_in}
 use Rattle.prefix_trie_table.proofs.table.lookup.root.Goals as goal
 
 pub visit-node-requires : goal.visit-node-requires

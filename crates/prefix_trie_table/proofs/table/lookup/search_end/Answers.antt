@@ -1,6 +1,6 @@
 -- A node on a search path is in a slot of the array, so its sizes can be read again.
 use Rattle.prefix_trie_table.proofs.Prelude.{chunks_of}
-use Rattle.prefix_trie_table.proofs.Lookup.Going.{deepest_in}
+use Rattle.prefix_trie_table.proofs.Lookup.Descents.{deepest_in}
 use Rattle.prefix_trie_table.proofs.table.lookup.search_end.Goals as goal
 
 pub size_classes-sizes-requires : goal.size_classes-sizes-requires

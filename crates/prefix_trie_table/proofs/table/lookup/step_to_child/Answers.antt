@@ -1,6 +1,6 @@
 -- The child on a search path is in a slot of the array, and reading it is one read.
 use Rattle.prefix_trie_table.proofs.Prelude.{◌+◌, chunks_of}
-use Rattle.prefix_trie_table.proofs.Lookup.Going.{deepest_in}
+use Rattle.prefix_trie_table.proofs.Lookup.Descents.{deepest_in}
 use Rattle.prefix_trie_table.proofs.table.lookup.step_to_child.Goals as goal
 
 pub child_on_path-requires : goal.child_on_path-requires

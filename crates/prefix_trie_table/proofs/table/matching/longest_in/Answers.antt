@@ -1,6 +1,6 @@
 -- A node's longest match has the string of the bit that `longest_match` returns, after the bits that lead to the node.
 use Rattle.prefix_trie_table.proofs.Prelude.{arith}
-use Rattle.prefix_trie_table.proofs.Lookup.Matching.{clear-small, none_here, longest_here, longest-small, longest_first, none_first}
+use Rattle.prefix_trie_table.proofs.Lookup.NodeMatches.{clear-small, none_here, longest_here, longest-small, longest_first, none_first}
 use Rattle.prefix_trie_table.proofs.table.matching.longest_in.Goals as goal
 
 pub longest_match-requires : goal.longest_match-requires

@@ -1,7 +1,7 @@
 -- A later node has longer matches, so the last match that is found on the search path is the longest.
 use Rattle.prefix_trie_table.proofs.Prelude.{◌≡◌, ◌+◌, ◌*◌, ◌/◌, take, ap, ◌∙◌, subst, arith, LongestHeld}
 use Rattle.prefix_trie_table.proofs.Lookup.SearchPaths.{followed_root, followed_next, last_at_own, path_read, step_left}
-use Rattle.prefix_trie_table.proofs.Lookup.Matching.{no_last_bit, first_left, best_now, best_at_last}
+use Rattle.prefix_trie_table.proofs.Lookup.NodeMatches.{no_last_bit, first_left, best_now, best_at_last}
 use Rattle.prefix_trie_table.proofs.table.matching.longest_on_path.Goals as goal
 
 pub down-init : goal.down-init

@@ -1,6 +1,6 @@
 -- A node's shortest match has the string of the bit that `shortest_match` returns, after the bits that lead to the node.
 use Rattle.prefix_trie_table.proofs.Prelude.{arith}
-use Rattle.prefix_trie_table.proofs.Lookup.Matching.{clear-small, none_here, shortest_here, shortest-small, shortest_first, none_first}
+use Rattle.prefix_trie_table.proofs.Lookup.NodeMatches.{clear-small, none_here, shortest_here, shortest-small, shortest_first, none_first}
 use Rattle.prefix_trie_table.proofs.table.matching.shortest_in.Goals as goal
 
 pub shortest_match-requires : goal.shortest_match-requires

@@ -1,7 +1,7 @@
 -- A later node has longer matches, so the first match that is found on the search path is the shortest.
 use Rattle.prefix_trie_table.proofs.Prelude.{◌≡◌, ◌+◌, ◌*◌, take, None, Some, ◌∙◌, subst, arith, NoneHeld, ◌/◌, ap}
 use Rattle.prefix_trie_table.proofs.Lookup.SearchPaths.{followed_root, followed_next, last_at_own, path_read, step_left}
-use Rattle.prefix_trie_table.proofs.Lookup.Matching.{no_last_bit, none_join, first_left, shortest_behind, shortest_at_last, match_read, along_is}
+use Rattle.prefix_trie_table.proofs.Lookup.NodeMatches.{no_last_bit, none_join, first_left, shortest_behind, shortest_at_last, match_read, along_is}
 use Rattle.prefix_trie_table.proofs.table.matching.shortest_on_path.Goals as goal
 
 pub down-init : goal.down-init

@@ -1,7 +1,7 @@
 -- Each removed value is moved to the next seat of the second table, in listing order, so that table has the split-off part.
 use Rattle.prefix_trie_table.proofs.Prelude.{◌≡◌, ◌∙◌, sym, ap, subst, length, [], take, len, listing_below, entries, part_below, State, Seats, filled_with, split_off, IsTrie}
-use Rattle.prefix_trie_table.proofs.Moving.Second.{second_trie}
-use Rattle.prefix_trie_table.proofs.Moving.Moved.{Fills, may_move, all_moved}
+use Rattle.prefix_trie_table.proofs.Moving.FilledTables.{second_trie}
+use Rattle.prefix_trie_table.proofs.Moving.MovedParts.{Fills, may_move, all_moved}
 use Rattle.prefix_trie_table.proofs.table.part_moving.move_part.Given as given
 use Rattle.prefix_trie_table.proofs.table.part_moving.move_part.Goals as goal
 

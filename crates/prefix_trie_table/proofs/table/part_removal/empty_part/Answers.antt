@@ -2,7 +2,7 @@
 use Rattle.prefix_trie_table.proofs.Prelude.{◌≡◌, ◌*◌, ◌/◌, sym, ap, ◌∙◌, subst, arith, All-weaker, All-contains_itself, is_in, to_come, and-first, is_in-and, CallableOnEachEntry, AsksUpTo, PreservesBelow, read, IsPlaceOf}
 use Rattle.std.specs.List.{Contains}
 use Rattle.prefix_trie_table.proofs.Lookup.SearchPaths.{own_short}
-use Rattle.prefix_trie_table.proofs.Removal.PartTaken.{home_steps, own_site, part_emptied, part_listed}
+use Rattle.prefix_trie_table.proofs.Removal.RemovedParts.{home_steps, own_site, part_emptied, part_listed}
 use Rattle.prefix_trie_table.proofs.table.part_removal.empty_part.Goals as goal
 
 pub overflow_mul-depth : goal.overflow_mul-depth

@@ -1,6 +1,6 @@
 -- Emptying a string's own node and then pruning its path removes the part; if that node is missing, there is no part.
 use Rattle.prefix_trie_table.proofs.Prelude.{refl, sym, subst, AsksUpTo}
-use Rattle.prefix_trie_table.proofs.Removal.PartTaken.{some_end, part_taken, part_preserved, part_missing, part_unlisted}
+use Rattle.prefix_trie_table.proofs.Removal.RemovedParts.{some_end, part_taken, part_preserved, part_missing, part_unlisted}
 use Rattle.prefix_trie_table.proofs.Retain.CurrentPlaces.{preserves_none}
 use Rattle.prefix_trie_table.proofs.table.part_removal.remove_part.Goals as goal
 

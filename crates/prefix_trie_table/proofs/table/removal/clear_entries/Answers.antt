@@ -1,6 +1,6 @@
 -- Clearing both arrays leaves a blank root, no values and no blocks, as in a new table.
 use Rattle.prefix_trie_table.proofs.Prelude.{[], ◌∷◌, take, ap, sym, ◌∙◌, Option, Node, Store, blank_node, node_sizes, cell_sizes}
-use Rattle.prefix_trie_table.proofs.Removal.Clearing.{cleared_tiers, root_slot}
+use Rattle.prefix_trie_table.proofs.Removal.ClearedTables.{cleared_tiers, root_slot}
 use Rattle.prefix_trie_table.proofs.table.removal.clear_entries.Goals as goal
 
 pub clear-requires-clause-root : goal.clear-requires-clause-root

@@ -1,11 +1,11 @@
 -- Dropping a child without children from its parent's block: the tree by path has one node less.
 use Rattle.prefix_trie_table.proofs.Prelude.{inl, ◌≡◌, ap, sym, ◌∙◌, refl, arith, Node, has_bit, rank, blank_node, node_sizes}
-use Rattle.prefix_trie_table.proofs.Strings.Bare.{one_fewer}
+use Rattle.prefix_trie_table.proofs.Strings.BareBitmaps.{one_fewer}
 use Rattle.prefix_trie_table.proofs.Strings.Bits.{has_bit-is}
 use Rattle.prefix_trie_table.proofs.Strings.BitLists.{rank-below}
-use Rattle.prefix_trie_table.proofs.Insertion.Adding.{at_is, has_list}
+use Rattle.prefix_trie_table.proofs.Insertion.Additions.{at_is, has_list}
 use Rattle.prefix_trie_table.proofs.Removal.Items.{Lost, lost_one, children_dropped}
-use Rattle.prefix_trie_table.proofs.Removal.GivingBack.{gives_written, grows_written}
+use Rattle.prefix_trie_table.proofs.Removal.FreedBlocks.{gives_written, grows_written}
 use Rattle.prefix_trie_table.proofs.Removal.ShrinkingLists.{node_spaces}
 use Rattle.prefix_trie_table.proofs.Blocks.BySize.{node_sized, tiers_long}
 use Rattle.prefix_trie_table.proofs.table.removal.drop_child.Given as given

@@ -3,7 +3,7 @@ use Rattle.prefix_trie_table.proofs.Prelude.{◌≡◌, ◌+◌, ◌-◌, ◌*�
 use Rattle.prefix_trie_table.proofs.Strings.Digits.{path-length}
 use Rattle.prefix_trie_table.proofs.Lookup.SearchPaths.{rest_step}
 use Rattle.prefix_trie_table.proofs.Removal.Pruning.{Pruning, pruning_first, pruning_more, parent_is, parent_slot, parent_bit}
-use Rattle.prefix_trie_table.proofs.Removal.GivingBack.{gives_same, gives_then}
+use Rattle.prefix_trie_table.proofs.Removal.FreedBlocks.{gives_same, gives_then}
 use Rattle.prefix_trie_table.proofs.Insertion.Spaces.{Grows-same, Grows-after}
 use Rattle.prefix_trie_table.proofs.Blocks.Turnovers.{made_kept}
 use Rattle.prefix_trie_table.proofs.table.removal.prune_up.Goals as goal

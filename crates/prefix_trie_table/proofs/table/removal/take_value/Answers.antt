@@ -1,10 +1,10 @@
 -- Removing a value from its place of the block of values: the tree by path has one value less.
 use Rattle.prefix_trie_table.proofs.Prelude.{Node, inl, inr, ◌≡◌, ◌<◌, Some, None, get_or, map, sym, ap, ◌∙◌, subst, refl, arith, length-set, rank, bits, node_sizes, cell_sizes}
 use Rattle.prefix_trie_table.specs.Removals.{SameBlocks}
-use Rattle.prefix_trie_table.proofs.Strings.Bare.{one_fewer}
+use Rattle.prefix_trie_table.proofs.Strings.BareBitmaps.{one_fewer}
 use Rattle.prefix_trie_table.proofs.Strings.Bits.{has_bit-is}
 use Rattle.prefix_trie_table.proofs.Strings.BitLists.{rank-below, rank-all, map_get}
-use Rattle.prefix_trie_table.proofs.Insertion.Adding.{at_is, at_values, has_values}
+use Rattle.prefix_trie_table.proofs.Insertion.Additions.{at_is, at_values, has_values}
 use Rattle.prefix_trie_table.proofs.Tree.Trees.{slot_holds}
 use Rattle.prefix_trie_table.proofs.Tree.Values.{values_first}
 use Rattle.prefix_trie_table.proofs.Removal.Items.{Lost, lost_one, values_taken}

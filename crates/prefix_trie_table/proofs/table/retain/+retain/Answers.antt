@@ -1,11 +1,11 @@
 -- The recursion of `retain`, place by place: a value is tested, and a child is walked and then dropped if it is bare.
 use Rattle.prefix_trie_table.proofs.Prelude.{◌≡◌, ◌/◌, [], ◌∷◌, ◌++◌, length, take, refl, sym, ap, ◌∙◌, subst, arith, append-nil, append_assoc, false≢true, to_come, CallableOnEachEntry, listing_at_places, State, RetainsTo, IsTrie, All-weaker, All-contains_itself, has_bit, IsPlaceOf, All, HasPlace}
 use Rattle.std.specs.List.{Contains}
-use Rattle.prefix_trie_table.proofs.Retain.Asked.{none_asked}
+use Rattle.prefix_trie_table.proofs.Retain.TestCalls.{none_asked}
 use Rattle.prefix_trie_table.proofs.Retain.CurrentChild.{child_there, lower_inside, lower_few, lower_fits, lower_site, may_ask_lower, still_site, still_preserved, child_stays, child_goes, site3, lasts3}
-use Rattle.prefix_trie_table.proofs.Lookup.Matching.{clear-small}
+use Rattle.prefix_trie_table.proofs.Lookup.NodeMatches.{clear-small}
 use Rattle.prefix_trie_table.proofs.Retain.CurrentPlaces.{same_place, this_place, may_ask_this, each_next, apart_next, done_next, preserves_both, preserves_none}
-use Rattle.prefix_trie_table.proofs.Retain.Retained.{site_holds, site_node}
+use Rattle.prefix_trie_table.proofs.Retain.RetainedTables.{site_holds, site_node}
 use Rattle.prefix_trie_table.proofs.Walk.NextPlaces.{place-value, place-small, place-child-small}
 use Rattle.prefix_trie_table.proofs.table.retain.+retain.Goals as goal
 

@@ -1,7 +1,7 @@
 -- The places of the root lead to all entries of the table, so each is tested once, in listing order.
 use Rattle.prefix_trie_table.proofs.Prelude.{[], ap, ◌∙◌, arith, All-weaker, All-contains_itself, to_come, has_bit, node_at, IsPlaceOf}
 use Rattle.std.specs.List.{Contains}
-use Rattle.prefix_trie_table.proofs.Lookup.Matching.{clear-small}
+use Rattle.prefix_trie_table.proofs.Lookup.NodeMatches.{clear-small}
 use Rattle.prefix_trie_table.proofs.Retain.FromRoot.{root_site, root_may_ask, root_asked}
 use Rattle.prefix_trie_table.proofs.Tree.Subtrees.{root_inside, few_at}
 use Rattle.prefix_trie_table.proofs.Tree.Trees.{read-nil}

@@ -1,10 +1,10 @@
 -- A value of a node, in two cases: the test accepts it and nothing changes, or it is removed and passed to `taken`.
 use Rattle.prefix_trie_table.proofs.Prelude.{◌≡◌, ◌-◌, [], ◌∷◌, take, true, false, Some, unwrap_or, is_some, refl, sym, ap, ◌∙◌, subst, arith, option_copied, false≢true, digits, RetainsTo}
 use Rattle.prefix_trie_table.proofs.Strings.Bits.{has_bit-is}
-use Rattle.prefix_trie_table.proofs.Retain.Retained.{site_holds, site_values}
+use Rattle.prefix_trie_table.proofs.Retain.RetainedTables.{site_holds, site_values}
 use Rattle.prefix_trie_table.proofs.Insertion.Spaces.{Grows-none}
 use Rattle.prefix_trie_table.proofs.Retain.CurrentPlaces.{preserves_none}
-use Rattle.prefix_trie_table.proofs.Removal.Between.{stays_grown}
+use Rattle.prefix_trie_table.proofs.Removal.SizeBounds.{stays_grown}
 use Rattle.prefix_trie_table.proofs.Retain.CurrentValue.{short, value_slot, value_got, value_some, value_space, key_taken, may_ask_here, stays_here, goes_here, taken_here, counted_here, above_here, blocks_here, site_here, trie_goes}
 use Rattle.prefix_trie_table.proofs.table.retain.retain_value.Goals as goal
 

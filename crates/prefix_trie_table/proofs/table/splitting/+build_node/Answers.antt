@@ -1,13 +1,13 @@
 -- The recursion that builds a subtree: a node's values first, then its children, and no node if both are left out.
 use Rattle.prefix_trie_table.specs.Blocks.NodeArrays.{FitsByte}
 use Rattle.prefix_trie_table.proofs.Prelude.{ℕ, All, All-nil, All-push, IfSome, None, replicate, sym, ap, subst, ◌∙◌, arith, ◌≡◌, ◌+◌, ◌-◌, List, [], length, bit_and, err_from_is_err_and, Memory, node_at, blank_node, node_sizes, cell_sizes, Node, child_slots, value_slots, sum_to, slots_at_child, slots_below, IsSubtree, IsBuilt, NothingBuilt, BuildsNode, BuildsList, Builds, tier_sizes}
-use Rattle.prefix_trie_table.proofs.Splitting.Subtrees.{first, subtree_start, subtree_few, subtree_clear, subtree_passed, subtree_attached, subtree_closed, subtree_bare}
+use Rattle.prefix_trie_table.proofs.Splitting.BuiltSubtrees.{first, subtree_start, subtree_few, subtree_clear, subtree_passed, subtree_attached, subtree_closed, subtree_bare}
 use Rattle.prefix_trie_table.proofs.Splitting.FreshArrays.{Builds-none, can_build_then}
 use Rattle.prefix_trie_table.proofs.Splitting.Parts.{kept, own_values, left_out, below_it}
 use Rattle.prefix_trie_table.proofs.Splitting.Sources.{child_inside, some_level, source_below, own_within}
 use Rattle.prefix_trie_table.proofs.Splitting.Space.{values_few, built_tier, for_memory, values_packed, children_packed, slots_split, child_amount, child_space}
-use Rattle.prefix_trie_table.proofs.Insertion.Inserting.{node_fits, cell_fits}
-use Rattle.prefix_trie_table.proofs.Strings.Bare.{was_set, others_stay}
+use Rattle.prefix_trie_table.proofs.Insertion.InsertionEffects.{node_fits, cell_fits}
+use Rattle.prefix_trie_table.proofs.Strings.BareBitmaps.{was_set, others_stay}
 use Rattle.prefix_trie_table.proofs.Strings.Bits.{has_bit-is}
 use Rattle.prefix_trie_table.proofs.Strings.BitLists.{rank-le, rank-missing}
 use Rattle.prefix_trie_table.proofs.table.splitting.+build_node.Goals as goal

@@ -3,8 +3,8 @@ use Rattle.prefix_trie_table.specs.Blocks.NodeArrays.{FitsByte}
 use Rattle.prefix_trie_table.proofs.Prelude.{inl, IfSome, refl, ◌∙◌, ◌<◌, sym, ap, subst, length, arith, ◌/◌, err_from_is_err_and, node_at, BuildsNode, Node, Store, tier_sizes, IsSecond}
 use Rattle.prefix_trie_table.proofs.Splitting.RootSpace.{root_nodes, root_cells}
 use Rattle.prefix_trie_table.proofs.Splitting.Space.{for_memory}
-use Rattle.prefix_trie_table.proofs.Splitting.Second.{root_source, second_built, second_bare}
-use Rattle.prefix_trie_table.proofs.Removal.Clearing.{under_limit, root_slot}
+use Rattle.prefix_trie_table.proofs.Splitting.VacantTables.{root_source, second_built, second_bare}
+use Rattle.prefix_trie_table.proofs.Removal.ClearedTables.{under_limit, root_slot}
 use Rattle.prefix_trie_table.proofs.Tree.Invariant.{some_table}
 use Rattle.prefix_trie_table.proofs.table.splitting.build_part.Goals.{in-Some, in_default-top}
 use Rattle.prefix_trie_table.proofs.table.splitting.build_part.Goals as goal

@@ -1,7 +1,7 @@
 -- A spot that is entered has all places of its node to come, each of which is one of the node's.
 use Rattle.prefix_trie_table.proofs.Prelude.{ap, ◌∙◌, arith, All-weaker, All-contains_itself, to_come, has_bit, IsPlaceOf}
 use Rattle.std.specs.List.{Contains}
-use Rattle.prefix_trie_table.proofs.Lookup.Matching.{clear-small}
+use Rattle.prefix_trie_table.proofs.Lookup.NodeMatches.{clear-small}
 use Rattle.prefix_trie_table.proofs.table.spot.enter.Goals as goal
 
 pub new-places-requires : goal.new-places-requires

@@ -1,8 +1,8 @@
 -- A spot with masked bitmaps has the node's places that are in the masks.
 use Rattle.prefix_trie_table.proofs.Prelude.{◌∙◌, arith, and_le_l, All-weaker, All-contains_itself, to_come, IsPlaceOf}
 use Rattle.std.specs.List.{Contains}
-use Rattle.prefix_trie_table.proofs.Walk.Starts.{masked, in_first}
-use Rattle.prefix_trie_table.proofs.Lookup.Matching.{clear-small}
+use Rattle.prefix_trie_table.proofs.Walk.StartStacks.{masked, in_first}
+use Rattle.prefix_trie_table.proofs.Lookup.NodeMatches.{clear-small}
 use Rattle.prefix_trie_table.proofs.table.spot.spot_in.Goals as goal
 
 pub new-places-requires : goal.new-places-requires

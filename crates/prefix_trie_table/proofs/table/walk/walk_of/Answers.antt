@@ -2,7 +2,7 @@
 use Rattle.prefix_trie_table.proofs.Prelude.{◌∙◌, [], ◌∷◌, ◌++◌, ap, node_at}
 use Rattle.prefix_trie_table.proofs.Tree.Trees.{read-nil}
 use Rattle.prefix_trie_table.proofs.Tree.Subtrees.{root_inside, few_at}
-use Rattle.prefix_trie_table.proofs.Walk.Walking.{root_walk, root_rest}
+use Rattle.prefix_trie_table.proofs.Walk.ItemsToCome.{root_walk, root_rest}
 use Rattle.prefix_trie_table.proofs.table.walk.walk_of.Goals as goal
 
 pub enter-requires-clause-is_there : goal.enter-requires-clause-is_there

@@ -1,6 +1,6 @@
 -- What is selected at the node where a string ends, in three cases: from the string on, after it, or below it.
 use Rattle.prefix_trie_table.proofs.Prelude.{◌≤◌, length, subst, arith, ap, ◌∙◌, sym, has, HoldsPlaces, Sets, kept}
-use Rattle.prefix_trie_table.proofs.Walk.Starts.{own_bit, masks_after}
+use Rattle.prefix_trie_table.proofs.Walk.StartStacks.{own_bit, masks_after}
 use Rattle.prefix_trie_table.proofs.table.walk_start.places_kept.Goals as goal
 
 pub without_bit-requires-clause-set : goal.without_bit-requires-clause-set

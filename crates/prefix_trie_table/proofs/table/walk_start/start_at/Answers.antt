@@ -2,7 +2,7 @@
 use Rattle.prefix_trie_table.proofs.Prelude.{◌≤◌, ◌∙◌, sym, ap, subst, refl, number, length, take, drop, length-drop, arith, chunks_of, HoldsPlaces, kept}
 use Rattle.std.proofs.lemmas.List.{drop-drop}
 use Rattle.prefix_trie_table.proofs.Tree.Subtrees.{root_inside, few_at}
-use Rattle.prefix_trie_table.proofs.Walk.Starts.{all_left, key_reach, built_root, stack_pushed, passed_pushed, rest_missing, next_inside, built_next, rest_ended}
+use Rattle.prefix_trie_table.proofs.Walk.StartStacks.{all_left, key_reach, built_root, stack_pushed, passed_pushed, rest_missing, next_inside, built_next, rest_ended}
 use Rattle.prefix_trie_table.proofs.table.walk_start.start_at.Goals as goal
 
 pub visit-node-requires : goal.visit-node-requires

@@ -1,6 +1,6 @@
 -- The invariant of `start_at`: the spots so far have what is selected outside of the path's next node.
 use Rattle.prefix_trie_table.proofs.Prelude.{◌≡◌, ◌+◌, ◌-◌, drop, length}
-use Rattle.prefix_trie_table.proofs.Walk.Starts.{IsBuilt}
+use Rattle.prefix_trie_table.proofs.Walk.StartStacks.{IsBuilt}
 use Rattle.prefix_trie_table.proofs.table.walk_start.start_at.Given as goal
 
 abbrev pub invariant-loop-depth : goal.invariant-loop-depth

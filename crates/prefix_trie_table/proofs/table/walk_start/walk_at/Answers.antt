@@ -1,6 +1,6 @@
 -- A walk over the stack of `start_at` has the selected entries to come, since the arrays have only one shape.
 use Rattle.prefix_trie_table.proofs.Prelude.{◌∙◌, ap, State, selected, same_shape}
-use Rattle.prefix_trie_table.proofs.Walk.Walking.{tree_of, spots_walk, spots_rest}
+use Rattle.prefix_trie_table.proofs.Walk.ItemsToCome.{tree_of, spots_walk, spots_rest}
 use Rattle.prefix_trie_table.proofs.table.walk_start.walk_at.Goals as goal
 
 pub start_at-stack-requires : goal.start_at-stack-requires

@@ -1,5 +1,5 @@
 -- The shortest string that begins the key's has the lowest bit under the match mask. If the mask is empty, no string does.
-use Rattle.prefix_trie_bits.proofs.Matches.{none_begins, shortest_found}
+use Rattle.prefix_trie_bits.proofs.NodeMatches.{none_begins, shortest_found}
 use Rattle.prefix_trie_bits.proofs.prefix.bit_string.BitString.shortest_match.Goals as goal
 
 pub returns-then-matches-eq0 : goal.returns-then-matches-eq0

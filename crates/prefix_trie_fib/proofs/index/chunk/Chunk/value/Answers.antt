@@ -2,7 +2,7 @@
 use Rattle.std.proofs.Common.{◌∙◌, sym, None, subst}
 use Rattle.prefix_trie_bits.specs.Model.Bits.{number}
 use Rattle.prefix_trie_fib.specs.Index.{IsChunk}
-use Rattle.prefix_trie_fib.proofs.Along.{value_of_range}
+use Rattle.prefix_trie_fib.proofs.RangeValues.{value_of_range}
 use Rattle.prefix_trie_fib.proofs.index.chunk.Chunk.value.Goals as goal
 
 pub range_among-requires-clause-among : goal.range_among-requires-clause-among

@@ -2,7 +2,7 @@
 use Rattle.std.proofs.Common.{◌+◌, ◌/◌, subst, sym, arith}
 use Rattle.prefix_trie_bits.specs.Model.Bits.{number}
 use Rattle.prefix_trie_fib.specs.Search.{StartsBy}
-use Rattle.prefix_trie_fib.proofs.Along.{above_middle}
+use Rattle.prefix_trie_fib.proofs.RangeValues.{above_middle}
 use Rattle.prefix_trie_fib.proofs.ranges.line.Line.range_among.Goals.{then-is_at_most, else-is_at_most}
 use Rattle.prefix_trie_fib.proofs.ranges.line.Line.range_among.Goals as goal
 

@@ -1,6 +1,6 @@
 -- The entry stays occupied at the same seat, whatever is written to its value.
 use Rattle.prefix_trie_map.proofs.Prelude.{refl, sym, ap, ◌∙◌, get}
-use Rattle.prefix_trie_map.proofs.Occupied.{stays_at, occupied_written}
+use Rattle.prefix_trie_map.proofs.OccupiedEntries.{stays_at, occupied_written}
 use Rattle.prefix_trie_map.proofs.map.entry.OccupiedEntry.get_mut.Goals as goal
 
 pub invariant_of-self-lent : goal.invariant_of-self-lent

@@ -1,7 +1,7 @@
 -- Inserting through a vacant entry fills the entry, with the value that is written through the borrow last.
 use Rattle.prefix_trie_map.proofs.Prelude.{refl, sym, ap, ◌∙◌, subst, false≢true, err_from_is_err_and, get, contains_key, IsSearchEnd, seat_of}
 use Rattle.prefix_trie_map.proofs.Entries.{Fills-lent, Refuses-returned}
-use Rattle.prefix_trie_map.proofs.Placing.{entry_only}
+use Rattle.prefix_trie_map.proofs.NewKeys.{entry_only}
 use Rattle.prefix_trie_map.proofs.map.entry.VacantEntry.insert.Goals as goal
 
 pub insert_located-requires-clause-fits : goal.insert_located-requires-clause-fits

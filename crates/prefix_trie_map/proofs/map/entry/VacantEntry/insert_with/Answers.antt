@@ -1,7 +1,7 @@
 -- Making the blocks first and then inserting is one insertion, and a refusal comes before the closure is called.
 use Rattle.prefix_trie_map.proofs.Prelude.{refl, sym, ap, ◌∙◌, subst, false≢true, get, contains_key, with_entry, missing_node_slots, missing_cell_slots, with_needed, PreparesInStorage, no_node_slots_lack, no_cell_slots_lack, state, storage}
 use Rattle.prefix_trie_map.proofs.Entries.{Fills-lent, Refuses-returned}
-use Rattle.prefix_trie_map.proofs.Placing.{entry_only, prepared_step}
+use Rattle.prefix_trie_map.proofs.NewKeys.{entry_only, prepared_step}
 use Rattle.prefix_trie_map.proofs.map.entry.VacantEntry.insert_with.Goals as goal
 
 pub returns-in-Err : goal.returns-in-Err

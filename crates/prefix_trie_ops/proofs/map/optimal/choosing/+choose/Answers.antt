@@ -15,7 +15,7 @@ use Rattle.prefix_trie_ops.proofs.Optimal.Choosing.{by_more, chooses_both, choos
 use Rattle.prefix_trie_ops.proofs.Optimal.Fronts.{below_is, left_after, no_key_below, past_leaf, to_end, to_left, to_right, value_here}
 use Rattle.prefix_trie_ops.proofs.Optimal.Positions.{lower_half, upper_half}
 use Rattle.prefix_trie_ops.proofs.Smallest.InOrder.{first_sorted}
-use Rattle.prefix_trie_ops.proofs.Smallest.Storing.{holds_kept}
+use Rattle.prefix_trie_ops.proofs.Smallest.StoredSets.{holds_kept}
 use Rattle.prefix_trie_ops.proofs.map.optimal.choosing.+choose.Goals as goal
 
 pub choose-returns-then-not-is_inner-clause-walks : goal.choose-returns-then-not-is_inner-clause-walks

@@ -14,9 +14,9 @@ use Rattle.prefix_trie_ops.specs.Parts.{as_list, best_value, first_values}
 use Rattle.prefix_trie_ops.proofs.Optimal.Choosing.{by_more, first_alone, first_joint, part_inner, part_outer}
 use Rattle.prefix_trie_ops.proofs.Optimal.Fronts.{below_is, left_after, no_key_below, past_leaf, to_end, to_left, to_right, value_here}
 use Rattle.prefix_trie_ops.proofs.Optimal.Positions.{lower_half, upper_half}
-use Rattle.prefix_trie_ops.proofs.Optimal.Rebuilding.{joined, leaf, none_left, none_right}
+use Rattle.prefix_trie_ops.proofs.Optimal.RebuiltParts.{joined, leaf, none_left, none_right}
 use Rattle.prefix_trie_ops.proofs.Smallest.Lower.{best_none}
-use Rattle.prefix_trie_ops.proofs.Smallest.Storing.{joint_left, joint_right}
+use Rattle.prefix_trie_ops.proofs.Smallest.StoredSets.{joint_left, joint_right}
 use Rattle.prefix_trie_ops.proofs.map.optimal.placing.+place.Goals as goal
 
 pub place-returns-then-not-is_inner-clause-walks : goal.place-returns-then-not-is_inner-clause-walks

@@ -1,7 +1,7 @@
 -- Storing a value adds at most one entry.
 use Rattle.std.proofs.Common.{◌+◌, ◌≤◌, sym, subst}
 use Rattle.std.specs.FinMap.{len}
-use Rattle.prefix_trie_ops.proofs.Optimal.Counting.{one_more}
+use Rattle.prefix_trie_ops.proofs.Optimal.KeyCounts.{one_more}
 use Rattle.prefix_trie_ops.proofs.map.optimal.placing.store.Goals as goal
 
 pub returns-clause-cost : goal.returns-clause-cost

@@ -5,8 +5,8 @@ use Rattle.std.specs.Result.{IfOk}
 use Rattle.prefix_trie_ops.specs.declared.map.optimal.sets.Set.TheVariants.{Missing}
 use Rattle.prefix_trie_ops.specs.Parts.{joint_values}
 use Rattle.prefix_trie_ops.specs.ValueSets.{Appends, Holds, IsSpanOf}
-use Rattle.prefix_trie_ops.proofs.Smallest.Joining.{joint_one}
-use Rattle.prefix_trie_ops.proofs.Smallest.Storing.{joint_left, joint_right, nothing_appended}
+use Rattle.prefix_trie_ops.proofs.Smallest.JoinedLists.{joint_one}
+use Rattle.prefix_trie_ops.proofs.Smallest.StoredSets.{joint_left, joint_right, nothing_appended}
 use Rattle.prefix_trie_ops.proofs.map.optimal.sets.best_of.Goals as goal
 use Rattle.prefix_trie_ops.proofs.map.optimal.sets.best_of.Goals.{in_default-via-in-Many+in_default, in_default-via-in-One+in_default, in_default-via-in_default}
 

@@ -2,7 +2,7 @@
 use Rattle.std.proofs.Common.{[], sym, subst, append-nil}
 use Rattle.std.specs.Result.{IfOk}
 use Rattle.prefix_trie_ops.specs.ValueSets.{Appends}
-use Rattle.prefix_trie_ops.proofs.Smallest.Joining.{pair_equal, pair_greater, pair_less}
+use Rattle.prefix_trie_ops.proofs.Smallest.JoinedLists.{pair_equal, pair_greater, pair_less}
 use Rattle.prefix_trie_ops.proofs.map.optimal.sets.best_of_two.Goals as goal
 
 pub returns-in-Equal : goal.returns-in-Equal

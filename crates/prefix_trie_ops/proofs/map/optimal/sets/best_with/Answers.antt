@@ -7,8 +7,8 @@ use Rattle.prefix_trie_ops.specs.declared.map.optimal.sets.Set.TheVariants.{One}
 use Rattle.prefix_trie_ops.specs.declared.map.optimal.sets.Span.{Span}
 use Rattle.prefix_trie_ops.specs.Parts.{joint_values}
 use Rattle.prefix_trie_ops.specs.ValueSets.{Appends, IsSpanOf}
-use Rattle.prefix_trie_ops.proofs.Smallest.Joining.{joint_member}
-use Rattle.prefix_trie_ops.proofs.Smallest.Storing.{appended, appended_after, nothing_appended, one_sorted, span_kept}
+use Rattle.prefix_trie_ops.proofs.Smallest.JoinedLists.{joint_member}
+use Rattle.prefix_trie_ops.proofs.Smallest.StoredSets.{appended, appended_after, nothing_appended, one_sorted, span_kept}
 use Rattle.prefix_trie_ops.proofs.map.optimal.sets.best_with.Goals as goal
 
 pub returns-then-has : goal.returns-then-has

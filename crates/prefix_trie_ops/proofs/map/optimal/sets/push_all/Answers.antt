@@ -4,7 +4,7 @@ use Rattle.std.specs.Result.{IfOk}
 use Rattle.std.specs.Set.{sorted_merge}
 use Rattle.prefix_trie_ops.specs.Parts.{shared_values}
 use Rattle.prefix_trie_ops.specs.ValueSets.{IsSpanOf}
-use Rattle.prefix_trie_ops.proofs.Smallest.Joining.{disjoint, is_less, less_is, merged_left, merged_right, merging_less, merging_other}
+use Rattle.prefix_trie_ops.proofs.Smallest.JoinedLists.{disjoint, is_less, less_is, merged_left, merged_right, merging_less, merging_other}
 use Rattle.prefix_trie_ops.proofs.Smallest.Ranges.{both_appended, range_empty, range_step_in, read_at}
 use Rattle.prefix_trie_ops.proofs.map.optimal.sets.push_all.Goals as goal
 use Rattle.prefix_trie_ops.proofs.map.optimal.sets.push_all.Goals.{else-loop-i-test, then-loop-i-test+else-j-right}

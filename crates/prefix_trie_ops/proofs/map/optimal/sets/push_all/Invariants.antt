@@ -3,7 +3,7 @@
 use Rattle.std.proofs.Common.{◌≡◌, ◌≤◌, ◌-◌, ◌+◌, ◌++◌, true, List, [], length, slice_range}
 use Rattle.std.specs.Set.{sorted_merge}
 use Rattle.prefix_trie_ops.specs.Parts.{shared_values}
-use Rattle.prefix_trie_ops.proofs.Smallest.Joining.{Merging}
+use Rattle.prefix_trie_ops.proofs.Smallest.JoinedLists.{Merging}
 use Rattle.prefix_trie_ops.proofs.map.optimal.sets.push_all.Given as goal
 
 abbrev pub decreases-loop-i : goal.decreases-loop-i

@@ -2,7 +2,7 @@
 use Rattle.std.proofs.Common.{◌≡◌, ◌∙◌, ◌++◌, length, ap, sym}
 use Rattle.prefix_trie_ops.specs.Parts.{joint_values, shared_values}
 use Rattle.prefix_trie_ops.proofs.Smallest.Sets.{joint_not_none}
-use Rattle.prefix_trie_ops.proofs.Smallest.Storing.{appended, joint_all, joint_shared, none_shared, span_kept, span_some}
+use Rattle.prefix_trie_ops.proofs.Smallest.StoredSets.{appended, joint_all, joint_shared, none_shared, span_kept, span_some}
 use Rattle.prefix_trie_ops.proofs.map.optimal.sets.push_best.Goals as goal
 use Rattle.prefix_trie_ops.proofs.map.optimal.sets.push_best.Goals.{then-len-start+in_ok-push_all, else-len-start}
 

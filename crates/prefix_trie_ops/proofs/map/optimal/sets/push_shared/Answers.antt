@@ -2,7 +2,7 @@
 use Rattle.std.proofs.Common.{◌∙◌, ◌+◌, ◌++◌, [], ◌∷◌, slice_range, ap, sym, subst, append-nil, append_assoc}
 use Rattle.std.specs.List.Sorted.{IsStrictlySortedBy}
 use Rattle.prefix_trie_ops.specs.Parts.{shared_values}
-use Rattle.prefix_trie_ops.proofs.Smallest.Joining.{shared_none, sharing_equal, sharing_greater, sharing_less}
+use Rattle.prefix_trie_ops.proofs.Smallest.JoinedLists.{shared_none, sharing_equal, sharing_greater, sharing_less}
 use Rattle.prefix_trie_ops.proofs.Smallest.Ranges.{range_empty, range_step_in, read_at}
 use Rattle.prefix_trie_ops.proofs.map.optimal.sets.push_shared.Goals as goal
 

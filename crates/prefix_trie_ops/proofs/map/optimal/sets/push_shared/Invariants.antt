@@ -3,7 +3,7 @@
 use Rattle.std.proofs.Common.{◌≡◌, ◌≤◌, ◌-◌, ◌+◌, ◌++◌, List, length, slice_range}
 use Rattle.std.specs.List.Sorted.{IsStrictlySortedBy}
 use Rattle.prefix_trie_ops.specs.Parts.{shared_values}
-use Rattle.prefix_trie_ops.proofs.Smallest.Joining.{Sharing}
+use Rattle.prefix_trie_ops.proofs.Smallest.JoinedLists.{Sharing}
 use Rattle.prefix_trie_ops.proofs.map.optimal.sets.push_shared.Given as goal
 
 abbrev pub decreases-loop-i : goal.decreases-loop-i

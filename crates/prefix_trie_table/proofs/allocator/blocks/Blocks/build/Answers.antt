@@ -1,6 +1,6 @@
 -- Building a list is writing its items into a new block of vacant slots, which has space for all of them.
 use Rattle.prefix_trie_table.proofs.Prelude.{◌≤◌, ◌+◌, length, arith}
-use Rattle.prefix_trie_table.proofs.Blocks.Building.{run_inside, items_built}
+use Rattle.prefix_trie_table.proofs.Blocks.BuiltLists.{run_inside, items_built}
 use Rattle.prefix_trie_table.proofs.allocator.blocks.Blocks.build.Goals as goal
 
 pub write_run-requires : goal.write_run-requires

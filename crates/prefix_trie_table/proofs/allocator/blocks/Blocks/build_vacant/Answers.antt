@@ -1,7 +1,7 @@
 -- A new list gets the smallest block that holds it, filled with vacant items. At most this block is made.
 use Rattle.prefix_trie_table.proofs.Prelude.{◌≡◌, ℕ, ◌+◌, ◌-◌, ◌<◌, ◌≤◌, ◌++◌, [], ◌∷◌, length, replicate, None, Some, refl, sym, ap, ◌∙◌, subst, arith, Contains, err_from_is_err_and, length-replicate, IndexRange, smallest_size, packed_slots, Sound, Turnover, block, held, tier_at, tier_sizes, size_in, free_in, many_of, none_of}
 use Rattle.prefix_trie_table.proofs.Blocks.BySize.{size_at, sizes_up, size_among, tiers_long, smallest_holds, many_here, many-none}
-use Rattle.prefix_trie_table.proofs.Blocks.Building.{Sound-vacant, built_none_free, built_longer, packed_size}
+use Rattle.prefix_trie_table.proofs.Blocks.BuiltLists.{Sound-vacant, built_none_free, built_longer, packed_size}
 use Rattle.prefix_trie_table.proofs.Blocks.Turnovers.{Keeps-same, Keeps-then, size_kept, space_kept}
 use Rattle.prefix_trie_table.proofs.Tree.Trees.{held_some}
 use Rattle.prefix_trie_table.proofs.allocator.blocks.Blocks.build_vacant.Goals as goal

@@ -2,7 +2,7 @@
 -- it.
 use Rattle.prefix_trie_table.proofs.Prelude.{◌≡◌, ◌+◌, ◌<◌, ◌++◌, [], length, None, Some, refl, sym, ap, ◌∙◌, arith, subst, option_or, nil_from_length, none-some, one_of, Sound, Turnover, tier_at, tier_sizes, size_in, free_in, size_if_any, none_of, list_size, list_need, block, held}
 use Rattle.prefix_trie_table.proofs.Blocks.BySize.{size_at, size_some, need_first, first_size, many_here}
-use Rattle.prefix_trie_table.proofs.Blocks.Preparing.{how_many-needs}
+use Rattle.prefix_trie_table.proofs.Blocks.Preparations.{how_many-needs}
 use Rattle.prefix_trie_table.proofs.Blocks.Soundness.{block_inside, list_block}
 use Rattle.prefix_trie_table.proofs.Blocks.Turnovers.{Turnover-shifted, Turnover-moved, Turnover-same}
 use Rattle.prefix_trie_table.proofs.allocator.blocks.Blocks.insert_at.Given as given

@@ -3,7 +3,7 @@
 use Rattle.prefix_trie_table.proofs.Prelude.{◌≡◌, ℕ, ◌+◌, ◌<◌, ◌∷◌, insert, Some, refl, sym, ap, ◌∙◌, arith, subst, option_or, none-some, one_of, Sound, Turnover, tier_at, tier_sizes, size_in, none_of, list_size, list_need, block}
 use Rattle.prefix_trie_table.proofs.Blocks.BySize.{size_at, size_some, need_none, need_full, smallest_holds, many_here}
 use Rattle.prefix_trie_table.proofs.Blocks.Soundness.{block_inside, tier_of_block}
-use Rattle.prefix_trie_table.proofs.Blocks.Preparing.{how_many-needs}
+use Rattle.prefix_trie_table.proofs.Blocks.Preparations.{how_many-needs}
 use Rattle.prefix_trie_table.proofs.Blocks.Turnovers.{Turnover-shifted}
 use Rattle.prefix_trie_table.proofs.allocator.blocks.Blocks.insert_into.Given as given
 use Rattle.prefix_trie_table.proofs.allocator.blocks.Blocks.insert_into.Goals as goal

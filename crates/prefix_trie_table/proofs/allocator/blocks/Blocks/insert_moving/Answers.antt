@@ -3,7 +3,7 @@ use Rattle.prefix_trie_table.proofs.Prelude.{◌≡◌, ◌<◌, ◌∷◌, [], 
 use Rattle.prefix_trie_table.proofs.Blocks.BySize.{size_at}
 use Rattle.prefix_trie_table.proofs.Blocks.Soundness.{Sound-exchanged, has_place}
 use Rattle.prefix_trie_table.proofs.Blocks.RunLemmas.{length-run}
-use Rattle.prefix_trie_table.proofs.Blocks.Moving.{runs_within, put_over_turned}
+use Rattle.prefix_trie_table.proofs.Blocks.ListMoves.{runs_within, put_over_turned}
 use Rattle.prefix_trie_table.proofs.Blocks.Turnovers.{Turnover-moved}
 use Rattle.prefix_trie_table.proofs.allocator.blocks.Blocks.insert_moving.Goals as goal
 

@@ -2,7 +2,7 @@
 use Rattle.prefix_trie_table.proofs.Prelude.{◌≡◌, ◌+◌, ◌∷◌, inl, inr, replicate, insert, sym, ap, ◌∙◌, arith, cases_lt, length-insert, run, put_run}
 use Rattle.prefix_trie_table.proofs.Blocks.Capacity.{Sound-capacities}
 use Rattle.prefix_trie_table.proofs.Blocks.Soundness.{Sound-exchanged, block_inside, fits_block}
-use Rattle.prefix_trie_table.proofs.Blocks.Moving.{Sound-put_over, two_apart, run_items, run_none}
+use Rattle.prefix_trie_table.proofs.Blocks.ListMoves.{Sound-put_over, two_apart, run_items, run_none}
 use Rattle.prefix_trie_table.proofs.allocator.blocks.Blocks.move_in.Goals as goal
 
 pub move_in-requires : goal.move_in-requires

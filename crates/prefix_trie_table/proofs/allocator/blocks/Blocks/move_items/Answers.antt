@@ -1,7 +1,7 @@
 -- Exchanging a used run with a vacant one moves a block's list to an empty block, so the store stays sound.
 use Rattle.prefix_trie_table.proofs.Prelude.{◌≡◌, sym, ap, ◌∙◌, swap_runs}
 use Rattle.prefix_trie_table.proofs.Blocks.Capacity.{Sound-capacities}
-use Rattle.prefix_trie_table.proofs.Blocks.Moving.{Sound-moved}
+use Rattle.prefix_trie_table.proofs.Blocks.ListMoves.{Sound-moved}
 use Rattle.prefix_trie_table.proofs.allocator.blocks.Blocks.move_items.Goals as goal
 
 pub returns-clause-sound : goal.returns-clause-sound

@@ -2,7 +2,7 @@
 -- the used blocks are unchanged.
 use Rattle.prefix_trie_table.proofs.Prelude.{◌≡◌, ℕ, List, UsedBlock, Sound, SameSlots, ◌+◌, ◌-◌, ◌<◌, ◌≤◌, ◌↔◌, Option, None, Some, OnOk, OnErr, IfErr, length, refl, sym, ap, ◌∙◌, subst, arith, option_map, Contains, err_from_is_err_and, IndexRange, one_of, Store, Turnover, free_in, many_of, needs, list_need, tier_sizes, size_in}
 use Rattle.prefix_trie_table.proofs.Blocks.BySize.{sizes_up, size_among, tiers_long, first_size, sizes_rise, many_here}
-use Rattle.prefix_trie_table.proofs.Blocks.Preparing.{LastMade, partly_made_same, partly_made_own, partly_made_first, partly_made_second, how_many-needs, obtained, obtained_part}
+use Rattle.prefix_trie_table.proofs.Blocks.Preparations.{LastMade, partly_made_same, partly_made_own, partly_made_first, partly_made_second, how_many-needs, obtained, obtained_part}
 use Rattle.prefix_trie_table.proofs.allocator.blocks.Blocks.prepare.Given as given
 use Rattle.prefix_trie_table.proofs.allocator.blocks.Blocks.prepare.Goals as goal
 use Rattle.prefix_trie_table.proofs.allocator.blocks.Blocks.prepare.Goals.{in-Some+then-tier-eq0, in-Some+else-tier-eq0+in_ok-obtain, in_default}

@@ -2,7 +2,7 @@
 use Rattle.prefix_trie_table.proofs.Prelude.{ℕ, ◌+◌, ◌-◌, ◌<◌, ◌≤◌, ◌∷◌, [], None, Some, refl, sym, ap, ◌∙◌, subst, arith, Sound, Turnover, tier_at, tier_sizes, size_in, free_in, many_of, none_of, block}
 use Rattle.prefix_trie_table.proofs.Blocks.BySize.{size_at, tiers_long, many_here, many-none}
 use Rattle.prefix_trie_table.proofs.Blocks.Soundness.{Sound-exchanged, has_place}
-use Rattle.prefix_trie_table.proofs.Blocks.Moving.{runs_within, runs_apart, second_vacant, moved_turned}
+use Rattle.prefix_trie_table.proofs.Blocks.ListMoves.{runs_within, runs_apart, second_vacant, moved_turned}
 use Rattle.prefix_trie_table.proofs.Blocks.ResultCases.{told_ok, told_err}
 use Rattle.prefix_trie_table.proofs.Blocks.Turnovers.{size_kept, Turnover-as, Turnover-then, Turnover-moved}
 use Rattle.prefix_trie_table.proofs.allocator.blocks.Blocks.step_down.Given as given

@@ -1,8 +1,8 @@
 -- Each match that a walk over covers gives is the first of the matches still to come, and its cell has a value.
 use Rattle.prefix_trie_table.proofs.Prelude.{◌∷◌, take, is_some, ap, sym, ◌∙◌, arith, false≢true, still_covering}
-use Rattle.prefix_trie_table.proofs.Lookup.Covers.{cover_on}
-use Rattle.prefix_trie_table.proofs.Lookup.Covered.{gives_none, gives_next, match_there, match_short}
-use Rattle.prefix_trie_table.proofs.Lookup.Matched.{has_nodes}
+use Rattle.prefix_trie_table.proofs.Lookup.NodeCovers.{cover_on}
+use Rattle.prefix_trie_table.proofs.Lookup.EntryCovers.{gives_none, gives_next, match_there, match_short}
+use Rattle.prefix_trie_table.proofs.Lookup.EntryMatches.{has_nodes}
 use Rattle.prefix_trie_table.proofs.table.cover.Cover.next.Goals as goal
 
 pub next_match-requires-clause-sound : goal.next_match-requires-clause-sound

@@ -1,6 +1,6 @@
 -- The clone has the same spots over equal nodes, so the same keys come, with cloned values.
 use Rattle.prefix_trie_table.proofs.Prelude.{refl, ◌∙◌, each_same}
-use Rattle.prefix_trie_table.proofs.Tree.Copying.{option_pairs}
+use Rattle.prefix_trie_table.proofs.Tree.TableCopies.{option_pairs}
 use Rattle.prefix_trie_table.proofs.Walk.Taking.{copied_seats, copied_walk, pairs_same}
 use Rattle.prefix_trie_table.proofs.table.taking.IntoWalk.clone.Goals as goal
 

@@ -1,6 +1,6 @@
 -- A walk with the same spots has the same entries to come.
 use Rattle.prefix_trie_table.proofs.Prelude.{◌∙◌, each_same}
-use Rattle.prefix_trie_table.proofs.Walk.Walking.{same_rest, same_walk}
+use Rattle.prefix_trie_table.proofs.Walk.ItemsToCome.{same_rest, same_walk}
 use Rattle.prefix_trie_table.proofs.table.walk.Walk.clone.Goals as goal
 
 pub invariant_of-result-2 : goal.invariant_of-result-2

@@ -1,6 +1,6 @@
 -- What `advance` gives is the first entry to come, and the cell at its seat has its value.
 use Rattle.prefix_trie_table.proofs.Prelude.{◌∙◌, sym}
-use Rattle.prefix_trie_table.proofs.Walk.Walking.{tree_of, rest_at, gives_read}
+use Rattle.prefix_trie_table.proofs.Walk.ItemsToCome.{tree_of, rest_at, gives_read}
 use Rattle.prefix_trie_table.proofs.table.walk.Walk.next.Goals as goal
 
 pub advance-requires : goal.advance-requires

@@ -1,7 +1,7 @@
 -- Dropping what the given key begins from the last spot skips exactly the other entries whose keys begin with it.
 use Rattle.prefix_trie_table.proofs.Prelude.{◌∙◌, sym, subst, pending, EndsLast, SkipsLast}
-use Rattle.prefix_trie_table.proofs.Walk.Walking.{tree_of, rest_at}
-use Rattle.prefix_trie_table.proofs.Walk.Skipping.{few_spots, stack_left, passed_left, pending_left}
+use Rattle.prefix_trie_table.proofs.Walk.ItemsToCome.{tree_of, rest_at}
+use Rattle.prefix_trie_table.proofs.Walk.SkippedEntries.{few_spots, stack_left, passed_left, pending_left}
 use Rattle.prefix_trie_table.proofs.table.walk.Walk.next_outermost.Goals as goal
 
 pub advance-requires-clause-tree : goal.advance-requires-clause-tree

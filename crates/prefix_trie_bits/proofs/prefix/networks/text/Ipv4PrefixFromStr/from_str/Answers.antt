@@ -5,7 +5,7 @@ use Rattle.std.specs.Net.Addr.{ipv4_octets, ipv4_bits}
 use Rattle.std.specs.Net.Grammar.{IsIpv4Text}
 use Rattle.prefix_trie_bits.specs.Texts.{ParsesIpv4Network}
 use Rattle.prefix_trie_bits.proofs.Texts.Slashes.{Free, Free-dotted}
-use Rattle.prefix_trie_bits.proofs.Texts.Parsing.{no_slash, invalid_address, invalid_length, parsed}
+use Rattle.prefix_trie_bits.proofs.Texts.ParseResults.{no_slash, invalid_address, invalid_length, parsed}
 use Rattle.prefix_trie_bits.proofs.prefix.networks.text.Ipv4PrefixFromStr.from_str.Goals as goal
 
 free : (front : List ℕ) (a : Ipv4Addr) → IsIpv4Text front a → Free front

@@ -5,7 +5,7 @@ use Rattle.std.specs.Net.Addr.{ipv6_segments, ipv6_bits}
 use Rattle.std.specs.Net.Grammar.{IsIpv6Text}
 use Rattle.prefix_trie_bits.specs.Texts.{ParsesIpv6Network}
 use Rattle.prefix_trie_bits.proofs.Texts.Slashes.{Free, Free-colon_hex}
-use Rattle.prefix_trie_bits.proofs.Texts.Parsing.{no_slash, invalid_address, invalid_length, parsed}
+use Rattle.prefix_trie_bits.proofs.Texts.ParseResults.{no_slash, invalid_address, invalid_length, parsed}
 use Rattle.prefix_trie_bits.proofs.prefix.networks.text.Ipv6PrefixFromStr.from_str.Goals as goal
 
 free : (front : List ℕ) (a : Ipv6Addr) → IsIpv6Text front a → Free front
