@@ -6,9 +6,8 @@
 //!
 //! The time grows with the number of prefixes of both maps times its logarithm. Each call allocates lists of up to
 //! two addresses for each prefix.
-ghost use Rattle.std.specs.Prelude.{◌≡◌, ◌^◌, ◌&&◌, ◌||◌, All, Bool, IfOk, List, length, map, not};
+ghost use Rattle.std.specs.Prelude.{◌≡◌, ◌&&◌, ◌||◌, All, Bool, IfOk, List, length, map, not};
 ghost use Rattle.prefix_trie.specs.Terms.{as_item, no_entries, put_all};
-ghost use Rattle.prefix_trie_bits.specs.Model.Bits.{number};
 ghost use Rattle.prefix_trie_fib.specs.Addresses.{IsKept, IsSmallest, is_covered, keeps};
 
 mod along;

@@ -1,5 +1,5 @@
 //! Ranges of addresses as networks.
-ghost use Rattle.std.specs.Prelude.{◌≡◌, ℕ, ◌≤◌, All, Bool, IfOk, List, filter, length, map};
+ghost use Rattle.std.specs.Prelude.{◌≡◌, ◌≤◌, All, Bool, IfOk, List, filter, length, map};
 ghost use Rattle.prefix_trie_bits.specs.Model.Bits.{begins, number};
 ghost use Rattle.prefix_trie_fib.specs.Networks.{AreInOrder, IsShortest, is_between, is_covered_by};
 

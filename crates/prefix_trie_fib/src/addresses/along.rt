@@ -1,5 +1,5 @@
 //! The fewest networks of the ranges that have a value.
-ghost use Rattle.std.specs.Prelude.{◌≡◌, ℕ, ◌+◌, ◌^◌, ◌<◌, All, IfOk, Option, length, map, true};
+ghost use Rattle.std.specs.Prelude.{◌≡◌, ◌+◌, ◌^◌, ◌<◌, All, IfOk, Option, length, map, true};
 ghost use Rattle.prefix_trie_fib.specs.Addresses.{has_value, start_or_end};
 ghost use Rattle.prefix_trie_fib.specs.Line.{AreMerged, IsDivision, are_same};
 ghost use Rattle.prefix_trie_fib.specs.Networks.{AreFewest, end_of};

@@ -1,5 +1,5 @@
 //! The ranges of two maps.
-ghost use Rattle.std.specs.Prelude.{◌≡◌, IfOk};
+ghost use Rattle.std.specs.Prelude.{IfOk};
 ghost use Rattle.prefix_trie_fib.specs.Line.{AreCutsOf, IsRising, numbers};
 
 use super::cuts::{distinct, push_cuts_of, sort, start_of_line};

@@ -38,7 +38,8 @@ pub(super) fn modify<T: Drop, A: Allocator, F: FnOnce(&mut T) + Drop>(
     key: &IpPrefix,
     f: F,
 )
-    requires { (x : MutBor T) → get (entries_of map.old) (ip_path key.now) ≡ Some x.now → F.pre f x }
+    requires { (x : MutBor T) → get (entries_of map.old) (ip_path key.now) ≡ Some x.now
+        → F.pre f x }
     ensures { Modifies F.FnOnce f map.old key.now map.new }
 {
     match map.get_mut(key) {
