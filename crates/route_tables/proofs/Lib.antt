@@ -1,8 +1,8 @@
 -- The lemmas of this crate: loading lines, comparing tables, coverage by a rule, host bits, paths of networks, ranks of values,
 -- and counting by length.
 pub mod SizeCounts
-pub mod Access
-pub mod Lines
+pub mod Decisions
+pub mod LineTexts
 pub mod Changes
 pub mod HostBits
 pub mod Lists

@@ -68,7 +68,7 @@ pub fn is_allowed(table: &Table, address: &IpPrefix) -> bool
 }
 
 // Returns the shortest network with this value that contains an address.
-#[tactic(auto, using(crate::proofs::Access::shortest_is))]
+#[tactic(auto, using(crate::proofs::Decisions::shortest_is))]
 fn first_cover(table: &Table, address: &IpPrefix, rule: &str) -> Option<IpPrefix>
     ensures shortest { result
         ≡ shortest_with (entries_of table.now) (ip_path address.now) rule.now }

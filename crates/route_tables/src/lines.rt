@@ -5,7 +5,7 @@ ghost use Rattle.std.specs.List.{position, position_or_len};
 ghost use Rattle.route_tables.specs.Lines.{fields, has_bare_return, lines, words};
 
 // Returns the number of bytes before the first line feed, or of all bytes.
-#[tactic(auto, using(crate::proofs::Lines::or_length))]
+#[tactic(auto, using(crate::proofs::LineTexts::or_length))]
 fn line_len(text: &[u8]) -> usize
     ensures { result ≡ position_or_len (λ b. b == 10) text.now }
 {
@@ -21,7 +21,7 @@ fn line_end(text: &[u8]) -> Option<usize>
 }
 
 // Returns the number of bytes before the first white space, or of all bytes.
-#[tactic(auto, using(crate::proofs::Lines::or_length))]
+#[tactic(auto, using(crate::proofs::LineTexts::or_length))]
 fn word_len(text: &[u8]) -> usize
     ensures value { result ≡ position_or_len is_ascii_whitespace text.now }
     ensures within { result ≤ length text.now }

@@ -5,7 +5,7 @@ use Rattle.prefix_trie.specs.Terms.{listing}
 use Rattle.prefix_trie_joint.specs.Joined.{entries_of}
 use Rattle.prefix_trie_joint.specs.Networks.{ip_back}
 use Rattle.route_tables.specs.Access.{IsRule}
-use Rattle.route_tables.proofs.Access.{all_rules, rules_next}
+use Rattle.route_tables.proofs.Decisions.{all_rules, rules_next}
 use Rattle.route_tables.proofs.access.first_other.Goals as goal
 
 pub loop-network-preserved : goal.loop-network-preserved

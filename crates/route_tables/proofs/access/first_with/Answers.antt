@@ -2,7 +2,7 @@
 use Rattle.std.proofs.Common.{rules}
 use Rattle.prefix_trie_joint.specs.Joined.{entries_of}
 use Rattle.prefix_trie_joint.specs.Networks.{ip_path}
-use Rattle.route_tables.proofs.Access.{first_of_covers}
+use Rattle.route_tables.proofs.Decisions.{first_of_covers}
 use Rattle.route_tables.proofs.access.first_with.Goals as goal
 
 pub loop-network-init : goal.loop-network-init

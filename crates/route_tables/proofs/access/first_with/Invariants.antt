@@ -3,7 +3,7 @@ use Rattle.std.proofs.Common.{◌≡◌}
 use Rattle.prefix_trie_joint.specs.Joined.{entries_of}
 use Rattle.prefix_trie_joint.specs.Networks.{ip_path}
 use Rattle.route_tables.specs.Access.{shortest_with}
-use Rattle.route_tables.proofs.Access.{first_with}
+use Rattle.route_tables.proofs.Decisions.{first_with}
 use Rattle.route_tables.proofs.access.first_with.Given as goal
 
 abbrev pub invariant-loop-network : goal.invariant-loop-network

@@ -3,7 +3,7 @@ use Rattle.std.proofs.Common.{rules, arith}
 use Rattle.std.proofs.lemmas.Result.{err_from_is_err_and}
 use Rattle.prefix_trie_joint.specs.Joined.{entries_of}
 use Rattle.route_tables.specs.Lines.{lines}
-use Rattle.route_tables.proofs.Lines.{lines_none}
+use Rattle.route_tables.proofs.LineTexts.{lines_none}
 use Rattle.route_tables.proofs.Loads.{loads_end, loads_error, loads_on}
 use Rattle.route_tables.proofs.load.load.Goals as goal
 
