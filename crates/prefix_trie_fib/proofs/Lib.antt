@@ -16,3 +16,4 @@ pub mod CutMatches
 pub mod MergedRanges
 pub mod Results
 pub mod Sets
+pub mod ValuedRanges

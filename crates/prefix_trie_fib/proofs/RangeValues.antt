@@ -13,10 +13,10 @@ get_or-any (x ∷ xs) zero d e lt = refl
 get_or-any (x ∷ xs) (suc k) d e lt = get_or-any xs k d e (omega (arith, lt))
 
 module _ {V : Type 0} where
-  step_in : (h : V) (r : ℕ × V) (rs : List (ℕ × V)) (n : ℕ) → r.0 ≤ n → value_along h (r ∷ rs) n ≡ value_along r.1 rs n
+  pub step_in : (h : V) (r : ℕ × V) (rs : List (ℕ × V)) (n : ℕ) → r.0 ≤ n → value_along h (r ∷ rs) n ≡ value_along r.1 rs n
   step_in h r rs n le = ap (λ b. cond b (value_along r.1 rs n) h) (le-leb r.0 n le)
 
-  step_out : (h : V) (r : ℕ × V) (rs : List (ℕ × V)) (n : ℕ) → n < r.0 → value_along h (r ∷ rs) n ≡ h
+  pub step_out : (h : V) (r : ℕ × V) (rs : List (ℕ × V)) (n : ℕ) → n < r.0 → value_along h (r ∷ rs) n ≡ h
   step_out h r rs n lt = ap (λ b. cond b (value_along r.1 rs n) h) (lt-leb r.0 n lt)
 
   -- a range that starts after n does not matter

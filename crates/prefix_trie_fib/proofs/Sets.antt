@@ -1,8 +1,9 @@
 -- The set of the fewest networks is the smallest set that covers their addresses.
-use Rattle.std.proofs.Common.{◌≡◌, ◌∙◌, ◌⊎◌, zero, suc, ℕ, ◌+◌, ◌-◌, ◌^◌, ◌≤◌, Bool, true, false, cond, List, [], ◌∷◌, ◌++◌, length, length-append, map, get_or, inl, inr, sym, arith, refl}
+use Rattle.std.proofs.Common.{◌≡◌, ◌∙◌, ◌⊎◌, zero, suc, ℕ, ◌+◌, ◌-◌, ◌*◌, ◌^◌, ◌<◌, ◌≤◌, Bool, true, false, cond, List, [], ◌∷◌, ◌++◌, length, length-append, map, get_or, inl, inr, sym, arith, refl, ap, Option, Some}
 use Rattle.std.proofs.lemmas.Bool.{cases_lt}
 use Rattle.std.proofs.lemmas.List.{length-map}
 use Rattle.std.specs.FinMap.{contains_key, contains_key-keys, entries, keys, len, len-empty, len-entries, len-insert}
+use Rattle.std.specs.Iterator.{Yields}
 use Rattle.std.specs.List.{All, Contains}
 use Rattle.prefix_trie.specs.Sets.{as_item}
 use Rattle.prefix_trie_bits.proofs.Model.Members.{has-empty, has-inserted, is-same_string, of-key, or-left, or-right, some-key}
@@ -15,7 +16,7 @@ use Rattle.prefix_trie_bits.specs.Model.Entries.{Entries, no_entries, with_entry
 use Rattle.prefix_trie_bits.specs.Model.Order.{listing_cmp, same_string}
 use Rattle.prefix_trie_bits.specs.Order.{listing_total}
 use Rattle.prefix_trie_bits.specs.Windows.{length-filled}
-use Rattle.prefix_trie_fib.specs.Addresses.{IsSmallest, is_covered}
+use Rattle.prefix_trie_fib.specs.Addresses.{ExceedsLimit, IsSmallest, is_covered}
 use Rattle.prefix_trie_fib.specs.Line.{first_address}
 use Rattle.prefix_trie_fib.specs.Networks.{AreFewest, IsInside, is_covered_by}
 use Rattle.prefix_trie_fib.proofs.RangeValues.{get_or-any}
@@ -71,6 +72,12 @@ module _ {P : Type 0} (path : P → List Bool) where
     few = (let r = no_more xs no_entries in let z = len-empty listing_cmp (Unit {0}) in let l = length-map xs path in omega (arith, r, z, l));
   }
 
+-- an iterator has not given more items than it had
+pub few_taken : {S A : Type 0} (steps : S → Option A → S → Type 0) (left : S → List A) → ((s t : S) (x : A) → steps s (Some x) t → left s ≡ x ∷ left t) → (s : S) (xs : List A) (t : S) → Yields steps s xs t
+    → length xs ≤ length (left s)
+few_taken steps left first s [] t gave = omega arith
+few_taken steps left first s (x ∷ xs) t gave = (let h = few_taken steps left first gave.0 xs t gave.2 in let e = ap length (first s gave.0 x gave.1) in omega (arith, h, e))
+
 -- ---- the set of the fewest networks
 
 module _ (w : ℕ) (test : ℕ → Bool) (ss : List (List Bool)) (are : AreFewest w test (2 ^ w) ss) where
@@ -99,6 +106,12 @@ module _ (w : ℕ) (test : ℕ → Bool) (ss : List (List Bool)) (are : AreFewes
       let l = long false in
       omega (arith, le, l)
 
+  keys_within : (n : Entries (Unit {0})) → AreWithin w n → All (λ s. length s ≤ w) (keys n)
+  keys_within n short k d lt =
+      let s : List Bool = get_or (keys n) k d in
+      let at : Contains (keys n) (get_or (keys n) k d) = (k, lt, get_or-any (keys n) k (get_or (keys n) k d) d lt) in
+      short (get_or (keys n) k d) (contains_key-keys n (get_or (keys n) k d) ∙ has_any (same_string (get_or (keys n) k d)) (keys n) (get_or (keys n) k d) at (is-same_string (get_or (keys n) k d) (get_or (keys n) k d) refl))
+
   module _ (laws : MatchLaws (Unit {0})) (m : Entries (Unit {0})) (keys_are : HasKeys ss m) where
     same_cover : (q : List Bool) → is_covered m q ≡ is_covered_by ss q
     same_cover q = laws.some_shortest m q ∙ same_bool _ _
@@ -119,9 +132,20 @@ module _ (w : ℕ) (test : ℕ → Bool) (ss : List (List Bool)) (are : AreFewes
           let few = keys_are.few in
           omega (arith, l, k, e, few);
     }
-      where
-        keys_within : (n : Entries (Unit {0})) → AreWithin w n → All (λ s. length s ≤ w) (keys n)
-        keys_within n short k d lt =
-            let s : List Bool = get_or (keys n) k d in
-            let at : Contains (keys n) (get_or (keys n) k d) = (k, lt, get_or-any (keys n) k (get_or (keys n) k d) d lt) in
-            short (get_or (keys n) k d) (contains_key-keys n (get_or (keys n) k d) ∙ has_any (same_string (get_or (keys n) k d)) (keys n) (get_or (keys n) k d) at (is-same_string (get_or (keys n) k d) (get_or (keys n) k d) refl))
+
+    -- it has as many keys as there are networks
+    set_counts : length ss ≤ len m
+    set_counts =
+        let l = is_shortest w test ss are (keys m) (keys_within m (λ s h. are.short s (keys_are.only s h))) (λ q long. sym (laws.some_shortest m q) ∙ same_cover q) in
+        let k = length-map (entries m) (λ e. e.0) in
+        let e = len-entries m in
+        omega (arith, l, k, e)
+
+    -- 56 slots for each network are 56 slots for each key
+    pub set_exceeds : (keep : List Bool → Bool) → ((q : List Bool) → length q ≡ w → test (number q) ≡ keep q) → 2 ^ 32 - 1 < 1 + 56 * length ss → ExceedsLimit w keep
+    set_exceeds keep same lt = record {
+      set = m;
+      covered = λ q long. set_covers q long ∙ same q long;
+      smallest = set_smallest;
+      exceeds = (let n = set_counts in omega (arith, n, lt));
+    }

@@ -1,5 +1,5 @@
 -- Which addresses maps cover, and the smallest sets that cover them. This project's own.
-use Rattle.std.specs.Prelude.{◌≡◌, ◌≤◌, ◌++◌, ◌∷◌, [], ℕ, ◌&&◌, ◌||◌, not, Bool, true, false, cond, nat_lt, ◌^◌, List, length, slice_index_or, is_some, Option, None}
+use Rattle.std.specs.Prelude.{◌≡◌, ◌+◌, ◌-◌, ◌*◌, ◌<◌, ◌≤◌, ◌++◌, ◌∷◌, [], ℕ, ◌&&◌, ◌||◌, not, Bool, true, false, cond, nat_lt, ◌^◌, List, length, slice_index_or, is_some, Option, None}
 use Rattle.std.specs.FinMap.{contains_key, len}
 use Rattle.prefix_trie_bits.specs.Calls.Entries.{AreWithin}
 use Rattle.prefix_trie_bits.specs.Model.Bits.{begins, number}
@@ -34,6 +34,13 @@ module _ {T : Type 0} where
     pub none_covered : (s t : List Bool) → contains_key m s ≡ true → contains_key m t ≡ true → begins s t ≡ true → s ≡ t
     pub no_siblings : (s : List Bool) → contains_key m (s ++ false ∷ []) ≡ true → contains_key m (s ++ true ∷ []) ≡ true → ⊥
     pub fewest : (n : Entries T) → AreWithin width n → ((q : List Bool) → length q ≡ width → is_covered n q ≡ is_covered m q) → len m ≤ len n
+
+-- 56 slots for each network of the smallest set that covers the addresses that pass a test exceed the slot limit of a new set
+pub record ExceedsLimit (width : ℕ) (keep : List Bool → Bool) : Type 0 where
+  pub set : Entries (Unit {0})
+  pub covered : (q : List Bool) → length q ≡ width → is_covered set q ≡ keep q
+  pub smallest : IsSmallest width set
+  pub exceeds : 2 ^ 32 - 1 < 1 + 56 * len set
 
 -- networks are the fewest of the addresses that pass a test
 abbrev pub IsKept : ℕ → (List Bool → Bool) → List (List Bool) → Type 0

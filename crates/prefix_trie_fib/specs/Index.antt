@@ -7,7 +7,7 @@ use Rattle.prefix_trie_fib.specs.Search.{IsAmong, StartsBy}
 
 -- how many more bits select a part of a chunk
 unfoldable pub part_bits : ℕ → ℕ
-part_bits width = cond (nat_le width 32) 4 8
+part_bits width = cond (nat_le width 32) 4 10
 
 module _ {T : Type 0} where
   -- the entry is right for each number from low on and below high, and is not split

@@ -2,7 +2,8 @@
 use Rattle.std.specs.Prelude.{◌≡◌, ℕ, Bool, List, length, Option, None, slice_index_or}
 use Rattle.prefix_trie_bits.specs.Model.Bits.{number}
 use Rattle.prefix_trie_bits.specs.Model.Entries.{Entries}
-use Rattle.prefix_trie_fib.specs.Line.{IsDivision, value_along, value_of}
+use Rattle.prefix_trie_fib.specs.Line.{AreMerged, IsDivision, are_same, value_along, value_of}
+use Rattle.prefix_trie_fib.specs.Ranges.{AreRangesOf, valued_ranges}
 use Rattle.prefix_trie_fib.specs.Search.{IsRangeOf}
 
 pub record FibLaws {K : Type 0} (T : Type 0) (width : ℕ) (IsKey : K → Type 0) (bits : K → List Bool) : Type 0 where
@@ -13,3 +14,5 @@ pub record FibLaws {K : Type 0} (T : Type 0) (width : ℕ) (IsKey : K → Type 0
   pub of_range : (fib : List (ℕ × Option T)) → IsDivision fib → (i n : ℕ) (d : ℕ × Option T) → IsRangeOf fib i n → value_along None fib n ≡ (slice_index_or fib i d).1
   -- and is the only one that the address is in
   pub one_range : (fib : List (ℕ × Option T)) → IsDivision fib → (i j n : ℕ) → IsRangeOf fib i n → IsRangeOf fib j n → i ≡ j
+  -- the ranges that `Fib::ranges` gives are exactly those of the addresses that have a value
+  pub valued : (same : T → T → Bool) (fib : List (ℕ × Option T)) → IsDivision fib → AreMerged (are_same same) fib → AreRangesOf width same (value_along None fib) (valued_ranges width fib)

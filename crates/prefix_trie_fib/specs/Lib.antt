@@ -7,4 +7,5 @@ pub mod Laws
 pub mod Layouts
 pub mod Line
 pub mod Networks
+pub mod Ranges
 pub mod Search

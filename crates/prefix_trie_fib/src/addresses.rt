@@ -6,9 +6,10 @@
 //!
 //! The time grows with the number of prefixes of both maps times its logarithm. Each call allocates lists of up to
 //! two addresses for each prefix.
-ghost use Rattle.std.specs.Prelude.{◌≡◌, ◌&&◌, ◌||◌, All, Bool, IfOk, List, length, map, not};
+ghost use Rattle.std.specs.Prelude.{◌≡◌, ◌+◌, ◌-◌, ◌*◌, ◌^◌, ◌<◌, ◌&&◌, ◌||◌, All, Bool, IfErr, IfOk, List, length, map, not};
+ghost use Rattle.prefix_trie_bits.specs.declared.prefix.Refusal.TheVariants.{IndexRange};
 ghost use Rattle.prefix_trie.specs.Terms.{as_item, no_entries, put_all};
-ghost use Rattle.prefix_trie_fib.specs.Addresses.{IsKept, IsSmallest, is_covered, keeps};
+ghost use Rattle.prefix_trie_fib.specs.Addresses.{ExceedsLimit, IsKept, IsSmallest, is_covered, keeps};
 
 mod along;
 mod operation;
@@ -27,7 +28,8 @@ use std::alloc::{AllocError, Allocator};
 ///
 /// # Errors
 ///
-/// Returns `Memory` if an allocation fails, and `IndexRange` if the set would need more slots than its limit.
+/// Returns `Memory` if an allocation fails, and `IndexRange` if the set would need more slots than its limit, which needs
+/// very many prefixes: each makes at most 56 slots of an array. No set exists then.
 ///
 /// # Examples
 ///
@@ -45,6 +47,11 @@ pub fn union<P: Prefix, T: Drop, U: Drop, A: Allocator, B: Allocator, C: Allocat
         → is_covered set.entries q
         ≡ (is_covered left.now.entries q || is_covered right.now.entries q)) }
     ensures smallest { IfOk result (λ set. IsSmallest P.R.bit_width set.entries) }
+
+    // `IndexRange` comes only if 56 slots for each prefix of the set would exceed the limit.
+    ensures range { IfErr result
+        (λ cause. cause ≡ IndexRange → ExceedsLimit P.R.bit_width
+        (λ q. is_covered left.now.entries q || is_covered right.now.entries q)) }
 {
     combined(Operation::Union, left, right, alloc)
 }
@@ -53,7 +60,8 @@ pub fn union<P: Prefix, T: Drop, U: Drop, A: Allocator, B: Allocator, C: Allocat
 ///
 /// # Errors
 ///
-/// Returns `Memory` if an allocation fails, and `IndexRange` if the set would need more slots than its limit.
+/// Returns `Memory` if an allocation fails, and `IndexRange` if the set would need more slots than its limit, which needs
+/// very many prefixes: each makes at most 56 slots of an array. No set exists then.
 ///
 /// # Examples
 ///
@@ -71,6 +79,11 @@ pub fn intersection<P: Prefix, T: Drop, U: Drop, A: Allocator, B: Allocator, C: 
         → is_covered set.entries q
         ≡ (is_covered left.now.entries q && is_covered right.now.entries q)) }
     ensures smallest { IfOk result (λ set. IsSmallest P.R.bit_width set.entries) }
+
+    // `IndexRange` comes only if 56 slots for each prefix of the set would exceed the limit.
+    ensures range { IfErr result
+        (λ cause. cause ≡ IndexRange → ExceedsLimit P.R.bit_width
+        (λ q. is_covered left.now.entries q && is_covered right.now.entries q)) }
 {
     combined(Operation::Intersection, left, right, alloc)
 }
@@ -79,7 +92,8 @@ pub fn intersection<P: Prefix, T: Drop, U: Drop, A: Allocator, B: Allocator, C: 
 ///
 /// # Errors
 ///
-/// Returns `Memory` if an allocation fails, and `IndexRange` if the set would need more slots than its limit.
+/// Returns `Memory` if an allocation fails, and `IndexRange` if the set would need more slots than its limit, which needs
+/// very many prefixes: each makes at most 56 slots of an array. No set exists then.
 ///
 /// # Examples
 ///
@@ -97,6 +111,11 @@ pub fn difference<P: Prefix, T: Drop, U: Drop, A: Allocator, B: Allocator, C: Al
         → is_covered set.entries q
         ≡ (is_covered left.now.entries q && not (is_covered right.now.entries q))) }
     ensures smallest { IfOk result (λ set. IsSmallest P.R.bit_width set.entries) }
+
+    // `IndexRange` comes only if 56 slots for each prefix of the set would exceed the limit.
+    ensures range { IfErr result
+        (λ cause. cause ≡ IndexRange → ExceedsLimit P.R.bit_width
+        (λ q. is_covered left.now.entries q && not (is_covered right.now.entries q))) }
 {
     combined(Operation::Difference, left, right, alloc)
 }
@@ -112,6 +131,8 @@ fn combined<P: Prefix, T: Drop, U: Drop, A: Allocator, B: Allocator, C: Allocato
         → is_covered set.entries q
         ≡ keeps operation (is_covered left.now.entries q) (is_covered right.now.entries q)) }
     ensures smallest { IfOk result (λ set. IsSmallest P.R.bit_width set.entries) }
+    ensures range { IfErr result (λ cause. cause ≡ IndexRange → ExceedsLimit P.R.bit_width
+        (λ q. keeps operation (is_covered left.now.entries q) (is_covered right.now.entries q))) }
 {
     match_laws::<()>();
     let copy = alloc.clone().map_err(|_| Refusal::Memory)?;
@@ -143,8 +164,10 @@ fn set_of<P: Prefix, A: Allocator, B: Allocator + Clone>(
     alloc: B,
 ) -> Result<PrefixSet<P, B>, Refusal>
     requires { All P.IsFitting networks.items }
-    ensures { IfOk result
+    ensures entries { IfOk result
         (λ set. set.entries ≡ put_all P.path (map as_item networks.items) no_entries) }
+    ensures range { IfErr result
+        (λ cause. cause ≡ IndexRange → 2 ^ 32 - 1 < 1 + 56 * length networks.items) }
 {
     PrefixSet::from_iter(alloc, networks)
 }

@@ -4,11 +4,13 @@ ghost use Rattle.prefix_trie_bits.specs.Model.Bits.{number};
 ghost use Rattle.prefix_trie_fib.specs.Line.{IsDivision, value_along};
 
 mod halves;
+mod lookups;
 mod upper_line;
 
 use crate::indexed::Indexed;
 use crate::ranges::Line;
-use halves::{from_upper, upper_half};
+use halves::from_upper;
+use lookups::{value_by_upper, value_by_whole};
 use prefix_trie_bits::prefix::{Key, Refusal};
 use std::alloc::{AllocError, Allocator};
 use std::marker::Model;
@@ -95,8 +97,8 @@ impl<K: Key, T: Copy, A: Allocator> Compact<K, T, A> {
     {
         let _ = address.is_key();
         match &self.layout {
-            Layout::Whole(indexed) => indexed.lookup(address),
-            Layout::Upper(indexed) => indexed.lookup(upper_half(address)),
+            Layout::Whole(indexed) => value_by_whole(indexed, address),
+            Layout::Upper(indexed) => value_by_upper(indexed, address),
         }
     }
 }

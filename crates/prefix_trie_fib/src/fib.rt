@@ -2,26 +2,31 @@
 ghost use Rattle.std.specs.Prelude.{◌≡◌, ℕ, ◌+◌, ◌^◌, ◌<◌, ◌≤◌, ◌↔◌, ◌∷◌, [], Bool, IfOk, IsTrue, List, MatchOption, None, Option, length, slice_index_or, true};
 ghost use Rattle.prefix_trie_bits.specs.Model.Bits.{number};
 ghost use Rattle.prefix_trie_fib.specs.Line.{AreMerged, IsDivision, are_same, value_along, value_of};
+ghost use Rattle.prefix_trie_fib.specs.Networks.{end_of};
 
 mod addresses;
 mod bulk;
 mod equality;
 mod fmt;
+mod last_address;
+mod walk;
 
 use crate::compact::Compact;
 use crate::ranges::ranges_of;
-use prefix_trie_bits::prefix::{Prefix, Refusal};
+use prefix_trie_bits::prefix::{Key, Prefix, Refusal};
 use prefix_trie_map::map::PrefixMap;
 use std::alloc::{AllocError, Allocator};
 use std::marker::Model;
+pub use walk::Ranges;
 
 /// The longest match of each address in a map, as ranges of addresses.
 ///
 /// A lookup reads an index by the first bits of the address, and then the few ranges that begin with these bits. First
 /// addresses are kept as 64 bits if no other bit of them is 1, as in most tables of IPv6 routes.
 ///
-/// The table does not change. After changes of the map, compile a new table with `Fib::new`: this takes about as long
-/// as building the map.
+/// The table does not change when the map does. After changes of the map, compile it again and replace the table:
+/// `fib = Fib::new(&map, alloc)?`. This takes about as long as building the map, however little changed. Until
+/// it returns, the old table can be used.
 ///
 /// # Examples
 ///
@@ -57,6 +62,7 @@ impl<P: Prefix, T: Copy + PartialEq, A: Allocator + Clone> Fib<P, T, A> {
     /// # Errors
     ///
     /// Returns `Memory` if an allocation fails, and `IndexRange` if there are 2^32 ranges or more. No table exists then.
+    /// If only the attempt to free spare memory fails, the table keeps that memory.
     ///
     /// # Examples
     ///
@@ -147,7 +153,7 @@ impl<P: Prefix, T: Copy + PartialEq, A: Allocator> Fib<P, T, A> {
     /// Returns a range: its first address, the address after its last one, and its value.
     ///
     /// The second is `None` if the range ends at the last address. Ranges are in order, and each begins where the one
-    /// before it ends. Requires that `i` is below the number of ranges.
+    /// before it ends. Requires that `i` is below the number of ranges. `ranges` walks over those with a value.
     ///
     /// # Examples
     ///
@@ -164,20 +170,24 @@ impl<P: Prefix, T: Copy + PartialEq, A: Allocator> Fib<P, T, A> {
             × ((d : ℕ × Option T)
             → number (P.R.bits past) ≡ (slice_index_or self.now (i + 1) d).0)) }
         ensures value { (d : ℕ × Option T) → result.2 ≡ (slice_index_or self.now i d).1 }
+        ensures some { number (P.R.bits result.0) < end_of P.R.bit_width P.R.bits result.1 }
     {
         let len = self.ranges.len();
+        let first = self.ranges.start(i);
+        // The proof learns from it that the number is a key.
+        let _ = first.is_key();
         let past = if i + 1 < len {
             Some(self.ranges.start(i + 1))
         } else {
             None
         };
-        (self.ranges.start(i), past, self.ranges.value(i))
+        (first, past, self.ranges.value(i))
     }
 
     /// Returns the number of chunks that the index cuts the line of addresses into.
     ///
     /// Each has an entry of the size of a value and a tag. A chunk with more than 8 ranges has 16 more entries for
-    /// addresses of at most 32 bits, and 256 more for longer ones.
+    /// addresses of at most 32 bits, and 1,024 more for longer ones.
     ///
     /// # Examples
     ///

@@ -55,6 +55,7 @@ pub(crate) fn index_of<K: Key, T: Copy, A: Allocator, B: Allocator>(
         chunks.push(entry)?;
         low = next;
     }
+    parts.shrink_to_fit();
     Ok(Index { chunks, parts })
 }
 

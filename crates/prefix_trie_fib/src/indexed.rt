@@ -38,10 +38,11 @@ impl<K: Key, T: Copy, A: Allocator> Indexed<K, T, A> {
     /// # Errors
     ///
     /// Returns `Memory` if an allocation fails, and `IndexRange` if there are 2^32 ranges or more.
-    pub(crate) fn new(line: Line<K, T, A>, alloc: A, parts_alloc: A) -> Result<Self, Refusal>
+    pub(crate) fn new(mut line: Line<K, T, A>, alloc: A, parts_alloc: A) -> Result<Self, Refusal>
         requires { IsDivision line }
         ensures { IfOk result (λ indexed. indexed ≡ line) }
     {
+        line.shrink_to_fit();
         if line.len() > u32::MAX as usize {
             return Err(Refusal::IndexRange);
         }

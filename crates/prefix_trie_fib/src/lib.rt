@@ -11,4 +11,4 @@ pub mod laws;
 pub mod networks;
 pub mod ranges;
 
-pub use fib::Fib;
+pub use fib::{Fib, Ranges};

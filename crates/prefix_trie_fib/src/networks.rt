@@ -1,4 +1,7 @@
 //! Ranges of addresses as networks.
+//!
+//! `networks_of` returns the fewest networks that cover a range, in order. It takes the first and the last address of a
+//! range, as `Fib::ranges` gives them.
 ghost use Rattle.std.specs.Prelude.{◌≡◌, ◌≤◌, All, Bool, IfOk, List, filter, length, map};
 ghost use Rattle.prefix_trie_bits.specs.Model.Bits.{begins, number};
 ghost use Rattle.prefix_trie_fib.specs.Networks.{AreInOrder, IsShortest, is_between, is_covered_by};
@@ -7,6 +10,7 @@ mod blocks;
 mod covering;
 
 use crate::ranges::is_at_most;
+pub(crate) use blocks::is_within;
 use blocks::past_of;
 pub(crate) use covering::push_networks;
 use prefix_trie_bits::prefix::{Key, Prefix};

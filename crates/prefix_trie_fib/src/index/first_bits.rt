@@ -37,9 +37,9 @@ pub(crate) fn part_of<K: Key>(address: K, bits: u32) -> usize
 pub(super) fn bits_of_part(width: u32) -> u32
     ensures bits { result ≡ part_bits width }
     ensures some { 0 < result }
-    ensures few { result ≤ 8 }
+    ensures few { result ≤ 10 }
 {
-    if width <= 32 { 4 } else { 8 }
+    if width <= 32 { 4 } else { 10 }
 }
 
 /// Returns how many parts a chunk of addresses of this width has if it is split.
@@ -47,7 +47,7 @@ pub(super) fn bits_of_part(width: u32) -> u32
 pub(super) fn parts_of_chunk(width: u32) -> usize
     ensures { result ≡ 2 ^ part_bits width }
 {
-    if width <= 32 { 16 } else { 256 }
+    if width <= 32 { 16 } else { 1024 }
 }
 
 /// Returns the number of the first 30 bits of an address, where bits past the end are 0.

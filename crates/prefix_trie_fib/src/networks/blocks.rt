@@ -57,7 +57,7 @@ pub(super) fn past_of<K: Key>(at: K, len: u32) -> Option<K>
 }
 
 /// Returns whether a range ends before another one or with it. `None` is the end of the line.
-pub(super) fn is_within<K: Key>(end: Option<K>, past: Option<K>) -> bool
+pub(crate) fn is_within<K: Key>(end: Option<K>, past: Option<K>) -> bool
     ensures order { MatchBool result
         (end_of K.bit_width K.bits end ≤ end_of K.bit_width K.bits past)
         (end_of K.bit_width K.bits past < end_of K.bit_width K.bits end) }

@@ -42,6 +42,13 @@ impl<K: Key, T: Copy, A: Allocator> Line<K, T, A> {
         Ok(())
     }
 
+    /// Frees the capacity that no range takes.
+    pub(crate) fn shrink_to_fit(&mut self)
+        ensures { self.new ≡ self.old }
+    {
+        self.pairs.shrink_to_fit();
+    }
+
     /// Returns the number of ranges.
     #[inline(always)]
     pub fn len(&self) -> usize

@@ -47,15 +47,14 @@ impl<K: Key, T: Copy, A: Allocator> Line<K, T, A> {
         let _ = self.len();
         let mut base = first;
         let mut size = count;
-        while size > 1 {
-            let half = size / 2;
+        let mut half = count / 2;
+        while half > 0 {
             let middle = base + half;
-            base = if is_at_most(self.start(middle), address) {
-                middle
-            } else {
-                base
-            };
+            if is_at_most(self.start(middle), address) {
+                base = middle;
+            }
             size -= half;
+            half = size / 2;
         }
         base
     }

@@ -63,3 +63,6 @@ entry_at-requires-clause-line g c =
     subst (λ o. MatchOption o (count ≡ 2 ^ bits) (λ at. (number (g.K.Key.bits at) ≡ count * size) × (count < 2 ^ bits))) c.in-Some.is c.loop-low.invariant.next in
     let step : number (g.K.Key.bits c.power-step.result) ≡ size = c.power-step.ensures.value ∙ ap (λ n. 2 ^ (n - bits)) c.width.ensures in
     within_line w bits count (number (g.K.Key.bits c.in-Some.at)) (number (g.K.Key.bits c.power-step.result)) c.requires.within step now.0 now.1
+
+pub returns-clause-right : goal.returns-clause-right
+returns-clause-right g c = subst (IsIndex g.K.Key.bit_width c.args.bits c.args.line.now c.loop-low.chunks.items) (sym c.shrink_to_fit.ensures.items) c.loop-low.invariant.right

@@ -1,6 +1,7 @@
 -- The laws follow from those of keys and from the order of the ranges.
 use Rattle.std.proofs.Common.{None}
 use Rattle.prefix_trie_fib.proofs.RangeValues.{one_range, value_of_range}
+use Rattle.prefix_trie_fib.proofs.ValuedRanges.{are_ranges}
 use Rattle.prefix_trie_fib.proofs.laws.fib_laws.Goals as goal
 
 pub returns : goal.returns
@@ -8,4 +9,5 @@ returns g c = record {
   at_address = λ fib m all a key. all (g.P.R.Key.bits a) (g.met.P.R.Key.key_laws.bits_length a key);
   of_range = λ fib division i n d range. value_of_range fib division None i n d range;
   one_range = λ fib division i j n a b. one_range fib division (0, None) i j n a b;
+  valued = λ same fib division merged. are_ranges g.P.R.Key.bit_width same fib division merged;
 }
