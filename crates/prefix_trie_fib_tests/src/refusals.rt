@@ -57,32 +57,36 @@ fn outcome<A: Allocator + Copy>(
     }
 }
 
-/// Returns whether a step fails exactly if an allocation does.
-fn fails_exactly_if_refused(heap: &Refusing<Global>, step: Step, refused: u64) -> bool {
+/// Lets each allocation of a step fail in turn, alone or with all after it.
+///
+/// Returns how many of the failures left the result as it is, or `None` if one of the others did not make the step fail.
+fn harmless_failures(heap: &Refusing<Global>, step: Step, refused: u64) -> Option<u64> {
+    let mut harmless = 0;
     for passed in 0..MANY {
-        let Ok(result) = outcome(heap, heap, step, passed, refused) else {
-            return false;
-        };
+        let result = outcome(heap, heap, step, passed, refused).ok()?;
         if heap.left() == refused {
-            return passed > 0 && result == Ok(RANGES);
+            return (passed > 0 && result == Ok(RANGES)).then_some(harmless);
         }
-        if result != Err(Refusal::Memory) {
-            return false;
+        if result == Ok(RANGES) {
+            harmless += 1;
+        } else if result != Err(Refusal::Memory) {
+            return None;
         }
     }
-    false
+    None
 }
 
+// spare memory is given back twice: of the ranges before the index is made, and of the index's parts at the end
 #[test]
-fn compiling_fails_exactly_if_an_allocation_fails(rt: HostRuntime) {
+fn compiling_fails_exactly_if_it_lacks_memory(rt: HostRuntime) {
     let heap = Refusing::new(rt.alloc());
-    assert!(rt; fails_exactly_if_refused(&heap, Step::Compile, 1));
-    assert!(rt; fails_exactly_if_refused(&heap, Step::Compile, u64::MAX));
+    assert!(rt; harmless_failures(&heap, Step::Compile, 1) == Some(2));
+    assert!(rt; harmless_failures(&heap, Step::Compile, u64::MAX) == Some(1));
 }
 
 #[test]
 fn copying_fails_exactly_if_an_allocation_fails(rt: HostRuntime) {
     let heap = Refusing::new(rt.alloc());
-    assert!(rt; fails_exactly_if_refused(&heap, Step::Copy, 1));
-    assert!(rt; fails_exactly_if_refused(&heap, Step::Copy, u64::MAX));
+    assert!(rt; harmless_failures(&heap, Step::Copy, 1) == Some(0));
+    assert!(rt; harmless_failures(&heap, Step::Copy, u64::MAX) == Some(0));
 }
