@@ -183,7 +183,7 @@ impl<T: Drop, A: Allocator> JointPrefixMap<T, A> {
     /// map.insert("0.0.0.0/0".parse()?, 3)?;           // None
     /// map.insert("::/0".parse()?, 4)?;                // None: the families are apart
     /// ```
-    #[inline]
+    #[inline(always)]
     #[tactic(auto, using(crate::proofs::Joined::get_ipv4, crate::proofs::Joined::get_ipv6, crate::proofs::Changes::with_ipv4, crate::proofs::Changes::with_ipv6))]
     pub fn insert(&mut self, prefix: IpPrefix, value: T) -> Result<Option<T>, Refused<T>>
         ensures before { IfOk result

@@ -10,6 +10,7 @@ ghost use Rattle.prefix_trie_joint.specs.Networks.{ip_back, ip_path};
 
 use crate::map::JointPrefixMap;
 use crate::prefix::IpPrefix;
+use prefix_trie::Prefix;
 use std::alloc::Allocator;
 
 impl<T: Drop, A: Allocator> JointPrefixMap<T, A> {
@@ -23,15 +24,22 @@ impl<T: Drop, A: Allocator> JointPrefixMap<T, A> {
     /// map.get(&"2001:db8::/32".parse()?);     // Some(2)
     /// map.get(&"2001:db8::/33".parse()?);     // None
     /// ```
-    #[inline]
+    #[inline(always)]
     #[tactic(auto, using(crate::proofs::Joined::get_ipv4, crate::proofs::Joined::get_ipv6))]
     pub fn get(&self, prefix: &IpPrefix) -> Option<&T>
         ensures { option_copied result ≡ get (entries_of self.now) (ip_path prefix.now) }
     {
-        // Each arm returns `None` by itself: a join of both costs five instructions.
-        match prefix.copy() {
-            IpPrefix::V4(network) => Some(self.ipv4.get(&network)?),
-            IpPrefix::V6(network) => Some(self.ipv6.get(&network)?),
+        // Each arm returns `None` by itself: a join of both costs five instructions. The proof learns
+        // from `fits` that a network behind a reference fits, and the compiler removes that call.
+        match prefix {
+            IpPrefix::V4(network) => {
+                let _ = network.fits();
+                Some(self.ipv4.get(network)?)
+            }
+            IpPrefix::V6(network) => {
+                let _ = network.fits();
+                Some(self.ipv6.get(network)?)
+            }
         }
     }
 
@@ -44,14 +52,20 @@ impl<T: Drop, A: Allocator> JointPrefixMap<T, A> {
     /// map.contains_key(&"2001:db8::1/32".parse()?);   // true
     /// map.contains_key(&"0.0.0.0/0".parse()?);        // false
     /// ```
-    #[inline]
+    #[inline(always)]
     #[tactic(auto, using(crate::proofs::Joined::get_ipv4, crate::proofs::Joined::get_ipv6))]
     pub fn contains_key(&self, prefix: &IpPrefix) -> bool
         ensures { result ≡ contains_key (entries_of self.now) (ip_path prefix.now) }
     {
-        match prefix.copy() {
-            IpPrefix::V4(network) => self.ipv4.contains_key(&network),
-            IpPrefix::V6(network) => self.ipv6.contains_key(&network),
+        match prefix {
+            IpPrefix::V4(network) => {
+                let _ = network.fits();
+                self.ipv4.contains_key(network)
+            }
+            IpPrefix::V6(network) => {
+                let _ = network.fits();
+                self.ipv6.contains_key(network)
+            }
         }
     }
 
@@ -96,21 +110,23 @@ impl<T: Drop, A: Allocator> JointPrefixMap<T, A> {
     /// map.get_lpm(&"10.1.2.3/32".parse()?);       // Some((V4(10.1.0.0/16), 2))
     /// map.get_lpm(&"11.0.0.0/8".parse()?);        // None: ::/0 is of the other family
     /// ```
-    #[inline]
+    #[inline(always)]
     #[tactic(auto, using(crate::proofs::Matches::lpm_ipv4, crate::proofs::Matches::lpm_ipv6, crate::proofs::Matches::lpm_none_ipv4, crate::proofs::Matches::lpm_none_ipv6))]
     pub fn get_lpm(&self, prefix: &IpPrefix) -> Option<(IpPrefix, &T)>
         ensures { option_map lent_item result
             ≡ prefix_pair ip_back (longest_match (entries_of self.now) (ip_path prefix.now)) }
     {
-        match prefix.copy() {
+        match prefix {
             IpPrefix::V4(network) => {
-                let Some((found, value)) = self.ipv4.get_lpm(&network) else {
+                let _ = network.fits();
+                let Some((found, value)) = self.ipv4.get_lpm(network) else {
                     return None;
                 };
                 Some((IpPrefix::V4(found), value))
             }
             IpPrefix::V6(network) => {
-                let Some((found, value)) = self.ipv6.get_lpm(&network) else {
+                let _ = network.fits();
+                let Some((found, value)) = self.ipv6.get_lpm(network) else {
                     return None;
                 };
                 Some((IpPrefix::V6(found), value))
@@ -129,16 +145,22 @@ impl<T: Drop, A: Allocator> JointPrefixMap<T, A> {
     /// map.get_lpm_value(&"2001:db8::1/128".parse()?);     // Some(2)
     /// map.get_lpm_value(&"11.0.0.0/8".parse()?);          // None
     /// ```
-    #[inline]
+    #[inline(always)]
     #[tactic(auto, using(crate::proofs::Matches::longest_value_ipv4, crate::proofs::Matches::longest_value_ipv6))]
     pub fn get_lpm_value(&self, prefix: &IpPrefix) -> Option<&T>
         ensures { option_copied result
             ≡ option_map (λ found. found.1)
             (longest_match (entries_of self.now) (ip_path prefix.now)) }
     {
-        match prefix.copy() {
-            IpPrefix::V4(network) => self.ipv4.get_lpm_value(&network),
-            IpPrefix::V6(network) => self.ipv6.get_lpm_value(&network),
+        match prefix {
+            IpPrefix::V4(network) => {
+                let _ = network.fits();
+                self.ipv4.get_lpm_value(network)
+            }
+            IpPrefix::V6(network) => {
+                let _ = network.fits();
+                self.ipv6.get_lpm_value(network)
+            }
         }
     }
 
