@@ -1,5 +1,5 @@
 -- A walk over a listing that keeps the prefixes above the last entry on a stack: for `aggregate_consistent` of maps.
-use Rattle.std.proofs.Common.{◌≡◌, ◌∙◌, ◌++◌, not, Bool, true, false, cond, List, [], ◌∷◌, map, filter, Option, Some, None, ap, sym, subst, refl, append-nil}
+use Rattle.std.proofs.Common.{◌≡◌, ◌∙◌, ◌++◌, not, Bool, true, false, cond, List, [], ◌∷◌, map, filter, Option, Some, None, ap, sym, subst, refl}
 use Rattle.std.proofs.lemmas.List.{append_assoc}
 use Rattle.std.specs.List.{Contains}
 use Rattle.std.specs.Option.{option_map}
@@ -38,13 +38,6 @@ module _ {T' P : Type 0} (path : P → List Bool) (back : List Bool → P) where
 
   pub walks_start : (eq : T' → T' → Bool) (m : Entries T') (left above : List (P × T')) (marks : List Bool) → left ≡ prefix_pairs back (listing m) → above ≡ [] → marks ≡ [] → Walks eq m left above marks
   walks_start eq m left above marks l a k = record { read = []; raw = listing m; split = refl; shows = l; marked = k; stack = a }
-
-  pub walks_end : (eq : T' → T' → Bool) (m : Entries T') (left above : List (P × T')) (marks : List Bool) → left ≡ [] → Walks eq m left above marks → marks ≡ map (stays eq m) (listing m)
-  walks_end eq m left above marks none is = is.marked ∙ ap (map (stays eq m)) (sym (is.split ∙ ap (λ es. is.read ++ es) (no_raw is.raw (sym is.shows ∙ none)) ∙ append-nil is.read))
-    where
-      no_raw : (raw : List (List Bool × T')) → prefix_pairs back raw ≡ [] → raw ≡ []
-      no_raw [] h = refl
-      no_raw (x ∷ raw) h = cc
 
   last_shown : (es : List (List Bool × T')) → option_map (λ e. e.1) (last_item (prefix_pairs back es)) ≡ option_map (λ e. e.1) (last_item es)
   last_shown [] = refl

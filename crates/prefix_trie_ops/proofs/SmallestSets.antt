@@ -23,7 +23,7 @@ module _ {T : Type 0} where
   first_or_last (x ∷ y ∷ es) = first_or_last (y ∷ es)
 
   -- a question has a value exactly if a key begins it
-  covered_is_value : (m : Entries T) (q : List Bool) → is_some (shortest_match m q) ≡ is_some (value_of m q)
+  pub covered_is_value : (m : Entries T) (q : List Bool) → is_some (shortest_match m q) ≡ is_some (value_of m q)
   covered_is_value m q = first_or_last (covers m q)
 
   -- a shorter key begins a string exactly if it has a value from above

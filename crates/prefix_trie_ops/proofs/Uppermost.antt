@@ -1,6 +1,6 @@
 -- A walk over a set that remembers the uppermost prefix above the last key read, and what it leaves of the set: for
 -- `aggregate_consistent` of sets.
-use Rattle.std.proofs.Common.{◌≡◌, ◌∙◌, ◌-◌, ◌++◌, not, eqb, Bool, true, false, true≢false, cond, List, [], ◌∷◌, length, take, map, filter, Option, Some, None, is_some, ap, sym, subst, refl, append_assoc, append-nil}
+use Rattle.std.proofs.Common.{◌≡◌, ◌∙◌, ◌-◌, ◌++◌, not, eqb, Bool, true, false, true≢false, cond, List, [], ◌∷◌, length, take, map, filter, Option, Some, None, is_some, ap, sym, subst, refl, append_assoc}
 use Rattle.std.specs.List.{Contains}
 use Rattle.std.specs.Option.{option_map}
 use Rattle.std.specs.FinMap.{get, contains_key, get-retain_keys, same_entries_map}
@@ -9,12 +9,14 @@ use Rattle.prefix_trie_bits.specs.Laws.Matches.{MatchLaws}
 use Rattle.prefix_trie_bits.specs.Order.{listing_same}
 use Rattle.prefix_trie_bits.proofs.Model.SortedListings.{entries-retained}
 use Rattle.prefix_trie.specs.Laws.Lookups.{LookupLaws}
-use Rattle.prefix_trie.specs.Terms.{Entries, begins, covers, first_item, last_item, listing, longest_match, shortest_match}
+use Rattle.prefix_trie.specs.Terms.{Entries, begins, covers, first_item, last_item, listing, shortest_match}
 use Rattle.prefix_trie_ops.specs.Covered.{contains_path, is_below_another, is_uppermost, without_covered}
-use Rattle.prefix_trie_ops.specs.Values.{are_equal, is_redundant, value_above, value_of}
+use Rattle.prefix_trie_ops.specs.Values.{are_equal, is_redundant, value_above}
 use Rattle.prefix_trie_ops.proofs.Covers.{covers_none, covers_of, covers_push, covers_shorter, next_covers, shorter_covers}
 use Rattle.prefix_trie_ops.proofs.Lists.{contains_middle, filter_agrees, filter_none, head_of, tail_of, last_pushed, map_push}
 use Rattle.prefix_trie_ops.proofs.RedundantEntries.{none_left, same_values}
+use Rattle.prefix_trie_ops.proofs.SmallestSets as sets
+use Rattle.prefix_trie_ops.proofs.SmallestSets.{below_is_above, covered_is_value}
 
 module _ {T' : Type 0} where
   -- an entry if its key begins the string, or none
@@ -100,13 +102,6 @@ module _ {T' : Type 0} where
     pub uppermost_start : (m : Entries T') (left : List P) (marks : List Bool) → left ≡ map (λ e. back e.0) (listing m) → marks ≡ [] → Uppermost m left None marks
     uppermost_start m left marks l k = record { read = []; raw = listing m; split = refl; shows = l; marked = k; top_is = refl }
 
-    pub uppermost_end : (m : Entries T') (left : List P) (top : Option P) (marks : List Bool) → left ≡ [] → Uppermost m left top marks → marks ≡ map (is_uppermost m) (listing m)
-    uppermost_end m left top marks none is = is.marked ∙ ap (map (is_uppermost m)) (sym (is.split ∙ ap (λ es. is.read ++ es) (no_raw is.raw (sym is.shows ∙ none)) ∙ append-nil is.read))
-      where
-        no_raw : (raw : List (List Bool × T')) → map (λ e. back e.0) raw ≡ [] → raw ≡ []
-        no_raw [] h = refl
-        no_raw (x ∷ raw) h = cc
-
     uppermost_next : MatchLaws T' → (m : Entries T') (read raw : List (List Bool × T')) (y : List Bool × T') (top top2 : Option P) (marks marks2 : List Bool) (r : Bool)
         → path (back y.0) ≡ y.0 → listing m ≡ read ++ y ∷ raw → marks ≡ map (is_uppermost m) read
         → option_map path top ≡ option_map (λ e. e.0) (first_item (covers_of m (last_item read)))
@@ -164,28 +159,10 @@ always x y = true
 pub uppermost_entries : {T' : Type 0} (m n : Entries T') → listing n ≡ filter (is_uppermost m) (listing m) → n ≡ without_covered m
 uppermost_entries m n h = same_entries_map n (without_covered m) (h ∙ sym (entries-retained m (λ s. not (is_below_another m s))))
 
-mapped_some : {X Y : Type 0} (f : X → Y) (o : Option X) → is_some (option_map f o) ≡ is_some o
-mapped_some f None = refl
-mapped_some f (Some x) = refl
-
-value_some : MatchLaws (Unit {0}) → (m : Entries (Unit {0})) (q : List Bool) → is_some (value_of m q) ≡ is_some (shortest_match m q)
-value_some laws m q = mapped_some (λ e. e.1) (longest_match m q) ∙ laws.some_longest m q ∙ sym (laws.some_shortest m q)
-
-above_some : MatchLaws (Unit {0}) → (m : Entries (Unit {0})) (s : List Bool) → is_some (value_above m s) ≡ is_below_another m s
-above_some laws m s =
-    elim (eqb (length s) 0) as (λ b. is_some (cond b None (value_of m (take (length s - 1) s))) ≡ cond b false (is_some (shortest_match m (take (length s - 1) s)))) [
-      | true ↦ refl
-      | false ↦ value_some laws m (take (length s - 1) s)
-    ]
-
-always_some : (o : Option (Unit {0})) (v : Unit {0}) → are_equal always o (Some v) ≡ is_some o
-always_some None v = refl
-always_some (Some u) v = refl
-
-left_get : MatchLaws (Unit {0}) → (m n : Entries (Unit {0})) → n ≡ without_covered m → (s : List Bool) → get n s ≡ cond (is_redundant always m s) None (get m s)
-left_get laws m n is s =
+left_get : (m n : Entries (Unit {0})) → n ≡ without_covered m → (s : List Bool) → get n s ≡ cond (is_redundant always m s) None (get m s)
+left_get m n is s =
     ap (λ x. get x s) is ∙ get-retain_keys m (λ t. not (is_below_another m t)) s (λ x e. ap (λ t. not (is_below_another m t)) (sym (listing_same s x e)))
-    ∙ ap (λ b. cond (not b) (get m s) None) (sym (above_some laws m s)) ∙ go (value_above m s) (get m s)
+    ∙ ap (λ b. cond (not b) (get m s) None) (below_is_above m s) ∙ go (value_above m s) (get m s)
   where
     go : (above here : Option (Unit {0})) → cond (not (is_some above)) here None ≡ cond (are_equal always above here) None here
     go None None = refl
@@ -194,17 +171,11 @@ left_get laws m n is s =
     go (Some u) (Some v) = refl
 
 -- what is left covers what the whole set covers
-pub same_covered : {P : Type 0} → LookupLaws P (Unit {0}) → MatchLaws (Unit {0}) → (m n : Entries (Unit {0})) → n ≡ without_covered m
+pub same_covered : {P : Type 0} → LookupLaws P (Unit {0}) → (m n : Entries (Unit {0})) → n ≡ without_covered m
     → (q : List Bool) → is_some (shortest_match n q) ≡ is_some (shortest_match m q)
-same_covered lookups laws m n is q =
-    sym (value_some laws n q) ∙ ap is_some (same_values always m n (left_get laws m n is) lookups (λ x y _. refl) q) ∙ value_some laws m q
+same_covered laws m n is q = covered_is_value n q ∙ ap is_some (same_values always m n (left_get m n is) laws (λ x y _. refl) q) ∙ sym (covered_is_value m q)
 
 -- no key that is left is covered by a shorter one
-pub none_covered : {P : Type 0} → LookupLaws P (Unit {0}) → MatchLaws (Unit {0}) → (m n : Entries (Unit {0})) → n ≡ without_covered m
+pub none_covered : {P : Type 0} → LookupLaws P (Unit {0}) → (m n : Entries (Unit {0})) → n ≡ without_covered m
     → (s : List Bool) → contains_key n s ≡ true → is_below_another n s ≡ false
-none_covered lookups laws m n is s there =
-    sym (above_some laws n s) ∙ go (get n s) there (none_left always m n (left_get laws m n is) lookups (λ x y _. refl) s)
-  where
-    go : (here : Option (Unit {0})) → is_some here ≡ true → are_equal always (value_above n s) here ≡ false → is_some (value_above n s) ≡ false
-    go None bad h = absurd (true≢false (sym bad))
-    go (Some v) _ h = sym (always_some (value_above n s) v) ∙ h
+none_covered laws m n is = sets.none_covered always (λ _. refl) n (none_left always m n (left_get m n is) laws (λ x y _. refl))

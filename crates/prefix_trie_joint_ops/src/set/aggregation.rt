@@ -6,7 +6,7 @@ ghost use Rattle.prefix_trie.specs.Terms.{shortest_match};
 ghost use Rattle.prefix_trie_ops.specs.Covered.{is_below_another, without_covered};
 ghost use Rattle.prefix_trie_joint.specs.Joined.{keys_of};
 
-use prefix_trie::laws::{lookup_laws, match_laws};
+use prefix_trie::laws::lookup_laws;
 use prefix_trie_joint::{IpPrefix, JointPrefixSet};
 use prefix_trie_ops::set::{keep_marked, marks_of};
 use std::alloc::{AllocError, Allocator};
@@ -42,7 +42,6 @@ pub fn aggregate_consistent<A: Allocator, B: Allocator>(
     ensures unchanged { IfErr result (λ _. set.new ≡ set.old) }
 {
     lookup_laws::<IpPrefix, ()>();
-    match_laws::<()>();
     let ipv4 = marks_of(&set.ipv4, &alloc)?;
     let ipv6 = marks_of(&set.ipv6, &alloc)?;
     keep_marked(&mut set.ipv4, ipv4.as_slice());

@@ -39,7 +39,6 @@ pub fn aggregate_consistent<P: Prefix, A: Allocator, B: Allocator>(
     ensures unchanged { IfErr result (λ _. set.new ≡ set.old) }
 {
     lookup_laws::<P, ()>();
-    match_laws::<()>();
     let marks = marks_of(set, alloc)?;
     keep_marked(set, marks.as_slice());
     Ok(())

@@ -13,7 +13,7 @@ returns-clause-entries g c =
     (c.keep_marked-2.ensures.kept (is_uppermost c.args.set.now.ipv6.entries) (c.as_slice-2.ensures.value ∙ c.in_ok-ipv6.ensures))
 
 pub returns-clause-covered : goal.returns-clause-covered
-returns-clause-covered g c q = same_covered c.lookup_laws.ensures c.match_laws.ensures (keys_of c.args.set.now) _ (returns-clause-entries g c) q
+returns-clause-covered g c q = same_covered c.lookup_laws.ensures (keys_of c.args.set.now) _ (returns-clause-entries g c) q
 
 pub returns-clause-tidy : goal.returns-clause-tidy
-returns-clause-tidy g c s there = none_covered c.lookup_laws.ensures c.match_laws.ensures (keys_of c.args.set.now) _ (returns-clause-entries g c) s there
+returns-clause-tidy g c s there = none_covered c.lookup_laws.ensures (keys_of c.args.set.now) _ (returns-clause-entries g c) s there

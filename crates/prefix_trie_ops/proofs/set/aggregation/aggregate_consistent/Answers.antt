@@ -10,13 +10,7 @@ returns-clause-entries g c =
     uppermost_entries m c.keep_marked.new.set.entries (c.keep_marked.ensures.kept (is_uppermost m) (c.as_slice.ensures.value ∙ c.in_ok-marks.ensures))
 
 pub returns-clause-covered : goal.returns-clause-covered
-returns-clause-covered g c q =
-    let m = c.args.set.now.entries in
-    same_covered c.lookup_laws.ensures c.match_laws.ensures m c.keep_marked.new.set.entries
-    (uppermost_entries m c.keep_marked.new.set.entries (c.keep_marked.ensures.kept (is_uppermost m) (c.as_slice.ensures.value ∙ c.in_ok-marks.ensures))) q
+returns-clause-covered g c q = same_covered c.lookup_laws.ensures c.args.set.now.entries _ (returns-clause-entries g c) q
 
 pub returns-clause-tidy : goal.returns-clause-tidy
-returns-clause-tidy g c s there =
-    let m = c.args.set.now.entries in
-    none_covered c.lookup_laws.ensures c.match_laws.ensures m c.keep_marked.new.set.entries
-    (uppermost_entries m c.keep_marked.new.set.entries (c.keep_marked.ensures.kept (is_uppermost m) (c.as_slice.ensures.value ∙ c.in_ok-marks.ensures))) s there
+returns-clause-tidy g c s there = none_covered c.lookup_laws.ensures c.args.set.now.entries _ (returns-clause-entries g c) s there
