@@ -16,23 +16,23 @@ fn allows<A: Allocator>(list: &JointPrefixSet<A>, address: IpAddr) -> bool
     list.is_covered(&IpPrefix::host(address))
 }
 
-/// Returns whether a list of both families allows just the addresses that it should.
+/// Returns whether a list of both families allows the addresses in its networks, and no others.
 fn allows_its_networks(alloc: Global) -> Option<bool> {
     let mut list = JointPrefixSet::new(alloc).ok()?;
     list.insert("10.0.0.0/8".parse().ok()?).ok()?;
     list.insert("2001:db8::/32".parse().ok()?).ok()?;
     Some(
-        answers(&list, "10.1.2.3", true)
-            & answers(&list, "2001:db8::1", true)
-            & answers(&list, "11.0.0.1", false)
-            & answers(&list, "::1", false),
+        allows_text(&list, "10.1.2.3", true)
+            & allows_text(&list, "2001:db8::1", true)
+            & allows_text(&list, "11.0.0.1", false)
+            & allows_text(&list, "::1", false),
     )
 }
 
-/// Returns whether the answer for the address of a text is the wanted one.
-fn answers(list: &JointPrefixSet<Global>, text: &str, wanted: bool) -> bool {
+/// Returns whether `allows` returns the expected result for the address of a text.
+fn allows_text(list: &JointPrefixSet<Global>, text: &str, expected: bool) -> bool {
     match text.parse() {
-        Ok(address) => allows(list, address) == wanted,
+        Ok(address) => allows(list, address) == expected,
         Err(_) => false,
     }
 }
