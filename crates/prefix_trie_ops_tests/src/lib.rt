@@ -1,4 +1,4 @@
-//! The tests of `prefix_trie_ops` and of `route_tables`, and programs over `prefix_trie_ops` as a user writes them.
+//! The tests of `prefix_trie_ops`, and programs over it as a user writes them.
 #![tactic(auto)]
 
 #[cfg(test)]
@@ -7,7 +7,5 @@ mod aggregation;
 mod examples;
 #[cfg(test)]
 mod refusals;
-#[cfg(test)]
-mod routes;
 #[cfg(test)]
 mod runs;
