@@ -8,34 +8,28 @@ use crate::lookup::longest;
 use crate::minimise::remove_redundant;
 use crate::stats::{array_bytes, by_length, text_bytes};
 use crate::table::{FamilyTable, Table};
+use crate::text::{print_answer, print_route};
 use prefix_trie::Prefix;
 use prefix_trie_joint::IpPrefix;
 use prefix_trie_ops::map::Side;
 use std::alloc::Global;
-use std::fmt::Display;
 use std::io::{self, Write};
 
 /// Prints each address with the longest network that contains it and its value, or with `none`.
 pub fn lookup<W: Write>(table: &Table, addresses: &[Address<'_>], out: &mut W) -> io::Result<()> {
-    for Address { text, ip } in addresses {
-        match longest(table, &IpPrefix::host(*ip)) {
-            Some((network, value)) => {
-                write!(out, "{text} ")?;
-                print_route(&network, value.as_str(), out)?;
-            }
-            None => writeln!(out, "{text} none")?,
-        }
+    for address in addresses {
+        print_lookup(table, address, out)?;
     }
     Ok(())
 }
 
-// Prints a network and its value. A network without a value is alone on its line.
-fn print_route<N: Display, W: Write>(network: &N, value: &str, out: &mut W) -> io::Result<()> {
-    if value.is_empty() {
-        writeln!(out, "{network}")
-    } else {
-        writeln!(out, "{network} {value}")
-    }
+// Prints an address with what a lookup finds for it.
+fn print_lookup<W: Write>(table: &Table, address: &Address<'_>, out: &mut W) -> io::Result<()> {
+    print_answer(
+        address.text,
+        &longest(table, &IpPrefix::host(address.ip)),
+        out,
+    )
 }
 
 /// Prints a table in listing order, a line for each network.
@@ -64,7 +58,7 @@ pub fn diff<W: Write>(old: &Table, new: &Table, alloc: Global, out: &mut W) -> i
 }
 
 // Prints what changes from one table of a family to another, and returns whether nothing does.
-fn print_changes<P: Prefix + Display, W: Write>(
+fn print_changes<P: Prefix + Into<IpPrefix>, W: Write>(
     old: &FamilyTable<P>,
     new: &FamilyTable<P>,
     alloc: Global,
@@ -73,25 +67,26 @@ fn print_changes<P: Prefix + Display, W: Write>(
     let changes = changes(old, new, alloc)?;
     let is_same = changes.is_empty();
     for (network, values) in changes {
-        print_change(&network, &values, out)?;
+        print_change(network, &values, out)?;
     }
     Ok(is_same)
 }
 
 // Prints one change.
-fn print_change<P: Prefix + Display, W: Write>(
-    network: &P,
+fn print_change<P: Prefix + Into<IpPrefix>, W: Write>(
+    network: P,
     values: &Values<'_>,
     out: &mut W,
 ) -> io::Result<()> {
+    let network = network.into();
     match values {
         Side::Left(old) => {
-            write!(out, "- ")?;
-            print_route(network, old.as_str(), out)
+            out.write_all(b"- ")?;
+            print_route(&network, old.as_str(), out)
         }
         Side::Right(new) => {
-            write!(out, "+ ")?;
-            print_route(network, new.as_str(), out)
+            out.write_all(b"+ ")?;
+            print_route(&network, new.as_str(), out)
         }
         Side::Both(old, new) => writeln!(out, "~ {network} {old} -> {new}"),
     }
@@ -113,13 +108,13 @@ pub fn aggregate<W: Write>(table: &Table, alloc: Global, out: &mut W) -> io::Res
 }
 
 // Prints the fewest networks of a family, in listing order.
-fn print_fewest<P: Prefix + Display, W: Write>(
+fn print_fewest<P: Prefix + Into<IpPrefix>, W: Write>(
     table: &FamilyTable<P>,
     alloc: Global,
     out: &mut W,
 ) -> io::Result<()> {
     for (network, value) in fewest_networks(table, alloc)? {
-        print_route(&network, value, out)?;
+        print_route(&network.into(), value, out)?;
     }
     Ok(())
 }

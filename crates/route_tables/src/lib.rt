@@ -22,5 +22,6 @@ pub mod minimise;
 pub mod network;
 pub mod stats;
 pub mod table;
+mod text;
 pub mod value;
 pub mod warnings;

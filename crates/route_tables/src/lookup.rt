@@ -10,6 +10,9 @@ use crate::value::Value;
 use prefix_trie::laws::lookup_laws;
 use prefix_trie_joint::IpPrefix;
 
+/// What a lookup finds: a network and its value.
+pub type Found<'a> = Option<(IpPrefix, &'a Value)>;
+
 /// Returns the longest network of a table that contains an address, and its value, or `None` if there is none.
 ///
 /// # Examples
@@ -19,7 +22,7 @@ use prefix_trie_joint::IpPrefix;
 /// longest(&table, &"10.1.2.3/32".parse()?).map(|found| found.1.as_str());     // Some("edge")
 /// longest(&table, &"11.0.0.0/32".parse()?).is_none();                         // true
 /// ```
-pub fn longest<'a>(table: &'a Table, address: &IpPrefix) -> Option<(IpPrefix, &'a Value)>
+pub fn longest<'a>(table: &'a Table, address: &IpPrefix) -> Found<'a>
     ensures value { option_map lent_item result
         ≡ prefix_pair ip_back (longest_match (entries_of table.now) (ip_path address.now)) }
     ensures longest { MatchOption result
