@@ -1,9 +1,13 @@
 -- The lines of a text, and the fields of a line. This project's own.
-use Rattle.std.specs.Prelude.{ℕ, ◌-◌, ◌==◌, Bool, ◌||◌, false, not, cond, List, [], ◌∷◌, length, take}
+use Rattle.std.specs.Prelude.{ℕ, ◌-◌, ◌==◌, Bool, ◌||◌, bytes_eq, false, not, cond, List, [], ◌∷◌, drop, length, take}
 use Rattle.std.specs.Char.{is_ascii_whitespace, is_control}
 use Rattle.std.specs.Int.{is_in_range}
 use Rattle.std.specs.List.{before_first, list_any, onto_first}
 use Rattle.std.specs.Str.{chars}
+
+-- a text without its byte order mark, if it begins with one
+abbrev pub after_mark : List ℕ → List ℕ
+after_mark text = cond (bytes_eq (take 3 text) (0xEF ∷ 0xBB ∷ 0xBF ∷ [])) (drop 3 text) text
 
 -- the lines of a text; a line feed ends each one, and may be missing after the last
 abbrev pub lines : List ℕ → List (List ℕ)
@@ -44,3 +48,7 @@ is_hidden c = is_control c || is_direction c
 -- whether a text has such a character
 abbrev pub has_hidden : List ℕ → Bool
 has_hidden text = list_any is_hidden (chars text)
+
+-- the lines of a text after its byte order mark
+abbrev pub table_lines : List ℕ → List (List ℕ)
+table_lines text = lines (after_mark text)

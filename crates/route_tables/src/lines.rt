@@ -2,7 +2,7 @@
 ghost use Rattle.std.specs.Prelude.{◌≡◌, ◌==◌, [], ◌∷◌, ◌<◌, ◌≤◌, length, MatchOption};
 ghost use Rattle.std.specs.Char.{is_ascii_whitespace};
 ghost use Rattle.std.specs.List.{position, position_or_len};
-ghost use Rattle.route_tables.specs.Lines.{fields, has_bare_return, lines, words};
+ghost use Rattle.route_tables.specs.Lines.{after_mark, fields, has_bare_return, lines, words};
 
 // Returns the number of bytes before the first line feed, or of all bytes.
 #[tactic(auto, using(crate::proofs::LineTexts::or_length))]
@@ -35,6 +35,20 @@ fn word_end(text: &[u8]) -> Option<usize>
     ensures { result ≡ position is_ascii_whitespace text.now }
 {
     text.iter().position(|byte| byte.is_ascii_whitespace())
+}
+
+/// Returns a text without its byte order mark, if it begins with one.
+///
+/// # Examples
+///
+/// ```rust
+/// skip_mark(b"\xef\xbb\xbfone") == b"one";        // true
+/// skip_mark(b"one") == b"one";                    // true
+/// ```
+pub fn skip_mark(text: &[u8]) -> &[u8]
+    ensures { result.now ≡ after_mark text.now }
+{
+    text.strip_prefix(b"\xef\xbb\xbf").unwrap_or(text)
 }
 
 /// Splits off the first line of a text. The line feed that ends it belongs to neither part.

@@ -1,27 +1,71 @@
 //! Reading tables from text.
 //!
-//! Each line is blank, or a network without host bits and its value: any text without white space and control
-//! characters. An address is the network that has all its bits. A network alone has the empty value.
+//! Each line is blank, or has networks and their value. The networks are a network, an address, which is the network
+//! that has all its bits, or a range of addresses, which is the fewest networks that cover it. The value is any text
+//! without white space and control characters. A line with networks alone has the empty value.
 //!
 //! A field that begins with `#` begins a comment. White space separates fields. Both ends of a line may have white
-//! space, so lines may end with CR LF. A CR elsewhere is an error.
-ghost use Rattle.std.specs.Prelude.{◌≡◌, List, IfErr, IfOk};
-ghost use Rattle.prefix_trie.specs.Terms.{no_entries, put_all};
+//! space, so lines may end with CR LF. A CR elsewhere is an error. A byte order mark at the start of a text is skipped.
+//!
+//! A `Reading` says what is done with networks that have host bits, and with bad lines.
+ghost use Rattle.std.specs.Prelude.{◌≡◌, ◌⊎◌, [], ◌∷◌, ◌++◌, List, IfErr, IfOk, OnErr, OnOk};
+ghost use Rattle.prefix_trie.specs.Terms.{no_entries, with_entry};
 ghost use Rattle.prefix_trie_joint.specs.Joined.{entries_of};
 ghost use Rattle.prefix_trie_joint.specs.Networks.{ip_path};
-ghost use Rattle.route_tables.specs.Lines.{lines};
-ghost use Rattle.route_tables.specs.Loads.{AddsLine, IsBadAt, IsRefusal, NamesFirstBad, with_route};
-ghost use Rattle.route_tables.specs.Routes.{HasRoutes, Route};
+ghost use Rattle.route_tables.specs.Lines.{table_lines};
+ghost use Rattle.route_tables.specs.Loads.{AddsFirst, AddsLine, EndsAt, EndsAtLine, IfLineError, ListsLine, NamesFirstBad, with_routes};
+ghost use Rattle.route_tables.specs.Networks.{all_networks};
+ghost use Rattle.route_tables.specs.Routes.{AreBadLines, HasRoutes, Route, routes_to};
 
-use crate::line::{LineError, read_line};
-use crate::lines::split_line;
+use crate::excerpt::ByteExcerpt;
+use crate::line::{LineError, ReadError, read_line};
+use crate::lines::{skip_mark, split_line};
+use crate::network::HostBits;
+use crate::range::Networks;
 use crate::table::Table;
 use crate::value::Value;
-use prefix_trie::{Refusal, Refused};
+use prefix_trie::Refusal;
 use prefix_trie_joint::{IpPrefix, JointPrefixMap};
-use std::alloc::{AllocError, AllocFailed, Global};
+use std::alloc::Global;
 use std::error::Error;
 use std::fmt::{self, Display, Formatter, Write};
+
+/// What is done with bad lines: lines that are not lines of a table.
+#[derive(Clone, Copy, Debug, Default, PartialEq, Eq)]
+pub enum BadLines {
+    /// The first one is an error.
+    #[default]
+    Refused,
+    /// They are skipped, and listed.
+    Skipped,
+}
+
+/// How the lines of a text are read.
+#[derive(Clone, Copy, Debug, Default, PartialEq, Eq)]
+pub struct Reading {
+    /// What is done with networks that have host bits.
+    pub host_bits: HostBits,
+    /// What is done with lines that are not lines of a table.
+    pub bad_lines: BadLines,
+}
+
+/// A line that is not a line of a table.
+#[derive(Clone, Copy, Debug, PartialEq, Eq)]
+pub struct BadLine<'a> {
+    /// The number of the line, from 1 on.
+    pub number: usize,
+    /// The bytes of the line.
+    pub text: &'a [u8],
+    /// Why it is not a line of a table.
+    pub error: LineError,
+}
+
+impl Display for BadLine<'_> {
+    fn fmt<W: Write>(&self, f: &mut Formatter<W>) -> fmt::Result {
+        let (number, text, error) = (self.number, ByteExcerpt(self.text.trim_ascii()), self.error);
+        write!(f, "line {number}: {error}: \"{text}\"")
+    }
+}
 
 /// A line that replaces the value of a network by another.
 #[derive(Clone, Copy, Debug, PartialEq, Eq)]
@@ -32,74 +76,51 @@ pub struct Replaced {
     pub network: IpPrefix,
 }
 
-/// The table of a text, and the lines that replace a value by another.
+/// The lines of a text that a user may want to know of.
 #[derive(Drop)]
-pub struct Loaded {
+pub struct Warnings<'a> {
+    /// The networks whose value a line replaces by another one, in the order of the lines.
+    pub replaced: Vec<Replaced>,
+    /// The lines that are skipped, in order.
+    pub skipped: Vec<BadLine<'a>>,
+}
+
+/// The table of a text, and warnings.
+#[derive(Drop)]
+pub struct Loaded<'a> {
     /// The table.
     pub table: Table,
-    /// The lines that give a network another value than the last line before them with this network, in order.
-    pub replaced: Vec<Replaced>,
+    /// The warnings.
+    pub warnings: Warnings<'a>,
 }
 
 /// Why a text is not read.
 #[derive(Clone, Copy, Debug, PartialEq, Eq)]
-pub enum LoadError {
-    /// The line with this number, from 1 on, is the first that is not a line of a table.
-    Line(usize, LineError),
+pub enum LoadError<'a> {
+    /// The line is the first that is not a line of a table.
+    Line(BadLine<'a>),
     /// An allocation failed, or a table is full.
     Refused(Refusal),
 }
 
-impl Display for LoadError {
+impl Display for LoadError<'_> {
     fn fmt<W: Write>(&self, f: &mut Formatter<W>) -> fmt::Result {
         match self {
-            LoadError::Line(number, error) => write!(f, "line {number}: {error}"),
+            LoadError::Line(line) => Display::fmt(line, f),
             LoadError::Refused(cause) => Display::fmt(cause, f),
         }
     }
 }
 
-impl Error for LoadError {}
+impl Error for LoadError<'_> {}
 
-impl From<Refusal> for LoadError {
+impl From<Refusal> for LoadError<'_> {
     ghost use Rattle.route_tables.specs.declared.load.LoadError.TheVariants.{Refused};
 
     ghost from_gives = { λ cause error. error ≡ Refused cause };
 
-    fn from(cause: Refusal) -> LoadError {
+    fn from(cause: Refusal) -> Self {
         LoadError::Refused(cause)
-    }
-}
-
-impl From<Refused<Value>> for LoadError {
-    ghost use Rattle.route_tables.specs.declared.load.LoadError.TheVariants.{Refused as OfCause};
-
-    ghost from_gives = { λ refused error. error ≡ OfCause refused.cause };
-
-    fn from(refused: Refused<Value>) -> LoadError {
-        LoadError::Refused(refused.cause)
-    }
-}
-
-impl From<AllocError> for LoadError {
-    ghost use Rattle.prefix_trie_bits.specs.declared.prefix.Refusal.TheVariants.{Memory};
-    ghost use Rattle.route_tables.specs.declared.load.LoadError.TheVariants.{Refused};
-
-    ghost from_gives = { λ _ error. error ≡ Refused Memory };
-
-    fn from(_error: AllocError) -> LoadError {
-        LoadError::Refused(Refusal::Memory)
-    }
-}
-
-impl<T: Drop> From<AllocFailed<T>> for LoadError {
-    ghost use Rattle.prefix_trie_bits.specs.declared.prefix.Refusal.TheVariants.{Memory};
-    ghost use Rattle.route_tables.specs.declared.load.LoadError.TheVariants.{Refused};
-
-    ghost from_gives = { λ _ error. error ≡ Refused Memory };
-
-    fn from(_error: AllocFailed<T>) -> LoadError {
-        LoadError::Refused(Refusal::Memory)
     }
 }
 
@@ -107,74 +128,211 @@ impl<T: Drop> From<AllocFailed<T>> for LoadError {
 ///
 /// # Errors
 ///
-/// Returns the number of the first line that is not a line of a table, and the reason. Returns a refusal if an
-/// allocation fails or a table is full.
+/// Returns the first line that is not a line of a table, with the reason, if bad lines are refused. Returns a refusal if
+/// an allocation fails or a table is full.
 ///
 /// # Examples
 ///
 /// ```rust
-/// let loaded = load(b"10.0.0.0/8 core\n10.1.0.0/16 edge\n10.0.0.0/8 edge\n", alloc)?;
-/// loaded.table.keys();                       // [V4(10.0.0.0/8), V4(10.1.0.0/16)]
-/// loaded.replaced[0].line;                   // 3
-/// load(b"10.0.0.0/33 core", alloc).err();    // Some(Line(1, Network(Text(Length))))
+/// let text = b"10.0.0.0/8 core\n10.1.0.0/16 edge\n10.0.0.0/8 edge\n";
+/// let loaded = load(text, Reading::default(), alloc)?;
+/// loaded.table.keys();                            // [V4(10.0.0.0/8), V4(10.1.0.0/16)]
+/// loaded.warnings.replaced[0].line;               // 3
+/// let error = load(b"ten core", Reading::default(), alloc).err()?;
+/// error.to_string(alloc)?;                        // line 1: expected a network, an address or a range: "ten core"
 /// ```
-pub fn load(text: &[u8], alloc: Global) -> Result<Loaded, LoadError>
-    ensures table { IfOk result
-        (λ loaded. (routes : List Route) × HasRoutes (lines text.now) routes
-        × (entries_of loaded.table ≡ put_all ip_path routes no_entries)) }
-    ensures first_bad { IfErr result (NamesFirstBad (lines text.now)) }
+pub fn load(text: &[u8], reading: Reading, alloc: Global) -> Result<Loaded<'_>, LoadError<'_>>
+    ensures table { IfOk result (λ loaded. (routes : List Route)
+        × HasRoutes reading (table_lines text.now) routes
+        × (entries_of loaded.table ≡ with_routes routes no_entries)) }
+    ensures skipped { IfOk result (λ loaded. AreBadLines reading.host_bits 0
+        (table_lines text.now) loaded.warnings.skipped.items) }
+    ensures first_bad { IfErr result (NamesFirstBad reading (table_lines text.now)) }
 {
     let mut table: Table = JointPrefixMap::new(alloc)?;
-    let mut replaced = Vec::new(alloc);
+    let warnings = load_into(&mut table, text, reading, alloc)?;
+    Ok(Loaded { table, warnings })
+}
+
+/// Reads the table of a text into a table. A line replaces the value that its network has.
+///
+/// So several texts are read into one table one after another, and the last line of a network counts.
+///
+/// # Errors
+///
+/// Returns the first line that is not a line of a table, with the reason, if bad lines are refused. The table has the
+/// routes of the lines before it then. Returns a refusal if an allocation fails or a table is full. The table has the
+/// routes of the lines before some line then, and may have some of the routes of that line.
+///
+/// # Examples
+///
+/// ```rust
+/// let reading = Reading { host_bits: HostBits::Cleared, bad_lines: BadLines::Skipped };
+/// let mut table = JointPrefixMap::new(alloc)?;
+/// load_into(&mut table, b"10.0.0.1/8 core\n", reading, alloc)?;
+/// let warnings = load_into(&mut table, b"ten\n10.0.0.0/8 edge\n", reading, alloc)?;
+/// table.keys();                                   // [V4(10.0.0.0/8)]
+/// warnings.skipped[0].number;                     // 1
+/// warnings.replaced[0].line;                      // 2
+/// ```
+pub fn load_into<'a>(
+    table: &mut Table,
+    text: &'a [u8],
+    reading: Reading,
+    alloc: Global,
+) -> Result<Warnings<'a>, LoadError<'a>>
+    ensures added { OnOk result ((routes : List Route)
+        × HasRoutes reading (table_lines text.now) routes
+        × (entries_of table.new ≡ with_routes routes (entries_of table.old))) }
+    ensures skipped { IfOk result (λ warnings. AreBadLines reading.host_bits 0
+        (table_lines text.now) warnings.skipped.items) }
+    ensures ends { IfErr result (EndsAt reading (table_lines text.now) (entries_of table.old)
+        (entries_of table.new)) }
+{
+    let mut warnings = Warnings {
+        replaced: Vec::new(alloc),
+        skipped: Vec::new(alloc),
+    };
     let mut number = 0;
-    let mut rest = text;
+    let mut rest = skip_mark(text);
     while !rest.is_empty() {
         let (line, later) = split_line(rest);
         number += 1;
         rest = later;
-        if let Some(network) = add_line(&mut table, line, number, alloc)? {
-            replaced.push(Replaced {
-                line: number,
-                network,
-            })?;
-        }
+        add_line(table, line, number, reading, &mut warnings, alloc)?;
     }
-    Ok(Loaded { table, replaced })
+    Ok(warnings)
 }
 
-// Adds what the line with this number says. Returns its network if the table has it with another value.
-fn add_line(
+// Adds the routes of the line with this number, or lists it if it is bad and skipped.
+fn add_line<'a>(
     table: &mut Table,
-    line: &[u8],
+    line: &'a [u8],
     number: usize,
+    reading: Reading,
+    warnings: &mut Warnings<'a>,
     alloc: Global,
-) -> Result<Option<IpPrefix>, LoadError>
-    ensures added { IfOk result
-        (λ _. AddsLine line.now (entries_of table.old) (entries_of table.new)) }
-    ensures bad { IfErr result (IsBadAt number line.now) }
+) -> Result<(), LoadError<'a>>
+    ensures added { OnOk result
+        (AddsLine reading line.now (entries_of table.old) (entries_of table.new)) }
+    ensures listed { OnOk result
+        (ListsLine reading number line.now warnings.old.skipped.items warnings.new.skipped.items) }
+    ensures ends { IfErr result
+        (EndsAtLine reading number line.now (entries_of table.old) (entries_of table.new)) }
 {
-    match read_line(line) {
-        Ok(None) => Ok(None),
-        Ok(Some((network, value))) => add_route(table, network, value, alloc),
-        Err(error) => Err(LoadError::Line(number, error)),
+    match read_line(line, reading.host_bits, alloc) {
+        Ok(None) => Ok(()),
+        Ok(Some(route)) => Ok(add_read(table, route, number, &mut warnings.replaced, alloc)?),
+        Err(ReadError::Line(error)) => {
+            let text = line;
+            let bad = BadLine {
+                number,
+                text,
+                error,
+            };
+            skip_line(bad, reading.bad_lines, &mut warnings.skipped)
+        }
+        Err(ReadError::Memory) => Err(LoadError::Refused(Refusal::Memory)),
     }
 }
 
-// Adds a route. Returns its network if the table has it with another value.
+// Lists a bad line, or returns it as an error.
+fn skip_line<'a>(
+    bad: BadLine<'a>,
+    bad_lines: BadLines,
+    skipped: &mut Vec<BadLine<'a>>,
+) -> Result<(), LoadError<'a>>
+    ensures listed { OnOk result ((bad_lines ≡ BadLines.Skipped)
+        × (skipped.new.items ≡ skipped.old.items ++ bad.entry ∷ [])) }
+    ensures refused { IfErr result (IfLineError (λ named. (named ≡ bad.entry)
+        × (bad_lines ≡ BadLines.Refused))) }
+{
+    match bad_lines {
+        BadLines::Refused => Err(LoadError::Line(bad)),
+        BadLines::Skipped => match skipped.push(bad) {
+            Ok(()) => Ok(()),
+            Err(_) => Err(LoadError::Refused(Refusal::Memory)),
+        },
+    }
+}
+
+// Adds the routes that were read from a line, and lists those of networks that have another value.
+fn add_read(
+    table: &mut Table,
+    route: (Networks, &str),
+    number: usize,
+    replaced: &mut Vec<Replaced>,
+    alloc: Global,
+) -> Result<(), Refusal>
+    ensures added { OnOk result (entries_of table.new
+        ≡ with_routes (routes_to route.entry.1.now (all_networks route.entry.0))
+        (entries_of table.old)) }
+    ensures some { OnErr result (AddsFirst
+        (routes_to route.entry.1.now (all_networks route.entry.0))
+        (entries_of table.old) (entries_of table.new)) }
+{
+    let (networks, value) = route;
+    add_routes(table, networks.as_slice(), value, number, replaced, alloc)
+}
+
+// Gives networks a value, and lists those that have another one.
+fn add_routes(
+    table: &mut Table,
+    networks: &[IpPrefix],
+    value: &str,
+    number: usize,
+    replaced: &mut Vec<Replaced>,
+    alloc: Global,
+) -> Result<(), Refusal>
+    ensures added { OnOk result (entries_of table.new
+        ≡ with_routes (routes_to value.now networks.now) (entries_of table.old)) }
+    ensures some { OnErr result (AddsFirst (routes_to value.now networks.now)
+        (entries_of table.old) (entries_of table.new)) }
+{
+    for network in networks {
+        add_route(table, *network, value, number, replaced, alloc)?;
+    }
+    Ok(())
+}
+
+// Gives a network a value, and lists it if it has another one.
 fn add_route(
     table: &mut Table,
     network: IpPrefix,
     value: &str,
+    line: usize,
+    replaced: &mut Vec<Replaced>,
     alloc: Global,
-) -> Result<Option<IpPrefix>, LoadError>
-    ensures added { IfOk result
-        (λ _. entries_of table.new ≡ with_route (entries_of table.old) (network, value.now)) }
-    ensures no_line { IfErr result IsRefusal }
+) -> Result<(), Refusal>
+    ensures added { OnOk result (entries_of table.new
+        ≡ with_entry (entries_of table.old) (ip_path network) value.now) }
+    ensures some { OnErr result ((entries_of table.new ≡ entries_of table.old)
+        ⊎ (entries_of table.new ≡ with_entry (entries_of table.old) (ip_path network) value.now)) }
+{
+    if !set_value(table, network, value, alloc)? {
+        return Ok(());
+    }
+    match replaced.push(Replaced { line, network }) {
+        Ok(()) => Ok(()),
+        Err(_) => Err(Refusal::Memory),
+    }
+}
+
+// Gives a network a value. Returns whether it has another one.
+fn set_value(
+    table: &mut Table,
+    network: IpPrefix,
+    value: &str,
+    alloc: Global,
+) -> Result<bool, Refusal>
+    ensures added { OnOk result (entries_of table.new
+        ≡ with_entry (entries_of table.old) (ip_path network) value.now) }
+    ensures unchanged { OnErr result (entries_of table.new ≡ entries_of table.old) }
 {
     let added = Value::new(value, alloc)?;
     let previous = table.insert(network, added)?;
     Ok(match previous {
-        Some(previous) if previous.as_str() != value => Some(network),
-        _ => None,
+        Some(previous) => previous.as_str() != value,
+        None => false,
     })
 }

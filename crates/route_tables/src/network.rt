@@ -2,7 +2,8 @@
 ghost use Rattle.std.specs.Prelude.{◌≡◌, MatchResult, false, true};
 ghost use Rattle.prefix_trie_joint.specs.Networks.{lowest_ip};
 ghost use Rattle.prefix_trie_joint.specs.declared.prefix.IpPrefix.{IpPrefix};
-ghost use Rattle.route_tables.specs.Networks.{IsNetworkText, IsTextBySlash, has_slash};
+ghost use Rattle.route_tables.specs.Networks.{IsNetworkText, IsReadAs, IsTextBySlash, has_slash};
+ghost use Rattle.route_tables.specs.declared.network.HostBits.{HostBits};
 
 use prefix_trie::{ParseNetworkError, Prefix};
 use prefix_trie_joint::IpPrefix;
@@ -10,6 +11,16 @@ use prefix_trie_joint::laws::ip_text_laws;
 use std::error::Error;
 use std::fmt::{self, Display, Formatter, Write};
 use std::net::IpAddr;
+
+/// What is done with a network that has host bits: bits of its address after its length that are not 0.
+#[derive(Clone, Copy, Debug, Default, PartialEq, Eq)]
+pub enum HostBits {
+    /// It is an error.
+    #[default]
+    Refused,
+    /// The host bits are set to 0.
+    Cleared,
+}
 
 /// Why a text is not a network of a table.
 #[derive(Clone, Copy, Debug, PartialEq, Eq)]
@@ -26,7 +37,7 @@ impl Display for NetworkError {
     fn fmt<W: Write>(&self, f: &mut Formatter<W>) -> fmt::Result {
         match self {
             NetworkError::Text(error) => Display::fmt(error, f),
-            NetworkError::Address => f.write_str("neither a network nor an address"),
+            NetworkError::Address => f.write_str("expected a network or an address"),
             NetworkError::HostBits => f.write_str("address has bits set after the length"),
         }
     }
@@ -52,11 +63,30 @@ impl Error for NetworkError {}
 /// parse_network("ten");              // Err(Address)
 /// ```
 pub fn parse_network(text: &str) -> Result<IpPrefix, NetworkError>
-    ensures { MatchResult result (IsNetworkText text.now)
-        (λ _. (network : IpPrefix) → ¬ (IsNetworkText text.now network)) }
+    ensures { MatchResult result (IsNetworkText HostBits.Refused text.now)
+        (λ _. (network : IpPrefix) → ¬ (IsNetworkText HostBits.Refused text.now network)) }
+{
+    parse_network_with(text, HostBits::Refused)
+}
+
+/// Reads a network or an address alone, as `parse_network` does, and clears host bits if they are to be cleared.
+///
+/// # Errors
+///
+/// Returns why the text is neither, as `parse_network` does.
+///
+/// # Examples
+///
+/// ```rust
+/// parse_network_with("10.0.0.1/8", HostBits::Cleared);       // Ok(V4(10.0.0.0/8))
+/// parse_network_with("10.0.0.1/8", HostBits::Refused);       // Err(HostBits)
+/// ```
+pub fn parse_network_with(text: &str, host_bits: HostBits) -> Result<IpPrefix, NetworkError>
+    ensures { MatchResult result (IsNetworkText host_bits text.now)
+        (λ _. (network : IpPrefix) → ¬ (IsNetworkText host_bits text.now network)) }
 {
     if has_slash(text) {
-        parse_with_length(text)
+        parse_with_length(text, host_bits)
     } else {
         parse_host(text)
     }
@@ -71,8 +101,8 @@ fn has_slash(text: &str) -> bool
 
 // Reads an address, as the network that has all its bits.
 fn parse_host(text: &str) -> Result<IpPrefix, NetworkError>
-    ensures { MatchResult result (IsTextBySlash false text.now)
-        (λ _. (network : IpPrefix) → ¬ (IsTextBySlash false text.now network)) }
+    ensures { (host_bits : HostBits) → MatchResult result (IsTextBySlash false host_bits text.now)
+        (λ _. (network : IpPrefix) → ¬ (IsTextBySlash false host_bits text.now network)) }
 {
     match text.parse::<IpAddr>() {
         Ok(address) => Ok(IpPrefix::host(address)),
@@ -80,15 +110,36 @@ fn parse_host(text: &str) -> Result<IpPrefix, NetworkError>
     }
 }
 
-// Reads a network without host bits.
-fn parse_with_length(text: &str) -> Result<IpPrefix, NetworkError>
-    ensures { MatchResult result (IsTextBySlash true text.now)
-        (λ _. (network : IpPrefix) → ¬ (IsTextBySlash true text.now network)) }
+// Reads a network with a length.
+fn parse_with_length(text: &str, host_bits: HostBits) -> Result<IpPrefix, NetworkError>
+    ensures { MatchResult result (IsTextBySlash true host_bits text.now)
+        (λ _. (network : IpPrefix) → ¬ (IsTextBySlash true host_bits text.now network)) }
 {
     ip_text_laws();
     match text.parse::<IpPrefix>() {
-        Ok(network) => refuse_host_bits(network),
+        Ok(network) => without_host_bits(network, host_bits),
         Err(error) => Err(NetworkError::Text(error)),
+    }
+}
+
+// Returns a network without its host bits, or an error if it has some that are refused.
+fn without_host_bits(network: IpPrefix, host_bits: HostBits) -> Result<IpPrefix, NetworkError>
+    ensures { MatchResult result (IsReadAs host_bits network)
+        (λ _. (other : IpPrefix) → ¬ (IsReadAs host_bits network other)) }
+{
+    match host_bits {
+        HostBits::Refused => refuse_host_bits(network),
+        HostBits::Cleared => Ok(lowest(network)),
+    }
+}
+
+// Returns a network with zeros for its host bits.
+fn lowest(network: IpPrefix) -> IpPrefix
+    ensures { result ≡ lowest_ip network }
+{
+    match network {
+        IpPrefix::V4(network) => IpPrefix::V4(network.trunc()),
+        IpPrefix::V6(network) => IpPrefix::V6(network.trunc()),
     }
 }
 

@@ -1,6 +1,6 @@
 //! Warnings of lines: the first ten, and how many more there are.
 
-use crate::load::Replaced;
+use crate::load::{BadLine, Replaced};
 use std::io::{self, Write};
 
 // The most lines that are named.
@@ -15,6 +15,16 @@ pub fn write_replaced<W: Write>(name: &str, lines: &[Replaced], out: &mut W) -> 
             out,
             "routes: {name}: line {line}: replaces the value of {network}"
         )?;
+    }
+    write_rest(name, lines.len().saturating_sub(MOST), out)
+}
+
+/// Writes the first ten lines of a table that are skipped, and the number of the others.
+///
+/// `name` is the name of the file.
+pub fn write_bad_lines<W: Write>(name: &str, lines: &[BadLine], out: &mut W) -> io::Result<()> {
+    for line in lines.iter().take(MOST) {
+        writeln!(out, "routes: {name}: skipped {line}")?;
     }
     write_rest(name, lines.len().saturating_sub(MOST), out)
 }
