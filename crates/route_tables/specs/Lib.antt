@@ -1,8 +1,11 @@
--- The definitions of this crate: lines and routes, networks, loaded tables, changes, access rules, fewest networks, and printed
+-- The definitions of this crate: lines and routes, networks, loaded tables, changes, access rules, sets of addresses, fewest networks, and printed
 -- lines.
 pub mod Access
+pub mod AddressRanges
+pub mod AddressSets
 pub mod Changes
 pub mod Fewest
+pub mod FewestCover
 pub mod Lines
 pub mod Loads
 pub mod Networks

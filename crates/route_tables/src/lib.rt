@@ -7,6 +7,7 @@
 #![tactic(auto)]
 
 pub mod access;
+pub mod address_sets;
 pub mod addresses;
 pub mod arguments;
 pub mod commands;
@@ -18,8 +19,10 @@ pub mod line;
 pub mod lines;
 pub mod load;
 pub mod lookup;
+pub mod matching;
 pub mod minimise;
 pub mod network;
+pub mod range;
 pub mod stats;
 pub mod table;
 mod text;

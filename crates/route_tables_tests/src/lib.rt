@@ -2,6 +2,8 @@
 #![tactic(auto)]
 
 #[cfg(test)]
+mod address_sets;
+#[cfg(test)]
 mod printing;
 #[cfg(test)]
 mod reading;
