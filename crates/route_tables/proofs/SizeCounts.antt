@@ -1,4 +1,4 @@
--- A loop that counts items by their sizes: for `by_length`.
+-- A loop that counts items by their sizes: for `count_listed`.
 use Rattle.std.proofs.Common.{◌≡◌, ℕ, suc, ◌+◌, ◌^◌, ◌<◌, eqb, cond, List, ◌∷◌, length, filter, get_or, set, sym, ap, subst, ◌∙◌, arith, inl, inr}
 use Rattle.std.proofs.lemmas.Bool.{cases_eq, eq-eqb, ne_eqb}
 use Rattle.std.proofs.lemmas.List.{get_or-set_other}

@@ -5,14 +5,18 @@
 
 use route_tables::access::first_other;
 use route_tables::addresses::{Address, parse_address};
-use route_tables::arguments::{Command, UsageError, parse};
-use route_tables::commands;
+use route_tables::arguments::{
+    Command, Comparison, Format, Invocation, Options, Question, Report, UsageError, parse,
+};
+use route_tables::commands::{print_answers, print_comparison, print_report, print_within};
 use route_tables::help::{HELP, VERSION};
-use route_tables::load::{Loaded, load};
-use route_tables::network::parse_network;
+use route_tables::load::{BadLines, Loaded, Reading, load};
+use route_tables::matching::{Selected, first_address, print_lines};
+use route_tables::network::{HostBits, parse_network};
 use route_tables::table::Table;
 use std::alloc::Global;
 use std::io::Write;
+use std::net::IpAddr;
 use std::str;
 use std::test::Fail;
 
@@ -24,6 +28,9 @@ const NEW: &str =
     "0.0.0.0/0 up\n10.0.0.0/8 core\n10.1.2.0/24 office\n10.64.0.0/10 vpn\n2001:db8::/32 six\n2001:db8:1::/48 lab\n";
 
 const ACCESS: &str = "10.0.0.0/8 allow\n10.1.0.0/16 deny\n10.1.2.0/24 allow\n::/0 allow\n";
+
+const LOG: &str =
+    "10.1.2.3 - GET /\nfrom 10.9.9.9:443.\n[2001:db8::1]:80\n12:30:45\n11.0.0.1, not 10.0.0.1\n";
 
 /// A command line, and what the command prints.
 type Printing = (&'static [&'static str], &'static str);
@@ -72,6 +79,44 @@ const PRINTINGS: &[Printing] = &[
         "10.9.9.9 allowed 10.0.0.0/8\ntrue\n",
     ),
     (&["check", "old", "10.9.9.9"], "0.0.0.0/0 up\n"),
+    (&["--version"], VERSION),
+    (
+        &["lookup", "--json", "new", "10.64.0.1", "::1"],
+        "{\"address\":\"10.64.0.1\",\"network\":\"10.64.0.0/10\",\"value\":\"vpn\"}\n{\"address\":\"::1\",\"network\":null,\"value\":null}\n",
+    ),
+    (
+        &["diff", "--json", "old", "new"],
+        "{\"change\":\"removed\",\"network\":\"10.1.0.0/16\",\"value\":\"core\"}\n{\"change\":\"changed\",\"network\":\"10.1.2.0/24\",\"old\":\"lab\",\"new\":\"office\"}\n{\"change\":\"added\",\"network\":\"10.64.0.0/10\",\"value\":\"vpn\"}\n{\"change\":\"removed\",\"network\":\"192.0.2.0/24\",\"value\":\"test\"}\n{\"change\":\"added\",\"network\":\"2001:db8:1::/48\",\"value\":\"lab\"}\n",
+    ),
+    (
+        &["list", "--json", "old", "10.1.0.0/16"],
+        "{\"network\":\"10.1.0.0/16\",\"value\":\"core\"}\n{\"network\":\"10.1.2.0/24\",\"value\":\"lab\"}\n",
+    ),
+    (&["union", "access"], "10.0.0.0/8\n::/0\n"),
+    (
+        &["intersect", "access", "new"],
+        "10.0.0.0/8\n2001:db8::/32\n",
+    ),
+    (
+        &["covered", "access", "new"],
+        "10.0.0.0/8 allow\n10.1.0.0/16 deny\n10.1.2.0/24 allow\n",
+    ),
+    (
+        &["count", "access"],
+        "IPv4 16777216\nIPv6 340282366920938463463374607431768211456\n",
+    ),
+    (
+        &["ranges", "access"],
+        "10.0.0.0-10.255.255.255\n::-ffff:ffff:ffff:ffff:ffff:ffff:ffff:ffff\n",
+    ),
+    (
+        &["match", "access"],
+        "10.1.2.3 - GET /\nfrom 10.9.9.9:443.\n[2001:db8::1]:80\ntrue\n",
+    ),
+    (
+        &["match", "-v", "access"],
+        "12:30:45\n11.0.0.1, not 10.0.0.1\ntrue\n",
+    ),
 ];
 
 /// Returns the table of a text by its name.
@@ -81,7 +126,7 @@ fn table(name: &str, alloc: Global) -> Result<Table, Fail> {
         "new" => NEW,
         _ => ACCESS,
     };
-    let Loaded { table, replaced: _ } = load(text.as_bytes(), alloc)?;
+    let Loaded { table, warnings: _ } = load(text.as_bytes(), Reading::default(), alloc)?;
     Ok(table)
 }
 
@@ -94,78 +139,128 @@ fn addresses<'a>(words: &[&'a str], alloc: Global) -> Result<Vec<Address<'a>>, F
     Ok(addresses)
 }
 
-fn lookup(name: &str, words: &[&str], out: &mut Vec<u8>, alloc: Global) -> Result<(), Fail> {
+/// Prints a report on the table of one name.
+fn report(
+    report: Report,
+    names: &[&str],
+    format: Format,
+    out: &mut Vec<u8>,
+    alloc: Global,
+) -> Result<(), Fail> {
+    let mut table = table(first(names), alloc)?;
+    print_report(&mut table, report, format, alloc, out)?;
+    Ok(())
+}
+
+/// Returns the first name.
+fn first<'a>(names: &[&'a str]) -> &'a str {
+    names.first().copied().unwrap_or("")
+}
+
+/// Prints the parts of a table in networks.
+fn within(
+    names: &[&str],
+    words: &[&str],
+    format: Format,
+    out: &mut Vec<u8>,
+    alloc: Global,
+) -> Result<(), Fail> {
+    let table = table(first(names), alloc)?;
+    for word in words {
+        print_within(&table, parse_network(word)?, format, alloc, out)?;
+    }
+    Ok(())
+}
+
+/// Compares two tables.
+fn compare(
+    comparison: Comparison,
+    left: &str,
+    right: &str,
+    format: Format,
+    out: &mut Vec<u8>,
+    alloc: Global,
+) -> Result<(), Fail> {
+    let left = table(left, alloc)?;
+    compare_with(comparison, &left, right, format, out, alloc)
+}
+
+fn compare_with(
+    comparison: Comparison,
+    left: &Table,
+    right: &str,
+    format: Format,
+    out: &mut Vec<u8>,
+    alloc: Global,
+) -> Result<(), Fail> {
+    let right = table(right, alloc)?;
+    print_comparison(left, &right, comparison, format, alloc, out)?;
+    Ok(())
+}
+
+/// Asks a table for addresses.
+fn ask(
+    question: Question,
+    names: &[&str],
+    words: &[&str],
+    format: Format,
+    out: &mut Vec<u8>,
+    alloc: Global,
+) -> Result<(), Fail> {
     let addresses = addresses(words, alloc)?;
-    commands::lookup(&table(name, alloc)?, addresses.as_slice(), out)?;
-    Ok(())
-}
-
-fn list(name: &str, out: &mut Vec<u8>, alloc: Global) -> Result<(), Fail> {
-    commands::list(&table(name, alloc)?, out)?;
-    Ok(())
-}
-
-fn list_within(name: &str, text: &str, out: &mut Vec<u8>, alloc: Global) -> Result<(), Fail> {
-    let network = parse_network(text)?;
-    commands::list_within(&table(name, alloc)?, network, out)?;
-    Ok(())
-}
-
-fn diff(old: &str, new: &str, out: &mut Vec<u8>, alloc: Global) -> Result<(), Fail> {
-    let old = table(old, alloc)?;
-    diff_to(&old, new, out, alloc)
-}
-
-fn diff_to(old: &Table, new: &str, out: &mut Vec<u8>, alloc: Global) -> Result<(), Fail> {
-    commands::diff(old, &table(new, alloc)?, alloc, out)?;
-    Ok(())
-}
-
-fn minimised(name: &str, out: &mut Vec<u8>, alloc: Global) -> Result<(), Fail> {
-    commands::minimise(&mut table(name, alloc)?, alloc, out)?;
-    Ok(())
-}
-
-fn aggregated(name: &str, out: &mut Vec<u8>, alloc: Global) -> Result<(), Fail> {
-    commands::aggregate(&table(name, alloc)?, alloc, out)?;
-    Ok(())
-}
-
-fn check(name: &str, words: &[&str], out: &mut Vec<u8>, alloc: Global) -> Result<(), Fail> {
-    let addresses = addresses(words, alloc)?;
-    check_in(&table(name, alloc)?, addresses.as_slice(), out)
+    let table = table(first(names), alloc)?;
+    match question {
+        Question::Lookup => {
+            print_answers(&table, addresses.as_slice(), question, format, alloc, out)?;
+            Ok(())
+        }
+        Question::Check => check_in(&table, addresses.as_slice(), out, alloc),
+    }
 }
 
 /// Prints what `check` prints and returns, or the first entry that is no rule.
-fn check_in(table: &Table, addresses: &[Address<'_>], out: &mut Vec<u8>) -> Result<(), Fail> {
+fn check_in(
+    table: &Table,
+    addresses: &[Address<'_>],
+    out: &mut Vec<u8>,
+    alloc: Global,
+) -> Result<(), Fail> {
     if let Some((network, value)) = first_other(table) {
         writeln!(out, "{network} {value}")?;
         return Ok(());
     }
-    let are_allowed = commands::check(table, addresses, out)?;
+    let are_allowed = print_answers(table, addresses, Question::Check, Format::Text, alloc, out)?;
     writeln!(out, "{are_allowed}")?;
     Ok(())
 }
 
-fn stats(name: &str, out: &mut Vec<u8>, alloc: Global) -> Result<(), Fail> {
-    commands::stats(&table(name, alloc)?, alloc, out)?;
+/// Prints the lines of a text that match a table, and whether there are any.
+fn filter(
+    names: &[&str],
+    selected: Selected,
+    out: &mut Vec<u8>,
+    alloc: Global,
+) -> Result<(), Fail> {
+    let table = table(first(names), alloc)?;
+    let is_any = print_lines(&table, LOG.as_bytes(), selected, out)?;
+    writeln!(out, "{is_any}")?;
     Ok(())
 }
 
 /// Carries out a command line.
 fn carry_out(words: &[&str], out: &mut Vec<u8>, alloc: Global) -> Result<(), Fail> {
-    match parse(words)? {
-        Command::Help => Ok(out.extend_from_slice(HELP.as_bytes())?),
-        Command::Topic(text) => Ok(out.extend_from_slice(text.as_bytes())?),
-        Command::Version => Ok(out.extend_from_slice(VERSION.as_bytes())?),
-        Command::Lookup(name, words, _) => lookup(name, words, out, alloc),
-        Command::List(name) => list(name, out, alloc),
-        Command::ListWithin(name, network) => list_within(name, network, out, alloc),
-        Command::Diff(old, new) => diff(old, new, out, alloc),
-        Command::Minimise(name) => minimised(name, out, alloc),
-        Command::Aggregate(name) => aggregated(name, out, alloc),
-        Command::Check(name, words, _) => check(name, words, out, alloc),
-        Command::Stats(name) => stats(name, out, alloc),
+    let Ok(Invocation { command, options }) = parse(words) else {
+        writeln!(out, "bad usage")?;
+        return Ok(());
+    };
+    let format = options.format;
+    match command {
+        Command::Print(text) => Ok(out.extend_from_slice(text.as_bytes())?),
+        Command::Report(kind, names) => report(kind, names, format, out, alloc),
+        Command::Within(names, words) => within(names, words, format, out, alloc),
+        Command::Compare(kind, left, right) => compare(kind, left, right, format, out, alloc),
+        Command::Ask(kind, names, words) => ask(kind, names, words, format, out, alloc),
+        Command::Match(names, _) => filter(names, options.selected, out, alloc),
     }
 }
 
@@ -192,7 +287,7 @@ fn stats_count(rt: HostRuntime) -> Result<(), Fail> {
     let out = printed(&["stats", "old"], rt.alloc())?;
     let text = str::from_utf8(out.as_slice())?;
     assert!(rt; text.starts_with("IPv4\n  entries    5\n"));
-    assert!(rt; text.contains("\n  addresses  all\n"));
+    assert!(rt; text.contains("\n  addresses  4294967296\n"));
     assert!(rt;
         text.contains(
             "\n  /0           1 #\n  /8           1 #\n  /16          1 #\n  /24          2 ##\nIPv6\n  entries    1\n"
@@ -202,13 +297,81 @@ fn stats_count(rt: HostRuntime) -> Result<(), Fail> {
     Ok(())
 }
 
-/// Command lines that are refused.
-const REFUSED: &[&[&str]] = &[&[], &["lookup"], &["diff", "old"], &["merge", "old", "new"]];
+/// Command lines that are refused, and why.
+const REFUSED: &[(&[&str], UsageError<'static>)] = &[
+    (&[], UsageError::Empty),
+    (&["lookup"], UsageError::Arguments("lookup")),
+    (&["lookup", "--", "::1"], UsageError::Arguments("lookup")),
+    (&["diff", "old"], UsageError::Arguments("diff")),
+    (&["merge", "old", "new"], UsageError::Command("merge")),
+    (&["help", "merge"], UsageError::Command("merge")),
+    (&["list", "--jsn", "old"], UsageError::Option("--jsn")),
+    (
+        &["aggregate", "--json", "old"],
+        UsageError::Arguments("aggregate"),
+    ),
+    (&["list", "-v", "old"], UsageError::Arguments("list")),
+];
 
 #[test]
-fn unknown_commands_are_refused(rt: HostRuntime) -> Result<(), Fail> {
-    for words in REFUSED {
-        assert!(rt; parse(words) == Err(UsageError));
+fn unknown_commands_are_refused(rt: HostRuntime) {
+    for (words, error) in REFUSED {
+        assert!(rt; parse(words) == Err(*error));
+    }
+}
+
+#[test]
+fn options_are_read(rt: HostRuntime) -> Result<(), Fail> {
+    let words = [
+        "match",
+        "--skip-bad",
+        "--clear-host-bits",
+        "-q",
+        "-v",
+        "old",
+        "new",
+        "--",
+        "-",
+    ];
+    let options = Options {
+        reading: Reading {
+            host_bits: HostBits::Cleared,
+            bad_lines: BadLines::Skipped,
+        },
+        format: Format::Text,
+        is_quiet: true,
+        selected: Selected::Others,
+    };
+    assert!(rt; parse(&words).map(|read| read.options == options) == Ok(true));
+    assert!(rt;
+        parse(&words).map(|read| read.command == Command::Match(&["old", "new"], &["-"]))
+            == Ok(true)
+    );
+    Ok(())
+}
+
+/// Lines, and the first address of each.
+const LINES: &[(&[u8], Option<&str>)] = &[
+    (b"", None),
+    (b"10.0.0.1", Some("10.0.0.1")),
+    (b"a 10.0.0.1:443 b", Some("10.0.0.1")),
+    (b"10.0.0.256 10.0.0.2.", Some("10.0.0.2")),
+    (b"add:10.0.0.1", Some("10.0.0.1")),
+    (b"[2001:db8::1]:80", Some("2001:db8::1")),
+    (b"fe80::1%eth0", Some("fe80::1")),
+    (b"::ffff:10.0.0.1", Some("::ffff:10.0.0.1")),
+    (b"12:30:45 1.2.3", None),
+    (b"\xff10.0.0.1\xff", Some("10.0.0.1")),
+];
+
+#[test]
+fn first_addresses_are_found(rt: HostRuntime) -> Result<(), Fail> {
+    for (line, text) in LINES {
+        let address = match text {
+            Some(text) => Some(text.parse::<IpAddr>()?),
+            None => None,
+        };
+        assert!(rt; first_address(line) == address);
     }
     Ok(())
 }
