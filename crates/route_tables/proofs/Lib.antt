@@ -1,27 +1,17 @@
 -- The lemmas of this crate: loading lines, comparing tables, coverage by a rule, host bits, ranges, paths of networks, ranks of values,
 -- counting by length, texts of networks, and the networks and ranges that cover addresses.
-pub mod AddressRanges
-pub mod AddressSets
 pub mod SizeCounts
 pub mod Decimals
 pub mod Decisions
 pub mod LineTexts
 pub mod Changes
-pub mod CoverLists
-pub mod CoveredEntries
-pub mod CoverLoops
-pub mod CoverSteps
-pub mod FewestCovers
+pub mod Covers
 pub mod HostBits
-pub mod LastItems
 pub mod Lists
 pub mod Loads
-pub mod NetworkOrder
 pub mod Paths
 pub mod Printing
 pub mod Ranges
 pub mod Ranking
 pub mod Ranks
 pub mod Renaming
-pub mod Siblings
-pub mod WholeNetworks

@@ -2,7 +2,7 @@
 use Rattle.std.proofs.Common.{◌∙◌, ◌&&◌, ap₂, inl, inr, sym}
 use Rattle.std.proofs.lemmas.Result.{err_from_is_err_and}
 use Rattle.prefix_trie_joint.proofs.Matches.{covered_ipv4, covered_ipv6}
-use Rattle.route_tables.proofs.AddressSets.{covered_joined, exceeds_same, smallest_joined}
+use Rattle.route_tables.proofs.Covers.AddressSets.{covered_joined, exceeds_same, smallest_joined}
 use Rattle.route_tables.proofs.address_sets.intersection.Goals as goal
 
 pub returns-in_err-ipv4-clause-range : goal.returns-in_err-ipv4-clause-range

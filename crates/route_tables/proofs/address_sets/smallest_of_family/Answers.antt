@@ -5,7 +5,7 @@ use Rattle.std.proofs.lemmas.Result.{IfErr-weaker, IfOk-weaker}
 use Rattle.prefix_trie.specs.Terms.{as_item, no_entries, put_all}
 use Rattle.prefix_trie_fib.specs.Addresses.{is_covered}
 use Rattle.prefix_trie_fib.proofs.Sets.{HasKeys, put_keys, set_covers, set_exceeds, set_smallest}
-use Rattle.route_tables.proofs.FewestCovers.{is_kept}
+use Rattle.route_tables.proofs.Covers.FewestCovers.{is_kept}
 use Rattle.route_tables.proofs.address_sets.smallest_of_family.Goals as goal
 
 pub returns-clause-covered : goal.returns-clause-covered

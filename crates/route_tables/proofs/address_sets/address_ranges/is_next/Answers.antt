@@ -3,7 +3,7 @@ use Rattle.std.proofs.Common.{◌≡◌, ◌∙◌, ◌+◌, ap, arith, is_eq, s
 use Rattle.std.specs.Bool.{IsTrue}
 use Rattle.prefix_trie.specs.Terms.{number}
 use Rattle.prefix_trie_bits.specs.BitStrings.{number-below}
-use Rattle.route_tables.proofs.AddressRanges.{same_address}
+use Rattle.route_tables.proofs.Covers.AddressRanges.{same_address}
 use Rattle.route_tables.proofs.address_sets.address_ranges.is_next.Goals as goal
 
 pub returns-in-Some : goal.returns-in-Some

@@ -2,7 +2,7 @@
 use Rattle.std.proofs.Common.{◌≡◌, ◌∙◌, ◌+◌, ◌-◌, ◌*◌, ◌^◌, ◌%◌, ◌<◌, ◌≤◌, ◌++◌, ap, arith, length, subst, sym, take}
 use Rattle.std.proofs.lemmas.Nat.{one_shl}
 use Rattle.prefix_trie.specs.Terms.{digits, zeros}
-use Rattle.route_tables.proofs.AddressRanges.{ones_added}
+use Rattle.route_tables.proofs.Covers.AddressRanges.{ones_added}
 use Rattle.route_tables.proofs.address_sets.address_ranges.last_of.Goals as goal
 
 pub loop-depth-preserved : goal.loop-depth-preserved

@@ -3,7 +3,7 @@ use Rattle.std.proofs.Common.{rules, ◌≡◌, ◌∙◌, ◌+◌, ◌-◌, Som
 use Rattle.std.specs.List.{slice_get}
 use Rattle.prefix_trie.specs.Terms.{last_item}
 use Rattle.prefix_trie_ops.proofs.Chains.{last-get}
-use Rattle.route_tables.proofs.AddressRanges.{last_as_numbers, not_next}
+use Rattle.route_tables.proofs.Covers.AddressRanges.{last_as_numbers, not_next}
 use Rattle.route_tables.proofs.address_sets.address_ranges.pop_touching.Goals as goal
 
 pub returns-then-not-is_next : goal.returns-then-not-is_next

@@ -3,7 +3,7 @@ use Rattle.std.proofs.Common.{All, map, subst, sym}
 use Rattle.prefix_trie_bits.specs.Keys.{path_length}
 use Rattle.prefix_trie_fib.proofs.CutKeys.{first_of}
 use Rattle.route_tables.specs.FewestCover.{AreFewestOf, IsBare}
-use Rattle.route_tables.proofs.AddressRanges.{all_ranges, next_range}
+use Rattle.route_tables.proofs.Covers.AddressRanges.{all_ranges, next_range}
 use Rattle.route_tables.proofs.address_sets.address_ranges.ranges.Goals as goal
 
 pub loop-network-preserved : goal.loop-network-preserved

@@ -4,7 +4,7 @@ use Rattle.std.proofs.lemmas.Result.{on_ok_weaker}
 use Rattle.prefix_trie.specs.Terms.{last_item}
 use Rattle.prefix_trie_bits.specs.Keys.{path_within}
 use Rattle.prefix_trie_ops.specs.Covered.{contains_path}
-use Rattle.route_tables.proofs.CoverLists.{added_after, added_within}
+use Rattle.route_tables.proofs.Covers.CoverLists.{added_after, added_within}
 use Rattle.route_tables.proofs.address_sets.cover.add_network.Goals as goal
 
 pub returns-then-is_within_last-clause-fewest : goal.returns-then-is_within_last-clause-fewest

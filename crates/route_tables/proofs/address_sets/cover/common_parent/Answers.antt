@@ -1,7 +1,7 @@
 -- A network one bit shorter than two of one length has both as halves exactly if it contains both.
 use Rattle.std.proofs.Common.{◌≡◌, ◌∙◌, arith, length, sym}
 use Rattle.prefix_trie_bits.specs.Keys.{path_length}
-use Rattle.route_tables.proofs.Siblings.{no_siblings_of, siblings_long, siblings_of}
+use Rattle.route_tables.proofs.Covers.Siblings.{no_siblings_of, siblings_long, siblings_of}
 use Rattle.route_tables.proofs.address_sets.cover.common_parent.Goals as goal
 use Rattle.route_tables.proofs.address_sets.cover.common_parent.Goals.{then-len-eq0-via-then-len-eq0, then-len-eq0-via-else-len-eq0+then-prefix_len-len}
 

@@ -4,8 +4,8 @@ use Rattle.std.proofs.lemmas.List.Elements.{All-nil}
 use Rattle.prefix_trie.specs.Terms.{listing_cmp}
 use Rattle.prefix_trie_bits.specs.Keys.{path_back}
 use Rattle.route_tables.specs.FewestCover.{AreFewestSoFar, IsBare}
-use Rattle.route_tables.proofs.CoverLoops.{bare_back, cover_end, cover_start, next_comes}
-use Rattle.route_tables.proofs.CoverSteps.{none_read}
+use Rattle.route_tables.proofs.Covers.CoverLoops.{bare_back, cover_end, cover_start, next_comes}
+use Rattle.route_tables.proofs.Covers.CoverSteps.{none_read}
 use Rattle.route_tables.proofs.address_sets.cover.fewest_cover.Goals as goal
 
 pub loop-network-init : goal.loop-network-init

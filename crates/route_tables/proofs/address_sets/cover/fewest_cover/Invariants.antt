@@ -1,7 +1,7 @@
 -- The invariant: the networks are the fewest that cover those read so far.
 use Rattle.std.proofs.Common.{All}
 use Rattle.route_tables.specs.FewestCover.{IsBare}
-use Rattle.route_tables.proofs.CoverLoops.{CoverSoFar}
+use Rattle.route_tables.proofs.Covers.CoverLoops.{CoverSoFar}
 use Rattle.route_tables.proofs.address_sets.cover.fewest_cover.Given as goal
 
 abbrev pub invariant-loop-network : goal.invariant-loop-network

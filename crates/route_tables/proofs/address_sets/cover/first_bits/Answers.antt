@@ -2,7 +2,7 @@
 use Rattle.std.proofs.Common.{◌≡◌, ◌∙◌, ◌-◌, ◌++◌, ap₂, sym, subst, take}
 use Rattle.prefix_trie.specs.Terms.{zeros}
 use Rattle.route_tables.specs.FewestCover.{IsBare}
-use Rattle.route_tables.proofs.Siblings.{first_bare, first_path}
+use Rattle.route_tables.proofs.Covers.Siblings.{first_bare, first_path}
 use Rattle.route_tables.proofs.address_sets.cover.first_bits.Goals as goal
 
 pub returns-clause-path : goal.returns-clause-path

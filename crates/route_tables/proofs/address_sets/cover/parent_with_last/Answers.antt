@@ -3,7 +3,7 @@ use Rattle.std.proofs.Common.{rules, ◌≡◌, ◌∙◌, ◌-◌, Some, length
 use Rattle.std.specs.List.{slice_get}
 use Rattle.prefix_trie_ops.proofs.Chains.{last-get}
 use Rattle.route_tables.specs.FewestCover.{IsBare}
-use Rattle.route_tables.proofs.CoverLists.{found_with_last}
+use Rattle.route_tables.proofs.Covers.CoverLists.{found_with_last}
 use Rattle.route_tables.proofs.address_sets.cover.parent_with_last.Goals as goal
 
 pub returns-in-Some : goal.returns-in-Some

@@ -4,7 +4,7 @@ use Rattle.std.proofs.lemmas.List.Elements.{All-pop}
 use Rattle.prefix_trie.specs.Terms.{last_item}
 use Rattle.prefix_trie_ops.proofs.Chains.{popped_item}
 use Rattle.route_tables.specs.FewestCover.{AreFewestSoFar, AreSiblings, IsBare}
-use Rattle.route_tables.proofs.CoverLists.{found_nothing, merged_end, merged_on}
+use Rattle.route_tables.proofs.Covers.CoverLists.{found_nothing, merged_end, merged_on}
 use Rattle.route_tables.proofs.address_sets.cover.push_merged.Goals as goal
 
 pub loop-parent-preserved : goal.loop-parent-preserved

@@ -1,5 +1,5 @@
 -- The networks that some key of the smallest set contains are those all of whose addresses the set covers.
-use Rattle.route_tables.proofs.CoveredEntries.{are_covered}
+use Rattle.route_tables.proofs.Covers.CoveredEntries.{are_covered}
 use Rattle.route_tables.proofs.address_sets.covered_entries.covered.Goals as goal
 
 pub returns-clause-entries : goal.returns-clause-entries

@@ -3,7 +3,7 @@ use Rattle.std.proofs.Common.{◌≡◌, ◌∙◌, ◌++◌, ◌∷◌, [], ap,
 use Rattle.prefix_trie.specs.Terms.{lent_item}
 use Rattle.prefix_trie_bits.specs.Keys.{fits_back, path_back}
 use Rattle.prefix_trie_fib.specs.Addresses.{is_covered}
-use Rattle.route_tables.proofs.CoveredEntries.{KeptSoFar, kept_end, kept_next, kept_start, push_lent}
+use Rattle.route_tables.proofs.Covers.CoveredEntries.{KeptSoFar, kept_end, kept_next, kept_start, push_lent}
 use Rattle.route_tables.proofs.address_sets.covered_entries.entries_below.Goals as goal
 
 pub loop-network-init : goal.loop-network-init

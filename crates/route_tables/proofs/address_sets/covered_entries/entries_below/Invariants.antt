@@ -2,7 +2,7 @@
 use Rattle.std.proofs.Common.{map}
 use Rattle.prefix_trie.specs.Terms.{lent_item}
 use Rattle.prefix_trie_fib.specs.Addresses.{is_covered}
-use Rattle.route_tables.proofs.CoveredEntries.{KeptSoFar}
+use Rattle.route_tables.proofs.Covers.CoveredEntries.{KeptSoFar}
 use Rattle.route_tables.proofs.address_sets.covered_entries.entries_below.Given as goal
 
 abbrev pub invariant-loop-network : goal.invariant-loop-network

@@ -17,8 +17,8 @@ use Rattle.prefix_trie_fib.proofs.Blocks.{past_within, some_address}
 use Rattle.prefix_trie_fib.proofs.Covering.{any_has, has_any, is_shortest}
 use Rattle.prefix_trie_fib.proofs.CutIntervals.{begins_within, within_begins}
 use Rattle.route_tables.specs.FewestCover.{AreFewestOf, AreFewestSoFar}
-use Rattle.route_tables.proofs.NetworkOrder.{contains_block, same_item}
-use Rattle.route_tables.proofs.WholeNetworks.{whole}
+use Rattle.route_tables.proofs.Covers.NetworkOrder.{contains_block, same_item}
+use Rattle.route_tables.proofs.Covers.WholeNetworks.{whole}
 
 module _ {T : Type 0} (laws : MatchLaws T) (w : ℕ) (m : Entries T) where
   -- a map covers an address exactly if some key begins it

@@ -11,8 +11,8 @@ use Rattle.prefix_trie_bits.specs.Laws.Matches.{MatchLaws}
 use Rattle.prefix_trie_fib.specs.Addresses.{is_covered, IsSmallest}
 use Rattle.prefix_trie_fib.proofs.RangeValues.{get_or-any}
 use Rattle.route_tables.specs.AddressSets.{AreCoveredEntries, CoversAll}
-use Rattle.route_tables.proofs.FewestCovers.{covered_by_key, key_of_covered}
-use Rattle.route_tables.proofs.WholeNetworks.{whole}
+use Rattle.route_tables.proofs.Covers.FewestCovers.{covered_by_key, key_of_covered}
+use Rattle.route_tables.proofs.Covers.WholeNetworks.{whole}
 
 module _ {U : Type 0} (laws : MatchLaws (Unit {0})) (w : ℕ) (set : Entries (Unit {0})) (by : Entries U) (smallest : IsSmallest w set) (same : (q : List Bool) → length q ≡ w → is_covered set q ≡ is_covered by q) where
   -- some key of a smallest set contains a network exactly if the set covers all its addresses

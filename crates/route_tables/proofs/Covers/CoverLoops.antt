@@ -11,7 +11,7 @@ use Rattle.prefix_trie_bits.specs.Laws.Listings.{ListingLaws}
 use Rattle.prefix_trie_bits.specs.Laws.Matches.{MatchLaws}
 use Rattle.prefix_trie_bits.specs.Model.Keys.{PrefixLaws}
 use Rattle.route_tables.specs.FewestCover.{AreFewestOf, AreFewestSoFar, IsBare}
-use Rattle.route_tables.proofs.FewestCovers.{all_read}
+use Rattle.route_tables.proofs.Covers.FewestCovers.{all_read}
 use Rattle.route_tables.proofs.Lists.{from_map, in_here, in_later, in_map}
 
 module _ {P T : Type 0} (w : ℕ) (path : P → List Bool) (back : List Bool → P) (m : Entries T) where

@@ -17,7 +17,7 @@ use Rattle.prefix_trie_joint_ops.specs.Smallest.{IsAddress}
 use Rattle.prefix_trie_ops.specs.SmallestSets as sets
 use Rattle.prefix_trie_ops.proofs.Bounds.{retained_fewer}
 use Rattle.route_tables.specs.AddressSets.{IsSmallestSet}
-use Rattle.route_tables.proofs.FewestCovers.{covered_by_key, key_of_covered}
+use Rattle.route_tables.proofs.Covers.FewestCovers.{covered_by_key, key_of_covered}
 
 module _ (a b : Entries (Unit {0})) where
   -- no key begins another

@@ -19,8 +19,8 @@ use Rattle.prefix_trie_fib.proofs.CutIntervals.{begins_within, number_parts, num
 use Rattle.prefix_trie_ops.proofs.Chains.{last-map, last-push}
 use Rattle.route_tables.specs.AddressRanges.{as_numbers, AddsRange, AreApart, AreRangesOf}
 use Rattle.route_tables.specs.FewestCover.{AreFewestOf}
-use Rattle.route_tables.proofs.CoverSteps.{none_in}
-use Rattle.route_tables.proofs.LastItems.{split_last}
+use Rattle.route_tables.proofs.Covers.CoverSteps.{none_in}
+use Rattle.route_tables.proofs.Covers.LastItems.{split_last}
 
 -- ---- addresses as numbers
 

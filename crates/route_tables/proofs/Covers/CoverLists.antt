@@ -7,8 +7,8 @@ use Rattle.prefix_trie_fib.specs.Line.{first_address, past_address}
 use Rattle.prefix_trie_ops.specs.Covered.{contains_path}
 use Rattle.prefix_trie_ops.proofs.Chains.{last-push}
 use Rattle.route_tables.specs.FewestCover.{AreFewestSoFar, AreSiblings, CoverRead, HaveNoHalves, IsBare}
-use Rattle.route_tables.proofs.CoverSteps.{after_last, all_before, halves_merged, no_more_halves, none_in, one_without_halves, read_after, read_within, without_last}
-use Rattle.route_tables.proofs.LastItems.{split_last}
+use Rattle.route_tables.proofs.Covers.CoverSteps.{after_last, all_before, halves_merged, no_more_halves, none_in, one_without_halves, read_after, read_within, without_last}
+use Rattle.route_tables.proofs.Covers.LastItems.{split_last}
 
 -- a search that finds nothing
 pub found_nothing : {X : Type 0} (found : Option X) (A : Type 0) (B : X → Type 0) → ((x : X) → found ≡ Some x → ⊥) → MatchOption found A B → A
