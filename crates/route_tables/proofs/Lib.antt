@@ -3,6 +3,7 @@
 pub mod SizeCounts
 pub mod Decimals
 pub mod Decisions
+pub mod FirstBytes
 pub mod LineTexts
 pub mod Changes
 pub mod Covers

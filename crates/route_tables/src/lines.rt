@@ -4,20 +4,14 @@ ghost use Rattle.std.specs.Char.{is_ascii_whitespace};
 ghost use Rattle.std.specs.List.{position, position_or_len};
 ghost use Rattle.route_tables.specs.Lines.{after_mark, fields, has_bare_return, lines, words};
 
+use memchr::memchr;
+
 // Returns the number of bytes before the first line feed, or of all bytes.
-#[tactic(auto, using(crate::proofs::LineTexts::or_length))]
+#[tactic(auto, using(crate::proofs::FirstBytes::first_or_length))]
 fn line_len(text: &[u8]) -> usize
     ensures { result ≡ position_or_len (λ b. b == 10) text.now }
 {
-    line_end(text).unwrap_or(text.len())
-}
-
-// Returns the index of the first line feed.
-// It is apart from `line_len` so that tactics prove both.
-fn line_end(text: &[u8]) -> Option<usize>
-    ensures { result ≡ position (λ b. b == 10) text.now }
-{
-    text.iter().position(|byte| *byte == b'\n')
+    memchr(b'\n', text).unwrap_or(text.len())
 }
 
 // Returns the number of bytes before the first white space, or of all bytes.
@@ -106,9 +100,9 @@ pub fn split_field(text: &[u8]) -> Option<(&[u8], &[u8])>
 /// Returns whether a carriage return is before the last byte of a line.
 ///
 /// A line feed follows only one at the end.
+#[tactic(auto, using(crate::proofs::FirstBytes::first_is_some))]
 pub fn has_bare_return(line: &[u8]) -> bool
     ensures { result ≡ has_bare_return line.now }
 {
-    let before_end = &line[..line.len().saturating_sub(1)];
-    before_end.iter().any(|byte| *byte == b'\r')
+    memchr(b'\r', &line[..line.len().saturating_sub(1)]).is_some()
 }
