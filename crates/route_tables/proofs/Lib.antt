@@ -10,6 +10,7 @@ pub mod Covers
 pub mod HostBits
 pub mod Lists
 pub mod Loads
+pub mod OneValue
 pub mod Paths
 pub mod Printing
 pub mod Ranges

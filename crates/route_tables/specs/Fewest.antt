@@ -1,5 +1,5 @@
 -- The fewest networks with the same longest matches, and the ranks of values. This project's own.
-use Rattle.std.specs.Prelude.{◌≡◌, ℕ, ◌<◌, ◌≤◌, Bool, List, [], length, map, bytes_eq, IfSome}
+use Rattle.std.specs.Prelude.{◌≡◌, ℕ, ◌<◌, ◌≤◌, Bool, List, [], length, map, bytes_eq, Some, IfSome}
 use Rattle.std.specs.Borrow.{Bor}
 use Rattle.std.specs.FinMap.{get}
 use Rattle.std.specs.List.{slice_index_or, IsDistinct}
@@ -15,6 +15,10 @@ pub record IsFewest {P : Type 0} (width : ℕ) (back : List Bool → P) (m : Val
   pub listed : networks ≡ prefix_pairs back (listing smallest)
   pub same : HaveSameAnswers width smallest m
   pub fewest : IsSmallest width smallest
+
+-- each network of a table has this value
+abbrev pub HasOnly : List ℕ → Values → Type 0
+HasOnly value m = (s : List Bool) (v : List ℕ) → get m s ≡ Some v → v ≡ value
 
 -- the texts that are borrowed
 abbrev pub texts_of : List (Bor (List ℕ)) → List (List ℕ)

@@ -1,12 +1,13 @@
 //! The fewest networks that give each address the value of its longest match.
-ghost use Rattle.std.specs.Prelude.{◌≡◌, IfOk, map};
+ghost use Rattle.std.specs.Prelude.{◌≡◌, IfOk, IfSome, map};
 ghost use Rattle.prefix_trie.specs.Terms.{lent_item};
-ghost use Rattle.route_tables.specs.Fewest.{HasRanks, IsFewest, Ranks, named_pairs, text_at, texts_of};
+ghost use Rattle.route_tables.specs.Fewest.{HasOnly, HasRanks, IsFewest, Ranks, named_pairs, text_at, texts_of};
 
+use crate::address_sets::fewest_cover;
 use crate::table::FamilyTable;
 use crate::value::Value;
 use indexmap::IndexSet;
-use prefix_trie::laws::{lookup_laws, put_laws};
+use prefix_trie::laws::{listing_laws, lookup_laws, match_laws, put_laws};
 use prefix_trie::{Prefix, PrefixMap, Refusal};
 use prefix_trie_ops::map::aggregate;
 use std::alloc::{AllocError, Global};
@@ -25,8 +26,70 @@ use std::alloc::{AllocError, Global};
 /// let table = load(b"10.0.0.0/9 core\n10.128.0.0/9 core\n10.1.0.0/16 edge\n", alloc)?.table;
 /// fewest_networks(&table.ipv4, alloc)?.iter();        // [(10.0.0.0/8, "core"), (10.1.0.0/16, "edge")]
 /// ```
-#[tactic(auto, using(crate::proofs::Ranks::fewest_by_ranks))]
 pub fn fewest_networks<P: Prefix>(
+    table: &FamilyTable<P>,
+    alloc: Global,
+) -> Result<Vec<(P, &str)>, Refusal>
+    ensures { IfOk result
+        (λ networks. IsFewest P.R.bit_width P.back table.now.entries
+        (map lent_item networks.items)) }
+{
+    match only_value(table) {
+        Some(value) => Ok(fewest_with(table, value, alloc)?),
+        None => fewest_by_ranks(table, alloc),
+    }
+}
+
+// Returns the value that all networks of a table have, or `None` if there is no network or two values differ.
+fn only_value<P: Prefix>(table: &FamilyTable<P>) -> Option<&str>
+    ensures { IfSome result (λ value. HasOnly value.now table.now.entries) }
+{
+    listing_laws::<Value>();
+    let mut values = table.values();
+    let first = values.next()?.as_str();
+    for value in values {
+        if value.as_str() != first {
+            return None;
+        }
+    }
+    Some(first)
+}
+
+// Returns the fewest networks of a table in which all networks have this value.
+fn fewest_with<'a, P: Prefix>(
+    table: &FamilyTable<P>,
+    value: &'a str,
+    alloc: Global,
+) -> Result<Vec<(P, &'a str)>, AllocError>
+    requires { HasOnly value.now table.now.entries }
+    ensures { IfOk result
+        (λ networks. IsFewest P.R.bit_width P.back table.now.entries
+        (map lent_item networks.items)) }
+{
+    lookup_laws::<P, Value>();
+    match_laws::<Value>();
+    listing_laws::<Value>();
+    let networks = fewest_cover(table, alloc)?;
+    each_with(networks, value, alloc)
+}
+
+// Returns the networks, each with this value.
+fn each_with<P: Prefix>(
+    networks: Vec<P, Global>,
+    value: &str,
+    alloc: Global,
+) -> Result<Vec<(P, &str)>, AllocError>
+    ensures { IfOk result (λ pairs. pairs.items ≡ map (λ p. (p, value.entry)) networks.items) }
+{
+    networks
+        .into_iter()
+        .map(move |network| (network, value))
+        .collect(alloc)
+}
+
+// Returns the fewest networks by the ranks of their values.
+#[tactic(auto, using(crate::proofs::Ranks::fewest_by_ranks))]
+fn fewest_by_ranks<P: Prefix>(
     table: &FamilyTable<P>,
     alloc: Global,
 ) -> Result<Vec<(P, &str)>, Refusal>

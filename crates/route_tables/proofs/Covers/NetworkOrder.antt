@@ -1,5 +1,5 @@
 -- Networks as blocks of addresses: which contain others, and lists of them in order.
-use Rattle.std.proofs.Common.{◌≡◌, ◌∙◌, ◌+◌, ◌-◌, ◌<◌, ◌≤◌, ℕ, Bool, true, false, List, [], ◌∷◌, ◌++◌, length, get_or, Less, Equal, Greater, inl, inr, refl, sym, ap, ap₂, subst, arith, length-append}
+use Rattle.std.proofs.Common.{◌≡◌, ◌∙◌, ◌+◌, ◌-◌, ◌<◌, ◌≤◌, ℕ, suc, Bool, true, false, List, [], ◌∷◌, ◌++◌, length, get_or, Less, Equal, Greater, inl, inr, refl, sym, ap, ap₂, subst, arith, length-append}
 use Rattle.std.proofs.Math.Seq.{get_or-append_seam}
 use Rattle.std.proofs.lemmas.Bool.{cases_lt}
 use Rattle.std.proofs.lemmas.List.{get_or_append_left}
@@ -70,6 +70,16 @@ module _ (w : ℕ) where
       let a = ap (past_address w) (get_or_append_left ss (s ∷ []) [] j (omega (arith, lt, inside))) in
       let b = ap (first_address w) (get_or_append_left ss (s ∷ []) [] k inside) in
       omega (arith, o, a, b)
+
+  pub in_order_tail : (s : List Bool) (ss : List (List Bool)) → AreInOrder w (s ∷ ss) → AreInOrder w ss
+  in_order_tail s ss order j k lt inside = order (suc j) (suc k) (omega (arith, lt)) (omega (arith, inside))
+
+  -- those after the first one begin after it ends
+  pub after_first : (s : List Bool) (ss : List (List Bool)) → AreInOrder w (s ∷ ss) → (t : List Bool) → Contains ss t → past_address w s ≤ first_address w t
+  after_first s ss order t (k, inside, is) =
+      let o = order 0 (suc k) (omega arith) (omega (arith, inside)) in
+      let e = ap (first_address w) (get_or-any ss k [] t inside ∙ is) in
+      omega (arith, o, e)
 
   -- those before the last one end before it begins
   pub before_last : (ss : List (List Bool)) (s : List Bool) → AreInOrder w (ss ++ s ∷ []) → (t : List Bool) → Contains ss t → past_address w t ≤ first_address w s

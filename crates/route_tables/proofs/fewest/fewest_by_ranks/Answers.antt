@@ -4,7 +4,7 @@ use Rattle.std.proofs.lemmas.Bool.{eqb-true}
 use Rattle.prefix_trie.specs.Terms.{lent_item}
 use Rattle.route_tables.specs.Fewest.{named_pairs, texts_of}
 use Rattle.route_tables.proofs.Ranks.{fewest_by_ranks}
-use Rattle.route_tables.proofs.fewest.fewest_networks.Goals as goal
+use Rattle.route_tables.proofs.fewest.fewest_by_ranks.Goals as goal
 
 pub returns : goal.returns
 returns g c =

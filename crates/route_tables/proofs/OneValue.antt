@@ -1,0 +1,119 @@
+-- In a table with one value, the fewest networks of its addresses, each with this value, are the fewest with the same values: for
+-- `fewest_networks`.
+use Rattle.std.proofs.Common.{◌≡◌, ◌∙◌, ◌<◌, ◌≤◌, ℕ, Bool, true, false, true≢false, ◌&&◌, List, [], ◌∷◌, Option, Some, None, IfSome, MatchOption, Less, Bor, All, length, map, is_lt, is_some, refl, sym, ap, ap₂, subst, arith, T as IsT}
+use Rattle.std.proofs.lemmas.List.{length-map}
+use Rattle.std.proofs.lemmas.List.Elements.{All-head, All-tail}
+use Rattle.std.specs.FinMap.{contains_key, entries-from_sorted, from_sorted, get, is_sorted, keys, len, len-entries}
+use Rattle.std.specs.FinMap.Entries.{below_all}
+use Rattle.std.specs.List.{list_any, Contains}
+use Rattle.std.specs.Option.{option_map}
+use Rattle.prefix_trie.specs.Laws.Lookups.{LookupLaws}
+use Rattle.prefix_trie.specs.Terms.{begins, lent_item, listing, listing_cmp, prefix_pairs, Entries, IsLongestMatch, IsUncovered}
+use Rattle.prefix_trie_bits.specs.Laws.Listings.{ListingLaws}
+use Rattle.prefix_trie_bits.specs.Laws.Matches.{MatchLaws}
+use Rattle.prefix_trie_fib.specs.Addresses.{is_covered}
+use Rattle.prefix_trie_fib.specs.Line.{first_address, past_address}
+use Rattle.prefix_trie_fib.specs.Networks.{AreInOrder}
+use Rattle.prefix_trie_ops.proofs.SmallestSets.{covered_is_value}
+use Rattle.prefix_trie_ops.specs.Smallest.{HaveSameAnswers, IsSmallest}
+use Rattle.prefix_trie_ops.specs.Values.{value_of}
+use Rattle.route_tables.specs.Fewest.{HasOnly, IsFewest}
+use Rattle.route_tables.specs.FewestCover.{AreFewestOf, IsBare}
+use Rattle.route_tables.specs.Tables.{Values}
+use Rattle.route_tables.proofs.Covers.FewestCovers.{no_fewer}
+use Rattle.route_tables.proofs.Lists.{from_map, in_here, in_later}
+use Rattle.route_tables.proofs.Covers.NetworkOrder.{after_first, before_listed, in_order_tail}
+
+both : (a b : Bool) → IsT a → IsT b → IsT (a && b)
+both true b p q = q
+both false b p q = p
+
+less : (s t : List Bool) → listing_cmp s t ≡ Less → IsT (is_lt (listing_cmp s t))
+less s t e = subst (λ o. IsT (is_lt o)) (sym e) tt
+
+module _ {X : Type 0} (w : ℕ) (v : X) where
+  -- each string with the value
+  abbrev pub with_value : List (List Bool) → List (List Bool × X)
+  with_value ss = map (λ s. (s, v)) ss
+
+  below : (s : List Bool) (ss : List (List Bool)) → length s ≤ w → ((t : List Bool) → Contains ss t → length t ≤ w) → ((t : List Bool) → Contains ss t → past_address w s ≤ first_address w t) → IsT (below_all listing_cmp s (with_value ss))
+  below s [] fits short after = tt
+  below s (t ∷ ss) fits short after =
+      let here = in_here t ss t refl in
+      both _ _ (less s t (before_listed w s t fits (short t here) (after t here))) (below s ss fits (λ u has. short u (in_later t ss u has)) (λ u has. after u (in_later t ss u has)))
+
+  -- networks in order are in listing order
+  pub sorted : (ss : List (List Bool)) → ((s : List Bool) → Contains ss s → length s ≤ w) → AreInOrder w ss → IsT (is_sorted listing_cmp (with_value ss))
+  sorted [] short order = tt
+  sorted (s ∷ ss) short order =
+      both _ _ (below s ss (short s (in_here s ss s refl)) (λ t has. short t (in_later s ss t has)) (after_first w s ss order)) (sorted ss (λ t has. short t (in_later s ss t has)) (in_order_tail w s ss order))
+
+keys_of : {X : Type 0} (v : X) (ss : List (List Bool)) → map (λ e. e.0) (map {B = List Bool × X} (λ s. (s, v)) ss) ≡ ss
+keys_of v [] = refl
+keys_of v (s ∷ ss) = ap (λ ts. s ∷ ts) (keys_of v ss)
+
+-- a map in which each value is the same
+abbrev HasEach : {X : Type 0} → X → Entries X → Type 0
+HasEach v m = (s : List Bool) (u : _) → get m s ≡ Some u → u ≡ v
+
+-- two options with one value
+same_option : {X : Type 0} (v : X) (o p : Option X) → IfSome o (λ u. u ≡ v) → IfSome p (λ u. u ≡ v) → is_some o ≡ is_some p → o ≡ p
+same_option v None None f g e = refl
+same_option v None (Some x) f g e = absurd (true≢false (sym e))
+same_option v (Some x) None f g e = absurd (true≢false e)
+same_option v (Some x) (Some y) f g e = ap Some (f ∙ sym g)
+
+module _ {X : Type 0} {P : Type 0} (laws : LookupLaws P X) (v : X) where
+  -- each answer of such a map is this value
+  only_answer : (m : Entries X) → HasEach v m → (q : List Bool) → IfSome (value_of m q) (λ u. u ≡ v)
+  only_answer m only q = of_value (value_of m q) (laws.value m q)
+    where
+      of_value : (o : Option X) → MatchOption o (IsUncovered m q) (λ u. (s : List Bool) × IsLongestMatch m q (s, u)) → IfSome o (λ u. u ≡ v)
+      of_value None found = tt
+      of_value (Some u) (s, found) = only s u found.matches.stored
+
+  -- so maps that cover the same addresses have the same answers
+  same_answers : (w : ℕ) (m n : Entries X) → HasEach v m → HasEach v n → ((q : List Bool) → length q ≡ w → is_covered m q ≡ is_covered n q) → HaveSameAnswers w m n
+  same_answers w m n only only' same q long =
+      same_option v (value_of m q) (value_of n q) (only_answer m only q) (only_answer n only' q) (sym (covered_is_value m q) ∙ same q long ∙ covered_is_value n q)
+
+module _ {P : Type 0} (laws : LookupLaws P (List ℕ)) (matches : MatchLaws (List ℕ)) (listed : ListingLaws (List ℕ)) (w : ℕ) (value : List ℕ) (m : Values) (only : HasOnly value m) (ss : List (List Bool)) (of : AreFewestOf w m ss) where
+  smallest : Values
+  smallest = from_sorted (with_value w value ss)
+
+  listing_is : listing smallest ≡ with_value w value ss
+  unfolding smallest
+  listing_is = entries-from_sorted listing_cmp (with_value w value ss) (sorted w value ss of.short of.in_order)
+
+  only_value : HasEach value smallest
+  only_value s u is =
+      let (t, has, e) = from_map (λ s. (s, value)) ss (s, u) (subst (λ es. Contains es (s, u)) listing_is ((listed.has_each smallest s u).0 is)) in
+      sym (ap (λ e. e.1) e)
+
+  same_covered : (q : List Bool) → length q ≡ w → is_covered smallest q ≡ is_covered m q
+  same_covered q long = matches.some_shortest smallest q ∙ ap (λ es. list_any (λ s. begins s q) (map (λ e. e.0) es)) listing_is ∙ ap (list_any (λ s. begins s q)) (keys_of value ss) ∙ of.covered q long
+
+  count : len smallest ≡ length ss
+  count = len-entries smallest ∙ ap length listing_is ∙ length-map ss (λ s. (s, value))
+
+  least : IsSmallest w smallest
+  least n same =
+      let few = no_fewer w m ss of matches n (λ q long. covered_is_value n q ∙ ap is_some (same q long) ∙ sym (covered_is_value smallest q) ∙ same_covered q long) in
+      omega (arith, few, count)
+
+  pub fewest_of_one : {Q : Type 0} (back : List Bool → Q) (networks : List (Q × List ℕ)) → networks ≡ prefix_pairs back (with_value w value ss) → IsFewest w back m networks
+  fewest_of_one back networks is = record {
+    smallest = smallest;
+    listed = is ∙ ap (prefix_pairs back) (sym listing_is);
+    same = same_answers laws value w smallest m only_value only same_covered;
+    fewest = least;
+  }
+
+-- bare networks, each with the value that is lent, are those of their paths
+pub bare_pairs : {P X : Type 0} (w : ℕ) (v : Bor X) (path : P → List Bool) (IsFitting : P → Type 0) (back : List Bool → P) (networks : List P) → All (IsBare path IsFitting back) networks
+    → (pairs : List (P × Bor X)) → pairs ≡ map (λ p. (p, v)) networks → map lent_item pairs ≡ prefix_pairs back (with_value w v.now (map path networks))
+bare_pairs {P} {X} w v path IsFitting back networks bare pairs is = ap (map lent_item) is ∙ each networks bare
+  where
+    each : (ps : List P) → All (IsBare path IsFitting back) ps → map lent_item (map {B = P × Bor X} (λ p. (p, v)) ps) ≡ prefix_pairs back (with_value w v.now (map path ps))
+    each [] bare = refl
+    each (p ∷ ps) bare = ap₂ (λ x xs. (x, v.now) ∷ xs) (All-head (IsBare path IsFitting back) p ps bare).1 (each ps (All-tail (IsBare path IsFitting back) p ps bare))
