@@ -136,10 +136,9 @@ impl From<Refusal> for LoadError<'_> {
 /// ```rust
 /// let text = b"10.0.0.0/8 core\n10.1.0.0/16 edge\n10.0.0.0/8 edge\n";
 /// let loaded = load(text, Reading::default(), alloc)?;
-/// loaded.table.keys();                            // [V4(10.0.0.0/8), V4(10.1.0.0/16)]
-/// loaded.warnings.replaced[0].line;               // 3
-/// let error = load(b"ten core", Reading::default(), alloc).err()?;
-/// error.to_string(alloc)?;                        // line 1: expected a network, an address or a range: "ten core"
+/// loaded.table.keys();                                               // [V4(10.0.0.0/8), V4(10.1.0.0/16)]
+/// loaded.warnings.replaced.iter().map(|replaced| replaced.line);     // [3]
+/// load(b"ten core", Reading::default(), alloc).is_err();             // true
 /// ```
 pub fn load(text: &[u8], reading: Reading, alloc: Global) -> Result<Loaded<'_>, LoadError<'_>>
     ensures table { IfOk result (λ loaded. (routes : List Route)
@@ -171,9 +170,9 @@ pub fn load(text: &[u8], reading: Reading, alloc: Global) -> Result<Loaded<'_>, 
 /// let mut table = JointPrefixMap::new(alloc)?;
 /// load_into(&mut table, b"10.0.0.1/8 core\n", reading, alloc)?;
 /// let warnings = load_into(&mut table, b"ten\n10.0.0.0/8 edge\n", reading, alloc)?;
-/// table.keys();                                   // [V4(10.0.0.0/8)]
-/// warnings.skipped[0].number;                     // 1
-/// warnings.replaced[0].line;                      // 2
+/// table.keys();                                               // [V4(10.0.0.0/8)]
+/// warnings.skipped.iter().map(|line| line.number);            // [1]
+/// warnings.replaced.iter().map(|replaced| replaced.line);     // [2]
 /// ```
 pub fn load_into<'a>(
     table: &mut Table,
