@@ -169,3 +169,14 @@ pub loads_bad : (reading : Reading) (all rest : List (List ℕ)) (number : ℕ) 
 loads_bad reading all rest number before m listed none old =
     let whole : all ≡ old.done = old.split ∙ ap (λ r. old.done ++ r) none ∙ append-nil old.done in
     subst (λ xs. AreBadLines reading.host_bits 0 xs listed) (sym whole) old.bad
+
+-- if the lines have routes with bad lines refused, none is bad
+pub none_bad : (reading : Reading) (n : ℕ) (lines : List (List ℕ)) (routes : List Route) (listed : List BadLine) → reading.bad_lines ≡ bad_lines.Refused
+    → HasRoutes reading lines routes → AreBadLines reading.host_bits n lines listed → listed ≡ []
+none_bad reading n [] routes listed refused has none = none
+none_bad reading n (line ∷ lines) routes listed refused (given, rest, gives, has, is) (inl (good, later)) = none_bad reading (n + 1) lines rest listed refused has later
+none_bad reading n (line ∷ lines) routes listed refused (given, rest, gives, has, is) (inr (bad, others, of_line, later, lists)) =
+    elim (is_good reading line given refused gives) as (λ _. listed ≡ []) [
+      | inl blank ↦ absurd (of_line.is_bad.is_some blank)
+      | inr (networks, value, route) ↦ absurd (of_line.is_bad.is_none networks value route)
+    ]

@@ -9,6 +9,7 @@ use Rattle.route_tables.specs.declared.load.BadLines.TheVariants as bad_lines
 use Rattle.route_tables.specs.declared.load.LoadError.{LoadError}
 use Rattle.route_tables.specs.declared.load.LoadError.TheVariants.{Line, Refused}
 use Rattle.route_tables.specs.declared.load.Reading.{Reading}
+use Rattle.route_tables.specs.declared.network.HostBits.TheVariants as host_bits
 
 -- the entries after routes are added; the last of the routes of one network counts
 abbrev pub with_routes : List Route → Values → Values
@@ -60,6 +61,10 @@ EndsAt reading lines m after (Refused cause) = EndsAtRefusal reading lines m aft
 abbrev pub EndsAtLine : Reading → ℕ → List ℕ → Values → Values → LoadError → Type 0
 EndsAtLine reading number line m after (Line bad) = (reading.bad_lines ≡ bad_lines.Refused) × IsBadLine reading.host_bits number line bad × (after ≡ m)
 EndsAtLine reading number line m after (Refused cause) = (part : List Route) × GivesFirst reading line part × (after ≡ with_routes part m)
+
+-- host bits and bad lines are refused
+abbrev pub strict : Reading
+strict = record { host_bits = host_bits.Refused; bad_lines = bad_lines.Refused }
 
 -- if the error names a line, it is a certain one
 abbrev pub IfLineError : (BadLine → Type 0) → LoadError → Type 0

@@ -36,8 +36,8 @@ fn word_end(text: &[u8]) -> Option<usize>
 /// # Examples
 ///
 /// ```rust
-/// skip_mark(b"\xef\xbb\xbfone") == b"one";        // true
-/// skip_mark(b"one") == b"one";                    // true
+/// skip_mark(b"\xef\xbb\xbfone").len();        // 3
+/// skip_mark(b"one").len();                    // 3
 /// ```
 pub fn skip_mark(text: &[u8]) -> &[u8]
     ensures { result.now ≡ after_mark text.now }

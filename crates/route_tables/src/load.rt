@@ -13,7 +13,7 @@ ghost use Rattle.prefix_trie.specs.Terms.{no_entries, with_entry};
 ghost use Rattle.prefix_trie_joint.specs.Joined.{entries_of};
 ghost use Rattle.prefix_trie_joint.specs.Networks.{ip_path};
 ghost use Rattle.route_tables.specs.Lines.{table_lines};
-ghost use Rattle.route_tables.specs.Loads.{AddsFirst, AddsLine, EndsAt, EndsAtLine, IfLineError, ListsLine, NamesFirstBad, with_routes};
+ghost use Rattle.route_tables.specs.Loads.{AddsFirst, AddsLine, EndsAt, EndsAtLine, IfLineError, ListsLine, NamesFirstBad, strict, with_routes};
 ghost use Rattle.route_tables.specs.Networks.{all_networks};
 ghost use Rattle.route_tables.specs.Routes.{AreBadLines, HasRoutes, Route, routes_to};
 
@@ -126,28 +126,32 @@ impl From<Refusal> for LoadError<'_> {
 
 /// Reads the table of a text. If two lines have the same network, the later one counts.
 ///
+/// Host bits and bad lines are refused.
+///
 /// # Errors
 ///
-/// Returns the first line that is not a line of a table, with the reason, if bad lines are refused. Returns a refusal if
-/// an allocation fails or a table is full.
+/// Returns the first line that is not a line of a table, with the reason. Returns a refusal if an allocation fails or a
+/// table is full.
 ///
 /// # Examples
 ///
 /// ```rust
-/// let text = b"10.0.0.0/8 core\n10.1.0.0/16 edge\n10.0.0.0/8 edge\n";
-/// let loaded = load(text, Reading::default(), alloc)?;
+/// let loaded = load(b"10.0.0.0/8 core\n10.1.0.0/16 edge\n10.0.0.0/8 edge\n", alloc)?;
 /// loaded.table.keys();                                               // [V4(10.0.0.0/8), V4(10.1.0.0/16)]
 /// loaded.warnings.replaced.iter().map(|replaced| replaced.line);     // [3]
-/// load(b"ten core", Reading::default(), alloc).is_err();             // true
+/// load(b"ten core", alloc).is_err();                                 // true
 /// ```
-pub fn load(text: &[u8], reading: Reading, alloc: Global) -> Result<Loaded<'_>, LoadError<'_>>
+pub fn load(text: &[u8], alloc: Global) -> Result<Loaded<'_>, LoadError<'_>>
     ensures table { IfOk result (λ loaded. (routes : List Route)
-        × HasRoutes reading (table_lines text.now) routes
+        × HasRoutes strict (table_lines text.now) routes
         × (entries_of loaded.table ≡ with_routes routes no_entries)) }
-    ensures skipped { IfOk result (λ loaded. AreBadLines reading.host_bits 0
-        (table_lines text.now) loaded.warnings.skipped.items) }
-    ensures first_bad { IfErr result (NamesFirstBad reading (table_lines text.now)) }
+    ensures skipped { IfOk result (λ loaded. loaded.warnings.skipped.items ≡ []) }
+    ensures first_bad { IfErr result (NamesFirstBad strict (table_lines text.now)) }
 {
+    let reading = Reading {
+        host_bits: HostBits::Refused,
+        bad_lines: BadLines::Refused,
+    };
     let mut table: Table = JointPrefixMap::new(alloc)?;
     let warnings = load_into(&mut table, text, reading, alloc)?;
     Ok(Loaded { table, warnings })

@@ -5,7 +5,7 @@
 use prefix_trie::Prefix;
 use prefix_trie_joint::JointPrefixSet;
 use route_tables::address_sets::{covered, difference, intersection, ranges, smallest, union};
-use route_tables::load::{Loaded, Reading, load};
+use route_tables::load::{Loaded, load};
 use route_tables::table::{FamilyTable, Table};
 use std::alloc::Global;
 use std::fmt::Display;
@@ -123,7 +123,7 @@ const SINGLES: &[Single] = &[
 
 /// Returns the table of a text.
 fn table(text: &str, alloc: Global) -> Result<Table, Fail> {
-    let Loaded { table, warnings: _ } = load(text.as_bytes(), Reading::default(), alloc)?;
+    let Loaded { table, warnings: _ } = load(text.as_bytes(), alloc)?;
     Ok(table)
 }
 

@@ -126,7 +126,7 @@ fn table(name: &str, alloc: Global) -> Result<Table, Fail> {
         "new" => NEW,
         _ => ACCESS,
     };
-    let Loaded { table, warnings: _ } = load(text.as_bytes(), Reading::default(), alloc)?;
+    let Loaded { table, warnings: _ } = load(text.as_bytes(), alloc)?;
     Ok(table)
 }
 

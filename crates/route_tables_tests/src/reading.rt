@@ -168,8 +168,17 @@ const BOTH: Reading = Reading {
 };
 
 /// Returns what is printed of the table of a text, and of the warnings, or the error.
-fn reading(text: &[u8], reading: Reading, alloc: Global) -> Result<String, Fail> {
-    match load(text, reading, alloc) {
+fn reading(text: &[u8], how: Reading, alloc: Global) -> Result<String, Fail> {
+    let mut table = Table::new(alloc)?;
+    match load_into(&mut table, text, how, alloc) {
+        Ok(warnings) => shown(&table, &warnings, alloc),
+        Err(error) => Ok(error.to_string(alloc)?),
+    }
+}
+
+/// Returns the same of a text that is read by `load`.
+fn loading(text: &[u8], alloc: Global) -> Result<String, Fail> {
+    match load(text, alloc) {
         Ok(Loaded { table, warnings }) => shown(&table, &warnings, alloc),
         Err(error) => Ok(error.to_string(alloc)?),
     }
@@ -202,6 +211,15 @@ fn test_cases(rt: &impl Abort, cases: &[Case], how: Reading, alloc: Global) -> R
 #[test]
 fn texts_are_read_or_refused(rt: HostRuntime) -> Result<(), Fail> {
     test_cases(&rt, READINGS, Reading::default(), rt.alloc())
+}
+
+#[test]
+fn texts_are_loaded_or_refused(rt: HostRuntime) -> Result<(), Fail> {
+    for (text, expected) in READINGS {
+        let printed = loading(text, rt.alloc())?;
+        assert!(rt; printed.as_str() == *expected, "{printed}");
+    }
+    Ok(())
 }
 
 #[test]
@@ -258,7 +276,8 @@ fn a_bad_line_leaves_the_routes_before_it(rt: HostRuntime) -> Result<(), Fail> {
 
 /// Returns the warnings of a text of bad lines, as the program writes them.
 fn warned(text: &[u8], alloc: Global) -> Result<String, Fail> {
-    let Loaded { table: _, warnings } = load(text, BOTH, alloc)?;
+    let mut table = Table::new(alloc)?;
+    let warnings = load_into(&mut table, text, BOTH, alloc)?;
     let mut out = Vec::new(alloc);
     write_bad_lines("t", warnings.skipped.as_slice(), &mut out)?;
     Ok(String::from_utf8(out)?)
@@ -306,7 +325,7 @@ fn long_text(before: &str, middle: u8, after: &str, alloc: Global) -> Result<Vec
 #[test]
 fn a_long_value_is_kept(rt: HostRuntime) -> Result<(), Fail> {
     let text = long_text("10.0.0.0/8 a\n::/0 ", b'x', "\n10.0.0.0/8 b\n", rt.alloc())?;
-    let printed = reading(text.as_slice(), Reading::default(), rt.alloc())?;
+    let printed = loading(text.as_slice(), rt.alloc())?;
     let rest = "10.0.0.0/8 b\n::/0 \nline 3: 10.0.0.0/8\n";
     assert!(rt; printed.len() == 1_000_000 + rest.len());
     Ok(())
@@ -315,7 +334,7 @@ fn a_long_value_is_kept(rt: HostRuntime) -> Result<(), Fail> {
 #[test]
 fn a_long_line_is_refused(rt: HostRuntime) -> Result<(), Fail> {
     let text = long_text("10.0.0.0/8 a\n", b'1', "\n", rt.alloc())?;
-    let printed = reading(text.as_slice(), Reading::default(), rt.alloc())?;
+    let printed = loading(text.as_slice(), rt.alloc())?;
     assert!(rt;
         printed.as_str()
             == "line 2: expected a network, an address or a range: \"111111111111111111111111111111111111111111111111111111111111...\""
