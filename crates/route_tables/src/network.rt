@@ -5,7 +5,6 @@ ghost use Rattle.prefix_trie_joint.specs.declared.prefix.IpPrefix.{IpPrefix};
 ghost use Rattle.route_tables.specs.Networks.{IsNetworkText, IsReadAs, IsTextBySlash, has_slash};
 ghost use Rattle.route_tables.specs.declared.network.HostBits.{HostBits};
 
-use memchr::memchr;
 use prefix_trie::{ParseNetworkError, Prefix};
 use prefix_trie_joint::IpPrefix;
 use prefix_trie_joint::laws::ip_text_laws;
@@ -94,11 +93,10 @@ pub fn parse_network_with(text: &str, host_bits: HostBits) -> Result<IpPrefix, N
 }
 
 // Returns whether a text has a slash.
-#[tactic(auto, using(crate::proofs::FirstBytes::first_is_some))]
 fn has_slash(text: &str) -> bool
     ensures { result ≡ has_slash text.now }
 {
-    memchr(b'/', text.as_bytes()).is_some()
+    text.as_bytes().iter().any(|byte| *byte == b'/')
 }
 
 // Reads an address, as the network that has all its bits.

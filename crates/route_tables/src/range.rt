@@ -3,7 +3,6 @@ ghost use Rattle.std.specs.Prelude.{◌≡◌, IfErr, IfOk, false};
 ghost use Rattle.route_tables.specs.Networks.{AreOfEnds, AreOfIpv4Range, AreOfIpv6Range, AreOfRange, AreOfText, AreOfTextByHyphen, DenotesNone, all_networks, has_hyphen};
 
 use crate::network::{HostBits, NetworkError, parse_network_with};
-use memchr::memchr;
 use prefix_trie::{Ipv4Prefix, Ipv6Prefix};
 use prefix_trie_fib::networks::networks_of;
 use prefix_trie_joint::IpPrefix;
@@ -125,7 +124,7 @@ pub fn parse_network_or_range(
     ensures read { IfOk result (λ networks. AreOfText host_bits text.now (all_networks networks)) }
     ensures none { IfErr result (DenotesNone (AreOfText host_bits text.now)) }
 {
-    // Most texts have no hyphen, and `memchr` finds that sooner than `split_once`.
+    // Most texts have no hyphen, and a search of bytes finds that sooner than `split_once`.
     if has_hyphen(text) {
         parse_split(text, host_bits, alloc)
     } else {
@@ -145,11 +144,10 @@ fn parse_split(text: &str, host_bits: HostBits, alloc: Global) -> Result<Network
 }
 
 // Returns whether a text has a hyphen.
-#[tactic(auto, using(crate::proofs::FirstBytes::first_is_some))]
 fn has_hyphen(text: &str) -> bool
     ensures { result ≡ has_hyphen text.now }
 {
-    memchr(b'-', text.as_bytes()).is_some()
+    text.as_bytes().iter().any(|byte| *byte == b'-')
 }
 
 // Reads one network.
