@@ -57,7 +57,7 @@ fn outcome<A: Allocator + Copy>(
     }
 }
 
-/// Lets each allocation of a step fail in turn, alone or with all after it.
+/// Lets each allocation of a step fail once, alone or with all after it.
 ///
 /// Returns how many of the failures left the result as it is, or `None` if one of the others did not make the step fail.
 fn harmless_failures(heap: &Refusing<Global>, step: Step, refused: u64) -> Option<u64> {

@@ -64,7 +64,7 @@ same_option v (Some x) None f g e = absurd (true≢false e)
 same_option v (Some x) (Some y) f g e = ap Some (f ∙ sym g)
 
 module _ {X : Type 0} {P : Type 0} (laws : LookupLaws P X) (v : X) where
-  -- each answer of such a map is this value
+  -- each lookup in such a map that finds something finds this value
   only_answer : (m : Entries X) → HasEach v m → (q : List Bool) → IfSome (value_of m q) (λ u. u ≡ v)
   only_answer m only q = of_value (value_of m q) (laws.value m q)
     where
@@ -72,7 +72,7 @@ module _ {X : Type 0} {P : Type 0} (laws : LookupLaws P X) (v : X) where
       of_value None found = tt
       of_value (Some u) (s, found) = only s u found.matches.stored
 
-  -- so maps that cover the same addresses have the same answers
+  -- so lookups are the same in maps that cover the same addresses
   same_answers : (w : ℕ) (m n : Entries X) → HasEach v m → HasEach v n → ((q : List Bool) → length q ≡ w → is_covered m q ≡ is_covered n q) → HaveSameAnswers w m n
   same_answers w m n only only' same q long =
       same_option v (value_of m q) (value_of n q) (only_answer m only q) (only_answer n only' q) (sym (covered_is_value m q) ∙ same q long ∙ covered_is_value n q)
