@@ -24,7 +24,7 @@ use std::alloc::{AllocError, Global};
 /// ```rust
 /// let table = load(b"10.0.0.0/24 a\n10.0.1.0/24 b\n", alloc)?.table;
 /// let by = load(b"10.0.0.0/25\n10.0.0.128/25\n10.0.1.0/25\n", alloc)?.table;
-/// covered(&table.ipv4, &by.ipv4, alloc)?.iter();      // [(10.0.0.0/24, "a")]
+/// covered(&table.ipv4, &by.ipv4, alloc)?.iter().map(|entry| entry.0);      // [10.0.0.0/24]
 /// ```
 pub fn covered<'a, P: Prefix>(
     table: &'a FamilyTable<P>,
