@@ -10,6 +10,7 @@ pub mod Entries
 pub mod Equality
 pub mod Fewest
 pub mod FoundEntries
+pub mod Gaps
 pub mod Halves
 pub mod Layouts
 pub mod CutMatches

@@ -2,6 +2,7 @@
 pub mod Addresses
 pub mod Compiled
 pub mod Equality
+pub mod Gaps
 pub mod Index
 pub mod Laws
 pub mod Layouts

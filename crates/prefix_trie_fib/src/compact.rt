@@ -1,5 +1,5 @@
 //! Indexed ranges in the layout that a lookup reads fastest.
-ghost use Rattle.std.specs.Prelude.{◌≡◌, ℕ, ◌^◌, ◌<◌, ◌≤◌, IfOk, None, Option, length, slice_index_or};
+ghost use Rattle.std.specs.Prelude.{◌≡◌, ℕ, ◌^◌, ◌<◌, ◌≤◌, ◌∷◌, [], IfOk, None, Option, length, slice_index_or};
 ghost use Rattle.prefix_trie_bits.specs.Model.Bits.{number};
 ghost use Rattle.prefix_trie_fib.specs.Line.{IsDivision, value_along};
 
@@ -19,6 +19,8 @@ use upper_line::upper_line;
 /// Ranges with an index, by whole addresses or by the upper 64 bits of addresses.
 #[derive(Drop)]
 enum Layout<K: Key, T: Copy, A: Allocator> {
+    /// One range without a value.
+    Empty,
     /// The first address of each range.
     Whole(Indexed<K, T, A>),
     /// The upper 64 bits of the first address of each range. All other bits of these addresses are 0.
@@ -44,11 +46,21 @@ impl<K: Key, T: Copy, A: Allocator> Model for Compact<K, T, A> {
 }
 
 impl<K: Key, T: Copy, A: Allocator> Compact<K, T, A> {
+    /// Returns the ranges of a line where no address has a value.
+    pub(crate) fn empty() -> Self
+        ensures { result ≡ (0, None) ∷ [] }
+    {
+        Compact {
+            layout: Layout::Empty,
+        }
+    }
+
     /// Returns the number of ranges.
     pub(crate) fn len(&self) -> usize
         ensures { result ≡ length self.now }
     {
         match &self.layout {
+            Layout::Empty => 1,
             Layout::Whole(indexed) => indexed.len(),
             Layout::Upper(indexed) => indexed.len(),
         }
@@ -62,6 +74,7 @@ impl<K: Key, T: Copy, A: Allocator> Compact<K, T, A> {
         ensures { (d : ℕ × Option T) → number (K.bits result) ≡ (slice_index_or self.now i d).0 }
     {
         match &self.layout {
+            Layout::Empty => K::zero(),
             Layout::Whole(indexed) => indexed.start(i),
             Layout::Upper(indexed) => from_upper(indexed.start(i)),
         }
@@ -75,6 +88,7 @@ impl<K: Key, T: Copy, A: Allocator> Compact<K, T, A> {
         ensures { (d : ℕ × Option T) → result ≡ (slice_index_or self.now i d).1 }
     {
         match &self.layout {
+            Layout::Empty => None,
             Layout::Whole(indexed) => indexed.value(i),
             Layout::Upper(indexed) => indexed.value(i),
         }
@@ -85,6 +99,7 @@ impl<K: Key, T: Copy, A: Allocator> Compact<K, T, A> {
         ensures { result ≤ 2 ^ 20 }
     {
         match &self.layout {
+            Layout::Empty => 0,
             Layout::Whole(indexed) => indexed.chunks(),
             Layout::Upper(indexed) => indexed.chunks(),
         }
@@ -97,6 +112,7 @@ impl<K: Key, T: Copy, A: Allocator> Compact<K, T, A> {
     {
         let _ = address.is_key();
         match &self.layout {
+            Layout::Empty => None,
             Layout::Whole(indexed) => value_by_whole(indexed, address),
             Layout::Upper(indexed) => value_by_upper(indexed, address),
         }
@@ -130,6 +146,7 @@ impl<K: Key, T: Copy, A: Allocator + Clone> Compact<K, T, A> {
         ensures { IfOk result (λ copy. copy ≡ self.now) }
     {
         let layout = match &self.layout {
+            Layout::Empty => Layout::Empty,
             Layout::Whole(indexed) => Layout::Whole(indexed.clone()?),
             Layout::Upper(indexed) => Layout::Upper(indexed.clone()?),
         };

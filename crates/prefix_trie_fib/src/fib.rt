@@ -12,7 +12,7 @@ mod last_address;
 mod walk;
 
 use crate::compact::Compact;
-use crate::ranges::ranges_of;
+use crate::ranges::{ranges_of, some_value};
 use prefix_trie_bits::prefix::{Key, Prefix, Refusal};
 use prefix_trie_map::map::PrefixMap;
 use std::alloc::{AllocError, Allocator};
@@ -78,11 +78,7 @@ impl<P: Prefix, T: Copy + PartialEq, A: Allocator + Clone> Fib<P, T, A> {
             → (q : List Bool) → length q ≡ P.R.bit_width
             → value_along None fib (number q) ≡ value_of map.now.entries q) }
     {
-        let first = alloc.clone().map_err(|_| Refusal::Memory)?;
-        let Ok(line) = ranges_of(map, first) else {
-            return Err(Refusal::Memory);
-        };
-        let ranges = Compact::new(line, alloc)?;
+        let ranges = compact_of(map, alloc)?;
         Ok(Fib { ranges })
     }
 
@@ -104,6 +100,27 @@ impl<P: Prefix, T: Copy + PartialEq, A: Allocator + Clone> Fib<P, T, A> {
         let ranges = self.ranges.clone()?;
         Ok(Fib { ranges })
     }
+}
+
+/// Returns the ranges of a map with an index.
+fn compact_of<P: Prefix, T: Copy + PartialEq, M: Allocator, A: Allocator + Clone>(
+    map: &PrefixMap<P, T, M>,
+    alloc: A,
+) -> Result<Compact<P::R, T, A>, Refusal>
+    ensures division { IfOk result (λ ranges. IsDivision ranges) }
+    ensures merged { IfOk result (λ ranges. AreMerged (are_same T.PartialEq.eq) ranges) }
+    ensures values { IfOk result (λ ranges. ((x y : T) → T.PartialEq.eq x y ≡ true → x ≡ y)
+        → (q : List Bool) → length q ≡ P.R.bit_width
+        → value_along None ranges (number q) ≡ value_of map.now.entries q) }
+{
+    let Some(filler) = some_value(map) else {
+        return Ok(Compact::empty());
+    };
+    let first = alloc.clone().map_err(|_| Refusal::Memory)?;
+    let Ok(line) = ranges_of(map, filler, first) else {
+        return Err(Refusal::Memory);
+    };
+    Compact::new(line, alloc)
 }
 
 impl<P: Prefix, T: Copy + PartialEq, A: Allocator> Fib<P, T, A> {
@@ -186,7 +203,7 @@ impl<P: Prefix, T: Copy + PartialEq, A: Allocator> Fib<P, T, A> {
 
     /// Returns the number of chunks that the index cuts the line of addresses into.
     ///
-    /// Each has an entry of the size of a value and a tag. A chunk with more than 8 ranges has 16 more entries for
+    /// Each has an entry of the size of a value and a tag. A chunk with more than 12 ranges has 16 more entries for
     /// addresses of at most 32 bits, and 1,024 more for longer ones.
     ///
     /// # Examples

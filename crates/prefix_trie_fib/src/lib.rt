@@ -9,6 +9,6 @@ mod index;
 mod indexed;
 pub mod laws;
 pub mod networks;
-pub mod ranges;
+mod ranges;
 
 pub use fib::{Fib, Ranges};

@@ -6,13 +6,14 @@
 
 mod cuts;
 mod line;
+mod marks;
 mod merge;
 mod of_both;
 mod of_map;
 mod search;
 
-pub use line::Line;
+pub(crate) use line::Line;
 pub(crate) use merge::line_of;
 pub(crate) use of_both::cuts_of_both;
-pub(crate) use of_map::ranges_of;
+pub(crate) use of_map::{ranges_of, some_value};
 pub(crate) use search::is_at_most;

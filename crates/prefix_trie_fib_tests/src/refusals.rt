@@ -76,11 +76,12 @@ fn harmless_failures(heap: &Refusing<Global>, step: Step, refused: u64) -> Optio
     None
 }
 
-// the spare memory of the ranges is given back before the index is made, and the parts of the index have none
+// the spare memory of the ranges and of their marks is given back before the index is made, and the parts of the index
+// have none
 #[test]
 fn compiling_fails_exactly_if_it_lacks_memory(rt: HostRuntime) {
     let heap = Refusing::new(rt.alloc());
-    assert!(rt; harmless_failures(&heap, Step::Compile, 1) == Some(1));
+    assert!(rt; harmless_failures(&heap, Step::Compile, 1) == Some(2));
     assert!(rt; harmless_failures(&heap, Step::Compile, u64::MAX) == Some(0));
 }
 

@@ -36,7 +36,7 @@ pub(super) fn kept_ranges<
 {
     let cuts = cuts_of_both(left, right, alloc.clone()?)?;
     let values = values_at(operation, left, right, &cuts, alloc.clone()?)?;
-    Ok(line_of(&cuts, &values, alloc)?)
+    Ok(line_of(&cuts, &values, (), alloc)?)
 }
 
 /// Returns whether the operation keeps each address, as a value or none.

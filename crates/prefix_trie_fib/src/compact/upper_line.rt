@@ -10,7 +10,7 @@ use std::alloc::{AllocError, Allocator};
 /// Returns the same ranges by the upper 64 bits of their first addresses.
 ///
 /// Returns `None` if addresses have at most 64 bits, or if another bit of a first address is 1.
-pub(super) fn upper_line<K: Key, T: Copy, A: Allocator, B: Allocator>(
+pub(super) fn upper_line<K: Key, T: Copy, A: Allocator, B: Allocator + Clone>(
     line: &Line<K, T, A>,
     alloc: B,
 ) -> Result<Option<Line<u64, T, B>>, AllocError>
@@ -20,7 +20,7 @@ pub(super) fn upper_line<K: Key, T: Copy, A: Allocator, B: Allocator>(
     if K::width() <= 64 {
         return Ok(None);
     }
-    let mut upper = Line::new(alloc);
+    let mut upper = Line::new(line.filler(), alloc.clone()?, alloc);
     for i in 0..line.len() {
         let start = line.start(i);
         if !is_upper(start) {

@@ -10,7 +10,7 @@ use prefix_trie_bits::prefix::Key;
 use std::alloc::Allocator;
 
 /// A chunk with more ranges is split.
-const MOST_RANGES: u16 = 8;
+const MOST_RANGES: u16 = 12;
 
 /// Which ranges a chunk of addresses has.
 #[derive(Clone, Copy)]

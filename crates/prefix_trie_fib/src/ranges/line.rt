@@ -2,34 +2,45 @@
 ghost use Rattle.std.specs.Prelude.{◌≡◌, ℕ, ◌<◌, ◌++◌, ◌∷◌, [], IfOk, Option, OnErr, OnOk, length, slice_index_or};
 ghost use Rattle.prefix_trie_bits.specs.Model.Bits.{number};
 
+use super::marks::{has_mark, mark, reach};
 use crate::copies::copy_of;
 use prefix_trie_bits::prefix::Key;
 use std::alloc::{AllocError, Allocator};
 use std::marker::Model;
 
 /// Ranges of addresses in order, each with its first address, and with a value or none.
+///
+/// A pair has no tag: a range without a value keeps `filler` in its place, and is marked in `gaps`.
 #[derive(Drop)]
-pub struct Line<K: Key, T: Copy, A: Allocator> {
-    pairs: Vec<(K, Option<T>), A>,
+pub(crate) struct Line<K: Key, T: Copy, A: Allocator> {
+    pairs: Vec<(K, T), A>,
+    gaps: Vec<u32, A>,
+    filler: T,
 }
 
 // a contract sees the first address of each range, as a number, and its value
 impl<K: Key, T: Copy, A: Allocator> Model for Line<K, T, A> {
-    ghost use Rattle.std.specs.Prelude.{List, ℕ, Option, map};
+    ghost use Rattle.std.specs.Prelude.{List, ℕ, Option, length, map};
     ghost use Rattle.prefix_trie_bits.specs.Model.Bits.{number};
+    ghost use Rattle.prefix_trie_fib.specs.Gaps.{AreMarks, is_marked, with_gaps};
 
     ghost Value = { List (ℕ × Option T) };
 
-    ghost view = { λ line. map (λ r. (number (K.bits r.0), r.1)) line.pairs.items };
+    ghost view = { λ line. with_gaps (is_marked line.gaps.items) 0
+        (map (λ r. (number (K.bits r.0), r.1)) line.pairs.items) };
+
+    ghost invariant = { λ line. AreMarks (length line.pairs.items) line.gaps.items };
 }
 
 impl<K: Key, T: Copy, A: Allocator> Line<K, T, A> {
-    /// Creates a line with no range.
-    pub(crate) fn new(alloc: A) -> Self
+    /// Creates a line with no range. Ranges without a value keep `filler` in its place.
+    pub(crate) fn new(filler: T, alloc: A, gaps_alloc: A) -> Self
         ensures { result ≡ [] }
     {
         Line {
             pairs: Vec::new(alloc),
+            gaps: Vec::new(gaps_alloc),
+            filler,
         }
     }
 
@@ -38,7 +49,12 @@ impl<K: Key, T: Copy, A: Allocator> Line<K, T, A> {
         ensures pushed { OnOk result (self.new ≡ self.old ++ (number (K.bits start), value) ∷ []) }
         ensures unchanged { OnErr result (self.new ≡ self.old) }
     {
-        self.pairs.push((start, value))?;
+        let place = self.pairs.len();
+        reach(&mut self.gaps, place)?;
+        self.pairs.push((start, value.unwrap_or(self.filler)))?;
+        if value.is_none() {
+            mark(&mut self.gaps, place);
+        }
         Ok(())
     }
 
@@ -47,11 +63,17 @@ impl<K: Key, T: Copy, A: Allocator> Line<K, T, A> {
         ensures { self.new ≡ self.old }
     {
         self.pairs.shrink_to_fit();
+        self.gaps.shrink_to_fit();
+    }
+
+    /// Returns what ranges without a value keep in its place.
+    pub(crate) fn filler(&self) -> T {
+        self.filler
     }
 
     /// Returns the number of ranges.
     #[inline(always)]
-    pub fn len(&self) -> usize
+    pub(crate) fn len(&self) -> usize
         ensures { result ≡ length self.now }
     {
         self.pairs.len()
@@ -61,7 +83,7 @@ impl<K: Key, T: Copy, A: Allocator> Line<K, T, A> {
     ///
     /// Requires that `i` is below the number of ranges.
     #[inline(always)]
-    pub fn start(&self, i: usize) -> K
+    pub(crate) fn start(&self, i: usize) -> K
         requires { i < length self.now }
         ensures { (d : ℕ × Option T) → number (K.bits result) ≡ (slice_index_or self.now i d).0 }
     {
@@ -72,11 +94,15 @@ impl<K: Key, T: Copy, A: Allocator> Line<K, T, A> {
     ///
     /// Requires that `i` is below the number of ranges.
     #[inline(always)]
-    pub fn value(&self, i: usize) -> Option<T>
+    pub(crate) fn value(&self, i: usize) -> Option<T>
         requires { i < length self.now }
         ensures { (d : ℕ × Option T) → result ≡ (slice_index_or self.now i d).1 }
     {
-        self.pairs[i].1
+        if has_mark(&self.gaps, i) {
+            None
+        } else {
+            Some(self.pairs[i].1)
+        }
     }
 }
 
@@ -86,6 +112,11 @@ impl<K: Key, T: Copy, A: Allocator + Clone> Line<K, T, A> {
         ensures { IfOk result (λ copy. copy ≡ self.now) }
     {
         let pairs = copy_of(&self.pairs)?;
-        Ok(Line { pairs })
+        let gaps = copy_of(&self.gaps)?;
+        Ok(Line {
+            pairs,
+            gaps,
+            filler: self.filler,
+        })
     }
 }

@@ -9,10 +9,11 @@ use std::alloc::{AllocError, Allocator};
 
 /// Returns the ranges between cuts, as few as there are: neighbours have different values.
 ///
-/// Requires that the cuts rise and begin with 0, and that each has a value.
-pub(crate) fn line_of<K: Key, T: Copy + PartialEq, B: Allocator>(
+/// Requires that the cuts rise and begin with 0, and that each has a value. `filler` is kept in the place of a missing value.
+pub(crate) fn line_of<K: Key, T: Copy + PartialEq, B: Allocator + Clone>(
     cuts: &[K],
     values: &[Option<T>],
+    filler: T,
     alloc: B,
 ) -> Result<Line<K, T, B>, AllocError>
     requires rising { IsRising (numbers K.bits cuts.now) }
@@ -28,7 +29,7 @@ pub(crate) fn line_of<K: Key, T: Copy + PartialEq, B: Allocator>(
         → (q : List Bool) → length q ≡ K.bit_width
         → value_along None line (number q) ≡ of q) }
 {
-    let mut line = Line::new(alloc);
+    let mut line = Line::new(filler, alloc.clone()?, alloc);
     for i in 0..cuts.len() {
         let _ = cuts[i].is_key();
         add_range(&mut line, cuts[i], values[i])?;

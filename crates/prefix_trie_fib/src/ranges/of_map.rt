@@ -10,9 +10,19 @@ use prefix_trie_bits::prefix::{Key, Prefix};
 use prefix_trie_map::map::PrefixMap;
 use std::alloc::{AllocError, Allocator};
 
+/// Returns the value of some entry, or `None` if there is no entry.
+pub(crate) fn some_value<P: Prefix, T: Copy, A: Allocator>(map: &PrefixMap<P, T, A>) -> Option<T>
+    ensures { result ≡ None → (q : List Bool) → value_of map.now.entries q ≡ None }
+{
+    map.values().next().copied()
+}
+
 /// Returns the ranges of addresses that have one longest match each, as few as there are.
+///
+/// `filler` is kept in the place of a missing value.
 pub(crate) fn ranges_of<P: Prefix, T: Copy + PartialEq, A: Allocator, B: Allocator + Clone>(
     map: &PrefixMap<P, T, A>,
+    filler: T,
     alloc: B,
 ) -> Result<Line<P::R, T, B>, AllocError>
     ensures division { IfOk result (λ line. IsDivision line) }
@@ -24,7 +34,7 @@ pub(crate) fn ranges_of<P: Prefix, T: Copy + PartialEq, A: Allocator, B: Allocat
 {
     let cuts = cuts_of(map, alloc.clone()?)?;
     let values = values_at(map, &cuts, alloc.clone()?)?;
-    Ok(line_of(&cuts, &values, alloc)?)
+    Ok(line_of(&cuts, &values, filler, alloc)?)
 }
 
 /// Returns, in order and each once: 0, the first address of each network, and the address after its last one.

@@ -1,9 +1,18 @@
--- The first address of a range, by its upper 64 bits.
-use Rattle.std.proofs.Common.{◌≡◌, ◌∙◌, ◌<◌, ℕ, Option, ap, get_or, length, subst, sym}
+-- The first address of a range: 0 for the only one, or by its upper 64 bits.
+use Rattle.std.proofs.Common.{◌≡◌, ◌∙◌, ◌<◌, ◌∷◌, [], ℕ, None, Option, ap, arith, get_or, length, subst, sym}
 use Rattle.prefix_trie_bits.specs.BitStrings.{number_of_digits}
+use Rattle.prefix_trie_bits.specs.Model.Bits.{number}
 use Rattle.prefix_trie_fib.specs.Layouts.{ranges_in, widened}
+use Rattle.prefix_trie_fib.proofs.CutIntervals.{number_zeros}
 use Rattle.prefix_trie_fib.proofs.Layouts.{widened_start}
 use Rattle.prefix_trie_fib.proofs.compact.Compact.start.Goals as goal
+
+pub returns-in-Empty : goal.returns-in-Empty
+returns-in-Empty g c = λ d.
+    let now : (0, None) ∷ [] ≡ c.args.self.now = sym (ap (ranges_in g.K.Key.bit_width) c.in-Empty.is) ∙ c.self.view_is in
+    let first : 0 ≡ c.args.i = (let long = ap length now in let lt = c.requires in omega (arith, long, lt)) in
+    ap number c.zero.ensures.value ∙ number_zeros g.K.Key.bit_width
+    ∙ ap (λ i. (get_or {A = ℕ × Option g.row.T.Denot} ((0, None) ∷ []) i d).0) first ∙ ap (λ rs. (get_or {A = ℕ × Option g.row.T.Denot} rs c.args.i d).0) now
 
 pub returns-in-Upper : goal.returns-in-Upper
 returns-in-Upper g c = λ d.
