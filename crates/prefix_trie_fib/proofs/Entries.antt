@@ -6,10 +6,10 @@ use Rattle.std.proofs.lemmas.Bool.{cases_lt}
 use Rattle.std.proofs.lemmas.List.{get_or_append_left}
 use Rattle.std.specs.Option.{IfSome, MatchOption, unwrap_or}
 use Rattle.prefix_trie_fib.specs.declared.index.chunk.Chunk.{Chunk}
-use Rattle.prefix_trie_fib.specs.declared.index.chunk.Chunk.TheVariants.{Gap, Many, One, Several, Split}
+use Rattle.prefix_trie_fib.specs.declared.index.chunk.Chunk.TheVariants.{Full, Gap, Many, One, Several, Split}
 use Rattle.prefix_trie_fib.specs.Index.{Extends, HasParts, IsChunk, IsEntry, IsIndex, IsWhole, part_bits}
 use Rattle.prefix_trie_fib.specs.Line.{IsDivision, value_along}
-use Rattle.prefix_trie_fib.specs.Search.{IsRangeOf, StartsBy}
+use Rattle.prefix_trie_fib.specs.Search.{IsAmong, IsRangeOf, StartsBy}
 use Rattle.prefix_trie_fib.proofs.RangeValues.{value_of_range}
 
 module _ {V : Type 0} (rs : List (ℕ × V)) where
@@ -29,6 +29,16 @@ module _ {V : Type 0} (rs : List (ℕ × V)) where
           | inr at ↦ (let e : last + 1 ≡ i = omega (arith, lt, at) in absurd (omega (arith, ends, by, ap (λ k. (get_or rs k d).0) e)))
         ]
   ]
+
+  -- the range of a number is one of those that it is among
+  pub among_bounds : IsDivision rs → (d : ℕ × V) (first count n i : ℕ) → IsAmong rs first count n → IsRangeOf rs i n → (first ≤ i) × (i < first + count)
+  among_bounds division d first count n i among range = (
+    not_before division d first i n among.starts range,
+    elim (cases_lt i (first + count)) [
+      | inl lt ↦ lt
+      | inr le ↦ (let above = among.above i d le range.starts.inside in let by = range.starts.by d in absurd (omega (arith, above, by)))
+    ],
+  )
 
   -- ranges from one that starts at a number or after it do so too
   pub from_middle : IsDivision rs → (n middle : ℕ) → ((d : ℕ × V) → n ≤ (get_or rs middle d).0) → (k : ℕ) (d : ℕ × V) → middle ≤ k → k < length rs → n ≤ (get_or rs k d).0
@@ -59,6 +69,7 @@ module _ {T : Type 0} where
     entry_kept : (w bits c : ℕ) (parts more : List (Chunk T)) (x : Chunk T) → Extends parts more → IsEntry w bits rs parts c x → IsEntry w bits rs more c x
     entry_kept w bits c parts more Gap ext h = h
     entry_kept w bits c parts more (One v) ext h = h
+    entry_kept w bits c parts more (Full count first) ext h = h
     entry_kept w bits c parts more (Several count first) ext h = h
     entry_kept w bits c parts more (Many first) ext h = h
     entry_kept w bits c parts more (Split base) ext h = (h.0, parts_kept (2 ^ (w - (bits + part_bits w))) (2 ^ part_bits w) parts more base (c * 2 ^ part_bits w) ext h.1)
@@ -67,6 +78,7 @@ module _ {T : Type 0} where
     pub whole_entry : (w bits c : ℕ) (parts : List (Chunk T)) (x : Chunk T) → IsChunk rs (c * 2 ^ (w - bits)) ((c + 1) * 2 ^ (w - bits)) x → IsEntry w bits rs parts c x
     whole_entry w bits c parts Gap h = h
     whole_entry w bits c parts (One v) h = h
+    whole_entry w bits c parts (Full count first) h = h
     whole_entry w bits c parts (Several count first) h = h
     whole_entry w bits c parts (Many first) h = h
     whole_entry w bits c parts (Split base) h = absurd h
@@ -75,6 +87,7 @@ module _ {T : Type 0} where
     pub entry_of_whole : (w bits c : ℕ) (parts : List (Chunk T)) (x : Chunk T) → IsWhole x → IsEntry w bits rs parts c x → IsChunk rs (c * 2 ^ (w - bits)) ((c + 1) * 2 ^ (w - bits)) x
     entry_of_whole w bits c parts Gap t h = h
     entry_of_whole w bits c parts (One v) t h = h
+    entry_of_whole w bits c parts (Full count first) t h = h
     entry_of_whole w bits c parts (Several count first) t h = h
     entry_of_whole w bits c parts (Many first) t h = h
     entry_of_whole w bits c parts (Split base) t h = absurd t

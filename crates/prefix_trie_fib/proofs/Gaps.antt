@@ -108,6 +108,15 @@ module _ {K T : Type 0} (start : K → ℕ) where
       let r : K × T = get_or (p ∷ pairs) k p in
       sym (ap {A = ℕ × Option T} (λ x. x.1) (range_at gap (p ∷ pairs) now k d r view inside (get_or-any (p ∷ pairs) k p r lt)) ∙ ap (λ b. cond b None (Some r.1)) marked)
 
+  -- a range that has a value has that of its pair
+  pub kept_at : (gap : ℕ → Bool) (pairs : List (K × T)) (now : List (ℕ × Option T)) (k : ℕ) (d : ℕ × Option T) (r : K × T) → ranges gap pairs ≡ now → k < length now → r ≡ get_or pairs k r
+      → is_some (get_or now k d).1 ≡ true → Some r.1 ≡ (get_or now k d).1
+  kept_at gap pairs now k d r view inside is valued = only_some (gap k) r.1 (get_or now k d).1 (ap {A = ℕ × Option T} (λ x. x.1) (range_at gap pairs now k d r view inside is)) valued
+    where
+      only_some : (b : Bool) (v : T) (o : Option T) → o ≡ cond b None (Some v) → is_some o ≡ true → Some v ≡ o
+      only_some true v o e h = absurd (let f : false ≡ true = sym (ap is_some e) ∙ h in cc)
+      only_some false v o e h = sym e
+
   -- one more range, after which the marks before it are the same
   pub range_pushed : (gap other : ℕ → Bool) (pairs more : List (K × T)) (r : K × T) (value : Option T) → more ≡ pairs ++ r ∷ [] → ((k : ℕ) → k < length pairs → other k ≡ gap k)
       → cond (other (length pairs)) None (Some r.1) ≡ value → ranges other more ≡ ranges gap pairs ++ (start r.0, value) ∷ []

@@ -1,7 +1,7 @@
 -- The index of a division: which ranges each chunk of addresses has.
-use Rattle.std.specs.Prelude.{◌≡◌, ℕ, ◌+◌, ◌-◌, ◌*◌, ◌^◌, ◌<◌, ◌≤◌, cond, nat_le, List, length, Option, None, Some, slice_index_or, ⊤}
+use Rattle.std.specs.Prelude.{◌≡◌, ℕ, ◌+◌, ◌-◌, ◌*◌, ◌^◌, ◌<◌, ◌≤◌, cond, nat_le, List, length, Option, None, Some, is_some, slice_index_or, true, ⊤}
 use Rattle.prefix_trie_fib.specs.declared.index.chunk.Chunk.{Chunk}
-use Rattle.prefix_trie_fib.specs.declared.index.chunk.Chunk.TheVariants.{Gap, Many, One, Several, Split}
+use Rattle.prefix_trie_fib.specs.declared.index.chunk.Chunk.TheVariants.{Full, Gap, Many, One, Several, Split}
 use Rattle.prefix_trie_fib.specs.Line.{value_along}
 use Rattle.prefix_trie_fib.specs.Search.{IsAmong, StartsBy}
 
@@ -10,10 +10,15 @@ unfoldable pub part_bits : ℕ → ℕ
 part_bits width = cond (nat_le width 32) 4 10
 
 module _ {T : Type 0} where
+  -- each of so many ranges from one on has a value
+  abbrev pub AreValued : List (ℕ × Option T) → ℕ → ℕ → Type 0
+  AreValued rs first count = (k : ℕ) (d : ℕ × Option T) → first ≤ k → k < first + count → is_some (slice_index_or rs k d).1 ≡ true
+
   -- the entry is right for each number from low on and below high, and is not split
   abbrev pub IsChunk : List (ℕ × Option T) → ℕ → ℕ → Chunk T → Type 0
   IsChunk rs low high Gap = (n : ℕ) → low ≤ n → n < high → value_along None rs n ≡ None
   IsChunk rs low high (One v) = (n : ℕ) → low ≤ n → n < high → value_along None rs n ≡ Some v
+  IsChunk rs low high (Full count first) = AreValued rs first count × ((n : ℕ) → low ≤ n → n < high → IsAmong rs first count n)
   IsChunk rs low high (Several count first) = (n : ℕ) → low ≤ n → n < high → IsAmong rs first count n
   IsChunk rs low high (Many first) = StartsBy rs first low
   IsChunk rs low high (Split base) = ⊥
@@ -22,6 +27,7 @@ module _ {T : Type 0} where
   abbrev pub IsWhole : Chunk T → Type 0
   IsWhole Gap = ⊤
   IsWhole (One v) = ⊤
+  IsWhole (Full count first) = ⊤
   IsWhole (Several count first) = ⊤
   IsWhole (Many first) = ⊤
   IsWhole (Split base) = ⊥
@@ -36,6 +42,7 @@ module _ {T : Type 0} where
   IsEntry width bits rs parts c (Split base) = (bits + part_bits width ≤ width) × HasParts rs (2 ^ (width - (bits + part_bits width))) (2 ^ part_bits width) parts base (c * 2 ^ part_bits width)
   IsEntry width bits rs parts c Gap = IsChunk rs (c * 2 ^ (width - bits)) ((c + 1) * 2 ^ (width - bits)) Gap
   IsEntry width bits rs parts c (One v) = IsChunk rs (c * 2 ^ (width - bits)) ((c + 1) * 2 ^ (width - bits)) (One v)
+  IsEntry width bits rs parts c (Full count first) = IsChunk rs (c * 2 ^ (width - bits)) ((c + 1) * 2 ^ (width - bits)) (Full count first)
   IsEntry width bits rs parts c (Several count first) = IsChunk rs (c * 2 ^ (width - bits)) ((c + 1) * 2 ^ (width - bits)) (Several count first)
   IsEntry width bits rs parts c (Many first) = IsChunk rs (c * 2 ^ (width - bits)) ((c + 1) * 2 ^ (width - bits)) (Many first)
 

@@ -1,7 +1,7 @@
 //! An index of a division of the line by the first bits of addresses.
-ghost use Rattle.std.specs.Prelude.{◌≡◌, ℕ, ◌+◌, ◌*◌, ◌-◌, ◌^◌, ◌<◌, ◌≤◌, IfOk, IfSome, OnOk, Option, length, slice_index_or};
+ghost use Rattle.std.specs.Prelude.{◌≡◌, ℕ, ◌+◌, ◌*◌, ◌-◌, ◌^◌, ◌<◌, ◌≤◌, IfOk, IfSome, IsTrue, OnOk, Option, length, slice_index_or};
 ghost use Rattle.prefix_trie_bits.specs.Model.Bits.{number};
-ghost use Rattle.prefix_trie_fib.specs.Index.{Extends, HasParts, IsChunk, IsEntry, IsIndex};
+ghost use Rattle.prefix_trie_fib.specs.Index.{AreValued, Extends, HasParts, IsChunk, IsEntry, IsIndex};
 ghost use Rattle.prefix_trie_fib.specs.Line.{IsDivision};
 ghost use Rattle.prefix_trie_fib.specs.Search.{StartsBy};
 
@@ -148,11 +148,32 @@ fn chunk_at<K: Key, T: Copy, A: Allocator>(
             Some(value) => Chunk::One(value),
             None => Chunk::Gap,
         }
-    } else if count <= u16::MAX as usize {
-        Chunk::Several(count as u16, first as u32)
-    } else {
+    } else if count > u16::MAX as usize {
         Chunk::Many(first as u32)
+    } else if are_valued(line, first, count) {
+        Chunk::Full(count as u16, first as u32)
+    } else {
+        Chunk::Several(count as u16, first as u32)
     }
+}
+
+/// Returns whether each of `count` ranges from `first` on has a value.
+fn are_valued<K: Key, T: Copy, A: Allocator>(
+    line: &Line<K, T, A>,
+    first: usize,
+    count: usize,
+) -> bool
+    requires { first + count ≤ length line.now }
+    ensures { IsTrue result → AreValued line.now first count }
+{
+    // The proof learns from it that the number of ranges fits.
+    let _ = line.len();
+    for i in first..first + count {
+        if line.value(i).is_none() {
+            return false;
+        }
+    }
+    true
 }
 
 /// Returns how many ranges from `first` on start before the address `next`, or how many there are.

@@ -19,6 +19,8 @@ pub(crate) enum Chunk<T> {
     Gap,
     /// One range, with this value.
     One(T),
+    /// So many ranges, from this one on, each with a value.
+    Full(u16, u32),
     /// So many ranges, from this one on.
     Several(u16, u32),
     /// More ranges than a `u16` counts, from this one on.
@@ -31,7 +33,7 @@ impl<T: Copy> Chunk<T> {
     /// Returns whether the chunk has so many ranges that it should be split.
     pub(super) fn is_crowded(self) -> bool {
         match self {
-            Chunk::Several(count, _) => count > MOST_RANGES,
+            Chunk::Full(count, _) | Chunk::Several(count, _) => count > MOST_RANGES,
             Chunk::Many(_) => true,
             Chunk::Gap | Chunk::One(_) | Chunk::Split(_) => false,
         }
@@ -44,7 +46,11 @@ impl<T: Copy> Chunk<T> {
     {
         match self {
             Chunk::Split(base) => Some(base),
-            Chunk::Gap | Chunk::One(_) | Chunk::Several(_, _) | Chunk::Many(_) => None,
+            Chunk::Gap
+            | Chunk::One(_)
+            | Chunk::Full(_, _)
+            | Chunk::Several(_, _)
+            | Chunk::Many(_) => None,
         }
     }
 
@@ -60,6 +66,10 @@ impl<T: Copy> Chunk<T> {
     {
         match self {
             Chunk::One(value) => Some(value),
+            // No mark is read.
+            Chunk::Full(count, first) => {
+                Some(line.kept(line.range_among(first as usize, count as usize, address)))
+            }
             Chunk::Several(count, first) => {
                 line.value(line.range_among(first as usize, count as usize, address))
             }

@@ -1,5 +1,5 @@
 //! A division of the line of addresses into ranges.
-ghost use Rattle.std.specs.Prelude.{◌≡◌, ℕ, ◌<◌, ◌++◌, ◌∷◌, [], IfOk, Option, OnErr, OnOk, length, slice_index_or};
+ghost use Rattle.std.specs.Prelude.{◌≡◌, ℕ, ◌<◌, ◌++◌, ◌∷◌, [], IfOk, Option, OnErr, OnOk, Some, is_some, length, slice_index_or, true};
 ghost use Rattle.prefix_trie_bits.specs.Model.Bits.{number};
 
 use super::marks::{has_mark, mark, reach};
@@ -88,6 +88,18 @@ impl<K: Key, T: Copy, A: Allocator> Line<K, T, A> {
         ensures { (d : ℕ × Option T) → number (K.bits result) ≡ (slice_index_or self.now i d).0 }
     {
         self.pairs[i].0
+    }
+
+    /// Returns the value of a range that has one.
+    ///
+    /// Requires that `i` is below the number of ranges, and that this range has a value.
+    #[inline(always)]
+    pub(crate) fn kept(&self, i: usize) -> T
+        requires inside { i < length self.now }
+        requires valued { (d : ℕ × Option T) → is_some (slice_index_or self.now i d).1 ≡ true }
+        ensures { (d : ℕ × Option T) → Some result ≡ (slice_index_or self.now i d).1 }
+    {
+        self.pairs[i].1
     }
 
     /// Returns the value of a range.
