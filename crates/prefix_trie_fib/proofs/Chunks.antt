@@ -2,7 +2,7 @@
 use Rattle.std.proofs.Common.{◌≡◌, ◌∙◌, zero, suc, ℕ, ◌+◌, ◌-◌, ◌*◌, ◌/◌, ◌%◌, ◌^◌, ◌<◌, ◌≤◌, Bool, false, List, ◌++◌, length, length-append, take, drop, ap, sym, subst, arith, refl, append_assoc, pow_mono, take-append-drop}
 use Rattle.std.proofs.Math.Seq.{drop-append-add, take-add}
 use Rattle.std.proofs.lemmas.List.{length-drop, length-replicate, length-take-le, take-append-le, take-take}
-use Rattle.std.proofs.lemmas.Nat.{mod_low, shr_high}
+use Rattle.std.proofs.lemmas.Nat.{field_of, mod_low, shl-shr, shr-shr, shr_high}
 use Rattle.prefix_trie_bits.specs.BitStrings.{number-lt}
 use Rattle.prefix_trie_bits.specs.Model.Bits.{number, zeros}
 use Rattle.prefix_trie_bits.specs.Windows.{window-inside}
@@ -94,3 +94,12 @@ part_number b k p top few within is =
     let small' : number (drop k finer) < 2 ^ p = subst (λ n. number (drop k finer) < 2 ^ n) rest small in
     let last : top / 2 ^ (30 - (k + p)) % 2 ^ p ≡ number (drop k finer) = ap (λ n. n % 2 ^ p) (top_is ∙ parts') ∙ mod_low (number (take k b)) p (number (drop k finer)) small' in
     ap (λ n. number (take k b) * 2 ^ p + n) last ∙ sym parts'
+
+-- the bits between two places: those before them are shifted out to the left, and those after them to the right
+pub field_shifted : (n rest p : ℕ) → rest ≤ 32 → p ≤ rest → n * 2 ^ (32 - rest) % 2 ^ 32 / 2 ^ (32 - p) ≡ n / 2 ^ (rest - p) % 2 ^ p
+field_shifted n rest p most within =
+    let k : ℕ = 32 - rest in
+    ap (λ j. n * 2 ^ k % 2 ^ j / 2 ^ (32 - p)) (let e : 32 ≡ p + (32 - p) = omega (arith, most, within) in e)
+    ∙ field_of (n * 2 ^ k) p (32 - p)
+    ∙ ap (λ j. n * 2 ^ k / 2 ^ j % 2 ^ p) (let e : 32 - p ≡ k + (rest - p) = omega (arith, most, within) in e)
+    ∙ ap (λ m. m % 2 ^ p) (sym (shr-shr (n * 2 ^ k) k (rest - p)) ∙ ap (λ m. m / 2 ^ (rest - p)) (shl-shr n k))

@@ -7,7 +7,7 @@ use Rattle.std.proofs.lemmas.List.{get_or_append_left}
 use Rattle.std.specs.Option.{IfSome, MatchOption, unwrap_or}
 use Rattle.prefix_trie_fib.specs.declared.index.chunk.Chunk.{Chunk}
 use Rattle.prefix_trie_fib.specs.declared.index.chunk.Chunk.TheVariants.{Full, Gap, Many, One, Several, Split}
-use Rattle.prefix_trie_fib.specs.Index.{Extends, HasParts, IsChunk, IsEntry, IsIndex, IsWhole, part_bits}
+use Rattle.prefix_trie_fib.specs.Index.{Extends, HasParts, IsChunk, IsEntry, IsIndex, IsWhole}
 use Rattle.prefix_trie_fib.specs.Line.{IsDivision, value_along}
 use Rattle.prefix_trie_fib.specs.Search.{IsAmong, IsRangeOf, StartsBy}
 use Rattle.prefix_trie_fib.proofs.RangeValues.{value_of_range}
@@ -72,7 +72,12 @@ module _ {T : Type 0} where
     entry_kept w bits c parts more (Full count first) ext h = h
     entry_kept w bits c parts more (Several count first) ext h = h
     entry_kept w bits c parts more (Many first) ext h = h
-    entry_kept w bits c parts more (Split base) ext h = (h.0, parts_kept (2 ^ (w - (bits + part_bits w))) (2 ^ part_bits w) parts more base (c * 2 ^ part_bits w) ext h.1)
+    entry_kept w bits c parts more (Split p base) ext h = record {
+      some = h.some;
+      few = h.few;
+      within = h.within;
+      has_parts = parts_kept (2 ^ (w - (bits + p))) (2 ^ p) parts more base (c * 2 ^ p) ext h.has_parts;
+    }
 
     -- an entry of the whole chunk
     pub whole_entry : (w bits c : ℕ) (parts : List (Chunk T)) (x : Chunk T) → IsChunk rs (c * 2 ^ (w - bits)) ((c + 1) * 2 ^ (w - bits)) x → IsEntry w bits rs parts c x
@@ -81,7 +86,7 @@ module _ {T : Type 0} where
     whole_entry w bits c parts (Full count first) h = h
     whole_entry w bits c parts (Several count first) h = h
     whole_entry w bits c parts (Many first) h = h
-    whole_entry w bits c parts (Split base) h = absurd h
+    whole_entry w bits c parts (Split p base) h = absurd h
 
     -- the entry of a chunk that is not split is one of the whole chunk
     pub entry_of_whole : (w bits c : ℕ) (parts : List (Chunk T)) (x : Chunk T) → IsWhole x → IsEntry w bits rs parts c x → IsChunk rs (c * 2 ^ (w - bits)) ((c + 1) * 2 ^ (w - bits)) x
@@ -90,7 +95,7 @@ module _ {T : Type 0} where
     entry_of_whole w bits c parts (Full count first) t h = h
     entry_of_whole w bits c parts (Several count first) t h = h
     entry_of_whole w bits c parts (Many first) t h = h
-    entry_of_whole w bits c parts (Split base) t h = absurd t
+    entry_of_whole w bits c parts (Split p base) t h = absurd t
 
     pub index_pushed : (w bits : ℕ) (chunks parts more : List (Chunk T)) (x : Chunk T) → Extends parts more → IsIndex w bits rs chunks parts → IsEntry w bits rs more (length chunks) x
         → IsIndex w bits rs (chunks ++ x ∷ []) more

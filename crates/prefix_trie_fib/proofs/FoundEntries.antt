@@ -6,7 +6,7 @@ use Rattle.prefix_trie_bits.specs.Model.Bits.{number}
 use Rattle.prefix_trie_fib.specs.Compiled.{IsCompiled}
 use Rattle.prefix_trie_fib.specs.declared.index.chunk.Chunk.{Chunk}
 use Rattle.prefix_trie_fib.specs.declared.index.chunk.Chunk.TheVariants.{Split}
-use Rattle.prefix_trie_fib.specs.Index.{HasParts, IsChunk, IsEntry, IsWhole, part_bits}
+use Rattle.prefix_trie_fib.specs.Index.{IsChunk, IsEntry, IsSplit, IsWhole}
 use Rattle.prefix_trie_fib.proofs.Chunks.{in_chunk}
 use Rattle.prefix_trie_fib.proofs.Entries.{entry_of_whole}
 
@@ -26,18 +26,18 @@ module _ {T : Type 0} (w : ℕ) (rs : List (ℕ × Option T)) (chunks parts : Li
     entry_is : IsEntry w bits rs parts k x
     entry_is = subst (IsEntry w bits rs parts k) (sym at) (are.right k x chunk_inside)
 
-    pub parts_of : (base : ℕ) → x ≡ Split base → (bits + part_bits w ≤ w) × HasParts rs (2 ^ (w - (bits + part_bits w))) (2 ^ part_bits w) parts base (k * 2 ^ part_bits w)
-    parts_of base split = subst (IsEntry w bits rs parts k) split entry_is
+    pub parts_of : (more base : ℕ) → x ≡ Split more base → IsSplit w bits rs parts k more base
+    parts_of more base split = subst (IsEntry w bits rs parts k) split entry_is
 
-    pub in_part : (base : ℕ) → x ≡ Split base → (p : ℕ) (y : Chunk T) → p < 2 ^ part_bits w → number (take bits b) * 2 ^ part_bits w + p ≡ number (take (bits + part_bits w) b) → y ≡ get_or parts (base + p) y → IsEntryOf rs (number b) y
-    in_part base split p y small joined there =
-        let size : ℕ = 2 ^ (w - (bits + part_bits w)) in
-        let t : ℕ = k * 2 ^ part_bits w + p in
-        let e : number (take (bits + part_bits w) b) ≡ k * 2 ^ part_bits w + p = sym joined ∙ ap (λ n. n * 2 ^ part_bits w + p) (sym is) in
-        let bounds = in_chunk w b (bits + part_bits w) long in (
+    pub in_part : (more base : ℕ) → x ≡ Split more base → (p : ℕ) (y : Chunk T) → p < 2 ^ more → number (take bits b) * 2 ^ more + p ≡ number (take (bits + more) b) → y ≡ get_or parts (base + p) y → IsEntryOf rs (number b) y
+    in_part more base split p y small joined there =
+        let size : ℕ = 2 ^ (w - (bits + more)) in
+        let t : ℕ = k * 2 ^ more + p in
+        let e : number (take (bits + more) b) ≡ k * 2 ^ more + p = sym joined ∙ ap (λ n. n * 2 ^ more + p) (sym is) in
+        let bounds = in_chunk w b (bits + more) long in (
           t * size,
           (t + 1) * size,
-          subst (IsChunk rs (t * size) ((t + 1) * size)) (sym there) ((parts_of base split).1.right p y small),
+          subst (IsChunk rs (t * size) ((t + 1) * size)) (sym there) ((parts_of more base split).has_parts.right p y small),
           subst (λ n. n * size ≤ number b) e bounds.0,
           subst (λ n. number b < (n + 1) * size) e bounds.1,
         )

@@ -1,9 +1,10 @@
 -- The upper 64 bits of an address as a number, and the address that begins with these bits.
-use Rattle.std.proofs.Common.{◌≡◌, ◌∙◌, ℕ, ◌+◌, ◌-◌, ◌*◌, ◌^◌, ◌<◌, ◌≤◌, Bool, false, List, ◌++◌, length, take, drop, ap, ap₂, sym, arith, length-append, take_all, take_at, take-add, length-take-le}
+use Rattle.std.proofs.Common.{◌≡◌, ◌∙◌, ℕ, ◌+◌, ◌-◌, ◌*◌, ◌/◌, ◌^◌, ◌<◌, ◌≤◌, Bool, false, List, ◌++◌, length, take, drop, ap, ap₂, subst, sym, arith, length-append, take_all, take_at, take-add, length-take-le}
 use Rattle.std.proofs.lemmas.List.{length-drop, length-replicate, take-append-le}
 use Rattle.prefix_trie_bits.specs.BitStrings.{bits-number, length-digits, number-below, number_of_digits}
 use Rattle.prefix_trie_bits.specs.Model.Bits.{digits, number, zeros}
 use Rattle.prefix_trie_bits.specs.Windows.{length-window, window-inside}
+use Rattle.prefix_trie_fib.proofs.Chunks.{number_shifted}
 use Rattle.prefix_trie_fib.proofs.CutIntervals.{number_parts, number_zeros}
 
 -- the number of the first bits, with a window appended
@@ -27,6 +28,13 @@ upper_number b first second third long one two three =
 
 pub upper_below : (b : List Bool) → 64 ≤ length b → number (take 64 b) < 2 ^ 64
 upper_below b long = number-below 64 (take 64 b) (length-take-le 64 b long)
+
+-- the first 30 of 64 bits
+pub top_number : (half : ℕ) → half < 2 ^ 64 → half / 2 ^ 34 ≡ number (take 30 (digits 64 half ++ zeros 30))
+top_number half low =
+    let b : List Bool = digits 64 half in
+    let long : length b ≡ 64 = length-digits 64 half in
+    ap (λ n. n / 2 ^ 34) (sym (number_of_digits 64 half low)) ∙ subst (λ n. number b / 2 ^ (n - 30) ≡ number (take 30 b)) long (number_shifted b 30) ∙ ap number (sym (take-append-le 30 b (zeros 30) (omega (arith, long))))
 
 -- the number of bits that are filled with zeros
 pub filled_number : (s : List Bool) (k : ℕ) → number (s ++ zeros k) ≡ number s * 2 ^ k

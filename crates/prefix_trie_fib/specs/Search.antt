@@ -7,6 +7,10 @@ module _ {V : Type 0} where
     pub inside : i < length rs
     pub by : (d : ℕ × V) → (slice_index_or rs i d).0 ≤ n
 
+  -- no range from i on starts before n
+  abbrev pub EndsBy : List (ℕ × V) → ℕ → ℕ → Type 0
+  EndsBy rs i n = (k : ℕ) (d : ℕ × V) → i ≤ k → k < length rs → n ≤ (slice_index_or rs k d).0
+
   -- range i is the last that starts at n or before it
   pub record IsRangeOf (rs : List (ℕ × V)) (i n : ℕ) : Type 0 where
     pub starts : StartsBy rs i n

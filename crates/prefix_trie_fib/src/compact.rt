@@ -7,10 +7,11 @@ mod halves;
 mod lookups;
 mod upper_line;
 
+use crate::index::first_bits;
 use crate::indexed::Indexed;
 use crate::ranges::Line;
 use halves::from_upper;
-use lookups::{value_by_upper, value_by_whole};
+use lookups::value_by_upper;
 use prefix_trie_bits::prefix::{Key, Refusal};
 use std::alloc::{AllocError, Allocator};
 use std::marker::Model;
@@ -110,10 +111,23 @@ impl<K: Key, T: Copy, A: Allocator> Compact<K, T, A> {
     pub(crate) fn lookup(&self, address: K) -> Option<T>
         ensures { result ≡ value_along None self.now (number (K.bits address)) }
     {
-        let _ = address.is_key();
+        match &self.layout {
+            Layout::Whole(indexed) if K::width() <= 64 => {
+                indexed.lookup(first_bits(address), address)
+            }
+            Layout::Upper(indexed) if K::width() >= 64 => value_by_upper(indexed, address),
+            _ => self.lookup_rare(address),
+        }
+    }
+
+    /// Does the same out of line, for the layouts that tables of a width rarely have.
+    #[inline(never)]
+    fn lookup_rare(&self, address: K) -> Option<T>
+        ensures { result ≡ value_along None self.now (number (K.bits address)) }
+    {
         match &self.layout {
             Layout::Empty => None,
-            Layout::Whole(indexed) => value_by_whole(indexed, address),
+            Layout::Whole(indexed) => indexed.lookup(first_bits(address), address),
             Layout::Upper(indexed) => value_by_upper(indexed, address),
         }
     }

@@ -203,8 +203,8 @@ impl<P: Prefix, T: Copy + PartialEq, A: Allocator> Fib<P, T, A> {
 
     /// Returns the number of chunks that the index cuts the line of addresses into.
     ///
-    /// Each has an entry of the size of a value and a tag. A chunk with more than 12 ranges has 16 more entries for
-    /// addresses of at most 32 bits, and 1,024 more for longer ones.
+    /// Each has an entry of the size of a value and a tag. A chunk with more than 12 ranges has more entries: 16, or a
+    /// power of two that is at most half the number of its ranges.
     ///
     /// # Examples
     ///

@@ -1,22 +1,24 @@
 //! An index of a division of the line by the first bits of addresses.
-ghost use Rattle.std.specs.Prelude.{◌≡◌, ℕ, ◌+◌, ◌*◌, ◌-◌, ◌^◌, ◌<◌, ◌≤◌, IfOk, IfSome, IsTrue, OnOk, Option, length, slice_index_or};
+ghost use Rattle.std.specs.Prelude.{◌≡◌, ℕ, ◌+◌, ◌*◌, ◌-◌, ◌^◌, ◌<◌, ◌≤◌, IfOk, IfSome, IsTrue, OnOk, length};
 ghost use Rattle.prefix_trie_bits.specs.Model.Bits.{number};
 ghost use Rattle.prefix_trie_fib.specs.Index.{AreValued, Extends, HasParts, IsChunk, IsEntry, IsIndex};
 ghost use Rattle.prefix_trie_fib.specs.Line.{IsDivision};
-ghost use Rattle.prefix_trie_fib.specs.Search.{StartsBy};
+ghost use Rattle.prefix_trie_fib.specs.Search.{EndsBy, StartsBy};
 
 mod chunk;
 mod first_bits;
 
 use crate::ranges::{Line, is_at_most};
 pub(crate) use chunk::Chunk;
-use first_bits::{bits_of_part, parts_of_chunk};
 pub(crate) use first_bits::{chunk_of, first_bits, part_of};
 use prefix_trie_bits::prefix::Key;
 use std::alloc::{AllocError, Allocator};
 
 /// The most bits of an address that select a chunk.
 const MOST_BITS: u32 = 20;
+
+/// A chunk with more ranges is split.
+const MOST_RANGES: usize = 12;
 
 /// An entry for each chunk, and the entries of the parts of chunks that are split.
 #[derive(Drop)]
@@ -82,15 +84,16 @@ fn entry_at<K: Key, T: Copy, A: Allocator, B: Allocator>(
         → IfSome next (λ k. (c + 1) * 2 ^ (K.bit_width - bits) ≤ number (K.bits k))
         → IsEntry K.bit_width bits line.now parts.new.items c entry) }
 {
-    let chunk = chunk_at(line, first, next);
+    let count = count_until(line, first, next);
     let base = parts.len();
-    let finer = bits + bits_of_part(K::width());
-    if !chunk.is_crowded() || finer > K::width() || base > u32::MAX as usize {
-        return Ok(chunk);
+    match bits_of_part(count, bits, K::width()) {
+        Some(more) if base <= u32::MAX as usize => {
+            let step = K::power(K::width() - (bits + more));
+            push_parts(line, first, low, step, 1 << more, parts)?;
+            Ok(Chunk::Split(more as u16, base as u32))
+        }
+        _ => Ok(chunk_with(line, first, count)),
     }
-    let step = K::power(K::width() - finer);
-    push_parts(line, first, low, step, parts_of_chunk(K::width()), parts)?;
-    Ok(Chunk::Split(base as u32))
 }
 
 /// Appends the entries of `count` chunks, from the address `low` on and each of `step` addresses.
@@ -141,7 +144,22 @@ fn chunk_at<K: Key, T: Copy, A: Allocator>(
     ensures { (low high : ℕ) → StartsBy line.now first low
         → IfSome next (λ k. high ≤ number (K.bits k)) → IsChunk line.now low high result }
 {
-    let count = count_until(line, first, next);
+    chunk_with(line, first, count_until(line, first, next))
+}
+
+/// Returns the entry of a chunk that has the `count` ranges from `first` on. It is not split.
+fn chunk_with<K: Key, T: Copy, A: Allocator>(
+    line: &Line<K, T, A>,
+    first: usize,
+    count: usize,
+) -> Chunk<T>
+    requires division { IsDivision line.now }
+    requires few { length line.now < 2 ^ 32 }
+    requires inside { first < length line.now }
+    requires within { first + count ≤ length line.now }
+    ensures { (low high : ℕ) → StartsBy line.now first low → EndsBy line.now (first + count) high
+        → IsChunk line.now low high result }
+{
     let alone = count <= 1;
     if alone {
         match line.value(first) {
@@ -186,9 +204,8 @@ fn count_until<K: Key, T: Copy, A: Allocator>(
     requires inside { first < length line.now }
     requires starts { IfSome next (λ k. StartsBy line.now first (number (K.bits k))) }
     ensures inside { first + result ≤ length line.now }
-    ensures above { (k : ℕ) (d : ℕ × Option T) → first + result ≤ k → k < length line.now
-        → (high : ℕ) → IfSome next (λ k. high ≤ number (K.bits k))
-        → high ≤ (slice_index_or line.now k d).0 }
+    ensures above { (high : ℕ) → IfSome next (λ k. high ≤ number (K.bits k))
+        → EndsBy line.now (first + result) high }
 {
     let len = line.len();
     let Some(end) = next else {
@@ -200,6 +217,23 @@ fn count_until<K: Key, T: Copy, A: Allocator>(
     } else {
         last - first + 1
     }
+}
+
+/// Returns how many more bits select a part of a chunk with so many ranges, if the chunk should be split.
+///
+/// Then the parts have about four ranges on average, or there are 16. The chunk is one of an index by `bits` bits.
+fn bits_of_part(count: usize, bits: u32, width: u32) -> Option<u32>
+    ensures { IfSome result (λ more. (0 < more) × (bits + more ≤ 30) × (bits + more ≤ width)) }
+{
+    let most = width.min(30).saturating_sub(bits);
+    if count <= MOST_RANGES || most < 4 {
+        return None;
+    }
+    let mut more = 4;
+    while more < most && 4 << more < count {
+        more += 1;
+    }
+    Some(more)
 }
 
 /// Returns how many bits the index of so many ranges reads: at most as many chunks as ranges, but at least 2^8.

@@ -1,7 +1,7 @@
 //! A division of the line of addresses with an index of it.
 ghost use Rattle.std.specs.Prelude.{◌≡◌, ℕ, ◌^◌, ◌<◌, ◌≤◌, IfOk, None, Option, length, slice_index_or};
 ghost use Rattle.prefix_trie_bits.specs.Model.Bits.{number};
-ghost use Rattle.prefix_trie_fib.specs.Index.{IsChunk};
+ghost use Rattle.prefix_trie_fib.specs.Index.{IsChunk, IsTop};
 ghost use Rattle.prefix_trie_fib.specs.Line.{IsDivision, value_along};
 
 use crate::copies::copy_of;
@@ -16,20 +16,22 @@ use std::marker::Model;
 pub(crate) struct Indexed<K: Key, T: Copy, A: Allocator> {
     line: Line<K, T, A>,
     index: Index<T, A>,
-    bits: u32,
+    /// How many of the first 30 bits of an address follow those that select its chunk.
+    rest: u32,
 }
 
 // a contract sees the first address of each range, as a number, and its value
 impl<K: Key, T: Copy, A: Allocator> Model for Indexed<K, T, A> {
-    ghost use Rattle.std.specs.Prelude.{List, ℕ, Option};
+    ghost use Rattle.std.specs.Prelude.{List, ℕ, ◌-◌, ◌≤◌, Option};
     ghost use Rattle.prefix_trie_fib.specs.Compiled.{IsCompiled};
 
     ghost Value = { List (ℕ × Option T) };
 
     ghost view = { λ indexed. indexed.line };
 
-    ghost invariant = { λ indexed. IsCompiled K.bit_width indexed.line indexed.index.chunks.items
-        indexed.index.parts.items indexed.bits };
+    ghost invariant = { λ indexed. (indexed.rest ≤ 30)
+        × IsCompiled K.bit_width indexed.line indexed.index.chunks.items
+        indexed.index.parts.items (30 - indexed.rest) };
 }
 
 impl<K: Key, T: Copy, A: Allocator> Indexed<K, T, A> {
@@ -48,7 +50,8 @@ impl<K: Key, T: Copy, A: Allocator> Indexed<K, T, A> {
         }
         let bits = index_bits(line.len(), K::width());
         let index = index_of(&line, bits, alloc, parts_alloc).map_err(|_| Refusal::Memory)?;
-        Ok(Indexed { line, index, bits })
+        let rest = 30 - bits;
+        Ok(Indexed { line, index, rest })
     }
 
     /// Returns the number of ranges.
@@ -85,25 +88,28 @@ impl<K: Key, T: Copy, A: Allocator> Indexed<K, T, A> {
         self.index.chunks.len()
     }
 
-    /// Returns the value of the range of an address.
+    /// Returns the value of the range of an address, whose first 30 bits have the number `top`.
     #[inline(always)]
-    pub(crate) fn lookup(&self, address: K) -> Option<T>
+    pub(crate) fn lookup(&self, top: u32, address: K) -> Option<T>
+        requires { IsTop top (K.bits address) }
         ensures { result ≡ value_along None self.now (number (K.bits address)) }
     {
-        self.chunk(address).value(&self.line, address)
+        self.chunk(top, address).value(&self.line, address)
     }
 
     /// Returns the entry of an address: that of its chunk, or of its part of the chunk if the chunk is split.
     #[inline(always)]
-    fn chunk(&self, address: K) -> Chunk<T>
+    fn chunk(&self, top: u32, address: K) -> Chunk<T>
+        requires { IsTop top (K.bits address) }
         ensures { (low : ℕ) × (high : ℕ) × IsChunk self.now low high result
             × (low ≤ number (K.bits address)) × (number (K.bits address) < high) }
     {
         let _ = address.is_key();
-        let chunk = chunk_of(address, self.bits);
-        let entry = self.index.chunks[chunk];
+        let entry = self.index.chunks[chunk_of(top, self.rest)];
         match entry.parts() {
-            Some(base) => self.index.parts[base as usize + part_of(address, self.bits)],
+            Some((more, base)) => {
+                self.index.parts[base as usize + part_of(top, self.rest, more)]
+            }
             None => entry,
         }
     }
@@ -121,7 +127,7 @@ impl<K: Key, T: Copy, A: Allocator + Clone> Indexed<K, T, A> {
         Ok(Indexed {
             line,
             index,
-            bits: self.bits,
+            rest: self.rest,
         })
     }
 }

@@ -1,6 +1,8 @@
-//! Lookups in each layout. The layout that tables of a width rarely have stays out of line.
-ghost use Rattle.std.specs.Prelude.{◌≡◌, ◌≤◌, None, take};
-ghost use Rattle.prefix_trie_bits.specs.Model.Bits.{number};
+//! Lookups by the upper 64 bits of addresses.
+ghost use Rattle.std.specs.Prelude.{◌≡◌, ◌≤◌, None};
+ghost use Rattle.prefix_trie_bits.specs.Model.Bits.{digits, number};
+ghost use Rattle.prefix_trie_fib.specs.Index.{IsTop};
+ghost use Rattle.prefix_trie_fib.specs.Layouts.{widened};
 ghost use Rattle.prefix_trie_fib.specs.Line.{value_along};
 
 use super::halves::upper_half;
@@ -8,40 +10,27 @@ use crate::indexed::Indexed;
 use prefix_trie_bits::prefix::Key;
 use std::alloc::Allocator;
 
-/// Returns the value of the range of an address, by whole addresses.
-#[inline(always)]
-pub(super) fn value_by_whole<K: Key, T: Copy, A: Allocator>(
-    indexed: &Indexed<K, T, A>,
-    address: K,
-) -> Option<T>
-    ensures { result ≡ value_along None indexed.now (number (K.bits address)) }
-{
-    if K::width() > 64 {
-        return value_by_long(indexed, address);
-    }
-    indexed.lookup(address)
-}
-
-/// Does the same for addresses of more than 64 bits, few of whose tables keep whole addresses.
-#[inline(never)]
-fn value_by_long<K: Key, T: Copy, A: Allocator>(indexed: &Indexed<K, T, A>, address: K) -> Option<T>
-    ensures { result ≡ value_along None indexed.now (number (K.bits address)) }
-{
-    indexed.lookup(address)
-}
-
-/// Returns the value of the range that begins with the upper 64 bits of an address.
+/// Returns the value of the range of an address, where ranges are kept by the upper 64 bits of their first addresses.
 #[inline(always)]
 pub(super) fn value_by_upper<K: Key, T: Copy, A: Allocator>(
     indexed: &Indexed<u64, T, A>,
     address: K,
 ) -> Option<T>
     requires { 64 ≤ K.bit_width }
-    ensures { result ≡ value_along None indexed.now (number (take 64 (K.bits address))) }
+    ensures { result
+        ≡ value_along None (widened K.bit_width indexed.now) (number (K.bits address)) }
 {
-    // The compiler drops this layout from the code for short addresses.
-    if K::width() < 64 {
-        return None;
-    }
-    indexed.lookup(upper_half(address))
+    let _ = address.is_key();
+    let half = upper_half(address);
+    indexed.lookup(top_of(half), half)
+}
+
+/// Returns the number of the first 30 of 64 bits.
+///
+/// `first_bits` does the same for all keys, but the compiler does not make one shift of it here.
+#[inline(always)]
+fn top_of(half: u64) -> u32
+    ensures { IsTop result (digits 64 half) }
+{
+    (half >> 34) as u32
 }

@@ -9,9 +9,6 @@ use crate::ranges::Line;
 use prefix_trie_bits::prefix::Key;
 use std::alloc::Allocator;
 
-/// A chunk with more ranges is split.
-const MOST_RANGES: u16 = 12;
-
 /// Which ranges a chunk of addresses has.
 #[derive(Clone, Copy)]
 pub(crate) enum Chunk<T> {
@@ -25,27 +22,18 @@ pub(crate) enum Chunk<T> {
     Several(u16, u32),
     /// More ranges than a `u16` counts, from this one on.
     Many(u32),
-    /// The chunk is split into parts, whose entries begin at this place.
-    Split(u32),
+    /// The chunk is split by so many more bits, and the entries of its parts begin at this place.
+    Split(u16, u32),
 }
 
 impl<T: Copy> Chunk<T> {
-    /// Returns whether the chunk has so many ranges that it should be split.
-    pub(super) fn is_crowded(self) -> bool {
-        match self {
-            Chunk::Full(count, _) | Chunk::Several(count, _) => count > MOST_RANGES,
-            Chunk::Many(_) => true,
-            Chunk::Gap | Chunk::One(_) | Chunk::Split(_) => false,
-        }
-    }
-
-    /// Returns the place of the entries of the parts, if the chunk is split.
+    /// Returns by how many more bits the chunk is split and the place of the entries of its parts, if it is split.
     #[inline(always)]
-    pub(crate) fn parts(self) -> Option<u32>
-        ensures { MatchOption result (IsWhole self) (λ base. self ≡ Split base) }
+    pub(crate) fn parts(self) -> Option<(u32, u32)>
+        ensures { MatchOption result (IsWhole self) (λ parts. self ≡ Split parts.0 parts.1) }
     {
         match self {
-            Chunk::Split(base) => Some(base),
+            Chunk::Split(more, base) => Some((u32::from(more), base)),
             Chunk::Gap
             | Chunk::One(_)
             | Chunk::Full(_, _)
@@ -74,7 +62,7 @@ impl<T: Copy> Chunk<T> {
                 line.value(line.range_among(first as usize, count as usize, address))
             }
             Chunk::Many(first) => line.value(line.range_from(first as usize, address)),
-            Chunk::Gap | Chunk::Split(_) => None,
+            Chunk::Gap | Chunk::Split(_, _) => None,
         }
     }
 }

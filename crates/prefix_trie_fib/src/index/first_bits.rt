@@ -1,53 +1,35 @@
 //! The first bits of an address, as numbers: its chunk, and its part of the chunk.
-ghost use Rattle.std.specs.Prelude.{◌≡◌, ◌+◌, ◌*◌, ◌^◌, ◌<◌, ◌≤◌, ◌++◌, take};
+ghost use Rattle.std.specs.Prelude.{◌≡◌, ◌+◌, ◌-◌, ◌*◌, ◌^◌, ◌<◌, ◌≤◌, ◌++◌, Bool, List, length, take};
 ghost use Rattle.prefix_trie_bits.specs.Model.Bits.{number, zeros};
-ghost use Rattle.prefix_trie_fib.specs.Index.{part_bits};
+ghost use Rattle.prefix_trie_fib.specs.Index.{IsTop};
 
 use prefix_trie_bits::prefix::Key;
 
-/// Returns the number of the first `bits` bits of an address.
-#[inline(always)]
-pub(crate) fn chunk_of<K: Key>(address: K, bits: u32) -> usize
-    requires at_most { bits ≤ 20 }
-    requires within { bits ≤ K.bit_width }
-    ensures { result ≡ number (take bits (K.bits address)) }
-{
-    let _ = address.is_key();
-    (first_bits(address) >> (30 - bits)) as usize
-}
-
-/// Returns the number of the bits of an address after the first `bits` that select a part of a chunk.
-#[inline(always)]
-pub(crate) fn part_of<K: Key>(address: K, bits: u32) -> usize
-    requires at_most { bits ≤ 20 }
-    requires within { bits + part_bits K.bit_width ≤ K.bit_width }
-    ensures part { number (take bits (K.bits address)) * 2 ^ part_bits K.bit_width + result
-        ≡ number (take (bits + part_bits K.bit_width) (K.bits address)) }
-    ensures small { result < 2 ^ part_bits K.bit_width }
-{
-    let _ = address.is_key();
-    let finer = bits + bits_of_part(K::width());
-    (first_bits(address) >> (30 - finer)) as usize % parts_of_chunk(K::width())
-}
-
-/// Returns how many more bits select a part of a chunk of addresses of this width.
+/// Returns the chunk of an address: the number of its first 30 bits but the last `rest` of them.
 ///
-/// A chunk of IPv4 addresses is small: 4 bits more leave parts of 256 addresses in a large table.
+/// `top` is the number of the first 30 bits of the address.
 #[inline(always)]
-pub(super) fn bits_of_part(width: u32) -> u32
-    ensures bits { result ≡ part_bits width }
-    ensures some { 0 < result }
-    ensures few { result ≤ 10 }
+pub(crate) fn chunk_of(top: u32, rest: u32) -> usize
+    requires { rest ≤ 30 }
+    ensures { (b : List Bool) → IsTop top b → 30 - rest ≤ length b
+        → result ≡ number (take (30 - rest) b) }
 {
-    if width <= 32 { 4 } else { 10 }
+    (top >> rest) as usize
 }
 
-/// Returns how many parts a chunk of addresses of this width has if it is split.
+/// Returns the part of a chunk that an address is in: the number of the `more` bits after those that select the chunk.
+///
+/// `top` is the number of the first 30 bits of the address, the last `rest` of which do not select the chunk.
 #[inline(always)]
-pub(super) fn parts_of_chunk(width: u32) -> usize
-    ensures { result ≡ 2 ^ part_bits width }
+pub(crate) fn part_of(top: u32, rest: u32, more: u32) -> usize
+    requires rest { rest ≤ 30 }
+    requires some { 0 < more }
+    requires within { more ≤ rest }
+    ensures part { (b : List Bool) → IsTop top b → 30 - rest + more ≤ length b
+        → number (take (30 - rest) b) * 2 ^ more + result ≡ number (take (30 - rest + more) b) }
+    ensures small { result < 2 ^ more }
 {
-    if width <= 32 { 16 } else { 1024 }
+    (top << (32 - rest) >> (32 - more)) as usize
 }
 
 /// Returns the number of the first 30 bits of an address, where bits past the end are 0.
@@ -55,7 +37,7 @@ pub(super) fn parts_of_chunk(width: u32) -> usize
 /// The windows become one shift: their depths are constants.
 #[inline(always)]
 pub(crate) fn first_bits<K: Key>(address: K) -> u32
-    ensures { result ≡ number (take 30 (K.bits address ++ zeros 30)) }
+    ensures { IsTop result (K.bits address) }
 {
     let _ = address.is_key();
     let first = with_window(0, address, 0);

@@ -1,16 +1,5 @@
--- A range that is alone in its chunk has the value of each address there.
-use Rattle.std.proofs.Common.{◌∙◌, ◌+◌, sym, None, arith}
-use Rattle.prefix_trie_fib.proofs.Entries.{alone_value}
+-- The ranges that are counted are those of the chunk.
 use Rattle.prefix_trie_fib.proofs.index.chunk_at.Goals as goal
 
-pub returns-in-Some : goal.returns-in-Some
-returns-in-Some g c = λ low high starts le n lo hi.
-    alone_value c.args.line.now c.requires.division c.args.first low high (0, None) starts
-    (λ d more. c.count_until-count.ensures.above (c.args.first + 1) d (omega (arith, c.if-alone.true)) more high le) n lo hi
-    ∙ sym (c.value.ensures (0, None)) ∙ c.in-Some.is
-
-pub returns-in-None : goal.returns-in-None
-returns-in-None g c = λ low high starts le n lo hi.
-    alone_value c.args.line.now c.requires.division c.args.first low high (0, None) starts
-    (λ d more. c.count_until-count.ensures.above (c.args.first + 1) d (omega (arith, c.if-alone.true)) more high le) n lo hi
-    ∙ sym (c.value.ensures (0, None)) ∙ c.in-None.is
+pub returns : goal.returns
+returns g c = λ low high starts le. c.chunk_with.ensures low high starts (c.count_until.ensures.above high le)

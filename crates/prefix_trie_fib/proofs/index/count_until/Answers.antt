@@ -15,7 +15,7 @@ overflow_sub-result-else-is_at_most g c = not_before c.args.line.now c.requires.
     (subst (λ o. IfSome o (λ k. StartsBy c.args.line.now c.args.first (number (g.K.Key.bits k)))) c.in-Some.is c.requires.starts) c.range_from-last.ensures
 
 pub returns-then-is_at_most-clause-above : goal.returns-then-is_at_most-clause-above
-returns-then-is_at_most-clause-above g c = λ k d from in_it high le.
+returns-then-is_at_most-clause-above g c = λ high le k d from in_it.
     let le' : high ≤ number (g.K.Key.bits c.in-Some.end) = subst (λ o. IfSome o (λ e. high ≤ number (g.K.Key.bits e))) c.in-Some.is le in
     let at : number (g.K.Key.bits c.in-Some.end) ≤ (get_or c.args.line.now k d).0 =
     from_middle c.args.line.now c.requires.division (number (g.K.Key.bits c.in-Some.end)) c.range_from-last.result
@@ -23,7 +23,7 @@ returns-then-is_at_most-clause-above g c = λ k d from in_it high le.
     omega (arith, le', at)
 
 pub returns-else-is_at_most-clause-above : goal.returns-else-is_at_most-clause-above
-returns-else-is_at_most-clause-above g c = λ k d from in_it high le.
+returns-else-is_at_most-clause-above g c = λ high le k d from in_it.
     let le' : high ≤ number (g.K.Key.bits c.in-Some.end) = subst (λ o. IfSome o (λ e. high ≤ number (g.K.Key.bits e))) c.in-Some.is le in
     let after : c.range_from-last.result + 1 ≤ k = omega (arith, from, overflow_sub-result-else-is_at_most g c) in
     let at : number (g.K.Key.bits c.in-Some.end) ≤ (get_or c.args.line.now k d).0 =

@@ -1,17 +1,21 @@
--- The first 30 bits, of which the last ones are shifted out and the first ones are a remainder.
-use Rattle.std.proofs.Common.{◌≡◌, ◌∙◌, ◌+◌, ◌*◌, ◌^◌, ◌%◌, ◌/◌, ◌-◌, ap, ap₂, length, take, arith}
+-- The first 30 bits, of which those before the part are shifted out to the left and those after it to the right.
+use Rattle.std.proofs.Common.{◌≡◌, ◌∙◌, ◌+◌, ◌*◌, ◌^◌, ◌%◌, ◌/◌, ◌-◌, ap, take, arith, pow_pos}
+use Rattle.std.proofs.lemmas.Nat.{mod_below}
 use Rattle.prefix_trie_bits.specs.Model.Bits.{number}
-use Rattle.prefix_trie_fib.specs.Index.{part_bits}
-use Rattle.prefix_trie_fib.proofs.Chunks.{part_number}
+use Rattle.prefix_trie_fib.proofs.Chunks.{field_shifted, part_number}
 use Rattle.prefix_trie_fib.proofs.index.first_bits.part_of.Goals as goal
 
 pub returns-clause-part : goal.returns-clause-part
-returns-clause-part g c =
-    let w = g.K.Key.bit_width in
-    let b = g.K.Key.bits c.args.address in
-    let p = part_bits w in
-    let long : length b ≡ w = g.met.K.Key.key_laws.bits_length c.args.address c.is_key.ensures.key in
-    let p_is : c.bits_of_part.result ≡ p = c.bits_of_part.ensures.bits ∙ ap part_bits c.width.ensures in
-    let count : c.parts_of_chunk.result ≡ 2 ^ p = c.parts_of_chunk.ensures ∙ ap (λ n. 2 ^ part_bits n) c.width-2.ensures in
-    ap₂ (λ m n. number (take c.args.bits b) * 2 ^ p + c.first_bits.result / 2 ^ (30 - (c.args.bits + m)) % n) p_is count
-    ∙ part_number b c.args.bits p c.first_bits.result (omega (arith, c.requires.at_most, c.bits_of_part.ensures.few, p_is)) (omega (arith, long, c.requires.within)) c.first_bits.ensures
+returns-clause-part c = λ b top long.
+    let bits = 30 - c.args.rest in
+    let more = c.args.more in
+    ap (λ n. number (take bits b) * 2 ^ more + n) (field_shifted c.args.top c.args.rest more (omega (arith, c.requires.rest)) c.requires.within)
+    ∙ ap (λ n. number (take bits b) * 2 ^ more + c.args.top / 2 ^ n % 2 ^ more) (let e : c.args.rest - more ≡ 30 - (bits + more) = omega (arith, c.requires.rest, c.requires.within) in e)
+    ∙ part_number b bits more c.args.top (omega (arith, c.requires.rest, c.requires.within)) long top
+
+pub returns-clause-small : goal.returns-clause-small
+returns-clause-small c =
+    let more = c.args.more in
+    let e = field_shifted c.args.top c.args.rest more (omega (arith, c.requires.rest)) c.requires.within in
+    let small = mod_below (c.args.top / 2 ^ (c.args.rest - more)) (2 ^ more) (pow_pos more) in
+    omega (arith, e, small)

@@ -1,0 +1,10 @@
+-- The bits that do not select a chunk are the others of 30.
+use Rattle.std.proofs.Common.{◌≡◌, ◌-◌, arith, rules, subst}
+use Rattle.prefix_trie_fib.specs.Compiled.{IsCompiled}
+use Rattle.prefix_trie_fib.proofs.indexed.Indexed.new.Goals as goal
+
+pub invariant_of-result : goal.invariant_of-result
+invariant_of-result g c =
+    let bits = c.index_bits-bits.result in
+    let compiled : IsCompiled g.K.Key.bit_width c.shrink_to_fit.new.self c.in_ok-index.index.chunks.items c.in_ok-index.index.parts.items bits = search rules in
+    (omega arith, subst (IsCompiled g.K.Key.bit_width c.shrink_to_fit.new.self c.in_ok-index.index.chunks.items c.in_ok-index.index.parts.items) (let e : bits ≡ 30 - (30 - bits) = omega (arith, c.index_bits-bits.ensures.at_most) in e) compiled)
