@@ -73,6 +73,21 @@ impl IpPrefix {
         }
     }
 
+    // Brings into the caller's proof that the network fits. The compiler removes it.
+    #[inline(always)]
+    pub(crate) fn known_fitting(&self)
+        ensures { IsIp self.now }
+    {
+        match self {
+            IpPrefix::V4(network) => {
+                let _ = network.fits();
+            }
+            IpPrefix::V6(network) => {
+                let _ = network.fits();
+            }
+        }
+    }
+
     // Returns a copy. The proof learns from it that the network fits.
     #[inline]
     pub(crate) fn copy(&self) -> Self

@@ -10,7 +10,6 @@ ghost use Rattle.prefix_trie_joint.specs.Networks.{ip_back, ip_path};
 
 use crate::map::JointPrefixMap;
 use crate::prefix::IpPrefix;
-use prefix_trie::Prefix;
 use std::alloc::Allocator;
 
 impl<T: Drop, A: Allocator> JointPrefixMap<T, A> {
@@ -29,17 +28,10 @@ impl<T: Drop, A: Allocator> JointPrefixMap<T, A> {
     pub fn get(&self, prefix: &IpPrefix) -> Option<&T>
         ensures { option_copied result ≡ get (entries_of self.now) (ip_path prefix.now) }
     {
-        // Each arm returns `None` by itself: a join of both costs five instructions. The proof learns
-        // from `fits` that a network behind a reference fits, and the compiler removes that call.
+        prefix.known_fitting();
         match prefix {
-            IpPrefix::V4(network) => {
-                let _ = network.fits();
-                Some(self.ipv4.get(network)?)
-            }
-            IpPrefix::V6(network) => {
-                let _ = network.fits();
-                Some(self.ipv6.get(network)?)
-            }
+            IpPrefix::V4(network) => self.ipv4.get(network),
+            IpPrefix::V6(network) => self.ipv6.get(network),
         }
     }
 
@@ -57,15 +49,10 @@ impl<T: Drop, A: Allocator> JointPrefixMap<T, A> {
     pub fn contains_key(&self, prefix: &IpPrefix) -> bool
         ensures { result ≡ contains_key (entries_of self.now) (ip_path prefix.now) }
     {
+        prefix.known_fitting();
         match prefix {
-            IpPrefix::V4(network) => {
-                let _ = network.fits();
-                self.ipv4.contains_key(network)
-            }
-            IpPrefix::V6(network) => {
-                let _ = network.fits();
-                self.ipv6.contains_key(network)
-            }
+            IpPrefix::V4(network) => self.ipv4.contains_key(network),
+            IpPrefix::V6(network) => self.ipv6.contains_key(network),
         }
     }
 
@@ -77,25 +64,22 @@ impl<T: Drop, A: Allocator> JointPrefixMap<T, A> {
     /// // map = {10.1.0.0/16: 1}
     /// map.get_key_value(&"10.1.2.3/16".parse()?);     // Some((V4(10.1.0.0/16), 1))
     /// ```
-    #[inline]
+    #[inline(always)]
     pub fn get_key_value(&self, prefix: &IpPrefix) -> Option<(IpPrefix, &T)>
         ensures { option_map lent_item result
             ≡ option_map (λ value. (ip_back (ip_path prefix.now), value))
             (get (entries_of self.now) (ip_path prefix.now)) }
     {
-        match prefix.copy() {
-            IpPrefix::V4(network) => {
-                let Some((found, value)) = self.ipv4.get_key_value(&network) else {
-                    return None;
-                };
-                Some((IpPrefix::V4(found), value))
-            }
-            IpPrefix::V6(network) => {
-                let Some((found, value)) = self.ipv6.get_key_value(&network) else {
-                    return None;
-                };
-                Some((IpPrefix::V6(found), value))
-            }
+        prefix.known_fitting();
+        match prefix {
+            IpPrefix::V4(network) => match self.ipv4.get_key_value(network) {
+                Some((found, value)) => Some((IpPrefix::V4(found), value)),
+                None => None,
+            },
+            IpPrefix::V6(network) => match self.ipv6.get_key_value(network) {
+                Some((found, value)) => Some((IpPrefix::V6(found), value)),
+                None => None,
+            },
         }
     }
 
@@ -116,21 +100,16 @@ impl<T: Drop, A: Allocator> JointPrefixMap<T, A> {
         ensures { option_map lent_item result
             ≡ prefix_pair ip_back (longest_match (entries_of self.now) (ip_path prefix.now)) }
     {
+        prefix.known_fitting();
         match prefix {
-            IpPrefix::V4(network) => {
-                let _ = network.fits();
-                let Some((found, value)) = self.ipv4.get_lpm(network) else {
-                    return None;
-                };
-                Some((IpPrefix::V4(found), value))
-            }
-            IpPrefix::V6(network) => {
-                let _ = network.fits();
-                let Some((found, value)) = self.ipv6.get_lpm(network) else {
-                    return None;
-                };
-                Some((IpPrefix::V6(found), value))
-            }
+            IpPrefix::V4(network) => match self.ipv4.get_lpm(network) {
+                Some((found, value)) => Some((IpPrefix::V4(found), value)),
+                None => None,
+            },
+            IpPrefix::V6(network) => match self.ipv6.get_lpm(network) {
+                Some((found, value)) => Some((IpPrefix::V6(found), value)),
+                None => None,
+            },
         }
     }
 
@@ -152,15 +131,10 @@ impl<T: Drop, A: Allocator> JointPrefixMap<T, A> {
             ≡ option_map (λ found. found.1)
             (longest_match (entries_of self.now) (ip_path prefix.now)) }
     {
+        prefix.known_fitting();
         match prefix {
-            IpPrefix::V4(network) => {
-                let _ = network.fits();
-                self.ipv4.get_lpm_value(network)
-            }
-            IpPrefix::V6(network) => {
-                let _ = network.fits();
-                self.ipv6.get_lpm_value(network)
-            }
+            IpPrefix::V4(network) => self.ipv4.get_lpm_value(network),
+            IpPrefix::V6(network) => self.ipv6.get_lpm_value(network),
         }
     }
 
@@ -173,16 +147,17 @@ impl<T: Drop, A: Allocator> JointPrefixMap<T, A> {
     /// map.get_lpm_prefix(&"10.1.2.3/32".parse()?);        // Some(V4(10.1.0.0/16))
     /// map.get_lpm_prefix(&"2001:db8::/32".parse()?);      // None
     /// ```
-    #[inline]
+    #[inline(always)]
     #[tactic(auto, using(crate::proofs::Matches::longest_prefix_ipv4, crate::proofs::Matches::longest_prefix_ipv6))]
     pub fn get_lpm_prefix(&self, prefix: &IpPrefix) -> Option<IpPrefix>
         ensures { result
             ≡ option_map (λ found. ip_back found.0)
             (longest_match (entries_of self.now) (ip_path prefix.now)) }
     {
-        match prefix.copy() {
-            IpPrefix::V4(network) => Some(IpPrefix::V4(self.ipv4.get_lpm_prefix(&network)?)),
-            IpPrefix::V6(network) => Some(IpPrefix::V6(self.ipv6.get_lpm_prefix(&network)?)),
+        prefix.known_fitting();
+        match prefix {
+            IpPrefix::V4(network) => self.ipv4.get_lpm_prefix(network).map(IpPrefix::V4),
+            IpPrefix::V6(network) => self.ipv6.get_lpm_prefix(network).map(IpPrefix::V6),
         }
     }
 
@@ -197,25 +172,22 @@ impl<T: Drop, A: Allocator> JointPrefixMap<T, A> {
     /// map.get_spm(&"10.1.2.3/32".parse()?);       // Some((V4(10.0.0.0/8), 1))
     /// map.get_spm(&"11.0.0.0/8".parse()?);        // None
     /// ```
-    #[inline]
+    #[inline(always)]
     #[tactic(auto, using(crate::proofs::Matches::spm_ipv4, crate::proofs::Matches::spm_ipv6, crate::proofs::Matches::spm_none_ipv4, crate::proofs::Matches::spm_none_ipv6))]
     pub fn get_spm(&self, prefix: &IpPrefix) -> Option<(IpPrefix, &T)>
         ensures { option_map lent_item result
             ≡ prefix_pair ip_back (shortest_match (entries_of self.now) (ip_path prefix.now)) }
     {
-        match prefix.copy() {
-            IpPrefix::V4(network) => {
-                let Some((found, value)) = self.ipv4.get_spm(&network) else {
-                    return None;
-                };
-                Some((IpPrefix::V4(found), value))
-            }
-            IpPrefix::V6(network) => {
-                let Some((found, value)) = self.ipv6.get_spm(&network) else {
-                    return None;
-                };
-                Some((IpPrefix::V6(found), value))
-            }
+        prefix.known_fitting();
+        match prefix {
+            IpPrefix::V4(network) => match self.ipv4.get_spm(network) {
+                Some((found, value)) => Some((IpPrefix::V4(found), value)),
+                None => None,
+            },
+            IpPrefix::V6(network) => match self.ipv6.get_spm(network) {
+                Some((found, value)) => Some((IpPrefix::V6(found), value)),
+                None => None,
+            },
         }
     }
 
@@ -228,16 +200,17 @@ impl<T: Drop, A: Allocator> JointPrefixMap<T, A> {
     /// map.get_spm_prefix(&"10.1.2.3/32".parse()?);        // Some(V4(10.0.0.0/8))
     /// map.get_spm_prefix(&"2001:db8::/32".parse()?);      // None
     /// ```
-    #[inline]
+    #[inline(always)]
     #[tactic(auto, using(crate::proofs::Matches::shortest_prefix_ipv4, crate::proofs::Matches::shortest_prefix_ipv6))]
     pub fn get_spm_prefix(&self, prefix: &IpPrefix) -> Option<IpPrefix>
         ensures { result
             ≡ option_map (λ found. ip_back found.0)
             (shortest_match (entries_of self.now) (ip_path prefix.now)) }
     {
-        match prefix.copy() {
-            IpPrefix::V4(network) => Some(IpPrefix::V4(self.ipv4.get_spm_prefix(&network)?)),
-            IpPrefix::V6(network) => Some(IpPrefix::V6(self.ipv6.get_spm_prefix(&network)?)),
+        prefix.known_fitting();
+        match prefix {
+            IpPrefix::V4(network) => self.ipv4.get_spm_prefix(network).map(IpPrefix::V4),
+            IpPrefix::V6(network) => self.ipv6.get_spm_prefix(network).map(IpPrefix::V6),
         }
     }
 
@@ -250,14 +223,15 @@ impl<T: Drop, A: Allocator> JointPrefixMap<T, A> {
     /// map.is_covered(&"10.1.2.3/32".parse()?);        // true
     /// map.is_covered(&"2001:db8::/32".parse()?);      // false
     /// ```
-    #[inline]
+    #[inline(always)]
     #[tactic(auto, using(crate::proofs::Matches::covered_ipv4, crate::proofs::Matches::covered_ipv6))]
     pub fn is_covered(&self, prefix: &IpPrefix) -> bool
         ensures { result ≡ is_some (shortest_match (entries_of self.now) (ip_path prefix.now)) }
     {
-        match prefix.copy() {
-            IpPrefix::V4(network) => self.ipv4.is_covered(&network),
-            IpPrefix::V6(network) => self.ipv6.is_covered(&network),
+        prefix.known_fitting();
+        match prefix {
+            IpPrefix::V4(network) => self.ipv4.is_covered(network),
+            IpPrefix::V6(network) => self.ipv6.is_covered(network),
         }
     }
 }

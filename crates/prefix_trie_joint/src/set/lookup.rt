@@ -20,14 +20,15 @@ impl<A: Allocator> JointPrefixSet<A> {
     /// set.contains(&"2001:db8::1/32".parse()?);       // true
     /// set.contains(&"0.0.0.0/0".parse()?);            // false
     /// ```
-    #[inline]
+    #[inline(always)]
     #[tactic(auto, using(crate::proofs::Joined::get_ipv4, crate::proofs::Joined::get_ipv6))]
     pub fn contains(&self, prefix: &IpPrefix) -> bool
         ensures { result ≡ contains_key (keys_of self.now) (ip_path prefix.now) }
     {
-        match prefix.copy() {
-            IpPrefix::V4(network) => self.ipv4.contains(&network),
-            IpPrefix::V6(network) => self.ipv6.contains(&network),
+        prefix.known_fitting();
+        match prefix {
+            IpPrefix::V4(network) => self.ipv4.contains(network),
+            IpPrefix::V6(network) => self.ipv6.contains(network),
         }
     }
 
@@ -40,14 +41,15 @@ impl<A: Allocator> JointPrefixSet<A> {
     /// set.is_covered(&"10.1.2.3/32".parse()?);        // true
     /// set.is_covered(&"2001:db8::/32".parse()?);      // false
     /// ```
-    #[inline]
+    #[inline(always)]
     #[tactic(auto, using(crate::proofs::Matches::covered_ipv4, crate::proofs::Matches::covered_ipv6))]
     pub fn is_covered(&self, prefix: &IpPrefix) -> bool
         ensures { result ≡ is_some (shortest_match (keys_of self.now) (ip_path prefix.now)) }
     {
-        match prefix.copy() {
-            IpPrefix::V4(network) => self.ipv4.is_covered(&network),
-            IpPrefix::V6(network) => self.ipv6.is_covered(&network),
+        prefix.known_fitting();
+        match prefix {
+            IpPrefix::V4(network) => self.ipv4.is_covered(network),
+            IpPrefix::V6(network) => self.ipv6.is_covered(network),
         }
     }
 
@@ -60,25 +62,17 @@ impl<A: Allocator> JointPrefixSet<A> {
     /// set.get(&"10.1.2.3/16".parse()?);       // Some(V4(10.1.0.0/16))
     /// set.get(&"10.1.2.3/24".parse()?);       // None
     /// ```
-    #[inline]
+    #[inline(always)]
+    #[tactic(auto, using(crate::proofs::Matches::stored_network_ipv4, crate::proofs::Matches::stored_network_ipv6, crate::proofs::Joined::get_ipv4, crate::proofs::Joined::get_ipv6))]
     pub fn get(&self, prefix: &IpPrefix) -> Option<IpPrefix>
         ensures { result
             ≡ option_map (λ _. ip_back (ip_path prefix.now))
             (get (keys_of self.now) (ip_path prefix.now)) }
     {
-        match prefix.copy() {
-            IpPrefix::V4(network) => {
-                let Some(stored) = self.ipv4.get(&network) else {
-                    return None;
-                };
-                Some(IpPrefix::V4(stored))
-            }
-            IpPrefix::V6(network) => {
-                let Some(stored) = self.ipv6.get(&network) else {
-                    return None;
-                };
-                Some(IpPrefix::V6(stored))
-            }
+        prefix.known_fitting();
+        match prefix {
+            IpPrefix::V4(network) => self.ipv4.get(network).map(IpPrefix::V4),
+            IpPrefix::V6(network) => self.ipv6.get(network).map(IpPrefix::V6),
         }
     }
 
@@ -91,16 +85,17 @@ impl<A: Allocator> JointPrefixSet<A> {
     /// set.get_lpm(&"10.1.2.3/32".parse()?);       // Some(V4(10.1.0.0/16))
     /// set.get_lpm(&"2001:db8::/32".parse()?);     // None
     /// ```
-    #[inline]
+    #[inline(always)]
     #[tactic(auto, using(crate::proofs::Matches::longest_prefix_ipv4, crate::proofs::Matches::longest_prefix_ipv6))]
     pub fn get_lpm(&self, prefix: &IpPrefix) -> Option<IpPrefix>
         ensures { result
             ≡ option_map (λ found. ip_back found.0)
             (longest_match (keys_of self.now) (ip_path prefix.now)) }
     {
-        match prefix.copy() {
-            IpPrefix::V4(network) => Some(IpPrefix::V4(self.ipv4.get_lpm(&network)?)),
-            IpPrefix::V6(network) => Some(IpPrefix::V6(self.ipv6.get_lpm(&network)?)),
+        prefix.known_fitting();
+        match prefix {
+            IpPrefix::V4(network) => self.ipv4.get_lpm(network).map(IpPrefix::V4),
+            IpPrefix::V6(network) => self.ipv6.get_lpm(network).map(IpPrefix::V6),
         }
     }
 
@@ -113,16 +108,17 @@ impl<A: Allocator> JointPrefixSet<A> {
     /// set.get_spm(&"10.1.2.3/32".parse()?);       // Some(V4(10.0.0.0/8))
     /// set.get_spm(&"2001:db8::/32".parse()?);     // None
     /// ```
-    #[inline]
+    #[inline(always)]
     #[tactic(auto, using(crate::proofs::Matches::shortest_prefix_ipv4, crate::proofs::Matches::shortest_prefix_ipv6))]
     pub fn get_spm(&self, prefix: &IpPrefix) -> Option<IpPrefix>
         ensures { result
             ≡ option_map (λ found. ip_back found.0)
             (shortest_match (keys_of self.now) (ip_path prefix.now)) }
     {
-        match prefix.copy() {
-            IpPrefix::V4(network) => Some(IpPrefix::V4(self.ipv4.get_spm(&network)?)),
-            IpPrefix::V6(network) => Some(IpPrefix::V6(self.ipv6.get_spm(&network)?)),
+        prefix.known_fitting();
+        match prefix {
+            IpPrefix::V4(network) => self.ipv4.get_spm(network).map(IpPrefix::V4),
+            IpPrefix::V6(network) => self.ipv6.get_spm(network).map(IpPrefix::V6),
         }
     }
 }
