@@ -1,4 +1,5 @@
 -- The definitions of this crate: networks of both families, their texts, and the entries of both families as one map.
+pub mod Collected
 pub mod Entry
 pub mod Joined
 pub mod Laws

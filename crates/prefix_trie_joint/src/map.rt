@@ -2,7 +2,7 @@
 //!
 //! Contracts see the entries of both families as one finite map. Its keys are the bit of the family,
 //! 0 for IPv4 and 1 for IPv6, and then the path of the network.
-ghost use Rattle.std.specs.Prelude.{◌≡◌, ◌<◌, ◌^◌, ◌↔◌, IfErr, IfOk, IsErr, IsTrue, OnErr, OnOk};
+ghost use Rattle.std.specs.Prelude.{◌≡◌, ◌-◌, ◌<◌, ◌^◌, ◌↔◌, IfErr, IfOk, IsErr, IsTrue, OnErr, OnOk};
 ghost use Rattle.std.specs.FinMap.{get, len};
 ghost use Rattle.prefix_trie_bits.specs.declared.prefix.Refusal.TheVariants.{IndexRange, Memory};
 ghost use Rattle.prefix_trie.specs.Terms.{no_entries, with_entry};
@@ -80,6 +80,10 @@ impl<T: Drop, A: Allocator + Clone> JointPrefixMap<T, A> {
     #[tactic(auto, using(crate::proofs::Changes::none_joined))]
     pub fn new(alloc: A) -> Result<Self, Refusal>
         ensures entries { IfOk result (λ map. entries_of map ≡ no_entries) }
+        ensures ipv4_space { IfOk result (λ map. map.ipv4.space
+            ≡ record { limit = 2 ^ 32 - 1; node_slots = 1; cell_slots = 0 }) }
+        ensures ipv6_space { IfOk result (λ map. map.ipv6.space
+            ≡ record { limit = 2 ^ 32 - 1; node_slots = 1; cell_slots = 0 }) }
         ensures only_memory { IfErr result (λ refusal. refusal ≡ Memory) }
     {
         let Ok(second) = alloc.clone() else {

@@ -1,7 +1,7 @@
 //! Sets of networks of both families.
 //!
 //! Contracts see the keys of both families as one finite map of units, as they see a `PrefixSet`.
-ghost use Rattle.std.specs.Prelude.{◌≡◌, ◌<◌, ◌^◌, ◌↔◌, IfErr, IfOk, IsErr, IsTrue, OnErr, OnOk, not};
+ghost use Rattle.std.specs.Prelude.{◌≡◌, ◌-◌, ◌<◌, ◌^◌, ◌↔◌, IfErr, IfOk, IsErr, IsTrue, OnErr, OnOk, not};
 ghost use Rattle.std.specs.FinMap.{contains_key, len};
 ghost use Rattle.prefix_trie_bits.specs.declared.prefix.Refusal.TheVariants.{IndexRange, Memory};
 ghost use Rattle.prefix_trie.specs.Terms.{no_entries, with_entry};
@@ -62,6 +62,10 @@ impl<A: Allocator + Clone> JointPrefixSet<A> {
     #[tactic(auto, using(crate::proofs::Changes::none_joined))]
     pub fn new(alloc: A) -> Result<Self, Refusal>
         ensures entries { IfOk result (λ set. keys_of set ≡ no_entries) }
+        ensures ipv4_space { IfOk result (λ set. set.ipv4.space
+            ≡ record { limit = 2 ^ 32 - 1; node_slots = 1; cell_slots = 0 }) }
+        ensures ipv6_space { IfOk result (λ set. set.ipv6.space
+            ≡ record { limit = 2 ^ 32 - 1; node_slots = 1; cell_slots = 0 }) }
         ensures only_memory { IfErr result (λ refusal. refusal ≡ Memory) }
     {
         let Ok(second) = alloc.clone() else {
