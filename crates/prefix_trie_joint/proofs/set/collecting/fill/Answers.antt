@@ -20,9 +20,10 @@ pub loop-prefix-preserved : goal.loop-prefix-preserved
 loop-prefix-preserved g c =
     let xs = c.loop-prefix.yielded in
     let x = c.in-Some.prefix in
-    let e = c.in_ok-put.ensures in
-    (put_more_keys ip_path (keys_of c.args.set.now) (keys_of c.loop-prefix.set) (keys_of c.put.new.set) xs x c.loop-prefix.invariant.0 e.entries,
-    spaces_more xs x c.put.new.set.ipv4.space c.put.new.set.ipv6.space (e.spaces (length xs) c.loop-prefix.invariant.1))
+    let e = c.in_ok-put.ensures in (
+      put_more_keys ip_path (keys_of c.args.set.now) (keys_of c.loop-prefix.set) (keys_of c.put.new.set) xs x c.loop-prefix.invariant.0 e.entries,
+      spaces_more xs x c.put.new.set.ipv4.space c.put.new.set.ipv6.space (e.spaces (length xs) c.loop-prefix.invariant.1),
+    )
 
 pub loop-prefix-preserved-derived : goal.loop-prefix-preserved-derived
 loop-prefix-preserved-derived g c = let went = c.in-Some.ensures.goes.on c.loop-prefix.iterator.1 in (went.0, went.1)
