@@ -68,7 +68,7 @@ fn harmless_failures(heap: &Refusing<Global>, step: Step, refused: u64) -> Optio
             return (passed > 0 && result == Ok(RANGES)).then_some(harmless);
         }
         if result == Ok(RANGES) {
-            harmless += 1;
+            harmless = harmless.saturating_add(1);
         } else if result != Err(Refusal::Memory) {
             return None;
         }
