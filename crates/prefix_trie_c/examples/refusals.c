@@ -43,7 +43,7 @@ static void must(int holds, const char *what, unsigned long n, uint32_t i) {
 
 /* Whether the table has the first networks and no others. */
 static int holds_first(prefix_trie *table, uint32_t networks, size_t count) {
-    uint64_t value;
+    uint64_t value = 0;
     size_t len4, len6;
     for (uint32_t i = 0; i < COUNT; i++) {
         uint32_t code = prefix_trie_v6_get(table, address(i), 0, 64, &value);

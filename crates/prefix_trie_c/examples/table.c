@@ -46,12 +46,16 @@ static void look_up(void) {
     static const uint32_t burst[3] = {V4(10, 1, 2, 3), V4(10, 2, 0, 1), V4(8, 8, 8, 8)};
     prefix_trie_v4_entry matches[3], match;
     prefix_trie_v6_entry match6;
+    prefix_trie_found found;
     uint64_t value;
     done(prefix_trie_v4_get(&table, V4(10, 1, 0, 0), 16, &value));
     printf("10.1.0.0/16 has the value %" PRIu64 "\n", value);
     puts("the longest match of 10.1.2.3:");
     done(prefix_trie_v4_match(&table, V4(10, 1, 2, 3), 32, &match));
     print_v4(&match);
+    found = prefix_trie_v4_match_address(&table, V4(10, 2, 0, 1));
+    done(found.code);
+    printf("10.2.0.1 is in a network of length %u: %" PRIu64 "\n", (unsigned)found.length, found.value);
     done(prefix_trie_v4_remove(&table, 0, 0, &value));
     printf("removed the default route, %" PRIu64 "\n", value);
     puts("the longest matches of three addresses:");
@@ -60,6 +64,9 @@ static void look_up(void) {
     puts("the longest match of 2001:db8:1::1:");
     done(prefix_trie_v6_match(&table, UINT64_C(0x20010db800010000), 1, 128, &match6));
     print_v6(&match6);
+    found = prefix_trie_v6_match_address(&table, UINT64_C(0x20010db800020000), 1);
+    done(found.code);
+    printf("2001:db8:2::1 is in a network of length %u: %" PRIu64 "\n", (unsigned)found.length, found.value);
 }
 
 /* All IPv4 routes, two at a time. */
@@ -80,12 +87,13 @@ static void refuse(void) {
     prefix_trie empty = PREFIX_TRIE_EMPTY;
     uint64_t value;
     printf("no entry: %" PRIu32 "\n", prefix_trie_v4_get(&table, V4(10, 1, 0, 0), 17, &value));
+    printf("no match: %" PRIu32 "\n", prefix_trie_v4_match_address(&table, V4(8, 8, 8, 8)).code);
     printf("length 33: %" PRIu32 "\n", prefix_trie_v4_insert(&table, 0, 33, 1));
     printf("length 129: %" PRIu32 "\n", prefix_trie_v6_insert(&table, 0, 0, 129, 1));
     printf("an empty handle: %" PRIu32 "\n", prefix_trie_v4_insert(&empty, 0, 0, 1));
     printf("a second new: %" PRIu32 "\n", prefix_trie_new(&table));
-    printf("null: %" PRIu32 " %" PRIu32 "\n", prefix_trie_v4_get(NULL, 0, 0, &value),
-           prefix_trie_v4_get(&table, 0, 0, NULL));
+    printf("null: %" PRIu32 " %" PRIu32 " %" PRIu32 "\n", prefix_trie_v4_get(NULL, 0, 0, &value),
+           prefix_trie_v4_get(&table, 0, 0, NULL), prefix_trie_v4_match_address(NULL, 0).code);
 }
 
 int main(void) {

@@ -28,14 +28,28 @@ struct V6Entry {
     found: bool,
 }
 
+#[repr(C)]
+struct Value {
+    value: u64,
+    code: u32,
+}
+
+#[repr(C)]
+struct Found {
+    value: u64,
+    code: u32,
+    length: u8,
+}
+
 unsafe extern "C" {
     safe fn prefix_trie_c_new(table: &mut Table) -> u32;
     safe fn prefix_trie_c_free(table: &mut Table);
     safe fn prefix_trie_c_v4_insert(table: &mut Table, address: u32, length: u8, value: u64) -> u32;
     safe fn prefix_trie_c_v4_remove(table: &mut Table, address: u32, length: u8, value: &mut u64) -> u32;
-    safe fn prefix_trie_c_v4_get(table: &mut Table, address: u32, length: u8, value: &mut u64) -> u32;
+    safe fn prefix_trie_c_v4_get(table: &mut Table, address: u32, length: u8) -> Value;
     safe fn prefix_trie_c_v4_len(table: &mut Table, count: &mut usize) -> u32;
     safe fn prefix_trie_c_v4_match(table: &mut Table, address: u32, length: u8, entry: &mut V4Entry) -> u32;
+    safe fn prefix_trie_c_v4_match_address(table: &mut Table, address: u32) -> Found;
     fn prefix_trie_c_v4_match_all(
         table: &mut Table,
         addresses: *const u32,
@@ -54,6 +68,7 @@ unsafe extern "C" {
     ) -> u32;
     safe fn prefix_trie_c_v6_insert(table: &mut Table, high: u64, low: u64, length: u8, value: u64) -> u32;
     safe fn prefix_trie_c_v6_match(table: &mut Table, high: u64, low: u64, length: u8, entry: &mut V6Entry) -> u32;
+    safe fn prefix_trie_c_v6_match_address(table: &mut Table, high: u64, low: u64) -> Found;
 }
 
 impl Table {
@@ -115,11 +130,15 @@ fn insert(table: &mut Table) {
 
 fn look_up(table: &mut Table) {
     let (mut value, mut found, mut found6) = (0, V4Entry::default(), V6Entry::default());
-    done(prefix_trie_c_v4_get(table, v4(10, 1, 0, 0), 16, &mut value));
-    println!("10.1.0.0/16 has the value {value}");
+    let stored = prefix_trie_c_v4_get(table, v4(10, 1, 0, 0), 16);
+    done(stored.code);
+    println!("10.1.0.0/16 has the value {}", stored.value);
     println!("the longest match of 10.1.2.3:");
     done(prefix_trie_c_v4_match(table, v4(10, 1, 2, 3), 32, &mut found));
     print_v4(&found);
+    let of_address = prefix_trie_c_v4_match_address(table, v4(10, 2, 0, 1));
+    done(of_address.code);
+    println!("10.2.0.1 is in a network of length {}: {}", of_address.length, of_address.value);
     done(prefix_trie_c_v4_remove(table, 0, 0, &mut value));
     println!("removed the default route, {value}");
     println!("the longest matches of three addresses:");
@@ -129,6 +148,9 @@ fn look_up(table: &mut Table) {
     println!("the longest match of 2001:db8:1::1:");
     done(prefix_trie_c_v6_match(table, 0x2001_0db8_0001_0000, 1, 128, &mut found6));
     print_v6(&found6);
+    let of_address = prefix_trie_c_v6_match_address(table, 0x2001_0db8_0002_0000, 1);
+    done(of_address.code);
+    println!("2001:db8:2::1 is in a network of length {}: {}", of_address.length, of_address.value);
 }
 
 /// All IPv4 routes, two at a time.
@@ -146,15 +168,15 @@ fn walk(table: &mut Table) {
 
 /// The codes of calls that cannot be done.
 fn refuse(table: &mut Table) {
-    let mut value = 0;
-    println!("no entry: {}", prefix_trie_c_v4_get(table, v4(10, 1, 0, 0), 17, &mut value));
+    println!("no entry: {}", prefix_trie_c_v4_get(table, v4(10, 1, 0, 0), 17).code);
+    println!("no match: {}", prefix_trie_c_v4_match_address(table, v4(8, 8, 8, 8)).code);
     println!("length 33: {}", prefix_trie_c_v4_insert(table, 0, 33, 1));
     println!("length 129: {}", prefix_trie_c_v6_insert(table, 0, 0, 129, 1));
     let mut empty = Table::EMPTY;
     println!("an empty handle: {}", prefix_trie_c_v4_insert(&mut empty, 0, 0, 1));
     println!("a second new: {}", prefix_trie_c_new(table));
     // C prints the code of a null pointer, which no reference is.
-    println!("null: 8 8");
+    println!("null: 8 8 8");
 }
 
 fn main() {

@@ -5,7 +5,8 @@
  * handle, `prefix_trie`. An address is a number: 10.1.2.3 is 0x0a010203, and an IPv6 address is its first and its last
  * 64 bits. A network is an address and a length. Bits after the length do not count.
  *
- * Each call returns a code. It writes its other results through pointers, and only if the code is PREFIX_TRIE_DONE.
+ * Each call returns a code. It writes its other results through pointers, and only if the code is PREFIX_TRIE_DONE. The
+ * calls with `match_address` return a struct with the code, and write nothing.
  *
  * The functions below check their pointers and pass the call on to the functions of the same names with
  * `prefix_trie_c_`, which are proved. The caller has to keep this:
@@ -71,24 +72,39 @@ typedef struct prefix_trie_v6_address {
     uint64_t low;
 } prefix_trie_v6_address;
 
+/* A value, if the code is PREFIX_TRIE_DONE. Otherwise it is 0. */
+typedef struct prefix_trie_value {
+    uint64_t value;
+    uint32_t code;
+} prefix_trie_value;
+
+/* The value of a longest match and the length of its network, if the code is PREFIX_TRIE_DONE. Otherwise both are 0. */
+typedef struct prefix_trie_found {
+    uint64_t value;
+    uint32_t code;
+    uint8_t length;
+} prefix_trie_found;
+
 /* The proved functions. No pointer may be null. An array is a pointer and a length. */
 uint32_t prefix_trie_c_new(prefix_trie *table);
 void prefix_trie_c_free(prefix_trie *table);
 uint32_t prefix_trie_c_v4_insert(prefix_trie *table, uint32_t address, uint8_t length, uint64_t value);
 uint32_t prefix_trie_c_v4_remove(prefix_trie *table, uint32_t address, uint8_t length, uint64_t *value);
-uint32_t prefix_trie_c_v4_get(prefix_trie *table, uint32_t address, uint8_t length, uint64_t *value);
+prefix_trie_value prefix_trie_c_v4_get(prefix_trie *table, uint32_t address, uint8_t length);
 uint32_t prefix_trie_c_v4_len(prefix_trie *table, size_t *count);
 uint32_t prefix_trie_c_v4_match(prefix_trie *table, uint32_t address, uint8_t length, prefix_trie_v4_entry *entry);
+prefix_trie_found prefix_trie_c_v4_match_address(prefix_trie *table, uint32_t address);
 uint32_t prefix_trie_c_v4_match_all(prefix_trie *table, const uint32_t *addresses, size_t address_count,
                                     prefix_trie_v4_entry *entries, size_t entry_count);
 uint32_t prefix_trie_c_v4_next(prefix_trie *table, uint32_t address, uint8_t length, bool inclusive,
                                prefix_trie_v4_entry *entries, size_t entry_count, size_t *count);
 uint32_t prefix_trie_c_v6_insert(prefix_trie *table, uint64_t high, uint64_t low, uint8_t length, uint64_t value);
 uint32_t prefix_trie_c_v6_remove(prefix_trie *table, uint64_t high, uint64_t low, uint8_t length, uint64_t *value);
-uint32_t prefix_trie_c_v6_get(prefix_trie *table, uint64_t high, uint64_t low, uint8_t length, uint64_t *value);
+prefix_trie_value prefix_trie_c_v6_get(prefix_trie *table, uint64_t high, uint64_t low, uint8_t length);
 uint32_t prefix_trie_c_v6_len(prefix_trie *table, size_t *count);
 uint32_t prefix_trie_c_v6_match(prefix_trie *table, uint64_t high, uint64_t low, uint8_t length,
                                 prefix_trie_v6_entry *entry);
+prefix_trie_found prefix_trie_c_v6_match_address(prefix_trie *table, uint64_t high, uint64_t low);
 uint32_t prefix_trie_c_v6_match_all(prefix_trie *table, const prefix_trie_v6_address *addresses, size_t address_count,
                                     prefix_trie_v6_entry *entries, size_t entry_count);
 uint32_t prefix_trie_c_v6_next(prefix_trie *table, uint64_t high, uint64_t low, uint8_t length, bool inclusive,
@@ -116,7 +132,10 @@ static inline uint32_t prefix_trie_v4_remove(prefix_trie *table, uint32_t addres
 
 /* Writes the value of a network. */
 static inline uint32_t prefix_trie_v4_get(prefix_trie *table, uint32_t address, uint8_t length, uint64_t *value) {
-    return table && value ? prefix_trie_c_v4_get(table, address, length, value) : PREFIX_TRIE_NULL;
+    if (!table || !value) return PREFIX_TRIE_NULL;
+    prefix_trie_value found = prefix_trie_c_v4_get(table, address, length);
+    if (found.code == PREFIX_TRIE_DONE) *value = found.value;
+    return found.code;
 }
 
 /* Writes the number of IPv4 networks. */
@@ -128,6 +147,15 @@ static inline uint32_t prefix_trie_v4_len(prefix_trie *table, size_t *count) {
 static inline uint32_t prefix_trie_v4_match(prefix_trie *table, uint32_t address, uint8_t length,
                                             prefix_trie_v4_entry *entry) {
     return table && entry ? prefix_trie_c_v4_match(table, address, length, entry) : PREFIX_TRIE_NULL;
+}
+
+/*
+ * Returns the value of the longest match of an address, and the length of its network, which is that of the first bits
+ * of the address. It is the fastest lookup of one address.
+ */
+static inline prefix_trie_found prefix_trie_v4_match_address(prefix_trie *table, uint32_t address) {
+    prefix_trie_found none = {0, PREFIX_TRIE_NULL, 0};
+    return table ? prefix_trie_c_v4_match_address(table, address) : none;
 }
 
 /* Writes the longest match of each address to the entry at its place. `found` says whether there is one. */
@@ -164,7 +192,10 @@ static inline uint32_t prefix_trie_v6_remove(prefix_trie *table, uint64_t high, 
 /* Writes the value of a network. */
 static inline uint32_t prefix_trie_v6_get(prefix_trie *table, uint64_t high, uint64_t low, uint8_t length,
                                           uint64_t *value) {
-    return table && value ? prefix_trie_c_v6_get(table, high, low, length, value) : PREFIX_TRIE_NULL;
+    if (!table || !value) return PREFIX_TRIE_NULL;
+    prefix_trie_value found = prefix_trie_c_v6_get(table, high, low, length);
+    if (found.code == PREFIX_TRIE_DONE) *value = found.value;
+    return found.code;
 }
 
 /* Writes the number of IPv6 networks. */
@@ -176,6 +207,15 @@ static inline uint32_t prefix_trie_v6_len(prefix_trie *table, size_t *count) {
 static inline uint32_t prefix_trie_v6_match(prefix_trie *table, uint64_t high, uint64_t low, uint8_t length,
                                             prefix_trie_v6_entry *entry) {
     return table && entry ? prefix_trie_c_v6_match(table, high, low, length, entry) : PREFIX_TRIE_NULL;
+}
+
+/*
+ * Returns the value of the longest match of an address, and the length of its network, which is that of the first bits
+ * of the address. It is the fastest lookup of one address.
+ */
+static inline prefix_trie_found prefix_trie_v6_match_address(prefix_trie *table, uint64_t high, uint64_t low) {
+    prefix_trie_found none = {0, PREFIX_TRIE_NULL, 0};
+    return table ? prefix_trie_c_v6_match_address(table, high, low) : none;
 }
 
 /* Writes the longest match of each address to the entry at its place. `found` says whether there is one. */

@@ -3,6 +3,9 @@ use Rattle.std.specs.Prelude.{◌≡◌, ℕ, ◌+◌, ◌*◌, ◌^◌, ◌/◌
 use Rattle.std.specs.Option.{option_map}
 use Rattle.prefix_trie.specs.Terms.{Entries, ipv6_path, longest_match, prefix_pair, listing_from, listing_after, prefix_pairs}
 use Rattle.prefix_trie_c.specs.Calls.{Gives}
+use Rattle.prefix_trie_c.specs.declared.codes.TheConstants.{DONE, MISSING}
+use Rattle.prefix_trie_c.specs.declared.entries.FoundMatch.{FoundMatch}
+use Rattle.prefix_trie_c.specs.declared.entries.FoundValue.{FoundValue}
 use Rattle.prefix_trie_c.specs.declared.entries.V4Entry.{V4Entry}
 use Rattle.prefix_trie_c.specs.declared.entries.V6Entry.{V6Entry}
 
@@ -19,6 +22,24 @@ v4_entry (Some (network, x)) = record { value = x; address = network.0; length =
 abbrev pub v6_entry : Option ((ℕ × ℕ) × ℕ) → V6Entry
 v6_entry None = record { value = 0; high = 0; low = 0; length = 0; found = false }
 v6_entry (Some (network, x)) = record { value = x; high = network.0 / 2 ^ 64; low = network.0 % 2 ^ 64; length = network.1; found = true }
+
+-- no value, and why
+abbrev pub no_value : ℕ → FoundValue
+no_value code = record { value = 0; code = code }
+
+-- a value, or none
+abbrev pub found_value : Option ℕ → FoundValue
+found_value None = no_value MISSING
+found_value (Some x) = record { value = x; code = DONE }
+
+-- no match, and why
+abbrev pub no_match : ℕ → FoundMatch
+no_match code = record { value = 0; code = code; length = 0 }
+
+-- the value of a match and the length of its network, or no match
+abbrev pub found_match : {P : Type 0} → (P → ℕ) → Option (P × ℕ) → FoundMatch
+found_match len_of None = no_match MISSING
+found_match len_of (Some (network, x)) = record { value = x; code = DONE; length = len_of network }
 
 module _ {P : Type 0} (back : List Bool → P) (m : Entries ℕ) where
   -- the network of the longest match, with its value

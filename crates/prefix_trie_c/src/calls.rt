@@ -4,28 +4,15 @@ ghost use Rattle.std.specs.FinMap.{get};
 ghost use Rattle.std.specs.Option.{option_map};
 ghost use Rattle.prefix_trie.specs.Terms.{lent_item, without_entry};
 ghost use Rattle.prefix_trie_c.specs.Calls.{Gives, Inserts};
-ghost use Rattle.prefix_trie_c.specs.Entries.{Fills, Matches, match_of};
+ghost use Rattle.prefix_trie_c.specs.Entries.{Fills, Matches, found_match, found_value, match_of};
 
 use crate::codes::{DONE, MISSING, code_of};
-use crate::entries::{Address, Entry};
+use crate::entries::{Address, Entry, FoundMatch, FoundValue};
 use prefix_trie::{Prefix, PrefixMap};
 use std::alloc::Global;
 
 /// A map of a table.
 type Map<P> = PrefixMap<P, u64, Global>;
-
-/// Writes what was found, if something was.
-fn give<X: Drop>(found: Option<X>, out: &mut X) -> u32
-    ensures { Gives found result out.old out.new }
-{
-    match found {
-        Some(x) => {
-            *out = x;
-            DONE
-        }
-        None => MISSING,
-    }
-}
 
 /// Sets the value of a prefix.
 pub(crate) fn insert<P: Prefix>(map: &mut Map<P>, prefix: P, value: u64) -> u32
@@ -44,24 +31,72 @@ pub(crate) fn remove<P: Prefix>(map: &mut Map<P>, prefix: &P, value: &mut u64) -
     ensures entries { map.new.entries ≡ without_entry map.old.entries (P.path prefix.now) }
     ensures value { Gives (get map.old.entries (P.path prefix.now)) result value.old value.new }
 {
-    give(map.remove(prefix), value)
+    match map.remove(prefix) {
+        Some(removed) => {
+            *value = removed;
+            DONE
+        }
+        None => MISSING,
+    }
 }
 
-/// Writes the value of a prefix.
-pub(crate) fn find<P: Prefix>(map: &Map<P>, prefix: &P, value: &mut u64) -> u32
+/// Returns the value of a prefix.
+#[inline(always)]
+pub(crate) fn find<P: Prefix>(map: &Map<P>, prefix: &P) -> FoundValue
     requires { P.IsFitting prefix.now }
-    ensures { Gives (get map.now.entries (P.path prefix.now)) result value.old value.new }
+    ensures { result ≡ found_value (get map.now.entries (P.path prefix.now)) }
 {
-    give(map.get(prefix).copied(), value)
+    match map.get(prefix) {
+        Some(value) => FoundValue {
+            value: *value,
+            code: DONE,
+        },
+        None => FoundValue::none(MISSING),
+    }
+}
+
+/// Returns the value of the longest match of a prefix, and its length.
+#[inline(always)]
+pub(crate) fn find_match<P: Prefix>(map: &Map<P>, prefix: &P) -> FoundMatch
+    requires { P.IsFitting prefix.now }
+    ensures { result ≡ found_match P.len_of
+        (match_of P.back map.now.entries (P.path prefix.now)) }
+{
+    match map.get_lpm(prefix) {
+        Some((found, value)) => FoundMatch {
+            value: *value,
+            code: DONE,
+            length: found.prefix_len(),
+        },
+        None => FoundMatch::none(MISSING),
+    }
 }
 
 /// Writes the longest match of a prefix.
+#[inline(always)]
 pub(crate) fn find_longest<P: Prefix, E: Entry<P>>(map: &Map<P>, prefix: &P, entry: &mut E) -> u32
     requires { P.IsFitting prefix.now }
     ensures { Matches P.back map.now.entries E.made (P.path prefix.now) result entry.old entry.new }
 {
+    if u32::from(prefix.prefix_len()) < P::num_bits() {
+        return write_longest(map, prefix, entry);
+    }
+    // An address has a constant length, so the compiler leaves out the tests of the length.
+    let address = P::from_repr_len(prefix.repr(), P::num_bits() as u8);
+    write_longest(map, &address, entry)
+}
+
+/// Writes the longest match of a prefix.
+#[inline(always)]
+fn write_longest<P: Prefix, E: Entry<P>>(map: &Map<P>, prefix: &P, entry: &mut E) -> u32
+    requires { P.IsFitting prefix.now }
+    ensures { Matches P.back map.now.entries E.made (P.path prefix.now) result entry.old entry.new }
+{
     match map.get_lpm(prefix) {
-        Some((prefix, value)) => give(Some(E::of(Some((prefix, *value)))), entry),
+        Some((found, value)) => {
+            *entry = E::of(Some((found, *value)));
+            DONE
+        }
         None => MISSING,
     }
 }

@@ -1,6 +1,6 @@
-//! Entries and addresses as C reads and writes them.
+//! Entries, addresses and results as C reads and writes them.
 ghost use Rattle.std.specs.Prelude.{◌≡◌, ℕ, ◌+◌, ◌*◌, ◌^◌, Option};
-ghost use Rattle.prefix_trie_c.specs.Entries.{v4_entry, v6_entry};
+ghost use Rattle.prefix_trie_c.specs.Entries.{no_match, no_value, v4_entry, v6_entry};
 
 use prefix_trie::{Ipv4Prefix, Ipv6Prefix, Prefix};
 
@@ -31,6 +31,47 @@ pub struct V6Entry {
 pub struct V6Address {
     pub high: u64,
     pub low: u64,
+}
+
+/// A value that was found, if the code is `DONE`. Otherwise the value is 0.
+#[repr(C)]
+#[derive(Clone, Copy)]
+pub struct FoundValue {
+    pub value: u64,
+    pub code: u32,
+}
+
+/// The value and the length of a longest match, if the code is `DONE`. Otherwise both are 0.
+#[repr(C)]
+#[derive(Clone, Copy)]
+pub struct FoundMatch {
+    pub value: u64,
+    pub code: u32,
+    pub length: u8,
+}
+
+impl FoundValue {
+    /// Returns the result of a call that found no value.
+    #[inline]
+    pub(crate) fn none(code: u32) -> FoundValue
+        ensures { result ≡ no_value code }
+    {
+        FoundValue { value: 0, code }
+    }
+}
+
+impl FoundMatch {
+    /// Returns the result of a call that found no match.
+    #[inline]
+    pub(crate) fn none(code: u32) -> FoundMatch
+        ensures { result ≡ no_match code }
+    {
+        FoundMatch {
+            value: 0,
+            code,
+            length: 0,
+        }
+    }
 }
 
 /// An entry as C reads it.

@@ -2,6 +2,7 @@
 //!
 //! `include/prefix_trie.h` declares it, and `examples` has a program in C and the same in Rust. A handle owns a table,
 //! which has a map of each family. Each call returns a code, and writes its other results only if the code is `DONE`.
+//! `get` and `match_address` return the code together with the results, in registers.
 //!
 //! # What is proved
 //!

@@ -3,12 +3,12 @@ ghost use Rattle.std.specs.Prelude.{◌≡◌, length, map};
 ghost use Rattle.std.specs.FinMap.{get, len};
 ghost use Rattle.prefix_trie.specs.Terms.{ipv4_back, ipv4_path, without_entry};
 ghost use Rattle.prefix_trie_c.specs.Calls.{Gives, Inserts, OnPrefix, OnTables};
-ghost use Rattle.prefix_trie_c.specs.Entries.{Fills, Matches, match_of, v4_entry};
+ghost use Rattle.prefix_trie_c.specs.Entries.{Fills, Matches, found_match, found_value, match_of, v4_entry};
 ghost use Rattle.prefix_trie_c.specs.declared.codes.TheConstants.{COUNTS, DONE};
 
 use crate::calls;
 use crate::codes::{COUNTS, DONE, LENGTH, NO_TABLES};
-use crate::entries::V4Entry;
+use crate::entries::{FoundMatch, FoundValue, V4Entry};
 use crate::handle::Handle;
 use prefix_trie::Ipv4Prefix;
 use std::alloc::Global;
@@ -63,29 +63,27 @@ pub extern "C" fn prefix_trie_c_v4_remove(
     code
 }
 
-/// Writes the value of a network to `value`.
+/// Returns the value of a network.
 #[unsafe(no_mangle)]
 pub extern "C" fn prefix_trie_c_v4_get(
     handle: &mut Handle,
     alloc: Global,
     address: u32,
     length: u8,
-    value: &mut u64,
-) -> u32
-    ensures answer { OnPrefix 32 length handle.old.tables handle.new.tables result
-        (λ t u. (u ≡ t)
-        × Gives (get t.v4.entries (ipv4_path (address, length))) result value.old value.new) }
-    ensures kept { (result ≡ DONE → ⊥) → value.new ≡ value.old }
+) -> FoundValue
+    ensures answer { OnPrefix 32 length handle.old.tables handle.new.tables result.code
+        (λ t u. (u ≡ t) × (result ≡ found_value (get t.v4.entries (ipv4_path (address, length))))) }
+    ensures none { (result.code ≡ DONE → ⊥) → result.value ≡ 0 }
 {
     let Some(prefix) = Ipv4Prefix::new(address, length) else {
-        return LENGTH;
+        return FoundValue::none(LENGTH);
     };
     let Some(tables) = handle.open(alloc) else {
-        return NO_TABLES;
+        return FoundValue::none(NO_TABLES);
     };
-    let code = calls::find(&tables.v4, &prefix, value);
+    let found = calls::find(&tables.v4, &prefix);
     handle.close(tables);
-    code
+    found
 }
 
 /// Writes the number of networks to `count`.
@@ -127,6 +125,28 @@ pub extern "C" fn prefix_trie_c_v4_match(
     let code = calls::find_longest(&tables.v4, &prefix, entry);
     handle.close(tables);
     code
+}
+
+/// Returns the value of the longest match of an address, and the length of its network.
+///
+/// The network is that of the first bits of the address.
+#[unsafe(no_mangle)]
+pub extern "C" fn prefix_trie_c_v4_match_address(
+    handle: &mut Handle,
+    alloc: Global,
+    address: u32,
+) -> FoundMatch
+    ensures answer { OnTables handle.old.tables handle.new.tables result.code
+        (λ t u. (u ≡ t) × (result ≡ found_match (λ network. network.1)
+        (match_of ipv4_back t.v4.entries (ipv4_path (address, 32))))) }
+    ensures none { (result.code ≡ DONE → ⊥) → (result.value ≡ 0) × (result.length ≡ 0) }
+{
+    let Some(tables) = handle.open(alloc) else {
+        return FoundMatch::none(NO_TABLES);
+    };
+    let found = calls::find_match(&tables.v4, &Ipv4Prefix::host(address));
+    handle.close(tables);
+    found
 }
 
 /// Writes the longest match of each address to the entry at its place.

@@ -3,12 +3,12 @@ ghost use Rattle.std.specs.Prelude.{◌≡◌, length, map};
 ghost use Rattle.std.specs.FinMap.{get, len};
 ghost use Rattle.prefix_trie.specs.Terms.{ipv6_back, without_entry};
 ghost use Rattle.prefix_trie_c.specs.Calls.{Gives, Inserts, OnPrefix, OnTables};
-ghost use Rattle.prefix_trie_c.specs.Entries.{Fills, Matches, match_of, v6_entry, v6_path};
+ghost use Rattle.prefix_trie_c.specs.Entries.{Fills, Matches, found_match, found_value, match_of, v6_entry, v6_path};
 ghost use Rattle.prefix_trie_c.specs.declared.codes.TheConstants.{COUNTS, DONE};
 
 use crate::calls;
 use crate::codes::{COUNTS, DONE, LENGTH, NO_TABLES};
-use crate::entries::{V6Address, V6Entry, joined};
+use crate::entries::{FoundMatch, FoundValue, V6Address, V6Entry, joined};
 use crate::handle::Handle;
 use prefix_trie::Ipv6Prefix;
 use std::alloc::Global;
@@ -65,7 +65,7 @@ pub extern "C" fn prefix_trie_c_v6_remove(
     code
 }
 
-/// Writes the value of a network to `value`.
+/// Returns the value of a network.
 #[unsafe(no_mangle)]
 pub extern "C" fn prefix_trie_c_v6_get(
     handle: &mut Handle,
@@ -73,22 +73,20 @@ pub extern "C" fn prefix_trie_c_v6_get(
     high: u64,
     low: u64,
     length: u8,
-    value: &mut u64,
-) -> u32
-    ensures answer { OnPrefix 128 length handle.old.tables handle.new.tables result
-        (λ t u. (u ≡ t)
-        × Gives (get t.v6.entries (v6_path high low length)) result value.old value.new) }
-    ensures kept { (result ≡ DONE → ⊥) → value.new ≡ value.old }
+) -> FoundValue
+    ensures answer { OnPrefix 128 length handle.old.tables handle.new.tables result.code
+        (λ t u. (u ≡ t) × (result ≡ found_value (get t.v6.entries (v6_path high low length)))) }
+    ensures none { (result.code ≡ DONE → ⊥) → result.value ≡ 0 }
 {
     let Some(prefix) = Ipv6Prefix::new(joined(high, low), length) else {
-        return LENGTH;
+        return FoundValue::none(LENGTH);
     };
     let Some(tables) = handle.open(alloc) else {
-        return NO_TABLES;
+        return FoundValue::none(NO_TABLES);
     };
-    let code = calls::find(&tables.v6, &prefix, value);
+    let found = calls::find(&tables.v6, &prefix);
     handle.close(tables);
-    code
+    found
 }
 
 /// Writes the number of networks to `count`.
@@ -131,6 +129,29 @@ pub extern "C" fn prefix_trie_c_v6_match(
     let code = calls::find_longest(&tables.v6, &prefix, entry);
     handle.close(tables);
     code
+}
+
+/// Returns the value of the longest match of an address, and the length of its network.
+///
+/// The network is that of the first bits of the address.
+#[unsafe(no_mangle)]
+pub extern "C" fn prefix_trie_c_v6_match_address(
+    handle: &mut Handle,
+    alloc: Global,
+    high: u64,
+    low: u64,
+) -> FoundMatch
+    ensures answer { OnTables handle.old.tables handle.new.tables result.code
+        (λ t u. (u ≡ t) × (result ≡ found_match (λ network. network.1)
+        (match_of ipv6_back t.v6.entries (v6_path high low 128)))) }
+    ensures none { (result.code ≡ DONE → ⊥) → (result.value ≡ 0) × (result.length ≡ 0) }
+{
+    let Some(tables) = handle.open(alloc) else {
+        return FoundMatch::none(NO_TABLES);
+    };
+    let found = calls::find_match(&tables.v6, &Ipv6Prefix::host(joined(high, low)));
+    handle.close(tables);
+    found
 }
 
 /// Writes the longest match of each address to the entry at its place.

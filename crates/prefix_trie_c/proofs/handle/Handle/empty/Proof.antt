@@ -6,7 +6,7 @@ use base.Fml.{ftrue}
 use prog.Wp.{WpFn}
 use types.Kit.{‵, raw, ◌⊛◌, ◌$◌, ◌∵◌, !, qed, by, move, keep, split, fsplit, fjoin, suffices, use0, rewrite}
 use types.Run.{lit, no_more, and_then, returns, enter}
-use types.ByLocal.{alloc_all, pass_all, free_all, look_at, get, sets, env}
+use types.ByLocal.{alloc_all, pass_all, free_all, look_at, get, sets}
 use types.Part.{agg}
 use contract.Monad.{fact, fact_i}
 use contract.Running.{tables}
@@ -23,7 +23,6 @@ use Rattle.std_heap.proofs.Global.TheLaws as heap_laws
 use Rattle.std.proofs.raw_atomic.Walks.{proved_at, leaves}
 use Rattle.prefix_trie_c.proofs.Values.{both}
 use Rattle.prefix_trie_c.proofs.Handles.{Z, null_good, empty_in}
-use Rattle.prefix_trie_c.specs.contracts.handle.Handle as handle
 use Rattle.prefix_trie_c.specs.contracts.handle.Handle.empty.{ended, clauses}
 use Rattle.prefix_trie_c.specs.contracts.handle.Handle.empty.Key.{name as #self}
 use Rattle.prefix_trie_c.proofs.handle.Handle.empty.Statement.{statement}

@@ -6,7 +6,7 @@ use base.Fml.{ftrue}
 use prog.Wp.{WpFn}
 use types.Kit.{‵, raw, ◌⊛◌, ◌$◌, ◌∵◌, !, qed, by, move, keep, split, fsplit, fjoin, suffices, use0}
 use types.Run.{stop, fld, of_opd, no_more, and_then, returns, enter}
-use types.ByLocal.{alloc_all, pass_all, free_all, look_at, get, get_in, sets, env}
+use types.ByLocal.{alloc_all, pass_all, free_all, look_at, get, get_in, sets}
 use types.Part.{agg, sub, whole}
 use contract.Monad.{fact, fact_i}
 use contract.Running.{tables}
@@ -22,7 +22,6 @@ use Rattle.std_heap.proofs.Global.TheLaws as heap_laws
 use Rattle.std.proofs.raw_atomic.Walks.{proved_at, leaves}
 use Rattle.prefix_trie_c.proofs.Values.{both, Loose, loose_good, loose_out}
 use Rattle.prefix_trie_c.proofs.Handles.{R, Z, full_in}
-use Rattle.prefix_trie_c.specs.contracts.handle.Handle as handle
 use Rattle.prefix_trie_c.specs.contracts.handle.Handle.of_loose.{ended, clauses}
 use Rattle.prefix_trie_c.specs.contracts.handle.Handle.of_loose.Key.{name as #self}
 use Rattle.prefix_trie_c.proofs.handle.Handle.of_loose.Statement.{statement}
