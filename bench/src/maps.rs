@@ -60,6 +60,13 @@ struct Entry<Address> {
     found: bool,
 }
 
+/// The result of `get` in `prefix_trie.h`.
+#[repr(C)]
+struct Value {
+    value: u64,
+    code: u32,
+}
+
 unsafe extern "C" {
     safe fn prefix_trie_c_new(table: &mut Port) -> u32;
     safe fn prefix_trie_c_free(table: &mut Port);
@@ -75,7 +82,7 @@ macro_rules! port {
     ($key:ty, $kind:ty, $n:literal, [$($number:ident),+], $split:expr, $insert:ident, $get:ident, $get_lpm:ident, $remove:ident) => {
         unsafe extern "C" {
             safe fn $insert(table: &mut Port, $($number: $kind,)+ len: u8, value: u64) -> u32;
-            safe fn $get(table: &mut Port, $($number: $kind,)+ len: u8, value: &mut u64) -> u32;
+            safe fn $get(table: &mut Port, $($number: $kind,)+ len: u8) -> Value;
             safe fn $get_lpm(table: &mut Port, $($number: $kind,)+ len: u8, entry: &mut Entry<[$kind; $n]>) -> u32;
             safe fn $remove(table: &mut Port, $($number: $kind,)+ len: u8, value: &mut u64) -> u32;
         }
@@ -91,8 +98,9 @@ macro_rules! port {
                 assert_eq!($insert(self, $($number,)+ len, value), 0);
             }
             fn get(&mut self, key: $key, len: u8) -> Option<u64> {
-                let ([$($number),+], mut value) = ($split(key), 0);
-                ($get(self, $($number,)+ len, &mut value) == 0).then_some(value)
+                let [$($number),+] = $split(key);
+                let found = $get(self, $($number,)+ len);
+                (found.code == 0).then_some(found.value)
             }
             fn get_lpm(&mut self, key: $key, len: u8) -> Option<u64> {
                 let ([$($number),+], mut entry) = ($split(key), Entry::default());
