@@ -128,10 +128,6 @@ module _ (w : ℕ) (b : List Bool) (len : ℕ) (long : length b ≡ w) (short : 
   first_of_first : first_address w (take len b) ≡ number (take len b) * 2 ^ (w - len)
   first_of_first = first_is w (take len b) ∙ ap (λ k. number (take len b) * 2 ^ (w - k)) length_first
 
-  -- the network of its first bits begins at the address or before it
-  pub first_by : first_address w (take len b) ≤ number b
-  first_by = omega (arith, first_of_first, parted)
-
   -- if a block begins at the address, it is the network of its first bits
   pub block_first : (q : ℕ) → number b ≡ q * 2 ^ (w - len) → first_address w (take len b) ≡ number b
   block_first q is =

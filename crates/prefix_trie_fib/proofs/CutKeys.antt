@@ -138,13 +138,6 @@ module _ {K : Type 0} (bits : K → List Bool) (sorted kept : List K) (i : ℕ) 
           let l = least d in
           omega (arith, le, u, l, here d)
 
-pub distinct_none : {K : Type 0} (bits : K → List Bool) (sorted : List K) → AreDistinct bits sorted [] 0
-distinct_none bits sorted = record {
-  rising = λ j k lt in_it. absurd (omega (arith, in_it));
-  last = λ d p. absurd (omega (arith, p));
-  has = λ k d lt. absurd (omega (arith, lt));
-}
-
 -- keys that have the number of each of a list have its numbers
 pub has_numbers : {K : Type 0} (bits : K → List Bool) (xs ys : List K) (i : ℕ) → length xs ≤ i → ((k : ℕ) (d : K) → k < i → Contains (numbers bits ys) (number (bits (get_or xs k d))))
     → (n : ℕ) → Contains (numbers bits xs) n → Contains (numbers bits ys) n

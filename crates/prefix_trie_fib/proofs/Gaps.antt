@@ -129,7 +129,3 @@ module _ {K T : Type 0} (start : K → ℕ) where
       ∙ ap (λ xs. xs ++ (start r.0, cond (other (0 + length rs)) None (Some r.1)) ∷ []) (same_gaps other gap 0 rs (λ k lt. same k (omega (arith, lt, long))))
       ∙ ap (λ j. with_gaps gap 0 rs ++ (start r.0, cond (other j) None (Some r.1)) ∷ []) (let e : 0 + length rs ≡ length pairs = omega (arith, long) in e)
       ∙ ap (λ v. with_gaps gap 0 rs ++ (start r.0, v) ∷ []) is
-
-  -- marks of no range
-  pub same_ranges : (gap other : ℕ → Bool) (pairs more : List (K × T)) → more ≡ pairs → ((k : ℕ) → other k ≡ gap k) → ranges other more ≡ ranges gap pairs
-  same_ranges gap other pairs more is same = ap (λ ps. ranges other ps) is ∙ same_gaps other gap 0 (map (λ r. (start r.0, r.1)) pairs) (λ k lt. same k)

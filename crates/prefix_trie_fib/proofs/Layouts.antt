@@ -1,5 +1,5 @@
 -- Ranges by the upper 64 bits of their first addresses are the same ranges.
-use Rattle.std.proofs.Common.{◌≡◌, ◌∙◌, zero, suc, ℕ, ◌+◌, ◌-◌, ◌*◌, ◌^◌, ◌<◌, ◌≤◌, cond, List, [], ◌∷◌, ◌++◌, length, take, get_or, inl, inr, ap, sym, arith, refl, leb, take-suc, take_all, pow_pos}
+use Rattle.std.proofs.Common.{◌≡◌, ◌∙◌, zero, suc, ℕ, ◌+◌, ◌-◌, ◌*◌, ◌^◌, ◌<◌, ◌≤◌, cond, List, [], ◌∷◌, ◌++◌, length, take, get_or, inl, inr, ap, sym, arith, refl, leb, take-suc, pow_pos}
 use Rattle.std.proofs.Math.Nat.{lt_of_mul-lt-mul_right, mul-le-mul_right}
 use Rattle.std.proofs.lemmas.Bool.{cases_lt, le-leb, lt-leb}
 use Rattle.std.proofs.lemmas.List.{get_or-map, length-map, map-append}
@@ -64,6 +64,3 @@ module _ {V : Type 0} (w : ℕ) where
   widened_pushed line rs i r so_far inside is =
       map-append {A = ℕ × V} {B = ℕ × V} (λ x. (x.0 * 2 ^ (w - 64), x.1)) rs (r ∷ []) ∙ ap (λ xs. xs ++ (r.0 * 2 ^ (w - 64), r.1) ∷ []) so_far ∙ ap (λ x. take i line ++ x ∷ []) is
       ∙ sym (take-suc line i (r.0 * 2 ^ (w - 64), r.1) inside) ∙ ap (λ k. take k line) (let e : suc i ≡ i + 1 = omega arith in e)
-
-  pub all_widened : (line rs : List (ℕ × V)) (i : ℕ) → widened w rs ≡ take i line → length line ≤ i → widened w rs ≡ line
-  all_widened line rs i so_far all = so_far ∙ take_all i line all

@@ -77,17 +77,6 @@ module _ {V : Type 0} where
   pub record AreRight (of : ℕ → V) (h : V) (top : ℕ) (cuts : List ℕ) (i : ℕ) (rs : List (ℕ × V)) : Type 0 where
     pub right : (n : ℕ) → n < top → 0 < i → (i < length cuts → n < get_or cuts i 0) → value_along h rs n ≡ of n
 
-  pub none_yet : (cuts : List ℕ) → AreOfCuts cuts 0 []
-  none_yet cuts = record {
-    some = λ p. absurd (omega (arith, p));
-    first = λ d p. absurd (omega (arith, p));
-    rising = λ j k d lt in_it. absurd (omega (arith, in_it));
-    start = λ k d lt. absurd (omega (arith, lt));
-  }
-
-  pub none_right : (of : ℕ → V) (h : V) (top : ℕ) (cuts : List ℕ) → AreRight of h top cuts 0 []
-  none_right of h top cuts = record { right = λ n low some. absurd (omega (arith, some)) }
-
   module _ (cuts : List ℕ) (i : ℕ) (rs : List (ℕ × V)) (v : V) (inside : i < length cuts) (up : IsRising cuts) (zero_first : get_or cuts 0 0 ≡ 0) (so_far : AreOfCuts cuts i rs) where
     -- the ranges so far start before the next cut
     below : (k : ℕ) (d : ℕ × V) → k < length rs → (get_or rs k d).0 < get_or cuts i 0
