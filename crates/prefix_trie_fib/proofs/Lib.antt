@@ -15,6 +15,7 @@ pub mod Halves
 pub mod Layouts
 pub mod CutMatches
 pub mod MergedRanges
+pub mod OneTable
 pub mod Results
 pub mod Sets
 pub mod ValuedRanges

@@ -1,10 +1,12 @@
--- One more cut keeps the ranges right, and at the end they have the value of each address.
-use Rattle.std.proofs.Common.{◌≡◌, ◌∙◌, zero, suc, ℕ, ◌^◌, ◌<◌, ◌≤◌, Bool, true, List, length, get_or, Option, None, Some, ap, arith, refl}
-use Rattle.std.proofs.lemmas.List.{length-map}
+-- One more cut keeps the ranges right and below the end of the line, and at the end they have the value of each address.
+use Rattle.std.proofs.Common.{◌≡◌, ◌∙◌, zero, suc, ℕ, ◌^◌, ◌<◌, ◌≤◌, Bool, true, List, [], ◌∷◌, ◌++◌, length, length-append, get_or, Option, None, Some, inl, inr, ap, arith, refl}
+use Rattle.std.proofs.Math.Seq.{get_or-append_seam}
+use Rattle.std.proofs.lemmas.Bool.{cases_lt}
+use Rattle.std.proofs.lemmas.List.{get_or_append_left, length-map}
 use Rattle.std.specs.List.{Contains}
 use Rattle.prefix_trie_bits.specs.BitStrings.{bits-number, length-digits, number-below, number_of_digits}
 use Rattle.prefix_trie_bits.specs.Model.Bits.{digits, number}
-use Rattle.prefix_trie_fib.specs.Line.{AreUncut, IsRising, IsSteady, are_same, numbers, value_along}
+use Rattle.prefix_trie_fib.specs.Line.{AreUncut, IsRising, IsSteady, StartBelow, are_same, numbers, value_along}
 use Rattle.prefix_trie_fib.proofs.RangeValues.{AreCuts, AreRight}
 
 -- values that `==` calls equal are the same, so two results that do not differ are the same
@@ -18,6 +20,19 @@ same_exact eq exact (Some x) (Some y) h = ap Some (exact x y h)
 pub zero_is_first : (ns : List ℕ) → IsRising ns → Contains ns 0 → get_or ns 0 0 ≡ 0
 zero_is_first ns up (zero, lt, is) = is
 zero_is_first ns up (suc k, lt, is) = absurd (let u = up 0 (suc k) (omega arith) lt in omega (arith, u, is))
+
+-- a range that starts below a number is appended
+pub pushed_below : {V : Type 0} (top : ℕ) (rs : List (ℕ × V)) (r : ℕ × V) → StartBelow top rs → r.0 < top → StartBelow top (rs ++ r ∷ [])
+pushed_below {V} top rs r below low k d in_it = elim (cases_lt k (length rs)) [
+  | inl old ↦
+      let at = ap {A = ℕ × V} (λ x. x.0) (get_or_append_left rs (r ∷ []) d k old) in
+      let b = below k d old in
+      omega (arith, at, b)
+  | inr new ↦
+      let is : k ≡ length rs = omega (arith, new, in_it, length-append rs (r ∷ [])) in
+      let at : (get_or (rs ++ r ∷ []) k d).0 ≡ r.0 = ap (λ j. (get_or (rs ++ r ∷ []) j d).0) is ∙ ap {A = ℕ × V} (λ x. x.0) (get_or-append_seam rs r [] d) in
+      omega (arith, at, low)
+]
 
 module _ {K V : Type 0} (w : ℕ) (bits : K → List Bool) (of : List Bool → V) (cuts : List K) (zero : Contains (numbers bits cuts) 0) (steady : IsSteady w (numbers bits cuts) of) (up : IsRising (numbers bits cuts)) where
   same_value : (a b : ℕ) → a ≤ b → b < 2 ^ w → AreUncut (numbers bits cuts) a b → of (digits w a) ≡ of (digits w b)

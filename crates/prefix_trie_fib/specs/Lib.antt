@@ -1,4 +1,4 @@
--- The definitions of this crate: divisions of the line of addresses, networks, searches, the index, and laws.
+-- The definitions of this crate: divisions of the line of addresses, tables of maps, networks, searches, the index, and laws.
 pub mod Addresses
 pub mod Compiled
 pub mod Equality
@@ -10,3 +10,4 @@ pub mod Line
 pub mod Networks
 pub mod Ranges
 pub mod Search
+pub mod Tables

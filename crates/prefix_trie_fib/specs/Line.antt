@@ -71,6 +71,10 @@ module _ {V : Type 0} where
     pub first : (d : ℕ × V) → (slice_index_or rs 0 d).0 ≡ 0
     pub rising : (j k : ℕ) (d : ℕ × V) → j < k → k < length rs → (slice_index_or rs j d).0 < (slice_index_or rs k d).0
 
+  -- each range starts below a number
+  abbrev pub StartBelow : ℕ → List (ℕ × V) → Type 0
+  StartBelow top rs = (k : ℕ) (d : ℕ × V) → k < length rs → (slice_index_or rs k d).0 < top
+
   -- no range has the value of the one after it
   abbrev pub AreMerged : (V → V → Bool) → List (ℕ × V) → Type 0
   AreMerged same rs = (k : ℕ) (d : ℕ × V) → k + 1 < length rs → same (slice_index_or rs k d).1 (slice_index_or rs (k + 1) d).1 ≡ false

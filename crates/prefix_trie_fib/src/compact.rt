@@ -1,6 +1,7 @@
 //! Indexed ranges in the layout that a lookup reads fastest.
-ghost use Rattle.std.specs.Prelude.{◌≡◌, ℕ, ◌^◌, ◌<◌, ◌≤◌, ◌∷◌, [], IfOk, None, Option, length, slice_index_or};
+ghost use Rattle.std.specs.Prelude.{◌≡◌, ℕ, ◌^◌, ◌<◌, ◌≤◌, ◌∷◌, [], IfErr, IfOk, None, Option, length, slice_index_or};
 ghost use Rattle.prefix_trie_bits.specs.Model.Bits.{number};
+ghost use Rattle.prefix_trie_bits.specs.declared.prefix.Refusal.TheVariants.{IndexRange};
 ghost use Rattle.prefix_trie_fib.specs.Line.{IsDivision, value_along};
 
 mod halves;
@@ -141,7 +142,9 @@ impl<K: Key, T: Copy, A: Allocator + Clone> Compact<K, T, A> {
     /// Returns `Memory` if an allocation fails, and `IndexRange` if there are 2^32 ranges or more.
     pub(crate) fn new(line: Line<K, T, A>, alloc: A) -> Result<Self, Refusal>
         requires { IsDivision line }
-        ensures { IfOk result (λ compact. compact ≡ line) }
+        ensures same { IfOk result (λ compact. compact ≡ line) }
+        ensures few { IfOk result (λ compact. length compact < 2 ^ 32) }
+        ensures too_many { IfErr result (λ cause. cause ≡ IndexRange → 2 ^ 32 ≤ length line) }
     {
         let first = alloc.clone().map_err(|_| Refusal::Memory)?;
         let second = alloc.clone().map_err(|_| Refusal::Memory)?;

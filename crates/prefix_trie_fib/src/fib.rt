@@ -1,8 +1,10 @@
 //! A table of longest matches that is compiled from a map.
-ghost use Rattle.std.specs.Prelude.{◌≡◌, ℕ, ◌+◌, ◌^◌, ◌<◌, ◌≤◌, ◌↔◌, ◌∷◌, [], Bool, IfOk, IsTrue, List, MatchOption, None, Option, length, slice_index_or, true};
+ghost use Rattle.std.specs.Prelude.{◌≡◌, ℕ, ◌+◌, ◌^◌, ◌<◌, ◌≤◌, ◌↔◌, ◌∷◌, [], IfErr, IfOk, IsTrue, MatchOption, None, Option, length, slice_index_or};
 ghost use Rattle.prefix_trie_bits.specs.Model.Bits.{number};
-ghost use Rattle.prefix_trie_fib.specs.Line.{AreMerged, IsDivision, are_same, value_along, value_of};
+ghost use Rattle.prefix_trie_bits.specs.declared.prefix.Refusal.TheVariants.{IndexRange};
+ghost use Rattle.prefix_trie_fib.specs.Line.{value_along};
 ghost use Rattle.prefix_trie_fib.specs.Networks.{end_of};
+ghost use Rattle.prefix_trie_fib.specs.Tables.{HasLongTable, IsTableOf};
 
 mod addresses;
 mod bulk;
@@ -57,12 +59,13 @@ impl<P: Prefix, T: Copy + PartialEq, A: Allocator> Model for Fib<P, T, A> {
 impl<P: Prefix, T: Copy + PartialEq, A: Allocator + Clone> Fib<P, T, A> {
     /// Compiles a map.
     ///
-    /// The time is that of two lookups for each entry, and of a sort.
+    /// The time is that of two lookups for each entry, and of a sort. Maps with the same entries have the same table, if a
+    /// value equals itself and no other. See `fib_laws`.
     ///
     /// # Errors
     ///
-    /// Returns `Memory` if an allocation fails, and `IndexRange` if there are 2^32 ranges or more. No table exists then.
-    /// If only the attempt to free spare memory fails, the table keeps that memory.
+    /// Returns `Memory` if an allocation fails, and `IndexRange` if the table would have 2^32 ranges or more. No table
+    /// exists then. If only the attempt to free spare memory fails, the table keeps that memory.
     ///
     /// # Examples
     ///
@@ -71,12 +74,11 @@ impl<P: Prefix, T: Copy + PartialEq, A: Allocator + Clone> Fib<P, T, A> {
     /// Fib::new(&map, alloc)?.len();   // 5: up to 10.0.0.0, two around 10.1.0.0/16, that one, and from 11.0.0.0 on
     /// ```
     pub fn new<M: Allocator>(map: &PrefixMap<P, T, M>, alloc: A) -> Result<Self, Refusal>
-        ensures division { IfOk result (λ fib. IsDivision fib) }
-        ensures merged { IfOk result (λ fib. AreMerged (are_same T.PartialEq.eq) fib) }
-        // Values that `==` calls equal are the same.
-        ensures values { IfOk result (λ fib. ((x y : T) → T.PartialEq.eq x y ≡ true → x ≡ y)
-            → (q : List Bool) → length q ≡ P.R.bit_width
-            → value_along None fib (number q) ≡ value_of map.now.entries q) }
+        ensures table { IfOk result
+            (λ fib. IsTableOf P.R.bit_width T.PartialEq.eq map.now.entries fib) }
+        ensures few { IfOk result (λ fib. length fib < 2 ^ 32) }
+        ensures too_many { IfErr result (λ cause. cause ≡ IndexRange
+            → HasLongTable P.R.bit_width T.PartialEq.eq map.now.entries) }
     {
         let ranges = compact_of(map, alloc)?;
         Ok(Fib { ranges })
@@ -107,11 +109,11 @@ fn compact_of<P: Prefix, T: Copy + PartialEq, M: Allocator, A: Allocator + Clone
     map: &PrefixMap<P, T, M>,
     alloc: A,
 ) -> Result<Compact<P::R, T, A>, Refusal>
-    ensures division { IfOk result (λ ranges. IsDivision ranges) }
-    ensures merged { IfOk result (λ ranges. AreMerged (are_same T.PartialEq.eq) ranges) }
-    ensures values { IfOk result (λ ranges. ((x y : T) → T.PartialEq.eq x y ≡ true → x ≡ y)
-        → (q : List Bool) → length q ≡ P.R.bit_width
-        → value_along None ranges (number q) ≡ value_of map.now.entries q) }
+    ensures table { IfOk result
+        (λ ranges. IsTableOf P.R.bit_width T.PartialEq.eq map.now.entries ranges) }
+    ensures few { IfOk result (λ ranges. length ranges < 2 ^ 32) }
+    ensures too_many { IfErr result (λ cause. cause ≡ IndexRange
+        → HasLongTable P.R.bit_width T.PartialEq.eq map.now.entries) }
 {
     let Some(filler) = some_value(map) else {
         return Ok(Compact::empty());

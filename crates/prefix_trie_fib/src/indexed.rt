@@ -1,6 +1,7 @@
 //! A division of the line of addresses with an index of it.
-ghost use Rattle.std.specs.Prelude.{◌≡◌, ℕ, ◌^◌, ◌<◌, ◌≤◌, IfOk, None, Option, length, slice_index_or};
+ghost use Rattle.std.specs.Prelude.{◌≡◌, ℕ, ◌^◌, ◌<◌, ◌≤◌, IfErr, IfOk, None, Option, length, slice_index_or};
 ghost use Rattle.prefix_trie_bits.specs.Model.Bits.{number};
+ghost use Rattle.prefix_trie_bits.specs.declared.prefix.Refusal.TheVariants.{IndexRange};
 ghost use Rattle.prefix_trie_fib.specs.Index.{IsChunk, IsTop};
 ghost use Rattle.prefix_trie_fib.specs.Line.{IsDivision, value_along};
 
@@ -42,7 +43,9 @@ impl<K: Key, T: Copy, A: Allocator> Indexed<K, T, A> {
     /// Returns `Memory` if an allocation fails, and `IndexRange` if there are 2^32 ranges or more.
     pub(crate) fn new(mut line: Line<K, T, A>, alloc: A, parts_alloc: A) -> Result<Self, Refusal>
         requires { IsDivision line }
-        ensures { IfOk result (λ indexed. indexed ≡ line) }
+        ensures same { IfOk result (λ indexed. indexed ≡ line) }
+        ensures few { IfOk result (λ indexed. length indexed < 2 ^ 32) }
+        ensures too_many { IfErr result (λ cause. cause ≡ IndexRange → 2 ^ 32 ≤ length line) }
     {
         line.shrink_to_fit();
         if line.len() > u32::MAX as usize {

@@ -1,7 +1,7 @@
 //! The ranges between cuts.
-ghost use Rattle.std.specs.Prelude.{◌≡◌, ℕ, ◌-◌, ◌<◌, ◌++◌, ◌∷◌, [], ◌⊎◌, Bool, Contains, List, None, IfOk, slice_index_or, Option, OnOk, length, true, false};
+ghost use Rattle.std.specs.Prelude.{◌≡◌, ℕ, ◌-◌, ◌^◌, ◌<◌, ◌++◌, ◌∷◌, [], ◌⊎◌, Bool, Contains, List, None, IfOk, slice_index_or, Option, OnOk, length, true, false};
 ghost use Rattle.prefix_trie_bits.specs.Model.Bits.{number};
-ghost use Rattle.prefix_trie_fib.specs.Line.{AreMerged, AreValuesAt, IsDivision, IsRising, IsSteady, are_same, numbers, value_along};
+ghost use Rattle.prefix_trie_fib.specs.Line.{AreMerged, AreValuesAt, IsDivision, IsRising, IsSteady, StartBelow, are_same, numbers, value_along};
 
 use super::Line;
 use prefix_trie_bits::prefix::Key;
@@ -21,6 +21,7 @@ pub(crate) fn line_of<K: Key, T: Copy + PartialEq, B: Allocator + Clone>(
     requires same_length { length values.now ≡ length cuts.now }
     ensures division { IfOk result (λ line. IsDivision line) }
     ensures merged { IfOk result (λ line. AreMerged (are_same T.PartialEq.eq) line) }
+    ensures below { IfOk result (λ line. StartBelow (2 ^ K.bit_width) line) }
     // Values that `==` calls equal are the same.
     ensures values { IfOk result (λ line. (of : List Bool → Option T)
         → IsSteady K.bit_width (numbers K.bits cuts.now) of

@@ -1,7 +1,7 @@
 //! The ranges of a map.
-ghost use Rattle.std.specs.Prelude.{◌≡◌, ◌<◌, Bool, List, None, Option, IfOk, length, true};
-ghost use Rattle.prefix_trie_bits.specs.Model.Bits.{number};
-ghost use Rattle.prefix_trie_fib.specs.Line.{AreCutsOf, AreMerged, AreValuesAt, IsDivision, IsRising, are_same, numbers, value_along, value_of};
+ghost use Rattle.std.specs.Prelude.{◌≡◌, Bool, List, None, Option, IfOk, length};
+ghost use Rattle.prefix_trie_fib.specs.Line.{AreCutsOf, AreValuesAt, IsRising, numbers, value_of};
+ghost use Rattle.prefix_trie_fib.specs.Tables.{IsTableOf};
 
 use super::Line;
 use super::cuts::{distinct, push_cuts_of, sort, start_of_line};
@@ -17,7 +17,7 @@ pub(crate) fn some_value<P: Prefix, T: Copy, A: Allocator>(map: &PrefixMap<P, T,
     map.values().next().copied()
 }
 
-/// Returns the ranges of addresses that have one longest match each, as few as there are.
+/// Returns the table of a map: its ranges, neighbours with one value merged.
 ///
 /// `filler` is kept in the place of a missing value.
 pub(crate) fn ranges_of<P: Prefix, T: Copy + PartialEq, A: Allocator, B: Allocator + Clone>(
@@ -25,12 +25,8 @@ pub(crate) fn ranges_of<P: Prefix, T: Copy + PartialEq, A: Allocator, B: Allocat
     filler: T,
     alloc: B,
 ) -> Result<Line<P::R, T, B>, AllocError>
-    ensures division { IfOk result (λ line. IsDivision line) }
-    ensures merged { IfOk result (λ line. AreMerged (are_same T.PartialEq.eq) line) }
-    // Values that `==` calls equal are the same.
-    ensures values { IfOk result (λ line. ((x y : T) → T.PartialEq.eq x y ≡ true → x ≡ y)
-        → (q : List Bool) → length q ≡ P.R.bit_width
-        → value_along None line (number q) ≡ value_of map.now.entries q) }
+    ensures { IfOk result
+        (λ line. IsTableOf P.R.bit_width T.PartialEq.eq map.now.entries line) }
 {
     let cuts = cuts_of(map, alloc.clone()?)?;
     let values = values_at(map, &cuts, alloc.clone()?)?;

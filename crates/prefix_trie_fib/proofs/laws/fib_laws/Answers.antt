@@ -1,5 +1,6 @@
--- The laws follow from those of keys and from the order of the ranges.
+-- The laws follow from those of keys, from the order of the ranges, and from the values of neighbours.
 use Rattle.std.proofs.Common.{None}
+use Rattle.prefix_trie_fib.proofs.OneTable.{one_division_of_values, one_table}
 use Rattle.prefix_trie_fib.proofs.RangeValues.{one_range, value_of_range}
 use Rattle.prefix_trie_fib.proofs.ValuedRanges.{are_ranges}
 use Rattle.prefix_trie_fib.proofs.laws.fib_laws.Goals as goal
@@ -10,4 +11,6 @@ returns g c = record {
   of_range = λ fib division i n d range. value_of_range fib division None i n d range;
   one_range = λ fib division i j n a b. one_range fib division (0, None) i j n a b;
   valued = λ same fib division merged. are_ranges g.P.R.Key.bit_width same fib division merged;
+  one_division = λ same itself. one_division_of_values g.P.R.Key.bit_width same itself;
+  one_table = λ same itself exact. one_table g.P.R.Key.bit_width same itself exact;
 }

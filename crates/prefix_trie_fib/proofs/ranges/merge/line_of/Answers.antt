@@ -1,11 +1,11 @@
 -- Each cut adds a range or keeps the last one, and at the end the ranges have the value of each address.
 use Rattle.std.proofs.Common.{◌≡◌, ◌∙◌, ◌-◌, ◌+◌, ◌<◌, ◌++◌, ◌∷◌, [], inl, inr, ap, arith, sym, subst, get_or, length, ◌^◌, None}
 use Rattle.std.proofs.lemmas.List.{get_or-map, length-map}
-use Rattle.prefix_trie_bits.specs.BitStrings.{bits-number}
+use Rattle.prefix_trie_bits.specs.BitStrings.{bits-number, number-below}
 use Rattle.prefix_trie_bits.specs.Model.Bits.{digits, number}
-use Rattle.prefix_trie_fib.specs.Line.{AreMerged, are_same, numbers}
+use Rattle.prefix_trie_fib.specs.Line.{AreMerged, StartBelow, are_same, numbers}
 use Rattle.prefix_trie_fib.proofs.RangeValues.{AreOfCuts, AreRight, get_or-any, kept_of_cuts, kept_right, merged_pushed, pushed_of_cuts, pushed_right}
-use Rattle.prefix_trie_fib.proofs.MergedRanges.{are_cuts, right_at_end, same_exact, zero_is_first}
+use Rattle.prefix_trie_fib.proofs.MergedRanges.{are_cuts, pushed_below, right_at_end, same_exact, zero_is_first}
 use Rattle.prefix_trie_fib.proofs.ranges.merge.line_of.Goals as goal
 
 pub loop-i-preserved : goal.loop-i-preserved
@@ -22,12 +22,14 @@ loop-i-preserved g c =
     let here : number (g.K.Key.bits s) ≡ get_or ns i 0 = ap (λ k. number (g.K.Key.bits k)) c.index-cuts-i-in-loop-i.is ∙ at in
     let long : length (g.K.Key.bits (get_or cuts i s)) ≡ g.K.Key.bit_width = g.met.K.Key.key_laws.bits_length (get_or cuts i s)
     (subst g.K.Key.IsKey (c.index-cuts-i.is ∙ get_or-any cuts i c.index-cuts-i.result s c.loop-i-test.true) c.is_key.ensures.key) in
+    let low : get_or ns i 0 < 2 ^ g.K.Key.bit_width = omega (arith, at, number-below g.K.Key.bit_width (g.K.Key.bits (get_or cuts i s)) long) in
     elim c.in_ok-add_range.ensures [
       | inl pushed ↦
           let new : c.add_range.new.line ≡ old ++ (get_or ns i 0, v) ∷ [] = pushed.0 ∙ ap (λ n. old ++ (n, v) ∷ []) here in
           record {
             of_cuts = subst (AreOfCuts ns (i + 1)) (sym new) (pushed_of_cuts ns i old v inside c.requires.rising zero_first c.loop-i.invariant.of_cuts);
             merged = subst (AreMerged (are_same g.T.PartialEq.eq)) (sym new) (merged_pushed (are_same g.T.PartialEq.eq) old (get_or ns i 0, v) c.loop-i.invariant.merged pushed.1);
+            below = subst (StartBelow (2 ^ g.K.Key.bit_width)) (sym new) (pushed_below (2 ^ g.K.Key.bit_width) old (get_or ns i 0, v) c.loop-i.invariant.below low);
             right = λ of steady values exact.
                 let is = c.index-values-i.is ∙ values i s v c.loop-i-test.true ∙ ap of (sym (bits-number g.K.Key.bit_width (g.K.Key.bits (get_or cuts i s)) long)) ∙ ap (λ n. of (digits g.K.Key.bit_width n)) at in
                 subst (AreRight (λ n. of (digits g.K.Key.bit_width n)) None (2 ^ g.K.Key.bit_width) ns (i + 1)) (sym new)
@@ -39,6 +41,7 @@ loop-i-preserved g c =
           record {
             of_cuts = subst (AreOfCuts ns (i + 1)) (sym new) (kept_of_cuts ns i old v inside c.requires.rising zero_first c.loop-i.invariant.of_cuts kept.1);
             merged = subst (AreMerged (are_same g.T.PartialEq.eq)) (sym new) c.loop-i.invariant.merged;
+            below = subst (StartBelow (2 ^ g.K.Key.bit_width)) (sym new) c.loop-i.invariant.below;
             right = λ of steady values exact.
                 let is = c.index-values-i.is ∙ values i s v c.loop-i-test.true ∙ ap of (sym (bits-number g.K.Key.bit_width (g.K.Key.bits (get_or cuts i s)) long)) ∙ ap (λ n. of (digits g.K.Key.bit_width n)) at in
                 subst (AreRight (λ n. of (digits g.K.Key.bit_width n)) None (2 ^ g.K.Key.bit_width) ns (i + 1)) (sym new)
