@@ -107,6 +107,17 @@ impl<K: Key, T: Copy, A: Allocator> Compact<K, T, A> {
         }
     }
 
+    /// Returns the number of ranges and of entries of the index.
+    pub(crate) fn slots(&self) -> usize
+        ensures { length self.now ≤ result }
+    {
+        match &self.layout {
+            Layout::Empty => 1,
+            Layout::Whole(indexed) => indexed.slots(),
+            Layout::Upper(indexed) => indexed.slots(),
+        }
+    }
+
     /// Returns the value of the range of an address.
     #[inline(always)]
     pub(crate) fn lookup(&self, address: K) -> Option<T>

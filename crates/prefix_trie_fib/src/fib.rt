@@ -219,4 +219,22 @@ impl<P: Prefix, T: Copy + PartialEq, A: Allocator> Fib<P, T, A> {
     {
         self.ranges.chunks()
     }
+
+    /// Returns the number of slots that the table stores: one for each range, and one for each entry of its index.
+    ///
+    /// The slot of a range has the size of an address and a value, and one bit more. In a table of IPv6 networks of at
+    /// most 64 bits the address takes 8 bytes. An entry of the index is that of a chunk or of a part of a chunk. It has
+    /// the size of a value and a tag, and at least 8 bytes.
+    ///
+    /// # Examples
+    ///
+    /// ```rust
+    /// // map = {10.0.0.0/8: 1}
+    /// Fib::new(&map, alloc)?.slots();         // 259: 3 ranges, and an index of 256 chunks
+    /// ```
+    pub fn slots(&self) -> usize
+        ensures { length self.now ≤ result }
+    {
+        self.ranges.slots()
+    }
 }

@@ -91,6 +91,13 @@ impl<K: Key, T: Copy, A: Allocator> Indexed<K, T, A> {
         self.index.chunks.len()
     }
 
+    /// Returns the number of ranges, chunks and parts of chunks.
+    pub(crate) fn slots(&self) -> usize
+        ensures { length self.now ≤ result }
+    {
+        self.line.len() + self.index.chunks.len() + self.index.parts.len()
+    }
+
     /// Returns the value of the range of an address, whose first 30 bits have the number `top`.
     #[inline(always)]
     pub(crate) fn lookup(&self, top: u32, address: K) -> Option<T>
