@@ -11,6 +11,7 @@ pub mod Equality
 pub mod Fewest
 pub mod FoundEntries
 pub mod Gaps
+pub mod Groups
 pub mod Halves
 pub mod Layouts
 pub mod CutMatches

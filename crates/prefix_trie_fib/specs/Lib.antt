@@ -1,5 +1,6 @@
 -- The definitions of this crate: divisions of the line of addresses, tables of maps, networks, searches, the index, and laws.
 pub mod Addresses
+pub mod Bulk
 pub mod Compiled
 pub mod Equality
 pub mod Gaps

@@ -4,6 +4,7 @@ ghost use Rattle.prefix_trie_bits.specs.Model.Bits.{number};
 ghost use Rattle.prefix_trie_bits.specs.declared.prefix.Refusal.TheVariants.{IndexRange};
 ghost use Rattle.prefix_trie_fib.specs.Line.{IsDivision, value_along};
 
+mod bulk;
 mod halves;
 mod lookups;
 mod upper_line;

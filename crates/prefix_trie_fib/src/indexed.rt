@@ -5,9 +5,13 @@ ghost use Rattle.prefix_trie_bits.specs.declared.prefix.Refusal.TheVariants.{Ind
 ghost use Rattle.prefix_trie_fib.specs.Index.{IsChunk, IsTop};
 ghost use Rattle.prefix_trie_fib.specs.Line.{IsDivision, value_along};
 
+mod bulk;
+mod steps;
+
 use crate::copies::copy_of;
 use crate::index::{Chunk, Index, chunk_of, index_bits, index_of, part_of};
 use crate::ranges::Line;
+pub(crate) use bulk::GROUP;
 use prefix_trie_bits::prefix::{Key, Refusal};
 use std::alloc::{AllocError, Allocator};
 use std::marker::Model;

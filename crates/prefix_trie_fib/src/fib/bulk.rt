@@ -10,7 +10,8 @@ use std::alloc::Allocator;
 impl<P: Prefix, T: Copy + PartialEq, A: Allocator> Fib<P, T, A> {
     /// Looks up each address, in the order of the addresses.
     ///
-    /// This is faster than calls of `lookup` whose results are used at once, because the processor overlaps the reads.
+    /// Groups of addresses are looked up side by side, so that the processor overlaps their reads. This takes less time than
+    /// calls of `lookup`.
     ///
     /// Requires that `out` is as long as `addresses`.
     ///
@@ -28,8 +29,6 @@ impl<P: Prefix, T: Copy + PartialEq, A: Allocator> Fib<P, T, A> {
         ensures { out.new
             ≡ map (λ a. value_along None self.now (number (P.R.bits a))) addresses.now }
     {
-        for i in 0..addresses.len() {
-            out[i] = self.lookup(addresses[i]);
-        }
+        self.ranges.lookup_bulk(addresses, out);
     }
 }
