@@ -92,7 +92,8 @@ fn group_by_upper<K: Key, T: Copy, A: Allocator>(
     requires same_length { length out.old ≡ length addresses.now }
     requires some { from < length addresses.now }
     ensures group { (0 < result) × (from + result ≤ length addresses.now) }
-    ensures results { HaveResults (λ a. value_along None (widened K.bit_width indexed.now) (number (K.bits a)))
+    ensures results { HaveResults
+        (λ a. value_along None (widened K.bit_width indexed.now) (number (K.bits a)))
         addresses.now out.old from
         → HaveResults
         (λ a. value_along None (widened K.bit_width indexed.now) (number (K.bits a)))

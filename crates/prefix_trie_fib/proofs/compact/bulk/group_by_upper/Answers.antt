@@ -1,5 +1,5 @@
 -- A group has the values of the addresses from a place on, by their upper halves.
-use Rattle.std.proofs.Common.{◌≡◌, ◌≢◌, ◌∙◌, ◌+◌, ◌<◌, ◌≤◌, ℕ, None, ap, arith, get_or, length, length-set, length-take-le, set, subst, sym, take}
+use Rattle.std.proofs.Common.{◌≡◌, ◌≢◌, ◌∙◌, ◌+◌, ◌<◌, ℕ, None, ap, arith, get_or, length, length-set, length-take-le, set, subst, sym, take}
 use Rattle.std.proofs.lemmas.List.{get_or-set_other, get_or-set_same, get_or-take}
 use Rattle.prefix_trie_bits.specs.BitStrings.{number_of_digits}
 use Rattle.prefix_trie_bits.specs.Model.Bits.{digits, number}

@@ -1,5 +1,5 @@
 -- A group has the values of the addresses from a place on.
-use Rattle.std.proofs.Common.{◌≡◌, ◌∙◌, ◌+◌, ◌<◌, ◌≤◌, None, ap, arith, get_or, length, length-set, slice_range, subst}
+use Rattle.std.proofs.Common.{◌∙◌, ◌+◌, ◌<◌, ◌≤◌, None, ap, arith, get_or, length, length-set, slice_range, subst}
 use Rattle.prefix_trie_bits.specs.Model.Bits.{number}
 use Rattle.prefix_trie_fib.specs.Index.{IsTop}
 use Rattle.prefix_trie_fib.specs.Line.{value_along}

@@ -1,5 +1,5 @@
 -- One more address has its value, and the values before the group stay.
-use Rattle.std.proofs.Common.{◌≡◌, ◌≢◌, ◌∙◌, ◌+◌, ◌<◌, None, ap, arith, get_or, length, rules, subst, sym}
+use Rattle.std.proofs.Common.{◌≡◌, ◌≢◌, ◌∙◌, ◌+◌, ◌<◌, None, ap, arith, get_or, length}
 use Rattle.std.proofs.lemmas.List.{get_or-set_other}
 use Rattle.prefix_trie_bits.specs.Model.Bits.{number}
 use Rattle.prefix_trie_fib.specs.Line.{value_along}

@@ -1,5 +1,5 @@
 -- One more address has the entry of its chunk.
-use Rattle.std.proofs.Common.{◌≡◌, ◌∙◌, ◌<◌, ℕ, arith, get_or, length, subst}
+use Rattle.std.proofs.Common.{◌∙◌, ◌<◌, arith, get_or, length, subst}
 use Rattle.prefix_trie_bits.specs.Model.Bits.{number}
 use Rattle.prefix_trie_fib.specs.Bulk.{IsEntryAt}
 use Rattle.prefix_trie_fib.specs.Index.{IsWhole}
