@@ -1,6 +1,8 @@
 -- The lemmas of this crate: loading lines, comparing tables, coverage by a rule, host bits, ranges, paths of networks, ranks of values,
--- counting by length, texts of networks, and the networks and ranges that cover addresses.
+-- counting by length, texts of networks, sorted lists, and the networks and ranges that cover
+-- addresses.
 pub mod SizeCounts
+pub mod SortedLists
 pub mod Decimals
 pub mod Decisions
 pub mod FirstBytes

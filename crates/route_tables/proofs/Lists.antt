@@ -1,8 +1,13 @@
 -- Small facts on elements of lists that are mapped or filtered.
-use Rattle.std.proofs.Common.{◌≡◌, ◌⊎◌, zero, suc, Bool, true, false, cond, List, [], ◌∷◌, map, filter, refl, sym, ap, subst, ◌∙◌, inl, inr, arith}
+use Rattle.std.proofs.Common.{◌≡◌, ◌⊎◌, ◌==◌, length, zero, suc, Bool, true, false, eqb-true, cond, List, [], ◌∷◌, map, filter, refl, sym, ap, subst, ◌∙◌, inl, inr, arith}
 use Rattle.std.specs.List.{Contains}
 
 module _ {X : Type 0} where
+  -- a list without elements
+  pub none_of : (xs : List X) → (length xs == 0) ≡ true → xs ≡ []
+  none_of [] e = refl
+  none_of (x ∷ xs) e = absurd (let z = eqb-true (length (x ∷ xs)) 0 e in omega (arith, z))
+
   -- an element of a list is the first one or one of the others
   pub in_cons : (y : X) (ys : List X) (x : X) → Contains (y ∷ ys) x → (y ≡ x) ⊎ Contains ys x
   in_cons y ys x (zero, less, is) = inl is

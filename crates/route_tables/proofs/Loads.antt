@@ -66,7 +66,7 @@ some_first reading line routes m after gives (n, is) =
     (take n routes, inr (drop n routes, subst (Gives reading line) (sym (take-append-drop n routes)) gives), is)
 
 -- one line more
-has_routes : (reading : Reading) (done : List (List ℕ)) (line : List ℕ) (routes given : List Route) → HasRoutes reading done routes
+pub has_routes : (reading : Reading) (done : List (List ℕ)) (line : List ℕ) (routes given : List Route) → HasRoutes reading done routes
     → Gives reading line given → HasRoutes reading (done ++ line ∷ []) (routes ++ given)
 has_routes reading [] line routes given none gives = (given, [], gives, refl, ap (λ r. r ++ given) none ∙ sym (append-nil given))
 has_routes reading (first ∷ done) line routes given (r, rest, g, has, is) gives =

@@ -109,11 +109,17 @@ module _ {P : Type 0} (laws : LookupLaws P (List ℕ)) (matches : MatchLaws (Lis
     fewest = least;
   }
 
--- bare networks, each with the value that is lent, are those of their paths
-pub bare_pairs : {P X : Type 0} (w : ℕ) (v : Bor X) (path : P → List Bool) (IsFitting : P → Type 0) (back : List Bool → P) (networks : List P) → All (IsBare path IsFitting back) networks
-    → (pairs : List (P × Bor X)) → pairs ≡ map (λ p. (p, v)) networks → map lent_item pairs ≡ prefix_pairs back (with_value w v.now (map path networks))
-bare_pairs {P} {X} w v path IsFitting back networks bare pairs is = ap (map lent_item) is ∙ each networks bare
-  where
-    each : (ps : List P) → All (IsBare path IsFitting back) ps → map lent_item (map {B = P × Bor X} (λ p. (p, v)) ps) ≡ prefix_pairs back (with_value w v.now (map path ps))
-    each [] bare = refl
-    each (p ∷ ps) bare = ap₂ (λ x xs. (x, v.now) ∷ xs) (All-head (IsBare path IsFitting back) p ps bare).1 (each ps (All-tail (IsBare path IsFitting back) p ps bare))
+module _ {P X : Type 0} (w : ℕ) (path : P → List Bool) (IsFitting : P → Type 0) (back : List Bool → P) where
+  -- bare networks, each with a value, are those of their paths
+  pub bare_pairs : (v : X) (networks : List P) → All (IsBare path IsFitting back) networks → map (λ p. (p, v)) networks ≡ prefix_pairs back (with_value w v (map path networks))
+  bare_pairs v [] bare = refl
+  bare_pairs v (p ∷ ps) bare = ap₂ (λ x xs. (x, v) ∷ xs) (All-head (IsBare path IsFitting back) p ps bare).1 (bare_pairs v ps (All-tail (IsBare path IsFitting back) p ps bare))
+
+  -- also if the value is lent
+  pub lent_pairs : (v : Bor X) (networks : List P) → All (IsBare path IsFitting back) networks → (pairs : List (P × Bor X)) → pairs ≡ map (λ p. (p, v)) networks
+      → map lent_item pairs ≡ prefix_pairs back (with_value w v.now (map path networks))
+  lent_pairs v networks bare pairs is = ap (map lent_item) is ∙ each networks ∙ bare_pairs v.now networks bare
+    where
+      each : (ps : List P) → map lent_item (map {B = P × Bor X} (λ p. (p, v)) ps) ≡ map (λ p. (p, v.now)) ps
+      each [] = refl
+      each (p ∷ ps) = ap (λ xs. (p, v.now) ∷ xs) (each ps)

@@ -1,5 +1,5 @@
--- The definitions of this crate: lines and routes, networks, loaded tables, changes, access rules, sets of addresses, fewest networks, and printed
--- lines.
+-- The definitions of this crate: lines and routes, networks, loaded tables, changes, access rules, sets of addresses, fewest networks, sorted lists, and
+-- printed lines.
 pub mod Access
 pub mod AddressRanges
 pub mod AddressSets
@@ -11,4 +11,5 @@ pub mod Loads
 pub mod Networks
 pub mod Printed
 pub mod Routes
+pub mod SortedLists
 pub mod Tables

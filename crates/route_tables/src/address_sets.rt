@@ -17,7 +17,7 @@ mod covered_entries;
 
 use crate::table::{FamilyTable, Table};
 pub use address_ranges::ranges;
-pub(crate) use cover::fewest_cover;
+pub(crate) use cover::{add_in_order, fewest_cover};
 pub use covered_entries::covered;
 use prefix_trie::laws::match_laws;
 use prefix_trie::{Prefix, PrefixSet, Refusal};

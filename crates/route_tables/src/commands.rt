@@ -8,6 +8,8 @@ mod tables;
 
 use crate::addresses::Address;
 use crate::arguments::{Comparison, Format, Question, Report};
+use crate::load::Reading;
+use crate::sorted_lists::fewest_of_sorted;
 use crate::table::Table;
 use prefix_trie_joint::IpPrefix;
 use std::alloc::Global;
@@ -38,6 +40,29 @@ pub fn print_report<W: Write>(
         (Report::Union, _) => sets::union(table, alloc, out),
         (Report::Ranges, _) => sets::print_ranges(table, alloc, out),
         (Report::Count, _) => sets::count(table, out),
+    }
+}
+
+/// Prints the fewest networks of a text whose networks have no values and are in order.
+///
+/// Returns false and prints nothing if a line is bad or has a value, or if a network is not in order.
+///
+/// # Errors
+///
+/// Returns the writer's error, or an error if an allocation fails.
+pub fn print_fewest_of_sorted<W: Write>(
+    text: &[u8],
+    reading: Reading,
+    alloc: Global,
+    out: &mut W,
+) -> io::Result<bool> {
+    match fewest_of_sorted(text, reading, alloc)? {
+        Some(fewest) => {
+            tables::print_networks(fewest.ipv4, out)?;
+            tables::print_networks(fewest.ipv6, out)?;
+            Ok(true)
+        }
+        None => Ok(false),
     }
 }
 

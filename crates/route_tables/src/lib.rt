@@ -23,6 +23,7 @@ pub mod matching;
 pub mod minimise;
 pub mod network;
 pub mod range;
+pub mod sorted_lists;
 pub mod stats;
 pub mod table;
 mod text;

@@ -7,3 +7,5 @@ mod address_sets;
 mod printing;
 #[cfg(test)]
 mod reading;
+#[cfg(test)]
+mod sorted_lists;

@@ -1,6 +1,7 @@
 -- Lists of networks that cover those read so far: for the steps of `fewest_cover`.
 use Rattle.std.proofs.Common.{◌≡◌, ◌⊎◌, ◌∙◌, ◌≤◌, ℕ, Bool, true, false, true≢false, List, [], ◌∷◌, ◌++◌, All, Option, Some, None, MatchOption, Less, length, map, inl, inr, refl, sym, ap, subst}
 use Rattle.std.proofs.lemmas.List.{map-append}
+use Rattle.std.proofs.lemmas.List.Elements.{Contains-push}
 use Rattle.std.specs.List.{Contains}
 use Rattle.prefix_trie.specs.Terms.{begins, last_item, listing_cmp}
 use Rattle.prefix_trie_fib.specs.Line.{first_address, past_address}
@@ -9,6 +10,7 @@ use Rattle.prefix_trie_ops.proofs.Chains.{last-push}
 use Rattle.route_tables.specs.FewestCover.{AreFewestSoFar, AreSiblings, CoverRead, HaveNoHalves, IsBare}
 use Rattle.route_tables.proofs.Covers.CoverSteps.{after_last, all_before, halves_merged, no_more_halves, none_in, one_without_halves, read_after, read_within, without_last}
 use Rattle.route_tables.proofs.Covers.LastItems.{split_last}
+use Rattle.route_tables.proofs.Covers.NetworkOrder.{after_listed}
 
 -- a search that finds nothing
 pub found_nothing : {X : Type 0} (found : Option X) (A : Type 0) (B : X → Type 0) → ((x : X) → found ≡ Some x → ⊥) → MatchOption found A B → A
@@ -62,15 +64,29 @@ module _ {P : Type 0} (path : P → List Bool) where
           (subst (CoverRead w (read ++ q ∷ [])) (sym split) (read_within w read (map path front) (path last) q (subst (CoverRead w read) split cover) fits front_q), none)
     ]
 
-    -- another network
-    pub added_after : (xs : List P) (q : List Bool) → length q ≤ w → contains_path path (last_item xs) q ≡ false → All (λ t. listing_cmp t q ≡ Less) read → AreFewestSoFar w read (map path xs)
-        → CoverRead w (read ++ q ∷ []) (map path xs ++ q ∷ [])
-    added_after xs q fits apart listed (cover, none) = elim (split_last xs) [
+    -- a network that begins after the last one ends
+    added_apart : (xs : List P) (q : List Bool) → length q ≤ w
+        → ((front : List P) (last : P) → xs ≡ front ++ last ∷ [] → CoverRead w read (map path front ++ path last ∷ []) → past_address w (path last) ≤ first_address w q)
+        → AreFewestSoFar w read (map path xs) → CoverRead w (read ++ q ∷ []) (map path xs ++ q ∷ [])
+    added_apart xs q fits before (cover, none) = elim (split_last xs) [
       | inl is ↦ read_after w read (map path xs) q cover fits (λ s has. absurd (none_in s (subst (λ ys. Contains (map path ys) s) is has)))
       | inr (front, last, is) ↦
           let split : map path xs ≡ map path front ++ path last ∷ [] = ap (map path) is ∙ pushed_path front last in
-          let apart_q : begins (path last) q ≡ false = sym (ap (λ o. contains_path path o q) (ap last_item is ∙ last-push front last)) ∙ apart in
           let cover' = subst (CoverRead w read) split cover in
           subst (λ ss. CoverRead w (read ++ q ∷ []) (ss ++ q ∷ [])) (sym split)
-          (read_after w read (map path front ++ path last ∷ []) q cover' fits (all_before w read (map path front) (path last) q cover' (after_last w read (map path front) (path last) q cover' listed fits apart_q)))
+          (read_after w read (map path front ++ path last ∷ []) q cover' fits (all_before w read (map path front) (path last) q cover' (before front last is cover')))
     ]
+
+    apart_from : (xs front : List P) (last : P) (q : List Bool) → xs ≡ front ++ last ∷ [] → contains_path path (last_item xs) q ≡ false → begins (path last) q ≡ false
+    apart_from xs front last q is apart = sym (ap (λ o. contains_path path o q) (ap last_item is ∙ last-push front last)) ∙ apart
+
+    -- a network that is listed after all those read
+    pub added_after : (xs : List P) (q : List Bool) → length q ≤ w → contains_path path (last_item xs) q ≡ false → All (λ t. listing_cmp t q ≡ Less) read → AreFewestSoFar w read (map path xs)
+        → CoverRead w (read ++ q ∷ []) (map path xs ++ q ∷ [])
+    added_after xs q fits apart listed = added_apart xs q fits (λ front last is cover. after_last w read (map path front) (path last) q cover listed fits (apart_from xs front last q is apart))
+
+    -- a network that is listed after the last one
+    pub added_behind : (xs : List P) (q : List Bool) → length q ≤ w → contains_path path (last_item xs) q ≡ false → ((last : P) → last_item xs ≡ Some last → listing_cmp (path last) q ≡ Less)
+        → AreFewestSoFar w read (map path xs) → CoverRead w (read ++ q ∷ []) (map path xs ++ q ∷ [])
+    added_behind xs q fits apart listed = added_apart xs q fits (λ front last is cover.
+        after_listed w (path last) q (cover.short (path last) (Contains-push (map path front) (path last))) fits (listed last (ap last_item is ∙ last-push front last)) (apart_from xs front last q is apart))

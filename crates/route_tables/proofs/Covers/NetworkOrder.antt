@@ -1,5 +1,5 @@
 -- Networks as blocks of addresses: which contain others, and lists of them in order.
-use Rattle.std.proofs.Common.{◌≡◌, ◌∙◌, ◌+◌, ◌-◌, ◌<◌, ◌≤◌, ℕ, suc, Bool, true, false, List, [], ◌∷◌, ◌++◌, length, get_or, Less, Equal, Greater, inl, inr, refl, sym, ap, ap₂, subst, arith, length-append}
+use Rattle.std.proofs.Common.{◌≡◌, ◌∙◌, ◌+◌, ◌-◌, ◌<◌, ◌≤◌, ℕ, suc, Bool, true, false, true≢false, List, [], ◌∷◌, ◌++◌, length, get_or, Less, Equal, Greater, inl, inr, refl, sym, ap, ap₂, subst, arith, length-append}
 use Rattle.std.proofs.Math.Seq.{get_or-append_seam}
 use Rattle.std.proofs.lemmas.Bool.{cases_lt}
 use Rattle.std.proofs.lemmas.List.{get_or_append_left}
@@ -57,6 +57,22 @@ module _ (w : ℕ) where
       ∙ ap (λ o. ordering_then o (nat_cmp (length s) (length t)))
       (order-numbers (s ++ zeros (w - length s)) (t ++ zeros (w - length t)) (length-filled w s fits ∙ sym (length-filled w t fits'))
       ∙ sym (nat_cmp_is (first_address w s) (first_address w t) Less (omega (arith, some, before))))
+
+  -- a network that is listed after another one, and is not within it, begins after it ends
+  pub after_listed : (s t : List Bool) → length s ≤ w → length t ≤ w → listing_cmp s t ≡ Less → begins s t ≡ false → past_address w s ≤ first_address w t
+  after_listed s t fits fits' listed apart =
+      elim (cases_lt (first_address w t) (past_address w s)) [
+        | inr ge ↦ ge
+        | inl lt ↦ absurd (
+            let order = listed_first s t fits fits' listed in
+            elim (cases_lt (length t) (length s)) [
+              | inr le ↦ true≢false (sym (contains_by_first s t fits' le order.0 lt) ∙ apart)
+              | inl less ↦
+                  let inside = nested w t s (omega (arith, less)) fits (first_address w t) (omega arith) (some_address w t) order.0 lt in
+                  let shorter = order.1 (omega (arith, inside.0, order.0)) in
+                  omega (arith, shorter, less)
+            ])
+      ]
 
   -- ---- lists in order
 

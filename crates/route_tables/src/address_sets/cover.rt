@@ -1,5 +1,5 @@
 //! The fewest networks that cover the addresses of a table.
-ghost use Rattle.std.specs.Prelude.{◌≡◌, ◌≤◌, ◌++◌, ◌∷◌, [], All, Bool, IfOk, List, MatchOption, OnOk, Some, length, map, take};
+ghost use Rattle.std.specs.Prelude.{◌≡◌, ◌≤◌, ◌++◌, ◌∷◌, [], All, Bool, IfOk, List, MatchOption, OnOk, Some, length, map, take, true};
 ghost use Rattle.std.proofs.Common.{Less};
 ghost use Rattle.prefix_trie.specs.Terms.{last_item, listing_cmp};
 ghost use Rattle.prefix_trie_ops.specs.Covered.{contains_path};
@@ -9,6 +9,7 @@ use crate::table::FamilyTable;
 use crate::value::Value;
 use prefix_trie::laws::{listing_laws, match_laws};
 use prefix_trie::{Key, Prefix};
+use prefix_trie_ops::order::listing_order;
 use std::alloc::{AllocError, Global};
 
 /// Returns the fewest networks that cover the addresses that a table covers, in order and without host bits.
@@ -49,6 +50,45 @@ fn add_network<P: Prefix>(networks: &mut Vec<P, Global>, network: P) -> Result<(
         return Ok(());
     }
     push_merged(networks, network)
+}
+
+/// Adds a network to the fewest that cover those before it, if the last one contains it or comes before it.
+///
+/// Returns whether it is so. Otherwise the networks stay.
+pub(crate) fn add_in_order<P: Prefix>(
+    networks: &mut Vec<P, Global>,
+    network: P,
+) -> Result<bool, AllocError>
+    requires bare { All (IsBare P.path P.IsFitting P.back) networks.old.items }
+    requires fits { P.IsFitting network }
+    ensures bare { OnOk result (All (IsBare P.path P.IsFitting P.back) networks.new.items) }
+    ensures fewest { IfOk result (λ is_added. is_added ≡ true → (read : List (List Bool))
+        → AreFewestSoFar P.R.bit_width read (map P.path networks.old.items)
+        → AreFewestSoFar P.R.bit_width (read ++ P.path network ∷ [])
+        (map P.path networks.new.items)) }
+{
+    if is_within_last(networks, &network) {
+        return Ok(true);
+    }
+    if !is_after_last(networks, &network) {
+        return Ok(false);
+    }
+    let len = network.prefix_len();
+    push_merged(networks, first_bits(&network, len))?;
+    Ok(true)
+}
+
+// Returns whether there is no last network, or it comes before this one in listing order.
+fn is_after_last<P: Prefix>(networks: &[P], network: &P) -> bool
+    requires fit { All P.IsFitting networks.now }
+    requires fits { P.IsFitting network.now }
+    ensures { result ≡ true → (last : P) → last_item networks.now ≡ Some last
+        → listing_cmp (P.path last) (P.path network.now) ≡ Less }
+{
+    match networks.last() {
+        Some(last) => listing_order(last, network).is_lt(),
+        None => true,
+    }
 }
 
 // Returns whether the last network contains this one.

@@ -4,7 +4,7 @@ use crate::diff::{Values, changes};
 use crate::fewest::fewest_networks;
 use crate::minimise::remove_redundant;
 use crate::table::{FamilyTable, Table};
-use crate::text::print_route;
+use crate::text::{print_network, print_route};
 use prefix_trie::Prefix;
 use prefix_trie_joint::IpPrefix;
 use prefix_trie_ops::map::Side;
@@ -94,6 +94,17 @@ fn print_fewest<P: Prefix + Into<IpPrefix>, W: Write>(
 ) -> io::Result<()> {
     for (network, value) in fewest_networks(table, alloc)? {
         print_route(&network.into(), value, out)?;
+    }
+    Ok(())
+}
+
+/// Prints networks.
+pub fn print_networks<P: Prefix + Into<IpPrefix>, W: Write>(
+    networks: Vec<P>,
+    out: &mut W,
+) -> io::Result<()> {
+    for network in networks {
+        print_network(&network.into(), b'\n', out)?;
     }
     Ok(())
 }

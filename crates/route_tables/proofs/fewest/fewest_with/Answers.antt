@@ -1,7 +1,7 @@
 -- The fewest networks of the addresses, each with the only value, are the fewest with the same values.
 use Rattle.std.proofs.Common.{◌≡◌, ◌∙◌, map}
 use Rattle.std.proofs.lemmas.Result.{IfOk-weaker}
-use Rattle.route_tables.proofs.OneValue.{bare_pairs, fewest_of_one}
+use Rattle.route_tables.proofs.OneValue.{fewest_of_one, lent_pairs}
 use Rattle.route_tables.proofs.fewest.fewest_with.Goals as goal
 
 pub returns : goal.returns
@@ -9,4 +9,4 @@ returns g c =
     IfOk-weaker c.each_with.result _ _ (λ pairs is.
     fewest_of_one c.lookup_laws.ensures c.match_laws.ensures c.listing_laws.ensures g.P.R.Key.bit_width c.args.value.now c.args.table.now.entries c.requires
     (map g.P.Prefix.path c.in_ok-networks.networks.items) c.in_ok-networks.ensures.fewest g.P.Prefix.back _
-    (bare_pairs g.P.R.Key.bit_width c.args.value g.P.Prefix.path g.P.Prefix.IsFitting g.P.Prefix.back c.in_ok-networks.networks.items c.in_ok-networks.ensures.bare pairs.items is)) c.each_with.ensures
+    (lent_pairs g.P.R.Key.bit_width g.P.Prefix.path g.P.Prefix.IsFitting g.P.Prefix.back c.args.value c.in_ok-networks.networks.items c.in_ok-networks.ensures.bare pairs.items is)) c.each_with.ensures

@@ -1,0 +1,111 @@
+//! The fewest networks of lists that are read without a table.
+
+use route_tables::arguments::{Format, Report};
+use route_tables::commands::{print_fewest_of_sorted, print_report};
+use route_tables::load::{BadLines, Loaded, Reading, load};
+use route_tables::network::HostBits;
+use std::alloc::Global;
+use std::test::Fail;
+
+/// Texts of networks in order and without values, and the fewest networks that cover them.
+const SORTED: &[(&str, &str)] = &[
+    ("", ""),
+    ("# none\n\n", ""),
+    ("10.0.0.0/9\n10.128.0.0/9\n", "10.0.0.0/8\n"),
+    (
+        "10.0.0.0/8\n10.0.0.0/8\n10.1.0.0/16\n10.255.255.255\n11.0.0.0/8\n",
+        "10.0.0.0/7\n",
+    ),
+    (
+        "10.0.0.0/9\n10.128.0.0/9\n10.0.0.0/16\n10.0.0.0/8\n",
+        "10.0.0.0/8\n",
+    ),
+    (
+        "10.0.0.1-10.0.0.6\n10.0.0.7\n",
+        "10.0.0.1/32\n10.0.0.2/31\n10.0.0.4/30\n",
+    ),
+    (
+        "0.0.0.0/1\n::/1\n128.0.0.0/1\n8000::/1\n",
+        "0.0.0.0/0\n::/0\n",
+    ),
+    (
+        "10.0.0.0/25 # a\r\n10.0.0.128/26\r\n10.0.0.192/26",
+        "10.0.0.0/24\n",
+    ),
+    (
+        "255.255.255.255\nffff:ffff:ffff:ffff:ffff:ffff:ffff:ffff\n",
+        "255.255.255.255/32\nffff:ffff:ffff:ffff:ffff:ffff:ffff:ffff/128\n",
+    ),
+];
+
+/// Texts that are not read without a table: with a value, a bad line, or networks that are not in order.
+const OTHERS: &[&str] = &[
+    "10.0.0.0/8 core\n",
+    "10.0.0.0/8\n11.0.0.0/8 edge\n",
+    "ten\n",
+    "10.0.0.0/8\n10.0.0.1/8\n",
+    "10.0.0.0/8\r11.0.0.0/8\n",
+    "10.0.0.0/8 # \n9.0.0.0/8\n",
+    "10.1.0.0/16\n10.0.0.0/8\n",
+    "::1\n::\n",
+    "10.0.0.4-10.0.0.9\n10.0.0.0-10.0.0.9\n",
+];
+
+/// Returns what is printed of a text that is read without a table, or `None`.
+fn printed(text: &str, alloc: Global) -> Result<Option<Vec<u8>>, Fail> {
+    let mut out = Vec::new(alloc);
+    let reading = Reading::default();
+    let is_sorted = print_fewest_of_sorted(text.as_bytes(), reading, alloc, &mut out)?;
+    Ok(if is_sorted { Some(out) } else { None })
+}
+
+/// Returns what is printed of the table of a text.
+fn printed_of_table(text: &str, alloc: Global) -> Result<Vec<u8>, Fail> {
+    let mut out = Vec::new(alloc);
+    let Loaded {
+        mut table,
+        warnings: _,
+    } = load(text.as_bytes(), alloc)?;
+    print_report(&mut table, Report::Aggregate, Format::Text, alloc, &mut out)?;
+    Ok(out)
+}
+
+/// Returns whether a text is read without a table, and this and its table give these networks.
+fn gives(text: &str, expected: &str, alloc: Global) -> Result<bool, Fail> {
+    let Some(networks) = printed(text, alloc)? else {
+        return Ok(false);
+    };
+    let of_table = printed_of_table(text, alloc)?;
+    Ok(networks.as_slice() == expected.as_bytes() && of_table.as_slice() == expected.as_bytes())
+}
+
+#[test]
+fn sorted_lists_give_the_fewest_networks(rt: HostRuntime) -> Result<(), Fail> {
+    for (text, expected) in SORTED {
+        let is_right = gives(text, expected, rt.alloc())?;
+        assert!(rt; is_right, "{text}");
+    }
+    Ok(())
+}
+
+#[test]
+fn other_lists_need_a_table(rt: HostRuntime) -> Result<(), Fail> {
+    for text in OTHERS {
+        let is_none = printed(text, rt.alloc())?.is_none();
+        assert!(rt; is_none, "{text}");
+    }
+    Ok(())
+}
+
+#[test]
+fn host_bits_are_cleared(rt: HostRuntime) -> Result<(), Fail> {
+    let reading = Reading {
+        host_bits: HostBits::Cleared,
+        bad_lines: BadLines::Refused,
+    };
+    let mut out = Vec::new(rt.alloc());
+    let text = b"10.0.0.1/9\n10.200.0.0/9\n";
+    assert!(rt; print_fewest_of_sorted(text, reading, rt.alloc(), &mut out)?);
+    assert!(rt; out.as_slice() == b"10.0.0.0/8\n".as_slice());
+    Ok(())
+}
