@@ -6,7 +6,9 @@ use anyhow::{Context, Error, Result, anyhow, ensure};
 use route_tables::access::first_other;
 use route_tables::addresses::{Address, AddressList, parse_address, read_addresses};
 use route_tables::arguments::{Command, Comparison, Question, Report};
-use route_tables::commands::{print_answers, print_comparison, print_report, print_within};
+use route_tables::commands::{
+    print_answers, print_comparison, print_fewest_of_sorted, print_report, print_within,
+};
 use route_tables::excerpt::Excerpt;
 use route_tables::matching::print_lines;
 use route_tables::network::parse_network;
@@ -41,9 +43,43 @@ fn report_on(
     files: &[&str],
     out: &mut impl Write,
 ) -> Result<(), Failure> {
+    if let (Report::Aggregate, [file]) = (report, files) {
+        return aggregate_file(session, file, out);
+    }
     let mut table = session.read_tables(files)?;
+    report_table(session, report, &mut table, out)
+}
+
+// Prints a report on a table.
+fn report_table(
+    session: Session<'_>,
+    report: Report,
+    table: &mut Table,
+    out: &mut impl Write,
+) -> Result<(), Failure> {
     let format = session.options.format;
-    Ok(print_report(&mut table, report, format, session.alloc(), out)?)
+    Ok(print_report(table, report, format, session.alloc(), out)?)
+}
+
+// Prints the fewest networks of a file. If they are in order and have no values, this needs no table.
+fn aggregate_file(session: Session<'_>, file: &str, out: &mut impl Write) -> Result<(), Failure> {
+    let text = session.read_file(file)?;
+    let reading = session.options.reading;
+    if print_fewest_of_sorted(text.as_slice(), reading, session.alloc(), out)? {
+        return Ok(());
+    }
+    aggregate_text(session, file, text.as_slice(), out)
+}
+
+// Prints the fewest networks of the text of a file.
+fn aggregate_text(
+    session: Session<'_>,
+    file: &str,
+    text: &[u8],
+    out: &mut impl Write,
+) -> Result<(), Failure> {
+    let mut table = session.table_of(file, text)?;
+    report_table(session, Report::Aggregate, &mut table, out)
 }
 
 // Prints the parts of a table that are in one of these networks.

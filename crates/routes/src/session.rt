@@ -66,11 +66,23 @@ impl Session<'_> {
         Ok(table)
     }
 
+    /// Returns the table of the text of a file, and warns as `read_tables` does.
+    pub fn table_of(&self, path: &str, text: &[u8]) -> Result<Table> {
+        let mut table = JointPrefixMap::new(self.alloc())?;
+        self.read_text(path, text, &mut table)?;
+        Ok(table)
+    }
+
     // Reads a file into a table.
     fn read_table(&self, path: &str, table: &mut Table) -> Result<()> {
         let text = self.read_file(path)?;
+        self.read_text(path, text.as_slice(), table)
+    }
+
+    // Reads the text of a file into a table.
+    fn read_text(&self, path: &str, text: &[u8], table: &mut Table) -> Result<()> {
         let reading = self.options.reading;
-        let warnings = load_into(table, text.as_slice(), reading, self.alloc()).context(path)?;
+        let warnings = load_into(table, text, reading, self.alloc()).context(path)?;
         if !self.options.is_quiet {
             // A warning that cannot be written stops no command.
             let _ = self.warn(path, &warnings);
