@@ -78,20 +78,6 @@ pub(crate) fn find_longest<P: Prefix, E: Entry<P>>(map: &Map<P>, prefix: &P, ent
     requires { P.IsFitting prefix.now }
     ensures { Matches P.back map.now.entries E.made (P.path prefix.now) result entry.old entry.new }
 {
-    if u32::from(prefix.prefix_len()) < P::num_bits() {
-        return write_longest(map, prefix, entry);
-    }
-    // An address has a constant length, so the compiler leaves out the tests of the length.
-    let address = P::from_repr_len(prefix.repr(), P::num_bits() as u8);
-    write_longest(map, &address, entry)
-}
-
-/// Writes the longest match of a prefix.
-#[inline(always)]
-fn write_longest<P: Prefix, E: Entry<P>>(map: &Map<P>, prefix: &P, entry: &mut E) -> u32
-    requires { P.IsFitting prefix.now }
-    ensures { Matches P.back map.now.entries E.made (P.path prefix.now) result entry.old entry.new }
-{
     match map.get_lpm(prefix) {
         Some((found, value)) => {
             *entry = E::of(Some((found, *value)));

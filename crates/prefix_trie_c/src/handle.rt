@@ -27,7 +27,7 @@ impl Model for Handle {
 
 impl Handle {
     /// Returns an empty handle.
-    fn empty(alloc: Global) -> Handle
+    pub(crate) fn empty(alloc: Global) -> Handle
         ensures { result.tables ≡ None }
     {
         Handle {
@@ -62,15 +62,31 @@ impl Handle {
         }
     }
 
+    /// Returns the handle of a table.
+    #[inline(always)]
+    pub(crate) fn of_box(tables: Box<Tables, Global>) -> Handle
+        ensures { result.tables ≡ Some tables.value }
+    {
+        Handle::of_loose(Loose::of(tables))
+    }
+
+    /// Returns the handle's table, if it has one.
+    #[inline(always)]
+    pub(crate) fn into_box(self) -> Option<Box<Tables, Global>>
+        ensures { option_map box_value result ≡ self.tables }
+    {
+        match self.into_loose() {
+            Some(loose) => Some(loose.into_box()),
+            None => None,
+        }
+    }
+
     /// Takes the table out of a handle, which is empty afterwards.
     pub(crate) fn open(&mut self, alloc: Global) -> Option<Box<Tables, Global>>
         ensures value { option_map box_value result ≡ self.old.tables }
         ensures emptied { self.new.tables ≡ None }
     {
-        match replace(self, Handle::empty(alloc)).into_loose() {
-            Some(loose) => Some(loose.into_box()),
-            None => None,
-        }
+        replace(self, Handle::empty(alloc)).into_box()
     }
 
     /// Puts a table into an empty handle.
@@ -79,7 +95,7 @@ impl Handle {
         ensures { self.new.tables ≡ Some tables.value }
     {
         // The empty handle owns nothing that its drop would free.
-        forget(replace(self, Handle::of_loose(Loose::of(tables))));
+        forget(replace(self, Handle::of_box(tables)));
     }
 }
 

@@ -10,6 +10,7 @@ use crate::calls;
 use crate::codes::{COUNTS, DONE, LENGTH, NO_TABLES};
 use crate::entries::{FoundMatch, FoundValue, V4Entry};
 use crate::handle::Handle;
+use core::mem::replace_with;
 use prefix_trie::Ipv4Prefix;
 use std::alloc::Global;
 
@@ -78,12 +79,23 @@ pub extern "C" fn prefix_trie_c_v4_get(
     let Some(prefix) = Ipv4Prefix::new(address, length) else {
         return FoundValue::none(LENGTH);
     };
-    let Some(tables) = handle.open(alloc) else {
-        return FoundValue::none(NO_TABLES);
+    replace_with(handle, (alloc, prefix), find)
+}
+
+/// Finds the value of a network, and returns the handle with it.
+// Unlike `open`, it leaves no empty handle in the place of this one, so the place is written once.
+#[inline(always)]
+fn find(handle: Handle, asked: (Global, Ipv4Prefix)) -> (Handle, FoundValue)
+    ensures answer { OnTables handle.tables result.0.tables result.1.code
+        (λ t u. (u ≡ t) × (result.1 ≡ found_value (get t.v4.entries (ipv4_path asked.1)))) }
+    ensures none { (result.1.code ≡ DONE → ⊥) → result.1.value ≡ 0 }
+{
+    let (alloc, network) = asked;
+    let Some(tables) = handle.into_box() else {
+        return (Handle::empty(alloc), FoundValue::none(NO_TABLES));
     };
-    let found = calls::find(&tables.v4, &prefix);
-    handle.close(tables);
-    found
+    let found = calls::find(&tables.v4, &network);
+    (Handle::of_box(tables), found)
 }
 
 /// Writes the number of networks to `count`.
@@ -116,15 +128,55 @@ pub extern "C" fn prefix_trie_c_v4_match(
         entry.old entry.new) }
     ensures kept { (result ≡ DONE → ⊥) → entry.new ≡ entry.old }
 {
-    let Some(prefix) = Ipv4Prefix::new(address, length) else {
-        return LENGTH;
-    };
+    if length == 32 {
+        return match_network(handle, alloc, Ipv4Prefix::host(address), entry);
+    }
+    match_shorter(handle, alloc, address, length, entry)
+}
+
+/// Writes the longest match of a network.
+// An address has a constant length, so the compiler leaves out the tests of the length.
+#[inline(always)]
+fn match_network(
+    handle: &mut Handle,
+    alloc: Global,
+    network: Ipv4Prefix,
+    entry: &mut V4Entry,
+) -> u32
+    ensures answer { OnTables handle.old.tables handle.new.tables result
+        (λ t u. (u ≡ t)
+        × Matches ipv4_back t.v4.entries v4_entry (ipv4_path network) result
+        entry.old entry.new) }
+    ensures kept { (result ≡ DONE → ⊥) → entry.new ≡ entry.old }
+{
     let Some(tables) = handle.open(alloc) else {
         return NO_TABLES;
     };
-    let code = calls::find_longest(&tables.v4, &prefix, entry);
+    let code = calls::find_longest(&tables.v4, &network, entry);
     handle.close(tables);
     code
+}
+
+/// Writes the longest match of a network that is not one address.
+// It is a function apart, with the parameters of the export, so that the export jumps to it and saves no registers for it.
+#[inline(never)]
+fn match_shorter(
+    handle: &mut Handle,
+    alloc: Global,
+    address: u32,
+    length: u8,
+    entry: &mut V4Entry,
+) -> u32
+    ensures answer { OnPrefix 32 length handle.old.tables handle.new.tables result
+        (λ t u. (u ≡ t)
+        × Matches ipv4_back t.v4.entries v4_entry (ipv4_path (address, length)) result
+        entry.old entry.new) }
+    ensures kept { (result ≡ DONE → ⊥) → entry.new ≡ entry.old }
+{
+    match Ipv4Prefix::new(address, length) {
+        Some(network) => match_network(handle, alloc, network, entry),
+        None => LENGTH,
+    }
 }
 
 /// Returns the value of the longest match of an address, and the length of its network.
@@ -141,12 +193,23 @@ pub extern "C" fn prefix_trie_c_v4_match_address(
         (match_of ipv4_back t.v4.entries (ipv4_path (address, 32))))) }
     ensures none { (result.code ≡ DONE → ⊥) → (result.value ≡ 0) × (result.length ≡ 0) }
 {
-    let Some(tables) = handle.open(alloc) else {
-        return FoundMatch::none(NO_TABLES);
+    replace_with(handle, (alloc, Ipv4Prefix::host(address)), find_match)
+}
+
+/// Finds the longest match of a network, and returns the handle with it.
+#[inline(always)]
+fn find_match(handle: Handle, asked: (Global, Ipv4Prefix)) -> (Handle, FoundMatch)
+    ensures answer { OnTables handle.tables result.0.tables result.1.code
+        (λ t u. (u ≡ t) × (result.1 ≡ found_match (λ network. network.1)
+        (match_of ipv4_back t.v4.entries (ipv4_path asked.1)))) }
+    ensures none { (result.1.code ≡ DONE → ⊥) → (result.1.value ≡ 0) × (result.1.length ≡ 0) }
+{
+    let (alloc, network) = asked;
+    let Some(tables) = handle.into_box() else {
+        return (Handle::empty(alloc), FoundMatch::none(NO_TABLES));
     };
-    let found = calls::find_match(&tables.v4, &Ipv4Prefix::host(address));
-    handle.close(tables);
-    found
+    let found = calls::find_match(&tables.v4, &network);
+    (Handle::of_box(tables), found)
 }
 
 /// Writes the longest match of each address to the entry at its place.

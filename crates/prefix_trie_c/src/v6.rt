@@ -1,7 +1,7 @@
 //! The calls for IPv6. An address is passed as its first and its last 64 bits.
 ghost use Rattle.std.specs.Prelude.{◌≡◌, length, map};
 ghost use Rattle.std.specs.FinMap.{get, len};
-ghost use Rattle.prefix_trie.specs.Terms.{ipv6_back, without_entry};
+ghost use Rattle.prefix_trie.specs.Terms.{ipv6_back, ipv6_path, without_entry};
 ghost use Rattle.prefix_trie_c.specs.Calls.{Gives, Inserts, OnPrefix, OnTables};
 ghost use Rattle.prefix_trie_c.specs.Entries.{Fills, Matches, found_match, found_value, match_of, v6_entry, v6_path};
 ghost use Rattle.prefix_trie_c.specs.declared.codes.TheConstants.{COUNTS, DONE};
@@ -10,6 +10,7 @@ use crate::calls;
 use crate::codes::{COUNTS, DONE, LENGTH, NO_TABLES};
 use crate::entries::{FoundMatch, FoundValue, V6Address, V6Entry, joined};
 use crate::handle::Handle;
+use core::mem::replace_with;
 use prefix_trie::Ipv6Prefix;
 use std::alloc::Global;
 
@@ -81,12 +82,23 @@ pub extern "C" fn prefix_trie_c_v6_get(
     let Some(prefix) = Ipv6Prefix::new(joined(high, low), length) else {
         return FoundValue::none(LENGTH);
     };
-    let Some(tables) = handle.open(alloc) else {
-        return FoundValue::none(NO_TABLES);
+    replace_with(handle, (alloc, prefix), find)
+}
+
+/// Finds the value of a network, and returns the handle with it.
+// Unlike `open`, it leaves no empty handle in the place of this one, so the place is written once.
+#[inline(always)]
+fn find(handle: Handle, asked: (Global, Ipv6Prefix)) -> (Handle, FoundValue)
+    ensures answer { OnTables handle.tables result.0.tables result.1.code
+        (λ t u. (u ≡ t) × (result.1 ≡ found_value (get t.v6.entries (ipv6_path asked.1)))) }
+    ensures none { (result.1.code ≡ DONE → ⊥) → result.1.value ≡ 0 }
+{
+    let (alloc, network) = asked;
+    let Some(tables) = handle.into_box() else {
+        return (Handle::empty(alloc), FoundValue::none(NO_TABLES));
     };
-    let found = calls::find(&tables.v6, &prefix);
-    handle.close(tables);
-    found
+    let found = calls::find(&tables.v6, &network);
+    (Handle::of_box(tables), found)
 }
 
 /// Writes the number of networks to `count`.
@@ -120,15 +132,56 @@ pub extern "C" fn prefix_trie_c_v6_match(
         entry.old entry.new) }
     ensures kept { (result ≡ DONE → ⊥) → entry.new ≡ entry.old }
 {
-    let Some(prefix) = Ipv6Prefix::new(joined(high, low), length) else {
-        return LENGTH;
-    };
+    if length == 128 {
+        return match_network(handle, alloc, Ipv6Prefix::host(joined(high, low)), entry);
+    }
+    match_shorter(handle, alloc, high, low, length, entry)
+}
+
+/// Writes the longest match of a network.
+// An address has a constant length, so the compiler leaves out the tests of the length.
+#[inline(always)]
+fn match_network(
+    handle: &mut Handle,
+    alloc: Global,
+    network: Ipv6Prefix,
+    entry: &mut V6Entry,
+) -> u32
+    ensures answer { OnTables handle.old.tables handle.new.tables result
+        (λ t u. (u ≡ t)
+        × Matches ipv6_back t.v6.entries v6_entry (ipv6_path network) result
+        entry.old entry.new) }
+    ensures kept { (result ≡ DONE → ⊥) → entry.new ≡ entry.old }
+{
     let Some(tables) = handle.open(alloc) else {
         return NO_TABLES;
     };
-    let code = calls::find_longest(&tables.v6, &prefix, entry);
+    let code = calls::find_longest(&tables.v6, &network, entry);
     handle.close(tables);
     code
+}
+
+/// Writes the longest match of a network that is not one address.
+// It is a function apart, with the parameters of the export, so that the export jumps to it and saves no registers for it.
+#[inline(never)]
+fn match_shorter(
+    handle: &mut Handle,
+    alloc: Global,
+    high: u64,
+    low: u64,
+    length: u8,
+    entry: &mut V6Entry,
+) -> u32
+    ensures answer { OnPrefix 128 length handle.old.tables handle.new.tables result
+        (λ t u. (u ≡ t)
+        × Matches ipv6_back t.v6.entries v6_entry (v6_path high low length) result
+        entry.old entry.new) }
+    ensures kept { (result ≡ DONE → ⊥) → entry.new ≡ entry.old }
+{
+    match Ipv6Prefix::new(joined(high, low), length) {
+        Some(network) => match_network(handle, alloc, network, entry),
+        None => LENGTH,
+    }
 }
 
 /// Returns the value of the longest match of an address, and the length of its network.
@@ -146,12 +199,27 @@ pub extern "C" fn prefix_trie_c_v6_match_address(
         (match_of ipv6_back t.v6.entries (v6_path high low 128)))) }
     ensures none { (result.code ≡ DONE → ⊥) → (result.value ≡ 0) × (result.length ≡ 0) }
 {
-    let Some(tables) = handle.open(alloc) else {
-        return FoundMatch::none(NO_TABLES);
+    replace_with(
+        handle,
+        (alloc, Ipv6Prefix::host(joined(high, low))),
+        find_match,
+    )
+}
+
+/// Finds the longest match of a network, and returns the handle with it.
+#[inline(always)]
+fn find_match(handle: Handle, asked: (Global, Ipv6Prefix)) -> (Handle, FoundMatch)
+    ensures answer { OnTables handle.tables result.0.tables result.1.code
+        (λ t u. (u ≡ t) × (result.1 ≡ found_match (λ network. network.1)
+        (match_of ipv6_back t.v6.entries (ipv6_path asked.1)))) }
+    ensures none { (result.1.code ≡ DONE → ⊥) → (result.1.value ≡ 0) × (result.1.length ≡ 0) }
+{
+    let (alloc, network) = asked;
+    let Some(tables) = handle.into_box() else {
+        return (Handle::empty(alloc), FoundMatch::none(NO_TABLES));
     };
-    let found = calls::find_match(&tables.v6, &Ipv6Prefix::host(joined(high, low)));
-    handle.close(tables);
-    found
+    let found = calls::find_match(&tables.v6, &network);
+    (Handle::of_box(tables), found)
 }
 
 /// Writes the longest match of each address to the entry at its place.
