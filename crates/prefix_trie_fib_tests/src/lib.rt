@@ -1,4 +1,4 @@
-//! The tests of `prefix_trie_fib`.
+//! The tests of `prefix_trie_fib`, and an example of its use.
 #![tactic(auto)]
 
 #[cfg(test)]
@@ -9,6 +9,8 @@ mod comparing;
 mod edges;
 #[cfg(test)]
 mod every_map;
+#[cfg(test)]
+mod examples;
 #[cfg(test)]
 mod networks;
 #[cfg(test)]
