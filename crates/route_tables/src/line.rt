@@ -80,6 +80,7 @@ impl Error for ReadError {}
 /// read_line(b"# a comment", HostBits::Refused, alloc);                // Ok(None)
 /// read_line(b"10.0.0.1/8 core", HostBits::Refused, alloc);            // Err(Line(Networks(One(HostBits))))
 /// ```
+#[inline(always)]
 pub fn read_line(
     line: &[u8],
     host_bits: HostBits,
