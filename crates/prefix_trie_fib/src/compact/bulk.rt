@@ -1,12 +1,12 @@
 //! Lookups of many addresses, in groups.
 ghost use Rattle.std.specs.Prelude.{◌≡◌, ◌+◌, ◌<◌, ◌≤◌, None, length, map};
-ghost use Rattle.prefix_trie_bits.specs.Model.Bits.{digits, number};
+ghost use Rattle.prefix_trie_bits.specs.Model.Bits.{number};
 ghost use Rattle.prefix_trie_fib.specs.Bulk.{HaveResults};
-ghost use Rattle.prefix_trie_fib.specs.Index.{IsTop};
 ghost use Rattle.prefix_trie_fib.specs.Layouts.{widened};
 ghost use Rattle.prefix_trie_fib.specs.Line.{value_along};
 
 use super::halves::upper_half;
+use super::lookups::top_of;
 use super::{Compact, Layout};
 use crate::index::first_bits;
 use crate::indexed::{GROUP, Indexed};
@@ -112,14 +112,4 @@ fn group_by_upper<K: Key, T: Copy, A: Allocator>(
     }
     indexed.lookup_group(&tops, &halves[..count], from, out);
     count
-}
-
-/// Returns the number of the first 30 of 64 bits.
-///
-/// `first_bits` does the same for all keys, but the compiler does not make one shift of it here.
-#[inline(always)]
-fn top_of(half: u64) -> u32
-    ensures { IsTop result (digits 64 half) }
-{
-    (half >> 34) as u32
 }

@@ -29,7 +29,7 @@ pub(super) fn value_by_upper<K: Key, T: Copy, A: Allocator>(
 ///
 /// `first_bits` does the same for all keys, but the compiler does not make one shift of it here.
 #[inline(always)]
-fn top_of(half: u64) -> u32
+pub(super) fn top_of(half: u64) -> u32
     ensures { IsTop result (digits 64 half) }
 {
     (half >> 34) as u32
