@@ -8,8 +8,7 @@ use prefix_trie_bits::prefix::Prefix;
 /// Brings the laws of compiled tables into the proof.
 ///
 /// A table whose values are those of a map has the value of the longest match at each address. An address is in one
-/// range only, which has its value. A map has one table only, if a value equals itself and no
-/// other.
+/// range only, which has its value. A map has one table only, if a value equals itself and no other.
 pub fn fib_laws<P: Prefix, T>()
     ensures { FibLaws T P.R.bit_width P.R.IsKey P.R.bits }
 {}

@@ -10,7 +10,7 @@ use crate::ranges::{Line, is_at_most};
 use prefix_trie_bits::prefix::Key;
 use std::alloc::Allocator;
 
-/// The most ranges that the steps that are written out search.
+/// The most ranges that `range_of_few` searches.
 const FEW: usize = 16;
 
 /// Returns the value of an address, by its entry.
@@ -60,7 +60,7 @@ fn range_of<K: Key, T: Copy, A: Allocator>(
 
 /// Returns the range of an address, which is one of at most 16.
 ///
-/// The compiler makes a branch of a step that stands in a loop of its own.
+/// Its steps are written out, because the compiler makes a branch of a step in a loop.
 #[inline(always)]
 fn range_of_few<K: Key, T: Copy, A: Allocator>(
     line: &Line<K, T, A>,
