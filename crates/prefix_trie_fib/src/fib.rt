@@ -27,8 +27,8 @@ pub use walk::Ranges;
 /// addresses are kept as 64 bits if no other bit of them is 1, as in most tables of IPv6 routes.
 ///
 /// The table does not change when the map does. After changes of the map, compile it again and replace the table:
-/// `fib = Fib::new(&map, alloc)?`. This takes about as long as building the map, however little changed. Until
-/// it returns, the old table can be used.
+/// `fib = Fib::new(&map, alloc)?`. This takes one to three times as long as building the map, however little changed.
+/// Until it returns, the old table can be used.
 ///
 /// # Examples
 ///
