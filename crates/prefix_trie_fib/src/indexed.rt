@@ -6,7 +6,6 @@ ghost use Rattle.prefix_trie_fib.specs.Index.{IsChunk, IsTop};
 ghost use Rattle.prefix_trie_fib.specs.Line.{IsDivision, value_along};
 
 mod bulk;
-mod steps;
 
 use crate::copies::copy_of;
 use crate::index::{Chunk, Index, chunk_of, index_bits, index_of, part_of};

@@ -10,7 +10,6 @@ ghost use Rattle.prefix_trie_fib.specs.Line.{value_along};
 
 use crate::index::{Chunk, chunk_of};
 use crate::indexed::Indexed;
-use crate::indexed::steps::value_at;
 use prefix_trie_bits::prefix::Key;
 use std::alloc::Allocator;
 
@@ -93,7 +92,7 @@ impl<K: Key, T: Copy, A: Allocator> Indexed<K, T, A> {
         ensures length { length out.new ≡ length out.old }
     {
         for i in 0..addresses.len() {
-            out[from + i] = value_at(&self.line, entries[i], addresses[i]);
+            out[from + i] = entries[i].value(&self.line, addresses[i]);
         }
     }
 

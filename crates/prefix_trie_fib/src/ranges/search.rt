@@ -1,5 +1,5 @@
 //! The search for the range of an address.
-ghost use Rattle.std.specs.Prelude.{◌<◌, ◌≤◌};
+ghost use Rattle.std.specs.Prelude.{◌-◌, ◌/◌, ◌<◌, ◌≤◌};
 ghost use Rattle.std.specs.Bool.{MatchBool};
 ghost use Rattle.prefix_trie_bits.specs.Model.Bits.{number};
 ghost use Rattle.prefix_trie_fib.specs.Line.{IsDivision};
@@ -9,6 +9,9 @@ use super::Line;
 use prefix_trie_bits::laws::listing_laws;
 use prefix_trie_bits::prefix::Key;
 use std::alloc::Allocator;
+
+/// The most ranges that `range_among_few` searches.
+const FEW: usize = 16;
 
 /// Returns whether a key is at most another, as numbers.
 #[inline(always)]
@@ -43,20 +46,49 @@ impl<K: Key, T: Copy, A: Allocator> Line<K, T, A> {
         requires among { IsAmong self.now first count (number (K.bits address)) }
         ensures { IsRangeOf self.now result (number (K.bits address)) }
     {
-        // The proof learns from it that the number of ranges fits.
-        let _ = self.len();
         let mut base = first;
         let mut size = count;
-        let mut half = count / 2;
-        while half > 0 {
-            let middle = base + half;
-            if is_at_most(self.start(middle), address) {
-                base = middle;
-            }
-            size -= half;
-            half = size / 2;
+        while size > FEW {
+            base = self.half(base, size, address);
+            size -= size / 2;
         }
-        base
+        self.range_among_few(base, size, address)
+    }
+
+    /// Returns the range of an address, which is one of at most 16.
+    ///
+    /// Its steps are written out, because the compiler makes a branch of a step in a loop, which the processor guesses
+    /// wrong half the time.
+    #[inline(always)]
+    fn range_among_few(&self, first: usize, count: usize, address: K) -> usize
+        requires division { IsDivision self.now }
+        requires few { count ≤ 16 }
+        requires among { IsAmong self.now first count (number (K.bits address)) }
+        ensures { IsRangeOf self.now result (number (K.bits address)) }
+    {
+        let second = self.half(first, count, address);
+        let half = count - count / 2;
+        let third = self.half(second, half, address);
+        let quarter = half - half / 2;
+        let fourth = self.half(third, quarter, address);
+        self.half(fourth, quarter - quarter / 2, address)
+    }
+
+    /// Returns where the half of `count` ranges begins that has the range of an address. The first half may have one more.
+    #[inline(always)]
+    fn half(&self, first: usize, count: usize, address: K) -> usize
+        requires division { IsDivision self.now }
+        requires among { IsAmong self.now first count (number (K.bits address)) }
+        ensures { IsAmong self.now result (count - count / 2) (number (K.bits address)) }
+    {
+        // The proof learns from it that the number of ranges fits.
+        let _ = self.len();
+        let middle = first + count / 2;
+        if is_at_most(self.start(middle), address) {
+            middle
+        } else {
+            first
+        }
     }
 
     /// Returns how many ranges from `first` on can be that of an address, by doubling their number.
