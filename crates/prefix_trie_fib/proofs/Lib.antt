@@ -14,9 +14,11 @@ pub mod Gaps
 pub mod Groups
 pub mod Halves
 pub mod Layouts
+pub mod ListingOrder
 pub mod CutMatches
 pub mod MergedRanges
 pub mod OneTable
 pub mod Results
 pub mod Sets
+pub mod Sweeps
 pub mod ValuedRanges

@@ -3,7 +3,7 @@ use Rattle.std.proofs.Common.{◌≡◌, ◌∙◌, zero, suc, ℕ, ◌+◌, ◌
 use Rattle.std.proofs.lemmas.Bool.{le-leb, lt-leb, cases_lt}
 use Rattle.std.proofs.lemmas.List.{get_or_append_left}
 use Rattle.std.proofs.Math.Seq.{get_or-append_seam}
-use Rattle.prefix_trie_fib.specs.Line.{AreMerged, AreUncut, IsDivision, IsRising, value_along}
+use Rattle.prefix_trie_fib.specs.Line.{AreMerged, AreUncut, IsDivision, IsRising, StartBelow, value_along}
 use Rattle.prefix_trie_fib.specs.Search.{IsRangeOf}
 
 -- an item of a list does not depend on what stands for a missing one
@@ -20,18 +20,18 @@ module _ {V : Type 0} where
   step_out h r rs n lt = ap (λ b. cond b (value_along r.1 rs n) h) (lt-leb r.0 n lt)
 
   -- a range that starts after n does not matter
-  pushed_above : (h : V) (rs : List (ℕ × V)) (r : ℕ × V) (n : ℕ) → n < r.0 → value_along h (rs ++ r ∷ []) n ≡ value_along h rs n
+  pub pushed_above : (h : V) (rs : List (ℕ × V)) (r : ℕ × V) (n : ℕ) → n < r.0 → value_along h (rs ++ r ∷ []) n ≡ value_along h rs n
   pushed_above h [] r n lt = step_out h r [] n lt
   pushed_above h (x ∷ rs) r n lt = ap (λ v. cond (leb x.0 n) v h) (pushed_above x.1 rs r n lt)
 
   -- the last of ranges that all start by n decides
-  pushed_last : (h : V) (rs : List (ℕ × V)) (r : ℕ × V) (n : ℕ) → ((k : ℕ) (d : ℕ × V) → k < length rs → (get_or rs k d).0 ≤ n) → r.0 ≤ n → value_along h (rs ++ r ∷ []) n ≡ r.1
+  pub pushed_last : (h : V) (rs : List (ℕ × V)) (r : ℕ × V) (n : ℕ) → ((k : ℕ) (d : ℕ × V) → k < length rs → (get_or rs k d).0 ≤ n) → r.0 ≤ n → value_along h (rs ++ r ∷ []) n ≡ r.1
   pushed_last h [] r n all le = step_in h r [] n le
   pushed_last h (x ∷ rs) r n all le =
       step_in h x (rs ++ r ∷ []) n (all 0 x (omega arith)) ∙ pushed_last x.1 rs r n (λ k d lt. all (suc k) d (omega arith)) le
 
   -- range i starts by n, and the one after it does not
-  found_at : (h : V) (rs : List (ℕ × V)) (i n : ℕ) (d : ℕ × V) → i < length rs → ((k : ℕ) → k ≤ i → (get_or rs k d).0 ≤ n) → (suc i < length rs → n < (get_or rs (suc i) d).0)
+  pub found_at : (h : V) (rs : List (ℕ × V)) (i n : ℕ) (d : ℕ × V) → i < length rs → ((k : ℕ) → k ≤ i → (get_or rs k d).0 ≤ n) → (suc i < length rs → n < (get_or rs (suc i) d).0)
       → value_along h rs n ≡ (get_or rs i d).1
   found_at h [] i n d lt le gt = absurd (omega (arith, lt))
   found_at h (x ∷ []) zero n d lt le gt = step_in h x [] n (le 0 (omega arith))
@@ -57,6 +57,36 @@ module _ {V : Type 0} where
     | inl more ↦ let l = lt d in let u = division.rising middle k d more in_it in omega (arith, l, u)
     | inr at ↦ let e : middle ≡ k = omega (arith, le, at) in subst (λ j. n < (get_or rs j d).0) e (lt d)
   ]
+
+  -- ---- one more range
+
+  module _ (rs : List (ℕ × V)) (r : ℕ × V) where
+    at_old : (k : ℕ) (d : ℕ × V) → k < length rs → (get_or (rs ++ r ∷ []) k d).0 ≡ (get_or rs k d).0
+    at_old k d lt = ap {A = ℕ × V} (λ x. x.0) (get_or_append_left rs (r ∷ []) d k lt)
+
+    at_new : (k : ℕ) (d : ℕ × V) → k ≡ length rs → (get_or (rs ++ r ∷ []) k d).0 ≡ r.0
+    at_new k d is = ap (λ j. (get_or (rs ++ r ∷ []) j d).0) is ∙ ap {A = ℕ × V} (λ x. x.0) (get_or-append_seam rs r [] d)
+
+    longer : length (rs ++ r ∷ []) ≡ length rs + 1
+    longer = length-append rs (r ∷ [])
+
+    -- the first range starts at 0
+    pub first_pushed : ((d : ℕ × V) → 0 < length rs → (get_or rs 0 d).0 ≡ 0) → (length rs ≡ 0 → r.0 ≡ 0) → (d : ℕ × V) → (get_or (rs ++ r ∷ []) 0 d).0 ≡ 0
+    first_pushed first alone d = elim (cases_lt 0 (length rs)) [
+      | inl old ↦ at_old 0 d old ∙ first d old
+      | inr new ↦ (let is : 0 ≡ length rs = omega (arith, new) in at_new 0 d is ∙ alone (sym is))
+    ]
+
+    -- it starts after those before it
+    pub rising_pushed : ((j k : ℕ) (d : ℕ × V) → j < k → k < length rs → (get_or rs j d).0 < (get_or rs k d).0) → StartBelow r.0 rs
+        → (j k : ℕ) (d : ℕ × V) → j < k → k < length (rs ++ r ∷ []) → (get_or (rs ++ r ∷ []) j d).0 < (get_or (rs ++ r ∷ []) k d).0
+    rising_pushed rising below j k d lt in_it = elim (cases_lt k (length rs)) [
+      | inl old ↦ omega (arith, at_old j d (omega (arith, lt, old)), at_old k d old, rising j k d lt old)
+      | inr new ↦
+          let is : k ≡ length rs = omega (arith, new, in_it, longer) in
+          let before : j < length rs = omega (arith, lt, is) in
+          omega (arith, at_old j d before, at_new k d is, below j d before)
+    ]
 
   -- ---- ranges that are appended from cut to cut
 
@@ -87,37 +117,17 @@ module _ {V : Type 0} where
     this_one : get_or cuts i 0 ≡ get_or cuts (i + 1 - 1) 0
     this_one = ap (λ j. get_or cuts j 0) (let e : i ≡ i + 1 - 1 = omega arith in e)
 
-    at_old : (k : ℕ) (d : ℕ × V) → k < length rs → (get_or (rs ++ (get_or cuts i 0, v) ∷ []) k d).0 ≡ (get_or rs k d).0
-    at_old k d lt = ap {A = ℕ × V} (λ r. r.0) (get_or_append_left rs ((get_or cuts i 0, v) ∷ []) d k lt)
-
-    at_new : (k : ℕ) (d : ℕ × V) → k ≡ length rs → (get_or (rs ++ (get_or cuts i 0, v) ∷ []) k d).0 ≡ get_or cuts i 0
-    at_new k d is = ap (λ j. (get_or (rs ++ (get_or cuts i 0, v) ∷ []) j d).0) is ∙ ap {A = ℕ × V} (λ r. r.0) (get_or-append_seam rs (get_or cuts i 0, v) [] d)
-
-    longer : length (rs ++ (get_or cuts i 0, v) ∷ []) ≡ length rs + 1
-    longer = length-append rs ((get_or cuts i 0, v) ∷ [])
-
     -- a range from the next cut on
     pub pushed_of_cuts : AreOfCuts cuts (i + 1) (rs ++ (get_or cuts i 0, v) ∷ [])
     pushed_of_cuts = record {
-      some = λ _. omega (arith, longer);
-      first = λ d _. elim (cases_lt 0 (length rs)) [
-        | inl old ↦ at_old 0 d old ∙ so_far.first d old
-        | inr new ↦
-            let is : 0 ≡ length rs = omega (arith, new) in
-            at_new 0 d is ∙ ap (λ j. get_or cuts j 0) (zero_then is) ∙ zero_first
-      ];
-      rising = λ j k d lt in_it. elim (cases_lt k (length rs)) [
-        | inl old ↦ omega (arith, at_old j d (omega (arith, lt, old)), at_old k d old, so_far.rising j k d lt old)
-        | inr new ↦
-            let is : k ≡ length rs = omega (arith, new, in_it, longer) in
-            let before : j < length rs = omega (arith, lt, is) in
-            omega (arith, at_old j d before, at_new k d is, below j d before)
-      ];
+      some = λ _. omega (arith, longer rs (get_or cuts i 0, v));
+      first = λ d _. first_pushed rs (get_or cuts i 0, v) so_far.first (λ is. ap (λ j. get_or cuts j 0) (zero_then (sym is)) ∙ zero_first) d;
+      rising = rising_pushed rs (get_or cuts i 0, v) so_far.rising below;
       start = λ k d in_it. (
         omega arith,
         elim (cases_lt k (length rs)) [
-          | inl old ↦ omega (arith, at_old k d old, below k d old, this_one)
-          | inr new ↦ omega (arith, at_new k d (omega (arith, new, in_it, longer)), this_one)
+          | inl old ↦ omega (arith, at_old rs (get_or cuts i 0, v) k d old, below k d old, this_one)
+          | inr new ↦ omega (arith, at_new rs (get_or cuts i 0, v) k d (omega (arith, new, in_it, longer rs (get_or cuts i 0, v))), this_one)
         ],
       );
     }

@@ -11,4 +11,5 @@ pub mod Line
 pub mod Networks
 pub mod Ranges
 pub mod Search
+pub mod Sweep
 pub mod Tables

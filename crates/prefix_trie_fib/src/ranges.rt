@@ -11,6 +11,7 @@ mod merge;
 mod of_both;
 mod of_map;
 mod search;
+mod sweep;
 
 pub(crate) use line::Line;
 pub(crate) use merge::line_of;

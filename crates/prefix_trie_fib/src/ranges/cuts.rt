@@ -1,9 +1,9 @@
 //! Addresses at which the longest match can change.
-ghost use Rattle.std.specs.Prelude.{◌≡◌, ℕ, ◌-◌, ◌<◌, ◌≤◌, ◌++◌, ◌∷◌, [], ◌⊎◌, Contains, IfOk, OnOk, length, slice_index_or};
+ghost use Rattle.std.specs.Prelude.{◌≡◌, ℕ, ◌-◌, ◌^◌, ◌<◌, ◌≤◌, ◌++◌, ◌∷◌, [], ◌⊎◌, Contains, IfOk, MatchOption, OnOk, length, slice_index_or};
 ghost use Rattle.std.specs.List.Sorted.{IsNonDecreasingBy, IsPermutation};
 ghost use Rattle.std.specs.Ordering.{nat_cmp};
 ghost use Rattle.prefix_trie_bits.specs.Model.Bits.{number};
-ghost use Rattle.prefix_trie_fib.specs.Line.{AreCutOut, IsCutOut, IsRising, numbers};
+ghost use Rattle.prefix_trie_fib.specs.Line.{AreCutOut, IsCutOut, IsRising, first_address, numbers, past_address};
 
 use super::search::is_at_most;
 use prefix_trie_bits::laws::listing_laws;
@@ -50,16 +50,31 @@ fn push_cuts<P: Prefix, B: Allocator>(cuts: &mut Vec<P::R, B>, prefix: &P) -> Re
     ensures cut { OnOk result
         (IsCutOut P.R.bit_width (numbers P.R.bits cuts.new.items) (P.path prefix.now)) }
 {
-    let first = prefix.mask();
+    let (first, past) = ends_of(prefix);
     cuts.push(first)?;
-    let len = u32::from(prefix.prefix_len());
-    if len == 0 {
-        return Ok(());
-    }
-    match first.plus(P::R::power(P::R::width() - len)) {
+    match past {
         Some(past) => Ok(cuts.push(past)?),
         None => Ok(()),
     }
+}
+
+/// Returns the first address of a network, and the address after its last one if there is one.
+pub(super) fn ends_of<P: Prefix>(prefix: &P) -> (P::R, Option<P::R>)
+    requires { P.IsFitting prefix.now }
+    ensures first { number (P.R.bits result.0)
+        ≡ first_address P.R.bit_width (P.path prefix.now) }
+    ensures past { MatchOption result.1
+        (2 ^ P.R.bit_width ≤ past_address P.R.bit_width (P.path prefix.now))
+        (λ past. number (P.R.bits past) ≡ past_address P.R.bit_width (P.path prefix.now)) }
+{
+    let first = prefix.mask();
+    let len = u32::from(prefix.prefix_len());
+    let past = if len == 0 {
+        None
+    } else {
+        first.plus(P::R::power(P::R::width() - len))
+    };
+    (first, past)
 }
 
 /// Sorts keys.

@@ -39,7 +39,7 @@ pub(crate) fn line_of<K: Key, T: Copy + PartialEq, B: Allocator + Clone>(
 }
 
 /// Appends a range, unless the last one has the same value.
-fn add_range<K: Key, T: Copy + PartialEq, B: Allocator>(
+pub(super) fn add_range<K: Key, T: Copy + PartialEq, B: Allocator>(
     line: &mut Line<K, T, B>,
     start: K,
     value: Option<T>,

@@ -8,7 +8,8 @@ use Rattle.prefix_trie_bits.specs.Begins.{begins-append, begins-length, begins-r
 use Rattle.prefix_trie_fib.specs.Line.{first_address, past_address}
 use Rattle.prefix_trie_fib.proofs.Blocks.{halves_of, nested, some_address}
 use Rattle.route_tables.specs.FewestCover.{AreSiblings, CoverRead, HaveNoHalves}
-use Rattle.route_tables.proofs.Covers.NetworkOrder.{before_last, contains_block, contains_by_first, in_order_front, in_order_none, in_order_push, listed_first, same_item}
+use Rattle.prefix_trie_fib.proofs.ListingOrder.{listed_first}
+use Rattle.route_tables.proofs.Covers.NetworkOrder.{before_last, contains_block, contains_by_first, in_order_front, in_order_none, in_order_push, same_item}
 
 pub none_in : {X : Type 0} (x : X) → ¬ (Contains [] x)
 none_in x (k, inside, is) = omega (arith, inside)

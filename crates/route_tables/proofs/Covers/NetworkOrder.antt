@@ -1,12 +1,12 @@
 -- Networks as blocks of addresses: which contain others, and lists of them in order.
-use Rattle.std.proofs.Common.{◌≡◌, ◌∙◌, ◌+◌, ◌-◌, ◌<◌, ◌≤◌, ℕ, suc, Bool, true, false, true≢false, List, [], ◌∷◌, ◌++◌, length, get_or, Less, Equal, Greater, inl, inr, refl, sym, ap, ap₂, subst, arith, length-append}
+use Rattle.std.proofs.Common.{◌≡◌, ◌∙◌, ◌+◌, ◌-◌, ◌<◌, ◌≤◌, ℕ, suc, Bool, true, false, true≢false, List, [], ◌∷◌, ◌++◌, length, get_or, Less, inl, inr, refl, sym, ap, ap₂, subst, arith, length-append}
 use Rattle.std.proofs.Math.Seq.{get_or-append_seam}
 use Rattle.std.proofs.lemmas.Bool.{cases_lt}
 use Rattle.std.proofs.lemmas.List.{get_or_append_left}
 use Rattle.std.proofs.lemmas.List.Elements.{Contains-append_left, Contains-push}
-use Rattle.std.specs.Cmp.{nat_cmp_is, ranks}
+use Rattle.std.specs.Cmp.{nat_cmp_is}
 use Rattle.std.specs.List.{Contains}
-use Rattle.std.specs.Ordering.{nat_cmp, ordering_then, MatchOrdering}
+use Rattle.std.specs.Ordering.{nat_cmp, ordering_then}
 use Rattle.prefix_trie.specs.Terms.{begins, listing_cmp, number, zeros}
 use Rattle.prefix_trie_bits.specs.Begins.{begins-append, begins-length, begins-linear, begins-trans}
 use Rattle.prefix_trie_bits.specs.Comparing.{order-filled, order-numbers}
@@ -15,6 +15,7 @@ use Rattle.prefix_trie_fib.specs.Line.{first_address, past_address}
 use Rattle.prefix_trie_fib.specs.Networks.{AreInOrder}
 use Rattle.prefix_trie_fib.proofs.Blocks.{nested, some_address}
 use Rattle.prefix_trie_fib.proofs.CutIntervals.{begins_within, within_begins}
+use Rattle.prefix_trie_fib.proofs.ListingOrder.{listed_first}
 use Rattle.prefix_trie_fib.proofs.RangeValues.{get_or-any}
 
 module _ (w : ℕ) where
@@ -29,25 +30,6 @@ module _ (w : ℕ) where
   contains_block s t fits front =
       let at = begins_within w s (t ++ zeros (w - length t)) (length-filled w t fits) (begins-trans s t (t ++ zeros (w - length t)) front (begins-append t (zeros (w - length t)))) in
       nested w s t (begins-length s t front) fits (first_address w t) at.0 at.1 (omega arith) (some_address w t)
-
-  -- what the listing order says of the first addresses
-  pub listed_first : (s t : List Bool) → length s ≤ w → length t ≤ w → listing_cmp s t ≡ Less → (first_address w s ≤ first_address w t) × (first_address w s ≡ first_address w t → length s < length t)
-  listed_first s t fits fits' less =
-      let by : ordering_then (nat_cmp (first_address w s) (first_address w t)) (nat_cmp (length s) (length t)) ≡ Less =
-      sym (ap (λ o. ordering_then o (nat_cmp (length s) (length t))) (order-numbers (s ++ zeros (w - length s)) (t ++ zeros (w - length t)) (length-filled w s fits ∙ sym (length-filled w t fits'))))
-      ∙ sym (order-filled w s t fits fits') ∙ less in
-      elim (nat_cmp (first_address w s) (first_address w t))
-      as (λ o. MatchOrdering o (first_address w s < first_address w t) (first_address w s ≡ first_address w t) (first_address w t < first_address w s) → ordering_then o (nat_cmp (length s) (length t)) ≡ Less
-      → (first_address w s ≤ first_address w t) × (first_address w s ≡ first_address w t → length s < length t)) [
-        | Less ↦ λ lt e. (omega (arith, lt), λ same. absurd (omega (arith, lt, same)))
-        | Equal ↦ λ same e. (omega (arith, same), λ _. shorter (nat_cmp (length s) (length t)) e (ranks (length s) (length t)))
-        | Greater ↦ λ gt e. absurd (let none : Greater ≡ Less = e in cc)
-      ] (ranks (first_address w s) (first_address w t)) by
-    where
-      shorter : (o : Rattle.std.proofs.Common.Ordering) → o ≡ Less → MatchOrdering o (length s < length t) (length s ≡ length t) (length t < length s) → length s < length t
-      shorter Less e h = h
-      shorter Equal e h = absurd (cc)
-      shorter Greater e h = absurd (cc)
 
   -- a network that ends before another one begins is listed before it
   pub before_listed : (s t : List Bool) → length s ≤ w → length t ≤ w → past_address w s ≤ first_address w t → listing_cmp s t ≡ Less
@@ -64,7 +46,7 @@ module _ (w : ℕ) where
       elim (cases_lt (first_address w t) (past_address w s)) [
         | inr ge ↦ ge
         | inl lt ↦ absurd (
-            let order = listed_first s t fits fits' listed in
+            let order = listed_first w s t fits fits' listed in
             elim (cases_lt (length t) (length s)) [
               | inr le ↦ true≢false (sym (contains_by_first s t fits' le order.0 lt) ∙ apart)
               | inl less ↦
