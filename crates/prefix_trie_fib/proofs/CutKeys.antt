@@ -33,10 +33,6 @@ first_of w len path first long is = ap number (is ∙ ap (λ n. path ++ zeros (w
 pub more_cut : (w : ℕ) (before after : List ℕ) (s : List Bool) → ((n : ℕ) → Contains before n → Contains after n) → IsCutOut w before s → IsCutOut w after s
 more_cut w before after s more cut = record { first = more _ cut.first; past = λ lt. more _ (cut.past lt) }
 
--- the power that is added to the first address
-pub size_of : (w width len from len_path : ℕ) → width ≡ w → from ≡ len → len_path ≡ len → 2 ^ (width - from) ≡ 2 ^ (w - len_path)
-size_of w width len from len_path a b c = ap (λ n. 2 ^ n) (let e : width - from ≡ w - len_path = omega arith in e)
-
 -- in another order the keys cut out as much
 pub same_numbers : {K : Type 0} (bits : K → List Bool) (xs ys : List K) → IsPermutation xs ys → (n : ℕ) → Contains (numbers bits xs) n → Contains (numbers bits ys) n
 same_numbers bits xs ys p n h = Contains-permutation (numbers bits xs) (numbers bits ys) n (IsPermutation-map (λ k. number (bits k)) xs ys p) h
@@ -45,10 +41,6 @@ same_numbers bits xs ys p n h = Contains-permutation (numbers bits xs) (numbers 
 pub cut_with : {K T : Type 0} (w : ℕ) (bits : K → List Bool) (m : Entries T) (xs ys : List K) → ((n : ℕ) → Contains (numbers bits xs) n → Contains (numbers bits ys) n)
     → AreCutOut w bits m xs → AreCutOut w bits m ys
 cut_with w bits m xs ys more cut e at = ((cut e at).0, more_cut w (numbers bits xs) (numbers bits ys) e.0 more (cut e at).1)
-
-pub cuts_with : {K T : Type 0} (w : ℕ) (bits : K → List Bool) (m : Entries T) (xs ys : List K) → ((n : ℕ) → Contains (numbers bits xs) n → Contains (numbers bits ys) n)
-    → AreCutsOf w bits m xs → AreCutsOf w bits m ys
-cuts_with w bits m xs ys more are = record { at_zero = more 0 are.at_zero; cut_out = cut_with w bits m xs ys more are.cut_out }
 
 -- the networks of a map are cut out if the paths of its listing are
 pub cut_of_listing : {K P T : Type 0} (w : ℕ) (bits : K → List Bool) (path : P → List Bool) (back : List Bool → P) (m : Entries T) (xs : List K)

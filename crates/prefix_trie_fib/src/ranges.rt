@@ -1,8 +1,9 @@
 //! Ranges of addresses: where the longest match of a map can change, and the value of each range.
 //!
-//! The line of addresses is cut at the first address of each network and after its last one. Between two cuts all
-//! addresses have one longest match, and neighbours with one value are merged. `Fib::ranges` walks over the ranges that
-//! have a value, and `networks::networks_of` returns the fewest networks of a range.
+//! A map is compiled by one walk along the line of addresses (`sweep`). For an operation on two maps the line is cut at
+//! the first address of each network and after its last one: between two cuts all addresses have the same matches
+//! (`cuts`). Neighbours with one value are merged (`merge`). `Fib::ranges` walks over the ranges that have a value, and
+//! `networks::networks_of` returns the fewest networks of a range.
 
 mod cuts;
 mod line;

@@ -1,5 +1,5 @@
 //! The ranges of a map.
-ghost use Rattle.std.specs.Prelude.{◌≡◌, Bool, List, None, Option, IfOk, length};
+ghost use Rattle.std.specs.Prelude.{◌≡◌, Bool, List, None, Option, IfOk};
 ghost use Rattle.prefix_trie_fib.specs.Line.{value_of};
 ghost use Rattle.prefix_trie_fib.specs.Tables.{IsTableOf};
 

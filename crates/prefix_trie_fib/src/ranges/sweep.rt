@@ -29,8 +29,8 @@ impl<K: Key, T: Copy + PartialEq, A: Allocator> Sweep<K, T, A> {
     /// Begins at the address 0, where no address has a value.
     pub(super) fn new(line: Line<K, T, A>, alloc: A) -> Self
         requires { line ≡ [] }
-        ensures nothing { IsSweep K.bit_width K.bits T.PartialEq.eq (λ _. None) result.line result.at
-            (result.outer.items ++ result.inner ∷ []) }
+        ensures nothing { IsSweep K.bit_width K.bits T.PartialEq.eq (λ _. None)
+            result.line result.at (result.outer.items ++ result.inner ∷ []) }
         ensures at_zero { number (K.bits result.at) ≡ 0 }
     {
         Sweep {
