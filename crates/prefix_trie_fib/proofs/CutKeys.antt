@@ -1,5 +1,5 @@
 -- What appending keys to the cuts adds, and that sorted keys, each once, cut out as much.
-use Rattle.std.proofs.Common.{◌≡◌, ◌∙◌, ℕ, ◌+◌, ◌-◌, ◌^◌, ◌<◌, ◌≤◌, Bool, List, [], ◌∷◌, ◌++◌, length, length-append, get_or, inl, inr, ap, sym, subst, arith, refl}
+use Rattle.std.proofs.Common.{◌≡◌, ◌∙◌, ℕ, ◌+◌, ◌-◌, ◌<◌, ◌≤◌, Bool, List, [], ◌∷◌, ◌++◌, length, length-append, get_or, inl, inr, ap, sym, subst, arith, refl}
 use Rattle.std.proofs.Math.ListN.{get_or-map}
 use Rattle.std.proofs.Math.Seq.{get_or-append_seam}
 use Rattle.std.proofs.lemmas.Bool.{cases_lt}
@@ -12,7 +12,7 @@ use Rattle.std.specs.List.Sorted.{IsNonDecreasingBy, IsPermutation}
 use Rattle.prefix_trie_bits.specs.Model.Bits.{number, zeros}
 use Rattle.prefix_trie_bits.specs.Model.Entries.{Entries}
 use Rattle.prefix_trie_bits.specs.Model.Selections.{listing, prefix_pairs}
-use Rattle.prefix_trie_fib.specs.Line.{AreCutOut, AreCutsOf, IsCutOut, IsRising, first_address, numbers}
+use Rattle.prefix_trie_fib.specs.Line.{AreCutOut, IsCutOut, IsRising, first_address, numbers}
 use Rattle.prefix_trie_fib.proofs.RangeValues.{get_or-any}
 
 module _ {K : Type 0} (bits : K → List Bool) (before after : List K) (k : K) (is : after ≡ before ++ k ∷ []) where

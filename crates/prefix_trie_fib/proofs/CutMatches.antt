@@ -1,13 +1,12 @@
 -- The matches of an address are those of the last cut that is not after it.
 use Rattle.std.proofs.Common.{◌≡◌, ◌∙◌, suc, ℕ, ◌≤◌, Bool, cond, List, [], ◌∷◌, length, filter, is_some, ap, arith, refl}
 use Rattle.std.specs.List.{Contains}
-use Rattle.std.specs.Option.{option_map}
 use Rattle.prefix_trie_bits.specs.Model.Bits.{begins}
 use Rattle.prefix_trie_bits.specs.Model.Entries.{Entries}
-use Rattle.prefix_trie_bits.specs.Model.Matches.{covers, first_item, last_item}
+use Rattle.prefix_trie_bits.specs.Model.Matches.{covers, first_item}
 use Rattle.prefix_trie_bits.specs.Model.Selections.{listing}
 use Rattle.prefix_trie_fib.specs.Addresses.{is_covered}
-use Rattle.prefix_trie_fib.specs.Line.{IsCutOut, IsSteady, value_of}
+use Rattle.prefix_trie_fib.specs.Line.{IsCutOut, IsSteady}
 use Rattle.prefix_trie_fib.proofs.CutIntervals.{same_begins}
 
 module _ {X : Type 0} where
@@ -27,9 +26,6 @@ module _ {X : Type 0} where
 module _ {T : Type 0} (w : ℕ) (m : Entries T) (cuts : List ℕ) (cut : (e : List Bool × T) → Contains (listing m) e → (length e.0 ≤ w) × IsCutOut w cuts e.0) where
   same_covers : IsSteady w cuts (covers m)
   same_covers p q lp lq le uncut = filter_agrees (λ e. begins e.0 p) (λ e. begins e.0 q) (listing m) (λ e at. same_begins w cuts e.0 p q lp lq (cut e at).0 (cut e at).1 le uncut)
-
-  pub same_value : IsSteady w cuts (value_of m)
-  same_value p q lp lq le uncut = ap (λ es. option_map (λ e. e.1) (last_item es)) (same_covers p q lp lq le uncut)
 
   pub same_covered : IsSteady w cuts (is_covered m)
   same_covered p q lp lq le uncut = ap (λ es. is_some (first_item es)) (same_covers p q lp lq le uncut)

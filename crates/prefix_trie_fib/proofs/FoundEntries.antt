@@ -6,13 +6,9 @@ use Rattle.prefix_trie_bits.specs.Model.Bits.{number}
 use Rattle.prefix_trie_fib.specs.Compiled.{IsCompiled}
 use Rattle.prefix_trie_fib.specs.declared.index.chunk.Chunk.{Chunk}
 use Rattle.prefix_trie_fib.specs.declared.index.chunk.Chunk.TheVariants.{Split}
-use Rattle.prefix_trie_fib.specs.Index.{IsChunk, IsEntry, IsSplit, IsWhole}
+use Rattle.prefix_trie_fib.specs.Index.{IsChunk, IsEntry, IsEntryAt, IsSplit, IsWhole}
 use Rattle.prefix_trie_fib.proofs.Chunks.{in_chunk}
 use Rattle.prefix_trie_fib.proofs.Entries.{entry_of_whole}
-
--- an entry is right for numbers around this one
-abbrev pub IsEntryOf : {T : Type 0} → List (ℕ × Option T) → ℕ → Chunk T → Type 0
-IsEntryOf rs n x = (low : ℕ) × (high : ℕ) × IsChunk rs low high x × (low ≤ n) × (n < high)
 
 module _ {T : Type 0} (w : ℕ) (rs : List (ℕ × Option T)) (chunks parts : List (Chunk T)) (bits : ℕ) (b : List Bool) (are : IsCompiled w rs chunks parts bits) (long : length b ≡ w) (k : ℕ) (is : k ≡ number (take bits b)) where
   pub chunk_inside : k < length chunks
@@ -29,7 +25,7 @@ module _ {T : Type 0} (w : ℕ) (rs : List (ℕ × Option T)) (chunks parts : Li
     pub parts_of : (more base : ℕ) → x ≡ Split more base → IsSplit w bits rs parts k more base
     parts_of more base split = subst (IsEntry w bits rs parts k) split entry_is
 
-    pub in_part : (more base : ℕ) → x ≡ Split more base → (p : ℕ) (y : Chunk T) → p < 2 ^ more → number (take bits b) * 2 ^ more + p ≡ number (take (bits + more) b) → y ≡ get_or parts (base + p) y → IsEntryOf rs (number b) y
+    pub in_part : (more base : ℕ) → x ≡ Split more base → (p : ℕ) (y : Chunk T) → p < 2 ^ more → number (take bits b) * 2 ^ more + p ≡ number (take (bits + more) b) → y ≡ get_or parts (base + p) y → IsEntryAt rs (number b) y
     in_part more base split p y small joined there =
         let size : ℕ = 2 ^ (w - (bits + more)) in
         let t : ℕ = k * 2 ^ more + p in
@@ -42,7 +38,7 @@ module _ {T : Type 0} (w : ℕ) (rs : List (ℕ × Option T)) (chunks parts : Li
           subst (λ n. number b < (n + 1) * size) e bounds.1,
         )
 
-    pub in_whole : IsWhole x → IsEntryOf rs (number b) x
+    pub in_whole : IsWhole x → IsEntryAt rs (number b) x
     in_whole whole =
         let size : ℕ = 2 ^ (w - bits) in
         let bounds = in_chunk w b bits long in (

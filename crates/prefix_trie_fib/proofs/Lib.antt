@@ -6,6 +6,7 @@ pub mod Blocks
 pub mod Chunks
 pub mod Covering
 pub mod CutKeys
+pub mod CutRanges
 pub mod Entries
 pub mod Equality
 pub mod Fewest

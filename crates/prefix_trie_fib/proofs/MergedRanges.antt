@@ -1,13 +1,11 @@
--- One more cut keeps the ranges right and below the end of the line, and at the end they have the value of each address.
-use Rattle.std.proofs.Common.{◌≡◌, ◌∙◌, zero, suc, ℕ, ◌^◌, ◌<◌, ◌≤◌, Bool, true, List, [], ◌∷◌, ◌++◌, length, length-append, get_or, Option, None, Some, inl, inr, ap, arith, refl}
+-- One more range keeps a line merged, below the end of the line, and right for the numbers before the next one.
+use Rattle.std.proofs.Common.{◌≡◌, ◌∙◌, ℕ, ◌-◌, ◌<◌, ◌≤◌, ◌⊎◌, Bool, true, false, List, [], ◌∷◌, ◌++◌, length, length-append, get_or, Option, None, Some, inl, inr, ap, sym, subst, arith, refl}
 use Rattle.std.proofs.Math.Seq.{get_or-append_seam}
 use Rattle.std.proofs.lemmas.Bool.{cases_lt}
-use Rattle.std.proofs.lemmas.List.{get_or_append_left, length-map}
-use Rattle.std.specs.List.{Contains}
-use Rattle.prefix_trie_bits.specs.BitStrings.{bits-number, length-digits, number-below, number_of_digits}
-use Rattle.prefix_trie_bits.specs.Model.Bits.{digits, number}
-use Rattle.prefix_trie_fib.specs.Line.{AreUncut, IsRising, IsSteady, StartBelow, are_same, numbers, value_along}
-use Rattle.prefix_trie_fib.proofs.RangeValues.{AreCuts, AreRight}
+use Rattle.std.proofs.lemmas.List.{get_or_append_left}
+use Rattle.prefix_trie_fib.specs.Line.{StartBelow, are_same}
+use Rattle.prefix_trie_fib.specs.Sweep.{IsDoneTo}
+use Rattle.prefix_trie_fib.proofs.RangeValues.{first_pushed, found_at, merged_pushed, pushed_above, pushed_last, rising_pushed}
 
 -- values that `==` calls equal are the same, so two results that do not differ are the same
 pub same_exact : {T : Type 0} (eq : T → T → Bool) → ((x y : T) → eq x y ≡ true → x ≡ y) → (a b : Option T) → are_same eq a b ≡ true → a ≡ b
@@ -15,11 +13,6 @@ same_exact eq exact None None h = refl
 same_exact eq exact None (Some y) h = cc
 same_exact eq exact (Some x) None h = cc
 same_exact eq exact (Some x) (Some y) h = ap Some (exact x y h)
-
--- rising numbers of which one is 0 begin with 0
-pub zero_is_first : (ns : List ℕ) → IsRising ns → Contains ns 0 → get_or ns 0 0 ≡ 0
-zero_is_first ns up (zero, lt, is) = is
-zero_is_first ns up (suc k, lt, is) = absurd (let u = up 0 (suc k) (omega arith) lt in omega (arith, u, is))
 
 -- a range that starts below a number is appended
 pub pushed_below : {V : Type 0} (top : ℕ) (rs : List (ℕ × V)) (r : ℕ × V) → StartBelow top rs → r.0 < top → StartBelow top (rs ++ r ∷ [])
@@ -34,22 +27,60 @@ pushed_below {V} top rs r below low k d in_it = elim (cases_lt k (length rs)) [
       omega (arith, at, low)
 ]
 
-module _ {K V : Type 0} (w : ℕ) (bits : K → List Bool) (of : List Bool → V) (cuts : List K) (zero : Contains (numbers bits cuts) 0) (steady : IsSteady w (numbers bits cuts) of) (up : IsRising (numbers bits cuts)) where
-  same_value : (a b : ℕ) → a ≤ b → b < 2 ^ w → AreUncut (numbers bits cuts) a b → of (digits w a) ≡ of (digits w b)
-  same_value a b le low uncut =
-      let low_a : a < 2 ^ w = omega (arith, le, low) in
-      let ea = number_of_digits w a low_a in
-      let eb = number_of_digits w b low in
-      steady (digits w a) (digits w b) (length-digits w a) (length-digits w b) (omega (arith, le, ea, eb))
-      (λ c at above. let u = uncut c at (omega (arith, above, ea)) in omega (arith, u, eb))
+module _ {T : Type 0} (top : ℕ) (same : T → T → Bool) (of : ℕ → Option T) where
+  -- at first there is no range
+  pub done_none : (line : List (ℕ × Option T)) (at : ℕ) → line ≡ [] → at ≡ 0 → IsDoneTo top same of line at
+  done_none [] at none zero = record {
+    some = λ lt. absurd (omega (arith, lt, zero));
+    first = λ d lt. absurd (omega (arith, lt));
+    rising = λ j k d lt in_it. absurd (omega (arith, in_it));
+    merged = λ k d in_it. absurd (omega (arith, in_it));
+    below = λ k d lt. absurd (omega (arith, lt));
+    right = λ exact n lt low. absurd (omega (arith, lt, zero));
+  }
+  done_none (x ∷ xs) at none zero = cc
 
-  pub are_cuts : AreCuts (λ n. of (digits w n)) (2 ^ w) (numbers bits cuts)
-  are_cuts = record { rising = up; zero_first = zero_is_first (numbers bits cuts) up zero; same = same_value }
+  module _ (line : List (ℕ × Option T)) (at to : ℕ) (v : Option T) (done : IsDoneTo top same of line at) (later : at < to) (here : (n : ℕ) → at ≤ n → n < to → n < top → of n ≡ v) where
+    started : (k : ℕ) (d : ℕ × Option T) → k < length line → (get_or line k d).0 < to
+    started k d lt = let b = done.below k d lt in omega (arith, b, later)
 
-  -- at the end, each address has its value
-  pub right_at_end : (h : V) (i : ℕ) (rs : List (ℕ × V)) → length cuts ≤ i → AreRight (λ n. of (digits w n)) h (2 ^ w) (numbers bits cuts) i rs
-      → (q : List Bool) → length q ≡ w → value_along h rs (number q) ≡ of q
-  right_at_end h i rs all right q long =
-      let l : length (numbers bits cuts) ≡ length cuts = length-map cuts (λ k. number (bits k)) in
-      right.right (number q) (number-below w q long) (let (k, lt, is) = zero in omega (arith, lt, l, all)) (λ more. absurd (omega (arith, more, l, all)))
-      ∙ ap of (bits-number w q long)
+    alone : length line ≡ 0 → at ≡ 0
+    alone none = elim (cases_lt 0 at) [
+      | inl some ↦ absurd (omega (arith, done.some some, none))
+      | inr least ↦ omega (arith, least)
+    ]
+
+    done_pushed : ((d : ℕ × Option T) → 0 < length line → are_same same (get_or line (length line - 1) d).1 v ≡ false) → IsDoneTo top same of (line ++ (at, v) ∷ []) to
+    done_pushed differs = record {
+      some = λ _. omega (arith, length-append line ((at, v) ∷ []));
+      first = λ d _. first_pushed line (at, v) done.first alone d;
+      rising = rising_pushed line (at, v) done.rising done.below;
+      merged = merged_pushed (are_same same) line (at, v) done.merged differs;
+      below = pushed_below to line (at, v) started later;
+      right = λ exact n lt low. elim (cases_lt n at) [
+        | inl before ↦ pushed_above None line (at, v) n before ∙ done.right exact n before low
+        | inr le ↦ pushed_last None line (at, v) n (λ k d in_it. let b = done.below k d in_it in omega (arith, b, le)) le ∙ sym (here n le lt low)
+      ];
+    }
+
+    done_kept : 0 < length line → ((d : ℕ × Option T) → are_same same (get_or line (length line - 1) d).1 v ≡ true) → IsDoneTo top same of line to
+    done_kept some kept = record {
+      some = λ _. some;
+      first = done.first;
+      rising = done.rising;
+      merged = done.merged;
+      below = started;
+      right = λ exact n lt low. elim (cases_lt n at) [
+        | inl before ↦ done.right exact n before low
+        | inr le ↦
+            found_at None line (length line - 1) n (0, v) (omega (arith, some)) (λ k in_it. let b = done.below k (0, v) (omega (arith, in_it, some)) in omega (arith, b, le)) (λ more. absurd (omega (arith, more, some)))
+            ∙ same_exact same exact (get_or line (length line - 1) (0, v)).1 v (kept (0, v)) ∙ sym (here n le lt low)
+      ];
+    }
+
+    -- one range more, or a last range that goes on
+    pub done_more : (line' : List (ℕ × Option T))
+        → ((line' ≡ line ++ (at, v) ∷ []) × ((d : ℕ × Option T) → 0 < length line → are_same same (get_or line (length line - 1) d).1 v ≡ false))
+        ⊎ ((line' ≡ line) × (0 < length line) × ((d : ℕ × Option T) → are_same same (get_or line (length line - 1) d).1 v ≡ true)) → IsDoneTo top same of line' to
+    done_more line' (inl pushed) = subst (λ l. IsDoneTo top same of l to) (sym pushed.0) (done_pushed pushed.1)
+    done_more line' (inr kept) = subst (λ l. IsDoneTo top same of l to) (sym kept.0) (done_kept kept.1 kept.2)

@@ -1,9 +1,10 @@
 -- The value of an address in a division of the line: which range decides, and how it changes when a range is appended.
-use Rattle.std.proofs.Common.{◌≡◌, ◌∙◌, zero, suc, ℕ, ◌+◌, ◌-◌, ◌<◌, ◌≤◌, Bool, false, cond, List, [], ◌∷◌, ◌++◌, length, length-append, get_or, inl, inr, ap, subst, arith, refl, leb, ap₂, sym}
-use Rattle.std.proofs.lemmas.Bool.{le-leb, lt-leb, cases_lt}
+use Rattle.std.proofs.Common.{◌≡◌, ◌∙◌, zero, suc, ℕ, ◌+◌, ◌-◌, ◌^◌, ◌<◌, ◌≤◌, Bool, false, cond, List, [], ◌∷◌, ◌++◌, length, length-append, get_or, Option, None, inl, inr, ap, subst, arith, refl, leb, ap₂, sym}
+use Rattle.std.proofs.lemmas.Bool.{le-leb, le-ltb, lt-leb, lt-ltb, cases_lt}
 use Rattle.std.proofs.lemmas.List.{get_or_append_left}
 use Rattle.std.proofs.Math.Seq.{get_or-append_seam}
-use Rattle.prefix_trie_fib.specs.Line.{AreMerged, AreUncut, IsDivision, IsRising, StartBelow, value_along}
+use Rattle.prefix_trie_fib.specs.Addresses.{start_or_end}
+use Rattle.prefix_trie_fib.specs.Line.{AreMerged, IsDivision, StartBelow, value_along}
 use Rattle.prefix_trie_fib.specs.Search.{IsRangeOf}
 
 -- an item of a list does not depend on what stands for a missing one
@@ -11,6 +12,11 @@ pub get_or-any : {X : Type 0} → (xs : List X) (k : ℕ) (d e : X) → k < leng
 get_or-any [] k d e lt = absurd (omega (arith, lt))
 get_or-any (x ∷ xs) zero d e lt = refl
 get_or-any (x ∷ xs) (suc k) d e lt = get_or-any xs k d e (omega (arith, lt))
+
+-- an item of a list that has one
+pub item_at : {X : Type 0} → (xs : List X) (k : ℕ) → k < length xs → X
+item_at [] k lt = absurd (omega (arith, lt))
+item_at (x ∷ xs) k lt = x
 
 module _ {V : Type 0} where
   pub step_in : (h : V) (r : ℕ × V) (rs : List (ℕ × V)) (n : ℕ) → r.0 ≤ n → value_along h (r ∷ rs) n ≡ value_along r.1 rs n
@@ -88,118 +94,6 @@ module _ {V : Type 0} where
           omega (arith, at_old j d before, at_new k d is, below j d before)
     ]
 
-  -- ---- ranges that are appended from cut to cut
-
-  -- the ranges of the first i cuts
-  pub record AreOfCuts (cuts : List ℕ) (i : ℕ) (rs : List (ℕ × V)) : Type 0 where
-    pub some : 0 < i → 0 < length rs
-    pub first : (d : ℕ × V) → 0 < length rs → (get_or rs 0 d).0 ≡ 0
-    pub rising : (j k : ℕ) (d : ℕ × V) → j < k → k < length rs → (get_or rs j d).0 < (get_or rs k d).0
-    pub start : (k : ℕ) (d : ℕ × V) → k < length rs → (0 < i) × ((get_or rs k d).0 ≤ get_or cuts (i - 1) 0)
-
-  -- what is known of the cuts and of the values that the numbers should have
-  pub record AreCuts (of : ℕ → V) (top : ℕ) (cuts : List ℕ) : Type 0 where
-    pub rising : IsRising cuts
-    pub zero_first : get_or cuts 0 0 ≡ 0
-    pub same : (a b : ℕ) → a ≤ b → b < top → AreUncut cuts a b → of a ≡ of b
-
-  -- the ranges are right for each number before the next cut
-  pub record AreRight (of : ℕ → V) (h : V) (top : ℕ) (cuts : List ℕ) (i : ℕ) (rs : List (ℕ × V)) : Type 0 where
-    pub right : (n : ℕ) → n < top → 0 < i → (i < length cuts → n < get_or cuts i 0) → value_along h rs n ≡ of n
-
-  module _ (cuts : List ℕ) (i : ℕ) (rs : List (ℕ × V)) (v : V) (inside : i < length cuts) (up : IsRising cuts) (zero_first : get_or cuts 0 0 ≡ 0) (so_far : AreOfCuts cuts i rs) where
-    -- the ranges so far start before the next cut
-    below : (k : ℕ) (d : ℕ × V) → k < length rs → (get_or rs k d).0 < get_or cuts i 0
-    below k d lt =
-        let (some, le) = so_far.start k d lt in
-        omega (arith, le, up (i - 1) i (omega (arith, some)) inside)
-
-    this_one : get_or cuts i 0 ≡ get_or cuts (i + 1 - 1) 0
-    this_one = ap (λ j. get_or cuts j 0) (let e : i ≡ i + 1 - 1 = omega arith in e)
-
-    -- a range from the next cut on
-    pub pushed_of_cuts : AreOfCuts cuts (i + 1) (rs ++ (get_or cuts i 0, v) ∷ [])
-    pushed_of_cuts = record {
-      some = λ _. omega (arith, longer rs (get_or cuts i 0, v));
-      first = λ d _. first_pushed rs (get_or cuts i 0, v) so_far.first (λ is. ap (λ j. get_or cuts j 0) (zero_then (sym is)) ∙ zero_first) d;
-      rising = rising_pushed rs (get_or cuts i 0, v) so_far.rising below;
-      start = λ k d in_it. (
-        omega arith,
-        elim (cases_lt k (length rs)) [
-          | inl old ↦ omega (arith, at_old rs (get_or cuts i 0, v) k d old, below k d old, this_one)
-          | inr new ↦ omega (arith, at_new rs (get_or cuts i 0, v) k d (omega (arith, new, in_it, longer rs (get_or cuts i 0, v))), this_one)
-        ],
-      );
-    }
-      where
-        zero_then : 0 ≡ length rs → i ≡ 0
-        zero_then is = none_before i (λ p. so_far.some p)
-          where
-            none_before : (j : ℕ) → (0 < j → 0 < length rs) → j ≡ 0
-            none_before zero h = refl
-            none_before (suc j) h = absurd (omega (arith, is, h (omega arith)))
-
-    -- the last range goes on
-    pub kept_of_cuts : 0 < length rs → AreOfCuts cuts (i + 1) rs
-    kept_of_cuts some = record {
-      some = λ _. some;
-      first = so_far.first;
-      rising = so_far.rising;
-      start = λ k d lt. (omega arith, omega (arith, below k d lt, this_one));
-    }
-
-    module _ (of : ℕ → V) (h : V) (top : ℕ) (cut : AreCuts of top cuts) (right : AreRight of h top cuts i rs) where
-      -- no cut is between the cut at i and a number before the next one
-      uncut_here : (n : ℕ) → (i + 1 < length cuts → n < get_or cuts (i + 1) 0) → AreUncut cuts (get_or cuts i 0) n
-      uncut_here n next c (k, lt, is) above =
-          let at : get_or cuts k 0 ≡ c = get_or-any cuts k 0 c lt ∙ is in
-          elim (cases_lt i k) [
-            | inl later ↦ omega (arith, at, next (omega (arith, later, lt)), after k later lt)
-            | inr earlier ↦ absurd (omega (arith, at, above, up_to k earlier))
-          ]
-        where
-          after : (k : ℕ) → i < k → k < length cuts → get_or cuts (i + 1) 0 ≤ get_or cuts k 0
-          after k later lt = elim (cases_lt (i + 1) k) [
-            | inl more ↦ let u = up (i + 1) k more lt in omega (arith, u)
-            | inr at ↦ let e : i + 1 ≡ k = omega (arith, later, at) in omega (arith, ap (λ j. get_or cuts j 0) e)
-          ]
-
-          up_to : (k : ℕ) → k ≤ i → get_or cuts k 0 ≤ get_or cuts i 0
-          up_to k le = elim (cases_lt k i) [
-            | inl more ↦ let u = up k i more inside in omega (arith, u)
-            | inr at ↦ let e : k ≡ i = omega (arith, le, at) in omega (arith, ap (λ j. get_or cuts j 0) e)
-          ]
-
-      same_here : (n : ℕ) → n < top → get_or cuts i 0 ≤ n → (i + 1 < length cuts → n < get_or cuts (i + 1) 0) → of (get_or cuts i 0) ≡ of n
-      same_here n low le next = cut.same (get_or cuts i 0) n le low (uncut_here n next)
-
-      earlier : (n : ℕ) → n < top → n < get_or cuts i 0 → value_along h rs n ≡ of n
-      earlier n low lt = right.right n low (positive i lt) (λ _. lt)
-        where
-          positive : (j : ℕ) → n < get_or cuts j 0 → 0 < j
-          positive zero l = absurd (omega (arith, l, zero_first))
-          positive (suc j) l = omega arith
-
-      pub pushed_right : v ≡ of (get_or cuts i 0) → AreRight of h top cuts (i + 1) (rs ++ (get_or cuts i 0, v) ∷ [])
-      pushed_right is = record {
-        right = λ n low _ next. elim (cases_lt n (get_or cuts i 0)) [
-          | inl lt ↦ pushed_above h rs (get_or cuts i 0, v) n lt ∙ earlier n low lt
-          | inr le ↦
-              pushed_last h rs (get_or cuts i 0, v) n (λ k d lt. let b = below k d lt in omega (arith, b, le)) le
-              ∙ is ∙ same_here n low le next
-        ];
-      }
-
-      pub kept_right : (d : ℕ × V) → 0 < length rs → (get_or rs (length rs - 1) d).1 ≡ of (get_or cuts i 0) → AreRight of h top cuts (i + 1) rs
-      kept_right d some is = record {
-        right = λ n low _ next. elim (cases_lt n (get_or cuts i 0)) [
-          | inl lt ↦ earlier n low lt
-          | inr le ↦
-              found_at h rs (length rs - 1) n d (omega arith) (λ k in_it. let b = below k d (omega (arith, in_it, some)) in omega (arith, b, le)) (λ more. absurd (omega (arith, more, some)))
-              ∙ is ∙ same_here n low le next
-        ];
-      }
-
   -- a range whose value is not that of the last one
   pub merged_pushed : (same : V → V → Bool) (rs : List (ℕ × V)) (r : ℕ × V) → AreMerged same rs → ((d : ℕ × V) → 0 < length rs → same (get_or rs (length rs - 1) d).1 r.1 ≡ false)
       → AreMerged same (rs ++ r ∷ [])
@@ -243,3 +137,36 @@ module _ {V : Type 0} where
             | inl more ↦ (let u = division.rising (i + 1) j d more b.starts.inside in omega (arith, starts, ends, u))
             | inr at ↦ (let e : i + 1 ≡ j = omega (arith, before, at) in omega (arith, starts, ends, ap (λ k. (get_or rs k d).0) e))
           ]
+
+module _ {T : Type 0} (w : ℕ) (rs : List (ℕ × Option T)) where
+  pub start_in : (i : ℕ) (d : ℕ × Option T) → i < length rs → start_or_end w rs i ≡ (get_or rs i d).0
+  start_in i d lt = ap (λ b. cond b (get_or rs i (0, None)).0 (2 ^ w)) (lt-ltb i (length rs) lt) ∙ ap {A = ℕ × Option T} (λ r. r.0) (get_or-any rs i (0, None) d lt)
+
+  pub end_out : (i : ℕ) → length rs ≤ i → start_or_end w rs i ≡ 2 ^ w
+  end_out i le = ap (λ b. cond b (get_or rs i (0, None)).0 (2 ^ w)) (le-ltb i (length rs) le)
+
+  module _ (division : IsDivision rs) (i : ℕ) (inside : i < length rs) where
+    -- no range that begins on the line is empty
+    pub some_in_range : start_or_end w rs i < 2 ^ w → start_or_end w rs i < start_or_end w rs (i + 1)
+    some_in_range low = elim (cases_lt (i + 1) (length rs)) [
+      | inl more ↦ (let u = division.rising i (i + 1) (0, None) (omega arith) more in let a = start_in i (0, None) inside in let b = start_in (i + 1) (0, None) more in omega (arith, u, a, b))
+      | inr last ↦ (let e = end_out (i + 1) last in omega (arith, low, e))
+    ]
+
+    -- the addresses up to the next range have the value of this one
+    pub range_value : (n : ℕ) (d : ℕ × Option T) → start_or_end w rs i ≤ n → n < start_or_end w rs (i + 1) → value_along None rs n ≡ (get_or rs i d).1
+    range_value n d a b = value_of_range rs division None i n d (record {
+      starts = record { inside = inside; by = λ e. (let s = start_in i e inside in omega (arith, s, a)) };
+      ends = λ e more. (let s = start_in (i + 1) e more in omega (arith, s, b));
+    })
+
+  -- each address is in a range
+  pub range_of : IsDivision rs → (n : ℕ) → n < 2 ^ w → (i : ℕ) × (i < length rs) × (start_or_end w rs i ≤ n) × (n < start_or_end w rs (i + 1))
+  range_of division n low = by_last (length rs) (omega arith) (let e = end_out (length rs) (omega arith) in omega (arith, low, e))
+    where
+      by_last : (k : ℕ) → k ≤ length rs → n < start_or_end w rs k → (i : ℕ) × (i < length rs) × (start_or_end w rs i ≤ n) × (n < start_or_end w rs (i + 1))
+      by_last zero le lt = absurd (let s = start_in 0 (0, None) division.some in let z = division.first (0, None) in omega (arith, lt, s, z))
+      by_last (suc k) le lt = elim (cases_lt n (start_or_end w rs k)) [
+        | inl before ↦ by_last k (omega (arith, le)) before
+        | inr from ↦ (k, omega (arith, le), from, subst (λ j. n < start_or_end w rs j) (let e : suc k ≡ k + 1 = omega arith in e) lt)
+      ]

@@ -1,4 +1,4 @@
--- The walk that compiles a map: one range more, stretches that open and close, and the networks read as values.
+-- The walk that compiles a map: stretches that open and close, and the networks read as values.
 use Rattle.std.proofs.Common.{◌≡◌, ◌∙◌, suc, ℕ, ◌+◌, ◌-◌, ◌^◌, ◌<◌, ◌≤◌, ◌&&◌, ◌⊎◌, Bool, true, false, not, cond, List, [], ◌∷◌, ◌++◌, length, length-append, append-nil, filter, drop, map, get_or, leb, Option, None, Some, inl, inr, ap, sym, subst, arith, refl}
 use Rattle.std.proofs.Math.Seq.{get_or-append_seam}
 use Rattle.std.proofs.lemmas.Bool.{le-leb, lt-leb, cases_lt}
@@ -18,8 +18,8 @@ use Rattle.prefix_trie_fib.specs.Networks.{end_of}
 use Rattle.prefix_trie_fib.specs.Sweep.{IsDoneTo, IsSweptTo, value_within, with_stretch}
 use Rattle.prefix_trie_fib.proofs.CutIntervals.{begins_within, within_begins}
 use Rattle.prefix_trie_fib.proofs.ListingOrder.{listed_first}
-use Rattle.prefix_trie_fib.proofs.MergedRanges.{pushed_below, same_exact}
-use Rattle.prefix_trie_fib.proofs.RangeValues.{first_pushed, found_at, get_or-any, merged_pushed, pushed_above, pushed_last, rising_pushed}
+use Rattle.prefix_trie_fib.proofs.MergedRanges.{done_more, done_none}
+use Rattle.prefix_trie_fib.proofs.RangeValues.{get_or-any}
 
 last-push : {X : Type 0} (xs : List X) (x : X) → last_item (xs ++ x ∷ []) ≡ Some x
 last-push [] x = refl
@@ -54,63 +54,18 @@ module _ {T : Type 0} where
   reached : (h : Option T) (ss : List (ℕ × Option T)) (s : ℕ × Option T) (n : ℕ) → n < s.0 → value_within h (ss ++ s ∷ []) n ≡ s.1
   reached h ss s n lt = within_push h ss s n ∙ ap (λ b. cond b (value_within h ss n) s.1) (lt-leb s.0 n lt)
 
-  -- and nothing where it has ended
+  -- and nothing after its end
   ended : (h : Option T) (ss : List (ℕ × Option T)) (s : ℕ × Option T) (n : ℕ) → s.0 ≤ n → value_within h (ss ++ s ∷ []) n ≡ value_within h ss n
   ended h ss s n le = within_push h ss s n ∙ ap (λ b. cond b (value_within h ss n) s.1) (le-leb s.0 n le)
 
   module _ (top : ℕ) (same : T → T → Bool) (of : ℕ → Option T) where
-    module _ (line : List (ℕ × Option T)) (at to : ℕ) (v : Option T) (done : IsDoneTo top same of line at) (later : at < to) (here : (n : ℕ) → at ≤ n → n < to → n < top → of n ≡ v) where
-      started : (k : ℕ) (d : ℕ × Option T) → k < length line → (get_or line k d).0 < to
-      started k d lt = let b = done.below k d lt in omega (arith, b, later)
-
-      alone : length line ≡ 0 → at ≡ 0
-      alone none = elim (cases_lt 0 at) [
-        | inl some ↦ absurd (omega (arith, done.some some, none))
-        | inr least ↦ omega (arith, least)
-      ]
-
-      done_pushed : ((d : ℕ × Option T) → 0 < length line → are_same same (get_or line (length line - 1) d).1 v ≡ false) → IsDoneTo top same of (line ++ (at, v) ∷ []) to
-      done_pushed differs = record {
-        some = λ _. omega (arith, length-append line ((at, v) ∷ []));
-        first = λ d _. first_pushed line (at, v) done.first alone d;
-        rising = rising_pushed line (at, v) done.rising done.below;
-        merged = merged_pushed (are_same same) line (at, v) done.merged differs;
-        below = pushed_below to line (at, v) started later;
-        right = λ exact n lt low. elim (cases_lt n at) [
-          | inl before ↦ pushed_above None line (at, v) n before ∙ done.right exact n before low
-          | inr le ↦ pushed_last None line (at, v) n (λ k d in_it. let b = done.below k d in_it in omega (arith, b, le)) le ∙ sym (here n le lt low)
-        ];
-      }
-
-      done_kept : 0 < length line → ((d : ℕ × Option T) → are_same same (get_or line (length line - 1) d).1 v ≡ true) → IsDoneTo top same of line to
-      done_kept some kept = record {
-        some = λ _. some;
-        first = done.first;
-        rising = done.rising;
-        merged = done.merged;
-        below = started;
-        right = λ exact n lt low. elim (cases_lt n at) [
-          | inl before ↦ done.right exact n before low
-          | inr le ↦
-              found_at None line (length line - 1) n (0, v) (omega (arith, some)) (λ k in_it. let b = done.below k (0, v) (omega (arith, in_it, some)) in omega (arith, b, le)) (λ more. absurd (omega (arith, more, some)))
-              ∙ same_exact same exact (get_or line (length line - 1) (0, v)).1 v (kept (0, v)) ∙ sym (here n le lt low)
-        ];
-      }
-
-      -- one range more, or a last range that goes on
-      pub done_more : (line' : List (ℕ × Option T))
-          → ((line' ≡ line ++ (at, v) ∷ []) × ((d : ℕ × Option T) → 0 < length line → are_same same (get_or line (length line - 1) d).1 v ≡ false))
-          ⊎ ((line' ≡ line) × (0 < length line) × ((d : ℕ × Option T) → are_same same (get_or line (length line - 1) d).1 v ≡ true)) → IsDoneTo top same of line' to
-      done_more line' (inl pushed) = subst (λ l. IsDoneTo top same of l to) (sym pushed.0) (done_pushed pushed.1)
-      done_more line' (inr kept) = subst (λ l. IsDoneTo top same of l to) (sym kept.0) (done_kept kept.1 kept.2)
-
     -- the numbers up to one that the last stretch reaches have its value
     pub swept_to : (line : List (ℕ × Option T)) (at to : ℕ) (ss : List (ℕ × Option T)) (s : ℕ × Option T) → at < to → to ≤ s.0 → (line' : List (ℕ × Option T))
         → ((line' ≡ line ++ (at, s.1) ∷ []) × ((d : ℕ × Option T) → 0 < length line → are_same same (get_or line (length line - 1) d).1 s.1 ≡ false))
         ⊎ ((line' ≡ line) × (0 < length line) × ((d : ℕ × Option T) → are_same same (get_or line (length line - 1) d).1 s.1 ≡ true))
         → IsSweptTo top same of line at (ss ++ s ∷ []) → IsSweptTo top same of line' to (ss ++ s ∷ [])
     swept_to line at to ss s later within line' step swept = record {
-      done = done_more line at to s.1 swept.done later (λ n le lt low. swept.rest n le low ∙ reached None ss s n (omega (arith, lt, within))) line' step;
+      done = done_more top same of line at to s.1 swept.done later (λ n le lt low. swept.rest n le low ∙ reached None ss s n (omega (arith, lt, within))) line' step;
       rest = λ n le low. swept.rest n (omega (arith, le, later)) low;
     }
 
@@ -153,18 +108,7 @@ module _ {T : Type 0} where
 
   -- at first no number has a value
   pub swept_first : (top : ℕ) (same : T → T → Bool) (line : List (ℕ × Option T)) (at : ℕ) → line ≡ [] → at ≡ 0 → IsSweptTo top same (λ n. None) line at ((top, None) ∷ [])
-  swept_first top same [] at none zero = record {
-    done = record {
-      some = λ lt. absurd (omega (arith, lt, zero));
-      first = λ d lt. absurd (omega (arith, lt));
-      rising = λ j k d lt in_it. absurd (omega (arith, in_it));
-      merged = λ k d in_it. absurd (omega (arith, in_it));
-      below = λ k d lt. absurd (omega (arith, lt));
-      right = λ exact n lt low. absurd (omega (arith, lt, zero));
-    };
-    rest = λ n le low. sym (reached None [] (top, None) n low);
-  }
-  swept_first top same (x ∷ xs) at none zero = cc
+  swept_first top same line at none zero = record { done = done_none top same (λ n. None) line at none zero; rest = λ n le low. sym (reached None [] (top, None) n low) }
 
   -- other values that are the same
   pub swept_as : (top : ℕ) (same : T → T → Bool) (of of' : ℕ → Option T) (line : List (ℕ × Option T)) (at : ℕ) (ss : List (ℕ × Option T)) → ((n : ℕ) → n < top → of' n ≡ of n) → IsSweptTo top same of line at ss → IsSweptTo top same of' line at ss

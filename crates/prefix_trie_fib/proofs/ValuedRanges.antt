@@ -157,10 +157,6 @@ module _ {T : Type 0} (w : ℕ) where
 
   -- ---- one by one
 
-  -- at the end none is left
-  pub none_left : (rs : List (ℕ × Option T)) (i : ℕ) → length rs ≤ i → valued_ranges w (drop i rs) ≡ []
-  none_left rs i le = ap (valued_ranges w) (drop_all i rs le)
-
   next_is : (rs : List (ℕ × Option T)) (i : ℕ) (d : ℕ × Option T) → i < length rs → drop i rs ≡ get_or rs i d ∷ drop (i + 1) rs
   next_is rs i d lt = rw add-one (drop-cons rs i d lt)
 

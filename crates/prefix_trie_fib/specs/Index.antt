@@ -24,6 +24,10 @@ module _ {T : Type 0} where
   IsChunk rs low high (Many first) = StartsBy rs first low
   IsChunk rs low high (Split more base) = ⊥
 
+  -- an entry is right for numbers around this one
+  abbrev pub IsEntryAt : List (ℕ × Option T) → ℕ → Chunk T → Type 0
+  IsEntryAt rs n entry = (low : ℕ) × (high : ℕ) × IsChunk rs low high entry × (low ≤ n) × (n < high)
+
   -- the chunk is not split
   abbrev pub IsWhole : Chunk T → Type 0
   IsWhole Gap = ⊤

@@ -5,7 +5,7 @@ use Rattle.prefix_trie_fib.specs.Line.{AreMerged, StartBelow, are_same, value_al
 use Rattle.prefix_trie_fib.specs.Networks.{end_of}
 
 module _ {T : Type 0} where
-  -- the value of the last stretch that does not end by n, or h if there is none, where a stretch has the number where it ends and a value
+  -- A stretch is the number where it ends, and a value. This is the value of the last one that does not end by n, or h if all do.
   abbrev pub value_within : Option T → List (ℕ × Option T) → ℕ → Option T
   value_within h [] n = h
   value_within h (s ∷ ss) n = value_within (cond (nat_le s.0 n) h s.1) ss n

@@ -27,8 +27,8 @@ pub use walk::Ranges;
 /// addresses are kept as 64 bits if no other bit of them is 1, as in most tables of IPv6 routes.
 ///
 /// The table does not change when the map does. After changes of the map, compile it again and replace the table:
-/// `fib = Fib::new(&map, alloc)?`. This takes less time than building the map, however little changed. Until it returns,
-/// the old table can be used.
+/// `fib = Fib::new(&map, alloc)?`. This takes about as long as building the map, or less, however little changed. Until
+/// it returns, the old table can be used.
 ///
 /// # Examples
 ///
@@ -59,8 +59,8 @@ impl<P: Prefix, T: Copy + PartialEq, A: Allocator> Model for Fib<P, T, A> {
 impl<P: Prefix, T: Copy + PartialEq, A: Allocator + Clone> Fib<P, T, A> {
     /// Compiles a map.
     ///
-    /// The time is that of a walk over the map. Maps with the same entries have the same table, if a value equals itself
-    /// and no other. See `fib_laws`.
+    /// The time is that of a walk over the map and of one along the ranges. Maps with the same entries have the same
+    /// table, if a value equals itself and no other. See `fib_laws`.
     ///
     /// # Errors
     ///

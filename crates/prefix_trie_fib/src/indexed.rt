@@ -2,7 +2,7 @@
 ghost use Rattle.std.specs.Prelude.{◌≡◌, ℕ, ◌^◌, ◌<◌, ◌≤◌, IfErr, IfOk, None, Option, length, slice_index_or};
 ghost use Rattle.prefix_trie_bits.specs.Model.Bits.{number};
 ghost use Rattle.prefix_trie_bits.specs.declared.prefix.Refusal.TheVariants.{IndexRange};
-ghost use Rattle.prefix_trie_fib.specs.Index.{IsChunk, IsTop};
+ghost use Rattle.prefix_trie_fib.specs.Index.{IsEntryAt, IsTop};
 ghost use Rattle.prefix_trie_fib.specs.Line.{IsDivision, value_along};
 
 mod bulk;
@@ -114,8 +114,7 @@ impl<K: Key, T: Copy, A: Allocator> Indexed<K, T, A> {
     #[inline(always)]
     fn chunk(&self, top: u32, address: K) -> Chunk<T>
         requires { IsTop top (K.bits address) }
-        ensures { (low : ℕ) × (high : ℕ) × IsChunk self.now low high result
-            × (low ≤ number (K.bits address)) × (number (K.bits address) < high) }
+        ensures { IsEntryAt self.now (number (K.bits address)) result }
     {
         let _ = address.is_key();
         let entry = self.index.chunks[chunk_of(top, self.rest)];

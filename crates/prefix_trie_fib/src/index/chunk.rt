@@ -1,7 +1,7 @@
 //! What a lookup reads first: the entry of a chunk of addresses.
-ghost use Rattle.std.specs.Prelude.{◌≡◌, ℕ, ◌<◌, ◌≤◌, MatchOption, None};
+ghost use Rattle.std.specs.Prelude.{◌≡◌, MatchOption, None};
 ghost use Rattle.prefix_trie_bits.specs.Model.Bits.{number};
-ghost use Rattle.prefix_trie_fib.specs.Index.{IsChunk, IsWhole};
+ghost use Rattle.prefix_trie_fib.specs.Index.{IsEntryAt, IsWhole};
 ghost use Rattle.prefix_trie_fib.specs.declared.index.chunk.Chunk.TheVariants.{Split};
 ghost use Rattle.prefix_trie_fib.specs.Line.{IsDivision, value_along};
 
@@ -48,8 +48,7 @@ impl<T: Copy> Chunk<T> {
     #[inline(always)]
     pub(crate) fn value<K: Key, A: Allocator>(self, line: &Line<K, T, A>, address: K) -> Option<T>
         requires division { IsDivision line.now }
-        requires right { (low : ℕ) × (high : ℕ) × IsChunk line.now low high self
-            × (low ≤ number (K.bits address)) × (number (K.bits address) < high) }
+        requires right { IsEntryAt line.now (number (K.bits address)) self }
         ensures { result ≡ value_along None line.now (number (K.bits address)) }
     {
         match self {
@@ -61,7 +60,7 @@ impl<T: Copy> Chunk<T> {
             Chunk::Several(count, first) => {
                 line.value(line.range_among(first as usize, count as usize, address))
             }
-            Chunk::Many(first) => line.value(line.range_from(first as usize, address)),
+            Chunk::Many(first) => line.value(line.range_in_rest(first as usize, address)),
             Chunk::Gap | Chunk::Split(_, _) => None,
         }
     }

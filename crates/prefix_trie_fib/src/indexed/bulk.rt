@@ -4,8 +4,8 @@
 //! the entries of all addresses together, and then their ranges.
 ghost use Rattle.std.specs.Prelude.{◌≡◌, ℕ, ◌+◌, ◌<◌, ◌≤◌, None, Option, length, slice_index_or};
 ghost use Rattle.prefix_trie_bits.specs.Model.Bits.{number};
-ghost use Rattle.prefix_trie_fib.specs.Bulk.{AreTops, HaveEntries, HaveWholeEntries, IsEntryAt};
-ghost use Rattle.prefix_trie_fib.specs.Index.{IsTop, IsWhole};
+ghost use Rattle.prefix_trie_fib.specs.Bulk.{AreTops, HaveEntries, HaveWholeEntries};
+ghost use Rattle.prefix_trie_fib.specs.Index.{IsEntryAt, IsTop, IsWhole};
 ghost use Rattle.prefix_trie_fib.specs.Line.{value_along};
 
 use crate::index::{Chunk, chunk_of};
@@ -14,7 +14,7 @@ use prefix_trie_bits::prefix::Key;
 use std::alloc::Allocator;
 
 /// The number of addresses that are looked up side by side.
-pub(crate) const GROUP: usize = 16;
+pub(crate) const GROUP: usize = 32;
 
 impl<K: Key, T: Copy, A: Allocator> Indexed<K, T, A> {
     /// Looks up the addresses of a group, whose first 30 bits have the numbers `tops`.
@@ -29,7 +29,7 @@ impl<K: Key, T: Copy, A: Allocator> Indexed<K, T, A> {
         out: &mut [Option<T>],
     )
         requires tops { AreTops K.bits addresses.now tops.now }
-        requires few { length addresses.now ≤ 16 }
+        requires few { length addresses.now ≤ 32 }
         requires inside { from + length addresses.now ≤ length out.old }
         ensures kept { (k : ℕ) (v : Option T) → k < from
             → slice_index_or out.new k v ≡ slice_index_or out.old k v }

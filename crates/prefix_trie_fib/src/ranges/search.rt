@@ -28,15 +28,20 @@ pub(crate) fn is_at_most<K: Key>(a: K, b: K) -> bool
 impl<K: Key, T: Copy, A: Allocator> Line<K, T, A> {
     /// Returns the range of an address: the last one that starts at the address or before it.
     ///
-    /// Requires that the range `first` starts at the address or before it. The time grows with the logarithm of the
-    /// number of ranges between the two.
+    /// Requires that the range `first` starts at the address or before it. It reads one range after the other from
+    /// there on, so a walk from address to address reads each range once.
+    #[inline]
     pub(crate) fn range_from(&self, first: usize, address: K) -> usize
         requires division { IsDivision self.now }
         requires by { StartsBy self.now first (number (K.bits address)) }
         ensures { IsRangeOf self.now result (number (K.bits address)) }
     {
-        let count = self.reach(first, address);
-        self.range_among(first, count, address)
+        let len = self.len();
+        let mut past = first + 1;
+        while past < len && is_at_most(self.start(past), address) {
+            past += 1;
+        }
+        past - 1
     }
 
     /// Returns the range of an address, which is one of the `count` ranges from `first` on.
@@ -55,10 +60,22 @@ impl<K: Key, T: Copy, A: Allocator> Line<K, T, A> {
         self.range_among_few(base, size, address)
     }
 
+    /// Returns the range of an address, which is one of those from `first` on.
+    ///
+    /// Requires that the range `first` starts at the address or before it.
+    #[inline(never)]
+    pub(crate) fn range_in_rest(&self, first: usize, address: K) -> usize
+        requires division { IsDivision self.now }
+        requires by { StartsBy self.now first (number (K.bits address)) }
+        ensures { IsRangeOf self.now result (number (K.bits address)) }
+    {
+        self.range_among(first, self.len() - first, address)
+    }
+
     /// Returns the range of an address, which is one of at most 16.
     ///
     /// Its steps are written out, because the compiler makes a branch of a step in a loop, which the processor guesses
-    /// wrong half the time.
+    /// wrong half the time. The last step is left out where three are enough, as for most chunks.
     #[inline(always)]
     fn range_among_few(&self, first: usize, count: usize, address: K) -> usize
         requires division { IsDivision self.now }
@@ -71,6 +88,9 @@ impl<K: Key, T: Copy, A: Allocator> Line<K, T, A> {
         let third = self.half(second, half, address);
         let quarter = half - half / 2;
         let fourth = self.half(third, quarter, address);
+        if count <= 8 {
+            return fourth;
+        }
         self.half(fourth, quarter - quarter / 2, address)
     }
 
@@ -89,25 +109,5 @@ impl<K: Key, T: Copy, A: Allocator> Line<K, T, A> {
         } else {
             first
         }
-    }
-
-    /// Returns how many ranges from `first` on can be that of an address, by doubling their number.
-    ///
-    /// Requires that the range `first` starts at the address or before it.
-    fn reach(&self, first: usize, address: K) -> usize
-        requires division { IsDivision self.now }
-        requires by { StartsBy self.now first (number (K.bits address)) }
-        ensures { IsAmong self.now first result (number (K.bits address)) }
-    {
-        let left = self.len() - first;
-        let mut count = 1;
-        while count < left {
-            if is_at_most(self.start(first + count), address) {
-                count += count.min(left - count);
-            } else {
-                return count;
-            }
-        }
-        left
     }
 }

@@ -26,7 +26,7 @@ pub(super) struct Sweep<K: Key, T: Copy + PartialEq, A: Allocator> {
 }
 
 impl<K: Key, T: Copy + PartialEq, A: Allocator> Sweep<K, T, A> {
-    /// Begins at the address 0, where no address has a value.
+    /// Begins at the address 0. No address has a value yet.
     pub(super) fn new(line: Line<K, T, A>, alloc: A) -> Self
         requires { line ≡ [] }
         ensures nothing { IsSweep K.bit_width K.bits T.PartialEq.eq (λ _. None)

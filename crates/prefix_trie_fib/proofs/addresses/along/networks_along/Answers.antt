@@ -4,7 +4,8 @@ use Rattle.std.proofs.lemmas.List.Elements.{All-nil}
 use Rattle.prefix_trie_bits.specs.Model.Bits.{number}
 use Rattle.prefix_trie_fib.specs.Addresses.{has_value, start_or_end}
 use Rattle.prefix_trie_fib.specs.Networks.{AreFewest}
-use Rattle.prefix_trie_fib.proofs.Alternating.{end_out, next_without, range_has, range_skipped, some_in_range, start_in}
+use Rattle.prefix_trie_fib.proofs.Alternating.{next_without, range_has, range_skipped}
+use Rattle.prefix_trie_fib.proofs.RangeValues.{end_out, some_in_range, start_in}
 use Rattle.prefix_trie_fib.proofs.Blocks.{below_line}
 use Rattle.prefix_trie_fib.proofs.Fewest.{fewest_none}
 use Rattle.prefix_trie_fib.proofs.addresses.along.networks_along.Goals as goal
@@ -55,7 +56,7 @@ loop-i-preserved g c =
             fewest = subst (λ v. AreFewest w (has_value line) (start_or_end w line (i + 1)) (map path v.items)) (sym b.networks-is)
                 (subst (λ n. AreFewest w (has_value line) n (map path b.push_networks.new.networks.items)) end
                 (b.in_ok-len.ensures.fewest (has_value line)
-                (λ n a z. range_has w line c.requires.division i inside low true has n (omega (arith, here, a)) (omega (arith, z, end)))
+                (λ n a z. range_has w line c.requires.division i inside true has n (omega (arith, here, a)) (omega (arith, z, end)))
                 (λ less. ap (has_value line) end ∙ next_without w line c.requires.division c.requires.merged i inside has (omega (arith, less, end)))
                 (subst (λ n. AreFewest w (has_value line) n (map path c.loop-i.networks.items)) here c.loop-i.invariant.fewest)));
           }

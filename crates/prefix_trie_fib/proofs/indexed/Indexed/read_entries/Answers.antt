@@ -1,8 +1,7 @@
 -- One more address has the entry of its chunk.
 use Rattle.std.proofs.Common.{◌∙◌, ◌<◌, arith, get_or, length, subst}
 use Rattle.prefix_trie_bits.specs.Model.Bits.{number}
-use Rattle.prefix_trie_fib.specs.Bulk.{IsEntryAt}
-use Rattle.prefix_trie_fib.specs.Index.{IsWhole}
+use Rattle.prefix_trie_fib.specs.Index.{IsEntryAt, IsWhole}
 use Rattle.prefix_trie_fib.proofs.Groups.{each_set}
 use Rattle.prefix_trie_fib.proofs.RangeValues.{get_or-any}
 use Rattle.prefix_trie_fib.proofs.indexed.Indexed.read_entries.Goals as goal

@@ -4,8 +4,7 @@ use Rattle.std.proofs.lemmas.Bool.{cases_lt}
 use Rattle.std.proofs.lemmas.List.{get_or-set_other}
 use Rattle.prefix_trie_bits.specs.Model.Bits.{number}
 use Rattle.prefix_trie_fib.specs.declared.index.chunk.Chunk.TheVariants.{Split}
-use Rattle.prefix_trie_fib.specs.Bulk.{IsEntryAt}
-use Rattle.prefix_trie_fib.specs.Index.{IsWhole}
+use Rattle.prefix_trie_fib.specs.Index.{IsEntryAt, IsWhole}
 use Rattle.prefix_trie_fib.proofs.Groups.{each_set, of_none}
 use Rattle.prefix_trie_fib.proofs.RangeValues.{get_or-any}
 use Rattle.prefix_trie_fib.proofs.indexed.Indexed.read_parts.Goals.{then-is_some, else-is_some}

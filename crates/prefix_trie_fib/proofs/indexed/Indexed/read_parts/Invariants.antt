@@ -1,8 +1,7 @@
 -- The invariant: the first addresses have their entries, and the others those of their chunks.
 use Rattle.std.proofs.Common.{◌<◌, ◌≤◌, ℕ, get_or, length}
 use Rattle.prefix_trie_bits.specs.Model.Bits.{number}
-use Rattle.prefix_trie_fib.specs.Bulk.{IsEntryAt}
-use Rattle.prefix_trie_fib.specs.Index.{IsWhole}
+use Rattle.prefix_trie_fib.specs.Index.{IsEntryAt, IsWhole}
 use Rattle.prefix_trie_fib.proofs.indexed.Indexed.read_parts.Given as goal
 
 abbrev pub invariant-loop-i : goal.invariant-loop-i

@@ -2,7 +2,7 @@
 use Rattle.std.proofs.Common.{◌≡◌, ◌≢◌, ◌∙◌, ◌+◌, ◌<◌, None, ap, arith, get_or, length, rules, subst, sym}
 use Rattle.std.proofs.lemmas.List.{get_or-set_other}
 use Rattle.prefix_trie_bits.specs.Model.Bits.{number}
-use Rattle.prefix_trie_fib.specs.Bulk.{IsEntryAt}
+use Rattle.prefix_trie_fib.specs.Index.{IsEntryAt}
 use Rattle.prefix_trie_fib.specs.Line.{value_along}
 use Rattle.prefix_trie_fib.proofs.Groups.{each_set_from}
 use Rattle.prefix_trie_fib.proofs.RangeValues.{get_or-any}

@@ -1,16 +1,13 @@
--- The invariant: the ranges so far are those of the cuts read, start at keys, and are right for each number before the next cut.
-use Rattle.std.proofs.Common.{◌≡◌, ◌^◌, Bool, List, Option, None, true}
-use Rattle.prefix_trie_bits.specs.Model.Bits.{digits}
-use Rattle.prefix_trie_fib.specs.Line.{AreMerged, AreValuesAt, IsSteady, StartBelow, are_same, numbers}
-use Rattle.prefix_trie_fib.proofs.RangeValues.{AreOfCuts, AreRight}
+-- The invariant: the ranges so far are merged and right for each number before the next cut, and start at keys.
+use Rattle.std.proofs.Common.{◌≡◌, ◌^◌, ◌<◌, ℕ, length, get_or, None}
+use Rattle.prefix_trie_fib.specs.Addresses.{start_or_end}
+use Rattle.prefix_trie_fib.specs.Line.{value_along}
+use Rattle.prefix_trie_fib.specs.Sweep.{IsDoneTo}
+use Rattle.prefix_trie_fib.proofs.CutRanges.{between}
 use Rattle.prefix_trie_fib.proofs.ranges.merge.line_of.Given as goal
 
 abbrev pub invariant-loop-i : goal.invariant-loop-i
 invariant-loop-i g l = record {
-  of_cuts : AreOfCuts (numbers g.K.Key.bits l.cuts) l.i l.line;
-  merged : AreMerged (are_same g.T.PartialEq.eq) l.line;
-  below : StartBelow (2 ^ g.K.Key.bit_width) l.line;
-  right : (of : List Bool → Option g.row.T.Denot) → IsSteady g.K.Key.bit_width (numbers g.K.Key.bits l.cuts) of → AreValuesAt g.K.Key.bits of l.cuts l.values
-      → ((x y : g.row.T.Denot) → g.T.PartialEq.eq x y ≡ true → x ≡ y)
-      → AreRight (λ n. of (digits g.K.Key.bit_width n)) None (2 ^ g.K.Key.bit_width) (numbers g.K.Key.bits l.cuts) l.i l.line;
+  done : IsDoneTo (2 ^ g.K.Key.bit_width) g.T.PartialEq.eq (value_along None (between g.K.Key.bits l.cuts l.values)) l.line (start_or_end g.K.Key.bit_width (between g.K.Key.bits l.cuts l.values) l.i);
+  long : (k : ℕ) (d : _) → k < l.i → length (g.K.Key.bits (get_or l.cuts k d)) ≡ g.K.Key.bit_width;
 }

@@ -34,4 +34,4 @@ returns-in-Several g c =
 
 pub returns-in-Many : goal.returns-in-Many
 returns-in-Many g c =
-    c.value-in-Many.ensures (0, None) ∙ sym (value_of_range c.args.line.now c.requires.division None c.range_from.result (number (g.K.Key.bits c.args.address)) (0, None) c.range_from.ensures)
+    c.value-in-Many.ensures (0, None) ∙ sym (value_of_range c.args.line.now c.requires.division None c.range_in_rest.result (number (g.K.Key.bits c.args.address)) (0, None) c.range_in_rest.ensures)
