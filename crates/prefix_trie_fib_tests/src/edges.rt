@@ -48,9 +48,10 @@ fn scattered(alloc: Global) -> Result<PrefixMap<(u32, u8), u32, Global>, Refusal
     Ok(map)
 }
 
-/// Returns whether these networks share a chunk, and the table agrees with the map at each and at its neighbours.
+/// Returns whether one of 256 chunks is split into 128 parts, and the table agrees with the map at each network and at its
+/// neighbours.
 fn is_split(map: &PrefixMap<(u32, u8), u32, Global>, fib: &Fib<(u32, u8), u32, Global>) -> bool {
-    let mut all = fib.index_slots() == 256;
+    let mut all = fib.index_slots() == 256 && fib.slots() - fib.len() == 384;
     for i in 0..200_u32 {
         let host = 0x0a00_0000 + i * 0x8003;
         all &= agrees_at(map, fib, host - 1);
