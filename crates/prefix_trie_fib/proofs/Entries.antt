@@ -1,16 +1,15 @@
 -- Entries of an index: what one says of its chunk, and what stays right when more are appended.
 use Rattle.std.proofs.Common.{◌≡◌, ◌∙◌, inl, inr, ℕ, ◌+◌, ◌-◌, ◌*◌, ◌^◌, ◌<◌, ◌≤◌, List, [], ◌∷◌, ◌++◌, length, length-append, get_or, Option, None, Some, ap, sym, subst, arith, refl, pow-add, pow_pos}
-use Rattle.std.proofs.Math.Nat.{add-mul, lt_of_mul-lt-mul_right, mul-le-mul_right, mul-lt-mul_of_pos_right, mul_assoc}
+use Rattle.std.proofs.Math.Nat.{lt_of_mul-lt-mul_right, mul-le-mul_right, mul-lt-mul_of_pos_right, mul_assoc}
 use Rattle.std.proofs.Math.Seq.{get_or-append_seam}
 use Rattle.std.proofs.lemmas.Bool.{cases_lt}
 use Rattle.std.proofs.lemmas.List.{get_or_append_left}
 use Rattle.std.specs.Option.{IfSome, MatchOption, unwrap_or}
 use Rattle.prefix_trie_fib.specs.declared.index.chunk.Chunk.{Chunk}
-use Rattle.prefix_trie_fib.specs.declared.index.chunk.Chunk.TheVariants.{Full, Gap, Many, One, Several, Split}
+use Rattle.prefix_trie_fib.specs.declared.index.chunk.Chunk.TheVariants.{Alone, Bitmap, Full, Many, Several, Split}
 use Rattle.prefix_trie_fib.specs.Index.{Extends, HasParts, IsChunk, IsEntry, IsIndex, IsWhole}
-use Rattle.prefix_trie_fib.specs.Line.{IsDivision, value_along}
+use Rattle.prefix_trie_fib.specs.Line.{IsDivision}
 use Rattle.prefix_trie_fib.specs.Search.{IsAmong, IsRangeOf, StartsBy}
-use Rattle.prefix_trie_fib.proofs.RangeValues.{value_of_range}
 
 module _ {V : Type 0} (rs : List (ℕ × V)) where
   -- a range that starts by a number starts by a greater one
@@ -60,15 +59,15 @@ module _ {T : Type 0} where
   }
 
   module _ (rs : List (ℕ × Option T)) where
-    parts_kept : (size count : ℕ) (parts more : List (Chunk T)) (base q : ℕ) → Extends parts more → HasParts rs size count parts base q → HasParts rs size count more base q
-    parts_kept size count parts more base q ext has = record {
+    parts_kept : (w bits count : ℕ) (parts more : List (Chunk T)) (base q : ℕ) → Extends parts more → HasParts w bits rs count parts base q → HasParts w bits rs count more base q
+    parts_kept w bits count parts more base q ext has = record {
       inside = let i = has.inside in let l = ext.longer in omega (arith, i, l);
-      right = λ p d lt. subst (IsChunk rs ((q + p) * size) ((q + p + 1) * size)) (sym (ext.same (base + p) d (let i = has.inside in omega (arith, i, lt)))) (has.right p d lt);
+      right = λ p d lt. subst (IsChunk w bits rs (q + p)) (sym (ext.same (base + p) d (let i = has.inside in omega (arith, i, lt)))) (has.right p d lt);
     }
 
     entry_kept : (w bits c : ℕ) (parts more : List (Chunk T)) (x : Chunk T) → Extends parts more → IsEntry w bits rs parts c x → IsEntry w bits rs more c x
-    entry_kept w bits c parts more Gap ext h = h
-    entry_kept w bits c parts more (One v) ext h = h
+    entry_kept w bits c parts more (Alone valued v) ext h = h
+    entry_kept w bits c parts more (Bitmap rest starts first) ext h = h
     entry_kept w bits c parts more (Full count first) ext h = h
     entry_kept w bits c parts more (Several count first) ext h = h
     entry_kept w bits c parts more (Many first) ext h = h
@@ -76,22 +75,22 @@ module _ {T : Type 0} where
       some = h.some;
       few = h.few;
       within = h.within;
-      has_parts = parts_kept (2 ^ (w - (bits + p))) (2 ^ p) parts more base (c * 2 ^ p) ext h.has_parts;
+      has_parts = parts_kept w (bits + p) (2 ^ p) parts more base (c * 2 ^ p) ext h.has_parts;
     }
 
     -- an entry of the whole chunk
-    pub whole_entry : (w bits c : ℕ) (parts : List (Chunk T)) (x : Chunk T) → IsChunk rs (c * 2 ^ (w - bits)) ((c + 1) * 2 ^ (w - bits)) x → IsEntry w bits rs parts c x
-    whole_entry w bits c parts Gap h = h
-    whole_entry w bits c parts (One v) h = h
-    whole_entry w bits c parts (Full count first) h = h
-    whole_entry w bits c parts (Several count first) h = h
-    whole_entry w bits c parts (Many first) h = h
-    whole_entry w bits c parts (Split p base) h = absurd h
+    pub whole_entry : (w bits c : ℕ) (parts : List (Chunk T)) (x : Chunk T) → IsWhole x → IsChunk w bits rs c x → IsEntry w bits rs parts c x
+    whole_entry w bits c parts (Alone valued v) t h = h
+    whole_entry w bits c parts (Bitmap rest starts first) t h = h
+    whole_entry w bits c parts (Full count first) t h = h
+    whole_entry w bits c parts (Several count first) t h = h
+    whole_entry w bits c parts (Many first) t h = h
+    whole_entry w bits c parts (Split p base) t h = absurd t
 
     -- the entry of a chunk that is not split is one of the whole chunk
-    pub entry_of_whole : (w bits c : ℕ) (parts : List (Chunk T)) (x : Chunk T) → IsWhole x → IsEntry w bits rs parts c x → IsChunk rs (c * 2 ^ (w - bits)) ((c + 1) * 2 ^ (w - bits)) x
-    entry_of_whole w bits c parts Gap t h = h
-    entry_of_whole w bits c parts (One v) t h = h
+    pub entry_of_whole : (w bits c : ℕ) (parts : List (Chunk T)) (x : Chunk T) → IsWhole x → IsEntry w bits rs parts c x → IsChunk w bits rs c x
+    entry_of_whole w bits c parts (Alone valued v) t h = h
+    entry_of_whole w bits c parts (Bitmap rest starts first) t h = h
     entry_of_whole w bits c parts (Full count first) t h = h
     entry_of_whole w bits c parts (Several count first) t h = h
     entry_of_whole w bits c parts (Many first) t h = h
@@ -110,48 +109,36 @@ module _ {T : Type 0} where
         ]
 
   -- the entries of the first i parts of a chunk from low on are appended
-  pub record PartsSoFar (rs : List (ℕ × Option T)) (low step : ℕ) (old now : List (Chunk T)) (i : ℕ) : Type 0 where
+  pub record PartsSoFar (w bits : ℕ) (rs : List (ℕ × Option T)) (low : ℕ) (old now : List (Chunk T)) (i : ℕ) : Type 0 where
     pub extends : Extends old now
     pub long : length now ≡ length old + i
-    pub right : (p : ℕ) (d : Chunk T) → p < i → IsChunk rs (low + p * step) (low + (p + 1) * step) (get_or now (length old + p) d)
+    pub right : (q p : ℕ) (d : Chunk T) → low ≡ q * 2 ^ (w - bits) → p < i → IsChunk w bits rs (q + p) (get_or now (length old + p) d)
 
-  module _ (rs : List (ℕ × Option T)) (low step : ℕ) (old : List (Chunk T)) where
-    pub no_parts : PartsSoFar rs low step old old 0
-    no_parts = record { extends = extends_self old; long = omega arith; right = λ p d lt. absurd (omega (arith, lt)) }
+  module _ (w bits : ℕ) (rs : List (ℕ × Option T)) (low : ℕ) (old : List (Chunk T)) where
+    pub no_parts : PartsSoFar w bits rs low old old 0
+    no_parts = record { extends = extends_self old; long = omega arith; right = λ q p d is lt. absurd (omega (arith, lt)) }
 
-    pub part_pushed : (now : List (Chunk T)) (i : ℕ) (x : Chunk T) → PartsSoFar rs low step old now i → IsChunk rs (low + i * step) (low + (i + 1) * step) x → PartsSoFar rs low step old (now ++ x ∷ []) (i + 1)
+    pub part_pushed : (now : List (Chunk T)) (i : ℕ) (x : Chunk T) → PartsSoFar w bits rs low old now i → ((q : ℕ) → low ≡ q * 2 ^ (w - bits) → IsChunk w bits rs (q + i) x) → PartsSoFar w bits rs low old (now ++ x ∷ []) (i + 1)
     part_pushed now i x so_far here = record {
       extends = extends_pushed old now x so_far.extends;
       long = length-append now (x ∷ []) ∙ (let l = so_far.long in omega (arith, l));
-      right = λ p d lt. let long = so_far.long in elim (cases_lt p i) [
-        | inl before ↦ subst (IsChunk rs (low + p * step) (low + (p + 1) * step)) (sym (get_or_append_left now (x ∷ []) d (length old + p) (omega (arith, before, long)))) (so_far.right p d before)
+      right = λ q p d from lt. let long = so_far.long in elim (cases_lt p i) [
+        | inl before ↦ subst (IsChunk w bits rs (q + p)) (sym (get_or_append_left now (x ∷ []) d (length old + p) (omega (arith, before, long)))) (so_far.right q p d from before)
         | inr at ↦
             let is : p ≡ i = omega (arith, lt, at) in
             let place : length old + p ≡ length now = omega (arith, is, long) in
-            subst (IsChunk rs (low + p * step) (low + (p + 1) * step)) (sym (ap (λ k. get_or (now ++ x ∷ []) k d) place ∙ get_or-append_seam now x [] d))
-            (subst (λ k. IsChunk rs (low + k * step) (low + (k + 1) * step) x) (sym is) here)
+            subst (IsChunk w bits rs (q + p)) (sym (ap (λ k. get_or (now ++ x ∷ []) k d) place ∙ get_or-append_seam now x [] d))
+            (subst (λ k. IsChunk w bits rs (q + k) x) (sym is) (here q from))
       ];
     }
 
-    pub all_parts : (now : List (Chunk T)) (i q count : ℕ) → count ≤ i → low ≡ q * step → PartsSoFar rs low step old now i → HasParts rs step count now (length old) q
+    pub all_parts : (now : List (Chunk T)) (i q count : ℕ) → count ≤ i → low ≡ q * 2 ^ (w - bits) → PartsSoFar w bits rs low old now i → HasParts w bits rs count now (length old) q
     all_parts now i q count all is so_far = record {
       inside = let l = so_far.long in omega (arith, l, all);
-      right = λ p d lt.
-          let from : low + p * step ≡ (q + p) * step = (let m = add-mul q p step in omega (arith, m, is)) in
-          let to : low + (p + 1) * step ≡ (q + p + 1) * step = (let m = add-mul (q + p) 1 step in let n = add-mul p 1 step in omega (arith, m, n, from)) in
-          subst (λ n. IsChunk rs ((q + p) * step) n (get_or now (length old + p) d)) to
-          (subst (λ n. IsChunk rs n (low + (p + 1) * step) (get_or now (length old + p) d)) from (so_far.right p d (omega (arith, lt, all))));
+      right = λ p d lt. so_far.right q p d is (omega (arith, lt, all));
     }
 
 -- ---- what an entry says
-
--- where no range after the first one starts in a chunk, all of it has the value of the first
-pub alone_value : {T : Type 0} (rs : List (ℕ × Option T)) → IsDivision rs → (first low high : ℕ) (d : ℕ × Option T) → StartsBy rs first low
-    → ((d : ℕ × Option T) → first + 1 < length rs → high ≤ (get_or rs (first + 1) d).0) → (n : ℕ) → low ≤ n → n < high → value_along None rs n ≡ (get_or rs first d).1
-alone_value rs division first low high d starts ends n lo hi = value_of_range rs division None first n d (record {
-  starts = starts_later rs first low n lo starts;
-  ends = λ e more. let b = ends e more in omega (arith, b, hi);
-})
 
 pub match_option : {K : Type 0} (o : Option K) (P P' : Type 0) (Q Q' : K → Type 0) → (P → P') → ((k : K) → Q k → Q' k) → MatchOption o P Q → MatchOption o P' Q'
 match_option None P P' Q Q' f g h = f h
@@ -160,6 +147,10 @@ match_option (Some k) P P' Q Q' f g h = g k h
 pub if_some : {K : Type 0} (o : Option K) (P : Type 0) (Q Q' : K → Type 0) → ((k : K) → Q k → Q' k) → MatchOption o P Q → IfSome o Q'
 if_some None P Q Q' g h = tt
 if_some (Some k) P Q Q' g h = g k h
+
+pub some_too : {K : Type 0} (o : Option K) (Q Q' : K → Type 0) → ((k : K) → Q k → Q' k) → IfSome o Q → IfSome o Q'
+some_too None Q Q' g h = tt
+some_too (Some k) Q Q' g h = g k h
 
 -- the next address, or the same one at the end of the line
 pub next_or : {K : Type 0} (f : K → ℕ) (IsKey : K → Type 0) (o : Option K) (at x : K) (step top : ℕ) → MatchOption o (top ≤ f at + step) (λ k. IsKey k × (f k ≡ f at + step)) → x ≡ unwrap_or o at

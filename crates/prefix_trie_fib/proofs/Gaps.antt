@@ -1,12 +1,12 @@
 -- The ranges that a line keeps: their marks, and what one more range or one more mark changes.
 use Rattle.std.proofs.Common.{◌≡◌, ◌∙◌, zero, suc, ℕ, ◌+◌, ◌*◌, ◌/◌, ◌%◌, ◌<◌, Bool, true, false, cond, List, [], ◌∷◌, ◌++◌, length, get_or, set, Option, None, Some, is_some, not, map, ap, arith, inl, inr, refl, sym}
 use Rattle.std.proofs.lemmas.Bool.{cases_eq}
+use Rattle.std.specs.Bool.{then_some}
 use Rattle.std.specs.Option.{unwrap_or}
 use Rattle.std.proofs.lemmas.List.{get_or-map, get_or-set_other, get_or-set_same, length-map, map-append}
 use Rattle.prefix_trie_bits.proofs.Bitmaps.{has-zero}
 use Rattle.prefix_trie_bits.specs.Places.{Sets, has}
 use Rattle.prefix_trie_fib.specs.Gaps.{Marks, is_marked, with_gaps}
-use Rattle.prefix_trie_fib.proofs.RangeValues.{get_or-any}
 
 -- ---- marks
 
@@ -100,14 +100,6 @@ module _ {K T : Type 0} (start : K → ℕ) where
       ∙ ap (λ x. (x.0, cond (gap (0 + k)) None (Some x.1))) (get_or-map (λ r. (start r.0, r.1)) pairs k r e lt ∙ ap (λ x. (start x.0, x.1)) (sym is))
       ∙ ap (λ j. (start r.0, cond (gap j) None (Some r.1))) (let e : 0 + k ≡ k = omega arith in e)
 
-  -- a marked range has no value
-  pub gap_at : (gap : ℕ → Bool) (pairs : List (K × T)) (now : List (ℕ × Option T)) (k : ℕ) (d : ℕ × Option T) → ranges gap pairs ≡ now → k < length now → gap k ≡ true → None ≡ (get_or now k d).1
-  gap_at gap [] now k d view inside marked = absurd (let lt = pair_inside gap [] now k view inside in omega (arith, lt))
-  gap_at gap (p ∷ pairs) now k d view inside marked =
-      let lt = pair_inside gap (p ∷ pairs) now k view inside in
-      let r : K × T = get_or (p ∷ pairs) k p in
-      sym (ap {A = ℕ × Option T} (λ x. x.1) (range_at gap (p ∷ pairs) now k d r view inside (get_or-any (p ∷ pairs) k p r lt)) ∙ ap (λ b. cond b None (Some r.1)) marked)
-
   -- a range that has a value has that of its pair
   pub kept_at : (gap : ℕ → Bool) (pairs : List (K × T)) (now : List (ℕ × Option T)) (k : ℕ) (d : ℕ × Option T) (r : K × T) → ranges gap pairs ≡ now → k < length now → r ≡ get_or pairs k r
       → is_some (get_or now k d).1 ≡ true → Some r.1 ≡ (get_or now k d).1
@@ -129,3 +121,8 @@ module _ {K T : Type 0} (start : K → ℕ) where
       ∙ ap (λ xs. xs ++ (start r.0, cond (other (0 + length rs)) None (Some r.1)) ∷ []) (same_gaps other gap 0 rs (λ k lt. same k (omega (arith, lt, long))))
       ∙ ap (λ j. with_gaps gap 0 rs ++ (start r.0, cond (other j) None (Some r.1)) ∷ []) (let e : 0 + length rs ≡ length pairs = omega (arith, long) in e)
       ∙ ap (λ v. with_gaps gap 0 rs ++ (start r.0, v) ∷ []) is
+
+-- the value of a range that is not marked
+pub select_not : {T : Type 0} (b : Bool) (v : T) → then_some (not b) v ≡ cond b None (Some v)
+select_not true v = refl
+select_not false v = refl

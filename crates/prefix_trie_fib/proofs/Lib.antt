@@ -3,6 +3,7 @@ pub mod RangeValues
 pub mod Alternating
 pub mod CutIntervals
 pub mod Blocks
+pub mod ChunkEntries
 pub mod Chunks
 pub mod Covering
 pub mod CutKeys
@@ -10,7 +11,6 @@ pub mod CutRanges
 pub mod Entries
 pub mod Equality
 pub mod Fewest
-pub mod FoundEntries
 pub mod Gaps
 pub mod Groups
 pub mod Halves

@@ -135,7 +135,7 @@ fn combined<P: Prefix, T: Drop, U: Drop, A: Allocator, B: Allocator, C: Allocato
         (λ q. keeps operation (is_covered left.now.entries q) (is_covered right.now.entries q))) }
 {
     match_laws::<()>();
-    let copy = alloc.clone().map_err(|_| Refusal::Memory)?;
+    let copy = alloc.clone()?;
     let Ok(networks) = networks_kept(operation, left, right, copy) else {
         return Err(Refusal::Memory);
     };

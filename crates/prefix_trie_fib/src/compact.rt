@@ -158,8 +158,8 @@ impl<K: Key, T: Copy, A: Allocator + Clone> Compact<K, T, A> {
         ensures few { IfOk result (λ compact. length compact < 2 ^ 32) }
         ensures too_many { IfErr result (λ cause. cause ≡ IndexRange → 2 ^ 32 ≤ length line) }
     {
-        let first = alloc.clone().map_err(|_| Refusal::Memory)?;
-        let second = alloc.clone().map_err(|_| Refusal::Memory)?;
+        let first = alloc.clone()?;
+        let second = alloc.clone()?;
         let Ok(upper) = upper_line(&line, first) else {
             return Err(Refusal::Memory);
         };

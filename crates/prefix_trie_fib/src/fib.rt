@@ -23,8 +23,9 @@ pub use walk::Ranges;
 
 /// The longest match of each address in a map, as ranges of addresses.
 ///
-/// A lookup reads an index by the first bits of the address, and then the few ranges that begin with these bits. First
-/// addresses are kept as 64 bits if no other bit of them is 1, as in most tables of IPv6 routes.
+/// A lookup reads an index by the first bits of the address. An entry has the value of the address, or says which range it
+/// is in, or which few ranges have to be searched. First addresses are kept as 64 bits if no other bit of them is 1, as in
+/// most tables of IPv6 routes.
 ///
 /// The table does not change when the map does. After changes of the map, compile it again and replace the table:
 /// `fib = Fib::new(&map, alloc)?`. This takes about as long as building the map, or less, however little changed. Until
@@ -118,7 +119,7 @@ fn compact_of<P: Prefix, T: Copy + PartialEq, M: Allocator, A: Allocator + Clone
     let Some(filler) = some_value(map) else {
         return Ok(Compact::empty());
     };
-    let first = alloc.clone().map_err(|_| Refusal::Memory)?;
+    let first = alloc.clone()?;
     let Ok(line) = ranges_of(map, filler, first) else {
         return Err(Refusal::Memory);
     };
@@ -205,8 +206,8 @@ impl<P: Prefix, T: Copy + PartialEq, A: Allocator> Fib<P, T, A> {
 
     /// Returns the number of chunks that the index cuts the line of addresses into.
     ///
-    /// Each has an entry of the size of a value and a tag. A chunk with more than 12 ranges has more entries: 16, or a
-    /// power of two that is at most half the number of its ranges.
+    /// Each has an entry of the size of a value and a tag. A chunk with more than 12 ranges has more entries, unless its
+    /// ranges start at its sixteenths: 16, or a power of two that is at most half the number of its ranges.
     ///
     /// # Examples
     ///

@@ -1,16 +1,18 @@
 //! An index of a division of the line by the first bits of addresses.
 ghost use Rattle.std.specs.Prelude.{◌≡◌, ℕ, ◌+◌, ◌*◌, ◌-◌, ◌^◌, ◌<◌, ◌≤◌, IfOk, IfSome, IsTrue, OnOk, length};
 ghost use Rattle.prefix_trie_bits.specs.Model.Bits.{number};
-ghost use Rattle.prefix_trie_fib.specs.Index.{AreValued, Extends, HasParts, IsChunk, IsEntry, IsIndex};
+ghost use Rattle.prefix_trie_fib.specs.Index.{AreValued, Extends, HasParts, IsChunk, IsEntry, IsIndex, IsWhole};
 ghost use Rattle.prefix_trie_fib.specs.Line.{IsDivision};
 ghost use Rattle.prefix_trie_fib.specs.Search.{EndsBy, StartsBy};
 
+mod bitmap;
 mod chunk;
 mod first_bits;
 
 use crate::ranges::{Line, is_at_most};
+use bitmap::bitmap_of;
 pub(crate) use chunk::Chunk;
-pub(crate) use first_bits::{chunk_of, first_bits, part_of};
+pub(crate) use first_bits::{chunk_of, first_bits, part_of, sixteenth_of};
 use prefix_trie_bits::prefix::Key;
 use std::alloc::{AllocError, Allocator};
 
@@ -85,37 +87,38 @@ fn entry_at<K: Key, T: Copy, A: Allocator, B: Allocator>(
         → IsEntry K.bit_width bits line.now parts.new.items c entry) }
 {
     let count = count_until(line, first, next);
+    let entry = chunk_with(line, first, count, low, bits);
     let base = parts.len();
     match bits_of_part(count, bits, K::width()) {
-        Some(more) if base <= u32::MAX as usize => {
-            let step = K::power(K::width() - (bits + more));
-            push_parts(line, first, low, step, 1 << more, parts)?;
+        Some(more) if entry.is_searched() && base <= u32::MAX as usize => {
+            push_parts(line, first, low, bits + more, 1 << more, parts)?;
             Ok(Chunk::Split(more as u16, base as u32))
         }
-        _ => Ok(chunk_with(line, first, count)),
+        _ => Ok(entry),
     }
 }
 
-/// Appends the entries of `count` chunks, from the address `low` on and each of `step` addresses.
+/// Appends the entries of `count` chunks of `depth` bits, from the address `low` on.
 fn push_parts<K: Key, T: Copy, A: Allocator, B: Allocator>(
     line: &Line<K, T, A>,
     first: usize,
     low: K,
-    step: K,
+    depth: u32,
     count: usize,
     parts: &mut Vec<Chunk<T>, B>,
 ) -> Result<(), AllocError>
     requires division { IsDivision line.now }
     requires few { length line.now < 2 ^ 32 }
     requires starts { StartsBy line.now first (number (K.bits low)) }
-    requires some { 0 < number (K.bits step) }
-    requires fits { number (K.bits low) + count * number (K.bits step) ≤ 2 ^ K.bit_width }
+    requires some { 0 < depth }
+    requires within { depth ≤ K.bit_width }
+    requires fits { number (K.bits low) + count * 2 ^ (K.bit_width - depth) ≤ 2 ^ K.bit_width }
     ensures kept { OnOk result (Extends parts.old.items parts.new.items) }
     ensures right { OnOk result
-        ((q : ℕ) → number (K.bits low) ≡ q * number (K.bits step)
-        → HasParts line.now (number (K.bits step)) count parts.new.items
-        (length parts.old.items) q) }
+        ((c : ℕ) → number (K.bits low) ≡ c * 2 ^ (K.bit_width - depth)
+        → HasParts K.bit_width depth line.now count parts.new.items (length parts.old.items) c) }
 {
+    let step = K::power(K::width() - depth);
     let mut from = first;
     let mut at = low;
     for part in 0..count {
@@ -123,49 +126,62 @@ fn push_parts<K: Key, T: Copy, A: Allocator, B: Allocator>(
         let _ = part;
         let next = at.plus(step);
         from = line.range_from(from, at);
-        parts.push(chunk_at(line, from, next))?;
+        parts.push(chunk_at(line, from, at, next, depth))?;
         at = next.unwrap_or(at);
     }
     Ok(())
 }
 
-/// Returns the entry of the chunk from an address in the range `first` up to the address `next`, or to the end of the line.
+/// Returns the entry of the chunk of `depth` bits from the address `low` up to the address `next`, or to the end of the line.
 ///
 /// It is not split.
 fn chunk_at<K: Key, T: Copy, A: Allocator>(
     line: &Line<K, T, A>,
     first: usize,
+    low: K,
     next: Option<K>,
+    depth: u32,
 ) -> Chunk<T>
     requires division { IsDivision line.now }
     requires few { length line.now < 2 ^ 32 }
-    requires inside { first < length line.now }
-    requires starts { IfSome next (λ k. StartsBy line.now first (number (K.bits k))) }
-    ensures { (low high : ℕ) → StartsBy line.now first low
-        → IfSome next (λ k. high ≤ number (K.bits k)) → IsChunk line.now low high result }
+    requires starts { StartsBy line.now first (number (K.bits low)) }
+    requires up { IfSome next (λ k. number (K.bits low) ≤ number (K.bits k)) }
+    requires line { number (K.bits low) + 2 ^ (K.bit_width - depth) ≤ 2 ^ K.bit_width }
+    ensures { (c : ℕ) → number (K.bits low) ≡ c * 2 ^ (K.bit_width - depth)
+        → IfSome next (λ k. (c + 1) * 2 ^ (K.bit_width - depth) ≤ number (K.bits k))
+        → IsChunk K.bit_width depth line.now c result }
 {
-    chunk_with(line, first, count_until(line, first, next))
+    chunk_with(line, first, count_until(line, first, next), low, depth)
 }
 
-/// Returns the entry of a chunk that has the `count` ranges from `first` on. It is not split.
+/// Returns the entry of the chunk of `depth` bits from the address `low` on, which has the `count` ranges from `first` on.
+///
+/// It is not split.
 fn chunk_with<K: Key, T: Copy, A: Allocator>(
     line: &Line<K, T, A>,
     first: usize,
     count: usize,
+    low: K,
+    depth: u32,
 ) -> Chunk<T>
     requires division { IsDivision line.now }
     requires few { length line.now < 2 ^ 32 }
-    requires inside { first < length line.now }
     requires within { first + count ≤ length line.now }
-    ensures { (low high : ℕ) → StartsBy line.now first low → EndsBy line.now (first + count) high
-        → IsChunk line.now low high result }
+    requires starts { StartsBy line.now first (number (K.bits low)) }
+    requires line { number (K.bits low) + 2 ^ (K.bit_width - depth) ≤ 2 ^ K.bit_width }
+    ensures whole { IsWhole result }
+    ensures right { (c : ℕ) → number (K.bits low) ≡ c * 2 ^ (K.bit_width - depth)
+        → EndsBy line.now (first + count) ((c + 1) * 2 ^ (K.bit_width - depth))
+        → IsChunk K.bit_width depth line.now c result }
 {
     let alone = count <= 1;
     if alone {
         match line.value(first) {
-            Some(value) => Chunk::One(value),
-            None => Chunk::Gap,
+            Some(value) => Chunk::Alone(true, value),
+            None => Chunk::Alone(false, line.filler()),
         }
+    } else if let Some((rest, starts)) = bitmap_of(line, first, count, low, depth) {
+        Chunk::Bitmap(rest, starts, first as u32)
     } else if count > u16::MAX as usize {
         Chunk::Many(first as u32)
     } else if are_valued(line, first, count) {

@@ -55,7 +55,9 @@ impl<K: Key, T: Copy, A: Allocator> Indexed<K, T, A> {
             return Err(Refusal::IndexRange);
         }
         let bits = index_bits(line.len(), K::width());
-        let index = index_of(&line, bits, alloc, parts_alloc).map_err(|_| Refusal::Memory)?;
+        let Ok(index) = index_of(&line, bits, alloc, parts_alloc) else {
+            return Err(Refusal::Memory);
+        };
         let rest = 30 - bits;
         Ok(Indexed { line, index, rest })
     }
@@ -107,20 +109,22 @@ impl<K: Key, T: Copy, A: Allocator> Indexed<K, T, A> {
         requires { IsTop top (K.bits address) }
         ensures { result ≡ value_along None self.now (number (K.bits address)) }
     {
-        self.chunk(top, address).value(&self.line, address)
+        self.chunk(top, address).value(&self.line, top, address)
     }
 
     /// Returns the entry of an address: that of its chunk, or of its part of the chunk if the chunk is split.
+    ///
+    /// It is lent, since the compiler would pack a copy of it into a word, and unpack it again.
     #[inline(always)]
-    fn chunk(&self, top: u32, address: K) -> Chunk<T>
+    fn chunk(&self, top: u32, address: K) -> &Chunk<T>
         requires { IsTop top (K.bits address) }
-        ensures { IsEntryAt self.now (number (K.bits address)) result }
+        ensures { IsEntryAt self.now (K.bits address) result.now }
     {
         let _ = address.is_key();
-        let entry = self.index.chunks[chunk_of(top, self.rest)];
+        let entry = &self.index.chunks[chunk_of(top, self.rest)];
         match entry.parts() {
             Some((more, base)) => {
-                self.index.parts[base as usize + part_of(top, self.rest, more)]
+                &self.index.parts[base as usize + part_of(top, self.rest, more)]
             }
             None => entry,
         }

@@ -1,29 +1,47 @@
 //! What a lookup reads first: the entry of a chunk of addresses.
-ghost use Rattle.std.specs.Prelude.{◌≡◌, MatchOption, None};
+ghost use Rattle.std.specs.Prelude.{◌≡◌, ◌+◌, ◌/◌, ◌%◌, ◌^◌, ◌≤◌, MatchOption, None};
+ghost use Rattle.prefix_trie_bits.specs.Bitmaps.{rank as rank_of};
 ghost use Rattle.prefix_trie_bits.specs.Model.Bits.{number};
-ghost use Rattle.prefix_trie_fib.specs.Index.{IsEntryAt, IsWhole};
+ghost use Rattle.prefix_trie_fib.specs.Bulk.{bitmap_of, is_mapped, is_searched, range_at, value_alone};
+ghost use Rattle.prefix_trie_fib.specs.Index.{IsEntryAt, IsTop, IsWhole};
 ghost use Rattle.prefix_trie_fib.specs.declared.index.chunk.Chunk.TheVariants.{Split};
 ghost use Rattle.prefix_trie_fib.specs.Line.{IsDivision, value_along};
 
+use super::sixteenth_of;
 use crate::ranges::Line;
+use prefix_trie_bits::node::rank;
 use prefix_trie_bits::prefix::Key;
 use std::alloc::Allocator;
 
 /// Which ranges a chunk of addresses has.
 #[derive(Clone, Copy)]
 pub(crate) enum Chunk<T> {
-    /// One range, without a value.
-    Gap,
-    /// One range, with this value.
-    One(T),
-    /// So many ranges, from this one on, each with a value.
-    Full(u16, u32),
-    /// So many ranges, from this one on.
-    Several(u16, u32),
+    // The first of these has the tag 0, so an array of `Many(0)` is one of zeros, which is made fastest.
     /// More ranges than a `u16` counts, from this one on.
     Many(u32),
+    /// So many ranges, from this one on.
+    Several(u16, u32),
+    /// So many ranges, from this one on, each with a value.
+    Full(u16, u32),
+    /// One range: whether it has a value, and this value.
+    Alone(bool, T),
+    /// Ranges from this one on, of which all but the first start where a sixteenth of the chunk does.
+    ///
+    /// So many of the first 30 bits of an address follow those that select its sixteenth. A bit for each sixteenth says
+    /// whether a range starts there.
+    Bitmap(u8, u16, u32),
     /// The chunk is split by so many more bits, and the entries of its parts begin at this place.
     Split(u16, u32),
+}
+
+/// Returns the range of an address: `first`, or one more for each bit up to that of the sixteenth of the address.
+#[inline(always)]
+fn range_by_bitmap(rest: u8, starts: u16, first: u32, top: u32) -> usize
+    requires { rest ≤ 26 }
+    ensures { result ≡ first + rank_of starts (top / 2 ^ rest % 16 + 1) }
+{
+    let place = sixteenth_of(top, u32::from(rest));
+    first as usize + rank(u32::from(starts), place + 1) as usize
 }
 
 impl<T: Copy> Chunk<T> {
@@ -34,25 +52,100 @@ impl<T: Copy> Chunk<T> {
     {
         match self {
             Chunk::Split(more, base) => Some((u32::from(more), base)),
-            Chunk::Gap
-            | Chunk::One(_)
+            Chunk::Alone(_, _)
+            | Chunk::Bitmap(_, _, _)
             | Chunk::Full(_, _)
             | Chunk::Several(_, _)
             | Chunk::Many(_) => None,
         }
     }
 
+    /// Returns whether a lookup searches ranges.
+    #[inline(always)]
+    pub(crate) fn is_searched(self) -> bool
+        ensures { result ≡ is_searched self }
+    {
+        matches!(
+            self,
+            Chunk::Full(_, _) | Chunk::Several(_, _) | Chunk::Many(_)
+        )
+    }
+
+    /// Returns the value of the chunk if it has one range, and this range has a value.
+    ///
+    /// `filler` is any value. With it, the function compiles to selects, and no branch waits for the entry.
+    #[inline(always)]
+    pub(crate) fn alone(self, filler: T) -> Option<T>
+        ensures { result ≡ value_alone self }
+    {
+        let (valued, value) = match self {
+            Chunk::Alone(valued, value) => (valued, value),
+            Chunk::Bitmap(_, _, _)
+            | Chunk::Full(_, _)
+            | Chunk::Several(_, _)
+            | Chunk::Many(_)
+            | Chunk::Split(_, _) => (false, filler),
+        };
+        valued.then_some(value)
+    }
+
+    /// Returns whether the first bits of an address give its range.
+    #[inline(always)]
+    pub(crate) fn is_mapped(self) -> bool
+        ensures { result ≡ is_mapped self }
+    {
+        matches!(self, Chunk::Bitmap(_, _, _))
+    }
+
+    /// Returns the number of the range of an address if the first bits of the address give it.
+    ///
+    /// Otherwise, the result has no meaning. Requires that `top` is the number of the first 30 bits of the address.
+    #[inline(always)]
+    pub(crate) fn range(self, top: u32) -> usize
+        requires { (bitmap_of self).0 ≤ 26 }
+        ensures { result ≡ range_at self top }
+    {
+        let (rest, starts, first) = self.bitmap();
+        range_by_bitmap(rest, starts, first, top)
+    }
+
+    /// Returns the three fields of a bitmap, and zeros if the chunk has none.
+    ///
+    /// It compiles to selects, and the range is counted for each chunk. So no branch waits for the entry.
+    #[inline(always)]
+    fn bitmap(self) -> (u8, u16, u32)
+        ensures { result ≡ bitmap_of self }
+    {
+        match self {
+            Chunk::Bitmap(rest, starts, first) => (rest, starts, first),
+            Chunk::Alone(_, _)
+            | Chunk::Full(_, _)
+            | Chunk::Several(_, _)
+            | Chunk::Many(_)
+            | Chunk::Split(_, _) => (0, 0, 0),
+        }
+    }
+
     /// Returns the value of an address in the chunk.
     ///
-    /// Requires that the chunk is not split.
+    /// Requires that the chunk is not split, and that `top` is the number of the first 30 bits of the address.
     #[inline(always)]
-    pub(crate) fn value<K: Key, A: Allocator>(self, line: &Line<K, T, A>, address: K) -> Option<T>
+    pub(crate) fn value<K: Key, A: Allocator>(
+        self,
+        line: &Line<K, T, A>,
+        top: u32,
+        address: K,
+    ) -> Option<T>
         requires division { IsDivision line.now }
-        requires right { IsEntryAt line.now (number (K.bits address)) self }
+        requires top { IsTop top (K.bits address) }
+        requires right { IsEntryAt line.now (K.bits address) self }
         ensures { result ≡ value_along None line.now (number (K.bits address)) }
     {
         match self {
-            Chunk::One(value) => Some(value),
+            Chunk::Alone(true, value) => Some(value),
+            Chunk::Bitmap(rest, starts, first) => {
+                line.value(range_by_bitmap(rest, starts, first, top))
+            }
             // No mark is read.
             Chunk::Full(count, first) => {
                 Some(line.kept(line.range_among(first as usize, count as usize, address)))
@@ -61,7 +154,7 @@ impl<T: Copy> Chunk<T> {
                 line.value(line.range_among(first as usize, count as usize, address))
             }
             Chunk::Many(first) => line.value(line.range_in_rest(first as usize, address)),
-            Chunk::Gap | Chunk::Split(_, _) => None,
+            Chunk::Alone(false, _) | Chunk::Split(_, _) => None,
         }
     }
 }

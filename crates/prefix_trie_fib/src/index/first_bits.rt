@@ -1,5 +1,5 @@
 //! The first bits of an address, as numbers: its chunk, and its part of the chunk.
-ghost use Rattle.std.specs.Prelude.{◌≡◌, ◌+◌, ◌-◌, ◌*◌, ◌^◌, ◌<◌, ◌≤◌, ◌++◌, Bool, List, length, take};
+ghost use Rattle.std.specs.Prelude.{◌≡◌, ◌+◌, ◌-◌, ◌*◌, ◌/◌, ◌%◌, ◌^◌, ◌<◌, ◌≤◌, ◌++◌, Bool, List, length, take};
 ghost use Rattle.prefix_trie_bits.specs.Model.Bits.{number, zeros};
 ghost use Rattle.prefix_trie_fib.specs.Index.{IsTop};
 
@@ -30,6 +30,18 @@ pub(crate) fn part_of(top: u32, rest: u32, more: u32) -> usize
     ensures small { result < 2 ^ more }
 {
     (top << (32 - rest) >> (32 - more)) as usize
+}
+
+/// Returns the number of four bits of an address: those before the last `rest` of its first 30.
+///
+/// `top` is the number of the first 30 bits of the address.
+#[inline(always)]
+pub(crate) fn sixteenth_of(top: u32, rest: u32) -> u32
+    requires { rest ≤ 26 }
+    ensures sixteenth { result ≡ top / 2 ^ rest % 16 }
+    ensures small { result < 16 }
+{
+    (top >> rest) % 16
 }
 
 /// Returns the number of the first 30 bits of an address, where bits past the end are 0.

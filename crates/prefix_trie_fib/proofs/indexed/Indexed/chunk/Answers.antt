@@ -4,7 +4,7 @@ use Rattle.std.specs.Option.{MatchOption}
 use Rattle.prefix_trie_bits.specs.Model.Bits.{number}
 use Rattle.prefix_trie_fib.specs.declared.index.chunk.Chunk.TheVariants.{Split}
 use Rattle.prefix_trie_fib.specs.Index.{IsEntryAt, IsWhole}
-use Rattle.prefix_trie_fib.proofs.FoundEntries.{chunk_inside, in_part, in_whole, parts_of}
+use Rattle.prefix_trie_fib.proofs.ChunkEntries.{chunk_inside, in_part, in_whole, parts_of}
 use Rattle.prefix_trie_fib.proofs.indexed.Indexed.chunk.Goals as goal
 
 pub index-entry-requires : goal.index-entry-requires
@@ -86,7 +86,7 @@ returns-in-Some g c =
     let base = c.in-Some.base in
     let split : x ≡ Split more base = subst (λ o. MatchOption o (IsWhole x) (λ parts. x ≡ Split parts.0 parts.1)) c.in-Some.is c.parts.ensures in
     let is_split = parts_of w c.self.inside.line c.self.inside.index.chunks.items c.self.inside.index.parts.items bits b c.self.invariant.1 long c.chunk_of.result at x c.index-entry.ensures more base split in
-    subst (λ rs. IsEntryAt rs (number b) c.index.result.now) c.self.view_is
+    subst (λ rs. IsEntryAt rs b c.index.result.now) c.self.view_is
     (in_part w c.self.inside.line c.self.inside.index.chunks.items c.self.inside.index.parts.items bits b c.self.invariant.1 long c.chunk_of.result at x c.index-entry.ensures more base split
     c.part_of.result c.index.result.now c.part_of.ensures.small (c.part_of.ensures.part b c.requires (let fits = is_split.within in omega (arith, fits, long))) c.index.ensures)
 
@@ -99,4 +99,4 @@ returns-in-None g c =
     let at : c.chunk_of.result ≡ number (take bits b) = c.chunk_of.ensures b c.requires (omega (arith, long, c.self.invariant.1.within)) in
     let x = c.index-entry.result.now in
     let whole : IsWhole x = subst (λ o. MatchOption o (IsWhole x) (λ parts. x ≡ Split parts.0 parts.1)) c.in-None.is c.parts.ensures in
-    subst (λ rs. IsEntryAt rs (number b) x) c.self.view_is (in_whole w c.self.inside.line c.self.inside.index.chunks.items c.self.inside.index.parts.items bits b c.self.invariant.1 long c.chunk_of.result at x c.index-entry.ensures whole)
+    subst (λ rs. IsEntryAt rs b x) c.self.view_is (in_whole w c.self.inside.line c.self.inside.index.chunks.items c.self.inside.index.parts.items bits b c.self.invariant.1 long c.chunk_of.result at x c.index-entry.ensures whole)

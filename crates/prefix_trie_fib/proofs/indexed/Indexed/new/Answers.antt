@@ -6,5 +6,12 @@ use Rattle.prefix_trie_fib.proofs.indexed.Indexed.new.Goals as goal
 pub invariant_of-result : goal.invariant_of-result
 invariant_of-result g c =
     let bits = c.index_bits-bits.result in
-    let compiled : IsCompiled g.K.Key.bit_width c.shrink_to_fit.new.self c.in_ok-index.index.chunks.items c.in_ok-index.index.parts.items bits = search rules in
-    (omega arith, subst (IsCompiled g.K.Key.bit_width c.shrink_to_fit.new.self c.in_ok-index.index.chunks.items c.in_ok-index.index.parts.items) (let e : bits ≡ 30 - (30 - bits) = omega (arith, c.index_bits-bits.ensures.at_most) in e) compiled)
+    let compiled : IsCompiled g.K.Key.bit_width c.shrink_to_fit.new.self c.in-Ok.index.chunks.items c.in-Ok.index.parts.items bits = record {
+      division = search rules;
+      few = search rules;
+      right = c.in-Ok.ensures.right;
+      long = c.in-Ok.ensures.long;
+      at_most = c.index_bits-bits.ensures.at_most;
+      within = search rules;
+    } in
+    (omega arith, subst (IsCompiled g.K.Key.bit_width c.shrink_to_fit.new.self c.in-Ok.index.chunks.items c.in-Ok.index.parts.items) (let e : bits ≡ 30 - (30 - bits) = omega (arith, c.index_bits-bits.ensures.at_most) in e) compiled)

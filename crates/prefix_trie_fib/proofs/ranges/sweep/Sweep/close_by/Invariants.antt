@@ -1,4 +1,4 @@
--- The invariant: what was swept stays swept, and the walk is not beyond the address where it began and the one that it goes to.
+-- The invariant: what was swept stays swept, and the walk is at most at the later of two addresses: where it began, and where it goes.
 use Rattle.std.proofs.Common.{ℕ, ◌+◌, ◌≤◌, ◌++◌, ◌∷◌, [], Option, length}
 use Rattle.std.specs.Option.{option_to_list}
 use Rattle.prefix_trie_bits.specs.Model.Bits.{number}
