@@ -18,4 +18,6 @@ mod ranges;
 #[cfg(test)]
 mod refusals;
 #[cfg(test)]
+mod sixteenths;
+#[cfg(test)]
 mod tables;

@@ -58,7 +58,28 @@ pub fn agrees_at<P: Prefix>(
     fib.lookup(address) == map.get_lpm_value(&host).copied()
 }
 
-/// Returns whether a map and its compiled table agree at each of these addresses.
+/// Returns whether a table has the same values for these addresses, looked up at once and one by one.
+fn agrees_in_bulk<P: Prefix>(
+    fib: &Fib<P, u32, Global>,
+    addresses: &[P::R],
+    alloc: Global,
+) -> Result<bool, Refusal> {
+    let mut values = Vec::new(alloc);
+    for _ in addresses {
+        values.push(None).map_err(|_| Refusal::Memory)?;
+    }
+    if values.len() != addresses.len() {
+        return Ok(false);
+    }
+    fib.lookup_bulk(addresses, &mut values);
+    let mut all = true;
+    for (address, value) in addresses.iter().zip(values.iter()) {
+        all &= fib.lookup(*address) == *value;
+    }
+    Ok(all)
+}
+
+/// Returns whether a map and its compiled table agree at each of these addresses, one by one and in bulk.
 pub fn agrees<P: Prefix>(
     map: &PrefixMap<P, u32, Global>,
     addresses: &[P::R],
@@ -69,5 +90,5 @@ pub fn agrees<P: Prefix>(
     for address in addresses {
         all &= agrees_at(map, &fib, *address);
     }
-    Ok(all)
+    Ok(all & agrees_in_bulk(&fib, addresses, alloc)?)
 }
