@@ -1,15 +1,14 @@
 -- Arrays that are filled one by one, and results of one group more.
-use Rattle.std.proofs.Common.{◌≡◌, ◌∙◌, zero, suc, ℕ, ◌+◌, ◌-◌, ◌/◌, ◌%◌, ◌^◌, ◌<◌, ◌≢◌, ◌≤◌, Bool, List, length, length-append, get_or, drop, length-drop, set, slice_range, take, Option, None, Some, true, false, ap, arith, refl, subst, sym, inl, inr}
+use Rattle.std.proofs.Common.{◌≡◌, ◌∙◌, ℕ, ◌+◌, ◌-◌, ◌<◌, ◌≢◌, ◌≤◌, Bool, List, length, get_or, drop, length-drop, set, slice_range, take, Option, None, Some, true, false, not, ap, arith, refl, subst, sym, inl, inr}
 use Rattle.std.specs.Int.{from_bool}
 use Rattle.std.specs.Option.{MatchOption, is_some}
 use Rattle.std.proofs.lemmas.Bool.{cases_eq, cases_lt}
 use Rattle.std.proofs.lemmas.List.{get_or-drop, get_or-set_other, get_or-set_same, get_or-take, length-take-le}
-use Rattle.prefix_trie_bits.specs.Bitmaps.{bits_below, has_bit, if_set, rank}
 use Rattle.prefix_trie_bits.specs.Model.Bits.{number}
-use Rattle.prefix_trie_fib.specs.Bulk.{AreListed, HaveResults, IsFound, IsFoundOrListed, IsListed, bitmap_of, is_mapped, is_searched, range_at, value_alone}
+use Rattle.prefix_trie_fib.specs.Bulk.{AreRanges, AreSeveral, HaveResults, IsFound, IsFoundOrListed, IsListed, is_alone, value_alone}
 use Rattle.prefix_trie_fib.specs.declared.index.chunk.Chunk.{Chunk}
 use Rattle.prefix_trie_fib.specs.declared.index.chunk.Chunk.TheVariants.{Alone, Bitmap, Full, Many, Several, Split}
-use Rattle.prefix_trie_fib.specs.Index.{IsEntryAt, IsTop}
+use Rattle.prefix_trie_fib.specs.Index.{IsEntryAt}
 use Rattle.prefix_trie_fib.specs.Line.{IsDivision, value_along}
 use Rattle.prefix_trie_fib.specs.Search.{IsRangeOf}
 use Rattle.prefix_trie_fib.proofs.RangeValues.{value_of_range}
@@ -62,59 +61,15 @@ of_none P Q (Some x) is h = absurd (let e : true ≡ false = is in cc)
 
 -- ---- the stages of a group
 
--- a bitmap has at most as many bits below a place as there are places
-if_set_short : (t : Bool) (b : ℕ) → length (if_set t b) ≤ 1
-if_set_short true b = omega arith
-if_set_short false b = omega arith
-
-below_short : (m b : ℕ) → length (bits_below m b) ≤ b
-below_short m zero = omega arith
-below_short m (suc b) = omega (arith, length-append (bits_below m b) (if_set (has_bit m b) b), below_short m b, if_set_short (has_bit m b) b)
-
-rank_short : (m b : ℕ) → rank m b ≤ b
-unfolding rank
-rank_short m b = below_short m b
-
--- a chunk without a bitmap
-none_low : (top : ℕ) → 0 + rank 0 (top / 2 ^ 0 % 16 + 1) < 2 ^ 32
-none_low top = omega (arith, rank_short 0 (top / 2 ^ 0 % 16 + 1))
-
 module _ {T : Type 0} (rs : List (ℕ × Option T)) (b : List Bool) where
-  -- a chunk without a bitmap that needs no search has one range
-  pub value_is : (entry : Chunk T) → IsEntryAt rs b entry → is_searched entry ≡ false → is_mapped entry ≡ false → value_alone entry ≡ value_along None rs (number b)
-  value_is (Alone valued v) right searched mapped = sym right
-  value_is (Bitmap rest starts first) right searched mapped = absurd (let e : true ≡ false = mapped in cc)
-  value_is (Full count first) right searched mapped = absurd (let e : true ≡ false = searched in cc)
-  value_is (Several count first) right searched mapped = absurd (let e : true ≡ false = searched in cc)
-  value_is (Many first) right searched mapped = absurd (let e : true ≡ false = searched in cc)
-  value_is (Split more base) right searched mapped = absurd right
-
-  -- a bitmap gives the range of an address
-  pub range_is : (entry : Chunk T) (top : ℕ) → IsEntryAt rs b entry → IsTop top b → is_mapped entry ≡ true → IsRangeOf rs (range_at entry top) (number b)
-  range_is (Alone valued v) top right is mapped = absurd (let e : false ≡ true = mapped in cc)
-  range_is (Bitmap rest starts first) top right is mapped = right.1 top is
-  range_is (Full count first) top right is mapped = absurd (let e : false ≡ true = mapped in cc)
-  range_is (Several count first) top right is mapped = absurd (let e : false ≡ true = mapped in cc)
-  range_is (Many first) top right is mapped = absurd (let e : false ≡ true = mapped in cc)
-  range_is (Split more base) top right is mapped = absurd right
-
-  -- its number is that of a range; without a bitmap, it is small
-  pub range_low : (entry : Chunk T) (top : ℕ) → IsEntryAt rs b entry → IsTop top b → length rs < 2 ^ 32 → range_at entry top < 2 ^ 32
-  range_low (Alone valued v) top right is few = none_low top
-  range_low (Bitmap rest starts first) top right is few = let inside = (right.1 top is).starts.inside in omega (arith, inside, few)
-  range_low (Full count first) top right is few = none_low top
-  range_low (Several count first) top right is few = none_low top
-  range_low (Many first) top right is few = none_low top
-  range_low (Split more base) top right is few = absurd right
-
-  -- the shift of a bitmap is small
-  pub shift_small : (entry : Chunk T) → IsEntryAt rs b entry → (bitmap_of entry).0 ≤ 26
-  shift_small (Alone valued v) right = omega arith
-  shift_small (Bitmap rest starts first) right = right.0
-  shift_small (Full count first) right = omega arith
-  shift_small (Several count first) right = omega arith
-  shift_small (Many first) right = omega arith
-  shift_small (Split more base) right = absurd right
+  -- a chunk with one range has the value of this range
+  pub value_is : (entry : Chunk T) → IsEntryAt rs b entry → is_alone entry ≡ true → value_alone entry ≡ value_along None rs (number b)
+  value_is (Alone valued v) right alone = sym right
+  value_is (Bitmap rest starts first) right alone = absurd (let e : false ≡ true = alone in cc)
+  value_is (Full count first) right alone = absurd (let e : false ≡ true = alone in cc)
+  value_is (Several count first) right alone = absurd (let e : false ≡ true = alone in cc)
+  value_is (Many first) right alone = absurd (let e : false ≡ true = alone in cc)
+  value_is (Split more base) right alone = absurd right
 
 module _ {K T : Type 0} (bits : K → List Bool) (rs : List (ℕ × Option T)) (addresses : List K) (from : ℕ) (out : List (Option T)) (i : ℕ) (x : Option T) where
   -- the value of an address is stored
@@ -157,58 +112,57 @@ module _ (places : List ℕ) (count : ℕ) where
   }
 
 module _ {K T : Type 0} (bits : K → List Bool) (rs : List (ℕ × Option T)) (addresses : List K) (places : List ℕ) (count from i : ℕ) (out : List (Option T)) where
-  -- one more address that needs no search is found or listed
-  pub alone_next : (entry : Chunk T) (x : Option T) (more : ℕ) → from + i < length out → count < length places → count ≤ more → (is_mapped entry ≡ true → count < more) → x ≡ value_alone entry
-      → ((a : K) → IsEntryAt rs (bits (get_or addresses i a)) entry) → (k : ℕ) → k < i + 1 → (k ≡ i → is_searched entry ≡ false)
-      → (k < i → IsFoundOrListed bits rs addresses places 0 count from out k)
+  -- one more address is found or listed
+  pub alone_next : (entry : Chunk T) (x : Option T) (more : ℕ) → from + i < length out → count < length places → count ≤ more → (is_alone entry ≡ false → count < more) → x ≡ value_alone entry
+      → ((a : K) → IsEntryAt rs (bits (get_or addresses i a)) entry) → (k : ℕ) → k < i + 1 → (k < i → IsFoundOrListed bits rs addresses places 0 count from out k)
       → IsFoundOrListed bits rs addresses (set places count i) 0 more from (set out (from + i) x) k
-  alone_next entry x more inside in_places le grows is right k lt quiet so_far unlisted = elim (cases_lt k i) [
+  alone_next entry x more inside in_places le grows is right k lt so_far unlisted = elim (cases_lt k i) [
     | inl old ↦ (let other : k ≢ i = omega (arith, old) in found_still bits rs addresses from out i x k other (so_far old (λ l. unlisted (listed_still places count i more k le l))))
     | inr at ↦
         let e : i ≡ k = omega (arith, lt, at) in
-        by_mark e (is_mapped entry) refl
+        by_mark e (is_alone entry) refl
   ]
     where
-      by_mark : i ≡ k → (m : Bool) → is_mapped entry ≡ m → IsFound bits rs addresses from (set out (from + i) x) k
-      by_mark e true mapped = absurd (unlisted (subst (IsListed (set places count i) 0 more) e (listed_here places count i more in_places (grows mapped))))
-      by_mark e false mapped = subst (IsFound bits rs addresses from (set out (from + i) x)) e
-          (found_here bits rs addresses from out i x inside (λ a. is ∙ value_is rs (bits (get_or addresses i a)) entry (right a) (quiet (sym e)) mapped))
+      by_mark : i ≡ k → (m : Bool) → is_alone entry ≡ m → IsFound bits rs addresses from (set out (from + i) x) k
+      by_mark e false several = absurd (unlisted (subst (IsListed (set places count i) 0 more) e (listed_here places count i more in_places (grows several))))
+      by_mark e true alone = subst (IsFound bits rs addresses from (set out (from + i) x)) e
+          (found_here bits rs addresses from out i x inside (λ a. is ∙ value_is rs (bits (get_or addresses i a)) entry (right a) alone))
 
--- a mark counts as one or none
-pub marks_counted : (m : Bool) (n : ℕ) → n ≡ from_bool m → (n ≤ 1) × (m ≡ true → n ≡ 1) × (0 < n → m ≡ true)
-marks_counted true n is = (omega (arith, is), λ _. is, λ _. refl)
-marks_counted false n is = (omega (arith, is), λ e. absurd (let no : false ≡ true = e in cc), λ some. absurd (omega (arith, is, some)))
+-- a mark that is not set counts as one, and one that is as none
+pub unset_counted : (m : Bool) (n : ℕ) → n ≡ from_bool (not m) → (n ≤ 1) × (m ≡ false → n ≡ 1) × (0 < n → m ≡ false)
+unset_counted false n is = (omega (arith, is), λ _. is, λ _. refl)
+unset_counted true n is = (omega (arith, is), λ e. absurd (let no : true ≡ false = e in cc), λ some. absurd (omega (arith, is, some)))
 
-module _ {K T : Type 0} (bits : K → List Bool) (rs : List (ℕ × Option T)) (addresses : List K) (places ranges : List ℕ) (count : ℕ) where
-  -- one more place is listed, or none
-  pub listed_set : (more i range : ℕ) → count < length places → count < length ranges → more ≤ count + 1 → i < length addresses
-      → (count < more → (a : K) → IsRangeOf rs range (number (bits (get_or addresses i a))))
-      → AreListed bits rs addresses places ranges count → AreListed bits rs addresses (set places count i) (set ranges count range) more
-  listed_set more i range in_places in_ranges le inside right listed = record {
-    inside = λ j d lt. elim (cases_lt j count) [
-      | inl old ↦ (let other : j ≢ count = omega (arith, old) in subst (λ p. p < length addresses) (sym (get_or-set_other places count j i d other)) (listed.inside j d old))
-      | inr at ↦ (let e : count ≡ j = omega (arith, at, lt, le) in subst (λ n. get_or (set places count i) n d < length addresses) e (subst (λ p. p < length addresses) (sym (get_or-set_same places count i d in_places)) inside))
-    ];
-    right = λ j d e a lt. elim (cases_lt j count) [
-      | inl old ↦
-          let other : j ≢ count = omega (arith, old) in
-          subst (λ p. IsRangeOf rs (get_or (set ranges count range) j e) (number (bits (get_or addresses p a)))) (sym (get_or-set_other places count j i d other))
-          (subst (λ r. IsRangeOf rs r (number (bits (get_or addresses (get_or places j d) a)))) (sym (get_or-set_other ranges count j range e other)) (listed.right j d e a old))
-      | inr at ↦
-          let is : count ≡ j = omega (arith, at, lt, le) in
-          subst (λ n. IsRangeOf rs (get_or (set ranges count range) n e) (number (bits (get_or addresses (get_or (set places count i) n d) a)))) is
-          (subst (λ p. IsRangeOf rs (get_or (set ranges count range) count e) (number (bits (get_or addresses p a)))) (sym (get_or-set_same places count i d in_places))
-          (subst (λ r. IsRangeOf rs r (number (bits (get_or addresses i a)))) (sym (get_or-set_same ranges count range e in_ranges)) (right (omega (arith, is, lt)) a)))
-    ];
-  }
+-- one more place is listed, or none
+pub several_next : {K T : Type 0} (addresses : List K) (entries : List (Chunk T)) (places : List ℕ) (count more i : ℕ) → count < length places → more ≤ count + 1 → i < length addresses
+    → (count < more → (e : Chunk T) → is_alone (get_or entries i e) ≡ false) → AreSeveral addresses entries places count → AreSeveral addresses entries (set places count i) more
+several_next addresses entries places count more i in_places le inside right listed = record {
+  inside = λ j d lt. elim (cases_lt j count) [
+    | inl old ↦ (let other : j ≢ count = omega (arith, old) in subst (λ p. p < length addresses) (sym (get_or-set_other places count j i d other)) (listed.inside j d old))
+    | inr at ↦ (let e : count ≡ j = omega (arith, at, lt, le) in subst (λ n. get_or (set places count i) n d < length addresses) e (subst (λ p. p < length addresses) (sym (get_or-set_same places count i d in_places)) inside))
+  ];
+  several = λ j d e lt. elim (cases_lt j count) [
+    | inl old ↦ (let other : j ≢ count = omega (arith, old) in ap (λ p. is_alone (get_or entries p e)) (get_or-set_other places count j i d other) ∙ listed.several j d e old)
+    | inr at ↦
+        let is : count ≡ j = omega (arith, at, lt, le) in
+        ap (λ n. is_alone (get_or entries (get_or (set places count i) n d) e)) (sym is) ∙ ap (λ p. is_alone (get_or entries p e)) (get_or-set_same places count i d in_places) ∙ right (omega (arith, is, lt)) e
+  ];
+}
+
+module _ {K T : Type 0} (bits : K → List Bool) (rs : List (ℕ × Option T)) (addresses : List K) (places ranges : List ℕ) where
+  -- one more place has the range of its address
+  pub range_next : (j range : ℕ) → j < length ranges → ((d : ℕ) (a : K) → IsRangeOf rs range (number (bits (get_or addresses (get_or places j d) a))))
+      → AreRanges bits rs addresses places ranges j → AreRanges bits rs addresses places (set ranges j range) (j + 1)
+  range_next j range inside right so_far i d e a lt =
+      each_set (λ k r. (d : ℕ) (a : K) → IsRangeOf rs r (number (bits (get_or addresses (get_or places k d) a)))) ranges j range inside right (λ k r older d a. so_far k d r a older) i e lt d a
 
   -- one more place that is listed has its value
-  pub stored_next : IsDivision rs → (from j : ℕ) (out : List (Option T)) (x : Option T) → from + get_or places j 0 < length out → j < count → ((d : ℕ × Option T) → x ≡ (get_or rs (get_or ranges j 0) d).1)
-      → AreListed bits rs addresses places ranges count → (k : ℕ) → IsFoundOrListed bits rs addresses places j count from out k
+  pub stored_next : IsDivision rs → (count from j : ℕ) (out : List (Option T)) (x : Option T) → from + get_or places j 0 < length out → j < count → ((d : ℕ × Option T) → x ≡ (get_or rs (get_or ranges j 0) d).1)
+      → AreRanges bits rs addresses places ranges count → (k : ℕ) → IsFoundOrListed bits rs addresses places j count from out k
       → IsFoundOrListed bits rs addresses places (j + 1) count from (set out (from + get_or places j 0) x) k
-  stored_next division from j out x inside lt is listed k found unlisted = elim (cases_eq k (get_or places j 0)) [
+  stored_next division count from j out x inside lt is right k found unlisted = elim (cases_eq k (get_or places j 0)) [
     | inl e ↦ subst (IsFound bits rs addresses from (set out (from + get_or places j 0) x)) (sym e)
         (found_here bits rs addresses from out (get_or places j 0) x inside
-        (λ a. is (0, None) ∙ sym (value_of_range rs division None (get_or ranges j 0) (number (bits (get_or addresses (get_or places j 0) a))) (0, None) (listed.right j 0 0 a lt))))
+        (λ a. is (0, None) ∙ sym (value_of_range rs division None (get_or ranges j 0) (number (bits (get_or addresses (get_or places j 0) a))) (0, None) (right j 0 0 a lt))))
     | inr other ↦ found_still bits rs addresses from out (get_or places j 0) x k other (found (λ l. unlisted (listed_after places count j k other l)))
   ]

@@ -1,6 +1,5 @@
 -- Lookups of many addresses: the entries of a group, and the results so far. This project's own.
-use Rattle.std.specs.Prelude.{◌≡◌, ℕ, ◌+◌, ◌/◌, ◌%◌, ◌^◌, ◌<◌, ◌≤◌, Bool, cond, false, true, List, length, Option, None, Some, slice_index_or}
-use Rattle.prefix_trie_bits.specs.Bitmaps.{rank}
+use Rattle.std.specs.Prelude.{◌≡◌, ℕ, ◌+◌, ◌<◌, ◌≤◌, Bool, cond, false, true, List, length, Option, None, Some, slice_index_or}
 use Rattle.prefix_trie_bits.specs.Model.Bits.{number}
 use Rattle.prefix_trie_fib.specs.declared.index.chunk.Chunk.{Chunk}
 use Rattle.prefix_trie_fib.specs.declared.index.chunk.Chunk.TheVariants.{Alone, Bitmap, Full, Many, Several, Split}
@@ -18,23 +17,14 @@ pub record AreTops {K : Type 0} (bits : K → List Bool) (addresses : List K) (t
   pub right : (k : ℕ) (a : K) (d : ℕ) → k < length addresses → IsTop (slice_index_or tops k d) (bits (slice_index_or addresses k a))
 
 module _ {T : Type 0} where
-  -- whether a lookup in the chunk searches ranges
-  abbrev pub is_searched : Chunk T → Bool
-  is_searched (Alone valued v) = false
-  is_searched (Bitmap rest starts first) = false
-  is_searched (Full count first) = true
-  is_searched (Several count first) = true
-  is_searched (Many first) = true
-  is_searched (Split more base) = false
-
-  -- whether the first bits of an address give its range
-  abbrev pub is_mapped : Chunk T → Bool
-  is_mapped (Alone valued v) = false
-  is_mapped (Bitmap rest starts first) = true
-  is_mapped (Full count first) = false
-  is_mapped (Several count first) = false
-  is_mapped (Many first) = false
-  is_mapped (Split more base) = false
+  -- whether the chunk has one range
+  abbrev pub is_alone : Chunk T → Bool
+  is_alone (Alone valued v) = true
+  is_alone (Bitmap rest starts first) = false
+  is_alone (Full count first) = false
+  is_alone (Several count first) = false
+  is_alone (Many first) = false
+  is_alone (Split more base) = false
 
   -- the value of the chunk if it has one range, and this range has a value
   abbrev pub value_alone : Chunk T → Option T
@@ -44,23 +34,6 @@ module _ {T : Type 0} where
   value_alone (Several count first) = None
   value_alone (Many first) = None
   value_alone (Split more base) = None
-
-  -- the fields of a bitmap, and zeros if the chunk has none
-  abbrev pub bitmap_of : Chunk T → ℕ × ℕ × ℕ
-  bitmap_of (Alone valued v) = (0, 0, 0)
-  bitmap_of (Bitmap rest starts first) = (rest, starts, first)
-  bitmap_of (Full count first) = (0, 0, 0)
-  bitmap_of (Several count first) = (0, 0, 0)
-  bitmap_of (Many first) = (0, 0, 0)
-  bitmap_of (Split more base) = (0, 0, 0)
-
-  -- the number of the range of an address, of whose first 30 bits the number is given, by a bitmap
-  abbrev pub range_at : Chunk T → ℕ → ℕ
-  range_at entry top = (bitmap_of entry).2 + rank (bitmap_of entry).1 (top / 2 ^ (bitmap_of entry).0 % 16 + 1)
-
-  -- no ranges are searched for address k
-  abbrev pub IsNotSearched : List (Chunk T) → ℕ → Type 0
-  IsNotSearched entries k = (d : Chunk T) → is_searched (slice_index_or entries k d) ≡ false
 
 -- one of so many places of a list, from j on, is k
 pub record IsListed (places : List ℕ) (j count k : ℕ) : Type 0 where
@@ -88,7 +61,12 @@ module _ {K T : Type 0} (bits : K → List Bool) where
   abbrev pub IsFoundOrListed : List (ℕ × Option T) → List K → List ℕ → ℕ → ℕ → ℕ → List (Option T) → ℕ → Type 0
   IsFoundOrListed rs addresses places j count from out k = (IsListed places j count k → ⊥) → IsFound rs addresses from out k
 
-  -- so many places of a list are those of addresses, and each has the number of the range of its address
-  pub record AreListed (rs : List (ℕ × Option T)) (addresses : List K) (places ranges : List ℕ) (count : ℕ) : Type 0 where
-    pub inside : (j d : ℕ) → j < count → slice_index_or places j d < length addresses
-    pub right : (j d e : ℕ) (a : K) → j < count → IsRangeOf rs (slice_index_or ranges j e) (number (bits (slice_index_or addresses (slice_index_or places j d) a)))
+  -- each of so many places of a list has the number of the range of its address
+  abbrev pub AreRanges : List (ℕ × Option T) → List K → List ℕ → List ℕ → ℕ → Type 0
+  AreRanges rs addresses places ranges count = (j d e : ℕ) (a : K) → j < count
+      → IsRangeOf rs (slice_index_or ranges j e) (number (bits (slice_index_or addresses (slice_index_or places j d) a)))
+
+-- so many places of a list are those of addresses whose chunks have several ranges
+pub record AreSeveral {K T : Type 0} (addresses : List K) (entries : List (Chunk T)) (places : List ℕ) (count : ℕ) : Type 0 where
+  pub inside : (j d : ℕ) → j < count → slice_index_or places j d < length addresses
+  pub several : (j d : ℕ) (e : Chunk T) → j < count → is_alone (slice_index_or entries (slice_index_or places j d) e) ≡ false

@@ -90,7 +90,7 @@ fn entry_at<K: Key, T: Copy, A: Allocator, B: Allocator>(
     let entry = chunk_with(line, first, count, low, bits);
     let base = parts.len();
     match bits_of_part(count, bits, K::width()) {
-        Some(more) if entry.is_searched() && base <= u32::MAX as usize => {
+        Some(more) if !matches!(entry, Chunk::Bitmap(_, _, _)) && base <= u32::MAX as usize => {
             push_parts(line, first, low, bits + more, 1 << more, parts)?;
             Ok(Chunk::Split(more as u16, base as u32))
         }

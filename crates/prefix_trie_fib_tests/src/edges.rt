@@ -2,7 +2,7 @@
 use crate::tables::{agrees, agrees_at, keys_of, map_of, put};
 use prefix_trie::{Prefix, PrefixMap, Refusal};
 use prefix_trie_fib::Fib;
-use std::alloc::Global;
+use std::alloc::{AllocError, Global};
 
 /// Returns whether the map of these networks has them all, and agrees with its table at each of these addresses.
 fn is_right<P: Prefix + Copy>(
@@ -48,25 +48,34 @@ fn scattered(alloc: Global) -> Result<PrefixMap<(u32, u8), u32, Global>, Refusal
     Ok(map)
 }
 
-/// Returns whether one of 256 chunks is split into 128 parts, and the table agrees with the map at each network and at its
-/// neighbours.
-fn is_split(map: &PrefixMap<(u32, u8), u32, Global>, fib: &Fib<(u32, u8), u32, Global>) -> bool {
-    let mut all = fib.index_slots() == 256 && fib.slots() - fib.len() == 384;
+/// Returns each of these hosts with its neighbours.
+fn around_hosts(alloc: Global) -> Result<Vec<u32>, AllocError> {
+    let mut addresses = Vec::new(alloc);
     for i in 0..200_u32 {
         let host = 0x0a00_0000 + i * 0x8003;
-        all &= agrees_at(map, fib, host - 1);
-        all &= agrees_at(map, fib, host);
-        all &= agrees_at(map, fib, host + 1);
+        addresses.push(host - 1)?;
+        addresses.push(host)?;
+        addresses.push(host + 1)?;
     }
-    all
+    Ok(addresses)
 }
 
-/// Returns whether this holds for the table of the map, and for a copy of it.
+/// Returns whether one of 256 chunks is split into 128 parts.
+fn is_split(fib: &Fib<(u32, u8), u32, Global>) -> bool {
+    fib.index_slots() == 256 && fib.slots() - fib.len() == 384
+}
+
+/// Returns whether this holds for the table of the map and for a copy of it, and both agree with the map.
 fn are_split(alloc: Global) -> Result<bool, Refusal> {
     let map = scattered(alloc)?;
     let fib = Fib::new(&map, alloc)?;
     let copy = fib.clone().map_err(|_| Refusal::Memory)?;
-    Ok(is_split(&map, &fib) & is_split(&map, &copy))
+    let addresses = around_hosts(alloc)?;
+    let mut all = is_split(&fib) & is_split(&copy) & agrees(&map, &addresses, alloc)?;
+    for address in addresses.iter() {
+        all &= agrees_at(&map, &copy, *address);
+    }
+    Ok(all)
 }
 
 /// Returns whether the ranges of the table of these networks start at these addresses.

@@ -1,11 +1,12 @@
 //! What a lookup reads first: the entry of a chunk of addresses.
-ghost use Rattle.std.specs.Prelude.{◌≡◌, ◌+◌, ◌/◌, ◌%◌, ◌^◌, ◌≤◌, MatchOption, None};
+ghost use Rattle.std.specs.Prelude.{◌≡◌, ◌+◌, ◌/◌, ◌%◌, ◌^◌, ◌≤◌, MatchOption, None, false};
 ghost use Rattle.prefix_trie_bits.specs.Bitmaps.{rank as rank_of};
 ghost use Rattle.prefix_trie_bits.specs.Model.Bits.{number};
-ghost use Rattle.prefix_trie_fib.specs.Bulk.{bitmap_of, is_mapped, is_searched, range_at, value_alone};
+ghost use Rattle.prefix_trie_fib.specs.Bulk.{is_alone, value_alone};
 ghost use Rattle.prefix_trie_fib.specs.Index.{IsEntryAt, IsTop, IsWhole};
 ghost use Rattle.prefix_trie_fib.specs.declared.index.chunk.Chunk.TheVariants.{Split};
 ghost use Rattle.prefix_trie_fib.specs.Line.{IsDivision, value_along};
+ghost use Rattle.prefix_trie_fib.specs.Search.{IsRangeOf};
 
 use super::sixteenth_of;
 use crate::ranges::Line;
@@ -60,15 +61,12 @@ impl<T: Copy> Chunk<T> {
         }
     }
 
-    /// Returns whether a lookup searches ranges.
+    /// Returns whether the chunk has one range.
     #[inline(always)]
-    pub(crate) fn is_searched(self) -> bool
-        ensures { result ≡ is_searched self }
+    pub(crate) fn is_alone(self) -> bool
+        ensures { result ≡ is_alone self }
     {
-        matches!(
-            self,
-            Chunk::Full(_, _) | Chunk::Several(_, _) | Chunk::Many(_)
-        )
+        matches!(self, Chunk::Alone(_, _))
     }
 
     /// Returns the value of the chunk if it has one range, and this range has a value.
@@ -89,40 +87,30 @@ impl<T: Copy> Chunk<T> {
         valued.then_some(value)
     }
 
-    /// Returns whether the first bits of an address give its range.
-    #[inline(always)]
-    pub(crate) fn is_mapped(self) -> bool
-        ensures { result ≡ is_mapped self }
-    {
-        matches!(self, Chunk::Bitmap(_, _, _))
-    }
-
-    /// Returns the number of the range of an address if the first bits of the address give it.
+    /// Returns the number of the range of an address in the chunk.
     ///
-    /// Otherwise, the result has no meaning. Requires that `top` is the number of the first 30 bits of the address.
+    /// Requires that the chunk has several ranges and is not split, and that `top` is the number of the first 30 bits of
+    /// the address.
     #[inline(always)]
-    pub(crate) fn range(self, top: u32) -> usize
-        requires { (bitmap_of self).0 ≤ 26 }
-        ensures { result ≡ range_at self top }
-    {
-        let (rest, starts, first) = self.bitmap();
-        range_by_bitmap(rest, starts, first, top)
-    }
-
-    /// Returns the three fields of a bitmap, and zeros if the chunk has none.
-    ///
-    /// It compiles to selects, and the range is counted for each chunk. So no branch waits for the entry.
-    #[inline(always)]
-    fn bitmap(self) -> (u8, u16, u32)
-        ensures { result ≡ bitmap_of self }
+    pub(crate) fn range<K: Key, A: Allocator>(
+        self,
+        line: &Line<K, T, A>,
+        top: u32,
+        address: K,
+    ) -> usize
+        requires division { IsDivision line.now }
+        requires top { IsTop top (K.bits address) }
+        requires several { is_alone self ≡ false }
+        requires right { IsEntryAt line.now (K.bits address) self }
+        ensures { IsRangeOf line.now result (number (K.bits address)) }
     {
         match self {
-            Chunk::Bitmap(rest, starts, first) => (rest, starts, first),
-            Chunk::Alone(_, _)
-            | Chunk::Full(_, _)
-            | Chunk::Several(_, _)
-            | Chunk::Many(_)
-            | Chunk::Split(_, _) => (0, 0, 0),
+            Chunk::Bitmap(rest, starts, first) => range_by_bitmap(rest, starts, first, top),
+            Chunk::Full(count, first) | Chunk::Several(count, first) => {
+                line.range_among(first as usize, count as usize, address)
+            }
+            Chunk::Many(first) => line.range_in_rest(first as usize, address),
+            Chunk::Alone(_, _) | Chunk::Split(_, _) => unreachable!(),
         }
     }
 
@@ -143,17 +131,13 @@ impl<T: Copy> Chunk<T> {
     {
         match self {
             Chunk::Alone(true, value) => Some(value),
-            Chunk::Bitmap(rest, starts, first) => {
-                line.value(range_by_bitmap(rest, starts, first, top))
-            }
             // No mark is read.
             Chunk::Full(count, first) => {
                 Some(line.kept(line.range_among(first as usize, count as usize, address)))
             }
-            Chunk::Several(count, first) => {
-                line.value(line.range_among(first as usize, count as usize, address))
+            Chunk::Bitmap(_, _, _) | Chunk::Several(_, _) | Chunk::Many(_) => {
+                line.value(self.range(line, top, address))
             }
-            Chunk::Many(first) => line.value(line.range_in_rest(first as usize, address)),
             Chunk::Alone(false, _) | Chunk::Split(_, _) => None,
         }
     }

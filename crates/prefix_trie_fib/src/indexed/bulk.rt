@@ -4,7 +4,7 @@
 //! the entries of all addresses together, and then their ranges.
 ghost use Rattle.std.specs.Prelude.{◌≡◌, ℕ, ◌+◌, ◌<◌, ◌≤◌, List, None, Option, length, slice_index_or};
 ghost use Rattle.prefix_trie_bits.specs.Model.Bits.{number};
-ghost use Rattle.prefix_trie_fib.specs.Bulk.{AreListed, AreTops, HaveEntries, HaveWholeEntries, IsFound, IsFoundOrListed, IsNotSearched};
+ghost use Rattle.prefix_trie_fib.specs.Bulk.{AreRanges, AreSeveral, AreTops, HaveEntries, HaveWholeEntries, IsFound, IsFoundOrListed};
 ghost use Rattle.prefix_trie_fib.specs.Index.{IsEntryAt, IsTop, IsWhole};
 ghost use Rattle.prefix_trie_fib.specs.Line.{value_along};
 
@@ -14,13 +14,16 @@ use prefix_trie_bits::prefix::Key;
 use std::alloc::Allocator;
 
 /// The number of addresses that are looked up side by side.
-pub(crate) const GROUP: usize = 64;
+pub(crate) const GROUP: usize = 128;
 
-/// The addresses of a group whose first bits give their ranges: the places in the group, and the numbers of the ranges.
+/// Fewer addresses than these are looked up one after the other: a group has arrays to fill first.
+const FEW: usize = 8;
+
+/// The addresses of a group whose chunks have several ranges: the places in the group, and the numbers of the ranges.
 #[derive(Drop)]
-struct Mapped {
+struct Listed {
     count: usize,
-    places: [u32; GROUP],
+    places: [u8; GROUP],
     ranges: [u32; GROUP],
 }
 
@@ -37,7 +40,7 @@ impl<K: Key, T: Copy, A: Allocator> Indexed<K, T, A> {
         out: &mut [Option<T>],
     )
         requires tops { AreTops K.bits addresses.now tops.now }
-        requires few { length addresses.now ≤ 64 }
+        requires few { length addresses.now ≤ 128 }
         requires inside { from + length addresses.now ≤ length out.old }
         ensures kept { (k : ℕ) (v : Option T) → k < from
             → slice_index_or out.new k v ≡ slice_index_or out.old k v }
@@ -46,27 +49,28 @@ impl<K: Key, T: Copy, A: Allocator> Indexed<K, T, A> {
             ≡ value_along None self.now (number (K.bits (slice_index_or addresses.now k a))) }
         ensures length { length out.new ≡ length out.old }
     {
-        // The proof learns from it that the entries of a group fit in memory.
-        if self.index.chunks.as_slice().len() < GROUP {
+        let chunks = self.index.chunks.as_slice().len();
+        // The proof learns from the second test that the entries of a group fit in memory.
+        if addresses.len() < FEW || chunks < GROUP {
             self.lookup_each(tops, addresses, from, out);
             return;
         }
         let mut entries = [Chunk::Many(0); GROUP];
         self.read_entries(tops, addresses, &mut entries);
         self.read_parts(tops, addresses, &mut entries);
-        // Networks of wide keys are too long for bitmaps.
-        if K::width() > 32 {
+        // Where many chunks are split, entries are of all kinds, and a list does not pay.
+        if self.index.parts.as_slice().len() > chunks / 8 {
             self.value_each(tops, addresses, &entries, from, out);
             return;
         }
-        let mut mapped = Mapped {
+        let mut listed = Listed {
             count: 0,
             places: [0; GROUP],
             ranges: [0; GROUP],
         };
-        self.store_alone(tops, addresses, &entries, from, out, &mut mapped);
-        self.store_mapped(&mapped, from, out);
-        self.search_each(tops, addresses, &entries, from, out);
+        self.store_alone(addresses, &entries, from, out, &mut listed);
+        self.find_ranges(tops, addresses, &entries, &mut listed);
+        self.store_listed(&listed, from, out);
     }
 
     /// Reads the entries of the chunks of all addresses.
@@ -124,33 +128,30 @@ impl<K: Key, T: Copy, A: Allocator> Indexed<K, T, A> {
         }
     }
 
-    /// Stores the values of the addresses whose chunks have one range, and lists those whose first bits give their ranges.
+    /// Stores the values of the addresses whose chunks have one range, and lists the places of the others.
     ///
-    /// The values are stored in `out` from the place `from` on, and each other address gets `None` there. The list in
-    /// `mapped` is replaced.
+    /// The values are stored in `out` from the place `from` on, and each other address gets `None` there. The places in
+    /// `listed` are replaced.
     #[inline(always)]
     fn store_alone(
         &self,
-        tops: &[u32],
         addresses: &[K],
         entries: &[Chunk<T>],
         from: usize,
         out: &mut [Option<T>],
-        mapped: &mut Mapped,
+        listed: &mut Listed,
     )
-        requires tops { AreTops K.bits addresses.now tops.now }
-        requires few { length addresses.now ≤ 64 }
+        requires few { length addresses.now ≤ 128 }
         requires space { length addresses.now ≤ length entries.now }
         requires inside { from + length addresses.now ≤ length out.old }
         requires read { HaveEntries K.bits self.now addresses.now entries.now }
         ensures kept { (k : ℕ) (v : Option T) → k < from
             → slice_index_or out.new k v ≡ slice_index_or out.old k v }
-        ensures found { (k : ℕ) → k < length addresses.now → IsNotSearched entries.now k
+        ensures found { (k : ℕ) → k < length addresses.now
             → IsFoundOrListed K.bits self.now addresses.now
-            mapped.new.places 0 mapped.new.count from out.new k }
-        ensures listed { AreListed K.bits self.now addresses.now
-            mapped.new.places mapped.new.ranges mapped.new.count }
-        ensures few { mapped.new.count ≤ 64 }
+            listed.new.places 0 listed.new.count from out.new k }
+        ensures several { AreSeveral addresses.now entries.now listed.new.places listed.new.count }
+        ensures few { listed.new.count ≤ 128 }
         ensures length { length out.new ≡ length out.old }
     {
         let filler = self.line.filler();
@@ -159,69 +160,55 @@ impl<K: Key, T: Copy, A: Allocator> Indexed<K, T, A> {
         for i in 0..addresses.len() {
             let entry = entries[i];
             out[from + i] = entry.alone(filler);
-            mapped.places[count] = i as u32;
-            mapped.ranges[count] = entry.range(tops[i]) as u32;
-            count += usize::from(entry.is_mapped());
+            listed.places[count] = i as u8;
+            count += usize::from(!entry.is_alone());
         }
-        mapped.count = count;
+        listed.count = count;
     }
 
-    /// Stores the values of the addresses that `mapped` lists.
+    /// Finds the ranges of the addresses whose places are listed.
+    #[inline(always)]
+    fn find_ranges(&self, tops: &[u32], addresses: &[K], entries: &[Chunk<T>], listed: &mut Listed)
+        requires tops { AreTops K.bits addresses.now tops.now }
+        requires space { length addresses.now ≤ length entries.now }
+        requires read { HaveEntries K.bits self.now addresses.now entries.now }
+        requires several { AreSeveral addresses.now entries.now listed.old.places listed.old.count }
+        requires few { listed.old.count ≤ 128 }
+        ensures ranges { AreRanges K.bits self.now addresses.now
+            listed.new.places listed.new.ranges listed.new.count }
+        ensures places { listed.new.places ≡ listed.old.places }
+        ensures count { listed.new.count ≡ listed.old.count }
+    {
+        for j in 0..listed.count {
+            let i = listed.places[j] as usize;
+            let range = entries[i].range(&self.line, tops[i], addresses[i]);
+            listed.ranges[j] = range as u32;
+        }
+    }
+
+    /// Stores the values of the listed addresses, by their ranges.
     ///
     /// The values of the group are stored in `out` from the place `from` on.
     #[inline(always)]
-    fn store_mapped(&self, mapped: &Mapped, from: usize, out: &mut [Option<T>])
-        requires few { mapped.now.count ≤ 64 }
-        requires inside { (j d : ℕ) → j < mapped.now.count
-            → from + slice_index_or mapped.now.places j d < length out.old }
-        requires ranges { (j d : ℕ) → j < mapped.now.count
-            → slice_index_or mapped.now.ranges j d < length self.now }
+    fn store_listed(&self, listed: &Listed, from: usize, out: &mut [Option<T>])
+        requires few { listed.now.count ≤ 128 }
+        requires inside { (j d : ℕ) → j < listed.now.count
+            → from + slice_index_or listed.now.places j d < length out.old }
+        requires ranges { (j d : ℕ) → j < listed.now.count
+            → slice_index_or listed.now.ranges j d < length self.now }
         ensures kept { (k : ℕ) (v : Option T) → k < from
             → slice_index_or out.new k v ≡ slice_index_or out.old k v }
         ensures found { (addresses : List K) (k : ℕ)
-            → AreListed K.bits self.now addresses
-            mapped.now.places mapped.now.ranges mapped.now.count
+            → AreRanges K.bits self.now addresses
+            listed.now.places listed.now.ranges listed.now.count
             → IsFoundOrListed K.bits self.now addresses
-            mapped.now.places 0 mapped.now.count from out.old k
+            listed.now.places 0 listed.now.count from out.old k
             → IsFound K.bits self.now addresses from out.new k }
         ensures length { length out.new ≡ length out.old }
     {
-        for j in 0..mapped.count {
-            let place = mapped.places[j] as usize;
-            out[from + place] = self.line.value(mapped.ranges[j] as usize);
-        }
-    }
-
-    /// Searches for the ranges of the addresses that no earlier stage has found.
-    ///
-    /// Their values are stored in `out` from the place `from` on.
-    #[inline(always)]
-    fn search_each(
-        &self,
-        tops: &[u32],
-        addresses: &[K],
-        entries: &[Chunk<T>],
-        from: usize,
-        out: &mut [Option<T>],
-    )
-        requires tops { AreTops K.bits addresses.now tops.now }
-        requires space { length addresses.now ≤ length entries.now }
-        requires inside { from + length addresses.now ≤ length out.old }
-        requires read { HaveEntries K.bits self.now addresses.now entries.now }
-        requires found { (k : ℕ) → k < length addresses.now → IsNotSearched entries.now k
-            → IsFound K.bits self.now addresses.now from out.old k }
-        ensures kept { (k : ℕ) (v : Option T) → k < from
-            → slice_index_or out.new k v ≡ slice_index_or out.old k v }
-        ensures values { (k : ℕ) (a : K) (v : Option T) → k < length addresses.now
-            → slice_index_or out.new (from + k) v
-            ≡ value_along None self.now (number (K.bits (slice_index_or addresses.now k a))) }
-        ensures length { length out.new ≡ length out.old }
-    {
-        for i in 0..addresses.len() {
-            let entry = entries[i];
-            if entry.is_searched() {
-                out[from + i] = entry.value(&self.line, tops[i], addresses[i]);
-            }
+        for j in 0..listed.count {
+            let place = listed.places[j] as usize;
+            out[from + place] = self.line.value(listed.ranges[j] as usize);
         }
     }
 

@@ -110,7 +110,7 @@ impl<K: Key, T: Copy, A: Allocator> Line<K, T, A> {
         requires { i < length self.now }
         ensures { (d : ℕ × Option T) → result ≡ (slice_index_or self.now i d).1 }
     {
-        // Both are read whatever the mark says, so no branch waits for it.
+        // Both are read at once, whatever the mark says.
         let value = self.pairs[i].1;
         (!has_mark(&self.gaps, i)).then_some(value)
     }

@@ -5,6 +5,6 @@ use Rattle.prefix_trie_fib.proofs.compact.bulk.group_by_whole.Given as goal
 
 abbrev pub invariant-loop-i : goal.invariant-loop-i
 invariant-loop-i g l = record {
-  long : length l.tops ≡ 64;
+  long : length l.tops ≡ 128;
   tops : (k : ℕ) (a : _) (d : ℕ) → k < l.i → IsTop (get_or l.tops k d) (g.K.Key.bits (get_or l.group k a));
 }
