@@ -7,3 +7,4 @@ pub mod Hosts
 pub mod Inline
 pub mod FullGroups
 pub mod Laws
+pub mod Octets
