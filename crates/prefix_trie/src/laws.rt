@@ -21,7 +21,7 @@ pub use prefix_trie_bits::laws::{
 };
 use prefix_trie_bits::prefix::Prefix;
 pub use prefix_trie_map::laws::{
-    copy_laws, cover_laws, fill_laws, growth_laws, listed_laws, resume_laws, whole_laws,
+    copy_laws, cover_laws, fill_laws, growth_laws, listed_laws, resume_laws, walk_laws, whole_laws,
 };
 use std::alloc::Allocator;
 

@@ -2,12 +2,14 @@
 //!
 //! Each function does nothing. Its contract is a law, and calling the function brings the law into the proof.
 
+ghost use Rattle.std.specs.Map.Iter.{ShowsInOrder, GivesInOrder, deref};
 ghost use Rattle.prefix_trie_map.specs.Copied.{CopyLaws};
 ghost use Rattle.prefix_trie_map.specs.Covers.{CoverLaws};
 ghost use Rattle.prefix_trie_map.specs.Filled.{FillLaws};
 ghost use Rattle.prefix_trie_map.specs.Listed.{ListedLaws};
 ghost use Rattle.prefix_trie_map.specs.Resumed.{ResumeLaws};
 ghost use Rattle.prefix_trie_map.specs.Growth.{GrowthLaws};
+ghost use Rattle.prefix_trie_map.specs.Walks.{lent_item};
 ghost use Rattle.prefix_trie_map.specs.Whole.{WholeLaws};
 
 use prefix_trie_bits::prefix::Prefix;
@@ -25,6 +27,17 @@ pub fn cover_laws<P, T>()
 /// Requires what `len`, `is_empty`, `node_count` and the calls that make walks ensure for every map.
 pub fn listed_laws<P: Prefix, T>()
     ensures { ListedLaws T P.R.bit_width P.path P.IsFitting P.back }
+{}
+
+/// States that the items of a walk, read one after another, are those that were still to come, in order.
+///
+/// A caller that counts, collects or compares a walk needs it. It follows from what each call of `next` gives.
+pub fn walk_laws<P, T>()
+    ensures entries { ShowsInOrder (lent_item {P = P} {T = T}) }
+    ensures keys { GivesInOrder P }
+    ensures values { ShowsInOrder (deref {X = T}) }
+    ensures moved_entries { GivesInOrder (P × T) }
+    ensures moved_values { GivesInOrder T }
 {}
 
 /// States that `iter_from` after the last item read gives the rest of a walk.

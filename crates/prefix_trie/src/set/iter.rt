@@ -3,7 +3,6 @@
 //! Contracts see each walk as the list of the prefixes still to come.
 ghost use Rattle.std.specs.Prelude.{◌≡◌, ◌<◌, ◌≤◌, ◌^◌, map, length, cond};
 ghost use Rattle.std.specs.FinMap.{len};
-ghost use Rattle.std.specs.Map.Iter.{GivesInOrder};
 ghost use Rattle.prefix_trie_bits.specs.Model.Matches.{covers};
 ghost use Rattle.prefix_trie_bits.specs.Model.Selections.{listing, listing_from, listing_after, listing_below};
 ghost use Rattle.prefix_trie_map.specs.Whole.{IsWhole};
@@ -44,7 +43,6 @@ impl<P: Prefix, A: Allocator> PrefixSet<P, A> {
         ensures items { result ≡ map (λ e. P.back e.0) (listing self.now.entries) }
         ensures counted { length result ≡ len self.now.entries }
         ensures fits { len self.now.entries < 2 ^ 64 }
-        ensures runs { GivesInOrder P }
         ensures whole { IsWhole P.R.bit_width self.now }
     {
         self.map.keys()
@@ -69,7 +67,6 @@ impl<P: Prefix, A: Allocator> PrefixSet<P, A> {
             (listing_from self.now.entries (P.path prefix.now))
             (listing_after self.now.entries (P.path prefix.now))) }
         ensures fits { length result < 2 ^ 64 }
-        ensures runs { GivesInOrder P }
         ensures whole { IsWhole P.R.bit_width self.now }
     {
         KeysOf::new(self.map.iter_from(prefix, inclusive))
@@ -91,7 +88,6 @@ impl<P: Prefix, A: Allocator> PrefixSet<P, A> {
         ensures items { result
             ≡ map (λ e. P.back e.0) (listing_below self.now.entries (P.path prefix.now)) }
         ensures fits { length result < 2 ^ 64 }
-        ensures runs { GivesInOrder P }
         ensures whole { IsWhole P.R.bit_width self.now }
     {
         KeysOf::new(self.map.children(prefix))
@@ -112,7 +108,6 @@ impl<P: Prefix, A: Allocator> PrefixSet<P, A> {
             ≡ map (λ e. P.back e.0) (covers self.now.entries (P.path prefix.now)) }
         ensures counted { length result ≡ length (covers self.now.entries (P.path prefix.now)) }
         ensures fits { length (covers self.now.entries (P.path prefix.now)) ≤ 129 }
-        ensures runs { GivesInOrder P }
         ensures whole { IsWhole P.R.bit_width self.now }
     {
         self.map.cover_keys(prefix)
@@ -125,7 +120,7 @@ impl<P: Prefix, A: Allocator> IntoIterator for PrefixSet<P, A> {
     type IntoIter = IntoIter<P, A>;
 
     ghost into_iter_gives = { λ s it. (it ≡ map (λ e. P.back e.0) (listing s.entries))
-        × (length it ≡ len s.entries) × (len s.entries < 2 ^ 64) × GivesInOrder P
+        × (length it ≡ len s.entries) × (len s.entries < 2 ^ 64)
         × IsWhole P.R.bit_width s };
 
     #[inline]
@@ -140,7 +135,7 @@ impl<'a, P: Prefix, A: Allocator> IntoIterator for &'a PrefixSet<P, A> {
     type IntoIter = Iter<'a, P, A>;
 
     ghost into_iter_gives = { λ s it. (it ≡ map (λ e. P.back e.0) (listing s.now.entries))
-        × (length it ≡ len s.now.entries) × (len s.now.entries < 2 ^ 64) × GivesInOrder P
+        × (length it ≡ len s.now.entries) × (len s.now.entries < 2 ^ 64)
         × IsWhole P.R.bit_width s.now };
 
     #[inline]

@@ -3,7 +3,7 @@
 //! Contracts see each walk as the list of the items still to come.
 ghost use Rattle.std.specs.Prelude.{◌≡◌, ◌≤◌, map, length};
 ghost use Rattle.std.specs.Iterator.{at_most};
-ghost use Rattle.std.specs.Map.Iter.{TakesFirst, ShowsInOrder, GivesInOrder, deref};
+ghost use Rattle.std.specs.Map.Iter.{TakesFirst, deref};
 ghost use Rattle.prefix_trie_bits.specs.Model.Matches.{covers};
 ghost use Rattle.prefix_trie_bits.specs.Model.Selections.{prefix_pairs};
 ghost use Rattle.prefix_trie_map.specs.Walks.{lent_item};
@@ -35,7 +35,6 @@ impl<P: Prefix, T: Drop, A: Allocator> PrefixMap<P, T, A> {
         ensures items { result ≡ prefix_pairs P.back (covers self.now.entries (P.path prefix.now)) }
         ensures counted { length result ≡ length (covers self.now.entries (P.path prefix.now)) }
         ensures fits { length (covers self.now.entries (P.path prefix.now)) ≤ 129 }
-        ensures runs { ShowsInOrder (lent_item {P = P} {T = T}) }
         ensures whole { IsWhole P.R.bit_width self.now }
     {
         self.known_valid();
@@ -58,7 +57,6 @@ impl<P: Prefix, T: Drop, A: Allocator> PrefixMap<P, T, A> {
             ≡ map (λ e. P.back e.0) (covers self.now.entries (P.path prefix.now)) }
         ensures counted { length result ≡ length (covers self.now.entries (P.path prefix.now)) }
         ensures fits { length (covers self.now.entries (P.path prefix.now)) ≤ 129 }
-        ensures runs { GivesInOrder P }
         ensures whole { IsWhole P.R.bit_width self.now }
     {
         KeysOf::new(self.cover(prefix))
@@ -78,7 +76,6 @@ impl<P: Prefix, T: Drop, A: Allocator> PrefixMap<P, T, A> {
         ensures items { result ≡ map (λ e. e.1) (covers self.now.entries (P.path prefix.now)) }
         ensures counted { length result ≡ length (covers self.now.entries (P.path prefix.now)) }
         ensures fits { length (covers self.now.entries (P.path prefix.now)) ≤ 129 }
-        ensures runs { ShowsInOrder (deref {X = T}) }
         ensures whole { IsWhole P.R.bit_width self.now }
     {
         CoverValues::new(self.cover(prefix))

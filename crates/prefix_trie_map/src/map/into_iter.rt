@@ -5,7 +5,7 @@ ghost use Rattle.std.specs.Prelude.{◌≡◌, ◌<◌, ◌^◌, IfOk, map, leng
 ghost use Rattle.std.specs.FinMap.{len};
 ghost use Rattle.std.specs.Iterator.{at_most};
 ghost use Rattle.std.specs.List.{AllZip};
-ghost use Rattle.std.specs.Map.Iter.{TakesFirst, GivesInOrder};
+ghost use Rattle.std.specs.Map.Iter.{TakesFirst};
 ghost use Rattle.prefix_trie_bits.specs.Model.Selections.{listing, listing_below, prefix_pairs};
 ghost use Rattle.prefix_trie_table.specs.Copies.{IsPairCloned};
 ghost use Rattle.prefix_trie_map.specs.Whole.{IsWhole};
@@ -36,7 +36,6 @@ impl<P: Prefix, T: Drop, A: Allocator> PrefixMap<P, T, A> {
         ensures items { result
             ≡ prefix_pairs P.back (listing_below self.entries (P.path prefix.now)) }
         ensures fits { length result < 2 ^ 64 }
-        ensures runs { GivesInOrder (P × T) }
         ensures whole { IsWhole P.R.bit_width self }
     {
         self.known_valid();
@@ -61,7 +60,6 @@ impl<P: Prefix, T: Drop, A: Allocator> PrefixMap<P, T, A> {
         ensures items { result ≡ map (λ e. P.back e.0) (listing self.entries) }
         ensures counted { length result ≡ len self.entries }
         ensures fits { len self.entries < 2 ^ 64 }
-        ensures runs { GivesInOrder P }
         ensures whole { IsWhole P.R.bit_width self }
     {
         KeysOf::new(self.into_iter())
@@ -80,7 +78,6 @@ impl<P: Prefix, T: Drop, A: Allocator> PrefixMap<P, T, A> {
         ensures items { result ≡ map (λ e. e.1) (listing self.entries) }
         ensures counted { length result ≡ len self.entries }
         ensures fits { len self.entries < 2 ^ 64 }
-        ensures runs { GivesInOrder T }
         ensures whole { IsWhole P.R.bit_width self }
     {
         IntoValues::new(self.into_iter())
@@ -93,7 +90,7 @@ impl<P: Prefix, T: Drop, A: Allocator> IntoIterator for PrefixMap<P, T, A> {
     type IntoIter = IntoIter<P, T, A>;
 
     ghost into_iter_gives = { λ s it. (it ≡ prefix_pairs P.back (listing s.entries))
-        × (length it ≡ len s.entries) × (len s.entries < 2 ^ 64) × GivesInOrder (P × T)
+        × (length it ≡ len s.entries) × (len s.entries < 2 ^ 64)
         × IsWhole P.R.bit_width s };
 
     #[inline]

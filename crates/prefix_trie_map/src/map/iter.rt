@@ -4,7 +4,7 @@
 ghost use Rattle.std.specs.Prelude.{◌≡◌, ◌<◌, ◌^◌, [], map, length};
 ghost use Rattle.std.specs.FinMap.{len};
 ghost use Rattle.std.specs.Iterator.{at_most};
-ghost use Rattle.std.specs.Map.Iter.{TakesFirst, ShowsInOrder, GivesInOrder, deref};
+ghost use Rattle.std.specs.Map.Iter.{TakesFirst, deref};
 ghost use Rattle.prefix_trie_bits.specs.Model.Selections.{listing, prefix_pairs};
 ghost use Rattle.prefix_trie_map.specs.Walks.{lent_item};
 ghost use Rattle.prefix_trie_map.specs.Whole.{IsWhole};
@@ -36,7 +36,6 @@ impl<P: Prefix, T: Drop, A: Allocator> PrefixMap<P, T, A> {
         ensures items { result ≡ prefix_pairs P.back (listing self.now.entries) }
         ensures counted { length result ≡ len self.now.entries }
         ensures fits { len self.now.entries < 2 ^ 64 }
-        ensures runs { ShowsInOrder (lent_item {P = P} {T = T}) }
         ensures whole { IsWhole P.R.bit_width self.now }
     {
         self.known_valid();
@@ -57,7 +56,6 @@ impl<P: Prefix, T: Drop, A: Allocator> PrefixMap<P, T, A> {
         ensures items { result ≡ map (λ e. P.back e.0) (listing self.now.entries) }
         ensures counted { length result ≡ len self.now.entries }
         ensures fits { len self.now.entries < 2 ^ 64 }
-        ensures runs { GivesInOrder P }
         ensures whole { IsWhole P.R.bit_width self.now }
     {
         KeysOf::new(self.iter())
@@ -76,7 +74,6 @@ impl<P: Prefix, T: Drop, A: Allocator> PrefixMap<P, T, A> {
         ensures items { result ≡ map (λ e. e.1) (listing self.now.entries) }
         ensures counted { length result ≡ len self.now.entries }
         ensures fits { len self.now.entries < 2 ^ 64 }
-        ensures runs { ShowsInOrder (deref {X = T}) }
         ensures whole { IsWhole P.R.bit_width self.now }
     {
         Values::new(self.iter())
@@ -90,7 +87,7 @@ impl<'a, P: Prefix, T: Drop, A: Allocator> IntoIterator for &'a PrefixMap<P, T, 
 
     ghost into_iter_gives = { λ s it. (it ≡ prefix_pairs P.back (listing s.now.entries))
         × (length it ≡ len s.now.entries) × (len s.now.entries < 2 ^ 64)
-        × ShowsInOrder (lent_item {P = P} {T = T}) × IsWhole P.R.bit_width s.now };
+        × IsWhole P.R.bit_width s.now };
 
     #[inline]
     fn into_iter(self) -> Iter<'a, P, T, A> {

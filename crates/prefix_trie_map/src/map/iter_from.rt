@@ -1,8 +1,6 @@
 //! Walks that start at a prefix, and walks over what a prefix contains.
 ghost use Rattle.std.specs.Prelude.{◌≡◌, ◌<◌, ◌^◌, cond, length};
-ghost use Rattle.std.specs.Map.Iter.{ShowsInOrder};
 ghost use Rattle.prefix_trie_bits.specs.Model.Selections.{listing_from, listing_after, listing_below, prefix_pairs};
-ghost use Rattle.prefix_trie_map.specs.Walks.{lent_item};
 ghost use Rattle.prefix_trie_map.specs.Whole.{IsWhole};
 
 use crate::map::iter::Iter;
@@ -33,7 +31,6 @@ impl<P: Prefix, T: Drop, A: Allocator> PrefixMap<P, T, A> {
             (listing_from self.now.entries (P.path prefix.now))
             (listing_after self.now.entries (P.path prefix.now))) }
         ensures fits { length result < 2 ^ 64 }
-        ensures runs { ShowsInOrder (lent_item {P = P} {T = T}) }
         ensures whole { IsWhole P.R.bit_width self.now }
     {
         self.known_valid();
@@ -61,7 +58,6 @@ impl<P: Prefix, T: Drop, A: Allocator> PrefixMap<P, T, A> {
         ensures items { result
             ≡ prefix_pairs P.back (listing_below self.now.entries (P.path prefix.now)) }
         ensures fits { length result < 2 ^ 64 }
-        ensures runs { ShowsInOrder (lent_item {P = P} {T = T}) }
         ensures whole { IsWhole P.R.bit_width self.now }
     {
         self.known_valid();

@@ -3,7 +3,7 @@ ghost use Rattle.std.specs.Prelude.{◌≡◌, ◌&&◌, not, map, IfOk, IsTrue}
 ghost use Rattle.std.specs.Option.{is_some};
 ghost use Rattle.prefix_trie.specs.Terms.{covers, ipv4_address, ipv4_back, shortest_match, IsUncovered};
 
-use prefix_trie::laws::lookup_laws;
+use prefix_trie::laws::{lookup_laws, walk_laws};
 use prefix_trie::{Ipv4Prefix, PrefixSet};
 use std::alloc::{AllocError, Allocator};
 
@@ -31,5 +31,6 @@ pub fn reasons<A: Allocator>(
         (λ networks. networks.items
         ≡ map (λ e. ipv4_back e.0) (covers denied.now.entries (ipv4_address addr))) }
 {
+    walk_laws::<Ipv4Prefix, ()>();
     denied.cover(&Ipv4Prefix::host(addr)).collect(alloc)
 }

@@ -2,7 +2,7 @@
 ghost use Rattle.std.specs.Prelude.{◌≡◌, length};
 ghost use Rattle.prefix_trie.specs.Terms.{address_total, first_item, ipv4_back, ipv4_path, listing_after, listing_below, prefix_pairs};
 
-use prefix_trie::laws::network_laws;
+use prefix_trie::laws::{network_laws, walk_laws};
 use prefix_trie::{Ipv4Prefix, PrefixMap};
 use std::alloc::Allocator;
 
@@ -25,6 +25,7 @@ pub fn next<A: Allocator>(networks: &Inventory<A>, last: Ipv4Prefix) -> Option<(
 pub fn count<A: Allocator>(networks: &Inventory<A>, block: Ipv4Prefix) -> usize
     ensures { result ≡ length (listing_below networks.now.entries (ipv4_path block)) }
 {
+    walk_laws::<Ipv4Prefix, u32>();
     networks.children(&block).count()
 }
 

@@ -3,6 +3,7 @@ ghost use Rattle.std.specs.Prelude.{◌≡◌, length, nat_le};
 ghost use Rattle.std.specs.List.{list_all};
 ghost use Rattle.prefix_trie.specs.Terms.{covers, prefix_pairs};
 
+use prefix_trie::laws::walk_laws;
 use prefix_trie::{Prefix, PrefixMap};
 use std::alloc::Allocator;
 
@@ -11,6 +12,7 @@ fn count<P: Prefix, T: Drop, A: Allocator>(m: &PrefixMap<P, T, A>, prefix: &P) -
     requires { P.IsFitting prefix.now }
     ensures { result ≡ length (covers m.now.entries (P.path prefix.now)) }
 {
+    walk_laws::<P, T>();
     m.cover(prefix).count()
 }
 

@@ -6,7 +6,7 @@ ghost use Rattle.prefix_trie.specs.Terms.{listing, prefix_pairs};
 
 use prefix_trie::map::Iter;
 use prefix_trie::{Prefix, PrefixMap};
-use prefix_trie_map::laws::resume_laws;
+use prefix_trie_map::laws::{resume_laws, walk_laws};
 use std::alloc::{AllocError, Allocator};
 
 // Returns the number of entries that a walk and its clone yield.
@@ -14,6 +14,7 @@ fn count_twice<P: Prefix, T: Drop, A: Allocator>(m: &PrefixMap<P, T, A>) -> (usi
     ensures first { result.0 ≡ len m.now.entries }
     ensures second { result.1 ≡ len m.now.entries }
 {
+    walk_laws::<P, T>();
     let walk = m.iter();
     let again = walk.clone();
     (walk.count(), again.count())
@@ -26,6 +27,7 @@ fn all_keys<P: Prefix, T: Drop, A: Allocator>(
 ) -> Result<Vec<P, A>, AllocError>
     ensures { IfOk result (λ v. v.items ≡ map (λ e. P.back e.0) (listing m.now.entries)) }
 {
+    walk_laws::<P, T>();
     m.keys().collect(alloc)
 }
 

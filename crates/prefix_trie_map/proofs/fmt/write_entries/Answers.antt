@@ -7,7 +7,7 @@ pub loop-prefix-init : goal.loop-prefix-init
 loop-prefix-init g c =
     let gives = c.into_iter-prefix-iterator.ensures.into_iter_gives in
     All-same (λ e. g.P.Prefix.IsFitting e.0) c.into_iter-prefix-iterator.result (prefix_pairs g.P.Prefix.back (listing c.args.map.now.entries)) gives.0
-    (listed_fit g.met.P.Prefix.prefix_laws c.args.map.now.entries gives.4.is_map.keys_within)
+    (listed_fit g.met.P.Prefix.prefix_laws c.args.map.now.entries gives.3.is_map.keys_within)
 
 pub cover_keys-requires : goal.cover_keys-requires
 cover_keys-requires g c =

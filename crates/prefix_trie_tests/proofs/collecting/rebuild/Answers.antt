@@ -7,7 +7,7 @@ pub from_iter-requires-clause-fit : goal.from_iter-requires-clause-fit
 from_iter-requires-clause-fit g c it gives =
     all_along (TakesFirst (λ x. x)) (λ s. s) (λ s t x h. h) (λ e. g.P.Prefix.IsFitting e.0) it
     (All-same (λ e. g.P.Prefix.IsFitting e.0) it (prefix_pairs g.P.Prefix.back (listing c.args.map.entries)) gives.0
-    (listed_fit g.met.P.Prefix.prefix_laws c.args.map.entries gives.4.is_map.keys_within))
+    (listed_fit g.met.P.Prefix.prefix_laws c.args.map.entries gives.3.is_map.keys_within))
 
 pub returns-clause-entries : goal.returns-clause-entries
 returns-clause-entries g c =

@@ -6,7 +6,7 @@ use Rattle.prefix_trie_tests.proofs.entry_callers.fill_from.Goals as goal
 pub loop-prefix-init : goal.loop-prefix-init
 loop-prefix-init g c =
     let gives = c.into_iter-prefix-iterator.ensures.into_iter_gives in
-    (tt, tt, all_lead g.met.P.Prefix.prefix_laws c.args.from.now.entries gives.4.is_map.keys_within c.args.to.now.entries _ gives.0)
+    (tt, tt, all_lead g.met.P.Prefix.prefix_laws c.args.from.now.entries gives.3.is_map.keys_within c.args.to.now.entries _ gives.0)
 
 pub entry-requires : goal.entry-requires
 entry-requires g c = next_fits g.P.Prefix.path g.P.Prefix.IsFitting c.loop-prefix.to.entries {item = (c.in-Some.prefix, c.in-Some.value.now)} c.in-Some.ensures.steps c.loop-prefix.invariant.2

@@ -1,7 +1,6 @@
 -- The covers of a prefix have different lengths from 0 to its own, so there are at most 129.
 use Rattle.prefix_trie_map.proofs.Prelude.{length, ap, ◌∙◌, arith, length-map, covers, covers_few, lent_item, ◌≡◌, prefix_pairs}
 use Rattle.prefix_trie_map.proofs.Steps.{by_key}
-use Rattle.prefix_trie_map.proofs.Runs.{shows_in_order}
 use Rattle.prefix_trie_map.proofs.map.PrefixMap.cover.Goals as goal
 
 pub returns-clause-items : goal.returns-clause-items
@@ -17,6 +16,3 @@ pub returns-clause-fits : goal.returns-clause-fits
 returns-clause-fits g c =
     let path = g.P.Prefix.path c.args.prefix.now in
     omega (arith, covers_few c.args.self.now.entries path, c.path.ensures.short, g.met.P.Prefix.prefix_laws.keys.at_most_128)
-
-pub returns-clause-runs : goal.returns-clause-runs
-returns-clause-runs g c = shows_in_order lent_item

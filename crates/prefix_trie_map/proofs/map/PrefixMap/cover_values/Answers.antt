@@ -1,6 +1,6 @@
 -- The values of the walk are the second parts of the items of `cover`, so there are as many.
 use Rattle.prefix_trie_map.proofs.Prelude.{deref}
-use Rattle.prefix_trie_map.proofs.Runs.{parts_are, parts_count, shows_in_order}
+use Rattle.prefix_trie_map.proofs.Runs.{parts_are, parts_count}
 use Rattle.prefix_trie_map.proofs.map.PrefixMap.cover_values.Goals as goal
 
 pub returns-clause-items : goal.returns-clause-items
@@ -8,6 +8,3 @@ returns-clause-items g c = parts_are (λ e. e.1) c.new.ensures _ _ c.cover.ensur
 
 pub returns-clause-counted : goal.returns-clause-counted
 returns-clause-counted g c = parts_count (λ e. e.1) _ c.new.ensures c.cover.ensures.counted
-
-pub returns-clause-runs : goal.returns-clause-runs
-returns-clause-runs g c = shows_in_order deref

@@ -1,7 +1,6 @@
 -- Consuming a map from the path of a prefix gives what the prefix contains, which is no more than the map had.
 use Rattle.prefix_trie_map.proofs.Prelude.{rules, ◌<◌, ◌^◌, length, ap, arith, len, begins, ◌≡◌, ◌∙◌, prefix_pairs, listing_below}
 use Rattle.prefix_trie_map.proofs.Steps.{by_key}
-use Rattle.prefix_trie_map.proofs.Runs.{gives_in_order}
 use Rattle.prefix_trie_map.proofs.Listed.{few_shown}
 use Rattle.prefix_trie_map.proofs.map.PrefixMap.into_children.Goals as goal
 
@@ -13,6 +12,3 @@ pub returns-clause-fits : goal.returns-clause-fits
 returns-clause-fits g c =
     let below : len c.args.self.entries < 2 ^ 64 = search rules in
     omega (arith, ap length (returns-clause-items g c), few_shown g.P.Prefix.back c.args.self.entries (λ e. begins (g.P.Prefix.path c.args.prefix.now) e.0), below)
-
-pub returns-clause-runs : goal.returns-clause-runs
-returns-clause-runs g c = gives_in_order

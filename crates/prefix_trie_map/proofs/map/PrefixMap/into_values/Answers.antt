@@ -1,5 +1,5 @@
 -- The values that a consumed map gives are the second parts of its items, so there are as many.
-use Rattle.prefix_trie_map.proofs.Runs.{parts_are, parts_count, gives_in_order}
+use Rattle.prefix_trie_map.proofs.Runs.{parts_are, parts_count}
 use Rattle.prefix_trie_map.proofs.map.PrefixMap.into_values.Goals as goal
 
 pub returns : goal.returns
@@ -9,6 +9,5 @@ returns g c =
       items = parts_are (λ e. e.1) c.new.ensures _ _ given.0;
       counted = parts_count (λ e. e.1) _ c.new.ensures given.1;
       fits = given.2;
-      runs = gives_in_order;
-      whole = given.4;
+      whole = given.3;
     }

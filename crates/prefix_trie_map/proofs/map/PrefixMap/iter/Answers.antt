@@ -1,6 +1,5 @@
 -- A walk over the table gives its listing, which has as many items as the map has entries.
 use Rattle.prefix_trie_map.proofs.Prelude.{rules, length, sym, ap, ◌∙◌, length-map, len-entries, listing, lent_item}
-use Rattle.prefix_trie_map.proofs.Runs.{shows_in_order}
 use Rattle.prefix_trie_map.proofs.map.PrefixMap.iter.Goals as goal
 
 pub returns-clause-items : goal.returns-clause-items
@@ -10,6 +9,3 @@ pub returns-clause-counted : goal.returns-clause-counted
 returns-clause-counted g c =
     let entries = c.args.self.now.entries in
     ap length (returns-clause-items g c) ∙ length-map (listing entries) (λ e. (g.P.Prefix.back e.0, e.1)) ∙ sym (len-entries entries)
-
-pub returns-clause-runs : goal.returns-clause-runs
-returns-clause-runs g c = shows_in_order lent_item

@@ -1,7 +1,6 @@
 -- A walk from the path of a prefix gives part of the listing, so it has no more items than the map has entries.
 use Rattle.prefix_trie_map.proofs.Prelude.{rules, ◌<◌, ◌^◌, length, ap, arith, len, lent_item, ◌≡◌, ◌∙◌, prefix_pairs, cond, listing_from, listing_after}
 use Rattle.prefix_trie_map.proofs.Steps.{by_key}
-use Rattle.prefix_trie_map.proofs.Runs.{shows_in_order}
 use Rattle.prefix_trie_map.proofs.Listed.{few_from}
 use Rattle.prefix_trie_map.proofs.map.PrefixMap.iter_from.Goals as goal
 
@@ -13,6 +12,3 @@ pub returns-clause-fits : goal.returns-clause-fits
 returns-clause-fits g c =
     let below : len c.args.self.now.entries < 2 ^ 64 = search rules in
     omega (arith, ap length (returns-clause-items g c), few_from g.P.Prefix.back c.args.self.now.entries c.args.inclusive (g.P.Prefix.path c.args.prefix.now), below)
-
-pub returns-clause-runs : goal.returns-clause-runs
-returns-clause-runs g c = shows_in_order lent_item

@@ -5,7 +5,7 @@ use Rattle.prefix_trie_tests.proofs.examples.copy.copy_of.Goals as goal
 pub loop-prefix-init : goal.loop-prefix-init
 loop-prefix-init g c =
     let gives = c.into_iter-prefix-iterator.ensures.into_iter_gives in
-    (tt, tt, c.put_laws.ensures.starts_empty c.args.from.now.entries _ gives.4.is_map.keys_within (search rules) _ gives.0)
+    (tt, tt, c.put_laws.ensures.starts_empty c.args.from.now.entries _ gives.3.is_map.keys_within (search rules) _ gives.0)
 
 pub insert-requires : goal.insert-requires
 insert-requires g c = c.put_laws.ensures.next_fits c.loop-prefix.to.entries _ (c.in-Some.prefix, c.in-Some.value.now) _ _ c.in-Some.ensures.steps c.loop-prefix.invariant.2

@@ -5,7 +5,10 @@ use Rattle.prefix_trie_tests.proofs.examples.pruning.prune.Goals as goal
 pub loop-prefix-init : goal.loop-prefix-init
 loop-prefix-init g c =
     let gives = c.into_iter-prefix-iterator.ensures.into_iter_gives in
-    (tt, tt, rw gives.0 (c.listed_laws.ensures.listed_fit c.args.out.now.entries gives.4.is_map.keys_within), c.requires)
+    (tt, tt, rw gives.0 (c.listed_laws.ensures.listed_fit c.args.out.now.entries gives.3.is_map.keys_within), c.requires)
+
+pub remove-requires : goal.remove-requires
+remove-requires g c = (fit_in_order g.P.Prefix.IsFitting c.in-Some.ensures.steps c.loop-prefix.invariant.2).0
 
 pub loop-prefix-preserved : goal.loop-prefix-preserved
 loop-prefix-preserved g c =

@@ -6,7 +6,7 @@ use Rattle.prefix_trie_tests.proofs.examples.pruning.without.Goals as goal
 pub loop-prefix-init : goal.loop-prefix-init
 loop-prefix-init g c =
     let gives = c.into_iter-prefix-iterator.ensures.into_iter_gives in
-    (tt, tt, rw gives.0 (c.listed_laws.ensures.listed_fit c.args.from.now.entries gives.4.is_map.keys_within), search rules)
+    (tt, tt, rw gives.0 (c.listed_laws.ensures.listed_fit c.args.from.now.entries gives.3.is_map.keys_within), search rules)
 
 pub insert-requires : goal.insert-requires
 insert-requires g c = (fit_in_order g.P.Prefix.IsFitting c.in-Some.ensures.steps c.loop-prefix.invariant.2).0

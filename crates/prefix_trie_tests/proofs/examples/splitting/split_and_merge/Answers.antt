@@ -5,8 +5,8 @@ use Rattle.prefix_trie_tests.proofs.examples.splitting.split_and_merge.Goals as 
 pub loop-key-init : goal.loop-key-init
 loop-key-init g c =
     let gives = c.into_iter-key-iterator.ensures.into_iter_gives in
-    let leads = c.put_laws.ensures.starts c.in_ok-part.part.entries c.remove_children.new.self.entries gives.4.is_map.keys_within _ gives.0 in
-    let again = c.put_laws.ensures.listed c.in_ok-part.part.entries c.remove_children.new.self.entries gives.4.is_map.keys_within in
+    let leads = c.put_laws.ensures.starts c.in_ok-part.part.entries c.remove_children.new.self.entries gives.3.is_map.keys_within _ gives.0 in
+    let again = c.put_laws.ensures.listed c.in_ok-part.part.entries c.remove_children.new.self.entries gives.3.is_map.keys_within in
     (tt, tt, (leads.0, leads.1 ∙ again ∙ (c.split_laws.ensures.splits _ _ _ _ c.in_ok-part.ensures.step.splits_off).merged))
 
 pub insert-requires : goal.insert-requires

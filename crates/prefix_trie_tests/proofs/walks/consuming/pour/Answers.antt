@@ -5,7 +5,7 @@ use Rattle.prefix_trie_tests.proofs.walks.consuming.pour.Goals as goal
 pub loop-prefix-init : goal.loop-prefix-init
 loop-prefix-init g c =
     let gives = c.into_iter-prefix-iterator.ensures.into_iter_gives in
-    (tt, tt, all_lead g.met.P.Prefix.prefix_laws c.args.from.entries gives.4.is_map.keys_within c.args.to.now.entries _ gives.0)
+    (tt, tt, all_lead g.met.P.Prefix.prefix_laws c.args.from.entries gives.3.is_map.keys_within c.args.to.now.entries _ gives.0)
 
 pub insert-requires : goal.insert-requires
 insert-requires g c = next_fits g.P.Prefix.path g.P.Prefix.IsFitting c.loop-prefix.to.entries {item = (c.in-Some.prefix, c.in-Some.value)} c.in-Some.ensures.steps c.loop-prefix.invariant.2

@@ -1,6 +1,5 @@
 -- A consumed map gives its whole listing, which has as many items as it had entries.
 use Rattle.prefix_trie_map.proofs.Prelude.{rules, ◌≡◌, ◌<◌, ◌^◌, ◌∙◌, length, sym, ap, length-map, len, len-entries, listing, prefix_pairs, Contents, IsWhole}
-use Rattle.prefix_trie_map.proofs.Runs.{gives_in_order}
 use Rattle.prefix_trie_map.proofs.map.into_iter.PrefixMapIntoIterator.into_iter.Goals as goal
 
 pub returns : goal.returns
@@ -15,7 +14,6 @@ returns g c =
         items,
         ap length items ∙ length-map (listing c.args.self.entries) (λ e. (g.P.Prefix.back e.0, e.1)) ∙ sym (len-entries c.args.self.entries),
         below,
-        gives_in_order,
         whole,
       );
     }
