@@ -1,0 +1,20 @@
+-- The lemmas of this crate: breakpoints, and passes over those of two sets.
+pub mod Breaks
+pub mod Keys
+pub mod Sweeps
+pub mod Appends
+pub mod Addresses
+pub mod Blocks
+pub mod Builders
+pub mod Covering
+pub mod Fewest
+pub mod Predecessors
+pub mod Walks
+pub mod SetLaws
+pub mod Coverings
+pub mod Counts
+pub mod WalkSteps
+pub mod NetworkWalks
+pub mod Aligned
+pub mod OfLength
+pub mod OfLengthLaw

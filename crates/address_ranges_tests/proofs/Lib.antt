@@ -1,0 +1,2 @@
+-- The proofs of the facts.
+pub mod FewestFacts
