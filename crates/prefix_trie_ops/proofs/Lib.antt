@@ -1,4 +1,6 @@
 -- The lemmas of this crate: merging and selecting in listing order, covers, marks, and the optimal table.
+pub mod Above
+pub mod Gathering
 pub mod Bounds
 pub mod Lists
 pub mod Sorted
@@ -6,7 +8,9 @@ pub mod Chains
 pub mod Combining
 pub mod Comparing
 pub mod Covers
+pub mod Filling
 pub mod Marks
+pub mod Matched
 pub mod Merging
 pub mod Optimal
 pub mod Pairs

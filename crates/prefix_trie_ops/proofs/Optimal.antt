@@ -8,3 +8,4 @@ pub mod Choosing
 pub mod RebuiltParts
 pub mod Least
 pub mod Whole
+pub mod PartCosts

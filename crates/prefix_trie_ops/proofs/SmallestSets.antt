@@ -9,8 +9,8 @@ use Rattle.prefix_trie_bits.proofs.Model.Members.{get-with_entry, get-without_en
 use Rattle.prefix_trie.specs.Laws.Lookups.{LookupLaws}
 use Rattle.prefix_trie.specs.Terms.{AreWithin, Entries, begins, covers, first_item, last_item, shortest_match, with_entry, without_entry}
 use Rattle.prefix_trie_ops.specs.Covered.{is_below_another}
-use Rattle.prefix_trie_ops.specs.Smallest.{HaveSameAnswers, IsSmallest}
-use Rattle.prefix_trie_ops.specs.SmallestSets.{CoverSameAddresses, HasNoSiblings, IsSmallestCover}
+use Rattle.prefix_trie_ops.specs.Smallest.{HaveSameAnswers, IsSmallest, MayExceedLimit}
+use Rattle.prefix_trie_ops.specs.SmallestSets.{CoverMayExceedLimit, CoverSameAddresses, HasNoSiblings, IsSmallestCover}
 use Rattle.prefix_trie_ops.specs.Values.{are_equal, is_redundant, value_above, value_of}
 use Rattle.prefix_trie_ops.proofs.Optimal.KeyCounts.{one_more}
 use Rattle.prefix_trie_ops.proofs.Optimal.Order.{above}
@@ -69,10 +69,14 @@ covers_same width m n same q long = covered_is_value m q ∙ ap is_some (same q 
 pub smallest_cover : (width : ℕ) (m : Entries (Unit {0})) → IsSmallest width m → IsSmallestCover width m
 smallest_cover width m least n same = least n (λ q long. same_unit (value_of n q) (value_of m q) (sym (covered_is_value n q) ∙ same q long ∙ covered_is_value m q))
 
+-- a set that covers the same addresses is a map of units with the same answers
+pub cover_exceeds : (width limit : ℕ) (m : Entries (Unit {0})) → MayExceedLimit width limit m → CoverMayExceedLimit width limit m
+cover_exceeds width limit m exceeds n same = exceeds n (λ q long. same_unit (value_of n q) (value_of m q) (sym (covered_is_value n q) ∙ same q long ∙ covered_is_value m q))
+
 -- if no entry has the value of a shorter one, no key is covered
 pub none_covered : (eq : Unit {0} → Unit {0} → Bool) → ((u : Unit {0}) → eq u u ≡ true) → (m : Entries (Unit {0})) → ((s : List Bool) → is_redundant eq m s ≡ false)
     → (s : List Bool) → contains_key m s ≡ true → is_below_another m s ≡ false
-none_covered eq same m tidy s here = below_is_above m s ∙ not_both (value_above m s) (get m s) here (tidy s)
+none_covered eq same m none_redundant s here = below_is_above m s ∙ not_both (value_above m s) (get m s) here (none_redundant s)
   where
     not_both : (o p : Option (Unit {0})) → is_some p ≡ true → are_equal eq o p ≡ false → is_some o ≡ false
     not_both None p h e = refl

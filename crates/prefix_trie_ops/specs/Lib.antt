@@ -2,6 +2,8 @@
 pub mod Choosing
 pub mod Combining
 pub mod Covered
+pub mod CoveringUnion
+pub mod Filling
 pub mod Laws
 pub mod Lending
 pub mod Merging
@@ -11,4 +13,3 @@ pub mod Smallest
 pub mod SmallestSets
 pub mod Values
 pub mod ValueSets
-pub mod Swapped

@@ -33,7 +33,7 @@ module _ {T : Type 0} where
   pub record Rebuilds (eq : T → T → Bool) (cmp : T → T → Ordering) (n : ℕ) (source : Entries T) (s : List Bool) (inherited held : Option T) (before after : Entries T) : Type 0 where
     pub beside : (t : List Bool) → begins s t ≡ false → get after t ≡ get before t
     pub values : (r : List Bool) → length r ≡ n → value_along (get after) held s r ≡ value_along (get source) inherited s r
-    pub tidy : (r : List Bool) → is_repeated_along eq (get after) held s r ≡ false
+    pub none_repeated : (r : List Bool) → is_repeated_along eq (get after) held s r ≡ false
     pub cost : len after ≤ len before + least eq cmp n (value_along (get source) inherited s) held
 
 module _ {P T : Type 0} (path : P → List Bool) where

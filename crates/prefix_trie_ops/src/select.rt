@@ -41,8 +41,11 @@ impl<'a, P: Prefix, T: Drop, A: Allocator, F: PathTest<P>> Model for Selected<'a
 }
 
 impl<'a, P: Prefix, T: Drop, A: Allocator, F: PathTest<P>> Selected<'a, P, T, A, F> {
-    /// Returns the walk over the entries that pass the test.
-    pub(crate) fn new(entries: Iter<'a, P, T, A>, test: F) -> Self
+    /// Returns a walk over the entries that pass a test, from those that another walk has still to give.
+    ///
+    /// Requires that each prefix to come fits, as it does in every walk of a map (`listed_laws`). For a test of your own,
+    /// implement `PathTest`.
+    pub fn new(entries: Iter<'a, P, T, A>, test: F) -> Self
         requires { All (λ e. P.IsFitting e.0) entries }
         ensures { result ≡ filter (λ e. F.outcome test (P.path e.0)) entries.entry }
     {

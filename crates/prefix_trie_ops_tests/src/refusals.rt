@@ -69,10 +69,10 @@ fn result_len<A: Allocator + Copy>(
             aggregate(map, alloc)?;
             Ok(map.len())
         }
-        Operation::AggregateConsistent => match aggregate_consistent(map, alloc) {
-            Ok(()) => Ok(map.len()),
-            Err(_) => Err(Refusal::Memory),
-        },
+        Operation::AggregateConsistent => {
+            aggregate_consistent(map, alloc)?;
+            Ok(map.len())
+        }
         Operation::CollectIntersection => Ok(collected(map, map, alloc)?.len()),
     }
 }

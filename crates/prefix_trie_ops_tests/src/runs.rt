@@ -1,8 +1,11 @@
 //! The examples, run on small tables.
+use crate::examples::overlap::shared;
 use crate::examples::preference::preferring;
 use crate::examples::reduction::reduce;
+use crate::examples::selection::at_least;
 use crate::examples::updates::updates;
 use prefix_trie::{Ipv4Prefix, Prefix, PrefixMap, PrefixSet, Refusal};
+use prefix_trie_ops::map::covering_union;
 use std::alloc::Global;
 
 type Table = PrefixMap<(u32, u8), u32, Global>;
@@ -76,10 +79,34 @@ fn is_reduced(alloc: Global) -> Result<bool, Refusal> {
     )
 }
 
+/// Returns whether two networks are shared, and two of the first table are longer than 8 bits.
+fn are_counted(alloc: Global) -> Result<bool, Refusal> {
+    let (first, second) = (table(&FIRST, alloc)?, table(&SECOND, alloc)?);
+    Ok((shared(&first, &second) == 2) & (at_least(&first, 9).count() == 2))
+}
+
+/// Returns whether a network of one table comes with its longest match in the other, if there is one.
+fn have_matches(alloc: Global) -> Result<bool, Refusal> {
+    let (first, second) = (table(&FIRST, alloc)?, table(&SECOND, alloc)?);
+    let mut walk = covering_union(&first, &second);
+    walk.next();
+    walk.next();
+    let of_first = Some(((0x0a02_0000, 16), &3));
+    let around = Some(((0x0a00_0000, 8), &1));
+    let of_second = Some(((0x0b00_0000, 8), &5));
+    Ok(
+        (walk.next() == Some(((0x0a02_0000, 16), of_first, around)))
+            & (walk.next() == Some(((0x0b00_0000, 8), None, of_second)))
+            & walk.next().is_none(),
+    )
+}
+
 #[test]
 fn examples_run(rt: HostRuntime) {
     let alloc = rt.alloc();
     assert!(rt; are_updated(alloc) == Ok(true));
     assert!(rt; are_preferred(alloc) == Ok(true));
     assert!(rt; is_reduced(alloc) == Ok(true));
+    assert!(rt; are_counted(alloc) == Ok(true));
+    assert!(rt; have_matches(alloc) == Ok(true));
 }

@@ -7,12 +7,11 @@ use Rattle.std.specs.FinMap.{get, len}
 use Rattle.prefix_trie_bits.specs.Begins.{begins-refl}
 use Rattle.prefix_trie.specs.Terms.{Entries, begins}
 use Rattle.prefix_trie_ops.specs.Optimal.{is_repeated_along, value_along, HasNoneBelow, Rebuilds}
-use Rattle.prefix_trie_ops.specs.Parts.{as_list, best_value, first_values, least, opening_cost, stored}
+use Rattle.prefix_trie_ops.specs.Parts.{best_value, first_values, least, stored}
 use Rattle.prefix_trie_ops.specs.Values.{are_equal}
 use Rattle.prefix_trie_ops.proofs.Optimal.LongestMatches.{along_agrees, along_leaf, repeated_agrees, repeated_none}
-use Rattle.prefix_trie_ops.proofs.Optimal.Choosing.{first_alone}
 use Rattle.prefix_trie_ops.proofs.Optimal.Order.{above, apart, is_other}
-use Rattle.prefix_trie_ops.proofs.Smallest.Lower.{least_joined, stored_alone}
+use Rattle.prefix_trie_ops.proofs.Optimal.PartCosts.{inner_cost, leaf_cost}
 
 -- a string that s does not begin is not s
 differs : (s t : List Bool) → begins s t ≡ false → t ≢ s
@@ -54,11 +53,8 @@ module _ {X : Type 0} (eq : X → X → Bool) (cmp : X → X → Ordering) (sour
     beside = λ t off. others_stay t (differs s t off);
     values = λ r _.
         along_leaf (get settled) held s r (λ t at other. others_stay t other ∙ empty_below t at) ∙ gives ∙ is ∙ sym (along_leaf (get source) inherited s r none);
-    tidy = alone;
-    cost =
-        let first = ap (λ xs. opening_cost eq xs held) (first_alone eq cmp source s inherited equal ties none n ∙ ap as_list (sym is)) in
-        let own = stored_alone eq held wanted in
-        omega (arith, cost, first, own);
+    none_repeated = alone;
+    cost = (let own = leaf_cost eq cmp source s inherited held wanted equal ties n none is in omega (arith, cost, own));
   }
     where
       alone : (r : List Bool) → is_repeated_along eq (get settled) held s r ≡ false
@@ -91,22 +87,18 @@ module _ {X : Type 0} (eq : X → X → Bool) (cmp : X → X → Ordering) (sour
     neither [] = ap (are_equal eq held) (right.beside s (not_itself_below s true) ∙ left.beside s (not_itself_below s false)) ∙ fresh
     neither (false ∷ r) =
         ap (λ o. is_repeated_along eq (get after) o (s ++ false ∷ []) r) top
-        ∙ repeated_agrees eq (get after) (get middle) wanted (s ++ false ∷ []) r (λ t at. right.beside t (not_right s t at)) ∙ left.tidy r
-    neither (true ∷ r) = ap (λ o. is_repeated_along eq (get after) o (s ++ true ∷ []) r) top ∙ right.tidy r
+        ∙ repeated_agrees eq (get after) (get middle) wanted (s ++ false ∷ []) r (λ t at. right.beside t (not_right s t at)) ∙ left.none_repeated r
+    neither (true ∷ r) = ap (λ o. is_repeated_along eq (get after) o (s ++ true ∷ []) r) top ∙ right.none_repeated r
 
     pub joined : IsEquivalence eq → ((x y : X) → eq x y ≡ is_eq (cmp x y)) → wanted ≡ best_value eq (first_values eq cmp (suc n) (value_along (get source) inherited s)) held
         → (first_values eq cmp (suc n) (value_along (get source) inherited s) ≡ [] → held ≡ None) → Rebuilds eq cmp (suc n) source s inherited held before after
     joined equal ties best possible = record {
       beside = λ t off. right.beside t (not_above s t true off) ∙ left.beside t (not_above s t false off) ∙ others_stay t (differs s t off);
       values = both;
-      tidy = neither;
+      none_repeated = neither;
       cost =
-          let lower : least eq cmp n (value_along (get source) here (s ++ false ∷ [])) wanted ≡ least eq cmp n (value_along (get source) (option_or (get source s) inherited) (s ++ false ∷ [])) wanted =
-          ap (λ h. least eq cmp n (value_along (get source) h (s ++ false ∷ [])) wanted) is in
-          let upper : least eq cmp n (value_along (get source) here (s ++ true ∷ [])) wanted ≡ least eq cmp n (value_along (get source) (option_or (get source s) inherited) (s ++ true ∷ [])) wanted =
-          ap (λ h. least eq cmp n (value_along (get source) h (s ++ true ∷ [])) wanted) is in
-          let whole = least_joined eq equal cmp ties n (value_along (get source) inherited s) held wanted best possible in
+          let whole = inner_cost eq cmp source s inherited held wanted equal ties here n is best possible in
           let first = left.cost in
           let second = right.cost in
-          omega (arith, cost, first, second, lower, upper, whole);
+          omega (arith, cost, first, second, whole);
     }

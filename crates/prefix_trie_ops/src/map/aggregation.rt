@@ -1,21 +1,26 @@
 //! Removal of entries that change no lookup.
-ghost use Rattle.std.specs.Prelude.{◌≡◌, Bool, true, false, List, IfOk, IfErr, Some, All, filter, map};
+ghost use Rattle.std.specs.Prelude.{◌≡◌, Bool, true, false, List, IfOk, OnOk, IfErr, Some, All, filter, map};
 ghost use Rattle.std.specs.Option.{option_map};
+ghost use Rattle.prefix_trie_bits.specs.declared.prefix.Refusal.TheVariants.{Memory};
 ghost use Rattle.prefix_trie.specs.Terms.{begins, last_item, lent_item, listing, needed};
 ghost use Rattle.prefix_trie_ops.specs.Values.{are_equal, is_redundant, stays, value_of, without_redundant, IsChain};
 
 use prefix_trie::laws::{listed_laws, listing_laws, lookup_laws};
-use prefix_trie::{Prefix, PrefixMap};
+use prefix_trie::{Prefix, PrefixMap, Refusal};
 use std::alloc::{AllocError, Allocator};
 
 /// Removes each entry whose longest shorter entry has an equal value.
 ///
-/// Every question, of any length, has the same longest-match value as before. No such entry is left, and nothing else changes.
-/// It allocates one byte for each entry, and a stack of one item for each length of prefix that is stored on one path.
+/// Every question, of any length, has the same longest-match value as before. No such entry is left. Nodes that no
+/// remaining entry needs are removed, and the slot limit stays. The map keeps its memory: `shrink_to_fit` returns it.
+///
+/// A first pass marks the entries that stay. It allocates a list of marks, which takes up to three bytes for each entry
+/// while it grows, and a stack of one item for each length of prefix that is stored on one path. The second pass
+/// removes the others and cannot fail.
 ///
 /// # Errors
 ///
-/// Returns the allocator's error if an allocation fails. The map is unchanged then.
+/// Returns `Memory` if an allocation of the first pass fails. The map is unchanged then.
 ///
 /// # Examples
 ///
@@ -27,15 +32,18 @@ use std::alloc::{AllocError, Allocator};
 pub fn aggregate_consistent<P: Prefix, T: PartialEq + Drop, A: Allocator, B: Allocator + Clone>(
     table: &mut PrefixMap<P, T, A>,
     alloc: B,
-) -> Result<(), AllocError>
-    ensures entries { IfOk result
-        (λ _. table.new.entries ≡ without_redundant T.PartialEq.eq table.old.entries) }
+) -> Result<(), Refusal>
+    ensures entries { OnOk result
+        (table.new.entries ≡ without_redundant T.PartialEq.eq table.old.entries) }
+    ensures nodes { OnOk result (table.new.nodes ≡ needed table.new.entries) }
+    ensures limit { OnOk result (table.new.space.limit ≡ table.old.space.limit) }
 
     // In the next two clauses, values that `==` calls equal are the same.
-    ensures values { IfOk result (λ _. ((x y : T) → T.PartialEq.eq x y ≡ true → x ≡ y)
+    ensures values { OnOk result (((x y : T) → T.PartialEq.eq x y ≡ true → x ≡ y)
         → (q : List Bool) → value_of table.new.entries q ≡ value_of table.old.entries q) }
-    ensures tidy { IfOk result (λ _. ((x y : T) → T.PartialEq.eq x y ≡ true → x ≡ y)
+    ensures none_redundant { OnOk result (((x y : T) → T.PartialEq.eq x y ≡ true → x ≡ y)
         → (s : List Bool) → is_redundant T.PartialEq.eq table.new.entries s ≡ false) }
+    ensures only_memory { IfErr result (λ cause. cause ≡ Memory) }
     ensures unchanged { IfErr result (λ _. table.new ≡ table.old) }
 {
     lookup_laws::<P, T>();
@@ -106,6 +114,8 @@ fn pop_apart<P: Prefix, T, B: Allocator>(above: &mut Vec<(P, &T), B>, prefix: &P
 
 /// Keeps the entries that are marked. There is a mark for each entry, in listing order.
 ///
+/// Nodes that no remaining entry needs are removed, and the slot limit stays.
+///
 /// # Examples
 ///
 /// ```rust
@@ -118,6 +128,7 @@ pub fn keep_marked<P: Prefix, T: Drop, A: Allocator>(table: &mut PrefixMap<P, T,
     ensures kept { (keep : List Bool × T → Bool) → marks.now ≡ map keep (listing table.old.entries)
         → listing table.new.entries ≡ filter keep (listing table.old.entries) }
     ensures nodes { table.new.nodes ≡ needed table.new.entries }
+    ensures limit { table.new.space.limit ≡ table.old.space.limit }
 {
     // The iterator serves as the counter: it cannot overflow, and its view is the marks still to come.
     let mut left = marks.iter();

@@ -1,7 +1,6 @@
 //! The entries of one map that nothing in another one covers.
 ghost use Rattle.std.specs.Prelude.{◌≡◌, ◌<◌, ◌^◌, All, length, not};
-ghost use Rattle.std.specs.Map.Iter.{ShowsInOrder};
-ghost use Rattle.prefix_trie.specs.Terms.{lent_item, listing, prefix_pairs};
+ghost use Rattle.prefix_trie.specs.Terms.{listing, prefix_pairs};
 ghost use Rattle.prefix_trie_ops.specs.Combining.{not_covered};
 
 use crate::select::{PathTest, Selected};
@@ -49,7 +48,6 @@ pub fn covering_difference<'a, P: Prefix, T: Drop, U: Drop, A: Allocator, B: All
         ≡ prefix_pairs P.back (listing (not_covered left.now.entries right.now.entries)) }
     ensures each_fits { All (λ e. P.IsFitting e.0) result }
     ensures fits { length result < 2 ^ 64 }
-    ensures runs { ShowsInOrder (lent_item {P = P} {T = T}) }
 {
     listing_laws::<T>();
     listed_laws::<P, T>();

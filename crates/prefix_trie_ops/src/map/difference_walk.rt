@@ -1,8 +1,7 @@
 //! The entries of one map whose keys another one does not have.
 ghost use Rattle.std.specs.Prelude.{◌≡◌, ◌<◌, ◌^◌, All, length, not};
 ghost use Rattle.std.specs.FinMap.{contains_key};
-ghost use Rattle.std.specs.Map.Iter.{ShowsInOrder};
-ghost use Rattle.prefix_trie.specs.Terms.{lent_item, listing, prefix_pairs};
+ghost use Rattle.prefix_trie.specs.Terms.{listing, prefix_pairs};
 ghost use Rattle.prefix_trie_ops.specs.Combining.{minus};
 
 use crate::select::{PathTest, Selected};
@@ -49,7 +48,6 @@ pub fn difference<'a, P: Prefix, T: Drop, U: Drop, A: Allocator, B: Allocator>(
         ≡ prefix_pairs P.back (listing (minus left.now.entries right.now.entries)) }
     ensures each_fits { All (λ e. P.IsFitting e.0) result }
     ensures fits { length result < 2 ^ 64 }
-    ensures runs { ShowsInOrder (lent_item {P = P} {T = T}) }
 {
     listing_laws::<T>();
     listed_laws::<P, T>();

@@ -1,7 +1,7 @@
 //! The keys that two maps have.
 ghost use Rattle.std.specs.Prelude.{◌≡◌, ◌<◌, ◌^◌, All, List, length};
 ghost use Rattle.std.specs.Iterator.{at_most};
-ghost use Rattle.std.specs.Map.Iter.{ShowsInOrder, TakesFirst};
+ghost use Rattle.std.specs.Map.Iter.{TakesFirst};
 ghost use Rattle.prefix_trie.specs.Terms.{listing, prefix_pairs};
 ghost use Rattle.prefix_trie_ops.specs.Combining.{common};
 ghost use Rattle.prefix_trie_ops.specs.Lending.{lent_pair};
@@ -57,7 +57,6 @@ pub fn intersection<'a, P: Prefix, T: Drop, U: Drop, A: Allocator, B: Allocator>
         ≡ prefix_pairs P.back (listing (common left.now.entries right.now.entries)) }
     ensures each_fits { All (λ e. P.IsFitting e.0) result }
     ensures fits { length result < 2 ^ 64 }
-    ensures runs { ShowsInOrder (lent_pair {P = P} {T = T} {U = U}) }
 {
     listing_laws::<T>();
     listing_laws::<U>();

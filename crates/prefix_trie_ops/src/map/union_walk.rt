@@ -2,7 +2,7 @@
 ghost use Rattle.std.specs.Prelude.{◌≡◌, ◌+◌, ◌≤◌, All, List, length};
 ghost use Rattle.std.specs.FinMap.{len};
 ghost use Rattle.std.specs.Iterator.{at_most};
-ghost use Rattle.std.specs.Map.Iter.{ShowsInOrder, TakesFirst};
+ghost use Rattle.std.specs.Map.Iter.{TakesFirst};
 ghost use Rattle.prefix_trie.specs.Terms.{listing, prefix_pairs};
 ghost use Rattle.prefix_trie_ops.specs.Merging.{lent_side, union_of};
 
@@ -60,7 +60,6 @@ pub fn union<'a, P: Prefix, T: Drop, U: Drop, A: Allocator, B: Allocator>(
         ≡ prefix_pairs P.back (listing (union_of left.now.entries right.now.entries)) }
     ensures each_fits { All (λ e. P.IsFitting e.0) result }
     ensures at_most { length result ≤ len left.now.entries + len right.now.entries }
-    ensures runs { ShowsInOrder (lent_side {P = P} {T = T} {U = U}) }
 {
     listing_laws::<T>();
     listing_laws::<U>();

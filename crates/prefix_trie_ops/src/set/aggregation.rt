@@ -1,22 +1,26 @@
 //! Removal of keys that a shorter key covers.
-ghost use Rattle.std.specs.Prelude.{◌≡◌, Bool, true, false, List, IfOk, IfErr, IfSome, filter, map};
+ghost use Rattle.std.specs.Prelude.{◌≡◌, Bool, true, false, List, IfOk, OnOk, IfErr, IfSome, filter, map};
 ghost use Rattle.std.specs.Option.{is_some};
 ghost use Rattle.std.specs.FinMap.{contains_key};
+ghost use Rattle.prefix_trie_bits.specs.declared.prefix.Refusal.TheVariants.{Memory};
 ghost use Rattle.prefix_trie.specs.Terms.{listing, needed, shortest_match};
 ghost use Rattle.prefix_trie_ops.specs.Covered.{contains_path, is_below_another, is_uppermost, without_covered};
 
 use prefix_trie::laws::{listed_laws, listing_laws, lookup_laws, match_laws};
-use prefix_trie::{Prefix, PrefixSet};
+use prefix_trie::{Prefix, PrefixSet, Refusal};
 use std::alloc::{AllocError, Allocator};
 
 /// Removes each key that a shorter key covers.
 ///
-/// `is_covered` returns the same as before for every question, of any length. No such key is left, and nothing else changes.
-/// It allocates one byte for each key.
+/// `is_covered` returns the same as before for every question, of any length. No such key is left. Nodes that no
+/// remaining key needs are removed, and the slot limit stays. The set keeps its memory: `shrink_to_fit` returns it.
+///
+/// A first pass marks the keys that stay. It allocates a list of marks, which takes up to three bytes for each key while
+/// it grows. The second pass removes the others and cannot fail.
 ///
 /// # Errors
 ///
-/// Returns the allocator's error if an allocation fails. The set is unchanged then.
+/// Returns `Memory` if an allocation of the first pass fails. The set is unchanged then.
 ///
 /// # Examples
 ///
@@ -28,14 +32,15 @@ use std::alloc::{AllocError, Allocator};
 pub fn aggregate_consistent<P: Prefix, A: Allocator, B: Allocator>(
     set: &mut PrefixSet<P, A>,
     alloc: B,
-) -> Result<(), AllocError>
-    ensures entries { IfOk result (λ _. set.new.entries ≡ without_covered set.old.entries) }
-    ensures covered { IfOk result
-        (λ _. (q : List Bool)
+) -> Result<(), Refusal>
+    ensures entries { OnOk result (set.new.entries ≡ without_covered set.old.entries) }
+    ensures nodes { OnOk result (set.new.nodes ≡ needed set.new.entries) }
+    ensures limit { OnOk result (set.new.space.limit ≡ set.old.space.limit) }
+    ensures covered { OnOk result ((q : List Bool)
         → is_some (shortest_match set.new.entries q) ≡ is_some (shortest_match set.old.entries q)) }
-    ensures tidy { IfOk result
-        (λ _. (s : List Bool) → contains_key set.new.entries s ≡ true
+    ensures uncovered { OnOk result ((s : List Bool) → contains_key set.new.entries s ≡ true
         → is_below_another set.new.entries s ≡ false) }
+    ensures only_memory { IfErr result (λ cause. cause ≡ Memory) }
     ensures unchanged { IfErr result (λ _. set.new ≡ set.old) }
 {
     lookup_laws::<P, ()>();
@@ -92,6 +97,8 @@ fn does_contain<P: Prefix>(covering: &Option<P>, prefix: &P) -> bool
 
 /// Keeps the keys that are marked. There is a mark for each key, in listing order.
 ///
+/// Nodes that no remaining key needs are removed, and the slot limit stays.
+///
 /// # Examples
 ///
 /// ```rust
@@ -105,6 +112,7 @@ pub fn keep_marked<P: Prefix, A: Allocator>(set: &mut PrefixSet<P, A>, marks: &[
         → marks.now ≡ map keep (listing set.old.entries)
         → listing set.new.entries ≡ filter keep (listing set.old.entries) }
     ensures nodes { set.new.nodes ≡ needed set.new.entries }
+    ensures limit { set.new.space.limit ≡ set.old.space.limit }
 {
     let mut left = marks.iter();
     set.retain(move |_| left.next().copied().unwrap_or(true));

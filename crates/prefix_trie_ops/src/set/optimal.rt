@@ -1,8 +1,10 @@
 //! The set with the fewest keys for the same addresses.
-ghost use Rattle.std.specs.Prelude.{◌≡◌, true, false, List, Bool, IfErr, IfOk};
+ghost use Rattle.std.specs.Prelude.{◌≡◌, true, false, List, Bool, IfErr, IfOk, OnOk};
 ghost use Rattle.std.specs.FinMap.{contains_key};
+ghost use Rattle.prefix_trie_bits.specs.declared.prefix.Refusal.TheVariants.{IndexRange};
+ghost use Rattle.prefix_trie.specs.Terms.{needed};
 ghost use Rattle.prefix_trie_ops.specs.Covered.{is_below_another};
-ghost use Rattle.prefix_trie_ops.specs.SmallestSets.{CoverSameAddresses, HasNoSiblings, IsSmallestCover};
+ghost use Rattle.prefix_trie_ops.specs.SmallestSets.{CoverMayExceedLimit, CoverSameAddresses, HasNoSiblings, IsSmallestCover};
 
 use crate::map;
 use prefix_trie::laws::lookup_laws;
@@ -16,12 +18,13 @@ use std::alloc::Allocator;
 /// covered before. The set keeps its slot limit.
 ///
 /// The time grows with the number of bits of the keys; bits that keys share count once. The new set is built beside the
-/// old one. Until then, the call also needs memory for a copy of the keys, and for a few numbers for each of these bits.
+/// old one and replaces it. The call also needs memory for a copy of the keys, and for a few numbers for each of these
+/// bits. `shrink_to_fit` returns the capacity that the new set does not use.
 ///
 /// # Errors
 ///
-/// Returns `Memory` if an allocation fails, and `IndexRange` if the new set exceeds the slot limit. The set is
-/// unchanged then.
+/// Returns `Memory` if an allocation fails, and `IndexRange` if the new set exceeds the slot limit. This needs many
+/// keys: each makes at most 56 slots of an array. The set is unchanged then.
 ///
 /// # Examples
 ///
@@ -41,6 +44,12 @@ pub fn aggregate<P: Prefix, A: Allocator + Clone, B: Allocator>(
         (λ _. (s : List Bool) → contains_key set.new.entries s ≡ true
         → is_below_another set.new.entries s ≡ false) }
     ensures no_siblings { IfOk result (λ _. HasNoSiblings set.new.entries) }
+    ensures nodes { OnOk result (set.new.nodes ≡ needed set.new.entries) }
+    ensures limit { OnOk result (set.new.space.limit ≡ set.old.space.limit) }
+
+    // `IndexRange` comes only if 56 slots for each key of any set that covers these addresses would exceed the limit.
+    ensures range { IfErr result (λ cause. cause ≡ IndexRange
+        → CoverMayExceedLimit P.R.bit_width set.old.space.limit set.old.entries) }
     ensures unchanged { IfErr result (λ _. set.new ≡ set.old) }
 {
     let made = aggregated(set, alloc)?;
@@ -74,6 +83,10 @@ pub fn aggregated<P: Prefix, A: Allocator + Clone, B: Allocator>(
         (λ made. (s : List Bool) → contains_key made.entries s ≡ true
         → is_below_another made.entries s ≡ false) }
     ensures no_siblings { IfOk result (λ made. HasNoSiblings made.entries) }
+    ensures nodes { IfOk result (λ made. made.nodes ≡ needed made.entries) }
+    ensures limit { IfOk result (λ made. made.space.limit ≡ set.now.space.limit) }
+    ensures range { IfErr result (λ cause. cause ≡ IndexRange
+        → CoverMayExceedLimit P.R.bit_width set.now.space.limit set.now.entries) }
 {
     lookup_laws::<P, ()>();
     let made = map::aggregated(set.as_map(), alloc)?;

@@ -3,7 +3,6 @@
 //! They are the walks over the sets' maps of units, without the values.
 ghost use Rattle.std.specs.Prelude.{◌≡◌, ◌+◌, ◌≤◌, ◌<◌, ◌^◌, All, length, map};
 ghost use Rattle.std.specs.FinMap.{len};
-ghost use Rattle.std.specs.Map.Iter.{GivesInOrder};
 ghost use Rattle.prefix_trie.specs.Terms.{listing};
 ghost use Rattle.prefix_trie_ops.specs.Combining.{minus, not_covered, restricted_to};
 ghost use Rattle.prefix_trie_ops.specs.Merging.{union_of};
@@ -50,7 +49,6 @@ pub fn union<'a, P: Prefix, A: Allocator, B: Allocator>(
         ≡ map (λ e. P.back e.0) (listing (union_of left.now.entries right.now.entries)) }
     ensures each_fits { All P.IsFitting result }
     ensures at_most { length result ≤ len left.now.entries + len right.now.entries }
-    ensures runs { GivesInOrder P }
 {
     KeysOf::new(map::union(left.as_map(), right.as_map()))
 }
@@ -74,7 +72,6 @@ pub fn intersection<'a, P: Prefix, A: Allocator, B: Allocator>(
         ≡ map (λ e. P.back e.0) (listing (restricted_to left.now.entries right.now.entries)) }
     ensures each_fits { All P.IsFitting result }
     ensures fits { length result < 2 ^ 64 }
-    ensures runs { GivesInOrder P }
 {
     KeysOf::new(map::intersection(left.as_map(), right.as_map()))
 }
@@ -98,7 +95,6 @@ pub fn difference<'a, P: Prefix, A: Allocator, B: Allocator>(
         ≡ map (λ e. P.back e.0) (listing (minus left.now.entries right.now.entries)) }
     ensures each_fits { All P.IsFitting result }
     ensures fits { length result < 2 ^ 64 }
-    ensures runs { GivesInOrder P }
 {
     KeysOf::new(map::difference(left.as_map(), right.as_map()))
 }
@@ -122,7 +118,6 @@ pub fn covering_difference<'a, P: Prefix, A: Allocator, B: Allocator>(
         ≡ map (λ e. P.back e.0) (listing (not_covered left.now.entries right.now.entries)) }
     ensures each_fits { All P.IsFitting result }
     ensures fits { length result < 2 ^ 64 }
-    ensures runs { GivesInOrder P }
 {
     KeysOf::new(map::covering_difference(left.as_map(), right.as_map()))
 }

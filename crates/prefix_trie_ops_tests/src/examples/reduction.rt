@@ -4,16 +4,16 @@ ghost use Rattle.std.specs.Option.{is_some};
 ghost use Rattle.std.specs.FinMap.{contains_key};
 ghost use Rattle.prefix_trie.specs.Terms.{begins, shortest_match};
 
-use prefix_trie::laws::lookup_laws;
-use prefix_trie::{Ipv4Prefix, PrefixSet};
+use prefix_trie::{Ipv4Prefix, PrefixSet, Refusal};
+use prefix_trie_ops::laws::aggregation_laws;
 use prefix_trie_ops::set::aggregate_consistent;
-use std::alloc::{AllocError, Allocator};
+use std::alloc::Allocator;
 
 /// Removes the networks that another network of the list contains. The list allows the same addresses as before.
 pub fn reduce<A: Allocator, B: Allocator>(
     list: &mut PrefixSet<Ipv4Prefix, A>,
     alloc: B,
-) -> Result<(), AllocError>
+) -> Result<(), Refusal>
     ensures same { IfOk result
         (λ _. (q : List Bool)
         → is_some (shortest_match list.new.entries q)
@@ -23,6 +23,6 @@ pub fn reduce<A: Allocator, B: Allocator>(
         → contains_key list.new.entries t ≡ true → begins s t ≡ true → s ≡ t) }
     ensures unchanged { IfErr result (λ _. list.new ≡ list.old) }
 {
-    lookup_laws::<Ipv4Prefix, ()>();
+    aggregation_laws::<()>();
     aggregate_consistent(list, alloc)
 }

@@ -3,4 +3,4 @@ use Rattle.prefix_trie_ops.proofs.Combining.{combining_laws}
 use Rattle.prefix_trie_ops.proofs.laws.combining_laws.Goals as goal
 
 pub returns : goal.returns
-returns g c = combining_laws c.lookup_laws.ensures
+returns g c = combining_laws

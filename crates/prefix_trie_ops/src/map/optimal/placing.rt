@@ -1,11 +1,15 @@
 //! The third pass, from the top down: storing the chosen values.
-ghost use Rattle.std.specs.Prelude.{◌≡◌, ◌≢◌, ◌<◌, ◌≤◌, ℕ, ◌+◌, Bool, true, false, List, [], ◌++◌, length, Option, Some, None, OnOk};
+ghost use Rattle.std.specs.Prelude.{◌≡◌, ◌≢◌, ◌<◌, ◌≤◌, ℕ, ◌+◌, Bool, true, false, List, [], ◌++◌, length, Option, Some, None, OnOk, IfErr};
 ghost use Rattle.std.specs.Option.{option_or};
 ghost use Rattle.std.specs.FinMap.{get, len};
+ghost use Rattle.prefix_trie_bits.specs.declared.prefix.Refusal.TheVariants.{IndexRange};
+ghost use Rattle.prefix_trie_bits.specs.Model.Space.{MayPassLimit};
+ghost use Rattle.prefix_trie_map.specs.Collected.{ManyMayPassLimit};
 ghost use Rattle.prefix_trie.specs.Terms.{AreWithin, Entries, listing_after, listing_from, prefix_pairs};
 ghost use Rattle.prefix_trie_ops.specs.Choosing.{part_values, AreToCome};
+ghost use Rattle.prefix_trie_ops.specs.Filling.{Fills};
 ghost use Rattle.prefix_trie_ops.specs.Optimal.{is_first_below, listing_past, value_along, HasNoneBelow, Rebuilds};
-ghost use Rattle.prefix_trie_ops.specs.Parts.{first_values, stored};
+ghost use Rattle.prefix_trie_ops.specs.Parts.{first_values, least, stored};
 ghost use Rattle.prefix_trie_ops.specs.Values.{are_equal};
 
 use super::choosing::Choices;
@@ -52,6 +56,21 @@ pub(super) fn place<P: Prefix, T: Copy + Ord, B: Allocator, C: Allocator>(
         (value_along (get source) inherited (P.path at.now)) ≡ [] → held ≡ None)
         → Rebuilds T.PartialEq.eq T.Ord.cmp n source
         (P.path at.now) inherited held made.old.entries made.new.entries) }
+    ensures fills { OnOk result (Fills made.old made.new) }
+
+    // `IndexRange` comes only if the slots for the fewest entries of the part could exceed the limit.
+    ensures range { IfErr result (λ cause. cause ≡ IndexRange
+        → (source : Entries T) (n : ℕ) (rest : List (List T)) → AreWithin P.R.bit_width source
+        → length (P.path at.now) + n ≡ P.R.bit_width
+        → walk.old ≡ prefix_pairs P.back (listing_from source (P.path at.now))
+        → AreToCome choices.old
+        (part_values T.PartialEq.eq T.Ord.cmp source n (P.path at.now) inherited ++ rest)
+        → HasNoneBelow made.old.entries (P.path at.now)
+        → ((x y : T) → T.PartialEq.eq x y ≡ true → x ≡ y)
+        → (first_values T.PartialEq.eq T.Ord.cmp n
+        (value_along (get source) inherited (P.path at.now)) ≡ [] → held ≡ None)
+        → ManyMayPassLimit made.old.space (least T.PartialEq.eq T.Ord.cmp n
+        (value_along (get source) inherited (P.path at.now)) held)) }
 {
     listing_laws::<T>();
     listed_laws::<P, T>();
@@ -105,6 +124,22 @@ fn place_inner<P: Prefix, T: Copy + Ord, B: Allocator, C: Allocator>(
         (value_along (get source) inherited (P.path at.now)) ≡ [] → held ≡ None)
         → Rebuilds T.PartialEq.eq T.Ord.cmp n source
         (P.path at.now) inherited held made.old.entries made.new.entries) }
+    ensures fills { OnOk result (Fills made.old made.new) }
+    ensures range { IfErr result (λ cause. cause ≡ IndexRange
+        → (source : Entries T) (n : ℕ) (inherited : Option T) (rest : List (List T))
+        → AreWithin P.R.bit_width source
+        → length (P.path at.now) + n ≡ P.R.bit_width
+        → walk.old ≡ prefix_pairs P.back (listing_after source (P.path at.now))
+        → is_first_below (λ t. t) (P.path at.now) (listing_after source (P.path at.now)) ≡ true
+        → here ≡ option_or (get source (P.path at.now)) inherited
+        → AreToCome choices.old
+        (part_values T.PartialEq.eq T.Ord.cmp source n (P.path at.now) inherited ++ rest)
+        → HasNoneBelow made.old.entries (P.path at.now)
+        → ((x y : T) → T.PartialEq.eq x y ≡ true → x ≡ y)
+        → (first_values T.PartialEq.eq T.Ord.cmp n
+        (value_along (get source) inherited (P.path at.now)) ≡ [] → held ≡ None)
+        → ManyMayPassLimit made.old.space (least T.PartialEq.eq T.Ord.cmp n
+        (value_along (get source) inherited (P.path at.now)) held)) }
 {
     let wanted = choices.take(held);
     settle(made, at, held, wanted)?;
@@ -136,6 +171,9 @@ fn settle<P: Prefix, T: Copy + Ord, A: Allocator>(
     ensures fresh { OnOk result
         (get made.old.entries (P.path at.now) ≡ None
         → are_equal T.PartialEq.eq held (get made.new.entries (P.path at.now)) ≡ false) }
+    ensures fills { OnOk result (Fills made.old made.new) }
+    ensures range { IfErr result (λ cause. cause ≡ IndexRange
+        → ManyMayPassLimit made.old.space (stored T.PartialEq.eq held wanted)) }
 {
     let Some(value) = wanted else {
         return Ok(());
@@ -158,8 +196,12 @@ fn store<P: Prefix, T: Copy + Ord, A: Allocator>(
         ((t : List Bool) → t ≢ P.path at.now → get made.new.entries t ≡ get made.old.entries t) }
     ensures value { OnOk result (get made.new.entries (P.path at.now) ≡ Some value) }
     ensures cost { OnOk result (len made.new.entries ≤ len made.old.entries + 1) }
+    ensures fills { OnOk result (Fills made.old made.new) }
+    ensures range { IfErr result (λ cause. cause ≡ IndexRange → MayPassLimit made.old.space) }
 {
     stored_laws::<T>();
+    // The proof learns from it what holds of every map.
+    let _ = made.len();
     made.insert(same_prefix(at), value)?;
     Ok(())
 }

@@ -17,8 +17,8 @@ returns-clause-values g c exact q =
     same_values g.T.PartialEq.eq c.args.table.now.entries c.keep_marked.new.table.entries
     (gone_get g.T.PartialEq.eq c.args.table.now.entries c.keep_marked.new.table.entries left) c.lookup_laws.ensures exact q
 
-pub returns-clause-tidy : goal.returns-clause-tidy
-returns-clause-tidy g c exact s =
+pub returns-clause-none_redundant : goal.returns-clause-none_redundant
+returns-clause-none_redundant g c exact s =
     let left : c.keep_marked.new.table.entries ≡ without_redundant g.T.PartialEq.eq c.args.table.now.entries =
     gone_entries g.T.PartialEq.eq c.args.table.now.entries c.keep_marked.new.table.entries
     (c.keep_marked.ensures.kept (stays g.T.PartialEq.eq c.args.table.now.entries) (c.as_slice.ensures.value ∙ c.in_ok-marks.ensures)) in

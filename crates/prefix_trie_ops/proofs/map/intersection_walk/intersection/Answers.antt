@@ -2,9 +2,7 @@
 use Rattle.std.proofs.Common.{rules, ◌^◌, All, ap, subst, sym}
 use Rattle.std.specs.FinMap.{len}
 use Rattle.prefix_trie.specs.Terms.{combined_to_come, listing, prefix_pairs}
-use Rattle.prefix_trie_map.proofs.Runs.{shows_in_order}
 use Rattle.prefix_trie_ops.specs.Combining.{common}
-use Rattle.prefix_trie_ops.specs.Lending.{lent_pair}
 use Rattle.prefix_trie_ops.proofs.Bounds.{common_fewer, common_within, items_below}
 use Rattle.prefix_trie_ops.proofs.Joint.{common_combines}
 use Rattle.prefix_trie_ops.proofs.map.intersection_walk.intersection.Goals as goal
@@ -28,6 +26,3 @@ returns-clause-fits g c =
     let n = c.args.right.now.entries in
     items_below (2 ^ 64) (len m) (prefix_pairs g.P.Prefix.back (combined_to_come g.P.R.Key.bits (common m n) c.joint_cursor.result)) (λ e. (g.P.Prefix.back e.0, e.1)) (listing (common m n)) (returns-clause-items g c) (common_fewer m n)
     (search rules)
-
-pub returns-clause-runs : goal.returns-clause-runs
-returns-clause-runs g c = shows_in_order lent_pair

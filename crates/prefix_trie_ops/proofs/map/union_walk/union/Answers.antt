@@ -2,8 +2,7 @@
 use Rattle.std.proofs.Common.{◌+◌, All, ap, subst, sym}
 use Rattle.std.specs.FinMap.{len}
 use Rattle.prefix_trie.specs.Terms.{combined_to_come, listing, prefix_pairs}
-use Rattle.prefix_trie_map.proofs.Runs.{shows_in_order}
-use Rattle.prefix_trie_ops.specs.Merging.{lent_side, union_of}
+use Rattle.prefix_trie_ops.specs.Merging.{union_of}
 use Rattle.prefix_trie_ops.proofs.Bounds.{items_at_most, union_fewer, union_within}
 use Rattle.prefix_trie_ops.proofs.Joint.{union_combines}
 use Rattle.prefix_trie_ops.proofs.map.union_walk.union.Goals as goal
@@ -13,9 +12,6 @@ returns-clause-items g c =
     let m = c.args.left.now.entries in
     let n = c.args.right.now.entries in
     ap (prefix_pairs g.P.Prefix.back) (c.joint_cursor.ensures.items (union_of m n) (union_combines m n))
-
-pub returns-clause-runs : goal.returns-clause-runs
-returns-clause-runs g c = shows_in_order lent_side
 
 pub returns-clause-each_fits : goal.returns-clause-each_fits
 returns-clause-each_fits g c =

@@ -12,5 +12,5 @@ returns-clause-entries g c =
 pub returns-clause-covered : goal.returns-clause-covered
 returns-clause-covered g c q = same_covered c.lookup_laws.ensures c.args.set.now.entries _ (returns-clause-entries g c) q
 
-pub returns-clause-tidy : goal.returns-clause-tidy
-returns-clause-tidy g c s there = none_covered c.lookup_laws.ensures c.args.set.now.entries _ (returns-clause-entries g c) s there
+pub returns-clause-uncovered : goal.returns-clause-uncovered
+returns-clause-uncovered g c s there = none_covered c.lookup_laws.ensures c.args.set.now.entries _ (returns-clause-entries g c) s there

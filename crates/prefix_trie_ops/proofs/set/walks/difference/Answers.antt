@@ -1,7 +1,6 @@
 -- The keys of the difference are the prefixes of the items of the maps' difference.
 use Rattle.std.proofs.Common.{◌∙◌, All, ap, ap₂, map, subst, sym}
 use Rattle.prefix_trie.specs.Terms.{listing, prefix_pairs}
-use Rattle.prefix_trie_map.proofs.Runs.{gives_in_order}
 use Rattle.prefix_trie_ops.specs.Combining.{minus}
 use Rattle.prefix_trie_ops.proofs.SelectedItems.{prefixes_fit, prefixes_shown}
 use Rattle.prefix_trie_ops.proofs.set.walks.difference.Goals as goal
@@ -14,6 +13,3 @@ returns-clause-items g c =
 
 pub returns-clause-each_fits : goal.returns-clause-each_fits
 returns-clause-each_fits g c = subst (All g.P.Prefix.IsFitting) (sym c.new.ensures) (prefixes_fit g.P.Prefix.IsFitting c.difference.result c.difference.ensures.each_fits)
-
-pub returns-clause-runs : goal.returns-clause-runs
-returns-clause-runs g c = gives_in_order

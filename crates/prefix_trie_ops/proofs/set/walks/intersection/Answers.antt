@@ -1,7 +1,6 @@
 -- The keys of the intersection are the prefixes of the items of the maps' intersection.
 use Rattle.std.proofs.Common.{◌∙◌, All, ap, ap₂, map, subst, sym}
 use Rattle.prefix_trie.specs.Terms.{listing, prefix_pairs}
-use Rattle.prefix_trie_map.proofs.Runs.{gives_in_order}
 use Rattle.prefix_trie_ops.specs.Combining.{common}
 use Rattle.prefix_trie_ops.proofs.Pairs.{common_keys}
 use Rattle.prefix_trie_ops.proofs.SelectedItems.{prefixes_fit, prefixes_shown}
@@ -17,6 +16,3 @@ returns-clause-items g c =
 
 pub returns-clause-each_fits : goal.returns-clause-each_fits
 returns-clause-each_fits g c = subst (All g.P.Prefix.IsFitting) (sym c.new.ensures) (prefixes_fit g.P.Prefix.IsFitting c.intersection.result c.intersection.ensures.each_fits)
-
-pub returns-clause-runs : goal.returns-clause-runs
-returns-clause-runs g c = gives_in_order

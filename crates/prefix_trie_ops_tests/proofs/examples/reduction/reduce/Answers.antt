@@ -13,4 +13,4 @@ returns-clause-apart g c =
     IfOk-weaker c.aggregate_consistent.result
     (λ _. (s : List Bool) → contains_key n s ≡ true → is_below_another n s ≡ false)
     (λ _. (s t : List Bool) → contains_key n s ≡ true → contains_key n t ≡ true → begins s t ≡ true → s ≡ t)
-    (λ _ tidy. none_begins c.lookup_laws.ensures n tidy) c.aggregate_consistent.ensures.tidy
+    (λ _ uncovered. none_begins c.aggregation_laws.ensures n uncovered) c.aggregate_consistent.ensures.uncovered
