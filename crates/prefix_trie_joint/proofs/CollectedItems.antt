@@ -1,10 +1,21 @@
 -- Inserting a list with one more item at its end sets that item last, and makes few slots: for `from_iter`.
-use Rattle.std.proofs.Common.{◌≡◌, ℕ, ◌+◌, ◌-◌, ◌*◌, ◌^◌, ◌<◌, Bool, List, Result, Ok, Err, IfErr, OnOk, [], ◌∷◌, ◌++◌, length, map, refl, sym, ap, ◌∙◌, inl, inr, arith, subst, length-append}
-use Rattle.prefix_trie.specs.Terms.{as_item, Entries, put_all, with_entry}
+use Rattle.std.proofs.Common.{◌≡◌, ℕ, zero, suc, take, ◌+◌, ◌-◌, ◌*◌, ◌^◌, ◌<◌, ◌≤◌, Bool, List, [], ◌∷◌, ◌++◌, length, refl, sym, ap, ◌∙◌, inl, inr, arith, subst, length-append}
+use Rattle.prefix_trie.specs.Terms.{Entries, IsWhole, network_path, put_all, with_entry}
+use Rattle.prefix_trie_bits.proofs.Model.NodeSets.{tidy-no_entries}
+use Rattle.prefix_trie_bits.proofs.Model.Steps.{step_laws}
+use Rattle.prefix_trie_bits.proofs.Model.Storage.Slots.{slot_laws}
+use Rattle.prefix_trie_bits.specs.BitStrings.{length-digits}
+use Rattle.prefix_trie_bits.specs.Calls.Storage.{StepByPath}
+use Rattle.prefix_trie_bits.specs.Model.Bits.{digits}
+use Rattle.prefix_trie_bits.specs.Model.Nodes.{needed}
 use Rattle.prefix_trie_bits.specs.Model.Space.{MayPassLimit, Space}
-use Rattle.prefix_trie_map.specs.Collected.{Puts}
-use Rattle.prefix_trie_table.specs.Model.Contents.{Contents}
-use Rattle.prefix_trie_joint.specs.Collected.{AreSpacesAfter, IsSpaceAfter}
+use Rattle.prefix_trie_bits.specs.Model.Step.{Insert, RemoveKeepTree, Refused, Reply}
+use Rattle.prefix_trie_bits.specs.declared.prefix.Refusal.TheVariants.{IndexRange}
+use Rattle.prefix_trie_table.specs.Model.Contents.{Contents, state, stored_state}
+use Rattle.prefix_trie_joint.specs.declared.prefix.IpPrefix.{IpPrefix}
+use Rattle.prefix_trie_joint.specs.declared.prefix.IpPrefix.TheVariants.{V4, V6}
+use Rattle.prefix_trie_joint.specs.Changes.{AreWhole, IsNew, StepOnFamily}
+use Rattle.prefix_trie_joint.specs.Collected.{AreAfter, IsAfter}
 
 module _ {P T : Type 0} (path : P → List Bool) where
   put_last : (xs : List (P × T)) (x : P × T) (m : Entries T) → put_all path (xs ++ x ∷ []) m ≡ with_entry (put_all path xs m) (path x.0) x.1
@@ -15,56 +26,58 @@ module _ {P T : Type 0} (path : P → List Bool) where
   pub put_more : (first then last : Entries T) (xs : List (P × T)) (x : P × T) → then ≡ put_all path xs first → last ≡ with_entry then (path x.0) x.1 → last ≡ put_all path (xs ++ x ∷ []) first
   put_more first then last xs x before one = one ∙ ap (λ m. with_entry m (path x.0) x.1) before ∙ sym (put_last xs x first)
 
-module _ {P : Type 0} (path : P → List Bool) where
-  put_last_key : (xs : List P) (x : P) (m : Entries (Unit {0})) → put_all path (map as_item (xs ++ x ∷ [])) m ≡ with_entry (put_all path (map as_item xs) m) (path x) tt
-  put_last_key [] x m = refl
-  put_last_key (y ∷ xs) x m = put_last_key xs x (with_entry m (path y) tt)
+first_few : (n k : ℕ) (xs : List Bool) → length xs ≤ k → length (take n xs) ≤ k
+first_few zero k [] h = omega arith
+first_few zero k (x ∷ xs) h = omega arith
+first_few (suc n) k [] h = omega arith
+first_few (suc n) k (x ∷ xs) h = let rest : length (take n xs) ≤ k - 1 = first_few n (k - 1) xs (omega (arith, h)) in omega (arith, rest, h)
 
-  -- the same for keys alone
-  pub put_more_keys : (first then last : Entries (Unit {0})) (xs : List P) (x : P) → then ≡ put_all path (map as_item xs) first → last ≡ with_entry then (path x) tt → last ≡ put_all path (map as_item (xs ++ x ∷ [])) first
-  put_more_keys first then last xs x before one = one ∙ ap (λ m. with_entry m (path x) tt) before ∙ sym (put_last_key xs x first)
+short : (width : ℕ) (network : ℕ × ℕ) → width ≤ 128 → length (network_path width network) ≤ 128
+short width network few = first_few network.1 128 (digits width network.0) (subst (λ n. n ≤ 128) (sym (length-digits width network.0)) few)
 
--- the space of a new map
-pub new_space : (space : Space) → space ≡ record { limit = 2 ^ 32 - 1; node_slots = 1; cell_slots = 0 } → IsSpaceAfter 0 space
-new_space space new = (ap (λ (r : Space). r.limit) new, omega (arith, ap (λ (r : Space). r.node_slots) new), omega (arith, ap (λ (r : Space). r.cell_slots) new))
+module _ {T : Type 0} where
+  -- a new map
+  pub new_after : (map : Contents T) → IsNew (2 ^ 32 - 1) map → IsAfter 0 map
+  new_after map new = (
+    ap (λ (r : Space). r.limit) new.space,
+    omega (arith, ap (λ (r : Space). r.node_slots) new.space),
+    omega (arith, ap (λ (r : Space). r.cell_slots) new.space),
+    new.nodes ∙ tidy-no_entries T ∙ ap needed (sym new.entries),
+  )
 
--- one insertion more
-pub space_more : {P T : Type 0} (path : P → List Bool) (before after : Contents T) (x : P × T) → Puts path before (x ∷ []) after → (count : ℕ) → IsSpaceAfter count before.space → IsSpaceAfter (count + 1) after.space
-space_more path before after x one count was = (one.limit ∙ was.0, omega (arith, one.node_slots, was.1), omega (arith, one.cell_slots, was.2))
+  inserts : (q p : List Bool) (v : T) → Insert q v ≡ RemoveKeepTree p → ⊥
+  inserts q p v e = cc
 
--- no insertion in this map, but one more in the other
-pub space_still : (space : Space) (count : ℕ) → IsSpaceAfter count space → IsSpaceAfter (count + 1) space
-space_still space count was = (was.0, omega (arith, was.1), omega (arith, was.2))
+  -- one insertion more
+  one_after : (width : ℕ) (before after : Contents T) (q : List Bool) (v : T) (reply : Reply (List Bool) T) → length q ≤ 128 → IsWhole width before
+      → StepByPath width (stored_state before) (Insert q v) reply (stored_state after) → (count : ℕ) → IsAfter count before → IsAfter (count + 1) after
+  one_after width before after q v reply short whole step count was =
+      let slots = (slot_laws (List Bool) T).inserted (λ q. q) (λ q. q) width (stored_state before) q v reply (stored_state after) whole.is_map whole.have_blocks short step in
+      let keeps = (step_laws (List Bool) T).of_step (λ q. q) (λ q. q) width (state before) (Insert q v) reply (state after) step.step in
+      (step.space.same_limit ∙ was.0, omega (arith, slots.node_slots, was.1), omega (arith, slots.cell_slots, was.2), keeps.stays_tidy (λ p. inserts q p v) whole.is_map was.3)
 
--- when an insertion may exceed the limit
-pub many_pass : (space : Space) → MayPassLimit space → (count : ℕ) → IsSpaceAfter count space → 2 ^ 32 - 1 < 1 + 56 * (count + 1)
-many_pass space (inl k) count was = omega (arith, was.0, was.1, k)
-many_pass space (inr k) count was = omega (arith, was.0, was.2, k)
+  -- no insertion in this map, but one more in the other
+  still : (before after : Contents T) → after ≡ before → (count : ℕ) → IsAfter count before → IsAfter (count + 1) after
+  still before after same count was = subst (IsAfter (count + 1)) (sym same) (was.0, omega (arith, was.1), omega (arith, was.2), was.3)
 
--- the same two for a map of both families, where the insertion went into one of them
-module _ {E : Type 0} (old new other : Space) where
-  pub spaces_ipv4 : (r : Result (Unit {0}) E) → OnOk r ((count : ℕ) → IsSpaceAfter count old → IsSpaceAfter (count + 1) new) → OnOk r ((count : ℕ) → AreSpacesAfter count old other → AreSpacesAfter (count + 1) new other)
-  spaces_ipv4 (Ok _) more = λ count was. (more count was.0, space_still other count was.1)
-  spaces_ipv4 (Err _) _ = tt
+  -- one insertion more in one family
+  pub more_after : (p : IpPrefix) (v : T) (reply : Reply (List Bool) T) (old new : Contents T × Contents T) → AreWhole old → StepOnFamily p (λ q. Insert q v) reply old new
+      → (count : ℕ) → AreAfter count old → AreAfter (count + 1) new
+  more_after (V4 network) v reply old new whole step count was =
+      (one_after 32 old.0 new.0 _ v reply (short 32 network (omega arith)) whole.0 step.0 count was.0, still old.1 new.1 step.1 count was.1)
+  more_after (V6 network) v reply old new whole step count was =
+      (still old.0 new.0 step.1 count was.0, one_after 128 old.1 new.1 _ v reply (short 128 network (omega arith)) whole.1 step.0 count was.1)
 
-  pub spaces_ipv6 : (r : Result (Unit {0}) E) → OnOk r ((count : ℕ) → IsSpaceAfter count old → IsSpaceAfter (count + 1) new) → OnOk r ((count : ℕ) → AreSpacesAfter count other old → AreSpacesAfter (count + 1) other new)
-  spaces_ipv6 (Ok _) more = λ count was. (space_still other count was.0, more count was.1)
-  spaces_ipv6 (Err _) _ = tt
+  passes : (map : Contents T) → MayPassLimit map.space → (count : ℕ) → IsAfter count map → 2 ^ 32 - 1 < 1 + 56 * (count + 1)
+  passes map (inl k) count was = omega (arith, was.0, was.1, k)
+  passes map (inr k) count was = omega (arith, was.0, was.2, k)
 
-  pub range_ipv4 : (P : E → Type 0) (r : Result (Unit {0}) E) → IfErr r (λ cause. P cause → (count : ℕ) → IsSpaceAfter count old → 2 ^ 32 - 1 < 1 + 56 * (count + 1)) → IfErr r (λ cause. P cause → (count : ℕ) → AreSpacesAfter count old other → 2 ^ 32 - 1 < 1 + 56 * (count + 1))
-  range_ipv4 P (Ok _) _ = tt
-  range_ipv4 P (Err cause) passes = λ range count was. passes range count was.0
-
-  pub range_ipv6 : (P : E → Type 0) (r : Result (Unit {0}) E) → IfErr r (λ cause. P cause → (count : ℕ) → IsSpaceAfter count old → 2 ^ 32 - 1 < 1 + 56 * (count + 1)) → IfErr r (λ cause. P cause → (count : ℕ) → AreSpacesAfter count other old → 2 ^ 32 - 1 < 1 + 56 * (count + 1))
-  range_ipv6 P (Ok _) _ = tt
-  range_ipv6 P (Err cause) passes = λ range count was. passes range count was.1
+  -- when an insertion may exceed the limit
+  pub many_pass : (p : IpPrefix) (v : T) (old new : Contents T × Contents T) → StepOnFamily p (λ q. Insert q v) (Refused IndexRange) old new
+      → (count : ℕ) → AreAfter count old → 2 ^ 32 - 1 < 1 + 56 * (count + 1)
+  many_pass (V4 network) v old new step count was = passes old.0 (step.0.index_range refl) count was.0
+  many_pass (V6 network) v old new step count was = passes old.1 (step.0.index_range refl) count was.1
 
 -- the number of items with one more
-pub one_more : {X : Type 0} (xs : List X) (x : X) → length (xs ++ x ∷ []) ≡ length xs + 1
-one_more xs x = length-append xs (x ∷ [])
-
-pub spaces_more : {X : Type 0} (xs : List X) (x : X) (ipv4 ipv6 : Space) → AreSpacesAfter (length xs + 1) ipv4 ipv6 → AreSpacesAfter (length (xs ++ x ∷ [])) ipv4 ipv6
-spaces_more xs x ipv4 ipv6 h = subst (λ count. AreSpacesAfter count ipv4 ipv6) (sym (one_more xs x)) h
-
-pub range_of : {X : Type 0} (xs : List X) (x : X) → 2 ^ 32 - 1 < 1 + 56 * (length xs + 1) → 2 ^ 32 - 1 < 1 + 56 * length (xs ++ x ∷ [])
-range_of xs x h = subst (λ count. 2 ^ 32 - 1 < 1 + 56 * count) (sym (one_more xs x)) h
+pub one_more : {X : Type 0} (P : ℕ → Type 0) (xs : List X) (x : X) → P (length xs + 1) → P (length (xs ++ x ∷ []))
+one_more P xs x h = subst P (sym (length-append xs (x ∷ []))) h

@@ -1,17 +1,23 @@
 -- Filling an entry of a joint map sets the value of its network.
 use denote.Param.Members.{Once}
-use Rattle.std.proofs.Common.{◌≡◌, ℕ, Bool, true, false, cond, List, Option, None, Some, is_some, MatchOption, MutBor, Result, OnOk, refl, sym, subst, ap, ◌∙◌, true≢false}
+use Rattle.std.proofs.Common.{◌≡◌, ℕ, arith, inl, inr, Bool, true, false, cond, List, Option, None, Some, is_some, MatchOption, MutBor, Result, OnOk, refl, sym, subst, ap, ◌∙◌, true≢false}
 use Rattle.std.proofs.lemmas.Option.{same_Some}
 use Rattle.std.proofs.lemmas.Result.{on_ok_weaker}
 use Rattle.std.specs.FinMap.{contains_key, get, same_map}
 use Rattle.std.specs.Option.{unwrap_or}
-use Rattle.prefix_trie.specs.Terms.{Entries, with_entry}
+use Rattle.prefix_trie.specs.Terms.{Entries, IsWhole, with_entry, with_needed, with_value_at}
 use Rattle.prefix_trie_bits.specs.Networks.{network_path}
 use Rattle.prefix_trie_bits.specs.Model.Order.{same_string}
 use Rattle.prefix_trie_bits.specs.Order.{listing_same, listing_total}
 use Rattle.prefix_trie_bits.proofs.Model.Members.{get-with_entry, is-same_string, same_string-is}
 use Rattle.prefix_trie_map.specs.Entry.{MayLeave}
-use Rattle.prefix_trie_map.proofs.NewKeys.{entry_twice}
+use Rattle.prefix_trie_map.proofs.NewKeys.{entry_twice, value_not_refused, written_step}
+use Rattle.prefix_trie_bits.specs.Calls.Storage.{StepByPath}
+use Rattle.prefix_trie_bits.specs.Model.Step.{Insert, Refused, Step, Value}
+use Rattle.prefix_trie_bits.specs.declared.prefix.Refusal.{Refusal}
+use Rattle.prefix_trie_bits.specs.declared.prefix.Refusal.TheVariants.{IndexRange}
+use Rattle.prefix_trie_table.specs.Model.Contents.{Contents, state, stored_state}
+use Rattle.prefix_trie_joint.specs.Changes.{maps_of, AreWhole, StepOnFamily}
 use Rattle.prefix_trie_joint.specs.declared.prefix.IpPrefix.{IpPrefix}
 use Rattle.prefix_trie_joint.specs.declared.prefix.IpPrefix.TheVariants.{V4, V6}
 use Rattle.prefix_trie_joint.specs.declared.map.JointPrefixMap.{JointPrefixMap}
@@ -22,22 +28,6 @@ use Rattle.prefix_trie_joint.specs.Networks.{ip_path}
 use Rattle.prefix_trie_joint.proofs.Changes.{with_ipv4, with_ipv6}
 use Rattle.prefix_trie_joint.proofs.FamilyLaws.{written}
 use Rattle.prefix_trie_joint.proofs.Joined.{get_ipv4, get_ipv6}
-
-module _ {T E : Type 0} (Q : Option T → T → Type 0) (a b c : Entries T) (network : ℕ × ℕ) (prefix : IpPrefix) where
-  -- a value that fits the previous one is set in one family
-  pub filled_ipv4 : V4 network ≡ prefix → (r : Result (Unit {0}) E) → OnOk r ((v : T) × Q (get a (network_path 32 network)) v × (c ≡ with_entry a (network_path 32 network) v))
-      → OnOk r ((v : T) × Q (get (joined a b) (ip_path prefix)) v × (joined c b ≡ with_entry (joined a b) (ip_path prefix) v))
-  filled_ipv4 this r =
-      let q = network_path 32 network in
-      subst (λ p. OnOk r ((v : T) × Q (get a q) v × (c ≡ with_entry a q v)) → OnOk r ((v : T) × Q (get (joined a b) (ip_path p)) v × (joined c b ≡ with_entry (joined a b) (ip_path p) v))) this
-      (on_ok_weaker r (λ f. (f.0, subst (λ o. Q o f.0) (sym (get_ipv4 a b q)) f.1, with_ipv4 a b c q f.0 f.2)))
-
-  pub filled_ipv6 : V6 network ≡ prefix → (r : Result (Unit {0}) E) → OnOk r ((v : T) × Q (get b (network_path 128 network)) v × (c ≡ with_entry b (network_path 128 network) v))
-      → OnOk r ((v : T) × Q (get (joined a b) (ip_path prefix)) v × (joined a c ≡ with_entry (joined a b) (ip_path prefix) v))
-  filled_ipv6 this r =
-      let q = network_path 128 network in
-      subst (λ p. OnOk r ((v : T) × Q (get b q) v × (c ≡ with_entry b q v)) → OnOk r ((v : T) × Q (get (joined a b) (ip_path p)) v × (joined a c ≡ with_entry (joined a b) (ip_path p) v))) this
-      (on_ok_weaker r (λ f. (f.0, subst (λ o. Q o f.0) (sym (get_ipv6 a b q)) f.1, with_ipv6 a b c q f.0 f.2)))
 
 module _ {T : Type 0} (m n : Entries T) (s : List Bool) (v : T) (is : n ≡ with_entry m s v) where
   -- the key that was set has its value
@@ -87,3 +77,48 @@ pub modified : {F T A : Type 0} (g : Once F (MutBor T × Unit {0}) (Unit {0} × 
 modified {F} {T} g f m p w lent has called =
     subst (λ (o : Option T). MatchOption o (with_value_of m p w ≡ m) (λ v. (x : T) × MayLeave g f v x × (with_value_of m p w ≡ with_value_of m p x))) has
     (w, record { lent = lent; left = record lent { now = w }; before = refl; called = called; after = refl }, refl)
+
+module _ {T : Type 0} (width : ℕ) (m : Contents T) (q : List Bool) where
+  -- a value that is written at a stored key was inserted
+  stored_at : IsWhole width m → contains_key m.entries q ≡ true → (x : T) → StepByPath width (stored_state m) (Insert q x) (Value (get m.entries q)) (stored_state (with_value_at m q x))
+  stored_at whole stored x = record {
+    step = inl (refl, ap (λ b. record { entries = with_entry m.entries q x; nodes = cond b m.nodes (with_needed m.nodes q) }) (sym stored));
+    space = record { same_limit = refl; nodes_within = whole.nodes_within; cells_within = whole.cells_within; nodes_grow = omega arith; cells_grow = omega arith };
+    index_range = λ e. absurd (value_not_refused {T = T} (get m.entries q) IndexRange e);
+    storage = (
+      λ there. refl,
+      λ was fresh e. absurd (true≢false (sym stored ∙ fresh)),
+      λ cause e. absurd (value_not_refused {T = T} (get m.entries q) cause e),
+    );
+  }
+
+  refused_so : (n : Contents T) (cause : Refusal) (v x : T) → Step (λ k. k) (λ k. k) width (state m) (Insert q v) (Refused cause) (state n) → Step (λ k. k) (λ k. k) width (state m) (Insert q x) (Refused cause) (state n)
+  refused_so n cause v x (inl e) = absurd (value_not_refused {T = T} (get m.entries q) cause (sym e.0))
+  refused_so n cause v x (inr e) = inr e
+
+  -- a refusal does not depend on the value
+  refused_at : (n : Contents T) (cause : Refusal) (v x : T) → StepByPath width (stored_state m) (Insert q v) (Refused cause) (stored_state n) → StepByPath width (stored_state m) (Insert q x) (Refused cause) (stored_state n)
+  refused_at n cause v x h = record { step = refused_so n cause v x h.step; space = h.space; index_range = h.index_range; storage = h.storage }
+
+-- the same in the family of a network
+module _ {T A : Type 0} (m : JointPrefixMap T A) where
+  pub stored_step : (p : IpPrefix) → AreWhole (maps_of m) → contains_key (entries_of m) (ip_path p) ≡ true → (x : T)
+      → StepOnFamily p (λ q. Insert q x) (Value (get (entries_of m) (ip_path p))) (maps_of m) (maps_of (with_value_of m p x))
+  stored_step (V4 network) whole stored x =
+      let q = network_path 32 network in
+      let is = get_ipv4 m.ipv4.entries m.ipv6.entries q in
+      (subst (λ o. StepByPath 32 (stored_state m.ipv4) (Insert q x) (Value o) (stored_state (with_value_at m.ipv4 q x))) (sym is) (stored_at 32 m.ipv4 q whole.0 (sym (ap is_some is) ∙ stored) x), refl)
+  stored_step (V6 network) whole stored x =
+      let q = network_path 128 network in
+      let is = get_ipv6 m.ipv4.entries m.ipv6.entries q in
+      (subst (λ o. StepByPath 128 (stored_state m.ipv6) (Insert q x) (Value o) (stored_state (with_value_at m.ipv6 q x))) (sym is) (stored_at 128 m.ipv6 q whole.1 (sym (ap is_some is) ∙ stored) x), refl)
+
+  pub written_on : (n : JointPrefixMap T A) (p : IpPrefix) (v x : T) (before : Option T) → StepOnFamily p (λ q. Insert q v) (Value before) (maps_of m) (maps_of n)
+      → StepOnFamily p (λ q. Insert q x) (Value before) (maps_of m) (maps_of (with_value_of n p x))
+  written_on n (V4 network) v x before h = (written_step 32 m.ipv4 n.ipv4 (network_path 32 network) v before x h.0, h.1)
+  written_on n (V6 network) v x before h = (written_step 128 m.ipv6 n.ipv6 (network_path 128 network) v before x h.0, h.1)
+
+  pub refused_on : (n : JointPrefixMap T A) (p : IpPrefix) (cause : Refusal) (v x : T) → StepOnFamily p (λ q. Insert q v) (Refused cause) (maps_of m) (maps_of n)
+      → StepOnFamily p (λ q. Insert q x) (Refused cause) (maps_of m) (maps_of n)
+  refused_on n (V4 network) cause v x h = (refused_at 32 m.ipv4 (network_path 32 network) n.ipv4 cause v x h.0, h.1)
+  refused_on n (V6 network) cause v x h = (refused_at 128 m.ipv6 (network_path 128 network) n.ipv6 cause v x h.0, h.1)

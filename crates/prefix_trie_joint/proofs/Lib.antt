@@ -10,4 +10,6 @@ pub mod Resuming
 pub mod CollectedItems
 pub mod FamilyLaws
 pub mod Filling
+pub mod Filled
 pub mod Texts
+pub mod Units

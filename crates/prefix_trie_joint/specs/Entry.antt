@@ -1,11 +1,17 @@
 -- What an entry of a joint map is in contracts, and what the map becomes. From the Rust crate's documentation of entries.
-use Rattle.std.specs.Prelude.{◌≡◌, [], Option, MatchOption, Result, IfErr}
+use Rattle.std.specs.Prelude.{◌≡◌, ℕ, Bool, List, [], Option, MatchOption, Result, IfErr}
 use Rattle.std.specs.Borrow.{LendsIf, LendsSoOk, Fml, RattleType, MutBor}
 use Rattle.std.specs.FinMap.{get}
 use denote.Param.Members.{Once}
 use Rattle.std.specs.declared.alloc.Allocator as alloc
 use Rattle.prefix_trie.specs.Terms.{with_entry}
 use Rattle.prefix_trie_map.specs.Entry.{MayLeave}
+use Rattle.prefix_trie_bits.specs.Calls.Storage.{StepByPath}
+use Rattle.prefix_trie_bits.specs.Model.Step.{Insert, Value}
+use Rattle.prefix_trie_bits.specs.Model.Step as model
+use Rattle.prefix_trie_bits.specs.declared.prefix.Refusal.{Refusal}
+use Rattle.prefix_trie_table.specs.Model.Contents.{Contents, stored_state}
+use Rattle.prefix_trie_joint.specs.Changes.{maps_of, StepOnFamily}
 use Rattle.prefix_trie_joint.specs.Joined.{entries_of}
 use Rattle.prefix_trie_joint.specs.Lending.{with_value_of}
 use Rattle.prefix_trie_joint.specs.Networks.{ip_path}
@@ -37,6 +43,27 @@ module _ {T A : Type 0} where
   abbrev pub ModifiesEntry : {F : Type 0} → Once F (MutBor T × Unit {0}) (Unit {0} × (MutBor T × Unit {0})) → F → Entry T A → JointPrefixMap T A → Type 0
   ModifiesEntry g f e new = Modifies g f e.map.now e.key new
 
+module _ {T : Type 0} where
+  -- the new map of one family is what the insertion of a value leaves
+  pub record FillsAt (width : ℕ) (q : List Bool) (old new : Contents T) (value : T) : Type 0 where
+    pub entries : new.entries ≡ with_entry old.entries q value
+    pub step : StepByPath width (stored_state old) (Insert q value) (Value (get old.entries q)) (stored_state new)
+
+  -- the new map of one family is what a refused insertion leaves, whatever the value
+  pub record RefusesAt (width : ℕ) (q : List Bool) (cause : Refusal) (old new : Contents T) : Type 0 where
+    pub entries : new.entries ≡ old.entries
+    pub step : (value : T) → StepByPath width (stored_state old) (Insert q value) (model.Refused cause) (stored_state new)
+
+module _ {T A : Type 0} where
+  -- the same at a network of a joint map
+  pub record Fills (p : IpPrefix) (old new : JointPrefixMap T A) (value : T) : Type 0 where
+    pub entries : entries_of new ≡ with_entry (entries_of old) (ip_path p) value
+    pub step : StepOnFamily p (λ q. Insert q value) (Value (get (entries_of old) (ip_path p))) (maps_of old) (maps_of new)
+
+  pub record RefusesToFill (p : IpPrefix) (cause : Refusal) (old new : JointPrefixMap T A) : Type 0 where
+    pub entries : entries_of new ≡ entries_of old
+    pub step : (value : T) → StepOnFamily p (λ q. Insert q value) (model.Refused cause) (maps_of old) (maps_of new)
+
 module _ (T A : RattleType) (a : alloc.Ghosts A.Denot) where
   -- once the borrow r ends, the value of the entry's network is the last one written through r; without r the map is unchanged
   abbrev pub lends_stored : Entry T.Denot A.Denot → Option (MutBor T.Denot) → Fml
@@ -46,7 +73,6 @@ module _ (T A : RattleType) (a : alloc.Ghosts A.Denot) where
   abbrev pub lends_if_stored : MutBor (Entry T.Denot A.Denot) → Option (MutBor T.Denot) → Fml
   lends_if_stored e r = LendsIf (entry.the_row (record { mir = named 1; lft = [] }) T A a) T e r (with_entry_value e.now) e.now
 
-  -- once the borrow r ends, the map has the last value written through r at the entry's network; without r its entries are unchanged
-  abbrev pub lends_filled : {E : Type 0} → Entry T.Denot A.Denot → Result (MutBor T.Denot) E → Fml
-  lends_filled e r =
-      LendsSoOk (joint.the_row T A a) T e.map r (λ new value. entries_of new ≡ with_entry (entries_of e.map.now) (ip_path e.key) value) (λ new. IfErr r (λ _. entries_of new ≡ entries_of e.map.now))
+  -- once the borrow r ends, the map is what the insertion of the last value written through r leaves; without r it was refused
+  abbrev pub lends_filled : {E : Type 0} → (E → Refusal) → Entry T.Denot A.Denot → Result (MutBor T.Denot) E → Fml
+  lends_filled cause e r = LendsSoOk (joint.the_row T A a) T e.map r (Fills e.key e.map.now) (λ new. IfErr r (λ x. RefusesToFill e.key (cause x) e.map.now new))

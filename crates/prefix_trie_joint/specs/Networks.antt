@@ -3,7 +3,7 @@ use Rattle.std.specs.Prelude.{ℕ, Bool, true, false, List, [], ◌∷◌, nat_l
 use Rattle.std.specs.declared.net.ip_addr.IpAddr.{IpAddr}
 use Rattle.std.specs.declared.net.ip_addr.IpAddr.TheVariants as Ip
 use Rattle.std.specs.Net.Addr.{ipv4_bits, ipv6_bits, IsIpv4OfBits, IsIpv6OfBits}
-use Rattle.prefix_trie_bits.specs.Networks.{network_path, network_back, lowest_address, highest_address}
+use Rattle.prefix_trie_bits.specs.Networks.{network_path, network_back, lowest_address, highest_address, HasNoHostBits}
 use Rattle.prefix_trie_joint.specs.declared.prefix.IpPrefix.{IpPrefix}
 use Rattle.prefix_trie_joint.specs.declared.prefix.IpPrefix.TheVariants.{V4, V6}
 
@@ -22,6 +22,11 @@ ip_back (true ∷ s) = V6 (network_back 128 s)
 abbrev pub ip_len : IpPrefix → ℕ
 ip_len (V4 network) = network.1
 ip_len (V6 network) = network.1
+
+-- how many bits an address of its family has
+abbrev pub ip_width : IpPrefix → ℕ
+ip_width (V4 network) = 32
+ip_width (V6 network) = 128
 
 -- whether it is an IPv4 network
 abbrev pub is_ip_of_ipv4 : IpPrefix → Bool
@@ -52,6 +57,11 @@ lowest_ip (V6 network) = V6 (lowest_address 128 network, network.1)
 abbrev pub highest_ip : IpPrefix → IpPrefix
 highest_ip (V4 network) = V4 (highest_address 32 network, network.1)
 highest_ip (V6 network) = V6 (highest_address 128 network, network.1)
+
+-- each host bit is 0
+abbrev pub HasNoIpHostBits : IpPrefix → Type 0
+HasNoIpHostBits (V4 network) = HasNoHostBits 32 network
+HasNoIpHostBits (V6 network) = HasNoHostBits 128 network
 
 -- the address of a network
 abbrev pub IsIpOf : IpPrefix → IpAddr → Type 0

@@ -12,5 +12,5 @@ pub mod prefix;
 pub mod set;
 
 pub use map::JointPrefixMap;
-pub use prefix::IpPrefix;
+pub use prefix::{IpPrefix, IpSubnets};
 pub use set::JointPrefixSet;

@@ -5,7 +5,10 @@
 ghost use Rattle.std.specs.Prelude.{◌≡◌, ◌-◌, ◌<◌, ◌^◌, ◌↔◌, IfErr, IfOk, IsErr, IsTrue, OnErr, OnOk};
 ghost use Rattle.std.specs.FinMap.{get, len};
 ghost use Rattle.prefix_trie_bits.specs.declared.prefix.Refusal.TheVariants.{IndexRange, Memory};
+ghost use Rattle.prefix_trie_bits.specs.Model.Step.{Insert};
+ghost use Rattle.prefix_trie_table.specs.Steps.{insert_reply};
 ghost use Rattle.prefix_trie.specs.Terms.{no_entries, with_entry};
+ghost use Rattle.prefix_trie_joint.specs.Changes.{maps_of, AreNew, AreWhole, StepOnFamily};
 ghost use Rattle.prefix_trie_joint.specs.Joined.{entries_of};
 ghost use Rattle.prefix_trie_joint.specs.Networks.{ip_path};
 
@@ -80,10 +83,7 @@ impl<T: Drop, A: Allocator + Clone> JointPrefixMap<T, A> {
     #[tactic(auto, using(crate::proofs::Changes::none_joined))]
     pub fn new(alloc: A) -> Result<Self, Refusal>
         ensures entries { IfOk result (λ map. entries_of map ≡ no_entries) }
-        ensures ipv4_space { IfOk result (λ map. map.ipv4.space
-            ≡ record { limit = 2 ^ 32 - 1; node_slots = 1; cell_slots = 0 }) }
-        ensures ipv6_space { IfOk result (λ map. map.ipv6.space
-            ≡ record { limit = 2 ^ 32 - 1; node_slots = 1; cell_slots = 0 }) }
+        ensures new { IfOk result (λ map. AreNew (2 ^ 32 - 1) (2 ^ 32 - 1) (maps_of map)) }
         ensures only_memory { IfErr result (λ refusal. refusal ≡ Memory) }
     {
         let Ok(second) = alloc.clone() else {
@@ -114,8 +114,7 @@ impl<T: Drop, A: Allocator + Clone> JointPrefixMap<T, A> {
     #[tactic(auto, using(crate::proofs::Changes::none_joined))]
     pub fn with_slot_limit(alloc: A, limit: u32) -> Result<Self, Refusal>
         ensures entries { IfOk result (λ map. entries_of map ≡ no_entries) }
-        ensures limit { IfOk result
-            (λ map. (map.ipv4.space.limit ≡ limit) × (map.ipv6.space.limit ≡ limit)) }
+        ensures new { IfOk result (λ map. AreNew limit limit (maps_of map)) }
         ensures range { IfErr result (λ cause. (cause ≡ IndexRange) ↔ (limit ≡ 0)) }
         ensures none { limit ≡ 0 → IsErr result }
     {
@@ -146,6 +145,7 @@ impl<T: Drop, A: Allocator> JointPrefixMap<T, A> {
     pub fn len(&self) -> usize
         ensures count { result ≡ len (entries_of self.now) }
         ensures few { len (entries_of self.now) < 2 ^ 33 }
+        ensures whole { AreWhole (maps_of self.now) }
     {
         self.ipv4.len() + self.ipv6.len()
     }
@@ -163,9 +163,11 @@ impl<T: Drop, A: Allocator> JointPrefixMap<T, A> {
     #[inline]
     #[tactic(auto, using(crate::proofs::Changes::none_joined, crate::proofs::Changes::none_ipv4, crate::proofs::Changes::none_ipv6))]
     pub fn is_empty(&self) -> bool
-        ensures { IsTrue result ↔ (entries_of self.now ≡ no_entries) }
+        ensures none { IsTrue result ↔ (entries_of self.now ≡ no_entries) }
+        ensures whole { AreWhole (maps_of self.now) }
     {
-        self.ipv4.is_empty() && self.ipv6.is_empty()
+        let is_ipv6_empty = self.ipv6.is_empty();
+        self.ipv4.is_empty() && is_ipv6_empty
     }
 
     /// Sets the value of a network and returns the previous one.
@@ -196,6 +198,10 @@ impl<T: Drop, A: Allocator> JointPrefixMap<T, A> {
             (entries_of self.new ≡ with_entry (entries_of self.old) (ip_path prefix) value) }
         ensures unchanged { OnErr result (entries_of self.new ≡ entries_of self.old) }
         ensures returned { IfErr result (λ refused. refused.value ≡ value) }
+
+        // This is a step of the model in the map of the network's family, storage included. The other map is unchanged.
+        ensures step { StepOnFamily prefix (λ q. Insert q value) (insert_reply result)
+            (maps_of self.old) (maps_of self.new) }
     {
         match prefix {
             IpPrefix::V4(network) => self.ipv4.insert(network, value),

@@ -5,10 +5,13 @@ ghost use Rattle.prefix_trie_joint.specs.Texts.{IsIp};
 ghost use Rattle.prefix_trie_joint.specs.Networks.{fits_width, highest_ip, ip_back, ip_host, ip_len, ip_of_address, ip_path, is_ip_of_ipv4, IsIpOf, lowest_ip};
 
 mod conversions;
+pub(crate) mod family;
+mod subnets;
 mod text;
 
 use prefix_trie::{Ipv4Prefix, Ipv6Prefix, Prefix};
 use std::net::IpAddr;
+pub use subnets::IpSubnets;
 
 /// An IPv4 or an IPv6 network: an address, with its host bits, and a length.
 ///
@@ -163,6 +166,23 @@ impl IpPrefix {
         match self {
             IpPrefix::V4(network) => IpAddr::V4(network.network()),
             IpPrefix::V6(network) => IpAddr::V6(network.network()),
+        }
+    }
+
+    /// Returns the network without its host bits.
+    ///
+    /// # Examples
+    ///
+    /// ```rust
+    /// "10.1.2.3/8".parse::<IpPrefix>()?.trunc();      // V4(10.0.0.0/8)
+    /// ```
+    #[inline]
+    pub fn trunc(&self) -> Self
+        ensures { result ≡ lowest_ip self.now }
+    {
+        match self {
+            IpPrefix::V4(network) => IpPrefix::V4(network.trunc()),
+            IpPrefix::V6(network) => IpPrefix::V6(network.trunc()),
         }
     }
 

@@ -1,10 +1,13 @@
 //! Sets of networks of both families.
 //!
 //! Contracts see the keys of both families as one finite map of units, as they see a `PrefixSet`.
-ghost use Rattle.std.specs.Prelude.{◌≡◌, ◌-◌, ◌<◌, ◌^◌, ◌↔◌, IfErr, IfOk, IsErr, IsTrue, OnErr, OnOk, not};
+ghost use Rattle.std.specs.Prelude.{◌≡◌, ◌⊎◌, ◌-◌, ◌<◌, ◌^◌, ◌↔◌, IfErr, IfOk, IsErr, IsTrue, OnErr, OnOk, not};
 ghost use Rattle.std.specs.FinMap.{contains_key, len};
 ghost use Rattle.prefix_trie_bits.specs.declared.prefix.Refusal.TheVariants.{IndexRange, Memory};
-ghost use Rattle.prefix_trie.specs.Terms.{no_entries, with_entry};
+ghost use Rattle.prefix_trie_bits.specs.Model.Step.{Insert};
+ghost use Rattle.prefix_trie_table.specs.Model.Contents.{stored_state};
+ghost use Rattle.prefix_trie.specs.Terms.{no_entries, set_insert_reply, with_entry};
+ghost use Rattle.prefix_trie_joint.specs.Changes.{sets_of, AreNew, AreWhole, IsCompacted, OnEach, StepOnFamily};
 ghost use Rattle.prefix_trie_joint.specs.Joined.{keys_of};
 ghost use Rattle.prefix_trie_joint.specs.Networks.{ip_path};
 
@@ -62,10 +65,7 @@ impl<A: Allocator + Clone> JointPrefixSet<A> {
     #[tactic(auto, using(crate::proofs::Changes::none_joined))]
     pub fn new(alloc: A) -> Result<Self, Refusal>
         ensures entries { IfOk result (λ set. keys_of set ≡ no_entries) }
-        ensures ipv4_space { IfOk result (λ set. set.ipv4.space
-            ≡ record { limit = 2 ^ 32 - 1; node_slots = 1; cell_slots = 0 }) }
-        ensures ipv6_space { IfOk result (λ set. set.ipv6.space
-            ≡ record { limit = 2 ^ 32 - 1; node_slots = 1; cell_slots = 0 }) }
+        ensures new { IfOk result (λ set. AreNew (2 ^ 32 - 1) (2 ^ 32 - 1) (sets_of set)) }
         ensures only_memory { IfErr result (λ refusal. refusal ≡ Memory) }
     {
         let Ok(second) = alloc.clone() else {
@@ -94,8 +94,7 @@ impl<A: Allocator + Clone> JointPrefixSet<A> {
     #[tactic(auto, using(crate::proofs::Changes::none_joined))]
     pub fn with_slot_limit(alloc: A, limit: u32) -> Result<Self, Refusal>
         ensures entries { IfOk result (λ set. keys_of set ≡ no_entries) }
-        ensures limit { IfOk result
-            (λ set. (set.ipv4.space.limit ≡ limit) × (set.ipv6.space.limit ≡ limit)) }
+        ensures new { IfOk result (λ set. AreNew limit limit (sets_of set)) }
         ensures range { IfErr result (λ cause. (cause ≡ IndexRange) ↔ (limit ≡ 0)) }
         ensures none { limit ≡ 0 → IsErr result }
     {
@@ -150,6 +149,15 @@ impl<A: Allocator + Clone> JointPrefixSet<A> {
     /// ```
     pub fn compact(&mut self) -> Result<(), Refusal>
         ensures entries { keys_of self.new ≡ keys_of self.old }
+        ensures compacted { OnOk result
+            (OnEach (λ width. IsCompacted) (sets_of self.old) (sets_of self.new)) }
+
+        // If the IPv6 set is not compacted, the IPv4 set may be.
+        ensures ipv4_after { OnErr result
+            ((stored_state self.new.ipv4 ≡ stored_state self.old.ipv4)
+            ⊎ IsCompacted self.old.ipv4 self.new.ipv4) }
+        ensures ipv6_stays { OnErr result
+            (stored_state self.new.ipv6 ≡ stored_state self.old.ipv6) }
         ensures only_memory { IfErr result (λ cause. cause ≡ Memory) }
     {
         self.ipv4.compact()?;
@@ -171,6 +179,7 @@ impl<A: Allocator> JointPrefixSet<A> {
     pub fn len(&self) -> usize
         ensures count { result ≡ len (keys_of self.now) }
         ensures few { len (keys_of self.now) < 2 ^ 33 }
+        ensures whole { AreWhole (sets_of self.now) }
     {
         self.ipv4.len() + self.ipv6.len()
     }
@@ -186,9 +195,11 @@ impl<A: Allocator> JointPrefixSet<A> {
     #[inline]
     #[tactic(auto, using(crate::proofs::Changes::none_joined, crate::proofs::Changes::none_ipv4, crate::proofs::Changes::none_ipv6))]
     pub fn is_empty(&self) -> bool
-        ensures { IsTrue result ↔ (keys_of self.now ≡ no_entries) }
+        ensures none { IsTrue result ↔ (keys_of self.now ≡ no_entries) }
+        ensures whole { AreWhole (sets_of self.now) }
     {
-        self.ipv4.is_empty() && self.ipv6.is_empty()
+        let is_ipv6_empty = self.ipv6.is_empty();
+        self.ipv4.is_empty() && is_ipv6_empty
     }
 
     /// Inserts a network and returns whether it is new.
@@ -215,6 +226,10 @@ impl<A: Allocator> JointPrefixSet<A> {
         ensures entries { OnOk result
             (keys_of self.new ≡ with_entry (keys_of self.old) (ip_path prefix) tt) }
         ensures unchanged { OnErr result (keys_of self.new ≡ keys_of self.old) }
+
+        // This is a step of the model in the set of the network's family, storage included. The other set is unchanged.
+        ensures step { StepOnFamily prefix (λ q. Insert q tt) (set_insert_reply result)
+            (sets_of self.old) (sets_of self.new) }
     {
         match prefix {
             IpPrefix::V4(network) => self.ipv4.insert(network),

@@ -15,4 +15,6 @@ mod retain;
 #[cfg(test)]
 mod tables;
 #[cfg(test)]
+mod texts;
+#[cfg(test)]
 mod trials;

@@ -145,7 +145,7 @@ fn len_of_map<A: Allocator + Copy>(
 ) -> Result<usize, Refusal> {
     match reduction {
         Reduction::Aggregate => map::aggregate(map, alloc)?,
-        _ => map::aggregate_consistent(map, alloc).or(Err(Refusal::Memory))?,
+        _ => map::aggregate_consistent(map, alloc)?,
     }
     Ok(map.len())
 }
@@ -158,7 +158,7 @@ fn len_of_set<A: Allocator + Copy>(
 ) -> Result<usize, Refusal> {
     match reduction {
         Reduction::AggregateSet => set::aggregate(set, alloc)?,
-        _ => set::aggregate_consistent(set, alloc).or(Err(Refusal::Memory))?,
+        _ => set::aggregate_consistent(set, alloc)?,
     }
     Ok(set.len())
 }

@@ -1,15 +1,16 @@
 //! Maps from the items of an iterator.
 ghost use Rattle.std.specs.Prelude.{◌≡◌, ℕ, ◌+◌, ◌-◌, ◌*◌, ◌^◌, ◌<◌, List, length, IfErr, IfOk, OnOk};
 ghost use Rattle.std.specs.Iterator.{Drains, IsFinite, Yields};
-ghost use Rattle.prefix_trie.specs.Terms.{no_entries, put_all, with_entry};
+ghost use Rattle.prefix_trie.specs.Terms.{IsTidy, no_entries, put_all, with_entry};
 ghost use Rattle.prefix_trie_bits.specs.declared.prefix.Refusal.TheVariants.{IndexRange};
-ghost use Rattle.prefix_trie_joint.specs.Collected.{AreSpacesAfter, IsSpaceAfter};
+ghost use Rattle.prefix_trie_joint.specs.Changes.{maps_of};
+ghost use Rattle.prefix_trie_joint.specs.Collected.{AreAfter};
 ghost use Rattle.prefix_trie_joint.specs.Joined.{entries_of};
 ghost use Rattle.prefix_trie_joint.specs.Networks.{ip_path};
 
 use crate::map::JointPrefixMap;
 use crate::prefix::IpPrefix;
-use prefix_trie::{Prefix, PrefixMap, Refusal};
+use prefix_trie::Refusal;
 use std::alloc::Allocator;
 use std::iter::IntoIterator;
 
@@ -40,6 +41,8 @@ impl<T: Drop, A: Allocator + Clone> JointPrefixMap<T, A> {
             (λ map. (it : I.IntoIter) × (xs : List (IpPrefix × T)) × I.into_iter_gives items it
             × Drains I.IntoIter.next_gives it xs
             × (entries_of map ≡ put_all ip_path xs no_entries)) }
+        ensures tidy { IfOk result (λ map. IsTidy map.ipv4.entries map.ipv4.nodes
+            × IsTidy map.ipv6.entries map.ipv6.nodes) }
         ensures limit { IfOk result (λ map. (map.ipv4.space.limit ≡ 2 ^ 32 - 1)
             × (map.ipv6.space.limit ≡ 2 ^ 32 - 1)) }
 
@@ -63,12 +66,12 @@ fn fill<T: Drop, A: Allocator, I: IntoIterator<Item = (IpPrefix, T)> + Drop>(
 ) -> Result<(), Refusal>
     requires ends { (it : I.IntoIter) → I.into_iter_gives items it
         → I.IntoIter.can_next it × IsFinite (I.IntoIter.remaining it) }
-    requires new { AreSpacesAfter 0 map.old.ipv4.space map.old.ipv6.space }
+    requires new { AreAfter 0 (maps_of map.old) }
     ensures ok { OnOk result
         ((it : I.IntoIter) × (xs : List (IpPrefix × T)) × I.into_iter_gives items it
         × Drains I.IntoIter.next_gives it xs
         × (entries_of map.new ≡ put_all ip_path xs (entries_of map.old))
-        × AreSpacesAfter (length xs) map.new.ipv4.space map.new.ipv6.space) }
+        × AreAfter (length xs) (maps_of map.new)) }
     ensures range { IfErr result
         (λ cause. cause ≡ IndexRange
         → (it : I.IntoIter) × (xs : List (IpPrefix × T)) × (rest : I.IntoIter)
@@ -82,7 +85,6 @@ fn fill<T: Drop, A: Allocator, I: IntoIterator<Item = (IpPrefix, T)> + Drop>(
 }
 
 /// Inserts one item. The previous value is dropped, or the new one if the insertion fails.
-#[tactic(auto, using(crate::proofs::Changes::with_ipv4, crate::proofs::Changes::with_ipv6))]
 fn put<T: Drop, A: Allocator>(
     map: &mut JointPrefixMap<T, A>,
     prefix: IpPrefix,
@@ -90,34 +92,10 @@ fn put<T: Drop, A: Allocator>(
 ) -> Result<(), Refusal>
     ensures entries { OnOk result
         (entries_of map.new ≡ with_entry (entries_of map.old) (ip_path prefix) value) }
-    ensures spaces { OnOk result
-        ((count : ℕ) → AreSpacesAfter count map.old.ipv4.space map.old.ipv6.space
-        → AreSpacesAfter (count + 1) map.new.ipv4.space map.new.ipv6.space) }
-    ensures range { IfErr result
-        (λ cause. cause ≡ IndexRange
-        → (count : ℕ) → AreSpacesAfter count map.old.ipv4.space map.old.ipv6.space
-        → 2 ^ 32 - 1 < 1 + 56 * (count + 1)) }
-{
-    match prefix {
-        IpPrefix::V4(network) => put_in(&mut map.ipv4, network, value),
-        IpPrefix::V6(network) => put_in(&mut map.ipv6, network, value),
-    }
-}
-
-/// Inserts one item into the map of its family.
-fn put_in<P: Prefix, T: Drop, A: Allocator>(
-    map: &mut PrefixMap<P, T, A>,
-    prefix: P,
-    value: T,
-) -> Result<(), Refusal>
-    requires { P.IsFitting prefix }
-    ensures entries { OnOk result
-        (map.new.entries ≡ with_entry map.old.entries (P.path prefix) value) }
-    ensures space { OnOk result
-        ((count : ℕ) → IsSpaceAfter count map.old.space → IsSpaceAfter (count + 1) map.new.space) }
-    ensures range { IfErr result
-        (λ cause. cause ≡ IndexRange
-        → (count : ℕ) → IsSpaceAfter count map.old.space → 2 ^ 32 - 1 < 1 + 56 * (count + 1)) }
+    ensures after { OnOk result ((count : ℕ) → AreAfter count (maps_of map.old)
+        → AreAfter (count + 1) (maps_of map.new)) }
+    ensures range { IfErr result (λ cause. cause ≡ IndexRange
+        → (count : ℕ) → AreAfter count (maps_of map.old) → 2 ^ 32 - 1 < 1 + 56 * (count + 1)) }
 {
     // The proof learns from `len` that the map is valid.
     let _ = map.len();

@@ -1,6 +1,7 @@
 //! Copying a map.
 ghost use Rattle.std.specs.Prelude.{◌≡◌, IfOk};
 ghost use Rattle.prefix_trie_table.specs.Copies.{AreCloned};
+ghost use Rattle.prefix_trie_joint.specs.Changes.{maps_of, AreStoredAlike, OnEach};
 ghost use Rattle.prefix_trie_joint.specs.Joined.{entries_of};
 
 use crate::map::JointPrefixMap;
@@ -28,6 +29,8 @@ impl<T: Clone, A: Allocator + Clone> JointPrefixMap<T, A> {
     pub fn clone(&self) -> Result<Self, AllocError>
         ensures entries { IfOk result
             (λ copy. AreCloned T.is_clone (entries_of self.now) (entries_of copy)) }
+        ensures storage { IfOk result
+            (λ copy. OnEach (λ width. AreStoredAlike) (maps_of self.now) (maps_of copy)) }
 
         // If a clone of a value equals it, contracts see the same map.
         ensures same { IfOk result

@@ -3,7 +3,7 @@
 //! Contracts see each walk as the list of the items still to come.
 ghost use Rattle.std.specs.Prelude.{◌≡◌, ◌≤◌, length, map};
 ghost use Rattle.std.specs.Iterator.{at_most};
-ghost use Rattle.std.specs.Map.Iter.{GivesInOrder, ShowsInOrder, TakesFirst, deref};
+ghost use Rattle.std.specs.Map.Iter.{TakesFirst, deref};
 ghost use Rattle.prefix_trie.specs.Terms.{covers, lent_item, prefix_pairs};
 ghost use Rattle.prefix_trie_joint.specs.Joined.{entries_of, items_of, joined};
 ghost use Rattle.prefix_trie_joint.specs.Networks.{ip_back, ip_path};
@@ -34,7 +34,6 @@ impl<T: Drop, A: Allocator> JointPrefixMap<T, A> {
         ensures counted { length result
             ≡ length (covers (entries_of self.now) (ip_path prefix.now)) }
         ensures fits { length (covers (entries_of self.now) (ip_path prefix.now)) ≤ 129 }
-        ensures runs { ShowsInOrder (lent_item {P = IpPrefix} {T = T}) }
     {
         Cover::of(&self.ipv4, &self.ipv6, prefix)
     }
@@ -54,7 +53,6 @@ impl<T: Drop, A: Allocator> JointPrefixMap<T, A> {
         ensures counted { length result
             ≡ length (covers (entries_of self.now) (ip_path prefix.now)) }
         ensures fits { length (covers (entries_of self.now) (ip_path prefix.now)) ≤ 129 }
-        ensures runs { GivesInOrder IpPrefix }
     {
         KeysOf::new(self.cover(prefix))
     }
@@ -74,7 +72,6 @@ impl<T: Drop, A: Allocator> JointPrefixMap<T, A> {
         ensures counted { length result
             ≡ length (covers (entries_of self.now) (ip_path prefix.now)) }
         ensures fits { length (covers (entries_of self.now) (ip_path prefix.now)) ≤ 129 }
-        ensures runs { ShowsInOrder (deref {X = T}) }
     {
         CoverValues {
             inner: self.cover(prefix),

@@ -2,7 +2,10 @@
 ghost use Rattle.std.specs.Prelude.{◌≡◌, IfErr, IfOk, None, OnErr, OnOk};
 ghost use Rattle.std.specs.Borrow.{sem, MutBor};
 ghost use Rattle.std.specs.Option.{option_copied, option_copied_mut, unwrap_or, UnwrapsOrElse};
+ghost use Rattle.prefix_trie_bits.specs.Model.Step.{Insert, RemoveKeepTree, Value};
+ghost use Rattle.prefix_trie_table.specs.Steps.{insert_reply};
 ghost use Rattle.prefix_trie.specs.Terms.{with_entry, without_entry};
+ghost use Rattle.prefix_trie_joint.specs.Changes.{maps_of, StepOnFamily};
 ghost use Rattle.prefix_trie_joint.specs.Joined.{entries_of};
 ghost use Rattle.prefix_trie_joint.specs.Networks.{ip_path};
 
@@ -164,7 +167,8 @@ impl<'a, T: Drop, A: Allocator> Entry<'a, T, A> {
     /// ```
     #[inline]
     pub fn or_insert(self, value: T) -> Result<&'a mut T, Refused<T>>
-        ensures* writes_back { sem 𝓛 (lends_filled T.row A.row A.Allocator self.entry result) }
+        ensures* writes_back { sem 𝓛
+            (lends_filled T.row A.row A.Allocator (λ refused. refused.cause) self.entry result) }
         ensures value { IfOk result (λ x. x.now ≡ unwrap_or (entry_value self.entry) value) }
         ensures absent { OnErr result (entry_value self.entry ≡ None) }
         ensures returned { IfErr result (λ refused. refused.value ≡ value) }
@@ -194,7 +198,8 @@ impl<'a, T: Drop, A: Allocator> Entry<'a, T, A> {
     #[inline]
     pub fn or_insert_with<F: FnOnce() -> T + Drop>(self, f: F) -> Result<&'a mut T, Refusal>
         requires { entry_value self ≡ None → F.pre f }
-        ensures* writes_back { sem 𝓛 (lends_filled T.row A.row A.Allocator self.entry result) }
+        ensures* writes_back { sem 𝓛
+            (lends_filled T.row A.row A.Allocator (λ cause. cause) self.entry result) }
         ensures value { IfOk result (λ x. UnwrapsOrElse (entry_value self.entry) (F.post f) x.now) }
         ensures absent { OnErr result (entry_value self.entry ≡ None) }
     {
@@ -222,7 +227,8 @@ impl<'a, T: Drop, A: Allocator> Entry<'a, T, A> {
     pub fn or_default(self) -> Result<&'a mut T, Refusal>
     where
         T: Default,
-        ensures* writes_back { sem 𝓛 (lends_filled T.row A.row A.Allocator self.entry result) }
+        ensures* writes_back { sem 𝓛
+            (lends_filled T.row A.row A.Allocator (λ cause. cause) self.entry result) }
         ensures value { IfOk result
             (λ x. UnwrapsOrElse (entry_value self.entry) T.is_default x.now) }
         ensures absent { OnErr result (entry_value self.entry ≡ None) }
@@ -253,6 +259,8 @@ impl<'a, T: Drop, A: Allocator> Entry<'a, T, A> {
         ensures unchanged { OnErr result
             (entries_of self.exit.0.now ≡ entries_of self.entry.map.now) }
         ensures returned { IfErr result (λ refused. refused.value ≡ value) }
+        ensures step { StepOnFamily self.entry.key (λ q. Insert q value) (insert_reply result)
+            (maps_of self.entry.map.now) (maps_of self.exit.0.now) }
     {
         let Entry { map, key } = self;
         map.insert(key, value)
@@ -274,6 +282,8 @@ impl<'a, T: Drop, A: Allocator> Entry<'a, T, A> {
         ensures value { result ≡ entry_value self.entry }
         ensures entries { entries_of self.exit.0.now
             ≡ without_entry (entries_of self.entry.map.now) (ip_path self.entry.key) }
+        ensures step { StepOnFamily self.entry.key RemoveKeepTree (Value result)
+            (maps_of self.entry.map.now) (maps_of self.exit.0.now) }
     {
         let Entry { map, key } = self;
         map.remove_keep_tree(&key)

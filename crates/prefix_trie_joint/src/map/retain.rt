@@ -1,16 +1,16 @@
 //! Keeping the entries of both families that pass a test.
-ghost use Rattle.std.specs.Prelude.{◌≡◌, false, true};
+ghost use Rattle.std.specs.Prelude.{◌≡◌};
 ghost use Rattle.prefix_trie_bits.specs.Calls.Retaining.{CallableOnEachEntry, RetainsEntries, RetainsEntriesTo};
-ghost use Rattle.prefix_trie_bits.specs.Model.Nodes.{needed};
 ghost use Rattle.prefix_trie_map.specs.Calling.{CalledAtEntry, TakesEntry};
 ghost use Rattle.prefix_trie.specs.Terms.{listing};
-ghost use Rattle.prefix_trie_joint.specs.declared.prefix.IpPrefix.TheVariants.{V4, V6};
+ghost use Rattle.prefix_trie_joint.specs.Changes.{maps_of, OnEach, RetainsNeeded};
 ghost use Rattle.prefix_trie_joint.specs.Joined.{entries_of, under};
 ghost use Rattle.prefix_trie_joint.specs.Networks.{ip_back};
 
 use crate::map::JointPrefixMap;
 use crate::prefix::IpPrefix;
-use prefix_trie::{Ipv4Prefix, Ipv6Prefix, PrefixMap};
+use crate::prefix::family::Family;
+use prefix_trie::PrefixMap;
 use std::alloc::Allocator;
 
 impl<T: Drop, A: Allocator> JointPrefixMap<T, A> {
@@ -34,8 +34,7 @@ impl<T: Drop, A: Allocator> JointPrefixMap<T, A> {
             (TakesEntry F.FnMut ip_back) test (listing (entries_of self.old)) }
         ensures kept { RetainsEntries (CalledAtEntry F.FnMut ip_back) test
             (listing (entries_of self.old)) (listing (entries_of self.new)) }
-        ensures ipv4_nodes { self.new.ipv4.nodes ≡ needed self.new.ipv4.entries }
-        ensures ipv6_nodes { self.new.ipv6.nodes ≡ needed self.new.ipv6.entries }
+        ensures storage { OnEach (λ width. RetainsNeeded) (maps_of self.old) (maps_of self.new) }
     {
         let mut test = test;
         self.retain_by_ref(&mut test);
@@ -66,48 +65,28 @@ impl<T: Drop, A: Allocator> JointPrefixMap<T, A> {
         // `test.new` is the state after the last call.
         ensures kept { RetainsEntriesTo (CalledAtEntry F.FnMut ip_back) test.old
             (listing (entries_of self.old)) (listing (entries_of self.new)) test.new }
-        ensures ipv4_nodes { self.new.ipv4.nodes ≡ needed self.new.ipv4.entries }
-        ensures ipv6_nodes { self.new.ipv6.nodes ≡ needed self.new.ipv6.entries }
+        ensures storage { OnEach (λ width. RetainsNeeded) (maps_of self.old) (maps_of self.new) }
     {
-        retain_ipv4(&mut self.ipv4, test);
-        retain_ipv6(&mut self.ipv6, test);
+        retain_family(&mut self.ipv4, test);
+        retain_family(&mut self.ipv6, test);
     }
 }
 
-// Calls the test with each entry of the IPv4 map.
-fn retain_ipv4<T: Drop, A: Allocator, F: FnMut(&IpPrefix, &T) -> bool>(
-    map: &mut PrefixMap<Ipv4Prefix, T, A>,
+// Calls the test with each entry of the map of one family.
+fn retain_family<P: Family, T: Drop, A: Allocator, F: FnMut(&IpPrefix, &T) -> bool>(
+    map: &mut PrefixMap<P, T, A>,
     test: &mut F,
 )
     requires { CallableOnEachEntry (CalledAtEntry F.FnMut ip_back) (TakesEntry F.FnMut ip_back)
-        test.old (under false (listing map.old.entries)) }
+        test.old (under P.bit (listing map.old.entries)) }
     ensures kept { RetainsEntriesTo (CalledAtEntry F.FnMut ip_back) test.old
-        (under false (listing map.old.entries)) (under false (listing map.new.entries)) test.new }
-    ensures nodes { map.new.nodes ≡ needed map.new.entries }
+        (under P.bit (listing map.old.entries)) (under P.bit (listing map.new.entries)) test.new }
+    ensures storage { RetainsNeeded map.old map.new }
 {
-    let mut by_network = |network: &Ipv4Prefix, value: &T|
-        requires { (p : _) → p.now ≡ V4 network.now → F.pre test.now p value }
-        ensures { (p : _) × (p.now ≡ V4 network.now)
+    let mut by_network = |network: &P, value: &T|
+        requires { (p : _) → p.now ≡ P.as_ip network.now → F.pre test.now p value }
+        ensures { (p : _) × (p.now ≡ P.as_ip network.now)
             × F.step test.entry.now p value.entry result test.exit.now }
-    { test(&IpPrefix::V4(*network), value) };
-    map.retain_by_ref(&mut by_network);
-}
-
-// Calls the test with each entry of the IPv6 map.
-fn retain_ipv6<T: Drop, A: Allocator, F: FnMut(&IpPrefix, &T) -> bool>(
-    map: &mut PrefixMap<Ipv6Prefix, T, A>,
-    test: &mut F,
-)
-    requires { CallableOnEachEntry (CalledAtEntry F.FnMut ip_back) (TakesEntry F.FnMut ip_back)
-        test.old (under true (listing map.old.entries)) }
-    ensures kept { RetainsEntriesTo (CalledAtEntry F.FnMut ip_back) test.old
-        (under true (listing map.old.entries)) (under true (listing map.new.entries)) test.new }
-    ensures nodes { map.new.nodes ≡ needed map.new.entries }
-{
-    let mut by_network = |network: &Ipv6Prefix, value: &T|
-        requires { (p : _) → p.now ≡ V6 network.now → F.pre test.now p value }
-        ensures { (p : _) × (p.now ≡ V6 network.now)
-            × F.step test.entry.now p value.entry result test.exit.now }
-    { test(&IpPrefix::V6(*network), value) };
+    { test(&network.to_ip(), value) };
     map.retain_by_ref(&mut by_network);
 }

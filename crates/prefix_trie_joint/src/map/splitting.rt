@@ -2,6 +2,7 @@
 ghost use Rattle.std.specs.Prelude.{◌≡◌, IfErr, IfOk, OnErr, OnOk};
 ghost use Rattle.prefix_trie_bits.specs.declared.prefix.Refusal.TheVariants.{Memory};
 ghost use Rattle.prefix_trie.specs.Terms.{no_entries, part_below, without_below};
+ghost use Rattle.prefix_trie_joint.specs.Changes.{maps_of, AreNew, SplitsOnFamily, StaysOnFamily};
 ghost use Rattle.prefix_trie_joint.specs.Joined.{entries_of};
 ghost use Rattle.prefix_trie_joint.specs.Networks.{ip_path};
 
@@ -26,8 +27,8 @@ impl<T: Drop, A: Allocator + Clone> JointPrefixMap<T, A> {
     #[tactic(auto, using(crate::proofs::Changes::none_joined))]
     pub fn new_like(&self) -> Result<Self, Refusal>
         ensures entries { IfOk result (λ map. entries_of map ≡ no_entries) }
-        ensures limits { IfOk result (λ map. (map.ipv4.space.limit ≡ self.now.ipv4.space.limit)
-            × (map.ipv6.space.limit ≡ self.now.ipv6.space.limit)) }
+        ensures new { IfOk result
+            (λ map. AreNew self.now.ipv4.space.limit self.now.ipv6.space.limit (maps_of map)) }
         ensures only_memory { IfErr result (λ refusal. refusal ≡ Memory) }
     {
         Ok(JointPrefixMap {
@@ -61,7 +62,15 @@ impl<T: Drop, A: Allocator + Clone> JointPrefixMap<T, A> {
             ≡ part_below (entries_of self.old) (ip_path prefix.now)) }
         ensures entries { OnOk result
             (entries_of self.new ≡ without_below (entries_of self.old) (ip_path prefix.now)) }
+
+        // This is a step of the model in the family of the network, storage of both maps included. The other family is
+        // unchanged, and new in the second map.
+        ensures step { IfOk result
+            (λ second. SplitsOnFamily prefix.now
+            (maps_of self.old) (maps_of second) (maps_of self.new)) }
         ensures unchanged { OnErr result (entries_of self.new ≡ entries_of self.old) }
+        ensures stays { OnErr result
+            (StaysOnFamily prefix.now (maps_of self.old) (maps_of self.new)) }
         ensures only_memory { IfErr result (λ cause. cause ≡ Memory) }
     {
         match prefix.copy() {

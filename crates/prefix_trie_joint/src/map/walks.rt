@@ -4,7 +4,7 @@
 ghost use Rattle.std.specs.Prelude.{◌≡◌, ◌<◌, ◌^◌, [], cond, length, map};
 ghost use Rattle.std.specs.FinMap.{len};
 ghost use Rattle.std.specs.Iterator.{at_most};
-ghost use Rattle.std.specs.Map.Iter.{GivesInOrder, ShowsInOrder, TakesFirst, deref};
+ghost use Rattle.std.specs.Map.Iter.{TakesFirst, deref};
 ghost use Rattle.prefix_trie.specs.Terms.{lent_item, listing, listing_after, listing_below, listing_from, prefix_pairs};
 ghost use Rattle.prefix_trie_joint.specs.Joined.{entries_of, joined};
 ghost use Rattle.prefix_trie_joint.specs.Networks.{ip_back, ip_path};
@@ -35,7 +35,6 @@ impl<T: Drop, A: Allocator> JointPrefixMap<T, A> {
         ensures items { result ≡ prefix_pairs ip_back (listing (entries_of self.now)) }
         ensures counted { length result ≡ len (entries_of self.now) }
         ensures fits { len (entries_of self.now) < 2 ^ 64 }
-        ensures runs { ShowsInOrder (lent_item {P = IpPrefix} {T = T}) }
     {
         Iter::all(&self.ipv4, &self.ipv6)
     }
@@ -53,7 +52,6 @@ impl<T: Drop, A: Allocator> JointPrefixMap<T, A> {
         ensures items { result ≡ map (λ e. ip_back e.0) (listing (entries_of self.now)) }
         ensures counted { length result ≡ len (entries_of self.now) }
         ensures fits { len (entries_of self.now) < 2 ^ 64 }
-        ensures runs { GivesInOrder IpPrefix }
     {
         KeysOf::new(self.iter())
     }
@@ -71,7 +69,6 @@ impl<T: Drop, A: Allocator> JointPrefixMap<T, A> {
         ensures items { result ≡ map (λ e. e.1) (listing (entries_of self.now)) }
         ensures counted { length result ≡ len (entries_of self.now) }
         ensures fits { len (entries_of self.now) < 2 ^ 64 }
-        ensures runs { ShowsInOrder (deref {X = T}) }
     {
         Values { inner: self.iter() }
     }
@@ -95,7 +92,6 @@ impl<T: Drop, A: Allocator> JointPrefixMap<T, A> {
             (listing_from (entries_of self.now) (ip_path prefix.now))
             (listing_after (entries_of self.now) (ip_path prefix.now))) }
         ensures fits { length result < 2 ^ 64 }
-        ensures runs { ShowsInOrder (lent_item {P = IpPrefix} {T = T}) }
     {
         Iter::after(&self.ipv4, &self.ipv6, prefix, inclusive)
     }
@@ -114,7 +110,6 @@ impl<T: Drop, A: Allocator> JointPrefixMap<T, A> {
         ensures items { result
             ≡ prefix_pairs ip_back (listing_below (entries_of self.now) (ip_path prefix.now)) }
         ensures fits { length result < 2 ^ 64 }
-        ensures runs { ShowsInOrder (lent_item {P = IpPrefix} {T = T}) }
     {
         Iter::below(&self.ipv4, &self.ipv6, prefix)
     }
@@ -128,8 +123,7 @@ impl<'a, T: Drop, A: Allocator> IntoIterator for &'a JointPrefixMap<T, A> {
     ghost use Rattle.prefix_trie_joint.specs.declared.prefix.IpPrefix.{IpPrefix};
 
     ghost into_iter_gives = { λ s it. (it ≡ prefix_pairs ip_back (listing (entries_of s.now)))
-        × (length it ≡ len (entries_of s.now)) × (len (entries_of s.now) < 2 ^ 64)
-        × ShowsInOrder (lent_item {P = IpPrefix} {T = T}) };
+        × (length it ≡ len (entries_of s.now)) × (len (entries_of s.now) < 2 ^ 64) };
 
     #[inline]
     fn into_iter(self) -> Iter<'a, T, A> {

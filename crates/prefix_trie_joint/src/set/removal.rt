@@ -1,7 +1,9 @@
 //! Removing networks of a set.
 ghost use Rattle.std.specs.Prelude.{◌≡◌};
 ghost use Rattle.std.specs.FinMap.{contains_key};
-ghost use Rattle.prefix_trie.specs.Terms.{no_entries, without_below, without_entry};
+ghost use Rattle.prefix_trie_bits.specs.Model.Step.{Clear, Done, Remove, RemoveChildren, RemoveKeepTree};
+ghost use Rattle.prefix_trie.specs.Terms.{no_entries, set_remove_reply, without_below, without_entry};
+ghost use Rattle.prefix_trie_joint.specs.Changes.{sets_of, StepOnEach, StepOnFamily};
 ghost use Rattle.prefix_trie_joint.specs.Joined.{keys_of};
 ghost use Rattle.prefix_trie_joint.specs.Networks.{ip_path};
 
@@ -24,6 +26,10 @@ impl<A: Allocator> JointPrefixSet<A> {
     pub fn remove(&mut self, prefix: &IpPrefix) -> bool
         ensures was_in { result ≡ contains_key (keys_of self.old) (ip_path prefix.now) }
         ensures entries { keys_of self.new ≡ without_entry (keys_of self.old) (ip_path prefix.now) }
+
+        // This is a step of the model in the set of the network's family, storage included. The other set is unchanged.
+        ensures step { StepOnFamily prefix.now Remove (set_remove_reply result)
+            (sets_of self.old) (sets_of self.new) }
     {
         match prefix.copy() {
             IpPrefix::V4(network) => self.ipv4.remove(&network),
@@ -45,6 +51,10 @@ impl<A: Allocator> JointPrefixSet<A> {
     pub fn remove_keep_tree(&mut self, prefix: &IpPrefix) -> bool
         ensures was_in { result ≡ contains_key (keys_of self.old) (ip_path prefix.now) }
         ensures entries { keys_of self.new ≡ without_entry (keys_of self.old) (ip_path prefix.now) }
+
+        // This is a step of the model, as for `remove`. All nodes stay.
+        ensures step { StepOnFamily prefix.now RemoveKeepTree (set_remove_reply result)
+            (sets_of self.old) (sets_of self.new) }
     {
         match prefix.copy() {
             IpPrefix::V4(network) => self.ipv4.remove_keep_tree(&network),
@@ -64,7 +74,11 @@ impl<A: Allocator> JointPrefixSet<A> {
     #[inline]
     #[tactic(auto, using(crate::proofs::Changes::below_kept_ipv4, crate::proofs::Changes::below_kept_ipv6))]
     pub fn drop_children(&mut self, prefix: &IpPrefix)
-        ensures { keys_of self.new ≡ without_below (keys_of self.old) (ip_path prefix.now) }
+        ensures entries { keys_of self.new ≡ without_below (keys_of self.old) (ip_path prefix.now) }
+
+        // This is a step of the model, as for `remove`. The arrays keep their slots, except at length 0.
+        ensures step { StepOnFamily prefix.now RemoveChildren Done
+            (sets_of self.old) (sets_of self.new) }
     {
         match prefix.copy() {
             IpPrefix::V4(network) => self.ipv4.drop_children(&network),
@@ -84,7 +98,10 @@ impl<A: Allocator> JointPrefixSet<A> {
     #[inline]
     #[tactic(auto, using(crate::proofs::Changes::none_joined))]
     pub fn clear(&mut self)
-        ensures { keys_of self.new ≡ no_entries }
+        ensures entries { keys_of self.new ≡ no_entries }
+
+        // This is a step of the model in both families, storage included.
+        ensures step { StepOnEach Clear Done (sets_of self.old) (sets_of self.new) }
     {
         self.ipv4.clear();
         self.ipv6.clear();

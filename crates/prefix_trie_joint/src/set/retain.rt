@@ -1,16 +1,17 @@
 //! Keeping the networks of a set that pass a test.
-ghost use Rattle.std.specs.Prelude.{◌≡◌, false, true};
+ghost use Rattle.std.specs.Prelude.{◌≡◌};
 ghost use Rattle.prefix_trie_bits.specs.Calls.Retaining.{CallableOnEachEntry, RetainsEntries, RetainsEntriesTo};
-ghost use Rattle.prefix_trie_bits.specs.Model.Nodes.{needed};
 ghost use Rattle.prefix_trie.specs.Sets.{CalledAtKey, TakesKey};
 ghost use Rattle.prefix_trie.specs.Terms.{listing};
-ghost use Rattle.prefix_trie_joint.specs.declared.prefix.IpPrefix.TheVariants.{V4, V6};
+ghost use Rattle.prefix_trie_joint.specs.Changes.{sets_of, OnEach};
 ghost use Rattle.prefix_trie_joint.specs.Joined.{keys_of, under};
 ghost use Rattle.prefix_trie_joint.specs.Networks.{ip_back};
+ghost use Rattle.prefix_trie_joint.specs.Retained.{RetainsKeys};
 
 use crate::prefix::IpPrefix;
+use crate::prefix::family::Family;
 use crate::set::JointPrefixSet;
-use prefix_trie::{Ipv4Prefix, Ipv6Prefix, PrefixSet};
+use prefix_trie::PrefixSet;
 use std::alloc::Allocator;
 
 impl<A: Allocator> JointPrefixSet<A> {
@@ -34,8 +35,7 @@ impl<A: Allocator> JointPrefixSet<A> {
             (TakesKey F.FnMut ip_back) test (listing (keys_of self.old)) }
         ensures kept { RetainsEntries (CalledAtKey F.FnMut ip_back) test
             (listing (keys_of self.old)) (listing (keys_of self.new)) }
-        ensures ipv4_nodes { self.new.ipv4.nodes ≡ needed self.new.ipv4.entries }
-        ensures ipv6_nodes { self.new.ipv6.nodes ≡ needed self.new.ipv6.entries }
+        ensures storage { OnEach (λ width. RetainsKeys) (sets_of self.old) (sets_of self.new) }
     {
         let mut test = test;
         self.retain_by_ref(&mut test);
@@ -66,48 +66,28 @@ impl<A: Allocator> JointPrefixSet<A> {
         // `test.new` is the state after the last call.
         ensures kept { RetainsEntriesTo (CalledAtKey F.FnMut ip_back) test.old
             (listing (keys_of self.old)) (listing (keys_of self.new)) test.new }
-        ensures ipv4_nodes { self.new.ipv4.nodes ≡ needed self.new.ipv4.entries }
-        ensures ipv6_nodes { self.new.ipv6.nodes ≡ needed self.new.ipv6.entries }
+        ensures storage { OnEach (λ width. RetainsKeys) (sets_of self.old) (sets_of self.new) }
     {
-        retain_ipv4(&mut self.ipv4, test);
-        retain_ipv6(&mut self.ipv6, test);
+        retain_family(&mut self.ipv4, test);
+        retain_family(&mut self.ipv6, test);
     }
 }
 
-// Calls the test with each network of the IPv4 set.
-fn retain_ipv4<A: Allocator, F: FnMut(&IpPrefix) -> bool>(
-    set: &mut PrefixSet<Ipv4Prefix, A>,
+// Calls the test with each network of the set of one family.
+fn retain_family<P: Family, A: Allocator, F: FnMut(&IpPrefix) -> bool>(
+    set: &mut PrefixSet<P, A>,
     test: &mut F,
 )
     requires { CallableOnEachEntry (CalledAtKey F.FnMut ip_back) (TakesKey F.FnMut ip_back)
-        test.old (under false (listing set.old.entries)) }
+        test.old (under P.bit (listing set.old.entries)) }
     ensures kept { RetainsEntriesTo (CalledAtKey F.FnMut ip_back) test.old
-        (under false (listing set.old.entries)) (under false (listing set.new.entries)) test.new }
-    ensures nodes { set.new.nodes ≡ needed set.new.entries }
+        (under P.bit (listing set.old.entries)) (under P.bit (listing set.new.entries)) test.new }
+    ensures storage { RetainsKeys set.old set.new }
 {
-    let mut by_network = |network: &Ipv4Prefix|
-        requires { (p : _) → p.now ≡ V4 network.now → F.pre test.now p }
-        ensures { (p : _) × (p.now ≡ V4 network.now)
+    let mut by_network = |network: &P|
+        requires { (p : _) → p.now ≡ P.as_ip network.now → F.pre test.now p }
+        ensures { (p : _) × (p.now ≡ P.as_ip network.now)
             × F.step test.entry.now p result test.exit.now }
-    { test(&IpPrefix::V4(*network)) };
-    set.retain_by_ref(&mut by_network);
-}
-
-// Calls the test with each network of the IPv6 set.
-fn retain_ipv6<A: Allocator, F: FnMut(&IpPrefix) -> bool>(
-    set: &mut PrefixSet<Ipv6Prefix, A>,
-    test: &mut F,
-)
-    requires { CallableOnEachEntry (CalledAtKey F.FnMut ip_back) (TakesKey F.FnMut ip_back)
-        test.old (under true (listing set.old.entries)) }
-    ensures kept { RetainsEntriesTo (CalledAtKey F.FnMut ip_back) test.old
-        (under true (listing set.old.entries)) (under true (listing set.new.entries)) test.new }
-    ensures nodes { set.new.nodes ≡ needed set.new.entries }
-{
-    let mut by_network = |network: &Ipv6Prefix|
-        requires { (p : _) → p.now ≡ V6 network.now → F.pre test.now p }
-        ensures { (p : _) × (p.now ≡ V6 network.now)
-            × F.step test.entry.now p result test.exit.now }
-    { test(&IpPrefix::V6(*network)) };
+    { test(&network.to_ip()) };
     set.retain_by_ref(&mut by_network);
 }

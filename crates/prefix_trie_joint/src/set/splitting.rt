@@ -2,6 +2,7 @@
 ghost use Rattle.std.specs.Prelude.{◌≡◌, IfErr, IfOk, OnErr, OnOk};
 ghost use Rattle.prefix_trie_bits.specs.declared.prefix.Refusal.TheVariants.{Memory};
 ghost use Rattle.prefix_trie.specs.Terms.{no_entries, part_below, without_below};
+ghost use Rattle.prefix_trie_joint.specs.Changes.{sets_of, AreNew, SplitsOnFamily, StaysOnFamily};
 ghost use Rattle.prefix_trie_joint.specs.Joined.{keys_of};
 ghost use Rattle.prefix_trie_joint.specs.Networks.{ip_path};
 
@@ -26,8 +27,8 @@ impl<A: Allocator + Clone> JointPrefixSet<A> {
     #[tactic(auto, using(crate::proofs::Changes::none_joined))]
     pub fn new_like(&self) -> Result<Self, Refusal>
         ensures entries { IfOk result (λ set. keys_of set ≡ no_entries) }
-        ensures limits { IfOk result (λ set. (set.ipv4.space.limit ≡ self.now.ipv4.space.limit)
-            × (set.ipv6.space.limit ≡ self.now.ipv6.space.limit)) }
+        ensures new { IfOk result
+            (λ set. AreNew self.now.ipv4.space.limit self.now.ipv6.space.limit (sets_of set)) }
         ensures only_memory { IfErr result (λ refusal. refusal ≡ Memory) }
     {
         Ok(JointPrefixSet {
@@ -55,7 +56,15 @@ impl<A: Allocator + Clone> JointPrefixSet<A> {
             (λ second. keys_of second ≡ part_below (keys_of self.old) (ip_path prefix.now)) }
         ensures entries { OnOk result
             (keys_of self.new ≡ without_below (keys_of self.old) (ip_path prefix.now)) }
+
+        // This is a step of the model in the family of the network, storage of both sets included. The other family is
+        // unchanged, and new in the second set.
+        ensures step { IfOk result
+            (λ second. SplitsOnFamily prefix.now
+            (sets_of self.old) (sets_of second) (sets_of self.new)) }
         ensures unchanged { OnErr result (keys_of self.new ≡ keys_of self.old) }
+        ensures stays { OnErr result
+            (StaysOnFamily prefix.now (sets_of self.old) (sets_of self.new)) }
         ensures only_memory { IfErr result (λ cause. cause ≡ Memory) }
     {
         match prefix.copy() {

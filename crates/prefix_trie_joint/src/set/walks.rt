@@ -1,9 +1,8 @@
 //! The walks of a set: IPv4 networks first, then IPv6 networks, each in listing order.
 //!
 //! Contracts see each walk as the list of the networks still to come.
-ghost use Rattle.std.specs.Prelude.{◌≡◌, ◌<◌, ◌^◌, cond, length, map};
+ghost use Rattle.std.specs.Prelude.{◌≡◌, ◌<◌, ◌≤◌, ◌^◌, cond, length, map};
 ghost use Rattle.std.specs.FinMap.{len};
-ghost use Rattle.std.specs.Map.Iter.{GivesInOrder};
 ghost use Rattle.prefix_trie.specs.Terms.{covers, listing, listing_after, listing_below, listing_from};
 ghost use Rattle.prefix_trie_joint.specs.Joined.{keys_of};
 ghost use Rattle.prefix_trie_joint.specs.Networks.{ip_back, ip_path};
@@ -35,7 +34,6 @@ impl<A: Allocator> JointPrefixSet<A> {
         ensures items { result ≡ map (λ e. ip_back e.0) (listing (keys_of self.now)) }
         ensures counted { length result ≡ len (keys_of self.now) }
         ensures fits { len (keys_of self.now) < 2 ^ 64 }
-        ensures runs { GivesInOrder IpPrefix }
     {
         KeysOf::new(map::Iter::all(self.ipv4.as_map(), self.ipv6.as_map()))
     }
@@ -57,7 +55,6 @@ impl<A: Allocator> JointPrefixSet<A> {
             (listing_from (keys_of self.now) (ip_path prefix.now))
             (listing_after (keys_of self.now) (ip_path prefix.now))) }
         ensures fits { length result < 2 ^ 64 }
-        ensures runs { GivesInOrder IpPrefix }
     {
         KeysOf::new(map::Iter::after(self.ipv4.as_map(), self.ipv6.as_map(), prefix, inclusive))
     }
@@ -75,7 +72,6 @@ impl<A: Allocator> JointPrefixSet<A> {
         ensures items { result
             ≡ map (λ e. ip_back e.0) (listing_below (keys_of self.now) (ip_path prefix.now)) }
         ensures fits { length result < 2 ^ 64 }
-        ensures runs { GivesInOrder IpPrefix }
     {
         KeysOf::new(map::Iter::below(self.ipv4.as_map(), self.ipv6.as_map(), prefix))
     }
@@ -94,7 +90,8 @@ impl<A: Allocator> JointPrefixSet<A> {
     pub fn cover(&self, prefix: &IpPrefix) -> Cover<'_, A>
         ensures items { result
             ≡ map (λ e. ip_back e.0) (covers (keys_of self.now) (ip_path prefix.now)) }
-        ensures runs { GivesInOrder IpPrefix }
+        ensures counted { length result ≡ length (covers (keys_of self.now) (ip_path prefix.now)) }
+        ensures fits { length (covers (keys_of self.now) (ip_path prefix.now)) ≤ 129 }
     {
         KeysOf::new(map::Cover::of(self.ipv4.as_map(), self.ipv6.as_map(), prefix))
     }
@@ -108,8 +105,7 @@ impl<'a, A: Allocator> IntoIterator for &'a JointPrefixSet<A> {
     ghost use Rattle.prefix_trie_joint.specs.declared.prefix.IpPrefix.{IpPrefix};
 
     ghost into_iter_gives = { λ s it. (it ≡ map (λ e. ip_back e.0) (listing (keys_of s.now)))
-        × (length it ≡ len (keys_of s.now)) × (len (keys_of s.now) < 2 ^ 64)
-        × GivesInOrder IpPrefix };
+        × (length it ≡ len (keys_of s.now)) × (len (keys_of s.now) < 2 ^ 64) };
 
     #[inline]
     fn into_iter(self) -> Iter<'a, A> {

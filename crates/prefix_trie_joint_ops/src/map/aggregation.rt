@@ -1,21 +1,26 @@
 //! Removal of entries that change no lookup, in both families.
-ghost use Rattle.std.specs.Prelude.{◌≡◌, Bool, true, false, List, IfErr, IfOk};
+ghost use Rattle.std.specs.Prelude.{◌≡◌, Bool, true, false, List, IfErr, OnOk};
+ghost use Rattle.prefix_trie_bits.specs.declared.prefix.Refusal.TheVariants.{Memory};
+ghost use Rattle.prefix_trie.specs.Terms.{needed};
 ghost use Rattle.prefix_trie_ops.specs.Values.{is_redundant, value_of, without_redundant};
+ghost use Rattle.prefix_trie_joint.specs.Changes.{limits_of, maps_of};
 ghost use Rattle.prefix_trie_joint.specs.Joined.{entries_of};
 
+use prefix_trie::Refusal;
 use prefix_trie::laws::lookup_laws;
 use prefix_trie_joint::{IpPrefix, JointPrefixMap};
 use prefix_trie_ops::map::{keep_marked, marks_of};
-use std::alloc::{AllocError, Allocator};
+use std::alloc::Allocator;
 
 /// Removes each entry whose longest shorter entry of its family has an equal value.
 ///
-/// Every question, of any length, has the same longest-match value as before. No such entry is left, and nothing else changes.
-/// It allocates one byte for each entry, and a stack of one item for each length of network that is stored on one path.
+/// Every question, of any length, has the same longest-match value as before. No such entry is left. Nodes that no
+/// remaining entry needs are removed, and the slot limits stay. See `prefix_trie_ops::map::aggregate_consistent` for the
+/// memory that it takes.
 ///
 /// # Errors
 ///
-/// Returns the allocator's error if an allocation fails. The map is unchanged then, in both families.
+/// Returns `Memory` if an allocation fails. The map is unchanged then, in both families.
 ///
 /// # Examples
 ///
@@ -27,15 +32,19 @@ use std::alloc::{AllocError, Allocator};
 pub fn aggregate_consistent<T: PartialEq + Drop, A: Allocator, B: Allocator>(
     table: &mut JointPrefixMap<T, A>,
     alloc: B,
-) -> Result<(), AllocError>
-    ensures entries { IfOk result (λ _. entries_of table.new
-        ≡ without_redundant T.PartialEq.eq (entries_of table.old)) }
+) -> Result<(), Refusal>
+    ensures entries { OnOk result
+        (entries_of table.new ≡ without_redundant T.PartialEq.eq (entries_of table.old)) }
+    ensures nodes { OnOk result ((table.new.ipv4.nodes ≡ needed table.new.ipv4.entries)
+        × (table.new.ipv6.nodes ≡ needed table.new.ipv6.entries)) }
+    ensures limit { OnOk result (limits_of (maps_of table.new) ≡ limits_of (maps_of table.old)) }
 
     // In the next two clauses, values that `==` calls equal are the same.
-    ensures values { IfOk result (λ _. ((x y : T) → T.PartialEq.eq x y ≡ true → x ≡ y)
+    ensures values { OnOk result (((x y : T) → T.PartialEq.eq x y ≡ true → x ≡ y)
         → (q : List Bool) → value_of (entries_of table.new) q ≡ value_of (entries_of table.old) q) }
-    ensures tidy { IfOk result (λ _. ((x y : T) → T.PartialEq.eq x y ≡ true → x ≡ y)
+    ensures none_redundant { OnOk result (((x y : T) → T.PartialEq.eq x y ≡ true → x ≡ y)
         → (s : List Bool) → is_redundant T.PartialEq.eq (entries_of table.new) s ≡ false) }
+    ensures only_memory { IfErr result (λ cause. cause ≡ Memory) }
     ensures unchanged { IfErr result (λ _. table.new ≡ table.old) }
 {
     lookup_laws::<IpPrefix, T>();

@@ -1,7 +1,7 @@
 //! The entries of one joint map that another one does not have.
 ghost use Rattle.std.specs.Prelude.{◌≡◌, ◌<◌, ◌^◌, length};
 ghost use Rattle.std.specs.Iterator.{at_most};
-ghost use Rattle.std.specs.Map.Iter.{ShowsInOrder, TakesFirst};
+ghost use Rattle.std.specs.Map.Iter.{TakesFirst};
 ghost use Rattle.prefix_trie.specs.Terms.{lent_item, listing, prefix_pairs};
 ghost use Rattle.prefix_trie_ops.specs.Combining.{minus};
 ghost use Rattle.prefix_trie_joint.specs.Joined.{entries_of, joined};
@@ -79,7 +79,6 @@ pub fn difference<'a, T: Drop, U: Drop, A: Allocator, B: Allocator>(
     ensures items { result
         ≡ prefix_pairs ip_back (listing (minus (entries_of left.now) (entries_of right.now))) }
     ensures fits { length result < 2 ^ 64 }
-    ensures runs { ShowsInOrder (lent_item {P = IpPrefix} {T = T}) }
 {
     DifferenceWalk::of(&left.ipv4, &left.ipv6, &right.ipv4, &right.ipv6)
 }

@@ -2,7 +2,7 @@
 ghost use Rattle.std.specs.Prelude.{◌≡◌, ◌<◌, ◌^◌, length};
 ghost use Rattle.std.specs.FinMap.{len};
 ghost use Rattle.std.specs.Iterator.{at_most};
-ghost use Rattle.std.specs.Map.Iter.{ShowsInOrder, TakesFirst};
+ghost use Rattle.std.specs.Map.Iter.{TakesFirst};
 ghost use Rattle.prefix_trie.specs.Terms.{listing, prefix_pairs};
 ghost use Rattle.prefix_trie_ops.specs.Combining.{common};
 ghost use Rattle.prefix_trie_ops.specs.Lending.{lent_pair};
@@ -80,7 +80,6 @@ pub fn intersection<'a, T: Drop, U: Drop, A: Allocator, B: Allocator>(
     ensures items { result
         ≡ prefix_pairs ip_back (listing (common (entries_of left.now) (entries_of right.now))) }
     ensures fits { length result < 2 ^ 64 }
-    ensures runs { ShowsInOrder (lent_pair {P = IpPrefix} {T = T} {U = U}) }
 {
     IntersectionWalk::of(&left.ipv4, &left.ipv6, &right.ipv4, &right.ipv6)
 }

@@ -1,6 +1,10 @@
 //! The joint map with the fewest entries for the same lookups of addresses.
-ghost use Rattle.std.specs.Prelude.{◌≡◌, Bool, true, false, List, IfErr, IfOk};
+ghost use Rattle.std.specs.Prelude.{◌≡◌, ◌⊎◌, Bool, true, false, List, IfErr, IfOk};
+ghost use Rattle.prefix_trie_bits.specs.declared.prefix.Refusal.TheVariants.{IndexRange};
+ghost use Rattle.prefix_trie.specs.Terms.{needed};
+ghost use Rattle.prefix_trie_ops.specs.Smallest.{MayExceedLimit};
 ghost use Rattle.prefix_trie_ops.specs.Values.{is_redundant};
+ghost use Rattle.prefix_trie_joint.specs.Changes.{limits_of, maps_of};
 ghost use Rattle.prefix_trie_joint.specs.Joined.{entries_of};
 ghost use Rattle.prefix_trie_joint_ops.specs.Smallest.{HaveSameAnswers, IsSmallest};
 
@@ -13,7 +17,7 @@ use std::alloc::Allocator;
 ///
 /// Every address has the same longest-match value as before, or still none. No joint map with the same answers to
 /// addresses has fewer entries. Each family is aggregated by itself: 0.0.0.0/0 and ::/0 with one value stay two entries.
-/// See `prefix_trie_ops::map::aggregate` for the time and memory it takes.
+/// The slot limits stay. See `prefix_trie_ops::map::aggregate` for the time and memory it takes.
 ///
 /// # Errors
 ///
@@ -37,8 +41,18 @@ pub fn aggregate<T: Copy + Ord, A: Allocator + Clone, B: Allocator>(
         → HaveSameAnswers (entries_of table.new) (entries_of table.old)) }
     ensures smallest { IfOk result (λ _. ((x y : T) → T.PartialEq.eq x y ≡ true → x ≡ y)
         → IsSmallest (entries_of table.new)) }
-    ensures tidy { IfOk result (λ _. ((x y : T) → T.PartialEq.eq x y ≡ true → x ≡ y)
+    ensures none_redundant { IfOk result (λ _. ((x y : T) → T.PartialEq.eq x y ≡ true → x ≡ y)
         → (s : List Bool) → is_redundant T.PartialEq.eq (entries_of table.new) s ≡ false) }
+    ensures nodes { IfOk result (λ _. (table.new.ipv4.nodes ≡ needed table.new.ipv4.entries)
+        × (table.new.ipv6.nodes ≡ needed table.new.ipv6.entries)) }
+    ensures limit { IfOk result
+        (λ _. limits_of (maps_of table.new) ≡ limits_of (maps_of table.old)) }
+
+    // `IndexRange` comes only if 56 slots for each entry of any map with the lookups of one family would exceed its limit.
+    ensures range { IfErr result
+        (λ cause. cause ≡ IndexRange → ((x y : T) → T.PartialEq.eq x y ≡ true → x ≡ y)
+        → MayExceedLimit 32 table.old.ipv4.space.limit table.old.ipv4.entries
+        ⊎ MayExceedLimit 128 table.old.ipv6.space.limit table.old.ipv6.entries) }
     ensures unchanged { IfErr result (λ _. table.new ≡ table.old) }
 {
     let made = aggregated(table, alloc)?;
@@ -69,8 +83,15 @@ pub fn aggregated<T: Copy + Ord, A: Allocator + Clone, B: Allocator>(
         → HaveSameAnswers (entries_of made) (entries_of table.now)) }
     ensures smallest { IfOk result (λ made. ((x y : T) → T.PartialEq.eq x y ≡ true → x ≡ y)
         → IsSmallest (entries_of made)) }
-    ensures tidy { IfOk result (λ made. ((x y : T) → T.PartialEq.eq x y ≡ true → x ≡ y)
+    ensures none_redundant { IfOk result (λ made. ((x y : T) → T.PartialEq.eq x y ≡ true → x ≡ y)
         → (s : List Bool) → is_redundant T.PartialEq.eq (entries_of made) s ≡ false) }
+    ensures nodes { IfOk result (λ made. (made.ipv4.nodes ≡ needed made.ipv4.entries)
+        × (made.ipv6.nodes ≡ needed made.ipv6.entries)) }
+    ensures limit { IfOk result (λ made. limits_of (maps_of made) ≡ limits_of (maps_of table.now)) }
+    ensures range { IfErr result
+        (λ cause. cause ≡ IndexRange → ((x y : T) → T.PartialEq.eq x y ≡ true → x ≡ y)
+        → MayExceedLimit 32 table.now.ipv4.space.limit table.now.ipv4.entries
+        ⊎ MayExceedLimit 128 table.now.ipv6.space.limit table.now.ipv6.entries) }
 {
     let ipv4 = map::aggregated(&table.ipv4, &alloc)?;
     let ipv6 = map::aggregated(&table.ipv6, &alloc)?;

@@ -2,7 +2,7 @@
 ghost use Rattle.std.specs.Prelude.{◌≡◌, ◌+◌, ◌≤◌, length};
 ghost use Rattle.std.specs.FinMap.{len};
 ghost use Rattle.std.specs.Iterator.{at_most};
-ghost use Rattle.std.specs.Map.Iter.{ShowsInOrder, TakesFirst};
+ghost use Rattle.std.specs.Map.Iter.{TakesFirst};
 ghost use Rattle.prefix_trie.specs.Terms.{listing, prefix_pairs};
 ghost use Rattle.prefix_trie_ops.specs.Merging.{lent_side, union_of};
 ghost use Rattle.prefix_trie_joint.specs.Joined.{entries_of, joined};
@@ -80,7 +80,6 @@ pub fn union<'a, T: Drop, U: Drop, A: Allocator, B: Allocator>(
     ensures items { result
         ≡ prefix_pairs ip_back (listing (union_of (entries_of left.now) (entries_of right.now))) }
     ensures at_most { length result ≤ len (entries_of left.now) + len (entries_of right.now) }
-    ensures runs { ShowsInOrder (lent_side {P = IpPrefix} {T = T} {U = U}) }
 {
     UnionWalk::of(&left.ipv4, &left.ipv6, &right.ipv4, &right.ipv6)
 }

@@ -1,7 +1,11 @@
 //! The joint set with the fewest networks for the same addresses.
-ghost use Rattle.std.specs.Prelude.{◌≡◌, Bool, true, false, List, IfErr, IfOk};
+ghost use Rattle.std.specs.Prelude.{◌≡◌, ◌⊎◌, Bool, true, false, List, IfErr, IfOk};
 ghost use Rattle.std.specs.FinMap.{contains_key};
+ghost use Rattle.prefix_trie_bits.specs.declared.prefix.Refusal.TheVariants.{IndexRange};
+ghost use Rattle.prefix_trie.specs.Terms.{needed};
 ghost use Rattle.prefix_trie_ops.specs.Covered.{is_below_another};
+ghost use Rattle.prefix_trie_ops.specs.SmallestSets.{CoverMayExceedLimit};
+ghost use Rattle.prefix_trie_joint.specs.Changes.{limits_of, sets_of};
 ghost use Rattle.prefix_trie_joint.specs.Joined.{keys_of};
 ghost use Rattle.prefix_trie_joint_ops.specs.Smallest.{CoverSameAddresses, HasNoSiblings, IsSmallestCover};
 
@@ -14,7 +18,8 @@ use std::alloc::Allocator;
 ///
 /// The same addresses are covered as before, and no joint set that covers them has fewer networks. No network covers
 /// another, and no two networks of a family differ in their last bit alone. Each family is aggregated by itself:
-/// 0.0.0.0/0 and ::/0 stay two networks. See `prefix_trie_ops::set::aggregate` for the time and memory it takes.
+/// 0.0.0.0/0 and ::/0 stay two networks. The slot limits stay. See `prefix_trie_ops::set::aggregate` for the time and
+/// memory it takes.
 ///
 /// # Errors
 ///
@@ -39,6 +44,14 @@ pub fn aggregate<A: Allocator + Clone, B: Allocator>(
         (λ _. (s : List Bool) → contains_key (keys_of set.new) s ≡ true
         → is_below_another (keys_of set.new) s ≡ false) }
     ensures no_siblings { IfOk result (λ _. HasNoSiblings (keys_of set.new)) }
+    ensures nodes { IfOk result (λ _. (set.new.ipv4.nodes ≡ needed set.new.ipv4.entries)
+        × (set.new.ipv6.nodes ≡ needed set.new.ipv6.entries)) }
+    ensures limit { IfOk result (λ _. limits_of (sets_of set.new) ≡ limits_of (sets_of set.old)) }
+
+    // `IndexRange` comes only if 56 slots for each key of any set that covers the addresses of one family would exceed its limit.
+    ensures range { IfErr result (λ cause. cause ≡ IndexRange
+        → CoverMayExceedLimit 32 set.old.ipv4.space.limit set.old.ipv4.entries
+        ⊎ CoverMayExceedLimit 128 set.old.ipv6.space.limit set.old.ipv6.entries) }
     ensures unchanged { IfErr result (λ _. set.new ≡ set.old) }
 {
     let made = aggregated(set, alloc)?;
@@ -72,6 +85,12 @@ pub fn aggregated<A: Allocator + Clone, B: Allocator>(
         (λ made. (s : List Bool) → contains_key (keys_of made) s ≡ true
         → is_below_another (keys_of made) s ≡ false) }
     ensures no_siblings { IfOk result (λ made. HasNoSiblings (keys_of made)) }
+    ensures nodes { IfOk result (λ made. (made.ipv4.nodes ≡ needed made.ipv4.entries)
+        × (made.ipv6.nodes ≡ needed made.ipv6.entries)) }
+    ensures limit { IfOk result (λ made. limits_of (sets_of made) ≡ limits_of (sets_of set.now)) }
+    ensures range { IfErr result (λ cause. cause ≡ IndexRange
+        → CoverMayExceedLimit 32 set.now.ipv4.space.limit set.now.ipv4.entries
+        ⊎ CoverMayExceedLimit 128 set.now.ipv6.space.limit set.now.ipv6.entries) }
 {
     let ipv4 = set::aggregated(&set.ipv4, &alloc)?;
     let ipv6 = set::aggregated(&set.ipv6, &alloc)?;

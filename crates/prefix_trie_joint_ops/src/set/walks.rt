@@ -3,7 +3,6 @@
 //! They are the walks over joint maps of units, without the values.
 ghost use Rattle.std.specs.Prelude.{◌≡◌, ◌+◌, ◌≤◌, ◌<◌, ◌^◌, length, map};
 ghost use Rattle.std.specs.FinMap.{len};
-ghost use Rattle.std.specs.Map.Iter.{GivesInOrder};
 ghost use Rattle.prefix_trie.specs.Terms.{listing};
 ghost use Rattle.prefix_trie_ops.specs.Combining.{minus, not_covered, restricted_to};
 ghost use Rattle.prefix_trie_ops.specs.Merging.{union_of};
@@ -49,7 +48,6 @@ pub fn union<'a, A: Allocator, B: Allocator>(
     ensures items { result
         ≡ map (λ e. ip_back e.0) (listing (union_of (keys_of left.now) (keys_of right.now))) }
     ensures at_most { length result ≤ len (keys_of left.now) + len (keys_of right.now) }
-    ensures runs { GivesInOrder IpPrefix }
 {
     KeysOf::new(map::UnionWalk::of(
         left.ipv4.as_map(),
@@ -77,7 +75,6 @@ pub fn intersection<'a, A: Allocator, B: Allocator>(
     ensures items { result
         ≡ map (λ e. ip_back e.0) (listing (restricted_to (keys_of left.now) (keys_of right.now))) }
     ensures fits { length result < 2 ^ 64 }
-    ensures runs { GivesInOrder IpPrefix }
 {
     KeysOf::new(map::IntersectionWalk::of(
         left.ipv4.as_map(),
@@ -105,7 +102,6 @@ pub fn difference<'a, A: Allocator, B: Allocator>(
     ensures items { result
         ≡ map (λ e. ip_back e.0) (listing (minus (keys_of left.now) (keys_of right.now))) }
     ensures fits { length result < 2 ^ 64 }
-    ensures runs { GivesInOrder IpPrefix }
 {
     KeysOf::new(map::DifferenceWalk::of(
         left.ipv4.as_map(),
@@ -133,7 +129,6 @@ pub fn covering_difference<'a, A: Allocator, B: Allocator>(
     ensures items { result
         ≡ map (λ e. ip_back e.0) (listing (not_covered (keys_of left.now) (keys_of right.now))) }
     ensures fits { length result < 2 ^ 64 }
-    ensures runs { GivesInOrder IpPrefix }
 {
     KeysOf::new(map::CoveringDifferenceWalk::of(
         left.ipv4.as_map(),

@@ -4,9 +4,12 @@ ghost use Rattle.std.specs.Borrow.{sem, MutBor};
 ghost use Rattle.std.specs.FinMap.{contains_key, get};
 ghost use Rattle.std.specs.Option.{unwrap_or, UnwrapsOrElse};
 ghost use Rattle.prefix_trie.specs.Terms.{with_entry};
-ghost use Rattle.prefix_trie_joint.specs.Entry.{Modifies};
+ghost use Rattle.prefix_trie_bits.specs.Model.Step.{Insert, Value};
+ghost use Rattle.prefix_trie_table.specs.Steps.{insert_new_reply};
+ghost use Rattle.prefix_trie_joint.specs.Changes.{maps_of, StepOnFamily};
+ghost use Rattle.prefix_trie_joint.specs.Entry.{Fills, FillsAt, Modifies, RefusesAt, RefusesToFill};
 ghost use Rattle.prefix_trie_joint.specs.Joined.{entries_of};
-ghost use Rattle.prefix_trie_joint.specs.Lending.{lends_value};
+ghost use Rattle.prefix_trie_joint.specs.Lending.{lends_value, with_value_of};
 ghost use Rattle.prefix_trie_joint.specs.Networks.{ip_path};
 
 use crate::map::JointPrefixMap;
@@ -62,7 +65,16 @@ pub(super) fn fill<T: Drop, A: Allocator>(
     ensures unchanged { OnErr result (entries_of map.new ≡ entries_of map.old) }
     ensures absent { OnErr result (get (entries_of map.old) (ip_path key.now) ≡ None) }
     ensures returned { IfErr result (λ refused. refused.value ≡ value) }
+
+    // Writing another value then is a step of the model that inserts that value.
+    ensures filled { OnOk result ((x : T) → StepOnFamily key.now (λ q. Insert q x)
+        (Value (get (entries_of map.old) (ip_path key.now))) (maps_of map.old)
+        (maps_of (with_value_of map.new key.now x))) }
+    ensures refused { OnErr result ((x : T) → StepOnFamily key.now (λ q. Insert q x)
+        (insert_new_reply result) (maps_of map.old) (maps_of map.new)) }
 {
+    // The proof learns from `len` that the map is valid.
+    let _ = map.len();
     if map.contains_key(key) {
         return Ok(());
     }
@@ -81,10 +93,10 @@ pub(super) fn fill_with<T: Drop, A: Allocator, F: FnOnce() -> T + Drop>(
     f: F,
 ) -> Result<(), Refusal>
     requires { get (entries_of map.old) (ip_path key.now) ≡ None → F.pre f }
-    ensures entries { OnOk result
+    ensures filled { OnOk result
         ((x : T) × UnwrapsOrElse (get (entries_of map.old) (ip_path key.now)) (F.post f) x
-        × (entries_of map.new ≡ with_entry (entries_of map.old) (ip_path key.now) x)) }
-    ensures unchanged { OnErr result (entries_of map.new ≡ entries_of map.old) }
+        × Fills key.now map.old map.new x) }
+    ensures refused { IfErr result (λ cause. RefusesToFill key.now cause map.old map.new) }
     ensures absent { OnErr result (get (entries_of map.old) (ip_path key.now) ≡ None) }
 {
     match key.copy() {
@@ -102,10 +114,11 @@ fn fill_one_with<P: Prefix, T: Drop, A: Allocator, F: FnOnce() -> T + Drop>(
 ) -> Result<(), Refusal>
     requires fits { P.IsFitting prefix }
     requires may_call { get map.old.entries (P.path prefix) ≡ None → F.pre f }
-    ensures entries { OnOk result
+    ensures filled { OnOk result
         ((x : T) × UnwrapsOrElse (get map.old.entries (P.path prefix)) (F.post f) x
-        × (map.new.entries ≡ with_entry map.old.entries (P.path prefix) x)) }
-    ensures unchanged { OnErr result (map.new.entries ≡ map.old.entries) }
+        × FillsAt P.R.bit_width (P.path prefix) map.old map.new x) }
+    ensures refused { IfErr result
+        (λ cause. RefusesAt P.R.bit_width (P.path prefix) cause map.old map.new) }
     ensures absent { OnErr result (get map.old.entries (P.path prefix) ≡ None) }
 {
     match map.entry(prefix).or_insert_with(f) {

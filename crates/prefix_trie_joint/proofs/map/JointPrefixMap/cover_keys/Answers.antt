@@ -1,5 +1,5 @@
 -- The keys of the walk are the first parts of the items of `cover`, so there are as many.
-use Rattle.prefix_trie_map.proofs.Runs.{parts_are, parts_count, gives_in_order}
+use Rattle.prefix_trie_map.proofs.Runs.{parts_are, parts_count}
 use Rattle.prefix_trie_joint.proofs.map.JointPrefixMap.cover_keys.Goals as goal
 
 pub returns-clause-items : goal.returns-clause-items
@@ -7,6 +7,3 @@ returns-clause-items g c = parts_are (λ e. e.0) c.new.ensures _ _ c.cover.ensur
 
 pub returns-clause-counted : goal.returns-clause-counted
 returns-clause-counted g c = parts_count (λ e. e.0) _ c.new.ensures c.cover.ensures.counted
-
-pub returns-clause-runs : goal.returns-clause-runs
-returns-clause-runs g c = gives_in_order

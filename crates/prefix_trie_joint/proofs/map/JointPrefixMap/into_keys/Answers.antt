@@ -1,5 +1,5 @@
 -- The keys that a consumed map gives are the first parts of its items, so there are as many.
-use Rattle.prefix_trie_map.proofs.Runs.{parts_are, parts_count, gives_in_order}
+use Rattle.prefix_trie_map.proofs.Runs.{parts_are, parts_count}
 use Rattle.prefix_trie_joint.proofs.map.JointPrefixMap.into_keys.Goals as goal
 
 pub returns : goal.returns
@@ -9,5 +9,4 @@ returns g c =
       items = parts_are (λ e. e.0) c.new.ensures _ _ given.0;
       counted = parts_count (λ e. e.0) _ c.new.ensures given.1;
       fits = given.2;
-      runs = gives_in_order;
     }

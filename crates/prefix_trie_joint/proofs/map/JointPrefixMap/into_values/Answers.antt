@@ -1,6 +1,6 @@
 -- The values that a consumed map gives are the second parts of its items, so there are as many.
 use Rattle.std.proofs.Common.{refl}
-use Rattle.prefix_trie_map.proofs.Runs.{parts_are, parts_count, gives_in_order}
+use Rattle.prefix_trie_map.proofs.Runs.{parts_are, parts_count}
 use Rattle.prefix_trie_joint.proofs.map.JointPrefixMap.into_values.Goals as goal
 
 pub returns : goal.returns
@@ -10,5 +10,4 @@ returns g c =
       items = parts_are (λ e. e.1) refl _ _ given.0;
       counted = parts_count (λ e. e.1) _ refl given.1;
       fits = given.2;
-      runs = gives_in_order;
     }

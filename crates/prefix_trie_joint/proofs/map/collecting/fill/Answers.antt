@@ -1,11 +1,13 @@
 -- The loop of `from_iter`: the map has the items inserted so far, and an error is that of the item that was refused.
-use Rattle.std.proofs.Common.{refl, [], ◌∷◌, ◌++◌, length}
+use Rattle.std.proofs.Common.{ℕ, refl, [], ◌∷◌, ◌++◌, ◌+◌, ◌-◌, ◌*◌, ◌^◌, ◌<◌, length}
 use Rattle.std.proofs.iter.Next.{Yields-more}
 use Rattle.std.proofs.lemmas.Result.{err_from_is_err_and}
+use Rattle.prefix_trie_joint.specs.Changes.{maps_of}
+use Rattle.prefix_trie_joint.specs.Collected.{AreAfter}
 use Rattle.prefix_trie_joint.specs.Joined.{entries_of}
 use Rattle.prefix_trie_joint.specs.Networks.{ip_path}
 use Rattle.prefix_trie_joint.specs.declared.prefix.IpPrefix.{IpPrefix}
-use Rattle.prefix_trie_joint.proofs.CollectedItems.{put_more, range_of, spaces_more}
+use Rattle.prefix_trie_joint.proofs.CollectedItems.{one_more, put_more}
 use Rattle.prefix_trie_joint.proofs.map.collecting.fill.Goals as goal
 
 pub loop-prefix-init : goal.loop-prefix-init
@@ -23,7 +25,7 @@ loop-prefix-preserved g c =
     let x : IpPrefix × g.row.T.Denot = (c.in-Some.prefix, c.in-Some.value) in
     let e = c.in_ok-put.ensures in (
       put_more ip_path (entries_of c.args.map.now) (entries_of c.loop-prefix.map) (entries_of c.put.new.map) xs x c.loop-prefix.invariant.0 e.entries,
-      spaces_more xs x c.put.new.map.ipv4.space c.put.new.map.ipv6.space (e.spaces (length xs) c.loop-prefix.invariant.1),
+      one_more (λ n. AreAfter n (maps_of c.put.new.map)) xs x (e.after (length xs) c.loop-prefix.invariant.1),
     )
 
 pub loop-prefix-preserved-derived : goal.loop-prefix-preserved-derived
@@ -48,7 +50,7 @@ returns-in_err-put g c =
         c.next.new.self,
         it.ensures.into_iter_gives,
         more,
-        range_of xs x (c.in_err-put.ensures.range range (length xs) c.loop-prefix.invariant.1),
+        one_more (λ n. 2 ^ 32 - 1 < 1 + 56 * n) xs x (c.in_err-put.ensures.range range (length xs) c.loop-prefix.invariant.1),
       );
     })
 

@@ -1,17 +1,22 @@
 -- An insertion into the map of one family leaves that of the other.
-use Rattle.std.proofs.Common.{◌≡◌}
-use Rattle.prefix_trie_bits.specs.declared.prefix.Refusal.TheVariants.{IndexRange}
-use Rattle.prefix_trie_joint.proofs.CollectedItems.{range_ipv4, range_ipv6, spaces_ipv4, spaces_ipv6}
+use Rattle.std.proofs.Common.{subst}
+use Rattle.std.proofs.lemmas.Result.{err_from_is_err_and}
+use Rattle.prefix_trie_bits.specs.Model.Step.{Insert, Refused}
+use Rattle.prefix_trie_table.specs.Steps.{insert_reply}
+use Rattle.prefix_trie_joint.specs.Changes.{maps_of, StepOnFamily}
+use Rattle.prefix_trie_joint.proofs.CollectedItems.{many_pass, more_after}
 use Rattle.prefix_trie_joint.proofs.map.collecting.put.Goals as goal
 
-pub returns-in-V4-clause-spaces : goal.returns-in-V4-clause-spaces
-returns-in-V4-clause-spaces g c = spaces_ipv4 c.args.map.now.ipv4.space c.put_in.new.map.space c.args.map.now.ipv6.space c.put_in.result c.put_in.ensures.space
+pub returns-clause-after : goal.returns-clause-after
+returns-clause-after g c = more_after c.args.prefix c.args.value (insert_reply c.insert.result) (maps_of c.args.map.now) (maps_of c.insert.new.self) c.len.ensures.whole c.insert.ensures.step
 
-pub returns-in-V4-clause-range : goal.returns-in-V4-clause-range
-returns-in-V4-clause-range g c = range_ipv4 c.args.map.now.ipv4.space c.put_in.new.map.space c.args.map.now.ipv6.space (λ cause. cause ≡ IndexRange) c.put_in.result c.put_in.ensures.range
-
-pub returns-in-V6-clause-spaces : goal.returns-in-V6-clause-spaces
-returns-in-V6-clause-spaces g c = spaces_ipv6 c.args.map.now.ipv6.space c.put_in-in-V6.new.map.space c.args.map.now.ipv4.space c.put_in-in-V6.result c.put_in-in-V6.ensures.space
-
-pub returns-in-V6-clause-range : goal.returns-in-V6-clause-range
-returns-in-V6-clause-range g c = range_ipv6 c.args.map.now.ipv6.space c.put_in-in-V6.new.map.space c.args.map.now.ipv4.space (λ cause. cause ≡ IndexRange) c.put_in-in-V6.result c.put_in-in-V6.ensures.range
+pub returns-in_err-insert : goal.returns-in_err-insert
+returns-in_err-insert g c =
+    let p = err_from_is_err_and c.from_residual.result c.from_residual.ensures.1 in
+    let old = maps_of c.args.map.now in
+    let new = maps_of c.insert.new.self in
+    rw (p.1, p.2) (record {
+      entries = tt;
+      after = tt;
+      range = λ range. many_pass c.args.prefix c.args.value old new (subst (λ cause. StepOnFamily c.args.prefix (λ q. Insert q c.args.value) (Refused cause) old new) range c.in_err-insert.ensures.step);
+    })

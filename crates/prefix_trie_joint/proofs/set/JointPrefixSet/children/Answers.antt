@@ -2,7 +2,7 @@
 use Rattle.std.proofs.Common.{◌∙◌, arith, refl, ap₂}
 use Rattle.prefix_trie.specs.Terms.{listing_below, prefix_pairs}
 use Rattle.prefix_trie_table.specs.Model.Contents.{Contents}
-use Rattle.prefix_trie_map.proofs.Runs.{parts_are, parts_count, gives_in_order}
+use Rattle.prefix_trie_map.proofs.Runs.{parts_are, parts_count}
 use Rattle.prefix_trie_joint.specs.Joined.{joined}
 use Rattle.prefix_trie_joint.specs.Networks.{ip_back, ip_path}
 use Rattle.prefix_trie_joint.proofs.set.JointPrefixSet.children.Goals as goal
@@ -14,6 +14,3 @@ returns-clause-items g c =
 
 pub returns-clause-fits : goal.returns-clause-fits
 returns-clause-fits g c = omega (arith, parts_count (λ e. e.0) _ c.new.ensures refl, c.below.ensures.fits)
-
-pub returns-clause-runs : goal.returns-clause-runs
-returns-clause-runs g c = gives_in_order

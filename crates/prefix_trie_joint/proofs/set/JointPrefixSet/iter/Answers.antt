@@ -3,7 +3,7 @@ use Rattle.std.proofs.Common.{◌∙◌, ap₂}
 use Rattle.std.specs.FinMap.{len}
 use Rattle.prefix_trie.specs.Terms.{listing, prefix_pairs}
 use Rattle.prefix_trie_table.specs.Model.Contents.{Contents}
-use Rattle.prefix_trie_map.proofs.Runs.{parts_are, parts_count, gives_in_order}
+use Rattle.prefix_trie_map.proofs.Runs.{parts_are, parts_count}
 use Rattle.prefix_trie_joint.specs.Joined.{joined}
 use Rattle.prefix_trie_joint.specs.Networks.{ip_back}
 use Rattle.prefix_trie_joint.proofs.set.JointPrefixSet.iter.Goals as goal
@@ -16,6 +16,3 @@ returns-clause-items g c =
 pub returns-clause-counted : goal.returns-clause-counted
 returns-clause-counted g c =
     parts_count (λ e. e.0) _ c.new.ensures (c.all.ensures.counted ∙ ap₂ (λ (m n : Contents (Unit {0})). len (joined m.entries n.entries)) c.as_map.ensures c.as_map-2.ensures)
-
-pub returns-clause-runs : goal.returns-clause-runs
-returns-clause-runs g c = gives_in_order

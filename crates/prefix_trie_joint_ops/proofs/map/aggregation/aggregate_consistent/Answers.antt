@@ -1,5 +1,5 @@
 -- Removing the entries that are not marked removes the redundant ones, so no lookup changes and none is redundant.
-use Rattle.std.proofs.Common.{◌∙◌}
+use Rattle.std.proofs.Common.{◌∙◌, ap₂}
 use Rattle.prefix_trie_ops.specs.Values.{stays}
 use Rattle.prefix_trie_ops.proofs.RedundantEntries.{gone_get, none_left, same_values}
 use Rattle.prefix_trie_joint.specs.Joined.{entries_of}
@@ -19,8 +19,11 @@ returns-clause-values g c exact q =
     let is = returns-clause-entries g c in
     same_values eq (entries_of c.args.table.now) _ (gone_get eq (entries_of c.args.table.now) _ is) c.lookup_laws.ensures exact q
 
-pub returns-clause-tidy : goal.returns-clause-tidy
-returns-clause-tidy g c exact s =
+pub returns-clause-none_redundant : goal.returns-clause-none_redundant
+returns-clause-none_redundant g c exact s =
     let eq = g.T.PartialEq.eq in
     let is = returns-clause-entries g c in
     none_left eq (entries_of c.args.table.now) _ (gone_get eq (entries_of c.args.table.now) _ is) c.lookup_laws.ensures exact s
+
+pub returns-clause-limit : goal.returns-clause-limit
+returns-clause-limit g c = ap₂ (λ a b. (a, b)) c.keep_marked.ensures.limit c.keep_marked-2.ensures.limit

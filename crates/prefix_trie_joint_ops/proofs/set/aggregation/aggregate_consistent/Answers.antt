@@ -1,5 +1,5 @@
 -- The marked keys are the uppermost ones, so the same prefixes are covered and no key that is left covers another.
-use Rattle.std.proofs.Common.{◌∙◌}
+use Rattle.std.proofs.Common.{◌∙◌, ap₂}
 use Rattle.prefix_trie_ops.specs.Covered.{is_uppermost}
 use Rattle.prefix_trie_ops.proofs.Uppermost.{none_covered, same_covered}
 use Rattle.prefix_trie_joint.specs.Joined.{keys_of}
@@ -15,5 +15,8 @@ returns-clause-entries g c =
 pub returns-clause-covered : goal.returns-clause-covered
 returns-clause-covered g c q = same_covered c.lookup_laws.ensures (keys_of c.args.set.now) _ (returns-clause-entries g c) q
 
-pub returns-clause-tidy : goal.returns-clause-tidy
-returns-clause-tidy g c s there = none_covered c.lookup_laws.ensures (keys_of c.args.set.now) _ (returns-clause-entries g c) s there
+pub returns-clause-uncovered : goal.returns-clause-uncovered
+returns-clause-uncovered g c s there = none_covered c.lookup_laws.ensures (keys_of c.args.set.now) _ (returns-clause-entries g c) s there
+
+pub returns-clause-limit : goal.returns-clause-limit
+returns-clause-limit g c = ap₂ (λ a b. (a, b)) c.keep_marked.ensures.limit c.keep_marked-2.ensures.limit

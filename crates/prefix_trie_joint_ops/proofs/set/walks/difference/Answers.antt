@@ -1,6 +1,6 @@
 -- The networks of the walk are the first parts of the items of the walk over joint maps of units.
 use Rattle.std.proofs.Common.{◌∙◌}
-use Rattle.prefix_trie_map.proofs.Runs.{gives_in_order, parts_are}
+use Rattle.prefix_trie_map.proofs.Runs.{parts_are}
 use Rattle.prefix_trie_ops.specs.Combining.{minus}
 use Rattle.prefix_trie_joint_ops.proofs.Compared.{walk_of_sets}
 use Rattle.prefix_trie_joint_ops.proofs.set.walks.difference.Goals as goal
@@ -8,6 +8,3 @@ use Rattle.prefix_trie_joint_ops.proofs.set.walks.difference.Goals as goal
 pub returns-clause-items : goal.returns-clause-items
 returns-clause-items g c =
     parts_are (λ e. e.0) c.new.ensures _ _ (c.of.ensures.items ∙ walk_of_sets minus c.as_map.ensures c.as_map-2.ensures c.as_map-3.ensures c.as_map-4.ensures)
-
-pub returns-clause-runs : goal.returns-clause-runs
-returns-clause-runs g c = gives_in_order

@@ -1,23 +1,30 @@
 -- The network is stored after it was filled, so its value can be lent.
 use Rattle.std.proofs.Common.{refl, subst, sym}
+use Rattle.std.proofs.lemmas.Bool.{false≢true}
+use Rattle.std.proofs.lemmas.Result.{err_from_is_err_and}
 use Rattle.std.specs.Option.{UnwrapsOrElse}
 use Rattle.prefix_trie_joint.specs.Entry.{entry_value}
-use Rattle.prefix_trie_joint.specs.Joined.{entries_of}
-use Rattle.prefix_trie_joint.specs.Networks.{ip_path}
-use Rattle.prefix_trie_joint.proofs.Filling.{is_there, refilled, value_set}
+use Rattle.prefix_trie_joint.proofs.Filled.{is_there, refilled, value_set}
 use Rattle.prefix_trie_joint.proofs.map.entry.Entry.or_insert_with.Goals as goal
 
 pub lend_stored-requires : goal.lend_stored-requires
-lend_stored-requires g c =
-    let f = c.in_ok-fill_with.ensures.entries in
-    is_there (entries_of c.args.self.map.now) (entries_of c.fill_with.new.map) (ip_path c.args.self.key) f.0 f.2
+lend_stored-requires g c = let f = c.in_ok-fill_with.ensures.filled in is_there c.args.self.map.now c.fill_with.new.map c.args.self.key f.0 f.2
 
 pub returns : goal.returns
 returns g c =
-    let f = c.in_ok-fill_with.ensures.entries in
-    let m = entries_of c.args.self.map.now in
-    let n = entries_of c.fill_with.new.map in
-    let s = ip_path c.args.self.key in (
-      (refl, (λ w _. refilled m c.fill_with.new.map c.args.self.key f.0 w f.2), tt),
-      record { writes_back = tt; value = subst (λ x. UnwrapsOrElse (entry_value c.args.self) (goal.F-post g c.args.f) x) (sym (value_set m n s f.0 f.2 c.lend_stored.result.now c.lend_stored.ensures.value)) f.1; absent = tt },
+    let f = c.in_ok-fill_with.ensures.filled in
+    let m = c.args.self.map.now in
+    let n = c.fill_with.new.map in
+    let p = c.args.self.key in (
+      (refl, (λ w _. refilled m n p f.0 f.2 w), tt),
+      record { writes_back = tt; value = subst (λ x. UnwrapsOrElse (entry_value c.args.self) (goal.F-post g c.args.f) x) (sym (value_set m n p f.0 f.2 c.lend_stored.result.now c.lend_stored.ensures.value)) f.1; absent = tt },
+    )
+
+pub returns-in_err-fill_with : goal.returns-in_err-fill_with
+returns-in_err-fill_with g c =
+    let p = err_from_is_err_and c.from_residual.result c.from_residual.ensures.1 in
+    let e = c.in_err-fill_with.ensures in
+    rw (p.1, p.2) (
+      (refl, (λ w ok. absurd (false≢true ok)), e.refused),
+      record { writes_back = tt; value = tt; absent = e.absent },
     )
