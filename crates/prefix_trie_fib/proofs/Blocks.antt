@@ -1,12 +1,13 @@
 -- Networks as blocks of numbers: two that share an address lie one in the other, and which blocks begin at an address.
-use Rattle.std.proofs.Common.{◌≡◌, ◌∙◌, ℕ, ◌+◌, ◌-◌, ◌*◌, ◌/◌, ◌^◌, ◌<◌, ◌≤◌, Bool, true, false, not, List, Option, None, Some, [], ◌∷◌, ◌++◌, length, length-append, take, drop, inl, inr, ap, ap₂, sym, subst, arith, take-append-drop, pow-add, pow_pos, mul-le-mul_right}
+use Rattle.std.proofs.Common.{◌≡◌, ◌∙◌, ℕ, ◌+◌, ◌-◌, ◌*◌, ◌/◌, ◌^◌, ◌<◌, ◌≤◌, Bool, true, false, not, List, Option, None, Some, [], ◌∷◌, ◌++◌, length, length-append, take, drop, inl, inr, ap, ap₂, sym, subst, arith, refl, take-append-drop, pow-add, pow_pos, mul-le-mul_right}
 use Rattle.std.proofs.lemmas.Bool.{cases_lt}
 use Rattle.std.specs.Bool.{MatchBool}
 use Rattle.std.specs.Option.{MatchOption}
 use Rattle.std.proofs.lemmas.List.{length-take-le, length-drop}
 use Rattle.std.proofs.lemmas.Nat.{shr_high}
-use Rattle.prefix_trie_bits.specs.BitStrings.{number-lt, number-below}
-use Rattle.prefix_trie_bits.specs.Model.Bits.{bit, number, zeros}
+use Rattle.prefix_trie_bits.specs.BitStrings.{bits-number, number-lt, number-below}
+use Rattle.prefix_trie_bits.specs.Model.Bits.{bit, digits, number, zeros}
+use Rattle.prefix_trie_bits.specs.Windows.{length-filled}
 use Rattle.prefix_trie_fib.specs.Line.{first_address, past_address}
 use Rattle.prefix_trie_fib.specs.Networks.{IsBlock, end_of}
 use Rattle.prefix_trie_fib.proofs.CutIntervals.{first_is, number_parts}
@@ -145,6 +146,14 @@ module _ (w : ℕ) (b : List Bool) (len : ℕ) (long : length b ≡ w) (short : 
   -- what `keep` returns
   pub kept_first : (kept : List Bool) → kept ≡ take len b ++ zeros (w - len) → number kept ≡ first_address w (take len b)
   kept_first kept is = ap number (is ∙ ap (λ k. take len b ++ zeros (w - k)) (sym length_first))
+
+  -- so the other bits of the address are 0
+  pub block_bits : (q : ℕ) → number b ≡ q * 2 ^ (w - len) → b ≡ take len b ++ zeros (w - length (take len b))
+  block_bits q is =
+      let short_first : length (take len b) ≤ w = omega (arith, length_first, short) in
+      let zeros_same : take len b ++ zeros (w - len) ≡ take len b ++ zeros (w - length (take len b)) = ap (λ k. take len b ++ zeros (w - k)) (sym length_first) in
+      sym (bits-number w b long) ∙ ap (digits w) (sym (block_first q is) ∙ sym (kept_first (take len b ++ zeros (w - len)) refl) ∙ ap number zeros_same)
+      ∙ bits-number w (take len b ++ zeros (w - length (take len b))) (length-filled w (take len b) short_first)
 
   -- a block that begins at the address ends within the line
   pub block_fits : number b ≤ first_address w (take len b) → number b + 2 ^ (w - len) ≤ 2 ^ w

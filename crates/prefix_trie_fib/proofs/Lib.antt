@@ -23,3 +23,16 @@ pub mod Results
 pub mod Sets
 pub mod Sweeps
 pub mod ValuedRanges
+pub mod Ranks
+pub mod Strides
+pub mod Windows
+pub mod Walks
+pub mod Growth
+pub mod Lows
+pub mod Pushing
+pub mod Building
+pub mod Extensions
+pub mod Direct
+pub mod Slots
+pub mod Views
+pub mod Steps

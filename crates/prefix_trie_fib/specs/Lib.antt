@@ -13,3 +13,5 @@ pub mod Ranges
 pub mod Search
 pub mod Sweep
 pub mod Tables
+pub mod Poptrie
+pub mod TableRanges

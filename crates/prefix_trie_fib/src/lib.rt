@@ -10,5 +10,7 @@ mod indexed;
 pub mod laws;
 pub mod networks;
 mod ranges;
+// a Poptrie of the same ranges, to which `Fib` will move
+mod table;
 
 pub use fib::{Fib, Ranges};

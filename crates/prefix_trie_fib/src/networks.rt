@@ -18,7 +18,8 @@ use std::alloc::{AllocError, Allocator};
 
 /// Returns the fewest networks that cover the addresses from `first` to `last`, in order.
 ///
-/// They cover no other address, and no two of them cover the same one. The list is empty if `first` is after `last`.
+/// They cover no other address, and no two of them cover the same one. None has host bits. The list is empty if `first`
+/// is after `last`.
 ///
 /// # Errors
 ///
@@ -36,6 +37,8 @@ pub fn networks_of<P: Prefix, A: Allocator>(
     alloc: A,
 ) -> Result<Vec<P, A>, AllocError>
     ensures fit { IfOk result (λ networks. All P.IsFitting networks.items) }
+    ensures no_host_bits { IfOk result
+        (λ networks. All (λ p. P.back (P.path p) ≡ p) networks.items) }
     ensures covered { IfOk result (λ networks. (q : List Bool) → length q ≡ P.R.bit_width
         → is_covered_by (map P.path networks.items) q
         ≡ is_between (number (P.R.bits first)) (number (P.R.bits last)) (number q)) }

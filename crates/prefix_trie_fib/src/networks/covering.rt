@@ -22,6 +22,8 @@ pub(crate) fn push_networks<P: Prefix, B: Allocator>(
     ensures within { IfOk result (λ len. len ≤ P.R.bit_width) }
     ensures fit { OnOk result
         (All P.IsFitting networks.old.items → All P.IsFitting networks.new.items) }
+    ensures no_host_bits { OnOk result (All (λ p. P.back (P.path p) ≡ p) networks.old.items
+        → All (λ p. P.back (P.path p) ≡ p) networks.new.items) }
     ensures fewest { OnOk result ((test : ℕ → Bool)
         → ((n : ℕ) → number (P.R.bits first) ≤ n → n < end_of P.R.bit_width P.R.bits past
         → test n ≡ true)

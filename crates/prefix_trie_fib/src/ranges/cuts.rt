@@ -8,7 +8,7 @@ ghost use Rattle.prefix_trie_fib.specs.Line.{AreCutOut, IsCutOut, IsRising, firs
 use super::search::is_at_most;
 use prefix_trie_bits::laws::listing_laws;
 use prefix_trie_bits::prefix::{Key, Prefix};
-use prefix_trie_map::laws::listed_laws;
+use prefix_trie_map::laws::{listed_laws, walk_laws};
 use prefix_trie_map::map::PrefixMap;
 use std::alloc::{AllocError, Allocator};
 use std::cmp::Ordering;
@@ -35,6 +35,7 @@ pub(super) fn push_cuts_of<P: Prefix, T: Drop, A: Allocator, B: Allocator>(
 {
     listed_laws::<P, T>();
     listing_laws::<T>();
+    walk_laws::<P, T>();
     for (prefix, _) in map.iter() {
         push_cuts(cuts, &prefix)?;
     }

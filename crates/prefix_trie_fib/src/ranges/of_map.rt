@@ -8,7 +8,7 @@ use super::cuts::ends_of;
 use super::sweep::Sweep;
 use prefix_trie_bits::laws::listing_laws;
 use prefix_trie_bits::prefix::Prefix;
-use prefix_trie_map::laws::listed_laws;
+use prefix_trie_map::laws::{listed_laws, walk_laws};
 use prefix_trie_map::map::PrefixMap;
 use std::alloc::{AllocError, Allocator};
 
@@ -32,6 +32,7 @@ pub(crate) fn ranges_of<P: Prefix, T: Copy + PartialEq, A: Allocator, B: Allocat
 {
     listed_laws::<P, T>();
     listing_laws::<T>();
+    walk_laws::<P, T>();
     let line = Line::new(filler, alloc.clone()?, alloc.clone()?);
     let mut sweep = Sweep::new(line, alloc);
     for (prefix, value) in map.iter() {

@@ -1,5 +1,5 @@
 -- The networks are the fewest of all addresses, and no other address is in the range.
-use Rattle.std.proofs.Common.{◌^◌, ◌<◌, All, arith, map, subst, sym}
+use Rattle.std.proofs.Common.{◌≡◌, ◌^◌, ◌<◌, All, arith, map, subst, sym}
 use Rattle.std.proofs.lemmas.List.Elements.{All-nil}
 use Rattle.prefix_trie_bits.specs.BitStrings.{number-below}
 use Rattle.prefix_trie_bits.specs.Model.Bits.{number}
@@ -29,6 +29,11 @@ returns g c =
       | then-is_at_most+in_ok-push_networks b ↦ subst (λ v. All g.P.Prefix.IsFitting v.items) (sym b.networks-is) (b.in_ok-push_networks.ensures.fit (subst (All g.P.Prefix.IsFitting) (sym none) (All-nil g.P.Prefix.IsFitting)))
       | else-is_at_most b ↦ subst (λ v. All g.P.Prefix.IsFitting v.items) (sym b.networks-is) (subst (All g.P.Prefix.IsFitting) (sym none) (All-nil g.P.Prefix.IsFitting))
     ] in
+    let IsBare = λ (p : g.row.P.Denot). g.P.Prefix.back (g.P.Prefix.path p) ≡ p in
+    let bare : All IsBare c.if-is_at_most.networks.items = elim c.if-is_at_most.branch [
+      | then-is_at_most+in_ok-push_networks b ↦ subst (λ v. All IsBare v.items) (sym b.networks-is) (b.in_ok-push_networks.ensures.no_host_bits (subst (All IsBare) (sym none) (All-nil IsBare)))
+      | else-is_at_most b ↦ subst (λ v. All IsBare v.items) (sym b.networks-is) (subst (All IsBare) (sym none) (All-nil IsBare))
+    ] in
     let are : AreFewest w (is_between low high) (2 ^ w) (map path c.if-is_at_most.networks.items) = elim c.if-is_at_most.branch [
       | then-is_at_most+in_ok-push_networks b ↦ subst (λ v. AreFewest w (is_between low high) (2 ^ w) (map path v.items)) (sym b.networks-is) (
           let top : high < 2 ^ w = number-below w (g.P.R.Key.bits c.args.last) (g.met.P.R.Key.key_laws.bits_length c.args.last b.is_key.ensures.key) in
@@ -46,6 +51,7 @@ returns g c =
     let ss = map path c.if-is_at_most.networks.items in
     record {
       fit = fit;
+      no_host_bits = bare;
       covered = covered_is w (is_between low high) ss are;
       once = once w ss are.in_order;
       in_order = are.in_order;

@@ -3,10 +3,11 @@ use Rattle.std.proofs.Common.{◌≡◌, ◌∙◌, ◌+◌, ◌-◌, ◌^◌, �
 use Rattle.std.proofs.lemmas.List.{map-append}
 use Rattle.std.proofs.lemmas.List.Elements.{All-append, All-cons, All-nil}
 use Rattle.std.specs.Option.{IfSome, MatchOption}
+use Rattle.prefix_trie_bits.specs.Keys.{back_from_bits}
 use Rattle.prefix_trie_bits.specs.Model.Bits.{number}
 use Rattle.prefix_trie_fib.specs.Line.{first_address}
 use Rattle.prefix_trie_fib.specs.Networks.{AreFewest, end_of}
-use Rattle.prefix_trie_fib.proofs.Blocks.{block_first, length_first}
+use Rattle.prefix_trie_fib.proofs.Blocks.{block_bits, block_first, length_first}
 use Rattle.prefix_trie_fib.proofs.Entries.{if_some, match_option}
 use Rattle.prefix_trie_fib.proofs.Fewest.{fewest_next}
 use Rattle.prefix_trie_fib.proofs.networks.covering.push_networks.Goals as goal
@@ -36,6 +37,14 @@ loop-rest-preserved g c =
       fit = λ old. subst (All g.P.Prefix.IsFitting) (sym c.in_ok-push.ensures.items)
           (All-append g.P.Prefix.IsFitting c.loop-rest.networks.items (c.from_repr_len.result ∷ []) (c.loop-rest.invariant.fit old)
           (All-cons g.P.Prefix.IsFitting c.from_repr_len.result [] (subst g.P.Prefix.IsFitting (sym c.from_repr_len.ensures) (g.met.P.Prefix.prefix_laws.fits_from_parts c.in-Some.at len key within)) (All-nil g.P.Prefix.IsFitting)));
+      no_host_bits = λ old.
+          let back = g.P.Prefix.back in
+          let IsBare = λ (p : g.row.P.Denot). g.P.Prefix.back (g.P.Prefix.path p) ≡ p in
+          let same : g.P.Prefix.from_parts c.in-Some.at c.largest_at-len.result ≡ back s =
+          ap (g.P.Prefix.from_parts c.in-Some.at) (sym long) ∙ back_from_bits g.met.P.Prefix.prefix_laws c.in-Some.at s key (block_bits w (bits c.in-Some.at) len key_long within block.quotient block.aligned) in
+          subst (All IsBare) (sym c.in_ok-push.ensures.items)
+          (All-append IsBare c.loop-rest.networks.items (c.from_repr_len.result ∷ []) (c.loop-rest.invariant.no_host_bits old)
+          (All-cons IsBare c.from_repr_len.result [] (ap back is ∙ sym same ∙ sym c.from_repr_len.ensures) (All-nil IsBare)));
       fewest = λ test all out first.
           let before : AreFewest w test at (map path c.loop-rest.networks.items) =
           subst (λ o. MatchOption o (AreFewest w test end (map path c.loop-rest.networks.items)) (λ k. AreFewest w test (number (bits k)) (map path c.loop-rest.networks.items))) c.in-Some.is (c.loop-rest.invariant.fewest test all out first) in

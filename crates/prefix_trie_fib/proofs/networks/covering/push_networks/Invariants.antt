@@ -15,6 +15,7 @@ invariant-loop-rest g l =
       within : l.len ≤ g.P.R.Key.bit_width;
       rest : IfSome l.rest (λ at. (number (bits l.fn.first) ≤ number (bits at)) × (number (bits at) < end));
       fit : All g.P.Prefix.IsFitting l.fn.networks.items → All g.P.Prefix.IsFitting l.networks.items;
+      no_host_bits : All (λ p. g.P.Prefix.back (g.P.Prefix.path p) ≡ p) l.fn.networks.items → All (λ p. g.P.Prefix.back (g.P.Prefix.path p) ≡ p) l.networks.items;
       fewest : (test : ℕ → Bool) → ((n : ℕ) → number (bits l.fn.first) ≤ n → n < end → test n ≡ true) → (end < 2 ^ w → test end ≡ false)
           → AreFewest w test (number (bits l.fn.first)) (map g.P.Prefix.path l.fn.networks.items)
           → MatchOption l.rest (AreFewest w test end (map g.P.Prefix.path l.networks.items)) (λ at. AreFewest w test (number (bits at)) (map g.P.Prefix.path l.networks.items));

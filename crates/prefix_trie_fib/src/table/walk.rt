@@ -1,0 +1,85 @@
+//! The walk from a node to the leaf of an address.
+ghost use Rattle.std.specs.Prelude.{◌≡◌, ◌&&◌, ℕ, ◌+◌, ◌-◌, ◌*◌, ◌^◌, ◌<◌, ◌≤◌, length, nat_eq, cond, None, slice_get};
+ghost use Rattle.prefix_trie_bits.specs.Model.Bits.{number};
+ghost use Rattle.prefix_trie_fib.specs.Poptrie.{block, find, first, HasLeaf, IsSound, is_gap, leaf_index, leaf_value, levels, past, place};
+
+use super::node::{Node, count_to};
+use prefix_trie_bits::node::{has_bit, rank};
+use prefix_trie_bits::prefix::Key;
+
+/// The leaf of an address.
+#[derive(Clone, Copy)]
+pub(super) struct Leaf<T: Copy> {
+    /// The value of its addresses.
+    pub(super) value: Option<T>,
+    /// Whether they have a value and a range starts with the first of them.
+    pub(super) begins: bool,
+    /// They are the addresses with the same first `depth` bits.
+    pub(super) depth: u32,
+}
+
+/// Returns the number of the five bits of an address from `depth` on. Bits past the end are 0.
+#[inline(always)]
+pub(super) fn place_of<K: Key>(address: K, depth: u32) -> u32
+    requires { depth < K.bit_width }
+    ensures place { result ≡ place (levels K.bit_width depth - 1)
+        (number (K.bits address) * 2 ^ past K.bit_width depth) }
+    ensures small { result < 32 }
+{
+    let _ = address.is_key();
+    address.window(depth, 5)
+}
+
+/// Returns the value of the leaf at a place of a node.
+#[inline(always)]
+fn value_at<T: Copy>(leaves: &[T], node: Node, v: u32) -> Option<T>
+    requires small { v < 32 }
+    requires within { HasLeaf (length leaves.now) node v }
+    ensures { result ≡ cond (is_gap node v) None (slice_get leaves.now (leaf_index node v)) }
+{
+    if node.is_gap(v) {
+        return None;
+    }
+    Some(leaves[node.first_leaf as usize + count_to(node.starts, v) as usize - 1])
+}
+
+/// Returns the leaf of an address, from a node on whose places are read at a depth.
+#[inline(always)]
+pub(super) fn leaf_under<K: Key, T: Copy>(
+    nodes: &[Node],
+    leaves: &[T],
+    root: Node,
+    depth: u32,
+    address: K,
+) -> Leaf<T>
+    requires sound { IsSound nodes.now (length leaves.now) (levels K.bit_width depth) root }
+    ensures down { depth ≤ result.depth }
+    ensures aligned { result.depth + 5 * levels K.bit_width result.depth
+        ≡ K.bit_width + past K.bit_width depth }
+    ensures value { (t : ℕ)
+        → block (levels K.bit_width result.depth) t ≡ block (levels K.bit_width result.depth)
+        (number (K.bits address) * 2 ^ past K.bit_width depth)
+        → leaf_value leaves.now (find nodes.now (levels K.bit_width depth) root t).0
+        ≡ result.value }
+    ensures begins { (t : ℕ)
+        → block (levels K.bit_width result.depth) t ≡ block (levels K.bit_width result.depth)
+        (number (K.bits address) * 2 ^ past K.bit_width depth)
+        → (find nodes.now (levels K.bit_width depth) root t).1
+        ≡ (result.begins && nat_eq (first (levels K.bit_width result.depth)
+        (block (levels K.bit_width result.depth) t)) t) }
+{
+    let mut node = root;
+    let mut at = depth;
+    'walk: loop {
+        let v = place_of(address, at);
+        at += 5;
+        if !has_bit(node.children, v) {
+            return Leaf {
+                value: value_at(leaves, node, v),
+                begins: node.is_begun(v),
+                depth: at,
+            };
+        }
+        node = nodes[node.first_child as usize + rank(node.children, v) as usize];
+    }
+}
