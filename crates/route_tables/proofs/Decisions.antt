@@ -1,17 +1,19 @@
--- The shortest network with a value that contains an address, and whether all values are rules: for the access list.
-use Rattle.std.proofs.Common.{◌≡◌, ◌≢◌, ℕ, Bool, true, false, cond, List, [], ◌∷◌, All, Option, None, Some, MatchOption, ap, bytes_eq, filter, is_some, refl, subst, sym, ◌∙◌, arith}
-use Rattle.std.proofs.lemmas.List.Elements.{All-cons}
+-- What the longest network that contains an address says, and which network with a value is the shortest: for decisions.
+use Rattle.std.proofs.Common.{◌≡◌, ℕ, Bool, true, false, cond, List, [], ◌∷◌, Option, None, Some, MatchOption, ap, bytes_eq, codes, filter, inl, inr, is_some, refl, subst, sym, true≢false, ◌∙◌, arith}
 use Rattle.std.proofs.lemmas.Slice.Eq.{bytes_eq-Decides}
 use Rattle.std.specs.FinMap.{contains_key}
 use Rattle.std.specs.List.{Contains}
 use Rattle.std.specs.Option.{option_map}
-use Rattle.prefix_trie.specs.Terms.{covers, first_item, prefix_pairs, IsMatch}
+use Rattle.prefix_trie.specs.Terms.{covers, first_item, prefix_pair, prefix_pairs, IsLongestMatch, IsMatch}
 use Rattle.prefix_trie_bits.specs.Laws.Matches.{MatchLaws}
 use Rattle.prefix_trie_joint.specs.Networks.{ip_back, ip_path}
 use Rattle.prefix_trie_joint.specs.declared.prefix.IpPrefix.{IpPrefix}
-use Rattle.route_tables.specs.Access.{covers_with, shortest_with, IsCoveredBy, IsRule}
+use Rattle.route_tables.specs.Access.{covers_with, decision_by_match, decision_of, shortest_with, IsCoveredBy}
+use Rattle.route_tables.specs.Routes.{IsRule}
 use Rattle.route_tables.specs.Tables.{Values}
-use Rattle.route_tables.proofs.Lists.{filter_of_map, from_filter, in_filter, in_here, in_map}
+use Rattle.route_tables.specs.declared.access.Decision.{Decision}
+use Rattle.route_tables.specs.declared.access.Decision.TheVariants.{Unlisted}
+use Rattle.route_tables.proofs.Lists.{filter_of_map, from_filter, in_filter, in_here}
 
 not_in : {X : Type 0} (x : X) → ¬ (Contains [] x)
 not_in x (k, less, is) = omega arith
@@ -60,14 +62,32 @@ module _ (laws : MatchLaws (List ℕ)) (m : Values) (paths : (s : List Bool) →
   pub shortest_is : MatchOption (shortest_with m q rule) (¬ (IsCoveredBy m q rule)) (λ network. IsMatch m q (ip_path network, rule))
   shortest_is = of_list (covers_with m q rule) refl
 
--- the loop goes on after an item whose value is a rule
-pub rules_next : {P W : Type 0} (x : P × List ℕ) (rest left : List (P × List ℕ)) → (left ≡ x ∷ rest) → IsRule x.1
-    → (All (λ e. IsRule e.1) left → W) → All (λ e. IsRule e.1) rest → W
-rules_next x rest left split rule old later = old (subst (All (λ e. IsRule e.1)) (sym split) (All-cons (λ e. IsRule e.1) x rest rule later))
+-- the decision of a pair
+decide_pair : Option (IpPrefix × List ℕ) → Decision
+decide_pair None = Unlisted
+decide_pair (Some pair) = decision_of pair.0 pair.1
 
--- if all values that a walk gives are rules, all stored values are
-pub all_rules : {P : Type 0} (back : List Bool → P) (es : List (List Bool × List ℕ)) → All (λ e. IsRule e.1) (prefix_pairs back es)
-    → (s : List Bool) (value : List ℕ) → Contains es (s, value) → IsRule value
-all_rules back es all s value at =
-    let here = in_map (λ e. (back e.0, e.1)) es (s, value) at in
-    subst (λ e. IsRule e.1) here.2 (all here.0 (back s, value) here.1)
+pair_of_match : (found : Option (List Bool × List ℕ)) → decide_pair (prefix_pair ip_back found) ≡ decision_by_match found
+unfolding decide_pair
+pair_of_match None = refl
+pair_of_match (Some e) = refl
+
+-- the decision of the network and the value that a lookup returns
+pub decision_of_found : (found : Option (List Bool × List ℕ)) (network : IpPrefix) (value : List ℕ) → Some (network, value) ≡ prefix_pair ip_back found
+    → decision_of network value ≡ decision_by_match found
+unfolding decide_pair
+decision_of_found found network value is = ap decide_pair is ∙ pair_of_match found
+
+pub decision_of_none : (found : Option (List Bool × List ℕ)) → None ≡ prefix_pair ip_back found → Unlisted ≡ decision_by_match found
+unfolding decide_pair
+decision_of_none found is = ap decide_pair is ∙ pair_of_match found
+
+-- the decision of a rule
+pub rule_allows : (network : IpPrefix) (rule : List ℕ) (m : Values) (q : List Bool) → bytes_eq rule (codes "allow") ≡ true → IsLongestMatch m q (ip_path network, rule)
+    → IsLongestMatch m q (ip_path network, codes "allow")
+rule_allows network rule m q same is = subst (λ v. IsLongestMatch m q (ip_path network, v)) ((bytes_eq-Decides rule (codes "allow")).0 same) is
+
+pub rule_denies : (network : IpPrefix) (rule : List ℕ) (m : Values) (q : List Bool) → IsRule rule → bytes_eq rule (codes "allow") ≡ false
+    → IsLongestMatch m q (ip_path network, rule) → IsLongestMatch m q (ip_path network, codes "deny")
+rule_denies network rule m q (inl allow) other is = absurd (true≢false (sym ((bytes_eq-Decides rule (codes "allow")).1 allow) ∙ other))
+rule_denies network rule m q (inr deny) other is = subst (λ v. IsLongestMatch m q (ip_path network, v)) deny is

@@ -12,7 +12,6 @@ use Rattle.route_tables.specs.declared.load.BadLines.TheVariants as bad_lines
 use Rattle.route_tables.specs.declared.load.LoadError.{LoadError}
 use Rattle.route_tables.specs.declared.load.LoadError.TheVariants.{Line, Refused}
 use Rattle.route_tables.specs.declared.load.Reading.{Reading}
-use Rattle.route_tables.specs.declared.network.HostBits.{HostBits}
 use Rattle.route_tables.specs.Routes.{AreBadLines, Gives, HasRoutes, IsBad, IsBadLine, IsFirstBad, IsGood, Route, routes_to}
 use Rattle.route_tables.specs.Tables.{Values}
 
@@ -24,7 +23,7 @@ pub record Loads (reading : Reading) (all rest : List (List ℕ)) (number : ℕ)
   pub routes : List Route
   pub has : HasRoutes reading done routes
   pub entries : m ≡ with_routes routes before
-  pub bad : AreBadLines reading.host_bits 0 done listed
+  pub bad : AreBadLines reading 0 done listed
 
 -- routes that are added in two parts
 pub routes_in_parts : (first later : List Route) (m : Values) → with_routes (first ++ later) m ≡ with_routes later (with_routes first m)
@@ -72,33 +71,33 @@ has_routes reading [] line routes given none gives = (given, [], gives, refl, ap
 has_routes reading (first ∷ done) line routes given (r, rest, g, has, is) gives =
     (r, rest ++ given, g, has_routes reading done line rest given has gives, ap (λ xs. xs ++ given) is ∙ append_assoc r rest given)
 
-one_good : (host_bits : HostBits) (n : ℕ) (done : List (List ℕ)) (line : List ℕ) (listed : List BadLine) → AreBadLines host_bits n done listed
-    → IsGood host_bits line → AreBadLines host_bits n (done ++ line ∷ []) listed
-one_good host_bits n [] line listed none good = inl (good, none)
-one_good host_bits n (first ∷ done) line listed (inl (is, rest)) good = inl (is, one_good host_bits (n + 1) done line listed rest good)
-one_good host_bits n (first ∷ done) line listed (inr (bad, others, is, rest, has)) good =
-    inr (bad, others, is, one_good host_bits (n + 1) done line others rest good, has)
+pub one_good : (reading : Reading) (n : ℕ) (done : List (List ℕ)) (line : List ℕ) (listed : List BadLine) → AreBadLines reading n done listed
+    → IsGood reading line → AreBadLines reading n (done ++ line ∷ []) listed
+one_good reading n [] line listed none good = inl (good, none)
+one_good reading n (first ∷ done) line listed (inl (is, rest)) good = inl (is, one_good reading (n + 1) done line listed rest good)
+one_good reading n (first ∷ done) line listed (inr (bad, others, is, rest, has)) good =
+    inr (bad, others, is, one_good reading (n + 1) done line others rest good, has)
 
-one_bad : (host_bits : HostBits) (n : ℕ) (done : List (List ℕ)) (line : List ℕ) (listed : List BadLine) (bad : BadLine) → AreBadLines host_bits n done listed
-    → IsBadLine host_bits (n + length done + 1) line bad → AreBadLines host_bits n (done ++ line ∷ []) (listed ++ bad ∷ [])
-one_bad host_bits n [] line listed bad none is =
+pub one_bad : (reading : Reading) (n : ℕ) (done : List (List ℕ)) (line : List ℕ) (listed : List BadLine) (bad : BadLine) → AreBadLines reading n done listed
+    → IsBadLine reading (n + length done + 1) line bad → AreBadLines reading n (done ++ line ∷ []) (listed ++ bad ∷ [])
+one_bad reading n [] line listed bad none is =
     let e : n + 0 + 1 ≡ n + 1 = omega arith in
-    inr (bad, [], subst (λ k. IsBadLine host_bits k line bad) e is, refl, ap (λ xs. xs ++ bad ∷ []) none)
-one_bad host_bits n (first ∷ done) line listed bad (inl (good, rest)) is =
+    inr (bad, [], subst (λ k. IsBadLine reading k line bad) e is, refl, ap (λ xs. xs ++ bad ∷ []) none)
+one_bad reading n (first ∷ done) line listed bad (inl (good, rest)) is =
     let e : n + suc (length done) + 1 ≡ n + 1 + length done + 1 = omega arith in
-    inl (good, one_bad host_bits (n + 1) done line listed bad rest (subst (λ k. IsBadLine host_bits k line bad) e is))
-one_bad host_bits n (first ∷ done) line listed bad (inr (other, others, first_is, rest, has)) is =
+    inl (good, one_bad reading (n + 1) done line listed bad rest (subst (λ k. IsBadLine reading k line bad) e is))
+one_bad reading n (first ∷ done) line listed bad (inr (other, others, first_is, rest, has)) is =
     let e : n + suc (length done) + 1 ≡ n + 1 + length done + 1 = omega arith in
-    inr (other, others ++ bad ∷ [], first_is, one_bad host_bits (n + 1) done line others bad rest (subst (λ k. IsBadLine host_bits k line bad) e is), ap (λ xs. xs ++ bad ∷ []) has)
+    inr (other, others ++ bad ∷ [], first_is, one_bad reading (n + 1) done line others bad rest (subst (λ k. IsBadLine reading k line bad) e is), ap (λ xs. xs ++ bad ∷ []) has)
 
 -- where bad lines are refused, a line that gives routes is good
-is_good : (reading : Reading) (line : List ℕ) (routes : List Route) → reading.bad_lines ≡ bad_lines.Refused → Gives reading line routes → IsGood reading.host_bits line
+is_good : (reading : Reading) (line : List ℕ) (routes : List Route) → reading.bad_lines ≡ bad_lines.Refused → Gives reading line routes → IsGood reading line
 is_good reading line routes refused (inl (none, inl blank)) = inl blank
 is_good reading line routes refused (inl (none, inr (skipped, bad))) = let e = sym refused ∙ skipped in cc
 is_good reading line routes refused (inr (networks, value, is, gives)) = inr (networks, value, is)
 
 is_first : (reading : Reading) (done later : List (List ℕ)) (line : List ℕ) (routes : List Route) → reading.bad_lines ≡ bad_lines.Refused
-    → HasRoutes reading done routes → IsBad reading.host_bits line → IsFirstBad reading.host_bits (done ++ line ∷ later) (length done)
+    → HasRoutes reading done routes → IsBad reading line → IsFirstBad reading (done ++ line ∷ later) (length done)
 is_first reading [] later line routes refused has bad = bad
 is_first reading (first ∷ done) later line routes refused (given, rest, gives, has, is) bad =
     (is_good reading first given refused gives, is_first reading done later line rest refused has bad)
@@ -123,12 +122,12 @@ loads_on reading all rest later line number before m next listed after split (gi
   routes = old.routes ++ given;
   has = has_routes reading old.done line old.routes given old.has gives;
   entries = adds ∙ ap (with_routes given) old.entries ∙ sym (routes_in_parts old.routes given before);
-  bad = elim lists as (λ _. AreBadLines reading.host_bits 0 (old.done ++ line ∷ []) after) [
-    | inl (good, same) ↦ subst (AreBadLines reading.host_bits 0 (old.done ++ line ∷ [])) (sym same) (one_good reading.host_bits 0 old.done line listed old.bad good)
+  bad = elim lists as (λ _. AreBadLines reading 0 (old.done ++ line ∷ []) after) [
+    | inl (good, same) ↦ subst (AreBadLines reading 0 (old.done ++ line ∷ [])) (sym same) (one_good reading 0 old.done line listed old.bad good)
     | inr (bad, is, same) ↦
         let e : number + 1 ≡ 0 + length old.done + 1 = omega (arith, old.count) in
-        subst (AreBadLines reading.host_bits 0 (old.done ++ line ∷ [])) (sym same)
-        (one_bad reading.host_bits 0 old.done line listed bad old.bad (subst (λ k. IsBadLine reading.host_bits k line bad) e is))
+        subst (AreBadLines reading 0 (old.done ++ line ∷ [])) (sym same)
+        (one_bad reading 0 old.done line listed bad old.bad (subst (λ k. IsBadLine reading k line bad) e is))
   ];
 }
 
@@ -142,7 +141,7 @@ loads_error reading all rest later line number before m after listed (Line bad) 
       index = length old.done;
       number = is.named ∙ ap (λ n. n + 1) old.count;
       text = is.quoted ∙ sym (ap (λ xs. get_or xs (length old.done) []) whole ∙ at_done old.done later line);
-      first = subst (λ xs. IsFirstBad reading.host_bits xs (length old.done)) (sym whole) (is_first reading old.done later line old.routes refused old.has is.is_bad);
+      first = subst (λ xs. IsFirstBad reading xs (length old.done)) (sym whole) (is_first reading old.done later line old.routes refused old.has is.is_bad);
       routes = old.routes;
       before = subst (λ xs. HasRoutes reading xs old.routes) (sym (ap (take (length old.done)) whole ∙ take-append_seam old.done (line ∷ later))) old.has;
       entries = same ∙ old.entries;
@@ -165,14 +164,14 @@ loads_routes reading all rest number before m listed none old =
     (old.routes, subst (λ xs. HasRoutes reading xs old.routes) (sym whole) old.has, old.entries)
 
 pub loads_bad : (reading : Reading) (all rest : List (List ℕ)) (number : ℕ) (before m : Values) (listed : List BadLine) → rest ≡ []
-    → Loads reading all rest number before m listed → AreBadLines reading.host_bits 0 all listed
+    → Loads reading all rest number before m listed → AreBadLines reading 0 all listed
 loads_bad reading all rest number before m listed none old =
     let whole : all ≡ old.done = old.split ∙ ap (λ r. old.done ++ r) none ∙ append-nil old.done in
-    subst (λ xs. AreBadLines reading.host_bits 0 xs listed) (sym whole) old.bad
+    subst (λ xs. AreBadLines reading 0 xs listed) (sym whole) old.bad
 
 -- if the lines have routes with bad lines refused, none is bad
 pub none_bad : (reading : Reading) (n : ℕ) (lines : List (List ℕ)) (routes : List Route) (listed : List BadLine) → reading.bad_lines ≡ bad_lines.Refused
-    → HasRoutes reading lines routes → AreBadLines reading.host_bits n lines listed → listed ≡ []
+    → HasRoutes reading lines routes → AreBadLines reading n lines listed → listed ≡ []
 none_bad reading n [] routes listed refused has none = none
 none_bad reading n (line ∷ lines) routes listed refused (given, rest, gives, has, is) (inl (good, later)) = none_bad reading (n + 1) lines rest listed refused has later
 none_bad reading n (line ∷ lines) routes listed refused (given, rest, gives, has, is) (inr (bad, others, of_line, later, lists)) =

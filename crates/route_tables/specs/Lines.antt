@@ -1,6 +1,6 @@
 -- The lines of a text, and the fields of a line. This project's own.
 use Rattle.std.specs.Prelude.{ℕ, ◌-◌, ◌==◌, Bool, ◌||◌, bytes_eq, false, not, cond, List, [], ◌∷◌, drop, length, take}
-use Rattle.std.specs.Char.{is_ascii_whitespace, is_control}
+use Rattle.std.specs.Char.{is_ascii_whitespace, is_control, is_whitespace}
 use Rattle.std.specs.Int.{is_in_range}
 use Rattle.std.specs.List.{before_first, list_any, onto_first}
 use Rattle.std.specs.Str.{chars}
@@ -41,13 +41,22 @@ has_bare_return line = list_any (λ b. b == 13) (take (length line - 1) line)
 abbrev pub is_direction : ℕ → Bool
 is_direction c = ((c == 0x61C || is_in_range 0x200E 0x200F c) || is_in_range 0x202A 0x202E c) || is_in_range 0x2066 0x2069 c
 
--- whether a character can hide or change what a terminal shows: a control character, or one that changes the direction
+-- whether a character has no width: U+200B to U+200D, U+2060, U+FEFF
+abbrev pub is_zero_width : ℕ → Bool
+is_zero_width c = (is_in_range 0x200B 0x200D c || c == 0x2060) || c == 0xFEFF
+
+-- whether a character can hide or change what a reader sees: a control character, white space, one without width, or one that
+-- changes the direction
 abbrev pub is_hidden : ℕ → Bool
-is_hidden c = is_control c || is_direction c
+is_hidden c = ((is_control c || is_whitespace c) || is_zero_width c) || is_direction c
 
 -- whether a text has such a character
 abbrev pub has_hidden : List ℕ → Bool
 has_hidden text = list_any is_hidden (chars text)
+
+-- whether a text has a dot or a colon
+abbrev pub has_separator : List ℕ → Bool
+has_separator text = list_any (λ b. b == 46 || b == 58) text
 
 -- the lines of a text after its byte order mark
 abbrev pub table_lines : List ℕ → List (List ℕ)

@@ -9,6 +9,7 @@ use Rattle.route_tables.specs.declared.load.BadLines.TheVariants as bad_lines
 use Rattle.route_tables.specs.declared.load.LoadError.{LoadError}
 use Rattle.route_tables.specs.declared.load.LoadError.TheVariants.{Line, Refused}
 use Rattle.route_tables.specs.declared.load.Reading.{Reading}
+use Rattle.route_tables.specs.declared.load.TableKind.TheVariants.{AnyValues}
 use Rattle.route_tables.specs.declared.network.HostBits.TheVariants as host_bits
 
 -- the entries after routes are added; the last of the routes of one network counts
@@ -26,7 +27,7 @@ AddsLine reading line m after = (routes : List Route) × Gives reading line rout
 -- a line is listed if it is bad
 abbrev pub ListsLine : Reading → ℕ → List ℕ → List BadLine → List BadLine → Type 0
 ListsLine reading number line listed after =
-    (IsGood reading.host_bits line × (after ≡ listed)) ⊎ ((bad : BadLine) × IsBadLine reading.host_bits number line bad × (after ≡ listed ++ bad ∷ []))
+    (IsGood reading line × (after ≡ listed)) ⊎ ((bad : BadLine) × IsBadLine reading number line bad × (after ≡ listed ++ bad ∷ []))
 
 -- a line that is not skipped ends the reading: it is the first bad one, and the routes of the lines before it are added
 pub record EndsAtBad (reading : Reading) (lines : List (List ℕ)) (m after : Values) (bad : BadLine) : Type 0 where
@@ -34,7 +35,7 @@ pub record EndsAtBad (reading : Reading) (lines : List (List ℕ)) (m after : Va
   pub index : ℕ
   pub number : bad.number ≡ index + 1
   pub text : bad.text.now ≡ slice_index_or lines index []
-  pub first : IsFirstBad reading.host_bits lines index
+  pub first : IsFirstBad reading lines index
   pub routes : List Route
   pub before : HasRoutes reading (take index lines) routes
   pub entries : after ≡ with_routes routes m
@@ -59,12 +60,12 @@ EndsAt reading lines m after (Refused cause) = EndsAtRefusal reading lines m aft
 
 -- why a line ends the reading, and what it adds before
 abbrev pub EndsAtLine : Reading → ℕ → List ℕ → Values → Values → LoadError → Type 0
-EndsAtLine reading number line m after (Line bad) = (reading.bad_lines ≡ bad_lines.Refused) × IsBadLine reading.host_bits number line bad × (after ≡ m)
+EndsAtLine reading number line m after (Line bad) = (reading.bad_lines ≡ bad_lines.Refused) × IsBadLine reading number line bad × (after ≡ m)
 EndsAtLine reading number line m after (Refused cause) = (part : List Route) × GivesFirst reading line part × (after ≡ with_routes part m)
 
--- host bits and bad lines are refused
+-- host bits and bad lines are refused, and values are any
 abbrev pub strict : Reading
-strict = record { host_bits = host_bits.Refused; bad_lines = bad_lines.Refused }
+strict = record { host_bits = host_bits.Refused; bad_lines = bad_lines.Refused; kind = AnyValues }
 
 -- if the error names a line, it is a certain one
 abbrev pub IfLineError : (BadLine → Type 0) → LoadError → Type 0
@@ -74,4 +75,4 @@ IfLineError Named (Refused cause) = ⊤
 -- if the error names a line, bad lines are refused, and it is the first one
 abbrev pub NamesFirstBad : Reading → List (List ℕ) → LoadError → Type 0
 NamesFirstBad reading lines error =
-    IfLineError (λ bad. (reading.bad_lines ≡ bad_lines.Refused) × ((index : ℕ) × (bad.number ≡ index + 1) × (bad.text.now ≡ slice_index_or lines index []) × IsFirstBad reading.host_bits lines index)) error
+    IfLineError (λ bad. (reading.bad_lines ≡ bad_lines.Refused) × ((index : ℕ) × (bad.number ≡ index + 1) × (bad.text.now ≡ slice_index_or lines index []) × IsFirstBad reading lines index)) error

@@ -1,126 +1,182 @@
-//! Access lists: tables whose values are `allow` and `deny`.
-ghost use Rattle.std.specs.Prelude.{◌≡◌, ◌↔◌, ℕ, Bool, List, IsTrue, MatchOption, Some};
-ghost use Rattle.std.specs.FinMap.{get};
-ghost use Rattle.prefix_trie.specs.Terms.{IsMatch};
+//! Access lists: networks with the rules `allow` and `deny`.
+ghost use Rattle.std.specs.Prelude.{◌≡◌, ◌↔◌, All, IfErr, IfOk, IsTrue, List};
+ghost use Rattle.prefix_trie.specs.Terms.{no_entries};
 ghost use Rattle.prefix_trie_joint.specs.Joined.{entries_of};
 ghost use Rattle.prefix_trie_joint.specs.Networks.{ip_path};
-ghost use Rattle.route_tables.specs.Access.{IsAllowed, IsCoveredBy, IsDecision, IsRule, decision, shortest_with};
+ghost use Rattle.route_tables.specs.Access.{IsAllowed, IsAllowing, IsDenyFirstDecision, IsLongestDecision, access_reading, decision};
+ghost use Rattle.route_tables.specs.Lines.{table_lines};
+ghost use Rattle.route_tables.specs.Loads.{NamesFirstBad, with_routes};
+ghost use Rattle.route_tables.specs.Routes.{HasRoutes, IsRule, Route};
+ghost use Rattle.route_tables.specs.Rules.{HasRules};
 
-use crate::table::{Table, stored_paths};
+mod decisions;
+mod idle;
+
+use crate::load::{BadLines, LoadError, Reading, Replaced, TableKind, Warnings, load_into};
+use crate::network::HostBits;
+pub use crate::rule::{ALLOW, DENY};
+use crate::table::Table;
 use crate::value::Value;
-use prefix_trie::laws::{listing_laws, match_laws};
-use prefix_trie_joint::IpPrefix;
+use decisions::{deny_first_decision, longest_decision};
+pub use idle::{Rule, idle_rules};
+use prefix_trie::Refusal;
+use prefix_trie::laws::match_laws;
+use prefix_trie_joint::{IpPrefix, JointPrefixMap};
+use std::alloc::Global;
+use std::marker::Model;
 
-/// The value of networks whose addresses are allowed.
-pub const ALLOW: &str = "allow";
-
-/// The value of networks whose addresses are denied.
-pub const DENY: &str = "deny";
+/// Which of the networks that contain an address decides.
+#[derive(Clone, Copy, Debug, Default, PartialEq, Eq)]
+pub enum Precedence {
+    /// The longest.
+    #[default]
+    Longest,
+    /// The shortest with `deny`, or the shortest with `allow` if none has `deny`.
+    DenyFirst,
+}
 
 /// What an access list says of an address, with the network that decides.
 #[derive(Clone, Copy, Debug, PartialEq, Eq)]
 pub enum Decision {
-    /// This network has the value `allow` and contains the address, and none with the value `deny` does.
+    /// This network decides, and it has the rule `allow`.
     Allowed(IpPrefix),
-    /// This network has the value `deny` and contains the address.
+    /// This network decides, and it has the rule `deny`.
     Denied(IpPrefix),
-    /// No network with either value contains the address.
+    /// No network contains the address.
     Unlisted,
 }
 
-/// Returns what an access list says of an address. Of several networks with the deciding value, it names the shortest.
-///
-/// # Examples
-///
-/// ```rust
-/// let table = load(b"10.0.0.0/8 allow\n10.1.0.0/16 deny\n", alloc)?.table;
-/// decide(&table, &"10.2.0.0/32".parse()?);       // Allowed(V4(10.0.0.0/8))
-/// decide(&table, &"10.1.0.0/32".parse()?);       // Denied(V4(10.1.0.0/16))
-/// decide(&table, &"11.0.0.0/32".parse()?);       // Unlisted
-/// ```
-pub fn decide(table: &Table, address: &IpPrefix) -> Decision
-    ensures shortest { result ≡ decision (entries_of table.now) (ip_path address.now) }
-    ensures in_words { IsDecision (entries_of table.now) (ip_path address.now) result }
-{
-    if let Some(network) = first_cover(table, address, DENY) {
-        return Decision::Denied(network);
-    }
-    match first_cover(table, address, ALLOW) {
-        Some(network) => Decision::Allowed(network),
-        None => Decision::Unlisted,
-    }
-}
-
-/// Returns whether an address is allowed: some network with the value `allow` contains it, and none with the value `deny` does.
-///
-/// # Examples
-///
-/// ```rust
-/// let table = load(b"10.0.0.0/8 allow\n10.1.0.0/16 deny\n", alloc)?.table;
-/// is_allowed(&table, &"10.2.0.0/32".parse()?);      // true
-/// is_allowed(&table, &"10.1.0.0/32".parse()?);      // false: 10.1.0.0/16 denies it
-/// is_allowed(&table, &"11.0.0.0/32".parse()?);      // false
-/// ```
-pub fn is_allowed(table: &Table, address: &IpPrefix) -> bool
-    ensures { IsTrue result ↔ IsAllowed (entries_of table.now) (ip_path address.now) }
-{
-    matches!(decide(table, address), Decision::Allowed(_))
-}
-
-// Returns the shortest network with this value that contains an address.
-#[tactic(auto, using(crate::proofs::Decisions::shortest_is))]
-fn first_cover(table: &Table, address: &IpPrefix, rule: &str) -> Option<IpPrefix>
-    ensures shortest { result
-        ≡ shortest_with (entries_of table.now) (ip_path address.now) rule.now }
-    ensures in_words { MatchOption result
-        (¬ (IsCoveredBy (entries_of table.now) (ip_path address.now) rule.now))
-        (λ network. IsMatch (entries_of table.now) (ip_path address.now)
-        (ip_path network, rule.now)) }
-{
-    match_laws::<Value>();
-    stored_paths(table);
-    first_with(table, address, rule)
-}
-
-// Returns the first network with this value in the walk over all that contain an address.
-fn first_with(table: &Table, address: &IpPrefix, rule: &str) -> Option<IpPrefix>
-    ensures { result ≡ shortest_with (entries_of table.now) (ip_path address.now) rule.now }
-{
-    for (network, value) in table.cover(address) {
-        if rule == value.as_str() {
-            return Some(network);
+impl Decision {
+    /// Returns whether the address is allowed.
+    pub fn is_allowed(&self) -> bool
+        ensures { IsTrue result ↔ IsAllowing self.now }
+    {
+        match self {
+            Decision::Allowed(_) => true,
+            Decision::Denied(_) => false,
+            Decision::Unlisted => false,
         }
     }
-    None
 }
 
-/// Returns the first network whose value is neither `allow` nor `deny`, and that value, or `None` if there is none.
+/// Networks, each with the rule `allow` or `deny`. Contracts see them as the entries of a table.
+///
+/// A list is made of whole texts. `add` reads each line of a text, or takes the list away. So no rule is ever skipped.
 ///
 /// # Examples
 ///
 /// ```rust
-/// let table = load(b"10.0.0.0/8 allow\n10.1.0.0/16 maybe\n", alloc)?.table;
-/// first_other(&table).map(|other| other.0);       // Some(V4(10.1.0.0/16))
+/// let text = b"10.0.0.0/8 allow\n10.1.0.0/16 deny\n10.1.2.0/24 allow\n";
+/// let (list, _) = AccessList::new(alloc)?.add(text, HostBits::Refused, alloc)?;
+/// list.decide(&"10.1.0.0/32".parse()?, Precedence::Longest);         // Denied(V4(10.1.0.0/16))
+/// list.decide(&"10.1.2.0/32".parse()?, Precedence::Longest);         // Allowed(V4(10.1.2.0/24))
+/// list.decide(&"10.1.2.0/32".parse()?, Precedence::DenyFirst);       // Denied(V4(10.1.0.0/16))
+/// list.decide(&"11.0.0.0/32".parse()?, Precedence::Longest);         // Unlisted
 /// ```
-pub fn first_other(table: &Table) -> Option<(IpPrefix, &Value)>
-    ensures { MatchOption result
-        ((s : List Bool) (value : List ℕ) → get (entries_of table.now) s ≡ Some value
-        → IsRule value)
-        (λ found. ¬ (IsRule found.1.now)) }
-{
-    listing_laws::<Value>();
-    for (network, value) in table {
-        if !is_rule(value) {
-            return Some((network, value));
-        }
-    }
-    None
+#[derive(Drop)]
+pub struct AccessList {
+    table: Table,
 }
 
-// Returns whether a value is `allow` or `deny`.
-fn is_rule(value: &Value) -> bool
-    ensures { IsTrue result ↔ IsRule value.now }
-{
-    let text = value.as_str();
-    text == ALLOW || text == DENY
+impl Model for AccessList {
+    ghost use Rattle.prefix_trie_joint.specs.Joined.{entries_of};
+    ghost use Rattle.route_tables.specs.Rules.{HasRules};
+    ghost use Rattle.route_tables.specs.Tables.{Values, values_code};
+
+    ghost Value = { Values };
+
+    ghost coded = { values_code };
+
+    ghost view = { λ list. entries_of list.table };
+
+    ghost invariant = { λ list. HasRules (entries_of list.table) };
+}
+
+impl AccessList {
+    /// Returns a list without rules.
+    ///
+    /// # Errors
+    ///
+    /// Returns a refusal if an allocation fails.
+    pub fn new(alloc: Global) -> Result<AccessList, Refusal>
+        ensures { IfOk result (λ list. list ≡ no_entries) }
+    {
+        let table = JointPrefixMap::new(alloc)?;
+        Ok(AccessList { table })
+    }
+
+    /// Adds the rules of a text, and returns the list and the networks whose rule a line replaces by another.
+    ///
+    /// # Errors
+    ///
+    /// Returns the first line that is not a line of a table or whose value is neither `allow` nor `deny`, with the reason.
+    /// Returns a refusal if an allocation fails or a table is full.
+    pub fn add<'a>(
+        self,
+        text: &'a [u8],
+        host_bits: HostBits,
+        alloc: Global,
+    ) -> Result<(AccessList, Vec<Replaced>), LoadError<'a>>
+        // Each line is blank, a comment, or networks and their rule, and each network gets its rule.
+        ensures whole { IfOk result (λ added. (routes : List Route)
+            × HasRoutes (access_reading host_bits) (table_lines text.now) routes
+            × All (λ route. IsRule route.1) routes
+            × (added.0 ≡ with_routes routes self)) }
+        ensures first_bad { IfErr result
+            (NamesFirstBad (access_reading host_bits) (table_lines text.now)) }
+    {
+        let AccessList { mut table } = self;
+        let reading = Reading {
+            host_bits,
+            bad_lines: BadLines::Refused,
+            kind: TableKind::AccessList,
+        };
+        let warnings = load_into(&mut table, text, reading, alloc)?;
+        let Warnings {
+            replaced,
+            skipped: _,
+        } = warnings;
+        Ok((AccessList { table }, replaced))
+    }
+
+    /// Returns what the list says of an address.
+    ///
+    /// By default, the longest network that contains the address decides. With `DenyFirst`, a network with `deny` decides
+    /// before any with `allow`. Of several networks with the rule that decides, the shortest is named.
+    pub fn decide(&self, address: &IpPrefix, precedence: Precedence) -> Decision
+        ensures value { result ≡ decision precedence self.now (ip_path address.now) }
+        ensures longest { precedence ≡ Precedence.Longest
+            → IsLongestDecision self.now (ip_path address.now) result }
+        ensures deny_first { precedence ≡ Precedence.DenyFirst
+            → IsDenyFirstDecision self.now (ip_path address.now) result }
+        ensures allowed { IsAllowing result ↔ IsAllowed precedence self.now (ip_path address.now) }
+    {
+        match_laws::<Value>();
+        match precedence {
+            Precedence::Longest => longest_decision(&self.table, address),
+            Precedence::DenyFirst => deny_first_decision(&self.table, address),
+        }
+    }
+
+    /// Returns whether the list allows an address.
+    ///
+    /// # Examples
+    ///
+    /// ```rust
+    /// let text = b"10.0.0.0/8 allow\n10.1.0.0/16 deny\n";
+    /// let (list, _) = AccessList::new(alloc)?.add(text, HostBits::Refused, alloc)?;
+    /// list.is_allowed(&"10.2.0.0/32".parse()?, Precedence::Longest);      // true
+    /// list.is_allowed(&"10.1.0.0/32".parse()?, Precedence::Longest);      // false: 10.1.0.0/16 denies it
+    /// list.is_allowed(&"11.0.0.0/32".parse()?, Precedence::Longest);      // false
+    /// ```
+    pub fn is_allowed(&self, address: &IpPrefix, precedence: Precedence) -> bool
+        ensures { IsTrue result ↔ IsAllowed precedence self.now (ip_path address.now) }
+    {
+        self.decide(address, precedence).is_allowed()
+    }
+
+    // Returns the networks and their rules.
+    fn table(&self) -> &Table {
+        &self.table
+    }
 }

@@ -11,14 +11,14 @@ ghost use Rattle.prefix_trie_joint.specs.Joined.{entries_of, keys_of};
 ghost use Rattle.prefix_trie_joint_ops.specs.Smallest.{IsAddress};
 ghost use Rattle.route_tables.specs.AddressSets.{ExceedsLimitOfOne, IsSmallestSet};
 
-mod address_ranges;
 mod cover;
 mod covered_entries;
+mod covered_ranges;
 
 use crate::table::{FamilyTable, Table};
-pub use address_ranges::ranges;
 pub(crate) use cover::{add_in_order, fewest_cover};
 pub use covered_entries::covered;
+pub use covered_ranges::ranges;
 use prefix_trie::laws::match_laws;
 use prefix_trie::{Prefix, PrefixSet, Refusal};
 use prefix_trie_fib::addresses;

@@ -1,45 +1,100 @@
-//! The command line of the program.
+//! The command line of the program, which `clap` parses.
 
-use crate::excerpt::Excerpt;
-use crate::help::{HELP, TOPICS, VERSION};
-use crate::load::{BadLines, Reading};
-use crate::matching::Selected;
+use crate::access::Precedence;
+use crate::help::{ABOUT, COMMANDS, DETAILS, Topic, VERSION};
+use crate::load::{BadLines, Reading, TableKind};
+use crate::lookup::Relation;
+use crate::matching::{Selected, Selection, Which};
 use crate::network::HostBits;
-use std::error::Error;
-use std::fmt::{self, Display, Formatter, Write};
+use crate::questions::Mapped;
+use clap::error::ErrorKind;
+use clap::{Arg, ArgAction, ArgMatches, Command, Error};
+use std::alloc::{AllocError, Global};
 
-/// What the program is to do, and how.
-#[derive(Clone, Copy, Debug, PartialEq, Eq)]
+// The names of options, as `clap` knows them.
+const CLEAR_HOST_BITS: &str = "clear-host-bits";
+
+const SKIP_BAD: &str = "skip-bad";
+
+const JSON: &str = "json";
+
+const QUIET: &str = "quiet";
+
+const NO_MAPPED: &str = "no-mapped";
+
+const ALL: &str = "all";
+
+const EXACT: &str = "exact";
+
+const LONGER: &str = "longer";
+
+const DENY_FIRST: &str = "deny-first";
+
+const INVERT: &str = "invert";
+
+const FIRST: &str = "first";
+
+// The names of arguments.
+const TABLES: &str = "tables";
+
+const RIGHT: &str = "right";
+
+const WORDS: &str = "words";
+
+const LAST: &str = "last";
+
+// The options that all commands share. They may also come before the command.
+const SHARED_FLAGS: &[(&str, &str)] = &[
+    (
+        CLEAR_HOST_BITS,
+        "Clear the bits of an address after the length; they are an error otherwise",
+    ),
+    (
+        SKIP_BAD,
+        "Skip bad lines with a warning; they are an error otherwise",
+    ),
+    (JSON, "Print a JSON object a line"),
+    (QUIET, "Show no warnings and no progress"),
+];
+
+// Where help lists them: after the options of one command.
+const SHARED_ORDER: usize = 100;
+
+const NO_MAPPED_HELP: &str = "Do not read ::ffff:10.1.2.3 as 10.1.2.3";
+
+/// What the program is to do, with which files and words, and how.
+#[derive(Drop)]
 pub struct Invocation<'a> {
     /// What the program is to do.
-    pub command: Command<'a>,
+    pub task: Task,
+    /// The files of the table, or the two tables of a comparison.
+    pub tables: Vec<&'a str>,
+    /// The networks, addresses or files after them.
+    pub words: Vec<&'a str>,
     /// How it does it.
     pub options: Options,
 }
 
 /// What the program is to do.
 #[derive(Clone, Copy, Debug, PartialEq, Eq)]
-pub enum Command<'a> {
-    /// Print a text: help or the version.
-    Print(&'a str),
-    /// Print a report on a table, which these files make.
-    Report(Report, &'a [&'a str]),
-    /// Print the part of a table, which these files make, that is in one of these networks.
-    Within(&'a [&'a str], &'a [&'a str]),
-    /// Compare two tables, each of one file.
-    Compare(Comparison, &'a str, &'a str),
-    /// Ask a table, which these files make, for these addresses, or for those of standard input if there are none.
-    Ask(Question, &'a [&'a str], &'a [&'a str]),
-    /// Print the lines of these files, or of standard input if there are none, that match a table, which the first files
-    /// make.
-    Match(&'a [&'a str], &'a [&'a str]),
+pub enum Task {
+    /// Print a report on a table.
+    Report(Report),
+    /// Compare two tables.
+    Compare(Comparison),
+    /// Print a table, or what these networks contain of it.
+    List,
+    /// Print the networks of a table that are related to addresses or networks.
+    Lookup(Relation),
+    /// Print whether an access list allows addresses.
+    Check(Precedence),
+    /// Print the lines of files that have an address of a table.
+    Match(Selection),
 }
 
 /// What a report on a table shows.
 #[derive(Clone, Copy, Debug, PartialEq, Eq)]
 pub enum Report {
-    /// The table.
-    List,
     /// The table without the networks that change no lookup.
     Minimise,
     /// The fewest networks with the same lookups of addresses.
@@ -67,26 +122,17 @@ pub enum Comparison {
     Covered,
 }
 
-/// What a table is asked about an address.
-#[derive(Clone, Copy, Debug, PartialEq, Eq)]
-pub enum Question {
-    /// The longest network that contains it.
-    Lookup,
-    /// Whether an access list allows it.
-    Check,
-}
-
 /// How the program does what it is to do.
 #[derive(Clone, Copy, Debug, Default, PartialEq, Eq)]
 pub struct Options {
-    /// How tables are read. Lines that are not addresses are treated as bad lines of tables are.
+    /// How tables are read.
     pub reading: Reading,
+    /// How IPv4-mapped addresses are read that a table is asked for.
+    pub mapped: Mapped,
     /// What the output is like.
     pub format: Format,
     /// No warnings and no progress are shown.
     pub is_quiet: bool,
-    /// Which lines `match` prints.
-    pub selected: Selected,
 }
 
 /// What the output is like.
@@ -99,195 +145,298 @@ pub enum Format {
     Json,
 }
 
-/// Why words are not those of a command.
-#[derive(Clone, Copy, Debug, PartialEq, Eq)]
-pub enum UsageError<'a> {
-    /// There is no command with this name.
-    Command(&'a str),
-    /// The command has no such option.
-    Option(&'a str),
-    /// The command takes other arguments.
-    Arguments(&'a str),
-    /// There is no word.
-    Empty,
-}
-
-impl Display for UsageError<'_> {
-    fn fmt<W: Write>(&self, f: &mut Formatter<W>) -> fmt::Result {
-        match self {
-            UsageError::Command(name) => {
-                write!(f, "unknown command '{}'; see routes help", Excerpt(name))
-            }
-            UsageError::Option(word) => {
-                write!(f, "unknown option '{}'; see routes help", Excerpt(word))
-            }
-            UsageError::Arguments(name) => { write!(f, "wrong arguments; see routes help {name}") }
-            UsageError::Empty => f.write_str("missing command; see routes help"),
-        }
-    }
-}
-
-impl Error for UsageError<'_> {}
-
-/// Reads the words of a command line after the name of the program: a command, its options, and its arguments.
+/// Reads the words of a command line after the name of the program.
 ///
 /// # Errors
 ///
-/// Returns which word is wrong.
+/// Returns what `clap` says: which word is wrong, or the help or the version that the words ask for.
 ///
 /// # Examples
 ///
 /// ```rust
-/// parse(&["list", "a.txt"])?.command;                        // Report(List, ["a.txt"])
-/// parse(&["lookup", "a.txt", "b.txt", "--", "::1"])?.command;   // Ask(Lookup, ["a.txt", "b.txt"], ["::1"])
-/// parse(&["list"]).err();                                    // Some(Arguments("list"))
+/// parse(&["union", "a.txt", "-"], alloc)?.task;                                     // Report(Union)
+/// parse(&["lookup", "a.txt", "b.txt", "--", "::1"], alloc)?.tables.as_slice();      // ["a.txt", "b.txt"]
+/// parse(&["lookup", "a.txt", "b.txt", "--", "::1"], alloc)?.words.as_slice();       // ["::1"]
+/// parse(&["list"], alloc).is_err();                                                 // true
 /// ```
-pub fn parse<'a>(words: &'a [&'a str]) -> Result<Invocation<'a>, UsageError<'a>> {
-    let Some((name, rest)) = words.split_first() else {
-        return Err(UsageError::Empty);
-    };
-    let (options, arguments) = parse_options(rest)?;
-    let command = parse_command(name, arguments)?;
-    if accepts(&command, &options) {
-        Ok(Invocation { command, options })
-    } else {
-        Err(UsageError::Arguments(name))
+pub fn parse<'a>(words: &'a [&'a str], alloc: Global) -> Result<Invocation<'a>, Error> {
+    let mut program = program(alloc)?;
+    let matches = program.try_get_matches_from_mut(words)?;
+    match chosen(&matches) {
+        Some((topic, matches)) => Ok(read_invocation(topic.task, matches, words, alloc)?),
+        None => Err(program.error(ErrorKind::MissingSubcommand, "there is no command")?),
     }
 }
 
-// Reads the options before the arguments, and returns them and the arguments. `--` is the first argument, not an option.
-fn parse_options<'a>(words: &'a [&'a str]) -> Result<(Options, &'a [&'a str]), UsageError<'a>> {
-    let mut options = Options::default();
-    for (i, word) in words.iter().enumerate() {
-        if !word.starts_with('-') || *word == "-" || *word == "--" {
-            return Ok((options, &words[i..]));
-        }
-        match *word {
-            "--clear-host-bits" => options.reading.host_bits = HostBits::Cleared,
-            "--skip-bad" => options.reading.bad_lines = BadLines::Skipped,
-            "--json" => options.format = Format::Json,
-            "--quiet" | "-q" => options.is_quiet = true,
-            "--invert" | "-v" => options.selected = Selected::Others,
-            _ => return Err(UsageError::Option(word)),
-        }
+// Returns the command that is named, and its arguments.
+fn chosen<'m, 'a>(matches: &'m ArgMatches<'a>) -> Option<(&'static Topic, &'m ArgMatches<'a>)> {
+    let (name, matches) = matches.subcommand()?;
+    let topic = COMMANDS.iter().find(|topic| topic.name == name)?;
+    Some((topic, matches))
+}
+
+// Returns the program with its commands.
+fn program<'a>(alloc: Global) -> Result<Command<'a>, AllocError> {
+    let mut program = Command::new(alloc, "routes")
+        .version(VERSION)
+        .about(ABOUT)
+        .after_help(DETAILS)
+        .no_binary_name(true)
+        .bin_name("routes")?
+        .subcommand_required(true);
+    for (name, help) in SHARED_FLAGS {
+        program = program.arg(
+            flag(alloc, name, help)?
+                .global(true)
+                .display_order(SHARED_ORDER),
+        )?;
     }
-    Ok((options, &[]))
+    for topic in COMMANDS {
+        program = program.subcommand(command(alloc, topic)?)?;
+    }
+    Ok(program)
 }
 
-// Returns whether a command has the options that are given to it.
-fn accepts(command: &Command<'_>, options: &Options) -> bool {
-    let has_json = matches!(
-        command,
-        Command::Report(Report::List | Report::Stats, _)
-            | Command::Within(..)
-            | Command::Compare(Comparison::Diff, ..)
-            | Command::Ask(Question::Lookup, ..)
-    );
-    let has_selected = matches!(command, Command::Match(..));
-    (has_json || options.format == Format::Text)
-        && (has_selected || options.selected == Selected::Matching)
+// Returns one command with its arguments.
+fn command<'a>(alloc: Global, topic: &Topic) -> Result<Command<'a>, AllocError> {
+    let mut command = Command::new(alloc, topic.name)
+        .about(topic.about)
+        .after_help(topic.details);
+    for (name, help) in flags_of(topic.task) {
+        command = command.arg(flag(alloc, name, help)?)?;
+    }
+    match topic.task {
+        Task::Report(_) => command.arg(several(
+            alloc,
+            TABLES,
+            "TABLE",
+            "The files of the table",
+        ).required(true)),
+        Task::Compare(Comparison::Diff) => pair(command, alloc, "OLD", "NEW"),
+        Task::Compare(_) => pair(command, alloc, "LEFT", "RIGHT"),
+        Task::List => table_and_words(
+            command,
+            alloc,
+            "NETWORK",
+            "Networks whose parts of the table are printed",
+        ),
+        Task::Lookup(_) => table_and_words(
+            command,
+            alloc,
+            "QUESTION",
+            "Addresses or networks to look up",
+        ),
+        Task::Check(_) => table_and_words(command, alloc, "ADDRESS", "Addresses to check"),
+        Task::Match(_) => table_and_words(command, alloc, "FILE", "Files to search"),
+    }
 }
 
-// Reads the name of a command and its arguments.
-fn parse_command<'a>(
+// Adds two tables with these names.
+fn pair<'a>(
+    command: Command<'a>,
+    alloc: Global,
+    left: &'a str,
+    right: &'a str,
+) -> Result<Command<'a>, AllocError> {
+    command
+        .arg(one(alloc, TABLES, left, "The file of the first table"))?
+        .arg(one(alloc, RIGHT, right, "The file of the second table"))
+}
+
+// Adds a table and words with this name. After `--` there are words alone, and all before it are tables.
+fn table_and_words<'a>(
+    command: Command<'a>,
+    alloc: Global,
     name: &'a str,
-    arguments: &'a [&'a str],
-) -> Result<Command<'a>, UsageError<'a>> {
+    help: &'a str,
+) -> Result<Command<'a>, AllocError> {
+    command
+        .arg(one(alloc, TABLES, "TABLE", "The file of the table"))?
+        .arg(several(alloc, WORDS, name, help))?
+        .arg(several(
+            alloc,
+            LAST,
+            name,
+            "The same, if several files come before `--`",
+        )
+        .last(true))
+}
+
+// Returns an option without a value.
+fn flag<'a>(alloc: Global, name: &'a str, help: &'a str) -> Result<Arg<'a>, AllocError> {
+    let flag = Arg::new(alloc, name)
+        .long(name)
+        .help(help)
+        .action(ArgAction::SetTrue);
     match name {
-        "help" | "-h" | "--help" => parse_help(arguments),
-        "-V" | "--version" => Ok(Command::Print(VERSION)),
-        "list" => match parse_tables(name, arguments)? {
-            (tables, []) => Ok(Command::Report(Report::List, tables)),
-            (tables, networks) => Ok(Command::Within(tables, networks)),
-        },
-        "lookup" => parse_question(Question::Lookup, name, arguments),
-        "check" => parse_question(Question::Check, name, arguments),
-        "match" => {
-            let (tables, texts) = parse_tables(name, arguments)?;
-            Ok(Command::Match(tables, texts))
-        }
-        "minimise" => parse_report(Report::Minimise, name, arguments),
-        "aggregate" => parse_report(Report::Aggregate, name, arguments),
-        "union" => parse_report(Report::Union, name, arguments),
-        "ranges" => parse_report(Report::Ranges, name, arguments),
-        "count" => parse_report(Report::Count, name, arguments),
-        "stats" => parse_report(Report::Stats, name, arguments),
-        "diff" => parse_comparison(Comparison::Diff, name, arguments),
-        "intersect" => parse_comparison(Comparison::Intersect, name, arguments),
-        "subtract" => parse_comparison(Comparison::Subtract, name, arguments),
-        "covered" => parse_comparison(Comparison::Covered, name, arguments),
-        _ => Err(UsageError::Command(name)),
+        QUIET => Ok(flag.short('q')),
+        INVERT => Ok(flag.short('v')),
+        ALL => flag
+            .visible_alias("shorter")?
+            .conflicts_with_all(&[EXACT, LONGER]),
+        EXACT => flag.conflicts_with(LONGER),
+        _ => Ok(flag),
     }
 }
 
-// Reads the files of a report.
-fn parse_report<'a>(
-    report: Report,
-    name: &'a str,
-    arguments: &'a [&'a str],
-) -> Result<Command<'a>, UsageError<'a>> {
-    match arguments {
-        [] => Err(UsageError::Arguments(name)),
-        _ => Ok(Command::Report(report, arguments)),
+// Returns an argument that is required.
+fn one<'a>(alloc: Global, id: &'a str, name: &'a str, help: &'a str) -> Arg<'a> {
+    Arg::new(alloc, id)
+        .value_name(name)
+        .help(help)
+        .required(true)
+}
+
+// Returns an argument for any number of words.
+fn several<'a>(alloc: Global, id: &'a str, name: &'a str, help: &'a str) -> Arg<'a> {
+    Arg::new(alloc, id)
+        .value_name(name)
+        .help(help)
+        .num_args(..)
+        .action(ArgAction::Append)
+}
+
+// Returns the options of a command that other commands do not have, with their help.
+fn flags_of(task: Task) -> &'static [(&'static str, &'static str)] {
+    match task {
+        Task::Lookup(_) => &[
+            (
+                ALL,
+                "Print every network that contains the address or network, shortest first",
+            ),
+            (EXACT, "Print the network itself"),
+            (
+                LONGER,
+                "Print every network that the network contains, in order",
+            ),
+            (NO_MAPPED, NO_MAPPED_HELP),
+        ],
+        Task::Check(_) => &[
+            (
+                DENY_FIRST,
+                "Deny an address if any network with deny contains it",
+            ),
+            (NO_MAPPED, NO_MAPPED_HELP),
+        ],
+        Task::Match(_) => &[
+            (
+                INVERT,
+                "Print the other lines, also those without an address",
+            ),
+            (FIRST, "Look at the first address of a line alone"),
+            (NO_MAPPED, NO_MAPPED_HELP),
+        ],
+        Task::Report(_) | Task::Compare(_) | Task::List => &[],
     }
 }
 
-// Reads the two files of a comparison.
-fn parse_comparison<'a>(
-    comparison: Comparison,
-    name: &'a str,
-    arguments: &'a [&'a str],
-) -> Result<Command<'a>, UsageError<'a>> {
-    match *arguments {
-        [left, right] => Ok(Command::Compare(comparison, left, right)),
-        _ => Err(UsageError::Arguments(name)),
-    }
-}
-
-// Reads the files of a table and the addresses to ask it for.
-fn parse_question<'a>(
-    question: Question,
-    name: &'a str,
-    arguments: &'a [&'a str],
-) -> Result<Command<'a>, UsageError<'a>> {
-    let (tables, addresses) = parse_tables(name, arguments)?;
-    Ok(Command::Ask(question, tables, addresses))
-}
-
-// Splits arguments into the files of a table and the words after them: at `--`, or after the first word if there is none.
-fn parse_tables<'a>(
-    name: &'a str,
-    arguments: &'a [&'a str],
-) -> Result<(&'a [&'a str], &'a [&'a str]), UsageError<'a>> {
-    let (tables, rest) = match arguments.iter().position(|word| *word == "--") {
-        Some(end) => (&arguments[..end], &arguments[end + 1..]),
-        None => arguments.split_at(arguments.len().min(1)),
-    };
-    if tables.is_empty() {
-        Err(UsageError::Arguments(name))
+// Returns what the arguments of a command say.
+fn read_invocation<'a>(
+    task: Task,
+    matches: &ArgMatches<'a>,
+    words: &[&str],
+    alloc: Global,
+) -> Result<Invocation<'a>, AllocError> {
+    let (mut tables, mut asked) = (Vec::new(alloc), Vec::new(alloc));
+    add_values(&mut tables, matches, TABLES)?;
+    add_values(&mut tables, matches, RIGHT)?;
+    if words.contains(&"--") {
+        add_values(&mut tables, matches, WORDS)?;
+        add_values(&mut asked, matches, LAST)?;
     } else {
-        Ok((tables, rest))
+        add_values(&mut asked, matches, WORDS)?;
+    }
+    Ok(Invocation {
+        task: task_of(task, matches),
+        tables,
+        words: asked,
+        options: read_options(matches),
+    })
+}
+
+// Adds the values of an argument, if it is there.
+fn add_values<'a>(
+    words: &mut Vec<&'a str>,
+    matches: &ArgMatches<'a>,
+    id: &str,
+) -> Result<(), AllocError> {
+    match matches.get_strs(id) {
+        Some(values) => words.extend_from_slice(values),
+        None => Ok(()),
     }
 }
 
-// Finds the help of a command, or the help of all.
-fn parse_help<'a>(arguments: &'a [&'a str]) -> Result<Command<'a>, UsageError<'a>> {
-    match *arguments {
-        [] => Ok(Command::Print(HELP)),
-        [command] => match help_of(command) {
-            Some(text) => Ok(Command::Print(text)),
-            None => Err(UsageError::Command(command)),
+// Returns a task with what the options of its command say.
+fn task_of(task: Task, matches: &ArgMatches<'_>) -> Task {
+    match task {
+        Task::Lookup(_) => Task::Lookup(relation(matches)),
+        Task::Check(_) if matches.get_flag(DENY_FIRST) => Task::Check(Precedence::DenyFirst),
+        Task::Match(_) => Task::Match(selection(matches)),
+        _ => task,
+    }
+}
+
+// Returns which networks a lookup prints.
+fn relation(matches: &ArgMatches<'_>) -> Relation {
+    if matches.get_flag(ALL) {
+        Relation::Covering
+    } else if matches.get_flag(EXACT) {
+        Relation::Exact
+    } else if matches.get_flag(LONGER) {
+        Relation::Contained
+    } else {
+        Relation::Longest
+    }
+}
+
+// Returns which lines are printed.
+fn selection(matches: &ArgMatches<'_>) -> Selection {
+    Selection {
+        selected: if matches.get_flag(INVERT) {
+            Selected::Others
+        } else {
+            Selected::Matching
         },
-        _ => Err(UsageError::Arguments("help")),
+        which: if matches.get_flag(FIRST) {
+            Which::First
+        } else {
+            Which::Any
+        },
+        mapped: mapped(matches),
     }
 }
 
-// Returns the help of a command.
-fn help_of(command: &str) -> Option<&'static str> {
-    for (name, text) in TOPICS {
-        if *name == command {
-            return Some(text);
-        }
+// Returns how IPv4-mapped addresses are read.
+fn mapped(matches: &ArgMatches<'_>) -> Mapped {
+    if matches.get_flag(NO_MAPPED) {
+        Mapped::Kept
+    } else {
+        Mapped::AsIpv4
     }
-    None
+}
+
+// Returns what the options that several commands have say.
+fn read_options(matches: &ArgMatches<'_>) -> Options {
+    Options {
+        reading: Reading {
+            host_bits: if matches.get_flag(CLEAR_HOST_BITS) {
+                HostBits::Cleared
+            } else {
+                HostBits::Refused
+            },
+            bad_lines: if matches.get_flag(SKIP_BAD) {
+                BadLines::Skipped
+            } else {
+                BadLines::Refused
+            },
+            kind: TableKind::AnyValues,
+        },
+        mapped: mapped(matches),
+        format: if matches.get_flag(JSON) {
+            Format::Json
+        } else {
+            Format::Text
+        },
+        is_quiet: matches.get_flag(QUIET),
+    }
 }

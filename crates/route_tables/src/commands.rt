@@ -1,20 +1,24 @@
-//! What the commands print, over tables and a writer.
+//! What the commands print, over tables and a printer.
 
-mod json_lines;
-mod lookups;
+pub mod checks;
+mod json;
+pub mod lookups;
+pub mod printer;
+pub mod questions;
 mod sets;
 mod statistics;
 mod tables;
 
-use crate::addresses::Address;
-use crate::arguments::{Comparison, Format, Question, Report};
+use crate::address_sets::{difference, intersection, smallest};
+use crate::arguments::{Comparison, Report};
+use crate::commands::printer::Printer;
 use crate::load::Reading;
 use crate::sorted_lists::fewest_of_sorted;
+use crate::stats::count_all;
 use crate::table::Table;
-use prefix_trie_joint::IpPrefix;
 use std::alloc::Global;
 use std::io::{self, Write};
-pub use tables::list;
+pub use tables::{list, list_within};
 
 /// Prints a report on a table.
 ///
@@ -23,23 +27,25 @@ pub use tables::list;
 /// # Errors
 ///
 /// Returns the writer's error, or an error if an allocation fails.
-pub fn print_report<W: Write>(
+pub fn print_report<W: Write + Drop>(
     table: &mut Table,
     report: Report,
-    format: Format,
     alloc: Global,
-    out: &mut W,
+    out: &mut Printer<W>,
 ) -> io::Result<()> {
-    match (report, format) {
-        (Report::List, Format::Text) => list(table, out),
-        (Report::List, Format::Json) => json_lines::list(table, alloc, out),
-        (Report::Stats, Format::Text) => statistics::stats(table, alloc, out),
-        (Report::Stats, Format::Json) => json_lines::stats(table, alloc, out),
-        (Report::Minimise, _) => tables::minimise(table, alloc, out),
-        (Report::Aggregate, _) => tables::aggregate(table, alloc, out),
-        (Report::Union, _) => sets::union(table, alloc, out),
-        (Report::Ranges, _) => sets::print_ranges(table, alloc, out),
-        (Report::Count, _) => sets::count(table, out),
+    match report {
+        Report::Minimise => tables::minimise(table, alloc, out),
+        Report::Aggregate => {
+            tables::aggregate(&table.ipv4, alloc, out)?;
+            tables::aggregate(&table.ipv6, alloc, out)
+        }
+        Report::Union => sets::print_set(&smallest(table, alloc)?, out),
+        Report::Ranges => sets::print_ranges(table, alloc, out),
+        Report::Count => sets::count(table, out),
+        Report::Stats => {
+            out.counts("IPv4", &count_all(&table.ipv4, alloc)?)?;
+            out.counts("IPv6", &count_all(&table.ipv6, alloc)?)
+        }
     }
 }
 
@@ -50,11 +56,11 @@ pub fn print_report<W: Write>(
 /// # Errors
 ///
 /// Returns the writer's error, or an error if an allocation fails.
-pub fn print_fewest_of_sorted<W: Write>(
+pub fn print_fewest_of_sorted<W: Write + Drop>(
     text: &[u8],
     reading: Reading,
     alloc: Global,
-    out: &mut W,
+    out: &mut Printer<W>,
 ) -> io::Result<bool> {
     match fewest_of_sorted(text, reading, alloc)? {
         Some(fewest) => {
@@ -66,64 +72,29 @@ pub fn print_fewest_of_sorted<W: Write>(
     }
 }
 
-/// Prints the networks that a network contains, in listing order.
+/// Prints what a comparison of two tables shows. Sets `is_same` to false if it is `Diff` and something changes.
 ///
 /// # Errors
 ///
 /// Returns the writer's error, or an error if an allocation fails.
-pub fn print_within<W: Write>(
-    table: &Table,
-    network: IpPrefix,
-    format: Format,
-    alloc: Global,
-    out: &mut W,
-) -> io::Result<()> {
-    match format {
-        Format::Text => tables::list_within(table, network, out),
-        Format::Json => json_lines::list_within(table, network, alloc, out),
-    }
-}
-
-/// Prints what a comparison of two tables shows. Returns false if it is `Diff` and something changes.
-///
-/// # Errors
-///
-/// Returns the writer's error, or an error if an allocation fails.
-pub fn print_comparison<W: Write>(
+pub fn print_comparison<W: Write + Drop>(
     left: &Table,
     right: &Table,
     comparison: Comparison,
-    format: Format,
     alloc: Global,
-    out: &mut W,
-) -> io::Result<bool> {
-    match (comparison, format) {
-        (Comparison::Diff, Format::Text) => return tables::diff(left, right, alloc, out),
-        (Comparison::Diff, Format::Json) => return json_lines::diff(left, right, alloc, out),
-        (Comparison::Intersect, _) => sets::intersect(left, right, alloc, out)?,
-        (Comparison::Subtract, _) => sets::subtract(left, right, alloc, out)?,
-        (Comparison::Covered, _) => sets::print_covered(left, right, alloc, out)?,
+    out: &mut Printer<W>,
+    is_same: &mut bool,
+) -> io::Result<()> {
+    match comparison {
+        Comparison::Diff => {
+            tables::diff(&left.ipv4, &right.ipv4, alloc, out, is_same)?;
+            tables::diff(&left.ipv6, &right.ipv6, alloc, out, is_same)
+        }
+        Comparison::Intersect => sets::print_set(&intersection(left, right, alloc)?, out),
+        Comparison::Subtract => sets::print_set(&difference(left, right, alloc)?, out),
+        Comparison::Covered => {
+            sets::print_covered(&left.ipv4, &right.ipv4, alloc, out)?;
+            sets::print_covered(&left.ipv6, &right.ipv6, alloc, out)
+        }
     }
-    Ok(true)
-}
-
-/// Prints what a table says of each address. Returns false if the question is `Check` and not all are allowed.
-///
-/// # Errors
-///
-/// Returns the writer's error, or an error if an allocation fails.
-pub fn print_answers<W: Write>(
-    table: &Table,
-    addresses: &[Address<'_>],
-    question: Question,
-    format: Format,
-    alloc: Global,
-    out: &mut W,
-) -> io::Result<bool> {
-    match (question, format) {
-        (Question::Lookup, Format::Text) => lookups::lookup(table, addresses, out)?,
-        (Question::Lookup, Format::Json) => json_lines::lookup(table, addresses, alloc, out)?,
-        (Question::Check, _) => return lookups::check(table, addresses, out),
-    }
-    Ok(true)
 }

@@ -5,9 +5,14 @@ use std::fmt::{self, Display, Formatter, Write};
 
 /// Prints at most 60 characters of a text.
 ///
-/// It prints `?` in place of each control character, and of each character that changes the direction of text.
+/// It prints `?` in place of each control character, of white space except U+0020, and of each character that is not visible or
+/// changes the direction of text.
 #[derive(Clone, Copy, Debug, PartialEq, Eq)]
 pub struct Excerpt<'a>(pub &'a str);
+
+/// Prints a whole text as `Excerpt` prints its start.
+#[derive(Clone, Copy, Debug, PartialEq, Eq)]
+pub struct Shown<'a>(pub &'a str);
 
 /// Prints bytes as `Excerpt` prints a text, with `?` in place of each sequence that is not UTF-8.
 #[derive(Clone, Copy, Debug, PartialEq, Eq)]
@@ -22,6 +27,13 @@ impl Display for Excerpt<'_> {
             Some(_) => Ok(()),
             None => f.write_str("..."),
         }
+    }
+}
+
+impl Display for Shown<'_> {
+    fn fmt<W: Write>(&self, f: &mut Formatter<W>) -> fmt::Result {
+        write_start(self.0, usize::MAX, f)?;
+        Ok(())
     }
 }
 
@@ -52,7 +64,7 @@ fn write_start<W: Write>(
         if left == 0 {
             return Ok(None);
         }
-        f.write_char(if is_hidden(c) { '?' } else { c })?;
+        f.write_char(if c != ' ' && is_hidden(c) { '?' } else { c })?;
         left -= 1;
     }
     Ok(Some(left))

@@ -8,8 +8,8 @@
 
 pub mod access;
 pub mod address_sets;
-pub mod addresses;
 pub mod arguments;
+pub mod bad_lines;
 pub mod commands;
 pub mod diff;
 pub mod excerpt;
@@ -20,9 +20,13 @@ pub mod lines;
 pub mod load;
 pub mod lookup;
 pub mod matching;
+pub mod messages;
 pub mod minimise;
 pub mod network;
+pub mod pieces;
+pub mod questions;
 pub mod range;
+mod rule;
 pub mod sorted_lists;
 pub mod stats;
 pub mod table;

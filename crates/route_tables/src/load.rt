@@ -20,6 +20,7 @@ ghost use Rattle.route_tables.specs.Routes.{AreBadLines, HasRoutes, Route, route
 use crate::excerpt::ByteExcerpt;
 use crate::line::{LineError, ReadError, read_line};
 use crate::lines::{skip_mark, split_line};
+use crate::messages::{LineMessage, OUT_OF_MEMORY};
 use crate::network::HostBits;
 use crate::range::Networks;
 use crate::table::Table;
@@ -40,6 +41,16 @@ pub enum BadLines {
     Skipped,
 }
 
+/// Which values the lines of a table may have.
+#[derive(Clone, Copy, Debug, Default, PartialEq, Eq)]
+pub enum TableKind {
+    /// Any values.
+    #[default]
+    AnyValues,
+    /// The rules of an access list, which are `allow` and `deny`.
+    AccessList,
+}
+
 /// How the lines of a text are read.
 #[derive(Clone, Copy, Debug, Default, PartialEq, Eq)]
 pub struct Reading {
@@ -47,6 +58,8 @@ pub struct Reading {
     pub host_bits: HostBits,
     /// What is done with lines that are not lines of a table.
     pub bad_lines: BadLines,
+    /// Which values the lines may have.
+    pub kind: TableKind,
 }
 
 /// A line that is not a line of a table.
@@ -62,8 +75,12 @@ pub struct BadLine<'a> {
 
 impl Display for BadLine<'_> {
     fn fmt<W: Write>(&self, f: &mut Formatter<W>) -> fmt::Result {
-        let (number, text, error) = (self.number, ByteExcerpt(self.text.trim_ascii()), self.error);
-        write!(f, "line {number}: {error}: \"{text}\"")
+        let (number, text) = (self.number, ByteExcerpt(self.text.trim_ascii()));
+        let message = LineMessage {
+            line: self.text,
+            error: self.error,
+        };
+        write!(f, "line {number}: {message}: \"{text}\"")
     }
 }
 
@@ -107,7 +124,8 @@ impl Display for LoadError<'_> {
     fn fmt<W: Write>(&self, f: &mut Formatter<W>) -> fmt::Result {
         match self {
             LoadError::Line(line) => Display::fmt(line, f),
-            LoadError::Refused(cause) => Display::fmt(cause, f),
+            LoadError::Refused(Refusal::Memory) => f.write_str(OUT_OF_MEMORY),
+            LoadError::Refused(Refusal::IndexRange) => f.write_str("the table is full"),
         }
     }
 }
@@ -151,6 +169,7 @@ pub fn load(text: &[u8], alloc: Global) -> Result<Loaded<'_>, LoadError<'_>>
     let reading = Reading {
         host_bits: HostBits::Refused,
         bad_lines: BadLines::Refused,
+        kind: TableKind::AnyValues,
     };
     let mut table: Table = JointPrefixMap::new(alloc)?;
     let warnings = load_into(&mut table, text, reading, alloc)?;
@@ -170,7 +189,7 @@ pub fn load(text: &[u8], alloc: Global) -> Result<Loaded<'_>, LoadError<'_>>
 /// # Examples
 ///
 /// ```rust
-/// let reading = Reading { host_bits: HostBits::Cleared, bad_lines: BadLines::Skipped };
+/// let reading = Reading { host_bits: HostBits::Cleared, bad_lines: BadLines::Skipped, ..Reading::default() };
 /// let mut table = JointPrefixMap::new(alloc)?;
 /// load_into(&mut table, b"10.0.0.1/8 core\n", reading, alloc)?;
 /// let warnings = load_into(&mut table, b"ten\n10.0.0.0/8 edge\n", reading, alloc)?;
@@ -187,7 +206,7 @@ pub fn load_into<'a>(
     ensures added { OnOk result ((routes : List Route)
         × HasRoutes reading (table_lines text.now) routes
         × (entries_of table.new ≡ with_routes routes (entries_of table.old))) }
-    ensures skipped { IfOk result (λ warnings. AreBadLines reading.host_bits 0
+    ensures skipped { IfOk result (λ warnings. AreBadLines reading 0
         (table_lines text.now) warnings.skipped.items) }
     ensures ends { IfErr result (EndsAt reading (table_lines text.now) (entries_of table.old)
         (entries_of table.new)) }
@@ -223,7 +242,7 @@ fn add_line<'a>(
     ensures ends { IfErr result
         (EndsAtLine reading number line.now (entries_of table.old) (entries_of table.new)) }
 {
-    match read_line(line, reading.host_bits, alloc) {
+    match read_line(line, reading, alloc) {
         Ok(None) => Ok(()),
         Ok(Some(route)) => Ok(add_read(table, route, number, &mut warnings.replaced, alloc)?),
         Err(ReadError::Line(error)) => {

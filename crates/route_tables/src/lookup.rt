@@ -1,4 +1,4 @@
-//! The longest network that contains an address.
+//! The networks that are related to an address or a network.
 ghost use Rattle.std.specs.Prelude.{◌≡◌, MatchOption};
 ghost use Rattle.std.specs.Option.{option_map};
 ghost use Rattle.prefix_trie.specs.Terms.{lent_item, longest_match, prefix_pair, IsLongestMatch, IsUncovered};
@@ -9,6 +9,20 @@ use crate::table::{Table, stored_paths};
 use crate::value::Value;
 use prefix_trie::laws::lookup_laws;
 use prefix_trie_joint::IpPrefix;
+
+/// Which networks are looked for, for an address or a network.
+#[derive(Clone, Copy, Debug, Default, PartialEq, Eq)]
+pub enum Relation {
+    /// The longest network that contains it.
+    #[default]
+    Longest,
+    /// All networks that contain it, shortest first.
+    Covering,
+    /// The network itself.
+    Exact,
+    /// All networks that it contains, in listing order.
+    Contained,
+}
 
 /// What a lookup finds: a network and its value.
 pub type Found<'a> = Option<(IpPrefix, &'a Value)>;

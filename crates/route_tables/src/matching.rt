@@ -1,106 +1,124 @@
 //! The lines of a text that have an address of a table.
 
+mod addresses;
+
+use crate::commands::printer::Printer;
 use crate::lines::split_line;
+use crate::questions::Mapped;
 use crate::table::Table;
+pub use addresses::{Addresses, addresses_in};
 use prefix_trie_joint::IpPrefix;
 use std::io::{self, Write};
 use std::net::IpAddr;
-use std::str;
 
 /// Which lines of a text are printed.
 #[derive(Clone, Copy, Debug, Default, PartialEq, Eq)]
 pub enum Selected {
-    /// Those whose first address is in the table.
+    /// Those that match: an address of the line is in the table.
     #[default]
     Matching,
     /// The others, also those without an address.
     Others,
 }
 
-/// Prints the selected lines of a text, and returns whether there is one.
+/// Which addresses of a line are looked up.
+#[derive(Clone, Copy, Debug, Default, PartialEq, Eq)]
+pub enum Which {
+    /// Each of them. The line matches if the table has any.
+    #[default]
+    Any,
+    /// The first.
+    First,
+}
+
+/// Which lines of a text are printed, and how their addresses are looked up.
+#[derive(Clone, Copy, Debug, Default, PartialEq, Eq)]
+pub struct Selection {
+    /// Which lines are printed.
+    pub selected: Selected,
+    /// Which addresses are looked up.
+    pub which: Which,
+    /// What is done with IPv6 addresses of IPv4 addresses.
+    pub mapped: Mapped,
+}
+
+/// How far a text is searched.
+#[derive(Clone, Copy, Debug, Default, PartialEq, Eq)]
+pub struct Searched {
+    /// The number of lines that were read.
+    pub lines: usize,
+    /// Whether a line was printed.
+    pub is_any: bool,
+}
+
+/// Prints the selected lines of a piece of a text, which ends with a line.
+///
+/// `searched` says what was read and printed before, and then also of this piece.
 ///
 /// # Errors
 ///
-/// Returns the writer's error.
-pub fn print_lines<W: Write>(
+/// Returns the printer's error.
+pub fn print_lines<W: Write + Drop>(
     table: &Table,
     text: &[u8],
-    selected: Selected,
-    out: &mut W,
-) -> io::Result<bool> {
-    let mut is_any = false;
+    selection: Selection,
+    searched: &mut Searched,
+    out: &mut Printer<W>,
+) -> io::Result<()> {
     let mut rest = text;
     while !rest.is_empty() {
         let (line, later) = split_line(rest);
         rest = later;
-        if is_selected(table, line, selected) {
-            is_any = true;
-            out.write_all(line)?;
-            out.write_all(b"\n")?;
+        searched.lines = searched.lines.saturating_add(1);
+        if is_selected(table, line, selection) {
+            searched.is_any = true;
+            out.line(searched.lines, line)?;
         }
     }
-    Ok(is_any)
+    Ok(())
 }
 
-// Returns whether a line is printed.
-fn is_selected(table: &Table, line: &[u8], selected: Selected) -> bool {
-    let is_match = match first_address(line) {
-        Some(address) => table.is_covered(&IpPrefix::host(address)),
-        None => false,
-    };
-    is_match == (selected == Selected::Matching)
-}
-
-/// Returns the first address in a line.
-///
-/// An address is looked for in each run of hexadecimal digits, colons and dots: the run without dots and colons at its end,
-/// and then the runs of decimal digits and dots in it, so the address of `10.0.0.1:443` is found.
+/// Returns whether a line is printed.
 ///
 /// # Examples
 ///
 /// ```rust
-/// first_address(b"Accepted for root from 10.0.0.1:443.");    // Some(10.0.0.1)
-/// first_address(b"[2001:db8::1]:80 - GET /");                // Some(2001:db8::1)
-/// first_address(b"12:30:45 no address");                     // None
+/// let table = load(b"10.0.0.0/8\n", alloc)?.table;
+/// is_selected(&table, b"from 192.0.2.1 to 10.0.0.1", Default::default());        // true
+/// is_selected(&table, b"from ::ffff:10.0.0.1", Default::default());              // true
+/// is_selected(&table, b"from 192.0.2.1", Default::default());                    // false
 /// ```
-pub fn first_address(line: &[u8]) -> Option<IpAddr> {
-    for run in line.split(|byte| !is_address_byte(*byte)) {
-        if let Some(address) = address_of(run) {
-            return Some(address);
-        }
-        if let Some(address) = first_ipv4_address(run) {
-            return Some(address);
-        }
-    }
-    None
+pub fn is_selected(table: &Table, line: &[u8], selection: Selection) -> bool {
+    let is_match = match selection.which {
+        Which::Any => has_any(table, line, selection.mapped),
+        Which::First => has_first(table, line, selection.mapped),
+    };
+    is_match == (selection.selected == Selected::Matching)
 }
 
-// Returns the first address among the runs of decimal digits and dots.
-fn first_ipv4_address(text: &[u8]) -> Option<IpAddr> {
-    for run in text.split(|byte| !is_ipv4_byte(*byte)) {
-        if let Some(address) = address_of(run) {
-            return Some(address);
+// Returns whether a table has an address of a line.
+fn has_any(table: &Table, line: &[u8], mapped: Mapped) -> bool {
+    for address in addresses_in(line) {
+        if is_in(table, address, mapped) {
+            return true;
         }
     }
-    None
+    false
 }
 
-// Returns whether a byte can be in the text of an address.
-fn is_address_byte(byte: u8) -> bool {
-    byte.is_ascii_hexdigit() || byte == b':' || byte == b'.'
-}
-
-// Returns whether a byte can be in the text of an IPv4 address.
-fn is_ipv4_byte(byte: u8) -> bool {
-    byte.is_ascii_digit() || byte == b'.'
-}
-
-// Reads an address, after which there may be one dot or colon.
-fn address_of(run: &[u8]) -> Option<IpAddr> {
-    if run.is_empty() {
-        return None;
+// Returns whether a table has the first address of a line.
+fn has_first(table: &Table, line: &[u8], mapped: Mapped) -> bool {
+    match addresses_in(line).next() {
+        Some(address) => is_in(table, address, mapped),
+        None => false,
     }
-    let text = str::from_utf8(run).ok()?;
-    let text = text.strip_suffix(['.', ':']).unwrap_or(text);
-    text.parse().ok()
+}
+
+// Returns whether a network of a table has an address.
+fn is_in(table: &Table, address: IpAddr, mapped: Mapped) -> bool {
+    let address = match mapped {
+        Mapped::AsIpv4 => address.to_canonical(),
+        Mapped::Kept => address,
+    };
+    table.is_covered(&IpPrefix::host(address))
 }

@@ -5,10 +5,10 @@ ghost use Rattle.prefix_trie_ops.specs.Values.{value_above, value_of};
 
 use crate::table::FamilyTable;
 use crate::value::Value;
-use prefix_trie::Prefix;
 use prefix_trie::laws::listing_laws;
+use prefix_trie::{Prefix, Refusal};
 use prefix_trie_ops::map::aggregate_consistent;
-use std::alloc::{AllocError, Global};
+use std::alloc::Global;
 
 /// Removes each network whose longest shorter network in the table has the same value.
 ///
@@ -16,7 +16,7 @@ use std::alloc::{AllocError, Global};
 ///
 /// # Errors
 ///
-/// Returns the allocator's error if an allocation fails. The table is unchanged then.
+/// Returns `Memory` if an allocation fails. The table is unchanged then.
 ///
 /// # Examples
 ///
@@ -25,10 +25,7 @@ use std::alloc::{AllocError, Global};
 /// remove_redundant(&mut table.ipv4, alloc)?;
 /// table.ipv4.keys();     // [10.0.0.0/8, 10.2.0.0/16]
 /// ```
-pub fn remove_redundant<P: Prefix>(
-    table: &mut FamilyTable<P>,
-    alloc: Global,
-) -> Result<(), AllocError>
+pub fn remove_redundant<P: Prefix>(table: &mut FamilyTable<P>, alloc: Global) -> Result<(), Refusal>
     ensures same { OnOk result
         ((q : List Bool) → value_of table.new.entries q ≡ value_of table.old.entries q) }
     ensures least { OnOk result

@@ -2,6 +2,7 @@
 ghost use Rattle.std.specs.Prelude.{◌≡◌, IfErr, IfOk, false};
 ghost use Rattle.route_tables.specs.Networks.{AreOfEnds, AreOfIpv4Range, AreOfIpv6Range, AreOfRange, AreOfText, AreOfTextByHyphen, DenotesNone, all_networks, has_hyphen};
 
+use crate::messages::OUT_OF_MEMORY;
 use crate::network::{HostBits, NetworkError, parse_network_with};
 use prefix_trie::{Ipv4Prefix, Ipv6Prefix};
 use prefix_trie_fib::networks::networks_of;
@@ -82,7 +83,7 @@ impl Display for NetworksError {
     fn fmt<W: Write>(&self, f: &mut Formatter<W>) -> fmt::Result {
         match self {
             NetworksError::Text(error) => Display::fmt(error, f),
-            NetworksError::Memory => Display::fmt(&AllocError, f),
+            NetworksError::Memory => f.write_str(OUT_OF_MEMORY),
         }
     }
 }
@@ -163,7 +164,7 @@ fn parse_one(text: &str, host_bits: HostBits) -> Result<Networks, NetworksError>
 }
 
 // Reads the two ends of a range, and returns its networks.
-fn parse_range(first: &str, last: &str, alloc: Global) -> Result<Networks, NetworksError>
+pub(crate) fn parse_range(first: &str, last: &str, alloc: Global) -> Result<Networks, NetworksError>
     ensures read { IfOk result (λ networks. AreOfEnds first.now last.now (all_networks networks)) }
     ensures none { IfErr result (DenotesNone (AreOfEnds first.now last.now)) }
 {

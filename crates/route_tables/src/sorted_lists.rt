@@ -88,7 +88,7 @@ fn add_line(
         → (routes : List Route) × Gives reading line.now routes
         × Covers (with_routes routes m) kept.new) }
 {
-    match read_line(line, reading.host_bits, alloc) {
+    match read_line(line, reading, alloc) {
         Ok(None) => Ok(true),
         Ok(Some(route)) => add_read(kept, route),
         Err(ReadError::Line(_)) => Ok(false),

@@ -6,7 +6,7 @@ use crate::table::FamilyTable;
 use crate::value::Value;
 use arrayvec::ArrayString;
 use prefix_trie::Prefix;
-use prefix_trie::laws::listed_laws;
+use prefix_trie::laws::{listed_laws, walk_laws};
 use std::alloc::{AllocError, Global};
 use std::fmt::Write;
 use std::mem::size_of;
@@ -54,7 +54,7 @@ pub struct Listed {
 /// let table = load(b"10.0.0.0/8 core\n", alloc)?.table;
 /// let counts = count_all(&table.ipv4, alloc)?;
 /// counts.entries;                             // 1
-/// counts.array_bytes;                         // 66: two slots of nodes and one of values
+/// counts.array_bytes;                         // 74: two slots of nodes and one of values
 /// counts.addresses.as_str();                  // "16777216"
 /// ```
 pub fn count_all<P: Prefix>(table: &FamilyTable<P>, alloc: Global) -> Result<Counts, AllocError> {
@@ -93,6 +93,7 @@ pub fn count_listed<P: Prefix>(table: &FamilyTable<P>, alloc: Global) -> Result<
     ensures long { IfOk result (λ listed. length listed.by_length.items ≡ P.R.bit_width + 1) }
 {
     listed_laws::<P, Value>();
+    walk_laws::<P, Value>();
     let width = P::num_bits() as usize;
     let mut by_length = vec![in alloc; 0; width + 1]?;
     let mut value_bytes: usize = 0;

@@ -1,26 +1,42 @@
 //! The values of a table.
-ghost use Rattle.std.specs.Prelude.{◌≡◌, IfOk, Some, bytes_eq, string_bytes};
+ghost use Rattle.std.specs.Prelude.{◌≡◌, IfOk, Some, bytes_eq};
 
+use arrayvec::ArrayString;
 use std::alloc::{AllocError, Global};
 use std::fmt::{self, Display, Formatter, Write};
 use std::marker::Model;
 
 /// The value of a network: any text without white space. Contracts see its bytes.
+///
+/// A short text is in the value itself, so that a lookup reads no other memory.
 #[derive(Drop)]
 pub struct Value {
-    text: String,
+    text: Text,
 }
 
+// The text of a value.
+#[derive(Drop)]
+enum Text {
+    // In the value.
+    Short(ArrayString<SHORT>),
+    // In memory of its own.
+    Long(String),
+}
+
+// The number of bytes of the longest text that is in the value.
+const SHORT: usize = 16;
+
 impl Model for Value {
-    ghost use Rattle.std.specs.Prelude.{ℕ, List, string_bytes};
+    ghost use Rattle.std.specs.Prelude.{ℕ, List};
+    ghost use Rattle.route_tables.specs.Values.{bytes_of};
 
     ghost Value = { List ℕ };
 
-    ghost view = { λ value. string_bytes value.text };
+    ghost view = { λ value. bytes_of value.text };
 }
 
 impl Value {
-    /// Returns a copy of a text.
+    /// Returns a copy of a text. A text of at most 16 bytes needs no allocation.
     ///
     /// # Errors
     ///
@@ -34,7 +50,10 @@ impl Value {
     pub fn new(text: &str, alloc: Global) -> Result<Value, AllocError>
         ensures { IfOk result (λ value. value ≡ text.now) }
     {
-        let text = String::from_str(alloc, text)?;
+        let text = match ArrayString::from(text) {
+            Ok(short) => Text::Short(short),
+            Err(_) => Text::Long(String::from_str(alloc, text)?),
+        };
         Ok(Value { text })
     }
 
@@ -48,7 +67,10 @@ impl Value {
     pub fn as_str(&self) -> &str
         ensures { result.now ≡ self.now }
     {
-        self.text.as_str()
+        match &self.text {
+            Text::Short(text) => text.as_str(),
+            Text::Long(text) => text.as_str(),
+        }
     }
 }
 

@@ -4,6 +4,12 @@
 #[cfg(test)]
 mod address_sets;
 #[cfg(test)]
+mod json;
+#[cfg(test)]
+mod matching;
+#[cfg(test)]
+mod pieces;
+#[cfg(test)]
 mod printing;
 #[cfg(test)]
 mod reading;

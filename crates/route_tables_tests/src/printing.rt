@@ -1,22 +1,21 @@
-//! What each command of the program `routes` prints, and which command lines are refused.
+//! What the commands of the program `routes` print that do not check or search, and how command lines are read.
 //!
 //! A case of `PRINTINGS` is a command line over the texts `old`, `new` and `access`, and what the command prints. The
 //! expected texts are written by hand.
 
-use route_tables::access::first_other;
-use route_tables::addresses::{Address, parse_address};
-use route_tables::arguments::{
-    Command, Comparison, Format, Invocation, Options, Question, Report, UsageError, parse,
-};
-use route_tables::commands::{print_answers, print_comparison, print_report, print_within};
-use route_tables::help::{HELP, VERSION};
-use route_tables::load::{BadLines, Loaded, Reading, load};
-use route_tables::matching::{Selected, first_address, print_lines};
+use route_tables::access::Precedence;
+use route_tables::arguments::{Comparison, Format, Invocation, Options, Report, Task, parse};
+use route_tables::commands::lookups::{Looking, look_up_words};
+use route_tables::commands::printer::Printer;
+use route_tables::commands::questions::Seen;
+use route_tables::commands::{list, list_within, print_comparison, print_report};
+use route_tables::load::{BadLines, Loaded, Reading, TableKind, load};
+use route_tables::lookup::Relation;
+use route_tables::matching::{Selected, Selection, Which};
 use route_tables::network::{HostBits, parse_network};
+use route_tables::questions::{Asked, Asking, Mapped};
 use route_tables::table::Table;
 use std::alloc::Global;
-use std::io::Write;
-use std::net::IpAddr;
 use std::str;
 use std::test::Fail;
 
@@ -29,14 +28,10 @@ const NEW: &str =
 
 const ACCESS: &str = "10.0.0.0/8 allow\n10.1.0.0/16 deny\n10.1.2.0/24 allow\n::/0 allow\n";
 
-const LOG: &str =
-    "10.1.2.3 - GET /\nfrom 10.9.9.9:443.\n[2001:db8::1]:80\n12:30:45\n11.0.0.1, not 10.0.0.1\n";
-
 /// A command line, and what the command prints.
 type Printing = (&'static [&'static str], &'static str);
 
 const PRINTINGS: &[Printing] = &[
-    (&["--help"], HELP),
     (
         &[
             "lookup",
@@ -71,16 +66,6 @@ const PRINTINGS: &[Printing] = &[
         "0.0.0.0/0 up\n10.0.0.0/8 core\n10.1.2.0/24 lab\n192.0.2.0/24 test\n2001:db8::/32 six\n",
     ),
     (
-        &["check", "access", "10.9.9.9", "10.1.2.3", "11.0.0.1", "::1"],
-        "10.9.9.9 allowed 10.0.0.0/8\n10.1.2.3 denied 10.1.0.0/16\n11.0.0.1 denied none\n::1 allowed ::/0\nfalse\n",
-    ),
-    (
-        &["check", "access", "10.9.9.9"],
-        "10.9.9.9 allowed 10.0.0.0/8\ntrue\n",
-    ),
-    (&["check", "old", "10.9.9.9"], "0.0.0.0/0 up\n"),
-    (&["--version"], VERSION),
-    (
         &["lookup", "--json", "new", "10.64.0.1", "::1"],
         "{\"address\":\"10.64.0.1\",\"network\":\"10.64.0.0/10\",\"value\":\"vpn\"}\n{\"address\":\"::1\",\"network\":null,\"value\":null}\n",
     ),
@@ -92,7 +77,23 @@ const PRINTINGS: &[Printing] = &[
         &["list", "--json", "old", "10.1.0.0/16"],
         "{\"network\":\"10.1.0.0/16\",\"value\":\"core\"}\n{\"network\":\"10.1.2.0/24\",\"value\":\"lab\"}\n",
     ),
+    (
+        &["lookup", "--all", "old", "10.1.2.3"],
+        "10.1.2.3 0.0.0.0/0 up\n10.1.2.3 10.0.0.0/8 core\n10.1.2.3 10.1.0.0/16 core\n10.1.2.3 10.1.2.0/24 lab\n",
+    ),
+    (
+        &["lookup", "--longer", "old", "10.1.0.0/16"],
+        "10.1.0.0/16 10.1.0.0/16 core\n10.1.0.0/16 10.1.2.0/24 lab\n",
+    ),
+    (
+        &["lookup", "--exact", "old", "10.1.0.0/16", "10.1.0.0/17"],
+        "10.1.0.0/16 10.1.0.0/16 core\n10.1.0.0/17 none\n",
+    ),
     (&["union", "access"], "10.0.0.0/8\n::/0\n"),
+    (
+        &["union", "--json", "access"],
+        "{\"network\":\"10.0.0.0/8\"}\n{\"network\":\"::/0\"}\n",
+    ),
     (
         &["intersect", "access", "new"],
         "10.0.0.0/8\n2001:db8::/32\n",
@@ -109,14 +110,6 @@ const PRINTINGS: &[Printing] = &[
         &["ranges", "access"],
         "10.0.0.0-10.255.255.255\n::-ffff:ffff:ffff:ffff:ffff:ffff:ffff:ffff\n",
     ),
-    (
-        &["match", "access"],
-        "10.1.2.3 - GET /\nfrom 10.9.9.9:443.\n[2001:db8::1]:80\ntrue\n",
-    ),
-    (
-        &["match", "-v", "access"],
-        "12:30:45\n11.0.0.1, not 10.0.0.1\ntrue\n",
-    ),
 ];
 
 /// Returns the table of a text by its name.
@@ -130,44 +123,24 @@ fn table(name: &str, alloc: Global) -> Result<Table, Fail> {
     Ok(table)
 }
 
-/// Returns the addresses of words.
-fn addresses<'a>(words: &[&'a str], alloc: Global) -> Result<Vec<Address<'a>>, Fail> {
-    let mut addresses = Vec::new(alloc);
-    for word in words {
-        addresses.push(parse_address(word)?)?;
-    }
-    Ok(addresses)
-}
-
-/// Prints a report on the table of one name.
-fn report(
-    report: Report,
-    names: &[&str],
-    format: Format,
-    out: &mut Vec<u8>,
+/// Prints what a command prints.
+fn print_command(
+    invocation: &Invocation<'_>,
+    out: &mut Printer<Vec<u8>>,
     alloc: Global,
 ) -> Result<(), Fail> {
-    let mut table = table(first(names), alloc)?;
-    print_report(&mut table, report, format, alloc, out)?;
-    Ok(())
-}
-
-/// Returns the first name.
-fn first<'a>(names: &[&'a str]) -> &'a str {
-    names.first().copied().unwrap_or("")
-}
-
-/// Prints the parts of a table in networks.
-fn within(
-    names: &[&str],
-    words: &[&str],
-    format: Format,
-    out: &mut Vec<u8>,
-    alloc: Global,
-) -> Result<(), Fail> {
-    let table = table(first(names), alloc)?;
-    for word in words {
-        print_within(&table, parse_network(word)?, format, alloc, out)?;
+    let words = invocation.words.as_slice();
+    match (invocation.task, invocation.tables.as_slice()) {
+        (Task::Report(report), [name]) => print_report(
+            &mut table(name, alloc)?,
+            report,
+            alloc,
+            out,
+        )?,
+        (Task::Compare(comparison), [left, right]) => compare(comparison, left, right, out, alloc)?,
+        (Task::List, [name]) => within(&table(name, alloc)?, words, out)?,
+        (Task::Lookup(relation), [name]) => look_up(&table(name, alloc)?, relation, words, out)?,
+        _ => {}
     }
     Ok(())
 }
@@ -177,98 +150,56 @@ fn compare(
     comparison: Comparison,
     left: &str,
     right: &str,
-    format: Format,
-    out: &mut Vec<u8>,
+    out: &mut Printer<Vec<u8>>,
     alloc: Global,
 ) -> Result<(), Fail> {
     let left = table(left, alloc)?;
-    compare_with(comparison, &left, right, format, out, alloc)
-}
-
-fn compare_with(
-    comparison: Comparison,
-    left: &Table,
-    right: &str,
-    format: Format,
-    out: &mut Vec<u8>,
-    alloc: Global,
-) -> Result<(), Fail> {
     let right = table(right, alloc)?;
-    print_comparison(left, &right, comparison, format, alloc, out)?;
+    let mut is_same = true;
+    print_comparison(&left, &right, comparison, alloc, out, &mut is_same)?;
     Ok(())
 }
 
-/// Asks a table for addresses.
-fn ask(
-    question: Question,
-    names: &[&str],
-    words: &[&str],
-    format: Format,
-    out: &mut Vec<u8>,
-    alloc: Global,
-) -> Result<(), Fail> {
-    let addresses = addresses(words, alloc)?;
-    let table = table(first(names), alloc)?;
-    match question {
-        Question::Lookup => {
-            print_answers(&table, addresses.as_slice(), question, format, alloc, out)?;
-            Ok(())
-        }
-        Question::Check => check_in(&table, addresses.as_slice(), out, alloc),
+/// Prints a table, or its parts in networks.
+fn within(table: &Table, words: &[&str], out: &mut Printer<Vec<u8>>) -> Result<(), Fail> {
+    if words.is_empty() {
+        list(table, out)?;
     }
+    for word in words {
+        list_within(table, parse_network(word)?, out)?;
+    }
+    Ok(())
 }
 
-/// Prints what `check` prints and returns, or the first entry that is no rule.
-fn check_in(
+/// Looks up words.
+fn look_up(
     table: &Table,
-    addresses: &[Address<'_>],
-    out: &mut Vec<u8>,
-    alloc: Global,
+    relation: Relation,
+    words: &[&str],
+    out: &mut Printer<Vec<u8>>,
 ) -> Result<(), Fail> {
-    if let Some((network, value)) = first_other(table) {
-        writeln!(out, "{network} {value}")?;
-        return Ok(());
-    }
-    let are_allowed = print_answers(table, addresses, Question::Check, Format::Text, alloc, out)?;
-    writeln!(out, "{are_allowed}")?;
-    Ok(())
-}
-
-/// Prints the lines of a text that match a table, and whether there are any.
-fn filter(
-    names: &[&str],
-    selected: Selected,
-    out: &mut Vec<u8>,
-    alloc: Global,
-) -> Result<(), Fail> {
-    let table = table(first(names), alloc)?;
-    let is_any = print_lines(&table, LOG.as_bytes(), selected, out)?;
-    writeln!(out, "{is_any}")?;
-    Ok(())
-}
-
-/// Carries out a command line.
-fn carry_out(words: &[&str], out: &mut Vec<u8>, alloc: Global) -> Result<(), Fail> {
-    let Ok(Invocation { command, options }) = parse(words) else {
-        writeln!(out, "bad usage")?;
-        return Ok(());
+    let looking = Looking {
+        relation,
+        asking: Asking {
+            asked: Asked::Networks(HostBits::Refused),
+            mapped: Mapped::AsIpv4,
+        },
+        bad_questions: BadLines::Refused,
     };
-    let format = options.format;
-    match command {
-        Command::Print(text) => Ok(out.extend_from_slice(text.as_bytes())?),
-        Command::Report(kind, names) => report(kind, names, format, out, alloc),
-        Command::Within(names, words) => within(names, words, format, out, alloc),
-        Command::Compare(kind, left, right) => compare(kind, left, right, format, out, alloc),
-        Command::Ask(kind, names, words) => ask(kind, names, words, format, out, alloc),
-        Command::Match(names, _) => filter(names, options.selected, out, alloc),
+    match look_up_words(table, words, looking, &mut Seen::new(), out) {
+        Ok(()) => Ok(()),
+        Err(_) => Err(Fail::new("a question is bad")),
     }
 }
 
 /// Returns what a command line prints.
 fn printed(words: &[&str], alloc: Global) -> Result<Vec<u8>, Fail> {
-    let mut out = Vec::new(alloc);
-    carry_out(words, &mut out, alloc)?;
-    Ok(out)
+    let Ok(invocation) = parse(words, alloc) else {
+        return Err(Fail::new("bad usage"));
+    };
+    let mut out = Printer::new(invocation.options.format, alloc, Vec::new(alloc));
+    print_command(&invocation, &mut out, alloc)?;
+    Ok(out.into_inner())
 }
 
 #[test]
@@ -297,81 +228,122 @@ fn stats_count(rt: HostRuntime) -> Result<(), Fail> {
     Ok(())
 }
 
-/// Command lines that are refused, and why.
-const REFUSED: &[(&[&str], UsageError<'static>)] = &[
-    (&[], UsageError::Empty),
-    (&["lookup"], UsageError::Arguments("lookup")),
-    (&["lookup", "--", "::1"], UsageError::Arguments("lookup")),
-    (&["diff", "old"], UsageError::Arguments("diff")),
-    (&["merge", "old", "new"], UsageError::Command("merge")),
-    (&["help", "merge"], UsageError::Command("merge")),
-    (&["list", "--jsn", "old"], UsageError::Option("--jsn")),
-    (
-        &["aggregate", "--json", "old"],
-        UsageError::Arguments("aggregate"),
-    ),
-    (&["list", "-v", "old"], UsageError::Arguments("list")),
+/// Command lines that are refused.
+const REFUSED: &[&[&str]] = &[
+    &[],
+    &["lookup"],
+    &["lookup", "--", "::1"],
+    &["diff", "old"],
+    &["diff", "old", "new", "newer"],
+    &["merge", "old", "new"],
+    &["list", "--jsn", "old"],
+    &["list", "-v", "old"],
+    &["lookup", "--all", "--exact", "old"],
 ];
 
 #[test]
-fn unknown_commands_are_refused(rt: HostRuntime) {
-    for (words, error) in REFUSED {
-        assert!(rt; parse(words) == Err(*error));
+fn bad_command_lines_are_refused(rt: HostRuntime) {
+    for words in REFUSED {
+        assert!(rt; parse(words, rt.alloc()).is_err());
     }
+}
+
+/// Command lines, and what they say: the task, the tables and the words.
+type Line = (
+    &'static [&'static str],
+    Task,
+    &'static [&'static str],
+    &'static [&'static str],
+);
+
+const LINES: &[Line] = &[
+    (&["list", "old"], Task::List, &["old"], &[]),
+    (&["list", "old", "::/0"], Task::List, &["old"], &["::/0"]),
+    (
+        &["list", "old", "new", "--"],
+        Task::List,
+        &["old", "new"],
+        &[],
+    ),
+    (
+        &["union", "--", "old", "-"],
+        Task::Report(Report::Union),
+        &["old", "-"],
+        &[],
+    ),
+    (
+        &["diff", "old", "-"],
+        Task::Compare(Comparison::Diff),
+        &["old", "-"],
+        &[],
+    ),
+    (
+        &["check", "old", "--deny-first"],
+        Task::Check(Precedence::DenyFirst),
+        &["old"],
+        &[],
+    ),
+    (
+        &["lookup", "old", "new", "--", "::1"],
+        Task::Lookup(Relation::Longest),
+        &["old", "new"],
+        &["::1"],
+    ),
+    (
+        &["lookup", "--shorter", "old", "::1"],
+        Task::Lookup(Relation::Covering),
+        &["old"],
+        &["::1"],
+    ),
+];
+
+#[test]
+fn command_lines_are_read(rt: HostRuntime) -> Result<(), Fail> {
+    for (line, task, tables, words) in LINES {
+        let Ok(read) = parse(line, rt.alloc()) else {
+            return Err(Fail::new("bad usage"));
+        };
+        assert!(rt;
+            read.task == *task
+                && read.tables.as_slice() == *tables
+                && read.words.as_slice() == *words
+        );
+    }
+    Ok(())
 }
 
 #[test]
 fn options_are_read(rt: HostRuntime) -> Result<(), Fail> {
     let words = [
+        "-q",
         "match",
         "--skip-bad",
-        "--clear-host-bits",
-        "-q",
-        "-v",
         "old",
-        "new",
-        "--",
-        "-",
+        "--clear-host-bits",
+        "-v",
+        "--no-mapped",
+        "--first",
+        "--json",
     ];
+    let Ok(read) = parse(&words, rt.alloc()) else {
+        return Err(Fail::new("bad usage"));
+    };
+    let mapped = Mapped::Kept;
     let options = Options {
         reading: Reading {
             host_bits: HostBits::Cleared,
             bad_lines: BadLines::Skipped,
+            kind: TableKind::AnyValues,
         },
-        format: Format::Text,
+        mapped,
+        format: Format::Json,
         is_quiet: true,
-        selected: Selected::Others,
     };
-    assert!(rt; parse(&words).map(|read| read.options == options) == Ok(true));
-    assert!(rt;
-        parse(&words).map(|read| read.command == Command::Match(&["old", "new"], &["-"]))
-            == Ok(true)
-    );
-    Ok(())
-}
-
-/// Lines, and the first address of each.
-const LINES: &[(&[u8], Option<&str>)] = &[
-    (b"", None),
-    (b"10.0.0.1", Some("10.0.0.1")),
-    (b"a 10.0.0.1:443 b", Some("10.0.0.1")),
-    (b"10.0.0.256 10.0.0.2.", Some("10.0.0.2")),
-    (b"add:10.0.0.1", Some("10.0.0.1")),
-    (b"[2001:db8::1]:80", Some("2001:db8::1")),
-    (b"fe80::1%eth0", Some("fe80::1")),
-    (b"::ffff:10.0.0.1", Some("::ffff:10.0.0.1")),
-    (b"12:30:45 1.2.3", None),
-    (b"\xff10.0.0.1\xff", Some("10.0.0.1")),
-];
-
-#[test]
-fn first_addresses_are_found(rt: HostRuntime) -> Result<(), Fail> {
-    for (line, text) in LINES {
-        let address = match text {
-            Some(text) => Some(text.parse::<IpAddr>()?),
-            None => None,
-        };
-        assert!(rt; first_address(line) == address);
-    }
+    let selection = Selection {
+        selected: Selected::Others,
+        which: Which::First,
+        mapped,
+    };
+    assert!(rt; read.options == options && read.task == Task::Match(selection));
     Ok(())
 }

@@ -2,10 +2,16 @@
 //!
 //! A case is a text and the result of reading it. The expected texts are written by hand.
 
+use route_tables::access::{AccessList, Precedence, idle_rules};
+use route_tables::arguments::Format;
+use route_tables::bad_lines::find_bad_lines;
 use route_tables::commands;
+use route_tables::commands::checks::{Checked, Checking, check_lines};
+use route_tables::commands::printer::Printer;
 use route_tables::excerpt::{ByteExcerpt, Excerpt};
-use route_tables::load::{BadLines, Loaded, Reading, Warnings, load, load_into};
+use route_tables::load::{BadLines, Loaded, Reading, TableKind, Warnings, load, load_into};
 use route_tables::network::HostBits;
+use route_tables::questions::Mapped;
 use route_tables::table::Table;
 use route_tables::warnings::write_bad_lines;
 use std::alloc::Global;
@@ -46,11 +52,11 @@ const READINGS: &[Case] = &[
     ),
     (
         b"# first\n\n10.0.0.0/33 a\n",
-        "line 3: invalid length after the slash: \"10.0.0.0/33 a\"",
+        "line 3: length 33 is above 32: \"10.0.0.0/33 a\"",
     ),
     (
         b"10.0.0.0/08 a\n",
-        "line 1: invalid length after the slash: \"10.0.0.0/08 a\"",
+        "line 1: \"08\" is not a length from 0 to 32: \"10.0.0.0/08 a\"",
     ),
     (
         b"10.0.0/8 a\n",
@@ -58,15 +64,15 @@ const READINGS: &[Case] = &[
     ),
     (
         b"2001:db8::/129 a\n",
-        "line 1: invalid length after the slash: \"2001:db8::/129 a\"",
+        "line 1: length 129 is above 128: \"2001:db8::/129 a\"",
     ),
     (
         b"10.1.2.3/8 a\r\n",
-        "line 1: address has bits set after the length: \"10.1.2.3/8 a\"",
+        "line 1: address has bits set after the length; use 10.0.0.0/8 or --clear-host-bits: \"10.1.2.3/8 a\"",
     ),
     (
         b"::1/64 a\n",
-        "line 1: address has bits set after the length: \"::1/64 a\"",
+        "line 1: address has bits set after the length; use ::/64 or --clear-host-bits: \"::1/64 a\"",
     ),
     (
         b"10.0.0.0/8 a\n10.0.0.0/8 a b\nnonsense\n",
@@ -79,8 +85,28 @@ const READINGS: &[Case] = &[
         "line 1: carriage return without a line feed: \"10.0.0.0/8 a?# b\"",
     ),
     (
+        b"10.0.0.0/8 gw1.example.net\n::/0 1.2.3\n",
+        "10.0.0.0/8 gw1.example.net\n::/0 1.2.3\n",
+    ),
+    (
+        b"10.0.0.0 255.0.0.0\n",
+        "line 1: the value is an address; for example, use 10.0.0.0/8 or 10.0.0.0-10.255.255.255: \"10.0.0.0 255.0.0.0\"",
+    ),
+    (
+        b"10.0.0.0/8 ::1\n",
+        "line 1: the value is an address; for example, use 10.0.0.0/8 or 10.0.0.0-10.255.255.255: \"10.0.0.0/8 ::1\"",
+    ),
+    (
+        b"10.0.0.0/8 a\xc2\xa0b\n",
+        "line 1: white space, hidden or control character in the value: \"10.0.0.0/8 a?b\"",
+    ),
+    (
+        b"10.0.0.0/8 a\xe2\x80\x8bb\n",
+        "line 1: white space, hidden or control character in the value: \"10.0.0.0/8 a?b\"",
+    ),
+    (
         b"10.0.0.0/8 \xe2\x80\xae\n",
-        "line 1: control character in the value: \"10.0.0.0/8 ?\"",
+        "line 1: white space, hidden or control character in the value: \"10.0.0.0/8 ?\"",
     ),
 ];
 
@@ -117,8 +143,17 @@ const RANGES: &[Case] = &[
         "line 1: expected an address before and after the hyphen: \"10.0.0.1-\"",
     ),
     (
-        b"10.0.0.1 - 10.0.0.2\n",
-        "line 1: more than a network and a value: \"10.0.0.1 - 10.0.0.2\"",
+        b"10.0.0.1 - 10.0.0.2\n::1 - ::1 lan # why\n",
+        "10.0.0.1/32\n10.0.0.2/32\n::1/128 lan\n",
+    ),
+    (b"10.0.0.1 -\n", "10.0.0.1/32 -\n"),
+    (
+        b"10.0.0.1 - ten\n",
+        "line 1: expected an address before and after the hyphen: \"10.0.0.1 - ten\"",
+    ),
+    (
+        b"10.0.0.1 - 10.0.0.2 a b\n",
+        "line 1: more than a network and a value: \"10.0.0.1 - 10.0.0.2 a b\"",
     ),
     (
         b"10.0.0.0/8-10.0.1.0/24 a\n",
@@ -141,7 +176,7 @@ const MARKS: &[Case] = &[
     ),
     (
         b"\n\xef\xbb\xbf10.0.0.0/8 a\n",
-        "line 2: invalid address before the slash: \"\u{feff}10.0.0.0/8 a\"",
+        "line 2: invalid address before the slash: \"?10.0.0.0/8 a\"",
     ),
 ];
 
@@ -157,7 +192,7 @@ const LENIENT: &[Case] = &[
     ),
     (
         b"ten\n10.0.0.0/8 a\n\n10.0.0.0/33\n",
-        "10.0.0.0/8 a\nskipped line 1: expected a network, an address or a range: \"ten\"\nskipped line 4: invalid length after the slash: \"10.0.0.0/33\"\n",
+        "10.0.0.0/8 a\nskipped line 1: expected a network, an address or a range: \"ten\"\nskipped line 4: length 33 is above 32: \"10.0.0.0/33\"\n",
     ),
 ];
 
@@ -165,6 +200,7 @@ const LENIENT: &[Case] = &[
 const BOTH: Reading = Reading {
     host_bits: HostBits::Cleared,
     bad_lines: BadLines::Skipped,
+    kind: TableKind::AnyValues,
 };
 
 /// Returns what is printed of the table of a text, and of the warnings, or the error.
@@ -184,11 +220,16 @@ fn loading(text: &[u8], alloc: Global) -> Result<String, Fail> {
     }
 }
 
+/// Returns what is printed of a table.
+fn listed(table: &Table, alloc: Global) -> Result<Vec<u8>, Fail> {
+    let mut out = Printer::new(Format::Text, alloc, Vec::new(alloc));
+    commands::list(table, &mut out)?;
+    Ok(out.into_inner())
+}
+
 /// Returns what is printed of a table, and of warnings.
 fn shown(table: &Table, warnings: &Warnings<'_>, alloc: Global) -> Result<String, Fail> {
-    let mut out = Vec::new(alloc);
-    commands::list(table, &mut out)?;
-    let mut text = String::from_utf8(out)?;
+    let mut text = String::from_utf8(listed(table, alloc)?)?;
     for line in &warnings.replaced {
         let (number, network) = (line.line, line.network);
         writeln!(text, "line {number}: {network}")?;
@@ -268,8 +309,7 @@ fn a_bad_line_leaves_the_routes_before_it(rt: HostRuntime) -> Result<(), Fail> {
     let mut table = Table::new(rt.alloc())?;
     let text = b"10.0.0.0/8 a\n10.0.0.0-10.0.0.2\nten\n::/0 b\n";
     assert!(rt; load_into(&mut table, text, Reading::default(), rt.alloc()).is_err());
-    let mut out = Vec::new(rt.alloc());
-    commands::list(&table, &mut out)?;
+    let out = listed(&table, rt.alloc())?;
     assert!(rt; out.as_slice() == b"10.0.0.0/8 a\n10.0.0.0/31\n10.0.0.2/32\n".as_slice());
     Ok(())
 }
@@ -296,6 +336,112 @@ fn ten_bad_lines_are_named(rt: HostRuntime) -> Result<(), Fail> {
             "skipped line 10: expected a network, an address or a range: \"j\"\nroutes: t: 2 more such lines\n"
         )
     );
+    Ok(())
+}
+
+/// Texts that are no access lists, and the first line that is refused.
+const LISTS: &[Case] = &[
+    (
+        b"10.0.0.0/8 allow\n10.1.0.1/16 deny\n",
+        "line 2: address has bits set after the length; use 10.1.0.0/16 or --clear-host-bits: \"10.1.0.1/16 deny\"",
+    ),
+    (
+        b"10.0.0.0/8 Allow\n",
+        "line 1: allow and deny are in lower case: \"10.0.0.0/8 Allow\"",
+    ),
+    (
+        b"10.0.0.0/8 allow\n::/0\n",
+        "line 2: the value is neither allow nor deny: \"::/0\"",
+    ),
+];
+
+#[test]
+fn access_lists_are_refused(rt: HostRuntime) -> Result<(), Fail> {
+    for (text, expected) in LISTS {
+        let list = AccessList::new(rt.alloc())?;
+        match list.add(text, HostBits::Refused, rt.alloc()) {
+            Ok(_) => assert!(rt; false, "{expected}"),
+            Err(error) => {
+                let printed = error.to_string(rt.alloc())?;
+                assert!(rt; printed.as_str() == *expected, "{printed}");
+            }
+        }
+    }
+    Ok(())
+}
+
+/// Returns what is printed of the lines of a text, with those skipped that are no addresses, and what they show.
+fn checked(list: &AccessList, text: &[u8], alloc: Global) -> Result<String, Fail> {
+    let checking = Checking {
+        precedence: Precedence::Longest,
+        bad_questions: BadLines::Skipped,
+        mapped: Mapped::AsIpv4,
+    };
+    let mut checked = Checked::new();
+    let mut out = Printer::new(Format::Text, alloc, Vec::new(alloc));
+    check_lines(list, text, checking, &mut checked, &mut out)?;
+    let mut text = String::from_utf8(out.into_inner())?;
+    let (count, skipped) = (checked.seen.count, checked.seen.skipped.first());
+    writeln!(text, "{} {count} {skipped:?}", checked.are_all_allowed)?;
+    Ok(text)
+}
+
+/// Lines that are checked, and what is printed.
+const CHECKS: &[Case] = &[
+    (b"", "true 0 []\n"),
+    (
+        b"# none\n\n 10.9.9.9 # why\r\n",
+        "10.9.9.9 allowed 10.0.0.0/8\ntrue 3 []\n",
+    ),
+    (b"ten\n", "false 1 [1]\n"),
+    (
+        b"10.9.9.9 10.9.9.9\n10.0.0.0/8\n::ffff:10.1.2.3\n",
+        "::ffff:10.1.2.3 denied 10.1.0.0/16\nfalse 3 [1, 2]\n",
+    ),
+];
+
+#[test]
+fn skipped_lines_are_not_allowed(rt: HostRuntime) -> Result<(), Fail> {
+    let text = b"10.0.0.0/8 allow\n10.1.0.0/16 deny\n::/0 allow\n";
+    let (list, _) = AccessList::new(rt.alloc())?.add(text, HostBits::Refused, rt.alloc())?;
+    for (lines, expected) in CHECKS {
+        let printed = checked(&list, lines, rt.alloc())?;
+        assert!(rt; printed.as_str() == *expected, "{printed}");
+    }
+    Ok(())
+}
+
+/// Returns what is printed of the rules of a list that decide no address.
+fn idle(list: &AccessList, precedence: Precedence, alloc: Global) -> Result<String, Fail> {
+    let mut text = String::new(alloc);
+    for rule in idle_rules(list, precedence, alloc)? {
+        writeln!(text, "{rule}")?;
+    }
+    Ok(text)
+}
+
+#[test]
+fn idle_rules_are_found(rt: HostRuntime) -> Result<(), Fail> {
+    let text =
+        b"10.0.0.0/8 deny\n10.0.0.0/9 allow\n10.128.0.0/9 allow\n::/0 deny\n2001:db8::/32 allow\n\
+        255.255.255.254/31 deny\n255.255.255.254 allow\n255.255.255.255 allow\n";
+    let (list, _) = AccessList::new(rt.alloc())?.add(text, HostBits::Refused, rt.alloc())?;
+    let longest = idle(&list, Precedence::Longest, rt.alloc())?;
+    assert!(rt; longest.as_str() == "10.0.0.0/8 deny\n255.255.255.254/31 deny\n");
+    let deny_first = idle(&list, Precedence::DenyFirst, rt.alloc())?;
+    assert!(rt;
+        deny_first.as_str()
+            == "10.0.0.0/9 allow\n10.128.0.0/9 allow\n255.255.255.254/32 allow\n255.255.255.255/32 allow\n2001:db8::/32 allow\n"
+    );
+    Ok(())
+}
+
+#[test]
+fn twenty_bad_lines_are_found(rt: HostRuntime) -> Result<(), Fail> {
+    let text = b"\xef\xbb\xbf::/0\na\nb\nc\nd\ne\nf\ng\nh\ni\nj\nk\nl\nm\nn\no\np\nq\nr\ns\nt\nu\n";
+    let found = find_bad_lines(text, Reading::default(), rt.alloc())?;
+    assert!(rt; found.count == 21);
+    assert!(rt; found.first.iter().map(|line| line.number).eq(2..22));
     Ok(())
 }
 

@@ -1,8 +1,9 @@
 //! The fewest networks of lists that are read without a table.
 
 use route_tables::arguments::{Format, Report};
+use route_tables::commands::printer::Printer;
 use route_tables::commands::{print_fewest_of_sorted, print_report};
-use route_tables::load::{BadLines, Loaded, Reading, load};
+use route_tables::load::{Loaded, Reading, load};
 use route_tables::network::HostBits;
 use std::alloc::Global;
 use std::test::Fail;
@@ -53,21 +54,22 @@ const OTHERS: &[&str] = &[
 
 /// Returns what is printed of a text that is read without a table, or `None`.
 fn printed(text: &str, alloc: Global) -> Result<Option<Vec<u8>>, Fail> {
-    let mut out = Vec::new(alloc);
+    let mut out = Printer::new(Format::Text, alloc, Vec::new(alloc));
     let reading = Reading::default();
     let is_sorted = print_fewest_of_sorted(text.as_bytes(), reading, alloc, &mut out)?;
-    Ok(if is_sorted { Some(out) } else { None })
+    let printed = out.into_inner();
+    Ok(if is_sorted { Some(printed) } else { None })
 }
 
 /// Returns what is printed of the table of a text.
 fn printed_of_table(text: &str, alloc: Global) -> Result<Vec<u8>, Fail> {
-    let mut out = Vec::new(alloc);
+    let mut out = Printer::new(Format::Text, alloc, Vec::new(alloc));
     let Loaded {
         mut table,
         warnings: _,
     } = load(text.as_bytes(), alloc)?;
-    print_report(&mut table, Report::Aggregate, Format::Text, alloc, &mut out)?;
-    Ok(out)
+    print_report(&mut table, Report::Aggregate, alloc, &mut out)?;
+    Ok(out.into_inner())
 }
 
 /// Returns whether a text is read without a table, and this and its table give these networks.
@@ -101,11 +103,11 @@ fn other_lists_need_a_table(rt: HostRuntime) -> Result<(), Fail> {
 fn host_bits_are_cleared(rt: HostRuntime) -> Result<(), Fail> {
     let reading = Reading {
         host_bits: HostBits::Cleared,
-        bad_lines: BadLines::Refused,
+        ..Reading::default()
     };
-    let mut out = Vec::new(rt.alloc());
+    let mut out = Printer::new(Format::Text, rt.alloc(), Vec::new(rt.alloc()));
     let text = b"10.0.0.1/9\n10.200.0.0/9\n";
     assert!(rt; print_fewest_of_sorted(text, reading, rt.alloc(), &mut out)?);
-    assert!(rt; out.as_slice() == b"10.0.0.0/8\n".as_slice());
+    assert!(rt; out.into_inner().as_slice() == b"10.0.0.0/8\n".as_slice());
     Ok(())
 }

@@ -1,297 +1,345 @@
 //! Carrying out commands: which files they read, and what they print.
 
 use crate::failure::Failure;
-use crate::session::Session;
-use anyhow::{Context, Error, Result, anyhow, ensure};
-use route_tables::access::first_other;
-use route_tables::addresses::{Address, AddressList, parse_address, read_addresses};
-use route_tables::arguments::{Command, Comparison, Question, Report};
+use crate::session::{Input, Session, Values};
+use crate::status::Status;
+use route_tables::access::{AccessList, Precedence};
+use route_tables::arguments::{Comparison, Invocation, Report, Task};
+use route_tables::commands::checks::{Checked, Checking, check_lines, check_words};
+use route_tables::commands::lookups::{Looking, look_up_lines, look_up_words};
+use route_tables::commands::printer::Printer;
+use route_tables::commands::questions::{QuestionsError, Seen};
 use route_tables::commands::{
-    print_answers, print_comparison, print_fewest_of_sorted, print_report, print_within,
+    list, list_within, print_comparison, print_fewest_of_sorted, print_report,
 };
-use route_tables::excerpt::Excerpt;
-use route_tables::matching::print_lines;
-use route_tables::network::parse_network;
+use route_tables::lookup::Relation;
+use route_tables::matching::{Searched, Selection, print_lines};
+use route_tables::messages::NetworkMessage;
+use route_tables::network::parse_network_with;
+use route_tables::questions::{Asked, Asking};
 use route_tables::table::Table;
 use std::io::Write;
 
-/// Carries out a command.
-///
-/// Returns false if `check` does not allow an address, `diff` finds a change, or `match` prints no line.
-pub fn carry_out(
+/// Carries out a command, and sets the status of what it finds.
+pub fn carry_out<W: Write + Drop>(
     session: Session<'_>,
-    command: Command<'_>,
-    out: &mut impl Write,
-) -> Result<bool, Failure> {
-    match command {
-        Command::Print(text) => out.write_all(text.as_bytes())?,
-        Command::Report(report, files) => report_on(session, report, files, out)?,
-        Command::Within(files, networks) => list_within(session, files, networks, out)?,
-        Command::Compare(comparison, left, right) => {
-            return compare(session, comparison, left, right, out);
-        }
-        Command::Ask(question, files, words) => return ask(session, question, files, words, out),
-        Command::Match(files, texts) => return filter(session, files, texts, out),
+    invocation: &Invocation<'_>,
+    out: &mut Printer<W>,
+    status: &mut Status,
+) -> Result<(), Failure> {
+    let tables = invocation.tables.as_slice();
+    let words = invocation.words.as_slice();
+    refuse_input_twice(session, invocation)?;
+    match invocation.task {
+        Task::Report(report) => report_on(session, report, tables, out),
+        Task::Compare(comparison) => compare(session, comparison, tables, out, status),
+        Task::List => list_words(session, tables, words, out),
+        Task::Lookup(relation) => look_up(session, relation, tables, words, out),
+        Task::Check(precedence) => check(session, precedence, tables, words, out, status),
+        Task::Match(selection) => search(session, selection, tables, words, out, status),
     }
-    Ok(true)
+}
+
+// Returns an error if standard input is to be read twice.
+fn refuse_input_twice(session: Session<'_>, invocation: &Invocation<'_>) -> Result<(), Failure> {
+    let words = invocation.words.as_slice();
+    let reads_input = match invocation.task {
+        Task::Lookup(_) | Task::Check(_) => words.is_empty(),
+        Task::Match(_) => words.is_empty() || words.contains(&"-"),
+        Task::Report(_) | Task::Compare(_) | Task::List => false,
+    };
+    let tables = invocation
+        .tables
+        .iter()
+        .filter(|path| **path == "-")
+        .count();
+    if tables + usize::from(reads_input) > 1 {
+        return Err(session.report("-", &"standard input cannot be read twice"));
+    }
+    Ok(())
 }
 
 // Prints a report on the table of files.
-fn report_on(
-    session: Session<'_>,
+fn report_on<'a, W: Write + Drop>(
+    session: Session<'a>,
     report: Report,
-    files: &[&str],
-    out: &mut impl Write,
+    files: &[&'a str],
+    out: &mut Printer<W>,
 ) -> Result<(), Failure> {
+    let values = match report {
+        Report::Union | Report::Ranges | Report::Count => Values::Ignored,
+        Report::Minimise | Report::Aggregate | Report::Stats => Values::Used,
+    };
     if let (Report::Aggregate, [file]) = (report, files) {
         return aggregate_file(session, file, out);
     }
-    let mut table = session.read_tables(files)?;
-    report_table(session, report, &mut table, out)
-}
-
-// Prints a report on a table.
-fn report_table(
-    session: Session<'_>,
-    report: Report,
-    table: &mut Table,
-    out: &mut impl Write,
-) -> Result<(), Failure> {
-    let format = session.options.format;
-    Ok(print_report(table, report, format, session.alloc(), out)?)
+    let mut table = session.read_tables(files, values)?;
+    Ok(print_report(&mut table, report, session.alloc(), out)?)
 }
 
 // Prints the fewest networks of a file. If they are in order and have no values, this needs no table.
-fn aggregate_file(session: Session<'_>, file: &str, out: &mut impl Write) -> Result<(), Failure> {
+fn aggregate_file<'a, W: Write + Drop>(
+    session: Session<'a>,
+    file: &'a str,
+    out: &mut Printer<W>,
+) -> Result<(), Failure> {
     let text = session.read_file(file)?;
     let reading = session.options.reading;
     if print_fewest_of_sorted(text.as_slice(), reading, session.alloc(), out)? {
         return Ok(());
     }
-    aggregate_text(session, file, text.as_slice(), out)
-}
-
-// Prints the fewest networks of the text of a file.
-fn aggregate_text(
-    session: Session<'_>,
-    file: &str,
-    text: &[u8],
-    out: &mut impl Write,
-) -> Result<(), Failure> {
-    let mut table = session.table_of(file, text)?;
-    report_table(session, Report::Aggregate, &mut table, out)
-}
-
-// Prints the parts of a table that are in one of these networks.
-fn list_within(
-    session: Session<'_>,
-    files: &[&str],
-    words: &[&str],
-    out: &mut impl Write,
-) -> Result<(), Failure> {
-    for word in words {
-        parse_network(word).context(Excerpt(word))?;
-    }
-    let table = session.read_tables(files)?;
-    for word in words {
-        list_within_word(session, &table, word, out)?;
-    }
-    Ok(())
-}
-
-// Prints the part of a table that is in a network.
-fn list_within_word(
-    session: Session<'_>,
-    table: &Table,
-    word: &str,
-    out: &mut impl Write,
-) -> Result<(), Failure> {
-    let network = parse_network(word).context(Excerpt(word))?;
-    let format = session.options.format;
-    Ok(print_within(table, network, format, session.alloc(), out)?)
+    let mut table = session.table_of(file, text.as_slice())?;
+    Ok(print_report(&mut table, Report::Aggregate, session.alloc(), out)?)
 }
 
 // Compares the tables of two files.
-fn compare(
-    session: Session<'_>,
+fn compare<'a, W: Write + Drop>(
+    session: Session<'a>,
     comparison: Comparison,
-    left: &str,
-    right: &str,
-    out: &mut impl Write,
-) -> Result<bool, Failure> {
-    refuse_input_twice(&[left, right])?;
-    let left = session.read_tables(&[left])?;
-    compare_with(session, comparison, &left, right, out)
+    files: &[&'a str],
+    out: &mut Printer<W>,
+    status: &mut Status,
+) -> Result<(), Failure> {
+    let [left, right] = files else {
+        return Ok(());
+    };
+    let values = match comparison {
+        Comparison::Diff | Comparison::Covered => Values::Used,
+        Comparison::Intersect | Comparison::Subtract => Values::Ignored,
+    };
+    let left = session.read_tables(&[*left], values)?;
+    let right = session.read_tables(&[*right], values)?;
+    let mut is_same = true;
+    let printed = print_comparison(
+        &left,
+        &right,
+        comparison,
+        session.alloc(),
+        out,
+        &mut is_same,
+    );
+    if !is_same {
+        *status = Status::Bad;
+    }
+    Ok(printed?)
 }
 
-// Compares a table with that of a file.
-fn compare_with(
-    session: Session<'_>,
-    comparison: Comparison,
-    left: &Table,
-    right: &str,
-    out: &mut impl Write,
-) -> Result<bool, Failure> {
-    let right = session.read_tables(&[right])?;
-    let format = session.options.format;
-    Ok(print_comparison(left, &right, comparison, format, session.alloc(), out)?)
-}
-
-// Asks a table for the addresses of the command line, or for those of standard input if there are none.
-fn ask(
-    session: Session<'_>,
-    question: Question,
-    files: &[&str],
+// Prints a table, or what these networks contain of it.
+fn list_words<'a, W: Write + Drop>(
+    session: Session<'a>,
+    files: &[&'a str],
     words: &[&str],
-    out: &mut impl Write,
-) -> Result<bool, Failure> {
+    out: &mut Printer<W>,
+) -> Result<(), Failure> {
+    let table = session.read_tables(files, Values::Used)?;
     if words.is_empty() {
-        refuse_input_for_table(files)?;
+        return Ok(list(&table, out)?);
     }
-    let table = session.read_tables(files)?;
-    if question == Question::Check {
-        refuse_other_values(&table, files)?;
-    }
-    if words.is_empty() {
-        ask_input(session, question, &table, out)
-    } else {
-        ask_words(session, question, &table, words, out)
-    }
-}
-
-// Asks a table for the addresses of standard input.
-fn ask_input(
-    session: Session<'_>,
-    question: Question,
-    table: &Table,
-    out: &mut impl Write,
-) -> Result<bool, Failure> {
-    let text = session.read_file("-")?;
-    ask_text(session, question, table, text.as_slice(), out)
-}
-
-// Asks a table for the addresses of a text.
-fn ask_text(
-    session: Session<'_>,
-    question: Question,
-    table: &Table,
-    text: &[u8],
-    out: &mut impl Write,
-) -> Result<bool, Failure> {
-    let list = read_addresses(text, session.alloc()).context("-")?;
-    refuse_bad_lines(session, &list)?;
-    ask_addresses(session, question, table, list.addresses.as_slice(), out)
-}
-
-// Asks a table for the addresses of the command line.
-fn ask_words(
-    session: Session<'_>,
-    question: Question,
-    table: &Table,
-    words: &[&str],
-    out: &mut impl Write,
-) -> Result<bool, Failure> {
-    let addresses = word_addresses(session, words)?;
-    ask_addresses(session, question, table, addresses.as_slice(), out)
-}
-
-// Asks a table for addresses.
-fn ask_addresses(
-    session: Session<'_>,
-    question: Question,
-    table: &Table,
-    addresses: &[Address<'_>],
-    out: &mut impl Write,
-) -> Result<bool, Failure> {
-    let format = session.options.format;
-    Ok(print_answers(table, addresses, question, format, session.alloc(), out)?)
-}
-
-// Reads the addresses of the command line.
-fn word_addresses<'a>(session: Session<'_>, words: &[&'a str]) -> Result<Vec<Address<'a>>> {
-    let mut addresses = Vec::new(session.alloc());
     for word in words {
-        match parse_address(word) {
-            Ok(address) => addresses.push(address)?,
-            Err(error) if session.skips_bad() => session.warn_of_word(word, &error),
-            Err(error) => return Err(Error::from(error).context(Excerpt(word))),
+        match parse_network_with(word, session.options.reading.host_bits) {
+            Ok(network) => list_within(&table, network, out)?,
+            Err(error) => return Err(session.report(word, &NetworkMessage { text: word, error })),
         }
     }
-    Ok(addresses)
-}
-
-// Returns an error for the first line that is no address, or warns of all of them if they are to be skipped.
-fn refuse_bad_lines(session: Session<'_>, list: &AddressList<'_>) -> Result<()> {
-    match list.bad_lines.first() {
-        None => Ok(()),
-        Some(_) if session.skips_bad() => {
-            session.warn_of_skipped(list.bad_lines.as_slice());
-            Ok(())
-        }
-        Some(line) => Err(anyhow!("line {line}: not an address").context("-")),
-    }
-}
-
-// Returns an error if a table and addresses or lines are both to come from standard input.
-fn refuse_input_for_table(files: &[&str]) -> Result<()> {
-    ensure!(
-        !files.contains(&"-"),
-        "the table and what it is asked cannot both come from standard input"
-    );
     Ok(())
 }
 
-// Returns an error if two files are both standard input.
-fn refuse_input_twice(files: &[&str]) -> Result<()> {
-    let inputs = files.iter().filter(|file| **file == "-").count();
-    ensure!(
-        inputs < 2,
-        "two tables cannot both come from standard input"
-    );
-    Ok(())
+// What is asked of a table or an access list, and what the questions so far show.
+#[derive(Drop)]
+enum Asker<'t> {
+    Lookup(&'t Table, Looking, Seen),
+    Check(&'t AccessList, Checking, Checked),
 }
 
-// Returns an error if a value is not one of an access list.
-fn refuse_other_values(table: &Table, files: &[&str]) -> Result<()> {
-    match first_other(table) {
-        Some((network, value)) => {
-            let error = anyhow!(
-                "neither allow nor deny: {network} {}",
-                Excerpt(value.as_str())
-            );
-            Err(error.context(files.first().copied().unwrap_or("-")))
+impl Asker<'_> {
+    // Answers the lines of a text.
+    fn ask_lines<'a, W: Write + Drop>(
+        &mut self,
+        text: &'a [u8],
+        out: &mut Printer<W>,
+    ) -> Result<(), QuestionsError<'a>> {
+        match self {
+            Asker::Lookup(table, looking, seen) => look_up_lines(table, text, *looking, seen, out),
+            Asker::Check(list, checking, checked) => check_lines(
+                list, text, *checking, checked, out,
+            ),
         }
-        None => Ok(()),
+    }
+
+    // Answers words.
+    fn ask_words<'a, W: Write + Drop>(
+        &mut self,
+        words: &[&'a str],
+        out: &mut Printer<W>,
+    ) -> Result<(), QuestionsError<'a>> {
+        match self {
+            Asker::Lookup(table, looking, seen) => look_up_words(table, words, *looking, seen, out),
+            Asker::Check(list, checking, checked) => check_words(
+                list, words, *checking, checked, out,
+            ),
+        }
+    }
+
+    // Returns false if an access list was asked, and something that was read is not an address that it allows.
+    fn is_good(&self) -> bool {
+        match self {
+            Asker::Lookup(..) => true,
+            Asker::Check(_, _, checked) => checked.are_all_allowed,
+        }
+    }
+
+    // Returns what a question is.
+    fn wanted(&self) -> &'static str {
+        match self {
+            Asker::Lookup(..) => "an address or a network",
+            Asker::Check(..) => "an address",
+        }
+    }
+
+    // Returns what was read.
+    fn seen(&self) -> &Seen {
+        match self {
+            Asker::Lookup(_, _, seen) => seen,
+            Asker::Check(_, _, checked) => &checked.seen,
+        }
     }
 }
 
-// Prints the lines of texts that match a table, or those that do not.
-fn filter(
+// Answers words, or the lines of standard input if there are none.
+fn ask<W: Write + Drop>(
     session: Session<'_>,
-    files: &[&str],
-    texts: &[&str],
-    out: &mut impl Write,
-) -> Result<bool, Failure> {
+    words: &[&str],
+    asker: &mut Asker<'_>,
+    out: &mut Printer<W>,
+) -> Result<(), Failure> {
+    let done = if words.is_empty() {
+        ask_input(session, asker, out)
+    } else {
+        match asker.ask_words(words, out) {
+            Ok(()) => Ok(()),
+            Err(error) => Err(session.report_questions(words, error)),
+        }
+    };
+    session.warn_of_skipped(asker.wanted(), words, &asker.seen().skipped);
+    done
+}
+
+// Answers the lines of standard input, piece by piece.
+fn ask_input<W: Write + Drop>(
+    session: Session<'_>,
+    asker: &mut Asker<'_>,
+    out: &mut Printer<W>,
+) -> Result<(), Failure> {
+    let mut pieces = session.pieces("-", Input::Questions)?;
+    for _ in 0..u64::MAX {
+        let Some(piece) = session.next_piece("-", &mut pieces)? else {
+            break;
+        };
+        if let Err(error) = asker.ask_lines(piece, out) {
+            return Err(session.report_questions(&[], error));
+        }
+        out.flush()?;
+    }
+    Ok(())
+}
+
+// Looks up words, or the lines of standard input if there are none.
+fn look_up<'a, W: Write + Drop>(
+    session: Session<'a>,
+    relation: Relation,
+    files: &[&'a str],
+    words: &[&str],
+    out: &mut Printer<W>,
+) -> Result<(), Failure> {
+    let table = session.read_tables(files, Values::Used)?;
+    let reading = session.options.reading;
+    let looking = Looking {
+        relation,
+        asking: Asking {
+            asked: Asked::Networks(reading.host_bits),
+            mapped: session.options.mapped,
+        },
+        bad_questions: reading.bad_lines,
+    };
+    ask(
+        session,
+        words,
+        &mut Asker::Lookup(&table, looking, Seen::new()),
+        out,
+    )
+}
+
+// Checks words, or the lines of standard input if there are none, and sets the status if one is not allowed.
+fn check<'a, W: Write + Drop>(
+    session: Session<'a>,
+    precedence: Precedence,
+    files: &[&'a str],
+    words: &[&str],
+    out: &mut Printer<W>,
+    status: &mut Status,
+) -> Result<(), Failure> {
+    let list = session.read_access_list(files)?;
+    session.warn_of_idle(&list, precedence, words.is_empty())?;
+    let checking = Checking {
+        precedence,
+        bad_questions: session.options.reading.bad_lines,
+        mapped: session.options.mapped,
+    };
+    let mut asker = Asker::Check(&list, checking, Checked::new());
+    let done = ask(session, words, &mut asker, out);
+    if !asker.is_good() {
+        *status = Status::Bad;
+    }
+    done
+}
+
+// Prints the lines of files that are selected, and sets the status if there are none. A file that cannot be read is reported, and the
+// others are searched.
+fn search<'a, W: Write + Drop>(
+    session: Session<'a>,
+    selection: Selection,
+    files: &[&'a str],
+    texts: &[&'a str],
+    out: &mut Printer<W>,
+    status: &mut Status,
+) -> Result<(), Failure> {
+    let table = session.read_tables(files, Values::Ignored)?;
     let texts = if texts.is_empty() { &["-"] } else { texts };
-    if texts.contains(&"-") {
-        refuse_input_for_table(files)?;
-    }
-    let table = session.read_tables(files)?;
-    let mut is_any = false;
+    let mut is_reported = false;
+    *status = Status::Bad;
     for text in texts {
-        is_any |= filter_text(session, &table, text, out)?;
+        match search_text(session, &table, selection, text, out, status) {
+            Err(Failure::Reported) => is_reported = true,
+            done => done?,
+        }
     }
-    Ok(is_any)
+    if is_reported {
+        return Err(Failure::Reported);
+    }
+    Ok(())
 }
 
-// Prints the lines of one text that match a table, or those that do not, and returns whether there is one.
-fn filter_text(
-    session: Session<'_>,
+// Prints the selected lines of one file, piece by piece, and sets the status if there is one.
+fn search_text<'a, W: Write + Drop>(
+    session: Session<'a>,
     table: &Table,
-    path: &str,
-    out: &mut impl Write,
-) -> Result<bool, Failure> {
-    let text = session.read_file(path)?;
-    let selected = session.options.selected;
-    Ok(print_lines(table, text.as_slice(), selected, out)?)
+    selection: Selection,
+    path: &'a str,
+    out: &mut Printer<W>,
+    status: &mut Status,
+) -> Result<(), Failure> {
+    let mut pieces = session.pieces(path, Input::Lines)?;
+    let mut searched = Searched::default();
+    for _ in 0..u64::MAX {
+        let Some(piece) = session.next_piece(path, &mut pieces)? else {
+            break;
+        };
+        let printed = print_lines(table, piece, selection, &mut searched, out);
+        if searched.is_any {
+            *status = Status::Good;
+        }
+        printed?;
+        out.flush()?;
+    }
+    Ok(())
 }

@@ -7,16 +7,18 @@ mod commands;
 mod failure;
 mod progress;
 mod session;
+mod status;
 
 use crate::commands::carry_out;
 use crate::failure::Failure;
 use crate::session::Session;
-use anyhow::{Error, Result, anyhow};
+use crate::status::Status;
 use route_tables::arguments::{Invocation, parse};
-use std::env::{Env, FillError};
-use std::io::{self, BufWriter, Write};
+use route_tables::commands::printer::Printer;
+use std::env::{self, Env, FillError};
+use std::io::{self, BufWriter};
 use std::process::ExitCode;
-use std::{env, str};
+use std::str;
 
 /// Returns the number of the first argument that is not UTF-8, after the name of the program.
 fn first_not_utf8(rt: &impl Env) -> Option<usize> {
@@ -32,43 +34,63 @@ fn first_not_utf8(rt: &impl Env) -> Option<usize> {
 }
 
 /// Returns the words of the command line after the name of the program.
-fn arguments(rt: &HostRuntime) -> Result<Vec<String>> {
+fn arguments(rt: &HostRuntime) -> Result<Vec<String>, Failure> {
     match env::args(rt) {
         Ok(arguments) => Ok(arguments.skip(1).collect(rt.alloc())?),
-        Err(error) => match first_not_utf8(rt) {
-            Some(number) => Err(anyhow!("argument {number}: not UTF-8")),
-            None => Err(Error::from(error)),
+        Err(_) => match first_not_utf8(rt) {
+            Some(number) => {
+                let _ = eprintln!(rt; "routes: argument {number}: not UTF-8");
+                Err(Failure::Reported)
+            }
+            None => Err(Failure::Memory),
         },
     }
 }
 
-/// Carries out the command of the command line, as `carry_out` does.
-fn run(rt: &HostRuntime) -> Result<bool, Failure> {
+/// Carries out the command of the command line, and sets the status of what it finds.
+fn run(rt: &HostRuntime, status: &mut Status) -> Result<(), Failure> {
     let arguments = arguments(rt)?;
     let words: Vec<&str> = arguments
         .iter()
         .map(|word| word.as_str())
-        .collect(rt.alloc())
-        .map_err(|error| Error::from(error))?;
-    run_words(rt, words.as_slice())
+        .collect(rt.alloc())?;
+    match parse(words.as_slice(), rt.alloc()) {
+        Ok(invocation) => run_invocation(rt, &invocation, status),
+        Err(error) => {
+            // a help text that cannot be written is no error
+            let _ = error.print(rt);
+            if error.use_stderr() {
+                return Err(Failure::Reported);
+            }
+            Ok(())
+        }
+    }
 }
 
-/// Carries out the command of these words, as `carry_out` does.
-fn run_words(rt: &HostRuntime, words: &[&str]) -> Result<bool, Failure> {
-    let Invocation { command, options } = parse(words).map_err(|error| Error::from(error))?;
-    let mut out = BufWriter::new(rt.alloc(), io::writer(rt))?;
-    let is_good = carry_out(Session { rt, options }, command, &mut out)?;
-    out.flush()?;
-    Ok(is_good)
+/// Carries out a command, and sets the status of what it finds.
+fn run_invocation(
+    rt: &HostRuntime,
+    invocation: &Invocation<'_>,
+    status: &mut Status,
+) -> Result<(), Failure> {
+    let options = invocation.options;
+    let out = BufWriter::new(rt.alloc(), io::writer(rt))?;
+    let mut out = Printer::new(options.format, rt.alloc(), out);
+    let done = carry_out(Session { rt, options }, invocation, &mut out, status);
+    // what was found before an error is printed too
+    let flushed = out.flush();
+    done?;
+    Ok(flushed?)
 }
 
 fn main(rt: HostRuntime) -> ExitCode {
-    match run(&rt) {
-        Ok(true) | Err(Failure::ClosedOutput) => ExitCode::SUCCESS,
-        Ok(false) => ExitCode::FAILURE,
-        Err(Failure::Error(error)) => {
-            let _ = eprintln!(rt; "routes: {error:#}");
-            ExitCode::from(2)
+    let mut status = Status::Good;
+    match run(&rt, &mut status) {
+        Ok(()) | Err(Failure::ClosedOutput) => {}
+        Err(failure) => {
+            status = Status::Failed;
+            failure.report(&rt);
         }
     }
+    ExitCode::from(status as u8)
 }

@@ -1,38 +1,39 @@
 //! A progress line for inputs that take long to read.
 
+use crate::session::Source;
 use std::io::{self, Read};
 use std::time::Instant;
 
-/// A reader that shows once a second on standard error how much is read.
+/// A source that shows once a second on standard error how much is read, unless it is to be quiet.
 #[derive(Drop)]
-pub struct Watched<'a, R: Read + Drop> {
+pub struct Watched<'a> {
     rt: &'a HostRuntime,
     name: &'a str,
-    reader: R,
+    source: Source,
     start: Instant,
+    is_shown: bool,
     // the bytes that are read, and the seconds at which this was last shown
     bytes: u64,
     seconds: u64,
 }
 
-impl<'a, R: Read + Drop> Watched<'a, R> {
-    /// Watches a reader of the file with this name.
-    pub fn new(rt: &'a HostRuntime, name: &'a str, reader: R) -> io::Result<Watched<'a, R>> {
+impl<'a> Watched<'a> {
+    /// Watches the source with this name.
+    pub fn new(
+        rt: &'a HostRuntime,
+        name: &'a str,
+        source: Source,
+        is_shown: bool,
+    ) -> io::Result<Watched<'a>> {
         Ok(Watched {
             rt,
             name,
-            reader,
+            source,
             start: Instant::now(rt)?,
+            is_shown,
             bytes: 0,
             seconds: 0,
         })
-    }
-
-    /// Clears the line that was shown last.
-    pub fn clear(&self) {
-        if self.seconds > 0 {
-            let _ = eprint!(self.rt; "\r\x1b[K");
-        }
     }
 
     // Shows how much is read if a second passed since it was last shown.
@@ -45,13 +46,26 @@ impl<'a, R: Read + Drop> Watched<'a, R> {
         }
         Ok(())
     }
+
+    // Clears the line that was shown last.
+    fn clear(&self) {
+        if self.seconds > 0 {
+            let _ = eprint!(self.rt; "\r\x1b[K");
+        }
+    }
 }
 
-impl<R: Read + Drop> Read for Watched<'_, R> {
+impl Read for Watched<'_> {
     fn read(&mut self, buf: &mut [u8]) -> io::Result<usize> {
-        let count = self.reader.read(buf)?;
-        self.bytes = self.bytes.saturating_add(count as u64);
-        self.show()?;
+        let count = self.source.read(buf)?;
+        if self.is_shown {
+            self.bytes = self.bytes.saturating_add(count as u64);
+            if count == 0 {
+                self.clear();
+            } else {
+                self.show()?;
+            }
+        }
         Ok(count)
     }
 }

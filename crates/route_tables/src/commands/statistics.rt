@@ -1,20 +1,11 @@
 //! What `stats` prints.
 
-use crate::stats::{Counts, count_all};
-use crate::table::Table;
-use std::alloc::Global;
+use crate::stats::Counts;
 use std::io::{self, Write};
 
-/// Prints counts and memory of both families, and a bar for each length of networks.
-pub fn stats<W: Write>(table: &Table, alloc: Global, out: &mut W) -> io::Result<()> {
-    writeln!(out, "IPv4")?;
-    print_counts(&count_all(&table.ipv4, alloc)?, out)?;
-    writeln!(out, "IPv6")?;
-    print_counts(&count_all(&table.ipv6, alloc)?, out)
-}
-
-// Prints the counts of a family, and a bar for each length of its networks.
-fn print_counts<W: Write>(counts: &Counts, out: &mut W) -> io::Result<()> {
+/// Prints counts and memory of a family, and a bar for each length of its networks.
+pub fn print_counts<W: Write>(family: &str, counts: &Counts, out: &mut W) -> io::Result<()> {
+    writeln!(out, "{family}")?;
     writeln!(out, "  entries    {}", counts.entries)?;
     writeln!(out, "  nodes      {}", counts.nodes)?;
     writeln!(

@@ -7,7 +7,7 @@ use Rattle.route_tables.proofs.fewest.rank_values.Goals as goal
 pub loop-network-init : goal.loop-network-init
 loop-network-init g c =
     let gives = c.into_iter-network-iterator.ensures.into_iter_gives in
-    (tt, tt, ranking_start g.P.Prefix.path g.P.Prefix.IsFitting _ g.P.Prefix.back c.put_laws.ensures c.args.table.now.entries gives.4.is_map.keys_within _ gives.0 _ (ap texts_of c.new-texts.ensures.empty) _ (search rules))
+    (tt, tt, ranking_start g.P.Prefix.path g.P.Prefix.IsFitting _ g.P.Prefix.back c.put_laws.ensures c.args.table.now.entries gives.3.is_map.keys_within _ gives.0 _ (ap texts_of c.new-texts.ensures.empty) _ (search rules))
 
 pub insert-requires : goal.insert-requires
 insert-requires g c =

@@ -11,7 +11,7 @@ use Rattle.route_tables.proofs.load.add_line.Goals as goal
 pub returns-in_err-add_read-in-Ok-Some-clause-ends : goal.returns-in_err-add_read-in-Ok-Some-clause-ends
 returns-in_err-add_read-in-Ok-Some-clause-ends c =
     let p = err_from_is_err_and c.from_residual.result c.from_residual.ensures.1 in
-    let read : IsRoute c.args.reading.host_bits c.args.line.now (all_networks c.in-Ok-Some.route.0) c.in-Ok-Some.route.1.now =
+    let read : IsRoute c.args.reading c.args.line.now (all_networks c.in-Ok-Some.route.0) c.in-Ok-Some.route.1.now =
     rw c.in-Ok-Some.field-0-is at c.in-Ok-Some.ensures.read in
     let some : AddsFirst (routes_to c.in-Ok-Some.route.1.now (all_networks c.in-Ok-Some.route.0)) (entries_of c.args.table.now) (entries_of c.add_read.new.table) =
     subst (λ route. AddsFirst (routes_to route.1.now (all_networks route.0)) (entries_of c.args.table.now) (entries_of c.add_read.new.table))

@@ -18,13 +18,13 @@ loop-network-init g c = (
 
 pub add_network-requires-clause-network_bare : goal.add_network-requires-clause-network_bare
 add_network-requires-clause-network_bare g c =
-    let next = next_comes g.P.R.Key.bit_width g.P.Prefix.path g.P.Prefix.back c.args.table.now.entries c.listing_laws.ensures c.into_iter-network-iterator.ensures.into_iter_gives.4.is_map.keys_within
+    let next = next_comes g.P.R.Key.bit_width g.P.Prefix.path g.P.Prefix.back c.args.table.now.entries c.listing_laws.ensures c.into_iter-network-iterator.ensures.into_iter_gives.3.is_map.keys_within
     _ _ _ _ c.in-Some.ensures.steps c.loop-network.invariant.3 in
     subst (IsBare g.P.Prefix.path g.P.Prefix.IsFitting g.P.Prefix.back) (sym (ap (λ e. e.0) next.is)) (bare_back g.met.P.Prefix.prefix_laws next.key next.short)
 
 pub loop-network-preserved : goal.loop-network-preserved
 loop-network-preserved g c =
-    let next = next_comes g.P.R.Key.bit_width g.P.Prefix.path g.P.Prefix.back c.args.table.now.entries c.listing_laws.ensures c.into_iter-network-iterator.ensures.into_iter_gives.4.is_map.keys_within
+    let next = next_comes g.P.R.Key.bit_width g.P.Prefix.path g.P.Prefix.back c.args.table.now.entries c.listing_laws.ensures c.into_iter-network-iterator.ensures.into_iter_gives.3.is_map.keys_within
     _ _ _ _ c.in-Some.ensures.steps c.loop-network.invariant.3 in
     let key : g.P.Prefix.path c.in-Some.network ≡ next.key = ap (λ e. g.P.Prefix.path e.0) next.is ∙ path_back g.met.P.Prefix.prefix_laws next.key next.short in (
       tt,
@@ -37,5 +37,5 @@ loop-network-preserved g c =
 
 pub returns-clause-fewest : goal.returns-clause-fewest
 returns-clause-fewest g c =
-    cover_end g.P.R.Key.bit_width g.P.Prefix.path g.P.Prefix.back c.args.table.now.entries c.listing_laws.ensures c.into_iter-network-iterator.ensures.into_iter_gives.4.is_map.keys_within c.match_laws.ensures
+    cover_end g.P.R.Key.bit_width g.P.Prefix.path g.P.Prefix.back c.args.table.now.entries c.listing_laws.ensures c.into_iter-network-iterator.ensures.into_iter_gives.3.is_map.keys_within c.match_laws.ensures
     _ c.loop-network.networks.items c.in-None.ensures.steps.0 c.loop-network.invariant.3

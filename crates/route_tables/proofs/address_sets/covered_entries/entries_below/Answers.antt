@@ -10,7 +10,7 @@ pub loop-network-init : goal.loop-network-init
 loop-network-init g c = (
   tt,
   tt,
-  kept_start g.P.R.Key.bit_width g.P.Prefix.path g.P.Prefix.back (is_covered c.args.set.now.entries) c.args.table.now.entries c.listing_laws.ensures c.into_iter-network-iterator.ensures.into_iter_gives.4.is_map.keys_within
+  kept_start g.P.R.Key.bit_width g.P.Prefix.path g.P.Prefix.back (is_covered c.args.set.now.entries) c.args.table.now.entries c.listing_laws.ensures c.into_iter-network-iterator.ensures.into_iter_gives.3.is_map.keys_within
       _ _ c.into_iter-network-iterator.ensures.into_iter_gives.0 (ap (map lent_item) c.new-entries.ensures.items),
 )
 

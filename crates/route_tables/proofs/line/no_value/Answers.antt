@@ -1,0 +1,11 @@
+-- The empty value is that of any table except an access list.
+use Rattle.std.proofs.Common.{[], refl, subst, sym}
+use Rattle.route_tables.specs.Routes.{IsOfKind}
+use Rattle.route_tables.proofs.LineFields.{empty_is_no_rule}
+use Rattle.route_tables.proofs.line.no_value.Goals as goal
+
+pub returns-in-AnyValues : goal.returns-in-AnyValues
+returns-in-AnyValues c = (refl, subst (λ kind. IsOfKind kind []) (sym c.in-AnyValues.is) tt)
+
+pub returns-in-AccessList : goal.returns-in-AccessList
+returns-in-AccessList c value (none, of_kind) = empty_is_no_rule value none (subst (λ kind. IsOfKind kind value) c.in-AccessList.is of_kind)
