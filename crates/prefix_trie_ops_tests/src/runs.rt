@@ -82,7 +82,8 @@ fn is_reduced(alloc: Global) -> Result<bool, Refusal> {
 /// Returns whether two networks are shared, and two of the first table are longer than 8 bits.
 fn are_counted(alloc: Global) -> Result<bool, Refusal> {
     let (first, second) = (table(&FIRST, alloc)?, table(&SECOND, alloc)?);
-    Ok((shared(&first, &second) == 2) & (at_least(&first, 9).count() == 2))
+    let long: Vec<_> = at_least(&first, 9).collect(alloc)?;
+    Ok((shared(&first, &second) == 2) & (long.len() == 2))
 }
 
 /// Returns whether a network of one table comes with its longest match in the other, if there is one.
