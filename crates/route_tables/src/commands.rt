@@ -1,6 +1,7 @@
 //! What the commands print, over tables and a printer.
 
 pub mod checks;
+mod groups;
 mod json;
 pub mod lookups;
 pub mod printer;

@@ -1,6 +1,8 @@
 //! What a table says of addresses and networks.
+ghost use Rattle.std.specs.Prelude.{◌≡◌, ◌≤◌, ◌<◌, IfOk, length};
 ghost use Rattle.std.specs.Iterator.{IsFinite};
 
+use crate::commands::groups::{MOST, answer_together};
 use crate::commands::printer::Printer;
 use crate::commands::questions::{QuestionsError, Seen};
 use crate::lines::split_line;
@@ -9,6 +11,7 @@ use crate::lookup::{Relation, longest};
 use crate::questions::{Asking, parse_question, read_question};
 use crate::table::Table;
 use crate::value::Value;
+use prefix_trie::Ipv4Prefix;
 use prefix_trie_joint::IpPrefix;
 use std::io::{self, Write};
 
@@ -40,9 +43,7 @@ pub fn look_up_lines<'a, W: Write + Drop>(
 ) -> Result<(), QuestionsError<'a>> {
     let mut rest = text;
     while !rest.is_empty() {
-        let (line, later) = split_line(rest);
-        rest = later;
-        look_up_line(table, line, looking, seen, out)?;
+        rest = look_up_some(table, rest, looking, seen, out)?;
     }
     Ok(())
 }
@@ -65,26 +66,73 @@ pub fn look_up_words<'a, W: Write + Drop>(
     Ok(())
 }
 
-// Prints what a table has for the question of a line.
-fn look_up_line<'a, W: Write + Drop>(
+// Prints what a table has for the questions of the first lines of a text. Returns the lines after them.
+fn look_up_some<'a, W: Write + Drop>(
     table: &Table,
-    line: &'a [u8],
+    text: &'a [u8],
     looking: Looking,
     seen: &mut Seen,
     out: &mut Printer<W>,
-) -> Result<(), QuestionsError<'a>> {
-    seen.count_one();
-    match read_question(line, looking.asking) {
-        Ok(Some(question)) => answer(
-            table,
-            question.text,
-            question.network,
-            looking.relation,
-            out,
-        ),
-        Ok(None) => Ok(()),
-        Err(error) => seen.skip_or_refuse(line, error, looking.bad_questions),
+) -> Result<&'a [u8], QuestionsError<'a>>
+    requires { 0 < length text.now }
+    ensures { IfOk result (λ later. length later.now < length text.now) }
+{
+    let mut texts = [""; MOST];
+    let mut networks = [IpPrefix::V4(Ipv4Prefix::host(0)); MOST];
+    let mut count = 0;
+    let mut rest = text;
+    while count < MOST && !rest.is_empty() {
+        let (line, later) = split_line(rest);
+        rest = later;
+        seen.count_one();
+        match read_question(line, looking.asking) {
+            Ok(Some(question)) => {
+                texts[count] = question.text;
+                networks[count] = question.network;
+                count += 1;
+            }
+            Ok(None) => {}
+            Err(error) => {
+                answer_all(
+                    table,
+                    &texts[..count],
+                    &networks[..count],
+                    looking.relation,
+                    out,
+                )?;
+                seen.skip_or_refuse(line, error, looking.bad_questions)?;
+                return Ok(rest);
+            }
+        }
     }
+    answer_all(
+        table,
+        &texts[..count],
+        &networks[..count],
+        looking.relation,
+        out,
+    )?;
+    Ok(rest)
+}
+
+// Prints what a table has for questions with these texts, in order.
+fn answer_all<'a, W: Write + Drop>(
+    table: &Table,
+    texts: &[&str],
+    networks: &[IpPrefix],
+    relation: Relation,
+    out: &mut Printer<W>,
+) -> Result<(), QuestionsError<'a>>
+    requires few { length networks.now ≤ 32 }
+    requires same_length { length texts.now ≡ length networks.now }
+{
+    if relation == Relation::Longest {
+        return printed(answer_together(table, texts, networks, out));
+    }
+    for i in 0..networks.len() {
+        printed(print_found(table, texts[i], networks[i], relation, out))?;
+    }
+    Ok(())
 }
 
 // Prints what a table has for the question of a word.
@@ -97,26 +145,17 @@ fn look_up_word<'a, W: Write + Drop>(
 ) -> Result<(), QuestionsError<'a>> {
     seen.count_one();
     match parse_question(word, looking.asking) {
-        Ok(question) => answer(
-            table,
-            question.text,
-            question.network,
-            looking.relation,
-            out,
-        ),
+        Ok(question) => {
+            let (text, network) = (question.text, question.network);
+            printed(print_found(table, text, network, looking.relation, out))
+        }
         Err(error) => seen.skip_or_refuse(word.as_bytes(), error, looking.bad_questions),
     }
 }
 
-// Prints what a table has for a question with this text.
-fn answer<'a, W: Write + Drop>(
-    table: &Table,
-    text: &str,
-    network: IpPrefix,
-    relation: Relation,
-    out: &mut Printer<W>,
-) -> Result<(), QuestionsError<'a>> {
-    match print_found(table, text, network, relation, out) {
+// Returns the printer's error as that of a question.
+fn printed<'a>(printing: io::Result<()>) -> Result<(), QuestionsError<'a>> {
+    match printing {
         Ok(()) => Ok(()),
         Err(error) => Err(QuestionsError::Output(error)),
     }
