@@ -1,5 +1,5 @@
 -- Proves the facts of route tables: the listings of the examples compute.
-use Rattle.std.proofs.Common.{◌≡◌, ◌↔◌, ◌∙◌, ◌⊎◌, ◌+◌, ◌<◌, ℕ, zero, suc, Bool, true, false, true≢false, cond, List, [], ◌∷◌, Option, bytes_eq, codes, filter, inl, inr, length, refl, sym, subst, ap, arith}
+use Rattle.std.proofs.Common.{◌≡◌, ◌↔◌, ◌∙◌, ◌⊎◌, ◌+◌, ◌<◌, ◌≤◌, ℕ, zero, suc, Bool, true, false, true≢false, cond, List, [], ◌∷◌, Option, bytes_eq, codes, filter, inl, inr, length, refl, sym, subst, ap, arith}
 use Rattle.std.proofs.lemmas.List.Elements.{All-cons, All-head, All-nil}
 use Rattle.std.proofs.lemmas.List.{length-map}
 use Rattle.std.proofs.lemmas.Str.{chars-IsAscii}
@@ -9,8 +9,10 @@ use Rattle.std.specs.Option.{option_map}
 use Rattle.std.specs.Str.{IsAscii}
 use Rattle.prefix_trie_bits.specs.Model.Order.{listing_cmp}
 use Rattle.prefix_trie_bits.specs.Order.{listing_total}
-unfoldable use Rattle.prefix_trie_bits.specs.Model.Bits.{begins}
+unfoldable use Rattle.prefix_trie_bits.specs.Model.Bits.{begins, number}
+use Rattle.prefix_trie_bits.specs.Networks.{network_back, network_path}
 use Rattle.prefix_trie.specs.Terms.{first_item, last_item, no_entries, prefix_pairs, with_entry}
+use Rattle.prefix_trie_fib.specs.Networks.{is_between, is_covered_by}
 use Rattle.prefix_trie_ops.proofs.Lists.{contains_cases, contains_here, contains_later, contains_none}
 use Rattle.prefix_trie_joint.specs.Networks.{ip_back}
 use Rattle.prefix_trie_joint.specs.declared.prefix.IpPrefix.{IpPrefix}
@@ -19,10 +21,11 @@ use Rattle.route_tables.specs.AddressRanges.{AreApart}
 use Rattle.route_tables.specs.AddressSets.{AreCoveredEntries, CoversAll}
 use Rattle.route_tables.specs.Fewest.{IsFewest}
 use Rattle.route_tables.specs.Lines.{is_hidden}
+use Rattle.route_tables.specs.Networks.{AreFewestFor}
 use Rattle.route_tables.specs.declared.access.Decision.{Decision}
 use Rattle.upper_facts.specs.Routes.{RoutesHold, first_half, rules, same}
 use Rattle.upper_facts.specs.Smallest.{halves, whole}
-use Rattle.upper_facts.proofs.Smallest.{covered_in, half_listed, halves_listed, one_entry, one_long, same_answers, whole_listed}
+use Rattle.upper_facts.proofs.Smallest.{covered_in, half_listed, halves_listed, one_entry, one_long, one_network, same_answers, whole_listed}
 
 abbrev text : List ℕ
 text = codes "a"
@@ -41,6 +44,31 @@ not_fewest is =
     let a = one_long text in
     let b = ap length is.listed ∙ length-map (entries is.smallest) (λ e. (same e.0, e.1)) ∙ sym (len-entries is.smallest) in
     omega (arith, l, a, b)
+
+range_covered : (q : List Bool) → length q ≡ 1 → is_covered_by ([] ∷ []) q ≡ is_between 0 1 (number q)
+unfolding begins number
+range_covered [] long = absurd (omega (arith, long))
+range_covered (false ∷ []) long = refl
+range_covered (true ∷ []) long = refl
+range_covered (a ∷ b ∷ q) long = absurd (omega (arith, long))
+
+range_once : (q : List Bool) → length q ≡ 1 → length (filter (λ s. begins s q) ([] ∷ [])) ≤ 1
+unfolding begins
+range_once q long = omega arith
+
+range : AreFewestFor 1 0 1 ((0, 0) ∷ [])
+unfolding number
+range = record {
+  covered = range_covered;
+  once = range_once;
+  in_order = λ j k before within. absurd (omega (arith, before, within));
+  no_host_bits = All-cons (λ n. network_back 1 (network_path 1 n) ≡ n) (0, 0) [] refl (All-nil (λ n. network_back 1 (network_path 1 n) ≡ n));
+  shortest = one_network;
+}
+
+host_bits : ¬ (AreFewestFor 1 0 1 ((1, 0) ∷ []))
+unfolding number
+host_bits h = (let e = ap (λ (n : ℕ × ℕ). n.0) (All-head (λ n. network_back 1 (network_path 1 n) ≡ n) (1, 0) [] h.no_host_bits) in omega (arith, e))
 
 apart : AreApart ((0, 0) ∷ (2, 2) ∷ [])
 apart = (All-cons (λ r. 0 + 1 < r.0) (2, 2) [] (omega arith) (All-nil (λ r. 0 + 1 < r.0)), (All-nil (λ r. 2 + 1 < r.0), tt))
@@ -137,6 +165,8 @@ unfolding begins
 routes_hold = record {
   fewest = fewest;
   not_fewest = not_fewest;
+  range = range;
+  host_bits = host_bits;
   apart = apart;
   touching = touching;
   covered = covered;

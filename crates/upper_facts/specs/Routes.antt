@@ -7,6 +7,7 @@ use Rattle.route_tables.specs.AddressRanges.{AreApart}
 use Rattle.route_tables.specs.AddressSets.{AreCoveredEntries}
 use Rattle.route_tables.specs.Fewest.{IsFewest}
 use Rattle.route_tables.specs.Lines.{has_hidden, is_hidden}
+use Rattle.route_tables.specs.Networks.{AreFewestFor}
 use Rattle.route_tables.specs.Tables.{Values}
 use Rattle.route_tables.specs.declared.access.Decision.TheVariants.{Allowed, Denied, Unlisted}
 use Rattle.route_tables.specs.declared.access.Precedence.TheVariants.{DenyFirst, Longest}
@@ -28,6 +29,9 @@ pub record RoutesHold : Type 0 where
   -- two networks with one value are one network
   pub fewest : IsFewest 1 same (halves (codes "a")) (([], codes "a") ∷ [])
   pub not_fewest : ¬ (IsFewest 1 same (halves (codes "a")) ((false ∷ [], codes "a") ∷ (true ∷ [], codes "a") ∷ []))
+  -- both addresses are one network, which has no host bits
+  pub range : AreFewestFor 1 0 1 ((0, 0) ∷ [])
+  pub host_bits : ¬ (AreFewestFor 1 0 1 ((1, 0) ∷ []))
   -- ranges that touch are not apart
   pub apart : AreApart ((0, 0) ∷ (2, 2) ∷ [])
   pub touching : ¬ (AreApart ((0, 0) ∷ (1, 1) ∷ []))

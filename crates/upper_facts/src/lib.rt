@@ -13,7 +13,8 @@ pub fn worked_smallest()
     ensures { SmallestHold }
 {}
 
-/// Proves facts on route tables: fewest networks, ranges, covered entries, decisions and hidden characters.
+/// Proves facts on route tables: fewest networks, networks of a range, ranges, covered entries, decisions and hidden
+/// characters.
 #[tactic(auto, using(crate::proofs::Routes::routes_hold))]
 pub fn worked_routes()
     ensures { RoutesHold }
