@@ -1,5 +1,5 @@
 -- Networks of a table: their texts, and the networks of a range of addresses. This project's own.
-use Rattle.std.specs.Prelude.{◌≡◌, ◌==◌, ◌≤◌, ⊤, ℕ, Bool, true, false, List, [], ◌∷◌, filter, length, map}
+use Rattle.std.specs.Prelude.{◌≡◌, ◌==◌, ◌≤◌, ⊤, ℕ, All, Bool, true, false, List, [], ◌∷◌, filter, length, map}
 use Rattle.std.specs.List.{after_first, before_first, list_any}
 use Rattle.std.specs.Net.Addr.{ipv4_bits, ipv6_bits}
 use Rattle.std.specs.Net.Grammar.{IsIpText}
@@ -8,7 +8,7 @@ use Rattle.std.specs.declared.net.ip_addr.IpAddr.TheVariants as Ip
 use Rattle.std.specs.declared.net.ipv4_addr.Ipv4Addr.{Ipv4Addr}
 use Rattle.std.specs.declared.net.ipv6_addr.Ipv6Addr.{Ipv6Addr}
 use Rattle.prefix_trie_bits.specs.Model.Bits.{begins, number}
-use Rattle.prefix_trie_bits.specs.Networks.{network_path}
+use Rattle.prefix_trie_bits.specs.Networks.{network_back, network_path}
 use Rattle.prefix_trie_fib.specs.Networks.{AreInOrder, IsShortest, is_between, is_covered_by}
 use Rattle.prefix_trie_joint.specs.Networks.{ip_host, lowest_ip}
 use Rattle.prefix_trie_joint.specs.Texts.{IsIpNetworkText}
@@ -43,12 +43,13 @@ IsTextBySlash false host_bits text network = (address : IpAddr) × IsIpText text
 abbrev pub IsNetworkText : HostBits → List ℕ → IpPrefix → Type 0
 IsNetworkText host_bits text network = IsTextBySlash (has_slash text) host_bits text network
 
--- networks cover the addresses from first to last and no others, each once and in order, and no list of networks that
--- cover the same addresses is shorter
+-- networks cover the addresses from first to last and no others, each once and in order, none has host bits, and no list of
+-- networks that cover the same addresses is shorter
 pub record AreFewestFor (width first last : ℕ) (networks : List (ℕ × ℕ)) : Type 0 where
   pub covered : (q : List Bool) → length q ≡ width → is_covered_by (map (network_path width) networks) q ≡ is_between first last (number q)
   pub once : (q : List Bool) → length q ≡ width → length (filter (λ s. begins s q) (map (network_path width) networks)) ≤ 1
   pub in_order : AreInOrder width (map (network_path width) networks)
+  pub no_host_bits : All (λ n. network_back width (network_path width n) ≡ n) networks
   pub shortest : IsShortest width (map (network_path width) networks)
 
 -- the same for the addresses from an IPv4 address to another that is not before it

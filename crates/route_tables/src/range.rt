@@ -103,7 +103,8 @@ impl From<AllocError> for NetworksError {
 /// Reads a network, an address, or a range of addresses such as `10.0.0.0-10.0.1.255`.
 ///
 /// A text with a hyphen is a range: the first address, the hyphen and the last address, both of one family. Its networks
-/// are the fewest that cover these addresses and no others. They are in order, and no two of them cover the same address.
+/// are the fewest that cover these addresses and no others. They are in order, no two of them cover the same address, and
+/// none has host bits.
 /// A text without a hyphen is read as `parse_network_with` reads it.
 ///
 /// # Errors

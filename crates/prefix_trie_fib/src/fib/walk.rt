@@ -3,7 +3,7 @@
 //! Contracts see a walk as the list of the ranges still to come.
 ghost use Rattle.std.specs.Prelude.{◌≡◌, ◌<◌, ◌^◌, ◌∷◌, [], MatchOption, drop, length};
 ghost use Rattle.std.specs.Iterator.{at_most};
-ghost use Rattle.std.specs.Map.Iter.{ShowsInOrder, TakesFirst};
+ghost use Rattle.std.specs.Map.Iter.{TakesFirst};
 ghost use Rattle.prefix_trie_fib.specs.Line.{AreMerged, IsDivision, are_same};
 ghost use Rattle.prefix_trie_fib.specs.Ranges.{in_numbers, valued_ranges};
 
@@ -32,7 +32,6 @@ impl<P: Prefix, T: Copy + PartialEq, A: Allocator> Fib<P, T, A> {
     pub fn ranges(&self) -> Ranges<'_, P, T, A>
         ensures items { result ≡ valued_ranges P.R.bit_width self.now }
         ensures fits { length result < 2 ^ 64 }
-        ensures runs { ShowsInOrder (in_numbers {T = T} P.R.bits) }
         ensures division { IsDivision self.now }
         ensures merged { AreMerged (are_same T.PartialEq.eq) self.now }
     {

@@ -1,8 +1,7 @@
--- A table has no more ranges with a value than ranges, and a walk shows them in order.
+-- A table has no more ranges with a value than ranges.
 use Rattle.std.proofs.Common.{◌^◌, ◌<◌, ◌≤◌, ap, arith, length}
-use Rattle.prefix_trie_fib.specs.Ranges.{in_numbers, valued_ranges}
+use Rattle.prefix_trie_fib.specs.Ranges.{valued_ranges}
 use Rattle.prefix_trie_fib.proofs.ValuedRanges.{valued_few}
-use Rattle.prefix_trie_map.proofs.Runs.{shows_in_order}
 use Rattle.prefix_trie_fib.proofs.fib.Fib.ranges.Goals as goal
 
 pub returns-clause-fits : goal.returns-clause-fits
@@ -10,6 +9,3 @@ returns-clause-fits g c =
     let few : length (valued_ranges g.P.R.Key.bit_width c.args.self.now) ≤ length c.args.self.now = valued_few g.P.R.Key.bit_width c.args.self.now in
     let all : length c.args.self.now < 2 ^ 64 = (let e = c.len.ensures in let v = ap length c.self.view_is in let t = c.len.type_inv in omega (arith, e, v, t)) in
     omega (arith, few, all)
-
-pub returns-clause-runs : goal.returns-clause-runs
-returns-clause-runs g c = shows_in_order (in_numbers g.P.R.Key.bits)
