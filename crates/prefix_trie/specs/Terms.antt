@@ -18,7 +18,7 @@ pub use Rattle.prefix_trie_bits.specs.Laws.SplitsOff.{Splits}
 pub use Rattle.prefix_trie_table.specs.GrowthBounds.{headroom_of}
 pub use Rattle.prefix_trie_table.specs.Shape.{with_value_at, with_match_at, with_longest_at}
 pub use Rattle.prefix_trie_table.specs.Steps.{BoundsStorageGrowth}
-pub use Rattle.prefix_trie_table.specs.Walking.Joint.{IsCombination, IsJointCursorIn, combined_to_come}
+pub use Rattle.prefix_trie_table.specs.Walking.Combined.{IsCombination, IsCombinedCursorIn, combined_to_come}
 pub use Rattle.prefix_trie_map.specs.Walks.{GivesItem, lent_item}
 pub use Rattle.prefix_trie_map.specs.Whole.{IsWhole}
 pub use Rattle.prefix_trie.specs.Sets.{CalledAtKey, TakesKey, as_item, set_insert_reply, same_keys, same_parts, set_remove_reply}

@@ -1,6 +1,6 @@
 //! Maps from prefixes to values, their entries and their walks.
 pub use prefix_trie_map::map::entry::{Entry, OccupiedEntry, Put, VacantEntry};
 pub use prefix_trie_map::map::{
-    Combination, Cover, CoverKeys, CoverValues, IntoIter, IntoKeys, IntoValues, Iter, IterMut,
-    JointCursor, Keyed, Keys, KeysOf, PrefixMap, Values, ValuesMut,
+    Combination, CombinedCursor, Cover, CoverKeys, CoverValues, IntoIter, IntoKeys, IntoValues,
+    Iter, IterMut, Keyed, Keys, KeysOf, PrefixMap, Values, ValuesMut,
 };

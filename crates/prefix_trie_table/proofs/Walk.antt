@@ -4,8 +4,8 @@ pub mod Levels
 pub mod Stacks
 pub mod NextPlaces
 pub mod Spots
-pub mod JointNodes
-pub mod JointSpots
+pub mod CombinedNodes
+pub mod CombinedSpots
 pub mod ItemsToCome
 pub mod Selections
 pub mod StartStacks

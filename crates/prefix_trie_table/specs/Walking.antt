@@ -5,4 +5,4 @@ pub mod Covers
 pub mod Starts
 pub mod Taking
 pub mod Cursors
-pub mod Joint
+pub mod Combined

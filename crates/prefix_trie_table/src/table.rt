@@ -8,13 +8,13 @@
 //! slots and bitmaps (`build`).
 mod block_counts;
 pub mod bulk;
+pub mod combined;
+pub mod combined_spot;
 mod copying;
 mod counting;
 mod cover;
 pub mod cursor;
 mod insertion;
-pub mod joint;
-pub mod joint_spot;
 mod lending;
 mod located;
 mod lookup;

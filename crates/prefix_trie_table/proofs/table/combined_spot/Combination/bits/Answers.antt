@@ -2,8 +2,8 @@
 use Rattle.prefix_trie_table.proofs.Prelude.{◌∙◌, sym, ap, has, has-and}
 use Rattle.std.proofs.lemmas.Nat.{or_lt}
 use Rattle.prefix_trie_bits.proofs.Bitmaps.{has-or}
-use Rattle.prefix_trie_table.specs.Walking.Joint.{is_chosen}
-use Rattle.prefix_trie_table.proofs.table.joint_spot.Combination.bits.Goals as goal
+use Rattle.prefix_trie_table.specs.Walking.Combined.{is_chosen}
+use Rattle.prefix_trie_table.proofs.table.combined_spot.Combination.bits.Goals as goal
 
 pub returns-in-Union-clause-bits : goal.returns-in-Union-clause-bits
 returns-in-Union-clause-bits c = λ k.

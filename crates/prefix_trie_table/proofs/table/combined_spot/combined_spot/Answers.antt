@@ -1,10 +1,10 @@
 -- The places of the chosen bits are those of both nodes.
 use Rattle.prefix_trie_table.proofs.Prelude.{◌∙◌, ap, sym, filter, arith, All-weaker, All-contains_itself, strings, to_come}
 use Rattle.std.specs.List.{Contains}
-use Rattle.prefix_trie_table.specs.Walking.Joint.{IsJointPlace}
+use Rattle.prefix_trie_table.specs.Walking.Combined.{IsCombinedPlace}
 use Rattle.prefix_trie_table.proofs.Lookup.NodeMatches.{clear-small}
-use Rattle.prefix_trie_table.proofs.Walk.JointNodes.{joint-bits}
-use Rattle.prefix_trie_table.proofs.table.joint_spot.joint_spot.Goals as goal
+use Rattle.prefix_trie_table.proofs.Walk.CombinedNodes.{combined-bits}
+use Rattle.prefix_trie_table.proofs.table.combined_spot.combined_spot.Goals as goal
 
 pub new-places-requires : goal.new-places-requires
 new-places-requires c =
@@ -15,11 +15,11 @@ new-places-requires c =
 pub returns-clause-places : goal.returns-clause-places
 returns-clause-places c =
     c.new-places.ensures.places
-    ∙ ap (λ test. filter test (strings 5)) (λ i s. joint-bits c.args.combination c.bits-values.result c.bits-children.result c.args.left c.args.right c.bits-values.ensures.bits c.bits-children.ensures.bits s i)
+    ∙ ap (λ test. filter test (strings 5)) (λ i s. combined-bits c.args.combination c.bits-values.result c.bits-children.result c.args.left c.args.right c.bits-values.ensures.bits c.bits-children.ensures.bits s i)
 
 pub returns-clause-each : goal.returns-clause-each
 returns-clause-each c =
-    All-weaker (Contains (to_come c.new-places.result)) (IsJointPlace c.args.combination c.args.left c.args.right)
+    All-weaker (Contains (to_come c.new-places.result)) (IsCombinedPlace c.args.combination c.args.left c.args.right)
     (λ s h. let i = (c.new-places.ensures.each s).0 h in
-    (i.0, sym (joint-bits c.args.combination c.bits-values.result c.bits-children.result c.args.left c.args.right c.bits-values.ensures.bits c.bits-children.ensures.bits s) ∙ i.1)) (to_come c.new-places.result)
+    (i.0, sym (combined-bits c.args.combination c.bits-values.result c.bits-children.result c.args.left c.args.right c.bits-values.ensures.bits c.bits-children.ensures.bits s) ∙ i.1)) (to_come c.new-places.result)
     (All-contains_itself (to_come c.new-places.result))

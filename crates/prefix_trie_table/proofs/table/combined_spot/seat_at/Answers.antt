@@ -1,7 +1,7 @@
 -- There is a seat if the bit is set.
 use Rattle.prefix_trie_table.proofs.Prelude.{◌∙◌, ap, sym, cond, Some, None, value_seat}
 use Rattle.prefix_trie_table.proofs.Strings.Bits.{has_bit-is}
-use Rattle.prefix_trie_table.proofs.table.joint_spot.seat_at.Goals as goal
+use Rattle.prefix_trie_table.proofs.table.combined_spot.seat_at.Goals as goal
 
 pub returns-then-has_bit : goal.returns-then-has_bit
 returns-then-has_bit c =

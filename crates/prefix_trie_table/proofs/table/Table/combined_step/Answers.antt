@@ -1,8 +1,8 @@
 -- An advance gives the first key to come and the seats of its values.
 use Rattle.prefix_trie_table.proofs.Prelude.{ap, Contents}
 use Rattle.prefix_trie_table.proofs.Tree.Invariant.{trie_of}
-use Rattle.prefix_trie_table.proofs.Walk.JointNodes.{combined_of}
-use Rattle.prefix_trie_table.proofs.table.Table.joint_step.Goals as goal
+use Rattle.prefix_trie_table.proofs.Walk.CombinedNodes.{combined_of}
+use Rattle.prefix_trie_table.proofs.table.Table.combined_step.Goals as goal
 
 pub advance_both-requires : goal.advance_both-requires
 advance_both-requires g c =

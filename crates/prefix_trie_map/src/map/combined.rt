@@ -2,17 +2,17 @@
 ghost use Rattle.std.specs.Prelude.{◌≡◌, [], MatchOption};
 ghost use Rattle.prefix_trie_bits.specs.Model.Entries.{Entries};
 ghost use Rattle.prefix_trie_bits.specs.Model.Selections.{listing};
-ghost use Rattle.prefix_trie_table.specs.Walking.Joint.{IsCombination};
+ghost use Rattle.prefix_trie_table.specs.Walking.Combined.{IsCombination};
 ghost use Rattle.prefix_trie_map.specs.Walks.{GivesItem};
 
 use crate::map::{PrefixMap, Visits};
 use prefix_trie_bits::prefix::Prefix;
-pub use prefix_trie_table::table::joint::JointCursor;
-pub use prefix_trie_table::table::joint_spot::Combination;
+pub use prefix_trie_table::table::combined::CombinedCursor;
+pub use prefix_trie_table::table::combined_spot::Combination;
 use std::alloc::Allocator;
 
 impl<P: Prefix, T: Drop, A: Allocator> PrefixMap<P, T, A> {
-    ghost use Rattle.prefix_trie_table.specs.Walking.Joint.{IsJointCursorIn, combined_to_come};
+    ghost use Rattle.prefix_trie_table.specs.Walking.Combined.{IsCombinedCursorIn, combined_to_come};
 
     /// Starts a walk of this map and another one: over the keys of either, or over the keys that both have.
     ///
@@ -25,41 +25,41 @@ impl<P: Prefix, T: Drop, A: Allocator> PrefixMap<P, T, A> {
     /// // map = {10.0.0.0/8: 1, 10.1.0.0/16: 2}
     /// // other = {10.1.0.0/16: 8, 10.2.0.0/16: 9}
     /// let either = Combination::Union;
-    /// let mut cursor = map.joint_cursor::<_, _, ()>(&other, either);
-    /// map.joint_step::<_, _, ()>(&other, either, &mut cursor);    // Some((10.0.0.0/8, Some(1), None))
-    /// map.joint_step::<_, _, ()>(&other, either, &mut cursor);    // Some((10.1.0.0/16, Some(2), Some(8)))
-    /// map.joint_step::<_, _, ()>(&other, either, &mut cursor);    // Some((10.2.0.0/16, None, Some(9)))
-    /// map.joint_step::<_, _, ()>(&other, either, &mut cursor);    // None
+    /// let mut cursor = map.combined_cursor::<_, _, ()>(&other, either);
+    /// map.combined_step::<_, _, ()>(&other, either, &mut cursor);    // Some((10.0.0.0/8, Some(1), None))
+    /// map.combined_step::<_, _, ()>(&other, either, &mut cursor);    // Some((10.1.0.0/16, Some(2), Some(8)))
+    /// map.combined_step::<_, _, ()>(&other, either, &mut cursor);    // Some((10.2.0.0/16, None, Some(9)))
+    /// map.combined_step::<_, _, ()>(&other, either, &mut cursor);    // None
     /// ```
     #[inline]
-    pub fn joint_cursor<U: Drop, B: Allocator, X>(
+    pub fn combined_cursor<U: Drop, B: Allocator, X>(
         &self,
         other: &PrefixMap<P, U, B>,
         combination: Combination,
-    ) -> JointCursor<P::R>
-        ensures is_there { IsJointCursorIn P.R.bits P.R.bit_width self.now.build other.now.build
+    ) -> CombinedCursor<P::R>
+        ensures is_there { IsCombinedCursorIn P.R.bits P.R.bit_width self.now.build other.now.build
             combination result }
         ensures items { (both : Entries X)
             → IsCombination combination self.now.entries other.now.entries both
             → combined_to_come P.R.bits both result ≡ listing both }
     {
         self.table
-            .joint_cursor::<P::R, U, B, X>(&other.table, combination, &mut Visits::new())
+            .combined_cursor::<P::R, U, B, X>(&other.table, combination, &mut Visits::new())
     }
 
     /// Advances a walk of this map and another one. Returns the next prefix and the value that each map has there.
     ///
     /// It reads further nodes when the walk comes to them. After the last key it returns `None` each time.
     #[inline]
-    pub fn joint_step<'a, U: Drop, B: Allocator, X>(
+    pub fn combined_step<'a, U: Drop, B: Allocator, X>(
         &'a self,
         other: &'a PrefixMap<P, U, B>,
         combination: Combination,
-        cursor: &mut JointCursor<P::R>,
+        cursor: &mut CombinedCursor<P::R>,
     ) -> Option<(P, Option<&'a T>, Option<&'a U>)>
-        requires { IsJointCursorIn P.R.bits P.R.bit_width self.now.build other.now.build combination
-            cursor.old }
-        ensures is_there { IsJointCursorIn P.R.bits P.R.bit_width self.now.build other.now.build
+        requires { IsCombinedCursorIn P.R.bits P.R.bit_width self.now.build other.now.build
+            combination cursor.old }
+        ensures is_there { IsCombinedCursorIn P.R.bits P.R.bit_width self.now.build other.now.build
             combination cursor.new }
         ensures item { (both : Entries X)
             → IsCombination combination self.now.entries other.now.entries both → MatchOption result
@@ -71,7 +71,7 @@ impl<P: Prefix, T: Drop, A: Allocator> PrefixMap<P, T, A> {
     {
         let step = self
             .table
-            .joint_step::<P::R, U, B, X>(&other.table, combination, cursor, &mut Visits::new())?;
+            .combined_step::<P::R, U, B, X>(&other.table, combination, cursor, &mut Visits::new())?;
         Some((P::from_repr_len(step.0, step.1 as u8), step.2, step.3))
     }
 }

@@ -1,10 +1,10 @@
 -- A child is read if its bit is set.
 use Rattle.prefix_trie_table.proofs.Prelude.{◌<◌, ◌∙◌, ap, sym, subst, length, node_at}
 use Rattle.prefix_trie_table.specs.Blocks.Cells.{without_sizes}
-use Rattle.prefix_trie_table.specs.Walking.Joint.{kept_node}
+use Rattle.prefix_trie_table.specs.Walking.Combined.{kept_node}
 use Rattle.prefix_trie_table.proofs.Strings.Bits.{has_bit-is}
 use Rattle.prefix_trie_table.proofs.Tree.Trees.{child-there, child-missing}
-use Rattle.prefix_trie_table.proofs.table.joint_spot.child_or_blank.Goals as goal
+use Rattle.prefix_trie_table.proofs.table.combined_spot.child_or_blank.Goals as goal
 
 pub visit-requires : goal.visit-requires
 visit-requires g c =

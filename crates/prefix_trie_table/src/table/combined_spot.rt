@@ -5,7 +5,7 @@ ghost use Rattle.prefix_trie_bits.specs.Walks.{to_come};
 ghost use Rattle.prefix_trie_bits.specs.Bitmaps.{has_bit as is_set};
 ghost use Rattle.prefix_trie_table.specs.Forest.{child as child_of, child_slot as slot_of_child};
 ghost use Rattle.prefix_trie_table.specs.Locations.{seat_in};
-ghost use Rattle.prefix_trie_table.specs.Walking.Joint.{IsJointPlace, IsJointSpot, JointSteps, JointTrees, is_joint, is_chosen, kept_node};
+ghost use Rattle.prefix_trie_table.specs.Walking.Combined.{IsCombinedPlace, IsCombinedSpot, CombinedSteps, CombinedTrees, is_combined, is_chosen, kept_node};
 ghost use Rattle.prefix_trie_table.specs.Walking.Walks.{Tree};
 
 use crate::allocator::node::Node;
@@ -46,39 +46,39 @@ impl Combination {
 ///
 /// A table without a node there has a blank one. The nodes are without the sizes of their blocks.
 #[derive(Clone, Copy, Default)]
-pub struct JointSpot {
+pub struct CombinedSpot {
     // The node of the left table, and the places of both.
     spot: Spot,
     right: Node,
 }
 
 /// What the next place of two nodes is.
-pub enum JointStep<K: Key> {
+pub enum CombinedStep<K: Key> {
     /// A value: its key, the key's length in bits, and its seat in each table that has it.
     Entry(K, u32, Option<Seat>, Option<Seat>),
     /// A child, with all its places to come, and a key that its path begins.
-    Child(JointSpot, K),
+    Child(CombinedSpot, K),
     /// No place is left.
     Done,
 }
 
 /// Returns the spot of two nodes whose path has `depth` bits, with all their places to come.
 #[inline]
-pub fn joint_spot(combination: Combination, left: Node, right: Node, depth: u32) -> JointSpot
+pub fn combined_spot(combination: Combination, left: Node, right: Node, depth: u32) -> CombinedSpot
     requires few { is_set left.value_bitmap 31 ≡ false }
     requires few_right { is_set right.value_bitmap 31 ≡ false }
     ensures left { result.spot.node ≡ left }
     ensures right { result.right ≡ right }
     ensures depth { result.spot.depth ≡ depth }
     ensures places { to_come result.spot.places
-        ≡ filter (is_joint combination result.spot.node result.right) (strings 5) }
-    ensures each { All (IsJointPlace combination result.spot.node result.right)
+        ≡ filter (is_combined combination result.spot.node result.right) (strings 5) }
+    ensures each { All (IsCombinedPlace combination result.spot.node result.right)
         (to_come result.spot.places) }
 {
     let values = combination.bits(left.value_bitmap, right.value_bitmap);
     let children = combination.bits(left.child_bitmap, right.child_bitmap);
     let places = Places::new(values, children);
-    JointSpot {
+    CombinedSpot {
         spot: Spot {
             node: left,
             depth,
@@ -94,14 +94,15 @@ pub fn next_at_both<K: Key, A: Allocator, B: Allocator, V: VisitCounter, T: Drop
     left: &NodeAllocator<A, V>,
     right: &NodeAllocator<B, V>,
     combination: Combination,
-    at: &mut JointSpot,
+    at: &mut CombinedSpot,
     key: K,
     counter: &mut V,
-) -> JointStep<K>
-    requires trees { (l : Tree T) × (r : Tree U) × JointTrees K.bit_width left.now right.now l r }
-    requires spot { IsJointSpot K.bit_width left.now.slots right.now.slots combination
+) -> CombinedStep<K>
+    requires trees { (l : Tree T) × (r : Tree U)
+        × CombinedTrees K.bit_width left.now right.now l r }
+    requires spot { IsCombinedSpot K.bit_width left.now.slots right.now.slots combination
         (K.bits key) at.old }
-    ensures { JointSteps X K.IsKey K.bits K.bit_width left.now.slots right.now.slots combination
+    ensures { CombinedSteps X K.IsKey K.bits K.bit_width left.now.slots right.now.slots combination
         (K.bits key) at.old result at.new }
 {
     // Needed only for the proof: the number is a key.
@@ -110,12 +111,12 @@ pub fn next_at_both<K: Key, A: Allocator, B: Allocator, V: VisitCounter, T: Drop
     let node = at.spot.node;
     let other = at.right;
     let Some(place) = at.spot.places.next_place() else {
-        return JointStep::Done;
+        return CombinedStep::Done;
     };
     match place {
         Place::Value(bit) => {
             let (n, tail) = string_of(bit);
-            JointStep::Entry(
+            CombinedStep::Entry(
                 key.extend(depth, n, tail),
                 depth + n,
                 seat_at(node, bit),
@@ -126,7 +127,7 @@ pub fn next_at_both<K: Key, A: Allocator, B: Allocator, V: VisitCounter, T: Drop
             let first = child_or_blank(left, node, child, counter);
             let second = child_or_blank(right, other, child, counter);
             let below = key.extend(depth, 5, child);
-            JointStep::Child(joint_spot(combination, first, second, depth + 5), below)
+            CombinedStep::Child(combined_spot(combination, first, second, depth + 5), below)
         }
     }
 }

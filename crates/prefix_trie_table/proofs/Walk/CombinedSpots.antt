@@ -2,21 +2,21 @@
 use Rattle.prefix_trie_table.proofs.Prelude.{◌≡◌, ℕ, ◌+◌, ◌-◌, ◌*◌, ◌<◌, ◌≤◌, Bool, true, false, List, [], ◌∷◌, ◌++◌, length, take, filter, Option, Some, inl, inr, refl, sym, ap, ap₂, ◌∙◌, subst, arith, length-append, length-take-le, length-digits, All-head, All-tail, get, number, digits, zeros, value_bit, strings, to_come, Places, Entries, listing, listing_at_places, listing_at_value, listing_at_child, listing_of_root, some-value, Node, Seat, Store, has_bit, node_at, chunks_of, seat_of, seat_in, read, child, child_slot, Tree}
 use Rattle.std.specs.List.{All}
 use Rattle.prefix_trie_table.specs.Blocks.Cells.{without_sizes}
-use Rattle.prefix_trie_table.specs.declared.table.joint_spot.Combination.{Combination}
-use Rattle.prefix_trie_table.specs.declared.table.joint_spot.JointSpot.{JointSpot}
-use Rattle.prefix_trie_table.specs.Walking.Joint.{GivesJoint, IsCombined, IsFilled, IsJointPlace, IsJointSpot, IsJointStack, JointTrees, is_joint, joint_pending, joint_still, joint_weight, kept_node}
+use Rattle.prefix_trie_table.specs.declared.table.combined_spot.Combination.{Combination}
+use Rattle.prefix_trie_table.specs.declared.table.combined_spot.CombinedSpot.{CombinedSpot}
+use Rattle.prefix_trie_table.specs.Walking.Combined.{GivesCombined, IsCombined, IsFilled, IsCombinedPlace, IsCombinedSpot, IsCombinedStack, CombinedTrees, is_combined, combined_pending, combined_still, combined_weight, kept_node}
 use Rattle.prefix_trie_table.proofs.Tree.Trees.{read-nil}
 use Rattle.prefix_trie_table.proofs.Walk.NextPlaces.{moved_on, weight_is, weight-child, still_is, extended_by, filled_by, child_digits}
-use Rattle.prefix_trie_table.proofs.Walk.JointNodes.{one_of, seat_in_node, seat_if_bit, child_bit, child_kept, kept_few, seat_fits, child_there, stored_if_joint, all_joint_places}
+use Rattle.prefix_trie_table.proofs.Walk.CombinedNodes.{one_of, seat_in_node, seat_if_bit, child_bit, child_kept, kept_few, seat_fits, child_there, stored_if_combined, all_combined_places}
 
 -- the spot afterwards
-abbrev pub joint_moved : JointSpot → Places → JointSpot
-joint_moved p later = record p { spot = moved_on p.spot later }
+abbrev pub combined_moved : CombinedSpot → Places → CombinedSpot
+combined_moved p later = record p { spot = moved_on p.spot later }
 
 -- a spot serves for another key with the same bits down to it
-pub joint_moves : (width : ℕ) (left right : List Node) (combination : Combination) (key other : List Bool) (p : JointSpot) → IsJointSpot width left right combination key p →
-    p.spot.depth ≤ length other → take p.spot.depth other ≡ take p.spot.depth key → IsJointSpot width left right combination other p
-joint_moves width left right combination key other p i long same = record {
+pub combined_moves : (width : ℕ) (left right : List Node) (combination : Combination) (key other : List Bool) (p : CombinedSpot) → IsCombinedSpot width left right combination key p →
+    p.spot.depth ≤ length other → take p.spot.depth other ≡ take p.spot.depth key → IsCombinedSpot width left right combination other p
+combined_moves width left right combination key other p i long same = record {
   level = i.level;
   depth_is = i.depth_is;
   within = i.within;
@@ -26,12 +26,12 @@ joint_moves width left right combination key other p i long same = record {
   each = i.each;
 }
 
-pub joint_still-same : {X : Type 0} (both : Entries X) (key other : List Bool) (p : JointSpot) → take p.spot.depth other ≡ take p.spot.depth key →
-    joint_still both other p ≡ joint_still both key p
-joint_still-same both key other p same = ap (λ u. listing_at_places both u (to_come p.spot.places)) same
+pub combined_still-same : {X : Type 0} (both : Entries X) (key other : List Bool) (p : CombinedSpot) → take p.spot.depth other ≡ take p.spot.depth key →
+    combined_still both other p ≡ combined_still both key p
+combined_still-same both key other p same = ap (λ u. listing_at_places both u (to_come p.spot.places)) same
 
-module _ (width : ℕ) (v w : Store Node) (combination : Combination) (search_path : List Bool) (p : JointSpot)
-    (at : IsJointSpot width v.slots w.slots combination search_path p) (reach : length search_path ≡ width) where
+module _ (width : ℕ) (v w : Store Node) (combination : Combination) (search_path : List Bool) (p : CombinedSpot)
+    (at : IsCombinedSpot width v.slots w.slots combination search_path p) (reach : length search_path ≡ width) where
   abbrev path : List Bool
   path = take p.spot.depth search_path
 
@@ -42,7 +42,7 @@ module _ (width : ℕ) (v w : Store Node) (combination : Combination) (search_pa
   levels = string-length ∙ at.depth_is
 
   module _ (s : List Bool) (later : Places) (first : to_come p.spot.places ≡ s ∷ to_come later) where
-    pub goes_on : IsJointSpot width v.slots w.slots combination search_path (joint_moved p later)
+    pub goes_on : IsCombinedSpot width v.slots w.slots combination search_path (combined_moved p later)
     goes_on = record {
       level = at.level;
       depth_is = at.depth_is;
@@ -50,16 +50,16 @@ module _ (width : ℕ) (v w : Store Node) (combination : Combination) (search_pa
       long = at.long;
       left_is = at.left_is;
       right_is = at.right_is;
-      each = All-tail (IsJointPlace combination p.spot.node p.right) s (to_come later) (subst (All (IsJointPlace combination p.spot.node p.right)) first at.each);
+      each = All-tail (IsCombinedPlace combination p.spot.node p.right) s (to_come later) (subst (All (IsCombinedPlace combination p.spot.node p.right)) first at.each);
     }
 
     -- the place is one of the two nodes
-    chosen : is_joint combination (kept_node (read v.slots (chunks_of path))) (kept_node (read w.slots (chunks_of path))) s ≡ true
+    chosen : is_combined combination (kept_node (read v.slots (chunks_of path))) (kept_node (read w.slots (chunks_of path))) s ≡ true
     chosen =
-        sym (ap₂ (λ l r. is_joint combination l r s) at.left_is at.right_is)
-        ∙ (All-head (IsJointPlace combination p.spot.node p.right) s (to_come later) (subst (All (IsJointPlace combination p.spot.node p.right)) first at.each)).1
+        sym (ap₂ (λ l r. is_combined combination l r s) at.left_is at.right_is)
+        ∙ (All-head (IsCombinedPlace combination p.spot.node p.right) s (to_come later) (subst (All (IsCombinedPlace combination p.spot.node p.right)) first at.each)).1
 
-    module _ {T U : Type 0} (l : Tree T) (r : Tree U) (trees : JointTrees width v w l r) where
+    module _ {T U : Type 0} (l : Tree T) (r : Tree U) (trees : CombinedTrees width v w l r) where
       -- ---- the next place is that of a value
       module _ (short : length s ≤ 4) where
         pub value_space : p.spot.depth + length s ≤ width
@@ -89,15 +89,15 @@ module _ (width : ℕ) (v w : Store Node) (combination : Combination) (search_pa
 
           module _ {X : Type 0} (both : Entries X) (combined : IsCombined combination v.slots w.slots both) where
             stored : (y : X) × (get both (path ++ s) ≡ Some y)
-            stored = some-value (get both (path ++ s)) (stored_if_joint v w combination both combined at.level path levels s short ∙ chosen)
+            stored = some-value (get both (path ++ s)) (stored_if_combined v w combination both combined at.level path levels s short ∙ chosen)
 
-            pub gives_key : GivesJoint both (take (p.spot.depth + n) (bits key)) (joint_still both search_path p) (joint_still both search_path (joint_moved p later))
+            pub gives_key : GivesCombined both (take (p.spot.depth + n) (bits key)) (combined_still both search_path p) (combined_still both search_path (combined_moved p later))
             gives_key = record {
               value = stored.0;
               first =
                   still_is p.spot s later first both search_path
-                  ∙ ap (λ es. es ++ joint_still both search_path (joint_moved p later)) (listing_at_value both path s stored.0 short stored.1)
-                  ∙ ap (λ k. (k, stored.0) ∷ joint_still both search_path (joint_moved p later)) (sym taken);
+                  ∙ ap (λ es. es ++ combined_still both search_path (combined_moved p later)) (listing_at_value both path s stored.0 short stored.1)
+                  ∙ ap (λ k. (k, stored.0) ∷ combined_still both search_path (combined_moved p later)) (sym taken);
               stored = ap (get both) taken ∙ stored.1;
             }
 
@@ -139,15 +139,15 @@ module _ (width : ℕ) (v w : Store Node) (combination : Combination) (search_pa
           right_few n is = ap (λ (m : Node). has_bit m.value_bitmap 31) (is ∙ right_kept) ∙ kept_few w (at.level + 1) (path ++ s) child_levels width r trees.right_is
 
           -- the spot of the children, with all their places
-          module _ (below : List Bool) (c : JointSpot) (reaches : length below ≡ width) (extended : below ≡ path ++ digits 5 b ++ zeros (width - (p.spot.depth + 5)))
+          module _ (below : List Bool) (c : CombinedSpot) (reaches : length below ≡ width) (extended : below ≡ path ++ digits 5 b ++ zeros (width - (p.spot.depth + 5)))
               (depth_is : c.spot.depth ≡ p.spot.depth + 5) (left_is : c.spot.node ≡ kept_node (child v.slots p.spot.node b)) (right_is : c.right ≡ kept_node (child w.slots p.right b))
-              (all : to_come c.spot.places ≡ filter (is_joint combination c.spot.node c.right) (strings 5))
-              (each : All (IsJointPlace combination c.spot.node c.right) (to_come c.spot.places)) where
+              (all : to_come c.spot.places ≡ filter (is_combined combination c.spot.node c.right) (strings 5))
+              (each : All (IsCombinedPlace combination c.spot.node c.right) (to_come c.spot.places)) where
             child_string : take c.spot.depth below ≡ path ++ s
             child_string =
                 ap (λ k. take k below) depth_is ∙ extended_by search_path below width p.spot.depth 5 b s reach child_space (sym (child_digits s b five b_is)) extended
 
-            pub child_spot : IsJointSpot width v.slots w.slots combination below c
+            pub child_spot : IsCombinedSpot width v.slots w.slots combination below c
             child_spot = record {
               level = at.level + 1;
               depth_is = depth_is ∙ (let e = at.depth_is in omega (arith, e));
@@ -159,23 +159,23 @@ module _ (width : ℕ) (v w : Store Node) (combination : Combination) (search_pa
             }
 
             pub child_still : {X : Type 0} (both : Entries X) → IsCombined combination v.slots w.slots both →
-                joint_still both search_path p ≡ joint_still both below c ++ joint_still both search_path (joint_moved p later)
+                combined_still both search_path p ≡ combined_still both below c ++ combined_still both search_path (combined_moved p later)
             child_still both combined =
                 still_is p.spot s later first both search_path
-                ∙ ap (λ es. es ++ joint_still both search_path (joint_moved p later))
+                ∙ ap (λ es. es ++ combined_still both search_path (combined_moved p later))
                 (listing_at_child both path s five
-                ∙ sym (all_joint_places v w combination both combined (at.level + 1) (path ++ s) child_levels)
-                ∙ sym (ap₂ (listing_at_places both) child_string (all ∙ ap₂ (λ m n. filter (is_joint combination m n) (strings 5)) (left_is ∙ left_kept) (right_is ∙ right_kept))))
+                ∙ sym (all_combined_places v w combination both combined (at.level + 1) (path ++ s) child_levels)
+                ∙ sym (ap₂ (listing_at_places both) child_string (all ∙ ap₂ (λ m n. filter (is_combined combination m n) (strings 5)) (left_is ∙ left_kept) (right_is ∙ right_kept))))
 
-            pub child_lighter : width ≤ 128 → joint_weight c + joint_weight (joint_moved p later) < joint_weight p
+            pub child_lighter : width ≤ 128 → combined_weight c + combined_weight (combined_moved p later) < combined_weight p
             child_lighter small =
                 let space = child_space in
-                let h = weight-child p.spot.depth c.spot.depth (is_joint combination c.spot.node c.right) (to_come c.spot.places) depth_is (omega (arith, space, depth_is, small)) all in
+                let h = weight-child p.spot.depth c.spot.depth (is_combined combination c.spot.node c.right) (to_come c.spot.places) depth_is (omega (arith, space, depth_is, small)) all in
                 omega (arith, h, weight_is p.spot s later first)
 
 -- ---- the spot of the roots
 
-module _ (width : ℕ) (v w : Store Node) (combination : Combination) (search_path : List Bool) (c : JointSpot) (depth_is : c.spot.depth ≡ 0)
+module _ (width : ℕ) (v w : Store Node) (combination : Combination) (search_path : List Bool) (c : CombinedSpot) (depth_is : c.spot.depth ≡ 0)
     (left_is : c.spot.node ≡ without_sizes (node_at v.slots 0)) (right_is : c.right ≡ without_sizes (node_at w.slots 0)) where
   root_string : take c.spot.depth search_path ≡ []
   root_string = ap (λ n. take n search_path) depth_is
@@ -183,7 +183,7 @@ module _ (width : ℕ) (v w : Store Node) (combination : Combination) (search_pa
   root_kept : (nodes : List Node) → kept_node (read nodes (chunks_of (take c.spot.depth search_path))) ≡ without_sizes (node_at nodes 0)
   root_kept nodes = ap kept_node (ap (λ u. read nodes (chunks_of u)) root_string ∙ read-nil nodes)
 
-  pub root_stack : All (IsJointPlace combination c.spot.node c.right) (to_come c.spot.places) → IsJointStack width v.slots w.slots combination search_path (c ∷ [])
+  pub root_stack : All (IsCombinedPlace combination c.spot.node c.right) (to_come c.spot.places) → IsCombinedStack width v.slots w.slots combination search_path (c ∷ [])
   root_stack each = (
     depth_is,
     record {
@@ -200,9 +200,9 @@ module _ (width : ℕ) (v w : Store Node) (combination : Combination) (search_pa
 
   -- everything is to come
   pub root_pending : {X : Type 0} (both : Entries X) → IsCombined combination v.slots w.slots both →
-      to_come c.spot.places ≡ filter (is_joint combination c.spot.node c.right) (strings 5) → joint_pending both search_path (c ∷ []) ≡ listing both
+      to_come c.spot.places ≡ filter (is_combined combination c.spot.node c.right) (strings 5) → combined_pending both search_path (c ∷ []) ≡ listing both
   root_pending both combined all =
       ap₂ (listing_at_places both) root_string
-      (all ∙ ap₂ (λ m n. filter (is_joint combination m n) (strings 5)) (left_is ∙ sym (root_kept v.slots) ∙ ap (λ u. kept_node (read v.slots (chunks_of u))) root_string)
+      (all ∙ ap₂ (λ m n. filter (is_combined combination m n) (strings 5)) (left_is ∙ sym (root_kept v.slots) ∙ ap (λ u. kept_node (read v.slots (chunks_of u))) root_string)
       (right_is ∙ sym (root_kept w.slots) ∙ ap (λ u. kept_node (read w.slots (chunks_of u))) root_string))
-      ∙ all_joint_places v w combination both combined 0 [] refl ∙ listing_of_root both
+      ∙ all_combined_places v w combination both combined 0 [] refl ∙ listing_of_root both

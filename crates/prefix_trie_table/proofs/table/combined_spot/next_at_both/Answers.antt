@@ -1,8 +1,8 @@
 -- The next place of two nodes, in three cases: none is left, a key comes, or the spot of two children.
 use Rattle.prefix_trie_table.proofs.Prelude.{◌≡◌, length, refl, sym, ap, ◌∙◌, arith, length-digits}
 use Rattle.prefix_trie_table.proofs.Walk.NextPlaces.{lighter, place-value, place-child, place-small, place-child-small, same_above}
-use Rattle.prefix_trie_table.proofs.Walk.JointSpots.{goes_on, value_space, gives_key, key_filled, left_seated, right_seated, child_space, left_inside, right_inside, left_few, right_few, child_spot, child_still, child_lighter}
-use Rattle.prefix_trie_table.proofs.table.joint_spot.next_at_both.Goals as goal
+use Rattle.prefix_trie_table.proofs.Walk.CombinedSpots.{goes_on, value_space, gives_key, key_filled, left_seated, right_seated, child_space, left_inside, right_inside, left_few, right_few, child_spot, child_still, child_lighter}
+use Rattle.prefix_trie_table.proofs.table.combined_spot.next_at_both.Goals as goal
 
 pub string_of-n-requires : goal.string_of-n-requires
 string_of-n-requires g c =
@@ -60,14 +60,14 @@ extend-below-requires-clause-fits g c =
     let taken = c.in-Some.ensures.place in
     place-child-small taken.string c.in-Child.child taken.short (sym c.in-Child.is ∙ taken.place)
 
-pub joint_spot-requires-clause-few : goal.joint_spot-requires-clause-few
-joint_spot-requires-clause-few g c =
+pub combined_spot-requires-clause-few : goal.combined_spot-requires-clause-few
+combined_spot-requires-clause-few g c =
     let taken = c.in-Some.ensures.place in
     let is = place-child taken.string c.in-Child.child taken.short (sym c.in-Child.is ∙ taken.place) in
     left_few _ c.args.left.now c.args.right.now _ _ c.args.at.now c.requires.spot (g.met.K.Key.key_laws.bits_length c.args.key c.is_key.ensures.key) taken.string c.next_place.new.self taken.first c.requires.trees.0 c.requires.trees.1 c.requires.trees.2 is.0 c.in-Child.child is.1 c.child_or_blank-first.result c.child_or_blank-first.ensures
 
-pub joint_spot-requires-clause-few_right : goal.joint_spot-requires-clause-few_right
-joint_spot-requires-clause-few_right g c =
+pub combined_spot-requires-clause-few_right : goal.combined_spot-requires-clause-few_right
+combined_spot-requires-clause-few_right g c =
     let taken = c.in-Some.ensures.place in
     let is = place-child taken.string c.in-Child.child taken.short (sym c.in-Child.is ∙ taken.place) in
     right_few _ c.args.left.now c.args.right.now _ _ c.args.at.now c.requires.spot (g.met.K.Key.key_laws.bits_length c.args.key c.is_key.ensures.key) taken.string c.next_place.new.self taken.first c.requires.trees.0 c.requires.trees.1 c.requires.trees.2 is.0 c.in-Child.child is.1 c.child_or_blank-second.result c.child_or_blank-second.ensures
@@ -101,19 +101,19 @@ returns-in-Child g c =
     let is = place-child taken.string c.in-Child.child taken.short (sym c.in-Child.is ∙ taken.place) in
     let reach = g.met.K.Key.key_laws.bits_length c.args.key c.is_key.ensures.key in
     let reaches = g.met.K.Key.key_laws.bits_length c.extend-below.result c.extend-below.ensures.key in
-    let left_is = c.joint_spot.ensures.left ∙ c.child_or_blank-first.ensures in
-    let right_is = c.joint_spot.ensures.right ∙ c.child_or_blank-second.ensures in
+    let left_is = c.combined_spot.ensures.left ∙ c.child_or_blank-first.ensures in
+    let right_is = c.combined_spot.ensures.right ∙ c.child_or_blank-second.ensures in
     let below = g.K.Key.bits c.extend-below.result in
-    let child = c.joint_spot.result in (
+    let child = c.combined_spot.result in (
       (λ both combined.
           child_still _ c.args.left.now c.args.right.now _ _ c.args.at.now c.requires.spot reach taken.string c.next_place.new.self taken.first c.requires.trees.0 c.requires.trees.1 c.requires.trees.2 is.0 c.in-Child.child is.1
-          below child reaches c.extend-below.ensures.value c.joint_spot.ensures.depth left_is right_is c.joint_spot.ensures.places c.joint_spot.ensures.each both combined),
+          below child reaches c.extend-below.ensures.value c.combined_spot.ensures.depth left_is right_is c.combined_spot.ensures.places c.combined_spot.ensures.each both combined),
       child_lighter _ c.args.left.now c.args.right.now _ _ c.args.at.now c.requires.spot reach taken.string c.next_place.new.self taken.first c.requires.trees.0 c.requires.trees.1 c.requires.trees.2 is.0 c.in-Child.child is.1
-          below child reaches c.extend-below.ensures.value c.joint_spot.ensures.depth left_is right_is c.joint_spot.ensures.places c.joint_spot.ensures.each g.met.K.Key.key_laws.at_most_128,
+          below child reaches c.extend-below.ensures.value c.combined_spot.ensures.depth left_is right_is c.combined_spot.ensures.places c.combined_spot.ensures.each g.met.K.Key.key_laws.at_most_128,
       goes_on _ c.args.left.now c.args.right.now _ _ c.args.at.now c.requires.spot reach taken.string c.next_place.new.self taken.first,
       refl,
       child_spot _ c.args.left.now c.args.right.now _ _ c.args.at.now c.requires.spot reach taken.string c.next_place.new.self taken.first c.requires.trees.0 c.requires.trees.1 c.requires.trees.2 is.0 c.in-Child.child is.1
-          below child reaches c.extend-below.ensures.value c.joint_spot.ensures.depth left_is right_is c.joint_spot.ensures.places c.joint_spot.ensures.each,
-      c.joint_spot.ensures.depth,
+          below child reaches c.extend-below.ensures.value c.combined_spot.ensures.depth left_is right_is c.combined_spot.ensures.places c.combined_spot.ensures.each,
+      c.combined_spot.ensures.depth,
       same_above _ _ c.requires.spot.long below _ _ c.extend-below.ensures.value,
     )

@@ -7,13 +7,15 @@ ghost use Rattle.prefix_trie_bits.specs.Calls.Nodes.{AreNodes};
 ghost use Rattle.prefix_trie_bits.specs.Model.Entries.{Entries};
 ghost use Rattle.prefix_trie_bits.specs.Model.Selections.{listing};
 ghost use Rattle.prefix_trie_table.specs.Locations.{seat_of};
-ghost use Rattle.prefix_trie_table.specs.Walking.Joint.{GivesJoint, IsCombination, IsCombined, IsFilled, IsJointStack, JointSteps, JointTrees, joint_pending};
+ghost use Rattle.prefix_trie_table.specs.Walking.Combined.{GivesCombined, IsCombination, IsCombined, IsFilled, IsCombinedStack, CombinedSteps, CombinedTrees, combined_pending};
 ghost use Rattle.prefix_trie_table.specs.Walking.Walks.{Tree};
 
 use crate::allocator::node::ROOT;
 use crate::allocator::nodes::{NodeAllocator, VisitCounter};
 use crate::table::Table;
-use crate::table::joint_spot::{Combination, JointSpot, JointStep, joint_spot, next_at_both};
+use crate::table::combined_spot::{
+    Combination, CombinedSpot, CombinedStep, combined_spot, next_at_both,
+};
 use crate::table::seat::Seat;
 use crate::table::spot::value_at;
 use arrayvec::ArrayVec;
@@ -24,14 +26,14 @@ use std::alloc::Allocator;
 ///
 /// All steps of a walk take the combination that it started with.
 #[derive(Drop)]
-pub struct JointCursor<K: Key> {
+pub struct CombinedCursor<K: Key> {
     // The path of each spot begins this key.
     key: K,
-    stack: ArrayVec<JointSpot, 26>,
+    stack: ArrayVec<CombinedSpot, 26>,
 }
 
 impl<T: Drop, A: Allocator, V: VisitCounter> Table<T, A, V> {
-    ghost use Rattle.prefix_trie_table.specs.Walking.Joint.{IsJointCursorIn, combined_to_come};
+    ghost use Rattle.prefix_trie_table.specs.Walking.Combined.{IsCombinedCursorIn, combined_to_come};
 
     /// Starts a walk of this table and another one. It reads both roots.
     ///
@@ -39,21 +41,21 @@ impl<T: Drop, A: Allocator, V: VisitCounter> Table<T, A, V> {
     ///
     /// ```text
     /// let either = Combination::Union;
-    /// let mut cursor = left.joint_cursor(&right, either, &mut counter);
-    /// while let Some((key, len, on_left, on_right)) = left.joint_step(&right, either, &mut cursor, &mut counter) {}
+    /// let mut cursor = left.combined_cursor(&right, either, &mut counter);
+    /// while let Some((key, len, on_left, on_right)) = left.combined_step(&right, either, &mut cursor, &mut counter) {}
     /// ```
     #[inline]
-    pub fn joint_cursor<K: Key, U: Drop, B: Allocator, X>(
+    pub fn combined_cursor<K: Key, U: Drop, B: Allocator, X>(
         &self,
         other: &Table<U, B, V>,
         combination: Combination,
         counter: &mut V,
-    ) -> JointCursor<K>
+    ) -> CombinedCursor<K>
         requires within { AreWithin K.bit_width self.now.entries }
         requires nodes { AreNodes K.bit_width self.now.entries self.now.nodes }
         requires other_within { AreWithin K.bit_width other.now.entries }
         requires other_nodes { AreNodes K.bit_width other.now.entries other.now.nodes }
-        ensures is_there { IsJointCursorIn K.bits K.bit_width self.now.build other.now.build
+        ensures is_there { IsCombinedCursorIn K.bits K.bit_width self.now.build other.now.build
             combination result }
         ensures keys { (both : Entries X)
             → IsCombination combination self.now.entries other.now.entries both
@@ -62,8 +64,8 @@ impl<T: Drop, A: Allocator, V: VisitCounter> Table<T, A, V> {
         let left = self.nodes.visit(ROOT, counter).without_sizes();
         let right = other.nodes.visit(ROOT, counter).without_sizes();
         let mut stack = ArrayVec::new();
-        stack.push(joint_spot(combination, left, right, 0));
-        JointCursor {
+        stack.push(combined_spot(combination, left, right, 0));
+        CombinedCursor {
             key: K::zero(),
             stack,
         }
@@ -73,27 +75,27 @@ impl<T: Drop, A: Allocator, V: VisitCounter> Table<T, A, V> {
     ///
     /// It reads each further node once, when the walk comes to it.
     #[inline]
-    pub fn joint_step<'a, K: Key, U: Drop, B: Allocator, X>(
+    pub fn combined_step<'a, K: Key, U: Drop, B: Allocator, X>(
         &'a self,
         other: &'a Table<U, B, V>,
         combination: Combination,
-        cursor: &mut JointCursor<K>,
+        cursor: &mut CombinedCursor<K>,
         counter: &mut V,
     ) -> Option<(K, u32, Option<&'a T>, Option<&'a U>)>
         requires within { AreWithin K.bit_width self.now.entries }
         requires nodes { AreNodes K.bit_width self.now.entries self.now.nodes }
         requires other_within { AreWithin K.bit_width other.now.entries }
         requires other_nodes { AreNodes K.bit_width other.now.entries other.now.nodes }
-        requires is_there { IsJointCursorIn K.bits K.bit_width self.now.build other.now.build
+        requires is_there { IsCombinedCursorIn K.bits K.bit_width self.now.build other.now.build
             combination cursor.old }
-        ensures is_there { IsJointCursorIn K.bits K.bit_width self.now.build other.now.build
+        ensures is_there { IsCombinedCursorIn K.bits K.bit_width self.now.build other.now.build
             combination cursor.new }
         ensures entry { (both : Entries X)
             → IsCombination combination self.now.entries other.now.entries both → MatchOption result
             ((combined_to_come K.bits both cursor.old ≡ [])
             × (combined_to_come K.bits both cursor.new ≡ []))
-            (λ r. GivesJoint both (take r.1 (K.bits r.0)) (combined_to_come K.bits both cursor.old)
-            (combined_to_come K.bits both cursor.new)) }
+            (λ r. GivesCombined both (take r.1 (K.bits r.0))
+            (combined_to_come K.bits both cursor.old) (combined_to_come K.bits both cursor.new)) }
         ensures filled { IfSome result (λ r. IsFilled K.IsKey K.bits K.bit_width r.0 r.1) }
         ensures values { IfSome result
             (λ r. (option_copied r.2 ≡ get self.now.entries (take r.1 (K.bits r.0)))
@@ -137,22 +139,23 @@ fn advance_both<K: Key, A: Allocator, B: Allocator, V: VisitCounter, T: Drop, U:
     left: &NodeAllocator<A, V>,
     right: &NodeAllocator<B, V>,
     combination: Combination,
-    stack: &mut ArrayVec<JointSpot, 26>,
+    stack: &mut ArrayVec<CombinedSpot, 26>,
     key: &mut K,
     counter: &mut V,
 ) -> Option<(K, u32, Option<Seat>, Option<Seat>)>
-    requires trees { (l : Tree T) × (r : Tree U) × JointTrees K.bit_width left.now right.now l r }
-    requires stack { IsJointStack K.bit_width left.now.slots right.now.slots combination
+    requires trees { (l : Tree T) × (r : Tree U)
+        × CombinedTrees K.bit_width left.now right.now l r }
+    requires stack { IsCombinedStack K.bit_width left.now.slots right.now.slots combination
         (K.bits key.old) stack.old.items }
-    ensures stack { IsJointStack K.bit_width left.now.slots right.now.slots combination
+    ensures stack { IsCombinedStack K.bit_width left.now.slots right.now.slots combination
         (K.bits key.new) stack.new.items }
     ensures entry { (both : Entries X) → IsCombined combination left.now.slots right.now.slots both
         → MatchOption result
-        ((joint_pending both (K.bits key.old) stack.old.items ≡ [])
-        × (joint_pending both (K.bits key.new) stack.new.items ≡ []))
-        (λ r. GivesJoint both (take r.1 (K.bits r.0))
-        (joint_pending both (K.bits key.old) stack.old.items)
-        (joint_pending both (K.bits key.new) stack.new.items)) }
+        ((combined_pending both (K.bits key.old) stack.old.items ≡ [])
+        × (combined_pending both (K.bits key.new) stack.new.items ≡ []))
+        (λ r. GivesCombined both (take r.1 (K.bits r.0))
+        (combined_pending both (K.bits key.old) stack.old.items)
+        (combined_pending both (K.bits key.new) stack.new.items)) }
     ensures filled { IfSome result (λ r. IsFilled K.IsKey K.bits K.bit_width r.0 r.1) }
     ensures seats { IfSome result
         (λ r. (seat_of left.now.slots (take r.1 (K.bits r.0)) ≡ r.2)
@@ -167,14 +170,14 @@ fn advance_both<K: Key, A: Allocator, B: Allocator, V: VisitCounter, T: Drop, U:
             *key,
             counter,
         ) {
-            JointStep::Entry(found, len, on_left, on_right) => {
+            CombinedStep::Entry(found, len, on_left, on_right) => {
                 return Some((found, len, on_left, on_right));
             }
-            JointStep::Child(child, below) => {
+            CombinedStep::Child(child, below) => {
                 stack.push(child);
                 *key = below;
             }
-            JointStep::Done => {
+            CombinedStep::Done => {
                 let _ = stack.pop();
             }
         }
@@ -188,17 +191,18 @@ fn next_at_last_both<K: Key, A: Allocator, B: Allocator, V: VisitCounter, T: Dro
     left: &NodeAllocator<A, V>,
     right: &NodeAllocator<B, V>,
     combination: Combination,
-    stack: &mut ArrayVec<JointSpot, 26>,
+    stack: &mut ArrayVec<CombinedSpot, 26>,
     key: K,
     counter: &mut V,
-) -> JointStep<K>
+) -> CombinedStep<K>
     requires some { 0 < length stack.old.items }
-    requires trees { (l : Tree T) × (r : Tree U) × JointTrees K.bit_width left.now right.now l r }
-    requires stack { IsJointStack K.bit_width left.now.slots right.now.slots combination
+    requires trees { (l : Tree T) × (r : Tree U)
+        × CombinedTrees K.bit_width left.now right.now l r }
+    requires stack { IsCombinedStack K.bit_width left.now.slots right.now.slots combination
         (K.bits key) stack.old.items }
-    ensures { (below : List JointSpot) × (spot : JointSpot) × (next : JointSpot)
+    ensures { (below : List CombinedSpot) × (spot : CombinedSpot) × (next : CombinedSpot)
         × (stack.old.items ≡ below ++ spot ∷ []) × (stack.new.items ≡ below ++ next ∷ [])
-        × JointSteps X K.IsKey K.bits K.bit_width left.now.slots right.now.slots combination
+        × CombinedSteps X K.IsKey K.bits K.bit_width left.now.slots right.now.slots combination
         (K.bits key) spot result next }
 {
     let last = stack.len() - 1;

@@ -1,9 +1,9 @@
 -- The places of two nodes with one path, and what two tables have there.
 use Rattle.prefix_trie_table.proofs.Prelude.{◌≡◌, ℕ, ◌+◌, ◌*◌, ◌%◌, ◌<◌, ◌≤◌, Bool, true, false, cond, ◌⊎◌, nat_lt, List, [], ◌++◌, length, length-append, drop, Option, None, Some, is_some, refl, sym, ap, ap₂, ◌∙◌, arith, inl, inr, filter, false≢true, cases_lt, contains_key, get, number, begins, begins-rest, has, value_bit, is_in, strings, Entries, listing_below, listing_at_place, listing_at_places, value_bit-small, and-first, and-second, or-cases, listing_at_no_value, listing_at_child, listing_below_none, Node, Store, has_bit, blank_node, chunks_of, bit_of, seat_of, seat_in, value_seat, read, child, child_slot, below, Shaped, Tree, IsTable, IsTrie}
 use Rattle.prefix_trie_bits.proofs.Model.NodeListings.{listing_by_some_places}
-use Rattle.prefix_trie_table.specs.Walking.Joint.{IsCombination, IsCombined, is_chosen, is_joint, kept_node}
-use Rattle.prefix_trie_table.specs.declared.table.joint_spot.Combination.{Combination}
-use Rattle.prefix_trie_table.specs.declared.table.joint_spot.Combination.TheVariants.{Union, Intersection}
+use Rattle.prefix_trie_table.specs.Walking.Combined.{IsCombination, IsCombined, is_chosen, is_combined, kept_node}
+use Rattle.prefix_trie_table.specs.declared.table.combined_spot.Combination.{Combination}
+use Rattle.prefix_trie_table.specs.declared.table.combined_spot.Combination.TheVariants.{Union, Intersection}
 use Rattle.prefix_trie_table.proofs.Strings.Bits.{has_bit-is, has_bit-zero}
 use Rattle.prefix_trie_table.proofs.Strings.Digits.{path-append}
 use Rattle.prefix_trie_table.proofs.Strings.ChunkPlaces.{below_node, five_below}
@@ -29,9 +29,9 @@ none_of Intersection false b x y none some = inl (refl, and-first x y some)
 none_of Intersection true b x y none some = inr (none, and-second x y some)
 
 -- the places of bitmaps with the chosen bits are those of both nodes
-pub joint-bits : (combination : Combination) (values children : ℕ) (l r : Node) → ((k : ℕ) → has values k ≡ is_chosen combination (has l.value_bitmap k) (has r.value_bitmap k)) →
-    ((k : ℕ) → has children k ≡ is_chosen combination (has l.child_bitmap k) (has r.child_bitmap k)) → (s : List Bool) → is_in values children s ≡ is_joint combination l r s
-joint-bits combination values children l r vs cs s =
+pub combined-bits : (combination : Combination) (values children : ℕ) (l r : Node) → ((k : ℕ) → has values k ≡ is_chosen combination (has l.value_bitmap k) (has r.value_bitmap k)) →
+    ((k : ℕ) → has children k ≡ is_chosen combination (has l.child_bitmap k) (has r.child_bitmap k)) → (s : List Bool) → is_in values children s ≡ is_combined combination l r s
+combined-bits combination values children l r vs cs s =
     ap₂ (λ x y. cond (nat_lt (length s) 5) x y) (vs (value_bit s)) (cs (number s))
     ∙ go (nat_lt (length s) 5) (has l.value_bitmap (value_bit s)) (has l.child_bitmap (number s)) (has r.value_bitmap (value_bit s)) (has r.child_bitmap (number s))
   where
@@ -141,15 +141,15 @@ module _ {X : Type 0} (v w : Store Node) (combination : Combination) (both : Ent
   abbrev right : Node
   right = kept_at w level q long
 
-  pub stored_if_joint : (s : List Bool) → length s ≤ 4 → contains_key both (q ++ s) ≡ is_joint combination left right s
-  stored_if_joint s short = is (q ++ s) ∙ ap₂ (is_chosen combination) (seat_if_bit v level q long s short) (seat_if_bit w level q long s short)
+  pub stored_if_combined : (s : List Bool) → length s ≤ 4 → contains_key both (q ++ s) ≡ is_combined combination left right s
+  stored_if_combined s short = is (q ++ s) ∙ ap₂ (is_chosen combination) (seat_if_bit v level q long s short) (seat_if_bit w level q long s short)
 
   -- nothing is at a place that is not chosen
-  unset : (s : List Bool) → length s ≤ 5 → is_joint combination left right s ≡ false → listing_at_place both q s ≡ []
+  unset : (s : List Bool) → length s ≤ 5 → is_combined combination left right s ≡ false → listing_at_place both q s ≡ []
   unset s most clear = elim (cases_lt (length s) 5) as (λ _. listing_at_place both q s ≡ []) [
     | inl l ↦
         let short : length s ≤ 4 = omega arith in
-        listing_at_no_value both q s short (is_none-None (get both (q ++ s)) (stored_if_joint s short ∙ clear))
+        listing_at_no_value both q s short (is_none-None (get both (q ++ s)) (stored_if_combined s short ∙ clear))
     | inr g ↦
         let five : length s ≡ 5 = omega arith in
         listing_at_child both q s five ∙ listing_below_none both (q ++ s) (λ k there.
@@ -160,8 +160,8 @@ module _ {X : Type 0} (v w : Store Node) (combination : Combination) (both : Ent
   ]
 
   -- so the chosen places have all that is below the path
-  pub all_joint_places : listing_at_places both q (filter (is_joint combination left right) (strings 5)) ≡ listing_below both q
-  all_joint_places = listing_by_some_places both q (is_joint combination left right) unset
+  pub all_combined_places : listing_at_places both q (filter (is_combined combination left right) (strings 5)) ≡ listing_below both q
+  all_combined_places = listing_by_some_places both q (is_combined combination left right) unset
 
 -- the keys of two tables are those of their nodes
 pub combined_of : {T U X : Type 0} (v w : Store Node) (cs : Store (Option T)) (ds : Store (Option U)) (m n : ℕ) (l : Shaped v.slots cs.slots) (r : Shaped w.slots ds.slots) → IsTable v cs m l.0 → IsTable w ds n r.0 →

@@ -1,16 +1,16 @@
 -- Each step is at the last spot. It gives the first key to come, adds the spot of a child, or ends the spot, whose keys have then all been given.
 use Rattle.prefix_trie_table.proofs.Prelude.{◌≡◌, ◌<◌, ◌≤◌, ◌∙◌, [], ◌∷◌, length, sum_by, take, take-take, sym, ap, subst, arith, length-append}
-use Rattle.prefix_trie_table.specs.Walking.Joint.{IsJointSpot, IsJointStack, joint_depth, joint_pending, joint_still, joint_weight}
+use Rattle.prefix_trie_table.specs.Walking.Combined.{IsCombinedSpot, IsCombinedStack, combined_depth, combined_pending, combined_still, combined_weight}
 use Rattle.prefix_trie_table.proofs.Walk.Levels.{from_last-done, from_last-entry, from_last-child, left_is, levels-at, levels-child, levels-put, pushed, weight-deeper, weight-popped}
-use Rattle.prefix_trie_table.proofs.Walk.JointSpots.{joint_moves, joint_still-same}
-use Rattle.prefix_trie_table.proofs.table.joint.advance_both.Goals as goal
+use Rattle.prefix_trie_table.proofs.Walk.CombinedSpots.{combined_moves, combined_still-same}
+use Rattle.prefix_trie_table.proofs.table.combined.advance_both.Goals as goal
 
 pub returns-in-Entry-clause-stack : goal.returns-in-Entry-clause-stack
 returns-in-Entry-clause-stack g c =
     let last = c.in-Entry.ensures in
     let key = g.K.Key.bits c.loop-combination.key in
-    subst (IsJointStack g.K.Key.bit_width c.args.left.now.slots c.args.right.now.slots c.args.combination key) (sym last.4)
-    (levels-put joint_depth (IsJointSpot g.K.Key.bit_width c.args.left.now.slots c.args.right.now.slots c.args.combination key) 0 _ _ _ last.3 c.loop-combination.invariant.stack last.2 last.5.6 last.5.5)
+    subst (IsCombinedStack g.K.Key.bit_width c.args.left.now.slots c.args.right.now.slots c.args.combination key) (sym last.4)
+    (levels-put combined_depth (IsCombinedSpot g.K.Key.bit_width c.args.left.now.slots c.args.right.now.slots c.args.combination key) 0 _ _ _ last.3 c.loop-combination.invariant.stack last.2 last.5.6 last.5.5)
 
 pub returns-in-Entry-clause-entry : goal.returns-in-Entry-clause-entry
 returns-in-Entry-clause-entry g c =
@@ -21,9 +21,9 @@ returns-in-Entry-clause-entry g c =
     record {
       value = h.value;
       first =
-          subst (λ ps. joint_pending both (g.K.Key.bits c.args.key.now) c.args.stack.now.items ≡ (take c.in-Entry.len (g.K.Key.bits c.in-Entry.found), h.value) ∷ joint_pending both key ps)
+          subst (λ ps. combined_pending both (g.K.Key.bits c.args.key.now) c.args.stack.now.items ≡ (take c.in-Entry.len (g.K.Key.bits c.in-Entry.found), h.value) ∷ combined_pending both key ps)
           (sym last.4)
-          (sym (c.loop-combination.invariant.same both combined) ∙ from_last-entry (joint_still both key) _ _ _ last.3 last.2 _ h.first);
+          (sym (c.loop-combination.invariant.same both combined) ∙ from_last-entry (combined_still both key) _ _ _ last.3 last.2 _ h.first);
       stored = h.stored;
     }
 
@@ -37,14 +37,14 @@ pub push-requires : goal.push-requires
 push-requires g c =
     let last = c.in-Child.ensures in
     let key = g.K.Key.bits c.loop-combination.key in
-    let at = (levels-at joint_depth (IsJointSpot g.K.Key.bit_width c.args.left.now.slots c.args.right.now.slots c.args.combination key) 0 _ _ _ last.3 c.loop-combination.invariant.stack).1 in
+    let at = (levels-at combined_depth (IsCombinedSpot g.K.Key.bit_width c.args.left.now.slots c.args.right.now.slots c.args.combination key) 0 _ _ _ last.3 c.loop-combination.invariant.stack).1 in
     (omega arith, let inside = last.5.4.within in omega (arith, at, inside, last.5.5, g.met.K.Key.key_laws.at_most_128, ap length last.4, length-append last.0 (last.2 ∷ [])))
 
 pub loop-combination-smaller-in-Child : goal.loop-combination-smaller-in-Child
 loop-combination-smaller-in-Child g c =
     let last = c.in-Child.ensures in
-    subst (λ ps. sum_by joint_weight ps < sum_by joint_weight c.loop-combination.stack.items) (sym (pushed _ _ _ _ _ last.4 c.push.ensures.items))
-    (weight-deeper joint_weight _ _ _ last.3 last.2 c.in-Child.child last.5.1)
+    subst (λ ps. sum_by combined_weight ps < sum_by combined_weight c.loop-combination.stack.items) (sym (pushed _ _ _ _ _ last.4 c.push.ensures.items))
+    (weight-deeper combined_weight _ _ _ last.3 last.2 c.in-Child.child last.5.1)
 
 pub loop-combination-preserved-in-Child : goal.loop-combination-preserved-in-Child
 loop-combination-preserved-in-Child g c =
@@ -52,26 +52,26 @@ loop-combination-preserved-in-Child g c =
     let key = g.K.Key.bits c.loop-combination.key in
     let below = g.K.Key.bits c.in-Child.below in
     let all = pushed _ _ _ _ _ last.4 c.push.ensures.items in
-    let reach : joint_depth last.1 ≤ length below = (let long = last.5.4.long in omega (arith, long, last.5.5)) in
+    let reach : combined_depth last.1 ≤ length below = (let long = last.5.4.long in omega (arith, long, last.5.5)) in
     record {
-      stack = subst (IsJointStack g.K.Key.bit_width c.args.left.now.slots c.args.right.now.slots c.args.combination below) (sym all)
-          (levels-child joint_depth (IsJointSpot g.K.Key.bit_width c.args.left.now.slots c.args.right.now.slots c.args.combination)
-          (joint_moves g.K.Key.bit_width c.args.left.now.slots c.args.right.now.slots c.args.combination) take-take key below 0
+      stack = subst (IsCombinedStack g.K.Key.bit_width c.args.left.now.slots c.args.right.now.slots c.args.combination below) (sym all)
+          (levels-child combined_depth (IsCombinedSpot g.K.Key.bit_width c.args.left.now.slots c.args.right.now.slots c.args.combination)
+          (combined_moves g.K.Key.bit_width c.args.left.now.slots c.args.right.now.slots c.args.combination) take-take key below 0
           c.loop-combination.stack.items last.0 last.1 last.2 c.in-Child.child last.3 c.loop-combination.invariant.stack last.5.3 last.5.2 last.5.5 last.5.4 reach last.5.6);
       same = λ both combined.
-          ap (joint_pending both below) all
-          ∙ from_last-child joint_depth (IsJointSpot g.K.Key.bit_width c.args.left.now.slots c.args.right.now.slots c.args.combination)
-          (joint_moves g.K.Key.bit_width c.args.left.now.slots c.args.right.now.slots c.args.combination) take-take key below 0
+          ap (combined_pending both below) all
+          ∙ from_last-child combined_depth (IsCombinedSpot g.K.Key.bit_width c.args.left.now.slots c.args.right.now.slots c.args.combination)
+          (combined_moves g.K.Key.bit_width c.args.left.now.slots c.args.right.now.slots c.args.combination) take-take key below 0
           c.loop-combination.stack.items last.0 last.1 last.2 c.in-Child.child last.3 c.loop-combination.invariant.stack last.5.3 last.5.2 last.5.5 last.5.4 reach last.5.6
-          (joint_still both) (joint_still-same both key below) (last.5.0 both combined)
+          (combined_still both) (combined_still-same both key below) (last.5.0 both combined)
           ∙ c.loop-combination.invariant.same both combined;
     }
 
 pub loop-combination-smaller : goal.loop-combination-smaller
 loop-combination-smaller g c =
     let last = c.in-Done.ensures in
-    subst (λ ps. sum_by joint_weight ps < sum_by joint_weight c.loop-combination.stack.items) (sym (left_is _ _ _ _ _ _ last.3 last.4 c.pop.ensures.rest))
-    (let h = last.5.1 in omega (arith, h, weight-popped joint_weight _ _ _ last.3))
+    subst (λ ps. sum_by combined_weight ps < sum_by combined_weight c.loop-combination.stack.items) (sym (left_is _ _ _ _ _ _ last.3 last.4 c.pop.ensures.rest))
+    (let h = last.5.1 in omega (arith, h, weight-popped combined_weight _ _ _ last.3))
 
 pub loop-combination-preserved : goal.loop-combination-preserved
 loop-combination-preserved g c =
@@ -80,10 +80,10 @@ loop-combination-preserved g c =
     let left = left_is _ _ _ _ _ _ last.3 last.4 c.pop.ensures.rest in
     record {
       stack =
-          subst (IsJointStack g.K.Key.bit_width c.args.left.now.slots c.args.right.now.slots c.args.combination key) (sym left)
-          (levels-at joint_depth (IsJointSpot g.K.Key.bit_width c.args.left.now.slots c.args.right.now.slots c.args.combination key) 0 _ _ _ last.3 c.loop-combination.invariant.stack).0;
+          subst (IsCombinedStack g.K.Key.bit_width c.args.left.now.slots c.args.right.now.slots c.args.combination key) (sym left)
+          (levels-at combined_depth (IsCombinedSpot g.K.Key.bit_width c.args.left.now.slots c.args.right.now.slots c.args.combination key) 0 _ _ _ last.3 c.loop-combination.invariant.stack).0;
       same = λ both combined.
-          ap (joint_pending both key) left
-          ∙ from_last-done (joint_still both key) _ _ _ last.3 (last.5.0 both combined)
+          ap (combined_pending both key) left
+          ∙ from_last-done (combined_still both key) _ _ _ last.3 (last.5.0 both combined)
           ∙ c.loop-combination.invariant.same both combined;
     }
