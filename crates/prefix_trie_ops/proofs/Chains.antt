@@ -7,6 +7,7 @@ use Rattle.std.specs.Option.{option_map, option_to_list}
 use Rattle.prefix_trie_bits.specs.Begins.{begins-trans}
 use Rattle.prefix_trie.specs.Terms.{begins, last_item, lent_item}
 use Rattle.prefix_trie_ops.specs.Values.{are_equal, IsChain}
+use Rattle.prefix_trie_ops.proofs.Lists.{last_pushed}
 
 module _ {X : Type 0} where
   pub last-get : (xs : List X) → slice_get xs (length xs - 1) ≡ last_item xs
@@ -18,11 +19,6 @@ module _ {X : Type 0} where
   last-map f [] = refl
   last-map f (x ∷ []) = refl
   last-map f (x ∷ y ∷ xs) = last-map f (y ∷ xs)
-
-  pub last-push : (xs : List X) (x : X) → last_item (xs ++ x ∷ []) ≡ Some x
-  last-push [] x = refl
-  last-push (y ∷ []) x = refl
-  last-push (y ∷ z ∷ xs) x = last-push (z ∷ xs) x
 
   pub All-first : (P : X → Type 0) (xs ys : List X) → All P (xs ++ ys) → All P xs
   All-first P [] ys h = All-nil P
@@ -71,7 +67,7 @@ pub popped_item : {X : Type 0} (xs ys : List X) (r : Option X) (e : X) → xs �
 popped_item [] ys None e is last none = cc
 popped_item (x ∷ xs) ys None e is last none = absurd (omega (arith, none refl))
 popped_item xs ys (Some d) e is last none =
-    let same : Some d ≡ Some e = sym (last-push ys d) ∙ sym (ap last_item is) ∙ last in
+    let same : Some d ≡ Some e = sym (last_pushed ys d) ∙ sym (ap last_item is) ∙ last in
     is ∙ ap (λ o. ys ++ option_to_list o) same
 
 module _ {P T : Type 0} where

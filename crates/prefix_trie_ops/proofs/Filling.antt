@@ -1,20 +1,17 @@
 -- Insertions one after another, and when the slots of all may exceed the limit: for the errors of `aggregate`.
-use Rattle.std.proofs.Common.{◌≡◌, ◌∙◌, ◌+◌, ◌*◌, ◌<◌, ◌≤◌, ℕ, Bool, true, false, cond, List, length, ap, sym, refl, inl, inr, arith}
-use Rattle.std.specs.FinMap.{contains_key, len, len-empty, len-insert}
+use Rattle.std.proofs.Common.{◌≡◌, ◌∙◌, ◌+◌, ◌*◌, ◌<◌, ◌≤◌, ℕ, Bool, true, false, cond, List, length, ap, refl, inl, inr, arith}
+use Rattle.std.specs.FinMap.{contains_key, len, len-insert}
 use Rattle.prefix_trie_bits.specs.Order.{listing_total}
 use Rattle.prefix_trie_bits.specs.Calls.Storage.{StepByPath}
-use Rattle.prefix_trie_bits.specs.Model.Space.{Space, MayPassLimit}
+use Rattle.prefix_trie_bits.specs.Model.Space.{Space}
 use Rattle.prefix_trie_bits.specs.Model.Step.{Insert, Reply}
-use Rattle.prefix_trie.specs.Terms.{listing_cmp, no_entries, root_alone, with_entry, with_needed, IsTidy, IsWhole}
+use Rattle.prefix_trie.specs.Terms.{with_entry, with_needed, IsWhole}
 use Rattle.prefix_trie_table.specs.Model.Contents.{Contents, stored_state}
 use Rattle.prefix_trie_map.specs.Collected.{ManyMayPassLimit}
 use Rattle.prefix_trie_map.proofs.Collected.{puts_one}
 use Rattle.prefix_trie_ops.specs.Filling.{Fills}
 
 module _ {T : Type 0} where
-  pub fills_none : (m : Contents T) → Fills m m
-  fills_none m = record { tidy = λ was. was; limit = refl; node_slots = omega arith; cell_slots = omega arith }
-
   pub fills_then : (a b c : Contents T) → Fills a b → Fills b c → Fills a c
   fills_then a b c first second = record {
     tidy = λ was. second.tidy (first.tidy was);
@@ -45,11 +42,6 @@ module _ {T : Type 0} where
           cell_slots = (let n = one.cell_slots in omega (arith, n, more));
         }
       ] refl count
-
--- one insertion may exceed the limit
-pub passes_one : (space : Space) → MayPassLimit space → ManyMayPassLimit space 1
-passes_one space (inl k) = inl (omega (arith, k))
-passes_one space (inr k) = inr (omega (arith, k))
 
 -- more insertions may exceed it too
 pub passes_more : (space : Space) (j n : ℕ) → j ≤ n → ManyMayPassLimit space j → ManyMayPassLimit space n

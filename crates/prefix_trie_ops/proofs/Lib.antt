@@ -14,7 +14,7 @@ pub mod Matched
 pub mod Merging
 pub mod Optimal
 pub mod Pairs
-pub mod Joint
+pub mod Combined
 pub mod RedundantEntries
 pub mod SelectedItems
 pub mod Smallest

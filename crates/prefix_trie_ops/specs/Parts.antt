@@ -32,10 +32,10 @@ module _ {T : Type 0} where
     opening_cost (x ∷ xs) (Some v) = cond (is_member eq (x ∷ xs) v) 0 1
 
     -- entries that two halves need in addition because their part begins both with one value, or with none
-    abbrev pub joint_cost : List T → List T → ℕ
-    joint_cost [] ys = opening_cost ys None
-    joint_cost (x ∷ xs) [] = 1
-    joint_cost (x ∷ xs) (y ∷ ys) = one_if_none (shared_values (x ∷ xs) (y ∷ ys))
+    abbrev pub combined_cost : List T → List T → ℕ
+    combined_cost [] ys = opening_cost ys None
+    combined_cost (x ∷ xs) [] = 1
+    combined_cost (x ∷ xs) (y ∷ ys) = one_if_none (shared_values (x ∷ xs) (y ∷ ys))
 
     -- 1 if a value is wanted that shorter keys do not give
     abbrev pub stored : Option T → Option T → ℕ
@@ -51,22 +51,22 @@ module _ {T : Type 0} where
 
     module _ (cmp : T → T → Ordering) where
       -- the values that two halves share, or all values if they share none; no value if one half has none
-      unfoldable pub joint_values : List T → List T → List T
-      joint_values [] ys = []
-      joint_values (x ∷ xs) [] = []
-      joint_values (x ∷ xs) (y ∷ ys) = or_list (shared_values (x ∷ xs) (y ∷ ys)) (sorted_merge cmp true (x ∷ xs) (y ∷ ys))
+      unfoldable pub combined_values : List T → List T → List T
+      combined_values [] ys = []
+      combined_values (x ∷ xs) [] = []
+      combined_values (x ∷ xs) (y ∷ ys) = or_list (shared_values (x ∷ xs) (y ∷ ys)) (sorted_merge cmp true (x ∷ xs) (y ∷ ys))
 
       -- The values with which a smallest table of a part can begin: n bits are left, and `answer` is the value of the
       -- question with these bits. No value if some question has none.
       unfoldable pub first_values : ℕ → (List Bool → Option T) → List T
       first_values zero answer = as_list (answer [])
-      first_values (suc n) answer = joint_values (first_values n (λ r. answer (false ∷ r))) (first_values n (λ r. answer (true ∷ r)))
+      first_values (suc n) answer = combined_values (first_values n (λ r. answer (false ∷ r))) (first_values n (λ r. answer (true ∷ r)))
 
       -- the fewest entries of a part that shorter keys give a value with which it can begin
       unfoldable pub least_inside : ℕ → (List Bool → Option T) → ℕ
       least_inside zero answer = 0
       least_inside (suc n) answer = least_inside n (λ r. answer (false ∷ r)) + least_inside n (λ r. answer (true ∷ r))
-          + joint_cost (first_values n (λ r. answer (false ∷ r))) (first_values n (λ r. answer (true ∷ r)))
+          + combined_cost (first_values n (λ r. answer (false ∷ r))) (first_values n (λ r. answer (true ∷ r)))
 
       -- the fewest entries of a part that shorter keys give the value, or none
       abbrev pub least : ℕ → (List Bool → Option T) → Option T → ℕ

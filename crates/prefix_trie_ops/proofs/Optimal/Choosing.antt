@@ -1,4 +1,4 @@
--- The sets of a part are those of its two halves and its own, joint one: for the first two passes of `aggregate`.
+-- The sets of a part are those of its two halves and its own, combined one: for the first two passes of `aggregate`.
 use Rattle.std.proofs.Common.{◌≡◌, ◌≢◌, ◌∙◌, ◌++◌, ◌≤◌, ℕ, zero, suc, Bool, true, false, cond, List, [], ◌∷◌, length, Option, None, is_eq, ap, sym, subst, refl, arith, append-nil}
 use Rattle.std.specs.declared.cmp.Ordering.{Ordering}
 use Rattle.std.specs.Cmp.{IsEquivalence}
@@ -11,7 +11,7 @@ use Rattle.prefix_trie_ops.specs.declared.map.optimal.sets.Set.{Set}
 use Rattle.prefix_trie_ops.specs.declared.map.optimal.sets.Set.TheVariants.{Missing}
 use Rattle.prefix_trie_ops.specs.Choosing.{part_values, Chooses}
 use Rattle.prefix_trie_ops.specs.Optimal.{is_first_below, value_along}
-use Rattle.prefix_trie_ops.specs.Parts.{as_list, first_values, joint_values}
+use Rattle.prefix_trie_ops.specs.Parts.{as_list, first_values, combined_values}
 use Rattle.prefix_trie_ops.specs.ValueSets.{Appends, Holds}
 use Rattle.prefix_trie_ops.proofs.Optimal.LongestMatches.{along_leaf}
 use Rattle.prefix_trie_ops.proofs.Smallest.Lower.{uniform}
@@ -23,9 +23,6 @@ by_more C zero some step = absurd (omega arith)
 by_more C (suc n) some step = step n
 
 module _ {X : Type 0} (eq : X → X → Bool) (cmp : X → X → Ordering) (source : Entries X) (s : List Bool) (inherited : Option X) where
-  here : Option X
-  here = option_or (get source s) inherited
-
   -- a part without longer keys has no set in the vector
   pub part_outer : (n : ℕ) → is_first_below (λ t. t) s (listing_after source s) ≡ false → part_values eq cmp source n s inherited ≡ []
   unfolding part_values
@@ -43,11 +40,11 @@ module _ {X : Type 0} (eq : X → X → Bool) (cmp : X → X → Ordering) (sour
       (first_values eq cmp (suc n) (value_along (get source) inherited s)
       ∷ (part_values eq cmp source n (s ++ false ∷ []) (option_or (get source s) inherited) ++ part_values eq cmp source n (s ++ true ∷ []) (option_or (get source s) inherited))) []) is
 
-  -- the first values of a part are the joint first values of its halves
-  pub first_joint : (n : ℕ) → first_values eq cmp (suc n) (value_along (get source) inherited s)
-      ≡ joint_values eq cmp (first_values eq cmp n (value_along (get source) (option_or (get source s) inherited) (s ++ false ∷ []))) (first_values eq cmp n (value_along (get source) (option_or (get source s) inherited) (s ++ true ∷ [])))
+  -- the first values of a part are the combined first values of its halves
+  pub first_combined : (n : ℕ) → first_values eq cmp (suc n) (value_along (get source) inherited s)
+      ≡ combined_values eq cmp (first_values eq cmp n (value_along (get source) (option_or (get source s) inherited) (s ++ false ∷ []))) (first_values eq cmp n (value_along (get source) (option_or (get source s) inherited) (s ++ true ∷ [])))
   unfolding first_values
-  first_joint n = refl
+  first_combined n = refl
 
   module _ (equal : IsEquivalence eq) (ties : (x y : X) → eq x y ≡ is_eq (cmp x y)) (none : (t : List Bool) → begins s t ≡ true → t ≢ s → get source t ≡ None) where
     -- a part without longer keys begins with its own value
@@ -72,25 +69,25 @@ module _ {X : Type 0} (eq : X → X → Bool) (cmp : X → X → Ordering) (sour
       → is_first_below (λ t. t) s (listing_after source s) ≡ true → pushed ≡ sets ++ Missing ∷ []
       → Chooses eq cmp source n (s ++ false ∷ []) (option_or (get source s) inherited) pushed between v0 v1 left
       → Chooses eq cmp source n (s ++ true ∷ []) (option_or (get source s) inherited) between both v1 v2 right
-      → Appends v2 v3 set (joint_values eq cmp (first_values eq cmp n (value_along (get source) (option_or (get source s) inherited) (s ++ false ∷ [])))
+      → Appends v2 v3 set (combined_values eq cmp (first_values eq cmp n (value_along (get source) (option_or (get source s) inherited) (s ++ false ∷ [])))
       (first_values eq cmp n (value_along (get source) (option_or (get source s) inherited) (s ++ true ∷ []))))
       → after ≡ slice_set both (length sets) set → Chooses eq cmp source (suc n) s inherited sets after v0 v3 set
-  chooses_both n sets pushed between both after v0 v1 v2 v3 left right set is first l r joint put = record {
+  chooses_both n sets pushed between both after v0 v1 v2 v3 left right set is first l r combined put = record {
     more = set ∷ (l.more ++ r.more);
     listed = put ∙ ap (λ zs. slice_set zs (length sets) set) all ∙ put_first sets (l.more ++ r.more) set;
     parts = subst (AllZip (Holds v3) (set ∷ (l.more ++ r.more))) (sym (part_inner n is)) (
-      subst (Holds v3 set) (sym (first_joint n)) joint.holds,
+      subst (Holds v3 set) (sym (first_combined n)) combined.holds,
       all_joined v3 l.more r.more
           (part_values eq cmp source n (s ++ false ∷ []) (option_or (get source s) inherited)) (part_values eq cmp source n (s ++ true ∷ []) (option_or (get source s) inherited))
-          (all_kept v2 joint.added v3 l.more (part_values eq cmp source n (s ++ false ∷ []) (option_or (get source s) inherited)) joint.grows
+          (all_kept v2 combined.added v3 l.more (part_values eq cmp source n (s ++ false ∷ []) (option_or (get source s) inherited)) combined.grows
           (all_kept v1 r.appends.added v2 l.more (part_values eq cmp source n (s ++ false ∷ []) (option_or (get source s) inherited)) r.appends.grows l.parts))
-          (all_kept v2 joint.added v3 r.more (part_values eq cmp source n (s ++ true ∷ []) (option_or (get source s) inherited)) joint.grows r.parts),
+          (all_kept v2 combined.added v3 r.more (part_values eq cmp source n (s ++ true ∷ []) (option_or (get source s) inherited)) combined.grows r.parts),
     );
     appends = record {
-      added = l.appends.added ++ (r.appends.added ++ joint.added);
-      grows = joint.grows ∙ ap (λ zs. zs ++ joint.added) (r.appends.grows ∙ ap (λ zs. zs ++ r.appends.added) l.appends.grows)
-          ∙ append_assoc (v0 ++ l.appends.added) r.appends.added joint.added ∙ append_assoc v0 l.appends.added (r.appends.added ++ joint.added);
-      holds = subst (Holds v3 set) (sym (first_joint n)) joint.holds;
+      added = l.appends.added ++ (r.appends.added ++ combined.added);
+      grows = combined.grows ∙ ap (λ zs. zs ++ combined.added) (r.appends.grows ∙ ap (λ zs. zs ++ r.appends.added) l.appends.grows)
+          ∙ append_assoc (v0 ++ l.appends.added) r.appends.added combined.added ∙ append_assoc v0 l.appends.added (r.appends.added ++ combined.added);
+      holds = subst (Holds v3 set) (sym (first_combined n)) combined.holds;
     };
   }
     where

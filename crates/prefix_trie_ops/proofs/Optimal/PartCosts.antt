@@ -1,5 +1,5 @@
 -- What a part costs if its value is stored: as much as it needs, or as its two halves need in addition. For `aggregate`.
-use Rattle.std.proofs.Common.{◌≡◌, ◌≢◌, ◌∙◌, ◌+◌, ◌≤◌, ◌++◌, ℕ, suc, Bool, true, false, true≢false, cond, List, [], ◌∷◌, Option, None, Some, is_eq, ap, sym, refl, arith}
+use Rattle.std.proofs.Common.{◌≡◌, ◌≢◌, ◌∙◌, ◌+◌, ◌≤◌, ◌++◌, ℕ, suc, Bool, true, false, List, [], ◌∷◌, Option, None, is_eq, ap, sym, arith}
 use Rattle.std.specs.declared.cmp.Ordering.{Ordering}
 use Rattle.std.specs.Cmp.{IsEquivalence}
 use Rattle.std.specs.Option.{option_or}
@@ -7,16 +7,10 @@ use Rattle.std.specs.FinMap.{get}
 use Rattle.prefix_trie.specs.Terms.{Entries, begins}
 use Rattle.prefix_trie_ops.specs.Optimal.{value_along}
 use Rattle.prefix_trie_ops.specs.Parts.{as_list, best_value, first_values, least, opening_cost, stored}
-use Rattle.prefix_trie_ops.specs.Values.{are_equal}
 use Rattle.prefix_trie_ops.proofs.Optimal.Choosing.{first_alone}
 use Rattle.prefix_trie_ops.proofs.Smallest.Lower.{least_joined, stored_alone}
 
 module _ {X : Type 0} (eq : X → X → Bool) where
-  -- a value that shorter keys do not give is one entry
-  pub stored_one : (held : Option X) (v : X) → are_equal eq held (Some v) ≡ false → stored eq held (Some v) ≡ 1
-  stored_one None v other = refl
-  stored_one (Some h) v other = ap (λ b. cond b 0 1) other
-
   module _ (cmp : X → X → Ordering) (source : Entries X) (s : List Bool) (inherited held wanted : Option X) (equal : IsEquivalence eq) (ties : (x y : X) → eq x y ≡ is_eq (cmp x y)) where
     -- a part that has no longer keys needs its own value
     pub leaf_cost : (n : ℕ) → ((t : List Bool) → begins s t ≡ true → t ≢ s → get source t ≡ None) → wanted ≡ option_or (get source s) inherited

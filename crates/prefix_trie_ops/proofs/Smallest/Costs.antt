@@ -4,8 +4,8 @@ use Rattle.std.proofs.Common.{◌≡◌, ◌∙◌, ◌+◌, ◌≤◌, ◌&&◌
 use Rattle.std.specs.declared.cmp.Ordering.{Ordering}
 use Rattle.std.specs.Cmp.{IsEquivalence}
 use Rattle.std.specs.Set.{is_member, sorted_merge}
-use Rattle.prefix_trie_ops.specs.Parts.{best_value, joint_cost, joint_values, one_if_none, opening_cost, or_list, shared_values, stored}
-use Rattle.prefix_trie_ops.proofs.Smallest.Sets.{joint_some, merged_member, shared_member}
+use Rattle.prefix_trie_ops.specs.Parts.{best_value, combined_cost, combined_values, one_if_none, opening_cost, or_list, shared_values, stored}
+use Rattle.prefix_trie_ops.proofs.Smallest.Sets.{combined_some, merged_member, shared_member}
 
 module _ {X : Type 0} (eq : X → X → Bool) where
   -- a part costs at most one entry in addition
@@ -85,9 +85,9 @@ module _ {X : Type 0} (eq : X → X → Bool) where
     shared_are xs ys zs is v = ap (λ s. is_member eq s v) (sym is) ∙ shared_member eq laws xs ys v
 
     -- a part that stores nothing costs at most what its halves cost with the same value
-    pub unstored : (xs ys : List X) (h : Option X) → (joint_values eq cmp xs ys ≡ [] → h ≡ None)
-        → joint_cost eq xs ys + opening_cost eq (joint_values eq cmp xs ys) h ≤ opening_cost eq xs h + opening_cost eq ys h
-    unfolding joint_values
+    pub unstored : (xs ys : List X) (h : Option X) → (combined_values eq cmp xs ys ≡ [] → h ≡ None)
+        → combined_cost eq xs ys + opening_cost eq (combined_values eq cmp xs ys) h ≤ opening_cost eq xs h + opening_cost eq ys h
+    unfolding combined_values
     unstored [] ys h none = subst (λ o. opening_cost eq ys None + 0 ≤ 0 + opening_cost eq ys o) (sym (none refl)) (omega arith)
     unstored (x ∷ xs) [] h none = subst (λ o. 1 + 0 ≤ opening_cost eq (x ∷ xs) o + 0) (sym (none refl)) (omega arith)
     unstored (x ∷ xs) (y ∷ ys) h none = elim (shared_values eq (x ∷ xs) (y ∷ ys)) as (λ s. shared_values eq (x ∷ xs) (y ∷ ys) ≡ s
@@ -97,9 +97,9 @@ module _ {X : Type 0} (eq : X → X → Bool) where
         ] refl
 
     -- a part that stores a value costs at most what its halves cost with this value, and one entry
-    pub with_stored : (xs ys : List X) (h : Option X) (v : X) → (joint_values eq cmp xs ys ≡ [] → ⊥)
-        → joint_cost eq xs ys + opening_cost eq (joint_values eq cmp xs ys) h ≤ 1 + (opening_cost eq xs (Some v) + opening_cost eq ys (Some v))
-    unfolding joint_values
+    pub with_stored : (xs ys : List X) (h : Option X) (v : X) → (combined_values eq cmp xs ys ≡ [] → ⊥)
+        → combined_cost eq xs ys + opening_cost eq (combined_values eq cmp xs ys) h ≤ 1 + (opening_cost eq xs (Some v) + opening_cost eq ys (Some v))
+    unfolding combined_values
     with_stored [] ys h v some = absurd (some refl)
     with_stored (x ∷ xs) [] h v some = absurd (some refl)
     with_stored (x ∷ xs) (y ∷ ys) h v some = elim (shared_values eq (x ∷ xs) (y ∷ ys)) as (λ s. shared_values eq (x ∷ xs) (y ∷ ys) ≡ s
@@ -108,15 +108,15 @@ module _ {X : Type 0} (eq : X → X → Bool) where
           | s ∷ ss ↦ λ _. let one = at_most_one (s ∷ ss) h in omega arith
         ] refl
 
-    -- halves that begin with a joint value cost at most the joint cost
-    joint_free : (x y : X) (xs ys : List X) (w : X) → is_member eq (joint_values eq cmp (x ∷ xs) (y ∷ ys)) w ≡ true
-        → opening_cost eq (x ∷ xs) (Some w) + opening_cost eq (y ∷ ys) (Some w) ≤ joint_cost eq (x ∷ xs) (y ∷ ys)
-    unfolding joint_values
-    joint_free x y xs ys w in_joint = elim (shared_values eq (x ∷ xs) (y ∷ ys)) as (λ s. shared_values eq (x ∷ xs) (y ∷ ys) ≡ s
+    -- halves that begin with a combined value cost at most the combined cost
+    combined_free : (x y : X) (xs ys : List X) (w : X) → is_member eq (combined_values eq cmp (x ∷ xs) (y ∷ ys)) w ≡ true
+        → opening_cost eq (x ∷ xs) (Some w) + opening_cost eq (y ∷ ys) (Some w) ≤ combined_cost eq (x ∷ xs) (y ∷ ys)
+    unfolding combined_values
+    combined_free x y xs ys w in_combined = elim (shared_values eq (x ∷ xs) (y ∷ ys)) as (λ s. shared_values eq (x ∷ xs) (y ∷ ys) ≡ s
         → is_member eq (or_list s (sorted_merge cmp true (x ∷ xs) (y ∷ ys))) w ≡ true → opening_cost eq (x ∷ xs) (Some w) + opening_cost eq (y ∷ ys) (Some w) ≤ one_if_none s) [
           | [] ↦ λ is at. one_free (is_member eq (x ∷ xs) w) (is_member eq (y ∷ ys) w) (sym (merged_member eq laws cmp ties (x ∷ xs) (y ∷ ys) w) ∙ at)
           | s ∷ ss ↦ λ is at. both_free (is_member eq (x ∷ xs) w) (is_member eq (y ∷ ys) w) (sym (shared_are (x ∷ xs) (y ∷ ys) (s ∷ ss) is w) ∙ at)
-        ] refl in_joint
+        ] refl in_combined
       where
         one_free : (a b : Bool) → (a || b) ≡ true → cond a 0 1 + cond b 0 1 ≤ 1
         one_free true true _ = omega arith
@@ -130,19 +130,19 @@ module _ {X : Type 0} (eq : X → X → Bool) where
         both_free false b bad = absurd (true≢false (sym bad))
 
     -- a part that begins with its best value costs no more
-    pub with_best : (xs ys : List X) (h : Option X) → (joint_values eq cmp xs ys ≡ [] → h ≡ None)
-        → stored eq h (best_value eq (joint_values eq cmp xs ys) h) + (opening_cost eq xs (best_value eq (joint_values eq cmp xs ys) h) + opening_cost eq ys (best_value eq (joint_values eq cmp xs ys) h))
-        ≤ joint_cost eq xs ys + opening_cost eq (joint_values eq cmp xs ys) h
-    unfolding joint_values
+    pub with_best : (xs ys : List X) (h : Option X) → (combined_values eq cmp xs ys ≡ [] → h ≡ None)
+        → stored eq h (best_value eq (combined_values eq cmp xs ys) h) + (opening_cost eq xs (best_value eq (combined_values eq cmp xs ys) h) + opening_cost eq ys (best_value eq (combined_values eq cmp xs ys) h))
+        ≤ combined_cost eq xs ys + opening_cost eq (combined_values eq cmp xs ys) h
+    unfolding combined_values
     with_best [] ys h none = omega arith
     with_best (x ∷ xs) [] h none = omega arith
-    with_best (x ∷ xs) (y ∷ ys) h none = elim (joint_values eq cmp (x ∷ xs) (y ∷ ys)) as (λ j. joint_values eq cmp (x ∷ xs) (y ∷ ys) ≡ j
-        → stored eq h (best_value eq j h) + (opening_cost eq (x ∷ xs) (best_value eq j h) + opening_cost eq (y ∷ ys) (best_value eq j h)) ≤ joint_cost eq (x ∷ xs) (y ∷ ys) + opening_cost eq j h) [
-          | [] ↦ λ is. absurd (joint_some eq laws cmp ties x y xs ys is)
+    with_best (x ∷ xs) (y ∷ ys) h none = elim (combined_values eq cmp (x ∷ xs) (y ∷ ys)) as (λ j. combined_values eq cmp (x ∷ xs) (y ∷ ys) ≡ j
+        → stored eq h (best_value eq j h) + (opening_cost eq (x ∷ xs) (best_value eq j h) + opening_cost eq (y ∷ ys) (best_value eq j h)) ≤ combined_cost eq (x ∷ xs) (y ∷ ys) + opening_cost eq j h) [
+          | [] ↦ λ is. absurd (combined_some eq laws cmp ties x y xs ys is)
           | z ∷ zs ↦ λ is.
               let b = best laws z zs h in
               let w = b.0 in
-              let f = joint_free x y xs ys w (ap (λ j. is_member eq j w) is ∙ b.2) in
+              let f = combined_free x y xs ys w (ap (λ j. is_member eq j w) is ∙ b.2) in
               let s = b.3 in
-              subst (λ o. stored eq h o + (opening_cost eq (x ∷ xs) o + opening_cost eq (y ∷ ys) o) ≤ joint_cost eq (x ∷ xs) (y ∷ ys) + opening_cost eq (z ∷ zs) h) (sym b.1) (omega arith)
+              subst (λ o. stored eq h o + (opening_cost eq (x ∷ xs) o + opening_cost eq (y ∷ ys) o) ≤ combined_cost eq (x ∷ xs) (y ∷ ys) + opening_cost eq (z ∷ zs) h) (sym b.1) (omega arith)
         ] refl

@@ -7,7 +7,7 @@ use Rattle.std.specs.List.Sorted.{IsStrictlySortedBy}
 use Rattle.std.specs.Ordering.{match_ordering, ordering_reverse}
 use Rattle.std.specs.Set.{is_member, merge_step, sorted_merge}
 use Rattle.std.proofs.lemmas.List.Kept.{IsStrictlySortedBy-filter}
-use Rattle.prefix_trie_ops.specs.Parts.{as_list, first_values, joint_values, or_list, shared_values}
+use Rattle.prefix_trie_ops.specs.Parts.{as_list, first_values, combined_values, or_list, shared_values}
 
 module _ {X : Type 0} (cmp : X → X → Ordering) where
   -- what holds of the values of two lists holds of all values of the merged list
@@ -52,11 +52,11 @@ module _ {X : Type 0} (cmp : X → X → Ordering) where
     merged_sorted (x ∷ xs) ys h k = sorted_step x xs h.0 h.1 (λ zs there. merged_sorted xs zs h.1 there) ys k
 
     module _ (eq : X → X → Bool) where
-      joint_sorted : (xs ys : List X) → IsStrictlySortedBy cmp xs → IsStrictlySortedBy cmp ys → IsStrictlySortedBy cmp (joint_values eq cmp xs ys)
-      unfolding joint_values
-      joint_sorted [] ys h k = h
-      joint_sorted (x ∷ xs) [] h k = k
-      joint_sorted (x ∷ xs) (y ∷ ys) h k = either (shared_values eq (x ∷ xs) (y ∷ ys)) (IsStrictlySortedBy-filter cmp (is_member eq (y ∷ ys)) (x ∷ xs) h)
+      combined_sorted : (xs ys : List X) → IsStrictlySortedBy cmp xs → IsStrictlySortedBy cmp ys → IsStrictlySortedBy cmp (combined_values eq cmp xs ys)
+      unfolding combined_values
+      combined_sorted [] ys h k = h
+      combined_sorted (x ∷ xs) [] h k = k
+      combined_sorted (x ∷ xs) (y ∷ ys) h k = either (shared_values eq (x ∷ xs) (y ∷ ys)) (IsStrictlySortedBy-filter cmp (is_member eq (y ∷ ys)) (x ∷ xs) h)
         where
           either : (zs : List X) → IsStrictlySortedBy cmp zs → IsStrictlySortedBy cmp (or_list zs (sorted_merge cmp true (x ∷ xs) (y ∷ ys)))
           either [] _ = merged_sorted (x ∷ xs) (y ∷ ys) h k
@@ -72,4 +72,4 @@ module _ {X : Type 0} (cmp : X → X → Ordering) where
       unfolding first_values
       first_sorted zero answer = one_in_order (answer [])
       first_sorted (suc n) answer =
-          joint_sorted (first_values eq cmp n (λ r. answer (false ∷ r))) (first_values eq cmp n (λ r. answer (true ∷ r))) (first_sorted n (λ r. answer (false ∷ r))) (first_sorted n (λ r. answer (true ∷ r)))
+          combined_sorted (first_values eq cmp n (λ r. answer (false ∷ r))) (first_values eq cmp n (λ r. answer (true ∷ r))) (first_sorted n (λ r. answer (false ∷ r))) (first_sorted n (λ r. answer (true ∷ r)))

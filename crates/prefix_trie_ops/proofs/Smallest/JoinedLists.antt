@@ -8,7 +8,7 @@ use Rattle.std.specs.List.Sorted.{IsStrictlySortedBy}
 use Rattle.std.specs.Ordering.{is_some_and, match_ordering, ordering_reverse, partial_lt}
 use Rattle.std.specs.Set.{is_member, merge_step, sorted_merge}
 use Rattle.std.proofs.lemmas.List.{append_assoc}
-use Rattle.prefix_trie_ops.specs.Parts.{joint_values, or_list, shared_values}
+use Rattle.prefix_trie_ops.specs.Parts.{combined_values, or_list, shared_values}
 use Rattle.prefix_trie_ops.proofs.Smallest.Sets.{shared_member}
 
 module _ {X : Type 0} (eq : X → X → Bool) (cmp : X → X → Ordering) where
@@ -164,28 +164,28 @@ module _ {X : Type 0} (eq : X → X → Bool) (cmp : X → X → Ordering) where
   ] refl (sym (less_is C agrees x y) ∙ is)
 
   module _ (laws : IsEquivalence eq) (order : IsTotalOrder cmp) (ties : (x y : X) → eq x y ≡ is_eq (cmp x y)) where
-    -- two values that are equal are one joint value, and others are two
-    pub pair_equal : (x y : X) → cmp x y ≡ Equal → joint_values eq cmp (x ∷ []) (y ∷ []) ≡ x ∷ []
-    unfolding joint_values
+    -- two values that are equal are one combined value, and others are two
+    pub pair_equal : (x y : X) → cmp x y ≡ Equal → combined_values eq cmp (x ∷ []) (y ∷ []) ≡ x ∷ []
+    unfolding combined_values
     pair_equal x y l = ap (λ b. or_list (cond (b || false) (x ∷ []) []) (sorted_merge cmp true (x ∷ []) (y ∷ []))) (ties x y ∙ ap is_eq l)
 
-    pub pair_less : (x y : X) → cmp x y ≡ Less → joint_values eq cmp (x ∷ []) (y ∷ []) ≡ x ∷ y ∷ []
-    unfolding joint_values
+    pub pair_less : (x y : X) → cmp x y ≡ Less → combined_values eq cmp (x ∷ []) (y ∷ []) ≡ x ∷ y ∷ []
+    unfolding combined_values
     pair_less x y l =
         ap (λ b. or_list (cond (b || false) (x ∷ []) []) (sorted_merge cmp true (x ∷ []) (y ∷ []))) (ties x y ∙ ap is_eq l)
         ∙ ap (λ o. match_ordering o (x ∷ y ∷ []) (x ∷ []) (y ∷ x ∷ [])) l
 
-    pub pair_greater : (x y : X) → cmp x y ≡ Greater → joint_values eq cmp (x ∷ []) (y ∷ []) ≡ y ∷ x ∷ []
-    unfolding joint_values
+    pub pair_greater : (x y : X) → cmp x y ≡ Greater → combined_values eq cmp (x ∷ []) (y ∷ []) ≡ y ∷ x ∷ []
+    unfolding combined_values
     pair_greater x y l =
         ap (λ b. or_list (cond (b || false) (x ∷ []) []) (sorted_merge cmp true (x ∷ []) (y ∷ []))) (ties x y ∙ ap is_eq l)
         ∙ ap (λ o. match_ordering o (x ∷ y ∷ []) (x ∷ []) (y ∷ x ∷ [])) l
 
-    -- a value that a list has is the joint value of both
-    pub joint_member : (x : X) (xs : List X) → is_member eq xs x ≡ true → joint_values eq cmp (x ∷ []) xs ≡ x ∷ []
-    unfolding joint_values
-    joint_member x [] is = absurd (true≢false (sym is))
-    joint_member x (y ∷ ys) is = ap (λ b. or_list (cond b (x ∷ []) []) (sorted_merge cmp true (x ∷ []) (y ∷ ys))) is
+    -- a value that a list has is the combined value of both
+    pub combined_member : (x : X) (xs : List X) → is_member eq xs x ≡ true → combined_values eq cmp (x ∷ []) xs ≡ x ∷ []
+    unfolding combined_values
+    combined_member x [] is = absurd (true≢false (sym is))
+    combined_member x (y ∷ ys) is = ap (λ b. or_list (cond b (x ∷ []) []) (sorted_merge cmp true (x ∷ []) (y ∷ ys))) is
 
     module _ (exact : (x y : X) → eq x y ≡ true → x ≡ y) (x : X) where
       shared_one : (ys : List X) → IsStrictlySortedBy cmp ys → shared_values eq ys (x ∷ []) ≡ cond (is_member eq ys x) (x ∷ []) []
@@ -220,11 +220,11 @@ module _ {X : Type 0} (eq : X → X → Bool) (cmp : X → X → Ordering) where
           or_right true b h = absurd (true≢false h)
           or_right false b h = h
 
-      -- one value and a list have the same joint values in both orders
-      pub joint_one : (ys : List X) → IsStrictlySortedBy cmp ys → joint_values eq cmp (x ∷ []) ys ≡ joint_values eq cmp ys (x ∷ [])
-      unfolding joint_values
-      joint_one [] h = refl
-      joint_one (y ∷ ys) h = elim (is_member eq (y ∷ ys) x) as (λ b. is_member eq (y ∷ ys) x ≡ b
+      -- one value and a list have the same combined values in both orders
+      pub combined_one : (ys : List X) → IsStrictlySortedBy cmp ys → combined_values eq cmp (x ∷ []) ys ≡ combined_values eq cmp ys (x ∷ [])
+      unfolding combined_values
+      combined_one [] h = refl
+      combined_one (y ∷ ys) h = elim (is_member eq (y ∷ ys) x) as (λ b. is_member eq (y ∷ ys) x ≡ b
           → or_list (cond b (x ∷ []) []) (sorted_merge cmp true (x ∷ []) (y ∷ ys)) ≡ or_list (shared_values eq (y ∷ ys) (x ∷ [])) (sorted_merge cmp true (y ∷ ys) (x ∷ []))) [
             | true ↦ λ is. sym (ap (λ zs. or_list zs (sorted_merge cmp true (y ∷ ys) (x ∷ []))) (shared_one (y ∷ ys) h ∙ ap (λ b. cond b (x ∷ []) []) is))
             | false ↦ λ off. merged_one (y ∷ ys) off ∙ sym (ap (λ zs. or_list zs (sorted_merge cmp true (y ∷ ys) (x ∷ []))) (shared_one (y ∷ ys) h ∙ ap (λ b. cond b (x ∷ []) []) off))

@@ -5,8 +5,8 @@ use Rattle.std.specs.declared.cmp.Ordering.{Ordering}
 use Rattle.std.specs.Cmp.{IsEquivalence}
 use Rattle.std.specs.Option.{option_or}
 use Rattle.prefix_trie_ops.specs.Optimal.{value_along}
-use Rattle.prefix_trie_ops.specs.Parts.{as_list, best_value, first_values, joint_cost, joint_values, least, least_inside, opening_cost, stored}
-use Rattle.prefix_trie_ops.proofs.Smallest.Sets.{joint_alone, joint_some}
+use Rattle.prefix_trie_ops.specs.Parts.{as_list, best_value, first_values, combined_cost, combined_values, least, least_inside, opening_cost, stored}
+use Rattle.prefix_trie_ops.proofs.Smallest.Sets.{combined_alone, combined_some}
 use Rattle.prefix_trie_ops.proofs.Smallest.Costs.{at_most_one, unstored, with_best, with_stored}
 
 -- the entries at a prefix
@@ -53,18 +53,18 @@ module _ {X : Type 0} where
         upper h = (true ∷ h.0, (let l = h.1 in omega arith), h.2)
 
         halves : (xs ys : List X) → (xs ≡ [] → (r : List Bool) × (length r ≡ n) × (answer (false ∷ r) ≡ None)) → (ys ≡ [] → (r : List Bool) × (length r ≡ n) × (answer (true ∷ r) ≡ None))
-            → joint_values eq cmp xs ys ≡ [] → (r : List Bool) × (length r ≡ suc n) × (answer r ≡ None)
+            → combined_values eq cmp xs ys ≡ [] → (r : List Bool) × (length r ≡ suc n) × (answer r ≡ None)
         halves [] ys left right is = lower (left refl)
         halves (x ∷ xs) [] left right is = upper (right refl)
-        halves (x ∷ xs) (y ∷ ys) left right is = absurd (joint_some eq laws cmp ties x y xs ys is)
+        halves (x ∷ xs) (y ∷ ys) left right is = absurd (combined_some eq laws cmp ties x y xs ys is)
 
     -- a part whose questions all have one answer begins with this answer
     pub uniform : (n : ℕ) (answer : List Bool → Option X) (o : Option X) → ((r : List Bool) → length r ≡ n → answer r ≡ o) → first_values eq cmp n answer ≡ as_list o
     unfolding first_values
     uniform zero answer o all = ap as_list (all [] refl)
     uniform (suc n) answer o all =
-        ap (λ xs. joint_values eq cmp xs (first_values eq cmp n (λ r. answer (true ∷ r)))) (uniform n (λ r. answer (false ∷ r)) o (λ r l. all (false ∷ r) (omega arith)))
-        ∙ ap (joint_values eq cmp (as_list o)) (uniform n (λ r. answer (true ∷ r)) o (λ r l. all (true ∷ r) (omega arith))) ∙ joint_alone eq laws cmp ties o
+        ap (λ xs. combined_values eq cmp xs (first_values eq cmp n (λ r. answer (true ∷ r)))) (uniform n (λ r. answer (false ∷ r)) o (λ r l. all (false ∷ r) (omega arith)))
+        ∙ ap (combined_values eq cmp (as_list o)) (uniform n (λ r. answer (true ∷ r)) o (λ r l. all (true ∷ r) (omega arith))) ∙ combined_alone eq laws cmp ties o
 
     -- a part that begins with its best value, and so do its halves, costs the least
     pub least_joined : (n : ℕ) (answer : List Bool → Option X) (h wanted : Option X) → wanted ≡ best_value eq (first_values eq cmp (suc n) answer) h → (first_values eq cmp (suc n) answer ≡ [] → h ≡ None)
@@ -73,8 +73,8 @@ module _ {X : Type 0} where
     least_joined n answer h wanted best possible =
         let xs = first_values eq cmp n (λ r. answer (false ∷ r)) in
         let ys = first_values eq cmp n (λ r. answer (true ∷ r)) in
-        let w : stored eq h wanted + (opening_cost eq xs wanted + opening_cost eq ys wanted) ≤ joint_cost eq xs ys + opening_cost eq (joint_values eq cmp xs ys) h =
-        subst (λ o. stored eq h o + (opening_cost eq xs o + opening_cost eq ys o) ≤ joint_cost eq xs ys + opening_cost eq (joint_values eq cmp xs ys) h) (sym best) (with_best eq laws cmp ties xs ys h possible) in
+        let w : stored eq h wanted + (opening_cost eq xs wanted + opening_cost eq ys wanted) ≤ combined_cost eq xs ys + opening_cost eq (combined_values eq cmp xs ys) h =
+        subst (λ o. stored eq h o + (opening_cost eq xs o + opening_cost eq ys o) ≤ combined_cost eq xs ys + opening_cost eq (combined_values eq cmp xs ys) h) (sym best) (with_best eq laws cmp ties xs ys h possible) in
         omega (arith, w)
 
     module _ (f : List Bool → Option X) (count : List Bool → ℕ) (splits : (s : List Bool) → entries_at (f s) + (count (s ++ false ∷ []) + count (s ++ true ∷ [])) ≤ count s) where

@@ -1,11 +1,11 @@
--- Which values the joint values of two lists are: for the smallest table.
+-- Which values the combined values of two lists are: for the smallest table.
 use Rattle.std.proofs.Common.{◌≡◌, ◌∙◌, ◌&&◌, ◌||◌, Bool, true, false, true≢false, cond, List, [], ◌∷◌, Option, Some, None, Less, Equal, Greater, is_eq, ap, sym, refl}
 use Rattle.std.specs.Cmp.{IsEquivalence}
 use Rattle.std.specs.declared.cmp.Ordering.{Ordering}
 use Rattle.std.specs.Ordering.{match_ordering}
 use Rattle.std.specs.Set.{is_member, sorted_merge, merge_step}
 use Rattle.std.proofs.lemmas.Map.Made.{is_member-filter}
-use Rattle.prefix_trie_ops.specs.Parts.{as_list, joint_values, or_list, shared_values}
+use Rattle.prefix_trie_ops.specs.Parts.{as_list, combined_values, or_list, shared_values}
 
 or_none : (a : Bool) → a ≡ (a || false)
 or_none true = refl
@@ -61,22 +61,22 @@ module _ {X : Type 0} (eq : X → X → Bool) where
       merged_member [] ys v = refl
       merged_member (x ∷ xs) ys v = step_member x xs v (λ zs. merged_member xs zs v) ys
 
-      -- two lists with values have joint values
-      pub joint_some : (x y : X) (xs ys : List X) → joint_values eq cmp (x ∷ xs) (y ∷ ys) ≡ [] → ⊥
-      unfolding joint_values
-      joint_some x y xs ys none = elim (shared_values eq (x ∷ xs) (y ∷ ys)) as (λ s. or_list s (sorted_merge cmp true (x ∷ xs) (y ∷ ys)) ≡ [] → ⊥) [
+      -- two lists with values have combined values
+      pub combined_some : (x y : X) (xs ys : List X) → combined_values eq cmp (x ∷ xs) (y ∷ ys) ≡ [] → ⊥
+      unfolding combined_values
+      combined_some x y xs ys none = elim (shared_values eq (x ∷ xs) (y ∷ ys)) as (λ s. or_list s (sorted_merge cmp true (x ∷ xs) (y ∷ ys)) ≡ [] → ⊥) [
         | [] ↦ λ bad. has_member (sorted_merge cmp true (x ∷ xs) (y ∷ ys)) x (merged_member (x ∷ xs) (y ∷ ys) x ∙ ap (λ b. (b || is_member eq xs x) || is_member eq (y ∷ ys) x) (laws.refl x)) bad
         | s ∷ ss ↦ λ bad. has_member (s ∷ ss) s (ap (λ b. b || is_member eq ss s) (laws.refl s)) bad
       ] none
 
-      pub joint_not_none : (xs ys : List X) → (xs ≡ [] → ⊥) → (ys ≡ [] → ⊥) → joint_values eq cmp xs ys ≡ [] → ⊥
-      joint_not_none [] ys some some' none = some refl
-      joint_not_none (x ∷ xs) [] some some' none = some' refl
-      joint_not_none (x ∷ xs) (y ∷ ys) some some' none = joint_some x y xs ys none
+      pub combined_not_none : (xs ys : List X) → (xs ≡ [] → ⊥) → (ys ≡ [] → ⊥) → combined_values eq cmp xs ys ≡ [] → ⊥
+      combined_not_none [] ys some some' none = some refl
+      combined_not_none (x ∷ xs) [] some some' none = some' refl
+      combined_not_none (x ∷ xs) (y ∷ ys) some some' none = combined_some x y xs ys none
 
       -- what a value alone begins, both halves of a part begin with it
-      pub joint_alone : (o : Option X) → joint_values eq cmp (as_list o) (as_list o) ≡ as_list o
-      unfolding joint_values
-      joint_alone None = refl
-      joint_alone (Some v) =
+      pub combined_alone : (o : Option X) → combined_values eq cmp (as_list o) (as_list o) ≡ as_list o
+      unfolding combined_values
+      combined_alone None = refl
+      combined_alone (Some v) =
           ap (λ s. or_list s (sorted_merge cmp true (v ∷ []) (v ∷ []))) (ap (λ b. cond (b || false) (v ∷ []) []) (laws.refl v))

@@ -9,7 +9,7 @@ use Rattle.std.proofs.lemmas.List.{append_assoc, length-take-le, take_all}
 use Rattle.prefix_trie_ops.specs.declared.map.optimal.sets.Set.{Set}
 use Rattle.prefix_trie_ops.specs.declared.map.optimal.sets.Set.TheVariants.{Missing, One, Many}
 use Rattle.prefix_trie_ops.specs.declared.map.optimal.sets.Span.{Span}
-use Rattle.prefix_trie_ops.specs.Parts.{joint_values, or_list, shared_values}
+use Rattle.prefix_trie_ops.specs.Parts.{combined_values, or_list, shared_values}
 use Rattle.prefix_trie_ops.specs.ValueSets.{Appends, Holds, IsSpanOf}
 use Rattle.prefix_trie_ops.proofs.Smallest.Ranges.{range_append}
 
@@ -65,25 +65,25 @@ module _ {X : Type 0} where
   one_sorted cmp x = (tt, tt)
 
   module _ (eq : X → X → Bool) (cmp : X → X → Ordering) where
-    -- if one list is empty, there is no joint value
-    pub joint_left : (xs ys : List X) → xs ≡ [] → joint_values eq cmp xs ys ≡ []
-    unfolding joint_values
-    joint_left xs ys none = ap (λ zs. joint_values eq cmp zs ys) none
+    -- if one list is empty, there is no combined value
+    pub combined_left : (xs ys : List X) → xs ≡ [] → combined_values eq cmp xs ys ≡ []
+    unfolding combined_values
+    combined_left xs ys none = ap (λ zs. combined_values eq cmp zs ys) none
 
-    pub joint_right : (xs ys : List X) → ys ≡ [] → joint_values eq cmp xs ys ≡ []
-    unfolding joint_values
-    joint_right [] ys none = refl
-    joint_right (x ∷ xs) ys none = ap (joint_values eq cmp (x ∷ xs)) none
+    pub combined_right : (xs ys : List X) → ys ≡ [] → combined_values eq cmp xs ys ≡ []
+    unfolding combined_values
+    combined_right [] ys none = refl
+    combined_right (x ∷ xs) ys none = ap (combined_values eq cmp (x ∷ xs)) none
 
-    pub joint_is : (xs ys : List X) → (xs ≡ [] → ⊥) → (ys ≡ [] → ⊥) → joint_values eq cmp xs ys ≡ or_list (shared_values eq xs ys) (sorted_merge cmp true xs ys)
-    unfolding joint_values
-    joint_is [] ys some some' = absurd (some refl)
-    joint_is (x ∷ xs) [] some some' = absurd (some' refl)
-    joint_is (x ∷ xs) (y ∷ ys) some some' = refl
+    pub combined_is : (xs ys : List X) → (xs ≡ [] → ⊥) → (ys ≡ [] → ⊥) → combined_values eq cmp xs ys ≡ or_list (shared_values eq xs ys) (sorted_merge cmp true xs ys)
+    unfolding combined_values
+    combined_is [] ys some some' = absurd (some refl)
+    combined_is (x ∷ xs) [] some some' = absurd (some' refl)
+    combined_is (x ∷ xs) (y ∷ ys) some some' = refl
 
-    -- values that are shared are the joint values, and all values if none are
-    pub joint_shared : (old now xs ys : List X) → (xs ≡ [] → ⊥) → (ys ≡ [] → ⊥) → now ≡ old ++ shared_values eq xs ys → (length now ≡ length old → ⊥) → now ≡ old ++ joint_values eq cmp xs ys
-    joint_shared old now xs ys some some' grown longer = grown ∙ ap (λ zs. old ++ zs) (kept (shared_values eq xs ys) (λ none. longer (ap length (grown ∙ ap (λ zs. old ++ zs) none ∙ append-nil old))) ∙ sym (joint_is xs ys some some'))
+    -- values that are shared are the combined values, and all values if none are
+    pub combined_shared : (old now xs ys : List X) → (xs ≡ [] → ⊥) → (ys ≡ [] → ⊥) → now ≡ old ++ shared_values eq xs ys → (length now ≡ length old → ⊥) → now ≡ old ++ combined_values eq cmp xs ys
+    combined_shared old now xs ys some some' grown longer = grown ∙ ap (λ zs. old ++ zs) (kept (shared_values eq xs ys) (λ none. longer (ap length (grown ∙ ap (λ zs. old ++ zs) none ∙ append-nil old))) ∙ sym (combined_is xs ys some some'))
       where
         kept : (zs : List X) → (zs ≡ [] → ⊥) → zs ≡ or_list zs (sorted_merge cmp true xs ys)
         kept [] bad = absurd (bad refl)
@@ -95,11 +95,11 @@ module _ {X : Type 0} where
         let all = ap length grown in
         none_short (shared_values eq xs ys) (omega (arith, long, all, same))
 
-    pub joint_all : (old between now xs ys : List X) → (xs ≡ [] → ⊥) → (ys ≡ [] → ⊥) → between ≡ old ++ shared_values eq xs ys → shared_values eq xs ys ≡ [] → now ≡ between ++ sorted_merge cmp true xs ys
-        → now ≡ old ++ joint_values eq cmp xs ys
-    joint_all old between now xs ys some some' grown none all =
+    pub combined_all : (old between now xs ys : List X) → (xs ≡ [] → ⊥) → (ys ≡ [] → ⊥) → between ≡ old ++ shared_values eq xs ys → shared_values eq xs ys ≡ [] → now ≡ between ++ sorted_merge cmp true xs ys
+        → now ≡ old ++ combined_values eq cmp xs ys
+    combined_all old between now xs ys some some' grown none all =
         all ∙ ap (λ zs. zs ++ sorted_merge cmp true xs ys) (grown ∙ ap (λ zs. old ++ zs) none ∙ append-nil old)
-        ∙ ap (λ zs. old ++ zs) (sym (joint_is xs ys some some' ∙ ap (λ zs. or_list zs (sorted_merge cmp true xs ys)) none))
+        ∙ ap (λ zs. old ++ zs) (sym (combined_is xs ys some some' ∙ ap (λ zs. or_list zs (sorted_merge cmp true xs ys)) none))
 
   pub span_some : (old : List X) (span : Span) (xs : List X) → IsSpanOf old span xs → xs ≡ [] → ⊥
   span_some old span xs h none =

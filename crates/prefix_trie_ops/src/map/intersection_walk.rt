@@ -7,7 +7,7 @@ ghost use Rattle.prefix_trie_ops.specs.Combining.{common};
 ghost use Rattle.prefix_trie_ops.specs.Lending.{lent_pair};
 
 use prefix_trie::laws::{listed_laws, listing_laws};
-use prefix_trie::map::{Combination, JointCursor, Keyed};
+use prefix_trie::map::{Combination, CombinedCursor, Keyed};
 use prefix_trie::{Prefix, PrefixMap};
 use std::alloc::Allocator;
 use std::marker::Model;
@@ -19,14 +19,14 @@ use std::marker::Model;
 pub struct IntersectionWalk<'a, P: Prefix, T: Drop, U: Drop, A: Allocator, B: Allocator> {
     left: &'a PrefixMap<P, T, A>,
     right: &'a PrefixMap<P, U, B>,
-    cursor: JointCursor<P::R>,
+    cursor: CombinedCursor<P::R>,
 }
 
 impl<'a, P: Prefix, T: Drop, U: Drop, A: Allocator, B: Allocator> Model
     for IntersectionWalk<'a, P, T, U, A, B> {
     ghost use Rattle.std.specs.Prelude.{List};
-    ghost use Rattle.prefix_trie.specs.Terms.{IsJointCursorIn, combined_to_come, prefix_pairs};
-    ghost use Rattle.prefix_trie_table.specs.declared.table.joint_spot.Combination.TheVariants.{Intersection};
+    ghost use Rattle.prefix_trie.specs.Terms.{IsCombinedCursorIn, combined_to_come, prefix_pairs};
+    ghost use Rattle.prefix_trie_table.specs.declared.table.combined_spot.Combination.TheVariants.{Intersection};
     ghost use Rattle.prefix_trie_ops.specs.Combining.{common};
 
     ghost Value = { List (P × (T × U)) };
@@ -34,7 +34,7 @@ impl<'a, P: Prefix, T: Drop, U: Drop, A: Allocator, B: Allocator> Model
     ghost view = { λ w. prefix_pairs P.back
         (combined_to_come P.R.bits (common w.left.now.entries w.right.now.entries) w.cursor) };
 
-    ghost invariant = { λ w. IsJointCursorIn P.R.bits P.R.bit_width w.left.now.build
+    ghost invariant = { λ w. IsCombinedCursorIn P.R.bits P.R.bit_width w.left.now.build
         w.right.now.build Intersection w.cursor };
 }
 
@@ -69,7 +69,7 @@ pub fn intersection<'a, P: Prefix, T: Drop, U: Drop, A: Allocator, B: Allocator>
     IntersectionWalk {
         left,
         right,
-        cursor: left.joint_cursor::<U, B, (T, U)>(right, Combination::Intersection),
+        cursor: left.combined_cursor::<U, B, (T, U)>(right, Combination::Intersection),
     }
 }
 
@@ -85,7 +85,7 @@ impl<'a, P: Prefix, T: Drop, U: Drop, A: Allocator, B: Allocator> Iterator
     fn next(&mut self) -> Option<(P, &'a T, &'a U)> {
         let Some(item) = self
             .left
-            .joint_step::<U, B, (T, U)>(self.right, Combination::Intersection, &mut self.cursor)
+            .combined_step::<U, B, (T, U)>(self.right, Combination::Intersection, &mut self.cursor)
         else {
             return None;
         };

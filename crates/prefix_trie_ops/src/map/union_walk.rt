@@ -8,7 +8,7 @@ ghost use Rattle.prefix_trie_ops.specs.Merging.{lent_side, union_of};
 
 use crate::map::sides::Side;
 use prefix_trie::laws::{listed_laws, listing_laws};
-use prefix_trie::map::{Combination, JointCursor, Keyed};
+use prefix_trie::map::{Combination, CombinedCursor, Keyed};
 use prefix_trie::{Prefix, PrefixMap};
 use std::alloc::Allocator;
 use std::marker::Model;
@@ -20,14 +20,14 @@ use std::marker::Model;
 pub struct UnionWalk<'a, P: Prefix, T: Drop, U: Drop, A: Allocator, B: Allocator> {
     left: &'a PrefixMap<P, T, A>,
     right: &'a PrefixMap<P, U, B>,
-    cursor: JointCursor<P::R>,
+    cursor: CombinedCursor<P::R>,
 }
 
 impl<'a, P: Prefix, T: Drop, U: Drop, A: Allocator, B: Allocator> Model
     for UnionWalk<'a, P, T, U, A, B> {
     ghost use Rattle.std.specs.Prelude.{List};
-    ghost use Rattle.prefix_trie.specs.Terms.{IsJointCursorIn, combined_to_come, prefix_pairs};
-    ghost use Rattle.prefix_trie_table.specs.declared.table.joint_spot.Combination.TheVariants.{Union};
+    ghost use Rattle.prefix_trie.specs.Terms.{IsCombinedCursorIn, combined_to_come, prefix_pairs};
+    ghost use Rattle.prefix_trie_table.specs.declared.table.combined_spot.Combination.TheVariants.{Union};
     ghost use Rattle.prefix_trie_ops.specs.Merging.{union_of};
     ghost use Rattle.prefix_trie_ops.specs.declared.map.sides.Side.{Side};
 
@@ -36,7 +36,7 @@ impl<'a, P: Prefix, T: Drop, U: Drop, A: Allocator, B: Allocator> Model
     ghost view = { λ w. prefix_pairs P.back
         (combined_to_come P.R.bits (union_of w.left.now.entries w.right.now.entries) w.cursor) };
 
-    ghost invariant = { λ w. IsJointCursorIn P.R.bits P.R.bit_width w.left.now.build
+    ghost invariant = { λ w. IsCombinedCursorIn P.R.bits P.R.bit_width w.left.now.build
         w.right.now.build Union w.cursor };
 }
 
@@ -72,7 +72,7 @@ pub fn union<'a, P: Prefix, T: Drop, U: Drop, A: Allocator, B: Allocator>(
     UnionWalk {
         left,
         right,
-        cursor: left.joint_cursor::<U, B, Side<T, U>>(right, Combination::Union),
+        cursor: left.combined_cursor::<U, B, Side<T, U>>(right, Combination::Union),
     }
 }
 
@@ -88,7 +88,7 @@ impl<'a, P: Prefix, T: Drop, U: Drop, A: Allocator, B: Allocator> Iterator
     fn next(&mut self) -> Option<(P, Side<&'a T, &'a U>)> {
         let Some(item) = self
             .left
-            .joint_step::<U, B, Side<T, U>>(self.right, Combination::Union, &mut self.cursor)
+            .combined_step::<U, B, Side<T, U>>(self.right, Combination::Union, &mut self.cursor)
         else {
             return None;
         };

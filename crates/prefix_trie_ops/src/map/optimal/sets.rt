@@ -2,7 +2,7 @@
 ghost use Rattle.std.specs.Prelude.{◌≡◌, ◌<◌, ◌≤◌, ◌++◌, true, List, [], ◌∷◌, length, slice_range, slice_set, IfOk};
 ghost use Rattle.std.specs.List.Sorted.{IsStrictlySortedBy};
 ghost use Rattle.std.specs.Set.{is_member, sorted_merge};
-ghost use Rattle.prefix_trie_ops.specs.Parts.{as_list, best_value, joint_values, shared_values};
+ghost use Rattle.prefix_trie_ops.specs.Parts.{as_list, best_value, combined_values, shared_values};
 ghost use Rattle.prefix_trie_ops.specs.ValueSets.{Appends, Holds, IsSpanOf};
 
 use std::alloc::{AllocError, Allocator};
@@ -95,7 +95,7 @@ pub(super) fn best_of<T: Copy + Ord, B: Allocator>(
         → IsStrictlySortedBy T.Ord.cmp xs → IsStrictlySortedBy T.Ord.cmp ys
         → ((x y : T) → T.PartialEq.eq x y ≡ true → x ≡ y)
         → Appends values.old.items values.new.items set
-        (joint_values T.PartialEq.eq T.Ord.cmp xs ys)) }
+        (combined_values T.PartialEq.eq T.Ord.cmp xs ys)) }
 {
     match (left, right) {
         (Set::One(x), Set::One(y)) => best_of_two(values, x, y),
@@ -115,7 +115,7 @@ fn best_of_two<T: Copy + Ord, B: Allocator>(
 ) -> Result<Set<T>, AllocError>
     ensures { IfOk result
         (λ set. Appends values.old.items values.new.items set
-        (joint_values T.PartialEq.eq T.Ord.cmp (x ∷ []) (y ∷ []))) }
+        (combined_values T.PartialEq.eq T.Ord.cmp (x ∷ []) (y ∷ []))) }
 {
     match x.cmp(&y) {
         Ordering::Equal => Ok(Set::One(x)),
@@ -134,7 +134,7 @@ fn best_with<T: Copy + Ord, B: Allocator>(
     ensures { IfOk result
         (λ made. (xs : List T) → IsSpanOf values.old.items set xs → IsStrictlySortedBy T.Ord.cmp xs
         → Appends values.old.items values.new.items made
-        (joint_values T.PartialEq.eq T.Ord.cmp (x ∷ []) xs)) }
+        (combined_values T.PartialEq.eq T.Ord.cmp (x ∷ []) xs)) }
 {
     if has(values.as_slice(), set, x) {
         return Ok(Set::One(x));
@@ -172,7 +172,7 @@ fn push_best<T: Copy + Ord, B: Allocator>(
         → IsSpanOf values.old.items right ys
         → IsStrictlySortedBy T.Ord.cmp xs → IsStrictlySortedBy T.Ord.cmp ys
         → Appends values.old.items values.new.items set
-        (joint_values T.PartialEq.eq T.Ord.cmp xs ys)) }
+        (combined_values T.PartialEq.eq T.Ord.cmp xs ys)) }
 {
     let start = values.len();
     push_shared(values, left, right)?;

@@ -3,7 +3,7 @@ use Rattle.std.proofs.Common.{◌∙◌, inl, inr, arith, ap, length, sym}
 use Rattle.std.specs.Option.{option_copied}
 use Rattle.prefix_trie.specs.Terms.{prefix_pairs}
 use Rattle.prefix_trie_ops.specs.Combining.{common}
-use Rattle.prefix_trie_ops.proofs.Joint.{common_combines, common_first, common_some}
+use Rattle.prefix_trie_ops.proofs.Combined.{common_combines, common_first, common_some}
 use Rattle.prefix_trie_ops.proofs.map.intersection_walk.IntersectionWalkIterator.next.Goals as goal
 
 pub returns-in_default-clause-steps : goal.returns-in_default-clause-steps

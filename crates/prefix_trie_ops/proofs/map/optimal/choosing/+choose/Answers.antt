@@ -1,5 +1,5 @@
 -- The recursion of the first two passes: a part without entries under it begins with its own value, and the sets of
--- another part are its joint one and those of its two halves.
+-- another part are its combined one and those of its two halves.
 use Rattle.std.proofs.Common.{rules, ◌≡◌, ◌∙◌, ◌+◌, ◌<◌, ◌++◌, Bool, true, false, List, [], ◌∷◌, length, is_some, ap, sym, subst, arith, length-append}
 use Rattle.std.specs.List.{Contains, slice_set}
 use Rattle.std.specs.Option.{option_or}
@@ -9,7 +9,7 @@ use Rattle.prefix_trie.specs.Terms.{listing, listing_after, listing_from, prefix
 use Rattle.prefix_trie_ops.specs.declared.map.optimal.sets.Set.TheVariants.{Missing}
 use Rattle.prefix_trie_ops.specs.Choosing.{Chooses}
 use Rattle.prefix_trie_ops.specs.Optimal.{is_first_below, listing_past, value_along}
-use Rattle.prefix_trie_ops.specs.Parts.{as_list, first_values, joint_values}
+use Rattle.prefix_trie_ops.specs.Parts.{as_list, first_values, combined_values}
 use Rattle.prefix_trie_ops.specs.ValueSets.{Appends, Holds}
 use Rattle.prefix_trie_ops.proofs.Optimal.Choosing.{by_more, chooses_both, chooses_leaf}
 use Rattle.prefix_trie_ops.proofs.Optimal.Fronts.{below_is, left_after, no_key_below, past_leaf, to_end, to_left, to_right, value_here}
@@ -119,12 +119,12 @@ choose_inner-returns-clause-chooses g t c source n inherited within long is belo
     (subst (λ h. Chooses eq cmp source k (path c.half-upper.result) h between both v1 v2 right) valued (c.in_ok-right.ensures.chooses source k within long_upper to_upper exact)) in
     let first_lower = first_values eq cmp k (value_along (get source) below_here (s ++ false ∷ [])) in
     let first_upper = first_values eq cmp k (value_along (get source) below_here (s ++ true ∷ [])) in
-    let joint : Appends v2 v3 set (joint_values eq cmp first_lower first_upper) =
+    let combined : Appends v2 v3 set (combined_values eq cmp first_lower first_upper) =
     c.in_ok-set.ensures first_lower first_upper (holds_kept v1 r.appends.added v2 left first_lower r.appends.grows l.appends.holds) r.appends.holds
     (first_sorted cmp g.met.T.Ord.total eq k (value_along (get source) below_here (s ++ false ∷ []))) (first_sorted cmp g.met.T.Ord.total eq k (value_along (get source) below_here (s ++ true ∷ []))) exact in
     let long_both = ap length r.listed ∙ length-append between r.more in
     let long_between = ap length l.listed ∙ length-append pushed l.more in
     let long_pushed = ap length c.in_ok-push.ensures.items ∙ length-append sets (Missing ∷ []) in
     let within_both : c.len-place.result < length both = omega (arith, start, long_both, long_between, long_pushed) in
-    chooses_both eq cmp source s inherited k sets pushed between both c.put.new.sets.items v0 v1 v2 v3 left right set below c.in_ok-push.ensures.items l r joint
+    chooses_both eq cmp source s inherited k sets pushed between both c.put.new.sets.items v0 v1 v2 v3 left right set below c.in_ok-push.ensures.items l r combined
     (c.put.ensures within_both ∙ ap (λ i. slice_set both i set) start)) long

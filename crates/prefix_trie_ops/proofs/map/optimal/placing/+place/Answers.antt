@@ -14,13 +14,13 @@ use Rattle.prefix_trie_ops.specs.Choosing.{part_values, AreToCome}
 use Rattle.prefix_trie_ops.specs.Optimal.{is_first_below, listing_past, value_along, HasNoneBelow, Rebuilds}
 use Rattle.prefix_trie_ops.specs.Parts.{as_list, best_value, first_values, least, stored}
 use Rattle.prefix_trie_ops.proofs.Filling.{fills_then, passes_later, passes_more}
-use Rattle.prefix_trie_ops.proofs.Optimal.Choosing.{by_more, first_alone, first_joint, part_inner, part_outer}
+use Rattle.prefix_trie_ops.proofs.Optimal.Choosing.{by_more, first_alone, first_combined, part_inner, part_outer}
 use Rattle.prefix_trie_ops.proofs.Optimal.Fronts.{below_is, left_after, no_key_below, past_leaf, to_end, to_left, to_right, value_here}
 use Rattle.prefix_trie_ops.proofs.Optimal.PartCosts.{inner_cost, leaf_cost}
 use Rattle.prefix_trie_ops.proofs.Optimal.Positions.{lower_half, upper_half}
 use Rattle.prefix_trie_ops.proofs.Optimal.RebuiltParts.{joined, leaf, none_left, none_right}
 use Rattle.prefix_trie_ops.proofs.Smallest.Lower.{best_none}
-use Rattle.prefix_trie_ops.proofs.Smallest.StoredSets.{joint_left, joint_right}
+use Rattle.prefix_trie_ops.proofs.Smallest.StoredSets.{combined_left, combined_right}
 use Rattle.prefix_trie_ops.proofs.map.optimal.placing.+place.Goals as goal
 
 pub place-returns-then-not-is_inner-clause-walks : goal.place-returns-then-not-is_inner-clause-walks
@@ -201,15 +201,15 @@ place_inner-returns-clause-rebuilds g t c source n inherited rest within long is
     ap (λ t. first_values eq cmp k (value_along (get source) here t)) lower ∙ ap (λ h. first_values eq cmp k (value_along (get source) h (s ++ false ∷ []))) valued in
     let upper_same : first_values eq cmp k (value_along (get source) here (path c.half-upper.result)) ≡ first_upper =
     ap (λ t. first_values eq cmp k (value_along (get source) here t)) upper ∙ ap (λ h. first_values eq cmp k (value_along (get source) h (s ++ true ∷ []))) valued in
-    let joint = first_joint eq cmp source s inherited k in
+    let combined = first_combined eq cmp source s inherited k in
     let left : Rebuilds eq cmp k source (s ++ false ∷ []) here wanted settled middle = subst (λ t. Rebuilds eq cmp k source t here wanted settled middle) lower
     (c.in_ok-place.ensures.rebuilds source k (right_parts ++ rest) within long_lower to_lower come_lower
     (subst (HasNoneBelow settled) (sym lower) (none_left eq cmp source before settled s inherited held wanted empty beside gives fresh cost)) exact
-    (λ none. best ∙ ap (λ xs. best_value eq xs held) (joint ∙ joint_left eq cmp first_lower first_upper (sym lower_same ∙ none)))) in
+    (λ none. best ∙ ap (λ xs. best_value eq xs held) (combined ∙ combined_left eq cmp first_lower first_upper (sym lower_same ∙ none)))) in
     let right : Rebuilds eq cmp k source (s ++ true ∷ []) here wanted middle after = subst (λ t. Rebuilds eq cmp k source t here wanted middle after) upper
     (c.in_ok-place-2.ensures.rebuilds source k rest within long_upper to_upper come_upper
     (subst (HasNoneBelow middle) (sym upper) (none_right eq cmp source before settled s inherited held wanted empty beside gives fresh cost middle left.beside)) exact
-    (λ none. best ∙ ap (λ xs. best_value eq xs held) (joint ∙ joint_right eq cmp first_lower first_upper (sym upper_same ∙ none)))) in
+    (λ none. best ∙ ap (λ xs. best_value eq xs held) (combined ∙ combined_right eq cmp first_lower first_upper (sym upper_same ∙ none)))) in
     joined eq cmp source before settled s inherited held wanted empty beside gives fresh cost middle after here k valued left right g.met.T.Eq.laws g.met.T.Ord.matches_eq best possible) long come possible
 
 -- Without slots for an entry, the fewest entries of the part may exceed the limit too.
@@ -316,10 +316,10 @@ place_inner-returns-in_err-place-clause-range g t c =
     let first_upper = first_values eq cmp k (value_along (get source) below_here (s ++ true ∷ [])) in
     let lower_same : first_values eq cmp k (value_along (get source) here (path c.half-lower.result)) ≡ first_lower =
     ap (λ t. first_values eq cmp k (value_along (get source) here t)) lower ∙ ap (λ h. first_values eq cmp k (value_along (get source) h (s ++ false ∷ []))) valued in
-    let joint = first_joint eq cmp source s inherited k in
+    let combined = first_combined eq cmp source s inherited k in
     let none_lower = subst (HasNoneBelow settled.entries) (sym lower) (none_left eq cmp source before.entries settled.entries s inherited held wanted empty beside gives fresh cost) in
     let begins_lower = λ (none : first_values eq cmp k (value_along (get source) here (path c.half-lower.result)) ≡ []).
-    best ∙ ap (λ xs. best_value eq xs held) (joint ∙ joint_left eq cmp first_lower first_upper (sym lower_same ∙ none)) in
+    best ∙ ap (λ xs. best_value eq xs held) (combined ∙ combined_left eq cmp first_lower first_upper (sym lower_same ∙ none)) in
     let cost_lower : ℕ = least eq cmp k (value_along (get source) here (s ++ false ∷ [])) wanted in
     let cost_upper : ℕ = least eq cmp k (value_along (get source) here (s ++ true ∷ [])) wanted in
     passes_later before settled (stored eq held wanted) cost_lower (least eq cmp (suc k) (value_along (get source) inherited s) held) c.in_ok-settle.ensures.fills cost (omega (arith, whole))
@@ -375,10 +375,10 @@ place_inner-returns-in_err-place-2-clause-range g t c =
     let first_upper = first_values eq cmp k (value_along (get source) below_here (s ++ true ∷ [])) in
     let lower_same : first_values eq cmp k (value_along (get source) here (path c.half-lower.result)) ≡ first_lower =
     ap (λ t. first_values eq cmp k (value_along (get source) here t)) lower ∙ ap (λ h. first_values eq cmp k (value_along (get source) h (s ++ false ∷ []))) valued in
-    let joint = first_joint eq cmp source s inherited k in
+    let combined = first_combined eq cmp source s inherited k in
     let none_lower = subst (HasNoneBelow settled.entries) (sym lower) (none_left eq cmp source before.entries settled.entries s inherited held wanted empty beside gives fresh cost) in
     let begins_lower = λ (none : first_values eq cmp k (value_along (get source) here (path c.half-lower.result)) ≡ []).
-    best ∙ ap (λ xs. best_value eq xs held) (joint ∙ joint_left eq cmp first_lower first_upper (sym lower_same ∙ none)) in
+    best ∙ ap (λ xs. best_value eq xs held) (combined ∙ combined_left eq cmp first_lower first_upper (sym lower_same ∙ none)) in
     let cost_lower : ℕ = least eq cmp k (value_along (get source) here (s ++ false ∷ [])) wanted in
     let cost_upper : ℕ = least eq cmp k (value_along (get source) here (s ++ true ∷ [])) wanted in
     let middle = c.place.new.made in
@@ -397,4 +397,4 @@ place_inner-returns-in_err-place-2-clause-range g t c =
     (subst (λ t. ManyMayPassLimit middle.space (least eq cmp k (value_along (get source) here t) wanted)) upper
     (c.in_err-place-2.ensures.range range source k rest within long_upper to_upper come_upper
     (subst (HasNoneBelow middle.entries) (sym upper) (none_right eq cmp source before.entries settled.entries s inherited held wanted empty beside gives fresh cost middle.entries left.beside)) exact
-    (λ none. best ∙ ap (λ xs. best_value eq xs held) (joint ∙ joint_right eq cmp first_lower first_upper (sym upper_same ∙ none)))))) long come possible)
+    (λ none. best ∙ ap (λ xs. best_value eq xs held) (combined ∙ combined_right eq cmp first_lower first_upper (sym upper_same ∙ none)))))) long come possible)

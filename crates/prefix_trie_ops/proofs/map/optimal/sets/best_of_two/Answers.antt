@@ -1,4 +1,4 @@
--- The joint values of two values are one of them, or both in order.
+-- The combined values of two values are one of them, or both in order.
 use Rattle.std.proofs.Common.{[], sym, subst, append-nil}
 use Rattle.std.specs.Result.{IfOk}
 use Rattle.prefix_trie_ops.specs.ValueSets.{Appends}

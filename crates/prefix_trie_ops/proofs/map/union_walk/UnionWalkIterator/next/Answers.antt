@@ -2,7 +2,7 @@
 use Rattle.std.proofs.Common.{◌∙◌, arith, ap, length, sym}
 use Rattle.prefix_trie.specs.Terms.{prefix_pairs}
 use Rattle.prefix_trie_ops.specs.Merging.{union_of}
-use Rattle.prefix_trie_ops.proofs.Joint.{union_combines, union_first, union_some}
+use Rattle.prefix_trie_ops.proofs.Combined.{union_combines, union_first, union_some}
 use Rattle.prefix_trie_ops.proofs.map.union_walk.UnionWalkIterator.next.Goals as goal
 
 pub returns-in_default-clause-steps : goal.returns-in_default-clause-steps

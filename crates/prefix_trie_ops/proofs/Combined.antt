@@ -6,7 +6,7 @@ use Rattle.prefix_trie.specs.Terms.{Entries, GivesItem, IsCombination, prefix_pa
 use Rattle.prefix_trie_ops.specs.Combining.{both_values, common}
 use Rattle.prefix_trie_ops.specs.Merging.{lent_side, lent_values, sides, union_of}
 use Rattle.prefix_trie_ops.specs.declared.map.sides.Side.{Side}
-use Rattle.prefix_trie_table.specs.declared.table.joint_spot.Combination.TheVariants.{Union, Intersection}
+use Rattle.prefix_trie_table.specs.declared.table.combined_spot.Combination.TheVariants.{Union, Intersection}
 use Rattle.prefix_trie_ops.proofs.Merging.{get_union}
 use Rattle.prefix_trie_ops.proofs.Pairs.{get_common}
 
