@@ -11,6 +11,7 @@ use Rattle.address_ranges.specs.Appends.{AddsRange, EndsFrom, StartBy, end_of, e
 use Rattle.address_ranges.specs.Breaks.{AreBreaks, AreRising, has_address, is_odd, numbers}
 use Rattle.address_ranges.proofs.Keys.{as_many, number_at}
 use Rattle.address_ranges.proofs.Breaks.{breaks-push, each_push, has-past, has-push_above, has-push_below}
+use Rattle.address_ranges.proofs.Blocks.{match_with}
 
 or_false : (b : Bool) → b ≡ (b || false)
 or_false true = refl
@@ -200,10 +201,6 @@ by_le : (o : Ordering) (a b : ℕ) → MatchOrdering o (a < b) (a ≡ b) (b < a)
 by_le Less a b h = omega (arith, h)
 by_le Equal a b h = omega (arith, h)
 by_le Greater a b h = h
-
-pub match_with : (b : Bool) (P P' Q Q' : Type 0) → (P → P') → (Q → Q') → MatchBool b P Q → MatchBool b P' Q'
-match_with true P P' Q Q' f g h = f h
-match_with false P P' Q Q' f g h = g h
 
 true_from : (b : Bool) (P P' Q : Type 0) → (P → P') → MatchBool b P Q → OnTrue b P'
 true_from true P P' Q f h = f h

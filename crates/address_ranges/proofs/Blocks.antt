@@ -147,7 +147,7 @@ module _ (w : ℕ) (b : List Bool) (len : ℕ) (long : length b ≡ w) (short : 
   pub kept_first : (kept : List Bool) → kept ≡ take len b ++ zeros (w - len) → number kept ≡ first_address w (take len b)
   kept_first kept is = ap number (is ∙ ap (λ k. take len b ++ zeros (w - k)) (sym length_first))
 
-  -- a block that begins at the address ends within the line
+  -- a block that begins at the address ends by the end of all addresses
   pub block_fits : number b ≤ first_address w (take len b) → number b + 2 ^ (w - len) ≤ 2 ^ w
   block_fits by =
       let e : first_address w (take len b) + 2 ^ (w - len) ≤ 2 ^ w = subst (λ k. first_address w (take len b) + 2 ^ (w - k) ≤ 2 ^ w) length_first (past_within w (take len b) (omega (arith, length_first, short))) in
@@ -159,19 +159,14 @@ module _ (w : ℕ) (b : List Bool) (len : ℕ) (long : length b ≡ w) (short : 
 -- ---- ends of ranges
 
 module _ {K : Type 0} (w : ℕ) (bits : K → List Bool) where
-  pub end_of_line : (o : Option K) → o ≡ None → end_of w bits o ≡ 2 ^ w
-  end_of_line o is = ap (end_of w bits) is
+  pub end_of_all : (o : Option K) → o ≡ None → end_of w bits o ≡ 2 ^ w
+  end_of_all o is = ap (end_of w bits) is
 
   pub end_at_key : (o : Option K) (k : K) → o ≡ Some k → end_of w bits o ≡ number (bits k)
   end_at_key o k is = ap (end_of w bits) is
 
-  pub below_line : (k : K) → length (bits k) ≡ w → number (bits k) < 2 ^ w
-  below_line k long = number-below w (bits k) long
-
-  -- what is left of a range, as a measure
-  abbrev pub left_of : Option K → ℕ → ℕ
-  left_of None end = 0
-  left_of (Some k) end = end - number (bits k)
+  pub below_end : (k : K) → length (bits k) ≡ w → number (bits k) < 2 ^ w
+  below_end k long = number-below w (bits k) long
 
 pub match_true : (b : Bool) (P Q : Type 0) → b ≡ true → P → MatchBool b P Q
 match_true true P Q e h = h

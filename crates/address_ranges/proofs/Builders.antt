@@ -1,6 +1,6 @@
 -- What adding sorted ranges one after the other gives, and what a builder has gathered.
-use Rattle.std.proofs.Common.{Option, ◌≡◌, ◌∙◌, ℕ, ◌+◌, ◌^◌, ◌<◌, ◌≤◌, ◌||◌, Bool, true, false, List, [], ◌∷◌, ◌++◌, length, get_or, take, refl, sym, ap, subst, arith}
-use Rattle.std.proofs.lemmas.List.{get_or-map, length-map, take_all}
+use Rattle.std.proofs.Common.{Option, ◌≡◌, ◌∙◌, ℕ, ◌+◌, ◌^◌, ◌<◌, ◌||◌, Bool, true, false, List, [], ◌∷◌, ◌++◌, length, get_or, take, refl, sym, ap, subst, arith}
+use Rattle.std.proofs.lemmas.List.{get_or-map, length-map}
 use Rattle.std.proofs.lemmas.List.Folds.{list_any-append, list_any_more}
 use Rattle.std.specs.List.{list_any}
 use Rattle.std.specs.List.Sorted.{IsNonDecreasingBy}
@@ -13,16 +13,6 @@ use Rattle.address_ranges.specs.Builders.{AreSome, is_in_one, range_as_numbers, 
 pub or_assoc : (a b c : Bool) → (a || (b || c)) ≡ ((a || b) || c)
 or_assoc true b c = refl
 or_assoc false b c = refl
-
-pub or_swap : (a b c : Bool) → ((a || c) || b) ≡ ((a || b) || c)
-or_swap true b c = refl
-or_swap false true true = refl
-or_swap false true false = refl
-or_swap false false c = or_none c
-  where
-    or_none : (c : Bool) → (c || false) ≡ c
-    or_none true = refl
-    or_none false = refl
 
 -- items that are added one by one: what is gathered is what was there, or one of them has it
 pub in_none : (old : Bool) → old ≡ (old || false)
@@ -45,13 +35,6 @@ module _ {K : Type 0} (w : ℕ) (bits : K → List Bool) (ranges : List (K × Op
 
   as_many : length (ranges_as_numbers w bits ranges) ≡ length ranges
   as_many = length-map ranges (range_as_numbers w bits)
-
-  pub added_none : AreAdded [] 0
-  added_none = record {
-    breaks = record { rising = λ j k lt in_it. absurd (omega (arith, in_it)); within = λ k lt. absurd (omega (arith, lt)) };
-    starts = λ d _ k lt. absurd (omega (arith, lt));
-    has = λ n lt. refl;
-  }
 
   module _ (i : ℕ) (r : K × Option K) (in_it : i < length ranges) (is : r ≡ get_or ranges i r) where
     -- no range that is read is empty
@@ -79,6 +62,3 @@ module _ {K : Type 0} (w : ℕ) (bits : K → List Bool) (ranges : List (K × Op
           (ap (range_as_numbers w bits) is ∙ sym (get_or-map (range_as_numbers w bits) ranges i r (0, 0) in_it))
           ∙ sym (list_any_more (λ q. is_inside q.0 q.1 n) (ranges_as_numbers w bits ranges) i (0, 0) (omega (arith, in_it, as_many)));
     }
-
-  pub added_all : (ns : List ℕ) (i : ℕ) → length ranges ≤ i → AreAdded ns i → (n : ℕ) → n < 2 ^ w → has_address ns n ≡ is_in_one (ranges_as_numbers w bits ranges) n
-  added_all ns i le so_far n lt = so_far.has n lt ∙ ap (λ rs. is_in_one rs n) (take_all i (ranges_as_numbers w bits ranges) (omega (arith, le, as_many)))

@@ -1,19 +1,17 @@
 -- The fewest networks of the addresses that pass a test, from address to address.
-use Rattle.std.specs.Option.{IfSome, MatchOption}
-use Rattle.std.proofs.Common.{Option, None, Some, suc, not, cond, ◌≡◌, ◌∙◌, ℕ, ◌+◌, ◌-◌, ◌^◌, ◌<◌, ◌≤◌, ◌&&◌, Bool, true, false, List, [], ◌∷◌, ◌++◌, length, length-append, get_or, inl, inr, leb, refl, ap, sym, subst, arith}
+use Rattle.std.proofs.Common.{suc, not, cond, ◌≡◌, ◌∙◌, ℕ, ◌+◌, ◌-◌, ◌^◌, ◌<◌, ◌≤◌, ◌&&◌, Bool, true, false, List, [], ◌∷◌, ◌++◌, length, length-append, get_or, inl, inr, leb, refl, ap, sym, subst, arith}
 use Rattle.std.proofs.Math.Seq.{get_or-append_seam}
 use Rattle.std.proofs.lemmas.Bool.{cases_lt, le-leb, le-ltb, lt-leb, lt-ltb}
 use Rattle.std.proofs.lemmas.List.{get_or_append_left}
 use Rattle.std.proofs.lemmas.List.Elements.{Contains-push, Contains-push_cases, Contains-append_left}
 use Rattle.std.specs.List.{Contains}
-use Rattle.address_ranges.specs.Networks.{first_address, past_address}
-use Rattle.address_ranges.specs.Networks.{AreFewestUpTo, AreInOrder, IsBlock, IsInside, break_or_end, is_between}
+use Rattle.address_ranges.specs.Networks.{AreFewestUpTo, AreInOrder, IsBlock, IsInside, break_or_end, first_address, is_between, past_address}
 use Rattle.address_ranges.specs.Breaks.{AreBreaks, has_address, is_odd}
-use Rattle.address_ranges.proofs.Breaks.{has-before, has-rank, odd-next}
+use Rattle.address_ranges.proofs.Breaks.{has-rank, odd-next}
 use Rattle.address_ranges.proofs.Keys.{get_or-any}
 use Rattle.address_ranges.proofs.Blocks.{block_of_network, nested, past_within, some_address}
 
-and_false : (b : Bool) → (b && false) ≡ false
+pub and_false : (b : Bool) → (b && false) ≡ false
 and_false true = refl
 and_false false = refl
 
@@ -138,18 +136,6 @@ most_at w test at len end none out lt t short inside here = elim (cases_lt (leng
       | inr le ↦ le
     ]
 
--- the next network of a range: the largest one at the address that is not covered yet
-pub fewest_next : (w : ℕ) (test : ℕ → Bool) (low at len end : ℕ) (ss : List (List Bool)) (s : List Bool) → ((n : ℕ) → low ≤ n → n < end → test n ≡ true) → (end < 2 ^ w → test end ≡ false)
-    → low ≤ at → at < end → len ≤ w → IsBlock w at len end → ((k : ℕ) → k < len → IsBlock w at k end → ⊥) → length s ≡ len → first_address w s ≡ at → AreFewestUpTo w test at ss
-    → AreFewestUpTo w test (at + 2 ^ (w - len)) (ss ++ s ∷ [])
-fewest_next w test low at len end ss s all out le lt short block none long here so_far =
-    let past : past_address w s ≡ at + 2 ^ (w - len) = ap (λ n. first_address w s + 2 ^ (w - n)) long ∙ ap (λ n. n + 2 ^ (w - len)) here in
-    let fits = block.fits in
-    subst (λ n. AreFewestUpTo w test n (ss ++ s ∷ [])) past
-    (fewest_pushed w test at ss so_far s (omega (arith, long, short)) here
-    (λ n a b. all n (omega (arith, a, here, le)) (omega (arith, b, past, fits)))
-    (λ t fit inside first. let l = most_at w test at len end none out lt t fit inside first in omega (arith, l, long)))
-
 -- ---- the networks of a range
 
 -- the address after a last one
@@ -168,26 +154,6 @@ module _ (w low high : ℕ) where
 
   pub before_range : (n : ℕ) → n < low → is_between low high n ≡ false
   before_range n lt = ap (λ x. x && leb n high) (lt-leb low n lt)
-
-  pub range_begun : AreFewestUpTo w (is_between low high) low []
-  range_begun = fewest_skipped w (is_between low high) 0 [] (fewest_none w (is_between low high)) low (omega arith) (λ n a b. before_range n b)
-
-  pub range_done : (ss : List (List Bool)) → high < 2 ^ w → AreFewestUpTo w (is_between low high) (high + 1) ss → AreFewestUpTo w (is_between low high) (2 ^ w) ss
-  range_done ss lt so_far = fewest_skipped w (is_between low high) (high + 1) ss so_far (2 ^ w) (omega (arith, lt)) (λ n a b. beyond_range n (omega (arith, a)))
-
-  pub range_empty : high < low → AreFewestUpTo w (is_between low high) (2 ^ w) []
-  range_empty lt = fewest_skipped w (is_between low high) 0 [] (fewest_none w (is_between low high)) (2 ^ w) (omega arith) (λ n a b. elim (cases_lt n low) [
-    | inl less ↦ before_range n less
-    | inr more ↦ beyond_range n (omega (arith, more, lt))
-  ])
-
-pub if_some : {K : Type 0} (o : Option K) (P : Type 0) (Q Q' : K → Type 0) → ((k : K) → Q k → Q' k) → MatchOption o P Q → IfSome o Q'
-if_some None P Q Q' g h = tt
-if_some (Some k) P Q Q' g h = g k h
-
-pub match_option : {K : Type 0} (o : Option K) (P P' : Type 0) (Q Q' : K → Type 0) → (P → P') → ((k : K) → Q k → Q' k) → MatchOption o P Q → MatchOption o P' Q'
-match_option None P P' Q Q' f g h = f h
-match_option (Some k) P P' Q Q' f g h = g k h
 
 -- ---- the ranges between breakpoints
 
@@ -231,33 +197,3 @@ module _ (w : ℕ) (ns : List ℕ) (breaks : AreBreaks w ns) where
         ∙ ap is_odd (let e : i + 1 + 1 ≡ suc (i + 1) = omega arith in e) ∙ odd-next (i + 1) ∙ ap not odd
     | inr none ↦ absurd (let at : break_or_end w ns (i + 1) ≡ 2 ^ w = ap (λ b. cond b (get_or ns (i + 1) 0) (2 ^ w)) (le-ltb (i + 1) (length ns) none) in omega (arith, at, below))
   ]
-
-  -- before the first breakpoint there is no address
-  pub fewest_first : AreFewestUpTo w (has_address ns) (break_or_end w ns 0) []
-  fewest_first = fewest_skipped w (has_address ns) 0 [] (fewest_none w (has_address ns)) (break_or_end w ns 0) (omega arith) (λ n a b. has-before ns n (λ k lt. above n b k lt))
-    where
-      above : (n : ℕ) → n < break_or_end w ns 0 → (k : ℕ) → k < length ns → n < get_or ns k 0
-      above n b k lt = (
-          let at = break_here 0 (omega (arith, lt)) in
-          elim (cases_lt 0 k) [
-            | inl less ↦ (let u = breaks.rising 0 k less lt in omega (arith, u, at, b))
-            | inr ge ↦ (let is : 0 ≡ k = omega (arith, ge) in let e = ap (λ j. get_or ns j 0) is in omega (arith, e, at, b))
-          ])
-
-  -- between the end of a range and the next start there is none
-  pub fewest_between : (i : ℕ) (ss : List (List Bool)) → i < length ns → is_odd i ≡ true → AreFewestUpTo w (has_address ns) (break_or_end w ns i) ss → AreFewestUpTo w (has_address ns) (break_or_end w ns (i + 1)) ss
-  fewest_between i ss lt odd so_far =
-      let at = break_here i lt in
-      let up = break_rises i lt in
-      fewest_skipped w (has_address ns) (break_or_end w ns i) ss so_far (break_or_end w ns (i + 1)) (omega (arith, at, up))
-      (λ n a b. has_between i n lt (omega (arith, at, a)) b ∙ ap is_odd (let e : i + 1 ≡ suc i = omega arith in e) ∙ odd-next i ∙ ap not odd)
-
-  -- the networks of a range
-  pub fewest_pushed_range : (i first end : ℕ) (old new : List (List Bool)) → i < length ns → is_odd (i + 1) ≡ true → get_or ns i 0 ≡ first → end ≡ break_or_end w ns (i + 1) → AreFewestUpTo w (has_address ns) (break_or_end w ns i) old
-      → ((test : ℕ → Bool) → ((n : ℕ) → first ≤ n → n < end → test n ≡ true) → (end < 2 ^ w → test end ≡ false) → AreFewestUpTo w test first old → AreFewestUpTo w test end new)
-      → AreFewestUpTo w (has_address ns) (break_or_end w ns (i + 1)) new
-  fewest_pushed_range i first end old new lt odd from to so_far push =
-      subst (λ n. AreFewestUpTo w (has_address ns) n new) to
-      (push (has_address ns) (λ n a b. has_between i n lt (omega (arith, a, from)) (omega (arith, b, to)) ∙ odd)
-      (λ below. ap (has_address ns) to ∙ end_is_out i lt odd (omega (arith, below, to)))
-      (subst (λ n. AreFewestUpTo w (has_address ns) n old) (break_here i lt ∙ from) so_far))

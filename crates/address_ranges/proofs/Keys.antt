@@ -1,16 +1,15 @@
 -- Breakpoints as keys: their numbers.
-use Rattle.std.proofs.Common.{zero, suc, refl, None, Some, Ordering, Less, Equal, Greater, subst, ◌≡◌, ◌∙◌, ℕ, ◌<◌, ◌≤◌, ◌^◌, Bool, true, false, leb, not, List, [], ◌∷◌, drop, length, get_or, sym, ap, inl, inr, arith}
+use Rattle.std.proofs.Common.{zero, suc, refl, None, Some, Ordering, Less, Equal, Greater, subst, ◌≡◌, ◌∙◌, ℕ, ◌<◌, ◌≤◌, Bool, true, false, leb, not, List, [], ◌∷◌, drop, length, get_or, sym, ap, inl, inr, arith}
 use Rattle.std.proofs.lemmas.Bool.{cases_lt, leb-true, leb-false}
-use Rattle.std.proofs.lemmas.List.{get_or-map, length-map, length-replicate}
+use Rattle.std.proofs.lemmas.List.{get_or-map, length-map}
 use Rattle.std.specs.List.Sorted.{IsNonDecreasingBy, IsPartitionPoint}
-use Rattle.prefix_trie_bits.specs.Model.Bits.{number, zeros}
+use Rattle.prefix_trie_bits.specs.Model.Bits.{number}
 use Rattle.address_ranges.specs.Breaks.{AreBreaks, AreRising, IsRank, StartsAtZero, has_address, numbers}
 use Rattle.address_ranges.proofs.Breaks.{toggled_off, toggled_on}
 use Rattle.std.specs.Bool.{MatchBool}
 use Rattle.std.specs.Ordering.{MatchOrdering, is_eq, nat_cmp}
 use Rattle.std.specs.Cmp.{ranks}
 use Rattle.std.specs.List.{slice_get}
-use Rattle.prefix_trie_bits.specs.BitStrings.{number-lt, number_of_digits, zero_bits}
 
 module _ {K : Type 0} (bits : K → List Bool) (keys : List K) where
   -- the number at a place is that of the key there
@@ -65,9 +64,6 @@ pub with_zero : {K : Type 0} (bits : K → List Bool) (w : ℕ) (keys out : List
 with_zero bits w keys out is above breaks =
     subst (λ ns. AreBreaks w ns × ((n : ℕ) → has_address ns n ≡ not (has_address (numbers bits keys) n))) (sym is)
     (toggled_on w (numbers bits keys) (λ lt. above (omega (arith, lt, as_many bits keys))) breaks)
-
-pub number_zeros : (k : ℕ) → number (zeros k) ≡ 0
-number_zeros k = ap number (sym (zero_bits k)) ∙ number_of_digits k 0 (omega (arith, number-lt (zeros k), ap (λ n. 2 ^ n) (length-replicate k false)))
 
 -- an item of a list does not depend on what stands for a missing one
 pub get_or-any : {X : Type 0} → (xs : List X) (k : ℕ) (d e : X) → k < length xs → get_or xs k d ≡ get_or xs k e

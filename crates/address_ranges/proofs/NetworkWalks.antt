@@ -11,7 +11,7 @@ use Rattle.address_ranges.proofs.Blocks.{past_within, some_address}
 use Rattle.address_ranges.proofs.Covering.{are_fewest}
 use Rattle.address_ranges.proofs.Fewest.{fewest_none, fewest_pushed, fewest_skipped}
 
-and_true : (b : Bool) → b ≡ (b && true)
+pub and_true : (b : Bool) → b ≡ (b && true)
 and_true true = refl
 and_true false = refl
 

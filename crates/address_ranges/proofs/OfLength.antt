@@ -6,7 +6,7 @@ use Rattle.address_ranges.specs.Breaks.{AreBreaks, has_address}
 use Rattle.address_ranges.specs.Networks.{IsBlock, IsFree, IsInside, break_or_end, first_address, past_address}
 use Rattle.address_ranges.specs.Walks.{HasNoneOfLength, ReturnsFirst, most_left}
 use Rattle.address_ranges.proofs.Blocks.{block_of_network, past_within, some_address}
-use Rattle.address_ranges.proofs.NetworkWalks.{later_is}
+use Rattle.address_ranges.proofs.NetworkWalks.{and_true, later_is}
 use Rattle.address_ranges.proofs.WalkSteps.{end_out, end_within, fewer_left, gone_breaks, gone_is, has_first, none_before, some_first}
 
 -- the addresses from one on are left, and no network of the length begins before it
@@ -16,10 +16,6 @@ pub record AreSkipped (w len : ℕ) (old left : List ℕ) : Type 0 where
   pub left_is : (n : ℕ) → n < 2 ^ w → has_address left n ≡ (has_address old n && leb low n)
   pub none : (t : List Bool) → length t ≡ len → IsInside w (has_address old) t → low ≤ first_address w t
   pub fewer : most_left w left ≤ most_left w old
-
-and_true : (b : Bool) → b ≡ (b && true)
-and_true true = refl
-and_true false = refl
 
 pub skipped_none : (w len : ℕ) (old : List ℕ) → AreBreaks w old → AreSkipped w len old old
 skipped_none w len old are = record {

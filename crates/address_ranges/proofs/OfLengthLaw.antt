@@ -1,5 +1,5 @@
 -- All networks of the walk over the networks of one length.
-use Rattle.std.proofs.Common.{◌≡◌, ◌∙◌, ℕ, ◌+◌, ◌-◌, ◌*◌, ◌^◌, ◌<◌, ◌≤◌, ◌&&◌, All, Bool, true, false, leb, List, [], ◌∷◌, ◌++◌, length, map, inl, inr, refl, ap, sym, subst, arith, append_assoc, mul-le-mul_right, pow_pos}
+use Rattle.std.proofs.Common.{◌≡◌, ◌∙◌, ℕ, ◌+◌, ◌-◌, ◌*◌, ◌^◌, ◌<◌, ◌≤◌, ◌&&◌, All, Bool, true, leb, List, [], ◌∷◌, ◌++◌, length, map, inl, inr, refl, ap, sym, subst, arith, append_assoc, mul-le-mul_right, pow_pos}
 use Rattle.std.proofs.lemmas.Bool.{and_from, and_parts, cases_lt, leb-true, le-leb}
 use Rattle.std.proofs.lemmas.List.{append-nil}
 use Rattle.std.proofs.lemmas.List.Elements.{All-cons, All-nil, Contains-append_left, Contains-push, Contains-push_cases}
@@ -14,11 +14,7 @@ use Rattle.address_ranges.specs.Walks.{HasNoneOfLength, ReturnsFirst, ReturnsNet
 use Rattle.address_ranges.proofs.Addresses.{first_is}
 use Rattle.address_ranges.proofs.Blocks.{nested, past_within, some_address}
 use Rattle.address_ranges.proofs.Fewest.{in_order_push}
-use Rattle.address_ranges.proofs.NetworkWalks.{drained, later_is}
-
-and_true : (b : Bool) → b ≡ (b && true)
-and_true true = refl
-and_true false = refl
+use Rattle.address_ranges.proofs.NetworkWalks.{and_true, drained, later_is}
 
 same_multiple : (m n p : ℕ) → 0 < p → m * p ≡ n * p → m ≡ n
 same_multiple m n p some e = elim (cases_lt m n) [

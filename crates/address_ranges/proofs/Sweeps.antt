@@ -3,7 +3,7 @@ use Rattle.std.proofs.Common.{◌≡◌, ◌∙◌, ℕ, suc, ◌+◌, ◌^◌, 
 use Rattle.std.specs.Bool.{beq}
 use Rattle.std.specs.Int.{from_bool}
 use Rattle.std.proofs.lemmas.Bool.{cases_lt}
-use Rattle.std.proofs.lemmas.List.{get_or-take, length-take-le, take_more, take_all}
+use Rattle.std.proofs.lemmas.List.{get_or-take, length-take-le, take_more}
 use Rattle.address_ranges.specs.Breaks.{AreBreaks, AreRising, has_address, is_odd}
 use Rattle.address_ranges.specs.Sweeps.{IsNext, IsNextOf, changed_to}
 use Rattle.address_ranges.proofs.Breaks.{breaks-push, each_push, has-past, has-push_above, has-rank, odd-next}
@@ -13,9 +13,6 @@ pub record IsAt (ns : List ℕ) (i low : ℕ) : Type 0 where
   pub inside : i ≤ length ns
   pub below : (k : ℕ) → k < i → get_or ns k 0 < low
   pub rest : i < length ns → low ≤ get_or ns i 0
-
-pub at_start : (ns : List ℕ) → IsAt ns 0 0
-at_start ns = record { inside = omega arith; below = λ k lt. absurd (omega (arith, lt)); rest = λ _. omega arith }
 
 -- the place after a breakpoint, if it is one
 abbrev pub after : ℕ → Bool → ℕ
@@ -71,16 +68,6 @@ pub record IsSwept (w : ℕ) (keeps : Bool → Bool → Bool) (left right : List
   pub breaks : AreBreaks w out
   pub below : (k : ℕ) → k < length out → get_or out k 0 < low
   pub same : (n : ℕ) → has_address out n ≡ keeps (has_address (take i left) n) (has_address (take j right) n)
-
-pub swept_none : (w : ℕ) (keeps : Bool → Bool → Bool) (left right : List ℕ) → keeps false false ≡ false → IsSwept w keeps left right 0 0 []
-swept_none w keeps left right none = record {
-  low = 0;
-  left_at = at_start left;
-  right_at = at_start right;
-  breaks = record { rising = λ j k lt in_it. absurd (omega (arith, in_it)); within = λ k lt. absurd (omega (arith, lt)) };
-  below = λ k lt. absurd (omega (arith, lt));
-  same = λ n. sym none;
-}
 
 beq_true : (a b : Bool) → beq a b ≡ true → a ≡ b
 beq_true true true e = refl
@@ -165,9 +152,3 @@ module _ (w : ℕ) (keeps : Bool → Bool → Bool) (left right : List ℕ) (i j
   kept_is i' j' ei ej kept =
       ap₂ keeps (odd_at left (after i in_left) at left_up left_next) (odd_at right (after j in_right) at right_up right_next)
       ∙ ap₂ (λ a b. keeps (is_odd a) (is_odd b)) (sym ei) (sym ej) ∙ kept
-
--- after the last step
-pub swept_all : (w : ℕ) (keeps : Bool → Bool → Bool) (left right : List ℕ) (i j : ℕ) (out : List ℕ) → IsSwept w keeps left right i j out → length left ≤ i → length right ≤ j
-    → (n : ℕ) → has_address out n ≡ keeps (has_address left n) (has_address right n)
-swept_all w keeps left right i j out so_far l r n =
-    so_far.same n ∙ ap₂ (λ s t. keeps (has_address s n) (has_address t n)) (take_all i left l) (take_all j right r)

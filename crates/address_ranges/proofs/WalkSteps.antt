@@ -7,13 +7,9 @@ use Rattle.address_ranges.specs.Breaks.{AreBreaks, has_address}
 use Rattle.address_ranges.specs.Networks.{IsBlock, break_or_end, first_address, past_address}
 use Rattle.address_ranges.specs.Walks.{ReturnsLargest, most_left}
 use Rattle.address_ranges.proofs.Breaks.{before_first, from_first, rest_before}
-use Rattle.address_ranges.proofs.Fewest.{break_here, break_past, break_rises, end_is_out, most_at}
+use Rattle.address_ranges.proofs.Fewest.{and_false, break_here, break_past, break_rises, end_is_out, most_at}
 use Rattle.address_ranges.proofs.Counts.{break_within}
 use Rattle.address_ranges.proofs.Walks.{breaks_rest}
-
-and_false : (b : Bool) → (b && false) ≡ false
-and_false true = refl
-and_false false = refl
 
 and_true : (b : Bool) → (b && true) ≡ b
 and_true true = refl

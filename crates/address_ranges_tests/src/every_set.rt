@@ -1,5 +1,5 @@
-//! Every set of addresses of three bits, and every pair of them, compared with eight bits.
-use address_ranges::{AddressCount, AddressSet, AddressSetBuilder};
+//! Every set of addresses of three bits, every pair of them, every range and every list of networks, compared with eight bits.
+use address_ranges::{AddressCount, AddressSet, AddressSetBuilder, networks_of};
 use prefix_trie_bits::prefix::{Key, Narrow, Prefix};
 use std::alloc::{AllocError, Global};
 
@@ -164,6 +164,64 @@ fn all_pairs_are_right(alloc: Global) -> Result<bool, AllocError> {
     Ok(true)
 }
 
+/// Returns the bits of the addresses from `first` to `last`.
+fn bits_between(first: u32, last: u32) -> u32 {
+    let mut bits = 0;
+    for k in 0..8_u32 {
+        if first <= k && k <= last {
+            bits |= 1 << k;
+        }
+    }
+    bits
+}
+
+/// Returns whether a range has as few networks as there are, and they have its addresses.
+fn has_fewest(first: u32, last: u32, alloc: Global) -> Result<bool, AllocError> {
+    let (low, high) = (address(u64::from(first)), address(u64::from(last)));
+    let networks = networks_of::<Network, Global>(low, high, alloc)?;
+    let bits = bits_between(first, last);
+    Ok(networks.len() == least(bits, 0, 0) as usize && bits_of_networks(&networks) == Some(bits))
+}
+
+fn all_ranges_have_fewest(alloc: Global) -> Result<bool, AllocError> {
+    for first in 0..8_u32 {
+        for last in 0..8_u32 {
+            if !has_fewest(first, last, alloc)? {
+                return Ok(false);
+            }
+        }
+    }
+    Ok(true)
+}
+
+/// The first address and the length of each network of at most two bits.
+static NETWORKS: [(u64, u8); 7] = [(0, 0), (0, 1), (4, 1), (0, 2), (2, 2), (4, 2), (6, 2)];
+
+/// Returns whether the set of the networks whose bits in `chosen` are 1 has their addresses.
+fn has_all_of(chosen: u32, alloc: Global) -> Result<bool, AllocError> {
+    let mut builder = AddressSetBuilder::new(alloc)?;
+    let mut bits = 0;
+    for (k, (first, len)) in NETWORKS.iter().enumerate() {
+        let network = (address(*first), *len);
+        if chosen >> (k as u32).min(7) & 1 == 1 && network.fits() {
+            builder.add_network(&network)?;
+            let first = (*first % 8) as u32;
+            let size = 8_u32 >> (*len).min(3);
+            bits |= bits_between(first, first.wrapping_add(size.wrapping_sub(1)));
+        }
+    }
+    Ok(bits_of(&builder.finish()?) == bits)
+}
+
+fn all_lists_are_right(alloc: Global) -> Result<bool, AllocError> {
+    for chosen in 0..128_u32 {
+        if !has_all_of(chosen, alloc)? {
+            return Ok(false);
+        }
+    }
+    Ok(true)
+}
+
 #[test]
 fn each_set_has_its_addresses_in_as_few_networks_as_there_are(rt: HostRuntime) {
     assert!(rt; all_are_right(rt.alloc()) == Ok(true));
@@ -172,4 +230,14 @@ fn each_set_has_its_addresses_in_as_few_networks_as_there_are(rt: HostRuntime) {
 #[test]
 fn each_operation_on_each_pair_gives_its_addresses(rt: HostRuntime) {
     assert!(rt; all_pairs_are_right(rt.alloc()) == Ok(true));
+}
+
+#[test]
+fn each_range_has_the_fewest_networks(rt: HostRuntime) {
+    assert!(rt; all_ranges_have_fewest(rt.alloc()) == Ok(true));
+}
+
+#[test]
+fn each_list_of_networks_gives_their_addresses(rt: HostRuntime) {
+    assert!(rt; all_lists_are_right(rt.alloc()) == Ok(true));
 }

@@ -103,3 +103,16 @@ fn networks_of_a_range_have_no_host_bits(rt: HostRuntime) -> Result<(), Fail> {
     assert!(rt; none.is_empty());
     Ok(())
 }
+
+#[test]
+fn networks_of_a_range_are_those_of_python(rt: HostRuntime) -> Result<(), Fail> {
+    let networks = networks_of::<Ipv4Prefix, Global>(0xc000_0205, 0xc000_0282, rt.alloc())?;
+    let text = format!(in rt.alloc(); "{networks:?}")?;
+    let expected =
+        "[192.0.2.5/32, 192.0.2.6/31, 192.0.2.8/29, 192.0.2.16/28, 192.0.2.32/27, 192.0.2.64/26, \
+        192.0.2.128/31, 192.0.2.130/32]";
+    assert!(rt; text.as_str() == expected);
+    let most = networks_of::<Ipv6Prefix, Global>(1, u128::MAX - 1, rt.alloc())?;
+    assert_eq!(rt; most.len(), 254);
+    Ok(())
+}

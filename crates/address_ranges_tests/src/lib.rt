@@ -6,3 +6,5 @@ mod every_set;
 pub mod facts;
 #[cfg(test)]
 mod families;
+#[cfg(test)]
+mod refusals;

@@ -1,7 +1,8 @@
 -- The first breakpoint compares as its number.
 use Rattle.std.proofs.Common.{◌∙◌, ap, is_eq}
 use Rattle.prefix_trie_bits.specs.Model.Bits.{number}
-use Rattle.address_ranges.proofs.Keys.{first_zero, number_zeros}
+use Rattle.address_ranges.proofs.Keys.{first_zero}
+use Rattle.address_ranges.proofs.Addresses.{number_zeros}
 use Rattle.address_ranges.proofs.toggle.starts_at_zero.Goals as goal
 
 pub returns-in-Some : goal.returns-in-Some

@@ -2,7 +2,7 @@
 use Rattle.std.proofs.Common.{◌∙◌, ◌++◌, ◌∷◌, [], ap}
 use Rattle.prefix_trie_bits.specs.Model.Bits.{number}
 use Rattle.address_ranges.specs.Breaks.{numbers}
-use Rattle.address_ranges.proofs.Keys.{number_zeros}
+use Rattle.address_ranges.proofs.Addresses.{number_zeros}
 use Rattle.address_ranges.proofs.toggle.with_zero.Goals as goal
 
 pub returns : goal.returns

@@ -3,7 +3,8 @@ use Rattle.std.proofs.Common.{◌∙◌, ◌∷◌, ap, subst, sym}
 use Rattle.std.proofs.lemmas.List.{take_rest}
 use Rattle.prefix_trie_bits.specs.Model.Bits.{number}
 use Rattle.address_ranges.specs.Breaks.{AreBreaks, has_address, numbers}
-use Rattle.address_ranges.proofs.Keys.{number_zeros, with_zero, without_zero}
+use Rattle.address_ranges.proofs.Keys.{with_zero, without_zero}
+use Rattle.address_ranges.proofs.Addresses.{number_zeros}
 use Rattle.address_ranges.proofs.left.Left.of_complement.Goals as goal
 
 pub of_set-requires : goal.of_set-requires
