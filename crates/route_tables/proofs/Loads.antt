@@ -108,11 +108,11 @@ at_done [] later line = refl
 at_done (first ∷ done) later line = at_done done later line
 
 -- the invariant holds before the first line
-pub loads_start : (reading : Reading) (all : List (List ℕ)) (m : Values) (listed : List BadLine) → listed ≡ [] → Loads reading all all 0 m m listed
+unfoldable pub loads_start : (reading : Reading) (all : List (List ℕ)) (m : Values) (listed : List BadLine) → listed ≡ [] → Loads reading all all 0 m m listed
 loads_start reading all m listed none = record { done = []; split = refl; count = refl; routes = []; has = refl; entries = refl; bad = none }
 
 -- the invariant holds after one more line
-pub loads_on : (reading : Reading) (all rest later : List (List ℕ)) (line : List ℕ) (number : ℕ) (before m next : Values) (listed after : List BadLine)
+unfoldable pub loads_on : (reading : Reading) (all rest later : List (List ℕ)) (line : List ℕ) (number : ℕ) (before m next : Values) (listed after : List BadLine)
     → rest ≡ line ∷ later → AddsLine reading line m next → ListsLine reading (number + 1) line listed after
     → Loads reading all rest number before m listed → Loads reading all later (number + 1) before next after
 loads_on reading all rest later line number before m next listed after split (given, gives, adds) lists old = record {

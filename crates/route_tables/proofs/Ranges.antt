@@ -8,7 +8,7 @@ use Rattle.std.proofs.lemmas.Result.{IfErr-weaker}
 use Rattle.prefix_trie_bits.specs.BitStrings.{number_of_digits}
 use Rattle.prefix_trie_bits.specs.Networks.{network_back, network_path}
 use Rattle.prefix_trie.specs.Terms.{begins, digits, number}
-use Rattle.prefix_trie_fib.specs.Networks.{AreInOrder, IsShortest, is_between, is_covered_by}
+use Rattle.address_ranges.specs.Networks.{AreFewest, is_between}
 use Rattle.prefix_trie_joint.specs.declared.prefix.IpPrefix.{IpPrefix}
 use Rattle.route_tables.specs.Networks.{AreFewestFor, AreOfEnds, AreOfRange, DenotesNone}
 use Rattle.route_tables.specs.declared.range.NetworksError.{NetworksError}
@@ -49,15 +49,12 @@ is_missing p (b ∷ bs) whole =
 
 -- networks that are the fewest for the digits of two numbers are those for the numbers
 pub fewest_for : (width first last a b : ℕ) (networks : List (ℕ × ℕ)) → first ≡ a → last ≡ b → first < 2 ^ width → last < 2 ^ width
-    → ((q : List Bool) → length q ≡ width → is_covered_by (map (network_path width) networks) q ≡ is_between (number (digits width first)) (number (digits width last)) (number q))
-    → ((q : List Bool) → length q ≡ width → length (filter (λ s. begins s q) (map (network_path width) networks)) ≤ 1)
-    → AreInOrder width (map (network_path width) networks) → All (λ n. network_back width (network_path width n) ≡ n) networks → IsShortest width (map (network_path width) networks) → AreFewestFor width a b networks
-fewest_for width first last a b networks is_first is_last first_fits last_fits covered once in_order no_host_bits shortest = record {
-  covered = λ q long.
-      covered q long ∙ ap (λ n. is_between n (number (digits width last)) (number q)) (number_of_digits width first first_fits ∙ is_first)
-      ∙ ap (λ n. is_between a n (number q)) (number_of_digits width last last_fits ∙ is_last);
-  once = once;
-  in_order = in_order;
-  no_host_bits = no_host_bits;
-  shortest = shortest;
-}
+    → AreFewest width (is_between (number (digits width first)) (number (digits width last))) (map (network_path width) networks)
+    → All (λ n. network_back width (network_path width n) ≡ n) networks → AreFewestFor width a b networks
+fewest_for width first last a b networks is_first is_last first_fits last_fits fewest bare =
+    let low = number_of_digits width first first_fits ∙ is_first in
+    let high = number_of_digits width last last_fits ∙ is_last in (
+      subst (λ n. AreFewest width (is_between a n) (map (network_path width) networks)) high
+          (subst (λ n. AreFewest width (is_between n (number (digits width last))) (map (network_path width) networks)) low fewest),
+      bare,
+    )

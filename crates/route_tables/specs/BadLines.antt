@@ -1,7 +1,7 @@
 -- The first bad lines of a text, and how many there are. This project's own.
 use Rattle.std.specs.Prelude.{◌≡◌, ◌⊎◌, ℕ, ◌+◌, cond, nat_lt, List, [], ◌∷◌, ◌++◌, length, take}
 use Rattle.route_tables.specs.Routes.{IsBadLine, IsGood}
-use Rattle.route_tables.specs.declared.bad_lines.FoundBadLines.{FoundBadLines}
+use Rattle.route_tables.specs.declared.messages.bad_lines.FoundBadLines.{FoundBadLines}
 use Rattle.route_tables.specs.declared.load.BadLine.{BadLine}
 use Rattle.route_tables.specs.declared.load.Reading.{Reading}
 

@@ -1,21 +1,20 @@
--- The definitions of this crate: lines and routes, networks, loaded tables, changes, access rules, sets of addresses, fewest networks, sorted lists, and
+-- The definitions of this crate: lines and routes, networks, loaded tables, changes, access rules, sets of addresses, fewest networks, lists without values, and
 -- printed lines.
 pub mod Access
-pub mod AddressRanges
+pub mod AddressLists
 pub mod AddressSets
 pub mod BadLines
 pub mod Changes
 pub mod Checks
 pub mod Fewest
-pub mod FewestCover
 pub mod LineAddresses
 pub mod Lines
 pub mod Loads
 pub mod Networks
+pub mod PlainLists
 pub mod Printed
 pub mod Questions
 pub mod Routes
 pub mod Rules
-pub mod SortedLists
 pub mod Tables
 pub mod Values

@@ -9,7 +9,7 @@ use Rattle.std.specs.declared.net.ipv4_addr.Ipv4Addr.{Ipv4Addr}
 use Rattle.std.specs.declared.net.ipv6_addr.Ipv6Addr.{Ipv6Addr}
 use Rattle.prefix_trie_bits.specs.Model.Bits.{begins, number}
 use Rattle.prefix_trie_bits.specs.Networks.{network_back, network_path}
-use Rattle.prefix_trie_fib.specs.Networks.{AreInOrder, IsShortest, is_between, is_covered_by}
+use Rattle.address_ranges.specs.Networks.{AreFewest, is_between}
 use Rattle.prefix_trie_joint.specs.Networks.{ip_host, lowest_ip}
 use Rattle.prefix_trie_joint.specs.Texts.{IsIpNetworkText}
 use Rattle.prefix_trie_joint.specs.declared.prefix.IpPrefix.{IpPrefix}
@@ -43,14 +43,10 @@ IsTextBySlash false host_bits text network = (address : IpAddr) × IsIpText text
 abbrev pub IsNetworkText : HostBits → List ℕ → IpPrefix → Type 0
 IsNetworkText host_bits text network = IsTextBySlash (has_slash text) host_bits text network
 
--- networks cover the addresses from first to last and no others, each once and in order, none has host bits, and no list of
--- networks that cover the same addresses is shorter
-pub record AreFewestFor (width first last : ℕ) (networks : List (ℕ × ℕ)) : Type 0 where
-  pub covered : (q : List Bool) → length q ≡ width → is_covered_by (map (network_path width) networks) q ≡ is_between first last (number q)
-  pub once : (q : List Bool) → length q ≡ width → length (filter (λ s. begins s q) (map (network_path width) networks)) ≤ 1
-  pub in_order : AreInOrder width (map (network_path width) networks)
-  pub no_host_bits : All (λ n. network_back width (network_path width n) ≡ n) networks
-  pub shortest : IsShortest width (map (network_path width) networks)
+-- networks are the fewest that cover the addresses from first to last, and none has host bits
+abbrev pub AreFewestFor : ℕ → ℕ → ℕ → List (ℕ × ℕ) → Type 0
+AreFewestFor width first last networks =
+    AreFewest width (is_between first last) (map (network_path width) networks) × All (λ n. network_back width (network_path width n) ≡ n) networks
 
 -- the same for the addresses from an IPv4 address to another that is not before it
 abbrev pub AreOfIpv4Range : Ipv4Addr → Ipv4Addr → List IpPrefix → Type 0

@@ -1,7 +1,9 @@
 //! The command line of the program, which `clap` parses.
 
+pub mod help;
+
 use crate::access::Precedence;
-use crate::help::{ABOUT, COMMANDS, DETAILS, Topic, VERSION};
+use crate::arguments::help::{ABOUT, COMMANDS, DETAILS, Topic, VERSION};
 use crate::load::{BadLines, Reading, TableKind};
 use crate::lookup::Relation;
 use crate::matching::{Selected, Selection, Which};
@@ -80,6 +82,8 @@ pub struct Invocation<'a> {
 pub enum Task {
     /// Print a report on a table.
     Report(Report),
+    /// Print the addresses of files.
+    Addresses(AddressReport),
     /// Compare two tables.
     Compare(Comparison),
     /// Print a table, or what these networks contain of it.
@@ -99,14 +103,19 @@ pub enum Report {
     Minimise,
     /// The fewest networks with the same lookups of addresses.
     Aggregate,
-    /// The fewest networks with the same addresses.
-    Union,
-    /// The ranges of addresses.
-    Ranges,
-    /// The number of addresses.
-    Count,
     /// Counts, memory, and lengths.
     Stats,
+}
+
+/// How a set of addresses is shown.
+#[derive(Clone, Copy, Debug, PartialEq, Eq)]
+pub enum AddressReport {
+    /// As the fewest networks.
+    Networks,
+    /// As ranges.
+    Ranges,
+    /// By the number of addresses.
+    Count,
 }
 
 /// How two tables are compared.
@@ -154,7 +163,7 @@ pub enum Format {
 /// # Examples
 ///
 /// ```rust
-/// parse(&["union", "a.txt", "-"], alloc)?.task;                                     // Report(Union)
+/// parse(&["union", "a.txt", "-"], alloc)?.task;                                     // Addresses(Networks)
 /// parse(&["lookup", "a.txt", "b.txt", "--", "::1"], alloc)?.tables.as_slice();      // ["a.txt", "b.txt"]
 /// parse(&["lookup", "a.txt", "b.txt", "--", "::1"], alloc)?.words.as_slice();       // ["::1"]
 /// parse(&["list"], alloc).is_err();                                                 // true
@@ -206,7 +215,7 @@ fn command<'a>(alloc: Global, topic: &Topic) -> Result<Command<'a>, AllocError> 
         command = command.arg(flag(alloc, name, help)?)?;
     }
     match topic.task {
-        Task::Report(_) => command.arg(several(
+        Task::Report(_) | Task::Addresses(_) => command.arg(several(
             alloc,
             TABLES,
             "TABLE",
@@ -326,7 +335,7 @@ fn flags_of(task: Task) -> &'static [(&'static str, &'static str)] {
             (FIRST, "Look at the first address of a line alone"),
             (NO_MAPPED, NO_MAPPED_HELP),
         ],
-        Task::Report(_) | Task::Compare(_) | Task::List => &[],
+        Task::Report(_) | Task::Addresses(_) | Task::Compare(_) | Task::List => &[],
     }
 }
 

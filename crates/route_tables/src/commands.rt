@@ -9,14 +9,14 @@ pub mod questions;
 mod sets;
 mod statistics;
 mod tables;
+mod text;
 
-use crate::address_sets::{difference, intersection, smallest};
-use crate::arguments::{Comparison, Report};
+use crate::arguments::{AddressReport, Report};
 use crate::commands::printer::Printer;
-use crate::load::Reading;
-use crate::sorted_lists::fewest_of_sorted;
+use crate::plain_lists::FewestNetworks;
 use crate::stats::count_all;
 use crate::table::Table;
+use address_ranges::JointAddressSet;
 use std::alloc::Global;
 use std::io::{self, Write};
 pub use tables::{list, list_within};
@@ -40,9 +40,6 @@ pub fn print_report<W: Write + Drop>(
             tables::aggregate(&table.ipv4, alloc, out)?;
             tables::aggregate(&table.ipv6, alloc, out)
         }
-        Report::Union => sets::print_set(&smallest(table, alloc)?, out),
-        Report::Ranges => sets::print_ranges(table, alloc, out),
-        Report::Count => sets::count(table, out),
         Report::Stats => {
             out.counts("IPv4", &count_all(&table.ipv4, alloc)?)?;
             out.counts("IPv6", &count_all(&table.ipv6, alloc)?)
@@ -50,52 +47,67 @@ pub fn print_report<W: Write + Drop>(
     }
 }
 
-/// Prints the fewest networks of a text whose networks have no values and are in order.
+/// Prints networks in order, those of IPv4 first.
 ///
-/// Returns false and prints nothing if a line is bad or has a value, or if a network is not in order.
+/// # Errors
+///
+/// Returns the writer's error.
+pub fn print_fewest<W: Write + Drop>(
+    networks: FewestNetworks<'_>,
+    out: &mut Printer<W>,
+) -> io::Result<()> {
+    sets::print_networks(networks.ipv4, out)?;
+    sets::print_networks(networks.ipv6, out)
+}
+
+/// Prints a set of addresses: those of IPv4, and then those of IPv6.
 ///
 /// # Errors
 ///
 /// Returns the writer's error, or an error if an allocation fails.
-pub fn print_fewest_of_sorted<W: Write + Drop>(
-    text: &[u8],
-    reading: Reading,
+pub fn print_addresses<W: Write + Drop>(
+    set: &JointAddressSet<Global>,
+    report: AddressReport,
     alloc: Global,
     out: &mut Printer<W>,
-) -> io::Result<bool> {
-    match fewest_of_sorted(text, reading, alloc)? {
-        Some(fewest) => {
-            tables::print_networks(fewest.ipv4, out)?;
-            tables::print_networks(fewest.ipv6, out)?;
-            Ok(true)
+) -> io::Result<()> {
+    match report {
+        AddressReport::Networks => {
+            sets::print_networks(set.ipv4.collect_networks(alloc)?, out)?;
+            sets::print_networks(set.ipv6.collect_networks(alloc)?, out)
         }
-        None => Ok(false),
+        AddressReport::Ranges => sets::print_ranges(set, out),
+        AddressReport::Count => sets::count(set, out),
     }
 }
 
-/// Prints what a comparison of two tables shows. Sets `is_same` to false if it is `Diff` and something changes.
+/// Prints what changes from a table to another. Sets `is_same` to false if something does.
 ///
 /// # Errors
 ///
 /// Returns the writer's error, or an error if an allocation fails.
-pub fn print_comparison<W: Write + Drop>(
-    left: &Table,
-    right: &Table,
-    comparison: Comparison,
+pub fn print_diff<W: Write + Drop>(
+    old: &Table,
+    new: &Table,
     alloc: Global,
     out: &mut Printer<W>,
     is_same: &mut bool,
 ) -> io::Result<()> {
-    match comparison {
-        Comparison::Diff => {
-            tables::diff(&left.ipv4, &right.ipv4, alloc, out, is_same)?;
-            tables::diff(&left.ipv6, &right.ipv6, alloc, out, is_same)
-        }
-        Comparison::Intersect => sets::print_set(&intersection(left, right, alloc)?, out),
-        Comparison::Subtract => sets::print_set(&difference(left, right, alloc)?, out),
-        Comparison::Covered => {
-            sets::print_covered(&left.ipv4, &right.ipv4, alloc, out)?;
-            sets::print_covered(&left.ipv6, &right.ipv6, alloc, out)
-        }
-    }
+    tables::diff(&old.ipv4, &new.ipv4, alloc, out, is_same)?;
+    tables::diff(&old.ipv6, &new.ipv6, alloc, out, is_same)
+}
+
+/// Prints the networks of a table all of whose addresses are in a set, with their values.
+///
+/// # Errors
+///
+/// Returns the writer's error, or an error if an allocation fails.
+pub fn print_covered<W: Write + Drop>(
+    table: &Table,
+    set: &JointAddressSet<Global>,
+    alloc: Global,
+    out: &mut Printer<W>,
+) -> io::Result<()> {
+    sets::print_covered(&table.ipv4, &set.ipv4, alloc, out)?;
+    sets::print_covered(&table.ipv6, &set.ipv6, alloc, out)
 }

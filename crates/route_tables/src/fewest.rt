@@ -3,12 +3,12 @@ ghost use Rattle.std.specs.Prelude.{◌≡◌, IfOk, IfSome, map};
 ghost use Rattle.prefix_trie.specs.Terms.{lent_item};
 ghost use Rattle.route_tables.specs.Fewest.{HasOnly, HasRanks, IsFewest, Ranks, named_pairs, text_at, texts_of};
 
-use crate::address_sets::fewest_cover;
 use crate::table::FamilyTable;
 use crate::value::Value;
 use indexmap::IndexSet;
 use prefix_trie::laws::{listing_laws, lookup_laws, match_laws, put_laws};
 use prefix_trie::{Prefix, PrefixMap, Refusal};
+use prefix_trie_ops::addresses::addresses_of;
 use prefix_trie_ops::map::aggregate;
 use std::alloc::{AllocError, Global};
 
@@ -69,7 +69,7 @@ fn fewest_with<'a, P: Prefix>(
     lookup_laws::<P, Value>();
     match_laws::<Value>();
     listing_laws::<Value>();
-    let networks = fewest_cover(table, alloc)?;
+    let networks = addresses_of(table, alloc)?.collect_networks(alloc)?;
     each_with(networks, value, alloc)
 }
 

@@ -7,14 +7,12 @@
 #![tactic(auto)]
 
 pub mod access;
+pub mod address_list;
 pub mod address_sets;
 pub mod arguments;
-pub mod bad_lines;
 pub mod commands;
 pub mod diff;
-pub mod excerpt;
 pub mod fewest;
-pub mod help;
 pub mod line;
 pub mod lines;
 pub mod load;
@@ -24,12 +22,10 @@ pub mod messages;
 pub mod minimise;
 pub mod network;
 pub mod pieces;
+pub mod plain_lists;
 pub mod questions;
 pub mod range;
 mod rule;
-pub mod sorted_lists;
 pub mod stats;
 pub mod table;
-mod text;
 pub mod value;
-pub mod warnings;

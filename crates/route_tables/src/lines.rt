@@ -15,7 +15,7 @@ fn line_len(text: &[u8]) -> usize
 }
 
 // Returns the number of bytes before the first white space, or of all bytes.
-#[tactic(auto, using(crate::proofs::LineTexts::or_length))]
+#[tactic(auto, using(crate::proofs::Reading::LineTexts::or_length))]
 fn word_len(text: &[u8]) -> usize
     ensures value { result ≡ position_or_len is_ascii_whitespace text.now }
     ensures within { result ≤ length text.now }

@@ -17,9 +17,9 @@ ghost use Rattle.route_tables.specs.Loads.{AddsFirst, AddsLine, EndsAt, EndsAtLi
 ghost use Rattle.route_tables.specs.Networks.{all_networks};
 ghost use Rattle.route_tables.specs.Routes.{AreBadLines, HasRoutes, Route, routes_to};
 
-use crate::excerpt::ByteExcerpt;
 use crate::line::{LineError, ReadError, read_line};
 use crate::lines::{skip_mark, split_line};
+use crate::messages::excerpt::ByteExcerpt;
 use crate::messages::{LineMessage, OUT_OF_MEMORY};
 use crate::network::HostBits;
 use crate::range::Networks;
@@ -27,7 +27,7 @@ use crate::table::Table;
 use crate::value::Value;
 use prefix_trie::Refusal;
 use prefix_trie_joint::{IpPrefix, JointPrefixMap};
-use std::alloc::Global;
+use std::alloc::{AllocError, Global};
 use std::error::Error;
 use std::fmt::{self, Display, Formatter, Write};
 
@@ -139,6 +139,17 @@ impl From<Refusal> for LoadError<'_> {
 
     fn from(cause: Refusal) -> Self {
         LoadError::Refused(cause)
+    }
+}
+
+impl From<AllocError> for LoadError<'_> {
+    ghost use Rattle.prefix_trie_bits.specs.declared.prefix.Refusal.TheVariants.{Memory};
+    ghost use Rattle.route_tables.specs.declared.load.LoadError.TheVariants.{Refused};
+
+    ghost from_gives = { λ _ error. error ≡ Refused Memory };
+
+    fn from(_error: AllocError) -> Self {
+        LoadError::Refused(Refusal::Memory)
     }
 }
 
@@ -258,8 +269,8 @@ fn add_line<'a>(
     }
 }
 
-// Lists a bad line, or returns it as an error.
-fn skip_line<'a>(
+/// Lists a bad line, or returns it as an error.
+pub(crate) fn skip_line<'a>(
     bad: BadLine<'a>,
     bad_lines: BadLines,
     skipped: &mut Vec<BadLine<'a>>,

@@ -1,8 +1,12 @@
 //! Messages that name what is wrong in a text.
 
-use crate::excerpt::Excerpt;
+pub mod bad_lines;
+pub mod excerpt;
+pub mod warnings;
+
 use crate::line::LineError;
 use crate::lines::split_field;
+use crate::messages::excerpt::Excerpt;
 use crate::network::{HostBits, NetworkError, parse_network_with};
 use crate::questions::QuestionError;
 use crate::range::RangeError;

@@ -4,8 +4,8 @@ ghost use Rattle.route_tables.specs.Networks.{AreOfEnds, AreOfIpv4Range, AreOfIp
 
 use crate::messages::OUT_OF_MEMORY;
 use crate::network::{HostBits, NetworkError, parse_network_with};
+use address_ranges::networks_of;
 use prefix_trie::{Ipv4Prefix, Ipv6Prefix};
-use prefix_trie_fib::networks::networks_of;
 use prefix_trie_joint::IpPrefix;
 use std::alloc::{AllocError, Global};
 use std::error::Error;

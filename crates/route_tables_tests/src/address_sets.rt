@@ -1,20 +1,23 @@
-//! Sets, entries and ranges of the addresses that tables cover.
+//! Sets, entries and ranges of the addresses of texts.
 //!
 //! A case has the texts of tables, and the expected results, one a line. The expected texts are written by hand.
 
+use address_ranges::{AddressSet, JointAddressSet};
 use prefix_trie::Prefix;
-use prefix_trie_joint::JointPrefixSet;
-use route_tables::address_sets::{covered, difference, intersection, ranges, smallest, union};
-use route_tables::load::{Loaded, load};
+use route_tables::address_list::AddressList;
+use route_tables::address_sets::covered;
+use route_tables::arguments::{AddressReport, Format};
+use route_tables::commands::print_addresses;
+use route_tables::commands::printer::Printer;
+use route_tables::load::{Loaded, Reading, load};
 use route_tables::table::{FamilyTable, Table};
 use std::alloc::Global;
 use std::fmt::Display;
 use std::io::Write;
-use std::net::{Ipv4Addr, Ipv6Addr};
 use std::test::Fail;
 
-/// Two tables, their union, their intersection, their difference, and the entries of the first all of whose addresses
-/// the second covers.
+/// Two texts, the union of their addresses, their intersection, their difference, and the entries of the first text all of
+/// whose addresses the second has.
 type Pair = (
     &'static str,
     &'static str,
@@ -84,7 +87,7 @@ const PAIRS: &[Pair] = &[
     ),
 ];
 
-/// A table, the smallest set of its addresses, and its ranges.
+/// A text, the fewest networks of its addresses, and their ranges.
 type Single = (&'static str, &'static str, &'static str);
 
 const SINGLES: &[Single] = &[
@@ -127,71 +130,63 @@ fn table(text: &str, alloc: Global) -> Result<Table, Fail> {
     Ok(table)
 }
 
-/// Returns whether a set has these networks, one a line.
-fn has(set: &JointPrefixSet<Global>, expected: &str, alloc: Global) -> Result<bool, Fail> {
-    let mut out = Vec::new(alloc);
-    for network in set {
-        writeln!(out, "{network}")?;
+/// Returns the addresses of a text.
+fn addresses(text: &str, alloc: Global) -> Result<JointAddressSet<Global>, Fail> {
+    let mut list = AddressList::new(alloc)?;
+    match list.add(text.as_bytes(), Reading::default(), alloc) {
+        Ok(_) => Ok(list.finish()?),
+        Err(_) => Err(Fail::new("a line is bad")),
     }
-    Ok(out.as_slice() == expected.as_bytes())
 }
 
-fn has_union(left: &Table, right: &Table, expected: &str, alloc: Global) -> Result<bool, Fail> {
-    has(&union(left, right, alloc)?, expected, alloc)
-}
-
-fn has_intersection(
-    left: &Table,
-    right: &Table,
+/// Returns whether a report on a set prints these lines.
+fn prints(
+    set: &JointAddressSet<Global>,
+    report: AddressReport,
     expected: &str,
     alloc: Global,
 ) -> Result<bool, Fail> {
-    has(&intersection(left, right, alloc)?, expected, alloc)
-}
-
-fn has_difference(
-    left: &Table,
-    right: &Table,
-    expected: &str,
-    alloc: Global,
-) -> Result<bool, Fail> {
-    has(&difference(left, right, alloc)?, expected, alloc)
+    let mut out = Printer::new(Format::Text, alloc, Vec::new(alloc));
+    print_addresses(set, report, alloc, &mut out)?;
+    Ok(out.into_inner().as_slice() == expected.as_bytes())
 }
 
 /// Writes the entries of a family all of whose addresses another table covers.
 fn write_covered<P: Prefix + Display>(
     table: &FamilyTable<P>,
-    by: &FamilyTable<P>,
+    set: &AddressSet<P, Global>,
     out: &mut Vec<u8>,
     alloc: Global,
 ) -> Result<(), Fail> {
-    for (network, value) in covered(table, by, alloc)? {
+    for (network, value) in covered(table, set, alloc)? {
         writeln!(out, "{network} {}", value.as_str())?;
     }
     Ok(())
 }
 
-fn has_covered(left: &Table, right: &Table, expected: &str, alloc: Global) -> Result<bool, Fail> {
+fn has_covered(
+    table: &Table,
+    set: &JointAddressSet<Global>,
+    expected: &str,
+    alloc: Global,
+) -> Result<bool, Fail> {
     let mut out = Vec::new(alloc);
-    write_covered(&left.ipv4, &right.ipv4, &mut out, alloc)?;
-    write_covered(&left.ipv6, &right.ipv6, &mut out, alloc)?;
+    write_covered(&table.ipv4, &set.ipv4, &mut out, alloc)?;
+    write_covered(&table.ipv6, &set.ipv6, &mut out, alloc)?;
     Ok(out.as_slice() == expected.as_bytes())
-}
-
-/// Returns whether the results of two tables are as expected.
-fn are_as_expected(left: &Table, right: &Table, pair: &Pair, alloc: Global) -> Result<bool, Fail> {
-    Ok(
-        has_union(left, right, pair.2, alloc)?
-            && has_intersection(left, right, pair.3, alloc)?
-            && has_difference(left, right, pair.4, alloc)?
-            && has_covered(left, right, pair.5, alloc)?,
-    )
 }
 
 /// Returns whether the results of the two texts of a pair are as expected.
 fn is_right(pair: &Pair, alloc: Global) -> Result<bool, Fail> {
-    let left = table(pair.0, alloc)?;
-    are_as_expected(&left, &table(pair.1, alloc)?, pair, alloc)
+    let left = addresses(pair.0, alloc)?;
+    let right = addresses(pair.1, alloc)?;
+    let networks = AddressReport::Networks;
+    Ok(
+        prints(&left.union(&right, alloc)?, networks, pair.2, alloc)?
+            && prints(&left.intersection(&right, alloc)?, networks, pair.3, alloc)?
+            && prints(&left.difference(&right, alloc)?, networks, pair.4, alloc)?
+            && has_covered(&table(pair.0, alloc)?, &right, pair.5, alloc)?,
+    )
 }
 
 #[test]
@@ -203,36 +198,13 @@ fn pairs_have_these_addresses(rt: HostRuntime) -> Result<(), Fail> {
     Ok(())
 }
 
-/// Returns whether a table has these ranges, one a line.
-fn has_ranges(table: &Table, expected: &str, alloc: Global) -> Result<bool, Fail> {
-    let mut out = Vec::new(alloc);
-    for (first, last) in ranges(&table.ipv4, alloc)? {
-        writeln!(
-            out,
-            "{}-{}",
-            Ipv4Addr::from_bits(first),
-            Ipv4Addr::from_bits(last)
-        )?;
-    }
-    for (first, last) in ranges(&table.ipv6, alloc)? {
-        writeln!(
-            out,
-            "{}-{}",
-            Ipv6Addr::from_bits(first),
-            Ipv6Addr::from_bits(last)
-        )?;
-    }
-    Ok(out.as_slice() == expected.as_bytes())
-}
-
 #[test]
-fn tables_have_these_addresses(rt: HostRuntime) -> Result<(), Fail> {
-    for (text, networks, expected) in SINGLES {
-        let table = table(text, rt.alloc())?;
-        let set = smallest(&table, rt.alloc())?;
-        let has_networks = has(&set, networks, rt.alloc())?;
+fn texts_have_these_addresses(rt: HostRuntime) -> Result<(), Fail> {
+    for (text, networks, ranges) in SINGLES {
+        let set = addresses(text, rt.alloc())?;
+        let has_networks = prints(&set, AddressReport::Networks, networks, rt.alloc())?;
         assert!(rt; has_networks, "{text}");
-        let has_ranges = has_ranges(&table, expected, rt.alloc())?;
+        let has_ranges = prints(&set, AddressReport::Ranges, ranges, rt.alloc())?;
         assert!(rt; has_ranges, "{text}");
     }
     Ok(())

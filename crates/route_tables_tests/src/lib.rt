@@ -10,8 +10,8 @@ mod matching;
 #[cfg(test)]
 mod pieces;
 #[cfg(test)]
+mod plain_lists;
+#[cfg(test)]
 mod printing;
 #[cfg(test)]
 mod reading;
-#[cfg(test)]
-mod sorted_lists;

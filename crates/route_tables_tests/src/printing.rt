@@ -3,12 +3,18 @@
 //! A case of `PRINTINGS` is a command line over the texts `old`, `new` and `access`, and what the command prints. The
 //! expected texts are written by hand.
 
+use address_ranges::JointAddressSet;
 use route_tables::access::Precedence;
-use route_tables::arguments::{Comparison, Format, Invocation, Options, Report, Task, parse};
+use route_tables::address_list::AddressList;
+use route_tables::arguments::{
+    AddressReport, Comparison, Format, Invocation, Options, Task, parse,
+};
 use route_tables::commands::lookups::{Looking, look_up_words};
 use route_tables::commands::printer::Printer;
 use route_tables::commands::questions::Seen;
-use route_tables::commands::{list, list_within, print_comparison, print_report};
+use route_tables::commands::{
+    list, list_within, print_addresses, print_covered, print_diff, print_report,
+};
 use route_tables::load::{BadLines, Loaded, Reading, TableKind, load};
 use route_tables::lookup::Relation;
 use route_tables::matching::{Selected, Selection, Which};
@@ -112,15 +118,28 @@ const PRINTINGS: &[Printing] = &[
     ),
 ];
 
-/// Returns the table of a text by its name.
-fn table(name: &str, alloc: Global) -> Result<Table, Fail> {
-    let text = match name {
+/// Returns a text by its name.
+fn text(name: &str) -> &'static str {
+    match name {
         "old" => OLD,
         "new" => NEW,
         _ => ACCESS,
-    };
-    let Loaded { table, warnings: _ } = load(text.as_bytes(), alloc)?;
+    }
+}
+
+/// Returns the table of a text by its name.
+fn table(name: &str, alloc: Global) -> Result<Table, Fail> {
+    let Loaded { table, warnings: _ } = load(text(name).as_bytes(), alloc)?;
     Ok(table)
+}
+
+/// Returns the addresses of a text by its name.
+fn addresses(name: &str, alloc: Global) -> Result<JointAddressSet<Global>, Fail> {
+    let mut list = AddressList::new(alloc)?;
+    match list.add(text(name).as_bytes(), Reading::default(), alloc) {
+        Ok(_) => Ok(list.finish()?),
+        Err(_) => Err(Fail::new("a line is bad")),
+    }
 }
 
 /// Prints what a command prints.
@@ -137,6 +156,9 @@ fn print_command(
             alloc,
             out,
         )?,
+        (Task::Addresses(report), [name]) => {
+            print_addresses(&addresses(name, alloc)?, report, alloc, out)?
+        }
         (Task::Compare(comparison), [left, right]) => compare(comparison, left, right, out, alloc)?,
         (Task::List, [name]) => within(&table(name, alloc)?, words, out)?,
         (Task::Lookup(relation), [name]) => look_up(&table(name, alloc)?, relation, words, out)?,
@@ -145,7 +167,7 @@ fn print_command(
     Ok(())
 }
 
-/// Compares two tables.
+/// Compares two texts by their names.
 fn compare(
     comparison: Comparison,
     left: &str,
@@ -153,10 +175,24 @@ fn compare(
     out: &mut Printer<Vec<u8>>,
     alloc: Global,
 ) -> Result<(), Fail> {
-    let left = table(left, alloc)?;
-    let right = table(right, alloc)?;
-    let mut is_same = true;
-    print_comparison(&left, &right, comparison, alloc, out, &mut is_same)?;
+    let networks = AddressReport::Networks;
+    match comparison {
+        Comparison::Diff => {
+            let (left, right) = (table(left, alloc)?, table(right, alloc)?);
+            print_diff(&left, &right, alloc, out, &mut true)?;
+        }
+        Comparison::Covered => {
+            print_covered(&table(left, alloc)?, &addresses(right, alloc)?, alloc, out)?
+        }
+        Comparison::Intersect => {
+            let set = addresses(left, alloc)?.intersection(&addresses(right, alloc)?, alloc)?;
+            print_addresses(&set, networks, alloc, out)?;
+        }
+        Comparison::Subtract => {
+            let set = addresses(left, alloc)?.difference(&addresses(right, alloc)?, alloc)?;
+            print_addresses(&set, networks, alloc, out)?;
+        }
+    }
     Ok(())
 }
 
@@ -267,7 +303,7 @@ const LINES: &[Line] = &[
     ),
     (
         &["union", "--", "old", "-"],
-        Task::Report(Report::Union),
+        Task::Addresses(AddressReport::Networks),
         &["old", "-"],
         &[],
     ),

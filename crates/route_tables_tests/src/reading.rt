@@ -4,16 +4,16 @@
 
 use route_tables::access::{AccessList, Precedence, idle_rules};
 use route_tables::arguments::Format;
-use route_tables::bad_lines::find_bad_lines;
 use route_tables::commands;
 use route_tables::commands::checks::{Checked, Checking, check_lines};
 use route_tables::commands::printer::Printer;
-use route_tables::excerpt::{ByteExcerpt, Excerpt};
 use route_tables::load::{BadLines, Loaded, Reading, TableKind, Warnings, load, load_into};
+use route_tables::messages::bad_lines::find_bad_lines;
+use route_tables::messages::excerpt::{ByteExcerpt, Excerpt};
+use route_tables::messages::warnings::write_bad_lines;
 use route_tables::network::HostBits;
 use route_tables::questions::Mapped;
 use route_tables::table::Table;
-use route_tables::warnings::write_bad_lines;
 use std::alloc::Global;
 use std::io::Write;
 use std::process::Abort;

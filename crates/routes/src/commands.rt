@@ -3,14 +3,15 @@
 use crate::failure::Failure;
 use crate::session::{Input, Session, Values};
 use crate::status::Status;
+use address_ranges::JointAddressSet;
 use route_tables::access::{AccessList, Precedence};
-use route_tables::arguments::{Comparison, Invocation, Report, Task};
+use route_tables::arguments::{AddressReport, Comparison, Invocation, Report, Task};
 use route_tables::commands::checks::{Checked, Checking, check_lines, check_words};
 use route_tables::commands::lookups::{Looking, look_up_lines, look_up_words};
 use route_tables::commands::printer::Printer;
 use route_tables::commands::questions::{QuestionsError, Seen};
 use route_tables::commands::{
-    list, list_within, print_comparison, print_fewest_of_sorted, print_report,
+    list, list_within, print_addresses, print_covered, print_diff, print_fewest, print_report,
 };
 use route_tables::lookup::Relation;
 use route_tables::matching::{Searched, Selection, print_lines};
@@ -18,6 +19,7 @@ use route_tables::messages::NetworkMessage;
 use route_tables::network::parse_network_with;
 use route_tables::questions::{Asked, Asking};
 use route_tables::table::Table;
+use std::alloc::Global;
 use std::io::Write;
 
 /// Carries out a command, and sets the status of what it finds.
@@ -32,6 +34,10 @@ pub fn carry_out<W: Write + Drop>(
     refuse_input_twice(session, invocation)?;
     match invocation.task {
         Task::Report(report) => report_on(session, report, tables, out),
+        Task::Addresses(report) => {
+            let set = session.read_addresses(tables)?;
+            Ok(print_addresses(&set, report, session.alloc(), out)?)
+        }
         Task::Compare(comparison) => compare(session, comparison, tables, out, status),
         Task::List => list_words(session, tables, words, out),
         Task::Lookup(relation) => look_up(session, relation, tables, words, out),
@@ -46,7 +52,7 @@ fn refuse_input_twice(session: Session<'_>, invocation: &Invocation<'_>) -> Resu
     let reads_input = match invocation.task {
         Task::Lookup(_) | Task::Check(_) => words.is_empty(),
         Task::Match(_) => words.is_empty() || words.contains(&"-"),
-        Task::Report(_) | Task::Compare(_) | Task::List => false,
+        Task::Report(_) | Task::Addresses(_) | Task::Compare(_) | Task::List => false,
     };
     let tables = invocation
         .tables
@@ -66,33 +72,28 @@ fn report_on<'a, W: Write + Drop>(
     files: &[&'a str],
     out: &mut Printer<W>,
 ) -> Result<(), Failure> {
-    let values = match report {
-        Report::Union | Report::Ranges | Report::Count => Values::Ignored,
-        Report::Minimise | Report::Aggregate | Report::Stats => Values::Used,
-    };
     if let (Report::Aggregate, [file]) = (report, files) {
         return aggregate_file(session, file, out);
     }
-    let mut table = session.read_tables(files, values)?;
+    let mut table = session.read_tables(files, Values::Used)?;
     Ok(print_report(&mut table, report, session.alloc(), out)?)
 }
 
-// Prints the fewest networks of a file. If they are in order and have no values, this needs no table.
+// Prints the fewest networks of a file. If it has no values, this needs no table.
 fn aggregate_file<'a, W: Write + Drop>(
     session: Session<'a>,
     file: &'a str,
     out: &mut Printer<W>,
 ) -> Result<(), Failure> {
     let text = session.read_file(file)?;
-    let reading = session.options.reading;
-    if print_fewest_of_sorted(text.as_slice(), reading, session.alloc(), out)? {
-        return Ok(());
+    if let Some(fewest) = session.read_plain(file, text.as_slice())? {
+        return Ok(print_fewest(fewest, out)?);
     }
     let mut table = session.table_of(file, text.as_slice())?;
     Ok(print_report(&mut table, Report::Aggregate, session.alloc(), out)?)
 }
 
-// Compares the tables of two files.
+// Compares two files.
 fn compare<'a, W: Write + Drop>(
     session: Session<'a>,
     comparison: Comparison,
@@ -103,25 +104,51 @@ fn compare<'a, W: Write + Drop>(
     let [left, right] = files else {
         return Ok(());
     };
-    let values = match comparison {
-        Comparison::Diff | Comparison::Covered => Values::Used,
-        Comparison::Intersect | Comparison::Subtract => Values::Ignored,
-    };
-    let left = session.read_tables(&[*left], values)?;
-    let right = session.read_tables(&[*right], values)?;
+    match comparison {
+        Comparison::Diff => diff(session, left, right, out, status),
+        Comparison::Covered => {
+            let table = session.read_tables(&[*left], Values::Used)?;
+            let set = session.read_addresses(&[*right])?;
+            Ok(print_covered(&table, &set, session.alloc(), out)?)
+        }
+        Comparison::Intersect | Comparison::Subtract => {
+            let set = combined(session, comparison, left, right)?;
+            Ok(print_addresses(&set, AddressReport::Networks, session.alloc(), out)?)
+        }
+    }
+}
+
+// Prints what changes from one table to another, and sets the status if something does.
+fn diff<'a, W: Write + Drop>(
+    session: Session<'a>,
+    old: &'a str,
+    new: &'a str,
+    out: &mut Printer<W>,
+    status: &mut Status,
+) -> Result<(), Failure> {
+    let old = session.read_tables(&[old], Values::Used)?;
+    let new = session.read_tables(&[new], Values::Used)?;
     let mut is_same = true;
-    let printed = print_comparison(
-        &left,
-        &right,
-        comparison,
-        session.alloc(),
-        out,
-        &mut is_same,
-    );
+    let printed = print_diff(&old, &new, session.alloc(), out, &mut is_same);
     if !is_same {
         *status = Status::Bad;
     }
     Ok(printed?)
+}
+
+// Returns the addresses that both files have, or that the first has and the second does not.
+fn combined<'a>(
+    session: Session<'a>,
+    comparison: Comparison,
+    left: &'a str,
+    right: &'a str,
+) -> Result<JointAddressSet<Global>, Failure> {
+    let left = session.read_addresses(&[left])?;
+    let right = session.read_addresses(&[right])?;
+    Ok(match comparison {
+        Comparison::Intersect => left.intersection(&right, session.alloc())?,
+        _ => left.difference(&right, session.alloc())?,
+    })
 }
 
 // Prints a table, or what these networks contain of it.

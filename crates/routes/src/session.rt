@@ -2,19 +2,22 @@
 
 use crate::failure::Failure;
 use crate::progress::Watched;
+use address_ranges::JointAddressSet;
 use prefix_trie_joint::JointPrefixMap;
 use route_tables::access::{AccessList, Precedence, Rule, idle_rules};
+use route_tables::address_list::AddressList;
 use route_tables::arguments::Options;
-use route_tables::bad_lines::find_bad_lines;
 use route_tables::commands::questions::QuestionsError;
-use route_tables::excerpt::{ByteExcerpt, Shown};
-use route_tables::load::{LoadError, Reading, Replaced, TableKind, Warnings, load_into};
-use route_tables::pieces::Pieces;
-use route_tables::table::Table;
-use route_tables::warnings::{
+use route_tables::load::{BadLine, LoadError, Reading, Replaced, TableKind, Warnings, load_into};
+use route_tables::messages::bad_lines::find_bad_lines;
+use route_tables::messages::excerpt::{ByteExcerpt, Shown};
+use route_tables::messages::warnings::{
     LineNumbers, write_bad_lines, write_idle, write_refused, write_replaced, write_skipped_lines,
     write_skipped_words,
 };
+use route_tables::pieces::Pieces;
+use route_tables::plain_lists::{FewestNetworks, fewest_of_plain};
+use route_tables::table::Table;
 use std::alloc::Global;
 use std::fmt::Display;
 use std::fs::File;
@@ -156,6 +159,76 @@ impl<'a> Session<'a> {
         Ok(table)
     }
 
+    /// Reads the addresses of files, and warns of lines that are skipped.
+    ///
+    /// Each file is a set by itself, since a list in order takes no more memory than its ranges.
+    pub fn read_addresses(&self, files: &[&'a str]) -> Result<JointAddressSet<Global>, Failure> {
+        let mut all = None;
+        for file in files {
+            let own = self.read_address_list(file)?;
+            all = Some(match all {
+                None => own,
+                Some(others) => own.union(&others, self.alloc())?,
+            });
+        }
+        match all {
+            Some(all) => Ok(all),
+            None => Ok(JointAddressSet::new(self.alloc())?),
+        }
+    }
+
+    // Reads the addresses of one file.
+    fn read_address_list(&self, file: &'a str) -> Result<JointAddressSet<Global>, Failure> {
+        let text = self.read_file(file)?;
+        let mut list = AddressList::new(self.alloc())?;
+        match list.add(text.as_slice(), self.options.reading, self.alloc()) {
+            Ok(skipped) => self.warn_of_bad_lines(file, skipped.as_slice()),
+            Err(error) => return Err(self.report_unread(file, text.as_slice(), error)),
+        }
+        Ok(list.finish()?)
+    }
+
+    /// Reads a text whose networks have no values, and warns of lines that are skipped. Returns `None` if a line has one.
+    pub fn read_plain<'t>(
+        &self,
+        path: &str,
+        text: &'t [u8],
+    ) -> Result<Option<FewestNetworks<'t>>, Failure> {
+        match fewest_of_plain(text, self.options.reading, self.alloc()) {
+            Ok(Some(fewest)) => {
+                self.warn_of_bad_lines(path, fewest.skipped.as_slice());
+                Ok(Some(fewest))
+            }
+            Ok(None) => Ok(None),
+            Err(error) => Err(self.report_unread(path, text, error)),
+        }
+    }
+
+    // Warns of lines of a file that are skipped. A warning that cannot be written stops no command.
+    fn warn_of_bad_lines(&self, path: &str, skipped: &[BadLine<'_>]) {
+        if !self.options.is_quiet {
+            let _ = self.write_bad_lines(path, skipped);
+        }
+    }
+
+    // Writes which lines of a file are skipped.
+    fn write_bad_lines(&self, path: &str, skipped: &[BadLine<'_>]) -> io::Result<()> {
+        let mut err = BufWriter::new(self.alloc(), self.rt.stderr())?;
+        write_bad_lines(path, skipped, &mut err)?;
+        err.flush()
+    }
+
+    // Reports why a file is not read: its bad lines, or another error.
+    fn report_unread(&self, path: &str, text: &[u8], error: LoadError<'_>) -> Failure {
+        match error {
+            LoadError::Line(_) => {
+                let _ = self.write_refused(path, text, self.options.reading);
+                Failure::Reported
+            }
+            error => self.report(path, &error),
+        }
+    }
+
     // Reads the text of a file into a table.
     fn read_text(
         &self,
@@ -173,11 +246,7 @@ impl<'a> Session<'a> {
                 }
                 Ok(())
             }
-            Err(LoadError::Line(_)) => {
-                let _ = self.write_refused(path, text, reading);
-                Err(Failure::Reported)
-            }
-            Err(error) => Err(self.report(path, &error)),
+            Err(error) => Err(self.report_unread(path, text, error)),
         }
     }
 

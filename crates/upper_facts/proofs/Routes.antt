@@ -12,20 +12,19 @@ use Rattle.prefix_trie_bits.specs.Order.{listing_total}
 unfoldable use Rattle.prefix_trie_bits.specs.Model.Bits.{begins, number}
 use Rattle.prefix_trie_bits.specs.Networks.{network_back, network_path}
 use Rattle.prefix_trie.specs.Terms.{first_item, last_item, no_entries, prefix_pairs, with_entry}
-use Rattle.prefix_trie_fib.specs.Networks.{is_between, is_covered_by}
+use Rattle.address_ranges.specs.Networks.{IsInside, is_between, is_covered_by}
 use Rattle.prefix_trie_ops.proofs.Lists.{contains_cases, contains_here, contains_later, contains_none}
 use Rattle.prefix_trie_joint.specs.Networks.{ip_back}
 use Rattle.prefix_trie_joint.specs.declared.prefix.IpPrefix.{IpPrefix}
 use Rattle.route_tables.specs.Access.{decision_by, decision_by_match}
-use Rattle.route_tables.specs.AddressRanges.{AreApart}
-use Rattle.route_tables.specs.AddressSets.{AreCoveredEntries, CoversAll}
+use Rattle.route_tables.specs.AddressSets.{AreCoveredEntries}
 use Rattle.route_tables.specs.Fewest.{IsFewest}
 use Rattle.route_tables.specs.Lines.{is_hidden}
 use Rattle.route_tables.specs.Networks.{AreFewestFor}
 use Rattle.route_tables.specs.declared.access.Decision.{Decision}
-use Rattle.upper_facts.specs.Routes.{RoutesHold, first_half, rules, same}
+use Rattle.upper_facts.specs.Routes.{RoutesHold, is_first, rules, same}
 use Rattle.upper_facts.specs.Smallest.{halves, whole}
-use Rattle.upper_facts.proofs.Smallest.{covered_in, half_listed, halves_listed, one_entry, one_long, one_network, same_answers, whole_listed}
+use Rattle.upper_facts.proofs.Smallest.{half_listed, halves_listed, one_entry, one_long, one_network, same_answers, whole_listed}
 
 abbrev text : List ℕ
 text = codes "a"
@@ -58,36 +57,30 @@ range_once q long = omega arith
 
 range : AreFewestFor 1 0 1 ((0, 0) ∷ [])
 unfolding number
-range = record {
-  covered = range_covered;
-  once = range_once;
-  in_order = λ j k before within. absurd (omega (arith, before, within));
-  no_host_bits = All-cons (λ n. network_back 1 (network_path 1 n) ≡ n) (0, 0) [] refl (All-nil (λ n. network_back 1 (network_path 1 n) ≡ n));
-  shortest = one_network;
-}
+range = (
+  record {
+    covered = range_covered;
+    once = range_once;
+    in_order = λ j k before within. absurd (omega (arith, before, within));
+    shortest = one_network;
+  },
+  All-cons (λ n. network_back 1 (network_path 1 n) ≡ n) (0, 0) [] refl (All-nil (λ n. network_back 1 (network_path 1 n) ≡ n)),
+)
 
 host_bits : ¬ (AreFewestFor 1 0 1 ((1, 0) ∷ []))
 unfolding number
-host_bits h = (let e = ap (λ (n : ℕ × ℕ). n.0) (All-head (λ n. network_back 1 (network_path 1 n) ≡ n) (1, 0) [] h.no_host_bits) in omega (arith, e))
-
-apart : AreApart ((0, 0) ∷ (2, 2) ∷ [])
-apart = (All-cons (λ r. 0 + 1 < r.0) (2, 2) [] (omega arith) (All-nil (λ r. 0 + 1 < r.0)), (All-nil (λ r. 2 + 1 < r.0), tt))
-
-touching : ¬ (AreApart ((0, 0) ∷ (1, 1) ∷ []))
-touching h = (let bad = All-head (λ r. 0 + 1 < r.0) (1, 1) [] h.0 in omega (arith, bad))
+host_bits h = (let e = ap (λ (n : ℕ × ℕ). n.0) (All-head (λ n. network_back 1 (network_path 1 n) ≡ n) (1, 0) [] h.1) in omega (arith, e))
 
 -- ---- covered entries
 
-first_covered : CoversAll 1 first_half (false ∷ [])
-unfolding begins
-first_covered [] long inside = absurd (omega (arith, long))
-first_covered (false ∷ []) long inside = ap (covered_in (false ∷ [])) (half_listed 7)
-first_covered (true ∷ []) long inside = absurd (true≢false (sym inside))
-first_covered (a ∷ b ∷ q) long inside = absurd (omega (arith, long))
+first_covered : IsInside 1 is_first (false ∷ [])
+unfolding number
+first_covered zero low high = refl
+first_covered (suc n) low high = absurd (omega (arith, high))
 
-second_not : ¬ (CoversAll 1 first_half (true ∷ []))
-unfolding begins
-second_not h = true≢false (sym (h (true ∷ []) refl refl) ∙ ap (covered_in (true ∷ [])) (half_listed 7))
+second_not : ¬ (IsInside 1 is_first (true ∷ []))
+unfolding number
+second_not h = true≢false (sym (h 1 (omega arith) (omega arith)))
 
 module _ (v : ℕ) where
   abbrev first : List Bool × ℕ
@@ -102,14 +95,14 @@ module _ (v : ℕ) where
     | inr later ↦ elim (contains_cases second e [] later) [ inl is ↦ inr is | inr none ↦ absurd (contains_none e none) ]
   ]
 
-  covered : AreCoveredEntries 1 same (halves v) first_half (first ∷ [])
+  covered : AreCoveredEntries 1 same (halves v) is_first (first ∷ [])
   unfolding begins
   covered = record {
     keep = λ e. begins (false ∷ []) e.0;
     listed = sym (ap (λ es. prefix_pairs same (filter (λ e. begins (false ∷ []) e.0) es)) (halves_listed v));
     exact = λ e at. elim (cases e at) [
-      | inl is ↦ subst (λ (e : List Bool × ℕ). (begins (false ∷ []) e.0 ≡ true) ↔ CoversAll 1 first_half e.0) is (λ _. first_covered, λ _. refl)
-      | inr is ↦ subst (λ (e : List Bool × ℕ). (begins (false ∷ []) e.0 ≡ true) ↔ CoversAll 1 first_half e.0) is (λ bad. absurd (true≢false (sym bad)), λ h. absurd (second_not h))
+      | inl is ↦ subst (λ (e : List Bool × ℕ). (begins (false ∷ []) e.0 ≡ true) ↔ IsInside 1 is_first e.0) is (λ _. first_covered, λ _. refl)
+      | inr is ↦ subst (λ (e : List Bool × ℕ). (begins (false ∷ []) e.0 ≡ true) ↔ IsInside 1 is_first e.0) is (λ bad. absurd (true≢false (sym bad)), λ h. absurd (second_not h))
     ];
   }
 
@@ -128,12 +121,12 @@ module _ (v : ℕ) where
   count_kept es keep listed =
       ap length listed ∙ length-map (filter keep (entries (halves v))) (λ e. (same e.0, e.1)) ∙ ap (λ ds. length (filter keep ds)) (halves_listed v)
 
-  one_too_many : ¬ (AreCoveredEntries 1 same (halves v) first_half (first ∷ second ∷ []))
+  one_too_many : ¬ (AreCoveredEntries 1 same (halves v) is_first (first ∷ second ∷ []))
   one_too_many is =
       let also_in : Contains (entries (halves v)) second = subst (λ es. Contains es second) (sym (halves_listed v)) (contains_later first second (second ∷ []) (contains_here second [])) in
       second_not ((is.exact second also_in).0 (two_kept (is.keep first) (is.keep second) (count_kept _ is.keep is.listed)))
 
-  one_missing : ¬ (AreCoveredEntries 1 same (halves v) first_half [])
+  one_missing : ¬ (AreCoveredEntries 1 same (halves v) is_first [])
   one_missing is =
       let is_in : Contains (entries (halves v)) first = subst (λ es. Contains es first) (sym (halves_listed v)) (contains_here first (second ∷ [])) in
       none_kept (is.keep first) (is.keep second) (count_kept [] is.keep is.listed) ((is.exact first is_in).1 first_covered)
@@ -167,8 +160,6 @@ routes_hold = record {
   not_fewest = not_fewest;
   range = range;
   host_bits = host_bits;
-  apart = apart;
-  touching = touching;
   covered = covered;
   one_too_many = one_too_many;
   one_missing = one_missing;

@@ -9,8 +9,7 @@ use Rattle.prefix_trie_bits.specs.Model.Order.{listing_cmp}
 use Rattle.prefix_trie_bits.specs.Order.{listing_total}
 unfoldable use Rattle.prefix_trie_bits.specs.Model.Bits.{begins}
 use Rattle.prefix_trie.specs.Terms.{Entries, no_entries, with_entry}
-use Rattle.prefix_trie_fib.specs.Addresses as addresses
-use Rattle.prefix_trie_fib.specs.Networks.{IsShortest, is_covered_by}
+use Rattle.address_ranges.specs.Networks.{IsShortest, is_covered_by}
 use Rattle.prefix_trie_ops.specs.Smallest.{HaveSameAnswers, IsSmallest}
 use Rattle.prefix_trie_ops.specs.SmallestSets.{CoverSameAddresses, HasNoSiblings}
 use Rattle.upper_facts.specs.Smallest.{SmallestHold, halves, whole}
@@ -98,22 +97,6 @@ key_alone : (v : ℕ) → HasNoSiblings (whole v)
 key_alone v [] there = has (whole v) (true ∷ []) (whole_listed v)
 key_alone v (x ∷ s) there = has (whole v) ((x ∷ s) ++ true ∷ []) (whole_listed v)
 
--- the whole has the empty key alone
-only_key : (v : ℕ) (s : List Bool) → contains_key (whole v) s ≡ true → s ≡ []
-only_key v [] there = refl
-only_key v (x ∷ s) there = absurd (true≢false (sym there ∙ has (whole v) (x ∷ s) (whole_listed v)))
-
-no_longer : (v : ℕ) (s : List Bool) → contains_key (whole v) (s ++ true ∷ []) ≡ true → ⊥
-no_longer v [] there = true≢false (sym there ∙ has (whole v) (true ∷ []) (whole_listed v))
-no_longer v (x ∷ s) there = true≢false (sym there ∙ has (whole v) ((x ∷ s) ++ true ∷ []) (whole_listed v))
-
-one_left : (v : ℕ) → addresses.IsSmallest 1 (whole v)
-one_left v = record {
-  none_covered = λ s t at_s at_t _. only_key v s at_s ∙ sym (only_key v t at_t);
-  no_siblings = λ s _ there. no_longer v s there;
-  fewest = λ n _ same. one_key v n same;
-}
-
 pub smallest_hold : SmallestHold
 smallest_hold = record {
   one_entry = one_entry;
@@ -122,8 +105,6 @@ smallest_hold = record {
   two_keys = λ v h. (let l = h (whole v) (same_cover v) in let a = one_long v in let b = two_long v in omega (arith, l, a, b));
   key_alone = key_alone;
   siblings = λ v h. true≢false (sym (has (halves v) (true ∷ []) (halves_listed v)) ∙ h [] (has (halves v) (false ∷ []) (halves_listed v)));
-  one_left = one_left;
-  two_left = λ v h. h.no_siblings [] (has (halves v) (false ∷ []) (halves_listed v)) (has (halves v) (true ∷ []) (halves_listed v));
   one_network = one_network;
   two_networks = λ h. (let l = h ([] ∷ []) (All-cons (λ s. length s ≤ 1) [] [] (omega arith) (All-nil (λ s. length s ≤ 1))) same_networks in omega (arith, l));
 }

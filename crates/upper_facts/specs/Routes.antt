@@ -1,9 +1,8 @@
 -- Route tables at one bit: an example that meets each definition, and one that does not. They are this project's own.
-use Rattle.std.specs.Prelude.{◌≡◌, ℕ, Bool, true, false, List, [], ◌∷◌, codes}
+use Rattle.std.specs.Prelude.{◌≡◌, ◌==◌, ℕ, Bool, true, false, List, [], ◌∷◌, codes}
 use Rattle.prefix_trie.specs.Terms.{Entries, no_entries, with_entry}
 use Rattle.prefix_trie_joint.specs.Networks.{ip_back}
 use Rattle.route_tables.specs.Access.{decision}
-use Rattle.route_tables.specs.AddressRanges.{AreApart}
 use Rattle.route_tables.specs.AddressSets.{AreCoveredEntries}
 use Rattle.route_tables.specs.Fewest.{IsFewest}
 use Rattle.route_tables.specs.Lines.{has_hidden, is_hidden}
@@ -17,9 +16,9 @@ use Rattle.upper_facts.specs.Smallest.{halves}
 abbrev pub same : List Bool → List Bool
 same s = s
 
--- a map that covers the first of the two addresses
-abbrev pub first_half : Entries ℕ
-first_half = with_entry no_entries (false ∷ []) 7
+-- the first of the two addresses is in the set
+abbrev pub is_first : ℕ → Bool
+is_first n = n == 0
 
 -- 0.0.0.0/0 is denied, and 128.0.0.0/1 is allowed
 abbrev pub rules : Values
@@ -32,13 +31,10 @@ pub record RoutesHold : Type 0 where
   -- both addresses are one network, which has no host bits
   pub range : AreFewestFor 1 0 1 ((0, 0) ∷ [])
   pub host_bits : ¬ (AreFewestFor 1 0 1 ((1, 0) ∷ []))
-  -- ranges that touch are not apart
-  pub apart : AreApart ((0, 0) ∷ (2, 2) ∷ [])
-  pub touching : ¬ (AreApart ((0, 0) ∷ (1, 1) ∷ []))
   -- exactly one half is covered
-  pub covered : (v : ℕ) → AreCoveredEntries 1 same (halves v) first_half ((false ∷ [], v) ∷ [])
-  pub one_too_many : (v : ℕ) → ¬ (AreCoveredEntries 1 same (halves v) first_half ((false ∷ [], v) ∷ (true ∷ [], v) ∷ []))
-  pub one_missing : (v : ℕ) → ¬ (AreCoveredEntries 1 same (halves v) first_half [])
+  pub covered : (v : ℕ) → AreCoveredEntries 1 same (halves v) is_first ((false ∷ [], v) ∷ [])
+  pub one_too_many : (v : ℕ) → ¬ (AreCoveredEntries 1 same (halves v) is_first ((false ∷ [], v) ∷ (true ∷ [], v) ∷ []))
+  pub one_missing : (v : ℕ) → ¬ (AreCoveredEntries 1 same (halves v) is_first [])
   -- 128.0.0.0/1 is longer and 0.0.0.0/0 denies; no IPv6 address is listed
   pub longest : decision Longest rules (false ∷ true ∷ []) ≡ Allowed (ip_back (false ∷ true ∷ []))
   pub deny_first : decision DenyFirst rules (false ∷ true ∷ []) ≡ Denied (ip_back (false ∷ []))

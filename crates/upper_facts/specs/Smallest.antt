@@ -2,8 +2,7 @@
 -- does not. They are this project's own.
 use Rattle.std.specs.Prelude.{ℕ, true, false, [], ◌∷◌}
 use Rattle.prefix_trie.specs.Terms.{Entries, no_entries, with_entry}
-use Rattle.prefix_trie_fib.specs.Addresses as addresses
-use Rattle.prefix_trie_fib.specs.Networks.{IsShortest}
+use Rattle.address_ranges.specs.Networks.{IsShortest}
 use Rattle.prefix_trie_ops.specs.Smallest.{IsSmallest}
 use Rattle.prefix_trie_ops.specs.SmallestSets.{HasNoSiblings, IsSmallestCover}
 
@@ -22,8 +21,5 @@ pub record SmallestHold : Type 0 where
   pub two_keys : (v : ℕ) → ¬ (IsSmallestCover 1 (halves v))
   pub key_alone : (v : ℕ) → HasNoSiblings (whole v)
   pub siblings : (v : ℕ) → ¬ (HasNoSiblings (halves v))
-  -- the set that an operation on addresses leaves
-  pub one_left : (v : ℕ) → addresses.IsSmallest 1 (whole v)
-  pub two_left : (v : ℕ) → ¬ (addresses.IsSmallest 1 (halves v))
   pub one_network : IsShortest 1 ([] ∷ [])
   pub two_networks : ¬ (IsShortest 1 ((false ∷ []) ∷ (true ∷ []) ∷ []))

@@ -13,7 +13,7 @@ pub fn worked_smallest()
     ensures { SmallestHold }
 {}
 
-/// Proves facts on route tables: fewest networks, networks of a range, ranges, covered entries, decisions and hidden
+/// Proves facts on route tables: fewest networks, networks of a range, covered entries, decisions and hidden
 /// characters.
 #[tactic(auto, using(crate::proofs::Routes::routes_hold))]
 pub fn worked_routes()

@@ -1,11 +1,11 @@
 //! The lines or words that a table is asked, and those among them that are no questions.
 ghost use Rattle.std.specs.Prelude.{◌≡◌};
 
-use crate::excerpt::ByteExcerpt;
 use crate::load::BadLines;
 use crate::messages::QuestionMessage;
+use crate::messages::excerpt::ByteExcerpt;
+use crate::messages::warnings::LineNumbers;
 use crate::questions::QuestionError;
-use crate::warnings::LineNumbers;
 use std::error::Error;
 use std::fmt::{self, Display, Formatter};
 use std::io;

@@ -70,14 +70,3 @@ pub fn aggregate<P: Prefix + Into<IpPrefix>, W: Write + Drop>(
     }
     Ok(())
 }
-
-/// Prints networks.
-pub fn print_networks<P: Prefix + Into<IpPrefix>, W: Write + Drop>(
-    networks: Vec<P>,
-    out: &mut Printer<W>,
-) -> io::Result<()> {
-    for network in networks {
-        out.network(&network.into())?;
-    }
-    Ok(())
-}

@@ -1,7 +1,7 @@
 -- The empty value is that of any table except an access list.
 use Rattle.std.proofs.Common.{[], refl, subst, sym}
 use Rattle.route_tables.specs.Routes.{IsOfKind}
-use Rattle.route_tables.proofs.LineFields.{empty_is_no_rule}
+use Rattle.route_tables.proofs.Reading.LineFields.{empty_is_no_rule}
 use Rattle.route_tables.proofs.line.no_value.Goals as goal
 
 pub returns-in-AnyValues : goal.returns-in-AnyValues

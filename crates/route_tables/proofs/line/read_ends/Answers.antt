@@ -2,7 +2,7 @@
 use Rattle.std.proofs.Common.{ap₂, subst}
 use Rattle.std.proofs.lemmas.Result.{err_from_is_err_and}
 use Rattle.route_tables.specs.Networks.{AreOfEnds, DenotesNone}
-use Rattle.route_tables.proofs.LineFields.{line_of_networks}
+use Rattle.route_tables.proofs.Reading.LineFields.{line_of_networks}
 use Rattle.route_tables.proofs.line.read_ends.Goals as goal
 
 pub returns-in_err-parse_range-clause-none : goal.returns-in_err-parse_range-clause-none

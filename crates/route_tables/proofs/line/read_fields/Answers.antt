@@ -4,7 +4,7 @@ use Rattle.std.proofs.lemmas.Result.{IfErr-weaker, IfOk-weaker}
 use Rattle.prefix_trie_joint.specs.declared.prefix.IpPrefix.{IpPrefix}
 use Rattle.route_tables.specs.Networks.{all_networks}
 use Rattle.route_tables.specs.Routes.{AreFieldsOf, AreNetworksAndValue, IfLine}
-use Rattle.route_tables.proofs.LineFields.{if_line, of_alone}
+use Rattle.route_tables.proofs.Reading.LineFields.{if_line, of_alone}
 use Rattle.route_tables.proofs.line.read_fields.Goals as goal
 
 pub returns-in-None-clause-read : goal.returns-in-None-clause-read

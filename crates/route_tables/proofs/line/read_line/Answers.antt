@@ -1,6 +1,6 @@
 -- A line whose fields are not those of networks and their value is bad.
 use Rattle.route_tables.specs.Lines.{fields}
-use Rattle.route_tables.proofs.LineFields.{if_line, is_bad}
+use Rattle.route_tables.proofs.Reading.LineFields.{if_line, is_bad}
 use Rattle.route_tables.proofs.line.read_line.Goals as goal
 
 pub returns-in-Err-clause-bad : goal.returns-in-Err-clause-bad

@@ -2,7 +2,7 @@
 use Rattle.std.proofs.Common.{◌∷◌, inl, inr}
 use Rattle.std.proofs.lemmas.Result.{IfErr-weaker, IfOk-weaker}
 use Rattle.route_tables.specs.Lines.{fields}
-use Rattle.route_tables.proofs.LineFields.{if_line, of_spaced, of_valued}
+use Rattle.route_tables.proofs.Reading.LineFields.{if_line, of_spaced, of_valued}
 use Rattle.route_tables.proofs.line.read_pair.Goals as goal
 
 pub returns-in-None-clause-read : goal.returns-in-None-clause-read

@@ -1,6 +1,6 @@
 -- A line whose first field denotes no networks, or whose other fields are no value, is none of networks.
 use Rattle.std.proofs.lemmas.Result.{err_from_is_err_and}
-use Rattle.route_tables.proofs.LineFields.{if_line}
+use Rattle.route_tables.proofs.Reading.LineFields.{if_line}
 use Rattle.route_tables.proofs.line.read_valued.Goals as goal
 
 pub returns-in_err-networks-clause-none : goal.returns-in_err-networks-clause-none

@@ -1,5 +1,5 @@
 -- Splitting a text that is not empty into lines, in two cases: a line feed ends its first line, or it has only one line.
-use Rattle.route_tables.proofs.LineTexts.{lines_cut, lines_whole}
+use Rattle.route_tables.proofs.Reading.LineTexts.{lines_cut, lines_whole}
 use Rattle.route_tables.proofs.lines.split_line.Goals as goal
 
 pub returns-then-end-text-clause-first : goal.returns-then-end-text-clause-first

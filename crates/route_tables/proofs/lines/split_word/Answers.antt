@@ -1,6 +1,6 @@
 -- Splitting off a word, in two cases: only white space is left, or the word ends at the next white space.
 use Rattle.std.proofs.Common.{rules}
-use Rattle.route_tables.proofs.LineTexts.{words_cut, words_none}
+use Rattle.route_tables.proofs.Reading.LineTexts.{words_cut, words_none}
 use Rattle.route_tables.proofs.lines.split_word.Goals as goal
 
 pub returns-then-is_empty : goal.returns-then-is_empty

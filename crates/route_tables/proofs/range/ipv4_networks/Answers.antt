@@ -15,6 +15,6 @@ returns-clause-read c =
         items,
         fewest_for 32 c.to_bits-first.result c.to_bits-last.result (ipv4_bits c.args.first) (ipv4_bits c.args.last) c.in_ok-networks.networks.items
             c.to_bits-first.ensures c.to_bits-last.ensures c.to_bits-first.type_inv c.to_bits-last.type_inv
-            c.in_ok-networks.ensures.covered c.in_ok-networks.ensures.once c.in_ok-networks.ensures.in_order c.in_ok-networks.ensures.no_host_bits c.in_ok-networks.ensures.shortest,
+            c.in_ok-networks.ensures.fewest c.in_ok-networks.ensures.bare,
       ),
     )
