@@ -6,7 +6,7 @@ use Rattle.std.proofs.lemmas.Nat.{field_of, mod_low, shl-shr, shr-shr, shr_high}
 use Rattle.prefix_trie_bits.specs.BitStrings.{number-lt}
 use Rattle.prefix_trie_bits.specs.Model.Bits.{number, zeros}
 use Rattle.prefix_trie_bits.specs.Windows.{window-inside}
-use Rattle.prefix_trie_fib.proofs.CutIntervals.{number_parts}
+use Rattle.prefix_trie_fib.proofs.NetworkIntervals.{number_parts}
 
 -- a string's number, by its first k bits and the rest
 pub number_split : (s : List Bool) (k : ℕ) → (number s ≡ number (take k s) * 2 ^ (length s - k) + number (drop k s)) × (number (drop k s) < 2 ^ (length s - k))

@@ -152,7 +152,7 @@ pub some_too : {K : Type 0} (o : Option K) (Q Q' : K → Type 0) → ((k : K) �
 some_too None Q Q' g h = tt
 some_too (Some k) Q Q' g h = g k h
 
--- the next address, or the same one at the end of the line
+-- the next address, or the same one at the end of all addresses
 pub next_or : {K : Type 0} (f : K → ℕ) (IsKey : K → Type 0) (o : Option K) (at x : K) (step top : ℕ) → MatchOption o (top ≤ f at + step) (λ k. IsKey k × (f k ≡ f at + step)) → x ≡ unwrap_or o at
     → (f at ≤ f x) × (f at + step < top → f x ≡ f at + step)
 next_or f IsKey None at x step top h is = (let e = ap f is in omega (arith, e), λ lt. absurd (omega (arith, h, lt)))

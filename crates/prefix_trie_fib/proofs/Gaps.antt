@@ -71,11 +71,11 @@ module _ {V : Type 0} where
       ∙ ap (λ j. (x.0, cond (gap i) None (Some x.1)) ∷ (with_gaps gap (suc i) rs ++ (r.0, cond (gap j) None (Some r.1)) ∷ [])) (let e : suc i + length rs ≡ i + suc (length rs) = omega arith in e)
 
 -- a value, or what is kept in its place and a mark
-pub value_kept : {T : Type 0} (value : Option T) (filler : T) (gap : Bool) → is_some value ≡ not gap → cond gap None (Some (unwrap_or value filler)) ≡ value
-value_kept None filler true h = refl
-value_kept None filler false h = absurd (cc)
-value_kept (Some v) filler true h = absurd (cc)
-value_kept (Some v) filler false h = refl
+pub value_kept : {T : Type 0} (value : Option T) (placeholder : T) (gap : Bool) → is_some value ≡ not gap → cond gap None (Some (unwrap_or value placeholder)) ≡ value
+value_kept None placeholder true h = refl
+value_kept None placeholder false h = absurd (cc)
+value_kept (Some v) placeholder true h = absurd (cc)
+value_kept (Some v) placeholder false h = refl
 
 module _ {K T : Type 0} (start : K → ℕ) where
   -- the ranges that pairs keep

@@ -5,7 +5,7 @@ use Rattle.prefix_trie_bits.specs.BitStrings.{bits-number, length-digits, number
 use Rattle.prefix_trie_bits.specs.Model.Bits.{digits, number, zeros}
 use Rattle.prefix_trie_bits.specs.Windows.{length-window, window-inside}
 use Rattle.prefix_trie_fib.proofs.Chunks.{number_shifted}
-use Rattle.prefix_trie_fib.proofs.CutIntervals.{number_parts, number_zeros}
+use Rattle.prefix_trie_fib.proofs.NetworkIntervals.{number_parts, number_zeros}
 
 -- the number of the first bits, with a window appended
 joined : (b : List Bool) (d n u x : ℕ) → d + n ≤ length b → u ≡ number (take d b) → x ≡ number (take n (drop d b)) → u * 2 ^ n + x ≡ number (take (d + n) b)

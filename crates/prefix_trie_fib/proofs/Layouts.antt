@@ -31,7 +31,7 @@ module _ {V : Type 0} (w : ℕ) where
   widened_along h (r ∷ rs) u n low high =
       ap (λ b. cond b (value_along r.1 (widened w rs) n) h) (one_test w r.0 u n low high) ∙ ap (λ v. cond (leb r.0 u) v h) (widened_along r.1 rs u n low high)
 
-  -- they divide the line of the upper 64 bits
+  -- they are a division of the upper 64 bits
   pub upper_division : (rs : List (ℕ × V)) → IsDivision (widened w rs) → IsDivision rs
   upper_division rs division = record {
     some = let s = division.some in let l = widened_length rs in omega (arith, s, l);

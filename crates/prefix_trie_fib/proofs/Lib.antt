@@ -1,26 +1,19 @@
--- The lemmas of this crate: cuts of the line of addresses, ranges, their networks, searches, and the index.
+-- The lemmas of this crate: ranges, networks, searches, the index, and the Poptrie.
 pub mod RangeValues
-pub mod Alternating
-pub mod CutIntervals
-pub mod Blocks
+pub mod NetworkIntervals
+pub mod Ends
 pub mod ChunkEntries
 pub mod Chunks
-pub mod Covering
-pub mod CutKeys
-pub mod CutRanges
 pub mod Entries
 pub mod Equality
-pub mod Fewest
 pub mod Gaps
 pub mod Groups
 pub mod Halves
 pub mod Layouts
 pub mod ListingOrder
-pub mod CutMatches
 pub mod MergedRanges
 pub mod OneTable
 pub mod Results
-pub mod Sets
 pub mod Sweeps
 pub mod ValuedRanges
 pub mod Ranks

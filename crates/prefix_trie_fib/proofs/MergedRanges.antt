@@ -1,4 +1,4 @@
--- One more range keeps a line merged, below the end of the line, and right for the numbers before the next one.
+-- One more range keeps a line merged, below the end of all addresses, and right for the numbers before the next one.
 use Rattle.std.proofs.Common.{◌≡◌, ◌∙◌, ℕ, ◌-◌, ◌<◌, ◌≤◌, ◌⊎◌, Bool, true, false, List, [], ◌∷◌, ◌++◌, length, length-append, get_or, Option, None, Some, inl, inr, ap, sym, subst, arith, refl}
 use Rattle.std.proofs.Math.Seq.{get_or-append_seam}
 use Rattle.std.proofs.lemmas.Bool.{cases_lt}

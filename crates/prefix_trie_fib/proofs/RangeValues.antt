@@ -1,9 +1,8 @@
--- The value of an address in a division of the line: which range decides, and how it changes when a range is appended.
-use Rattle.std.proofs.Common.{◌≡◌, ◌∙◌, zero, suc, ℕ, ◌+◌, ◌-◌, ◌^◌, ◌<◌, ◌≤◌, Bool, false, cond, List, [], ◌∷◌, ◌++◌, length, length-append, get_or, Option, None, inl, inr, ap, subst, arith, refl, leb, ap₂, sym}
-use Rattle.std.proofs.lemmas.Bool.{le-leb, le-ltb, lt-leb, lt-ltb, cases_lt}
+-- The value of an address in a division: which range decides, and how it changes when a range is appended.
+use Rattle.std.proofs.Common.{◌≡◌, ◌∙◌, zero, suc, ℕ, ◌+◌, ◌-◌, ◌<◌, ◌≤◌, Bool, false, cond, List, [], ◌∷◌, ◌++◌, length, length-append, get_or, inl, inr, ap, subst, arith, refl, leb, ap₂, sym}
+use Rattle.std.proofs.lemmas.Bool.{le-leb, lt-leb, cases_lt}
 use Rattle.std.proofs.lemmas.List.{get_or_append_left}
 use Rattle.std.proofs.Math.Seq.{get_or-append_seam}
-use Rattle.prefix_trie_fib.specs.Addresses.{start_or_end}
 use Rattle.prefix_trie_fib.specs.Line.{AreMerged, IsDivision, StartBelow, value_along}
 use Rattle.prefix_trie_fib.specs.Search.{IsRangeOf}
 
@@ -113,7 +112,7 @@ module _ {V : Type 0} where
             ∙ ap (λ j. same (get_or rs j d).1 r.1) at ∙ differs d (omega (arith, k_in))
       ]
 
-  -- one range alone divides the line if it starts at 0
+  -- one range alone is a division if it starts at 0
   pub single : (rs : List (ℕ × V)) (v : V) → IsDivision rs → length rs ≡ 1 → ((d : ℕ × V) → v ≡ (get_or rs 0 d).1) → rs ≡ (0, v) ∷ []
   single [] v division long is = absurd (omega (arith, long))
   single (x ∷ []) v division long is = ap (λ r. r ∷ []) (ap₂ {A = ℕ} {B = V} (λ a b. (a, b)) (division.first x) (sym (is x)))
@@ -137,36 +136,3 @@ module _ {V : Type 0} where
             | inl more ↦ (let u = division.rising (i + 1) j d more b.starts.inside in omega (arith, starts, ends, u))
             | inr at ↦ (let e : i + 1 ≡ j = omega (arith, before, at) in omega (arith, starts, ends, ap (λ k. (get_or rs k d).0) e))
           ]
-
-module _ {T : Type 0} (w : ℕ) (rs : List (ℕ × Option T)) where
-  pub start_in : (i : ℕ) (d : ℕ × Option T) → i < length rs → start_or_end w rs i ≡ (get_or rs i d).0
-  start_in i d lt = ap (λ b. cond b (get_or rs i (0, None)).0 (2 ^ w)) (lt-ltb i (length rs) lt) ∙ ap {A = ℕ × Option T} (λ r. r.0) (get_or-any rs i (0, None) d lt)
-
-  pub end_out : (i : ℕ) → length rs ≤ i → start_or_end w rs i ≡ 2 ^ w
-  end_out i le = ap (λ b. cond b (get_or rs i (0, None)).0 (2 ^ w)) (le-ltb i (length rs) le)
-
-  module _ (division : IsDivision rs) (i : ℕ) (inside : i < length rs) where
-    -- no range that begins on the line is empty
-    pub some_in_range : start_or_end w rs i < 2 ^ w → start_or_end w rs i < start_or_end w rs (i + 1)
-    some_in_range low = elim (cases_lt (i + 1) (length rs)) [
-      | inl more ↦ (let u = division.rising i (i + 1) (0, None) (omega arith) more in let a = start_in i (0, None) inside in let b = start_in (i + 1) (0, None) more in omega (arith, u, a, b))
-      | inr last ↦ (let e = end_out (i + 1) last in omega (arith, low, e))
-    ]
-
-    -- the addresses up to the next range have the value of this one
-    pub range_value : (n : ℕ) (d : ℕ × Option T) → start_or_end w rs i ≤ n → n < start_or_end w rs (i + 1) → value_along None rs n ≡ (get_or rs i d).1
-    range_value n d a b = value_of_range rs division None i n d (record {
-      starts = record { inside = inside; by = λ e. (let s = start_in i e inside in omega (arith, s, a)) };
-      ends = λ e more. (let s = start_in (i + 1) e more in omega (arith, s, b));
-    })
-
-  -- each address is in a range
-  pub range_of : IsDivision rs → (n : ℕ) → n < 2 ^ w → (i : ℕ) × (i < length rs) × (start_or_end w rs i ≤ n) × (n < start_or_end w rs (i + 1))
-  range_of division n low = by_last (length rs) (omega arith) (let e = end_out (length rs) (omega arith) in omega (arith, low, e))
-    where
-      by_last : (k : ℕ) → k ≤ length rs → n < start_or_end w rs k → (i : ℕ) × (i < length rs) × (start_or_end w rs i ≤ n) × (n < start_or_end w rs (i + 1))
-      by_last zero le lt = absurd (let s = start_in 0 (0, None) division.some in let z = division.first (0, None) in omega (arith, lt, s, z))
-      by_last (suc k) le lt = elim (cases_lt n (start_or_end w rs k)) [
-        | inl before ↦ by_last k (omega (arith, le)) before
-        | inr from ↦ (k, omega (arith, le), from, subst (λ j. n < start_or_end w rs j) (let e : suc k ≡ k + 1 = omega arith in e) lt)
-      ]

@@ -7,7 +7,6 @@ use Rattle.prefix_trie_bits.specs.Bitmaps.{bits_below, if_set, has_bit}
 unfoldable use Rattle.prefix_trie_bits.specs.Bitmaps.{rank}
 use Rattle.prefix_trie_bits.specs.Places.{has}
 use Rattle.prefix_trie_bits.proofs.Ranks.{has_bit-is, if_set-length, bit-of, ones-mod-suc}
-use Rattle.prefix_trie_bits.proofs.Bitmaps.{has-zero}
 
 -- the rank behind a bit
 pub rank_step : (m b : ℕ) → b < 32 → rank m (suc b) ≡ rank m b + cond (has m b) 1 0
@@ -34,23 +33,12 @@ rank_same m m' (suc b) le same =
     ∙ ap₂ (λ x s. x + cond s 1 0) (rank_same m m' b (omega (arith, le)) (λ w lt. same w (omega (arith, lt)))) (same b (omega arith))
     ∙ sym (rank_step m b (omega (arith, le)))
 
-pub rank_zero : (b : ℕ) → b ≤ 32 → rank 0 b ≡ 0
-rank_zero zero le = rank_none 0
-rank_zero (suc b) le = rank_clear 0 b (omega (arith, le)) (has-zero b) ∙ rank_zero b (omega (arith, le))
-
 -- a higher bit has a higher rank
 pub rank_less : (m b c : ℕ) → b < c → c ≤ 32 → has m b ≡ true → rank m b < rank m c
 rank_less m b zero lt le h = absurd (omega (arith, lt))
 rank_less m b (suc c) lt le h = elim (cases_lt b c) [
   | inl before ↦ (let less = rank_less m b c before (omega (arith, le)) h in let step = rank_step m c (omega (arith, le)) in omega (arith, less, step))
   | inr at ↦ (let e : c ≡ b = omega (arith, lt, at) in let is = ap (λ x. rank m (suc x)) e in omega (arith, is, rank_set m b (omega (arith, lt, le)) h))
-]
-
-pub rank_most : (m b c : ℕ) → b ≤ c → c ≤ 32 → rank m b ≤ rank m c
-rank_most m b zero le small = (let e : b ≡ 0 = omega (arith, le) in let is = ap (λ x. rank m x) e in omega (arith, is))
-rank_most m b (suc c) le small = elim (cases_lt b (suc c)) [
-  | inl before ↦ (let less = rank_most m b c (omega (arith, before)) (omega (arith, small)) in let step = rank_step m c (omega (arith, small)) in omega (arith, less, step))
-  | inr at ↦ (let e : b ≡ suc c = omega (arith, le, at) in let is = ap (λ x. rank m x) e in omega (arith, is))
 ]
 
 -- a number that is shifted to the top of a word of 32 bits keeps its lowest bits alone

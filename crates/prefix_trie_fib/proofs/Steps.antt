@@ -1,5 +1,5 @@
 -- From one leaf to the next: where ranges start.
-use Rattle.std.proofs.Common.{◌≡◌, ◌≢◌, ◌∙◌, ℕ, zero, suc, ◌+◌, ◌-◌, ◌*◌, ◌/◌, ◌^◌, ◌<◌, ◌≤◌, Bool, true, false, cond, List, length, Option, None, Some, is_some, refl, sym, ap, ap₂, subst, arith, inl, inr, pow_pos}
+use Rattle.std.proofs.Common.{◌≡◌, ◌∙◌, ℕ, zero, suc, ◌+◌, ◌-◌, ◌*◌, ◌/◌, ◌^◌, ◌<◌, ◌≤◌, Bool, true, false, cond, List, Option, None, Some, is_some, refl, sym, ap, ap₂, subst, arith, inl, inr, pow_pos}
 use Rattle.std.specs.Prelude.{◌&&◌, ◌||◌, nat_eq, nat_le}
 use Rattle.std.proofs.lemmas.Bool.{and_right, cases_Bool, cases_lt, eq-eqb, le-leb, lt-leb, ne_eqb}
 use Rattle.std.proofs.Math.Nat.{div-lt_iff_lt-mul, div-one, div-mul-le_self, lt-div-mul-add, mul-lt-mul_of_pos_right}
@@ -114,9 +114,6 @@ module _ {T : Type 0} (w bits : ℕ) (direct : List ℕ) (nodes : List Node) (le
     pub on : from ≤ at
     pub clear : (a : ℕ) → from < a → a ≤ at → starts_in w bits direct nodes leaves a ≡ false
     pub leaf : IsLeafOf w bits direct nodes leaves at x starts depth
-
-  pub stepping_begins : (x : Option T) (starts : Bool) (depth : ℕ) → IsLeafOf w bits direct nodes leaves from x starts depth → IsStepping from x starts depth
-  stepping_begins x starts depth leaf = record { on = omega arith; clear = λ a lt le. absurd (omega (arith, lt, le)); leaf = leaf }
 
   module _ (at : ℕ) (x : Option T) (starts : Bool) (depth : ℕ) (h : IsStepping at x starts depth) where
     before_next : (next : ℕ) → ((a : ℕ) → at < a → a < next → a / 2 ^ (w - depth) ≡ at / 2 ^ (w - depth)) → (a : ℕ) → from < a → a < next → starts_in w bits direct nodes leaves a ≡ false

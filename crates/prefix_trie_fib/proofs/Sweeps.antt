@@ -1,4 +1,4 @@
--- The walk that compiles a map: stretches that open and close, and the networks read as values.
+-- The walk that compiles a map: intervals that open and close, and the networks read as values.
 use Rattle.std.proofs.Common.{◌≡◌, ◌∙◌, suc, ℕ, ◌+◌, ◌-◌, ◌^◌, ◌<◌, ◌≤◌, ◌&&◌, ◌⊎◌, Bool, true, false, not, cond, List, [], ◌∷◌, ◌++◌, length, length-append, append-nil, filter, drop, map, get_or, leb, Option, None, Some, inl, inr, ap, sym, subst, arith, refl}
 use Rattle.std.proofs.Math.Seq.{get_or-append_seam}
 use Rattle.std.proofs.lemmas.Bool.{le-leb, lt-leb, cases_lt}
@@ -13,10 +13,9 @@ use Rattle.prefix_trie_bits.specs.Model.Bits.{begins, digits, number}
 use Rattle.prefix_trie_bits.specs.Model.Entries.{Entries}
 use Rattle.prefix_trie_bits.specs.Model.Matches.{last_item}
 use Rattle.prefix_trie_bits.specs.Model.Selections.{listing, prefix_pairs}
-use Rattle.prefix_trie_fib.specs.Line.{are_same, first_address, past_address}
-use Rattle.prefix_trie_fib.specs.Networks.{end_of}
-use Rattle.prefix_trie_fib.specs.Sweep.{IsDoneTo, IsSweptTo, value_within, with_stretch}
-use Rattle.prefix_trie_fib.proofs.CutIntervals.{begins_within, within_begins}
+use Rattle.prefix_trie_fib.specs.Line.{are_same, end_of, first_address, past_address}
+use Rattle.prefix_trie_fib.specs.Sweep.{IsDoneTo, IsSweptTo, value_within, with_interval}
+use Rattle.prefix_trie_fib.proofs.NetworkIntervals.{begins_within, within_begins}
 use Rattle.prefix_trie_fib.proofs.ListingOrder.{listed_first}
 use Rattle.prefix_trie_fib.proofs.MergedRanges.{done_more, done_none}
 use Rattle.prefix_trie_fib.proofs.RangeValues.{get_or-any}
@@ -26,7 +25,7 @@ last-push [] x = refl
 last-push (y ∷ []) x = refl
 last-push (y ∷ z ∷ xs) x = last-push (z ∷ xs) x
 
--- a number is in a network exactly if it is in the stretch from its first address to its end
+-- a number is in a network exactly if it is in the interval from its first address to its end
 begins_is : (w : ℕ) (s : List Bool) (past n : ℕ) → length s ≤ w → n < 2 ^ w → (n < past → n < past_address w s) → (n < past_address w s → n < past) → begins s (digits w n) ≡ (leb (first_address w s) n && not (leb past n))
 begins_is w s past n fits low to_network from_network =
     let long = length-digits w n in
@@ -50,7 +49,7 @@ module _ {T : Type 0} where
   within_push h [] s n = refl
   within_push h (x ∷ ss) s n = within_push (cond (leb x.0 n) h x.1) ss s n
 
-  -- the last stretch decides what it reaches
+  -- the last interval decides what it reaches
   reached : (h : Option T) (ss : List (ℕ × Option T)) (s : ℕ × Option T) (n : ℕ) → n < s.0 → value_within h (ss ++ s ∷ []) n ≡ s.1
   reached h ss s n lt = within_push h ss s n ∙ ap (λ b. cond b (value_within h ss n) s.1) (lt-leb s.0 n lt)
 
@@ -59,7 +58,7 @@ module _ {T : Type 0} where
   ended h ss s n le = within_push h ss s n ∙ ap (λ b. cond b (value_within h ss n) s.1) (le-leb s.0 n le)
 
   module _ (top : ℕ) (same : T → T → Bool) (of : ℕ → Option T) where
-    -- the numbers up to one that the last stretch reaches have its value
+    -- the numbers up to one that the last interval reaches have its value
     pub swept_to : (line : List (ℕ × Option T)) (at to : ℕ) (ss : List (ℕ × Option T)) (s : ℕ × Option T) → at < to → to ≤ s.0 → (line' : List (ℕ × Option T))
         → ((line' ≡ line ++ (at, s.1) ∷ []) × ((d : ℕ × Option T) → 0 < length line → are_same same (get_or line (length line - 1) d).1 s.1 ≡ false))
         ⊎ ((line' ≡ line) × (0 < length line) × ((d : ℕ × Option T) → are_same same (get_or line (length line - 1) d).1 s.1 ≡ true))
@@ -76,19 +75,19 @@ module _ {T : Type 0} where
         → IsSweptTo top same of line at (ss ++ s ∷ []) → IsDoneTo top same of line' top
     swept_all line at ss s later within line' step swept = (swept_to line at top ss s later within line' step swept).done
 
-    -- a stretch that has ended closes
+    -- an interval that has ended closes
     pub swept_closed : (line : List (ℕ × Option T)) (at : ℕ) (ss : List (ℕ × Option T)) (s : ℕ × Option T) → s.0 ≤ at → IsSweptTo top same of line at (ss ++ s ∷ []) → IsSweptTo top same of line at ss
     swept_closed line at ss s before swept = record {
       done = swept.done;
       rest = λ n le low. swept.rest n le low ∙ ended None ss s n (omega (arith, before, le));
     }
 
-    -- no stretch is as one without a value to the end of the line
+    -- no interval is as one without a value to the end of all addresses
     pub swept_none : (line : List (ℕ × Option T)) (at : ℕ) → IsSweptTo top same of line at [] → IsSweptTo top same of line at ((top, None) ∷ [])
     swept_none line at swept = record { done = swept.done; rest = λ n le low. swept.rest n le low ∙ sym (reached None [] (top, None) n low) }
 
-    -- a stretch opens
-    pub swept_open : (line : List (ℕ × Option T)) (at past : ℕ) (v : T) (ss : List (ℕ × Option T)) → IsSweptTo top same of line at ss → IsSweptTo top same (with_stretch at past v of) line at (ss ++ (past, Some v) ∷ [])
+    -- an interval opens
+    pub swept_open : (line : List (ℕ × Option T)) (at past : ℕ) (v : T) (ss : List (ℕ × Option T)) → IsSweptTo top same of line at ss → IsSweptTo top same (with_interval at past v of) line at (ss ++ (past, Some v) ∷ [])
     swept_open line at past v ss swept = record {
       done = record {
         some = swept.done.some;
@@ -133,7 +132,7 @@ at_most_one None = omega arith
 at_most_one (Some x) = omega arith
 
 module _ {K T : Type 0} where
-  -- the inner stretch closes, and the next one is that round it
+  -- the inner interval closes, and the next one is that round it
   pub sweep_closed : (w : ℕ) (bits : K → List Bool) (same : T → T → Bool) (of : ℕ → Option T) (line : List (ℕ × Option T)) (at : ℕ) (outer outer' : List (Option K × Option T)) (inner : Option K × Option T) (popped : Option (Option K × Option T))
       → outer ≡ outer' ++ option_to_list popped → (popped ≡ None → length outer ≡ 0) → end_of w bits inner.0 ≤ at
       → IsSweptTo (2 ^ w) same of line at (map (λ s. (end_of w bits s.0, s.1)) (outer ++ inner ∷ []))
@@ -149,7 +148,7 @@ module _ {K T : Type 0} where
       (swept_closed (2 ^ w) same of line at (map (λ s. (end_of w bits s.0, s.1)) outer) (end_of w bits inner.0, inner.1) before
       (subst (IsSweptTo (2 ^ w) same of line at) (map-append {A = Option K × Option T} (λ s. (end_of w bits s.0, s.1)) outer (inner ∷ [])) swept))
 
-  -- and one stretch fewer has an end
+  -- and one interval fewer has an end
   pub sweep_smaller : (outer outer' : List (Option K × Option T)) (end : Option K) (last : K) (popped : Option (Option K × Option T)) → outer ≡ outer' ++ option_to_list popped → (popped ≡ None → length outer ≡ 0) → end ≡ Some last
       → length outer' + length (option_to_list (unwrap_or popped (None, None)).0) < length outer + length (option_to_list end)
   sweep_smaller outer outer' end last None is none some =
@@ -159,13 +158,13 @@ module _ {K T : Type 0} where
       let e : length (option_to_list end) ≡ 1 = ap (λ o. length (option_to_list o)) some in
       omega (arith, ap length is ∙ length-append outer' (s ∷ []), e, at_most_one s.0)
 
-  -- a network opens within the inner stretch
-  pub sweep_open : (w : ℕ) (bits : K → List Bool) (same : T → T → Bool) (of : ℕ → Option T) (line : List (ℕ × Option T)) (at : ℕ) (stretches : List (Option K × Option T)) (past : Option K) (v : T)
-      → IsSweptTo (2 ^ w) same of line at (map (λ s. (end_of w bits s.0, s.1)) stretches)
-      → IsSweptTo (2 ^ w) same (with_stretch at (end_of w bits past) v of) line at (map (λ s. (end_of w bits s.0, s.1)) (stretches ++ (past, Some v) ∷ []))
-  sweep_open w bits same of line at stretches past v swept =
-      subst (IsSweptTo (2 ^ w) same (with_stretch at (end_of w bits past) v of) line at) (sym (map-append {A = Option K × Option T} (λ s. (end_of w bits s.0, s.1)) stretches ((past, Some v) ∷ [])))
-      (swept_open (2 ^ w) same of line at (end_of w bits past) v (map (λ s. (end_of w bits s.0, s.1)) stretches) swept)
+  -- a network opens within the inner interval
+  pub sweep_open : (w : ℕ) (bits : K → List Bool) (same : T → T → Bool) (of : ℕ → Option T) (line : List (ℕ × Option T)) (at : ℕ) (intervals : List (Option K × Option T)) (past : Option K) (v : T)
+      → IsSweptTo (2 ^ w) same of line at (map (λ s. (end_of w bits s.0, s.1)) intervals)
+      → IsSweptTo (2 ^ w) same (with_interval at (end_of w bits past) v of) line at (map (λ s. (end_of w bits s.0, s.1)) (intervals ++ (past, Some v) ∷ []))
+  sweep_open w bits same of line at intervals past v swept =
+      subst (IsSweptTo (2 ^ w) same (with_interval at (end_of w bits past) v of) line at) (sym (map-append {A = Option K × Option T} (λ s. (end_of w bits s.0, s.1)) intervals ((past, Some v) ∷ [])))
+      (swept_open (2 ^ w) same of line at (end_of w bits past) v (map (λ s. (end_of w bits s.0, s.1)) intervals) swept)
 
 module _ {T : Type 0} where
   -- ---- the networks read
@@ -182,14 +181,14 @@ module _ {T : Type 0} where
       by_case false = ap (λ xs. option_map (λ e. e.1) (last_item xs)) (append-nil (filter (λ e. begins e.0 q) es))
 
   module _ (w : ℕ) where
-    -- the network read last adds its stretch
+    -- the network read last adds its interval
     pub read_is : {K : Type 0} (bits : K → List Bool) (es : List (List Bool × T)) (e : List Bool × T) (first : ℕ) (past : Option K) → length e.0 ≤ w → first ≡ first_address w e.0
         → MatchOption past (2 ^ w ≤ past_address w e.0) (λ k. number (bits k) ≡ past_address w e.0) → (n : ℕ) → n < 2 ^ w
-        → value_read (es ++ e ∷ []) (digits w n) ≡ with_stretch first (end_of w bits past) e.1 (λ m. value_read es (digits w m)) n
+        → value_read (es ++ e ∷ []) (digits w n) ≡ with_interval first (end_of w bits past) e.1 (λ m. value_read es (digits w m)) n
     read_is {K} bits es e first past fits at ends n low =
         read_push es e (digits w n)
         ∙ ap (λ b. cond b (Some e.1) (value_read es (digits w n))) (begins_is w e.0 (end_of w bits past) n fits low (to_network past ends) (from_network past ends))
-        ∙ ap (λ f. with_stretch f (end_of w bits past) e.1 (λ m. value_read es (digits w m)) n) (sym at)
+        ∙ ap (λ f. with_interval f (end_of w bits past) e.1 (λ m. value_read es (digits w m)) n) (sym at)
       where
         to_network : (p : Option K) → MatchOption p (2 ^ w ≤ past_address w e.0) (λ k. number (bits k) ≡ past_address w e.0) → n < end_of w bits p → n < past_address w e.0
         to_network None h lt = omega (arith, h, lt)

@@ -1,13 +1,12 @@
 -- The ranges with a value are exactly those of the addresses that have one, and a walk gives them one by one.
-use Rattle.std.proofs.Common.{◌≡◌, ◌∙◌, zero, suc, ℕ, ◌+◌, ◌-◌, ◌*◌, ◌^◌, ◌<◌, ◌≤◌, ◌⊎◌, Bool, false, List, [], ◌∷◌, length, get_or, drop, add-one, Option, None, Some, MatchOption, inl, inr, ap, ap₂, sym, subst, arith, refl, pow-add}
+use Rattle.std.proofs.Common.{◌≡◌, ◌∙◌, zero, suc, ℕ, ◌+◌, ◌-◌, ◌^◌, ◌<◌, ◌≤◌, ◌⊎◌, Bool, false, List, [], ◌∷◌, length, get_or, drop, add-one, Option, None, Some, MatchOption, inl, inr, ap, ap₂, sym, subst, arith, refl}
 use Rattle.std.proofs.Math.Seq.{drop-cons}
 use Rattle.std.proofs.lemmas.Bool.{cases_lt}
 use Rattle.std.proofs.lemmas.List.{drop_all}
 use Rattle.std.proofs.lemmas.Option.{same_Some}
 use Rattle.std.specs.List.{Contains}
 use Rattle.prefix_trie_bits.specs.Model.Bits.{number}
-use Rattle.prefix_trie_fib.specs.Line.{AreMerged, IsDivision, are_same, value_along}
-use Rattle.prefix_trie_fib.specs.Networks.{end_of}
+use Rattle.prefix_trie_fib.specs.Line.{AreMerged, IsDivision, are_same, end_of, value_along}
 use Rattle.prefix_trie_fib.specs.Ranges.{AreRangesOf, IsInRange, in_numbers, last_before, valued_ranges}
 use Rattle.prefix_trie_fib.proofs.RangeValues.{step_in, step_out}
 
@@ -199,7 +198,3 @@ module _ {T : Type 0} (w : ℕ) where
   valued_few ((first, Some v) ∷ rs) = (let h = valued_few rs in omega (arith, h))
 
 -- ---- the last address of a range, found by powers of two
-
--- a power is two of the power before
-pub twice : (k : ℕ) → 2 ^ (k + 1) ≡ 2 ^ k + 2 ^ k
-twice k = pow-add 2 k 1 ∙ (let e : 2 ^ k * 2 ^ 1 ≡ 2 ^ k + 2 ^ k = omega arith in e)

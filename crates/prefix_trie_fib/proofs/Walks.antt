@@ -1,10 +1,10 @@
 -- Steps of a walk from a node to a child or a leaf.
-use Rattle.std.proofs.Common.{◌≡◌, ◌∙◌, ℕ, zero, suc, ◌+◌, ◌-◌, ◌*◌, ◌/◌, ◌%◌, ◌^◌, ◌<◌, ◌≤◌, Bool, true, false, cond, List, [], ◌∷◌, length, get_or, Option, None, Some, refl, sym, ap, subst, arith}
-use Rattle.std.specs.Prelude.{slice_get, ◌&&◌, nat_eq}
+use Rattle.std.proofs.Common.{◌≡◌, ◌∙◌, ℕ, zero, suc, ◌+◌, ◌-◌, ◌*◌, ◌/◌, ◌%◌, ◌<◌, ◌≤◌, Bool, true, false, cond, List, length, None, Some, refl, sym, ap, subst, arith}
+use Rattle.std.specs.Prelude.{slice_get}
 use Rattle.std.specs.Bool.{MatchBool}
 use Rattle.prefix_trie_bits.specs.Places.{has}
 use Rattle.prefix_trie_fib.specs.declared.table.node.Node.{Node}
-use Rattle.prefix_trie_fib.specs.Poptrie.{block, first, find, leaf_at, leaf_index, leaf_value, place, HasLeaf, IsSound, child_index, node_at, is_gap, is_begun, levels, past}
+use Rattle.prefix_trie_fib.specs.Poptrie.{block, find, leaf_at, leaf_value, place, HasLeaf, IsSound, child_index, node_at, levels, past}
 use Rattle.prefix_trie_fib.proofs.Strides.{block_suc}
 
 module _ (nodes : List Node) where
@@ -53,14 +53,6 @@ pub record IsWalking (nodes : List Node) (count w depth : ℕ) (root : Node) (a 
   pub same : (t : ℕ) → block (levels w at) t ≡ block (levels w at) a → find nodes (levels w at) node t ≡ find nodes (levels w depth) root t
 
 module _ (nodes : List Node) (count w depth : ℕ) (root : Node) (a : ℕ) where
-  pub walk_begins : IsSound nodes count (levels w depth) root → IsWalking nodes count w depth root a root depth
-  walk_begins s = (let some = some_level nodes count (levels w depth) root s in record {
-    sound = s;
-    down = omega arith;
-    aligned = omega (arith, some);
-    same = λ t e. refl;
-  })
-
   module _ (node : Node) (at v : ℕ) (p : IsWalking nodes count w depth root a node at) where
     some : 0 < levels w at
     some = some_level nodes count (levels w at) node p.sound

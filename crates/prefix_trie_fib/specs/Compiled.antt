@@ -1,4 +1,4 @@
--- What an indexed line keeps: ranges that divide the line of addresses, and an index of them.
+-- What an indexed line keeps: ranges that divide all addresses, and an index of them.
 use Rattle.std.specs.Prelude.{◌≡◌, ℕ, ◌^◌, ◌<◌, ◌≤◌, List, length, Option}
 use Rattle.prefix_trie_fib.specs.declared.index.chunk.Chunk.{Chunk}
 use Rattle.prefix_trie_fib.specs.Index.{IsIndex}

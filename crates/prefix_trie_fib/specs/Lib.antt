@@ -1,5 +1,4 @@
--- The definitions of this crate: divisions of the line of addresses, tables of maps, networks, searches, the index, and laws.
-pub mod Addresses
+-- The definitions of this crate: divisions of all addresses into ranges, tables of maps, searches, the index, and laws.
 pub mod Bulk
 pub mod Compiled
 pub mod Equality
@@ -8,7 +7,6 @@ pub mod Index
 pub mod Laws
 pub mod Layouts
 pub mod Line
-pub mod Networks
 pub mod Ranges
 pub mod Search
 pub mod Sweep

@@ -1,11 +1,10 @@
--- The line of addresses: where the longest match can change along it, and its division into ranges. This project's own.
-use Rattle.std.specs.Prelude.{◌≡◌, ℕ, ◌+◌, ◌-◌, ◌^◌, ◌<◌, ◌≤◌, Bool, true, false, cond, List, [], ◌∷◌, ◌++◌, length, Contains, nat_eq, nat_le, map, Option, Some, None, slice_index, slice_index_or}
+-- Divisions of all addresses into ranges, and the value of each address. This project's own.
+use Rattle.std.specs.Prelude.{◌≡◌, ℕ, ◌+◌, ◌-◌, ◌^◌, ◌<◌, Bool, true, false, cond, List, [], ◌∷◌, ◌++◌, length, nat_eq, nat_le, Option, Some, None, slice_index_or}
 use Rattle.std.specs.List.{list_any}
 use Rattle.std.specs.Option.{option_map}
 use Rattle.prefix_trie_bits.specs.Model.Bits.{number, zeros}
 use Rattle.prefix_trie_bits.specs.Model.Entries.{Entries}
 use Rattle.prefix_trie_bits.specs.Model.Matches.{longest_match}
-use Rattle.prefix_trie_bits.specs.Model.Selections.{listing}
 
 -- the lowest address that begins with a path, as a number
 abbrev pub first_address : ℕ → List Bool → ℕ
@@ -15,43 +14,14 @@ first_address width s = number (s ++ zeros (width - length s))
 abbrev pub past_address : ℕ → List Bool → ℕ
 past_address width s = first_address width s + 2 ^ (width - length s)
 
--- the network of a path begins at a cut, and ends before a cut or at the end of the line
-pub record IsCutOut (width : ℕ) (cuts : List ℕ) (s : List Bool) : Type 0 where
-  pub first : Contains cuts (first_address width s)
-  pub past : past_address width s < 2 ^ width → Contains cuts (past_address width s)
-
--- no cut is above a and not above b
-abbrev pub AreUncut : List ℕ → ℕ → ℕ → Type 0
-AreUncut cuts a b = (c : ℕ) → Contains cuts c → a < c → b < c
-
--- each number is below those after it
-abbrev pub IsRising : List ℕ → Type 0
-IsRising ns = (j k : ℕ) → j < k → k < length ns → slice_index ns j < slice_index ns k
-
--- keys as numbers
-abbrev pub numbers : {K : Type 0} → (K → List Bool) → List K → List ℕ
-numbers bits keys = map (λ k. number (bits k)) keys
-
--- each network of a map is cut out
-abbrev pub AreCutOut : {K T : Type 0} → ℕ → (K → List Bool) → Entries T → List K → Type 0
-AreCutOut {K} {T} width bits m cuts = (e : List Bool × T) → Contains (listing m) e → (length e.0 ≤ width) × IsCutOut width (numbers bits cuts) e.0
-
--- and the line begins with a cut
-pub record AreCutsOf {K T : Type 0} (width : ℕ) (bits : K → List Bool) (m : Entries T) (cuts : List K) : Type 0 where
-  pub at_zero : Contains (numbers bits cuts) 0
-  pub cut_out : AreCutOut width bits m cuts
+-- the number of the address where a range ends, which is not in it; `None` is the end of all addresses
+abbrev pub end_of : {K : Type 0} → ℕ → (K → List Bool) → Option K → ℕ
+end_of width bits None = 2 ^ width
+end_of width bits (Some k) = number (bits k)
 
 -- the value of the longest key that begins the question
 abbrev pub value_of : {T : Type 0} → Entries T → List Bool → Option T
 value_of m q = option_map (λ e. e.1) (longest_match m q)
-
--- values are those at the cuts
-abbrev pub AreValuesAt : {K V : Type 0} → (K → List Bool) → (List Bool → V) → List K → List V → Type 0
-AreValuesAt {K} {V} bits of cuts values = (i : ℕ) (d : K) (v : V) → i < length cuts → slice_index_or values i v ≡ of (bits (slice_index_or cuts i d))
-
--- addresses that no cut parts have the same value
-abbrev pub IsSteady : {V : Type 0} → ℕ → List ℕ → (List Bool → V) → Type 0
-IsSteady width cuts of = (p q : List Bool) → length p ≡ width → length q ≡ width → number p ≤ number q → AreUncut cuts (number p) (number q) → of p ≡ of q
 
 -- whether both values are missing, or both exist and are equal
 abbrev pub are_same : {T : Type 0} → (T → T → Bool) → Option T → Option T → Bool

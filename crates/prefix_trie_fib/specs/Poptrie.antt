@@ -1,8 +1,7 @@
 -- Nodes of 32 places, in one list, with two bitmaps each for children and for runs of leaves: Poptrie (Asai and Ohara 2015).
-use Rattle.std.specs.Prelude.{◌≡◌, ◌≢◌, ℕ, zero, suc, ◌+◌, ◌-◌, ◌*◌, ◌/◌, ◌%◌, ◌^◌, ◌<◌, ◌≤◌, ◌&&◌, ◌++◌, not, Bool, true, false, cond, List, length, nat_eq, nat_lt, Option, None, Some, is_some, slice_get, slice_index_or, take}
+use Rattle.std.specs.Prelude.{◌≡◌, ◌≢◌, ℕ, zero, suc, ◌+◌, ◌-◌, ◌*◌, ◌/◌, ◌%◌, ◌^◌, ◌<◌, ◌≤◌, ◌&&◌, not, Bool, true, false, cond, List, length, nat_eq, nat_lt, Option, None, Some, is_some, slice_get, slice_index_or}
 use Rattle.std.specs.Bool.{MatchBool}
 use Rattle.prefix_trie_bits.specs.Bitmaps.{rank}
-use Rattle.prefix_trie_bits.specs.Model.Bits.{number, zeros}
 use Rattle.prefix_trie_bits.specs.Places.{has, Sets}
 use Rattle.prefix_trie_fib.specs.declared.table.node.Node.{Node}
 
@@ -33,10 +32,6 @@ low p n q = first n q / 2 ^ p
 -- the block of a node that is read at a depth, for the addresses that begin as an address does
 abbrev pub block_at : ℕ → ℕ → ℕ → ℕ
 block_at width depth a = a / 2 ^ (width - depth)
-
--- the number of the first 30 bits of an address, where bits past its end are 0
-abbrev pub IsTop : ℕ → List Bool → Type 0
-IsTop top b = top ≡ number (take 30 (b ++ zeros 30))
 
 -- a node without children or leaves
 abbrev pub blank : Node

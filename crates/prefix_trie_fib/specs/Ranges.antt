@@ -3,7 +3,7 @@ use Rattle.std.specs.Prelude.{◌≡◌, ℕ, ◌+◌, ◌-◌, ◌^◌, ◌<◌
 use Rattle.prefix_trie_bits.specs.Model.Bits.{number}
 
 module _ {T : Type 0} where
-  -- the address before the first of some ranges, or the last one of the line if there are none
+  -- the address before the first of some ranges, or the last of all addresses if there are none
   abbrev pub last_before : ℕ → List (ℕ × Option T) → ℕ
   last_before width [] = 2 ^ width - 1
   last_before width (r ∷ rs) = r.0 - 1
@@ -27,7 +27,7 @@ module _ {T : Type 0} where
   pub record AreRangesOf (width : ℕ) (same : T → T → Bool) (value : ℕ → Option T) (rs : List (ℕ × ℕ × T)) : Type 0 where
     -- each ends before those after it begin
     pub in_order : (j k : ℕ) (d : ℕ × ℕ × T) → j < k → k < length rs → (slice_index_or rs j d).1 < (slice_index_or rs k d).0
-    -- a range that begins on the line has an address
+    -- a range that begins at an address has one
     pub some : (k : ℕ) (d : ℕ × ℕ × T) → k < length rs → (slice_index_or rs k d).0 < 2 ^ width → (slice_index_or rs k d).0 ≤ (slice_index_or rs k d).1
     -- each address of a range has its value
     pub has_value : (r : ℕ × ℕ × T) → Contains rs r → (n : ℕ) → IsInRange n r → value n ≡ Some r.2

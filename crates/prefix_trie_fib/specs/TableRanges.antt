@@ -1,10 +1,9 @@
 -- The ranges of a compiled table: its addresses at which a range starts, each with its value.
-use Rattle.std.specs.Prelude.{◌≡◌, ℕ, ◌-◌, ◌*◌, ◌^◌, ◌<◌, ◌≤◌, ◌||◌, Bool, cond, List, length, map, nat_eq, Option, is_some, true, false}
+use Rattle.std.specs.Prelude.{Bool, List, None, Option, cond, false, is_some, length, map, nat_eq, true, ℕ, ◌*◌, ◌-◌, ◌<◌, ◌^◌, ◌||◌, ◌≡◌, ◌≤◌}
 use Rattle.std.specs.List.{filter, range_with_len}
 use Rattle.prefix_trie_fib.specs.declared.table.node.Node.{Node}
 use Rattle.prefix_trie_fib.specs.Line.{IsDivision, StartBelow, is_start, value_along}
 use Rattle.prefix_trie_fib.specs.Poptrie.{IsTable, find_in, leaf_value, levels, past}
-use Rattle.std.specs.Prelude.{None}
 
 module _ {T : Type 0} where
   -- the addresses below a number at which a range starts, each with its value
@@ -24,7 +23,7 @@ module _ {T : Type 0} where
     abbrev pub ranges_in : List (ℕ × Option T)
     ranges_in = ranges_below (2 ^ width) value_in starts_in
 
-    -- the table has so many ranges, which divide the line, and each of its slots is right for them
+    -- the table has so many ranges, which divide all addresses, and each of its slots is right for them
     pub record IsCompiled (len : ℕ) : Type 0 where
       pub within : bits ≤ width
       pub long : length direct ≡ 2 ^ bits

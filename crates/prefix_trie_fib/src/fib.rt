@@ -2,8 +2,7 @@
 ghost use Rattle.std.specs.Prelude.{◌≡◌, ℕ, ◌+◌, ◌^◌, ◌<◌, ◌≤◌, ◌↔◌, ◌∷◌, [], IfErr, IfOk, IsTrue, MatchOption, None, Option, length, slice_index_or};
 ghost use Rattle.prefix_trie_bits.specs.Model.Bits.{number};
 ghost use Rattle.prefix_trie_bits.specs.declared.prefix.Refusal.TheVariants.{IndexRange};
-ghost use Rattle.prefix_trie_fib.specs.Line.{value_along};
-ghost use Rattle.prefix_trie_fib.specs.Networks.{end_of};
+ghost use Rattle.prefix_trie_fib.specs.Line.{end_of, value_along};
 ghost use Rattle.prefix_trie_fib.specs.Tables.{HasLongTable, IsTableOf};
 
 mod addresses;
@@ -116,11 +115,11 @@ fn compact_of<P: Prefix, T: Copy + PartialEq, M: Allocator, A: Allocator + Clone
     ensures too_many { IfErr result (λ cause. cause ≡ IndexRange
         → HasLongTable P.R.bit_width T.PartialEq.eq map.now.entries) }
 {
-    let Some(filler) = some_value(map) else {
+    let Some(placeholder) = some_value(map) else {
         return Ok(Compact::empty());
     };
     let first = alloc.clone()?;
-    let Ok(line) = ranges_of(map, filler, first) else {
+    let Ok(line) = ranges_of(map, placeholder, first) else {
         return Err(Refusal::Memory);
     };
     Compact::new(line, alloc)
@@ -204,7 +203,7 @@ impl<P: Prefix, T: Copy + PartialEq, A: Allocator> Fib<P, T, A> {
         (first, past, self.ranges.value(i))
     }
 
-    /// Returns the number of chunks that the index cuts the line of addresses into.
+    /// Returns the number of chunks that the index cuts all addresses into.
     ///
     /// Each has an entry of the size of a value and a tag. A chunk with more than 12 ranges has more entries, unless its
     /// ranges start at its sixteenths: 16, or a power of two that is at most half the number of its ranges.

@@ -1,4 +1,4 @@
-//! An index of a division of the line by the first bits of addresses.
+//! An index of a division by the first bits of addresses.
 ghost use Rattle.std.specs.Prelude.{◌≡◌, ℕ, ◌+◌, ◌*◌, ◌-◌, ◌^◌, ◌<◌, ◌≤◌, IfOk, IfSome, IsTrue, OnOk, length};
 ghost use Rattle.prefix_trie_bits.specs.Model.Bits.{number};
 ghost use Rattle.prefix_trie_fib.specs.Index.{AreValued, Extends, HasParts, IsChunk, IsEntry, IsIndex, IsWhole};
@@ -63,7 +63,7 @@ pub(crate) fn index_of<K: Key, T: Copy, A: Allocator, B: Allocator>(
     Ok(Index { chunks, parts })
 }
 
-/// Returns the entry of the chunk from the address `low` up to the address `next`, or to the end of the line.
+/// Returns the entry of the chunk from the address `low` up to the address `next`, or to the end of all addresses.
 ///
 /// Its parts are appended if it is split.
 fn entry_at<K: Key, T: Copy, A: Allocator, B: Allocator>(
@@ -132,7 +132,7 @@ fn push_parts<K: Key, T: Copy, A: Allocator, B: Allocator>(
     Ok(())
 }
 
-/// Returns the entry of the chunk of `depth` bits from the address `low` up to the address `next`, or to the end of the line.
+/// Returns the entry of the chunk of `depth` bits from the address `low` up to the address `next`, or to the end of all addresses.
 ///
 /// It is not split.
 fn chunk_at<K: Key, T: Copy, A: Allocator>(
@@ -178,7 +178,7 @@ fn chunk_with<K: Key, T: Copy, A: Allocator>(
     if alone {
         match line.value(first) {
             Some(value) => Chunk::Alone(true, value),
-            None => Chunk::Alone(false, line.filler()),
+            None => Chunk::Alone(false, line.placeholder()),
         }
     } else if let Some((rest, starts)) = bitmap_of(line, first, count, low, depth) {
         Chunk::Bitmap(rest, starts, first as u32)

@@ -1,4 +1,4 @@
-//! A division of the line of addresses with an index of it.
+//! A division of all addresses with an index of it.
 ghost use Rattle.std.specs.Prelude.{◌≡◌, ℕ, ◌^◌, ◌<◌, ◌≤◌, IfErr, IfOk, None, Option, length, slice_index_or};
 ghost use Rattle.prefix_trie_bits.specs.Model.Bits.{number};
 ghost use Rattle.prefix_trie_bits.specs.declared.prefix.Refusal.TheVariants.{IndexRange};

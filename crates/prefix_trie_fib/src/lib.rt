@@ -1,14 +1,12 @@
 //! Longest-prefix match of addresses in a table that does not change.
 #![tactic(auto)]
 
-pub mod addresses;
 mod compact;
 mod copies;
 mod fib;
 mod index;
 mod indexed;
 pub mod laws;
-pub mod networks;
 mod ranges;
 // a Poptrie of the same ranges, to which `Fib` will move
 mod table;

@@ -6,7 +6,6 @@ ghost use Rattle.prefix_trie_fib.specs.Search.{IsRangeOf};
 
 mod build;
 mod direct;
-mod first_bits;
 mod leaf;
 mod next;
 mod node;

@@ -1,4 +1,4 @@
-//! Empty maps, networks at both ends of the line, keys of other widths, and a chunk with many ranges.
+//! Empty maps, the first and the last addresses, keys of other widths, and a chunk with many ranges.
 use crate::tables::{agrees, agrees_at, keys_of, map_of, put};
 use prefix_trie::{Prefix, PrefixMap, Refusal};
 use prefix_trie_fib::Fib;
@@ -163,7 +163,7 @@ static BYTES: [(u8, u8); 3] = [(0, 1), (0x40, 2), (0xff, 8)];
 static BYTE_ADDRESSES: [u8; 5] = [0, 0x3f, 0x40, 0x80, 0xff];
 
 #[test]
-fn ends_of_the_line_agree(rt: HostRuntime) {
+fn first_and_last_addresses_agree(rt: HostRuntime) {
     let alloc = rt.alloc();
     assert!(rt; is_right::<(u32, u8)>(&[], &ADDRESSES, alloc) == Ok(true));
     assert!(rt; is_right(&WHOLE, &ADDRESSES, alloc) == Ok(true));

@@ -2,8 +2,6 @@
 #![tactic(auto)]
 
 #[cfg(test)]
-mod addresses;
-#[cfg(test)]
 mod comparing;
 #[cfg(test)]
 mod edges;
@@ -13,8 +11,6 @@ mod every_map;
 mod examples;
 #[cfg(test)]
 mod networks;
-#[cfg(test)]
-mod ranges;
 #[cfg(test)]
 mod refusals;
 #[cfg(test)]

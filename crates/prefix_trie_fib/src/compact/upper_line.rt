@@ -20,7 +20,7 @@ pub(super) fn upper_line<K: Key, T: Copy, A: Allocator, B: Allocator + Clone>(
     if K::width() <= 64 {
         return Ok(None);
     }
-    let mut upper = Line::new(line.filler(), alloc.clone()?, alloc);
+    let mut upper = Line::new(line.placeholder(), alloc.clone()?, alloc);
     for i in 0..line.len() {
         let start = line.start(i);
         if !is_upper(start) {

@@ -1,19 +1,19 @@
 //! The last address of a range.
 ghost use Rattle.std.specs.Prelude.{◌≡◌, ◌+◌, ◌^◌, ◌<◌, ◌≤◌, ◌⊎◌};
 ghost use Rattle.prefix_trie_bits.specs.Model.Bits.{number};
-ghost use Rattle.prefix_trie_fib.specs.Networks.{end_of};
+ghost use Rattle.prefix_trie_fib.specs.Line.{end_of};
 
-use crate::networks::is_within;
+use crate::ranges::is_within;
 use prefix_trie_bits::prefix::Key;
 
 /// Returns the last address of a range that begins at `first` and ends before `past`.
 ///
-/// `None` is the end of the line. The search takes a step for each bit of an address.
+/// `None` is the end of all addresses. The search takes a step for each bit of an address.
 pub(super) fn last_address<K: Key>(first: K, past: Option<K>) -> K
     requires { number (K.bits first) < end_of K.bit_width K.bits past }
     ensures { number (K.bits result) + 1 ≡ end_of K.bit_width K.bits past }
 {
-    // The proof learns from it that the range ends by the end of the line.
+    // The proof learns from it that the range ends by the end of all addresses.
     let _ = is_within(past, None);
     let mut last = first;
     let mut exponent = K::width();

@@ -97,7 +97,7 @@ fn are_starts<K: Key, T: Copy, A: Allocator>(
     true
 }
 
-/// Returns whether each address from `at` up to the address `next`, or to the end of the line, is in a range.
+/// Returns whether each address from `at` up to the address `next`, or to the end of all addresses, is in a range.
 fn is_alone<K: Key, T: Copy, A: Allocator>(
     line: &Line<K, T, A>,
     range: usize,

@@ -71,9 +71,9 @@ impl<T: Copy> Chunk<T> {
 
     /// Returns the value of the chunk if it has one range, and this range has a value.
     ///
-    /// `filler` is any value. With it, the function compiles to selects, and no branch waits for the entry.
+    /// `placeholder` is any value. With it, the function compiles to selects, and no branch waits for the entry.
     #[inline(always)]
-    pub(crate) fn alone(self, filler: T) -> Option<T>
+    pub(crate) fn alone(self, placeholder: T) -> Option<T>
         ensures { result ≡ value_alone self }
     {
         let (valued, value) = match self {
@@ -82,7 +82,7 @@ impl<T: Copy> Chunk<T> {
             | Chunk::Full(_, _)
             | Chunk::Several(_, _)
             | Chunk::Many(_)
-            | Chunk::Split(_, _) => (false, filler),
+            | Chunk::Split(_, _) => (false, placeholder),
         };
         valued.then_some(value)
     }

@@ -154,12 +154,12 @@ impl<K: Key, T: Copy, A: Allocator> Indexed<K, T, A> {
         ensures few { listed.new.count ≤ 128 }
         ensures length { length out.new ≡ length out.old }
     {
-        let filler = self.line.filler();
+        let placeholder = self.line.placeholder();
         // A local variable is kept in a register.
         let mut count = 0;
         for i in 0..addresses.len() {
             let entry = entries[i];
-            out[from + i] = entry.alone(filler);
+            out[from + i] = entry.alone(placeholder);
             listed.places[count] = i as u8;
             count += usize::from(!entry.is_alone());
         }

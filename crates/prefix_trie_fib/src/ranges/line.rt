@@ -1,4 +1,4 @@
-//! A division of the line of addresses into ranges.
+//! A division of all addresses into ranges.
 ghost use Rattle.std.specs.Prelude.{◌≡◌, ℕ, ◌<◌, ◌++◌, ◌∷◌, [], IfOk, Option, OnErr, OnOk, Some, is_some, length, slice_index_or, true};
 ghost use Rattle.prefix_trie_bits.specs.Model.Bits.{number};
 
@@ -10,12 +10,12 @@ use std::marker::Model;
 
 /// Ranges of addresses in order, each with its first address, and with a value or none.
 ///
-/// A pair has no tag: a range without a value keeps `filler` in its place, and is marked in `gaps`.
+/// A pair has no tag: a range without a value keeps `placeholder` in its place, and is marked in `gaps`.
 #[derive(Drop)]
 pub(crate) struct Line<K: Key, T: Copy, A: Allocator> {
     pairs: Vec<(K, T), A>,
     gaps: Vec<u32, A>,
-    filler: T,
+    placeholder: T,
 }
 
 // a contract sees the first address of each range, as a number, and its value
@@ -33,14 +33,14 @@ impl<K: Key, T: Copy, A: Allocator> Model for Line<K, T, A> {
 }
 
 impl<K: Key, T: Copy, A: Allocator> Line<K, T, A> {
-    /// Creates a line with no range. Ranges without a value keep `filler` in its place.
-    pub(crate) fn new(filler: T, alloc: A, gaps_alloc: A) -> Self
+    /// Creates a line with no range. Ranges without a value keep `placeholder` in its place.
+    pub(crate) fn new(placeholder: T, alloc: A, gaps_alloc: A) -> Self
         ensures { result ≡ [] }
     {
         Line {
             pairs: Vec::new(alloc),
             gaps: Vec::new(gaps_alloc),
-            filler,
+            placeholder,
         }
     }
 
@@ -51,7 +51,7 @@ impl<K: Key, T: Copy, A: Allocator> Line<K, T, A> {
     {
         let place = self.pairs.len();
         reach(&mut self.gaps, place)?;
-        self.pairs.push((start, value.unwrap_or(self.filler)))?;
+        self.pairs.push((start, value.unwrap_or(self.placeholder)))?;
         if value.is_none() {
             mark(&mut self.gaps, place);
         }
@@ -67,8 +67,8 @@ impl<K: Key, T: Copy, A: Allocator> Line<K, T, A> {
     }
 
     /// Returns what ranges without a value keep in its place.
-    pub(crate) fn filler(&self) -> T {
-        self.filler
+    pub(crate) fn placeholder(&self) -> T {
+        self.placeholder
     }
 
     /// Returns the number of ranges.
@@ -126,7 +126,7 @@ impl<K: Key, T: Copy, A: Allocator + Clone> Line<K, T, A> {
         Ok(Line {
             pairs,
             gaps,
-            filler: self.filler,
+            placeholder: self.placeholder,
         })
     }
 }

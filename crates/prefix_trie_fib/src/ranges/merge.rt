@@ -1,42 +1,11 @@
-//! The ranges between cuts.
-ghost use Rattle.std.specs.Prelude.{◌≡◌, ℕ, ◌-◌, ◌^◌, ◌<◌, ◌++◌, ◌∷◌, [], ◌⊎◌, Bool, Contains, List, None, IfOk, slice_index_or, Option, OnOk, length, true, false};
+//! Ranges that touch and have one value.
+ghost use Rattle.std.specs.Prelude.{◌≡◌, ℕ, ◌-◌, ◌<◌, ◌++◌, ◌∷◌, [], ◌⊎◌, OnOk, Option, false, length, slice_index_or, true};
 ghost use Rattle.prefix_trie_bits.specs.Model.Bits.{number};
-ghost use Rattle.prefix_trie_fib.specs.Line.{AreMerged, AreValuesAt, IsDivision, IsRising, IsSteady, StartBelow, are_same, numbers, value_along};
+ghost use Rattle.prefix_trie_fib.specs.Line.{are_same};
 
 use super::Line;
 use prefix_trie_bits::prefix::Key;
 use std::alloc::{AllocError, Allocator};
-
-/// Returns the ranges between cuts, as few as there are: neighbours have different values.
-///
-/// Requires that the cuts rise and begin with 0, and that each has a value. `filler` is kept in the place of a missing value.
-pub(crate) fn line_of<K: Key, T: Copy + PartialEq, B: Allocator + Clone>(
-    cuts: &[K],
-    values: &[Option<T>],
-    filler: T,
-    alloc: B,
-) -> Result<Line<K, T, B>, AllocError>
-    requires rising { IsRising (numbers K.bits cuts.now) }
-    requires from_zero { Contains (numbers K.bits cuts.now) 0 }
-    requires same_length { length values.now ≡ length cuts.now }
-    ensures division { IfOk result (λ line. IsDivision line) }
-    ensures merged { IfOk result (λ line. AreMerged (are_same T.PartialEq.eq) line) }
-    ensures below { IfOk result (λ line. StartBelow (2 ^ K.bit_width) line) }
-    // Values that `==` calls equal are the same.
-    ensures values { IfOk result (λ line. (of : List Bool → Option T)
-        → IsSteady K.bit_width (numbers K.bits cuts.now) of
-        → AreValuesAt K.bits of cuts.now values.now
-        → ((x y : T) → T.PartialEq.eq x y ≡ true → x ≡ y)
-        → (q : List Bool) → length q ≡ K.bit_width
-        → value_along None line (number q) ≡ of q) }
-{
-    let mut line = Line::new(filler, alloc.clone()?, alloc);
-    for i in 0..cuts.len() {
-        let _ = cuts[i].is_key();
-        add_range(&mut line, cuts[i], values[i])?;
-    }
-    Ok(line)
-}
 
 /// Appends a range, unless the last one has the same value.
 pub(super) fn add_range<K: Key, T: Copy + PartialEq, B: Allocator>(

@@ -4,7 +4,7 @@ ghost use Rattle.prefix_trie_fib.specs.Line.{value_of};
 ghost use Rattle.prefix_trie_fib.specs.Tables.{IsTableOf};
 
 use super::Line;
-use super::cuts::ends_of;
+use super::ends::ends_of;
 use super::sweep::Sweep;
 use prefix_trie_bits::laws::listing_laws;
 use prefix_trie_bits::prefix::Prefix;
@@ -21,10 +21,10 @@ pub(crate) fn some_value<P: Prefix, T: Copy, A: Allocator>(map: &PrefixMap<P, T,
 
 /// Returns the table of a map: its ranges, neighbours with one value merged.
 ///
-/// `filler` is kept in the place of a missing value.
+/// `placeholder` is kept in the place of a missing value.
 pub(crate) fn ranges_of<P: Prefix, T: Copy + PartialEq, A: Allocator, B: Allocator + Clone>(
     map: &PrefixMap<P, T, A>,
-    filler: T,
+    placeholder: T,
     alloc: B,
 ) -> Result<Line<P::R, T, B>, AllocError>
     ensures { IfOk result
@@ -33,7 +33,7 @@ pub(crate) fn ranges_of<P: Prefix, T: Copy + PartialEq, A: Allocator, B: Allocat
     listed_laws::<P, T>();
     listing_laws::<T>();
     walk_laws::<P, T>();
-    let line = Line::new(filler, alloc.clone()?, alloc.clone()?);
+    let line = Line::new(placeholder, alloc.clone()?, alloc.clone()?);
     let mut sweep = Sweep::new(line, alloc);
     for (prefix, value) in map.iter() {
         let (first, past) = ends_of(&prefix);

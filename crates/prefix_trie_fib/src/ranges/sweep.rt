@@ -1,28 +1,28 @@
-//! The ranges of networks, by one walk along the line of addresses.
+//! The ranges of networks, by one walk in the order of addresses.
 ghost use Rattle.std.specs.Prelude.{◌≡◌, ℕ, ◌^◌, ◌≤◌, ◌++◌, ◌∷◌, [], IfOk, MatchOption, None, Option, OnOk};
 ghost use Rattle.prefix_trie_bits.specs.Model.Bits.{number};
-ghost use Rattle.prefix_trie_fib.specs.Networks.{end_of};
-ghost use Rattle.prefix_trie_fib.specs.Sweep.{IsDoneTo, IsSweep, with_stretch};
+ghost use Rattle.prefix_trie_fib.specs.Line.{end_of};
+ghost use Rattle.prefix_trie_fib.specs.Sweep.{IsDoneTo, IsSweep, with_interval};
 
 use super::Line;
+use super::ends::is_within;
 use super::merge::add_range;
 use super::search::is_at_most;
-use crate::networks::is_within;
 use prefix_trie_bits::prefix::Key;
 use std::alloc::{AllocError, Allocator};
 
-/// The address where a stretch ends, or `None` for the end of the line, and the value of its addresses.
-type Stretch<K, T> = (Option<K>, Option<T>);
+/// The address where an interval ends, or `None` for the end of all addresses, and the value of its addresses.
+type Interval<K, T> = (Option<K>, Option<T>);
 
-/// The ranges before an address, and the stretches that reach beyond it.
+/// The ranges before an address, and the intervals that reach beyond it.
 ///
-/// A later stretch is within those before it.
+/// A later interval is within those before it.
 #[derive(Drop)]
 pub(super) struct Sweep<K: Key, T: Copy + PartialEq, A: Allocator> {
     line: Line<K, T, A>,
     at: K,
-    outer: Vec<Stretch<K, T>, A>,
-    inner: Stretch<K, T>,
+    outer: Vec<Interval<K, T>, A>,
+    inner: Interval<K, T>,
 }
 
 impl<K: Key, T: Copy + PartialEq, A: Allocator> Sweep<K, T, A> {
@@ -50,7 +50,7 @@ impl<K: Key, T: Copy + PartialEq, A: Allocator> Sweep<K, T, A> {
             → IsSweep K.bit_width K.bits T.PartialEq.eq of self.old.line self.old.at
             (self.old.outer.items ++ self.old.inner ∷ [])
             → IsSweep K.bit_width K.bits T.PartialEq.eq
-            (with_stretch (number (K.bits first)) (end_of K.bit_width K.bits past) value of)
+            (with_interval (number (K.bits first)) (end_of K.bit_width K.bits past) value of)
             self.new.line self.new.at (self.new.outer.items ++ self.new.inner ∷ [])) }
         ensures there { OnOk result (number (K.bits self.new.at) ≡ number (K.bits first)) }
     {
@@ -61,7 +61,7 @@ impl<K: Key, T: Copy + PartialEq, A: Allocator> Sweep<K, T, A> {
         Ok(())
     }
 
-    /// Returns the ranges of the whole line.
+    /// Returns the ranges of all addresses.
     pub(super) fn finish(mut self) -> Result<Line<K, T, A>, AllocError>
         ensures { IfOk result (λ line. (of : ℕ → Option T)
             → IsSweep K.bit_width K.bits T.PartialEq.eq of self.line self.at
@@ -69,13 +69,13 @@ impl<K: Key, T: Copy + PartialEq, A: Allocator> Sweep<K, T, A> {
             → IsDoneTo (2 ^ K.bit_width) T.PartialEq.eq of line (2 ^ K.bit_width)) }
     {
         self.close_by(None)?;
-        // The proof learns from it that the address is on the line.
+        // The proof learns from it that the address is a key.
         let _ = self.at.is_key();
         add_range(&mut self.line, self.at, self.inner.1)?;
         Ok(self.line)
     }
 
-    /// Closes the inner stretches that end by an address, or by the end of the line.
+    /// Closes the inner intervals that end by an address, or by the end of all addresses.
     fn close_by(&mut self, to: Option<K>) -> Result<(), AllocError>
         ensures swept { OnOk result ((of : ℕ → Option T)
             → IsSweep K.bit_width K.bits T.PartialEq.eq of self.old.line self.old.at
@@ -94,7 +94,7 @@ impl<K: Key, T: Copy + PartialEq, A: Allocator> Sweep<K, T, A> {
         Ok(())
     }
 
-    /// Appends the range of the addresses before `to` that are not done. They have the value of the inner stretch.
+    /// Appends the range of the addresses before `to` that are not done. They have the value of the inner interval.
     fn go_to(&mut self, to: K) -> Result<(), AllocError>
         requires { number (K.bits to) ≤ end_of K.bit_width K.bits self.old.inner.0 }
         ensures swept { OnOk result ((of : ℕ → Option T)
@@ -117,13 +117,13 @@ impl<K: Key, T: Copy + PartialEq, A: Allocator> Sweep<K, T, A> {
     }
 }
 
-/// Returns where a stretch ends, if that is not after an address.
+/// Returns where an interval ends, if that is not after an address.
 fn end_by<K: Key>(end: Option<K>, to: Option<K>) -> Option<K>
     ensures { MatchOption result (end_of K.bit_width K.bits to ≤ end_of K.bit_width K.bits end)
         (λ last. (end ≡ Some last)
         × (number (K.bits last) ≤ end_of K.bit_width K.bits to)) }
 {
-    // The proof learns from it that `to` is on the line.
+    // The proof learns from it that `to` is not after all addresses.
     let _ = is_within(to, end);
     if is_within(end, to) { end } else { None }
 }

@@ -5,7 +5,7 @@ use Rattle.prefix_trie_bits.specs.BitStrings.{number-below}
 use Rattle.prefix_trie_bits.specs.Model.Bits.{number}
 use Rattle.prefix_trie_fib.specs.Index.{IsIndex}
 use Rattle.prefix_trie_fib.specs.Search.{StartsBy}
-use Rattle.prefix_trie_fib.proofs.CutIntervals.{number_zeros}
+use Rattle.prefix_trie_fib.proofs.NetworkIntervals.{number_zeros}
 use Rattle.prefix_trie_fib.proofs.Entries.{if_some, index_pushed, last_chunk, match_option, more_chunks, next_at, within_line}
 use Rattle.prefix_trie_fib.proofs.index.index_of.Goals as goal
 

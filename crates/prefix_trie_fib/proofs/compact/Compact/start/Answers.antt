@@ -3,7 +3,7 @@ use Rattle.std.proofs.Common.{◌≡◌, ◌∙◌, ◌<◌, ◌∷◌, [], ℕ,
 use Rattle.prefix_trie_bits.specs.BitStrings.{number_of_digits}
 use Rattle.prefix_trie_bits.specs.Model.Bits.{number}
 use Rattle.prefix_trie_fib.specs.Layouts.{ranges_in, widened}
-use Rattle.prefix_trie_fib.proofs.CutIntervals.{number_zeros}
+use Rattle.prefix_trie_fib.proofs.NetworkIntervals.{number_zeros}
 use Rattle.prefix_trie_fib.proofs.Layouts.{widened_start}
 use Rattle.prefix_trie_fib.proofs.compact.Compact.start.Goals as goal
 

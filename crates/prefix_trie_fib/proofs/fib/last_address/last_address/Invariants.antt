@@ -1,7 +1,7 @@
 -- The invariant: the last address is above the one found so far by less than a power of two. Its exponent falls.
 use Rattle.std.proofs.Common.{◌+◌, ◌^◌, ◌<◌, ◌≤◌}
 use Rattle.prefix_trie_bits.specs.Model.Bits.{number}
-use Rattle.prefix_trie_fib.specs.Networks.{end_of}
+use Rattle.prefix_trie_fib.specs.Line.{end_of}
 use Rattle.prefix_trie_fib.proofs.fib.last_address.last_address.Given as goal
 
 abbrev pub invariant-loop-exponent : goal.invariant-loop-exponent

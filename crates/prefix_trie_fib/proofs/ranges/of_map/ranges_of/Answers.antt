@@ -1,4 +1,4 @@
--- Each network read adds its stretch, and at the end the line has the value of each longest match.
+-- Each network read adds its interval, and at the end the line has the value of each longest match.
 use Rattle.std.proofs.Common.{◌≡◌, ◌∙◌, ◌^◌, ◌≤◌, [], ◌∷◌, ◌++◌, filter, is_some, ap, sym, subst, arith, refl, pow_pos}
 use Rattle.std.specs.Option.{MatchOption, option_map}
 use Rattle.prefix_trie_bits.specs.BitStrings.{bits-number, number-below}
@@ -6,9 +6,8 @@ use Rattle.prefix_trie_bits.specs.Keys.{path_back}
 use Rattle.prefix_trie_bits.specs.Model.Bits.{begins, digits, number}
 use Rattle.prefix_trie_bits.specs.Model.Matches.{last_item}
 use Rattle.prefix_trie_bits.specs.Model.Selections.{listing}
-use Rattle.prefix_trie_fib.specs.Line.{first_address, past_address}
-use Rattle.prefix_trie_fib.specs.Networks.{end_of}
-use Rattle.prefix_trie_fib.specs.Sweep.{with_stretch}
+use Rattle.prefix_trie_fib.specs.Line.{end_of, first_address, past_address}
+use Rattle.prefix_trie_fib.specs.Sweep.{with_interval}
 use Rattle.prefix_trie_fib.proofs.Sweeps.{IsReading, read_all, read_is, read_next, swept_as, value_read}
 use Rattle.prefix_trie_fib.proofs.ranges.of_map.ranges_of.Goals as goal
 
@@ -56,12 +55,12 @@ loop-prefix-preserved g c =
         read ++ next.entry ∷ [],
         next.rest,
         subst (IsReading w g.P.Prefix.back m (read ++ next.entry ∷ []) next.rest c.next.new.self) (sym (c.in_ok-add.ensures.there ∙ first)) next.reading,
-        swept_as (2 ^ w) g.T.PartialEq.eq (with_stretch (number (g.P.R.Key.bits c.ends_of-first.result.0)) (end_of w g.P.R.Key.bits c.ends_of-first.result.1) c.in-Some.value.now (λ n. value_read read (digits w n))) (λ n. value_read (read ++ next.entry ∷ []) (digits w n))
+        swept_as (2 ^ w) g.T.PartialEq.eq (with_interval (number (g.P.R.Key.bits c.ends_of-first.result.0)) (end_of w g.P.R.Key.bits c.ends_of-first.result.1) c.in-Some.value.now (λ n. value_read read (digits w n))) (λ n. value_read (read ++ next.entry ∷ []) (digits w n))
             c.add.new.self.line (number (g.P.R.Key.bits c.add.new.self.at)) _
             (λ n low.
             read_is w g.P.R.Key.bits read next.entry (number (g.P.R.Key.bits c.ends_of-first.result.0)) c.ends_of-first.result.1 next.fits first
             (subst (λ s. MatchOption c.ends_of-first.result.1 (2 ^ w ≤ past_address w s) (λ k. number (g.P.R.Key.bits k) ≡ past_address w s)) path c.ends_of-first.ensures.past) n low
-            ∙ ap (λ v. with_stretch (number (g.P.R.Key.bits c.ends_of-first.result.0)) (end_of w g.P.R.Key.bits c.ends_of-first.result.1) v (λ n. value_read read (digits w n)) n) (ap (λ x. x.1) next.is))
+            ∙ ap (λ v. with_interval (number (g.P.R.Key.bits c.ends_of-first.result.0)) (end_of w g.P.R.Key.bits c.ends_of-first.result.1) v (λ n. value_read read (digits w n)) n) (ap (λ x. x.1) next.is))
             (c.in_ok-add.ensures.swept (λ n. value_read read (digits w n)) swept),
       ),
     )

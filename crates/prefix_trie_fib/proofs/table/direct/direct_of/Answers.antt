@@ -1,10 +1,10 @@
 -- Each slot is right when it is made, and stays so.
-use Rattle.std.proofs.Common.{◌≡◌, ◌∙◌, ◌+◌, ◌-◌, ◌*◌, ◌^◌, ◌%◌, ◌<◌, ◌≤◌, ℕ, None, ap, arith, max, pow_mono, subst}
+use Rattle.std.proofs.Common.{◌≡◌, ◌∙◌, ◌-◌, ◌*◌, ◌^◌, ◌%◌, ◌<◌, ◌≤◌, ℕ, None, ap, arith, max, pow_mono, subst}
 use Rattle.prefix_trie_bits.specs.Model.Bits.{number}
 use Rattle.prefix_trie_fib.specs.Line.{is_start, value_along}
 use Rattle.prefix_trie_fib.specs.Poptrie.{IsSlot, levels, past}
 use Rattle.prefix_trie_fib.proofs.Direct.{compile_begins, compile_slot, next_low, slot_block, slot_first}
-use Rattle.prefix_trie_fib.proofs.CutIntervals.{number_zeros}
+use Rattle.prefix_trie_fib.proofs.NetworkIntervals.{number_zeros}
 use Rattle.prefix_trie_fib.proofs.table.direct.direct_of.Goals as goal
 
 pub loop-s-init : goal.loop-s-init

@@ -19,7 +19,7 @@ returns-then-is_none-clause-pushed g c =
     (λ k lt.
     let other : k ≢ c.len-place.result = omega (arith, lt, place) in
     ap (λ ws. is_marked ws k) words_are ∙ c.mark.ensures.marks.others k other ∙ ap (λ ws. is_marked ws k) c.deref_mut.ensures.value ∙ c.reach.ensures.unchanged k)
-    (ap (λ b. cond b None (Some c.unwrap_or.result)) gap ∙ ap (λ v. cond true None (Some v)) c.unwrap_or.ensures ∙ value_kept c.args.value c.self.inside.filler true c.if-is_none.ensures)
+    (ap (λ b. cond b None (Some c.unwrap_or.result)) gap ∙ ap (λ v. cond true None (Some v)) c.unwrap_or.ensures ∙ value_kept c.args.value c.self.inside.placeholder true c.if-is_none.ensures)
     ∙ ap (λ rs. rs ++ (number (g.K.Key.bits c.args.start), c.args.value) ∷ []) c.self.view_is
 
 pub returns-else-is_none-clause-pushed : goal.returns-else-is_none-clause-pushed
@@ -31,5 +31,5 @@ returns-else-is_none-clause-pushed g c =
     let no_gap : is_marked words (length pairs) ≡ false = c.reach.ensures.marks.clear (length pairs) (omega (arith, place)) in
     range_pushed (λ k. number (g.K.Key.bits k)) (is_marked gaps) (is_marked words) pairs c.push.new.self.items (c.args.start, c.unwrap_or.result) c.args.value c.in_ok-push.ensures.items
     (λ k lt. c.reach.ensures.unchanged k)
-    (ap (λ b. cond b None (Some c.unwrap_or.result)) no_gap ∙ ap (λ v. cond false None (Some v)) c.unwrap_or.ensures ∙ value_kept c.args.value c.self.inside.filler false c.if-is_none.ensures)
+    (ap (λ b. cond b None (Some c.unwrap_or.result)) no_gap ∙ ap (λ v. cond false None (Some v)) c.unwrap_or.ensures ∙ value_kept c.args.value c.self.inside.placeholder false c.if-is_none.ensures)
     ∙ ap (λ rs. rs ++ (number (g.K.Key.bits c.args.start), c.args.value) ∷ []) c.self.view_is

@@ -1,8 +1,8 @@
--- Each stretch that ends by the address closes in its turn.
+-- Each interval that ends by the address closes in its turn.
 use Rattle.std.proofs.Common.{◌∙◌, ◌+◌, ◌^◌, ◌<◌, ◌++◌, ◌∷◌, [], ap, arith, length, map, rules, subst, sym}
 use Rattle.std.specs.Option.{option_to_list}
 use Rattle.prefix_trie_bits.specs.Model.Bits.{number}
-use Rattle.prefix_trie_fib.specs.Networks.{end_of}
+use Rattle.prefix_trie_fib.specs.Line.{end_of}
 use Rattle.prefix_trie_fib.specs.Sweep.{IsSweptTo}
 use Rattle.prefix_trie_fib.proofs.Sweeps.{sweep_closed, sweep_smaller}
 use Rattle.prefix_trie_fib.proofs.ranges.sweep.Sweep.close_by.Goals as goal

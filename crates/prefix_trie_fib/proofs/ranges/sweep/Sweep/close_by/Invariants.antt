@@ -2,7 +2,7 @@
 use Rattle.std.proofs.Common.{ℕ, ◌+◌, ◌≤◌, ◌++◌, ◌∷◌, [], Option, length}
 use Rattle.std.specs.Option.{option_to_list}
 use Rattle.prefix_trie_bits.specs.Model.Bits.{number}
-use Rattle.prefix_trie_fib.specs.Networks.{end_of}
+use Rattle.prefix_trie_fib.specs.Line.{end_of}
 use Rattle.prefix_trie_fib.specs.Sweep.{IsSweep}
 use Rattle.prefix_trie_fib.proofs.ranges.sweep.Sweep.close_by.Given as goal
 

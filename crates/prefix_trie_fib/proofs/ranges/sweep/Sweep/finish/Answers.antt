@@ -1,9 +1,9 @@
--- The last range goes on to the end of the line.
+-- The last range goes on to the end of all addresses.
 use Rattle.std.proofs.Common.{◌^◌, ◌∷◌, [], Option, map, subst}
 use Rattle.std.proofs.lemmas.List.{map-append}
 use Rattle.prefix_trie_bits.specs.BitStrings.{number-below}
 use Rattle.prefix_trie_bits.specs.Model.Bits.{number}
-use Rattle.prefix_trie_fib.specs.Networks.{end_of}
+use Rattle.prefix_trie_fib.specs.Line.{end_of}
 use Rattle.prefix_trie_fib.specs.Sweep.{IsSweptTo}
 use Rattle.prefix_trie_fib.proofs.Sweeps.{swept_all}
 use Rattle.prefix_trie_fib.proofs.ranges.sweep.Sweep.finish.Goals as goal

@@ -1,8 +1,8 @@
--- The numbers before `to` have the value of the inner stretch.
+-- The numbers before `to` have the value of the inner interval.
 use Rattle.std.proofs.Common.{◌^◌, ◌∷◌, [], Option, map, subst, sym}
 use Rattle.std.proofs.lemmas.List.{map-append}
 use Rattle.prefix_trie_bits.specs.Model.Bits.{number}
-use Rattle.prefix_trie_fib.specs.Networks.{end_of}
+use Rattle.prefix_trie_fib.specs.Line.{end_of}
 use Rattle.prefix_trie_fib.specs.Sweep.{IsSweptTo}
 use Rattle.prefix_trie_fib.proofs.Sweeps.{swept_to}
 use Rattle.prefix_trie_fib.proofs.ranges.sweep.Sweep.go_to.Goals as goal

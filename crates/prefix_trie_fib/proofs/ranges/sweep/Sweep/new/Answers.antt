@@ -1,9 +1,9 @@
 -- At first nothing is swept, and no number has a value.
 use Rattle.std.proofs.Common.{◌∙◌, ◌^◌, ◌++◌, ◌∷◌, [], None, ap, map, subst, sym}
 use Rattle.prefix_trie_bits.specs.Model.Bits.{number}
-use Rattle.prefix_trie_fib.specs.Networks.{end_of}
+use Rattle.prefix_trie_fib.specs.Line.{end_of}
 use Rattle.prefix_trie_fib.specs.Sweep.{IsSweptTo}
-use Rattle.prefix_trie_fib.proofs.CutIntervals.{number_zeros}
+use Rattle.prefix_trie_fib.proofs.NetworkIntervals.{number_zeros}
 use Rattle.prefix_trie_fib.proofs.Sweeps.{swept_first}
 use Rattle.prefix_trie_fib.proofs.ranges.sweep.Sweep.new.Goals as goal
 

@@ -1,13 +1,12 @@
--- Between two cuts, the same networks contain each address, so the longest match is the same.
-use Rattle.std.proofs.Common.{◌≡◌, ◌∙◌, ℕ, ◌+◌, ◌-◌, ◌*◌, ◌/◌, ◌^◌, ◌<◌, ◌≤◌, Bool, true, false, List, [], ◌∷◌, ◌++◌, length, take, drop, inl, inr, ap, ap₂, sym, subst, arith, length-append, take-append-drop, pow-add}
+-- A network has the addresses of an interval of numbers.
+use Rattle.std.proofs.Common.{◌≡◌, ◌∙◌, ℕ, ◌+◌, ◌-◌, ◌*◌, ◌/◌, ◌^◌, ◌<◌, ◌≤◌, Bool, true, false, List, [], ◌∷◌, ◌++◌, length, take, drop, ap, ap₂, sym, subst, arith, length-append, take-append-drop, pow-add}
 use Rattle.std.proofs.Math.Nat.{add-mul}
 use Rattle.std.proofs.lemmas.List.{length-take-le, length-drop, length-replicate}
-use Rattle.std.proofs.lemmas.Bool.{cases_lt}
 use Rattle.std.proofs.lemmas.Nat.{shr_high}
-use Rattle.prefix_trie_bits.specs.Begins.{same_bool, begins-rest, begins-from-take}
+use Rattle.prefix_trie_bits.specs.Begins.{begins-rest, begins-from-take}
 use Rattle.prefix_trie_bits.specs.BitStrings.{number-lt, same-from-number, number_of_digits, zero_bits}
 use Rattle.prefix_trie_bits.specs.Model.Bits.{bit, begins, number, zeros}
-use Rattle.prefix_trie_fib.specs.Line.{AreUncut, IsCutOut, first_address, past_address}
+use Rattle.prefix_trie_fib.specs.Line.{first_address, past_address}
 
 -- the number of a string in two parts
 pub number_parts : (s t : List Bool) → number (s ++ t) ≡ number s * 2 ^ length t + number t
@@ -55,26 +54,3 @@ module _ (w : ℕ) (s q : List Bool) (long : length q ≡ w) where
       let tops : number t ≡ number s =
       sym (shr_high (number t) (w - length s) (number r) small) ∙ ap (λ n. n / 2 ^ (w - length s)) (sym is ∙ is') ∙ shr_high (number s) (w - length s) (number q - first_address w s) rest in
       begins-from-take s q (length s) (same-from-number t s (length-take-le (length s) q (omega (arith, long, fits))) tops)
-
--- two addresses that no cut parts are in the same networks
-pub same_begins : (w : ℕ) (cuts : List ℕ) (s p q : List Bool) → length p ≡ w → length q ≡ w → length s ≤ w → IsCutOut w cuts s
-    → number p ≤ number q → AreUncut cuts (number p) (number q) → begins s p ≡ begins s q
-same_begins w cuts s p q lp lq fits cut le uncut =
-    same_bool _ _
-    (λ b.
-    let in_p = begins_within w s p lp b in
-    within_begins w s q lq fits (omega (arith, in_p.0, le))
-    (elim (cases_lt (number q) (past_address w s)) [
-      | inl lt ↦ lt
-      | inr ge ↦
-          let top : number q < 2 ^ w = subst (λ n. number q < 2 ^ n) lq (number-lt q) in
-          absurd (omega (arith, ge, uncut (past_address w s) (cut.past (omega (arith, ge, top))) in_p.1))
-    ]))
-    (λ b.
-    let in_q = begins_within w s q lq b in
-    within_begins w s p lp fits
-    (elim (cases_lt (number p) (first_address w s)) [
-      | inl lt ↦ absurd (omega (arith, in_q.0, uncut (first_address w s) cut.first lt))
-      | inr ge ↦ ge
-    ])
-    (omega (arith, in_q.1, le)))
