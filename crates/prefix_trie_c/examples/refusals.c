@@ -1,6 +1,6 @@
 /*
  * Each allocation refused once: the call says so, the table has the entries that it had, and the call succeeds when it
- * is made again. Linked with --wrap=malloc and --wrap=realloc.
+ * is made again. Each block is freed. Linked with --wrap=malloc, --wrap=realloc and --wrap=free.
  */
 #include <stdio.h>
 #include <stdlib.h>
@@ -9,6 +9,7 @@
 
 void *__real_malloc(size_t size);
 void *__real_realloc(void *block, size_t size);
+void __real_free(void *block);
 
 /* The allocation that is refused: the next one is number 1. 0 refuses none. */
 static unsigned long refused;
@@ -17,12 +18,24 @@ static int refuses(void) {
     return refused > 0 && --refused == 0;
 }
 
+/* The blocks that are allocated and not freed. */
+static long blocks;
+
 void *__wrap_malloc(size_t size) {
-    return refuses() ? NULL : __real_malloc(size);
+    void *made = refuses() ? NULL : __real_malloc(size);
+    blocks += made != NULL;
+    return made;
 }
 
 void *__wrap_realloc(void *block, size_t size) {
-    return refuses() ? NULL : __real_realloc(block, size);
+    void *made = refuses() ? NULL : __real_realloc(block, size);
+    blocks += block == NULL && made != NULL;
+    return made;
+}
+
+void __wrap_free(void *block) {
+    blocks -= block != NULL;
+    __real_free(block);
 }
 
 #define COUNT 200
@@ -42,7 +55,7 @@ static void must(int holds, const char *what, unsigned long n, uint32_t i) {
 }
 
 /* Whether the table has the first networks and no others. */
-static int holds_first(prefix_trie *table, uint32_t networks, size_t count) {
+static int holds_first(const prefix_trie *table, uint32_t networks, size_t count) {
     uint64_t value = 0;
     size_t len4, len6;
     for (uint32_t i = 0; i < COUNT; i++) {
@@ -56,38 +69,38 @@ static int holds_first(prefix_trie *table, uint32_t networks, size_t count) {
 
 /* Fills a table while the n-th allocation is refused, and returns how many calls were refused. */
 static int fill(unsigned long n) {
-    prefix_trie table = PREFIX_TRIE_EMPTY;
+    prefix_trie *table;
     int met = 0;
     size_t before, count = 0;
     uint32_t code;
     refused = n;
-    code = prefix_trie_new(&table);
-    if (code == PREFIX_TRIE_MEMORY) {
+    table = prefix_trie_new();
+    if (table == NULL) {
         met++;
-        must(table.table == NULL, "the handle is not empty", n, 0);
-        code = prefix_trie_new(&table);
+        table = prefix_trie_new();
     }
-    must(code == PREFIX_TRIE_DONE, "no table", n, 0);
+    must(table != NULL, "no table", n, 0);
     for (uint32_t i = 0; i < COUNT; i++) {
-        prefix_trie_v4_len(&table, &before);
-        code = prefix_trie_v4_insert(&table, address(i), length(i), i);
+        prefix_trie_v4_len(table, &before);
+        code = prefix_trie_v4_insert(table, address(i), length(i), i);
         if (code == PREFIX_TRIE_MEMORY) {
             met++;
-            must(holds_first(&table, i, before), "an IPv4 insertion changed entries", n, i);
-            code = prefix_trie_v4_insert(&table, address(i), length(i), i);
+            must(holds_first(table, i, before), "an IPv4 insertion changed entries", n, i);
+            code = prefix_trie_v4_insert(table, address(i), length(i), i);
         }
         must(code == PREFIX_TRIE_DONE, "an IPv4 insertion failed twice", n, i);
-        prefix_trie_v4_len(&table, &count);
-        code = prefix_trie_v6_insert(&table, address(i), 0, 64, i);
+        prefix_trie_v4_len(table, &count);
+        code = prefix_trie_v6_insert(table, address(i), 0, 64, i);
         if (code == PREFIX_TRIE_MEMORY) {
             met++;
-            must(holds_first(&table, i, count), "an IPv6 insertion changed entries", n, i);
-            code = prefix_trie_v6_insert(&table, address(i), 0, 64, i);
+            must(holds_first(table, i, count), "an IPv6 insertion changed entries", n, i);
+            code = prefix_trie_v6_insert(table, address(i), 0, 64, i);
         }
         must(code == PREFIX_TRIE_DONE, "an IPv6 insertion failed twice", n, i);
     }
-    must(holds_first(&table, COUNT, count), "the end", n, COUNT);
-    prefix_trie_free(&table);
+    must(holds_first(table, COUNT, count), "the end", n, COUNT);
+    prefix_trie_free(table);
+    must(blocks == 0, "a block is not freed", n, COUNT);
     return met;
 }
 

@@ -66,14 +66,14 @@ module _ {M : Type 1} {𝓤 : Ura M} {𝓛 : Logic 𝓤} {K : Type 0} {Γ : List
 module _ {M : Type 1} {𝓤 : Ura M} {𝓛 : Logic 𝓤} {K : Type 0} {Γ : List (Item 𝓤)} {G : Goal 𝓤 𝓛.H} where
   pub handle_out : K → (d : (handle.the_row).Denot) (vs : List Val)
       → ((h : Val) → d.tables ≡ None → vs ≡ both vnull h ∷ [] → Good (layout Z) h → Seq K 𝓛 (‵ (Z.own_val d.alloc (h ∷ [])) ∷ Γ) G)
-      → ((b o : ℕ) (y : R.Denot) (h : Val) → d.tables ≡ Some y → Testable (block_ptr b o) → vs ≡ both (vptr b o) h ∷ [] → Good (layout Z) h → Seq K 𝓛 (‵ (box_owns (ghosts.dealloc_token d.alloc) R (block_ptr b o) y) ∷ ‵ (Z.own_val d.alloc (h ∷ [])) ∷ Γ) G)
+      → ((b o : ℕ) (y : R.Denot) (h : Val) → d.tables ≡ Some y → d.at ≡ block_ptr b o → Testable (block_ptr b o) → vs ≡ both (vptr b o) h ∷ [] → Good (layout Z) h → Seq K 𝓛 (‵ (box_owns (ghosts.dealloc_token d.alloc) R (block_ptr b o) y) ∷ ‵ (Z.own_val d.alloc (h ∷ [])) ∷ Γ) G)
       → Seq K 𝓛 (‵ ((handle.the_row).own_val d vs) ∷ Γ) G
   handle_out t d vs none some =
       fsplit t $ fpick t (λ vss. fsplit t $ feq_l t (λ ev. fsplit t $ feq_l t (λ ep. fsplit t $ handle_tells al t d.alloc vss.1.0 (λ h ea fits. move t (1 ∷ []) $ drop t $ move t (1 ∷ []) $
       let is : (p : Ptr) → d.at ≡ p → vs ≡ vstruct (of_list (ptr_val p ∷ h ∷ [])) ∷ [] = λ p e.
       (subst (λ (p' : Ptr). vs ≡ vstruct (of_list (ptr_val p' ∷ h ∷ [])) ∷ []) e
       (subst (λ (ws : List Val). vs ≡ vstruct (of_list (ptr_val d.at ∷ (ws ++ []))) ∷ []) ea (subst (λ (ps : List Val). vs ≡ vstruct (of_list (ps ++ (vss.1.0 ++ []))) ∷ []) ep ev))) in
-      held_out t d.alloc d.at d.tables (λ n e. none h n (is null_ptr e) fits) (λ b o y s e u. some b o y h s u (is (block_ptr b o) e) fits)))))
+      held_out t d.alloc d.at d.tables (λ n e. none h n (is null_ptr e) fits) (λ b o y s e u. some b o y h s e u (is (block_ptr b o) e) fits)))))
 
   pub empty_in : K → (h : Val) (a : Z.Denot)
       → Step K 𝓛 (‵ ((handle.the_row).own_val (record { at = null_ptr; alloc = a; tables = None }) (both vnull h ∷ [])) ∷ Γ) G (‵ (Z.own_val a (h ∷ [])) ∷ Γ) G

@@ -1,10 +1,16 @@
 -- What the calls of the C interface return, and how they change a table.
-use Rattle.std.specs.Prelude.{◌≡◌, ℕ, ◌<◌, ◌≤◌, ◌⊎◌, Bool, List, Option, None, Some, MatchOption}
-use Rattle.prefix_trie.specs.Terms.{Entries, no_entries, with_entry}
+use Rattle.std.specs.Prelude.{◌≡◌, ℕ, ◌-◌, ◌^◌, ◌<◌, ◌≤◌, ◌==◌, ◌⊎◌, Bool, cond, List, Option, None, Some, MatchOption}
+use Rattle.std.specs.FinMap.{get}
+use Rattle.prefix_trie.specs.Terms.{Entries, no_entries, with_entry, without_entry, root_alone}
 use Rattle.prefix_trie_bits.specs.declared.prefix.Refusal.{Refusal}
 use Rattle.prefix_trie_bits.specs.declared.prefix.Refusal.TheVariants.{Memory, IndexRange}
+use Rattle.prefix_trie_bits.specs.Calls.Storage.{StepByPath}
+use Rattle.prefix_trie_bits.specs.Model.Blocks.{no_layout}
+use Rattle.prefix_trie_bits.specs.Model.Step.{Insert, Remove, Clear, Reply, Value, Done, Refused}
+use Rattle.prefix_trie_table.specs.Model.Contents.{Contents, stored_state}
+use Rattle.prefix_trie_c.specs.declared.handle.Handle.{Handle}
 use Rattle.prefix_trie_c.specs.declared.tables.Tables.{Tables}
-use Rattle.prefix_trie_c.specs.declared.codes.TheConstants.{DONE, MISSING, MEMORY, FULL, LENGTH, NO_TABLES}
+use Rattle.prefix_trie_c.specs.declared.codes.TheConstants.{DONE, MISSING, MEMORY, FULL, LENGTH, NULL}
 
 abbrev pub refusal_code : Refusal → ℕ
 refusal_code Memory = MEMORY
@@ -15,20 +21,50 @@ abbrev pub Gives : {X : Type 0} → Option X → ℕ → X → X → Type 0
 Gives None code old new = (code ≡ MISSING) × (new ≡ old)
 Gives (Some x) code old new = (code ≡ DONE) × (new ≡ x)
 
--- the entry is stored, or the code is that of a refusal and the entries are as before
-abbrev pub Inserts : List Bool → ℕ → Entries ℕ → Entries ℕ → ℕ → Type 0
-Inserts path value old new code = ((code ≡ DONE) × (new ≡ with_entry old path value)) ⊎ ((refusal : Refusal) × (code ≡ refusal_code refusal) × (new ≡ old))
+-- what an insertion returns in the model: the value before, or the refusal with this code
+abbrev pub insert_reply_of : Option ℕ → ℕ → Reply (List Bool) ℕ
+insert_reply_of before code = cond (code == DONE) (Value before) (Refused (cond (code == FULL) IndexRange Memory))
 
--- a call on the tables of a handle: F says how it changes them. A handle without tables stays empty
-abbrev pub OnTables : {X : Type 0} → Option X → Option X → ℕ → (X → X → Type 0) → Type 0
-OnTables None new code F = (code ≡ NO_TABLES) × (new ≡ None)
-OnTables (Some t) new code F = MatchOption new ⊥ (λ u. F t u)
+-- the entry is stored, or the network is new and refused, and the entries are as before
+abbrev pub SetsEntry : List Bool → ℕ → Entries ℕ → Entries ℕ → ℕ → Type 0
+SetsEntry path value old new code =
+    ((code ≡ DONE) × (new ≡ with_entry old path value))
+    ⊎ ((get old path ≡ None) × (refusal : Refusal) × (code ≡ refusal_code refusal) × (new ≡ old))
+
+-- an insertion into a map is a step of the model, of the storage too
+-- A network that is stored is never refused. FULL says that the missing blocks would exceed the slot limit, and MEMORY that a block is missing and would fit.
+abbrev pub Inserts : ℕ → List Bool → ℕ → Contents ℕ → Contents ℕ → ℕ → Type 0
+Inserts width path value old new code =
+    SetsEntry path value old.entries new.entries code
+    × StepByPath width (stored_state old) (Insert path value) (insert_reply_of (get old.entries path) code) (stored_state new)
+
+-- a removal from a map is a step of the model, of the storage too: the entry is removed, and the nodes on its path that no entry needs
+abbrev pub Removes : ℕ → List Bool → Contents ℕ → Contents ℕ → Type 0
+Removes width path old new =
+    (new.entries ≡ without_entry old.entries path)
+    × StepByPath width (stored_state old) (Remove path) (Value (get old.entries path)) (stored_state new)
+
+-- clearing a map is a step of the model, of the storage too: no entries, the root alone in its slot, and no blocks
+abbrev pub Clears : ℕ → Contents ℕ → Contents ℕ → Type 0
+Clears width old new =
+    (new.entries ≡ no_entries) × StepByPath width (stored_state old) Clear Done (stored_state new)
+
+-- a call on the tables of a handle: F says how it changes them, and they stay in their place. A handle without tables stays empty
+abbrev pub OnTables : Handle → Handle → ℕ → (Tables → Tables → Type 0) → Type 0
+OnTables old new code F =
+    MatchOption old.tables ((code ≡ NULL) × (new.tables ≡ None)) (λ t. MatchOption new.tables ⊥ (λ u. F t u × (new.at ≡ old.at)))
 
 -- the same for a call that is passed a length: one above the width changes nothing
-abbrev pub OnPrefix : {X : Type 0} → ℕ → ℕ → Option X → Option X → ℕ → (X → X → Type 0) → Type 0
+abbrev pub OnPrefix : ℕ → ℕ → Handle → Handle → ℕ → (Tables → Tables → Type 0) → Type 0
 OnPrefix width length old new code F = (width < length → (code ≡ LENGTH) × (new ≡ old)) × (length ≤ width → OnTables old new code F)
 
--- a handle that was empty has a table with no entries, or is empty still and memory is missing
+-- a new map: no entries, the root alone, and the largest slot limit
+abbrev pub IsNewMap : Contents ℕ → Type 0
+IsNewMap map =
+    (map.entries ≡ no_entries) × (map.nodes ≡ root_alone)
+    × (map.space ≡ record { limit = 2 ^ 32 - 1; node_slots = 1; cell_slots = 0 }) × (map.layout ≡ no_layout)
+
+-- a handle that was empty has a table with two new maps, or is empty still and memory is missing
 abbrev pub Creates : Option Tables → ℕ → Type 0
 Creates None code = code ≡ MEMORY
-Creates (Some u) code = (code ≡ DONE) × (u.v4.entries ≡ no_entries) × (u.v6.entries ≡ no_entries)
+Creates (Some u) code = (code ≡ DONE) × IsNewMap u.v4 × IsNewMap u.v6

@@ -5,7 +5,6 @@ use denote.RawPtr.{Ptr, null_ptr}
 use Rattle.std.specs.Prelude.{Option, Some, None}
 use Rattle.std.specs.Coded.{coded_option}
 use Rattle.std.specs.Box.Ownership.{box_owns}
-use Rattle.std_alloc.specs.declared.boxed.Box.{Box}
 use Rattle.std.specs.Global.{Global}
 use Rattle.std_heap.specs.contracts.GlobalAllocator.TheImpl.{ghosts}
 use Rattle.prefix_trie_c.specs.declared.loose.Loose.{Loose}
@@ -20,6 +19,3 @@ held_coded = coded_option the_row.coded
 
 abbrev pub loose_value : {X : Type 0} {A : Type 0} → Loose X A → X
 loose_value l = l.value
-
-abbrev pub box_value : {X : Type 0} {A : Type 0} → Box X A → X
-box_value b = b.value

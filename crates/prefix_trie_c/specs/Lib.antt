@@ -2,3 +2,4 @@
 pub mod Calls
 pub mod Entries
 pub mod Held
+pub mod Lent

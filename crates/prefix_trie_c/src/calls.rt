@@ -2,33 +2,43 @@
 ghost use Rattle.std.specs.Prelude.{◌≡◌, length, map};
 ghost use Rattle.std.specs.FinMap.{get};
 ghost use Rattle.std.specs.Option.{option_map};
-ghost use Rattle.prefix_trie.specs.Terms.{lent_item, without_entry};
-ghost use Rattle.prefix_trie_c.specs.Calls.{Gives, Inserts};
-ghost use Rattle.prefix_trie_c.specs.Entries.{Fills, Matches, found_match, found_value, match_of};
+ghost use Rattle.prefix_trie.specs.Terms.{lent_item};
+ghost use Rattle.prefix_trie_c.specs.Calls.{Gives, Inserts, Removes};
+ghost use Rattle.prefix_trie_c.specs.Entries.{Fills, FillsCovers, Matches, MatchesShortest, found_match, found_value, match_of, replaced_value};
 
 use crate::codes::{DONE, MISSING, code_of};
-use crate::entries::{Address, Entry, FoundMatch, FoundValue};
+use crate::entries::{Address, Entry, FoundMatch, FoundValue, Replaced};
 use prefix_trie::{Prefix, PrefixMap};
 use std::alloc::Global;
 
 /// A map of a table.
 type Map<P> = PrefixMap<P, u64, Global>;
 
+/// Sets the value of a prefix and returns the one before.
+pub(crate) fn replace<P: Prefix>(map: &mut Map<P>, prefix: P, value: u64) -> Replaced
+    requires { P.IsFitting prefix }
+    ensures inserted { Inserts P.R.bit_width (P.path prefix) value map.old map.new result.code }
+    ensures before { result
+        ≡ replaced_value result.code (get map.old.entries (P.path prefix)) }
+{
+    match map.insert(prefix, value) {
+        Ok(before) => Replaced::of(DONE, before),
+        Err(refused) => Replaced::of(code_of(refused.cause), None),
+    }
+}
+
 /// Sets the value of a prefix.
 pub(crate) fn insert<P: Prefix>(map: &mut Map<P>, prefix: P, value: u64) -> u32
     requires { P.IsFitting prefix }
-    ensures { Inserts (P.path prefix) value map.old.entries map.new.entries result }
+    ensures { Inserts P.R.bit_width (P.path prefix) value map.old map.new result }
 {
-    match map.insert(prefix, value) {
-        Ok(_) => DONE,
-        Err(refused) => code_of(refused.cause),
-    }
+    replace(map, prefix, value).code
 }
 
 /// Removes the value of a prefix and writes it.
 pub(crate) fn remove<P: Prefix>(map: &mut Map<P>, prefix: &P, value: &mut u64) -> u32
     requires { P.IsFitting prefix.now }
-    ensures entries { map.new.entries ≡ without_entry map.old.entries (P.path prefix.now) }
+    ensures removed { Removes P.R.bit_width (P.path prefix.now) map.old map.new }
     ensures value { Gives (get map.old.entries (P.path prefix.now)) result value.old value.new }
 {
     match map.remove(prefix) {
@@ -87,6 +97,21 @@ pub(crate) fn find_longest<P: Prefix, E: Entry<P>>(map: &Map<P>, prefix: &P, ent
     }
 }
 
+/// Writes the shortest match of a prefix.
+pub(crate) fn find_shortest<P: Prefix, E: Entry<P>>(map: &Map<P>, prefix: &P, entry: &mut E) -> u32
+    requires { P.IsFitting prefix.now }
+    ensures { MatchesShortest P.back map.now.entries E.made (P.path prefix.now) result
+        entry.old entry.new }
+{
+    match map.get_spm(prefix) {
+        Some((found, value)) => {
+            *entry = E::of(Some((found, *value)));
+            DONE
+        }
+        None => MISSING,
+    }
+}
+
 /// Returns a match with its value copied.
 fn copied<P: Prefix>(found: Option<(P, &u64)>) -> Option<(P, u64)>
     ensures { result ≡ option_map lent_item found.entry }
@@ -124,6 +149,26 @@ pub(crate) fn read_after<P: Prefix, E: Entry<P>>(
         entries.old entries.new }
 {
     let mut walk = map.iter_from(prefix, inclusive);
+    for i in 0..entries.len() {
+        let Some((prefix, value)) = walk.next() else {
+            return i;
+        };
+        entries[i] = E::of(Some((prefix, *value)));
+    }
+    entries.len()
+}
+
+/// Writes the entries whose prefixes contain a prefix, shortest first, and returns how many.
+pub(crate) fn read_covers<P: Prefix, E: Entry<P>>(
+    map: &Map<P>,
+    prefix: &P,
+    entries: &mut [E],
+) -> usize
+    requires { P.IsFitting prefix.now }
+    ensures { FillsCovers P.back map.now.entries E.made (P.path prefix.now) result
+        entries.old entries.new }
+{
+    let mut walk = map.cover(prefix);
     for i in 0..entries.len() {
         let Some((prefix, value)) = walk.next() else {
             return i;

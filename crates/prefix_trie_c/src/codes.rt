@@ -7,7 +7,7 @@ use prefix_trie::Refusal;
 /// The call did what it is for.
 pub const DONE: u32 = 0;
 
-/// No such entry, no match, or no tables in the handle.
+/// No such entry, or no match.
 pub const MISSING: u32 = 1;
 
 /// An allocation failed.
@@ -19,10 +19,10 @@ pub const FULL: u32 = 3;
 /// A length is above the width of an address.
 pub const LENGTH: u32 = 4;
 
-/// A handle that `prefix_trie_new` did not fill.
-pub const NO_TABLES: u32 = 5;
+/// A null pointer in place of a table.
+pub const NULL: u32 = 5;
 
-/// A handle that is filled already.
+/// A pointer that is not null in place of a new table's.
 pub const IN_USE: u32 = 6;
 
 /// Two arrays of different lengths.

@@ -1,6 +1,6 @@
 //! Entries, addresses and results as C reads and writes them.
 ghost use Rattle.std.specs.Prelude.{◌≡◌, ℕ, ◌+◌, ◌*◌, ◌^◌, Option};
-ghost use Rattle.prefix_trie_c.specs.Entries.{no_match, no_value, v4_entry, v6_entry};
+ghost use Rattle.prefix_trie_c.specs.Entries.{no_match, no_value, replaced_value, v4_entry, v6_entry};
 
 use prefix_trie::{Ipv4Prefix, Ipv6Prefix, Prefix};
 
@@ -48,6 +48,36 @@ pub struct FoundMatch {
     pub value: u64,
     pub code: u32,
     pub length: u8,
+}
+
+/// The code of an insertion, and the value that it replaced, if `found`. Otherwise the value is 0.
+#[repr(C)]
+#[derive(Clone, Copy)]
+pub struct Replaced {
+    pub value: u64,
+    pub code: u32,
+    pub found: bool,
+}
+
+impl Replaced {
+    /// Returns the result of an insertion.
+    #[inline]
+    pub(crate) fn of(code: u32, before: Option<u64>) -> Replaced
+        ensures { result ≡ replaced_value code before }
+    {
+        match before {
+            Some(value) => Replaced {
+                value,
+                code,
+                found: true,
+            },
+            None => Replaced {
+                value: 0,
+                code,
+                found: false,
+            },
+        }
+    }
 }
 
 impl FoundValue {

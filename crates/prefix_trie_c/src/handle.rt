@@ -1,13 +1,13 @@
 //! Handles: what C keeps of a table.
-ghost use Rattle.std.specs.Prelude.{◌≡◌, Option, Some, None};
+ghost use Rattle.std.specs.Prelude.{◌≡◌, Option, Some, None, IfSome};
 ghost use Rattle.std.specs.Option.{option_map};
 ghost use Rattle.prefix_trie_c.specs.declared.tables.Tables.{Tables};
-ghost use Rattle.prefix_trie_c.specs.Held.{handle_owns, held_coded, loose_value, box_value};
+ghost use Rattle.prefix_trie_c.specs.Held.{handle_owns, held_coded, loose_value};
 
 use crate::loose::Loose;
 use crate::tables::Tables;
 use std::alloc::Global;
-use std::marker::Model;
+use std::marker::{Model, Send};
 use std::mem::{forget, replace};
 use std::ptr::null_mut;
 
@@ -36,9 +36,11 @@ impl Handle {
         }
     }
 
-    /// Returns the handle of a table that lies on the heap.
-    fn of_loose(loose: Loose<Tables, Global>) -> Handle
-        ensures { result.tables ≡ Some loose.value }
+    /// Returns the handle of a table, which stays where it is.
+    #[inline(always)]
+    pub(crate) fn of_loose(loose: Loose<Tables, Global>) -> Handle
+        ensures tables { result.tables ≡ Some loose.value }
+        ensures place { result.at ≡ loose.at }
     {
         let Loose { at, alloc } = loose;
         Handle {
@@ -48,8 +50,10 @@ impl Handle {
     }
 
     /// Returns the handle's table, if it has one.
-    fn into_loose(self) -> Option<Loose<Tables, Global>>
-        ensures { option_map loose_value result ≡ self.tables }
+    #[inline(always)]
+    pub(crate) fn into_loose(self) -> Option<Loose<Tables, Global>>
+        ensures tables { option_map loose_value result ≡ self.tables }
+        ensures place { IfSome result (λ loose. loose.at ≡ self.at) }
     {
         let Handle { at, alloc } = self;
         if at.is_null() {
@@ -62,42 +66,28 @@ impl Handle {
         }
     }
 
-    /// Returns the handle of a table.
-    #[inline(always)]
-    pub(crate) fn of_box(tables: Box<Tables, Global>) -> Handle
-        ensures { result.tables ≡ Some tables.value }
-    {
-        Handle::of_loose(Loose::of(tables))
-    }
-
-    /// Returns the handle's table, if it has one.
-    #[inline(always)]
-    pub(crate) fn into_box(self) -> Option<Box<Tables, Global>>
-        ensures { option_map box_value result ≡ self.tables }
-    {
-        match self.into_loose() {
-            Some(loose) => Some(loose.into_box()),
-            None => None,
-        }
-    }
-
     /// Takes the table out of a handle, which is empty afterwards.
-    pub(crate) fn open(&mut self, alloc: Global) -> Option<Box<Tables, Global>>
-        ensures value { option_map box_value result ≡ self.old.tables }
+    pub(crate) fn open(&mut self, alloc: Global) -> Option<Loose<Tables, Global>>
+        ensures tables { option_map loose_value result ≡ self.old.tables }
+        ensures place { IfSome result (λ loose. loose.at ≡ self.old.at) }
         ensures emptied { self.new.tables ≡ None }
     {
-        replace(self, Handle::empty(alloc)).into_box()
+        replace(self, Handle::empty(alloc)).into_loose()
     }
 
     /// Puts a table into an empty handle.
-    pub(crate) fn close(&mut self, tables: Box<Tables, Global>)
+    pub(crate) fn close(&mut self, tables: Loose<Tables, Global>)
         requires { self.old.tables ≡ None }
-        ensures { self.new.tables ≡ Some tables.value }
+        ensures tables { self.new.tables ≡ Some tables.value }
+        ensures place { self.new.at ≡ tables.at }
     {
         // The empty handle owns nothing that its drop would free.
-        forget(replace(self, Handle::of_box(tables)));
+        forget(replace(self, Handle::of_loose(tables)));
     }
 }
+
+// It may go to another thread, as its maps may.
+unsafe impl Send for Handle {}
 
 impl Drop for Handle {
     fn drop(self) {

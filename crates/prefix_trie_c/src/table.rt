@@ -1,10 +1,11 @@
-//! The calls that make and free a table.
+//! The calls that make, clear and free a table.
 ghost use Rattle.std.specs.Prelude.{◌≡◌, None, MatchOption};
-ghost use Rattle.prefix_trie_c.specs.Calls.{Creates};
-ghost use Rattle.prefix_trie_c.specs.declared.codes.TheConstants.{IN_USE};
+ghost use Rattle.prefix_trie_c.specs.Calls.{Clears, Creates, OnTables};
+ghost use Rattle.prefix_trie_c.specs.declared.codes.TheConstants.{DONE, IN_USE};
 
-use crate::codes::{DONE, IN_USE, MEMORY, code_of};
+use crate::codes::{DONE, IN_USE, MEMORY, NULL, code_of};
 use crate::handle::Handle;
+use crate::loose::Loose;
 use crate::tables::Tables;
 use std::alloc::Global;
 
@@ -12,7 +13,8 @@ use std::alloc::Global;
 #[unsafe(no_mangle)]
 pub extern "C" fn prefix_trie_c_new(handle: &mut Handle, alloc: Global) -> u32
     ensures { MatchOption handle.old.tables (Creates handle.new.tables result)
-        (λ _. (result ≡ IN_USE) × (handle.new.tables ≡ handle.old.tables)) }
+        (λ _. (result ≡ IN_USE) × (handle.new.tables ≡ handle.old.tables)
+        × (handle.new.at ≡ handle.old.at)) }
 {
     match handle.open(alloc) {
         Some(tables) => {
@@ -34,7 +36,7 @@ fn create(handle: &mut Handle, alloc: Global) -> u32
     };
     match Box::new(alloc, tables) {
         Ok(tables) => {
-            handle.close(tables);
+            handle.close(Loose::of(tables));
             DONE
         }
         Err(_) => MEMORY,
@@ -46,5 +48,21 @@ fn create(handle: &mut Handle, alloc: Global) -> u32
 pub extern "C" fn prefix_trie_c_free(handle: &mut Handle, alloc: Global)
     ensures { handle.new.tables ≡ None }
 {
-    drop(handle.open(alloc));
+    if let Some(tables) = handle.open(alloc) {
+        drop(tables.into_box());
+    }
+}
+
+/// Removes all entries of a table.
+#[unsafe(no_mangle)]
+pub extern "C" fn prefix_trie_c_clear(handle: &mut Handle, alloc: Global) -> u32
+    ensures { OnTables handle.old handle.new result
+        (λ t u. (result ≡ DONE) × Clears 32 t.v4 u.v4 × Clears 128 t.v6 u.v6) }
+{
+    let Some(mut tables) = handle.open(alloc) else {
+        return NULL;
+    };
+    tables.as_mut().clear();
+    handle.close(tables);
+    DONE
 }

@@ -1,14 +1,14 @@
 //! The calls for IPv4.
-ghost use Rattle.std.specs.Prelude.{◌≡◌, length, map};
+ghost use Rattle.std.specs.Prelude.{◌≡◌, false, length, map};
 ghost use Rattle.std.specs.FinMap.{get, len};
-ghost use Rattle.prefix_trie.specs.Terms.{ipv4_back, ipv4_path, without_entry};
-ghost use Rattle.prefix_trie_c.specs.Calls.{Gives, Inserts, OnPrefix, OnTables};
-ghost use Rattle.prefix_trie_c.specs.Entries.{Fills, Matches, found_match, found_value, match_of, v4_entry};
+ghost use Rattle.prefix_trie.specs.Terms.{ipv4_back, ipv4_path};
+ghost use Rattle.prefix_trie_c.specs.Calls.{Gives, Inserts, OnPrefix, OnTables, Removes};
+ghost use Rattle.prefix_trie_c.specs.Entries.{Fills, FillsCovers, Matches, MatchesShortest, found_match, found_value, match_of, replaced_value, v4_entry};
 ghost use Rattle.prefix_trie_c.specs.declared.codes.TheConstants.{COUNTS, DONE};
 
 use crate::calls;
-use crate::codes::{COUNTS, DONE, LENGTH, NO_TABLES};
-use crate::entries::{FoundMatch, FoundValue, V4Entry};
+use crate::codes::{COUNTS, DONE, LENGTH, NULL};
+use crate::entries::{FoundMatch, FoundValue, Replaced, V4Entry};
 use crate::handle::Handle;
 use core::mem::replace_with;
 use prefix_trie::Ipv4Prefix;
@@ -23,19 +23,45 @@ pub extern "C" fn prefix_trie_c_v4_insert(
     length: u8,
     value: u64,
 ) -> u32
-    ensures answer { OnPrefix 32 length handle.old.tables handle.new.tables result
-        (λ t u. Inserts (ipv4_path (address, length)) value t.v4.entries u.v4.entries result
+    ensures answer { OnPrefix 32 length handle.old handle.new result
+        (λ t u. Inserts 32 (ipv4_path (address, length)) value t.v4 u.v4 result
         × (u.v6 ≡ t.v6)) }
 {
     let Some(prefix) = Ipv4Prefix::new(address, length) else {
         return LENGTH;
     };
     let Some(mut tables) = handle.open(alloc) else {
-        return NO_TABLES;
+        return NULL;
     };
-    let code = calls::insert(&mut tables.v4, prefix, value);
+    let code = calls::insert(&mut tables.as_mut().v4, prefix, value);
     handle.close(tables);
     code
+}
+
+/// Sets the value of a network, and returns the value that it had.
+#[unsafe(no_mangle)]
+pub extern "C" fn prefix_trie_c_v4_replace(
+    handle: &mut Handle,
+    alloc: Global,
+    address: u32,
+    length: u8,
+    value: u64,
+) -> Replaced
+    ensures answer { OnPrefix 32 length handle.old handle.new result.code
+        (λ t u. Inserts 32 (ipv4_path (address, length)) value t.v4 u.v4 result.code
+        × (u.v6 ≡ t.v6)
+        × (result ≡ replaced_value result.code (get t.v4.entries (ipv4_path (address, length))))) }
+    ensures none { (result.code ≡ DONE → ⊥) → (result.value ≡ 0) × (result.found ≡ false) }
+{
+    let Some(prefix) = Ipv4Prefix::new(address, length) else {
+        return Replaced::of(LENGTH, None);
+    };
+    let Some(mut tables) = handle.open(alloc) else {
+        return Replaced::of(NULL, None);
+    };
+    let replaced = calls::replace(&mut tables.as_mut().v4, prefix, value);
+    handle.close(tables);
+    replaced
 }
 
 /// Removes the value of a network, and writes it to `value`.
@@ -47,8 +73,8 @@ pub extern "C" fn prefix_trie_c_v4_remove(
     length: u8,
     value: &mut u64,
 ) -> u32
-    ensures answer { OnPrefix 32 length handle.old.tables handle.new.tables result
-        (λ t u. (u.v4.entries ≡ without_entry t.v4.entries (ipv4_path (address, length)))
+    ensures answer { OnPrefix 32 length handle.old handle.new result
+        (λ t u. Removes 32 (ipv4_path (address, length)) t.v4 u.v4
         × (u.v6 ≡ t.v6)
         × Gives (get t.v4.entries (ipv4_path (address, length))) result value.old value.new) }
     ensures kept { (result ≡ DONE → ⊥) → value.new ≡ value.old }
@@ -57,9 +83,9 @@ pub extern "C" fn prefix_trie_c_v4_remove(
         return LENGTH;
     };
     let Some(mut tables) = handle.open(alloc) else {
-        return NO_TABLES;
+        return NULL;
     };
-    let code = calls::remove(&mut tables.v4, &prefix, value);
+    let code = calls::remove(&mut tables.as_mut().v4, &prefix, value);
     handle.close(tables);
     code
 }
@@ -72,7 +98,7 @@ pub extern "C" fn prefix_trie_c_v4_get(
     address: u32,
     length: u8,
 ) -> FoundValue
-    ensures answer { OnPrefix 32 length handle.old.tables handle.new.tables result.code
+    ensures answer { OnPrefix 32 length handle.old handle.new result.code
         (λ t u. (u ≡ t) × (result ≡ found_value (get t.v4.entries (ipv4_path (address, length))))) }
     ensures none { (result.code ≡ DONE → ⊥) → result.value ≡ 0 }
 {
@@ -86,29 +112,29 @@ pub extern "C" fn prefix_trie_c_v4_get(
 // Unlike `open`, it leaves no empty handle in the place of this one, so the place is written once.
 #[inline(always)]
 fn find(handle: Handle, asked: (Global, Ipv4Prefix)) -> (Handle, FoundValue)
-    ensures answer { OnTables handle.tables result.0.tables result.1.code
+    ensures answer { OnTables handle result.0 result.1.code
         (λ t u. (u ≡ t) × (result.1 ≡ found_value (get t.v4.entries (ipv4_path asked.1)))) }
     ensures none { (result.1.code ≡ DONE → ⊥) → result.1.value ≡ 0 }
 {
     let (alloc, network) = asked;
-    let Some(tables) = handle.into_box() else {
-        return (Handle::empty(alloc), FoundValue::none(NO_TABLES));
+    let Some(mut tables) = handle.into_loose() else {
+        return (Handle::empty(alloc), FoundValue::none(NULL));
     };
-    let found = calls::find(&tables.v4, &network);
-    (Handle::of_box(tables), found)
+    let found = calls::find(&tables.as_mut().v4, &network);
+    (Handle::of_loose(tables), found)
 }
 
 /// Writes the number of networks to `count`.
 #[unsafe(no_mangle)]
 pub extern "C" fn prefix_trie_c_v4_len(handle: &mut Handle, alloc: Global, count: &mut usize) -> u32
-    ensures answer { OnTables handle.old.tables handle.new.tables result
+    ensures answer { OnTables handle.old handle.new result
         (λ t u. (u ≡ t) × (result ≡ DONE) × (count.new ≡ len t.v4.entries)) }
     ensures kept { (result ≡ DONE → ⊥) → count.new ≡ count.old }
 {
-    let Some(tables) = handle.open(alloc) else {
-        return NO_TABLES;
+    let Some(mut tables) = handle.open(alloc) else {
+        return NULL;
     };
-    *count = tables.v4.len();
+    *count = tables.as_mut().v4.len();
     handle.close(tables);
     DONE
 }
@@ -122,7 +148,7 @@ pub extern "C" fn prefix_trie_c_v4_match(
     length: u8,
     entry: &mut V4Entry,
 ) -> u32
-    ensures answer { OnPrefix 32 length handle.old.tables handle.new.tables result
+    ensures answer { OnPrefix 32 length handle.old handle.new result
         (λ t u. (u ≡ t)
         × Matches ipv4_back t.v4.entries v4_entry (ipv4_path (address, length)) result
         entry.old entry.new) }
@@ -143,16 +169,16 @@ fn match_network(
     network: Ipv4Prefix,
     entry: &mut V4Entry,
 ) -> u32
-    ensures answer { OnTables handle.old.tables handle.new.tables result
+    ensures answer { OnTables handle.old handle.new result
         (λ t u. (u ≡ t)
         × Matches ipv4_back t.v4.entries v4_entry (ipv4_path network) result
         entry.old entry.new) }
     ensures kept { (result ≡ DONE → ⊥) → entry.new ≡ entry.old }
 {
-    let Some(tables) = handle.open(alloc) else {
-        return NO_TABLES;
+    let Some(mut tables) = handle.open(alloc) else {
+        return NULL;
     };
-    let code = calls::find_longest(&tables.v4, &network, entry);
+    let code = calls::find_longest(&tables.as_mut().v4, &network, entry);
     handle.close(tables);
     code
 }
@@ -167,7 +193,7 @@ fn match_shorter(
     length: u8,
     entry: &mut V4Entry,
 ) -> u32
-    ensures answer { OnPrefix 32 length handle.old.tables handle.new.tables result
+    ensures answer { OnPrefix 32 length handle.old handle.new result
         (λ t u. (u ≡ t)
         × Matches ipv4_back t.v4.entries v4_entry (ipv4_path (address, length)) result
         entry.old entry.new) }
@@ -188,7 +214,7 @@ pub extern "C" fn prefix_trie_c_v4_match_address(
     alloc: Global,
     address: u32,
 ) -> FoundMatch
-    ensures answer { OnTables handle.old.tables handle.new.tables result.code
+    ensures answer { OnTables handle.old handle.new result.code
         (λ t u. (u ≡ t) × (result ≡ found_match (λ network. network.1)
         (match_of ipv4_back t.v4.entries (ipv4_path (address, 32))))) }
     ensures none { (result.code ≡ DONE → ⊥) → (result.value ≡ 0) × (result.length ≡ 0) }
@@ -199,17 +225,17 @@ pub extern "C" fn prefix_trie_c_v4_match_address(
 /// Finds the longest match of a network, and returns the handle with it.
 #[inline(always)]
 fn find_match(handle: Handle, asked: (Global, Ipv4Prefix)) -> (Handle, FoundMatch)
-    ensures answer { OnTables handle.tables result.0.tables result.1.code
+    ensures answer { OnTables handle result.0 result.1.code
         (λ t u. (u ≡ t) × (result.1 ≡ found_match (λ network. network.1)
         (match_of ipv4_back t.v4.entries (ipv4_path asked.1)))) }
     ensures none { (result.1.code ≡ DONE → ⊥) → (result.1.value ≡ 0) × (result.1.length ≡ 0) }
 {
     let (alloc, network) = asked;
-    let Some(tables) = handle.into_box() else {
-        return (Handle::empty(alloc), FoundMatch::none(NO_TABLES));
+    let Some(mut tables) = handle.into_loose() else {
+        return (Handle::empty(alloc), FoundMatch::none(NULL));
     };
-    let found = calls::find_match(&tables.v4, &network);
-    (Handle::of_box(tables), found)
+    let found = calls::find_match(&tables.as_mut().v4, &network);
+    (Handle::of_loose(tables), found)
 }
 
 /// Writes the longest match of each address to the entry at its place.
@@ -221,9 +247,9 @@ pub extern "C" fn prefix_trie_c_v4_match_all(
     entries: &mut [V4Entry],
 ) -> u32
     ensures counts { (length entries.old ≡ length addresses.now → ⊥)
-        → (result ≡ COUNTS) × (handle.new.tables ≡ handle.old.tables) }
+        → (result ≡ COUNTS) × (handle.new ≡ handle.old) }
     ensures matches { length entries.old ≡ length addresses.now
-        → OnTables handle.old.tables handle.new.tables result (λ t u. (u ≡ t) × (result ≡ DONE)
+        → OnTables handle.old handle.new result (λ t u. (u ≡ t) × (result ≡ DONE)
         × (entries.new ≡ map (λ a. v4_entry (match_of ipv4_back t.v4.entries (ipv4_path (a, 32))))
         addresses.now)) }
     ensures kept { (result ≡ DONE → ⊥) → entries.new ≡ entries.old }
@@ -231,10 +257,64 @@ pub extern "C" fn prefix_trie_c_v4_match_all(
     if addresses.len() != entries.len() {
         return COUNTS;
     }
-    let Some(tables) = handle.open(alloc) else {
-        return NO_TABLES;
+    let Some(mut tables) = handle.open(alloc) else {
+        return NULL;
     };
-    calls::find_longest_each(&tables.v4, addresses, entries);
+    calls::find_longest_each(&tables.as_mut().v4, addresses, entries);
+    handle.close(tables);
+    DONE
+}
+
+/// Writes the shortest match of a network, and its value, to `entry`.
+#[unsafe(no_mangle)]
+pub extern "C" fn prefix_trie_c_v4_shortest(
+    handle: &mut Handle,
+    alloc: Global,
+    address: u32,
+    length: u8,
+    entry: &mut V4Entry,
+) -> u32
+    ensures answer { OnPrefix 32 length handle.old handle.new result
+        (λ t u. (u ≡ t)
+        × MatchesShortest ipv4_back t.v4.entries v4_entry (ipv4_path (address, length)) result
+        entry.old entry.new) }
+    ensures kept { (result ≡ DONE → ⊥) → entry.new ≡ entry.old }
+{
+    let Some(prefix) = Ipv4Prefix::new(address, length) else {
+        return LENGTH;
+    };
+    let Some(mut tables) = handle.open(alloc) else {
+        return NULL;
+    };
+    let code = calls::find_shortest(&tables.as_mut().v4, &prefix, entry);
+    handle.close(tables);
+    code
+}
+
+/// Writes the entries whose networks contain a network, shortest first, as many as there are and fit, and their number to `count`.
+#[unsafe(no_mangle)]
+pub extern "C" fn prefix_trie_c_v4_covers(
+    handle: &mut Handle,
+    alloc: Global,
+    address: u32,
+    length: u8,
+    entries: &mut [V4Entry],
+    count: &mut usize,
+) -> u32
+    ensures answer { OnPrefix 32 length handle.old handle.new result
+        (λ t u. (u ≡ t) × (result ≡ DONE)
+        × FillsCovers ipv4_back t.v4.entries v4_entry (ipv4_path (address, length)) count.new
+        entries.old entries.new) }
+    ensures kept { (result ≡ DONE → ⊥)
+        → (entries.new ≡ entries.old) × (count.new ≡ count.old) }
+{
+    let Some(prefix) = Ipv4Prefix::new(address, length) else {
+        return LENGTH;
+    };
+    let Some(mut tables) = handle.open(alloc) else {
+        return NULL;
+    };
+    *count = calls::read_covers(&tables.as_mut().v4, &prefix, entries);
     handle.close(tables);
     DONE
 }
@@ -252,7 +332,7 @@ pub extern "C" fn prefix_trie_c_v4_next(
     entries: &mut [V4Entry],
     count: &mut usize,
 ) -> u32
-    ensures answer { OnPrefix 32 length handle.old.tables handle.new.tables result
+    ensures answer { OnPrefix 32 length handle.old handle.new result
         (λ t u. (u ≡ t) × (result ≡ DONE)
         × Fills ipv4_back t.v4.entries v4_entry (ipv4_path (address, length)) inclusive count.new
         entries.old entries.new) }
@@ -262,10 +342,10 @@ pub extern "C" fn prefix_trie_c_v4_next(
     let Some(prefix) = Ipv4Prefix::new(address, length) else {
         return LENGTH;
     };
-    let Some(tables) = handle.open(alloc) else {
-        return NO_TABLES;
+    let Some(mut tables) = handle.open(alloc) else {
+        return NULL;
     };
-    *count = calls::read_after(&tables.v4, &prefix, inclusive, entries);
+    *count = calls::read_after(&tables.as_mut().v4, &prefix, inclusive, entries);
     handle.close(tables);
     DONE
 }

@@ -1,14 +1,14 @@
 //! The calls for IPv6. An address is passed as its first and its last 64 bits.
-ghost use Rattle.std.specs.Prelude.{◌≡◌, length, map};
+ghost use Rattle.std.specs.Prelude.{◌≡◌, false, length, map};
 ghost use Rattle.std.specs.FinMap.{get, len};
-ghost use Rattle.prefix_trie.specs.Terms.{ipv6_back, ipv6_path, without_entry};
-ghost use Rattle.prefix_trie_c.specs.Calls.{Gives, Inserts, OnPrefix, OnTables};
-ghost use Rattle.prefix_trie_c.specs.Entries.{Fills, Matches, found_match, found_value, match_of, v6_entry, v6_path};
+ghost use Rattle.prefix_trie.specs.Terms.{ipv6_back, ipv6_path};
+ghost use Rattle.prefix_trie_c.specs.Calls.{Gives, Inserts, OnPrefix, OnTables, Removes};
+ghost use Rattle.prefix_trie_c.specs.Entries.{Fills, FillsCovers, Matches, MatchesShortest, found_match, found_value, match_of, replaced_value, v6_entry, v6_path};
 ghost use Rattle.prefix_trie_c.specs.declared.codes.TheConstants.{COUNTS, DONE};
 
 use crate::calls;
-use crate::codes::{COUNTS, DONE, LENGTH, NO_TABLES};
-use crate::entries::{FoundMatch, FoundValue, V6Address, V6Entry, joined};
+use crate::codes::{COUNTS, DONE, LENGTH, NULL};
+use crate::entries::{FoundMatch, FoundValue, Replaced, V6Address, V6Entry, joined};
 use crate::handle::Handle;
 use core::mem::replace_with;
 use prefix_trie::Ipv6Prefix;
@@ -24,19 +24,46 @@ pub extern "C" fn prefix_trie_c_v6_insert(
     length: u8,
     value: u64,
 ) -> u32
-    ensures answer { OnPrefix 128 length handle.old.tables handle.new.tables result
-        (λ t u. Inserts (v6_path high low length) value t.v6.entries u.v6.entries result
+    ensures answer { OnPrefix 128 length handle.old handle.new result
+        (λ t u. Inserts 128 (v6_path high low length) value t.v6 u.v6 result
         × (u.v4 ≡ t.v4)) }
 {
     let Some(prefix) = Ipv6Prefix::new(joined(high, low), length) else {
         return LENGTH;
     };
     let Some(mut tables) = handle.open(alloc) else {
-        return NO_TABLES;
+        return NULL;
     };
-    let code = calls::insert(&mut tables.v6, prefix, value);
+    let code = calls::insert(&mut tables.as_mut().v6, prefix, value);
     handle.close(tables);
     code
+}
+
+/// Sets the value of a network, and returns the value that it had.
+#[unsafe(no_mangle)]
+pub extern "C" fn prefix_trie_c_v6_replace(
+    handle: &mut Handle,
+    alloc: Global,
+    high: u64,
+    low: u64,
+    length: u8,
+    value: u64,
+) -> Replaced
+    ensures answer { OnPrefix 128 length handle.old handle.new result.code
+        (λ t u. Inserts 128 (v6_path high low length) value t.v6 u.v6 result.code
+        × (u.v4 ≡ t.v4)
+        × (result ≡ replaced_value result.code (get t.v6.entries (v6_path high low length)))) }
+    ensures none { (result.code ≡ DONE → ⊥) → (result.value ≡ 0) × (result.found ≡ false) }
+{
+    let Some(prefix) = Ipv6Prefix::new(joined(high, low), length) else {
+        return Replaced::of(LENGTH, None);
+    };
+    let Some(mut tables) = handle.open(alloc) else {
+        return Replaced::of(NULL, None);
+    };
+    let replaced = calls::replace(&mut tables.as_mut().v6, prefix, value);
+    handle.close(tables);
+    replaced
 }
 
 /// Removes the value of a network, and writes it to `value`.
@@ -49,8 +76,8 @@ pub extern "C" fn prefix_trie_c_v6_remove(
     length: u8,
     value: &mut u64,
 ) -> u32
-    ensures answer { OnPrefix 128 length handle.old.tables handle.new.tables result
-        (λ t u. (u.v6.entries ≡ without_entry t.v6.entries (v6_path high low length))
+    ensures answer { OnPrefix 128 length handle.old handle.new result
+        (λ t u. Removes 128 (v6_path high low length) t.v6 u.v6
         × (u.v4 ≡ t.v4)
         × Gives (get t.v6.entries (v6_path high low length)) result value.old value.new) }
     ensures kept { (result ≡ DONE → ⊥) → value.new ≡ value.old }
@@ -59,9 +86,9 @@ pub extern "C" fn prefix_trie_c_v6_remove(
         return LENGTH;
     };
     let Some(mut tables) = handle.open(alloc) else {
-        return NO_TABLES;
+        return NULL;
     };
-    let code = calls::remove(&mut tables.v6, &prefix, value);
+    let code = calls::remove(&mut tables.as_mut().v6, &prefix, value);
     handle.close(tables);
     code
 }
@@ -75,7 +102,7 @@ pub extern "C" fn prefix_trie_c_v6_get(
     low: u64,
     length: u8,
 ) -> FoundValue
-    ensures answer { OnPrefix 128 length handle.old.tables handle.new.tables result.code
+    ensures answer { OnPrefix 128 length handle.old handle.new result.code
         (λ t u. (u ≡ t) × (result ≡ found_value (get t.v6.entries (v6_path high low length)))) }
     ensures none { (result.code ≡ DONE → ⊥) → result.value ≡ 0 }
 {
@@ -89,29 +116,29 @@ pub extern "C" fn prefix_trie_c_v6_get(
 // Unlike `open`, it leaves no empty handle in the place of this one, so the place is written once.
 #[inline(always)]
 fn find(handle: Handle, asked: (Global, Ipv6Prefix)) -> (Handle, FoundValue)
-    ensures answer { OnTables handle.tables result.0.tables result.1.code
+    ensures answer { OnTables handle result.0 result.1.code
         (λ t u. (u ≡ t) × (result.1 ≡ found_value (get t.v6.entries (ipv6_path asked.1)))) }
     ensures none { (result.1.code ≡ DONE → ⊥) → result.1.value ≡ 0 }
 {
     let (alloc, network) = asked;
-    let Some(tables) = handle.into_box() else {
-        return (Handle::empty(alloc), FoundValue::none(NO_TABLES));
+    let Some(mut tables) = handle.into_loose() else {
+        return (Handle::empty(alloc), FoundValue::none(NULL));
     };
-    let found = calls::find(&tables.v6, &network);
-    (Handle::of_box(tables), found)
+    let found = calls::find(&tables.as_mut().v6, &network);
+    (Handle::of_loose(tables), found)
 }
 
 /// Writes the number of networks to `count`.
 #[unsafe(no_mangle)]
 pub extern "C" fn prefix_trie_c_v6_len(handle: &mut Handle, alloc: Global, count: &mut usize) -> u32
-    ensures answer { OnTables handle.old.tables handle.new.tables result
+    ensures answer { OnTables handle.old handle.new result
         (λ t u. (u ≡ t) × (result ≡ DONE) × (count.new ≡ len t.v6.entries)) }
     ensures kept { (result ≡ DONE → ⊥) → count.new ≡ count.old }
 {
-    let Some(tables) = handle.open(alloc) else {
-        return NO_TABLES;
+    let Some(mut tables) = handle.open(alloc) else {
+        return NULL;
     };
-    *count = tables.v6.len();
+    *count = tables.as_mut().v6.len();
     handle.close(tables);
     DONE
 }
@@ -126,7 +153,7 @@ pub extern "C" fn prefix_trie_c_v6_match(
     length: u8,
     entry: &mut V6Entry,
 ) -> u32
-    ensures answer { OnPrefix 128 length handle.old.tables handle.new.tables result
+    ensures answer { OnPrefix 128 length handle.old handle.new result
         (λ t u. (u ≡ t)
         × Matches ipv6_back t.v6.entries v6_entry (v6_path high low length) result
         entry.old entry.new) }
@@ -147,16 +174,16 @@ fn match_network(
     network: Ipv6Prefix,
     entry: &mut V6Entry,
 ) -> u32
-    ensures answer { OnTables handle.old.tables handle.new.tables result
+    ensures answer { OnTables handle.old handle.new result
         (λ t u. (u ≡ t)
         × Matches ipv6_back t.v6.entries v6_entry (ipv6_path network) result
         entry.old entry.new) }
     ensures kept { (result ≡ DONE → ⊥) → entry.new ≡ entry.old }
 {
-    let Some(tables) = handle.open(alloc) else {
-        return NO_TABLES;
+    let Some(mut tables) = handle.open(alloc) else {
+        return NULL;
     };
-    let code = calls::find_longest(&tables.v6, &network, entry);
+    let code = calls::find_longest(&tables.as_mut().v6, &network, entry);
     handle.close(tables);
     code
 }
@@ -172,7 +199,7 @@ fn match_shorter(
     length: u8,
     entry: &mut V6Entry,
 ) -> u32
-    ensures answer { OnPrefix 128 length handle.old.tables handle.new.tables result
+    ensures answer { OnPrefix 128 length handle.old handle.new result
         (λ t u. (u ≡ t)
         × Matches ipv6_back t.v6.entries v6_entry (v6_path high low length) result
         entry.old entry.new) }
@@ -194,7 +221,7 @@ pub extern "C" fn prefix_trie_c_v6_match_address(
     high: u64,
     low: u64,
 ) -> FoundMatch
-    ensures answer { OnTables handle.old.tables handle.new.tables result.code
+    ensures answer { OnTables handle.old handle.new result.code
         (λ t u. (u ≡ t) × (result ≡ found_match (λ network. network.1)
         (match_of ipv6_back t.v6.entries (v6_path high low 128)))) }
     ensures none { (result.code ≡ DONE → ⊥) → (result.value ≡ 0) × (result.length ≡ 0) }
@@ -209,17 +236,17 @@ pub extern "C" fn prefix_trie_c_v6_match_address(
 /// Finds the longest match of a network, and returns the handle with it.
 #[inline(always)]
 fn find_match(handle: Handle, asked: (Global, Ipv6Prefix)) -> (Handle, FoundMatch)
-    ensures answer { OnTables handle.tables result.0.tables result.1.code
+    ensures answer { OnTables handle result.0 result.1.code
         (λ t u. (u ≡ t) × (result.1 ≡ found_match (λ network. network.1)
         (match_of ipv6_back t.v6.entries (ipv6_path asked.1)))) }
     ensures none { (result.1.code ≡ DONE → ⊥) → (result.1.value ≡ 0) × (result.1.length ≡ 0) }
 {
     let (alloc, network) = asked;
-    let Some(tables) = handle.into_box() else {
-        return (Handle::empty(alloc), FoundMatch::none(NO_TABLES));
+    let Some(mut tables) = handle.into_loose() else {
+        return (Handle::empty(alloc), FoundMatch::none(NULL));
     };
-    let found = calls::find_match(&tables.v6, &network);
-    (Handle::of_box(tables), found)
+    let found = calls::find_match(&tables.as_mut().v6, &network);
+    (Handle::of_loose(tables), found)
 }
 
 /// Writes the longest match of each address to the entry at its place.
@@ -231,9 +258,9 @@ pub extern "C" fn prefix_trie_c_v6_match_all(
     entries: &mut [V6Entry],
 ) -> u32
     ensures counts { (length entries.old ≡ length addresses.now → ⊥)
-        → (result ≡ COUNTS) × (handle.new.tables ≡ handle.old.tables) }
+        → (result ≡ COUNTS) × (handle.new ≡ handle.old) }
     ensures matches { length entries.old ≡ length addresses.now
-        → OnTables handle.old.tables handle.new.tables result (λ t u. (u ≡ t) × (result ≡ DONE)
+        → OnTables handle.old handle.new result (λ t u. (u ≡ t) × (result ≡ DONE)
         × (entries.new ≡ map (λ a. v6_entry (match_of ipv6_back t.v6.entries
         (v6_path a.high a.low 128))) addresses.now)) }
     ensures kept { (result ≡ DONE → ⊥) → entries.new ≡ entries.old }
@@ -241,10 +268,66 @@ pub extern "C" fn prefix_trie_c_v6_match_all(
     if addresses.len() != entries.len() {
         return COUNTS;
     }
-    let Some(tables) = handle.open(alloc) else {
-        return NO_TABLES;
+    let Some(mut tables) = handle.open(alloc) else {
+        return NULL;
     };
-    calls::find_longest_each(&tables.v6, addresses, entries);
+    calls::find_longest_each(&tables.as_mut().v6, addresses, entries);
+    handle.close(tables);
+    DONE
+}
+
+/// Writes the shortest match of a network, and its value, to `entry`.
+#[unsafe(no_mangle)]
+pub extern "C" fn prefix_trie_c_v6_shortest(
+    handle: &mut Handle,
+    alloc: Global,
+    high: u64,
+    low: u64,
+    length: u8,
+    entry: &mut V6Entry,
+) -> u32
+    ensures answer { OnPrefix 128 length handle.old handle.new result
+        (λ t u. (u ≡ t)
+        × MatchesShortest ipv6_back t.v6.entries v6_entry (v6_path high low length) result
+        entry.old entry.new) }
+    ensures kept { (result ≡ DONE → ⊥) → entry.new ≡ entry.old }
+{
+    let Some(prefix) = Ipv6Prefix::new(joined(high, low), length) else {
+        return LENGTH;
+    };
+    let Some(mut tables) = handle.open(alloc) else {
+        return NULL;
+    };
+    let code = calls::find_shortest(&tables.as_mut().v6, &prefix, entry);
+    handle.close(tables);
+    code
+}
+
+/// Writes the entries whose networks contain a network, shortest first, as many as there are and fit, and their number to `count`.
+#[unsafe(no_mangle)]
+pub extern "C" fn prefix_trie_c_v6_covers(
+    handle: &mut Handle,
+    alloc: Global,
+    high: u64,
+    low: u64,
+    length: u8,
+    entries: &mut [V6Entry],
+    count: &mut usize,
+) -> u32
+    ensures answer { OnPrefix 128 length handle.old handle.new result
+        (λ t u. (u ≡ t) × (result ≡ DONE)
+        × FillsCovers ipv6_back t.v6.entries v6_entry (v6_path high low length) count.new
+        entries.old entries.new) }
+    ensures kept { (result ≡ DONE → ⊥)
+        → (entries.new ≡ entries.old) × (count.new ≡ count.old) }
+{
+    let Some(prefix) = Ipv6Prefix::new(joined(high, low), length) else {
+        return LENGTH;
+    };
+    let Some(mut tables) = handle.open(alloc) else {
+        return NULL;
+    };
+    *count = calls::read_covers(&tables.as_mut().v6, &prefix, entries);
     handle.close(tables);
     DONE
 }
@@ -263,7 +346,7 @@ pub extern "C" fn prefix_trie_c_v6_next(
     entries: &mut [V6Entry],
     count: &mut usize,
 ) -> u32
-    ensures answer { OnPrefix 128 length handle.old.tables handle.new.tables result
+    ensures answer { OnPrefix 128 length handle.old handle.new result
         (λ t u. (u ≡ t) × (result ≡ DONE)
         × Fills ipv6_back t.v6.entries v6_entry (v6_path high low length) inclusive count.new
         entries.old entries.new) }
@@ -273,10 +356,10 @@ pub extern "C" fn prefix_trie_c_v6_next(
     let Some(prefix) = Ipv6Prefix::new(joined(high, low), length) else {
         return LENGTH;
     };
-    let Some(tables) = handle.open(alloc) else {
-        return NO_TABLES;
+    let Some(mut tables) = handle.open(alloc) else {
+        return NULL;
     };
-    *count = calls::read_after(&tables.v6, &prefix, inclusive, entries);
+    *count = calls::read_after(&tables.as_mut().v6, &prefix, inclusive, entries);
     handle.close(tables);
     DONE
 }

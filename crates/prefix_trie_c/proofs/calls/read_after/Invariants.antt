@@ -5,4 +5,4 @@ use Rattle.prefix_trie_c.proofs.Arrays.{Reads}
 use Rattle.prefix_trie_c.proofs.calls.read_after.Given as goal
 
 abbrev pub invariant-loop-i : goal.invariant-loop-i
-invariant-loop-i g l = Reads (λ e. g.E.Entry.made (Some e)) (entries_after g.P.Prefix.back l.map.entries (g.P.Prefix.path l.prefix) l.inclusive) l.walk l.i l.entries
+invariant-loop-i g l = Reads (λ e. g.E.Entry.made (Some e)) (entries_after g.P.Prefix.back l.map.entries (g.P.Prefix.path l.prefix) l.inclusive) l.walk l.i l.initial.entries l.entries

@@ -4,7 +4,7 @@ use mir.Val.{Val, vptr, vnull, vcons, vnil}
 use base.Logic.{SProp, ent, emp, id⊢}
 use base.Fml.{ftrue}
 use prog.Wp.{WpFn}
-use types.Kit.{‵, raw, ◌⊛◌, at_ret, ◌$◌, ◌∵◌, !, qed, by, move, keep, split, fsplit, fjoin, suffices, use0, use1}
+use types.Kit.{‵, raw, ◌⊛◌, at_ret, ◌$◌, ◌∵◌, !, qed, by, move, keep, split, fsplit, join, fjoin, suffices, use0, use1}
 use types.Run.{stop, fld, lit, of_opd, bin, no_more, and_then, first, branches, exec, returns, enter}
 use types.ByLocal.{alloc_all, pass_all, free_all, look_at, get, get_in, sets, sets_last, env}
 use types.Part.{agg, sub, whole}
@@ -47,9 +47,9 @@ into_loose_spec 𝓤 𝓛 𝓜 𝓡 wired =
     sets ! (of_opd ! (get_in ! (fld ! refl (stop !)) (sub ! 0 refl (whole !)))) refl (tt, record { fits = lit< tt }) $ sets ! (of_opd ! (get_in ! (fld ! refl (stop !)) (sub ! 1 refl (whole !)))) refl gh $
     sets ! (bin ! (get ! refl) (lit ! tt) tt) refl (tt, tt) $ first ! $ branches ! (get ! refl)
     (λ _. sets_last ! (agg ! (and_then ! (lit ! tt) (no_more !))) refl (tt, (record { fits = lit< tt }, tt)) $ exec ! 𝓣.C 𝓣.Λ Ev (after 4 fn.body) (at_ret Ev Post) $ sets ! (of_opd ! (get ! refl)) refl (tt, (record { fits = lit< tt }, tt)) $
-    use0 𝓛 (‵ (Out.own_val None (live 0 vnil ∷ []))) (none_of 𝓛 Lr) $ use0 𝓛 (raw (fact 𝓤 (None ≡ d.tables))) (fact_i 𝓤 (None ≡ d.tables) (emp 𝓤) (sym is)) $ nothing ! $ nothing ! $ fjoin ! $
+    use0 𝓛 (‵ (Out.own_val None (live 0 vnil ∷ []))) (none_of 𝓛 Lr) $ use0 𝓛 (raw (fact 𝓤 (Unit {0}))) (fact_i 𝓤 (Unit {0}) (emp 𝓤) tt) $ use0 𝓛 (raw (fact 𝓤 (None ≡ d.tables))) (fact_i 𝓤 (None ≡ d.tables) (emp 𝓤) (sym is)) $ join ! $ nothing ! $ nothing ! $ fjoin ! $
     returns ! (look_at ! 0 refl) $ free_all ! refl $ keep ! (5 ∷ 0 ∷ 2 ∷ 1 ∷ []) $ by ! (leaves 𝓛 En hs c z (live 0 vnil) None (tt, tt) (tt, tt))) (λ wrong. absurd wrong)))
-    (λ b o y h is t ws gh. let w : Val = both (vptr b o) h in let made : Val = both (vptr b o) h in let typed = loose_good R Z LZ ghosts b o h gh in let v₁ : Val = live 1 (vcons made vnil) in
+    (λ b o y h is place t ws gh. let w : Val = both (vptr b o) h in let made : Val = both (vptr b o) h in let typed = loose_good R Z LZ ghosts b o h gh in let v₁ : Val = live 1 (vcons made vnil) in
     let x : Lr.Denot = record { at = block_ptr b o; alloc = a; value = y } in let good : Good (layout Out) v₁ = (and_tt _ typed.0, (record { fits = lit< tt }, (typed.1, tt))) in
     suffices ! (Run (w ∷ [])) (subst (λ (us : List Val). ent 𝓤 (Run (w ∷ [])) (Run us)) (sym (λ i. ws i ++ [])) (id⊢ 𝓤 (Run (w ∷ [])))) $
     enter ! 𝓣.C 𝓣.Λ fn (w ∷ []) Post $ alloc_all ! (λ l. pass_all ! refl (typed, tt) $ let Ev = env fn.locals l in
@@ -57,5 +57,5 @@ into_loose_spec 𝓤 𝓛 𝓜 𝓡 wired =
     sets ! (bin ! (get ! refl) (lit ! tt) (tests_null (block_ptr b o) t)) refl (tt, tt) $ first ! $ branches ! (get ! refl) (λ wrong. absurd wrong) (λ _.
     sets ! (of_opd ! (get ! refl)) refl (tt, tt) $ sets ! (agg ! (and_then ! (get ! refl) (and_then ! (get ! refl) (no_more !)))) refl typed $ sets_last ! (agg ! (and_then ! (lit ! tt) (and_then ! (get ! refl) (no_more !)))) refl good $
     exec ! 𝓣.C 𝓣.Λ Ev (after 4 fn.body) (at_ret Ev Post) $ sets ! (of_opd ! (get ! refl)) refl good $ loose_in R Z LZ ghosts ! b o h a y $
-    use1 𝓛 (‵ (Out.own_val (Some x) (v₁ ∷ []))) (Some-of 𝓛 Lr x made) $ use0 𝓛 (raw (fact 𝓤 (Some y ≡ d.tables))) (fact_i 𝓤 (Some y ≡ d.tables) (emp 𝓤) (sym is)) $ nothing ! $ nothing ! $ fjoin ! $
+    use1 𝓛 (‵ (Out.own_val (Some x) (v₁ ∷ []))) (Some-of 𝓛 Lr x made) $ use0 𝓛 (raw (fact 𝓤 (block_ptr b o ≡ d.at))) (fact_i 𝓤 (block_ptr b o ≡ d.at) (emp 𝓤) (sym place)) $ use0 𝓛 (raw (fact 𝓤 (Some y ≡ d.tables))) (fact_i 𝓤 (Some y ≡ d.tables) (emp 𝓤) (sym is)) $ join ! $ nothing ! $ nothing ! $ fjoin ! $
     returns ! (look_at ! 0 refl) $ free_all ! refl $ keep ! (4 ∷ 0 ∷ 2 ∷ 1 ∷ []) $ by ! (leaves 𝓛 En hs c z v₁ (Some x) (tt, tt) (tt, tt))))))

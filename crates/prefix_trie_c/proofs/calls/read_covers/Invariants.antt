@@ -1,0 +1,8 @@
+-- The invariant of the loop: the array begins with what was read, and the walk has the rest.
+use Rattle.std.proofs.Common.{Some}
+use Rattle.prefix_trie.specs.Terms.{covers, prefix_pairs}
+use Rattle.prefix_trie_c.proofs.Arrays.{Reads}
+use Rattle.prefix_trie_c.proofs.calls.read_covers.Given as goal
+
+abbrev pub invariant-loop-i : goal.invariant-loop-i
+invariant-loop-i g l = Reads (λ e. g.E.Entry.made (Some e)) (prefix_pairs g.P.Prefix.back (covers l.map.entries (g.P.Prefix.path l.prefix))) l.walk l.i l.initial.entries l.entries
