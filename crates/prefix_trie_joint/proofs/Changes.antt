@@ -41,24 +41,25 @@ module _ {T : Type 0} where
   none_kept true o e = e
   none_kept false o e = refl
 
-  -- the keys of both families that pass a test
-  pub kept : (a b : Entries T) (p : List Bool → Bool) → joined (retain_keys a (λ s. p (false ∷ s))) (retain_keys b (λ s. p (true ∷ s))) ≡ retain_keys (joined a b) p
-  kept a b p = same _ _
+  -- the keys that pass a test, which is a test of each family
+  pub kept_by : (a b : Entries T) (p q r : List Bool → Bool) → ((s : List Bool) → p (false ∷ s) ≡ q s) → ((s : List Bool) → p (true ∷ s) ≡ r s)
+      → joined (retain_keys a q) (retain_keys b r) ≡ retain_keys (joined a b) p
+  kept_by a b p q r f g = same _ _
       (get_neither _ _ ∙ sym (get_kept (joined a b) p [] ∙ none_kept (p []) _ (get_neither a b)))
-      (λ t. get_ipv4 _ _ t ∙ get_kept a _ t ∙ sym (get_kept (joined a b) p (false ∷ t) ∙ ap (λ o. cond (p (false ∷ t)) o None) (get_ipv4 a b t)))
-      (λ t. get_ipv6 _ _ t ∙ get_kept b _ t ∙ sym (get_kept (joined a b) p (true ∷ t) ∙ ap (λ o. cond (p (true ∷ t)) o None) (get_ipv6 a b t)))
+      (λ t. get_ipv4 _ _ t ∙ get_kept a q t ∙ sym (get_kept (joined a b) p (false ∷ t) ∙ ap₂ (λ x o. cond x o None) (f t) (get_ipv4 a b t)))
+      (λ t. get_ipv6 _ _ t ∙ get_kept b r t ∙ sym (get_kept (joined a b) p (true ∷ t) ∙ ap₂ (λ x o. cond x o None) (g t) (get_ipv6 a b t)))
+
+  all_kept : (m : Entries T) → m ≡ retain_keys m (λ _. true)
+  all_kept m = same_map listing_total listing_same m (retain_keys m (λ _. true)) (λ t. sym (get_kept m (λ _. true) t))
+
+  all_dropped : (m n : Entries T) → n ≡ no_entries → n ≡ retain_keys m (λ _. false)
+  all_dropped m n none = none ∙ same_map listing_total listing_same no_entries (retain_keys m (λ _. false)) (λ t. get-empty listing_cmp t ∙ sym (get_kept m (λ _. false) t))
 
   pub below_kept_ipv4 : (a b c : Entries T) (q : List Bool) → c ≡ without_below a q → joined c b ≡ without_below (joined a b) (false ∷ q)
-  below_kept_ipv4 a b c q is = rw is (same _ _
-      (get_neither _ b ∙ sym (get_kept (joined a b) _ [] ∙ none_kept _ _ (get_neither a b)))
-      (λ t. get_ipv4 _ b t ∙ get_kept a _ t ∙ sym (get_kept (joined a b) _ (false ∷ t) ∙ ap₂ (λ x o. cond (not x) o None) (begins_ipv4 q t) (get_ipv4 a b t)))
-      (λ t. get_ipv6 _ b t ∙ sym (get_kept (joined a b) _ (true ∷ t) ∙ ap₂ (λ x o. cond (not x) o None) (begins_apart q t) (get_ipv6 a b t))))
+  below_kept_ipv4 a b c q is = ap₂ joined is (all_kept b) ∙ kept_by a b _ _ _ (λ t. ap not (begins_ipv4 q t)) (λ t. ap not (begins_apart q t))
 
   pub below_kept_ipv6 : (a b c : Entries T) (q : List Bool) → c ≡ without_below b q → joined a c ≡ without_below (joined a b) (true ∷ q)
-  below_kept_ipv6 a b c q is = rw is (same _ _
-      (get_neither a _ ∙ sym (get_kept (joined a b) _ [] ∙ none_kept _ _ (get_neither a b)))
-      (λ t. get_ipv4 a _ t ∙ sym (get_kept (joined a b) _ (false ∷ t) ∙ ap₂ (λ x o. cond (not x) o None) (begins_apart_too q t) (get_ipv4 a b t)))
-      (λ t. get_ipv6 a _ t ∙ get_kept b _ t ∙ sym (get_kept (joined a b) _ (true ∷ t) ∙ ap₂ (λ x o. cond (not x) o None) (begins_ipv6 q t) (get_ipv6 a b t))))
+  below_kept_ipv6 a b c q is = ap₂ joined (all_kept a) is ∙ kept_by a b _ _ _ (λ t. ap not (begins_apart_too q t)) (λ t. ap not (begins_ipv6 q t))
 
   pub none_joined : (a b : Entries T) → a ≡ no_entries → b ≡ no_entries → joined a b ≡ no_entries
   none_joined a b e f = same _ _
@@ -84,16 +85,10 @@ module _ {T : Type 0} where
 
   -- the part of one family that is split off, with no entry of the other family
   pub part_ipv4 : (a b c d : Entries T) (q : List Bool) → c ≡ part_below a q → d ≡ no_entries → joined c d ≡ part_below (joined a b) (false ∷ q)
-  part_ipv4 a b c d q is none = same _ _
-      (get_neither c d ∙ sym (get_kept (joined a b) _ [] ∙ none_kept _ _ (get_neither a b)))
-      (λ t. get_ipv4 c d t ∙ ap (λ m. get m t) is ∙ get_kept a _ t ∙ sym (get_kept (joined a b) _ (false ∷ t) ∙ ap₂ (λ x o. cond x o None) (begins_ipv4 q t) (get_ipv4 a b t)))
-      (λ t. get_ipv6 c d t ∙ ap (λ m. get m t) none ∙ get-empty listing_cmp t ∙ sym (get_kept (joined a b) _ (true ∷ t) ∙ ap (λ x. cond x (get (joined a b) (true ∷ t)) None) (begins_apart q t)))
+  part_ipv4 a b c d q is none = ap₂ joined is (all_dropped b d none) ∙ kept_by a b _ _ _ (begins_ipv4 q) (begins_apart q)
 
   pub part_ipv6 : (a b c d : Entries T) (q : List Bool) → c ≡ no_entries → d ≡ part_below b q → joined c d ≡ part_below (joined a b) (true ∷ q)
-  part_ipv6 a b c d q none is = same _ _
-      (get_neither c d ∙ sym (get_kept (joined a b) _ [] ∙ none_kept _ _ (get_neither a b)))
-      (λ t. get_ipv4 c d t ∙ ap (λ m. get m t) none ∙ get-empty listing_cmp t ∙ sym (get_kept (joined a b) _ (false ∷ t) ∙ ap (λ x. cond x (get (joined a b) (false ∷ t)) None) (begins_apart_too q t)))
-      (λ t. get_ipv6 c d t ∙ ap (λ m. get m t) is ∙ get_kept b _ t ∙ sym (get_kept (joined a b) _ (true ∷ t) ∙ ap₂ (λ x o. cond x o None) (begins_ipv6 q t) (get_ipv6 a b t)))
+  part_ipv6 a b c d q none is = ap₂ joined (all_dropped a c none) is ∙ kept_by a b _ _ _ (begins_apart_too q) (begins_ipv6 q)
 
   -- the values of a copy are clones if those of each family are
   pub cloned_joined : (is_clone : T → T → Type 0) (a b c d : Entries T) → AreCloned is_clone a c → AreCloned is_clone b d → AreCloned is_clone (joined a b) (joined c d)

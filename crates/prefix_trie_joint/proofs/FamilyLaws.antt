@@ -1,5 +1,5 @@
 -- The joined entries follow from those of each family: the law for callers.
-use Rattle.std.proofs.Common.{◌≡◌, List, Bool, true, false, ◌∷◌, Option, None, Some, MatchOption, ap₂, sym, subst, ◌∙◌, refl}
+use Rattle.std.proofs.Common.{◌≡◌, List, Bool, true, false, ◌∷◌, Option, None, Some, MatchOption, sym, subst, refl}
 use Rattle.prefix_trie.specs.Terms.{ipv4_path, ipv6_path, longest_match, with_entry, with_match_at}
 use Rattle.std.specs.Option.{option_map}
 use Rattle.prefix_trie_table.specs.Model.Contents.{Contents}
@@ -13,7 +13,7 @@ use Rattle.prefix_trie_joint.specs.Lending.{with_longest_of, with_value_of}
 use Rattle.prefix_trie_joint.specs.Networks.{ip_path}
 use Rattle.prefix_trie_joint.proofs.Changes.{ipv4_of, ipv6_of, with_ipv4, with_ipv6}
 use Rattle.prefix_trie_joint.proofs.Joined.{get_ipv4, get_ipv6, get_neither, listing_joined}
-use Rattle.prefix_trie_joint.proofs.Matches.{longest_ipv4, longest_ipv6}
+use Rattle.prefix_trie_joint.proofs.Matches.{longest_of}
 use Rattle.prefix_trie_joint.proofs.Walks.{len_joined}
 
 pub written : {T A : Type 0} (m : JointPrefixMap T A) (p : IpPrefix) (x : T) → entries_of (with_value_of m p x) ≡ with_entry (entries_of m) (ip_path p) x
@@ -26,14 +26,14 @@ longest_written {T} {A} m (V4 network) x =
     let q = ipv4_path network in
     let new : Option (List Bool × T) → JointPrefixMap T A = λ o. record m { ipv4 = with_match_at m.ipv4 o x } in
     subst (λ (o : Option (List Bool × T)). MatchOption o (with_longest_of m (V4 network) x ≡ m) (λ e. entries_of (with_longest_of m (V4 network) x) ≡ with_entry (entries_of m) e.0 x))
-    (sym (longest_ipv4 m.ipv4.entries m.ipv6.entries q))
+    (sym (longest_of false m.ipv4.entries m.ipv6.entries q))
     (elim (longest_match m.ipv4.entries q) as (λ o. MatchOption (option_map {U = List Bool × T} (λ e. (false ∷ e.0, e.1)) o) (new o ≡ m) (λ e. entries_of (new o) ≡ with_entry (entries_of m) e.0 x))
     [ None ↦ refl | Some e ↦ with_ipv4 m.ipv4.entries m.ipv6.entries _ e.0 x refl ])
 longest_written {T} {A} m (V6 network) x =
     let q = ipv6_path network in
     let new : Option (List Bool × T) → JointPrefixMap T A = λ o. record m { ipv6 = with_match_at m.ipv6 o x } in
     subst (λ (o : Option (List Bool × T)). MatchOption o (with_longest_of m (V6 network) x ≡ m) (λ e. entries_of (with_longest_of m (V6 network) x) ≡ with_entry (entries_of m) e.0 x))
-    (sym (longest_ipv6 m.ipv4.entries m.ipv6.entries q))
+    (sym (longest_of true m.ipv4.entries m.ipv6.entries q))
     (elim (longest_match m.ipv6.entries q) as (λ o. MatchOption (option_map {U = List Bool × T} (λ e. (true ∷ e.0, e.1)) o) (new o ≡ m) (λ e. entries_of (new o) ≡ with_entry (entries_of m) e.0 x))
     [ None ↦ refl | Some e ↦ with_ipv6 m.ipv4.entries m.ipv6.entries _ e.0 x refl ])
 

@@ -1,10 +1,10 @@
--- Filling an entry with what a closure returns is an insertion in the family of its network.
+-- Filling an entry is an insertion in the family of its network.
 use denote.Param.Members.{Once}
 use Rattle.std.proofs.Common.{◌≡◌, ℕ, List, Bool, true, cond, Option, Some, is_some, MatchOption, MutBor, Result, OnOk, OnErr, IfErr, Ok, Err, refl, sym, subst, ap, ap₂, ◌∙◌}
 use Rattle.std.proofs.lemmas.Option.{same_Some}
 use Rattle.std.proofs.lemmas.Result.{on_ok_weaker}
 use Rattle.std.specs.FinMap.{contains_key, get}
-use Rattle.prefix_trie.specs.Terms.{Entries, with_entry}
+use Rattle.prefix_trie.specs.Terms.{with_entry}
 use Rattle.prefix_trie_bits.specs.Networks.{network_path}
 use Rattle.prefix_trie_bits.proofs.Model.Members.{get-with_entry, is-same_string}
 use Rattle.prefix_trie_bits.specs.Calls.Storage.{StepByPath}
@@ -28,9 +28,6 @@ use Rattle.prefix_trie_joint.proofs.Joined.{get_ipv4, get_ipv6}
 
 -- what an entry says of its map, at the map and path that it was made of
 module _ {T : Type 0} (width : ℕ) (m old new : Contents T) (r q : List Bool) (same : m ≡ old) (path : r ≡ q) where
-  pub fills_at : (v : T) → new.entries ≡ with_entry m.entries r v → StepByPath width (stored_state m) (Insert r v) (Value (get m.entries r)) (stored_state new) → FillsAt width q old new v
-  fills_at v entries step = subst (λ x. FillsAt width q x new v) same (subst (λ s. FillsAt width s m new v) path (record { entries = entries; step = step }))
-
   pub refuses_at : (cause : Refusal) → new.entries ≡ m.entries → ((x : T) → StepByPath width (stored_state m) (Insert r x) (model.Refused cause) (stored_state new)) → RefusesAt width q cause old new
   refuses_at cause entries step = subst (λ x. RefusesAt width q cause x new) same (subst (λ s. RefusesAt width s cause m new) path (record { entries = entries; step = step }))
 
@@ -91,3 +88,10 @@ module _ {T A : Type 0} (m n : JointPrefixMap T A) (p : IpPrefix) (v : T) (is : 
     entries = written n p x ∙ ap (λ es. with_entry es (ip_path p) x) is.entries ∙ entry_twice (entries_of m) (ip_path p) v x;
     step = step_again p x (get (entries_of m) (ip_path p)) is.step;
   }
+
+-- the map has what a call leaves of the stored value
+pub modified : {F T A : Type 0} (g : Once F (MutBor T × Unit {0}) (Unit {0} × (MutBor T × Unit {0}))) (f : F) (m : JointPrefixMap T A) (p : IpPrefix) (w : T) (lent : MutBor T)
+    → Some lent.now ≡ get (entries_of m) (ip_path p) → g.post f (lent, tt) (tt, (record lent { now = w }, tt)) → Modifies g f m p (with_value_of m p w)
+modified {F} {T} g f m p w lent has called =
+    subst (λ (o : Option T). MatchOption o (with_value_of m p w ≡ m) (λ v. (x : T) × MayLeave g f v x × (with_value_of m p w ≡ with_value_of m p x))) has
+    (w, record { lent = lent; left = record lent { now = w }; before = refl; called = called; after = refl }, refl)

@@ -9,7 +9,6 @@ pub mod Writing
 pub mod Resuming
 pub mod CollectedItems
 pub mod FamilyLaws
-pub mod Filling
 pub mod Filled
 pub mod Texts
 pub mod Units

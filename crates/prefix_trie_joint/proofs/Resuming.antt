@@ -31,38 +31,32 @@ module _ {T : Type 0} where
   after_is : (m : Entries T) (k : List Bool) → listing_after m k ≡ listing (retain_keys m (λ s. is_lt (listing_cmp k s)))
   after_is m k = sym (entries-retained m (λ s. is_lt (listing_cmp k s)))
 
+  -- two maps with the same values after k have the same entries there
+  same_after : (m n : Entries T) (k : List Bool) → ((s : List Bool) → is_lt (listing_cmp k s) ≡ true → get m s ≡ get n s) → listing_after m k ≡ listing_after n k
+  same_after m n k same =
+      after_is m k
+      ∙ ap listing (same_map listing_total listing_same (retain_keys m after) (retain_keys n after) (λ s. get_kept m after s ∙ each s (after s) refl ∙ sym (get_kept n after s)))
+      ∙ sym (after_is n k)
+    where
+      after : List Bool → Bool
+      after s = is_lt (listing_cmp k s)
+
+      each : (s : List Bool) (b : Bool) → is_lt (listing_cmp k s) ≡ b → cond b (get m s) None ≡ cond b (get n s) None
+      each s true e = same s e
+      each s false e = refl
+
   -- if each key after k passes a test, leaving out the keys that fail it changes nothing after k
   kept_after : (m : Entries T) (p : List Bool → Bool) (k : List Bool) → ((s : List Bool) → is_lt (listing_cmp k s) ≡ true → p s ≡ true)
       → listing_after (retain_keys m p) k ≡ listing_after m k
-  kept_after m p k on =
-      after_is (retain_keys m p) k
-      ∙ ap listing (same_map listing_total listing_same (retain_keys (retain_keys m p) after) (retain_keys m after) (λ s. get_kept (retain_keys m p) after s ∙ each s (after s) refl ∙ sym (get_kept m after s)))
-      ∙ sym (after_is m k)
-    where
-      after : List Bool → Bool
-      after s = is_lt (listing_cmp k s)
-
-      each : (s : List Bool) (b : Bool) → is_lt (listing_cmp k s) ≡ b → cond b (get (retain_keys m p) s) None ≡ cond b (get m s) None
-      each s true e = get_kept m p s ∙ ap (λ x. cond x (get m s) None) (on s e)
-      each s false e = refl
+  kept_after m p k on = same_after (retain_keys m p) m k (λ s e. get_kept m p s ∙ ap (λ x. cond x (get m s) None) (on s e))
 
   -- a value that is written at k changes nothing after k
   unwritten_after : (m : Entries T) (k : List Bool) (v : T) → listing_after (with_entry m k v) k ≡ listing_after m k
-  unwritten_after m k v =
-      after_is (with_entry m k v) k
-      ∙ ap listing (same_map listing_total listing_same (retain_keys (with_entry m k v) after) (retain_keys m after) (λ s. get_kept (with_entry m k v) after s ∙ each s (after s) refl ∙ sym (get_kept m after s)))
-      ∙ sym (after_is m k)
+  unwritten_after m k v = same_after (with_entry m k v) m k (λ s e. get-with_entry m k v s ∙ other s (lt-less (listing_cmp k s) e) (same_string s k) refl)
     where
-      after : List Bool → Bool
-      after s = is_lt (listing_cmp k s)
-
       other : (s : List Bool) → listing_cmp k s ≡ Less → (b : Bool) → same_string s k ≡ b → cond b (Some v) (get m s) ≡ get m s
       other s less true e = absurd ((listing_laws T).not_itself k s less (sym (same_string-is s k e)))
       other s less false e = refl
-
-      each : (s : List Bool) (b : Bool) → is_lt (listing_cmp k s) ≡ b → cond b (get (with_entry m k v) s) None ≡ cond b (get m s) None
-      each s true e = get-with_entry m k v s ∙ other s (lt-less (listing_cmp k s) e) (same_string s k) refl
-      each s false e = refl
 
   rest_after : (m : Entries T) (p : List Bool → Bool) → ((s t : List Bool) → p s ≡ true → listing_cmp s t ≡ Less → p t ≡ true)
       → (e : List Bool × T) (es : List (List Bool × T)) → filter (λ x. p x.0) (listing m) ≡ e ∷ es → listing_after m e.0 ≡ es

@@ -1,5 +1,5 @@
 -- What a call changes in the maps of both families. This project's own.
-use Rattle.std.specs.Prelude.{◌≡◌, ℕ, ◌-◌, ◌^◌, ◌<◌, List, Bool, length}
+use Rattle.std.specs.Prelude.{◌≡◌, ℕ, ◌<◌, List, Bool, length}
 use Rattle.std.specs.FinMap.{len}
 use Rattle.prefix_trie.specs.Terms.{BoundsStorageGrowth, IsPacked, IsWhole, needed, network_path, no_entries, root_alone}
 use Rattle.prefix_trie_bits.specs.Calls.SplitsOff.{SplitsOffInStorage}

@@ -8,9 +8,11 @@
 
 pub mod laws;
 pub mod map;
+mod networks;
 pub mod prefix;
 pub mod set;
 
 pub use map::JointPrefixMap;
+pub use networks::Networks;
 pub use prefix::{IpPrefix, IpSubnets};
 pub use set::JointPrefixSet;

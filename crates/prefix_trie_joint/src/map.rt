@@ -2,30 +2,26 @@
 //!
 //! Contracts see the entries of both families as one finite map. Its keys are the bit of the family,
 //! 0 for IPv4 and 1 for IPv6, and then the path of the network.
-ghost use Rattle.std.specs.Prelude.{◌≡◌, ◌-◌, ◌<◌, ◌^◌, ◌↔◌, IfErr, IfOk, IsErr, IsTrue, OnErr, OnOk};
+ghost use Rattle.std.specs.Prelude.{◌≡◌, ◌⊎◌, ◌-◌, ◌<◌, ◌^◌, ◌↔◌, IfErr, IfOk, IsErr, IsTrue, OnErr, OnOk};
 ghost use Rattle.std.specs.FinMap.{get, len};
 ghost use Rattle.prefix_trie_bits.specs.declared.prefix.Refusal.TheVariants.{IndexRange, Memory};
 ghost use Rattle.prefix_trie_bits.specs.Model.Step.{Insert};
 ghost use Rattle.prefix_trie_table.specs.Steps.{insert_reply};
+ghost use Rattle.prefix_trie_table.specs.Model.Contents.{stored_state};
+ghost use Rattle.prefix_trie_table.specs.Copies.{AreCloned};
 ghost use Rattle.prefix_trie.specs.Terms.{no_entries, with_entry};
-ghost use Rattle.prefix_trie_joint.specs.Changes.{maps_of, AreNew, AreWhole, StepOnFamily};
+ghost use Rattle.prefix_trie_joint.specs.Changes.{maps_of, AreNew, AreStoredAlike, AreWhole, IsCompacted, OnEach, StepOnFamily};
 ghost use Rattle.prefix_trie_joint.specs.Joined.{entries_of};
 ghost use Rattle.prefix_trie_joint.specs.Networks.{ip_path};
 
 mod collecting;
-mod copying;
-mod counting;
 mod cover;
 pub mod entry;
 mod equality;
-mod fmt;
 mod into_iter;
-mod lending;
 mod lookup;
-mod memory;
 mod removal;
 mod retain;
-mod splitting;
 mod walks;
 mod writing;
 
@@ -34,7 +30,7 @@ pub use cover::{Cover, CoverKeys, CoverValues};
 pub use entry::Entry;
 pub use into_iter::{IntoIter, IntoKeys, IntoValues};
 use prefix_trie::{Ipv4Prefix, Ipv6Prefix, PrefixMap, Refusal, Refused};
-use std::alloc::Allocator;
+use std::alloc::{AllocError, Allocator};
 pub use walks::{Iter, Keys, Values};
 pub use writing::{IterMut, ValuesMut};
 
@@ -129,6 +125,40 @@ impl<T: Drop, A: Allocator + Clone> JointPrefixMap<T, A> {
             ipv6: PrefixMap::with_slot_limit(second, limit)?,
         })
     }
+
+    /// Moves the entries of each family to new arrays that are as small as the entries allow, in listing order.
+    ///
+    /// The old arrays of a family are freed before those of the next family are made.
+    ///
+    /// # Errors
+    ///
+    /// Returns `Memory` if an allocation fails. The IPv4 map is then compacted or as it was, and the
+    /// IPv6 map is as it was. The entries are the same in every case.
+    ///
+    /// # Examples
+    ///
+    /// ```rust
+    /// // map = {10.1.0.0/16: 1, 10.1.2.0/24: 2, 2001:db8::/32: 3}
+    /// map.remove(&"10.1.2.0/24".parse()?);
+    /// map.compact()?;
+    /// (map.ipv4.node_slots(), map.ipv4.cell_slots());     // (4, 1): as in a new map with 10.1.0.0/16 alone
+    /// ```
+    pub fn compact(&mut self) -> Result<(), Refusal>
+        ensures entries { entries_of self.new ≡ entries_of self.old }
+        ensures compacted { OnOk result
+            (OnEach (λ width. IsCompacted) (maps_of self.old) (maps_of self.new)) }
+
+        // If the IPv6 map is not compacted, the IPv4 map may be.
+        ensures ipv4_after { OnErr result
+            ((stored_state self.new.ipv4 ≡ stored_state self.old.ipv4)
+            ⊎ IsCompacted self.old.ipv4 self.new.ipv4) }
+        ensures ipv6_stays { OnErr result
+            (stored_state self.new.ipv6 ≡ stored_state self.old.ipv6) }
+        ensures only_memory { IfErr result (λ cause. cause ≡ Memory) }
+    {
+        self.ipv4.compact()?;
+        self.ipv6.compact()
+    }
 }
 
 impl<T: Drop, A: Allocator> JointPrefixMap<T, A> {
@@ -207,5 +237,61 @@ impl<T: Drop, A: Allocator> JointPrefixMap<T, A> {
             IpPrefix::V4(network) => self.ipv4.insert(network, value),
             IpPrefix::V6(network) => self.ipv6.insert(network, value),
         }
+    }
+
+    /// Frees the memory that the map has reserved and does not use.
+    ///
+    /// # Errors
+    ///
+    /// Returns an error if memory of a smaller size could not be allocated. Some may have been freed
+    /// until then. In both cases the map is the same.
+    ///
+    /// # Examples
+    ///
+    /// ```rust
+    /// // map = {10.1.0.0/16: 1, 2001:db8::/32: 2}
+    /// map.shrink_to_fit()?;
+    /// map.len();                  // 2
+    /// ```
+    pub fn shrink_to_fit(&mut self) -> Result<(), AllocError>
+        ensures { self.new ≡ self.old }
+    {
+        self.ipv4.shrink_to_fit()?;
+        self.ipv6.shrink_to_fit()
+    }
+}
+
+impl<T: Clone, A: Allocator + Clone> JointPrefixMap<T, A> {
+    /// Creates a map with the same networks, whose values are clones, in memory of its own.
+    ///
+    /// Each value is cloned once.
+    ///
+    /// # Errors
+    ///
+    /// Returns an error if an allocation fails, for the arrays or in the clone of a value. No copy
+    /// exists then.
+    ///
+    /// # Examples
+    ///
+    /// ```rust
+    /// // map = {2001:db8::/32: 1}
+    /// let mut copy = map.clone()?;
+    /// copy.insert("2001:db8::/32".parse()?, 2)?;      // Some(1)
+    /// map.get(&"2001:db8::/32".parse()?);             // Some(1): the two share nothing
+    /// ```
+    #[tactic(auto, using(crate::proofs::Changes::cloned_joined))]
+    pub fn clone(&self) -> Result<Self, AllocError>
+        ensures entries { IfOk result
+            (λ copy. AreCloned T.is_clone (entries_of self.now) (entries_of copy)) }
+        ensures storage { IfOk result
+            (λ copy. OnEach (λ width. AreStoredAlike) (maps_of self.now) (maps_of copy)) }
+
+        // If a clone of a value equals it, contracts see the same map.
+        ensures same { IfOk result
+            (λ copy. ((x y : T) → T.is_clone x y → y ≡ x) → copy ≡ self.now) }
+    {
+        let ipv4 = self.ipv4.clone()?;
+        let ipv6 = self.ipv6.clone()?;
+        Ok(JointPrefixMap { ipv4, ipv6 })
     }
 }

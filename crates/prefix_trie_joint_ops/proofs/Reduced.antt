@@ -9,9 +9,9 @@ use Rattle.prefix_trie_ops.proofs.RedundantEntries.{gone_entries}
 use Rattle.prefix_trie_ops.proofs.SmallestSets.{below_is_above}
 use Rattle.prefix_trie_ops.proofs.Uppermost.{uppermost_entries}
 use Rattle.prefix_trie_joint.specs.Joined.{joined, under}
+use Rattle.prefix_trie_joint.proofs.Changes.{kept_by}
 use Rattle.prefix_trie_joint.proofs.Joined.{get_ipv4, get_ipv6, listing_joined}
-use Rattle.prefix_trie_joint.proofs.Matches.{filter_append, filter_none, longest_value_ipv4, longest_value_ipv6}
-use Rattle.prefix_trie_joint_ops.proofs.Combined.{kept_by}
+use Rattle.prefix_trie_joint.proofs.Matches.{filter_append, filter_none, longest_value}
 
 none_begins : (b : Bool) (s : List Bool) → begins (b ∷ s) [] ≡ false
 none_begins b s = begins-longer (b ∷ s) [] (omega arith)
@@ -32,35 +32,26 @@ module _ {T : Type 0} where
       ∙ filter_append (λ e. begins e.0 []) (under false (listing a)) (under true (listing b))
       ∙ ap₂ (λ xs ys. xs ++ ys) (filter_none false (λ s. begins s []) (none_begins false) (listing a)) (filter_none true (λ s. begins s []) (none_begins true) (listing b)))
 
-  above_ipv4 : (a b : Entries T) (s : List Bool) → value_above (joined a b) (false ∷ s) ≡ value_above a s
-  above_ipv4 a b [] = above_at (joined a b) false [] ∙ value_of_none a b
-  above_ipv4 a b (x ∷ s) = above_at (joined a b) false (x ∷ s) ∙ longest_value_ipv4 a b (take (length s) (x ∷ s)) ∙ sym (above_at a x s)
-
-  above_ipv6 : (a b : Entries T) (s : List Bool) → value_above (joined a b) (true ∷ s) ≡ value_above b s
-  above_ipv6 a b [] = above_at (joined a b) true [] ∙ value_of_none a b
-  above_ipv6 a b (x ∷ s) = above_at (joined a b) true (x ∷ s) ∙ longest_value_ipv6 a b (take (length s) (x ∷ s)) ∙ sym (above_at b x s)
+  above_of : (f : Bool) (a b : Entries T) (s : List Bool) → value_above (joined a b) (f ∷ s) ≡ value_above (cond f b a) s
+  above_of f a b [] = above_at (joined a b) f [] ∙ value_of_none a b
+  above_of f a b (x ∷ s) = above_at (joined a b) f (x ∷ s) ∙ longest_value f a b (take (length s) (x ∷ s)) ∙ sym (above_at (cond f b a) x s)
 
   module _ (eq : T → T → Bool) where
-    pub redundant_ipv4 : (a b : Entries T) (s : List Bool) → is_redundant eq (joined a b) (false ∷ s) ≡ is_redundant eq a s
-    redundant_ipv4 a b s = ap₂ (are_equal eq) (above_ipv4 a b s) (get_ipv4 a b s)
-
-    pub redundant_ipv6 : (a b : Entries T) (s : List Bool) → is_redundant eq (joined a b) (true ∷ s) ≡ is_redundant eq b s
-    redundant_ipv6 a b s = ap₂ (are_equal eq) (above_ipv6 a b s) (get_ipv6 a b s)
+    pub redundant_of : (f : Bool) (a b : Entries T) (s : List Bool) → is_redundant eq (joined a b) (f ∷ s) ≡ is_redundant eq (cond f b a) s
+    redundant_of false a b s = ap₂ (are_equal eq) (above_of false a b s) (get_ipv4 a b s)
+    redundant_of true a b s = ap₂ (are_equal eq) (above_of true a b s) (get_ipv6 a b s)
 
     -- the joint map without its redundant entries
     pub reduced : (a b c d : Entries T) → listing c ≡ filter (stays eq a) (listing a) → listing d ≡ filter (stays eq b) (listing b) → joined c d ≡ without_redundant eq (joined a b)
     reduced a b c d e f =
         ap₂ joined (gone_entries eq a c e) (gone_entries eq b d f)
-        ∙ kept_by a b _ _ _ (λ s. ap not (redundant_ipv4 a b s)) (λ s. ap not (redundant_ipv6 a b s))
+        ∙ kept_by a b _ _ _ (λ s. ap not (redundant_of false a b s)) (λ s. ap not (redundant_of true a b s))
 
-  pub below_ipv4 : (a b : Entries T) (s : List Bool) → is_below_another (joined a b) (false ∷ s) ≡ is_below_another a s
-  below_ipv4 a b s = below_is_above (joined a b) (false ∷ s) ∙ ap is_some (above_ipv4 a b s) ∙ sym (below_is_above a s)
-
-  pub below_ipv6 : (a b : Entries T) (s : List Bool) → is_below_another (joined a b) (true ∷ s) ≡ is_below_another b s
-  below_ipv6 a b s = below_is_above (joined a b) (true ∷ s) ∙ ap is_some (above_ipv6 a b s) ∙ sym (below_is_above b s)
+  pub below_another_of : (f : Bool) (a b : Entries T) (s : List Bool) → is_below_another (joined a b) (f ∷ s) ≡ is_below_another (cond f b a) s
+  below_another_of f a b s = below_is_above (joined a b) (f ∷ s) ∙ ap is_some (above_of f a b s) ∙ sym (below_is_above (cond f b a) s)
 
   -- the joint set without its covered keys
   pub uppermost : (a b c d : Entries T) → listing c ≡ filter (is_uppermost a) (listing a) → listing d ≡ filter (is_uppermost b) (listing b) → joined c d ≡ without_covered (joined a b)
   uppermost a b c d e f =
       ap₂ joined (uppermost_entries a c e) (uppermost_entries b d f)
-      ∙ kept_by a b _ _ _ (λ s. ap not (below_ipv4 a b s)) (λ s. ap not (below_ipv6 a b s))
+      ∙ kept_by a b _ _ _ (λ s. ap not (below_another_of false a b s)) (λ s. ap not (below_another_of true a b s))

@@ -3,13 +3,11 @@
 mod aggregation;
 mod comparing;
 mod covering_union_walk;
-mod optimal;
 mod walks;
 
-pub use aggregation::aggregate_consistent;
+pub use aggregation::{aggregate, aggregate_consistent, aggregated};
 pub use comparing::{intersects, is_disjoint, is_subset};
 pub use covering_union_walk::{CoveringUnionWalk, covering_union};
-pub use optimal::{aggregate, aggregated};
 pub use walks::{
     CoveringDifferenceWalk, DifferenceWalk, IntersectionWalk, UnionWalk, covering_difference,
     difference, intersection, union,

@@ -102,7 +102,7 @@ impl<'a, T: Drop, A: Allocator> Model for Cover<'a, T, A> {
 impl<'a, T: Drop, A: Allocator> Cover<'a, T, A> {
     /// Returns a walk over the entries of a map for each family whose networks contain a network.
     #[inline]
-    #[tactic(auto, using(crate::proofs::Walks::walk_covers_ipv4, crate::proofs::Walks::walk_covers_ipv6, crate::proofs::Walks::covers_counted_ipv4, crate::proofs::Walks::covers_counted_ipv6, crate::proofs::Walks::covers_few_ipv4, crate::proofs::Walks::covers_few_ipv6))]
+    #[tactic(auto, using(crate::proofs::Walks::walk_covers, crate::proofs::Walks::covers_counted_ipv4, crate::proofs::Walks::covers_counted_ipv6, crate::proofs::Walks::covers_length))]
     pub(crate) fn of(
         ipv4: &'a PrefixMap<Ipv4Prefix, T, A>,
         ipv6: &'a PrefixMap<Ipv6Prefix, T, A>,

@@ -20,7 +20,7 @@ use std::alloc::Allocator;
 /// A network of a joint map, stored or not.
 ///
 /// It borrows the map of both families, so each call looks the network up, and a call that may insert
-/// and then returns the value does so two or three times. The entry of one family,
+/// and then returns the value does so twice. The entry of one family,
 /// `map.ipv6.entry(network)`, looks it up once for several calls.
 #[derive(Drop)]
 pub struct Entry<'a, T: Drop, A: Allocator> {

@@ -1,4 +1,4 @@
-//! Equality of maps.
+//! Equality and debug output of maps.
 ghost use Rattle.std.specs.Prelude.{◌&&◌};
 ghost use Rattle.std.specs.Cmp.Lexicographic.{pointwise, lists_per, lists_equiv};
 ghost use Rattle.std.specs.Cmp.{and_equiv, and_per, on_equiv, on_per, partial_equiv_from_equiv};
@@ -10,6 +10,7 @@ ghost use Rattle.prefix_trie_joint.specs.Networks.{ip_back};
 use crate::map::JointPrefixMap;
 use crate::prefix::IpPrefix;
 use std::alloc::Allocator;
+use std::fmt::{self, Debug, Formatter, Write};
 
 /// Compares the listings of two maps, as `PrefixMap` does.
 ///
@@ -43,4 +44,20 @@ impl<T: Eq + Drop, A: Allocator> Eq for JointPrefixMap<T, A> {
         (λ m. prefix_pairs ip_back (listing (entries_of m)))
         (lists_equiv (and_equiv (on_equiv (λ e. e.0) ip_equiv)
         (on_equiv (λ e. e.1) T.Eq.laws))) };
+}
+
+/// Writes the map of each family, as `PrefixMap` is written.
+///
+/// # Examples
+///
+/// ```rust
+/// // map = {10.0.0.0/8: 1}
+/// map;    // JointPrefixMap { ipv4: {10.0.0.0/8: { value: 1 }}, ipv6: {} }
+/// ```
+impl<T: Debug + Drop, A: Allocator> Debug for JointPrefixMap<T, A> {
+    fn fmt<F: Write>(&self, f: &mut Formatter<F>) -> fmt::Result {
+        let ipv4 = &self.ipv4;
+        let ipv6 = &self.ipv6;
+        write!(f, "JointPrefixMap {{ ipv4: {ipv4:?}, ipv6: {ipv6:?} }}")
+    }
 }

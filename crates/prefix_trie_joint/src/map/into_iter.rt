@@ -13,9 +13,9 @@ ghost use Rattle.prefix_trie_joint.specs.Networks.{ip_back, ip_path};
 
 use crate::map::JointPrefixMap;
 use crate::map::walks::known_few;
+use crate::networks::Networks;
 use crate::prefix::IpPrefix;
-use prefix_trie::map::{self, Keyed, KeysOf};
-use prefix_trie::{Ipv4Prefix, Ipv6Prefix, Prefix, PrefixMap};
+use prefix_trie::{Ipv4Prefix, Ipv6Prefix, Prefix, PrefixMap, map};
 use std::alloc::{AllocError, Allocator};
 use std::iter::IntoIterator;
 use std::marker::Model;
@@ -33,7 +33,7 @@ impl<T: Drop, A: Allocator> JointPrefixMap<T, A> {
     /// map.into_children(&"10.1.0.0/16".parse()?);     // [(V4(10.1.0.0/16), 2)]
     /// ```
     #[inline]
-    #[tactic(auto, using(crate::proofs::Walks::walk_below_ipv4, crate::proofs::Walks::walk_below_ipv6, crate::proofs::Walks::few_below_ipv4, crate::proofs::Walks::few_below_ipv6))]
+    #[tactic(auto, using(crate::proofs::Walks::walk_below, crate::proofs::Walks::few_below_ipv4, crate::proofs::Walks::few_below_ipv6))]
     pub fn into_children(self, prefix: &IpPrefix) -> IntoIter<T, A>
         ensures items { result
             ≡ prefix_pairs ip_back (listing_below (entries_of self) (ip_path prefix.now)) }
@@ -64,12 +64,13 @@ impl<T: Drop, A: Allocator> JointPrefixMap<T, A> {
     /// map.into_keys().next();     // Some(V4(10.0.0.0/8))
     /// ```
     #[inline]
+    #[tactic(auto, using(crate::proofs::Walks::networks_joined, crate::proofs::Walks::count_networks, crate::proofs::Walks::len_joined))]
     pub fn into_keys(self) -> IntoKeys<T, A>
         ensures items { result ≡ map (λ e. ip_back e.0) (listing (entries_of self)) }
         ensures counted { length result ≡ len (entries_of self) }
         ensures fits { len (entries_of self) < 2 ^ 64 }
     {
-        KeysOf::new(self.into_iter())
+        Networks::new(self.ipv4.into_keys(), self.ipv6.into_keys())
     }
 
     /// Consumes the map and returns a walk over its values, in the order of `iter`.
@@ -197,24 +198,11 @@ impl<T: Drop, A: Allocator> Iterator for IntoIter<T, A> {
     }
 }
 
-impl<T: Drop, A: Allocator> Keyed for IntoIter<T, A> {
-    ghost use Rattle.std.specs.Prelude.{map};
-
-    type Key = IpPrefix;
-
-    ghost keys = { map (λ e. e.0) };
-
-    #[inline]
-    fn next_key(&mut self) -> Option<IpPrefix> {
-        let Some((network, _value)) = self.next() else {
-            return None;
-        };
-        Some(network)
-    }
-}
-
 /// The networks of a joint map in the order of `iter`, without host bits. The values are dropped.
-pub type IntoKeys<T, A> = KeysOf<IntoIter<T, A>>;
+pub type IntoKeys<T, A> = Networks<
+    map::IntoIter<Ipv4Prefix, T, A>,
+    map::IntoIter<Ipv6Prefix, T, A>,
+>;
 
 /// The values of a joint map, moved out in the order of `iter`.
 #[derive(Drop)]

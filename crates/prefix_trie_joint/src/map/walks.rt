@@ -10,8 +10,9 @@ ghost use Rattle.prefix_trie_joint.specs.Joined.{entries_of, joined};
 ghost use Rattle.prefix_trie_joint.specs.Networks.{ip_back, ip_path};
 
 use crate::map::JointPrefixMap;
+use crate::networks::Networks;
 use crate::prefix::IpPrefix;
-use prefix_trie::map::{self, Keyed, KeysOf};
+use prefix_trie::map::{self, KeysOf};
 use prefix_trie::{Ipv4Prefix, Ipv6Prefix, PrefixMap};
 use std::alloc::Allocator;
 use std::iter::IntoIterator;
@@ -31,12 +32,16 @@ impl<T: Drop, A: Allocator> JointPrefixMap<T, A> {
     /// map.iter().next();  // Some((V4(10.0.0.0/8), 2))
     /// ```
     #[inline]
+    #[tactic(auto, using(crate::proofs::Walks::walk_joined, crate::proofs::Walks::count_joined, crate::proofs::Walks::len_joined))]
     pub fn iter(&self) -> Iter<'_, T, A>
         ensures items { result ≡ prefix_pairs ip_back (listing (entries_of self.now)) }
         ensures counted { length result ≡ len (entries_of self.now) }
         ensures fits { len (entries_of self.now) < 2 ^ 64 }
     {
-        Iter::all(&self.ipv4, &self.ipv6)
+        Iter {
+            ipv4: self.ipv4.iter(),
+            ipv6: self.ipv6.iter(),
+        }
     }
 
     /// Returns a walk over the networks, in the order of `iter`.
@@ -48,12 +53,13 @@ impl<T: Drop, A: Allocator> JointPrefixMap<T, A> {
     /// map.keys();     // [V4(9.0.0.0/8), V4(10.0.0.0/8), V6(0000:0000:0000:0000:0000:0000:0000:0000/0)]
     /// ```
     #[inline]
+    #[tactic(auto, using(crate::proofs::Walks::networks_joined, crate::proofs::Walks::count_networks, crate::proofs::Walks::len_joined))]
     pub fn keys(&self) -> Keys<'_, T, A>
         ensures items { result ≡ map (λ e. ip_back e.0) (listing (entries_of self.now)) }
         ensures counted { length result ≡ len (entries_of self.now) }
         ensures fits { len (entries_of self.now) < 2 ^ 64 }
     {
-        KeysOf::new(self.iter())
+        Networks::new(self.ipv4.keys(), self.ipv6.keys())
     }
 
     /// Returns a walk over the values, in the order of `iter`.
@@ -152,27 +158,9 @@ impl<'a, T: Drop, A: Allocator> Model for Iter<'a, T, A> {
 }
 
 impl<'a, T: Drop, A: Allocator> Iter<'a, T, A> {
-    /// Returns a walk over the entries of a map for each family.
-    #[inline]
-    #[tactic(auto, using(crate::proofs::Walks::walk_joined, crate::proofs::Walks::count_joined, crate::proofs::Walks::len_joined))]
-    pub(crate) fn all(
-        ipv4: &'a PrefixMap<Ipv4Prefix, T, A>,
-        ipv6: &'a PrefixMap<Ipv6Prefix, T, A>,
-    ) -> Self
-        ensures items { result
-            ≡ prefix_pairs ip_back (listing (joined ipv4.now.entries ipv6.now.entries)) }
-        ensures counted { length result ≡ len (joined ipv4.now.entries ipv6.now.entries) }
-        ensures fits { len (joined ipv4.now.entries ipv6.now.entries) < 2 ^ 64 }
-    {
-        Iter {
-            ipv4: ipv4.iter(),
-            ipv6: ipv6.iter(),
-        }
-    }
-
     /// Returns a walk over the entries after a network, its own included if `inclusive` is true.
     #[inline]
-    #[tactic(auto, using(crate::proofs::Walks::from_ipv4, crate::proofs::Walks::from_ipv6, crate::proofs::Walks::few_from_ipv6))]
+    #[tactic(auto, using(crate::proofs::Walks::walk_from, crate::proofs::Walks::few_from_ipv6))]
     pub(crate) fn after(
         ipv4: &'a PrefixMap<Ipv4Prefix, T, A>,
         ipv6: &'a PrefixMap<Ipv6Prefix, T, A>,
@@ -199,7 +187,7 @@ impl<'a, T: Drop, A: Allocator> Iter<'a, T, A> {
 
     /// Returns a walk over the entries that a network contains.
     #[inline]
-    #[tactic(auto, using(crate::proofs::Walks::walk_below_ipv4, crate::proofs::Walks::walk_below_ipv6, crate::proofs::Walks::few_below_ipv4, crate::proofs::Walks::few_below_ipv6))]
+    #[tactic(auto, using(crate::proofs::Walks::walk_below, crate::proofs::Walks::few_below_ipv4, crate::proofs::Walks::few_below_ipv6))]
     pub(crate) fn below(
         ipv4: &'a PrefixMap<Ipv4Prefix, T, A>,
         ipv6: &'a PrefixMap<Ipv6Prefix, T, A>,
@@ -220,6 +208,16 @@ impl<'a, T: Drop, A: Allocator> Iter<'a, T, A> {
                 ipv6: ipv6.children(&network),
             },
         }
+    }
+
+    /// Returns a walk over the networks of the items to come.
+    #[inline]
+    #[tactic(auto, using(crate::proofs::Walks::networks_of_both))]
+    pub(crate) fn networks(self) -> Keys<'a, T, A>
+        ensures { result ≡ map (λ e. e.0) self.entry }
+    {
+        let Iter { ipv4, ipv6 } = self;
+        Networks::new(KeysOf::new(ipv4), KeysOf::new(ipv6))
     }
 
     /// Returns a walk with the same items to come.
@@ -278,24 +276,11 @@ impl<'a, T: Drop, A: Allocator> Iterator for Iter<'a, T, A> {
     }
 }
 
-impl<'a, T: Drop, A: Allocator> Keyed for Iter<'a, T, A> {
-    ghost use Rattle.std.specs.Prelude.{map};
-
-    type Key = IpPrefix;
-
-    ghost keys = { map (λ e. e.0) };
-
-    #[inline]
-    fn next_key(&mut self) -> Option<IpPrefix> {
-        let Some((network, _)) = self.next() else {
-            return None;
-        };
-        Some(network)
-    }
-}
-
 /// The networks of a joint map in the order of `iter`, without host bits.
-pub type Keys<'a, T, A> = KeysOf<Iter<'a, T, A>>;
+pub type Keys<'a, T, A> = Networks<
+    map::Iter<'a, Ipv4Prefix, T, A>,
+    map::Iter<'a, Ipv6Prefix, T, A>,
+>;
 
 /// The values of a joint map, borrowed in the order of `iter`.
 #[derive(Drop)]

@@ -1,13 +1,14 @@
-//! Lookups in a set by exact network, by longest match and by shortest match.
+//! Lookups in a set by exact network, by longest match and by shortest match, and the number of covered addresses.
 ghost use Rattle.std.specs.Prelude.{◌≡◌};
 ghost use Rattle.std.specs.FinMap.{contains_key, get};
 ghost use Rattle.std.specs.Option.{is_some, option_map};
-ghost use Rattle.prefix_trie.specs.Terms.{longest_match, shortest_match};
+ghost use Rattle.prefix_trie.specs.Terms.{address_total, longest_match, shortest_match};
 ghost use Rattle.prefix_trie_joint.specs.Joined.{keys_of};
 ghost use Rattle.prefix_trie_joint.specs.Networks.{ip_back, ip_path};
 
 use crate::prefix::IpPrefix;
 use crate::set::JointPrefixSet;
+use prefix_trie::laws::network_laws;
 use std::alloc::Allocator;
 
 impl<A: Allocator> JointPrefixSet<A> {
@@ -86,7 +87,7 @@ impl<A: Allocator> JointPrefixSet<A> {
     /// set.get_lpm(&"2001:db8::/32".parse()?);     // None
     /// ```
     #[inline(always)]
-    #[tactic(auto, using(crate::proofs::Matches::longest_prefix_ipv4, crate::proofs::Matches::longest_prefix_ipv6))]
+    #[tactic(auto, using(crate::proofs::Matches::longest_prefix))]
     pub fn get_lpm(&self, prefix: &IpPrefix) -> Option<IpPrefix>
         ensures { result
             ≡ option_map (λ found. ip_back found.0)
@@ -109,7 +110,7 @@ impl<A: Allocator> JointPrefixSet<A> {
     /// set.get_spm(&"2001:db8::/32".parse()?);     // None
     /// ```
     #[inline(always)]
-    #[tactic(auto, using(crate::proofs::Matches::shortest_prefix_ipv4, crate::proofs::Matches::shortest_prefix_ipv6))]
+    #[tactic(auto, using(crate::proofs::Matches::shortest_prefix))]
     pub fn get_spm(&self, prefix: &IpPrefix) -> Option<IpPrefix>
         ensures { result
             ≡ option_map (λ found. ip_back found.0)
@@ -120,5 +121,27 @@ impl<A: Allocator> JointPrefixSet<A> {
             IpPrefix::V4(network) => self.ipv4.get_spm(network).map(IpPrefix::V4),
             IpPrefix::V6(network) => self.ipv6.get_spm(network).map(IpPrefix::V6),
         }
+    }
+
+    /// Returns the number of IPv4 addresses and the number of IPv6 addresses that the networks contain.
+    ///
+    /// Each address is counted once. A number is `None` exactly if all addresses of the family are
+    /// covered, since it does not fit then.
+    ///
+    /// # Examples
+    ///
+    /// ```rust
+    /// // set = {192.0.2.0/24, 192.0.2.128/25, 2001:db8::/126}
+    /// set.address_count();                    // (Some(256), Some(4))
+    /// set.insert("::/0".parse()?)?;
+    /// set.address_count();                    // (Some(256), None): 2^128 is no u128
+    /// ```
+    #[inline]
+    pub fn address_count(&self) -> (Option<u32>, Option<u128>)
+        ensures ipv4 { result.0 ≡ address_total 32 self.now.ipv4.entries }
+        ensures ipv6 { result.1 ≡ address_total 128 self.now.ipv6.entries }
+    {
+        network_laws();
+        (self.ipv4.address_count(), self.ipv6.address_count())
     }
 }

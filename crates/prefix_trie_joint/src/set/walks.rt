@@ -8,6 +8,7 @@ ghost use Rattle.prefix_trie_joint.specs.Joined.{keys_of};
 ghost use Rattle.prefix_trie_joint.specs.Networks.{ip_back, ip_path};
 
 use crate::map;
+use crate::networks::Networks;
 use crate::prefix::IpPrefix;
 use crate::set::JointPrefixSet;
 use prefix_trie::map::KeysOf;
@@ -30,12 +31,13 @@ impl<A: Allocator> JointPrefixSet<A> {
     /// set.iter();     // [V4(9.0.0.0/8), V4(10.0.0.0/8), V6(0000:0000:0000:0000:0000:0000:0000:0000/0)]
     /// ```
     #[inline]
+    #[tactic(auto, using(crate::proofs::Walks::networks_joined, crate::proofs::Walks::count_networks, crate::proofs::Walks::len_joined))]
     pub fn iter(&self) -> Iter<'_, A>
         ensures items { result ≡ map (λ e. ip_back e.0) (listing (keys_of self.now)) }
         ensures counted { length result ≡ len (keys_of self.now) }
         ensures fits { len (keys_of self.now) < 2 ^ 64 }
     {
-        KeysOf::new(map::Iter::all(self.ipv4.as_map(), self.ipv6.as_map()))
+        Networks::new(self.ipv4.iter(), self.ipv6.iter())
     }
 
     /// Returns a walk over the networks after a network, in the order of `iter`.
@@ -56,7 +58,7 @@ impl<A: Allocator> JointPrefixSet<A> {
             (listing_after (keys_of self.now) (ip_path prefix.now))) }
         ensures fits { length result < 2 ^ 64 }
     {
-        KeysOf::new(map::Iter::after(self.ipv4.as_map(), self.ipv6.as_map(), prefix, inclusive))
+        map::Iter::after(self.ipv4.as_map(), self.ipv6.as_map(), prefix, inclusive).networks()
     }
 
     /// Returns a walk over the networks that this network contains, itself included, in the order of `iter`.
@@ -73,7 +75,7 @@ impl<A: Allocator> JointPrefixSet<A> {
             ≡ map (λ e. ip_back e.0) (listing_below (keys_of self.now) (ip_path prefix.now)) }
         ensures fits { length result < 2 ^ 64 }
     {
-        KeysOf::new(map::Iter::below(self.ipv4.as_map(), self.ipv6.as_map(), prefix))
+        map::Iter::below(self.ipv4.as_map(), self.ipv6.as_map(), prefix).networks()
     }
 
     /// Returns a walk over the networks of the set that contain this one, shortest first.
@@ -112,3 +114,31 @@ impl<'a, A: Allocator> IntoIterator for &'a JointPrefixSet<A> {
         self.iter()
     }
 }
+
+impl<A: Allocator> IntoIterator for JointPrefixSet<A> {
+    type Item = IpPrefix;
+
+    type IntoIter = IntoIter<A>;
+
+    ghost use Rattle.prefix_trie_joint.specs.declared.prefix.IpPrefix.{IpPrefix};
+
+    ghost into_iter_gives = { λ s it. (it ≡ map (λ e. ip_back e.0) (listing (keys_of s)))
+        × (length it ≡ len (keys_of s)) × (len (keys_of s) < 2 ^ 64) };
+
+    #[inline]
+    fn into_iter(self) -> IntoIter<A> {
+        // The proof learns from `len` that there are few entries.
+        let _ = self.len();
+        Networks::new(self.ipv4.into_iter(), self.ipv6.into_iter())
+    }
+}
+
+/// The networks of a consumed set, in the order of `iter`, without host bits.
+///
+/// # Examples
+///
+/// ```rust
+/// // set = {::/0, 10.0.0.0/8}
+/// set.into_iter().next();     // Some(V4(10.0.0.0/8))
+/// ```
+pub type IntoIter<A> = map::IntoKeys<(), A>;

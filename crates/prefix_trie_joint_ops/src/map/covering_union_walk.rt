@@ -9,7 +9,7 @@ ghost use Rattle.prefix_trie_ops.specs.Merging.{union_of};
 ghost use Rattle.prefix_trie_joint.specs.Joined.{entries_of};
 ghost use Rattle.prefix_trie_joint.specs.Networks.{ip_back, ip_path};
 
-use crate::map::union_walk::{UnionWalk, union};
+use crate::map::walks::{UnionWalk, union};
 use prefix_trie_joint::{IpPrefix, JointPrefixMap};
 use std::alloc::Allocator;
 use std::marker::Model;

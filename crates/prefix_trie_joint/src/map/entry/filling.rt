@@ -3,13 +3,9 @@ ghost use Rattle.std.specs.Prelude.{◌≡◌, IfErr, None, OnErr, OnOk, Some, t
 ghost use Rattle.std.specs.Borrow.{sem, MutBor};
 ghost use Rattle.std.specs.FinMap.{contains_key, get};
 ghost use Rattle.std.specs.Option.{unwrap_or, UnwrapsOrElse};
-ghost use Rattle.prefix_trie.specs.Terms.{with_entry};
-ghost use Rattle.prefix_trie_bits.specs.Model.Step.{Insert, Value};
-ghost use Rattle.prefix_trie_table.specs.Steps.{insert_new_reply};
-ghost use Rattle.prefix_trie_joint.specs.Changes.{maps_of, StepOnFamily};
 ghost use Rattle.prefix_trie_joint.specs.Entry.{Fills, FillsAt, Modifies, RefusesAt, RefusesToFill};
 ghost use Rattle.prefix_trie_joint.specs.Joined.{entries_of};
-ghost use Rattle.prefix_trie_joint.specs.Lending.{lends_value, with_value_of};
+ghost use Rattle.prefix_trie_joint.specs.Lending.{lends_value};
 ghost use Rattle.prefix_trie_joint.specs.Networks.{ip_path};
 
 use crate::map::JointPrefixMap;
@@ -53,33 +49,47 @@ pub(super) fn modify<T: Drop, A: Allocator, F: FnOnce(&mut T) + Drop>(
 
 // Inserts a value if the network is not stored.
 #[inline]
-#[tactic(auto, using(crate::proofs::Filling::stored_kept, crate::proofs::Filling::new_set, crate::proofs::Filling::not_there))]
+#[tactic(auto, using(crate::proofs::Joined::get_ipv4, crate::proofs::Joined::get_ipv6))]
 pub(super) fn fill<T: Drop, A: Allocator>(
     map: &mut JointPrefixMap<T, A>,
     key: &IpPrefix,
     value: T,
 ) -> Result<(), Refused<T>>
-    ensures entries { OnOk result
+    ensures filled { OnOk result
         ((x : T) × (x ≡ unwrap_or (get (entries_of map.old) (ip_path key.now)) value)
-        × (entries_of map.new ≡ with_entry (entries_of map.old) (ip_path key.now) x)) }
-    ensures unchanged { OnErr result (entries_of map.new ≡ entries_of map.old) }
+        × Fills key.now map.old map.new x) }
+    ensures refused { IfErr result (λ e. RefusesToFill key.now e.cause map.old map.new) }
     ensures absent { OnErr result (get (entries_of map.old) (ip_path key.now) ≡ None) }
     ensures returned { IfErr result (λ refused. refused.value ≡ value) }
-
-    // Writing another value then is a step of the model that inserts that value.
-    ensures filled { OnOk result ((x : T) → StepOnFamily key.now (λ q. Insert q x)
-        (Value (get (entries_of map.old) (ip_path key.now))) (maps_of map.old)
-        (maps_of (with_value_of map.new key.now x))) }
-    ensures refused { OnErr result ((x : T) → StepOnFamily key.now (λ q. Insert q x)
-        (insert_new_reply result) (maps_of map.old) (maps_of map.new)) }
 {
-    // The proof learns from `len` that the map is valid.
-    let _ = map.len();
-    if map.contains_key(key) {
-        return Ok(());
+    match key.copy() {
+        IpPrefix::V4(network) => fill_one(&mut map.ipv4, network, value),
+        IpPrefix::V6(network) => fill_one(&mut map.ipv6, network, value),
     }
-    match map.insert(key.copy(), value) {
-        Ok(_) => Ok(()),
+}
+
+// The same of a map of one family.
+#[inline]
+fn fill_one<P: Prefix, T: Drop, A: Allocator>(
+    map: &mut PrefixMap<P, T, A>,
+    prefix: P,
+    value: T,
+) -> Result<(), Refused<T>>
+    requires fits { P.IsFitting prefix }
+    ensures filled { OnOk result
+        ((x : T) × (x ≡ unwrap_or (get map.old.entries (P.path prefix)) value)
+        × FillsAt P.R.bit_width (P.path prefix) map.old map.new x) }
+    ensures refused { IfErr result
+        (λ e. RefusesAt P.R.bit_width (P.path prefix) e.cause map.old map.new) }
+    ensures absent { OnErr result (get map.old.entries (P.path prefix) ≡ None) }
+    ensures returned { IfErr result (λ refused. refused.value ≡ value) }
+{
+    match map.entry(prefix).or_insert(value) {
+        Ok(stored) => {
+            // Binding the value ends its loan here, so the proof knows the map.
+            let _ = stored;
+            Ok(())
+        }
         Err(refused) => Err(refused),
     }
 }

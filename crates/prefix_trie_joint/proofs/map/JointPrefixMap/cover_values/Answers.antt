@@ -1,6 +1,5 @@
 -- The values of the walk are the second parts of the items of `cover`, so there are as many.
 use Rattle.std.proofs.Common.{refl}
-use Rattle.std.specs.Map.Iter.{deref}
 use Rattle.prefix_trie_map.proofs.Runs.{parts_are, parts_count}
 use Rattle.prefix_trie_joint.proofs.map.JointPrefixMap.cover_values.Goals as goal
 

@@ -9,8 +9,8 @@ use Rattle.prefix_trie_joint.proofs.set.JointPrefixSet.iter_from.Goals as goal
 
 pub returns-clause-items : goal.returns-clause-items
 returns-clause-items g c =
-    parts_are (λ e. e.0) c.new.ensures _ _
+    parts_are (λ e. e.0) c.networks.ensures _ _
     (c.after.ensures.items ∙ ap₂ (λ (m n : Contents (Unit {0})). prefix_pairs ip_back (cond c.args.inclusive (listing_from (joined m.entries n.entries) (ip_path c.args.prefix.now)) (listing_after (joined m.entries n.entries) (ip_path c.args.prefix.now)))) c.as_map.ensures c.as_map-2.ensures)
 
 pub returns-clause-fits : goal.returns-clause-fits
-returns-clause-fits g c = omega (arith, parts_count (λ e. e.0) _ c.new.ensures refl, c.after.ensures.fits)
+returns-clause-fits g c = omega (arith, parts_count (λ e. e.0) _ c.networks.ensures refl, c.after.ensures.fits)

@@ -1,10 +1,6 @@
--- The networks of the walk are the first parts of the items of the walk over joint maps of units.
-use Rattle.std.proofs.Common.{◌∙◌}
-use Rattle.prefix_trie_map.proofs.Runs.{parts_are}
-use Rattle.prefix_trie_ops.specs.Combining.{minus}
-use Rattle.prefix_trie_joint_ops.proofs.Compared.{walk_of_sets}
+-- The walk has no more networks than the left set.
+use Rattle.prefix_trie_joint_ops.proofs.Combined.{few_networks}
 use Rattle.prefix_trie_joint_ops.proofs.set.walks.difference.Goals as goal
 
-pub returns-clause-items : goal.returns-clause-items
-returns-clause-items g c =
-    parts_are (λ e. e.0) c.new.ensures _ _ (c.of.ensures.items ∙ walk_of_sets minus c.as_map.ensures c.as_map-2.ensures c.as_map-3.ensures c.as_map-4.ensures)
+pub returns-clause-fits : goal.returns-clause-fits
+returns-clause-fits g c = few_networks _ _ _ _ _ _ c.difference.ensures.items c.difference-2.ensures.items c.new.ensures c.len.ensures.few

@@ -1,6 +1,6 @@
 -- The closure changes the stored value and nothing else of the map.
 use Rattle.std.proofs.Common.{rules}
-use Rattle.prefix_trie_joint.proofs.Filling.{modified}
+use Rattle.prefix_trie_joint.proofs.Filled.{modified}
 use Rattle.prefix_trie_joint.proofs.map.entry.filling.modify.Goals as goal
 
 pub returns-in-Some : goal.returns-in-Some

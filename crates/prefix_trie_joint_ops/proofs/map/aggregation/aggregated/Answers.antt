@@ -2,7 +2,7 @@
 use Rattle.std.proofs.Common.{ap₂, inl, inr}
 use Rattle.std.proofs.lemmas.Result.{err_from_is_err_and}
 use Rattle.prefix_trie_joint_ops.proofs.Least.{none_redundant, same_answers, smallest}
-use Rattle.prefix_trie_joint_ops.proofs.map.optimal.aggregated.Goals as goal
+use Rattle.prefix_trie_joint_ops.proofs.map.aggregation.aggregated.Goals as goal
 
 pub returns-clause-values : goal.returns-clause-values
 returns-clause-values g c exact = same_answers _ _ _ _ (c.in_ok-ipv4.ensures.values exact) (c.in_ok-ipv6.ensures.values exact)

@@ -2,7 +2,7 @@
 use Rattle.std.proofs.Common.{ap₂, inl, inr}
 use Rattle.std.proofs.lemmas.Result.{err_from_is_err_and}
 use Rattle.prefix_trie_joint_ops.proofs.Least.{no_siblings, none_covered, same_addresses, smallest_cover}
-use Rattle.prefix_trie_joint_ops.proofs.set.optimal.aggregated.Goals as goal
+use Rattle.prefix_trie_joint_ops.proofs.set.aggregation.aggregated.Goals as goal
 
 pub returns-clause-addresses : goal.returns-clause-addresses
 returns-clause-addresses g c = same_addresses _ _ _ _ c.in_ok-ipv4.ensures.addresses c.in_ok-ipv6.ensures.addresses
