@@ -1,6 +1,7 @@
 //! Set operations and aggregation of both families, with each allocation failing once.
+use crate::tables::{filled, networks};
 use prefix_trie::Refusal;
-use prefix_trie_joint::{IpPrefix, JointPrefixMap, JointPrefixSet};
+use prefix_trie_joint::{JointPrefixMap, JointPrefixSet};
 use prefix_trie_joint_ops::{map, set};
 use prefix_trie_tests::refusing::Refusing;
 use std::alloc::{Allocator, Global};
@@ -54,39 +55,11 @@ enum Reduction {
     AggregateConsistentSet,
 }
 
-/// Creates a map of these entries.
-fn filled<A: Allocator + Clone>(
-    alloc: A,
-    entries: &[(&str, u32)],
-) -> Result<JointPrefixMap<u32, A>, Refusal> {
-    let mut map = JointPrefixMap::new(alloc)?;
-    for (text, value) in entries.iter() {
-        if let Ok(network) = text.parse::<IpPrefix>() {
-            map.insert(network, *value)?;
-        }
-    }
-    Ok(map)
-}
-
-/// Creates the set of the networks of these entries.
-fn networks<A: Allocator + Clone>(
-    alloc: A,
-    entries: &[(&str, u32)],
-) -> Result<JointPrefixSet<A>, Refusal> {
-    let mut set = JointPrefixSet::new(alloc)?;
-    for (text, _) in entries.iter() {
-        if let Ok(network) = text.parse::<IpPrefix>() {
-            set.insert(network)?;
-        }
-    }
-    Ok(set)
-}
-
 /// Returns the number of items of a walk over two maps.
-fn count_in_maps<A: Allocator>(
+fn count_in_maps(
     walk: Walk,
-    left: &JointPrefixMap<u32, A>,
-    right: &JointPrefixMap<u32, A>,
+    left: &JointPrefixMap<u32, Global>,
+    right: &JointPrefixMap<u32, Global>,
 ) -> usize {
     // The proof learns from it that a union has fewer items than `usize` can count.
     let _ = (left.len(), right.len());
@@ -99,10 +72,10 @@ fn count_in_maps<A: Allocator>(
 }
 
 /// Returns the number of networks of a walk over two sets.
-fn count_in_sets<A: Allocator>(
+fn count_in_sets(
     walk: Walk,
-    left: &JointPrefixSet<A>,
-    right: &JointPrefixSet<A>,
+    left: &JointPrefixSet<Global>,
+    right: &JointPrefixSet<Global>,
 ) -> usize {
     let _ = (left.len(), right.len());
     match walk {
@@ -137,60 +110,39 @@ fn comparisons_hold(alloc: Global) -> Result<bool, Refusal> {
     Ok(is_common && is_apart && right.len() == 3)
 }
 
-/// Carries out an operation on a map, and returns the number of entries that it leaves.
-fn len_of_map<A: Allocator + Copy>(
+/// Carries out an operation on a map or on a set, and returns the number of entries that it leaves.
+fn reduce<A: Allocator + Copy>(
     reduction: Reduction,
     map: &mut JointPrefixMap<u32, A>,
-    alloc: A,
-) -> Result<usize, Refusal> {
-    match reduction {
-        Reduction::Aggregate => map::aggregate(map, alloc)?,
-        _ => map::aggregate_consistent(map, alloc)?,
-    }
-    Ok(map.len())
-}
-
-/// Carries out an operation on a set, and returns the number of networks that it leaves.
-fn len_of_set<A: Allocator + Copy>(
-    reduction: Reduction,
     set: &mut JointPrefixSet<A>,
     alloc: A,
 ) -> Result<usize, Refusal> {
     match reduction {
+        Reduction::Aggregate => map::aggregate(map, alloc)?,
+        Reduction::AggregateConsistent => map::aggregate_consistent(map, alloc)?,
         Reduction::AggregateSet => set::aggregate(set, alloc)?,
-        _ => set::aggregate_consistent(set, alloc)?,
+        Reduction::AggregateConsistentSet => set::aggregate_consistent(set, alloc)?,
     }
-    Ok(set.len())
+    match reduction {
+        Reduction::Aggregate | Reduction::AggregateConsistent => Ok(map.len()),
+        _ => Ok(set.len()),
+    }
 }
 
-/// Carries out an operation on the left map with an allocation failing after `passed` others.
+/// Carries out an operation on the left map, or on its networks, with an allocation failing after `passed` others.
 ///
-/// Returns its result, and whether the map is as it was.
-fn outcome_of_map(
+/// Returns its result, and whether the map and the set are as they were.
+fn outcome(
     heap: &Refusing<Global>,
     reduction: Reduction,
     passed: u64,
 ) -> Result<(Result<usize, Refusal>, bool), Refusal> {
     heap.refuse(0, 0);
-    let mut map = filled(heap, &LEFT)?;
-    let before = filled(heap, &LEFT)?;
+    let (mut map, mut set) = (filled(heap, &LEFT)?, networks(heap, &LEFT)?);
+    let before = (filled(heap, &LEFT)?, networks(heap, &LEFT)?);
     heap.refuse(passed, 1);
-    let result = len_of_map(reduction, &mut map, heap);
-    Ok((result, map == before))
-}
-
-/// Carries out an operation on the set of the left map's networks, as `outcome_of_map` does.
-fn outcome_of_set(
-    heap: &Refusing<Global>,
-    reduction: Reduction,
-    passed: u64,
-) -> Result<(Result<usize, Refusal>, bool), Refusal> {
-    heap.refuse(0, 0);
-    let mut set = networks(heap, &LEFT)?;
-    let before = networks(heap, &LEFT)?;
-    heap.refuse(passed, 1);
-    let result = len_of_set(reduction, &mut set, heap);
-    Ok((result, set == before))
+    let result = reduce(reduction, &mut map, &mut set, heap);
+    Ok((result, map == before.0 && set == before.1))
 }
 
 /// Carries out an operation once for each of its allocations, which fails, and at last with none failing.
@@ -198,13 +150,7 @@ fn outcome_of_set(
 /// Returns whether it fails exactly if an allocation does, leaves its map or set as it was then, and `len` entries at last.
 fn fails_cleanly(heap: &Refusing<Global>, reduction: Reduction, len: usize) -> bool {
     for passed in 0..MANY {
-        let outcome = match reduction {
-            Reduction::Aggregate | Reduction::AggregateConsistent => {
-                outcome_of_map(heap, reduction, passed)
-            }
-            _ => outcome_of_set(heap, reduction, passed),
-        };
-        let Ok((result, is_unchanged)) = outcome else {
+        let Ok((result, is_unchanged)) = outcome(heap, reduction, passed) else {
             return false;
         };
         if heap.left() == 1 {

@@ -1,4 +1,5 @@
 //! `retain` calls one test with the entries of both families, the IPv4 ones first.
+use crate::tables::{filled, networks};
 use prefix_trie::Refusal;
 use prefix_trie_joint::{IpPrefix, JointPrefixMap, JointPrefixSet};
 use std::alloc::{Allocator, Global};
@@ -25,31 +26,18 @@ fn keep_keys_where<A: Allocator, F: FnMut(&IpPrefix) -> bool + Drop>(
     set.retain(test);
 }
 
-/// Inserts networks with values from 1 on, and returns the map.
-fn map_of(networks: &[&str], alloc: Global) -> Result<JointPrefixMap<u32, Global>, Refusal> {
-    let mut map = JointPrefixMap::new(alloc)?;
-    let mut value = 0u32;
-    for text in networks {
-        value = value.wrapping_add(1);
-        if let Ok(network) = text.parse() {
-            map.insert(network, value)?;
-        }
-    }
-    Ok(map)
-}
+/// Networks of both families, with values from 1 on.
+static ENTRIES: [(&str, u32); 5] = [
+    ("10.0.0.0/8", 1),
+    ("10.1.0.0/16", 2),
+    ("11.0.0.0/8", 3),
+    ("::/0", 4),
+    ("2001:db8::/32", 5),
+];
 
 /// Returns whether a map keeps each second entry: the test goes on from one family to the other.
 fn keeps_each_second(alloc: Global) -> Result<bool, Refusal> {
-    let mut map = map_of(
-        &[
-            "10.0.0.0/8",
-            "10.1.0.0/16",
-            "11.0.0.0/8",
-            "::/0",
-            "2001:db8::/32",
-        ],
-        alloc,
-    )?;
+    let mut map = filled(alloc, &ENTRIES)?;
     let mut keeps = false;
     keep_where(&mut map, move |_, _| {
         keeps = !keeps;
@@ -60,12 +48,7 @@ fn keeps_each_second(alloc: Global) -> Result<bool, Refusal> {
 
 /// Returns whether a set keeps its long networks of both families.
 fn keeps_long_networks(alloc: Global) -> Result<bool, Refusal> {
-    let mut set = JointPrefixSet::new(alloc)?;
-    for text in ["10.0.0.0/8", "10.1.0.0/16", "::/0", "2001:db8::/32"] {
-        if let Ok(network) = text.parse::<IpPrefix>() {
-            set.insert(network)?;
-        }
-    }
+    let mut set = networks(alloc, &ENTRIES)?;
     keep_keys_where(&mut set, |network| network.prefix_len() > 8);
     Ok(set.len() == 2 && set.ipv4.len() == 1 && set.ipv6.len() == 1)
 }

@@ -1,5 +1,96 @@
-//! Tables of calls, each run on a new map.
-use crate::cases::Case;
+//! Tables of calls on joint maps with the results that they must have, and maps and sets made of tables.
+use prefix_trie::Refusal;
+use prefix_trie_joint::{IpPrefix, JointPrefixMap, JointPrefixSet};
+use prefix_trie_tests::cases::under_test::is_result;
+use std::alloc::Allocator;
+
+/// A call with its result. Networks are texts.
+#[derive(Clone, Copy)]
+pub enum Case<'a> {
+    /// `insert` returns this previous value.
+    Inserts(&'a str, u32, Option<u32>),
+    /// `remove` returns this value.
+    Removes(&'a str, Option<u32>),
+    /// `remove_keep_tree` returns this value.
+    RemovesKeepTree(&'a str, Option<u32>),
+    /// `drop_children` leaves so many entries.
+    Drops(&'a str, usize),
+    /// `remove_children` returns a map with so many entries, and leaves so many.
+    Splits(&'a str, usize, usize),
+    /// `get` returns this value.
+    Gets(&'a str, Option<u32>),
+    /// `get_lpm` returns this network, and `get_spm` that one.
+    Finds(&'a str, Option<&'a str>, Option<&'a str>),
+    /// `values` gives these.
+    Lists(&'a [u32]),
+    /// `children` gives so many entries.
+    Contains(&'a str, usize),
+    /// `cover` gives so many entries.
+    Covers(&'a str, usize),
+    /// `compact` leaves the entries.
+    Compacts,
+    /// `shrink_to_fit` leaves the entries.
+    Shrinks,
+    /// `clone` gives an equal map.
+    Clones,
+}
+
+/// Returns the network of a text. An error, for a text that is none, fails the test.
+fn network(text: &str) -> Result<IpPrefix, Refusal> {
+    text.parse().map_err(|_| Refusal::IndexRange)
+}
+
+/// Returns whether a network is that of a text, or both are missing.
+fn finds(found: Option<IpPrefix>, stated: Option<&str>) -> bool {
+    match (found, stated) {
+        (Some(found), Some(text)) => network(text) == Ok(found),
+        (None, None) => true,
+        _ => false,
+    }
+}
+
+/// Returns whether a call that only reads has its result.
+fn reads<A: Allocator>(map: &JointPrefixMap<u32, A>, case: &Case<'_>) -> Result<bool, Refusal> {
+    match case {
+        Case::Gets(text, value) => {
+            let at = network(text)?;
+            Ok(map.get(&at).copied() == *value && map.contains_key(&at) == value.is_some())
+        }
+        Case::Finds(text, longest, shortest) => {
+            let at = network(text)?;
+            let is_longest = finds(map.get_lpm_prefix(&at), *longest);
+            Ok(is_longest && finds(map.get_spm_prefix(&at), *shortest))
+        }
+        Case::Contains(text, count) => Ok(map.children(&network(text)?).count() == *count),
+        Case::Covers(text, count) => Ok(map.cover(&network(text)?).count() == *count),
+        Case::Lists(values) => Ok(map.len() == values.len() && map.values().eq(*values)),
+        _ => Ok(false),
+    }
+}
+
+/// Returns whether a call has its result.
+pub fn holds<A: Allocator + Clone>(
+    map: &mut JointPrefixMap<u32, A>,
+    case: &Case<'_>,
+) -> Result<bool, Refusal> {
+    match case {
+        Case::Inserts(text, value, before) => Ok(map.insert(network(text)?, *value)? == *before),
+        Case::Removes(text, value) => Ok(map.remove(&network(text)?) == *value),
+        Case::RemovesKeepTree(text, value) => Ok(map.remove_keep_tree(&network(text)?) == *value),
+        Case::Drops(text, left) => {
+            map.drop_children(&network(text)?);
+            Ok(map.len() == *left)
+        }
+        Case::Splits(text, part, left) => {
+            let second = map.remove_children(&network(text)?)?;
+            Ok(second.len() == *part && map.len() == *left)
+        }
+        Case::Compacts => is_result(map.compact(), Ok(())),
+        Case::Shrinks => is_result(map.shrink_to_fit().map_err(|_| Refusal::Memory), Ok(())),
+        Case::Clones => Ok(map.clone().map_err(|_| Refusal::Memory)? == *map),
+        _ => reads(map, case),
+    }
+}
 
 /// Both families at once: neither sees the other.
 pub const APART: [Case<'static>; 12] = [
@@ -45,3 +136,27 @@ pub const KEPT: [Case<'static>; 8] = [
     Case::Drops("2001:db8::/32", 1),
     Case::Lists(&[1]),
 ];
+
+/// Creates a map of these entries.
+pub fn filled<A: Allocator + Clone>(
+    alloc: A,
+    entries: &[(&str, u32)],
+) -> Result<JointPrefixMap<u32, A>, Refusal> {
+    let mut map = JointPrefixMap::new(alloc)?;
+    for (text, value) in entries.iter() {
+        map.insert(network(text)?, *value)?;
+    }
+    Ok(map)
+}
+
+/// Creates the set of the networks of these entries.
+pub fn networks<A: Allocator + Clone>(
+    alloc: A,
+    entries: &[(&str, u32)],
+) -> Result<JointPrefixSet<A>, Refusal> {
+    let mut set = JointPrefixSet::new(alloc)?;
+    for (text, _) in entries.iter() {
+        set.insert(network(text)?)?;
+    }
+    Ok(set)
+}

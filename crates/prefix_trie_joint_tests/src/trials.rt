@@ -1,6 +1,5 @@
 //! Runs each table, and each of its calls with each of the call's allocations failing.
-use crate::cases::{Case, holds};
-use crate::tables::{APART, KEPT, REMOVED};
+use crate::tables::{APART, Case, KEPT, REMOVED, holds};
 use prefix_trie::Refusal;
 use prefix_trie_joint::JointPrefixMap;
 use prefix_trie_tests::refusing::Refusing;

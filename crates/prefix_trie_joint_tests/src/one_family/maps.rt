@@ -137,9 +137,9 @@ fn is_as<const VERSION: u32, A: Allocator>(
     match case {
         Case::Finds(at, exact, longest, shortest) => {
             let at = network::<VERSION>(*at);
-            (own(map, &at) == *exact)
-                & (longest_match(map, &at) == *longest)
-                & (shortest_match(map, &at) == *shortest)
+            (entry_of(&map.get_key_value(&at)) == *exact)
+                & (entry_of(&map.get_lpm(&at)) == *longest)
+                & (entry_of(&map.get_spm(&at)) == *shortest)
         }
         Case::Lists(entries) => gives(map.iter(), entries),
         Case::Len(len) => (map.len(), map.is_empty()) == (*len, *len == 0),
@@ -163,37 +163,18 @@ fn has_nodes<P: Prefix, A: Allocator>(map: &PrefixMap<P, u64, A>, case: &Case<'_
     }
 }
 
-/// Returns what `get_key_value` finds, as tables write it.
-fn own<A: Allocator>(map: &JointPrefixMap<u64, A>, at: &IpPrefix) -> Option<Entry<u32>> {
-    let Some((network, value)) = map.get_key_value(at) else {
+/// Returns what a lookup finds, as tables write it.
+fn entry_of(found: &Option<(IpPrefix, &u64)>) -> Option<Entry<u32>> {
+    let Some((network, value)) = found else {
         return None;
     };
-    Some((pair_of(network), *value))
-}
-
-/// Returns what `get_lpm` finds, as tables write it.
-fn longest_match<A: Allocator>(map: &JointPrefixMap<u64, A>, at: &IpPrefix) -> Option<Entry<u32>> {
-    let Some((network, value)) = map.get_lpm(at) else {
-        return None;
-    };
-    Some((pair_of(network), *value))
-}
-
-/// Returns what `get_spm` finds, as tables write it.
-fn shortest_match<A: Allocator>(map: &JointPrefixMap<u64, A>, at: &IpPrefix) -> Option<Entry<u32>> {
-    let Some((network, value)) = map.get_spm(at) else {
-        return None;
-    };
-    Some((pair_of(network), *value))
+    Some((pair_of(*network), **value))
 }
 
 /// Returns whether a walk returns these entries.
 fn gives<A: Allocator>(mut walk: Iter<'_, u64, A>, entries: &[Entry<u32>]) -> bool {
     for entry in entries {
-        let Some((network, value)) = walk.next() else {
-            return false;
-        };
-        if (pair_of(network), *value) != *entry {
+        if entry_of(&walk.next()) != Some(*entry) {
             return false;
         }
     }
