@@ -119,6 +119,16 @@ static uint32_t v4_of(network n) {
     return (uint32_t)(n.high >> 32);
 }
 
+static void put(model *m, network at, uint64_t value) {
+    size_t i = place(m, at);
+    if (!is_stored(m, at)) {
+        memmove(&m->items[i + 1], &m->items[i], (m->count - i) * sizeof(item));
+        m->count++;
+    }
+    m->items[i].at = at;
+    m->items[i].value = value;
+}
+
 static void change(model *m, network n) {
     network at = masked(n);
     size_t i = place(m, at);
@@ -130,12 +140,7 @@ static void change(model *m, network n) {
                                                 : prefix_trie_v6_replace(table, n.high, n.low, n.length, value);
         must(r.code == PREFIX_TRIE_DONE && r.found == stored, "replace");
         must(r.value == (stored ? m->items[i].value : 0), "the value before");
-        if (!stored) {
-            memmove(&m->items[i + 1], &m->items[i], (m->count - i) * sizeof(item));
-            m->count++;
-        }
-        m->items[i].at = at;
-        m->items[i].value = value;
+        put(m, at, value);
         return;
     }
     code = m->width == 32 ? prefix_trie_v4_remove(table, v4_of(n), n.length, &before)
@@ -146,6 +151,25 @@ static void change(model *m, network n) {
         m->count--;
         memmove(&m->items[i], &m->items[i + 1], (m->count - i) * sizeof(item));
     }
+}
+
+/* Several networks in one call, up to the first whose length is above the width. */
+static void insert_many(model *m) {
+    prefix_trie_v4_entry e4[3];
+    prefix_trie_v6_entry e6[3];
+    size_t wanted = 3, got = 99;
+    network n[3];
+    uint32_t code;
+    if (m->count + 3 > MOST) return;
+    for (size_t i = 0; i < 3; i++) {
+        n[i] = random_network(m->width);
+        if (n[i].length > m->width && wanted == 3) wanted = i;
+        e4[i] = (prefix_trie_v4_entry){i, v4_of(n[i]), n[i].length, false};
+        e6[i] = (prefix_trie_v6_entry){i, n[i].high, n[i].low, n[i].length, false};
+    }
+    code = m->width == 32 ? prefix_trie_v4_insert_all(table, e4, 3, &got) : prefix_trie_v6_insert_all(table, e6, 3, &got);
+    must(code == (wanted == 3 ? PREFIX_TRIE_DONE : PREFIX_TRIE_LENGTH) && got == wanted, "insert_all");
+    for (size_t i = 0; i < wanted; i++) put(m, masked(n[i]), i);
 }
 
 static void look_up(const model *m, network n) {
@@ -239,6 +263,63 @@ static void walk(const model *m, network n) {
     must(code == PREFIX_TRIE_DONE && length == m->count, "len");
 }
 
+/* The networks that one contains, which are neighbours in listing order. */
+static void look_inside(const model *m, network n) {
+    network at = masked(n);
+    size_t limit = random_bits() % 5, got = 99, first = place(m, at), count = 0;
+    uint32_t code;
+    prefix_trie_v4_entry e4[4];
+    prefix_trie_v6_entry e6[4];
+    while (first + count < m->count && contains(at, m->items[first + count].at)) count++;
+    code = m->width == 32 ? prefix_trie_v4_contained(table, v4_of(n), n.length, e4, limit, &got)
+                          : prefix_trie_v6_contained(table, n.high, n.low, n.length, e6, limit, &got);
+    must(code == PREFIX_TRIE_DONE && got == (count < limit ? count : limit), "contained");
+    for (size_t i = 0; i < got; i++) {
+        must_be(m->width == 32 ? of_v4(e4[i]) : of_v6(e6[i]), &m->items[first + i], "a network that is contained");
+    }
+}
+
+/* A compiled table has the longest matches of the table, also after the table has other entries. */
+static void compile(void) {
+    enum { MANY = 300 };
+    static uint32_t a4[MANY];
+    static prefix_trie_v6_address a6[MANY];
+    static prefix_trie_found f4[MANY], f6[MANY];
+    static prefix_trie_value r4[MANY], r6[MANY];
+    prefix_trie_table *compiled, *shared;
+    size_t i, count = random_bits() % MANY;
+    uint64_t value = 7;
+    must(prefix_trie_compile(table, &compiled) == PREFIX_TRIE_DONE, "compile");
+    must(prefix_trie_table_share(compiled, &shared) == PREFIX_TRIE_DONE, "share");
+    for (i = 0; i < count; i++) {
+        network n = random_network(128);
+        a4[i] = v4_of(n);
+        a6[i].high = n.high;
+        a6[i].low = n.low;
+        f4[i] = prefix_trie_v4_match_address(table, a4[i]);
+        f6[i] = prefix_trie_v6_match_address(table, n.high, n.low);
+    }
+    prefix_trie_v4_remove(table, a4[0], 32, &value);
+    prefix_trie_v4_insert(table, a4[0], 32, 1);
+    prefix_trie_table_free(compiled);
+    must(prefix_trie_table_v4_lookup_bulk(shared, a4, r4, count) == PREFIX_TRIE_DONE, "IPv4 lookups");
+    must(prefix_trie_table_v6_lookup_bulk(shared, a6, r6, count) == PREFIX_TRIE_DONE, "IPv6 lookups");
+    for (i = 0; i < count; i++) {
+        prefix_trie_value one4 = prefix_trie_table_v4_lookup(shared, a4[i]);
+        prefix_trie_value one6 = prefix_trie_table_v6_lookup(shared, a6[i].high, a6[i].low);
+        must(one4.code == f4[i].code && one4.value == f4[i].value, "an IPv4 lookup");
+        must(one6.code == f6[i].code && one6.value == f6[i].value, "an IPv6 lookup");
+        must(r4[i].code == one4.code && r4[i].value == one4.value, "one of many IPv4 lookups");
+        must(r6[i].code == one6.code && r6[i].value == one6.value, "one of many IPv6 lookups");
+    }
+    prefix_trie_table_free(shared);
+    if (value == 7) {
+        must(prefix_trie_v4_remove(table, a4[0], 32, &value) == PREFIX_TRIE_DONE, "the network of an address");
+    } else {
+        must(prefix_trie_v4_insert(table, a4[0], 32, value) == PREFIX_TRIE_DONE, "the network of an address");
+    }
+}
+
 static void too_long(const model *m, network n) {
     prefix_trie_v4_entry e4;
     prefix_trie_v6_entry e6;
@@ -267,6 +348,9 @@ int main(void) {
             look_up(m, n);
             look_up_address(m, random_network(m->width));
             walk(m, n);
+            look_inside(m, n);
+            if (random_bits() % 10 == 0) insert_many(m);
+            if (random_bits() % 500 == 0) compile();
         }
     }
     printf("%u random calls as the model says, with %zu and %zu networks at the end\n", call_number, models[0].count,

@@ -1,6 +1,6 @@
 /*
  * Each allocation refused once: the call says so, the table has the entries that it had, and the call succeeds when it
- * is made again. Each block is freed. Linked with --wrap=malloc, --wrap=realloc and --wrap=free.
+ * is made again. Only an attempt to make a block shorter may fail without a word. Each block is freed. Linked with --wrap=malloc, --wrap=realloc and --wrap=free.
  */
 #include <stdio.h>
 #include <stdlib.h>
@@ -67,6 +67,57 @@ static int holds_first(const prefix_trie *table, uint32_t networks, size_t count
            prefix_trie_v6_len(table, &len6) == PREFIX_TRIE_DONE && len6 == networks;
 }
 
+/* Compiles the table and shares the result, and returns how many calls were refused. */
+static int compile(const prefix_trie *table, unsigned long n) {
+    prefix_trie_table *compiled = NULL, *shared = NULL;
+    prefix_trie_value found;
+    int met = 0;
+    uint32_t code = prefix_trie_compile(table, &compiled);
+    if (code == PREFIX_TRIE_MEMORY) {
+        met++;
+        must(compiled == NULL, "a table that is not compiled", n, COUNT);
+        code = prefix_trie_compile(table, &compiled);
+    }
+    must(code == PREFIX_TRIE_DONE, "compiling failed twice", n, COUNT);
+    code = prefix_trie_table_share(compiled, &shared);
+    if (code == PREFIX_TRIE_MEMORY) {
+        met++;
+        must(shared == NULL, "a table that is not shared", n, COUNT);
+        code = prefix_trie_table_share(compiled, &shared);
+    }
+    must(code == PREFIX_TRIE_DONE, "sharing failed twice", n, COUNT);
+    prefix_trie_table_free(compiled);
+    found = prefix_trie_table_v6_lookup(shared, address(1), 0);
+    must(found.code == PREFIX_TRIE_DONE && found.value == 1, "a lookup", n, COUNT);
+    prefix_trie_table_free(shared);
+    return met;
+}
+
+/* Inserts an array into a new table, and returns how many calls were refused. */
+static int insert_all(unsigned long n) {
+    static prefix_trie_v6_entry entries[COUNT];
+    prefix_trie *table = prefix_trie_new();
+    size_t done = 0, more = 0;
+    int met = 0;
+    uint32_t code;
+    for (uint32_t i = 0; i < COUNT; i++) entries[i] = (prefix_trie_v6_entry){i, address(i), 0, 64, false};
+    if (table == NULL) {
+        met++;
+        table = prefix_trie_new();
+    }
+    must(table != NULL, "no table", n, 0);
+    code = prefix_trie_v6_insert_all(table, entries, COUNT, &done);
+    if (code == PREFIX_TRIE_MEMORY) {
+        met++;
+        must(done < COUNT && holds_first(table, (uint32_t)done, 0), "an array that is not inserted", n, (uint32_t)done);
+        code = prefix_trie_v6_insert_all(table, entries + done, COUNT - done, &more);
+    }
+    must(code == PREFIX_TRIE_DONE && done + more == COUNT, "an array failed twice", n, (uint32_t)done);
+    must(holds_first(table, COUNT, 0), "the array", n, COUNT);
+    prefix_trie_free(table);
+    return met;
+}
+
 /* Fills a table while the n-th allocation is refused, and returns how many calls were refused. */
 static int fill(unsigned long n) {
     prefix_trie *table;
@@ -99,14 +150,21 @@ static int fill(unsigned long n) {
         must(code == PREFIX_TRIE_DONE, "an IPv6 insertion failed twice", n, i);
     }
     must(holds_first(table, COUNT, count), "the end", n, COUNT);
+    met += compile(table, n);
     prefix_trie_free(table);
+    met += insert_all(n);
     must(blocks == 0, "a block is not freed", n, COUNT);
     return met;
 }
 
 int main(void) {
-    unsigned long n = 1;
-    while (fill(n) > 0) n++;
-    printf("%lu allocations, each refused once\n", n - 1);
-    return n > 1 && refused > 0 ? 0 : 1;
+    unsigned long n = 1, kept = 0;
+    for (;; n++) {
+        int met = fill(n);
+        if (refused > 0) break;
+        /* Compiling goes on if a block cannot be made shorter. */
+        kept += met == 0;
+    }
+    printf("%lu allocations, each refused once, %lu of them for a shorter block\n", n - 1, kept);
+    return n > 1 ? 0 : 1;
 }

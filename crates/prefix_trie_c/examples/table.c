@@ -100,6 +100,30 @@ static void change(void) {
     printf("%zu IPv4 routes after clear\n", count);
 }
 
+/* Routes from an array, those in a network, and a compiled table that does not change. */
+static void compile(void) {
+    static const prefix_trie_v4_entry routes[3] = {
+        {7, V4(10, 0, 0, 0), 8, false}, {8, V4(10, 1, 0, 0), 16, false}, {9, V4(192, 168, 7, 0), 24, false}};
+    static const uint32_t burst[2] = {V4(10, 1, 2, 3), V4(8, 8, 8, 8)};
+    prefix_trie_v4_entry contained[3];
+    prefix_trie_value values[2];
+    prefix_trie_table *compiled, *shared;
+    size_t count;
+    done(prefix_trie_v4_insert_all(table, routes, 3, &count));
+    printf("inserted %zu routes; those in 10.0.0.0/7:\n", count);
+    done(prefix_trie_v4_contained(table, V4(10, 0, 0, 0), 7, contained, 3, &count));
+    for (size_t i = 0; i < count; i++) print_v4(&contained[i]);
+    done(prefix_trie_compile(table, &compiled));
+    done(prefix_trie_table_share(compiled, &shared));
+    done(prefix_trie_clear(table));
+    values[0] = prefix_trie_table_v4_lookup(compiled, V4(10, 2, 0, 1));
+    printf("compiled: 10.2.0.1 has the value %" PRIu64 "\n", values[0].value);
+    prefix_trie_table_free(compiled);
+    done(prefix_trie_table_v4_lookup_bulk(shared, burst, values, 2));
+    printf("two more: %" PRIu64 ", and code %" PRIu32 "\n", values[0].value, values[1].code);
+    prefix_trie_table_free(shared);
+}
+
 /* The codes of calls that cannot be done. */
 static void refuse(void) {
     uint64_t value;
@@ -118,6 +142,7 @@ int main(void) {
     look_up();
     walk();
     change();
+    compile();
     refuse();
     prefix_trie_c_free(&table);
     prefix_trie_free(table);

@@ -1,5 +1,5 @@
 -- What the calls of the C interface return, and how they change a table.
-use Rattle.std.specs.Prelude.{◌≡◌, ℕ, ◌-◌, ◌^◌, ◌<◌, ◌≤◌, ◌==◌, ◌⊎◌, Bool, cond, List, Option, None, Some, MatchOption}
+use Rattle.std.specs.Prelude.{◌≡◌, ℕ, ◌+◌, ◌-◌, ◌^◌, ◌<◌, ◌≤◌, ◌==◌, ◌⊎◌, Bool, cond, List, [], ◌∷◌, Option, None, Some, MatchOption}
 use Rattle.std.specs.FinMap.{get}
 use Rattle.prefix_trie.specs.Terms.{Entries, no_entries, with_entry, without_entry, root_alone}
 use Rattle.prefix_trie_bits.specs.declared.prefix.Refusal.{Refusal}
@@ -38,6 +38,19 @@ Inserts width path value old new code =
     SetsEntry path value old.entries new.entries code
     × StepByPath width (stored_state old) (Insert path value) (insert_reply_of (get old.entries path) code) (stored_state new)
 
+-- an item of an array, which has a network and a value, is inserted, unless its length is above the width
+abbrev pub InsertsItem : {P : Type 0} → ℕ → (P → ℕ) → (P → List Bool) → P × ℕ → Contents ℕ → Contents ℕ → ℕ → Type 0
+InsertsItem width len_of path item old new code =
+    (width < len_of item.0 → (code ≡ LENGTH) × (new ≡ old)) × (len_of item.0 ≤ width → Inserts width (path item.0) item.1 old new code)
+
+-- The items of an array are inserted in order, up to the first that fails. The code is that of the last call, and the count is that of the items inserted.
+abbrev pub InsertsEach : {P : Type 0} → ℕ → (P → ℕ) → (P → List Bool) → List (P × ℕ) → Contents ℕ → Contents ℕ → ℕ → ℕ → Type 0
+InsertsEach width len_of path [] old new code count = (code ≡ DONE) × (new ≡ old) × (count ≡ 0)
+InsertsEach width len_of path (item ∷ items) old new code count =
+    ((code ≡ DONE → ⊥) × InsertsItem width len_of path item old new code × (count ≡ 0))
+    ⊎ ((between : Contents ℕ) × InsertsItem width len_of path item old between DONE
+    × (later : ℕ) × InsertsEach width len_of path items between new code later × (count ≡ 1 + later))
+
 -- a removal from a map is a step of the model, of the storage too: the entry is removed, and the nodes on its path that no entry needs
 abbrev pub Removes : ℕ → List Bool → Contents ℕ → Contents ℕ → Type 0
 Removes width path old new =
@@ -49,10 +62,13 @@ abbrev pub Clears : ℕ → Contents ℕ → Contents ℕ → Type 0
 Clears width old new =
     (new.entries ≡ no_entries) × StepByPath width (stored_state old) Clear Done (stored_state new)
 
--- a call on the tables of a handle: F says how it changes them, and they stay in their place. A handle without tables stays empty
+-- a call on what a handle holds: F says how it changes it, and it stays in its place. An empty handle stays empty
+abbrev pub OnHeld : {X : Type 0} → Option X → Option X → Type 0 → ℕ → (X → X → Type 0) → Type 0
+OnHeld old new IsInPlace code F = MatchOption old ((code ≡ NULL) × (new ≡ None)) (λ t. MatchOption new ⊥ (λ u. F t u × IsInPlace))
+
+-- the same for the tables of a handle
 abbrev pub OnTables : Handle → Handle → ℕ → (Tables → Tables → Type 0) → Type 0
-OnTables old new code F =
-    MatchOption old.tables ((code ≡ NULL) × (new.tables ≡ None)) (λ t. MatchOption new.tables ⊥ (λ u. F t u × (new.at ≡ old.at)))
+OnTables old new code F = OnHeld old.tables new.tables (new.at ≡ old.at) code F
 
 -- the same for a call that is passed a length: one above the width changes nothing
 abbrev pub OnPrefix : ℕ → ℕ → Handle → Handle → ℕ → (Tables → Tables → Type 0) → Type 0

@@ -1,7 +1,7 @@
 -- Entries as C reads them, and what the calls on arrays of them write.
 use Rattle.std.specs.Prelude.{◌≡◌, ℕ, ◌+◌, ◌*◌, ◌^◌, ◌/◌, ◌%◌, Bool, true, false, List, ◌++◌, length, map, take, drop, Option, None, Some, cond}
 use Rattle.std.specs.Option.{is_some, option_map, unwrap_or}
-use Rattle.prefix_trie.specs.Terms.{Entries, ipv6_path, longest_match, shortest_match, prefix_pair, covers, listing_from, listing_after, prefix_pairs}
+use Rattle.prefix_trie.specs.Terms.{Entries, ipv6_path, longest_match, shortest_match, prefix_pair, covers, listing_from, listing_after, listing_below, prefix_pairs}
 use Rattle.prefix_trie_c.specs.Calls.{Gives}
 use Rattle.prefix_trie_c.specs.declared.codes.TheConstants.{DONE, MISSING}
 use Rattle.prefix_trie_c.specs.declared.entries.FoundMatch.{FoundMatch}
@@ -23,6 +23,13 @@ v4_entry (Some (network, x)) = record { value = x; address = network.0; length =
 abbrev pub v6_entry : Option ((ℕ × ℕ) × ℕ) → V6Entry
 v6_entry None = record { value = 0; high = 0; low = 0; length = 0; found = false }
 v6_entry (Some (network, x)) = record { value = x; high = network.0 / 2 ^ 64; low = network.0 % 2 ^ 64; length = network.1; found = true }
+
+-- the network and the value of an entry that is to be inserted
+abbrev pub v4_item : V4Entry → (ℕ × ℕ) × ℕ
+v4_item e = ((e.address, e.length), e.value)
+
+abbrev pub v6_item : V6Entry → (ℕ × ℕ) × ℕ
+v6_item e = ((e.high * 2 ^ 64 + e.low, e.length), e.value)
 
 -- no value, and why
 abbrev pub no_value : ℕ → FoundValue
@@ -75,6 +82,10 @@ module _ {P : Type 0} (back : List Bool → P) (m : Entries ℕ) where
   -- the array begins with the next entries
   abbrev pub Fills : {E : Type 0} → (Option (P × ℕ) → E) → List Bool → Bool → ℕ → List E → List E → Type 0
   Fills made path inclusive count old new = Lists made (entries_after path inclusive) count old new
+
+  -- the array begins with the entries whose networks this one contains, in listing order
+  abbrev pub FillsContained : {E : Type 0} → (Option (P × ℕ) → E) → List Bool → ℕ → List E → List E → Type 0
+  FillsContained made path count old new = Lists made (prefix_pairs back (listing_below m path)) count old new
 
   -- the array begins with the entries whose networks contain this one, shortest first
   abbrev pub FillsCovers : {E : Type 0} → (Option (P × ℕ) → E) → List Bool → ℕ → List E → List E → Type 0

@@ -3,11 +3,12 @@ ghost use Rattle.std.specs.Prelude.{◌≡◌, length, map};
 ghost use Rattle.std.specs.FinMap.{get};
 ghost use Rattle.std.specs.Option.{option_map};
 ghost use Rattle.prefix_trie.specs.Terms.{lent_item};
-ghost use Rattle.prefix_trie_c.specs.Calls.{Gives, Inserts, Removes};
-ghost use Rattle.prefix_trie_c.specs.Entries.{Fills, FillsCovers, Matches, MatchesShortest, found_match, found_value, match_of, replaced_value};
+ghost use Rattle.prefix_trie_c.specs.Calls.{Gives, Inserts, InsertsEach, InsertsItem, Removes};
+ghost use Rattle.prefix_trie_c.specs.Entries.{Fills, FillsContained, FillsCovers, Lists, Matches, MatchesShortest, found_match, found_value, match_of, replaced_value};
 
-use crate::codes::{DONE, MISSING, code_of};
+use crate::codes::{DONE, LENGTH, MISSING, code_of};
 use crate::entries::{Address, Entry, FoundMatch, FoundValue, Replaced};
+use prefix_trie::map::Iter;
 use prefix_trie::{Prefix, PrefixMap};
 use std::alloc::Global;
 
@@ -137,6 +138,51 @@ pub(crate) fn find_longest_each<P: Prefix, A: Address<P>, E: Entry<P>>(
     }
 }
 
+/// Inserts the items of an array in order, up to the first that fails, and writes how many it inserted.
+pub(crate) fn insert_each<P: Prefix, E: Entry<P>>(
+    routes: &mut Map<P>,
+    entries: &[E],
+    count: &mut usize,
+) -> u32
+    ensures { InsertsEach P.R.bit_width P.len_of P.path (map E.item_of entries.now)
+        routes.old routes.new result count.new }
+{
+    for i in 0..entries.len() {
+        let code = insert_item(routes, &entries[i]);
+        if code != DONE {
+            *count = i;
+            return code;
+        }
+    }
+    *count = entries.len();
+    DONE
+}
+
+/// Inserts an item of an array.
+fn insert_item<P: Prefix, E: Entry<P>>(map: &mut Map<P>, entry: &E) -> u32
+    ensures { InsertsItem P.R.bit_width P.len_of P.path (E.item_of entry.now)
+        map.old map.new result }
+{
+    match entry.item() {
+        Some((prefix, value)) => insert(map, prefix, value),
+        None => LENGTH,
+    }
+}
+
+/// Writes the next entries of a walk, as many as there are and fit, and returns how many.
+fn read<P: Prefix, E: Entry<P>>(walk: Iter<'_, P, u64, Global>, entries: &mut [E]) -> usize
+    ensures { Lists E.made walk.entry result entries.old entries.new }
+{
+    let mut walk = walk;
+    for i in 0..entries.len() {
+        let Some((prefix, value)) = walk.next() else {
+            return i;
+        };
+        entries[i] = E::of(Some((prefix, *value)));
+    }
+    entries.len()
+}
+
 /// Writes the next entries after a prefix, and returns how many.
 pub(crate) fn read_after<P: Prefix, E: Entry<P>>(
     map: &Map<P>,
@@ -148,14 +194,20 @@ pub(crate) fn read_after<P: Prefix, E: Entry<P>>(
     ensures { Fills P.back map.now.entries E.made (P.path prefix.now) inclusive result
         entries.old entries.new }
 {
-    let mut walk = map.iter_from(prefix, inclusive);
-    for i in 0..entries.len() {
-        let Some((prefix, value)) = walk.next() else {
-            return i;
-        };
-        entries[i] = E::of(Some((prefix, *value)));
-    }
-    entries.len()
+    read(map.iter_from(prefix, inclusive), entries)
+}
+
+/// Writes the entries that a prefix contains, and returns how many.
+pub(crate) fn read_contained<P: Prefix, E: Entry<P>>(
+    map: &Map<P>,
+    prefix: &P,
+    entries: &mut [E],
+) -> usize
+    requires { P.IsFitting prefix.now }
+    ensures { FillsContained P.back map.now.entries E.made (P.path prefix.now) result
+        entries.old entries.new }
+{
+    read(map.children(prefix), entries)
 }
 
 /// Writes the entries whose prefixes contain a prefix, shortest first, and returns how many.

@@ -1,7 +1,8 @@
 //! Entries, addresses and results as C reads and writes them.
-ghost use Rattle.std.specs.Prelude.{◌≡◌, ℕ, ◌+◌, ◌*◌, ◌^◌, Option};
-ghost use Rattle.prefix_trie_c.specs.Entries.{no_match, no_value, replaced_value, v4_entry, v6_entry};
+ghost use Rattle.std.specs.Prelude.{◌≡◌, ℕ, ◌+◌, ◌*◌, ◌^◌, ◌<◌, ◌≤◌, MatchOption, Option};
+ghost use Rattle.prefix_trie_c.specs.Entries.{found_value, no_match, no_value, replaced_value, v4_entry, v4_item, v6_entry, v6_item};
 
+use crate::codes::{DONE, MISSING};
 use prefix_trie::{Ipv4Prefix, Ipv6Prefix, Prefix};
 
 /// An IPv4 network and its value, if `found`.
@@ -81,6 +82,17 @@ impl Replaced {
 }
 
 impl FoundValue {
+    /// Returns a value, or that there is none.
+    #[inline]
+    pub(crate) fn of(found: Option<u64>) -> FoundValue
+        ensures { result ≡ found_value found }
+    {
+        match found {
+            Some(value) => FoundValue { value, code: DONE },
+            None => FoundValue::none(MISSING),
+        }
+    }
+
     /// Returns the result of a call that found no value.
     #[inline]
     pub(crate) fn none(code: u32) -> FoundValue
@@ -109,12 +121,23 @@ pub(crate) trait Entry<P: Prefix>: Drop + Sized {
     // the entry of a prefix and its value, or of none
     ghost made: { Option (P × ℕ) → Self };
 
+    // the network and the value of an entry that is to be inserted
+    ghost item_of: { Self → P × ℕ };
+
     fn of(found: Option<(P, u64)>) -> Self
         ensures { result ≡ made found };
+
+    // the item, if its length is at most the width of an address
+    fn item(&self) -> Option<(P, u64)>
+        ensures { MatchOption result (P.R.bit_width < P.len_of (item_of self.now).0)
+            (λ item. (item ≡ item_of self.now) × P.IsFitting item.0
+            × (P.len_of (item_of self.now).0 ≤ P.R.bit_width)) };
 }
 
 impl Entry<Ipv4Prefix> for V4Entry {
     ghost made = { v4_entry };
+
+    ghost item_of = { v4_item };
 
     #[inline]
     fn of(found: Option<(Ipv4Prefix, u64)>) -> V4Entry
@@ -135,10 +158,16 @@ impl Entry<Ipv4Prefix> for V4Entry {
             },
         }
     }
+
+    fn item(&self) -> Option<(Ipv4Prefix, u64)> {
+        Some((Ipv4Prefix::new(self.address, self.length)?, self.value))
+    }
 }
 
 impl Entry<Ipv6Prefix> for V6Entry {
     ghost made = { v6_entry };
+
+    ghost item_of = { v6_item };
 
     #[inline]
     fn of(found: Option<(Ipv6Prefix, u64)>) -> V6Entry
@@ -160,6 +189,11 @@ impl Entry<Ipv6Prefix> for V6Entry {
                 found: false,
             },
         }
+    }
+
+    fn item(&self) -> Option<(Ipv6Prefix, u64)> {
+        let prefix = Ipv6Prefix::new(joined(self.high, self.low), self.length)?;
+        Some((prefix, self.value))
     }
 }
 

@@ -1,9 +1,9 @@
 //! The calls for IPv4.
-ghost use Rattle.std.specs.Prelude.{◌≡◌, false, length, map};
+ghost use Rattle.std.specs.Prelude.{◌≡◌, None, false, length, map};
 ghost use Rattle.std.specs.FinMap.{get, len};
 ghost use Rattle.prefix_trie.specs.Terms.{ipv4_back, ipv4_path};
-ghost use Rattle.prefix_trie_c.specs.Calls.{Gives, Inserts, OnPrefix, OnTables, Removes};
-ghost use Rattle.prefix_trie_c.specs.Entries.{Fills, FillsCovers, Matches, MatchesShortest, found_match, found_value, match_of, replaced_value, v4_entry};
+ghost use Rattle.prefix_trie_c.specs.Calls.{Gives, Inserts, InsertsEach, OnPrefix, OnTables, Removes};
+ghost use Rattle.prefix_trie_c.specs.Entries.{Fills, FillsContained, FillsCovers, Matches, MatchesShortest, found_match, found_value, match_of, replaced_value, v4_entry, v4_item};
 ghost use Rattle.prefix_trie_c.specs.declared.codes.TheConstants.{COUNTS, DONE};
 
 use crate::calls;
@@ -62,6 +62,28 @@ pub extern "C" fn prefix_trie_c_v4_replace(
     let replaced = calls::replace(&mut tables.as_mut().v4, prefix, value);
     handle.close(tables);
     replaced
+}
+
+/// Sets the values of the networks of an array in order, up to the first that fails, and writes how many it set to `count`.
+#[unsafe(no_mangle)]
+pub extern "C" fn prefix_trie_c_v4_insert_all(
+    handle: &mut Handle,
+    alloc: Global,
+    entries: &[V4Entry],
+    count: &mut usize,
+) -> u32
+    ensures answer { OnTables handle.old handle.new result
+        (λ t u. InsertsEach 32 (λ network. network.1) ipv4_path (map v4_item entries.now) t.v4 u.v4
+        result count.new
+        × (u.v6 ≡ t.v6)) }
+    ensures none { handle.old.tables ≡ None → count.new ≡ count.old }
+{
+    let Some(mut tables) = handle.open(alloc) else {
+        return NULL;
+    };
+    let code = calls::insert_each(&mut tables.as_mut().v4, entries, count);
+    handle.close(tables);
+    code
 }
 
 /// Removes the value of a network, and writes it to `value`.
@@ -315,6 +337,34 @@ pub extern "C" fn prefix_trie_c_v4_covers(
         return NULL;
     };
     *count = calls::read_covers(&tables.as_mut().v4, &prefix, entries);
+    handle.close(tables);
+    DONE
+}
+
+/// Writes the entries whose networks a network contains, in listing order, as many as there are and fit, and their number to `count`.
+#[unsafe(no_mangle)]
+pub extern "C" fn prefix_trie_c_v4_contained(
+    handle: &mut Handle,
+    alloc: Global,
+    address: u32,
+    length: u8,
+    entries: &mut [V4Entry],
+    count: &mut usize,
+) -> u32
+    ensures answer { OnPrefix 32 length handle.old handle.new result
+        (λ t u. (u ≡ t) × (result ≡ DONE)
+        × FillsContained ipv4_back t.v4.entries v4_entry (ipv4_path (address, length)) count.new
+        entries.old entries.new) }
+    ensures kept { (result ≡ DONE → ⊥)
+        → (entries.new ≡ entries.old) × (count.new ≡ count.old) }
+{
+    let Some(prefix) = Ipv4Prefix::new(address, length) else {
+        return LENGTH;
+    };
+    let Some(mut tables) = handle.open(alloc) else {
+        return NULL;
+    };
+    *count = calls::read_contained(&tables.as_mut().v4, &prefix, entries);
     handle.close(tables);
     DONE
 }

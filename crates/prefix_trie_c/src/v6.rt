@@ -1,9 +1,9 @@
 //! The calls for IPv6. An address is passed as its first and its last 64 bits.
-ghost use Rattle.std.specs.Prelude.{◌≡◌, false, length, map};
+ghost use Rattle.std.specs.Prelude.{◌≡◌, None, false, length, map};
 ghost use Rattle.std.specs.FinMap.{get, len};
 ghost use Rattle.prefix_trie.specs.Terms.{ipv6_back, ipv6_path};
-ghost use Rattle.prefix_trie_c.specs.Calls.{Gives, Inserts, OnPrefix, OnTables, Removes};
-ghost use Rattle.prefix_trie_c.specs.Entries.{Fills, FillsCovers, Matches, MatchesShortest, found_match, found_value, match_of, replaced_value, v6_entry, v6_path};
+ghost use Rattle.prefix_trie_c.specs.Calls.{Gives, Inserts, InsertsEach, OnPrefix, OnTables, Removes};
+ghost use Rattle.prefix_trie_c.specs.Entries.{Fills, FillsContained, FillsCovers, Matches, MatchesShortest, found_match, found_value, match_of, replaced_value, v6_entry, v6_item, v6_path};
 ghost use Rattle.prefix_trie_c.specs.declared.codes.TheConstants.{COUNTS, DONE};
 
 use crate::calls;
@@ -64,6 +64,28 @@ pub extern "C" fn prefix_trie_c_v6_replace(
     let replaced = calls::replace(&mut tables.as_mut().v6, prefix, value);
     handle.close(tables);
     replaced
+}
+
+/// Sets the values of the networks of an array in order, up to the first that fails, and writes how many it set to `count`.
+#[unsafe(no_mangle)]
+pub extern "C" fn prefix_trie_c_v6_insert_all(
+    handle: &mut Handle,
+    alloc: Global,
+    entries: &[V6Entry],
+    count: &mut usize,
+) -> u32
+    ensures answer { OnTables handle.old handle.new result
+        (λ t u. InsertsEach 128 (λ network. network.1) ipv6_path (map v6_item entries.now) t.v6 u.v6
+        result count.new
+        × (u.v4 ≡ t.v4)) }
+    ensures none { handle.old.tables ≡ None → count.new ≡ count.old }
+{
+    let Some(mut tables) = handle.open(alloc) else {
+        return NULL;
+    };
+    let code = calls::insert_each(&mut tables.as_mut().v6, entries, count);
+    handle.close(tables);
+    code
 }
 
 /// Removes the value of a network, and writes it to `value`.
@@ -328,6 +350,35 @@ pub extern "C" fn prefix_trie_c_v6_covers(
         return NULL;
     };
     *count = calls::read_covers(&tables.as_mut().v6, &prefix, entries);
+    handle.close(tables);
+    DONE
+}
+
+/// Writes the entries whose networks a network contains, in listing order, as many as there are and fit, and their number to `count`.
+#[unsafe(no_mangle)]
+pub extern "C" fn prefix_trie_c_v6_contained(
+    handle: &mut Handle,
+    alloc: Global,
+    high: u64,
+    low: u64,
+    length: u8,
+    entries: &mut [V6Entry],
+    count: &mut usize,
+) -> u32
+    ensures answer { OnPrefix 128 length handle.old handle.new result
+        (λ t u. (u ≡ t) × (result ≡ DONE)
+        × FillsContained ipv6_back t.v6.entries v6_entry (v6_path high low length) count.new
+        entries.old entries.new) }
+    ensures kept { (result ≡ DONE → ⊥)
+        → (entries.new ≡ entries.old) × (count.new ≡ count.old) }
+{
+    let Some(prefix) = Ipv6Prefix::new(joined(high, low), length) else {
+        return LENGTH;
+    };
+    let Some(mut tables) = handle.open(alloc) else {
+        return NULL;
+    };
+    *count = calls::read_contained(&tables.as_mut().v6, &prefix, entries);
     handle.close(tables);
     DONE
 }

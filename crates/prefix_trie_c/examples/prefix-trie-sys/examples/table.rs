@@ -71,6 +71,18 @@ impl Table {
         unsafe { prefix_trie_c_v4_next(&mut { self.0 }, after.0, after.1, inclusive, entries, limit, count) }
     }
 
+    fn insert_all(&mut self, entries: &[V4Entry], count: &mut usize) -> u32 {
+        unsafe { prefix_trie_c_v4_insert_all(&mut self.0, entries.as_ptr(), entries.len(), count) }
+    }
+
+    fn contained(&self, at: (u32, u8), entries: &mut [V4Entry], count: &mut usize) -> u32 {
+        unsafe { prefix_trie_c_v4_contained(&mut { self.0 }, at.0, at.1, entries.as_mut_ptr(), entries.len(), count) }
+    }
+
+    fn compile(&self, compiled: &mut Compiled) -> u32 {
+        unsafe { prefix_trie_c_compile(&mut { self.0 }, &mut compiled.0) }
+    }
+
     fn v6_insert(&mut self, high: u64, low: u64, length: u8, value: u64) -> u32 {
         unsafe { prefix_trie_c_v6_insert(&mut self.0, high, low, length, value) }
     }
@@ -87,6 +99,41 @@ impl Table {
 impl Drop for Table {
     fn drop(&mut self) {
         self.free();
+    }
+}
+
+/// A compiled table, or null. Each is freed once. Those that `share` made of one may be on different threads.
+struct Compiled(*mut prefix_trie_table);
+
+// Safety: as that of a table.
+impl Compiled {
+    const NULL: Compiled = Compiled(null_mut());
+
+    fn share(&self, shared: &mut Compiled) -> u32 {
+        unsafe { prefix_trie_c_table_share(&mut { self.0 }, &mut shared.0) }
+    }
+
+    fn lookup(&self, address: u32) -> Value {
+        unsafe { prefix_trie_c_table_v4_lookup(&mut { self.0 }, address) }
+    }
+
+    fn lookup_bulk(&self, addresses: &[u32], results: &mut [Value]) -> u32 {
+        let (count, result_count) = (addresses.len(), results.len());
+        unsafe {
+            prefix_trie_c_table_v4_lookup_bulk(
+                &mut { self.0 },
+                addresses.as_ptr(),
+                count,
+                results.as_mut_ptr(),
+                result_count,
+            )
+        }
+    }
+}
+
+impl Drop for Compiled {
+    fn drop(&mut self) {
+        unsafe { prefix_trie_c_table_free(&mut self.0) }
     }
 }
 
@@ -178,6 +225,26 @@ fn change(table: &mut Table) {
     println!("{count} IPv4 routes after clear");
 }
 
+/// Routes from an array, those in a network, and a compiled table that does not change.
+fn compile(table: &mut Table) {
+    let route = |address, length, value| V4Entry { value, address, length, found: false };
+    let routes = [route(v4(10, 0, 0, 0), 8, 7), route(v4(10, 1, 0, 0), 16, 8), route(v4(192, 168, 7, 0), 24, 9)];
+    let (mut contained, mut count) = ([V4Entry::default(); 3], 0);
+    done(table.insert_all(&routes, &mut count));
+    println!("inserted {count} routes; those in 10.0.0.0/7:");
+    done(table.contained((v4(10, 0, 0, 0), 7), &mut contained, &mut count));
+    contained[..count].iter().for_each(print_v4);
+    let (mut compiled, mut shared) = (Compiled::NULL, Compiled::NULL);
+    done(table.compile(&mut compiled));
+    done(compiled.share(&mut shared));
+    done(table.clear());
+    println!("compiled: 10.2.0.1 has the value {}", compiled.lookup(v4(10, 2, 0, 1)).value);
+    drop(compiled);
+    let mut values = [Value { value: 0, code: 0 }; 2];
+    done(shared.lookup_bulk(&[v4(10, 1, 2, 3), v4(8, 8, 8, 8)], &mut values));
+    println!("two more: {}, and code {}", values[0].value, values[1].code);
+}
+
 /// The codes of calls that cannot be done.
 fn refuse(table: &mut Table) {
     println!("no entry: {}", table.get(v4(10, 1, 0, 0), 17).code);
@@ -197,6 +264,7 @@ fn main() {
     look_up(&mut table);
     walk(&table);
     change(&mut table);
+    compile(&mut table);
     refuse(&mut table);
     table.free();
     table.free();

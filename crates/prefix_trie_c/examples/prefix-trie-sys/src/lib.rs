@@ -75,7 +75,14 @@ pub struct Replaced {
     pub found: bool,
 }
 
+/// A compiled table. A program has pointers to it.
+#[repr(C)]
+pub struct prefix_trie_table {
+    _opaque: [u8; 0],
+}
+
 type Table = *mut *mut prefix_trie;
+type Compiled = *mut *mut prefix_trie_table;
 
 extern "C" {
     pub fn prefix_trie_c_version() -> u32;
@@ -85,6 +92,12 @@ extern "C" {
 
     pub fn prefix_trie_c_v4_insert(table: Table, address: u32, length: u8, value: u64) -> u32;
     pub fn prefix_trie_c_v4_replace(table: Table, address: u32, length: u8, value: u64) -> Replaced;
+    pub fn prefix_trie_c_v4_insert_all(
+        table: Table,
+        entries: *const V4Entry,
+        entry_count: usize,
+        count: *mut usize,
+    ) -> u32;
     pub fn prefix_trie_c_v4_remove(table: Table, address: u32, length: u8, value: *mut u64) -> u32;
     pub fn prefix_trie_c_v4_get(table: Table, address: u32, length: u8) -> Value;
     pub fn prefix_trie_c_v4_len(table: Table, count: *mut usize) -> u32;
@@ -106,6 +119,14 @@ extern "C" {
         entry_count: usize,
         count: *mut usize,
     ) -> u32;
+    pub fn prefix_trie_c_v4_contained(
+        table: Table,
+        address: u32,
+        length: u8,
+        entries: *mut V4Entry,
+        entry_count: usize,
+        count: *mut usize,
+    ) -> u32;
     pub fn prefix_trie_c_v4_next(
         table: Table,
         address: u32,
@@ -118,6 +139,12 @@ extern "C" {
 
     pub fn prefix_trie_c_v6_insert(table: Table, high: u64, low: u64, length: u8, value: u64) -> u32;
     pub fn prefix_trie_c_v6_replace(table: Table, high: u64, low: u64, length: u8, value: u64) -> Replaced;
+    pub fn prefix_trie_c_v6_insert_all(
+        table: Table,
+        entries: *const V6Entry,
+        entry_count: usize,
+        count: *mut usize,
+    ) -> u32;
     pub fn prefix_trie_c_v6_remove(table: Table, high: u64, low: u64, length: u8, value: *mut u64) -> u32;
     pub fn prefix_trie_c_v6_get(table: Table, high: u64, low: u64, length: u8) -> Value;
     pub fn prefix_trie_c_v6_len(table: Table, count: *mut usize) -> u32;
@@ -140,6 +167,15 @@ extern "C" {
         entry_count: usize,
         count: *mut usize,
     ) -> u32;
+    pub fn prefix_trie_c_v6_contained(
+        table: Table,
+        high: u64,
+        low: u64,
+        length: u8,
+        entries: *mut V6Entry,
+        entry_count: usize,
+        count: *mut usize,
+    ) -> u32;
     pub fn prefix_trie_c_v6_next(
         table: Table,
         high: u64,
@@ -149,5 +185,25 @@ extern "C" {
         entries: *mut V6Entry,
         entry_count: usize,
         count: *mut usize,
+    ) -> u32;
+
+    pub fn prefix_trie_c_compile(table: Table, compiled: Compiled) -> u32;
+    pub fn prefix_trie_c_table_share(table: Compiled, shared: Compiled) -> u32;
+    pub fn prefix_trie_c_table_free(table: Compiled);
+    pub fn prefix_trie_c_table_v4_lookup(table: Compiled, address: u32) -> Value;
+    pub fn prefix_trie_c_table_v6_lookup(table: Compiled, high: u64, low: u64) -> Value;
+    pub fn prefix_trie_c_table_v4_lookup_bulk(
+        table: Compiled,
+        addresses: *const u32,
+        address_count: usize,
+        results: *mut Value,
+        result_count: usize,
+    ) -> u32;
+    pub fn prefix_trie_c_table_v6_lookup_bulk(
+        table: Compiled,
+        addresses: *const V6Address,
+        address_count: usize,
+        results: *mut Value,
+        result_count: usize,
     ) -> u32;
 }

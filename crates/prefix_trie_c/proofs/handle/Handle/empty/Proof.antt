@@ -22,7 +22,8 @@ use Rattle.core.proofs.cell.Inside.{one}
 use Rattle.std_heap.proofs.Global.TheLaws as heap_laws
 use Rattle.std.proofs.raw_atomic.Walks.{proved_at, leaves}
 use Rattle.prefix_trie_c.proofs.Values.{both}
-use Rattle.prefix_trie_c.proofs.Handles.{Z, null_good, empty_in}
+use Rattle.prefix_trie_c.proofs.Handles.{empty_in}
+use Rattle.prefix_trie_c.proofs.Pointers.{Z, null_good}
 use Rattle.prefix_trie_c.specs.contracts.handle.Handle.empty.{ended, clauses}
 use Rattle.prefix_trie_c.specs.contracts.handle.Handle.empty.Key.{name as #self}
 use Rattle.prefix_trie_c.proofs.handle.Handle.empty.Statement.{statement}

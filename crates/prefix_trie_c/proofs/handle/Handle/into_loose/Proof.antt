@@ -27,7 +27,8 @@ use Rattle.std_heap.proofs.Global.TheLaws as heap_laws
 use Rattle.std_alloc.proofs.ResultValues.{and_tt}
 use Rattle.std.proofs.raw_atomic.Walks.{proved_at, leaves}
 use Rattle.prefix_trie_c.proofs.Values.{both, Loose, loose_good, loose_in}
-use Rattle.prefix_trie_c.proofs.Handles.{R, Z, null_good, handle_out}
+use Rattle.prefix_trie_c.proofs.Handles.{R, handle_out}
+use Rattle.prefix_trie_c.proofs.Pointers.{Z, null_good}
 use Rattle.prefix_trie_c.specs.contracts.handle.Handle as handle
 use Rattle.prefix_trie_c.specs.contracts.handle.Handle.into_loose.{ended, clauses}
 use Rattle.prefix_trie_c.specs.contracts.handle.Handle.into_loose.Key.{name as #self}

@@ -21,7 +21,8 @@ use Rattle.std_heap.specs.contracts.GlobalAllocator.TheImpl.{ghosts}
 use Rattle.std_heap.proofs.Global.TheLaws as heap_laws
 use Rattle.std.proofs.raw_atomic.Walks.{proved_at, leaves}
 use Rattle.prefix_trie_c.proofs.Values.{both, Loose, loose_good, loose_out}
-use Rattle.prefix_trie_c.proofs.Handles.{R, Z, full_in}
+use Rattle.prefix_trie_c.proofs.Handles.{R, full_in}
+use Rattle.prefix_trie_c.proofs.Pointers.{Z}
 use Rattle.prefix_trie_c.specs.contracts.handle.Handle.of_loose.{ended, clauses}
 use Rattle.prefix_trie_c.specs.contracts.handle.Handle.of_loose.Key.{name as #self}
 use Rattle.prefix_trie_c.proofs.handle.Handle.of_loose.Statement.{statement}
