@@ -1,0 +1,23 @@
+-- The lemmas of this crate: reading addresses, walks, and what changes of slots do to them.
+pub mod Reading
+pub mod Walks
+pub mod Lookups
+pub mod Changes
+pub mod Frees
+pub mod NewGroups
+pub mod Prefixes
+pub mod RunsWritten
+pub mod Filling
+pub mod FilledRuns
+pub mod Ends
+pub mod Points
+pub mod Linking
+pub mod Making
+pub mod Counting
+pub mod Trimming
+pub mod Matches
+pub mod Following
+pub mod Needed
+pub mod Tables
+pub mod NewSlots
+pub mod Hops

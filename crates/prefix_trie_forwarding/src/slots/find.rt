@@ -1,0 +1,40 @@
+//! Lookups.
+ghost use Rattle.std.specs.Prelude.{◌≡◌, ◌+◌, ◌*◌, ◌^◌, ◌<◌, length, slice_index};
+ghost use Rattle.prefix_trie_forwarding.specs.Keys.{IsDivided, first_of};
+ghost use Rattle.prefix_trie_forwarding.specs.Walks.{AreSlots, HasValues, answer};
+
+use super::reading::{next_slot, root_index};
+use prefix_trie_bits::prefix::Key;
+
+/// A slot that is at least this refers to a group.
+pub(super) const GROUP: u32 = 0x8000_0000;
+
+/// What an answer grows by with each bit of the length of its match: the number of hops.
+pub(crate) const LENGTH: u32 = 0x0080_0000;
+
+/// Returns the answer to an address.
+#[inline(always)]
+pub(super) fn find<K: Key>(
+    slots: &[u32],
+    root_bits: u32,
+    levels: u32,
+    groups: usize,
+    address: K,
+) -> u32
+    requires divided { IsDivided K.bit_width root_bits levels }
+    requires sizes { length slots.now ≡ 2 ^ root_bits + 256 * groups }
+    requires slots { AreSlots groups (slice_index slots.now) }
+    requires values { HasValues (2 ^ root_bits) levels (slice_index slots.now) }
+    ensures { result ≡ answer (2 ^ root_bits) levels (slice_index slots.now)
+        (first_of (root_bits + 8 * levels) (K.bits address)) }
+{
+    // The proof learns from it that the number is a key.
+    let _ = address.is_key();
+    let mut depth = root_bits;
+    let mut slot = slots[root_index(address, root_bits)];
+    while slot >= GROUP {
+        slot = slots[next_slot(root_bits, slot, address, depth)];
+        depth += 8;
+    }
+    slot
+}
