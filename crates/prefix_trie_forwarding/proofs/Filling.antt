@@ -117,7 +117,7 @@ module _ (f : ℕ → ℕ) (is_once : IsOnce f) (s u : ℕ → ℕ) (is : IsChan
     | inr e ↦ subst (λ n. n < 2147483648) (sym e) (is_once.small (s x) l)
   ]
 
-  -- f says the same of an answer before and after
+  -- f maps the answer of a slot before the change and the one after it to the same number
   same_change : (x : ℕ) → s x < 2147483648 → f (u x) ≡ f (s x)
   same_change x l = elim (is.values x l) [ inl e ↦ ap f e | inr e ↦ ap f e ∙ is_once.once (s x) ]
 
@@ -143,7 +143,7 @@ module _ (f : ℕ → ℕ) (is_once : IsOnce f) (s u : ℕ → ℕ) (is : IsChan
   pub changed_frees : (groups : ℕ) (free : List ℕ) → AreFree groups s free → AreFree groups u free
   changed_frees groups free frees = free_lost groups s u free (λ x. elim (cases_lt (s x) 2147483648) [ inl l ↦ inr (stays_value x l) | inr g ↦ inl (is.groups x g) ]) frees
 
-  -- f says the same of what a walk ends with, which is an answer before and after
+  -- f maps the answer that a walk ends with to the same number before and after the change
   ends_same : (root a k x : ℕ) → value_from root s a k x < 2147483648
       → (value_from root u a k x < 2147483648) × (f (value_from root u a k x) ≡ f (value_from root s a k x))
   unfolding value_from
