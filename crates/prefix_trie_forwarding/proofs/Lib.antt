@@ -19,5 +19,7 @@ pub mod Matches
 pub mod Following
 pub mod Needed
 pub mod Tables
+pub mod Networks
 pub mod NewSlots
 pub mod Hops
+pub mod NeededGroups

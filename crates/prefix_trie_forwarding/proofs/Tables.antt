@@ -1,10 +1,12 @@
 -- What the slots of a table keep when its map changes.
 use Rattle.std.proofs.Common.{◌≡◌, ◌∙◌, ◌↔◌, ℕ, suc, ◌+◌, ◌-◌, ◌*◌, ◌%◌, ◌^◌, ◌<◌, ◌≤◌, Bool, true, List, ◌++◌, length, take, None, slice_index, sym, ap, subst, arith, inl, inr}
 use Rattle.std.specs.FinMap.{contains_key, get}
+use Rattle.std.specs.Prelude.{is_some}
+use Rattle.std.proofs.lemmas.Bool.{false≢true}
 use Rattle.std.proofs.Math.Seq.{take-append_seam}
 use Rattle.prefix_trie_bits.specs.Calls.Entries.{AreWithin}
 use Rattle.prefix_trie_bits.specs.Model.Bits.{digits, zeros}
-use Rattle.prefix_trie_bits.specs.Model.Entries.{Entries, with_entry, without_entry}
+use Rattle.prefix_trie_bits.specs.Model.Entries.{Entries, no_entries, with_entry, without_entry}
 use Rattle.prefix_trie_bits.specs.Model.Matches.{longest_match}
 use Rattle.prefix_trie_bits.specs.Model.Nodes.{Nodes, has_node}
 use Rattle.prefix_trie.specs.Laws.Lookups.{LookupLaws}
@@ -22,6 +24,20 @@ use Rattle.prefix_trie_forwarding.proofs.Matches.{inserted, removed}
 use Rattle.prefix_trie_forwarding.proofs.Needed.{block_length, block_taken, needed_inserted, needed_kept, needed_path, needed_removed}
 use Rattle.prefix_trie_forwarding.proofs.Points.{keeps_points, same_slots}
 use Rattle.prefix_trie_forwarding.proofs.Reading.{digits_first, first_below}
+
+-- what holds of a root, of levels and of entries holds of what equals them
+pub moved : (F : ℕ → ℕ → Entries Hop → Type 0) (r levels s k : ℕ) (m n : Entries Hop) → s ≡ r → k ≡ levels → n ≡ m → F r levels m → F s k n
+moved F r levels s k m n root level same h = subst (λ s. F s k n) (sym root) (subst (λ k. F r k n) (sym level) (subst (λ n. F r levels n) (sym same) h))
+
+-- ---- without entries
+
+pub follows_none : {P : Type 0} (laws : LookupLaws P Hop) (r levels : ℕ) (xs : List ℕ) → ((a : ℕ) → IsAddress (2 ^ r) levels a → answer (2 ^ r) levels (slice_index xs) a ≡ 0) → Follows r levels xs no_entries
+follows_none laws r levels xs zeros a small = zeros a (as_address r levels a small) ∙ sym (ap answer_of (laws.nothing (digits (r + 8 * levels) a)))
+
+pub groups_none : (stored : StoredLaws Hop) (r levels : ℕ) (xs : List ℕ) → ((a k : ℕ) → IsAddress (2 ^ r) levels a → HasGroup (2 ^ r) levels (slice_index xs) a k → ⊥) → HasNeededGroups r levels xs (no_entries {T = Hop})
+groups_none stored r levels xs none a k ia more = ((λ h. absurd (none a k ia h)), (λ n. absurd (false≢true (sym (ap is_some (stored.nothing n.0)) ∙ n.1))))
+
+-- ---- a change of the map
 
 pub follows_points : (r levels : ℕ) (xs ys : List ℕ) (m : Entries Hop) → ((x : ℕ) → slice_index ys x ≡ slice_index xs x) → Follows r levels xs m → Follows r levels ys m
 follows_points r levels xs ys m same follows a small = ap (λ f. answer (2 ^ r) levels f a) (sym (same_slots xs ys same)) ∙ follows a small

@@ -36,6 +36,16 @@ pub(crate) fn match_in(answer: u32) -> Option<(u8, Hop)>
     }
 }
 
+/// Returns the answer of a match of so many bits with a hop.
+#[inline(always)]
+pub(crate) fn match_answer(len: u32, hop: Hop) -> u32
+    requires { len ≤ 128 }
+    ensures value { result ≡ (len + 1) * 8388608 + hop.number }
+    ensures small { result < 2147483648 }
+{
+    (len + 1) * LENGTH + hop.get()
+}
+
 /// Returns what answers become when a network of so many bits gets a hop.
 pub(crate) fn insertion(len: u32, hop: Hop) -> Change
     requires { len ≤ 128 }
@@ -46,7 +56,7 @@ pub(crate) fn insertion(len: u32, hop: Hop) -> Change
     Change {
         least: 0,
         most: (len + 2) * LENGTH - 1,
-        to: (len + 1) * LENGTH + hop.get(),
+        to: match_answer(len, hop),
     }
 }
 

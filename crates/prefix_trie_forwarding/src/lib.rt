@@ -7,5 +7,7 @@
 mod answers;
 mod hop;
 mod slots;
+mod table;
 
 pub use hop::Hop;
+pub use table::ForwardingTable;

@@ -1,0 +1,115 @@
+-- The answers and groups follow the map: as before on an error, and with the network otherwise.
+use Rattle.std.proofs.Common.{◌≡◌, ◌∙◌, ℕ, ◌+◌, ◌-◌, ◌*◌, ◌%◌, ◌^◌, ◌≤◌, ◌<◌, length, refl, sym, arith}
+use Rattle.std.proofs.Math.Logic.{∥∥₁_map}
+use Rattle.prefix_trie_bits.specs.Keys.{path_length, path_within}
+use Rattle.prefix_trie_bits.specs.Model.Entries.{with_entry}
+use Rattle.prefix_trie_forwarding.specs.Forwarding.{Follows}
+use Rattle.prefix_trie_forwarding.specs.Keys.{IsDivided, first_of}
+use Rattle.prefix_trie_forwarding.specs.Needs.{HasNeededGroups}
+use Rattle.prefix_trie_forwarding.proofs.Following.{follows_same}
+use Rattle.prefix_trie_forwarding.proofs.Needed.{needed_kept}
+use Rattle.prefix_trie_forwarding.proofs.Networks.{first_path}
+use Rattle.prefix_trie_forwarding.proofs.Points.{keeps_points}
+use Rattle.prefix_trie_forwarding.proofs.Tables.{aligned, follows_inserted, follows_points, groups_inserted, moved}
+use Rattle.prefix_trie_forwarding.proofs.table.ForwardingTable.insert.Goals as goal
+
+pub invariant_of-self : goal.invariant_of-self
+invariant_of-self g c =
+    let t = c.args.self.now in
+    let r = t.slots.root_bits in
+    let l = t.slots.levels in
+    let m = t.map.entries in
+    let xs = t.slots.items.items in
+    let s = c.prepare.new.self in
+    let ys = c.prepare.new.self.items.items in
+    let root = c.prepare.ensures.root in
+    let level = c.prepare.ensures.levels in
+    let same = c.prepare.ensures.points in
+    record {
+      divided = moved (λ r k m. IsDivided g.P.R.Key.bit_width r k) r l s.root_bits s.levels m m root level refl t.divided;
+      follows = moved (λ r k m. Follows r k ys m) r l s.root_bits s.levels m m root level refl (follows_points r l xs ys m same t.follows);
+      groups = moved (λ r k m. ∥ HasNeededGroups r k ys m ∥₁) r l s.root_bits s.levels m m root level refl (∥∥₁_map t.groups (λ has. needed_kept r l m xs ys has (keeps_points (2 ^ r) l xs ys same)));
+    }
+
+pub invariant_of-self-in-Break-branch-2 : goal.invariant_of-self-in-Break-branch-2
+invariant_of-self-in-Break-branch-2 g c =
+    let t = c.args.self.now in
+    let r = t.slots.root_bits in
+    let l = t.slots.levels in
+    let m = t.map.entries in
+    let n = c.insert.new.self.entries in
+    let xs = t.slots.items.items in
+    let s = c.prepare.new.self in
+    let ys = c.prepare.new.self.items.items in
+    let root = c.prepare.ensures.root in
+    let level = c.prepare.ensures.levels in
+    let same = c.prepare.ensures.points in
+    let kept : c.insert.new.self.entries ≡ t.map.entries = ? in
+    record {
+      divided = moved (λ r k m. IsDivided g.P.R.Key.bit_width r k) r l s.root_bits s.levels m m root level refl t.divided;
+      follows = moved (λ r k m. Follows r k ys m) r l s.root_bits s.levels m n root level kept (follows_points r l xs ys m same t.follows);
+      groups = moved (λ r k m. ∥ HasNeededGroups r k ys m ∥₁) r l s.root_bits s.levels m n root level kept (∥∥₁_map t.groups (λ has. needed_kept r l m xs ys has (keeps_points (2 ^ r) l xs ys same)));
+    }
+
+pub change-requires-clause-len : goal.change-requires-clause-len
+change-requires-clause-len g c =
+    let long = path_length g.met.P.Prefix.prefix_laws c.args.prefix c.requires in
+    let within = path_within g.met.P.Prefix.prefix_laws c.args.prefix c.requires in
+    omega (arith, c.from-len.ensures, c.prefix_len.ensures, long, within)
+
+pub change-requires-clause-small : goal.change-requires-clause-small
+change-requires-clause-small g c =
+    let long = path_length g.met.P.Prefix.prefix_laws c.args.prefix c.requires in
+    let within = path_within g.met.P.Prefix.prefix_laws c.args.prefix c.requires in
+    omega (arith, c.from-len.ensures, c.prefix_len.ensures, long, within, g.met.P.Prefix.prefix_laws.keys.at_most_128, c.insertion.ensures.to, c.args.hop.small)
+
+pub change-requires-clause-aligned : goal.change-requires-clause-aligned
+change-requires-clause-aligned g c =
+    let laws = g.met.P.Prefix.prefix_laws in
+    let t = c.args.self.now in
+    let s = c.link.new.self in
+    let p = g.P.Prefix.path c.args.prefix in
+    let long : length (g.P.Prefix.path c.args.prefix) ≡ g.P.Prefix.len_of c.args.prefix = path_length g.met.P.Prefix.prefix_laws c.args.prefix c.requires in
+    let within = path_within g.met.P.Prefix.prefix_laws c.args.prefix c.requires in
+    let reads : g.P.R.Key.bit_width ≤ c.link.new.self.root_bits + 8 * c.link.new.self.levels =
+    omega (arith, t.divided.reads, c.prepare.ensures.root, c.prepare.ensures.levels, c.link.ensures.root, c.link.ensures.levels) in
+    aligned s.root_bits s.levels t.map.entries p (omega (arith, within, reads)) (first_of (s.root_bits + 8 * s.levels) (g.P.R.Key.bits c.mask-first.result)) c.from-len.result
+    (first_path g.met.P.Prefix.prefix_laws c.args.prefix c.requires (s.root_bits + 8 * s.levels) c.mask-first.result reads c.mask-first.ensures.value)
+    (omega (arith, c.from-len.ensures, c.prefix_len.ensures, long))
+
+pub invariant_of-self-2 : goal.invariant_of-self-2
+invariant_of-self-2 g c =
+    let t = c.args.self.now in
+    let r = t.slots.root_bits in
+    let l = t.slots.levels in
+    let m = t.map.entries in
+    let p = g.P.Prefix.path c.args.prefix in
+    let n = c.insert.new.self.entries in
+    let xs = t.slots.items.items in
+    let ys = c.prepare.new.self.items.items in
+    let zs = c.link.new.self.items.items in
+    let us = c.change.new.self.items.items in
+    let s = c.change.new.self in
+    let root : c.change.new.self.root_bits ≡ t.slots.root_bits = c.change.ensures.root ∙ c.link.ensures.root ∙ c.prepare.ensures.root in
+    let level : c.change.new.self.levels ≡ t.slots.levels = c.change.ensures.levels ∙ c.link.ensures.levels ∙ c.prepare.ensures.levels in
+    let same = c.prepare.ensures.points in
+    let kept = rw (c.prepare.ensures.root, c.prepare.ensures.levels) at c.link.ensures.same in
+    let gains = rw (c.prepare.ensures.root, c.prepare.ensures.levels) at c.link.ensures.gains in
+    let changed = rw (c.link.ensures.root, c.link.ensures.levels, c.prepare.ensures.root, c.prepare.ensures.levels) at c.change.ensures.changed in
+    let keeps = rw (c.link.ensures.root, c.link.ensures.levels, c.prepare.ensures.root, c.prepare.ensures.levels) at c.change.ensures.groups in
+    let long : length (g.P.Prefix.path c.args.prefix) ≡ g.P.Prefix.len_of c.args.prefix = path_length g.met.P.Prefix.prefix_laws c.args.prefix c.requires in
+    let within = path_within g.met.P.Prefix.prefix_laws c.args.prefix c.requires in
+    let fits : length (g.P.Prefix.path c.args.prefix) ≤ t.slots.root_bits + 8 * t.slots.levels = omega (arith, within, t.divided.reads) in
+    let b = first_of (t.slots.root_bits + 8 * t.slots.levels) (g.P.R.Key.bits c.mask-first.result) in
+    let b_is = first_path g.met.P.Prefix.prefix_laws c.args.prefix c.requires (t.slots.root_bits + 8 * t.slots.levels) c.mask-first.result t.divided.reads c.mask-first.ensures.value in
+    let len_is : c.from-len.result ≡ length (g.P.Prefix.path c.args.prefix) = omega (arith, c.from-len.ensures, c.prefix_len.ensures, long) in
+    let i = c.insertion in
+    let entries : c.insert.new.self.entries ≡ with_entry t.map.entries (g.P.Prefix.path c.args.prefix) c.args.hop = c.in_ok-before.ensures.entries in
+    record {
+      divided = moved (λ r k m. IsDivided g.P.R.Key.bit_width r k) r l s.root_bits s.levels m m root level refl t.divided;
+      follows = moved (λ r k m. Follows r k us m) r l s.root_bits s.levels (with_entry m p c.args.hop) n root level entries
+          (follows_inserted r l m p fits b c.from-len.result b_is len_is c.lookup_laws.ensures zs us i.result.least i.result.most i.result.to changed
+          (follows_same r l m ys zs (follows_points r l xs ys m same t.follows) kept) c.args.hop i.ensures.least i.ensures.most i.ensures.to);
+      groups = moved (λ r k m. ∥ HasNeededGroups r k us m ∥₁) r l s.root_bits s.levels (with_entry m p c.args.hop) n root level entries
+          (∥∥₁_map t.groups (λ has. groups_inserted r l m p fits b c.from-len.result b_is len_is c.stored_laws.ensures c.args.hop xs ys zs us has same gains keeps));
+    }

@@ -1,0 +1,294 @@
+//! A map from networks to next hops, with slots in which a lookup finds the longest match of an address.
+ghost use Rattle.std.specs.Prelude.{◌≡◌, ◌^◌, ◌<◌, ◌≤◌, ◌↔◌, IfOk, IsTrue, OnErr, OnOk, max, min};
+ghost use Rattle.std.specs.FinMap.{get, len};
+ghost use Rattle.prefix_trie_bits.specs.Model.Entries.{no_entries, with_entry, without_entry};
+ghost use Rattle.prefix_trie_bits.specs.Model.Matches.{longest_match};
+ghost use Rattle.prefix_trie_forwarding.specs.Forwarding.{Follows, answer_of, hop_of, length_and_hop};
+ghost use Rattle.prefix_trie_forwarding.specs.Keys.{IsDivided};
+ghost use Rattle.prefix_trie_forwarding.specs.Needs.{HasNeededGroups, needed_groups};
+
+use crate::answers::{hop_in, insertion, match_in, match_answer, removal};
+use crate::hop::Hop;
+use crate::slots::Slots;
+use prefix_trie::laws::{lookup_laws, stored_laws};
+use prefix_trie_bits::prefix::{Key, Prefix, Refusal};
+use prefix_trie_map::map::PrefixMap;
+use std::alloc::Allocator;
+
+/// A table of networks with their next hops, which changes while it is asked.
+///
+/// A map holds the networks. Beside it are slots: one for each block of addresses that have the first bits in common, 24
+/// bits or as many as `with_root_bits` says, and a group of 256 slots for each block that a longer network lies in, level
+/// by level of eight bits. A lookup reads one slot a level. An insertion or a removal writes the slots that have another
+/// answer afterwards, and no others.
+///
+/// A root of 24 bits takes 64 MB, a root of 16 bits 256 KB, and each group 1 KB. An insertion of a short network writes a
+/// slot for each block in it: 65,536 for a network of 8 bits and a root of 24.
+///
+/// # Examples
+///
+/// ```rust
+/// let mut table: ForwardingTable<Ipv4Prefix, Global> = ForwardingTable::with_root_bits(alloc, 16)?;
+/// table.insert("10.1.0.0/16".parse()?, first)?;   // None
+/// table.insert("10.1.2.0/24".parse()?, second)?;  // None
+/// table.lookup(0x0a010203);                       // Some(second)
+/// table.remove(&"10.1.2.0/24".parse()?);          // Some(second)
+/// table.lookup_len(0x0a010203);                   // Some((16, first))
+/// ```
+#[derive(Drop)]
+pub struct ForwardingTable<P: Prefix, A: Allocator> {
+    map: PrefixMap<P, Hop, A>,
+    slots: Slots<A>,
+    ghost divided: { IsDivided P.R.bit_width slots.root_bits slots.levels },
+    ghost follows: { Follows slots.root_bits slots.levels slots.items.items map.entries },
+    ghost groups: { ∥ HasNeededGroups slots.root_bits slots.levels slots.items.items map.entries ∥₁ },
+}
+
+impl<P: Prefix, A: Allocator + Clone> ForwardingTable<P, A> {
+    /// Creates an empty table with a root of 24 bits, or of all bits of addresses that have fewer.
+    ///
+    /// # Errors
+    ///
+    /// Returns `Memory` if an allocation fails. No table exists then.
+    ///
+    /// # Examples
+    ///
+    /// ```rust
+    /// let table: ForwardingTable<Ipv4Prefix, Global> = ForwardingTable::new(alloc)?;
+    /// table.slot_count();     // 16777216
+    /// ```
+    pub fn new(alloc: A) -> Result<Self, Refusal>
+        ensures entries { IfOk result (λ table. table.map.entries ≡ no_entries) }
+        ensures root { IfOk result (λ table. table.slots.root_bits ≡ min 24 P.R.bit_width) }
+    {
+        Self::with_root_bits(alloc, 24)
+    }
+
+    /// Creates an empty table with a root of so many bits. Numbers outside of 1 to 24 are raised or cut, and more than an
+    /// address has are cut too.
+    ///
+    /// # Errors
+    ///
+    /// Returns `Memory` if an allocation fails. No table exists then.
+    ///
+    /// # Examples
+    ///
+    /// ```rust
+    /// let table: ForwardingTable<Ipv4Prefix, Global> = ForwardingTable::with_root_bits(alloc, 16)?;
+    /// table.slot_count();     // 65536
+    /// ```
+    pub fn with_root_bits(alloc: A, bits: u32) -> Result<Self, Refusal>
+        ensures entries { IfOk result (λ table. table.map.entries ≡ no_entries) }
+        ensures root { IfOk result (λ table. table.slots.root_bits
+            ≡ min (min (max bits 1) 24) P.R.bit_width) }
+    {
+        let width = P::R::width();
+        // The proof learns from it how wide a key may be.
+        let _ = P::R::zero().is_key();
+        let root_bits = bits.clamp(1, 24).min(width);
+        let levels = (width - root_bits + 7) / 8;
+        let other = alloc.clone()?;
+        let slots = Slots::new(alloc, root_bits, levels)?;
+        let map = PrefixMap::new(other)?;
+        lookup_laws::<P, Hop>();
+        stored_laws::<Hop>();
+        Ok(ForwardingTable { map, slots })
+    }
+}
+
+impl<P: Prefix, A: Allocator> ForwardingTable<P, A> {
+    /// Returns the hop of the longest match of an address.
+    ///
+    /// # Examples
+    ///
+    /// ```rust
+    /// // table = {10.0.0.0/8: 1, 10.1.0.0/16: 2}
+    /// table.lookup(0x0a020304);   // Some(1)
+    /// table.lookup(0x0b000000);   // None
+    /// ```
+    #[inline]
+    pub fn lookup(&self, address: P::R) -> Option<Hop>
+        ensures { result ≡ hop_of (longest_match self.now.map.entries (P.R.bits address)) }
+    {
+        let answer = self.answer(address);
+        hop_in(answer)
+    }
+
+    /// Returns the length of the longest match of an address, and its hop.
+    ///
+    /// The network is the first bits of the address, as many as the length says.
+    ///
+    /// # Examples
+    ///
+    /// ```rust
+    /// // table = {10.0.0.0/8: 1, 10.1.0.0/16: 2}
+    /// table.lookup_len(0x0a010203);   // Some((16, 2))
+    /// ```
+    #[inline]
+    pub fn lookup_len(&self, address: P::R) -> Option<(u8, Hop)>
+        ensures { result ≡ length_and_hop (longest_match self.now.map.entries (P.R.bits address)) }
+    {
+        let answer = self.answer(address);
+        match_in(answer)
+    }
+
+    /// Returns the answer to an address.
+    #[inline(always)]
+    fn answer(&self, address: P::R) -> u32
+        ensures answer { result
+            ≡ answer_of (longest_match self.now.map.entries (P.R.bits address)) }
+        ensures small { result < 2147483648 }
+    {
+        // The proof learns from these calls what holds of keys, of maps and of matches.
+        let _ = address.is_key();
+        let _ = self.map.len();
+        lookup_laws::<P, Hop>();
+        self.slots.find(address)
+    }
+
+    /// Sets the hop of a network and returns the previous one.
+    ///
+    /// Inserting a network that is already stored never fails and does not allocate.
+    ///
+    /// # Errors
+    ///
+    /// Returns `Memory` if an allocation fails, `IndexRange` if the map or the groups would exceed their limit. Entries and
+    /// answers are unchanged then.
+    ///
+    /// # Examples
+    ///
+    /// ```rust
+    /// // table = {}
+    /// table.insert("10.1.0.0/16".parse()?, first)?;   // None
+    /// table.insert("10.1.2.3/16".parse()?, second)?;  // Some(first): both have one path
+    /// ```
+    pub fn insert(&mut self, prefix: P, hop: Hop) -> Result<Option<Hop>, Refusal>
+        requires { P.IsFitting prefix }
+        ensures before { IfOk result (λ before. before ≡ get self.old.map.entries (P.path prefix)) }
+        ensures entries { OnOk result
+            (self.new.map.entries ≡ with_entry self.old.map.entries (P.path prefix) hop) }
+        ensures unchanged { OnErr result (self.new.map.entries ≡ self.old.map.entries) }
+        ensures root { self.new.slots.root_bits ≡ self.old.slots.root_bits }
+    {
+        // The proof learns from these calls what holds of maps and of matches.
+        let _ = self.map.len();
+        lookup_laws::<P, Hop>();
+        stored_laws::<Hop>();
+        let first = prefix.mask();
+        let len = u32::from(prefix.prefix_len());
+        let end = self.slots.prepare(first, len)?;
+        let before = self.map.insert(prefix, hop)?;
+        self.slots.link(first, len, end);
+        self.slots.change(first, len, insertion(len, hop));
+        Ok(before)
+    }
+
+    /// Removes a network and returns its hop.
+    ///
+    /// The call never fails, and allocates nothing for slots. The map's `remove` may request memory, and does without it if
+    /// there is none. Groups that no network needs any more are free afterwards, for networks to come.
+    ///
+    /// # Examples
+    ///
+    /// ```rust
+    /// // table = {10.1.0.0/16: 1}
+    /// table.remove(&"10.1.2.3/16".parse()?);      // Some(1)
+    /// table.remove(&"10.1.0.0/16".parse()?);      // None
+    /// ```
+    pub fn remove(&mut self, prefix: &P) -> Option<Hop>
+        requires { P.IsFitting prefix.now }
+        ensures value { result ≡ get self.old.map.entries (P.path prefix.now) }
+        ensures entries { self.new.map.entries
+            ≡ without_entry self.old.map.entries (P.path prefix.now) }
+        ensures root { self.new.slots.root_bits ≡ self.old.slots.root_bits }
+    {
+        lookup_laws::<P, Hop>();
+        stored_laws::<Hop>();
+        let hop = self.map.remove(prefix)?;
+        // The proof learns from it what holds of the map.
+        let _ = self.map.len();
+        let first = prefix.mask();
+        let len = u32::from(prefix.prefix_len());
+        let to = match self.map.get_lpm(prefix) {
+            Some((found, next)) => match_answer(u32::from(found.prefix_len()), *next),
+            None => 0,
+        };
+        self.slots.change(first, len, removal(len, to));
+        self.slots.trim(first, len);
+        Some(hop)
+    }
+
+    /// Returns the map of the networks, for walks, counts and exact lookups.
+    ///
+    /// # Examples
+    ///
+    /// ```rust
+    /// // table = {10.1.0.0/16: 1}
+    /// table.map().contains_key(&"10.1.0.0/16".parse()?);  // true
+    /// ```
+    pub fn map(&self) -> &PrefixMap<P, Hop, A>
+        ensures { result.now ≡ self.now.map }
+    {
+        &self.map
+    }
+
+    /// Returns the number of networks.
+    ///
+    /// # Examples
+    ///
+    /// ```rust
+    /// // table = {10.0.0.0/8: 1, 10.1.0.0/16: 2}
+    /// table.len();    // 2
+    /// ```
+    pub fn len(&self) -> usize
+        ensures { result ≡ len self.now.map.entries }
+    {
+        self.map.len()
+    }
+
+    /// Returns whether there are no networks.
+    ///
+    /// # Examples
+    ///
+    /// ```rust
+    /// // table = {10.0.0.0/8: 1}
+    /// table.is_empty();   // false
+    /// ```
+    pub fn is_empty(&self) -> bool
+        ensures { IsTrue result ↔ (self.now.map.entries ≡ no_entries) }
+    {
+        self.map.is_empty()
+    }
+
+    /// Returns the number of groups in use: one for each block of addresses that a longer network lies in.
+    ///
+    /// It depends on the networks alone, whatever was inserted and removed before.
+    ///
+    /// # Examples
+    ///
+    /// ```rust
+    /// // table = {10.1.2.0/24: 1}, with a root of 16 bits
+    /// table.group_count();    // 1: that of 10.1.0.0/16
+    /// ```
+    pub fn group_count(&self) -> usize
+        ensures { result ≡ len (needed_groups self.now.slots.root_bits self.now.map.entries) }
+    {
+        // The proof learns from it what holds of the map.
+        let _ = self.map.len();
+        self.slots.used()
+    }
+
+    /// Returns the number of slots: those of the root, and 256 for each group, in use or free.
+    ///
+    /// # Examples
+    ///
+    /// ```rust
+    /// // table = {10.1.2.0/24: 1}, with a root of 16 bits
+    /// table.slot_count();     // 65792
+    /// ```
+    pub fn slot_count(&self) -> usize
+        ensures { 2 ^ self.now.slots.root_bits ≤ result }
+    {
+        self.slots.len()
+    }
+}
