@@ -7,7 +7,7 @@ ghost use Rattle.prefix_trie_forwarding.specs.Forwarding.{Follows, answer_of, ho
 ghost use Rattle.prefix_trie_forwarding.specs.Keys.{IsDivided};
 ghost use Rattle.prefix_trie_forwarding.specs.Needs.{HasNeededGroups, needed_groups};
 
-use crate::answers::{hop_in, insertion, match_in, match_answer, removal};
+use crate::answers::{hop_in, insertion, match_answer, match_in, removal};
 use crate::hop::Hop;
 use crate::slots::Slots;
 use prefix_trie::laws::{lookup_laws, stored_laws};
@@ -209,10 +209,7 @@ impl<P: Prefix, A: Allocator> ForwardingTable<P, A> {
         let _ = self.map.len();
         let first = prefix.mask();
         let len = u32::from(prefix.prefix_len());
-        let to = match self.map.get_lpm(prefix) {
-            Some((found, next)) => match_answer(u32::from(found.prefix_len()), *next),
-            None => 0,
-        };
+        let to = longest_answer(&self.map, prefix);
         self.slots.change(first, len, removal(len, to));
         self.slots.trim(first, len);
         Some(hop)
@@ -290,5 +287,20 @@ impl<P: Prefix, A: Allocator> ForwardingTable<P, A> {
         ensures { 2 ^ self.now.slots.root_bits ≤ result }
     {
         self.slots.len()
+    }
+}
+
+/// Returns the answer of the longest match of a network in a map.
+fn longest_answer<P: Prefix, A: Allocator>(map: &PrefixMap<P, Hop, A>, prefix: &P) -> u32
+    requires { P.IsFitting prefix.now }
+    ensures answer { result ≡ answer_of (longest_match map.now.entries (P.path prefix.now)) }
+    ensures small { result < 2147483648 }
+{
+    // The proof learns from these calls what holds of maps and of matches.
+    let _ = map.len();
+    lookup_laws::<P, Hop>();
+    match map.get_lpm(prefix) {
+        Some((found, hop)) => match_answer(u32::from(found.prefix_len()), *hop),
+        None => 0,
     }
 }

@@ -44,7 +44,7 @@ invariant_of-self-in-Break-branch-2 g c =
     let root = c.prepare.ensures.root in
     let level = c.prepare.ensures.levels in
     let same = c.prepare.ensures.points in
-    let kept : c.insert.new.self.entries ≡ t.map.entries = ? in
+    let kept : c.insert.new.self.entries ≡ t.map.entries = c.in_err-before.ensures.unchanged.0 in
     record {
       divided = moved (λ r k m. IsDivided g.P.R.Key.bit_width r k) r l s.root_bits s.levels m m root level refl t.divided;
       follows = moved (λ r k m. Follows r k ys m) r l s.root_bits s.levels m n root level kept (follows_points r l xs ys m same t.follows);
