@@ -1,7 +1,8 @@
-//! Slots for longest-prefix match of addresses in a table that changes while it is asked.
+//! Longest-prefix match of addresses in a table that changes while it is asked.
 //!
-//! The slots are proved: an answer is read by one slot a level, a change writes the answers of a network's addresses, and groups
-//! of slots are made, linked and given back. No table uses them yet: what is public is the type of its values.
+//! `ForwardingTable` holds a map from networks to next hops, and slots in which a lookup finds the longest match of an
+//! address. The slots are proved: an answer is read by one slot a level, a change writes the answers of a network's addresses, and
+//! groups of slots are made, linked and given back.
 #![tactic(auto)]
 
 mod answers;
