@@ -18,8 +18,8 @@ pub mod Trimming
 pub mod Matches
 pub mod Following
 pub mod Needed
+pub mod NeededGroups
 pub mod Tables
 pub mod Networks
 pub mod NewSlots
 pub mod Hops
-pub mod NeededGroups

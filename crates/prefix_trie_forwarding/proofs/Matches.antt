@@ -33,6 +33,11 @@ pub answer_below : (found : Option (List Bool × Hop)) → IfSome found (λ e. l
 answer_below None short = omega arith
 answer_below (Some e) short = let r = (range_of e).1 in omega (arith, r, short)
 
+-- the key of a match, or another one
+abbrev key_or : List Bool → Option (List Bool × Hop) → List Bool
+key_or d None = d
+key_or d (Some e) = e.0
+
 -- the hop in an option, or another one
 abbrev hop_or : Hop → Option Hop → Hop
 hop_or d None = d
@@ -164,3 +169,17 @@ module _ {P : Type 0} (laws : LookupLaws P Hop) (m : Entries Hop) (s : List Bool
                   sym (put ∙ changed_over ((length s + 1) * 8388608) ((length s + 2) * 8388608 - 1) (answer_of (longest_match (without_entry m s) s)) (answer_of (Some x.0)) (omega (arith, r.0, l)) (omega (arith, r.0, l)))
             ]
       ]
+
+  -- the addresses of which it was the match get that of the network itself
+  pub removed_match : (v : Hop) (q : List Bool) → longest_match m q ≡ Some (s, v) → longest_match (without_entry m s) q ≡ longest_match (without_entry m s) s
+  removed_match v q e = elim (match_cases laws m q) [
+    | inl n ↦ absurd (false≢true (ap is_some (sym n.0 ∙ e)))
+    | inr x ↦
+        let key : x.0.0 ≡ s = ap (λ o. key_or s o) (sym x.1 ∙ e) in
+        let within : begins s q ≡ true = ap (λ k. begins k q) (sym key) ∙ x.2.matches.begins_it in
+        short_match laws (without_entry m s) s q within (elim (match_cases laws (without_entry m s) q) [
+          | inl n ↦ subst (λ o. IfSome o (λ e. length e.0 ≤ length s)) (sym n.0) tt
+          | inr y ↦ subst (λ o. IfSome o (λ e. length e.0 ≤ length s)) (sym y.1)
+              (let l = x.2.longest y.0.0 (kept_key y.0 q y.2) y.2.matches.begins_it in let same : length x.0.0 ≡ length s = ap length key in omega (arith, l, same))
+        ])
+  ]

@@ -32,7 +32,7 @@ use Rattle.prefix_trie_forwarding.proofs.Walks.{goes_on, value_from-value, value
 -- ---- keys after a change
 
 module _ (stored : StoredLaws Hop) (m : Entries Hop) (p : List Bool) where
-  key_with : (v : Hop) (q : List Bool) → contains_key (with_entry m p v) q ≡ true → (q ≡ p) ⊎ (contains_key m q ≡ true)
+  pub key_with : (v : Hop) (q : List Bool) → contains_key (with_entry m p v) q ≡ true → (q ≡ p) ⊎ (contains_key m q ≡ true)
   key_with v q e = elim (same_or_not p q) [
     | inl same ↦ inl same.1
     | inr other ↦ inr (ap is_some (sym (stored.beside_set m p v q other.1)) ∙ e)

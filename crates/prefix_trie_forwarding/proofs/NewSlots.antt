@@ -1,7 +1,7 @@
 -- Slots that are all 0: no answers, and no groups.
-use Rattle.std.proofs.Common.{◌≡◌, ◌∙◌, ℕ, suc, ◌+◌, ◌*◌, ◌^◌, ◌<◌, ◌≤◌, List, [], length, get_or, slice_index, arith, inl, inr}
+use Rattle.std.proofs.Common.{◌≡◌, ◌∙◌, ℕ, suc, ◌+◌, ◌*◌, ◌^◌, ◌<◌, ◌≤◌, List, [], length, replicate, get_or, slice_index, arith, inl, inr}
 use Rattle.std.proofs.lemmas.Bool.{cases_lt}
-use Rattle.std.proofs.lemmas.List.{get_or_past}
+use Rattle.std.proofs.lemmas.List.{get_or-replicate, get_or_past, length-replicate}
 use Rattle.prefix_trie_forwarding.specs.Slots.{AreGroups, IsSlots}
 use Rattle.prefix_trie_forwarding.specs.Walks.{HasGroup, answer, upper}
 use Rattle.prefix_trie_forwarding.proofs.Counting.{count_none}
@@ -9,6 +9,12 @@ use Rattle.prefix_trie_forwarding.proofs.Walks.{value_from-value}
 
 pub zero_all : (xs : List ℕ) (n : ℕ) → length xs ≡ n → ((k : ℕ) → k < n → get_or xs k 0 ≡ 0) → (k : ℕ) → get_or xs k 0 ≡ 0
 zero_all xs n size zeros k = elim (cases_lt k (length xs)) [ inl l ↦ zeros k (omega (arith, l, size)) | inr g ↦ get_or_past xs k 0 g ]
+
+pub zero_replicate : (n k : ℕ) → get_or (replicate {A = ℕ} n 0) k 0 ≡ 0
+zero_replicate n k = elim (cases_lt k n) [
+  | inl l ↦ get_or-replicate n k 0 0 l
+  | inr g ↦ get_or_past (replicate {A = ℕ} n 0) k 0 (let size : length (replicate {A = ℕ} n 0) ≡ n = length-replicate n 0 in omega (arith, size, g))
+]
 
 module _ (r levels : ℕ) (xs : List ℕ) (zeros : (k : ℕ) → get_or xs k 0 ≡ 0) where
   pub zero_answer : (a : ℕ) → answer (2 ^ r) levels (slice_index xs) a ≡ 0

@@ -1,27 +1,36 @@
 -- What the slots of a table keep when its map changes.
-use Rattle.std.proofs.Common.{◌≡◌, ◌∙◌, ◌↔◌, ℕ, suc, ◌+◌, ◌-◌, ◌*◌, ◌%◌, ◌^◌, ◌<◌, ◌≤◌, Bool, true, List, ◌++◌, length, take, None, slice_index, sym, ap, subst, arith, inl, inr}
-use Rattle.std.specs.FinMap.{contains_key, get}
+use Rattle.std.proofs.Common.{◌≡◌, ◌∙◌, ◌↔◌, ℕ, suc, ◌+◌, ◌-◌, ◌*◌, ◌%◌, ◌^◌, ◌<◌, ◌≤◌, Bool, true, List, ◌++◌, length, take, None, Err, slice_index, sym, ap, subst, arith, inl, inr}
+use Rattle.std.specs.FinMap.{contains_key, get, len}
 use Rattle.std.specs.Prelude.{is_some}
 use Rattle.std.proofs.lemmas.Bool.{false≢true}
 use Rattle.std.proofs.Math.Seq.{take-append_seam}
+use Rattle.std.proofs.Math.Logic.{∥∥₁_elim}
+use Rattle.std.proofs.Math.Nat.{ℕ_set}
 use Rattle.prefix_trie_bits.specs.Calls.Entries.{AreWithin}
+use Rattle.prefix_trie_bits.specs.Calls.Storage.{StepByPath}
+use Rattle.prefix_trie_bits.specs.Laws.Determined.{is_refusal}
 use Rattle.prefix_trie_bits.specs.Model.Bits.{digits, zeros}
 use Rattle.prefix_trie_bits.specs.Model.Entries.{Entries, no_entries, with_entry, without_entry}
 use Rattle.prefix_trie_bits.specs.Model.Matches.{longest_match}
 use Rattle.prefix_trie_bits.specs.Model.Nodes.{Nodes, has_node}
+use Rattle.prefix_trie_bits.specs.Model.Step.{Insert, State}
+use Rattle.prefix_trie_bits.specs.Model.Storage.{Storage}
+use Rattle.prefix_trie_bits.specs.declared.prefix.Refused.{Refused}
+use Rattle.prefix_trie_map.specs.Steps.{insert_reply}
 use Rattle.prefix_trie.specs.Laws.Lookups.{LookupLaws}
 use Rattle.prefix_trie.specs.Laws.Stored.{StoredLaws}
-use Rattle.prefix_trie_forwarding.specs.Counts.{HasBlocks, block_of}
+use Rattle.prefix_trie_forwarding.specs.Counts.{HasBlocks, IsCounted, block_of}
 use Rattle.prefix_trie_forwarding.specs.Forwarding.{Follows, answer_of}
 use Rattle.prefix_trie_forwarding.specs.Keys.{first_of}
-use Rattle.prefix_trie_forwarding.specs.Needs.{AreNeeded, HasNeededGroups}
+use Rattle.prefix_trie_forwarding.specs.Needs.{AreNeeded, HasNeededGroups, needed_groups}
 use Rattle.prefix_trie_forwarding.specs.Slots.{Trims}
 use Rattle.prefix_trie_forwarding.specs.Walks.{GainsPath, HasGroup, HasPath, HasValues, IsAddress, IsChanged, IsSame, KeepsGroups, answer, changed}
 use Rattle.prefix_trie_forwarding.specs.declared.hop.Hop.{Hop}
 use Rattle.prefix_trie_forwarding.proofs.Counting.{same_or_not}
 use Rattle.prefix_trie_forwarding.proofs.Following.{as_address, first_aligned, follows_changed}
 use Rattle.prefix_trie_forwarding.proofs.Matches.{inserted, removed}
-use Rattle.prefix_trie_forwarding.proofs.Needed.{block_length, block_taken, needed_inserted, needed_kept, needed_path, needed_removed}
+use Rattle.prefix_trie_forwarding.proofs.Needed.{block_length, block_taken, key_with, needed_inserted, needed_kept, needed_path, needed_removed}
+use Rattle.prefix_trie_forwarding.proofs.NeededGroups.{needed_are}
 use Rattle.prefix_trie_forwarding.proofs.Points.{keeps_points, same_slots}
 use Rattle.prefix_trie_forwarding.proofs.Reading.{digits_first, first_below}
 
@@ -132,3 +141,22 @@ needed_blocks r levels xs m blocks has within are = record {
           sym (block_taken r levels (first_of (r + 8 * levels) p) (levels - suc l.0) (omega (arith, few)) ∙
               ap (λ n. take n (digits (r + 8 * levels) (first_of (r + 8 * levels) p))) size ∙ ap (take (length p)) (digits_first p (r + 8 * levels) fits) ∙ take-append_seam p (zeros (r + 8 * levels - length p))),
         )
+
+-- each group is free or one that the entries need
+pub used_groups : (r levels made : ℕ) (xs free : List ℕ) (m : Entries Hop) → ∥ HasNeededGroups r levels xs m ∥₁ → AreWithin (r + 8 * levels) m → IsCounted r levels made (slice_index xs) free → len (needed_groups r m) + length free ≡ made
+used_groups r levels made xs free m groups within counted =
+    ∥∥₁_elim groups (ℕ_set _ _) (λ has. counted (needed_groups r m) (needed_blocks r levels xs m (needed_groups r m) has within (needed_are r m)))
+
+-- keys stay within the width
+pub within_inserted : (stored : StoredLaws Hop) (w : ℕ) (m : Entries Hop) (p : List Bool) (v : Hop) → AreWithin w m → length p ≤ w → AreWithin w (with_entry m p v)
+within_inserted stored w m p v within fits s here = elim (key_with stored m p v s here) [
+  | inl same ↦ (let size : length s ≡ length p = ap length same in omega (arith, size, fits))
+  | inr old ↦ within s old
+]
+
+-- a stored key is inserted again
+pub stored_accepted : (width : ℕ) (s t : State Hop × Storage) (p : List Bool) (v : Hop) (refused : Refused Hop) → contains_key s.0.entries p ≡ true → StepByPath width s (Insert p v) (insert_reply (Err refused)) t → ⊥
+stored_accepted width s t p v refused here step = elim step.step [
+  | inl value ↦ false≢true (sym (ap is_refusal value.0))
+  | inr new ↦ false≢true (sym new.0 ∙ here)
+]

@@ -6,3 +6,4 @@ pub mod Counts
 pub mod Slots
 pub mod Forwarding
 pub mod Needs
+pub mod Laws

@@ -7,6 +7,7 @@
 
 mod answers;
 mod hop;
+pub mod laws;
 mod slots;
 mod table;
 

@@ -1,5 +1,5 @@
 //! Slots of answers, in groups: what a lookup reads.
-ghost use Rattle.std.specs.Prelude.{◌≡◌, ℕ, ◌+◌, ◌-◌, ◌*◌, ◌%◌, ◌^◌, ◌<◌, ◌≤◌, IfOk, slice_index, vec_len};
+ghost use Rattle.std.specs.Prelude.{◌≡◌, ◌⊎◌, ℕ, ◌+◌, ◌-◌, ◌*◌, ◌%◌, ◌^◌, ◌<◌, ◌≤◌, IfOk, IsOk, slice_index, vec_len};
 ghost use Rattle.std.specs.FinMap.{len};
 ghost use Rattle.prefix_trie_bits.specs.Model.Nodes.{Nodes};
 ghost use Rattle.prefix_trie_forwarding.specs.Counts.{HasBlocks};
@@ -20,7 +20,7 @@ mod trim;
 pub(crate) use change::Change;
 use change::change_network;
 pub(crate) use find::LENGTH;
-use find::find;
+use find::find_counted;
 use free::Groups;
 use groups::reserve;
 use link::link;
@@ -74,7 +74,19 @@ impl<A: Allocator> Slots<A> {
             (slice_index self.now.items.items)
             (first_of (self.now.root_bits + 8 * self.now.levels) (K.bits address)) }
     {
-        find(
+        self.find_counted(address).0
+    }
+
+    /// Returns the answer to an address, and the number of slots that it read.
+    #[inline(always)]
+    pub(crate) fn find_counted<K: Key>(&self, address: K) -> (u32, u32)
+        requires { IsDivided K.bit_width self.now.root_bits self.now.levels }
+        ensures answer { result.0 ≡ answer (2 ^ self.now.root_bits) self.now.levels
+            (slice_index self.now.items.items)
+            (first_of (self.now.root_bits + 8 * self.now.levels) (K.bits address)) }
+        ensures reads { result.1 ≤ 1 + self.now.levels }
+    {
+        find_counted(
             &self.items,
             self.root_bits,
             self.levels,
@@ -84,6 +96,8 @@ impl<A: Allocator> Slots<A> {
     }
 
     /// Makes sure that `link` needs no memory for a network, and returns where its path ends. No slot changes.
+    ///
+    /// It makes groups only if too few are free, and no more than `link` takes. For a path that is there it makes none.
     ///
     /// # Errors
     ///
@@ -99,6 +113,12 @@ impl<A: Allocator> Slots<A> {
             (slice_index self.new.items.items)
             (first_of (self.old.root_bits + 8 * self.old.levels) (K.bits first)) len end) }
         ensures enough { IfOk result (λ end. len ≤ end.depth + 8 * vec_len self.new.groups.free) }
+        ensures made { IfOk result (λ end. (self.new.groups.made ≡ self.old.groups.made)
+            ⊎ (end.depth + 8 * vec_len self.new.groups.free < len + 8)) }
+        ensures spare { HasPath (2 ^ self.old.root_bits) self.old.levels
+            (slice_index self.old.items.items)
+            (first_of (self.old.root_bits + 8 * self.old.levels) (K.bits first))
+            (self.old.root_bits + 8 * self.old.levels - len) → IsOk result }
     {
         let end = walk(
             &self.items,
@@ -132,6 +152,9 @@ impl<A: Allocator> Slots<A> {
             (slice_index self.new.items.items)
             (first_of (self.old.root_bits + 8 * self.old.levels) (K.bits first))
             (self.old.root_bits + 8 * self.old.levels - len) }
+        ensures made { self.new.groups.made ≡ self.old.groups.made }
+        ensures taken { 8 * vec_len self.new.groups.free + len
+            ≤ end.depth + 8 * vec_len self.old.groups.free }
     {
         link(
             &mut self.items,
@@ -164,6 +187,8 @@ impl<A: Allocator> Slots<A> {
             (slice_index self.old.items.items) (slice_index self.new.items.items) }
         ensures groups { KeepsGroups (2 ^ self.old.root_bits) self.old.levels
             (slice_index self.old.items.items) (slice_index self.new.items.items) }
+        ensures made { self.new.groups.made ≡ self.old.groups.made }
+        ensures free { vec_len self.new.groups.free ≡ vec_len self.old.groups.free }
     {
         change_network(
             &mut self.items,
@@ -186,6 +211,7 @@ impl<A: Allocator> Slots<A> {
             (first_of (self.old.root_bits + 8 * self.old.levels) (K.bits first))
             (self.old.root_bits + 8 * self.old.levels - len)
             (slice_index self.old.items.items) (slice_index self.new.items.items) }
+        ensures made { self.new.groups.made ≡ self.old.groups.made }
     {
         trim(
             &mut self.items,
@@ -195,6 +221,23 @@ impl<A: Allocator> Slots<A> {
             first,
             len,
         );
+    }
+
+    /// Makes all answers 0 and gives back all groups, with their slots. The array keeps its memory.
+    pub(crate) fn clear(&mut self)
+        ensures root { self.new.root_bits ≡ self.old.root_bits }
+        ensures levels { self.new.levels ≡ self.old.levels }
+        ensures answers { (a : ℕ) → IsAddress (2 ^ self.old.root_bits) self.old.levels a
+            → answer (2 ^ self.old.root_bits) self.old.levels (slice_index self.new.items.items) a
+            ≡ 0 }
+        ensures none { (a k : ℕ) → IsAddress (2 ^ self.old.root_bits) self.old.levels a
+            → HasGroup (2 ^ self.old.root_bits) self.old.levels (slice_index self.new.items.items)
+            a k → ⊥ }
+        ensures size { vec_len self.new.items ≡ 2 ^ self.old.root_bits }
+    {
+        self.items.truncate(power(self.root_bits));
+        self.items.fill(0);
+        self.groups.clear();
     }
 
     /// Returns the number of groups that are not free: one for each block that has one.
@@ -208,7 +251,8 @@ impl<A: Allocator> Slots<A> {
 
     /// Returns the number of slots.
     pub(crate) fn len(&self) -> usize
-        ensures { 2 ^ self.now.root_bits ≤ result }
+        ensures count { result ≡ vec_len self.now.items }
+        ensures root { 2 ^ self.now.root_bits ≤ result }
     {
         self.items.len()
     }

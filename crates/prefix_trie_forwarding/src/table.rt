@@ -1,11 +1,13 @@
 //! A map from networks to next hops, with slots in which a lookup finds the longest match of an address.
-ghost use Rattle.std.specs.Prelude.{◌≡◌, ◌^◌, ◌<◌, ◌≤◌, ◌↔◌, IfOk, IsTrue, OnErr, OnOk, max, min};
-ghost use Rattle.std.specs.FinMap.{get, len};
+ghost use Rattle.std.specs.Prelude.{◌≡◌, ◌⊎◌, ◌+◌, ◌-◌, ◌*◌, ◌/◌, ◌^◌, ◌<◌, ◌≤◌, ◌↔◌, IfOk, IsOk, IsTrue, true, OnErr, OnOk, max, min, vec_len};
+ghost use Rattle.std.specs.FinMap.{contains_key, get, len};
 ghost use Rattle.prefix_trie_bits.specs.Model.Entries.{no_entries, with_entry, without_entry};
 ghost use Rattle.prefix_trie_bits.specs.Model.Matches.{longest_match};
 ghost use Rattle.prefix_trie_forwarding.specs.Forwarding.{Follows, answer_of, hop_of, length_and_hop};
 ghost use Rattle.prefix_trie_forwarding.specs.Keys.{IsDivided};
 ghost use Rattle.prefix_trie_forwarding.specs.Needs.{HasNeededGroups, needed_groups};
+
+mod addresses;
 
 use crate::answers::{hop_in, insertion, match_answer, match_in, removal};
 use crate::hop::Hop;
@@ -17,10 +19,12 @@ use std::alloc::Allocator;
 
 /// A table of networks with their next hops, which changes while it is asked.
 ///
-/// A map holds the networks. Beside it are slots: one for each block of addresses that have the first bits in common, 24
-/// bits or as many as `with_root_bits` says, and a group of 256 slots for each block that a longer network lies in, level
-/// by level of eight bits. A lookup reads one slot a level. An insertion or a removal writes the slots that have another
-/// answer afterwards, and no others.
+/// A map holds the networks. Beside it are slots. The first ones, the root, are read by the first bits of an address: 24
+/// bits, or as many as `with_root_bits` says. A slot of the root stands for a block of addresses. If a longer network lies
+/// in that block, the block has a group of 256 slots, which the next eight bits select, and so on until the address ends.
+///
+/// A lookup reads one slot of the root and one of each group on its way. An insertion or a removal goes over the slots of the
+/// network's addresses, and not over the map.
 ///
 /// A root of 24 bits takes 64 MB, a root of 16 bits 256 KB, and each group 1 KB. An insertion of a short network writes a
 /// slot for each block in it: 65,536 for a network of 8 bits and a root of 24.
@@ -64,8 +68,10 @@ impl<P: Prefix, A: Allocator + Clone> ForwardingTable<P, A> {
         Self::with_root_bits(alloc, 24)
     }
 
-    /// Creates an empty table with a root of so many bits. Numbers outside of 1 to 24 are raised or cut, and more than an
-    /// address has are cut too.
+    /// Creates an empty table with a root of so many bits.
+    ///
+    /// The root has at least one bit, and at most 24 and no more than an address. A number outside this range counts as
+    /// its nearest end.
     ///
     /// # Errors
     ///
@@ -132,6 +138,27 @@ impl<P: Prefix, A: Allocator> ForwardingTable<P, A> {
         match_in(answer)
     }
 
+    /// Returns the result of `lookup` and the number of slots read: one, and one for each level that the lookup went down.
+    ///
+    /// There is a level for each eight bits after those of the root, and for the last bits if they are fewer.
+    ///
+    /// # Examples
+    ///
+    /// ```rust
+    /// // table = {10.0.0.0/8: 1, 10.1.2.0/24: 2}, with a root of 16 bits
+    /// table.lookup_counted(0x0a010203);   // (Some(2), 2)
+    /// table.lookup_counted(0x0a020304);   // (Some(1), 1)
+    /// ```
+    #[inline]
+    pub fn lookup_counted(&self, address: P::R) -> (Option<Hop>, u32)
+        ensures hop { result.0
+            ≡ hop_of (longest_match self.now.map.entries (P.R.bits address)) }
+        ensures reads { result.1 ≤ 1 + (P.R.bit_width - self.now.slots.root_bits + 7) / 8 }
+    {
+        let (answer, reads) = self.answer_counted(address);
+        (hop_in(answer), reads)
+    }
+
     /// Returns the answer to an address.
     #[inline(always)]
     fn answer(&self, address: P::R) -> u32
@@ -139,21 +166,34 @@ impl<P: Prefix, A: Allocator> ForwardingTable<P, A> {
             ≡ answer_of (longest_match self.now.map.entries (P.R.bits address)) }
         ensures small { result < 2147483648 }
     {
+        self.answer_counted(address).0
+    }
+
+    /// Returns the answer to an address, and the number of slots read.
+    #[inline(always)]
+    fn answer_counted(&self, address: P::R) -> (u32, u32)
+        ensures answer { result.0
+            ≡ answer_of (longest_match self.now.map.entries (P.R.bits address)) }
+        ensures small { result.0 < 2147483648 }
+        ensures reads { result.1 ≤ 1 + (P.R.bit_width - self.now.slots.root_bits + 7) / 8 }
+    {
         // The proof learns from these calls what holds of keys, of maps and of matches.
         let _ = address.is_key();
         let _ = self.map.len();
         lookup_laws::<P, Hop>();
-        self.slots.find(address)
+        self.slots.find_counted(address)
     }
 
     /// Sets the hop of a network and returns the previous one.
     ///
-    /// Inserting a network that is already stored never fails and does not allocate.
+    /// Inserting a network that is already stored never fails and does not allocate. A new one takes free groups first, and
+    /// makes groups only for the rest.
     ///
     /// # Errors
     ///
-    /// Returns `Memory` if an allocation fails, `IndexRange` if the map or the groups would exceed their limit. Entries and
-    /// answers are unchanged then.
+    /// Returns an error if a new network needs memory that cannot be had, for the map or for a group: `Memory` if an
+    /// allocation fails, `IndexRange` if the map would exceed its slot limit or there would be more than 2^31 groups.
+    /// Networks, hops and answers are unchanged then. Groups that were made stay, free.
     ///
     /// # Examples
     ///
@@ -169,6 +209,12 @@ impl<P: Prefix, A: Allocator> ForwardingTable<P, A> {
             (self.new.map.entries ≡ with_entry self.old.map.entries (P.path prefix) hop) }
         ensures unchanged { OnErr result (self.new.map.entries ≡ self.old.map.entries) }
         ensures root { self.new.slots.root_bits ≡ self.old.slots.root_bits }
+        ensures stored { contains_key self.old.map.entries (P.path prefix) ≡ true → IsOk result }
+
+        // Free groups are used first: the slots grow only if no group is free afterwards.
+        ensures slots { OnOk result ((vec_len self.new.slots.items ≡ vec_len self.old.slots.items)
+            ⊎ (vec_len self.new.slots.items ≡ 2 ^ self.old.slots.root_bits
+            + 256 * len (needed_groups self.old.slots.root_bits self.new.map.entries))) }
     {
         // The proof learns from these calls what holds of maps and of matches.
         let _ = self.map.len();
@@ -185,8 +231,8 @@ impl<P: Prefix, A: Allocator> ForwardingTable<P, A> {
 
     /// Removes a network and returns its hop.
     ///
-    /// The call never fails, and allocates nothing for slots. The map's `remove` may request memory, and does without it if
-    /// there is none. Groups that no network needs any more are free afterwards, for networks to come.
+    /// The call never fails, and allocates nothing for slots. The map's `remove` may request a smaller block, and keeps the
+    /// larger one if there is none. Groups that no network needs any more are free afterwards, for networks to come.
     ///
     /// # Examples
     ///
@@ -201,6 +247,7 @@ impl<P: Prefix, A: Allocator> ForwardingTable<P, A> {
         ensures entries { self.new.map.entries
             ≡ without_entry self.old.map.entries (P.path prefix.now) }
         ensures root { self.new.slots.root_bits ≡ self.old.slots.root_bits }
+        ensures slots { vec_len self.new.slots.items ≡ vec_len self.old.slots.items }
     {
         lookup_laws::<P, Hop>();
         stored_laws::<Hop>();
@@ -215,6 +262,29 @@ impl<P: Prefix, A: Allocator> ForwardingTable<P, A> {
         Some(hop)
     }
 
+    /// Removes all networks.
+    ///
+    /// The call does not allocate, and it never fails. The groups are given back with their slots, whose memory the table
+    /// keeps for groups to come.
+    ///
+    /// # Examples
+    ///
+    /// ```rust
+    /// // table = {10.1.2.0/24: 1}, with a root of 16 bits
+    /// table.clear();
+    /// (table.len(), table.group_count(), table.slot_count());     // (0, 0, 65536)
+    /// ```
+    pub fn clear(&mut self)
+        ensures entries { self.new.map.entries ≡ no_entries }
+        ensures root { self.new.slots.root_bits ≡ self.old.slots.root_bits }
+        ensures slots { vec_len self.new.slots.items ≡ 2 ^ self.old.slots.root_bits }
+    {
+        lookup_laws::<P, Hop>();
+        stored_laws::<Hop>();
+        self.map.clear();
+        self.slots.clear();
+    }
+
     /// Returns the map of the networks, for walks, counts and exact lookups.
     ///
     /// # Examples
@@ -227,6 +297,20 @@ impl<P: Prefix, A: Allocator> ForwardingTable<P, A> {
         ensures { result.now ≡ self.now.map }
     {
         &self.map
+    }
+
+    /// Returns the map of the networks, and drops the slots.
+    ///
+    /// # Examples
+    ///
+    /// ```rust
+    /// // table = {10.1.0.0/16: 1}
+    /// table.into_map().len();     // 1
+    /// ```
+    pub fn into_map(self) -> PrefixMap<P, Hop, A>
+        ensures { result ≡ self.map }
+    {
+        self.map
     }
 
     /// Returns the number of networks.
@@ -284,7 +368,8 @@ impl<P: Prefix, A: Allocator> ForwardingTable<P, A> {
     /// table.slot_count();     // 65792
     /// ```
     pub fn slot_count(&self) -> usize
-        ensures { 2 ^ self.now.slots.root_bits ≤ result }
+        ensures count { result ≡ vec_len self.now.slots.items }
+        ensures root { 2 ^ self.now.slots.root_bits ≤ result }
     {
         self.slots.len()
     }

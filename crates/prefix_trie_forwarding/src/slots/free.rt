@@ -41,6 +41,15 @@ impl<A: Allocator> Groups<A> {
         self.free.push_reserved(group);
     }
 
+    /// Forgets all groups.
+    pub(super) fn clear(&mut self)
+        ensures made { self.new.made ≡ 0 }
+        ensures free { self.new.free.items ≡ [] }
+    {
+        self.made = 0;
+        self.free.clear();
+    }
+
     /// Reserves capacity for one more group.
     pub(super) fn reserve(&mut self) -> Result<(), AllocError>
         ensures room { OnOk result (self.new.made + 1 ≤ vec_capacity self.new.free) }

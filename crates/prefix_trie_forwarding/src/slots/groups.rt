@@ -1,5 +1,5 @@
 //! Taking free groups into use, and giving them back.
-ghost use Rattle.std.specs.Prelude.{◌≡◌, ◌≢◌, ◌⊎◌, ℕ, ◌+◌, ◌*◌, ◌%◌, ◌^◌, ◌<◌, ◌≤◌, ◌++◌, ◌∷◌, [], List, OnOk, false, true, length, slice_index, vec_len};
+ghost use Rattle.std.specs.Prelude.{◌≡◌, ◌≢◌, ◌⊎◌, ℕ, ◌+◌, ◌*◌, ◌%◌, ◌^◌, ◌<◌, ◌≤◌, ◌++◌, ◌∷◌, [], IsOk, List, OnOk, false, true, length, slice_index, vec_len};
 ghost use Rattle.std.proofs.Common.{suc};
 ghost use Rattle.prefix_trie_forwarding.specs.Slots.{AreGroups};
 ghost use Rattle.prefix_trie_forwarding.specs.Walks.{AgreesOutside, AreFree, AreSlots, GainsGroup, IsAddress, IsSame, Reaches};
@@ -78,7 +78,7 @@ pub(super) fn is_spare(slots: &[u32], low: usize, limit: u32) -> bool
     true
 }
 
-/// Makes sure that so many groups are free. No slot changes.
+/// Makes sure that so many groups are free, and makes no more than are missing. No slot changes.
 ///
 /// # Errors
 ///
@@ -96,6 +96,9 @@ pub(super) fn reserve<A: Allocator>(
     ensures as_many { groups.new.made + vec_len groups.old.free
         ≡ groups.old.made + vec_len groups.new.free }
     ensures enough { OnOk result (missing ≤ vec_len groups.new.free) }
+    ensures made { OnOk result ((groups.new.made ≡ groups.old.made)
+        ⊎ ((0 < missing) × (vec_len groups.new.free ≤ missing))) }
+    ensures spare { missing ≤ vec_len groups.old.free → IsOk result }
 {
     while groups.free.len() < missing {
         add_group(slots, groups, root_bits)?;

@@ -42,6 +42,7 @@ pub(super) fn link<K: Key, A: Allocator>(
         (slice_index slots.old) (slice_index slots.new) }
     ensures path { HasPath (2 ^ root_bits) levels (slice_index slots.new)
         (first_of (root_bits + 8 * levels) (K.bits first)) (root_bits + 8 * levels - len) }
+    ensures taken { 8 * vec_len groups.new.free + len ≤ end.depth + 8 * vec_len groups.old.free }
 {
     // The proof learns from it that the number is a key.
     let _ = first.is_key();

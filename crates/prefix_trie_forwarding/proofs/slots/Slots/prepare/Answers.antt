@@ -1,5 +1,5 @@
 -- More free groups change no slot.
-use Rattle.std.proofs.Common.{◌≡◌, ◌+◌, ◌*◌, ◌-◌, ◌/◌, ◌^◌, ◌≤◌, arith, slice_index}
+use Rattle.std.proofs.Common.{◌≡◌, ◌+◌, ◌*◌, ◌-◌, ◌/◌, ◌^◌, ◌<◌, ◌≤◌, arith, inl, inr, slice_index}
 use Rattle.prefix_trie_forwarding.specs.Keys.{first_of}
 use Rattle.prefix_trie_forwarding.proofs.Counting.{count_kept}
 use Rattle.prefix_trie_forwarding.proofs.Points.{end_points, keeps_points, values_points}
@@ -30,3 +30,9 @@ returns-clause-end g c =
 
 pub returns-clause-enough : goal.returns-clause-enough
 returns-clause-enough g c = omega (arith, c.in_ok-reserve.ensures.enough, c.saturating_sub.ensures)
+
+pub returns-clause-made : goal.returns-clause-made
+returns-clause-made g c = elim c.in_ok-reserve.ensures.made [
+  | inl same ↦ inl same
+  | inr few ↦ inr (omega (arith, few.0, few.1, c.saturating_sub.ensures))
+]

@@ -14,6 +14,7 @@ pub loop-depth-init : goal.loop-depth-init
 loop-depth-init g c = record {
   set = c.requires.set;
   made = refl;
+  spent = refl;
   enough = c.requires.enough;
   linking = linking_start c.args.root_bits c.args.levels (first_of (c.args.root_bits + 8 * c.args.levels) (g.K.Key.bits c.args.first)) c.args.len (slice_index c.args.slots.now) c.args.end c.requires.end;
   counted = c.requires.counted;
@@ -87,6 +88,7 @@ loop-depth-preserved g c =
         free_are = e.free free (subst (λ n. AreFree n s (free ++ group ∷ [])) (sym made) last.frees);
       };
       made = made ∙ i.made;
+      spent = omega (arith, i.spent, last.longer);
       enough = omega (arith, i.enough, last.longer);
       linking = linking_step c.args.root_bits c.args.levels b c.args.len c.loop-depth.depth c.loop-depth.at (slice_index c.args.slots.now) s i.linking u group c.next_slot-at.result c.loop-depth-test.true fits ib (e.same c.args.levels b i.linking.steps (i.linking.left - 1) ib r) gain e.link
           (e.reached c.args.levels b i.linking.steps (i.linking.left - 1) ib r) to (e.inside c.args.levels b i.linking.steps (i.linking.left - 1) ib r);
@@ -104,3 +106,6 @@ returns-clause-gains g c =
 pub returns-clause-path : goal.returns-clause-path
 returns-clause-path g c =
     linking_path c.args.root_bits c.args.levels (first_of (c.args.root_bits + 8 * c.args.levels) (g.K.Key.bits c.args.first)) c.args.len c.loop-depth.depth c.loop-depth.at (slice_index c.args.slots.now) (slice_index c.loop-depth.slots) c.loop-depth.invariant.linking c.loop-depth-test.false
+
+pub returns-clause-taken : goal.returns-clause-taken
+returns-clause-taken g c = omega (arith, c.loop-depth.invariant.spent, c.loop-depth-test.false)

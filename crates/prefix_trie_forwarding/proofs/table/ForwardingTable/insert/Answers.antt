@@ -1,16 +1,20 @@
 -- The answers and groups follow the map: as before on an error, and with the network otherwise.
-use Rattle.std.proofs.Common.{◌≡◌, ◌∙◌, ℕ, ◌+◌, ◌-◌, ◌*◌, ◌%◌, ◌^◌, ◌≤◌, ◌<◌, length, refl, sym, arith}
-use Rattle.std.proofs.Math.Logic.{∥∥₁_map}
+use Rattle.std.proofs.Common.{◌≡◌, ◌∙◌, ℕ, ◌+◌, ◌-◌, ◌*◌, ◌%◌, ◌^◌, ◌≤◌, ◌<◌, length, refl, sym, ap, subst, arith, inl, inr}
+use Rattle.std.specs.Coded.{le_prop}
+use Rattle.std.specs.FinMap.{len}
+use Rattle.std.proofs.lemmas.Bool.{false≢true}
+use Rattle.std.proofs.Math.Logic.{∥∥₁_elim, ∥∥₁_map}
+use Rattle.prefix_trie_bits.specs.Calls.Entries.{AreWithin}
 use Rattle.prefix_trie_bits.specs.Keys.{path_length, path_within}
 use Rattle.prefix_trie_bits.specs.Model.Entries.{with_entry}
 use Rattle.prefix_trie_forwarding.specs.Forwarding.{Follows}
 use Rattle.prefix_trie_forwarding.specs.Keys.{IsDivided, first_of}
-use Rattle.prefix_trie_forwarding.specs.Needs.{HasNeededGroups}
+use Rattle.prefix_trie_forwarding.specs.Needs.{HasNeededGroups, needed_groups}
 use Rattle.prefix_trie_forwarding.proofs.Following.{follows_same}
 use Rattle.prefix_trie_forwarding.proofs.Needed.{needed_kept}
 use Rattle.prefix_trie_forwarding.proofs.Networks.{first_path}
 use Rattle.prefix_trie_forwarding.proofs.Points.{keeps_points}
-use Rattle.prefix_trie_forwarding.proofs.Tables.{aligned, follows_inserted, follows_points, groups_inserted, moved}
+use Rattle.prefix_trie_forwarding.proofs.Tables.{aligned, follows_inserted, follows_points, groups_inserted, moved, stored_path, used_groups, within_inserted}
 use Rattle.prefix_trie_forwarding.proofs.table.ForwardingTable.insert.Goals as goal
 
 pub invariant_of-self : goal.invariant_of-self
@@ -50,6 +54,12 @@ invariant_of-self-in-Break-branch-2 g c =
       follows = moved (λ r k m. Follows r k ys m) r l s.root_bits s.levels m n root level kept (follows_points r l xs ys m same t.follows);
       groups = moved (λ r k m. ∥ HasNeededGroups r k ys m ∥₁) r l s.root_bits s.levels m n root level kept (∥∥₁_map t.groups (λ has. needed_kept r l m xs ys has (keeps_points (2 ^ r) l xs ys same)));
     }
+
+pub insertion-requires : goal.insertion-requires
+insertion-requires g c =
+    let long = path_length g.met.P.Prefix.prefix_laws c.args.prefix c.requires in
+    let within = path_within g.met.P.Prefix.prefix_laws c.args.prefix c.requires in
+    omega (arith, c.from-len.ensures, c.prefix_len.ensures, long, within, g.met.P.Prefix.prefix_laws.keys.at_most_128)
 
 pub change-requires-clause-len : goal.change-requires-clause-len
 change-requires-clause-len g c =
@@ -113,3 +123,46 @@ invariant_of-self-2 g c =
       groups = moved (λ r k m. ∥ HasNeededGroups r k us m ∥₁) r l s.root_bits s.levels (with_entry m p c.args.hop) n root level entries
           (∥∥₁_map t.groups (λ has. groups_inserted r l m p fits b c.from-len.result b_is len_is c.stored_laws.ensures c.args.hop xs ys zs us has same gains keeps));
     }
+
+pub returns-clause-slots : goal.returns-clause-slots
+returns-clause-slots g c =
+    let t = c.args.self.now in
+    let s = c.change.new.self in
+    let n = c.insert.new.self.entries in
+    let root : c.change.new.self.root_bits ≡ t.slots.root_bits = c.change.ensures.root ∙ c.link.ensures.root ∙ c.prepare.ensures.root in
+    let level : c.change.new.self.levels ≡ t.slots.levels = c.change.ensures.levels ∙ c.link.ensures.levels ∙ c.prepare.ensures.levels in
+    let made : c.change.new.self.groups.made ≡ c.prepare.new.self.groups.made = c.change.ensures.made ∙ c.link.ensures.made in
+    let size : 2 ^ c.change.new.self.root_bits ≡ 2 ^ t.slots.root_bits = ap (λ r. 2 ^ r) root in
+    elim c.in_ok-end.ensures.made [
+      | inl same ↦ inl (omega (arith, size, made, same, s.sound.set.sizes, t.slots.sound.set.sizes))
+      | inr few ↦
+          let within = path_within g.met.P.Prefix.prefix_laws c.args.prefix c.requires in
+          let fits : length (g.P.Prefix.path c.args.prefix) ≤ c.change.new.self.root_bits + 8 * c.change.new.self.levels = omega (arith, within, t.divided.reads, root, level) in
+          let short = within_inserted c.stored_laws.ensures (s.root_bits + 8 * s.levels) t.map.entries (g.P.Prefix.path c.args.prefix) c.args.hop
+          (λ k stored. (let most = c.len.ensures.whole.is_map.keys_within k stored in omega (arith, most, t.divided.reads, root, level))) fits in
+          let gains = rw (c.prepare.ensures.root, c.prepare.ensures.levels) at c.link.ensures.gains in
+          let keeps = rw (c.link.ensures.root, c.link.ensures.levels, c.prepare.ensures.root, c.prepare.ensures.levels) at c.change.ensures.groups in
+          let long : length (g.P.Prefix.path c.args.prefix) ≡ g.P.Prefix.len_of c.args.prefix = path_length g.met.P.Prefix.prefix_laws c.args.prefix c.requires in
+          let b_is = first_path g.met.P.Prefix.prefix_laws c.args.prefix c.requires (t.slots.root_bits + 8 * t.slots.levels) c.mask-first.result t.divided.reads c.mask-first.ensures.value in
+          let groups = ∥∥₁_map t.groups (λ has. groups_inserted t.slots.root_bits t.slots.levels t.map.entries (g.P.Prefix.path c.args.prefix) (omega (arith, within, t.divided.reads))
+          (first_of (t.slots.root_bits + 8 * t.slots.levels) (g.P.R.Key.bits c.mask-first.result)) c.from-len.result b_is (omega (arith, c.from-len.ensures, c.prefix_len.ensures, long)) c.stored_laws.ensures c.args.hop
+          t.slots.items.items c.prepare.new.self.items.items c.link.new.self.items.items s.items.items has c.prepare.ensures.points gains keeps) in
+          let used = used_groups s.root_bits s.levels s.groups.made s.items.items s.groups.free.items n
+          (moved (λ r k m. ∥ HasNeededGroups r k c.change.new.self.items.items m ∥₁) t.slots.root_bits t.slots.levels s.root_bits s.levels (with_entry t.map.entries (g.P.Prefix.path c.args.prefix) c.args.hop) n root level c.in_ok-before.ensures.entries groups)
+          (subst (λ n. AreWithin (c.change.new.self.root_bits + 8 * c.change.new.self.levels) n) (sym c.in_ok-before.ensures.entries) short) s.sound.counted in
+          let count : len (needed_groups c.change.new.self.root_bits c.insert.new.self.entries) ≡ len (needed_groups t.slots.root_bits c.insert.new.self.entries) =
+          ap (λ r. len (needed_groups r c.insert.new.self.entries)) root in
+          inr (omega (arith, size, used, count, few, c.link.ensures.taken, c.change.ensures.free, s.sound.set.sizes))
+    ]
+
+pub returns-in_err-end-clause-stored : goal.returns-in_err-end-clause-stored
+returns-in_err-end-clause-stored g c = λ here.
+    let t = c.args.self.now in
+    let s = c.args.self.now.slots in
+    let long : length (g.P.Prefix.path c.args.prefix) ≡ g.P.Prefix.len_of c.args.prefix = path_length g.met.P.Prefix.prefix_laws c.args.prefix c.requires in
+    let within = path_within g.met.P.Prefix.prefix_laws c.args.prefix c.requires in
+    let reads = c.args.self.now.divided.reads in
+    absurd (false≢true (c.in_err-end.ensures.spare (λ n k x reached more. ∥∥₁_elim t.groups le_prop
+    (λ has. stored_path s.root_bits s.levels t.map.entries (g.P.Prefix.path c.args.prefix) (omega (arith, within, reads)) (first_of (s.root_bits + 8 * s.levels) (g.P.R.Key.bits c.mask-first.result)) c.from-len.result
+    (first_path g.met.P.Prefix.prefix_laws c.args.prefix c.requires (s.root_bits + 8 * s.levels) c.mask-first.result reads c.mask-first.ensures.value)
+    (omega (arith, c.from-len.ensures, c.prefix_len.ensures, long)) s.items.items has here n k x reached more))))

@@ -106,3 +106,11 @@ invariant_of-self-2 g c =
           (∥∥₁_map t.groups (λ has. groups_removed r l m p fits b c.from-len.result b_is len_is c.stored_laws.ensures c.lookup_laws.ensures xs ys zs (omega (arith, t.divided.ends, t.divided.small)) has c.change.ensures.groups
           trims follows values short));
     }
+
+pub returns-clause-slots : goal.returns-clause-slots
+returns-clause-slots g c =
+    let t = c.args.self.now in
+    let s = c.trim.new.self in
+    let root : c.trim.new.self.root_bits ≡ t.slots.root_bits = c.trim.ensures.root ∙ c.change.ensures.root in
+    let size : 2 ^ c.trim.new.self.root_bits ≡ 2 ^ t.slots.root_bits = ap (λ r. 2 ^ r) root in
+    omega (arith, size, c.trim.ensures.made, c.change.ensures.made, s.sound.set.sizes, t.slots.sound.set.sizes)

@@ -5,7 +5,7 @@ use Rattle.prefix_trie_forwarding.specs.Walks.{upper, value_from}
 use Rattle.prefix_trie_forwarding.proofs.Lookups.{next_inside, root_inside}
 use Rattle.prefix_trie_forwarding.proofs.Reading.{first_address}
 use Rattle.prefix_trie_forwarding.proofs.Walks.{goes_on, value_from-value, value_stepped}
-use Rattle.prefix_trie_forwarding.proofs.slots.find.find.Goals as goal
+use Rattle.prefix_trie_forwarding.proofs.slots.find.find_counted.Goals as goal
 
 pub bounds-slots-root_index : goal.bounds-slots-root_index
 bounds-slots-root_index g c =
@@ -28,6 +28,7 @@ loop-slot-init g c =
       refl,
       refl,
       ap (λ x. value_from (2 ^ c.args.root_bits) (slice_index c.args.slots.now) (first_of (c.args.root_bits + 8 * c.args.levels) (g.K.Key.bits c.args.address)) c.args.levels x) at,
+      omega arith,
     )
 
 pub next_slot-requires-clause-within : goal.next_slot-requires-clause-within
@@ -78,6 +79,7 @@ loop-slot-preserved g c =
       refl,
       value_stepped (2 ^ c.args.root_bits) (slice_index c.args.slots.now) a (i.0 - 1) i.1 c.loop-slot.slot c.next_slot.result _
           (ap (λ k. value_from (2 ^ c.args.root_bits) (slice_index c.args.slots.now) a k i.1) level ∙ i.4) i.3 c.loop-slot-test.true at,
+      omega (arith, some, i.5),
     )
 
 pub loop-slot-smaller : goal.loop-slot-smaller
@@ -89,8 +91,16 @@ loop-slot-smaller g c =
     let some = goes_on (2 ^ c.args.root_bits) (slice_index c.args.slots.now) a i.0 i.1 _ i.4 (c.requires.values a ia) (subst (λ n. 2147483648 ≤ n) i.3 c.loop-slot-test.true) in
     omega (arith, some, i.2)
 
-pub returns : goal.returns
-returns g c =
+pub returns-clause-answer : goal.returns-clause-answer
+returns-clause-answer g c =
     let i = c.loop-slot.invariant in
     let a = first_of (c.args.root_bits + 8 * c.args.levels) (g.K.Key.bits c.args.address) in
     i.3 ∙ sym (value_from-value (2 ^ c.args.root_bits) (slice_index c.args.slots.now) a i.0 i.1 (subst (λ n. n < 2147483648) i.3 c.loop-slot-test.false)) ∙ i.4
+
+pub returns-clause-reads : goal.returns-clause-reads
+returns-clause-reads g c = let i = c.loop-slot.invariant in omega (arith, i.5)
+
+pub overflow_add-reads : goal.overflow_add-reads
+overflow_add-reads g c =
+    let i = c.loop-slot.invariant in
+    omega (arith, i.5, c.requires.divided.ends, c.requires.divided.small)
