@@ -1,7 +1,7 @@
 -- Counting the blocks that have groups.
-use Rattle.std.proofs.Common.{◌≡◌, ◌≢◌, ◌∙◌, ◌⊎◌, ◌↔◌, ℕ, suc, ◌+◌, ◌-◌, ◌*◌, ◌/◌, ◌^◌, ◌<◌, ◌≤◌, Bool, true, false, cond, List, [], ◌∷◌, length, Some, None, refl, sym, ap, subst, arith, inl, inr, pow-add}
+use Rattle.std.proofs.Common.{◌≡◌, ◌≢◌, ◌∙◌, ◌⊎◌, ℕ, suc, ◌+◌, ◌-◌, ◌*◌, ◌/◌, ◌^◌, ◌<◌, ◌≤◌, Bool, true, false, cond, List, [], ◌∷◌, length, Some, None, refl, sym, ap, subst, arith, inl, inr, pow-add}
 use Rattle.std.specs.Cmp.{Equal-is}
-use Rattle.std.specs.FinMap.{contains_key-keys, empty, empty_of_len, entries, get, get-empty, get-insert, get-remove, insert, keys, len, len-entries, len-insert, len-remove, remove}
+use Rattle.std.specs.FinMap.{contains_key-keys, empty_of_len, entries, get, get-empty, get-insert, get-remove, insert, keys, len, len-entries, len-insert, len-remove, remove}
 use Rattle.std.specs.Ordering.{eq_by_cmp, is_eq}
 use Rattle.std.specs.List.{list_any}
 use Rattle.std.specs.Prelude.{is_some, ◌||◌}
@@ -13,7 +13,7 @@ use Rattle.prefix_trie_bits.specs.Model.Bits.{digits, number}
 use Rattle.prefix_trie_bits.specs.Model.Nodes.{Nodes, has_node}
 use Rattle.prefix_trie_bits.specs.Model.Order.{listing_cmp}
 use Rattle.prefix_trie_bits.specs.Order.{listing-refl, listing_same, listing_total}
-use Rattle.prefix_trie_forwarding.specs.Counts.{HasBlocks, IsCounted, block_of}
+use Rattle.prefix_trie_forwarding.specs.Counts.{IsCounted, block_of}
 use Rattle.prefix_trie_forwarding.proofs.Linking.{has_group_same}
 use Rattle.prefix_trie_forwarding.specs.Walks.{GainsGroup, HasGroup, IsAddress, KeepsGroups, LosesGroup, upper}
 

@@ -1,9 +1,9 @@
 -- What holds where the path of a network ends.
-use Rattle.std.proofs.Common.{◌≡◌, ◌∙◌, ◌⊎◌, ℕ, zero, suc, ◌+◌, ◌-◌, ◌*◌, ◌/◌, ◌%◌, ◌^◌, ◌<◌, ◌≤◌, Bool, true, false, cond, refl, sym, ap, subst, arith, inl, inr}
+use Rattle.std.proofs.Common.{◌≡◌, ◌∙◌, ◌⊎◌, ℕ, ◌+◌, ◌-◌, ◌*◌, ◌%◌, ◌^◌, ◌<◌, ◌≤◌, sym, ap, subst, arith, inl, inr}
 use Rattle.std.proofs.lemmas.Bool.{cases_Bool, cases_lt, cond-true, cond-false}
 use Rattle.std.specs.Prelude.{nat_le}
 use Rattle.prefix_trie_forwarding.specs.Paths.{IsEnd}
-use Rattle.prefix_trie_forwarding.specs.Walks.{AreChanged, AreSlots, HasPath, HasValues, IsAddress, IsChanged, IsRun, Reaches, changed}
+use Rattle.prefix_trie_forwarding.specs.Walks.{AreChanged, AreSlots, HasPath, HasValues, IsAddress, IsChanged, IsRun, changed}
 use Rattle.prefix_trie_forwarding.specs.declared.slots.path.End.{End}
 use Rattle.prefix_trie_forwarding.proofs.Filling.{IsOnce}
 use Rattle.prefix_trie_forwarding.proofs.FilledRuns.{run_changed}

@@ -2,7 +2,7 @@
 use Rattle.std.proofs.Common.{◌≡◌, ℕ, zero, suc, ◌+◌, ◌-◌, ◌*◌, ◌/◌, ◌^◌, ◌<◌, ◌≤◌, sym, ap, ◌∙◌, subst, arith, inl, inr}
 use Rattle.std.proofs.lemmas.Bool.{cases_eq, cond-true, cond-false, eq-eqb, ne_eqb}
 use Rattle.std.proofs.Math.Nat.{zero-div}
-use Rattle.prefix_trie_forwarding.specs.Walks.{upper, slot_in, IsAddress, IsRun, IsChanged, HasValues, Reaches, AreSlots, IsChangedBy, IsUnder, AreChanged}
+use Rattle.prefix_trie_forwarding.specs.Walks.{upper, slot_in, IsAddress, IsRun, IsChanged, HasValues, Reaches, AreSlots, IsUnder, AreChanged}
 use Rattle.prefix_trie_forwarding.proofs.Walks.{upper-suc, value_reached, walks_part}
 use Rattle.prefix_trie_forwarding.proofs.Changes.{at_start, groups_stay, one_more, same_path, steps_of}
 use Rattle.prefix_trie_forwarding.proofs.RunsWritten.{run_at, run_each, upper-add, upper-shift, upper_further}

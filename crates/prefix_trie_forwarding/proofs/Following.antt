@@ -1,24 +1,20 @@
 -- The slots follow the entries: answers, and the blocks that have groups.
-use Rattle.std.proofs.Common.{◌≡◌, ◌≢◌, ◌⊎◌, ◌↔◌, ◌∙◌, ℕ, suc, ◌+◌, ◌-◌, ◌*◌, ◌/◌, ◌%◌, ◌^◌, ◌<◌, ◌≤◌, Bool, true, false, cond, nat_eq, List, [], ◌∷◌, ◌++◌, length, take, Option, None, Some, add-sub_of_le, add-zero, append_assoc, eqb-true, eq-eqb, slice_index, refl, sym, ap, ap₂, subst, arith, inl, inr, length-append}
-use Rattle.std.specs.Prelude.{IfSome, is_some}
-use Rattle.std.specs.FinMap.{contains_key, get}
-use Rattle.std.proofs.lemmas.Bool.{cases_Bool, cases_eq, cases_lt, cond-true, cond-false, false≢true}
-use Rattle.std.proofs.lemmas.List.{length-replicate, length-take-le, replicate-append-replicate, take-append-le}
+use Rattle.std.proofs.Common.{◌≡◌, ◌∙◌, ℕ, ◌+◌, ◌-◌, ◌*◌, ◌/◌, ◌%◌, ◌^◌, ◌<◌, ◌≤◌, Bool, false, cond, nat_eq, List, ◌++◌, length, add-sub_of_le, add-zero, append_assoc, eqb-true, eq-eqb, slice_index, sym, ap, ap₂, subst, arith, length-append}
+use Rattle.std.proofs.lemmas.List.{length-replicate, replicate-append-replicate, take-append-le}
 use Rattle.std.proofs.lemmas.Nat.{mod_low, pow_pos, shl-shr, shl_below, shr_below}
-use Rattle.prefix_trie_bits.specs.Begins.{begins-from-take, begins-length, begins-linear, begins-take, begins-trans, same_bool, take-begins}
-use Rattle.prefix_trie_bits.specs.BitStrings.{digits-number, digits-shl, length-digits, number-lt, number_of_digits, take-digits}
+use Rattle.prefix_trie_bits.specs.Begins.{begins-from-take, begins-take, same_bool}
+use Rattle.prefix_trie_bits.specs.BitStrings.{digits-number, digits-shl, number-lt, number_of_digits, take-digits}
 use Rattle.prefix_trie_bits.specs.Calls.Entries.{AreWithin}
 use Rattle.prefix_trie_bits.specs.Model.Bits.{begins, digits, number, zeros}
-use Rattle.prefix_trie_bits.specs.Model.Entries.{Entries, with_entry, without_entry}
+use Rattle.prefix_trie_bits.specs.Model.Entries.{Entries}
 use Rattle.prefix_trie_bits.specs.Model.Matches.{longest_match}
 use Rattle.prefix_trie.specs.Laws.Lookups.{LookupLaws}
-use Rattle.prefix_trie.specs.Laws.Stored.{StoredLaws}
 use Rattle.prefix_trie_forwarding.specs.Forwarding.{Follows, answer_of}
 use Rattle.prefix_trie_forwarding.specs.Keys.{first_of}
 use Rattle.prefix_trie_forwarding.specs.Walks.{IsAddress, IsChanged, IsSame, answer, upper}
 use Rattle.prefix_trie_forwarding.specs.declared.hop.Hop.{Hop}
 use Rattle.prefix_trie_forwarding.proofs.Matches.{same_match}
-use Rattle.prefix_trie_forwarding.proofs.Reading.{digits_first, first_address, first_below}
+use Rattle.prefix_trie_forwarding.proofs.Reading.{digits_first, first_below}
 
 -- ---- networks as numbers
 

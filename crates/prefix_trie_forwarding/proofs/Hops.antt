@@ -1,7 +1,7 @@
 -- The hop and the length that an answer holds.
-use Rattle.std.proofs.Common.{◌≡◌, ◌≢◌, ◌∙◌, ℕ, ◌+◌, ◌-◌, ◌*◌, ◌/◌, ◌%◌, ◌<◌, ◌≤◌, Bool, List, length, Option, None, Some, refl, sym, ap, ap₂, subst, arith}
+use Rattle.std.proofs.Common.{◌≡◌, ◌≢◌, ℕ, ◌-◌, ◌/◌, ◌%◌, ◌<◌, ◌≤◌, Bool, List, length, Option, None, Some, refl, ap, ap₂, subst, arith}
 use Rattle.std.specs.Coded.{le_prop}
-use Rattle.std.specs.Prelude.{IfSome, MatchOption}
+use Rattle.std.specs.Prelude.{MatchOption}
 use Rattle.prefix_trie_forwarding.specs.Forwarding.{answer_of, hop_of, length_and_hop}
 use Rattle.prefix_trie_forwarding.specs.declared.hop.Hop.{Hop}
 

@@ -1,5 +1,5 @@
 -- Making the groups of a path, from its end on.
-use Rattle.std.proofs.Common.{◌≡◌, ◌⊎◌, ◌↔◌, ℕ, zero, suc, ◌+◌, ◌-◌, ◌*◌, ◌%◌, ◌^◌, ◌<◌, ◌≤◌, refl, sym, ap, ◌∙◌, subst, arith, inl, inr}
+use Rattle.std.proofs.Common.{◌≡◌, ◌⊎◌, ◌↔◌, ℕ, zero, suc, ◌+◌, ◌-◌, ◌*◌, ◌%◌, ◌^◌, ◌<◌, ◌≤◌, refl, sym, ◌∙◌, subst, arith, inl, inr}
 use Rattle.std.proofs.lemmas.Bool.{cases_eq}
 use Rattle.prefix_trie_forwarding.specs.Paths.{IsEnd}
 use Rattle.prefix_trie_forwarding.specs.Walks.{GainsGroup, GainsPath, HasGroup, HasPath, IsAddress, IsSame, Reaches, slot_in, upper}

@@ -1,5 +1,5 @@
 -- The slots that a lookup reads exist.
-use Rattle.std.proofs.Common.{◌≡◌, ℕ, ◌+◌, ◌*◌, ◌-◌, ◌%◌, ◌^◌, ◌<◌, ◌≤◌, Bool, List, length, ap, arith}
+use Rattle.std.proofs.Common.{◌≡◌, ℕ, ◌+◌, ◌*◌, ◌^◌, ◌<◌, ◌≤◌, Bool, List, length, ap, arith}
 use Rattle.prefix_trie_forwarding.specs.Keys.{first_of}
 use Rattle.prefix_trie_forwarding.specs.Walks.{AreSlots, slot_in, upper}
 use Rattle.prefix_trie_forwarding.proofs.Reading.{first_address}

@@ -1,5 +1,5 @@
 -- The blocks that have groups are those that the entries need: after an insertion and after a removal.
-use Rattle.std.proofs.Common.{◌≡◌, ◌≢◌, ◌⊎◌, ◌↔◌, ◌∙◌, ℕ, suc, ◌+◌, ◌-◌, ◌*◌, ◌/◌, ◌%◌, ◌^◌, ◌<◌, ◌≤◌, Bool, true, false, List, [], ◌∷◌, ◌++◌, length, take, Option, None, Some, slice_index, refl, sym, ap, subst, arith, inl, inr}
+use Rattle.std.proofs.Common.{◌≡◌, ◌⊎◌, ◌∙◌, ℕ, suc, ◌+◌, ◌-◌, ◌*◌, ◌/◌, ◌^◌, ◌<◌, ◌≤◌, Bool, true, List, length, take, None, Some, slice_index, refl, sym, ap, subst, arith, inl, inr}
 use Rattle.std.specs.Prelude.{IfSome, is_some}
 use Rattle.std.specs.FinMap.{contains_key}
 use Rattle.std.proofs.lemmas.Bool.{cases_lt, false≢true}
@@ -24,7 +24,7 @@ use Rattle.prefix_trie_forwarding.proofs.Changes.{same_slot, steps_of}
 use Rattle.prefix_trie_forwarding.proofs.Counting.{address_below, block_only, block_same, same_or_not, upper_whole}
 use Rattle.prefix_trie_forwarding.proofs.FilledRuns.{group_address}
 use Rattle.prefix_trie_forwarding.proofs.Following.{as_address}
-use Rattle.prefix_trie_forwarding.proofs.Linking.{has_group_level, has_group_same}
+use Rattle.prefix_trie_forwarding.proofs.Linking.{has_group_same}
 use Rattle.prefix_trie_forwarding.proofs.Matches.{match_cases, range_of, short_match}
 use Rattle.prefix_trie_forwarding.proofs.Reading.{digits_first, first_below}
 use Rattle.prefix_trie_forwarding.proofs.Walks.{goes_on, value_from-value, value_reached}

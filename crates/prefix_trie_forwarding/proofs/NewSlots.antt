@@ -1,8 +1,8 @@
 -- Slots that are all 0: no answers, and no groups.
-use Rattle.std.proofs.Common.{◌≡◌, ◌∙◌, ℕ, suc, ◌+◌, ◌*◌, ◌^◌, ◌<◌, ◌≤◌, List, [], length, replicate, get_or, slice_index, arith, inl, inr}
+use Rattle.std.proofs.Common.{◌≡◌, ◌∙◌, ℕ, ◌^◌, ◌<◌, ◌≤◌, List, [], length, replicate, get_or, slice_index, arith, inl, inr}
 use Rattle.std.proofs.lemmas.Bool.{cases_lt}
 use Rattle.std.proofs.lemmas.List.{get_or-replicate, get_or_past, length-replicate}
-use Rattle.prefix_trie_forwarding.specs.Slots.{AreGroups, IsSlots}
+use Rattle.prefix_trie_forwarding.specs.Slots.{IsSlots}
 use Rattle.prefix_trie_forwarding.specs.Walks.{HasGroup, answer, upper}
 use Rattle.prefix_trie_forwarding.proofs.Counting.{count_none}
 use Rattle.prefix_trie_forwarding.proofs.Walks.{value_from-value}

@@ -1,5 +1,5 @@
 -- What holds of slots that are the same one by one, and which answers stay answers.
-use Rattle.std.proofs.Common.{◌≡◌, ◌∙◌, ◌↔◌, ℕ, ◌/◌, ◌^◌, ◌<◌, List, nat_eq, slice_index, sym, subst}
+use Rattle.std.proofs.Common.{◌≡◌, ℕ, ◌/◌, ◌^◌, ◌<◌, List, nat_eq, slice_index, sym, subst}
 use Rattle.std.proofs.lemmas.Bool.{cond_both}
 use Rattle.prefix_trie_forwarding.specs.Paths.{IsEnd}
 use Rattle.prefix_trie_forwarding.specs.Walks.{HasGroup, HasValues, IsChanged, IsSame, KeepsGroups, answer}

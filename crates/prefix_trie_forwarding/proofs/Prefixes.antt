@@ -1,5 +1,5 @@
 -- The slots at which the path of a network ends.
-use Rattle.std.proofs.Common.{◌≡◌, ◌⊎◌, ℕ, zero, suc, ◌+◌, ◌-◌, ◌*◌, ◌/◌, ◌%◌, ◌^◌, ◌<◌, ◌≤◌, cond, nat_eq, refl, sym, ap, ap₂, ◌∙◌, subst, arith, inl, inr, pow-add}
+use Rattle.std.proofs.Common.{◌≡◌, ◌⊎◌, ℕ, zero, suc, ◌+◌, ◌-◌, ◌*◌, ◌/◌, ◌%◌, ◌^◌, ◌<◌, ◌≤◌, sym, ap, ◌∙◌, subst, arith, inl, inr, pow-add}
 use Rattle.std.proofs.Math.Nat.{zero-div}
 use Rattle.std.proofs.lemmas.Nat.{field_of, mod-pow-add, mod_below, pow_pos, row_fits, shr_below, shr_split}
 use Rattle.std.proofs.lemmas.Bool.{cases_lt}

@@ -1,5 +1,5 @@
 -- The bytes of an address are those of its number, filled up with zeros.
-use Rattle.std.proofs.Common.{◌≡◌, ◌∙◌, ℕ, suc, ◌+◌, ◌-◌, ◌*◌, ◌/◌, ◌%◌, ◌^◌, ◌<◌, ◌≤◌, Bool, false, List, [], ◌∷◌, ◌++◌, length, take, drop, append_assoc, mul_assoc, refl, zero, sym, ap, ap₂, subst, arith, inl, inr, length-append, pow-add}
+use Rattle.std.proofs.Common.{◌≡◌, ◌∙◌, ℕ, suc, ◌+◌, ◌-◌, ◌*◌, ◌/◌, ◌%◌, ◌^◌, ◌<◌, ◌≤◌, Bool, false, List, [], ◌∷◌, ◌++◌, length, take, drop, append_assoc, mul_assoc, refl, zero, sym, ap, subst, arith, inl, inr, length-append, pow-add}
 use Rattle.std.proofs.lemmas.Bool.{cases_lt}
 use Rattle.std.proofs.lemmas.List.{drop-append-le, length-drop, length-replicate, length-take-le, replicate-append-replicate, take-append-le}
 use Rattle.std.proofs.Math.Nat.{mod-eq_of_lt}

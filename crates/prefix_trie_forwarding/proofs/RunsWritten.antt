@@ -2,7 +2,6 @@
 use Rattle.std.proofs.Common.{◌≡◌, ◌⊎◌, ℕ, suc, ◌+◌, ◌-◌, ◌*◌, ◌/◌, ◌%◌, ◌^◌, ◌<◌, ◌≤◌, sym, ap, ◌∙◌, subst, arith, inl, inr}
 use Rattle.std.proofs.lemmas.Nat.{shr-shr, shr_split, mod_below, pow_pos, shr_high}
 use Rattle.std.proofs.Math.Nat.{mul-add-div_right}
-use Rattle.std.proofs.lemmas.Bool.{cases_lt}
 use Rattle.prefix_trie_forwarding.specs.Walks.{upper, IsAddress, Reaches, AreSlots, IsRun}
 use Rattle.prefix_trie_forwarding.proofs.Walks.{upper-suc, walks_part}
 use Rattle.prefix_trie_forwarding.proofs.Changes.{at_root, near}

@@ -1,5 +1,5 @@
 -- What the slots of a table keep when its map changes.
-use Rattle.std.proofs.Common.{◌≡◌, ◌∙◌, ◌↔◌, ℕ, suc, ◌+◌, ◌-◌, ◌*◌, ◌%◌, ◌^◌, ◌<◌, ◌≤◌, Bool, true, List, ◌++◌, length, take, None, Err, slice_index, sym, ap, subst, arith, inl, inr}
+use Rattle.std.proofs.Common.{◌≡◌, ◌∙◌, ℕ, suc, ◌+◌, ◌-◌, ◌*◌, ◌%◌, ◌^◌, ◌<◌, ◌≤◌, Bool, true, List, length, take, None, Err, slice_index, sym, ap, subst, arith, inl, inr}
 use Rattle.std.specs.FinMap.{contains_key, get, len}
 use Rattle.std.specs.Prelude.{is_some}
 use Rattle.std.proofs.lemmas.Bool.{false≢true}
@@ -24,7 +24,7 @@ use Rattle.prefix_trie_forwarding.specs.Forwarding.{Follows, answer_of}
 use Rattle.prefix_trie_forwarding.specs.Keys.{first_of}
 use Rattle.prefix_trie_forwarding.specs.Needs.{AreNeeded, HasNeededGroups, needed_groups}
 use Rattle.prefix_trie_forwarding.specs.Slots.{Trims}
-use Rattle.prefix_trie_forwarding.specs.Walks.{GainsPath, HasGroup, HasPath, HasValues, IsAddress, IsChanged, IsSame, KeepsGroups, answer, changed}
+use Rattle.prefix_trie_forwarding.specs.Walks.{GainsPath, HasGroup, HasPath, HasValues, IsAddress, IsChanged, KeepsGroups, answer, changed}
 use Rattle.prefix_trie_forwarding.specs.declared.hop.Hop.{Hop}
 use Rattle.prefix_trie_forwarding.proofs.Counting.{same_or_not}
 use Rattle.prefix_trie_forwarding.proofs.Following.{as_address, first_aligned, follows_changed}

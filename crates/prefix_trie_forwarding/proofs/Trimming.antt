@@ -1,5 +1,5 @@
 -- Giving back the groups of a path, from its last one on.
-use Rattle.std.proofs.Common.{◌≡◌, ◌≢◌, ◌⊎◌, ℕ, zero, suc, ◌+◌, ◌-◌, ◌*◌, ◌%◌, ◌^◌, ◌<◌, ◌≤◌, true, false, None, Some, List, [], ◌∷◌, ◌++◌, length, get_or, slice_index, slice_set, eqb-true, refl, sym, ap, ◌∙◌, subst, arith, inl, inr}
+use Rattle.std.proofs.Common.{◌≡◌, ◌≢◌, ◌⊎◌, ℕ, suc, ◌+◌, ◌-◌, ◌*◌, ◌^◌, ◌<◌, ◌≤◌, true, false, None, Some, List, [], ◌∷◌, ◌++◌, length, get_or, slice_index, slice_set, eqb-true, refl, sym, ap, ◌∙◌, subst, arith, inl, inr}
 use Rattle.std.specs.List.{AllByRecursion, IsDistinct, list_any}
 use Rattle.std.specs.Prelude.{MatchOption, ◌||◌}
 use Rattle.std.proofs.Math.Dec.{eqb}
@@ -9,7 +9,7 @@ use Rattle.std.proofs.lemmas.Map.Steps.{length-le_from_distinct_below}
 use Rattle.prefix_trie_forwarding.specs.Counts.{IsCounted}
 use Rattle.prefix_trie_forwarding.specs.Paths.{IsEnd}
 use Rattle.prefix_trie_forwarding.specs.Slots.{AreGroups, IsSpare, IsUsed, Trims}
-use Rattle.prefix_trie_forwarding.specs.Walks.{AreFree, AreSlots, HasGroup, IsAddress, IsSame, LosesGroup, Reaches, answer, slot_in, upper, value_from}
+use Rattle.prefix_trie_forwarding.specs.Walks.{AreFree, HasGroup, IsAddress, IsSame, LosesGroup, Reaches, answer, slot_in, upper}
 use Rattle.prefix_trie_forwarding.specs.declared.slots.path.End.{End}
 use Rattle.prefix_trie_forwarding.proofs.Changes.{same_path, same_slot, steps_of, through}
 use Rattle.prefix_trie_forwarding.proofs.Counting.{count_lost}

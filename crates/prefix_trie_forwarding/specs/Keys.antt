@@ -1,5 +1,5 @@
 -- The bits of addresses and networks as numbers of the width that the slots read. This project's own.
-use Rattle.std.specs.Prelude.{◌≡◌, ℕ, ◌+◌, ◌-◌, ◌*◌, ◌<◌, ◌≤◌, Bool, List, ◌++◌, length}
+use Rattle.std.specs.Prelude.{ℕ, ◌+◌, ◌-◌, ◌*◌, ◌<◌, ◌≤◌, Bool, List, ◌++◌, length}
 use Rattle.prefix_trie_bits.specs.Model.Bits.{number, zeros}
 
 -- the first number of w bits that begins with a bit string

@@ -1,5 +1,5 @@
 -- Where the path of a network ends.
-use Rattle.std.specs.Prelude.{◌≡◌, ℕ, ◌+◌, ◌-◌, ◌*◌, ◌^◌, ◌<◌, ◌≤◌, MatchOption}
+use Rattle.std.specs.Prelude.{◌≡◌, ℕ, ◌+◌, ◌*◌, ◌^◌, ◌<◌, ◌≤◌, MatchOption}
 use Rattle.std.proofs.Common.{suc}
 use Rattle.prefix_trie_forwarding.specs.Walks.{Reaches}
 use Rattle.prefix_trie_forwarding.specs.declared.slots.path.End.{End}

@@ -3,7 +3,7 @@
 -- access speeds", 1998.
 -- A slot below 2^31 is an answer. Another one refers to a group of 256 slots. The first `root` slots are read by the
 -- address without its last `levels` bytes, and those of a group by the next byte.
-use Rattle.std.specs.Prelude.{◌≡◌, ◌≢◌, ◌⊎◌, ◌↔◌, ℕ, ◌+◌, ◌-◌, ◌*◌, ◌/◌, ◌%◌, ◌^◌, ◌<◌, ◌≤◌, cond, nat_lt, nat_le, nat_eq, List, ◌++◌, length, slice_index}
+use Rattle.std.specs.Prelude.{◌≡◌, ◌≢◌, ◌⊎◌, ◌↔◌, ℕ, ◌+◌, ◌-◌, ◌*◌, ◌/◌, ◌%◌, ◌^◌, ◌<◌, ◌≤◌, cond, nat_lt, nat_le, nat_eq, List, length, slice_index}
 use Rattle.std.proofs.Common.{zero, suc}
 
 -- an address without its last k bytes

@@ -1,7 +1,5 @@
 -- An answer is 0, or has the hop in its last 23 bits.
 use Rattle.prefix_trie_forwarding.proofs.Hops.{hop_some}
-use Rattle.prefix_trie_forwarding.proofs.NewSlots.{zero_slots}
-use Rattle.prefix_trie_forwarding.proofs.Tables.{absent_removed, follows_inserted, follows_removed, groups_inserted, groups_removed, needed_blocks, stored_path}
 use Rattle.prefix_trie_forwarding.proofs.answers.hop_in.Goals as goal
 
 pub returns : goal.returns

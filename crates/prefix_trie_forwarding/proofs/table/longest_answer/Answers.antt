@@ -1,5 +1,5 @@
 -- The match that the map returns has the length and the hop of the longest match.
-use Rattle.std.proofs.Common.{◌≡◌, ◌∙◌, ℕ, ◌+◌, ◌*◌, ◌≤◌, ◌<◌, None, sym, arith}
+use Rattle.std.proofs.Common.{arith}
 use Rattle.prefix_trie_forwarding.proofs.Networks.{shown_answer, shown_none, shown_short}
 use Rattle.prefix_trie_forwarding.proofs.table.longest_answer.Goals as goal
 

@@ -1,10 +1,10 @@
 -- The answers to the addresses of the network change, and all groups stay.
-use Rattle.std.proofs.Common.{◌≡◌, ◌∙◌, ℕ, ◌+◌, ◌*◌, ◌-◌, ◌^◌, ◌<◌, ◌≤◌, ◌++◌, length, take, drop, refl, sym, subst, arith, slice_index}
+use Rattle.std.proofs.Common.{◌≡◌, ◌+◌, ◌*◌, ◌-◌, ◌^◌, length, drop, sym, subst, arith, slice_index}
 use Rattle.std.proofs.lemmas.List.{take_at}
 use Rattle.prefix_trie_forwarding.specs.Counts.{IsCounted}
 use Rattle.prefix_trie_forwarding.specs.Keys.{first_of}
-use Rattle.prefix_trie_forwarding.specs.Slots.{AreGroups, Trims}
-use Rattle.prefix_trie_forwarding.specs.Walks.{GainsPath, HasPath, HasValues, IsChanged, IsSame, KeepsGroups, changed}
+use Rattle.prefix_trie_forwarding.specs.Slots.{AreGroups}
+use Rattle.prefix_trie_forwarding.specs.Walks.{HasValues, IsChanged, KeepsGroups, changed}
 use Rattle.prefix_trie_forwarding.proofs.Counting.{count_kept}
 use Rattle.prefix_trie_forwarding.proofs.Ends.{changed_once}
 use Rattle.prefix_trie_forwarding.proofs.Filling.{changed_frees, changed_groups}

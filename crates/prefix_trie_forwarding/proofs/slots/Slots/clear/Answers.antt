@@ -1,5 +1,5 @@
 -- All slots are those of the root, and 0.
-use Rattle.std.proofs.Common.{◌≡◌, ◌∙◌, ℕ, ◌+◌, ◌*◌, ◌-◌, ◌^◌, ◌<◌, ◌≤◌, [], get_or, length, replicate, sym, ap, subst, arith, vec_len}
+use Rattle.std.proofs.Common.{◌≡◌, ◌∙◌, ℕ, ◌^◌, [], get_or, length, replicate, sym, ap, subst, arith, vec_len}
 use Rattle.std.proofs.lemmas.List.{length-replicate}
 use Rattle.prefix_trie_forwarding.specs.Slots.{IsSlots}
 use Rattle.prefix_trie_forwarding.proofs.NewSlots.{zero_answer, zero_group, zero_replicate, zero_slots}

@@ -1,5 +1,5 @@
 -- All slots are 0.
-use Rattle.std.proofs.Common.{◌≡◌, ◌∙◌, ℕ, ◌^◌, [], sym, subst, arith, length, get_or, rules}
+use Rattle.std.proofs.Common.{◌≡◌, ◌∙◌, ℕ, [], sym, subst, arith, length, get_or, rules}
 use Rattle.prefix_trie_forwarding.specs.Slots.{IsSlots}
 use Rattle.prefix_trie_forwarding.proofs.NewSlots.{zero_all, zero_answer, zero_group, zero_slots}
 use Rattle.prefix_trie_forwarding.proofs.slots.Slots.new.Goals as goal

@@ -1,5 +1,5 @@
 -- More free groups change no slot.
-use Rattle.std.proofs.Common.{◌≡◌, ◌+◌, ◌*◌, ◌-◌, ◌/◌, ◌^◌, ◌<◌, ◌≤◌, arith, inl, inr, slice_index}
+use Rattle.std.proofs.Common.{◌+◌, ◌*◌, ◌^◌, arith, inl, inr, slice_index}
 use Rattle.prefix_trie_forwarding.specs.Keys.{first_of}
 use Rattle.prefix_trie_forwarding.proofs.Counting.{count_kept}
 use Rattle.prefix_trie_forwarding.proofs.Points.{end_points, keeps_points, values_points}

@@ -1,10 +1,10 @@
 -- No answer changes, and groups that are not used are given back.
-use Rattle.std.proofs.Common.{◌≡◌, ◌∙◌, ℕ, ◌+◌, ◌*◌, ◌-◌, ◌^◌, ◌<◌, ◌≤◌, ◌++◌, length, take, drop, refl, sym, subst, arith, slice_index}
+use Rattle.std.proofs.Common.{◌+◌, ◌*◌, ◌-◌, ◌^◌, length, drop, sym, subst, arith, slice_index}
 use Rattle.std.proofs.lemmas.List.{take_at}
 use Rattle.prefix_trie_forwarding.specs.Counts.{IsCounted}
 use Rattle.prefix_trie_forwarding.specs.Keys.{first_of}
 use Rattle.prefix_trie_forwarding.specs.Slots.{AreGroups, Trims}
-use Rattle.prefix_trie_forwarding.specs.Walks.{GainsPath, HasPath, HasValues, IsChanged, IsSame, KeepsGroups, changed}
+use Rattle.prefix_trie_forwarding.specs.Walks.{HasValues}
 use Rattle.prefix_trie_forwarding.proofs.Points.{values_same}
 use Rattle.prefix_trie_forwarding.proofs.slots.Slots.trim.Goals as goal
 

@@ -1,5 +1,5 @@
 -- Each group is free or that of a block.
-use Rattle.std.proofs.Common.{◌≡◌, ◌+◌, arith}
+use Rattle.std.proofs.Common.{arith}
 use Rattle.prefix_trie_forwarding.proofs.slots.Slots.used.Goals as goal
 
 pub returns : goal.returns

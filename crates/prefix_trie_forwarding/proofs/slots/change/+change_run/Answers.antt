@@ -1,5 +1,5 @@
 -- Each answer is changed, or the group below it.
-use Rattle.std.proofs.Common.{◌≡◌, ◌∙◌, ℕ, suc, ◌+◌, ◌-◌, ◌^◌, ◌<◌, length, slice_index, sym, ap, subst, arith}
+use Rattle.std.proofs.Common.{◌≡◌, ◌∙◌, suc, ◌+◌, ◌-◌, ◌<◌, length, slice_index, sym, subst, arith}
 use Rattle.prefix_trie_forwarding.specs.Walks.{AreChanged, changed}
 use Rattle.prefix_trie_forwarding.proofs.Ends.{changed_once}
 use Rattle.prefix_trie_forwarding.proofs.Filling.{IsOnce, change_below, change_none, change_start, change_value, changed_slots}

@@ -1,5 +1,5 @@
 -- The path of the network is there, and its slots are changed.
-use Rattle.std.proofs.Common.{◌≡◌, ◌∙◌, ◌+◌, ◌-◌, ◌*◌, ◌/◌, ◌≤◌, length, slice_index, arith}
+use Rattle.std.proofs.Common.{◌≡◌, ◌+◌, ◌-◌, ◌*◌, ◌/◌, ◌≤◌, length, slice_index, arith}
 use Rattle.prefix_trie_forwarding.specs.Keys.{first_of}
 use Rattle.prefix_trie_forwarding.specs.Walks.{changed}
 use Rattle.prefix_trie_forwarding.proofs.Ends.{end_changed, end_fits, end_reached, end_small}

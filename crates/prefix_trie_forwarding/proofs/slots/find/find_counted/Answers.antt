@@ -1,5 +1,5 @@
 -- Each step keeps the answer, and one that is no group is it.
-use Rattle.std.proofs.Common.{◌≡◌, ℕ, ◌+◌, ◌*◌, ◌-◌, ◌^◌, ◌<◌, ◌≤◌, ◌∙◌, ap, sym, refl, subst, suc, arith, length, slice_index}
+use Rattle.std.proofs.Common.{◌≡◌, ◌+◌, ◌*◌, ◌-◌, ◌^◌, ◌<◌, ◌≤◌, ◌∙◌, ap, sym, refl, subst, suc, arith, length, slice_index}
 use Rattle.prefix_trie_forwarding.specs.Keys.{first_of}
 use Rattle.prefix_trie_forwarding.specs.Walks.{upper, value_from}
 use Rattle.prefix_trie_forwarding.proofs.Lookups.{next_inside, root_inside}

@@ -1,5 +1,5 @@
 -- The invariant: the answer from this slot on is that to the address, and each level so far was read once.
-use Rattle.std.proofs.Common.{◌≡◌, ℕ, ◌+◌, ◌*◌, ◌-◌, ◌^◌, ◌≤◌, slice_index}
+use Rattle.std.proofs.Common.{◌≡◌, ℕ, ◌+◌, ◌*◌, ◌-◌, ◌^◌, slice_index}
 use Rattle.prefix_trie_forwarding.specs.Keys.{first_of}
 use Rattle.prefix_trie_forwarding.specs.Walks.{answer, value_from}
 use Rattle.prefix_trie_forwarding.proofs.slots.find.find_counted.Given as goal

@@ -1,6 +1,6 @@
 -- The group is filled with the answer before the slot refers to it.
-use Rattle.std.proofs.Common.{◌≡◌, ◌≢◌, ◌⊎◌, ℕ, suc, ◌+◌, ◌*◌, ◌-◌, ◌%◌, ◌^◌, ◌<◌, ◌≤◌, length, slice_index, slice_set, refl, subst, arith}
-use Rattle.prefix_trie_forwarding.specs.Walks.{AgreesOutside, GainsGroup, IsSame}
+use Rattle.std.proofs.Common.{◌≡◌, ℕ, ◌+◌, ◌*◌, ◌^◌, ◌<◌, ◌≤◌, length, slice_index, slice_set, refl, subst, arith}
+use Rattle.prefix_trie_forwarding.specs.Walks.{AgreesOutside}
 use Rattle.prefix_trie_forwarding.proofs.Frees.{set_here, set_others}
 use Rattle.prefix_trie_forwarding.proofs.Making.{made_free, made_groups, made_inside, made_reached, made_same, made_slots}
 use Rattle.prefix_trie_forwarding.proofs.slots.groups.make_group.Goals as goal

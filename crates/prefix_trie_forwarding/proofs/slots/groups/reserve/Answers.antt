@@ -1,5 +1,5 @@
 -- A group is made only while too few are free.
-use Rattle.std.proofs.Common.{◌≡◌, ◌∙◌, ℕ, ◌+◌, ◌<◌, ◌≤◌, refl, arith, inl, inr}
+use Rattle.std.proofs.Common.{◌∙◌, refl, arith, inl, inr}
 use Rattle.prefix_trie_forwarding.proofs.slots.groups.reserve.Goals as goal
 
 pub loop-slots-init : goal.loop-slots-init

@@ -1,5 +1,5 @@
 -- The invariant: the walk is at this slot, which has an answer, and the blocks that it went through have groups.
-use Rattle.std.proofs.Common.{◌≡◌, ℕ, ◌+◌, ◌*◌, ◌-◌, ◌≤◌, slice_index, vec_len}
+use Rattle.std.proofs.Common.{◌≡◌, ◌+◌, ◌*◌, ◌-◌, ◌≤◌, slice_index, vec_len}
 use Rattle.prefix_trie_forwarding.specs.Counts.{IsCounted}
 use Rattle.prefix_trie_forwarding.specs.Keys.{first_of}
 use Rattle.prefix_trie_forwarding.specs.Slots.{AreGroups}

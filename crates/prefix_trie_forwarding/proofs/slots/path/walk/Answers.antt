@@ -1,5 +1,5 @@
 -- Each step goes into the group of the slot.
-use Rattle.std.proofs.Common.{◌≡◌, ◌∙◌, ℕ, suc, ◌+◌, ◌*◌, ◌-◌, ◌^◌, ◌<◌, ◌≤◌, length, refl, sym, subst, arith, slice_index}
+use Rattle.std.proofs.Common.{◌≡◌, suc, ◌+◌, ◌*◌, ◌-◌, ◌^◌, ◌≤◌, length, refl, sym, subst, arith, slice_index}
 use Rattle.prefix_trie_forwarding.specs.Keys.{first_of}
 use Rattle.prefix_trie_forwarding.specs.Walks.{Reaches}
 use Rattle.prefix_trie_forwarding.proofs.Changes.{at_start}

@@ -1,7 +1,6 @@
 -- A byte is its two halves, and the second one is 0 past the end of the address.
-use Rattle.std.proofs.Common.{◌≡◌, ◌∙◌, ◌+◌, ◌*◌, ◌<◌, ◌≤◌, ◌++◌, length, take, drop, sym, subst, arith, length-append}
-use Rattle.std.proofs.lemmas.List.{length-replicate}
-use Rattle.prefix_trie_bits.specs.Model.Bits.{number, zeros}
+use Rattle.std.proofs.Common.{◌≡◌, ◌∙◌, ◌++◌, length, drop, sym, arith, length-append}
+use Rattle.prefix_trie_bits.specs.Model.Bits.{zeros}
 use Rattle.prefix_trie_forwarding.proofs.Reading.{byte_bits, halves, lower_half, number_small, past_end}
 use Rattle.prefix_trie_forwarding.proofs.slots.reading.byte_at.Goals.{then-half-width, else-half-width}
 use Rattle.prefix_trie_forwarding.proofs.slots.reading.byte_at.Goals as goal

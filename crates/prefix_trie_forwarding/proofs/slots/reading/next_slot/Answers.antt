@@ -1,5 +1,5 @@
 -- The byte of the address selects the slot.
-use Rattle.std.proofs.Common.{◌≡◌, ◌+◌, ◌*◌, arith}
+use Rattle.std.proofs.Common.{arith}
 use Rattle.prefix_trie_forwarding.proofs.slots.reading.next_slot.Goals as goal
 
 pub returns : goal.returns

@@ -1,5 +1,5 @@
 -- The first three bytes, of which the last bits are shifted out.
-use Rattle.std.proofs.Common.{◌≡◌, ◌∙◌, ◌+◌, ◌*◌, ◌≤◌, length, refl, arith}
+use Rattle.std.proofs.Common.{◌≡◌, ◌∙◌, ◌+◌, ◌*◌, length, refl, arith}
 use Rattle.prefix_trie_bits.specs.Model.Bits.{number}
 use Rattle.prefix_trie_forwarding.proofs.Reading.{first_bits, first_of_24}
 use Rattle.prefix_trie_forwarding.proofs.slots.reading.root_index.Goals as goal

@@ -1,6 +1,5 @@
 -- One more byte, which is 0 past the end of the address.
-use Rattle.std.proofs.Common.{◌≡◌, ◌∙◌, ◌+◌, ◌*◌, ◌<◌, ◌≤◌, ◌^◌, ◌++◌, length, take, drop, ap, sym, subst, arith, length-append, pow_mono}
-use Rattle.std.proofs.lemmas.List.{length-drop}
+use Rattle.std.proofs.Common.{◌≡◌, ◌∙◌, ◌+◌, ◌≤◌, ◌^◌, ◌++◌, length, take, drop, ap, sym, arith, length-append, pow_mono}
 use Rattle.prefix_trie_bits.specs.Model.Bits.{number, zeros}
 use Rattle.prefix_trie_forwarding.proofs.Reading.{byte_after, number_joined, number_small, past_end}
 use Rattle.prefix_trie_forwarding.proofs.slots.reading.with_byte.Goals.{then-depth-width, else-depth-width}

@@ -1,5 +1,5 @@
 -- The answer to an address is that of its longest match.
-use Rattle.std.proofs.Common.{◌≡◌, ◌∙◌, ◌+◌, ◌-◌, ◌*◌, ◌/◌, ◌≤◌, ◌<◌, length, subst, sym, arith}
+use Rattle.std.proofs.Common.{◌≡◌, ◌∙◌, length, subst, sym, arith}
 use Rattle.prefix_trie_bits.specs.Calls.Entries.{AreWithin}
 use Rattle.prefix_trie_forwarding.proofs.Following.{follows_address}
 use Rattle.prefix_trie_forwarding.proofs.Reading.{first_address}

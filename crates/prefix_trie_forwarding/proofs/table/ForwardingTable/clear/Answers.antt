@@ -1,5 +1,5 @@
 -- Without networks there are no answers and no groups.
-use Rattle.std.proofs.Common.{◌≡◌, ◌∙◌, ℕ, ◌+◌, ◌*◌, ◌^◌, ◌≤◌, ◌<◌, refl}
+use Rattle.std.proofs.Common.{refl}
 use Rattle.prefix_trie_bits.specs.Model.Entries.{no_entries}
 use Rattle.prefix_trie_forwarding.specs.Forwarding.{Follows}
 use Rattle.prefix_trie_forwarding.specs.Keys.{IsDivided}

@@ -1,6 +1,5 @@
 -- The groups in use are those of the needed blocks.
-use Rattle.std.proofs.Common.{◌≡◌, ◌+◌, ◌*◌, ◌≤◌, length, arith}
-use Rattle.std.specs.FinMap.{len}
+use Rattle.std.proofs.Common.{arith}
 use Rattle.std.proofs.Math.Logic.{∥∥₁_elim}
 use Rattle.std.proofs.Math.Nat.{ℕ_set}
 use Rattle.prefix_trie_forwarding.specs.Needs.{needed_groups}

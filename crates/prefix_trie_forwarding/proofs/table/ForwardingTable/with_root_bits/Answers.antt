@@ -1,5 +1,5 @@
 -- A table without networks has answers of no match, and no groups.
-use Rattle.std.proofs.Common.{◌≡◌, ◌∙◌, ℕ, suc, ◌+◌, ◌-◌, ◌*◌, ◌/◌, ◌^◌, ◌≤◌, ◌<◌, refl, sym, arith}
+use Rattle.std.proofs.Common.{◌+◌, ◌-◌, ◌/◌, arith}
 use Rattle.prefix_trie_bits.specs.Model.Entries.{no_entries}
 use Rattle.prefix_trie_forwarding.specs.Forwarding.{Follows}
 use Rattle.prefix_trie_forwarding.specs.Needs.{HasNeededGroups}
