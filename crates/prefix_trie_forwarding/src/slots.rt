@@ -9,6 +9,7 @@ ghost use Rattle.prefix_trie_forwarding.specs.Slots.{IsSlots, Trims};
 ghost use Rattle.prefix_trie_forwarding.specs.Walks.{GainsPath, HasGroup, HasPath, IsAddress, IsChanged, IsSame, KeepsGroups, answer, changed};
 
 mod change;
+mod copying;
 mod find;
 mod free;
 mod groups;

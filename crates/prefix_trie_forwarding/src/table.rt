@@ -8,6 +8,10 @@ ghost use Rattle.prefix_trie_forwarding.specs.Keys.{IsDivided};
 ghost use Rattle.prefix_trie_forwarding.specs.Needs.{HasNeededGroups, needed_groups};
 
 mod addresses;
+mod bulk;
+mod copying;
+mod fmt;
+mod from_map;
 
 use crate::answers::{hop_in, insertion, match_answer, match_in, removal};
 use crate::hop::Hop;
