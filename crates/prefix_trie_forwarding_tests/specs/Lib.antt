@@ -1,0 +1,2 @@
+-- The definitions of the example.
+pub mod Routing
