@@ -1,5 +1,5 @@
 //! Handles of compiled tables.
-ghost use Rattle.std.specs.Prelude.{◌≡◌, Option, Some, None, IfSome};
+ghost use Rattle.std.specs.Prelude.{◌≡◌, false, true, Option, Some, None, IfSome};
 ghost use Rattle.std.specs.Option.{option_map};
 ghost use Rattle.prefix_trie_c.specs.declared.compiled.Shared.{Shared};
 ghost use Rattle.prefix_trie_c.specs.Held.{loose_value};
@@ -7,6 +7,7 @@ ghost use Rattle.prefix_trie_c.specs.HeldCompiled.{compiled_owns, shared_coded};
 
 use crate::compiled::Shared;
 use crate::loose::Loose;
+use core::mem::replace_with;
 use std::alloc::Global;
 use std::marker::{Model, Send};
 use std::mem::{forget, replace};
@@ -67,6 +68,18 @@ impl CompiledHandle {
         }
     }
 
+    /// Returns whether the handle is empty.
+    // The compiler sees that the place is left as it was, and writes nothing. Nor does it in a lookup after this test.
+    #[inline(always)]
+    pub(crate) fn is_empty(&mut self, alloc: Global) -> bool
+        ensures empty { result ≡ true → self.old.shared ≡ None }
+        ensures filled { result ≡ false → self.old.shared ≡ None → ⊥ }
+        ensures shared { self.new.shared ≡ self.old.shared }
+        ensures place { (self.new.shared ≡ None → ⊥) → self.new.at ≡ self.old.at }
+    {
+        replace_with(self, alloc, tested)
+    }
+
     /// Takes the owner out of a handle, which is empty afterwards.
     pub(crate) fn open(&mut self, alloc: Global) -> Option<Loose<Shared, Global>>
         ensures shared { option_map loose_value result ≡ self.old.shared }
@@ -84,6 +97,20 @@ impl CompiledHandle {
     {
         // The empty handle owns nothing that its drop would free.
         forget(replace(self, CompiledHandle::of_loose(shared)));
+    }
+}
+
+/// Returns a handle, and whether it is empty.
+#[inline(always)]
+fn tested(handle: CompiledHandle, alloc: Global) -> (CompiledHandle, bool)
+    ensures empty { result.1 ≡ true → handle.shared ≡ None }
+    ensures filled { result.1 ≡ false → handle.shared ≡ None → ⊥ }
+    ensures shared { result.0.shared ≡ handle.shared }
+    ensures place { (handle.shared ≡ None → ⊥) → result.0.at ≡ handle.at }
+{
+    match handle.into_loose() {
+        Some(loose) => (CompiledHandle::of_loose(loose), false),
+        None => (CompiledHandle::empty(alloc), true),
     }
 }
 

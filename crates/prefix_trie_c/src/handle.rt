@@ -1,11 +1,12 @@
 //! Handles: what C keeps of a table.
-ghost use Rattle.std.specs.Prelude.{◌≡◌, Option, Some, None, IfSome};
+ghost use Rattle.std.specs.Prelude.{◌≡◌, false, true, Option, Some, None, IfSome};
 ghost use Rattle.std.specs.Option.{option_map};
 ghost use Rattle.prefix_trie_c.specs.declared.tables.Tables.{Tables};
 ghost use Rattle.prefix_trie_c.specs.Held.{handle_owns, held_coded, loose_value};
 
 use crate::loose::Loose;
 use crate::tables::Tables;
+use core::mem::replace_with;
 use std::alloc::Global;
 use std::marker::{Model, Send};
 use std::mem::{forget, replace};
@@ -66,6 +67,18 @@ impl Handle {
         }
     }
 
+    /// Returns whether the handle is empty.
+    // The compiler sees that the place is left as it was, and writes nothing. Nor does it in a lookup after this test.
+    #[inline(always)]
+    pub(crate) fn is_empty(&mut self, alloc: Global) -> bool
+        ensures empty { result ≡ true → self.old.tables ≡ None }
+        ensures filled { result ≡ false → self.old.tables ≡ None → ⊥ }
+        ensures tables { self.new.tables ≡ self.old.tables }
+        ensures place { (self.new.tables ≡ None → ⊥) → self.new.at ≡ self.old.at }
+    {
+        replace_with(self, alloc, tested)
+    }
+
     /// Takes the table out of a handle, which is empty afterwards.
     pub(crate) fn open(&mut self, alloc: Global) -> Option<Loose<Tables, Global>>
         ensures tables { option_map loose_value result ≡ self.old.tables }
@@ -83,6 +96,20 @@ impl Handle {
     {
         // The empty handle owns nothing that its drop would free.
         forget(replace(self, Handle::of_loose(tables)));
+    }
+}
+
+/// Returns a handle, and whether it is empty.
+#[inline(always)]
+fn tested(handle: Handle, alloc: Global) -> (Handle, bool)
+    ensures empty { result.1 ≡ true → handle.tables ≡ None }
+    ensures filled { result.1 ≡ false → handle.tables ≡ None → ⊥ }
+    ensures tables { result.0.tables ≡ handle.tables }
+    ensures place { (handle.tables ≡ None → ⊥) → result.0.at ≡ handle.at }
+{
+    match handle.into_loose() {
+        Some(loose) => (Handle::of_loose(loose), false),
+        None => (Handle::empty(alloc), true),
     }
 }
 

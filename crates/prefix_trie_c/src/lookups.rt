@@ -22,6 +22,9 @@ pub extern "C" fn prefix_trie_c_table_v4_lookup(
         (λ s t. (t ≡ s) × (result ≡ found_value (value_at 32 (compiled_of s).v4 address))) }
     ensures none { (result.code ≡ DONE → ⊥) → result.value ≡ 0 }
 {
+    if handle.is_empty(alloc) {
+        return FoundValue::none(NULL);
+    }
     replace_with(handle, (alloc, address), v4_lookup)
 }
 
@@ -53,6 +56,9 @@ pub extern "C" fn prefix_trie_c_table_v6_lookup(
         ≡ found_value (value_at 128 (compiled_of s).v6 (high * 2 ^ 64 + low)))) }
     ensures none { (result.code ≡ DONE → ⊥) → result.value ≡ 0 }
 {
+    if handle.is_empty(alloc) {
+        return FoundValue::none(NULL);
+    }
     replace_with(handle, (alloc, joined(high, low)), v6_lookup)
 }
 

@@ -127,6 +127,9 @@ pub extern "C" fn prefix_trie_c_v4_get(
     let Some(prefix) = Ipv4Prefix::new(address, length) else {
         return FoundValue::none(LENGTH);
     };
+    if handle.is_empty(alloc) {
+        return FoundValue::none(NULL);
+    }
     replace_with(handle, (alloc, prefix), find)
 }
 
@@ -241,6 +244,9 @@ pub extern "C" fn prefix_trie_c_v4_match_address(
         (match_of ipv4_back t.v4.entries (ipv4_path (address, 32))))) }
     ensures none { (result.code ≡ DONE → ⊥) → (result.value ≡ 0) × (result.length ≡ 0) }
 {
+    if handle.is_empty(alloc) {
+        return FoundMatch::none(NULL);
+    }
     replace_with(handle, (alloc, Ipv4Prefix::host(address)), find_match)
 }
 

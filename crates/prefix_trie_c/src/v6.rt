@@ -131,6 +131,9 @@ pub extern "C" fn prefix_trie_c_v6_get(
     let Some(prefix) = Ipv6Prefix::new(joined(high, low), length) else {
         return FoundValue::none(LENGTH);
     };
+    if handle.is_empty(alloc) {
+        return FoundValue::none(NULL);
+    }
     replace_with(handle, (alloc, prefix), find)
 }
 
@@ -248,6 +251,9 @@ pub extern "C" fn prefix_trie_c_v6_match_address(
         (match_of ipv6_back t.v6.entries (v6_path high low 128)))) }
     ensures none { (result.code ≡ DONE → ⊥) → (result.value ≡ 0) × (result.length ≡ 0) }
 {
+    if handle.is_empty(alloc) {
+        return FoundMatch::none(NULL);
+    }
     replace_with(
         handle,
         (alloc, Ipv6Prefix::host(joined(high, low))),
