@@ -77,7 +77,7 @@ impl CompiledHandle {
         ensures shared { self.new.shared ≡ self.old.shared }
         ensures place { (self.new.shared ≡ None → ⊥) → self.new.at ≡ self.old.at }
     {
-        replace_with(self, alloc, tested)
+        replace_with(self, alloc, look_into)
     }
 
     /// Takes the owner out of a handle, which is empty afterwards.
@@ -102,7 +102,7 @@ impl CompiledHandle {
 
 /// Returns a handle, and whether it is empty.
 #[inline(always)]
-fn tested(handle: CompiledHandle, alloc: Global) -> (CompiledHandle, bool)
+fn look_into(handle: CompiledHandle, alloc: Global) -> (CompiledHandle, bool)
     ensures empty { result.1 ≡ true → handle.shared ≡ None }
     ensures filled { result.1 ≡ false → handle.shared ≡ None → ⊥ }
     ensures shared { result.0.shared ≡ handle.shared }

@@ -76,7 +76,7 @@ impl Handle {
         ensures tables { self.new.tables ≡ self.old.tables }
         ensures place { (self.new.tables ≡ None → ⊥) → self.new.at ≡ self.old.at }
     {
-        replace_with(self, alloc, tested)
+        replace_with(self, alloc, look_into)
     }
 
     /// Takes the table out of a handle, which is empty afterwards.
@@ -101,7 +101,7 @@ impl Handle {
 
 /// Returns a handle, and whether it is empty.
 #[inline(always)]
-fn tested(handle: Handle, alloc: Global) -> (Handle, bool)
+fn look_into(handle: Handle, alloc: Global) -> (Handle, bool)
     ensures empty { result.1 ≡ true → handle.tables ≡ None }
     ensures filled { result.1 ≡ false → handle.tables ≡ None → ⊥ }
     ensures tables { result.0.tables ≡ handle.tables }
