@@ -22,6 +22,7 @@ use Rattle.route_tables.specs.declared.access.Precedence.{Precedence}
 use Rattle.route_tables.specs.declared.questions.Asked.TheVariants.{Addresses}
 use Rattle.route_tables.specs.declared.questions.Question.{Question}
 use Rattle.route_tables.specs.declared.questions.QuestionError.{QuestionError}
+use Rattle.route_tables.proofs.Lists.{at_done, up_to}
 
 -- the texts so far are checked, and they are good if bad ones are refused
 pub record ChecksSoFar (Good Allowed : List ℕ → Type 0) (checking : Checking) (all rest : List (List ℕ)) (before now : Checked) : Type 0 where
@@ -85,21 +86,12 @@ module _ (Good Allowed : List ℕ → Type 0) (checking : Checking) where
       let whole : old.done ≡ all = sym (old.split ∙ ap (λ r. old.done ++ r) none ∙ append-nil old.done) in
       (subst (λ texts. HasChecked Allowed texts before now) whole old.checked, λ refused. subst (All Good) whole (old.good refused))
 
-  -- the text after those before, and the texts up to it
-  at_done : (done later : List (List ℕ)) (text : List ℕ) → get_or (done ++ text ∷ later) (length done) [] ≡ text
-  at_done [] later text = refl
-  at_done (first ∷ done) later text = at_done done later text
-
-  up_to : (done later : List (List ℕ)) (text : List ℕ) → take (length done + 1) (done ++ text ∷ later) ≡ done ++ text ∷ []
-  up_to [] later text = refl
-  up_to (first ∷ done) later text = let e : suc (length done) + 1 ≡ suc (length done + 1) = omega arith in rw e (ap (λ xs. first ∷ xs) (up_to done later text))
-
   pub check_error : (all rest later : List (List ℕ)) (text : List ℕ) (before now next : Checked) (error : QuestionsError) → rest ≡ text ∷ later
       → HasChecked Allowed (text ∷ []) now next → NamesText (Good text) checking.bad_questions text next.seen.count error → ChecksSoFar Good Allowed checking all rest before now
       → EndsCheck Good Allowed checking all before next error
   check_error all rest later text before now next error split one names old =
       let whole : all ≡ old.done ++ text ∷ later = old.split ∙ ap (λ r. old.done ++ r) split in
-      let at : get_or all (length old.done) [] ≡ text = ap (λ xs. get_or xs (length old.done) []) whole ∙ at_done old.done later text in
+      let at : get_or all (length old.done) [] ≡ text = ap (λ xs. get_or xs (length old.done) []) whole ∙ at_done old.done later text [] in
       let checks : HasChecked Allowed (old.done ++ text ∷ []) before next = checked_more Allowed old.done text before now next old.checked one in
       let count : next.seen.count ≡ counted before.seen.count (length old.done + 1) = checks.1 ∙ ap (counted before.seen.count) (length-append old.done (text ∷ [])) in record {
         index = length old.done;

@@ -14,6 +14,7 @@ pub mod Loads
 pub mod NetworkOrder
 pub mod OneValue
 pub mod Paths
+pub mod PrintedVerdicts
 pub mod Printing
 pub mod Ranges
 pub mod Ranking
@@ -21,3 +22,6 @@ pub mod Ranks
 pub mod Reading
 pub mod Renaming
 pub mod ShortKeys
+pub mod RouteLines
+pub mod ValidationSteps
+pub mod VrpSteps

@@ -1,6 +1,6 @@
 -- Small facts on elements of lists that are mapped or filtered.
-use Rattle.std.proofs.Common.{◌≡◌, ◌⊎◌, ◌==◌, length, zero, suc, Bool, true, false, eqb-true, cond, List, [], ◌∷◌, map, filter, refl, sym, ap, subst, ◌∙◌, inl, inr, arith}
-use Rattle.std.specs.List.{Contains}
+use Rattle.std.proofs.Common.{◌≡◌, ◌⊎◌, ◌==◌, ◌+◌, length, zero, suc, Bool, true, false, eqb-true, cond, List, [], ◌∷◌, ◌++◌, get_or, map, filter, refl, sym, ap, subst, take, ◌∙◌, inl, inr, arith}
+use Rattle.std.specs.List.{Any, Contains}
 
 module _ {X : Type 0} where
   -- a list without elements
@@ -40,6 +40,27 @@ module _ {X : Type 0} where
         ]
         | false ↦ λ e here. let w = from_filter p ys x here in (in_later y ys x w.0, w.1)
       ] refl at
+
+  -- the element after some others
+  pub at_done : (done later : List X) (x d : X) → get_or (done ++ x ∷ later) (length done) d ≡ x
+  at_done [] later x d = refl
+  at_done (first ∷ done) later x d = at_done done later x d
+
+  -- the elements up to it
+  pub up_to : (done later : List X) (x : X) → take (length done + 1) (done ++ x ∷ later) ≡ done ++ x ∷ []
+  up_to [] later x = refl
+  up_to (first ∷ done) later x = let e : suc (length done) + 1 ≡ suc (length done + 1) = omega arith in rw e (ap (λ xs. first ∷ xs) (up_to done later x))
+
+  -- some element passes if the first or a later one does
+  pub some_cons : (P : X → Type 0) (x : X) (xs : List X) → Any P (x ∷ xs) → P x ⊎ Any P xs
+  some_cons P x xs (zero, y, less, at, p) = inl (subst P (sym at) p)
+  some_cons P x xs (suc k, y, less, at, p) = inr (k, y, omega arith, at, p)
+
+  pub some_here : (P : X → Type 0) (x : X) (xs : List X) → P x → Any P (x ∷ xs)
+  some_here P x xs p = (zero, x, omega arith, refl, p)
+
+  pub some_later : (P : X → Type 0) (x : X) (xs : List X) → Any P xs → Any P (x ∷ xs)
+  some_later P x xs (k, y, less, at, p) = (suc k, y, omega arith, at, p)
 
 module _ {X Y : Type 0} (f : X → Y) where
   -- the image of an element is in the mapped list

@@ -1,8 +1,10 @@
--- The definitions of this crate: lines and routes, networks, loaded tables, changes, access rules, sets of addresses, fewest networks, lists without values, and
--- printed lines.
+-- The definitions of this crate: lines and routes, networks, loaded tables, changes, access rules, sets of addresses, fewest networks, lists without values,
+-- VRPs and the states of routes, and printed lines.
 pub mod Access
 pub mod AddressLists
 pub mod AddressSets
+pub mod Announcements
+pub mod AsNumbers
 pub mod BadLines
 pub mod Changes
 pub mod Checks
@@ -17,4 +19,6 @@ pub mod Questions
 pub mod Routes
 pub mod Rules
 pub mod Tables
+pub mod Validations
 pub mod Values
+pub mod VrpLines

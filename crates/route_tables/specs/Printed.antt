@@ -2,6 +2,13 @@
 use Rattle.std.specs.Prelude.{ℕ, List, [], ◌∷◌, ◌++◌, Option, None, Some, codes}
 use Rattle.prefix_trie_joint.specs.Texts.{ip_network_text}
 use Rattle.prefix_trie_joint.specs.declared.prefix.IpPrefix.{IpPrefix}
+use Rattle.route_tables.specs.declared.arguments.Format.{Format}
+use Rattle.route_tables.specs.declared.arguments.Format.TheVariants.{Json, Text}
+
+-- what a printer printed: the bytes that its writer holds, if it prints lines of words; of other formats nothing is known
+abbrev pub printed : Format → Option (List ℕ) → Option (List ℕ)
+printed Text contents = contents
+printed Json contents = None
 
 -- a network and its value, or the network alone if the value is empty
 abbrev pub route_line : IpPrefix → List ℕ → List ℕ

@@ -4,6 +4,7 @@ pub mod help;
 
 use crate::access::Precedence;
 use crate::arguments::help::{ABOUT, COMMANDS, DETAILS, Topic, VERSION};
+use crate::commands::validations::Verdicts;
 use crate::load::{BadLines, Reading, TableKind};
 use crate::lookup::Relation;
 use crate::matching::{Selected, Selection, Which};
@@ -35,6 +36,8 @@ const DENY_FIRST: &str = "deny-first";
 const INVERT: &str = "invert";
 
 const FIRST: &str = "first";
+
+const COUNT: &str = "count";
 
 // The names of arguments.
 const TABLES: &str = "tables";
@@ -94,6 +97,8 @@ pub enum Task {
     Check(Precedence),
     /// Print the lines of files that have an address of a table.
     Match(Selection),
+    /// Print the validation states of routes.
+    Validate(Verdicts),
 }
 
 /// What a report on a table shows.
@@ -237,6 +242,12 @@ fn command<'a>(alloc: Global, topic: &Topic) -> Result<Command<'a>, AllocError> 
         ),
         Task::Check(_) => table_and_words(command, alloc, "ADDRESS", "Addresses to check"),
         Task::Match(_) => table_and_words(command, alloc, "FILE", "Files to search"),
+        Task::Validate(_) => table_and_words(
+            command,
+            alloc,
+            "ROUTES",
+            "Files of routes to validate",
+        ),
     }
 }
 
@@ -335,6 +346,7 @@ fn flags_of(task: Task) -> &'static [(&'static str, &'static str)] {
             (FIRST, "Look at the first address of a line alone"),
             (NO_MAPPED, NO_MAPPED_HELP),
         ],
+        Task::Validate(_) => &[(COUNT, "Print only how many routes have each state")],
         Task::Report(_) | Task::Addresses(_) | Task::Compare(_) | Task::List => &[],
     }
 }
@@ -381,6 +393,7 @@ fn task_of(task: Task, matches: &ArgMatches<'_>) -> Task {
         Task::Lookup(_) => Task::Lookup(relation(matches)),
         Task::Check(_) if matches.get_flag(DENY_FIRST) => Task::Check(Precedence::DenyFirst),
         Task::Match(_) => Task::Match(selection(matches)),
+        Task::Validate(_) if matches.get_flag(COUNT) => Task::Validate(Verdicts::Counts),
         _ => task,
     }
 }

@@ -10,6 +10,8 @@ mod sets;
 mod statistics;
 mod tables;
 mod text;
+pub mod validations;
+mod verdicts;
 
 use crate::arguments::{AddressReport, Report};
 use crate::commands::printer::Printer;

@@ -9,7 +9,9 @@
 pub mod access;
 pub mod address_list;
 pub mod address_sets;
+pub mod announcements;
 pub mod arguments;
+mod as_numbers;
 pub mod commands;
 pub mod diff;
 pub mod fewest;
@@ -29,3 +31,4 @@ mod rule;
 pub mod stats;
 pub mod table;
 pub mod value;
+pub mod vrp_lines;

@@ -67,7 +67,7 @@ pub fn split_line(text: &[u8]) -> (&[u8], &[u8])
 }
 
 /// Splits off the first word, and returns it and the rest, or `None` if there is no word.
-fn split_word(text: &[u8]) -> Option<(&[u8], &[u8])>
+pub(crate) fn split_word(text: &[u8]) -> Option<(&[u8], &[u8])>
     ensures { MatchOption result (words text.now ≡ [])
         (λ parts. words text.now ≡ parts.0.now ∷ words parts.1.now) }
 {

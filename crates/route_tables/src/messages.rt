@@ -10,6 +10,7 @@ use crate::messages::excerpt::Excerpt;
 use crate::network::{HostBits, NetworkError, parse_network_with};
 use crate::questions::QuestionError;
 use crate::range::RangeError;
+use crate::vrp_lines::{VrpError, second_field};
 use prefix_trie::ParseNetworkError;
 use std::fmt::{self, Display, Formatter, Write};
 use std::str;
@@ -44,6 +45,15 @@ pub struct QuestionMessage<'a> {
     pub error: QuestionError,
 }
 
+/// Prints why a line has no VRP, as `NetworkMessage` does if its network is wrong.
+#[derive(Clone, Copy, Debug, PartialEq, Eq)]
+pub struct VrpMessage<'a> {
+    /// The line that was read.
+    pub line: &'a [u8],
+    /// Why it has no VRP.
+    pub error: VrpError,
+}
+
 impl Display for NetworkMessage<'_> {
     fn fmt<W: Write>(&self, f: &mut Formatter<W>) -> fmt::Result {
         match self.error {
@@ -71,6 +81,18 @@ impl Display for QuestionMessage<'_> {
         match self.error {
             QuestionError::Network(error) => {
                 let text = first_field(self.text);
+                Display::fmt(&NetworkMessage { text, error }, f)
+            }
+            error => Display::fmt(&error, f),
+        }
+    }
+}
+
+impl Display for VrpMessage<'_> {
+    fn fmt<W: Write>(&self, f: &mut Formatter<W>) -> fmt::Result {
+        match self.error {
+            VrpError::Network(error) => {
+                let text = str::from_utf8(second_field(self.line)).unwrap_or("");
                 Display::fmt(&NetworkMessage { text, error }, f)
             }
             error => Display::fmt(&error, f),

@@ -70,6 +70,10 @@ pub enum QuestionError {
     Network(NetworkError),
     /// The line has a second field.
     ExtraField,
+    /// No AS follows the prefix of a route.
+    NoOrigin,
+    /// A field after the prefix of a route is neither an AS number nor a set of them.
+    AsNumber,
 }
 
 impl Display for QuestionError {
@@ -80,6 +84,8 @@ impl Display for QuestionError {
             QuestionError::Address => "not an address",
             QuestionError::Network(error) => return Display::fmt(error, f),
             QuestionError::ExtraField => "more than one field",
+            QuestionError::NoOrigin => "no AS follows the prefix",
+            QuestionError::AsNumber => "not an AS number",
         })
     }
 }

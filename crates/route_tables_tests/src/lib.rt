@@ -15,3 +15,5 @@ mod plain_lists;
 mod printing;
 #[cfg(test)]
 mod reading;
+#[cfg(test)]
+mod validating;

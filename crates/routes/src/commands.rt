@@ -1,15 +1,18 @@
 //! Carrying out commands: which files they read, and what they print.
+ghost use Rattle.std.specs.Prelude.{◌≡◌, MatchBool, nat_lt};
 
 use crate::failure::Failure;
 use crate::session::{Input, Session, Values};
 use crate::status::Status;
 use address_ranges::JointAddressSet;
+use origin_validation::Vrps;
 use route_tables::access::{AccessList, Precedence};
 use route_tables::arguments::{AddressReport, Comparison, Invocation, Report, Task};
 use route_tables::commands::checks::{Checked, Checking, check_lines, check_words};
 use route_tables::commands::lookups::{Looking, look_up_lines, look_up_words};
 use route_tables::commands::printer::Printer;
 use route_tables::commands::questions::{QuestionsError, Seen};
+use route_tables::commands::validations::{Validated, Validating, Verdicts, validate_lines};
 use route_tables::commands::{
     list, list_within, print_addresses, print_covered, print_diff, print_fewest, print_report,
 };
@@ -43,6 +46,7 @@ pub fn carry_out<W: Write + Drop>(
         Task::Lookup(relation) => look_up(session, relation, tables, words, out),
         Task::Check(precedence) => check(session, precedence, tables, words, out, status),
         Task::Match(selection) => search(session, selection, tables, words, out, status),
+        Task::Validate(verdicts) => validate(session, verdicts, tables, words, out, status),
     }
 }
 
@@ -51,7 +55,7 @@ fn refuse_input_twice(session: Session<'_>, invocation: &Invocation<'_>) -> Resu
     let words = invocation.words.as_slice();
     let reads_input = match invocation.task {
         Task::Lookup(_) | Task::Check(_) => words.is_empty(),
-        Task::Match(_) => words.is_empty() || words.contains(&"-"),
+        Task::Match(_) | Task::Validate(_) => words.is_empty() || words.contains(&"-"),
         Task::Report(_) | Task::Addresses(_) | Task::Compare(_) | Task::List => false,
     };
     let tables = invocation
@@ -368,5 +372,73 @@ fn search_text<'a, W: Write + Drop>(
         printed?;
         out.flush()?;
     }
+    Ok(())
+}
+
+// Prints the states of the routes of files, and sets the status if a route is invalid.
+fn validate<'a, W: Write + Drop>(
+    session: Session<'a>,
+    verdicts: Verdicts,
+    files: &[&'a str],
+    texts: &[&'a str],
+    out: &mut Printer<W>,
+    status: &mut Status,
+) -> Result<(), Failure> {
+    let vrps = session.read_vrps(files)?;
+    let reading = session.options.reading;
+    let validating = Validating {
+        host_bits: reading.host_bits,
+        bad_routes: reading.bad_lines,
+        verdicts,
+    };
+    let texts = if texts.is_empty() { &["-"] } else { texts };
+    let mut validated = Validated::new();
+    let mut done = Ok(());
+    for text in texts {
+        if done.is_ok() {
+            done = validate_text(session, &vrps, validating, text, &mut validated, out);
+        }
+    }
+    *status = status_of(&validated);
+    done?;
+    if verdicts == Verdicts::Counts {
+        out.state_counts(&validated.counts)?;
+    }
+    Ok(())
+}
+
+// Returns the status of routes: `Bad` if one is invalid.
+fn status_of(validated: &Validated) -> Status
+    ensures { MatchBool (nat_lt 0 validated.now.counts.invalid) (result ≡ Status.Bad)
+        (result ≡ Status.Good) }
+{
+    if validated.counts.invalid > 0 {
+        Status::Bad
+    } else {
+        Status::Good
+    }
+}
+
+// Prints the states of the routes of one file, piece by piece, and warns of lines that are skipped.
+fn validate_text<'a, W: Write + Drop>(
+    session: Session<'a>,
+    vrps: &Vrps<Global>,
+    validating: Validating,
+    path: &'a str,
+    validated: &mut Validated,
+    out: &mut Printer<W>,
+) -> Result<(), Failure> {
+    let mut pieces = session.pieces(path, Input::Routes)?;
+    validated.seen = Seen::new();
+    for _ in 0..u64::MAX {
+        let Some(piece) = session.next_piece(path, &mut pieces)? else {
+            break;
+        };
+        if let Err(error) = validate_lines(vrps, piece, validating, validated, out) {
+            return Err(session.report_routes(path, error));
+        }
+        out.flush()?;
+    }
+    session.warn_of_skipped_routes(path, &validated.seen.skipped);
     Ok(())
 }

@@ -3,12 +3,15 @@
 use crate::failure::Failure;
 use crate::progress::Watched;
 use address_ranges::JointAddressSet;
+use origin_validation::Vrps;
 use prefix_trie_joint::JointPrefixMap;
 use route_tables::access::{AccessList, Precedence, Rule, idle_rules};
 use route_tables::address_list::AddressList;
 use route_tables::arguments::Options;
 use route_tables::commands::questions::QuestionsError;
-use route_tables::load::{BadLine, LoadError, Reading, Replaced, TableKind, Warnings, load_into};
+use route_tables::load::{
+    BadLine, BadLines, LoadError, Reading, Replaced, TableKind, Warnings, load_into,
+};
 use route_tables::messages::bad_lines::find_bad_lines;
 use route_tables::messages::excerpt::{ByteExcerpt, Shown};
 use route_tables::messages::warnings::{
@@ -18,6 +21,7 @@ use route_tables::messages::warnings::{
 use route_tables::pieces::Pieces;
 use route_tables::plain_lists::{FewestNetworks, fewest_of_plain};
 use route_tables::table::Table;
+use route_tables::vrp_lines::{BadVrp, add_vrps};
 use std::alloc::Global;
 use std::fmt::Display;
 use std::fs::File;
@@ -30,6 +34,8 @@ pub enum Input {
     Questions,
     /// Lines to search for addresses.
     Lines,
+    /// Routes to validate.
+    Routes,
 }
 
 /// Whether the values of a table are used, so that a line that replaces one is worth a warning.
@@ -138,6 +144,7 @@ impl<'a> Session<'a> {
         let what = match input {
             Input::Questions => "addresses, one a line",
             Input::Lines => "lines",
+            Input::Routes => "routes, one a line",
         };
         let _ = eprintln!(self.rt; "routes: reading {what}, until Ctrl-D");
     }
@@ -264,7 +271,7 @@ impl<'a> Session<'a> {
     fn write_refused(&self, path: &str, text: &[u8], reading: Reading) -> io::Result<()> {
         let bad = find_bad_lines(text, reading, self.alloc())?;
         let mut err = BufWriter::new(self.alloc(), self.rt.stderr())?;
-        write_refused(path, &bad, &mut err)?;
+        write_refused(path, bad.first.as_slice(), bad.count, &mut err)?;
         err.flush()
     }
 
@@ -328,6 +335,66 @@ impl<'a> Session<'a> {
         err.flush()
     }
 
+    /// Reads the VRPs of files, and warns of lines that are skipped.
+    pub fn read_vrps(&self, files: &[&'a str]) -> Result<Vrps<Global>, Failure> {
+        let mut vrps = Vec::new(self.alloc());
+        for file in files {
+            let text = self.read_file(file)?;
+            let host_bits = self.options.reading.host_bits;
+            let bad = add_vrps(&mut vrps, text.as_slice(), host_bits, self.alloc())?;
+            if self.options.reading.bad_lines == BadLines::Skipped {
+                self.warn_of_bad_vrps(file, bad.as_slice());
+            } else if !bad.is_empty() {
+                let _ = self.write_refused_vrps(file, bad.as_slice());
+                return Err(Failure::Reported);
+            }
+        }
+        Ok(Vrps::new(vrps, self.alloc())?)
+    }
+
+    // Writes the bad lines of a file of VRPs that is refused.
+    fn write_refused_vrps(&self, path: &str, bad: &[BadVrp<'_>]) -> io::Result<()> {
+        let mut err = BufWriter::new(self.alloc(), self.rt.stderr())?;
+        write_refused(path, bad, bad.len(), &mut err)?;
+        err.flush()
+    }
+
+    // Warns of lines of a file of VRPs that are skipped.
+    fn warn_of_bad_vrps(&self, path: &str, skipped: &[BadVrp<'_>]) {
+        if !self.options.is_quiet {
+            let _ = self.write_bad_vrps(path, skipped);
+        }
+    }
+
+    // Writes which lines of a file of VRPs are skipped.
+    fn write_bad_vrps(&self, path: &str, skipped: &[BadVrp<'_>]) -> io::Result<()> {
+        let mut err = BufWriter::new(self.alloc(), self.rt.stderr())?;
+        write_bad_lines(path, skipped, &mut err)?;
+        err.flush()
+    }
+
+    /// Reports why the routes of a file end early.
+    pub fn report_routes(&self, path: &str, error: QuestionsError<'_>) -> Failure {
+        match error {
+            QuestionsError::Question(bad) => self.report(path, &bad),
+            QuestionsError::Output(error) => Failure::from(error),
+        }
+    }
+
+    /// Warns of the lines of a file of routes that are skipped.
+    pub fn warn_of_skipped_routes(&self, path: &str, skipped: &LineNumbers) {
+        if !self.options.is_quiet {
+            let _ = self.write_skipped_routes(path, skipped);
+        }
+    }
+
+    // Writes which lines of a file of routes are skipped.
+    fn write_skipped_routes(&self, path: &str, skipped: &LineNumbers) -> io::Result<()> {
+        let mut err = BufWriter::new(self.alloc(), self.rt.stderr())?;
+        write_skipped_lines(path, "a route", skipped, &mut err)?;
+        err.flush()
+    }
+
     /// Warns of the words that are skipped, or of the lines of standard input if there are no words.
     pub fn warn_of_skipped(&self, wanted: &str, words: &[&str], skipped: &LineNumbers) {
         if !self.options.is_quiet {
@@ -339,7 +406,7 @@ impl<'a> Session<'a> {
     fn write_skipped(&self, wanted: &str, words: &[&str], skipped: &LineNumbers) -> io::Result<()> {
         let mut err = BufWriter::new(self.alloc(), self.rt.stderr())?;
         if words.is_empty() {
-            write_skipped_lines(wanted, skipped, &mut err)?;
+            write_skipped_lines("-", wanted, skipped, &mut err)?;
         } else {
             write_skipped_words(wanted, words, skipped, &mut err)?;
         }

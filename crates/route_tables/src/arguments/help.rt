@@ -2,6 +2,7 @@
 
 use crate::access::Precedence;
 use crate::arguments::{AddressReport, Comparison, Report, Task};
+use crate::commands::validations::Verdicts;
 use crate::lookup::Relation;
 use crate::matching::{Selected, Selection, Which};
 use crate::questions::Mapped;
@@ -18,14 +19,14 @@ TABLE, OLD, NEW, LEFT and RIGHT are files, or `-` for standard input. Each line 
 address or a range, and a value or none: `10.0.0.0/8 core`, `2001:db8::1`,
 `10.0.0.0-10.0.1.255 lab`. A value is any text without white space and control characters. A word
 that begins with `#` begins a comment. If two lines have one network, the later line wins.
-Several TABLE are read as one. `lookup`, `list`, `check` and `match` take several if `--` comes
-after them: `routes lookup a.txt b.txt -- 10.0.0.1`.
+Several TABLE are read as one. `lookup`, `list`, `check`, `match` and `validate` take several if
+`--` comes after them: `routes lookup a.txt b.txt -- 10.0.0.1`.
 
 `lookup`, `list`, `diff`, `minimise`, `check` and `stats` work by network, the others by address.
 
-Exit status: 0, or 1 if `check` does not allow an address or skips one, `diff` finds a change or
-`match` prints no line, or 2 after an error. If nobody reads the output any more, the status says
-what was found so far.";
+Exit status: 0, or 1 if `check` does not allow an address or skips one, `diff` finds a change,
+`match` prints no line or `validate` finds an invalid route, or 2 after an error. If nobody reads
+the output any more, the status says what was found so far.";
 
 // The lines with any address of a table.
 const ANY_ADDRESS: Selection = Selection {
@@ -227,5 +228,25 @@ line is printed.
 Examples:
   routes match blocked.txt access.log
   tail -f access.log | routes match -v offices.txt",
+    },
+    Topic {
+        name: "validate",
+        task: Task::Validate(Verdicts::Each),
+        about: "Print whether an AS may announce each route, by RFC 6811",
+        details: "\
+TABLE is a file of VRPs, as relying parties write it: a line has an AS number, a prefix and a maximum
+length, with commas between them. Each line of ROUTES, or of standard input, has a prefix and an AS
+number, or a path whose last AS is the origin. A path that ends in a set, as `{64500,64501}`, has no
+origin.
+
+A route is `not-found` if no VRP's prefix contains it, `valid` if such a VRP has its origin and a
+maximum length that is not below the route's, and `invalid` otherwise. Each line has the prefix,
+the origin, the state and a VRP that decides: one that allows the route, or the longest that
+contains it. AS 0 allows none. The exit status is 1 if a route is invalid.
+
+Examples:
+  routes validate vrps.csv routes.txt
+  echo 10.1.0.0/16 AS64500 | routes validate vrps.csv
+  routes validate --count vrps.csv routes.txt",
     },
 ];

@@ -1,10 +1,13 @@
 //! What commands print as JSON: an object a line.
 
 use crate::access::Decision;
+use crate::announcements::Announcement;
+use crate::commands::validations::StateCounts;
 use crate::diff::Values;
 use crate::lookup::Found;
 use crate::stats::Counts;
 use arrayvec::ArrayString;
+use origin_validation::{Validity, Vrp};
 use prefix_trie_joint::IpPrefix;
 use prefix_trie_ops::map::Side;
 use serde::{Described, Serialize, Serializer};
@@ -84,6 +87,70 @@ impl<'a> Decided<'a> {
             address,
             decision,
             network,
+        }
+    }
+}
+
+/// A VRP.
+#[derive(Drop, Serialize)]
+struct Payload {
+    prefix: Text<IpPrefix>,
+    max_length: u8,
+    origin: u32,
+}
+
+impl Payload {
+    // Returns what is written of a VRP.
+    fn new(vrp: Vrp) -> Payload {
+        Payload {
+            prefix: Text(vrp.prefix),
+            max_length: vrp.max_len,
+            origin: vrp.origin,
+        }
+    }
+}
+
+/// A route, its state, and the VRP that decides, or `null`.
+#[derive(Drop, Serialize)]
+pub struct Verdict {
+    network: Text<IpPrefix>,
+    origin: Option<u32>,
+    state: &'static str,
+    vrp: Option<Payload>,
+}
+
+impl Verdict {
+    /// Returns what is written of a route and its state.
+    pub fn new(route: &Announcement, validity: Validity) -> Verdict {
+        let (state, vrp) = match validity {
+            Validity::Valid(vrp) => ("valid", Some(Payload::new(vrp))),
+            Validity::Invalid(vrp) => ("invalid", Some(Payload::new(vrp))),
+            Validity::NotFound => ("not-found", None),
+        };
+        Verdict {
+            network: Text(route.prefix),
+            origin: route.origin,
+            state,
+            vrp,
+        }
+    }
+}
+
+/// How many routes have each state.
+#[derive(Drop, Serialize)]
+pub struct States {
+    valid: u64,
+    invalid: u64,
+    not_found: u64,
+}
+
+impl States {
+    /// Returns what is written of these counts.
+    pub fn new(counts: &StateCounts) -> States {
+        States {
+            valid: counts.valid,
+            invalid: counts.invalid,
+            not_found: counts.not_found,
         }
     }
 }

@@ -1,28 +1,48 @@
 //! Printing what commands find: a line of words, or a JSON object, for each.
+ghost use Rattle.std.specs.Prelude.{OnOk};
+ghost use Rattle.std.specs.Io.KnownBytes.{Appends};
+ghost use Rattle.route_tables.specs.Validations.{count_lines, verdict_line};
 
 use crate::access::Decision;
+use crate::announcements::Announcement;
 use crate::arguments::Format;
 use crate::commands::json::{self, Text};
 use crate::commands::statistics::print_counts;
 use crate::commands::text::{print_answer, print_network, print_route};
+use crate::commands::validations::StateCounts;
+use crate::commands::verdicts::{print_state_counts, print_verdict};
 use crate::diff::Values;
 use crate::lookup::Found;
 use crate::stats::Counts;
+use origin_validation::Validity;
 use prefix_trie_joint::IpPrefix;
 use prefix_trie_ops::map::Side;
 use serde::Serialize;
 use std::alloc::Global;
 use std::io::{self, Write};
+use std::marker::Model;
 use std::net::IpAddr;
 
 /// A writer of lines, in one of the formats.
 ///
 /// Each call returns the writer's error, or an error if an allocation fails. Only JSON needs one.
+///
+/// Contracts see the bytes that the writer holds, if it is known which, and the printer prints lines of words. After an error,
+/// any part of a line may be written.
 #[derive(Drop)]
 pub struct Printer<W: Write + Drop> {
     format: Format,
     alloc: Global,
     out: W,
+}
+
+impl<W: Write + Drop> Model for Printer<W> {
+    ghost use Rattle.std.specs.Prelude.{ℕ, List, Option};
+    ghost use Rattle.route_tables.specs.Printed.{printed};
+
+    ghost Value = { Option (List ℕ) };
+
+    ghost view = { λ printer. printed printer.format (W.contents printer.out) };
 }
 
 impl<W: Write + Drop> Printer<W> {
@@ -81,6 +101,26 @@ impl<W: Write + Drop> Printer<W> {
         match self.format {
             Format::Text => print_decision(address, decision, &mut self.out),
             Format::Json => self.object(&json::Decided::new(address, decision)),
+        }
+    }
+
+    /// Prints a route, its state, and the VRP that decides.
+    pub fn verdict(&mut self, route: &Announcement, validity: Validity) -> io::Result<()>
+        ensures { OnOk result (Appends self.old self.new (verdict_line route.now validity)) }
+    {
+        match self.format {
+            Format::Text => print_verdict(route, validity, &mut self.out),
+            Format::Json => self.object(&json::Verdict::new(route, validity)),
+        }
+    }
+
+    /// Prints how many routes have each state.
+    pub fn state_counts(&mut self, counts: &StateCounts) -> io::Result<()>
+        ensures { OnOk result (Appends self.old self.new (count_lines counts.now)) }
+    {
+        match self.format {
+            Format::Text => print_state_counts(counts, &mut self.out),
+            Format::Json => self.object(&json::States::new(counts)),
         }
     }
 

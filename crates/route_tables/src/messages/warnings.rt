@@ -1,10 +1,11 @@
 //! Warnings of lines: the first ten, and how many more there are.
 
 use crate::access::Rule;
-use crate::load::{BadLine, Replaced};
-use crate::messages::bad_lines::FoundBadLines;
+use crate::load::Replaced;
+use crate::messages::bad_lines::MOST_NAMED;
 use crate::messages::excerpt::{Excerpt, Shown};
 use arrayvec::ArrayVec;
+use std::fmt::Display;
 use std::io::{self, Write};
 
 // The most lines that are named.
@@ -57,10 +58,14 @@ pub fn write_replaced<W: Write>(name: &str, lines: &[Replaced], out: &mut W) -> 
     write_rest(&name, lines.len().saturating_sub(MOST), out)
 }
 
-/// Writes the first ten lines of a table that are skipped, and the number of the others.
+/// Writes the first ten lines of a file that are skipped, and the number of the others.
 ///
 /// `name` is the name of the file.
-pub fn write_bad_lines<W: Write>(name: &str, lines: &[BadLine], out: &mut W) -> io::Result<()> {
+pub fn write_bad_lines<L: Display, W: Write>(
+    name: &str,
+    lines: &[L],
+    out: &mut W,
+) -> io::Result<()> {
     let name = Shown(name);
     for line in lines.iter().take(MOST) {
         writeln!(out, "routes: {name}: skipped {line}")?;
@@ -68,37 +73,39 @@ pub fn write_bad_lines<W: Write>(name: &str, lines: &[BadLine], out: &mut W) -> 
     write_rest(&name, lines.len().saturating_sub(MOST), out)
 }
 
-/// Writes the first twenty bad lines of a table that is refused, and the number of the others.
+/// Writes the first twenty of the bad lines of a file that is refused, and the number of the others.
 ///
-/// `name` is the name of the file.
-pub fn write_refused<W: Write>(name: &str, found: &FoundBadLines, out: &mut W) -> io::Result<()> {
+/// `name` is the name of the file, and `count` is how many bad lines it has.
+pub fn write_refused<L: Display, W: Write>(
+    name: &str,
+    first: &[L],
+    count: usize,
+    out: &mut W,
+) -> io::Result<()> {
     let name = Shown(name);
-    for line in found.first.iter() {
+    for line in first.iter().take(MOST_NAMED) {
         writeln!(out, "routes: {name}: {line}")?;
     }
-    write_rest(&name, found.count.saturating_sub(found.first.len()), out)
+    write_rest(&name, count.saturating_sub(MOST_NAMED), out)
 }
 
-/// Writes the numbers of the first ten lines of standard input that are skipped, and the number of the others.
+/// Writes the numbers of the first ten lines of a file that are skipped, and the number of the others.
 ///
-/// `wanted` is what they are not.
+/// `name` is the name of the file, and `wanted` is what the lines are not.
 pub fn write_skipped_lines<W: Write>(
+    name: &str,
     wanted: &str,
     skipped: &LineNumbers,
     out: &mut W,
 ) -> io::Result<()> {
-    let first = skipped.first();
+    let (name, first) = (Shown(name), skipped.first());
     for line in first {
         writeln!(
             out,
-            "routes: -: line {line}: not {wanted}, so it is skipped"
+            "routes: {name}: line {line}: not {wanted}, so it is skipped"
         )?;
     }
-    write_rest(
-        &Shown("-"),
-        skipped.count().saturating_sub(first.len()),
-        out,
-    )
+    write_rest(&name, skipped.count().saturating_sub(first.len()), out)
 }
 
 /// Writes the first ten words that are skipped, and the number of the others. The numbers are those of the words.
