@@ -1,10 +1,16 @@
 -- The lines of routes: a field is at most one hop, and a line has at most one route: for reading paths, and for counting invalid routes.
-use Rattle.std.proofs.Common.{◌≡◌, ◌≢◌, ◌↔◌, ◌∙◌, ℕ, List, [], ◌∷◌, Option, None, Some, ap, false, refl, subst, sym, true, true≢false}
+use Rattle.std.proofs.Common.{◌≡◌, ◌≢◌, ◌↔◌, ◌∙◌, ℕ, List, [], ◌∷◌, MatchResult, Option, None, Some, Result, Ok, Err, ap, false, inl, inr, refl, subst, sym, true, true≢false}
+use Rattle.std.specs.Str.{IsUtf8}
 use Rattle.prefix_trie_joint.specs.Texts.{IpTextLaws}
 use Rattle.prefix_trie_joint.specs.declared.prefix.IpPrefix.{IpPrefix}
-use Rattle.route_tables.specs.Announcements.{AreFieldsOfRoute, EndsPath, IsHop, IsPath, IsRouteLine}
+use Rattle.route_tables.specs.Announcements.{AreFieldsOfRoute, EndsPath, IsBadRoute, IsHop, IsPath, IsPathError, IsRoutePrefixError, IsRouteError, IsRouteFieldsError, IsRouteLine, is_of_set}
+use Rattle.route_tables.specs.AsNumbers.{IsAsNumber}
+use Rattle.route_tables.specs.Lines.{fields}
+use Rattle.route_tables.specs.Networks.{IsNetworkText}
 use Rattle.route_tables.specs.declared.announcements.Announcement.{Announcement}
 use Rattle.route_tables.specs.declared.network.HostBits.{HostBits}
+use Rattle.route_tables.specs.declared.questions.QuestionError.{QuestionError}
+use Rattle.route_tables.specs.declared.questions.QuestionError.TheVariants.{Address, AsNumber, BareReturn, ExtraField, Network, NoOrigin, NotUtf8}
 use Rattle.route_tables.proofs.VrpSteps.{one_network}
 
 -- a field denotes one hop
@@ -13,6 +19,11 @@ one_hop field None None is also = refl
 one_hop field None (Some n) is also = absurd (true≢false (sym is ∙ also.0))
 one_hop field (Some m) None is also = absurd (true≢false (sym also ∙ is.0))
 one_hop field (Some m) (Some n) is also = ap Some (is.1.value ∙ sym also.1.value)
+
+-- a field that is neither a set nor an AS number denotes none
+pub no_hop : (field : List ℕ) → is_of_set field ≡ false → ((n : ℕ) → ¬ (IsAsNumber field n)) → (hop : Option ℕ) → ¬ (IsHop field hop)
+no_hop field not_set none None is = true≢false (sym is ∙ not_set)
+no_hop field not_set none (Some n) is = none n is.1
 
 one_end : (later : List (List ℕ)) (hop : Option ℕ) (a b : Option ℕ) → EndsPath hop later a → EndsPath hop later b → a ≡ b
 one_end [] hop a b is also = is ∙ sym also
@@ -40,45 +51,99 @@ one_route laws host_bits line a b is also =
     ap (λ p. route_of p a.origin) prefix ∙ ap (λ o. route_of b.prefix o) origin
 
 -- what is left of a path after the fields so far, the last of which denotes a hop
-pub record PathSoFar (all rest : List (List ℕ)) (hop : Option ℕ) : Type 0 where
-  pub some : all ≢ []
-  pub ends : (origin : Option ℕ) → EndsPath hop rest origin ↔ IsPath all origin
+abbrev pub PathSoFar : Option ℕ → List (List ℕ) → List (List ℕ) → Option ℕ → Type 0
+PathSoFar hop all rest last = (origin : Option ℕ) → EndsPath last rest origin ↔ EndsPath hop all origin
 
-pub path_start : (all rest : List (List ℕ)) (field : List ℕ) (hop : Option ℕ) → all ≡ field ∷ rest → IsHop field hop → PathSoFar all rest hop
-path_start all rest field hop split is = record {
-  some = λ none. let e : field ∷ rest ≡ [] = sym split ∙ none in cc;
-  ends = λ origin. (
-    λ ends. subst (λ a. IsPath a origin) (sym split) (hop, is, ends),
-    λ path.
-        let here : IsPath (field ∷ rest) origin = subst (λ a. IsPath a origin) split path in
-        subst (λ h. EndsPath h rest origin) (one_hop field here.0 hop here.1 is) here.2,
-  );
-}
-
-pub path_on : (all rest later : List (List ℕ)) (field : List ℕ) (hop next : Option ℕ) → rest ≡ field ∷ later → IsHop field next → PathSoFar all rest hop → PathSoFar all later next
-path_on all rest later field hop next split is old = record {
-  some = old.some;
-  ends = λ origin. (
-    λ ends. (old.ends origin).0 (subst (λ r. EndsPath hop r origin) (sym split) (next, is, ends)),
-    λ path.
-        let here : EndsPath hop (field ∷ later) origin = subst (λ r. EndsPath hop r origin) split ((old.ends origin).1 path) in
-        subst (λ h. EndsPath h later origin) (one_hop field here.0 next here.1 is) here.2,
-  );
-}
+pub path_on : (hop : Option ℕ) (all rest later : List (List ℕ)) (field : List ℕ) (last next : Option ℕ) → rest ≡ field ∷ later → IsHop field next → PathSoFar hop all rest last
+    → PathSoFar hop all later next
+path_on hop all rest later field last next split is old origin = (
+  λ ends. (old origin).0 (subst (λ r. EndsPath last r origin) (sym split) (next, is, ends)),
+  λ path.
+      let here : EndsPath last (field ∷ later) origin = subst (λ r. EndsPath last r origin) split ((old origin).1 path) in
+      subst (λ h. EndsPath h later origin) (one_hop field here.0 next here.1 is) here.2,
+)
 
 -- after the last field the hop is the origin
-pub path_end : (all rest : List (List ℕ)) (hop : Option ℕ) → rest ≡ [] → PathSoFar all rest hop → IsPath all hop
-path_end all rest hop none old = (old.ends hop).0 (subst (λ r. EndsPath hop r hop) (sym none) refl)
+pub path_end : (hop : Option ℕ) (all rest : List (List ℕ)) (last : Option ℕ) → rest ≡ [] → PathSoFar hop all rest last → EndsPath hop all last
+path_end hop all rest last none old = (old last).0 (subst (λ r. EndsPath last r last) (sym none) refl)
 
 -- a field that is no hop is not one of a path
-pub no_path : (all rest later : List (List ℕ)) (field : List ℕ) (hop : Option ℕ) → rest ≡ field ∷ later → ((next : Option ℕ) → ¬ (IsHop field next)) → PathSoFar all rest hop
-    → (origin : Option ℕ) → ¬ (IsPath all origin)
-no_path all rest later field hop split none old origin path =
-    let here : EndsPath hop (field ∷ later) origin = subst (λ r. EndsPath hop r origin) split ((old.ends origin).1 path) in none here.0 here.1
+pub no_path : (hop : Option ℕ) (all rest later : List (List ℕ)) (field : List ℕ) (last : Option ℕ) → rest ≡ field ∷ later → ((next : Option ℕ) → ¬ (IsHop field next))
+    → PathSoFar hop all rest last → (origin : Option ℕ) → ¬ (EndsPath hop all origin)
+no_path hop all rest later field last split none old origin path =
+    let here : EndsPath last (field ∷ later) origin = subst (λ r. EndsPath last r origin) split ((old origin).1 path) in none here.0 here.1
 
--- nor is the first one
-pub no_first : (all rest : List (List ℕ)) (field : List ℕ) → all ≡ field ∷ rest → ((next : Option ℕ) → ¬ (IsHop field next)) → (all ≢ []) × ((origin : Option ℕ) → ¬ (IsPath all origin))
-no_first all rest field split none = (
-  λ empty. let e : field ∷ rest ≡ [] = sym split ∙ empty in cc,
-  λ origin path. let here : IsPath (field ∷ rest) origin = subst (λ a. IsPath a origin) split path in none here.0 here.1,
+-- the fields after the first hop decide
+pub path_rest : (field : List ℕ) (later : List (List ℕ)) (hop : Option ℕ) (r : Result (Option ℕ) QuestionError) → IsHop field hop
+    → MatchResult r (EndsPath hop later) (λ error. (error ≡ AsNumber) × ((origin : Option ℕ) → ¬ (EndsPath hop later origin)))
+    → MatchResult r (IsPath (field ∷ later)) (λ error. (error ≡ AsNumber) × ((origin : Option ℕ) → ¬ (IsPath (field ∷ later) origin)))
+path_rest field later hop (Ok origin) is ends = (hop, is, ends)
+path_rest field later hop (Err error) is none = (
+  none.0,
+  λ origin (other, also, ends). none.1 origin (subst (λ h. EndsPath h later origin) (one_hop field other hop also is) ends),
 )
+
+-- a path has a first field
+pub path_of : (all : List (List ℕ)) (field : List ℕ) (later : List (List ℕ)) (r : Result (Option ℕ) QuestionError) → all ≡ field ∷ later
+    → MatchResult r (IsPath (field ∷ later)) (λ error. (error ≡ AsNumber) × ((origin : Option ℕ) → ¬ (IsPath (field ∷ later) origin)))
+    → MatchResult r (IsPath all) (λ error. IsPathError all error × ((origin : Option ℕ) → ¬ (IsPath all origin)))
+path_of all field later (Ok origin) split is = subst (λ a. IsPath a origin) (sym split) is
+path_of all field later (Err error) split (is, none) =
+    let some : (origin : Option ℕ) → ¬ (IsPath all origin) = λ origin path. none origin (subst (λ a. IsPath a origin) split path) in (
+      subst (IsPathError all) (sym is) (λ empty. let e : field ∷ later ≡ [] = sym split ∙ empty in cc, some),
+      some,
+    )
+
+-- without fields there is no path
+pub no_fields_path : (all : List (List ℕ)) → all ≡ [] → (origin : Option ℕ) → ¬ (IsPath all origin)
+no_fields_path all none origin path = let P : List (List ℕ) → Type 0 = λ a. IsPath a origin in subst P none path
+
+-- a field is a prefix if its text is one
+pub prefix_of_text : (host_bits : HostBits) (field text : List ℕ) (r : Result IpPrefix QuestionError) → text ≡ field → IsUtf8 text
+    → MatchResult r (IsNetworkText host_bits text) (IsRoutePrefixError host_bits text) → MatchResult r (λ prefix. IsUtf8 field × IsNetworkText host_bits field prefix) (IsRoutePrefixError host_bits field)
+prefix_of_text host_bits field text (Ok prefix) same utf8 is = (subst IsUtf8 same utf8, subst (λ t. IsNetworkText host_bits t prefix) same is)
+prefix_of_text host_bits field text (Err error) same utf8 wrong = subst (λ t. IsRoutePrefixError host_bits t error) same wrong
+
+-- a field that is no prefix is not the first of a route
+no_prefix : (host_bits : HostBits) (first : List ℕ) (later : List (List ℕ)) (error : QuestionError) → IsRoutePrefixError host_bits first error
+    → (route : Announcement) → ¬ (AreFieldsOfRoute host_bits first later route)
+no_prefix host_bits first later NotUtf8 wrong route is = wrong is.utf8
+no_prefix host_bits first later (Network error) wrong route is = wrong route.prefix is.prefix
+no_prefix host_bits first later BareReturn wrong route is = absurd wrong
+no_prefix host_bits first later Address wrong route is = absurd wrong
+no_prefix host_bits first later ExtraField wrong route is = absurd wrong
+no_prefix host_bits first later NoOrigin wrong route is = absurd wrong
+no_prefix host_bits first later AsNumber wrong route is = absurd wrong
+
+module _ (host_bits : HostBits) (first : List ℕ) (later : List (List ℕ)) where
+  pub wrong_prefix : (error : QuestionError) → IsRoutePrefixError host_bits first error
+      → IsRouteFieldsError host_bits first later error × ((route : Announcement) → ¬ (AreFieldsOfRoute host_bits first later route))
+  wrong_prefix error wrong = (inl wrong, no_prefix host_bits first later error wrong)
+
+  pub wrong_path : (error : QuestionError) (prefix : IpPrefix) → IsNetworkText host_bits first prefix → IsPathError later error → ((origin : Option ℕ) → ¬ (IsPath later origin))
+      → IsRouteFieldsError host_bits first later error × ((route : Announcement) → ¬ (AreFieldsOfRoute host_bits first later route))
+  wrong_path error prefix is wrong none = (inr ((prefix, is), wrong), λ route are. none route.origin are.path)
+
+-- why a line has no route, from its fields
+reason_of : (host_bits : HostBits) (line first : List ℕ) (later : List (List ℕ)) (error : QuestionError) → fields line ≡ first ∷ later → IsRouteFieldsError host_bits first later error
+    → IsRouteError host_bits line error
+reason_of host_bits line first later BareReturn split (inl wrong) = absurd wrong
+reason_of host_bits line first later BareReturn split (inr wrong) = absurd wrong.1
+reason_of host_bits line first later NotUtf8 split wrong = (first, later, split, wrong)
+reason_of host_bits line first later Address split wrong = (first, later, split, wrong)
+reason_of host_bits line first later (Network error) split wrong = (first, later, split, wrong)
+reason_of host_bits line first later ExtraField split wrong = (first, later, split, wrong)
+reason_of host_bits line first later NoOrigin split wrong = (first, later, split, wrong)
+reason_of host_bits line first later AsNumber split wrong = (first, later, split, wrong)
+
+pub bad_route : (host_bits : HostBits) (line first : List ℕ) (later : List (List ℕ)) (error : QuestionError) → fields line ≡ first ∷ later
+    → IsRouteFieldsError host_bits first later error × ((route : Announcement) → ¬ (AreFieldsOfRoute host_bits first later route)) → IsBadRoute host_bits line error
+bad_route host_bits line first later error split wrong = record {
+  is_some = λ blank. let e : [] ≡ first ∷ later = sym blank.0 ∙ split in cc;
+  is_none = λ route is.
+      let same : is.first ∷ is.later ≡ first ∷ later = sym is.has_fields ∙ split in
+      let of_first : is.first ≡ first = cc in
+      let of_later : is.later ≡ later = cc in
+      wrong.1 route (subst (λ f. AreFieldsOfRoute host_bits f later route) of_first (subst (λ l. AreFieldsOfRoute host_bits is.first l route) of_later is.are_fields));
+  reason = reason_of host_bits line first later error split wrong.0;
+}

@@ -1,5 +1,5 @@
 -- Validating lines one after another: the invariant of the loop, what each line shows, what ends it, and when a route is invalid.
-use Rattle.std.proofs.Common.{◌≡◌, ◌↔◌, ◌⊎◌, ◌∙◌, ℕ, ◌+◌, ◌-◌, ◌^◌, ◌<◌, List, [], ◌∷◌, ◌++◌, All, Option, None, Some, Result, Ok, Err, ap, append-nil, append_assoc, arith, get_or, inl, inr, length, length-append, min, refl, subst, sym, take}
+use Rattle.std.proofs.Common.{◌≡◌, ◌↔◌, ◌⊎◌, ◌∙◌, ℕ, ◌+◌, ◌-◌, ◌^◌, ◌<◌, List, [], ◌∷◌, ◌++◌, All, IfErr, OnOk, Option, None, Some, Result, Ok, Err, ap, append-nil, append_assoc, arith, get_or, inl, inr, length, length-append, min, refl, subst, sym, take}
 use Rattle.std.specs.Io.KnownBytes.{Appends}
 use Rattle.std.specs.List.{Any}
 use Rattle.std.proofs.Math.Seq.{take-append_seam}
@@ -10,7 +10,7 @@ use Rattle.origin_validation.specs.declared.validity.Validity.TheVariants.{Inval
 use Rattle.origin_validation.specs.declared.vrp.Vrp.{Vrp}
 use Rattle.prefix_trie_joint.specs.Texts.{IpTextLaws}
 use Rattle.route_tables.specs.Announcements.{IsRouteLine}
-use Rattle.route_tables.specs.Checks.{NamesText, counted}
+use Rattle.route_tables.specs.Checks.{IsOutput, NamesText, counted}
 use Rattle.route_tables.specs.Routes.{IsBlank}
 use Rattle.route_tables.specs.Validations.{EndsValidation, HasNoRoute, HaveVerdicts, IsGoodRoute, IsInvalidLine, UnlessOutput, Validates, ValidatesRoute, Verdict, state_lines, verdict_line, verdict_lines, with_state, with_states}
 use Rattle.route_tables.specs.declared.announcements.Announcement.{Announcement}
@@ -179,6 +179,35 @@ module _ (validating : Validating) (vrps : List Vrp) where
     seen = count;
     prints = unless_here (Appends out out (state_lines validating.verdicts [])) r (none_state_lines validating.verdicts out);
   }
+
+-- a route of which only the state is counted
+pub route_counted : {X : Type 0} (verdicts : Verdicts) (vrps : List Vrp) (route : Announcement) (validity : Validity) (before after : Validated) (out : Option (List ℕ)) (r : Result X QuestionsError) → verdicts ≡ Counts
+    → IsValidity vrps route.prefix route.origin validity → after.counts ≡ with_state before.counts validity → after.seen.count ≡ before.seen.count → ValidatesRoute verdicts vrps route before after out out r
+route_counted verdicts vrps route validity before after out r is state counts seen = record {
+  validity = validity;
+  is_validity = state;
+  counts = counts;
+  seen = seen;
+  prints = subst (λ v. UnlessOutput r (Appends out out (state_lines v ((route, validity) ∷ [])))) (sym is) (unless_here (Appends out out []) r (appends_none out));
+}
+
+-- what a printed line appends, unless an error of output ended it
+line_printed : {X : Type 0} (out out_after : Option (List ℕ)) (line : List ℕ) (r : Result X QuestionsError) → OnOk r (Appends out out_after line) → IfErr r IsOutput → UnlessOutput r (Appends out out_after (line ++ []))
+line_printed out out_after line (Ok done) printed output = subst (Appends out out_after) (sym (append-nil line)) printed
+line_printed out out_after line (Err (BadText bad)) printed output = absurd output
+line_printed out out_after line (Err (Output error)) printed output = tt
+
+-- a route that is printed
+pub route_printed : {X : Type 0} (verdicts : Verdicts) (vrps : List Vrp) (route : Announcement) (validity : Validity) (before after : Validated) (out out_after : Option (List ℕ)) (r : Result X QuestionsError) → verdicts ≡ Each
+    → IsValidity vrps route.prefix route.origin validity → after.counts ≡ with_state before.counts validity → after.seen.count ≡ before.seen.count → OnOk r (Appends out out_after (verdict_line route validity))
+    → IfErr r IsOutput → ValidatesRoute verdicts vrps route before after out out_after r
+route_printed verdicts vrps route validity before after out out_after r is state counts seen printed output = record {
+  validity = validity;
+  is_validity = state;
+  counts = counts;
+  seen = seen;
+  prints = subst (λ v. UnlessOutput r (Appends out out_after (state_lines v ((route, validity) ∷ [])))) (sym is) (line_printed out out_after (verdict_line route validity) r printed output);
+}
 
 -- a blank line has no route
 pub blank_has_none : (host_bits : HostBits) (line : List ℕ) → IsBlank line → HasNoRoute host_bits line

@@ -1,12 +1,15 @@
 -- The VRPs and the bad lines of the lines so far: the invariant of the loop of `add_vrps`. And what is wrong with a line.
-use Rattle.std.proofs.Common.{◌≡◌, ◌∙◌, ℕ, ◌+◌, List, [], ◌∷◌, ◌++◌, ap, append-nil, append_assoc, false, inl, inr, refl, subst, sym, true, Bool}
+use Rattle.std.proofs.Common.{◌≡◌, ◌∙◌, ℕ, ◌+◌, List, [], ◌∷◌, ◌++◌, MatchResult, Result, Ok, Err, ap, append-nil, append_assoc, false, inl, inr, refl, subst, sym, true, Bool}
 use Rattle.std.proofs.NetLemmas.Theorems.{IsIpText_unique}
+use Rattle.std.specs.Str.{IsUtf8}
 use Rattle.origin_validation.specs.declared.vrp.Vrp.{Vrp}
 use Rattle.prefix_trie_joint.specs.Networks.{ip_host}
 use Rattle.prefix_trie_joint.specs.Texts.{IpTextLaws}
 use Rattle.prefix_trie_joint.specs.declared.prefix.IpPrefix.{IpPrefix}
 use Rattle.route_tables.specs.Networks.{IsNetworkText, IsReadAs, IsTextBySlash, has_slash}
-use Rattle.route_tables.specs.VrpLines.{AddsVrpLine, AreFieldsOfVrp, HaveVrps, IsFieldsError, IsMaxLength}
+use Rattle.route_tables.specs.AsNumbers.{IsAsNumber}
+use Rattle.route_tables.specs.Lines.{has_bare_return}
+use Rattle.route_tables.specs.VrpLines.{AddsVrpLine, AreFieldsOfVrp, HasAsNumber, HaveVrps, IsBadVrp, IsBlankOrHeader, IsFieldsError, IsMaxLength, IsPrefixError, IsVrpError, IsVrpLine, first_field, second_field, third_field}
 use Rattle.route_tables.specs.declared.network.HostBits.{HostBits}
 use Rattle.route_tables.specs.declared.network.HostBits.TheVariants.{Cleared, Refused}
 use Rattle.route_tables.specs.declared.vrp_lines.BadVrp.{BadVrp}
@@ -72,12 +75,78 @@ module _ (laws : IpTextLaws) where
   pub one_network : (host_bits : HostBits) (text : List ℕ) (a b : IpPrefix) → IsNetworkText host_bits text a → IsNetworkText host_bits text b → a ≡ b
   one_network host_bits text a b = by_slash_one (has_slash text) host_bits text a b
 
-  -- fields with an error are those of no VRP
-  pub no_fields : (host_bits : HostBits) (first second third : List ℕ) (error : VrpError) → IsFieldsError host_bits first second third error
-      → (vrp : Vrp) → ¬ (AreFieldsOfVrp host_bits first second third vrp)
-  no_fields host_bits first second third BareReturn wrong vrp is = absurd wrong
-  no_fields host_bits first second third AsNumber wrong vrp is = wrong (vrp.origin, is.origin)
-  no_fields host_bits first second third NotUtf8 wrong vrp is = wrong.1 is.utf8
-  no_fields host_bits first second third (Network error) wrong vrp is = wrong.1 vrp.prefix is.prefix
-  no_fields host_bits first second third MaxLength (number, network, of_network, none) vrp is =
-      none vrp.max_len (subst (λ p. IsMaxLength third p vrp.max_len) (one_network host_bits second vrp.prefix network is.prefix of_network) is.max_len)
+  -- what was read from three fields
+  pub fields_read : (host_bits : HostBits) (first second third : List ℕ) (origin : ℕ) (prefix : IpPrefix) (r : Result Vrp VrpError) → IsAsNumber first origin → IsUtf8 second
+      → IsNetworkText host_bits second prefix
+      → MatchResult r (λ vrp. (vrp.prefix ≡ prefix) × (vrp.origin ≡ origin) × IsMaxLength third prefix vrp.max_len) (λ error. (error ≡ MaxLength) × ((n : ℕ) → ¬ (IsMaxLength third prefix n)))
+      → MatchResult r (AreFieldsOfVrp host_bits first second third) (λ error. IsFieldsError host_bits first second third error × ((vrp : Vrp) → ¬ (AreFieldsOfVrp host_bits first second third vrp)))
+  fields_read host_bits first second third origin prefix (Ok vrp) number utf8 network (same, also, most) = record {
+    origin = subst (λ n. IsAsNumber first n) (sym also) number;
+    utf8 = utf8;
+    prefix = subst (λ p. IsNetworkText host_bits second p) (sym same) network;
+    max_len = subst (λ p. IsMaxLength third p vrp.max_len) (sym same) most;
+  }
+  fields_read host_bits first second third origin prefix (Err error) number utf8 network (is, none) = (
+    subst (IsFieldsError host_bits first second third) (sym is) ((origin, number), (prefix, network, none)),
+    λ vrp are. none vrp.max_len (subst (λ p. IsMaxLength third p vrp.max_len) (one_network host_bits second vrp.prefix prefix are.prefix network) are.max_len),
+  )
+
+-- a field is a prefix if its text is one
+pub prefix_of_text : (host_bits : HostBits) (field text : List ℕ) (r : Result IpPrefix VrpError) → text ≡ field → IsUtf8 text
+    → MatchResult r (IsNetworkText host_bits text) (IsPrefixError host_bits text) → MatchResult r (λ prefix. IsUtf8 field × IsNetworkText host_bits field prefix) (IsPrefixError host_bits field)
+prefix_of_text host_bits field text (Ok prefix) same utf8 is = (subst IsUtf8 same utf8, subst (λ t. IsNetworkText host_bits t prefix) same is)
+prefix_of_text host_bits field text (Err error) same utf8 wrong = subst (λ t. IsPrefixError host_bits t error) same wrong
+
+module _ (host_bits : HostBits) (first second third : List ℕ) where
+  pub wrong_origin : (error : VrpError) → error ≡ AsNumber → ¬ (HasAsNumber first)
+      → IsFieldsError host_bits first second third error × ((vrp : Vrp) → ¬ (AreFieldsOfVrp host_bits first second third vrp))
+  wrong_origin error is none = (subst (IsFieldsError host_bits first second third) (sym is) none, λ vrp are. none (vrp.origin, are.origin))
+
+  no_prefix : (error : VrpError) → IsPrefixError host_bits second error → (vrp : Vrp) → ¬ (AreFieldsOfVrp host_bits first second third vrp)
+  no_prefix BareReturn wrong vrp are = absurd wrong
+  no_prefix AsNumber wrong vrp are = absurd wrong
+  no_prefix NotUtf8 wrong vrp are = wrong are.utf8
+  no_prefix (Network error) wrong vrp are = wrong vrp.prefix are.prefix
+  no_prefix MaxLength wrong vrp are = absurd wrong
+
+  prefix_reason : (error : VrpError) → HasAsNumber first → IsPrefixError host_bits second error → IsFieldsError host_bits first second third error
+  prefix_reason BareReturn number wrong = absurd wrong
+  prefix_reason AsNumber number wrong = absurd wrong
+  prefix_reason NotUtf8 number wrong = (number, wrong)
+  prefix_reason (Network error) number wrong = (number, wrong)
+  prefix_reason MaxLength number wrong = absurd wrong
+
+  pub wrong_prefix : (error : VrpError) → HasAsNumber first → IsPrefixError host_bits second error
+      → IsFieldsError host_bits first second third error × ((vrp : Vrp) → ¬ (AreFieldsOfVrp host_bits first second third vrp))
+  wrong_prefix error number wrong = (prefix_reason error number wrong, no_prefix error wrong)
+
+-- why a line has no VRP, from its fields
+reason_of : (host_bits : HostBits) (line : List ℕ) (error : VrpError) → IsFieldsError host_bits (first_field line) (second_field line) (third_field line) error → IsVrpError host_bits line error
+reason_of host_bits line BareReturn wrong = absurd wrong.1
+reason_of host_bits line AsNumber wrong = wrong
+reason_of host_bits line NotUtf8 wrong = wrong
+reason_of host_bits line (Network error) wrong = wrong
+reason_of host_bits line MaxLength wrong = wrong
+
+-- what was read from the fields of a line that is neither blank nor a header
+module _ (host_bits : HostBits) (line first second third : List ℕ) (of_first : first ≡ first_field line) (of_second : second ≡ second_field line) (of_third : third ≡ third_field line) where
+  pub vrp_line : (vrp : Vrp) → has_bare_return line ≡ false → AreFieldsOfVrp host_bits first second third vrp → IsVrpLine host_bits line vrp
+  vrp_line vrp no_return are = (
+    subst (λ f. AreFieldsOfVrp host_bits f (second_field line) (third_field line) vrp) of_first
+        (subst (λ s. AreFieldsOfVrp host_bits first s (third_field line) vrp) of_second (subst (λ t. AreFieldsOfVrp host_bits first second t vrp) of_third are)),
+    no_return,
+  )
+
+  pub bad_line : (error : VrpError) → ¬ (IsBlankOrHeader line)
+      → IsFieldsError host_bits first second third error × ((vrp : Vrp) → ¬ (AreFieldsOfVrp host_bits first second third vrp)) → IsBadVrp host_bits line error
+  bad_line error some wrong = record {
+    is_some = some;
+    is_none = λ vrp is.
+        wrong.1 vrp
+        (subst (λ f. AreFieldsOfVrp host_bits f second third vrp) (sym of_first)
+        (subst (λ s. AreFieldsOfVrp host_bits (first_field line) s third vrp) (sym of_second)
+        (subst (λ t. AreFieldsOfVrp host_bits (first_field line) (second_field line) t vrp) (sym of_third) is.0)));
+    reason = reason_of host_bits line error
+        (subst (λ f. IsFieldsError host_bits f (second_field line) (third_field line) error) of_first
+        (subst (λ s. IsFieldsError host_bits first s (third_field line) error) of_second (subst (λ t. IsFieldsError host_bits first second t error) of_third wrong.0)));
+  }

@@ -1,5 +1,5 @@
 -- The lines of routes: a prefix, and the path of ASs through which it is announced. This project's own.
-use Rattle.std.specs.Prelude.{◌≡◌, ◌≢◌, ◌==◌, ◌&&◌, ◌||◌, ℕ, Bool, false, true, List, [], ◌∷◌, Option, None, Some, Result, Ok, Err}
+use Rattle.std.specs.Prelude.{◌≡◌, ◌≢◌, ◌⊎◌, ◌==◌, ◌&&◌, ◌||◌, ℕ, Bool, false, true, List, [], ◌∷◌, Option, None, Some, Result, Ok, Err}
 use Rattle.std.specs.Char.{is_ascii_digit}
 use Rattle.std.specs.List.{list_all, list_any}
 use Rattle.std.specs.Str.{IsUtf8}
@@ -58,11 +58,16 @@ IsPathError later NoOrigin = later ≡ []
 IsPathError later AsNumber = (later ≢ []) × ((origin : Option ℕ) → ¬ (IsPath later origin))
 IsPathError later error = ⊥
 
+-- what is wrong with a field that is no prefix
+abbrev pub IsRoutePrefixError : HostBits → List ℕ → QuestionError → Type 0
+IsRoutePrefixError host_bits field NotUtf8 = ¬ (IsUtf8 field)
+IsRoutePrefixError host_bits field (Network error) = (prefix : IpPrefix) → ¬ (IsNetworkText host_bits field prefix)
+IsRoutePrefixError host_bits field error = ⊥
+
 -- what is wrong with a field and those after it that are not of a route: the prefix or else the path
 abbrev pub IsRouteFieldsError : HostBits → List ℕ → List (List ℕ) → QuestionError → Type 0
-IsRouteFieldsError host_bits first later NotUtf8 = ¬ (IsUtf8 first)
-IsRouteFieldsError host_bits first later (Network error) = (prefix : IpPrefix) → ¬ (IsNetworkText host_bits first prefix)
-IsRouteFieldsError host_bits first later error = ((prefix : IpPrefix) × IsNetworkText host_bits first prefix) × IsPathError later error
+IsRouteFieldsError host_bits first later error =
+    IsRoutePrefixError host_bits first error ⊎ (((prefix : IpPrefix) × IsNetworkText host_bits first prefix) × IsPathError later error)
 
 -- why the line has no route
 abbrev pub IsRouteError : HostBits → List ℕ → QuestionError → Type 0

@@ -69,14 +69,18 @@ IsBlankOrHeader line = ((words line ≡ []) ⊎ (first_field line ≡ codes "ASN
 abbrev pub HasAsNumber : List ℕ → Type 0
 HasAsNumber text = (n : ℕ) × IsAsNumber text n
 
+-- what is wrong with a field that is no prefix
+abbrev pub IsPrefixError : HostBits → List ℕ → VrpError → Type 0
+IsPrefixError host_bits field NotUtf8 = ¬ (IsUtf8 field)
+IsPrefixError host_bits field (Network error) = (prefix : IpPrefix) → ¬ (IsNetworkText host_bits field prefix)
+IsPrefixError host_bits field error = ⊥
+
 -- what is wrong with the first of three fields that is wrong
 abbrev pub IsFieldsError : HostBits → List ℕ → List ℕ → List ℕ → VrpError → Type 0
-IsFieldsError host_bits first second third BareReturn = ⊥
 IsFieldsError host_bits first second third AsNumber = ¬ (HasAsNumber first)
-IsFieldsError host_bits first second third NotUtf8 = HasAsNumber first × ¬ (IsUtf8 second)
-IsFieldsError host_bits first second third (Network error) = HasAsNumber first × ((prefix : IpPrefix) → ¬ (IsNetworkText host_bits second prefix))
 IsFieldsError host_bits first second third MaxLength =
     HasAsNumber first × ((prefix : IpPrefix) × IsNetworkText host_bits second prefix × ((n : ℕ) → ¬ (IsMaxLength third prefix n)))
+IsFieldsError host_bits first second third error = HasAsNumber first × IsPrefixError host_bits second error
 
 -- why the line has no VRP
 abbrev pub IsVrpError : HostBits → List ℕ → VrpError → Type 0

@@ -1,8 +1,10 @@
 //! Reading routes: a prefix and the path of ASs through which it is announced.
-ghost use Rattle.std.specs.Prelude.{◌≡◌, ℕ, MatchResult, Option};
+ghost use Rattle.std.specs.Prelude.{◌≡◌, ◌∷◌, ℕ, MatchResult, Option};
 ghost use Rattle.std.specs.List.{list_all, list_any};
-ghost use Rattle.route_tables.specs.Announcements.{AreFieldsOfRoute, IsHop, IsPath, IsPathError, IsRouteFieldsError, ReadsRoute, is_brace, is_of_set, is_set_byte};
+ghost use Rattle.std.specs.Str.{IsUtf8};
+ghost use Rattle.route_tables.specs.Announcements.{AreFieldsOfRoute, EndsPath, IsHop, IsPath, IsPathError, IsRoutePrefixError, IsRouteFieldsError, ReadsRoute, is_brace, is_of_set, is_set_byte};
 ghost use Rattle.route_tables.specs.Lines.{fields};
+ghost use Rattle.route_tables.specs.Networks.{IsNetworkText};
 ghost use Rattle.route_tables.specs.declared.announcements.Announcement.{Announcement};
 
 use crate::as_numbers::parse_as_number;
@@ -66,15 +68,32 @@ fn read_fields(
         × ((route : Announcement)
         → ¬ (AreFieldsOfRoute host_bits first.now (fields rest.now) route))) }
 {
-    let Ok(text) = str::from_utf8(first) else {
-        return Err(QuestionError::NotUtf8);
-    };
-    let prefix = match parse_network_with(text, host_bits) {
-        Ok(prefix) => prefix,
-        Err(error) => return Err(QuestionError::Network(error)),
-    };
+    let prefix = read_prefix(first, host_bits)?;
     let origin = read_path(rest)?;
     Ok(Announcement { prefix, origin })
+}
+
+// Reads the prefix of a route.
+fn read_prefix(field: &[u8], host_bits: HostBits) -> Result<IpPrefix, QuestionError>
+    ensures { MatchResult result
+        (λ prefix. IsUtf8 field.now × IsNetworkText host_bits field.now prefix)
+        (IsRoutePrefixError host_bits field.now) }
+{
+    match str::from_utf8(field) {
+        Ok(text) => parse_prefix(text, host_bits),
+        Err(_) => Err(QuestionError::NotUtf8),
+    }
+}
+
+// Reads the text of the prefix of a route.
+fn parse_prefix(text: &str, host_bits: HostBits) -> Result<IpPrefix, QuestionError>
+    ensures { MatchResult result (IsNetworkText host_bits text.now)
+        (IsRoutePrefixError host_bits text.now) }
+{
+    match parse_network_with(text, host_bits) {
+        Ok(prefix) => Ok(prefix),
+        Err(error) => Err(QuestionError::Network(error)),
+    }
 }
 
 // Returns the origin of a path: its last AS, or `None` if it ends in a set.
@@ -83,10 +102,30 @@ fn read_path(path: &[u8]) -> Result<Option<u32>, QuestionError>
         (λ error. IsPathError (fields path.now) error
         × ((origin : Option ℕ) → ¬ (IsPath (fields path.now) origin))) }
 {
-    let Some((first, mut rest)) = split_field(path) else {
-        return Err(QuestionError::NoOrigin);
-    };
-    let mut last = read_hop(first)?;
+    match split_field(path) {
+        None => Err(QuestionError::NoOrigin),
+        Some((first, rest)) => read_hops(first, rest),
+    }
+}
+
+// Returns the origin of a path with this first field.
+fn read_hops(first: &[u8], rest: &[u8]) -> Result<Option<u32>, QuestionError>
+    ensures { MatchResult result (IsPath (first.now ∷ fields rest.now))
+        (λ error. (error ≡ QuestionError.AsNumber)
+        × ((origin : Option ℕ) → ¬ (IsPath (first.now ∷ fields rest.now) origin))) }
+{
+    let hop = read_hop(first)?;
+    read_rest(hop, rest)
+}
+
+// Returns the origin of a path with this hop before its other fields.
+fn read_rest(hop: Option<u32>, path: &[u8]) -> Result<Option<u32>, QuestionError>
+    ensures { MatchResult result (EndsPath hop (fields path.now))
+        (λ error. (error ≡ QuestionError.AsNumber)
+        × ((origin : Option ℕ) → ¬ (EndsPath hop (fields path.now) origin))) }
+{
+    let mut last = hop;
+    let mut rest = path;
     while let Some((field, later)) = split_field(rest) {
         last = read_hop(field)?;
         rest = later;

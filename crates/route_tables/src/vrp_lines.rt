@@ -3,12 +3,15 @@
 //! The first three fields of a line are an AS number, with or without `AS`, a prefix and a maximum length. Later fields, such as
 //! the trust anchor, are not read. A field may have double quotes around it. Blank lines and headers are skipped: a header is a
 //! line whose first field is `ASN`.
-ghost use Rattle.std.specs.Prelude.{◌≡◌, ◌≤◌, ◌++◌, ℕ, IfOk, List, MatchOption, MatchResult, OnOk};
+ghost use Rattle.std.specs.Prelude.{◌≡◌, ◌≤◌, ◌⊎◌, ◌↔◌, [], ◌∷◌, ◌++◌, ℕ, IfOk, IsTrue, List, MatchOption, MatchResult, OnOk, codes};
 ghost use Rattle.std.specs.List.{after_first, before_first, position_or_len};
+ghost use Rattle.std.specs.Str.{IsUtf8};
 ghost use Rattle.origin_validation.specs.declared.vrp.Vrp.{Vrp};
 ghost use Rattle.prefix_trie_joint.specs.Networks.{ip_width};
-ghost use Rattle.route_tables.specs.Lines.{table_lines};
-ghost use Rattle.route_tables.specs.VrpLines.{AddsVrpLine, AreFieldsOfVrp, HaveVrps, IsFieldsError, IsMaxLength, ReadsVrp, field_text, is_comma, unquoted};
+ghost use Rattle.route_tables.specs.AsNumbers.{IsAsNumber};
+ghost use Rattle.route_tables.specs.Lines.{table_lines, words};
+ghost use Rattle.route_tables.specs.Networks.{IsNetworkText};
+ghost use Rattle.route_tables.specs.VrpLines.{AddsVrpLine, AreFieldsOfVrp, HasAsNumber, HaveVrps, IsFieldsError, IsMaxLength, IsPrefixError, ReadsVrp, field_text, first_field, is_comma, second_field, third_field, unquoted};
 
 use crate::as_numbers::{parse_as_number, parse_digits};
 use crate::lines::{has_bare_return, skip_mark, split_line, split_word};
@@ -126,17 +129,35 @@ fn add_line<'a>(
         bad.old.items bad.new.items) }
 {
     match read_vrp(line, host_bits) {
-        Ok(None) => {}
-        Ok(Some(vrp)) => vrps.push(vrp)?,
+        Ok(None) => Ok(()),
+        Ok(Some(vrp)) => add_vrp(vrps, vrp),
         Err(error) => {
             let text = line;
-            bad.push(BadVrp {
-                number,
-                text,
-                error,
-            })?;
+            list_bad(
+                bad,
+                BadVrp {
+                    number,
+                    text,
+                    error,
+                },
+            )
         }
     }
+}
+
+// Appends a VRP.
+fn add_vrp(vrps: &mut Vec<Vrp>, vrp: Vrp) -> Result<(), AllocError>
+    ensures { OnOk result (vrps.new.items ≡ vrps.old.items ++ vrp ∷ []) }
+{
+    vrps.push(vrp)?;
+    Ok(())
+}
+
+// Appends a bad line.
+fn list_bad<'a>(bad: &mut Vec<BadVrp<'a>>, line: BadVrp<'a>) -> Result<(), AllocError>
+    ensures { OnOk result (bad.new.items ≡ bad.old.items ++ line.entry ∷ []) }
+{
+    bad.push(line)?;
     Ok(())
 }
 
@@ -160,16 +181,13 @@ pub fn read_vrp(line: &[u8], host_bits: HostBits) -> Result<Option<Vrp>, VrpErro
     if has_bare_return(line) {
         return Err(VrpError::BareReturn);
     }
-    let (first, rest) = split_comma(line);
-    let first = field_text(first);
-    if split_word(line).is_none() || first == b"ASN".as_slice() {
+    if is_blank_or_header(line) {
         return Ok(None);
     }
-    let (second, third) = split_comma(rest);
     match read_fields(
-        first,
-        field_text(second),
-        field_text(split_comma(third).0),
+        first_field(line),
+        second_field(line),
+        third_field(line),
         host_bits,
     ) {
         Ok(vrp) => Ok(Some(vrp)),
@@ -177,9 +195,46 @@ pub fn read_vrp(line: &[u8], host_bits: HostBits) -> Result<Option<Vrp>, VrpErro
     }
 }
 
+// Returns whether a line is blank or a header.
+fn is_blank_or_header(line: &[u8]) -> bool
+    ensures { IsTrue result
+        ↔ ((words line.now ≡ []) ⊎ (first_field line.now ≡ codes "ASN")) }
+{
+    match split_word(line) {
+        None => true,
+        Some(_) => is_header(line),
+    }
+}
+
+// Returns whether the first field of a line is that of a header.
+fn is_header(line: &[u8]) -> bool
+    ensures { IsTrue result ↔ (first_field line.now ≡ codes "ASN") }
+{
+    first_field(line) == b"ASN".as_slice()
+}
+
+// Returns the text of the first field of a line.
+fn first_field(line: &[u8]) -> &[u8]
+    ensures { result.now ≡ first_field line.now }
+{
+    let (first, _) = split_comma(line);
+    field_text(first)
+}
+
 /// Returns the text of the second field of a line.
-pub(crate) fn second_field(line: &[u8]) -> &[u8] {
-    field_text(split_comma(split_comma(line).1).0)
+pub(crate) fn second_field(line: &[u8]) -> &[u8]
+    ensures { result.now ≡ second_field line.now }
+{
+    let (_, rest) = split_comma(line);
+    first_field(rest)
+}
+
+// Returns the text of the third field of a line.
+fn third_field(line: &[u8]) -> &[u8]
+    ensures { result.now ≡ third_field line.now }
+{
+    let (_, rest) = split_comma(line);
+    second_field(rest)
 }
 
 // Splits a line into its first field and what follows the comma that ends it, or nothing if no comma does.
@@ -240,14 +295,41 @@ fn read_fields(
 {
     // The proof learns from it that a text denotes at most one network.
     ip_text_laws();
-    let Some(origin) = parse_as_number(first) else {
-        return Err(VrpError::AsNumber);
-    };
-    let Ok(text) = str::from_utf8(second) else {
-        return Err(VrpError::NotUtf8);
-    };
+    let origin = read_origin(first)?;
+    let prefix = read_prefix(second, host_bits)?;
+    read_max_len(third, prefix, origin)
+}
+
+// Reads the AS of a VRP.
+fn read_origin(field: &[u8]) -> Result<u32, VrpError>
+    ensures { MatchResult result (IsAsNumber field.now)
+        (λ error. (error ≡ VrpError.AsNumber) × ¬ (HasAsNumber field.now)) }
+{
+    match parse_as_number(field) {
+        Some(origin) => Ok(origin),
+        None => Err(VrpError::AsNumber),
+    }
+}
+
+// Reads the prefix of a VRP.
+fn read_prefix(field: &[u8], host_bits: HostBits) -> Result<IpPrefix, VrpError>
+    ensures { MatchResult result
+        (λ prefix. IsUtf8 field.now × IsNetworkText host_bits field.now prefix)
+        (IsPrefixError host_bits field.now) }
+{
+    match str::from_utf8(field) {
+        Ok(text) => parse_prefix(text, host_bits),
+        Err(_) => Err(VrpError::NotUtf8),
+    }
+}
+
+// Reads the text of the prefix of a VRP.
+fn parse_prefix(text: &str, host_bits: HostBits) -> Result<IpPrefix, VrpError>
+    ensures { MatchResult result (IsNetworkText host_bits text.now)
+        (IsPrefixError host_bits text.now) }
+{
     match parse_network_with(text, host_bits) {
-        Ok(prefix) => read_max_len(third, prefix, origin),
+        Ok(prefix) => Ok(prefix),
         Err(error) => Err(VrpError::Network(error)),
     }
 }

@@ -1,8 +1,9 @@
 //! What `validate` prints for routes.
 ghost use Rattle.std.specs.Prelude.{◌≡◌, ◌∷◌, [], ◌<◌, ◌↔◌, ◌⊎◌, All, Any, IfErr, OnOk};
+ghost use Rattle.std.specs.Io.KnownBytes.{Appends};
 ghost use Rattle.route_tables.specs.Checks.{IsOutput, NamesText};
 ghost use Rattle.route_tables.specs.Lines.{lines};
-ghost use Rattle.route_tables.specs.Validations.{EndsValidation, IsGoodRoute, IsInvalidLine, Validates, ValidatesRoute, with_state};
+ghost use Rattle.route_tables.specs.Validations.{EndsValidation, IsGoodRoute, IsInvalidLine, Validates, ValidatesRoute, verdict_line, with_state};
 
 use crate::announcements::{Announcement, read_announcement};
 use crate::commands::printer::Printer;
@@ -157,10 +158,23 @@ fn validate_route<'a, W: Write + Drop>(
 {
     let validity = vrps.validate(&route.prefix, route.origin);
     count_state(&mut validated.counts, validity);
-    if verdicts == Verdicts::Counts {
-        return Ok(());
+    match verdicts {
+        Verdicts::Each => print_state(&route, validity, out),
+        Verdicts::Counts => Ok(()),
     }
-    match out.verdict(&route, validity) {
+}
+
+// Prints the state of a route.
+fn print_state<'a, W: Write + Drop>(
+    route: &Announcement,
+    validity: Validity,
+    out: &mut Printer<W>,
+) -> Result<(), QuestionsError<'a>>
+    ensures printed { OnOk result
+        (Appends out.old out.new (verdict_line route.now validity)) }
+    ensures output { IfErr result IsOutput }
+{
+    match out.verdict(route, validity) {
         Ok(()) => Ok(()),
         Err(error) => Err(QuestionsError::Output(error)),
     }
