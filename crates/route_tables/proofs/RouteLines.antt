@@ -99,9 +99,9 @@ pub no_fields_path : (all : List (List ℕ)) → all ≡ [] → (origin : Option
 no_fields_path all none origin path = let P : List (List ℕ) → Type 0 = λ a. IsPath a origin in subst P none path
 
 -- a field is a prefix if its text is one
-pub prefix_of_text : (host_bits : HostBits) (field text : List ℕ) (r : Result IpPrefix QuestionError) → text ≡ field → IsUtf8 text
+pub prefix_of_text : (host_bits : HostBits) (field text : List ℕ) (r : Result IpPrefix QuestionError) → text ≡ field → IsUtf8 field
     → MatchResult r (IsNetworkText host_bits text) (IsRoutePrefixError host_bits text) → MatchResult r (λ prefix. IsUtf8 field × IsNetworkText host_bits field prefix) (IsRoutePrefixError host_bits field)
-prefix_of_text host_bits field text (Ok prefix) same utf8 is = (subst IsUtf8 same utf8, subst (λ t. IsNetworkText host_bits t prefix) same is)
+prefix_of_text host_bits field text (Ok prefix) same utf8 is = (utf8, subst (λ t. IsNetworkText host_bits t prefix) same is)
 prefix_of_text host_bits field text (Err error) same utf8 wrong = subst (λ t. IsRoutePrefixError host_bits t error) same wrong
 
 -- a field that is no prefix is not the first of a route

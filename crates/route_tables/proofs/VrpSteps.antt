@@ -92,9 +92,9 @@ module _ (laws : IpTextLaws) where
   )
 
 -- a field is a prefix if its text is one
-pub prefix_of_text : (host_bits : HostBits) (field text : List ℕ) (r : Result IpPrefix VrpError) → text ≡ field → IsUtf8 text
+pub prefix_of_text : (host_bits : HostBits) (field text : List ℕ) (r : Result IpPrefix VrpError) → text ≡ field → IsUtf8 field
     → MatchResult r (IsNetworkText host_bits text) (IsPrefixError host_bits text) → MatchResult r (λ prefix. IsUtf8 field × IsNetworkText host_bits field prefix) (IsPrefixError host_bits field)
-prefix_of_text host_bits field text (Ok prefix) same utf8 is = (subst IsUtf8 same utf8, subst (λ t. IsNetworkText host_bits t prefix) same is)
+prefix_of_text host_bits field text (Ok prefix) same utf8 is = (utf8, subst (λ t. IsNetworkText host_bits t prefix) same is)
 prefix_of_text host_bits field text (Err error) same utf8 wrong = subst (λ t. IsPrefixError host_bits t error) same wrong
 
 module _ (host_bits : HostBits) (first second third : List ℕ) where

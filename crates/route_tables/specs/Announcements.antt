@@ -13,9 +13,11 @@ use Rattle.route_tables.specs.declared.network.HostBits.{HostBits}
 use Rattle.route_tables.specs.declared.questions.QuestionError.{QuestionError}
 use Rattle.route_tables.specs.declared.questions.QuestionError.TheVariants.{AsNumber, BareReturn, Network, NoOrigin, NotUtf8}
 
+-- whether a byte is a brace
 abbrev pub is_brace : ℕ → Bool
 is_brace byte = byte == 123 || byte == 125
 
+-- whether a byte is a digit, a brace or a comma
 abbrev pub is_set_byte : ℕ → Bool
 is_set_byte byte = ((is_ascii_digit byte || byte == 123) || byte == 125) || byte == 44
 

@@ -13,6 +13,7 @@ use Rattle.route_tables.specs.declared.vrp_lines.BadVrp.{BadVrp}
 use Rattle.route_tables.specs.declared.vrp_lines.VrpError.{VrpError}
 use Rattle.route_tables.specs.declared.vrp_lines.VrpError.TheVariants.{AsNumber, BareReturn, MaxLength, Network, NotUtf8}
 
+-- whether a byte is a comma
 abbrev pub is_comma : ℕ → Bool
 is_comma byte = byte == 44
 
@@ -43,6 +44,10 @@ second_field line = first_field (after_first is_comma line)
 
 abbrev pub third_field : List ℕ → List ℕ
 third_field line = second_field (after_first is_comma line)
+
+-- the VRP with this prefix, maximum length and AS
+abbrev pub vrp_of : IpPrefix → ℕ → ℕ → Vrp
+vrp_of prefix max_len origin = record { prefix = prefix; max_len = max_len; origin = origin }
 
 -- the maximum length of a VRP with this prefix: a number from the prefix's length to the width of its address
 pub record IsMaxLength (text : List ℕ) (prefix : IpPrefix) (n : ℕ) : Type 0 where

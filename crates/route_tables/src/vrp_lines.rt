@@ -11,7 +11,7 @@ ghost use Rattle.prefix_trie_joint.specs.Networks.{ip_width};
 ghost use Rattle.route_tables.specs.AsNumbers.{IsAsNumber};
 ghost use Rattle.route_tables.specs.Lines.{table_lines, words};
 ghost use Rattle.route_tables.specs.Networks.{IsNetworkText};
-ghost use Rattle.route_tables.specs.VrpLines.{AddsVrpLine, AreFieldsOfVrp, HasAsNumber, HaveVrps, IsFieldsError, IsMaxLength, IsPrefixError, ReadsVrp, field_text, first_field, is_comma, second_field, third_field, unquoted};
+ghost use Rattle.route_tables.specs.VrpLines.{AddsVrpLine, AreFieldsOfVrp, HasAsNumber, HaveVrps, IsFieldsError, IsMaxLength, IsPrefixError, ReadsVrp, field_text, first_field, is_comma, second_field, third_field, unquoted, vrp_of};
 
 use crate::as_numbers::{parse_as_number, parse_digits};
 use crate::lines::{has_bare_return, skip_mark, split_line, split_word};
@@ -130,7 +130,7 @@ fn add_line<'a>(
 {
     match read_vrp(line, host_bits) {
         Ok(None) => Ok(()),
-        Ok(Some(vrp)) => add_vrp(vrps, vrp),
+        Ok(Some(vrp)) => add_vrp(vrps, vrp.prefix, vrp.max_len, vrp.origin),
         Err(error) => {
             let text = line;
             list_bad(
@@ -146,10 +146,20 @@ fn add_line<'a>(
 }
 
 // Appends a VRP.
-fn add_vrp(vrps: &mut Vec<Vrp>, vrp: Vrp) -> Result<(), AllocError>
-    ensures { OnOk result (vrps.new.items ≡ vrps.old.items ++ vrp ∷ []) }
+fn add_vrp(
+    vrps: &mut Vec<Vrp>,
+    prefix: IpPrefix,
+    max_len: u8,
+    origin: u32,
+) -> Result<(), AllocError>
+    ensures { OnOk result (vrps.new.items ≡ vrps.old.items
+        ++ vrp_of prefix max_len origin ∷ []) }
 {
-    vrps.push(vrp)?;
+    vrps.push(Vrp {
+        prefix,
+        max_len,
+        origin,
+    })?;
     Ok(())
 }
 
@@ -340,7 +350,7 @@ fn read_max_len(text: &[u8], prefix: IpPrefix, origin: u32) -> Result<Vrp, VrpEr
         × IsMaxLength text.now prefix vrp.max_len)
         (λ error. (error ≡ VrpError.MaxLength) × ((n : ℕ) → ¬ (IsMaxLength text.now prefix n))) }
 {
-    match parse_max_len(text, prefix) {
+    match parse_max_len(text, &prefix) {
         Some(max_len) => Ok(Vrp {
             prefix,
             max_len,
@@ -351,9 +361,9 @@ fn read_max_len(text: &[u8], prefix: IpPrefix, origin: u32) -> Result<Vrp, VrpEr
 }
 
 // Reads a number that can be the maximum length of a VRP with this prefix.
-fn parse_max_len(text: &[u8], prefix: IpPrefix) -> Option<u8>
-    ensures { MatchOption result ((n : ℕ) → ¬ (IsMaxLength text.now prefix n))
-        (IsMaxLength text.now prefix) }
+fn parse_max_len(text: &[u8], prefix: &IpPrefix) -> Option<u8>
+    ensures { MatchOption result ((n : ℕ) → ¬ (IsMaxLength text.now prefix.now n))
+        (IsMaxLength text.now prefix.now) }
 {
     let len = parse_digits(text)?;
     if len < u32::from(prefix.prefix_len()) || len > width(prefix) {
@@ -363,8 +373,8 @@ fn parse_max_len(text: &[u8], prefix: IpPrefix) -> Option<u8>
 }
 
 // Returns how many bits an address of a prefix has.
-fn width(prefix: IpPrefix) -> u32
-    ensures value { result ≡ ip_width prefix }
+fn width(prefix: &IpPrefix) -> u32
+    ensures value { result ≡ ip_width prefix.now }
     ensures within { result ≤ 128 }
 {
     match prefix {

@@ -71,8 +71,8 @@ impl Validated {
 }
 
 // Counts one more state.
-fn count_state(counts: &mut StateCounts, validity: Validity)
-    ensures { counts.new ≡ with_state counts.old validity }
+fn count_state(counts: &mut StateCounts, validity: &Validity)
+    ensures { counts.new ≡ with_state counts.old validity.now }
 {
     match validity {
         Validity::Valid(_) => counts.valid = counts.valid.saturating_add(1),
@@ -136,7 +136,7 @@ fn validate_line<'a, W: Write + Drop>(
 {
     validated.seen.count_one();
     match read_announcement(line, validating.host_bits) {
-        Ok(Some(route)) => validate_route(vrps, route, validating.verdicts, validated, out),
+        Ok(Some(route)) => validate_route(vrps, &route, validating.verdicts, validated, out),
         Ok(None) => Ok(()),
         Err(error) => validated
             .seen
@@ -147,19 +147,20 @@ fn validate_line<'a, W: Write + Drop>(
 // Prints the state of a route, and counts it.
 fn validate_route<'a, W: Write + Drop>(
     vrps: &Vrps<Global>,
-    route: Announcement,
+    route: &Announcement,
     verdicts: Verdicts,
     validated: &mut Validated,
     out: &mut Printer<W>,
 ) -> Result<(), QuestionsError<'a>>
-    ensures validates { ValidatesRoute verdicts vrps.now route validated.old validated.new
+    ensures validates { ValidatesRoute verdicts vrps.now route.now validated.old validated.new
         out.old out.new result }
     ensures output { IfErr result IsOutput }
 {
-    let validity = vrps.validate(&route.prefix, route.origin);
-    count_state(&mut validated.counts, validity);
+    let origin = route.origin;
+    let validity = vrps.validate(&route.prefix, origin);
+    count_state(&mut validated.counts, &validity);
     match verdicts {
-        Verdicts::Each => print_state(&route, validity, out),
+        Verdicts::Each => print_state(route, &validity, out),
         Verdicts::Counts => Ok(()),
     }
 }
@@ -167,14 +168,14 @@ fn validate_route<'a, W: Write + Drop>(
 // Prints the state of a route.
 fn print_state<'a, W: Write + Drop>(
     route: &Announcement,
-    validity: Validity,
+    validity: &Validity,
     out: &mut Printer<W>,
 ) -> Result<(), QuestionsError<'a>>
     ensures printed { OnOk result
-        (Appends out.old out.new (verdict_line route.now validity)) }
+        (Appends out.old out.new (verdict_line route.now validity.now)) }
     ensures output { IfErr result IsOutput }
 {
-    match out.verdict(route, validity) {
+    match out.verdict(route, *validity) {
         Ok(()) => Ok(()),
         Err(error) => Err(QuestionsError::Output(error)),
     }

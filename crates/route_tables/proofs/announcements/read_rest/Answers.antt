@@ -9,7 +9,7 @@ pub loop-field-init : goal.loop-field-init
 loop-field-init c = λ origin. (λ ends. ends, λ ends. ends)
 
 pub loop-field-preserved : goal.loop-field-preserved
-loop-field-preserved c = path_on c.args.hop (fields c.args.path.now) (fields c.loop-field.rest.now) (fields c.in-Some.later.now) c.in-Some.field.now c.loop-field.last _ c.in-Some.ensures c.in_ok-read_hop.ensures c.loop-field.invariant
+loop-field-preserved c = path_on c.args.hop (fields c.args.path.now) (fields c.loop-field.rest.now) (fields c.in-Some.later.now) c.in-Some.field.now c.loop-field.last _ c.in-Some.ensures c.in_ok-last.ensures c.loop-field.invariant
 
 pub loop-field-smaller : goal.loop-field-smaller
 loop-field-smaller c =
@@ -18,10 +18,10 @@ loop-field-smaller c =
 pub returns : goal.returns
 returns c = path_end c.args.hop (fields c.args.path.now) (fields c.loop-field.rest.now) c.loop-field.last c.in_default.ensures c.loop-field.invariant
 
-pub returns-in_err-read_hop : goal.returns-in_err-read_hop
-returns-in_err-read_hop c =
+pub returns-in_err-last : goal.returns-in_err-last
+returns-in_err-last c =
     let p = err_from_is_err_and c.from_residual.result c.from_residual.ensures.1 in
     rw (p.1, p.2) (
-      c.in_err-read_hop.ensures.0,
-      no_path c.args.hop (fields c.args.path.now) (fields c.loop-field.rest.now) (fields c.in-Some.later.now) c.in-Some.field.now c.loop-field.last c.in-Some.ensures c.in_err-read_hop.ensures.1 c.loop-field.invariant,
+      c.in_err-last.ensures.0,
+      no_path c.args.hop (fields c.args.path.now) (fields c.loop-field.rest.now) (fields c.in-Some.later.now) c.in-Some.field.now c.loop-field.last c.in-Some.ensures c.in_err-last.ensures.1 c.loop-field.invariant,
     )
