@@ -88,7 +88,7 @@ module _ (validating : Validating) (vrps : List Vrp) where
     have = refl;
     counts = refl;
     seen = omega arith;
-    prints = none_state_lines validating.verdicts out;
+    prints = none_printed validating.verdicts out;
     good = λ _. All-nil (IsGoodRoute validating.host_bits);
   }
 
@@ -177,7 +177,7 @@ module _ (validating : Validating) (vrps : List Vrp) where
     have = inl (no_route, refl);
     counts = kept;
     seen = count;
-    prints = unless_here (Appends out out (state_lines validating.verdicts [])) r (none_state_lines validating.verdicts out);
+    prints = unless_here (Appends out out (state_lines validating.verdicts [])) r (none_printed validating.verdicts out);
   }
 
 -- a route of which only the state is counted
@@ -213,6 +213,9 @@ route_printed verdicts vrps route validity before after out out_after r is state
 pub blank_has_none : (host_bits : HostBits) (line : List ℕ) → IsBlank line → HasNoRoute host_bits line
 blank_has_none host_bits line blank route is = let e : [] ≡ is.first ∷ is.later = sym blank.0 ∙ is.has_fields in cc
 
+some_more : (n : ℕ) → 0 < min (n + 1) (2 ^ 64 - 1)
+some_more n = omega arith
+
 -- whether a state is invalid, and the number of invalid routes after it
 module _ (laws : IpTextLaws) (host_bits : HostBits) (vrps : List Vrp) where
   counts_line : (line : List ℕ) (route : Announcement) (validity : Validity) (counts : StateCounts) → IsRouteLine host_bits line route → IsValidity vrps route.prefix route.origin validity
@@ -228,7 +231,7 @@ module _ (laws : IpTextLaws) (host_bits : HostBits) (vrps : List Vrp) where
   )
   counts_line line route (Invalid vrp) counts is state = (
     λ _. inr (record { route = route; has_route = is; covering = vrp; listed = state.listed; covers = state.covers; no_match = state.no_match }),
-    λ _. omega arith,
+    λ _. some_more counts.invalid,
   )
   counts_line line route NotFound counts is state = (
     λ more. inl more,
@@ -245,8 +248,8 @@ module _ (laws : IpTextLaws) (host_bits : HostBits) (vrps : List Vrp) where
       → (0 < (with_states counts verdicts).invalid) ↔ ((0 < counts.invalid) ⊎ Any (IsInvalidLine host_bits vrps) lines)
   counts_invalid [] verdicts counts none =
       let same : (with_states counts verdicts).invalid ≡ counts.invalid = ap (λ v. (with_states counts v).invalid) none in (
-        λ more. inl (omega (arith, same)),
-        λ some. elim some [ inl more ↦ omega (arith, same) | inr one ↦ absurd (omega (arith, one.2)) ],
+        λ more. inl (subst (λ n. 0 < n) same more),
+        λ some. elim some [ inl more ↦ subst (λ n. 0 < n) (sym same) more | inr one ↦ absurd (omega (arith, one.2)) ],
       )
   counts_invalid (line ∷ later) verdicts counts (inl (no_route, have)) =
       let rest = counts_invalid later verdicts counts have in (
@@ -281,7 +284,7 @@ pub counts_all : (validating : Validating) (vrps : List Vrp) (all rest : List (L
     → ValidatesSoFar validating vrps all rest before now out out_now
     → (0 < now.counts.invalid) ↔ ((0 < before.counts.invalid) ⊎ Any (IsInvalidLine validating.host_bits vrps) all)
 counts_all validating vrps all rest before now out out_now laws none old =
-    let whole = (validates_end validating vrps all rest before now out out_now tt none old).0 in
+    let whole = (validates_end validating vrps all rest before now out out_now (tt {0}) none old).0 in
     let counted_so = counts_invalid laws validating.host_bits vrps all whole.verdicts before.counts whole.have in
     let same : now.counts.invalid ≡ (with_states before.counts whole.verdicts).invalid = ap (λ (counts : StateCounts). counts.invalid) whole.counts in
     (λ more. counted_so.0 (subst (λ n. 0 < n) same more), λ some. subst (λ n. 0 < n) (sym same) (counted_so.1 some))

@@ -26,7 +26,7 @@ pub returns-clause-good : goal.returns-clause-good
 returns-clause-good g c =
     let test : c.is_empty.result ≡ true = search rules in
     let none : lines c.loop-rest.rest.now ≡ [] = ap lines (none_of c.loop-rest.rest.now (sym c.is_empty.ensures ∙ test)) in
-    (validates_end c.args.validating c.args.vrps.now (lines c.args.text.now) (lines c.loop-rest.rest.now) c.args.validated.now c.loop-rest.validated c.args.out.now c.loop-rest.out tt none
+    (validates_end c.args.validating c.args.vrps.now (lines c.args.text.now) (lines c.loop-rest.rest.now) c.args.validated.now c.loop-rest.validated c.args.out.now c.loop-rest.out (tt {0}) none
     c.loop-rest.invariant).1
 
 pub returns-clause-invalid : goal.returns-clause-invalid
