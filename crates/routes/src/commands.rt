@@ -393,12 +393,7 @@ fn validate<'a, W: Write + Drop>(
     };
     let texts = if texts.is_empty() { &["-"] } else { texts };
     let mut validated = Validated::new();
-    let mut done = Ok(());
-    for text in texts {
-        if done.is_ok() {
-            done = validate_text(session, &vrps, validating, text, &mut validated, out);
-        }
-    }
+    let done = validate_texts(session, &vrps, validating, texts, &mut validated, out);
     *status = status_of(&validated);
     done?;
     if verdicts == Verdicts::Counts {
@@ -417,6 +412,21 @@ fn status_of(validated: &Validated) -> Status
     } else {
         Status::Good
     }
+}
+
+// Prints the states of the routes of files, up to the first that cannot be read.
+fn validate_texts<'a, W: Write + Drop>(
+    session: Session<'a>,
+    vrps: &Vrps<Global>,
+    validating: Validating,
+    texts: &[&'a str],
+    validated: &mut Validated,
+    out: &mut Printer<W>,
+) -> Result<(), Failure> {
+    for text in texts {
+        validate_text(session, vrps, validating, text, validated, out)?;
+    }
+    Ok(())
 }
 
 // Prints the states of the routes of one file, piece by piece, and warns of lines that are skipped.

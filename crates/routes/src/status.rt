@@ -5,7 +5,7 @@
 pub enum Status {
     /// All is well.
     Good = 0,
-    /// An address is not allowed, tables differ, or no line matches.
+    /// An address is not allowed, tables differ, no line matches, or a route is invalid.
     Bad = 1,
     /// An error was reported.
     Failed = 2,

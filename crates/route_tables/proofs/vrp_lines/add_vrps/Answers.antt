@@ -2,7 +2,7 @@
 use Rattle.std.proofs.Common.{◌≡◌, ◌∙◌, true, [], ap, arith, rules, sym}
 use Rattle.route_tables.specs.Lines.{lines, table_lines}
 use Rattle.route_tables.proofs.Lists.{none_of}
-use Rattle.route_tables.proofs.VrpSteps.{vrps_end, vrps_on, vrps_start}
+use Rattle.route_tables.proofs.VrpSteps.{vrps_end, vrps_on}
 use Rattle.route_tables.proofs.vrp_lines.add_vrps.Goals as goal
 
 pub loop-rest-preserved : goal.loop-rest-preserved

@@ -1,5 +1,5 @@
 -- What one line shows is what is read from it.
-use Rattle.std.proofs.Common.{◌∙◌, Err, Ok, Some, inl, inr, refl}
+use Rattle.std.proofs.Common.{◌∙◌, inr, refl}
 use Rattle.route_tables.specs.Announcements.{IsRouteLine}
 use Rattle.route_tables.specs.Routes.{IsBlank}
 use Rattle.route_tables.specs.declared.commands.validations.Validated.{Validated}
