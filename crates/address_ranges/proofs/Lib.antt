@@ -18,3 +18,4 @@ pub mod NetworkWalks
 pub mod Aligned
 pub mod OfLength
 pub mod OfLengthLaw
+pub mod FreeNetworks

@@ -1,10 +1,11 @@
 //! The addresses that a walk has left.
-ghost use Rattle.std.specs.Prelude.{◌≡◌, ℕ, ◌<◌, ◌∷◌, [], MatchOption, drop, length, not, slice_index};
+ghost use Rattle.std.specs.Prelude.{◌≡◌, ℕ, ◌<◌, ◌∷◌, ◌&&◌, [], MatchOption, drop, length, nat_le, not, slice_index};
 ghost use Rattle.prefix_trie_bits.specs.Model.Bits.{number};
 ghost use Rattle.address_ranges.specs.Appends.{end_of};
 ghost use Rattle.address_ranges.specs.Breaks.{AreBreaks, has_address, numbers};
 ghost use Rattle.address_ranges.specs.Networks.{break_or_end};
 
+use crate::rank::rank;
 use crate::toggle::starts_at_zero;
 use prefix_trie_bits::prefix::Key;
 use std::marker::Model;
@@ -60,6 +61,28 @@ impl<'a, K: Key> Left<'a, K> {
             Left {
                 first: Some(K::zero()),
                 rest: breaks,
+            }
+        }
+    }
+
+    /// Returns the addresses from one on that a set does not have.
+    pub(crate) fn of_complement_from(breaks: &'a [K], from: K) -> Self
+        requires { AreBreaks K.bit_width (numbers K.bits breaks.now) }
+        ensures breaks { AreBreaks K.bit_width result }
+        ensures others { (n : ℕ) → has_address result n
+            ≡ (not (has_address (numbers K.bits breaks.now) n)
+            && nat_le (number (K.bits from)) n) }
+    {
+        // The proof learns from it that the number is a key.
+        let _ = from.is_key();
+        let place = rank(breaks, from);
+        let rest = &breaks[place..];
+        if place % 2 == 1 {
+            Left::of_set(rest)
+        } else {
+            Left {
+                first: Some(from),
+                rest,
             }
         }
     }

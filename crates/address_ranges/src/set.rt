@@ -11,6 +11,7 @@ ghost use Rattle.address_ranges.specs.Ranges.{ranges_of};
 ghost use Rattle.address_ranges.specs.Walks.{IsBare};
 
 mod collecting;
+mod free;
 
 use crate::append::{push_range, start_by};
 use crate::builder::{after, ends_of};

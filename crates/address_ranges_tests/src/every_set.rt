@@ -105,7 +105,32 @@ fn has_networks(set: &Set, bits: u32, len: u8) -> bool {
         Some(network) => first_bit(&network),
         None => 0,
     };
-    firsts == networks_in(bits, len) && first_free == free & free.wrapping_neg()
+    firsts == networks_in(bits, len)
+        && first_free == free & free.wrapping_neg()
+        && has_free_within(set, free, len)
+}
+
+/// Returns whether a set returns the first of these free networks of a length within each network.
+fn has_free_within(set: &Set, free: u32, len: u8) -> bool {
+    for within_len in 0..=len {
+        let size = 8_u32 >> within_len;
+        for place in 0..1_u32 << within_len {
+            let first = place * size;
+            let inside = free & ((1 << size) - 1) << first;
+            let within = (address(u64::from(first)), within_len);
+            if !within.fits() {
+                return false;
+            }
+            let found = match set.first_free_within(len, &within) {
+                Some(network) => first_bit(&network),
+                None => 0,
+            };
+            if found != inside & inside.wrapping_neg() {
+                return false;
+            }
+        }
+    }
+    true
 }
 
 /// Returns whether a set of these addresses has them, in as few ranges and networks as there are.
