@@ -8,7 +8,9 @@ pub mod FirstBytes
 pub mod Changes
 pub mod CoveredEntries
 pub mod CheckSteps
+pub mod FreeNetworks
 pub mod HostBits
+pub mod LineValues
 pub mod Lists
 pub mod Loads
 pub mod NetworkOrder

@@ -9,6 +9,7 @@ pub mod BadLines
 pub mod Changes
 pub mod Checks
 pub mod Fewest
+pub mod FreeNetworks
 pub mod LineAddresses
 pub mod Lines
 pub mod Loads

@@ -42,6 +42,10 @@ pub record IsValueText (kind : TableKind) (value : List ℕ) : Type 0 where
   pub no_address : (address : IpAddr) → ¬ (IsIpText value address)
   pub of_kind : IsOfKind kind value
 
+-- a text that a line can have as its value: the empty one, or a field that can be a value
+abbrev pub IsLineValue : List ℕ → Type 0
+IsLineValue value = (value ≡ []) ⊎ (IsValueText AnyValues value × (fields value ≡ value ∷ []))
+
 -- fields are one value, or there are none, and the value is empty
 abbrev pub IsValue : TableKind → List (List ℕ) → List ℕ → Type 0
 IsValue kind [] value = (value ≡ []) × IsOfKind kind value

@@ -1,15 +1,18 @@
 //! The command line of the program, which `clap` parses.
 
 pub mod help;
+mod reading;
 
 use crate::access::Precedence;
 use crate::arguments::help::{ABOUT, COMMANDS, DETAILS, Topic, VERSION};
+use crate::arguments::reading::{read_invocation, read_lists};
 use crate::commands::validations::Verdicts;
-use crate::load::{BadLines, Reading, TableKind};
+use crate::formats::{FORMAT_NAMES, Lists};
+use crate::load::Reading;
 use crate::lookup::Relation;
 use crate::matching::{Selected, Selection, Which};
-use crate::network::HostBits;
 use crate::questions::Mapped;
+use clap::builder::ValueParser;
 use clap::error::ErrorKind;
 use clap::{Arg, ArgAction, ArgMatches, Command, Error};
 use std::alloc::{AllocError, Global};
@@ -39,6 +42,10 @@ const FIRST: &str = "first";
 
 const COUNT: &str = "count";
 
+const FORMAT: &str = "format";
+
+const NAME: &str = "name";
+
 // The names of arguments.
 const TABLES: &str = "tables";
 
@@ -47,6 +54,8 @@ const RIGHT: &str = "right";
 const WORDS: &str = "words";
 
 const LAST: &str = "last";
+
+const LENGTH: &str = "length";
 
 // The options that all commands share. They may also come before the command.
 const SHARED_FLAGS: &[(&str, &str)] = &[
@@ -76,6 +85,8 @@ pub struct Invocation<'a> {
     pub tables: Vec<&'a str>,
     /// The networks, addresses or files after them.
     pub words: Vec<&'a str>,
+    /// The lists in which it prints networks, if it does.
+    pub lists: Option<Lists>,
     /// How it does it.
     pub options: Options,
 }
@@ -99,6 +110,8 @@ pub enum Task {
     Match(Selection),
     /// Print the validation states of routes.
     Validate(Verdicts),
+    /// Print the first network of this length that shares no address with those of a table.
+    Free(u8),
 }
 
 /// What a report on a table shows.
@@ -177,7 +190,10 @@ pub fn parse<'a>(words: &'a [&'a str], alloc: Global) -> Result<Invocation<'a>, 
     let mut program = program(alloc)?;
     let matches = program.try_get_matches_from_mut(words)?;
     match chosen(&matches) {
-        Some((topic, matches)) => Ok(read_invocation(topic.task, matches, words, alloc)?),
+        Some((topic, matches)) => match read_lists(matches) {
+            Ok(lists) => Ok(read_invocation(topic.task, lists, matches, words, alloc)?),
+            Err(error) => Err(program.error(ErrorKind::ValueValidation, error.as_str())?),
+        },
         None => Err(program.error(ErrorKind::MissingSubcommand, "there is no command")?),
     }
 }
@@ -219,6 +235,11 @@ fn command<'a>(alloc: Global, topic: &Topic) -> Result<Command<'a>, AllocError> 
     for (name, help) in flags_of(topic.task) {
         command = command.arg(flag(alloc, name, help)?)?;
     }
+    if prints_networks(topic.task) {
+        command = command
+            .arg(format_option(alloc)?)?
+            .arg(name_option(alloc)?)?;
+    }
     match topic.task {
         Task::Report(_) | Task::Addresses(_) => command.arg(several(
             alloc,
@@ -248,7 +269,55 @@ fn command<'a>(alloc: Global, topic: &Topic) -> Result<Command<'a>, AllocError> 
             "ROUTES",
             "Files of routes to validate",
         ),
+        Task::Free(_) => table_and_length(command, alloc),
     }
+}
+
+// Adds a table, a length and a network.
+fn table_and_length(command: Command<'_>, alloc: Global) -> Result<Command<'_>, AllocError> {
+    command
+        .arg(one(alloc, TABLES, "TABLE", "The file of the table"))?
+        .arg(one(alloc, LENGTH, "LENGTH", "The length of the network").value_parser(
+            ValueParser::Unsigned(0, 128),
+        ))?
+        .arg(
+            Arg::new(alloc, WORDS)
+                .value_name("WITHIN")
+                .help("The network that it lies within"),
+        )
+}
+
+// Returns whether a command prints networks, which lists can have.
+fn prints_networks(task: Task) -> bool {
+    match task {
+        Task::List => true,
+        Task::Report(report) => report != Report::Stats,
+        Task::Addresses(report) => report == AddressReport::Networks,
+        Task::Compare(comparison) => comparison != Comparison::Diff,
+        Task::Lookup(_) | Task::Check(_) | Task::Match(_) | Task::Validate(_) | Task::Free(_) =>
+            false,
+    }
+}
+
+// Returns the option for the format of lists.
+fn format_option<'a>(alloc: Global) -> Result<Arg<'a>, AllocError> {
+    Arg::new(alloc, FORMAT)
+        .long(FORMAT)
+        .value_name("FORMAT")
+        .help("Print lists of networks for a firewall or a router")
+        .action(ArgAction::Set)
+        .value_parser(FORMAT_NAMES)
+        .conflicts_with(JSON)
+}
+
+// Returns the option for the name of lists.
+fn name_option<'a>(alloc: Global) -> Result<Arg<'a>, AllocError> {
+    Arg::new(alloc, NAME)
+        .long(NAME)
+        .value_name("NAME")
+        .help("What the names of the lists begin with; _v4 and _v6 follow [default: routes]")
+        .action(ArgAction::Set)
+        .requires_arg(FORMAT)
 }
 
 // Adds two tables with these names.
@@ -347,118 +416,6 @@ fn flags_of(task: Task) -> &'static [(&'static str, &'static str)] {
             (NO_MAPPED, NO_MAPPED_HELP),
         ],
         Task::Validate(_) => &[(COUNT, "Print only how many routes have each state")],
-        Task::Report(_) | Task::Addresses(_) | Task::Compare(_) | Task::List => &[],
-    }
-}
-
-// Returns what the arguments of a command say.
-fn read_invocation<'a>(
-    task: Task,
-    matches: &ArgMatches<'a>,
-    words: &[&str],
-    alloc: Global,
-) -> Result<Invocation<'a>, AllocError> {
-    let (mut tables, mut asked) = (Vec::new(alloc), Vec::new(alloc));
-    add_values(&mut tables, matches, TABLES)?;
-    add_values(&mut tables, matches, RIGHT)?;
-    if words.contains(&"--") {
-        add_values(&mut tables, matches, WORDS)?;
-        add_values(&mut asked, matches, LAST)?;
-    } else {
-        add_values(&mut asked, matches, WORDS)?;
-    }
-    Ok(Invocation {
-        task: task_of(task, matches),
-        tables,
-        words: asked,
-        options: read_options(matches),
-    })
-}
-
-// Adds the values of an argument, if it is there.
-fn add_values<'a>(
-    words: &mut Vec<&'a str>,
-    matches: &ArgMatches<'a>,
-    id: &str,
-) -> Result<(), AllocError> {
-    match matches.get_strs(id) {
-        Some(values) => words.extend_from_slice(values),
-        None => Ok(()),
-    }
-}
-
-// Returns a task with what the options of its command say.
-fn task_of(task: Task, matches: &ArgMatches<'_>) -> Task {
-    match task {
-        Task::Lookup(_) => Task::Lookup(relation(matches)),
-        Task::Check(_) if matches.get_flag(DENY_FIRST) => Task::Check(Precedence::DenyFirst),
-        Task::Match(_) => Task::Match(selection(matches)),
-        Task::Validate(_) if matches.get_flag(COUNT) => Task::Validate(Verdicts::Counts),
-        _ => task,
-    }
-}
-
-// Returns which networks a lookup prints.
-fn relation(matches: &ArgMatches<'_>) -> Relation {
-    if matches.get_flag(ALL) {
-        Relation::Covering
-    } else if matches.get_flag(EXACT) {
-        Relation::Exact
-    } else if matches.get_flag(LONGER) {
-        Relation::Contained
-    } else {
-        Relation::Longest
-    }
-}
-
-// Returns which lines are printed.
-fn selection(matches: &ArgMatches<'_>) -> Selection {
-    Selection {
-        selected: if matches.get_flag(INVERT) {
-            Selected::Others
-        } else {
-            Selected::Matching
-        },
-        which: if matches.get_flag(FIRST) {
-            Which::First
-        } else {
-            Which::Any
-        },
-        mapped: mapped(matches),
-    }
-}
-
-// Returns how IPv4-mapped addresses are read.
-fn mapped(matches: &ArgMatches<'_>) -> Mapped {
-    if matches.get_flag(NO_MAPPED) {
-        Mapped::Kept
-    } else {
-        Mapped::AsIpv4
-    }
-}
-
-// Returns what the options that several commands have say.
-fn read_options(matches: &ArgMatches<'_>) -> Options {
-    Options {
-        reading: Reading {
-            host_bits: if matches.get_flag(CLEAR_HOST_BITS) {
-                HostBits::Cleared
-            } else {
-                HostBits::Refused
-            },
-            bad_lines: if matches.get_flag(SKIP_BAD) {
-                BadLines::Skipped
-            } else {
-                BadLines::Refused
-            },
-            kind: TableKind::AnyValues,
-        },
-        mapped: mapped(matches),
-        format: if matches.get_flag(JSON) {
-            Format::Json
-        } else {
-            Format::Text
-        },
-        is_quiet: matches.get_flag(QUIET),
+        Task::Report(_) | Task::Addresses(_) | Task::Compare(_) | Task::List | Task::Free(_) => &[],
     }
 }

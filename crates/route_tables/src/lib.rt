@@ -15,6 +15,8 @@ mod as_numbers;
 pub mod commands;
 pub mod diff;
 pub mod fewest;
+pub mod formats;
+pub mod free;
 pub mod line;
 pub mod lines;
 pub mod load;

@@ -345,7 +345,7 @@ fn read_rule(value: &str) -> Result<&str, LineError>
 }
 
 // Returns whether a text is an address.
-fn is_address(text: &str) -> bool
+pub(crate) fn is_address(text: &str) -> bool
     ensures { IsTrue result ↔ ((address : Ip) × IsIpText text.now address) }
 {
     // Most values have no byte of an address, and a search of bytes finds that sooner than `parse`.
@@ -362,7 +362,7 @@ fn has_separator(text: &str) -> bool
 }
 
 // Returns whether a text has a character that can hide or change what a reader sees.
-fn has_hidden(text: &str) -> bool
+pub(crate) fn has_hidden(text: &str) -> bool
     ensures { result ≡ has_hidden text.now }
 {
     text.chars().any(|c| is_hidden(c))

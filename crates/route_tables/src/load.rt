@@ -15,7 +15,7 @@ ghost use Rattle.prefix_trie_joint.specs.Networks.{ip_path};
 ghost use Rattle.route_tables.specs.Lines.{table_lines};
 ghost use Rattle.route_tables.specs.Loads.{AddsFirst, AddsLine, EndsAt, EndsAtLine, IfLineError, ListsLine, NamesFirstBad, strict, with_routes};
 ghost use Rattle.route_tables.specs.Networks.{all_networks};
-ghost use Rattle.route_tables.specs.Routes.{AreBadLines, HasRoutes, Route, routes_to};
+ghost use Rattle.route_tables.specs.Routes.{AreBadLines, HasRoutes, IsLineValue, Route, routes_to};
 
 use crate::line::{LineError, ReadError, read_line};
 use crate::lines::{skip_mark, split_line};
@@ -297,6 +297,7 @@ fn add_read(
     replaced: &mut Vec<Replaced>,
     alloc: Global,
 ) -> Result<(), Refusal>
+    requires { IsLineValue route.1.now }
     ensures added { OnOk result (entries_of table.new
         ≡ with_routes (routes_to route.entry.1.now (all_networks route.entry.0))
         (entries_of table.old)) }
@@ -317,6 +318,7 @@ fn add_routes(
     replaced: &mut Vec<Replaced>,
     alloc: Global,
 ) -> Result<(), Refusal>
+    requires { IsLineValue value.now }
     ensures added { OnOk result (entries_of table.new
         ≡ with_routes (routes_to value.now networks.now) (entries_of table.old)) }
     ensures some { OnErr result (AddsFirst (routes_to value.now networks.now)
@@ -337,6 +339,7 @@ fn add_route(
     replaced: &mut Vec<Replaced>,
     alloc: Global,
 ) -> Result<(), Refusal>
+    requires { IsLineValue value.now }
     ensures added { OnOk result (entries_of table.new
         ≡ with_entry (entries_of table.old) (ip_path network) value.now) }
     ensures some { OnErr result ((entries_of table.new ≡ entries_of table.old)
@@ -358,11 +361,12 @@ fn set_value(
     value: &str,
     alloc: Global,
 ) -> Result<bool, Refusal>
+    requires { IsLineValue value.now }
     ensures added { OnOk result (entries_of table.new
         ≡ with_entry (entries_of table.old) (ip_path network) value.now) }
     ensures unchanged { OnErr result (entries_of table.new ≡ entries_of table.old) }
 {
-    let added = Value::new(value, alloc)?;
+    let added = Value::of_line(value, alloc)?;
     let previous = table.insert(network, added)?;
     Ok(match previous {
         Some(previous) => previous.as_str() != value,

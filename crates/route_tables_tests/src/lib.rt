@@ -16,4 +16,6 @@ mod printing;
 #[cfg(test)]
 mod reading;
 #[cfg(test)]
+mod round_trip;
+#[cfg(test)]
 mod validating;

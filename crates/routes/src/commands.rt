@@ -6,6 +6,7 @@ use crate::session::{Input, Session, Values};
 use crate::status::Status;
 use address_ranges::JointAddressSet;
 use origin_validation::Vrps;
+use prefix_trie_joint::IpPrefix;
 use route_tables::access::{AccessList, Precedence};
 use route_tables::arguments::{AddressReport, Comparison, Invocation, Report, Task};
 use route_tables::commands::checks::{Checked, Checking, check_lines, check_words};
@@ -16,6 +17,7 @@ use route_tables::commands::validations::{Validated, Validating, Verdicts, valid
 use route_tables::commands::{
     list, list_within, print_addresses, print_covered, print_diff, print_fewest, print_report,
 };
+use route_tables::free::{all_addresses, first_free};
 use route_tables::lookup::Relation;
 use route_tables::matching::{Searched, Selection, print_lines};
 use route_tables::messages::NetworkMessage;
@@ -47,6 +49,7 @@ pub fn carry_out<W: Write + Drop>(
         Task::Check(precedence) => check(session, precedence, tables, words, out, status),
         Task::Match(selection) => search(session, selection, tables, words, out, status),
         Task::Validate(verdicts) => validate(session, verdicts, tables, words, out, status),
+        Task::Free(len) => free(session, len, tables, words, out, status),
     }
 }
 
@@ -56,7 +59,8 @@ fn refuse_input_twice(session: Session<'_>, invocation: &Invocation<'_>) -> Resu
     let reads_input = match invocation.task {
         Task::Lookup(_) | Task::Check(_) => words.is_empty(),
         Task::Match(_) | Task::Validate(_) => words.is_empty() || words.contains(&"-"),
-        Task::Report(_) | Task::Addresses(_) | Task::Compare(_) | Task::List => false,
+        Task::Report(_) | Task::Addresses(_) | Task::Compare(_) | Task::List | Task::Free(_) =>
+            false,
     };
     let tables = invocation
         .tables
@@ -166,13 +170,71 @@ fn list_words<'a, W: Write + Drop>(
     if words.is_empty() {
         return Ok(list(&table, out)?);
     }
+    if out.prints_lists() {
+        return list_once(session, &table, words, out);
+    }
     for word in words {
-        match parse_network_with(word, session.options.reading.host_bits) {
-            Ok(network) => list_within(&table, network, out)?,
-            Err(error) => return Err(session.report(word, &NetworkMessage { text: word, error })),
+        list_within(&table, read_network(session, word)?, out)?;
+    }
+    Ok(())
+}
+
+// Prints what networks contain of a table, in listing order and each network once, as lists have to be.
+fn list_once<W: Write + Drop>(
+    session: Session<'_>,
+    table: &Table,
+    words: &[&str],
+    out: &mut Printer<W>,
+) -> Result<(), Failure> {
+    let mut networks = Vec::new(session.alloc());
+    for word in words {
+        let network = read_network(session, word)?.trunc();
+        if networks.push(network).is_err() {
+            return Err(Failure::Memory);
+        }
+    }
+    networks.sort()?;
+    let mut last: Option<IpPrefix> = None;
+    for network in networks {
+        if !last.is_some_and(|last| last.contains(&network)) {
+            list_within(table, network, out)?;
+            last = Some(network);
         }
     }
     Ok(())
+}
+
+// Reads a network of the command line.
+fn read_network(session: Session<'_>, word: &str) -> Result<IpPrefix, Failure> {
+    match parse_network_with(word, session.options.reading.host_bits) {
+        Ok(network) => Ok(network),
+        Err(error) => Err(session.report(word, &NetworkMessage { text: word, error })),
+    }
+}
+
+// Prints the first network of a length that a table leaves free, and sets the status if there is none.
+fn free<'a, W: Write + Drop>(
+    session: Session<'a>,
+    len: u8,
+    files: &[&'a str],
+    words: &[&str],
+    out: &mut Printer<W>,
+    status: &mut Status,
+) -> Result<(), Failure> {
+    let within = match words {
+        [word, ..] => read_network(session, word)?,
+        [] => all_addresses(len),
+    };
+    let set = session.read_addresses(files)?;
+    match first_free(&set, len, within) {
+        Ok(found) => {
+            if found.is_none() {
+                *status = Status::Bad;
+            }
+            Ok(out.free(found)?)
+        }
+        Err(error) => Err(session.report(words.first().copied().unwrap_or_default(), &error)),
+    }
 }
 
 // What is asked of a table or an access list, and what the questions so far show.

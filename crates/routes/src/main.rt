@@ -76,11 +76,16 @@ fn run_invocation(
     let options = invocation.options;
     let out = BufWriter::new(rt.alloc(), io::writer(rt))?;
     let mut out = Printer::new(options.format, rt.alloc(), out);
+    if let Some(lists) = invocation.lists {
+        out.print_lists(lists);
+    }
     let done = carry_out(Session { rt, options }, invocation, &mut out, status);
     // what was found before an error is printed too
     let flushed = out.flush();
     done?;
-    Ok(flushed?)
+    flushed?;
+    out.finish()?;
+    Ok(out.flush()?)
 }
 
 fn main(rt: HostRuntime) -> ExitCode {

@@ -25,8 +25,8 @@ Several TABLE are read as one. `lookup`, `list`, `check`, `match` and `validate`
 `lookup`, `list`, `diff`, `minimise`, `check` and `stats` work by network, the others by address.
 
 Exit status: 0, or 1 if `check` does not allow an address or skips one, `diff` finds a change,
-`match` prints no line or `validate` finds an invalid route, or 2 after an error. If nobody reads
-the output any more, the status says what was found so far.";
+`free` finds no network, `match` prints no line or `validate` finds an invalid route, or 2 after an
+error. If nobody reads the output any more, the status says what was found so far.";
 
 // The lines with any address of a table.
 const ANY_ADDRESS: Selection = Selection {
@@ -70,11 +70,14 @@ Examples:
         task: Task::List,
         about: "Print the table, or what a network contains, in order",
         details: "\
-A network comes before those that it contains.
+A network comes before those that it contains. With `--format`, the networks are two lists for a
+firewall or a router, NAME_v4 and NAME_v6. A value is the comment of its network if the format has
+such a comment, and is left out otherwise.
 
 Examples:
   routes list routes.txt
-  routes list --json routes.txt 10.1.0.0/16",
+  routes list --json routes.txt 10.1.0.0/16
+  routes list --format nft --name office offices.txt | nft -f -",
     },
     Topic {
         name: "diff",
@@ -214,6 +217,19 @@ An address in several networks counts once.
 Examples:
   routes count routes.txt
   routes subtract all.txt used.txt | routes count -",
+    },
+    Topic {
+        name: "free",
+        task: Task::Free(0),
+        about: "Print the first network of a length that the table leaves free",
+        details: "\
+The network has LENGTH and shares no address with a network of the table. It lies within WITHIN,
+or within 0.0.0.0/0, or within ::/0 if LENGTH is above 32. It prints `none`, with exit status 1,
+if there is no such network.
+
+Examples:
+  routes free plan.txt 24 10.0.0.0/8
+  routes free plan.txt 64 2001:db8::/32",
     },
     Topic {
         name: "match",

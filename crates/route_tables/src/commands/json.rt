@@ -41,6 +41,21 @@ pub struct Network {
     pub network: Text<IpPrefix>,
 }
 
+/// A network that is free, or `null`.
+#[derive(Drop, Serialize)]
+pub struct Free {
+    network: Option<Text<IpPrefix>>,
+}
+
+impl Free {
+    /// Returns what is written of a network that is free, or of none.
+    pub fn new(network: Option<IpPrefix>) -> Free {
+        Free {
+            network: network.map(Text),
+        }
+    }
+}
+
 /// A question, and a network and its value that are found, or `null`.
 #[derive(Drop, Serialize)]
 pub struct Answer<'a> {

@@ -12,6 +12,7 @@ use crate::commands::text::{print_answer, print_network, print_route};
 use crate::commands::validations::StateCounts;
 use crate::commands::verdicts::{print_state_counts, print_verdict};
 use crate::diff::Values;
+use crate::formats::Lists;
 use crate::lookup::Found;
 use crate::stats::Counts;
 use origin_validation::Validity;
@@ -32,6 +33,8 @@ use std::net::IpAddr;
 #[derive(Drop)]
 pub struct Printer<W: Write + Drop> {
     format: Format,
+    // the lists that networks are printed in, if they are
+    lists: Option<Lists>,
     alloc: Global,
     out: W,
 }
@@ -48,7 +51,30 @@ impl<W: Write + Drop> Model for Printer<W> {
 impl<W: Write + Drop> Printer<W> {
     /// Prints in a format.
     pub fn new(format: Format, alloc: Global, out: W) -> Printer<W> {
-        Printer { format, alloc, out }
+        Printer {
+            format,
+            lists: None,
+            alloc,
+            out,
+        }
+    }
+
+    /// Prints networks in lists from now on. `finish` prints where the lists end.
+    pub fn print_lists(&mut self, lists: Lists) {
+        self.lists = Some(lists);
+    }
+
+    /// Returns whether networks are printed in lists, those of IPv4 before those of IPv6.
+    pub fn prints_lists(&self) -> bool {
+        self.lists.is_some()
+    }
+
+    /// Prints the ends of the lists, if networks are printed in lists.
+    pub fn finish(&mut self) -> io::Result<()> {
+        match &mut self.lists {
+            Some(lists) => lists.finish(&mut self.out),
+            None => Ok(()),
+        }
     }
 
     /// Returns the writer.
@@ -68,6 +94,9 @@ impl<W: Write + Drop> Printer<W> {
 
     /// Prints a network and its value.
     pub fn route(&mut self, network: &IpPrefix, value: &str) -> io::Result<()> {
+        if let Some(lists) = &mut self.lists {
+            return lists.add(network, value, &mut self.out);
+        }
         match self.format {
             Format::Text => print_route(network, value, &mut self.out),
             Format::Json => {
@@ -79,12 +108,24 @@ impl<W: Write + Drop> Printer<W> {
 
     /// Prints a network alone.
     pub fn network(&mut self, network: &IpPrefix) -> io::Result<()> {
+        if let Some(lists) = &mut self.lists {
+            return lists.add(network, "", &mut self.out);
+        }
         match self.format {
             Format::Text => print_network(network, b'\n', &mut self.out),
             Format::Json => {
                 let network = Text(*network);
                 self.object(&json::Network { network })
             }
+        }
+    }
+
+    /// Prints a network that is free, or that there is none.
+    pub fn free(&mut self, network: Option<IpPrefix>) -> io::Result<()> {
+        match (self.format, network) {
+            (Format::Text, Some(network)) => print_network(&network, b'\n', &mut self.out),
+            (Format::Text, None) => self.out.write_all(b"none\n"),
+            (Format::Json, network) => self.object(&json::Free::new(network)),
         }
     }
 
