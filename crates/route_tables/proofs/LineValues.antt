@@ -18,11 +18,11 @@ abbrev AreWords : List (List ℕ) → Type 0
 AreWords [] = Unit {0}
 AreWords (w ∷ ws) = IsWord w × AreWords ws
 
-first_none : (b : Bool) (c : Bool) → (b || c) ≡ false → b ≡ false
+pub first_none : (b : Bool) (c : Bool) → (b || c) ≡ false → b ≡ false
 first_none true c h = h
 first_none false c h = refl
 
-rest_none : (b : Bool) (c : Bool) → (b || c) ≡ false → c ≡ false
+pub rest_none : (b : Bool) (c : Bool) → (b || c) ≡ false → c ≡ false
 rest_none true c h = absurd (true≢false h)
 rest_none false c h = h
 

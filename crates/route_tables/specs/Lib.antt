@@ -16,6 +16,7 @@ pub mod Loads
 pub mod Networks
 pub mod PlainLists
 pub mod Printed
+pub mod PrintedLines
 pub mod Questions
 pub mod Routes
 pub mod Rules

@@ -17,6 +17,7 @@ pub mod diff;
 pub mod fewest;
 pub mod formats;
 pub mod free;
+pub mod laws;
 pub mod line;
 pub mod lines;
 pub mod load;
