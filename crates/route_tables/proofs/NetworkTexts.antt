@@ -1,9 +1,10 @@
 -- The bytes of the texts of networks: no white space, no hyphen, no comment sign. For `printed_laws`.
-use Rattle.std.proofs.Common.{◌≡◌, ◌∙◌, ◌⊎◌, ℕ, suc, zero, ◌<◌, ◌≤◌, ◌^◌, Bool, true, false, true≢false, cond, ◌||◌, List, [], ◌∷◌, ◌++◌, decimal, length, refl, sym, ap, subst, inl, inr, arith, codes, length-append}
-use Rattle.std.proofs.lemmas.Bool.{cases_lt, ne_eqb}
+use Rattle.std.proofs.Common.{◌≡◌, ◌∙◌, ◌⊎◌, ℕ, suc, zero, ◌-◌, ◌<◌, ◌≤◌, ◌^◌, leb, ltb, Bool, true, false, true≢false, cond, ◌||◌, List, [], ◌∷◌, ◌++◌, decimal, length, refl, sym, ap, subst, inl, inr, arith, codes, length-append}
+use Rattle.std.proofs.lemmas.Bool.{and_parts, cases_lt, le-ltb, leb-true, lt-ltb, ne_eqb}
 use Rattle.std.proofs.lemmas.Fmt.{decimal_is_IsNumeral}
 use Rattle.std.proofs.lemmas.List.Folds.{list_any-append}
 use Rattle.std.specs.Char.{digit_value, is_ascii_whitespace}
+use Rattle.std.specs.Int.{is_in_range}
 use Rattle.std.specs.List.{list_any}
 use Rattle.std.specs.Net.Grammar.{IsColonHex, IsDotted, IsGroupsAfter}
 use Rattle.std.specs.Prelude.{◌==◌}
@@ -94,20 +95,33 @@ other_byte k digit point double stroke c is = ne_eqb c k (λ e. none (subst IsTe
     none (inr (inr (inr h))) = stroke h
 
 no_hyphen : (c : ℕ) → IsTextByte c → (c == 45) ≡ false
-no_hyphen = other_byte 45 (λ h. omega arith) (λ h. omega arith) (λ h. omega arith) (λ h. omega arith)
+no_hyphen = other_byte 45 (λ h. let z : 36 < 16 = h in omega arith) (λ h. omega (arith, h)) (λ h. omega (arith, h)) (λ h. omega (arith, h))
 
 no_comment : (c : ℕ) → IsTextByte c → (c == 35) ≡ false
-no_comment = other_byte 35 (λ h. omega arith) (λ h. omega arith) (λ h. omega arith) (λ h. omega arith)
+no_comment = other_byte 35 (λ h. let z : 36 < 16 = h in omega arith) (λ h. omega (arith, h)) (λ h. omega (arith, h)) (λ h. omega (arith, h))
 
 pub no_mark : (c : ℕ) → IsTextByte c → (c == 0xEF) ≡ false
-no_mark = other_byte 0xEF (λ h. omega arith) (λ h. omega arith) (λ h. omega arith) (λ h. omega arith)
+no_mark = other_byte 0xEF (λ h. let z : 36 < 16 = h in omega arith) (λ h. omega (arith, h)) (λ h. omega (arith, h)) (λ h. omega (arith, h))
 
 -- white space is one of these
+in_range : (low high c : ℕ) → is_in_range low high c ≡ true → (low ≤ c) × (c ≤ high)
+in_range low high c h = let parts = and_parts (leb low c) (leb c high) h in (leb-true low c parts.0, leb-true c high parts.1)
+
+one_of : (a b : Bool) → (a || b) ≡ true → (a ≡ true) ⊎ (b ≡ true)
+one_of true b h = inl refl
+one_of false b h = inr h
+
 white_is : (c : ℕ) → is_ascii_whitespace c ≡ true → (c ≤ 13) ⊎ (c ≡ 32)
-white_is c h = grind (arith, h)
+white_is c h = elim (one_of (is_in_range 9 10 c || is_in_range 12 13 c) (is_in_range 32 32 c) h) [
+  | inl control ↦ elim (one_of (is_in_range 9 10 c) (is_in_range 12 13 c) control) [
+    | inl r ↦ inl (let e = in_range 9 10 c r in omega (arith, e))
+    | inr r ↦ inl (let e = in_range 12 13 c r in omega (arith, e))
+  ]
+  | inr space ↦ inr (let e = in_range 32 32 c space in omega (arith, e))
+]
 
 small : (c : ℕ) → c ≤ 13 → digit_value c ≡ 36
-small c le = grind (arith, le)
+small c le = ap (λ b. cond b 36 (cond (ltb c 58) (c - 48) (cond (ltb c 65) 36 (cond (ltb c 91) (c - 55) (cond (ltb c 97) 36 (cond (ltb c 123) (c - 87) 36)))))) (lt-ltb c 48 (omega (arith, le)))
 
 not_white : (c : ℕ) → IsTextByte c → is_ascii_whitespace c ≡ false
 not_white c is = elim (is_ascii_whitespace c) as (λ b. is_ascii_whitespace c ≡ b → b ≡ false) [
@@ -125,14 +139,14 @@ not_white c is = elim (is_ascii_whitespace c) as (λ b. is_ascii_whitespace c �
     of_small le (inr (inr (inr h))) = omega (arith, le, h)
 
     of_space : IsTextByte 32 → ⊥
-    of_space (inl h) = omega arith
-    of_space (inr (inl h)) = omega arith
-    of_space (inr (inr (inl h))) = omega arith
-    of_space (inr (inr (inr h))) = omega arith
+    of_space (inl h) = (let z : 36 < 16 = h in omega arith)
+    of_space (inr (inl h)) = omega (arith, h)
+    of_space (inr (inr (inl h))) = omega (arith, h)
+    of_space (inr (inr (inr h))) = omega (arith, h)
 
 none_pass : (p : ℕ → Bool) → ((c : ℕ) → IsTextByte c → p c ≡ false) → (cs : List ℕ) → AreTextBytes cs → list_any p cs ≡ false
-none_pass p no [] all = refl
-none_pass p no (c ∷ cs) all = ap (λ b. b || list_any p cs) (no c all.0) ∙ none_pass p no cs all.1
+none_pass p lacks [] all = refl
+none_pass p lacks (c ∷ cs) all = ap (λ b. b || list_any p cs) (lacks c all.0) ∙ none_pass p lacks cs all.1
 
 pub text_has_no_hyphen : (cs : List ℕ) → AreTextBytes cs → has_hyphen cs ≡ false
 text_has_no_hyphen = none_pass (λ b. b == 45) no_hyphen
@@ -164,7 +178,12 @@ text_is_some text (V6 network) is = subst (λ t. 0 < length t) (sym is.spelled) 
 
 -- each byte is ASCII
 high : (c : ℕ) → 128 ≤ c → digit_value c ≡ 36
-high c le = grind (arith, le)
+high c le =
+    ap (λ b. cond b 36 (cond (ltb c 58) (c - 48) (cond (ltb c 65) 36 (cond (ltb c 91) (c - 55) (cond (ltb c 97) 36 (cond (ltb c 123) (c - 87) 36)))))) (le-ltb c 48 (omega (arith, le)))
+    ∙ ap (λ b. cond b (c - 48) (cond (ltb c 65) 36 (cond (ltb c 91) (c - 55) (cond (ltb c 97) 36 (cond (ltb c 123) (c - 87) 36))))) (le-ltb c 58 (omega (arith, le)))
+    ∙ ap (λ b. cond b 36 (cond (ltb c 91) (c - 55) (cond (ltb c 97) 36 (cond (ltb c 123) (c - 87) 36)))) (le-ltb c 65 (omega (arith, le)))
+    ∙ ap (λ b. cond b (c - 55) (cond (ltb c 97) 36 (cond (ltb c 123) (c - 87) 36))) (le-ltb c 91 (omega (arith, le)))
+    ∙ ap (λ b. cond b 36 (cond (ltb c 123) (c - 87) 36)) (le-ltb c 97 (omega (arith, le))) ∙ ap (λ b. cond b (c - 87) 36) (le-ltb c 123 (omega (arith, le)))
 
 below_128 : (c : ℕ) → IsTextByte c → c < 128
 below_128 c (inl h) = elim (cases_lt c 128) [ inl lt ↦ lt | inr ge ↦ absurd (let e = high c ge in omega (arith, e, h)) ]

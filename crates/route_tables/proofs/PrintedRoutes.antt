@@ -1,11 +1,11 @@
 -- The lines that print routes have these routes: for `printed_laws`.
-use Rattle.std.proofs.Common.{◌≡◌, ◌∙◌, ℕ, zero, suc, ◌-◌, ◌<◌, Bool, true, false, true≢false, cond, ◌||◌, ◌&&◌, All, List, [], ◌∷◌, ◌++◌, not, length, map, take, drop, refl, sym, ap, ap₂, subst, inl, inr, arith, codes, append_assoc, bytes_eq}
+use Rattle.std.proofs.Common.{◌≡◌, ◌∙◌, ℕ, zero, suc, ◌-◌, ◌<◌, Bool, true, false, true≢false, cond, ◌||◌, ◌&&◌, All, List, [], ◌∷◌, ◌++◌, not, length, map, take, drop, refl, sym, ap, ap₂, subst, inl, inr, arith, codes, append_assoc}
 use Rattle.std.proofs.lemmas.Bool.{ne_eqb}
 use Rattle.std.proofs.lemmas.List.Elements.{All-head, All-tail}
 use Rattle.std.proofs.lemmas.List.Folds.{list_any-append}
 use Rattle.std.specs.Char.{is_ascii_whitespace}
 use Rattle.std.specs.List.{before_first, list_any, onto_first}
-use Rattle.std.specs.Prelude.{◌==◌}
+use Rattle.std.specs.Prelude.{◌==◌, bytes_eq}
 use Rattle.prefix_trie_joint.proofs.Texts.{ip_text_laws}
 use Rattle.prefix_trie_joint.specs.Networks.{lowest_ip}
 use Rattle.prefix_trie_joint.specs.Texts.{ip_network_text, IpTextLaws, IsIp, IsIpNetworkText}
@@ -76,9 +76,6 @@ unmarked [] rest some all = absurd (omega (arith, some))
 unmarked (c ∷ cs) rest some all = ap (λ b. cond (b && bytes_eq (take 2 (cs ++ rest)) (0xBB ∷ 0xBF ∷ [])) (drop 3 (c ∷ (cs ++ rest))) (c ∷ (cs ++ rest))) (no_mark c all.0)
 
 module _ (laws : IpTextLaws) (network : IpPrefix) (value : List ℕ) (fits : IsIp network) (bare : network ≡ lowest_ip network) (of_line : IsLineValue value) where
-  text : List ℕ
-  text = ip_network_text network
-
   is_text : IsIpNetworkText (ip_network_text network) network
   is_text = laws.is_text network fits
 
@@ -130,7 +127,7 @@ module _ (laws : IpTextLaws) (network : IpPrefix) (value : List ℕ) (fits : IsI
   -- ---- the routes of the line
 
   by_slash : (b : Bool) → has_slash (ip_network_text network) ≡ b → b ≡ true → IsTextBySlash b Refused (ip_network_text network) network
-  by_slash b is yes = subst (λ s. IsTextBySlash s Refused (ip_network_text network) network) (sym yes) (network, is_text, (refl, bare))
+  by_slash b is slashed = subst (λ s. IsTextBySlash s Refused (ip_network_text network) network) (sym slashed) (network, is_text, (refl, bare))
 
   denotes : AreOfText Refused (ip_network_text network) (network ∷ [])
   denotes =
