@@ -6,7 +6,7 @@ use Rattle.std.proofs.lemmas.List.{take-append-drop}
 use Rattle.prefix_trie_joint.specs.Networks.{ip_path}
 use Rattle.prefix_trie.specs.Terms.{with_entry}
 use Rattle.prefix_trie_joint.specs.declared.prefix.IpPrefix.{IpPrefix}
-use Rattle.route_tables.specs.Loads.{AddsFirst, AddsLine, EndsAt, EndsAtLine, GivesFirst, ListsLine, with_routes}
+use Rattle.route_tables.specs.Loads.{AddsFirst, EndsAt, EndsAtLine, GivesFirst, ListsLine, with_routes}
 use Rattle.route_tables.specs.declared.load.BadLine.{BadLine}
 use Rattle.route_tables.specs.declared.load.BadLines.TheVariants as bad_lines
 use Rattle.route_tables.specs.declared.load.LoadError.{LoadError}
@@ -113,7 +113,7 @@ loads_start reading all m listed none = record { done = []; split = refl; count 
 
 -- the invariant holds after one more line
 unfoldable pub loads_on : (reading : Reading) (all rest later : List (List ℕ)) (line : List ℕ) (number : ℕ) (before m next : Values) (listed after : List BadLine)
-    → rest ≡ line ∷ later → AddsLine reading line m next → ListsLine reading (number + 1) line listed after
+    → rest ≡ line ∷ later → (routes : List Route) × Gives reading line routes × (next ≡ with_routes routes m) → ListsLine reading (number + 1) line listed after
     → Loads reading all rest number before m listed → Loads reading all later (number + 1) before next after
 loads_on reading all rest later line number before m next listed after split (given, gives, adds) lists old = record {
   done = old.done ++ line ∷ [];

@@ -1,7 +1,13 @@
 -- What reading a text adds to a table, and what it leaves if it fails. This project's own.
-use Rattle.std.specs.Prelude.{◌≡◌, ◌⊎◌, ℕ, ◌+◌, ⊤, List, [], ◌∷◌, ◌++◌, slice_index_or, take}
+use Rattle.std.specs.Prelude.{◌≡◌, ◌⊎◌, ℕ, ◌+◌, ◌-◌, ◌*◌, ◌^◌, ◌<◌, ⊤, List, [], ◌∷◌, ◌++◌, length, slice_index_or, take}
 use Rattle.prefix_trie.specs.Terms.{put_all}
+use Rattle.prefix_trie_table.specs.Model.Contents.{Contents}
+use Rattle.prefix_trie_joint.specs.Changes.{maps_of}
+use Rattle.prefix_trie_joint.specs.Collected.{AreAfter}
+use Rattle.prefix_trie_joint.specs.Joined.{entries_of}
 use Rattle.prefix_trie_joint.specs.Networks.{ip_path}
+use Rattle.prefix_trie_joint.specs.declared.map.JointPrefixMap.{JointPrefixMap}
+use Rattle.route_tables.specs.Replaced.{replaced_by}
 use Rattle.route_tables.specs.Routes.{Gives, HasRoutes, IsBadLine, IsFirstBad, IsGood, Route}
 use Rattle.route_tables.specs.Tables.{Values}
 use Rattle.route_tables.specs.declared.load.BadLine.{BadLine}
@@ -9,6 +15,7 @@ use Rattle.route_tables.specs.declared.load.BadLines.TheVariants as bad_lines
 use Rattle.route_tables.specs.declared.load.LoadError.{LoadError}
 use Rattle.route_tables.specs.declared.load.LoadError.TheVariants.{Line, Refused}
 use Rattle.route_tables.specs.declared.load.Reading.{Reading}
+use Rattle.route_tables.specs.declared.load.Replaced.{Replaced}
 use Rattle.route_tables.specs.declared.load.TableKind.TheVariants.{AnyValues}
 use Rattle.route_tables.specs.declared.network.HostBits.TheVariants as host_bits
 
@@ -20,9 +27,21 @@ with_routes routes m = put_all ip_path routes m
 abbrev pub AddsFirst : List Route → Values → Values → Type 0
 AddsFirst routes m after = (n : ℕ) × (after ≡ with_routes (take n routes) m)
 
--- a line adds its routes
-abbrev pub AddsLine : Reading → List ℕ → Values → Values → Type 0
-AddsLine reading line m after = (routes : List Route) × Gives reading line routes × (after ≡ with_routes routes m)
+-- some insertions into the maps of both families, which make at most 56 slots each
+abbrev pub AddsSlots : ℕ → Contents (List ℕ) × Contents (List ℕ) → Contents (List ℕ) × Contents (List ℕ) → Type 0
+AddsSlots n before after = (count : ℕ) → AreAfter count before → AreAfter (count + n) after
+
+-- so many insertions may make more slots than an array can have
+abbrev pub MayExceed : ℕ → Contents (List ℕ) × Contents (List ℕ) → Type 0
+MayExceed n before = (count : ℕ) → AreAfter count before → 2 ^ 32 - 1 < 1 + 56 * (count + n)
+
+-- a line adds its routes to a table, and lists those that replace another value
+pub record AddsLine {A : Type 0} (reading : Reading) (number : ℕ) (line : List ℕ) (before after : JointPrefixMap (List ℕ) A) (listed then_listed : List Replaced) : Type 0 where
+  pub routes : List Route
+  pub gives : Gives reading line routes
+  pub entries : entries_of after ≡ with_routes routes (entries_of before)
+  pub replaced : then_listed ≡ listed ++ replaced_by number routes (entries_of before)
+  pub slots : AddsSlots (length routes) (maps_of before) (maps_of after)
 
 -- a line is listed if it is bad
 abbrev pub ListsLine : Reading → ℕ → List ℕ → List BadLine → List BadLine → Type 0

@@ -8,14 +8,19 @@
 //! space, so lines may end with CR LF. A CR elsewhere is an error. A byte order mark at the start of a text is skipped.
 //!
 //! A `Reading` says what is done with networks that have host bits, and with bad lines.
-ghost use Rattle.std.specs.Prelude.{◌≡◌, ◌⊎◌, [], ◌∷◌, ◌++◌, List, IfErr, IfOk, OnErr, OnOk};
+ghost use Rattle.std.specs.Prelude.{◌≡◌, ◌⊎◌, ℕ, ◌+◌, ◌-◌, ◌*◌, ◌^◌, ◌<◌, [], ◌∷◌, ◌++◌, List, length, slice_index_or, take, IfErr, IfOk, OnErr, OnOk};
+ghost use Rattle.std.specs.FinMap.{get};
 ghost use Rattle.prefix_trie.specs.Terms.{no_entries, with_entry};
+ghost use Rattle.prefix_trie_joint.specs.Changes.{maps_of};
 ghost use Rattle.prefix_trie_joint.specs.Joined.{entries_of};
 ghost use Rattle.prefix_trie_joint.specs.Networks.{ip_path};
+ghost use Rattle.route_tables.specs.Allocations.{LineMayAllocate, MayAllocate, SomeMayAllocate};
+ghost use Rattle.route_tables.specs.BadLines.{AreBadLines};
 ghost use Rattle.route_tables.specs.Lines.{table_lines};
-ghost use Rattle.route_tables.specs.Loads.{AddsFirst, AddsLine, EndsAt, EndsAtLine, IfLineError, ListsLine, NamesFirstBad, strict, with_routes};
+ghost use Rattle.route_tables.specs.Loads.{AddsFirst, AddsLine, AddsSlots, EndsAt, EndsAtLine, IfLineError, ListsLine, MayExceed, NamesFirstBad, strict, with_routes};
 ghost use Rattle.route_tables.specs.Networks.{all_networks};
-ghost use Rattle.route_tables.specs.Routes.{AreBadLines, HasRoutes, IsLineValue, Route, routes_to};
+ghost use Rattle.route_tables.specs.Replaced.{ReplacesValues, is_other, replaced_by, replaced_one};
+ghost use Rattle.route_tables.specs.Routes.{Gives, HasRoutes, IsLineValue, Route, routes_to};
 
 use crate::line::{LineError, ReadError, read_line};
 use crate::lines::{skip_mark, split_line};
@@ -69,7 +74,7 @@ pub struct BadLine<'a> {
     pub number: usize,
     /// The bytes of the line.
     pub text: &'a [u8],
-    /// Why it is not a line of a table.
+    /// The first reason why it is not a line of a table.
     pub error: LineError,
 }
 
@@ -175,7 +180,15 @@ pub fn load(text: &[u8], alloc: Global) -> Result<Loaded<'_>, LoadError<'_>>
         × HasRoutes strict (table_lines text.now) routes
         × (entries_of loaded.table ≡ with_routes routes no_entries)) }
     ensures skipped { IfOk result (λ loaded. loaded.warnings.skipped.items ≡ []) }
+    ensures replaced { IfOk result (λ loaded. ReplacesValues strict 0 (table_lines text.now)
+        no_entries (entries_of loaded.table) loaded.warnings.replaced.items) }
     ensures first_bad { IfErr result (NamesFirstBad strict (table_lines text.now)) }
+
+    // `IndexRange` comes only if 56 slots for each route of the first lines would exceed the limit.
+    ensures full { IfErr result (λ error. error ≡ LoadError.Refused Refusal.IndexRange
+        → (index : ℕ) × (routes : List Route)
+        × HasRoutes strict (take index (table_lines text.now)) routes
+        × (2 ^ 32 - 1 < 1 + 56 * length routes)) }
 {
     let reading = Reading {
         host_bits: HostBits::Refused,
@@ -196,6 +209,8 @@ pub fn load(text: &[u8], alloc: Global) -> Result<Loaded<'_>, LoadError<'_>>
 /// Returns the first line that is not a line of a table, with the reason, if bad lines are refused. The table has the
 /// routes of the lines before it then. Returns a refusal if an allocation fails or a table is full. The table has the
 /// routes of the lines before some line then, and may have some of the routes of that line.
+///
+/// A line needs no allocation if its network is in the table with its value, which has at most 16 bytes.
 ///
 /// # Examples
 ///
@@ -219,8 +234,26 @@ pub fn load_into<'a>(
         × (entries_of table.new ≡ with_routes routes (entries_of table.old))) }
     ensures skipped { IfOk result (λ warnings. AreBadLines reading 0
         (table_lines text.now) warnings.skipped.items) }
+    ensures replaced { IfOk result (λ warnings. ReplacesValues reading 0 (table_lines text.now)
+        (entries_of table.old) (entries_of table.new) warnings.replaced.items) }
     ensures ends { IfErr result (EndsAt reading (table_lines text.now) (entries_of table.old)
         (entries_of table.new)) }
+
+    // The slots that the routes make, and `IndexRange` if those of the first lines may exceed the limit.
+    ensures slots { OnOk result ((routes : List Route)
+        × HasRoutes reading (table_lines text.now) routes
+        × AddsSlots (length routes) (maps_of table.old) (maps_of table.new)) }
+    ensures full { IfErr result (λ error. error ≡ LoadError.Refused Refusal.IndexRange
+        → (index : ℕ) × (routes : List Route)
+        × HasRoutes reading (take index (table_lines text.now)) routes
+        × MayExceed (length routes) (maps_of table.old)) }
+
+    // `Memory` comes only at a line that may need an allocation.
+    ensures memory { IfErr result (λ error. error ≡ LoadError.Refused Refusal.Memory
+        → (index : ℕ) × (routes : List Route)
+        × HasRoutes reading (take index (table_lines text.now)) routes
+        × LineMayAllocate reading (slice_index_or (table_lines text.now) index [])
+        (with_routes routes (entries_of table.old))) }
 {
     let mut warnings = Warnings {
         replaced: Vec::new(alloc),
@@ -246,12 +279,17 @@ fn add_line<'a>(
     warnings: &mut Warnings<'a>,
     alloc: Global,
 ) -> Result<(), LoadError<'a>>
-    ensures added { OnOk result
-        (AddsLine reading line.now (entries_of table.old) (entries_of table.new)) }
+    ensures added { OnOk result (AddsLine reading number line.now table.old table.new
+        warnings.old.replaced.items warnings.new.replaced.items) }
     ensures listed { OnOk result
         (ListsLine reading number line.now warnings.old.skipped.items warnings.new.skipped.items) }
     ensures ends { IfErr result
         (EndsAtLine reading number line.now (entries_of table.old) (entries_of table.new)) }
+    ensures full { IfErr result (λ error. error ≡ LoadError.Refused Refusal.IndexRange
+        → (routes : List Route) × Gives reading line.now routes
+        × MayExceed (length routes) (maps_of table.old)) }
+    ensures memory { IfErr result (λ error. error ≡ LoadError.Refused Refusal.Memory
+        → LineMayAllocate reading line.now (entries_of table.old)) }
 {
     match read_line(line, reading, alloc) {
         Ok(None) => Ok(()),
@@ -279,6 +317,9 @@ pub(crate) fn skip_line<'a>(
         × (skipped.new.items ≡ skipped.old.items ++ bad.entry ∷ [])) }
     ensures refused { IfErr result (IfLineError (λ named. (named ≡ bad.entry)
         × (bad_lines ≡ BadLines.Refused))) }
+    ensures never_full { IfErr result (λ error. ¬ (error ≡ LoadError.Refused Refusal.IndexRange)) }
+    ensures skipped { IfErr result (λ error. error ≡ LoadError.Refused Refusal.Memory
+        → bad_lines ≡ BadLines.Skipped) }
 {
     match bad_lines {
         BadLines::Refused => Err(LoadError::Line(bad)),
@@ -301,9 +342,18 @@ fn add_read(
     ensures added { OnOk result (entries_of table.new
         ≡ with_routes (routes_to route.entry.1.now (all_networks route.entry.0))
         (entries_of table.old)) }
+    ensures replaced { OnOk result (replaced.new.items ≡ replaced.old.items
+        ++ replaced_by number (routes_to route.entry.1.now (all_networks route.entry.0))
+        (entries_of table.old)) }
+    ensures slots { OnOk result (AddsSlots (length (all_networks route.entry.0))
+        (maps_of table.old) (maps_of table.new)) }
     ensures some { OnErr result (AddsFirst
         (routes_to route.entry.1.now (all_networks route.entry.0))
         (entries_of table.old) (entries_of table.new)) }
+    ensures full { IfErr result (λ cause. cause ≡ Refusal.IndexRange
+        → MayExceed (length (all_networks route.entry.0)) (maps_of table.old)) }
+    ensures memory { IfErr result (λ cause. cause ≡ Refusal.Memory → SomeMayAllocate
+        (entries_of table.old) (all_networks route.entry.0) route.entry.1.now) }
 {
     let (networks, value) = route;
     add_routes(table, networks.as_slice(), value, number, replaced, alloc)
@@ -321,8 +371,16 @@ fn add_routes(
     requires { IsLineValue value.now }
     ensures added { OnOk result (entries_of table.new
         ≡ with_routes (routes_to value.now networks.now) (entries_of table.old)) }
+    ensures replaced { OnOk result (replaced.new.items ≡ replaced.old.items
+        ++ replaced_by number (routes_to value.now networks.now) (entries_of table.old)) }
+    ensures slots { OnOk result (AddsSlots (length networks.now)
+        (maps_of table.old) (maps_of table.new)) }
     ensures some { OnErr result (AddsFirst (routes_to value.now networks.now)
         (entries_of table.old) (entries_of table.new)) }
+    ensures full { IfErr result (λ cause. cause ≡ Refusal.IndexRange
+        → MayExceed (length networks.now) (maps_of table.old)) }
+    ensures memory { IfErr result (λ cause. cause ≡ Refusal.Memory
+        → SomeMayAllocate (entries_of table.old) networks.now value.now) }
 {
     for network in networks {
         add_route(table, *network, value, number, replaced, alloc)?;
@@ -342,8 +400,15 @@ fn add_route(
     requires { IsLineValue value.now }
     ensures added { OnOk result (entries_of table.new
         ≡ with_entry (entries_of table.old) (ip_path network) value.now) }
+    ensures replaced { OnOk result (replaced.new.items ≡ replaced.old.items
+        ++ replaced_one line (network, value.now) (entries_of table.old)) }
+    ensures slots { OnOk result (AddsSlots 1 (maps_of table.old) (maps_of table.new)) }
     ensures some { OnErr result ((entries_of table.new ≡ entries_of table.old)
         ⊎ (entries_of table.new ≡ with_entry (entries_of table.old) (ip_path network) value.now)) }
+    ensures full { IfErr result (λ cause. cause ≡ Refusal.IndexRange
+        → MayExceed 1 (maps_of table.old)) }
+    ensures memory { IfErr result (λ cause. cause ≡ Refusal.Memory
+        → MayAllocate (entries_of table.old) network value.now) }
 {
     if !set_value(table, network, value, alloc)? {
         return Ok(());
@@ -364,8 +429,17 @@ fn set_value(
     requires { IsLineValue value.now }
     ensures added { OnOk result (entries_of table.new
         ≡ with_entry (entries_of table.old) (ip_path network) value.now) }
+    ensures other { IfOk result (λ other. other
+        ≡ is_other (get (entries_of table.old) (ip_path network)) value.now) }
+    ensures slots { OnOk result (AddsSlots 1 (maps_of table.old) (maps_of table.new)) }
     ensures unchanged { OnErr result (entries_of table.new ≡ entries_of table.old) }
+    ensures full { IfErr result (λ cause. cause ≡ Refusal.IndexRange
+        → MayExceed 1 (maps_of table.old)) }
+    ensures memory { IfErr result (λ cause. cause ≡ Refusal.Memory
+        → MayAllocate (entries_of table.old) network value.now) }
 {
+    // The proof learns from `len` that the table is valid.
+    let _ = table.len();
     let added = Value::of_line(value, alloc)?;
     let previous = table.insert(network, added)?;
     Ok(match previous {
