@@ -1,18 +1,22 @@
 -- Loading a text line by line: the invariant of the loop, how each line preserves it, and what the loop leaves: for
 -- `load_into`.
-use Rattle.std.proofs.Common.{◌≡◌, ◌<◌, ℕ, zero, suc, ◌+◌, List, [], ◌∷◌, ◌++◌, length, length-append, take, drop, get_or, refl, sym, ap, subst, ◌∙◌, inl, inr, ◌⊎◌, append_assoc, append-nil, arith, Result, Ok, Err, OnErr}
+use Rattle.std.proofs.Common.{◌≡◌, ◌<◌, ℕ, zero, suc, ◌+◌, List, [], ◌∷◌, ◌++◌, length, length-append, take, drop, get_or, refl, sym, ap, subst, ◌∙◌, inl, inr, ◌⊎◌, append_assoc, append-nil, arith, Result, Ok, Err, IfErr, OnErr, OnOk}
 use Rattle.std.proofs.Math.Seq.{take-append_seam}
 use Rattle.std.proofs.lemmas.List.{take-append-drop}
 use Rattle.prefix_trie_joint.specs.Networks.{ip_path}
 use Rattle.prefix_trie.specs.Terms.{with_entry}
 use Rattle.prefix_trie_joint.specs.declared.prefix.IpPrefix.{IpPrefix}
-use Rattle.route_tables.specs.Loads.{AddsFirst, EndsAt, EndsAtLine, GivesFirst, ListsLine, with_routes}
+use Rattle.route_tables.specs.Loads.{AddsFirst, EndsAt, EndsAtLine, GivesFirst, IfLineError, ListsLine, with_routes}
+use Rattle.route_tables.specs.Reasons.{IsReason}
+use Rattle.route_tables.specs.declared.line.LineError.{LineError}
+use Rattle.route_tables.specs.declared.line.ReadError.TheVariants.{Line as ReadLine}
 use Rattle.route_tables.specs.declared.load.BadLine.{BadLine}
 use Rattle.route_tables.specs.declared.load.BadLines.TheVariants as bad_lines
 use Rattle.route_tables.specs.declared.load.LoadError.{LoadError}
 use Rattle.route_tables.specs.declared.load.LoadError.TheVariants.{Line, Refused}
 use Rattle.route_tables.specs.declared.load.Reading.{Reading}
-use Rattle.route_tables.specs.Routes.{AreBadLines, Gives, HasRoutes, IsBad, IsBadLine, IsFirstBad, IsGood, Route, routes_to}
+use Rattle.route_tables.specs.BadLines.{AreBadLines, IsBadLine}
+use Rattle.route_tables.specs.Routes.{Gives, HasRoutes, IsBad, IsFirstBad, IsGood, Route, routes_to}
 use Rattle.route_tables.specs.Tables.{Values}
 
 -- the invariant: the routes of the lines before are added to the entries before, and the bad ones of these lines are listed
@@ -63,6 +67,33 @@ pub some_first : (reading : Reading) (line : List ℕ) (routes : List Route) (m 
     → (part : List Route) × GivesFirst reading line part × (after ≡ with_routes part m)
 some_first reading line routes m after gives (n, is) =
     (take n routes, inr (drop n routes, subst (Gives reading line) (sym (take-append-drop n routes)) gives), is)
+
+-- a bad line is listed if it is skipped, and named if it is refused
+module _ (reading : Reading) (number : ℕ) (line : List ℕ) (bad : BadLine) (error : LineError) where
+  is_bad_line : bad.number ≡ number → bad.text.now ≡ line → bad.error ≡ error → IsBad reading line → IsReason reading line (ReadLine error) → IsBadLine reading number line bad
+  is_bad_line named quoted same is_bad reason = record { named = named; quoted = quoted; is_bad = is_bad; reason = subst (λ e. IsReason reading line (ReadLine e)) (sym same) reason }
+
+  pub lists_bad : {X E : Type 0} (r : Result X E) (listed after : List BadLine) → OnOk r ((reading.bad_lines ≡ bad_lines.Skipped) × (after ≡ listed ++ bad ∷ []))
+      → bad.number ≡ number → bad.text.now ≡ line → bad.error ≡ error → IsBad reading line → IsReason reading line (ReadLine error)
+      → OnOk r (ListsLine reading number line listed after)
+  lists_bad (Ok x) listed after (skipped, lists) named quoted same is_bad reason = inr (bad, is_bad_line named quoted same is_bad reason, lists)
+  lists_bad (Err e) listed after ends named quoted same is_bad reason = tt
+
+  pub refuses_bad : {X : Type 0} (r : Result X LoadError) → IfErr r (IfLineError (λ other. (other ≡ bad) × (reading.bad_lines ≡ bad_lines.Refused)))
+      → bad.number ≡ number → bad.text.now ≡ line → bad.error ≡ error → IsBad reading line → IsReason reading line (ReadLine error)
+      → IfErr r (IfLineError (λ other. (reading.bad_lines ≡ bad_lines.Refused) × IsBadLine reading number line other))
+  refuses_bad (Ok x) none named quoted same is_bad reason = tt
+  refuses_bad (Err (Line other)) (is, refused) named quoted same is_bad reason =
+      (refused, subst (IsBadLine reading number line) (sym is) (is_bad_line named quoted same is_bad reason))
+  refuses_bad (Err (Refused cause)) none named quoted same is_bad reason = tt
+
+  pub ends_at_bad : {X : Type 0} (r : Result X LoadError) (m : Values) → IfErr r (IfLineError (λ other. (other ≡ bad) × (reading.bad_lines ≡ bad_lines.Refused)))
+      → bad.number ≡ number → bad.text.now ≡ line → bad.error ≡ error → IsBad reading line → IsReason reading line (ReadLine error)
+      → IfErr r (EndsAtLine reading number line m m)
+  ends_at_bad (Ok x) m none named quoted same is_bad reason = tt
+  ends_at_bad (Err (Line other)) m (is, refused) named quoted same is_bad reason =
+      (refused, subst (IsBadLine reading number line) (sym is) (is_bad_line named quoted same is_bad reason), refl)
+  ends_at_bad (Err (Refused cause)) m none named quoted same is_bad reason = ([], inl refl, refl)
 
 -- one line more
 pub has_routes : (reading : Reading) (done : List (List ℕ)) (line : List ℕ) (routes given : List Route) → HasRoutes reading done routes
@@ -139,8 +170,9 @@ loads_error reading all rest later line number before m after listed (Line bad) 
     let whole : all ≡ old.done ++ line ∷ later = old.split ∙ ap (λ r. old.done ++ r) split in record {
       refused = refused;
       index = length old.done;
-      number = is.named ∙ ap (λ n. n + 1) old.count;
-      text = is.quoted ∙ sym (ap (λ xs. get_or xs (length old.done) []) whole ∙ at_done old.done later line);
+      named =
+          subst (λ l. IsBadLine reading (length old.done + 1) l bad) (sym (ap (λ xs. get_or xs (length old.done) []) whole ∙ at_done old.done later line))
+          (subst (λ n. IsBadLine reading (n + 1) line bad) old.count is);
       first = subst (λ xs. IsFirstBad reading xs (length old.done)) (sym whole) (is_first reading old.done later line old.routes refused old.has is.is_bad);
       routes = old.routes;
       before = subst (λ xs. HasRoutes reading xs old.routes) (sym (ap (take (length old.done)) whole ∙ take-append_seam old.done (line ∷ later))) old.has;

@@ -10,18 +10,15 @@ use Rattle.prefix_trie_bits.specs.Networks.{network_back, network_path}
 use Rattle.prefix_trie.specs.Terms.{begins, digits, number}
 use Rattle.address_ranges.specs.Networks.{AreFewest, is_between}
 use Rattle.prefix_trie_joint.specs.declared.prefix.IpPrefix.{IpPrefix}
-use Rattle.route_tables.specs.Networks.{AreFewestFor, AreOfEnds, AreOfRange, DenotesNone}
-use Rattle.route_tables.specs.declared.range.NetworksError.{NetworksError}
-use Rattle.route_tables.specs.declared.range.NetworksError.TheVariants.{Memory, Text}
+use Rattle.route_tables.specs.Networks.{AreFewestFor, AreOfEnds, AreOfRange}
+use Rattle.route_tables.specs.Routes.{IfLine}
+use Rattle.route_tables.specs.declared.line.ReadError.{ReadError}
+use Rattle.route_tables.proofs.Reading.LineFields.{if_line}
 
--- an error that denotes no networks of one kind denotes none of another
-along : (A B : List IpPrefix → Type 0) → ((networks : List IpPrefix) → B networks → A networks) → (error : NetworksError) → DenotesNone A error → DenotesNone B error
-along A B back (Text error) none = λ networks has. none networks (back networks has)
-along A B back Memory none = tt
-
-pub none_along : {X : Type 0} (r : Result X NetworksError) (A B : List IpPrefix → Type 0) → ((networks : List IpPrefix) → B networks → A networks)
-    → IfErr r (DenotesNone A) → IfErr r (DenotesNone B)
-none_along r A B back none = IfErr-weaker r (DenotesNone A) (DenotesNone B) (along A B back) none
+-- an error that means that there are no networks of one kind means that there are none of another
+pub none_along : {X : Type 0} (r : Result X ReadError) (A B : List IpPrefix → Type 0) → ((networks : List IpPrefix) → B networks → A networks)
+    → IfErr r (IfLine ((networks : List IpPrefix) → ¬ (A networks))) → IfErr r (IfLine ((networks : List IpPrefix) → ¬ (B networks)))
+none_along r A B back none = IfErr-weaker r _ _ (if_line _ _ (λ none networks has. none networks (back networks has))) none
 
 -- two texts are those of at most one range
 pub one_range : (before after : List ℕ) (first last : IpAddr) → IsIpText before first → IsIpText after last → (networks : List IpPrefix)

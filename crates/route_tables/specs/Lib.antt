@@ -18,6 +18,7 @@ pub mod PlainLists
 pub mod Printed
 pub mod PrintedLines
 pub mod Questions
+pub mod Reasons
 pub mod Replaced
 pub mod Routes
 pub mod Rules

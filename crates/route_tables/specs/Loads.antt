@@ -8,7 +8,8 @@ use Rattle.prefix_trie_joint.specs.Joined.{entries_of}
 use Rattle.prefix_trie_joint.specs.Networks.{ip_path}
 use Rattle.prefix_trie_joint.specs.declared.map.JointPrefixMap.{JointPrefixMap}
 use Rattle.route_tables.specs.Replaced.{replaced_by}
-use Rattle.route_tables.specs.Routes.{Gives, HasRoutes, IsBadLine, IsFirstBad, IsGood, Route}
+use Rattle.route_tables.specs.BadLines.{IsBadLine}
+use Rattle.route_tables.specs.Routes.{Gives, HasRoutes, IsFirstBad, IsGood, Route}
 use Rattle.route_tables.specs.Tables.{Values}
 use Rattle.route_tables.specs.declared.load.BadLine.{BadLine}
 use Rattle.route_tables.specs.declared.load.BadLines.TheVariants as bad_lines
@@ -52,9 +53,8 @@ ListsLine reading number line listed after =
 pub record EndsAtBad (reading : Reading) (lines : List (List ℕ)) (m after : Values) (bad : BadLine) : Type 0 where
   pub refused : reading.bad_lines ≡ bad_lines.Refused
   pub index : ℕ
-  pub number : bad.number ≡ index + 1
-  pub text : bad.text.now ≡ slice_index_or lines index []
   pub first : IsFirstBad reading lines index
+  pub named : IsBadLine reading (index + 1) (slice_index_or lines index []) bad
   pub routes : List Route
   pub before : HasRoutes reading (take index lines) routes
   pub entries : after ≡ with_routes routes m
@@ -94,4 +94,4 @@ IfLineError Named (Refused cause) = ⊤
 -- if the error names a line, bad lines are refused, and it is the first one
 abbrev pub NamesFirstBad : Reading → List (List ℕ) → LoadError → Type 0
 NamesFirstBad reading lines error =
-    IfLineError (λ bad. (reading.bad_lines ≡ bad_lines.Refused) × ((index : ℕ) × (bad.number ≡ index + 1) × (bad.text.now ≡ slice_index_or lines index []) × IsFirstBad reading lines index)) error
+    IfLineError (λ bad. (reading.bad_lines ≡ bad_lines.Refused) × ((index : ℕ) × IsFirstBad reading lines index × IsBadLine reading (index + 1) (slice_index_or lines index []) bad)) error

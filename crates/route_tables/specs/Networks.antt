@@ -1,5 +1,5 @@
 -- Networks of a table: their texts, and the networks of a range of addresses. This project's own.
-use Rattle.std.specs.Prelude.{◌≡◌, ◌==◌, ◌≤◌, ⊤, ℕ, All, Bool, true, false, List, [], ◌∷◌, filter, length, map}
+use Rattle.std.specs.Prelude.{◌≡◌, ◌==◌, ◌≤◌, ℕ, All, Bool, true, false, List, [], ◌∷◌, filter, length, map}
 use Rattle.std.specs.List.{after_first, before_first, list_any}
 use Rattle.std.specs.Net.Addr.{ipv4_bits, ipv6_bits}
 use Rattle.std.specs.Net.Grammar.{IsIpText}
@@ -18,8 +18,6 @@ use Rattle.route_tables.specs.declared.network.HostBits.{HostBits}
 use Rattle.route_tables.specs.declared.network.HostBits.TheVariants.{Cleared, Refused}
 use Rattle.route_tables.specs.declared.range.Networks.{Networks}
 use Rattle.route_tables.specs.declared.range.Networks.TheVariants.{Many, One}
-use Rattle.route_tables.specs.declared.range.NetworksError.{NetworksError}
-use Rattle.route_tables.specs.declared.range.NetworksError.TheVariants.{Memory, Text}
 
 -- whether a text has a slash
 abbrev pub has_slash : List ℕ → Bool
@@ -82,8 +80,3 @@ AreOfText host_bits text networks = AreOfTextByHyphen (has_hyphen text) host_bit
 abbrev pub all_networks : Networks → List IpPrefix
 all_networks (One network) = network ∷ []
 all_networks (Many networks) = networks.items
-
--- an error that is about the text means that it denotes no networks
-abbrev pub DenotesNone : (List IpPrefix → Type 0) → NetworksError → Type 0
-DenotesNone Denotes (Text error) = (networks : List IpPrefix) → ¬ (Denotes networks)
-DenotesNone Denotes Memory = ⊤

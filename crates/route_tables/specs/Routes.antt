@@ -1,22 +1,18 @@
 -- The meaning of the lines of a table. This project's own.
-use Rattle.std.specs.Prelude.{◌≡◌, ◌⊎◌, ℕ, ◌+◌, zero, suc, ⊤, codes, false, List, [], ◌∷◌, ◌++◌, map}
+use Rattle.std.specs.Prelude.{◌≡◌, ◌⊎◌, ℕ, zero, suc, ⊤, codes, false, List, [], ◌∷◌, ◌++◌, map}
 use Rattle.std.specs.Net.Grammar.{IsIpText}
 use Rattle.std.specs.Str.{IsUtf8}
 use Rattle.std.specs.declared.net.ip_addr.IpAddr.{IpAddr}
 use Rattle.route_tables.specs.Lines.{fields, has_bare_return, has_hidden}
 use Rattle.route_tables.specs.Networks.{AreOfEnds, AreOfText}
 use Rattle.prefix_trie_joint.specs.declared.prefix.IpPrefix.{IpPrefix}
-use Rattle.route_tables.specs.declared.line.LineError.TheVariants.{Networks}
 use Rattle.route_tables.specs.declared.line.ReadError.{ReadError}
 use Rattle.route_tables.specs.declared.line.ReadError.TheVariants.{Line, Memory}
-use Rattle.route_tables.specs.declared.load.BadLine.{BadLine}
 use Rattle.route_tables.specs.declared.load.BadLines.TheVariants.{Skipped}
 use Rattle.route_tables.specs.declared.load.Reading.{Reading}
 use Rattle.route_tables.specs.declared.load.TableKind.{TableKind}
 use Rattle.route_tables.specs.declared.load.TableKind.TheVariants.{AccessList, AnyValues}
 use Rattle.route_tables.specs.declared.network.HostBits.{HostBits}
-use Rattle.route_tables.specs.declared.range.NetworksError.{NetworksError}
-use Rattle.route_tables.specs.declared.range.NetworksError.TheVariants as networks
 
 -- a network and its value
 abbrev pub Route : Type 0
@@ -83,11 +79,6 @@ pub record IsBad (reading : Reading) (line : List ℕ) : Type 0 where
   pub is_some : ¬ (IsBlank line)
   pub is_none : (networks : List IpPrefix) (value : List ℕ) → ¬ (IsRoute reading line networks value)
 
--- the error of a line whose networks are not returned
-abbrev pub networks_error : NetworksError → ReadError
-networks_error (networks.Text error) = Line (Networks error)
-networks_error networks.Memory = Memory
-
 -- an error that is about the line, and not about an allocation, means a fact
 abbrev pub IfLine : Type 0 → ReadError → Type 0
 IfLine Fact (Line error) = Fact
@@ -122,16 +113,3 @@ abbrev pub IsFirstBad : Reading → List (List ℕ) → ℕ → Type 0
 IsFirstBad reading [] index = ⊥
 IsFirstBad reading (line ∷ later) zero = IsBad reading line
 IsFirstBad reading (line ∷ later) (suc index) = IsGood reading line × IsFirstBad reading later index
-
--- a bad line, with its number
-pub record IsBadLine (reading : Reading) (number : ℕ) (line : List ℕ) (bad : BadLine) : Type 0 where
-  pub named : bad.number ≡ number
-  pub quoted : bad.text.now ≡ line
-  pub is_bad : IsBad reading line
-
--- the list has exactly the bad lines, in order, each with its number; `before` lines are before these
-abbrev pub AreBadLines : Reading → ℕ → List (List ℕ) → List BadLine → Type 0
-AreBadLines reading before [] listed = listed ≡ []
-AreBadLines reading before (line ∷ later) listed =
-    (IsGood reading line × AreBadLines reading (before + 1) later listed)
-    ⊎ ((bad : BadLine) × (rest : List BadLine) × IsBadLine reading (before + 1) line bad × AreBadLines reading (before + 1) later rest × (listed ≡ bad ∷ rest))

@@ -6,6 +6,7 @@ ghost use Rattle.prefix_trie_joint.specs.Networks.{ip_path};
 ghost use Rattle.route_tables.specs.Access.{IsAllowed, IsAllowing, IsDenyFirstDecision, IsLongestDecision, access_reading, decision};
 ghost use Rattle.route_tables.specs.Lines.{table_lines};
 ghost use Rattle.route_tables.specs.Loads.{NamesFirstBad, with_routes};
+ghost use Rattle.route_tables.specs.Replaced.{ReplacesValues};
 ghost use Rattle.route_tables.specs.Routes.{HasRoutes, IsRule, Route};
 ghost use Rattle.route_tables.specs.Rules.{HasRules};
 
@@ -122,6 +123,8 @@ impl AccessList {
             × HasRoutes (access_reading host_bits) (table_lines text.now) routes
             × All (λ route. IsRule route.1) routes
             × (added.0 ≡ with_routes routes self)) }
+        ensures replaced { IfOk result (λ added. ReplacesValues (access_reading host_bits) 0
+            (table_lines text.now) self added.0 added.1.items) }
         ensures first_bad { IfErr result
             (NamesFirstBad (access_reading host_bits) (table_lines text.now)) }
     {

@@ -1,12 +1,14 @@
 //! Reading the addresses of texts, without a table.
 ghost use Rattle.std.specs.Prelude.{◌≡◌, ℕ, IfErr, IfOk, List, OnOk, false};
 ghost use Rattle.prefix_trie.specs.Terms.{no_entries, with_entry};
+ghost use Rattle.prefix_trie_bits.specs.declared.prefix.Refusal.TheVariants.{IndexRange};
 ghost use Rattle.prefix_trie_joint.specs.Networks.{ip_path};
 ghost use Rattle.route_tables.specs.AddressLists.{AddsRoutes, Covers, IsOfSet};
+ghost use Rattle.route_tables.specs.BadLines.{AreBadLines, IsBadLine};
 ghost use Rattle.route_tables.specs.Lines.{table_lines};
 ghost use Rattle.route_tables.specs.Loads.{IfLineError, ListsLine, NamesFirstBad, with_routes};
 ghost use Rattle.route_tables.specs.Networks.{all_networks};
-ghost use Rattle.route_tables.specs.Routes.{AreBadLines, Gives, HasRoutes, IsBadLine, Route, routes_to};
+ghost use Rattle.route_tables.specs.Routes.{Gives, HasRoutes, Route, routes_to};
 ghost use Rattle.route_tables.specs.Tables.{Values};
 
 use crate::line::{ReadError, read_line};
@@ -74,6 +76,7 @@ impl AddressList {
         ensures skipped { IfOk result (λ skipped. AreBadLines reading 0
             (table_lines text.now) skipped.items) }
         ensures first_bad { IfErr result (NamesFirstBad reading (table_lines text.now)) }
+        ensures never_full { IfErr result (λ error. ¬ (error ≡ LoadError.Refused IndexRange)) }
     {
         let mut skipped = Vec::new(alloc);
         let mut number = 0;
@@ -102,6 +105,7 @@ impl AddressList {
             (ListsLine reading number line.now skipped.old.items skipped.new.items) }
         ensures refused { IfErr result (IfLineError (λ bad. (reading.bad_lines ≡ BadLines.Refused)
             × IsBadLine reading number line.now bad)) }
+        ensures never_full { IfErr result (λ error. ¬ (error ≡ LoadError.Refused IndexRange)) }
     {
         match read_line(line, reading, alloc) {
             Ok(None) => Ok(()),

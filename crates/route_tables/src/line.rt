@@ -1,20 +1,21 @@
 //! Reading one line of a table.
-ghost use Rattle.std.specs.Prelude.{◌≡◌, [], ◌∷◌, ◌↔◌, List, ℕ, codes, IfErr, IfOk, IsTrue, MatchOption, MatchResult};
+ghost use Rattle.std.specs.Prelude.{◌≡◌, ◌⊎◌, [], ◌∷◌, ◌↔◌, List, ℕ, codes, IfErr, IfOk, IsTrue, MatchOption, MatchResult};
 ghost use Rattle.std.specs.Net.Grammar.{IsIpText};
 ghost use Rattle.std.specs.Str.{IsUtf8};
 ghost use Rattle.std.specs.declared.net.ip_addr.IpAddr.{IpAddr as Ip};
 ghost use Rattle.prefix_trie_joint.specs.declared.prefix.IpPrefix.{IpPrefix};
 ghost use Rattle.route_tables.specs.Lines.{fields, has_bare_return, has_hidden, has_separator, is_direction, is_hidden, is_zero_width};
 ghost use Rattle.route_tables.specs.Networks.{AreOfEnds, AreOfText, all_networks};
+ghost use Rattle.route_tables.specs.Reasons.{AreEndsReason, AreNoEndsAndValue, AreNoNetworksAndValue, IsFieldReason, IsFieldsReason, IsReason, IsRuleInOtherCase, IsValueReason, IsValueTextReason};
 ghost use Rattle.route_tables.specs.Routes.{AreEndsAndValue, AreFieldsOf, AreNetworksAndValue, IfLine, IsBad, IsBlank, IsRoute, IsRule, IsValue, IsValueText};
 
 use crate::lines::{has_bare_return, split_field};
 use crate::load::{Reading, TableKind};
 use crate::messages::OUT_OF_MEMORY;
-use crate::network::HostBits;
-use crate::range::{Networks, NetworksError, RangeError, parse_network_or_range, parse_range};
+use crate::network::{HostBits, NetworkError};
+use crate::range::{Networks, parse_network_or_range, parse_range};
 use crate::rule::{is_rule, is_rule_in_other_case};
-use std::alloc::Global;
+use std::alloc::{AllocError, Global};
 use std::error::Error;
 use std::fmt::{self, Display, Formatter, Write};
 use std::net::IpAddr;
@@ -27,8 +28,14 @@ pub enum LineError {
     BareReturn,
     /// A field is not UTF-8.
     NotUtf8,
-    /// The first field denotes no networks, or the fields around a hyphen do not.
-    Networks(RangeError),
+    /// The first field has no hyphen, and is neither a network nor an address.
+    Network(NetworkError),
+    /// The text before a hyphen is not an address, or the text after it is not.
+    RangeEnds,
+    /// One end of a range is an IPv4 address, and the other an IPv6 address.
+    RangeFamilies,
+    /// The first address of a range is after its last.
+    RangeOrder,
     /// The value has a control character, white space, or a character that is not visible or changes the direction of text.
     HiddenCharacter,
     /// The value is an address.
@@ -46,7 +53,13 @@ impl Display for LineError {
         f.write_str(match self {
             LineError::BareReturn => "carriage return without a line feed",
             LineError::NotUtf8 => "not UTF-8",
-            LineError::Networks(error) => return Display::fmt(error, f),
+            LineError::Network(NetworkError::Address) => {
+                "expected a network, an address or a range"
+            }
+            LineError::Network(error) => return Display::fmt(error, f),
+            LineError::RangeEnds => "expected an address before and after the hyphen",
+            LineError::RangeFamilies => "range from one address family to the other",
+            LineError::RangeOrder => "first address of the range is after its last",
             LineError::HiddenCharacter => "white space, hidden or control character in the value",
             LineError::AddressAsValue => {
                 "the value is an address; for example, use 10.0.0.0/8 or 10.0.0.0-10.255.255.255"
@@ -90,16 +103,13 @@ impl From<LineError> for ReadError {
     }
 }
 
-impl From<NetworksError> for ReadError {
-    ghost use Rattle.route_tables.specs.Routes.{networks_error};
+impl From<AllocError> for ReadError {
+    ghost use Rattle.route_tables.specs.declared.line.ReadError.TheVariants.{Memory};
 
-    ghost from_gives = { λ error read. read ≡ networks_error error };
+    ghost from_gives = { λ _ error. error ≡ Memory };
 
-    fn from(error: NetworksError) -> ReadError {
-        match error {
-            NetworksError::Text(error) => ReadError::Line(LineError::Networks(error)),
-            NetworksError::Memory => ReadError::Memory,
-        }
+    fn from(_error: AllocError) -> ReadError {
+        ReadError::Memory
     }
 }
 
@@ -111,7 +121,7 @@ impl From<NetworksError> for ReadError {
 ///
 /// # Errors
 ///
-/// Returns a reason why the line is neither. Returns `Memory` if an allocation fails. Only a range needs one.
+/// Returns the first reason why the line is neither. Returns `Memory` if an allocation fails. Only a range needs one.
 ///
 /// # Examples
 ///
@@ -120,7 +130,7 @@ impl From<NetworksError> for ReadError {
 /// read_line(b"10.0.0.0/8 core # why", reading, alloc);      // Ok(Some((One(V4(10.0.0.0/8)), "core")))
 /// read_line(b"10.0.0.1", reading, alloc);                   // Ok(Some((One(V4(10.0.0.1/32)), "")))
 /// read_line(b"# a comment", reading, alloc);                // Ok(None)
-/// read_line(b"10.0.0.1/8 core", reading, alloc);            // Err(Line(Networks(One(HostBits))))
+/// read_line(b"10.0.0.1/8 core", reading, alloc);            // Err(Line(Network(HostBits)))
 /// read_line(b"10.0.0.0 255.0.0.0", reading, alloc);         // Err(Line(AddressAsValue))
 /// ```
 #[inline(always)]
@@ -133,6 +143,7 @@ pub fn read_line(
         (λ found. MatchOption found (IsBlank line.now)
         (λ route. IsRoute reading line.now (all_networks route.0) route.1.now)) }
     ensures bad { IfErr result (IfLine (IsBad reading line.now)) }
+    ensures reason { IfErr result (IsReason reading line.now) }
 {
     if has_bare_return(line) {
         return Err(ReadError::Line(LineError::BareReturn));
@@ -157,6 +168,7 @@ fn read_fields<'a>(
         (all_networks route.0) route.1.now) }
     ensures none { IfErr result (IfLine ((networks : List IpPrefix) (value : List ℕ)
         → ¬ (AreFieldsOf reading first.now (fields rest.now) networks value))) }
+    ensures reason { IfErr result (IsFieldsReason reading first.now (fields rest.now)) }
 {
     match split_field(rest) {
         None => read_alone(first, reading, alloc),
@@ -174,6 +186,7 @@ fn read_alone(
         (all_networks route.0) route.1.now) }
     ensures none { IfErr result (IfLine ((networks : List IpPrefix) (value : List ℕ)
         → ¬ (AreNetworksAndValue reading first.now [] networks value))) }
+    ensures reason { IfErr result (AreNoNetworksAndValue reading first.now []) }
 {
     let networks = read_networks(first, reading.host_bits, alloc)?;
     let value = no_value(reading.kind)?;
@@ -192,6 +205,8 @@ fn read_pair<'a>(
         (second.now ∷ fields rest.now) (all_networks route.0) route.1.now) }
     ensures none { IfErr result (IfLine ((networks : List IpPrefix) (value : List ℕ)
         → ¬ (AreFieldsOf reading first.now (second.now ∷ fields rest.now) networks value))) }
+    ensures reason { IfErr result
+        (IsFieldsReason reading first.now (second.now ∷ fields rest.now)) }
 {
     match split_end(second, rest) {
         None => read_valued(first, second, rest, reading, alloc),
@@ -226,6 +241,8 @@ fn read_valued<'a>(
     ensures none { IfErr result (IfLine ((networks : List IpPrefix) (value : List ℕ)
         → ¬ (AreNetworksAndValue reading first.now (second.now ∷ fields rest.now)
         networks value))) }
+    ensures reason { IfErr result
+        (AreNoNetworksAndValue reading first.now (second.now ∷ fields rest.now)) }
 {
     let networks = read_networks(first, reading.host_bits, alloc)?;
     let value = read_last(second, rest, reading.kind)?;
@@ -244,6 +261,8 @@ fn read_spaced<'a>(
         (fields rest.now) (all_networks route.0) route.1.now) }
     ensures none { IfErr result (IfLine ((networks : List IpPrefix) (value : List ℕ)
         → ¬ (AreEndsAndValue reading first.now last.now (fields rest.now) networks value))) }
+    ensures reason { IfErr result
+        (AreNoEndsAndValue reading first.now last.now (fields rest.now)) }
 {
     let networks = read_ends(first, last, alloc)?;
     let value = read_rest(rest, reading.kind)?;
@@ -256,11 +275,12 @@ fn read_networks(field: &[u8], host_bits: HostBits, alloc: Global) -> Result<Net
         (λ networks. IsUtf8 field.now × AreOfText host_bits field.now (all_networks networks)) }
     ensures none { IfErr result (IfLine (IsUtf8 field.now → (networks : List IpPrefix)
         → ¬ (AreOfText host_bits field.now networks))) }
+    ensures reason { IfErr result (IsFieldReason host_bits field.now) }
 {
     let Ok(text) = str::from_utf8(field) else {
         return Err(ReadError::Line(LineError::NotUtf8));
     };
-    Ok(parse_network_or_range(text, host_bits, alloc)?)
+    parse_network_or_range(text, host_bits, alloc)
 }
 
 // Reads the fields of the first and the last address of a range.
@@ -269,17 +289,19 @@ fn read_ends(first: &[u8], last: &[u8], alloc: Global) -> Result<Networks, ReadE
         × AreOfEnds first.now last.now (all_networks networks)) }
     ensures none { IfErr result (IfLine (IsUtf8 first.now → IsUtf8 last.now
         → (networks : List IpPrefix) → ¬ (AreOfEnds first.now last.now networks))) }
+    ensures reason { IfErr result (AreEndsReason first.now last.now) }
 {
     let (Ok(first), Ok(last)) = (str::from_utf8(first), str::from_utf8(last)) else {
         return Err(ReadError::Line(LineError::NotUtf8));
     };
-    Ok(parse_range(first, last, alloc)?)
+    parse_range(first, last, alloc)
 }
 
 // Reads what follows the networks of a line: a value or nothing.
 fn read_rest(rest: &[u8], kind: TableKind) -> Result<&str, LineError>
-    ensures { MatchResult result (λ value. IsValue kind (fields rest.now) value.now)
+    ensures value { MatchResult result (λ value. IsValue kind (fields rest.now) value.now)
         (λ _. (value : List ℕ) → ¬ (IsValue kind (fields rest.now) value)) }
+    ensures reason { IfErr result (IsValueReason kind (fields rest.now)) }
 {
     match split_field(rest) {
         None => no_value(kind),
@@ -289,8 +311,9 @@ fn read_rest(rest: &[u8], kind: TableKind) -> Result<&str, LineError>
 
 // Returns the empty value of a line without one.
 fn no_value(kind: TableKind) -> Result<&'static str, LineError>
-    ensures { MatchResult result (λ value. IsValue kind [] value.now)
+    ensures value { MatchResult result (λ value. IsValue kind [] value.now)
         (λ _. (value : List ℕ) → ¬ (IsValue kind [] value)) }
+    ensures reason { IfErr result (IsValueReason kind []) }
 {
     match kind {
         TableKind::AnyValues => Ok(""),
@@ -300,8 +323,10 @@ fn no_value(kind: TableKind) -> Result<&'static str, LineError>
 
 // Reads a value, which no field follows.
 fn read_last<'a>(field: &'a [u8], rest: &[u8], kind: TableKind) -> Result<&'a str, LineError>
-    ensures { MatchResult result (λ value. IsValue kind (field.now ∷ fields rest.now) value.now)
+    ensures value { MatchResult result
+        (λ value. IsValue kind (field.now ∷ fields rest.now) value.now)
         (λ _. (value : List ℕ) → ¬ (IsValue kind (field.now ∷ fields rest.now) value)) }
+    ensures reason { IfErr result (IsValueReason kind (field.now ∷ fields rest.now)) }
 {
     let value = read_value(field, kind)?;
     if split_field(rest).is_some() {
@@ -312,8 +337,10 @@ fn read_last<'a>(field: &'a [u8], rest: &[u8], kind: TableKind) -> Result<&'a st
 
 // Reads a value.
 fn read_value(field: &[u8], kind: TableKind) -> Result<&str, LineError>
-    ensures { MatchResult result (λ value. (value.now ≡ field.now) × IsValueText kind field.now)
+    ensures value { MatchResult result
+        (λ value. (value.now ≡ field.now) × IsValueText kind field.now)
         (λ _. ¬ (IsValueText kind field.now)) }
+    ensures reason { IfErr result (IsValueTextReason kind field.now) }
 {
     let Ok(text) = str::from_utf8(field) else {
         return Err(LineError::NotUtf8);
@@ -332,8 +359,12 @@ fn read_value(field: &[u8], kind: TableKind) -> Result<&str, LineError>
 
 // Returns a value back if it is a rule.
 fn read_rule(value: &str) -> Result<&str, LineError>
-    ensures { MatchResult result (λ same. (same.now ≡ value.now) × IsRule value.now)
+    ensures rule { MatchResult result (λ same. (same.now ≡ value.now) × IsRule value.now)
         (λ _. ¬ (IsRule value.now)) }
+    ensures reason { IfErr result (λ error.
+        ((error ≡ LineError.CapitalLetters) × ¬ (IsRule value.now) × IsRuleInOtherCase value.now)
+        ⊎ ((error ≡ LineError.OtherValue) × ¬ (IsRule value.now)
+        × ¬ (IsRuleInOtherCase value.now))) }
 {
     if is_rule(value) {
         Ok(value)

@@ -9,7 +9,6 @@ use crate::lines::split_field;
 use crate::messages::excerpt::Excerpt;
 use crate::network::{HostBits, NetworkError, parse_network_with};
 use crate::questions::QuestionError;
-use crate::range::RangeError;
 use crate::vrp_lines::{VrpError, second_field};
 use prefix_trie::ParseNetworkError;
 use std::fmt::{self, Display, Formatter, Write};
@@ -67,7 +66,7 @@ impl Display for NetworkMessage<'_> {
 impl Display for LineMessage<'_> {
     fn fmt<W: Write>(&self, f: &mut Formatter<W>) -> fmt::Result {
         match self.error {
-            LineError::Networks(RangeError::One(error)) if error != NetworkError::Address => {
+            LineError::Network(error) if error != NetworkError::Address => {
                 let text = first_field(self.line);
                 Display::fmt(&NetworkMessage { text, error }, f)
             }

@@ -1,6 +1,7 @@
 //! Smaller tables in which every lookup gives the same value.
 ghost use Rattle.std.specs.Prelude.{◌≡◌, ◌≢◌, ℕ, Bool, List, IfErr, OnOk, Some};
 ghost use Rattle.std.specs.FinMap.{get};
+ghost use Rattle.prefix_trie_bits.specs.declared.prefix.Refusal.TheVariants.{Memory};
 ghost use Rattle.prefix_trie_ops.specs.Values.{value_above, value_of};
 
 use crate::table::FamilyTable;
@@ -34,6 +35,7 @@ pub fn remove_redundant<P: Prefix>(table: &mut FamilyTable<P>, alloc: Global) ->
     ensures part { OnOk result
         ((s : List Bool) (v : List ℕ) → get table.new.entries s ≡ Some v
         → get table.old.entries s ≡ Some v) }
+    ensures only_memory { IfErr result (λ cause. cause ≡ Memory) }
     ensures unchanged { IfErr result (λ _. table.new ≡ table.old) }
 {
     listing_laws::<Value>();

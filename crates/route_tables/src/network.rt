@@ -1,8 +1,11 @@
 //! Networks of a table, and their texts.
-ghost use Rattle.std.specs.Prelude.{◌≡◌, MatchResult, false, true};
+ghost use Rattle.std.specs.Prelude.{◌≡◌, IfErr, MatchResult, false, true};
+ghost use Rattle.std.specs.Net.Grammar.{IsIpText};
+ghost use Rattle.std.specs.declared.net.ip_addr.IpAddr.{IpAddr as Ip};
 ghost use Rattle.prefix_trie_joint.specs.Networks.{lowest_ip};
 ghost use Rattle.prefix_trie_joint.specs.declared.prefix.IpPrefix.{IpPrefix};
 ghost use Rattle.route_tables.specs.Networks.{IsNetworkText, IsReadAs, IsTextBySlash, has_slash};
+ghost use Rattle.route_tables.specs.Reasons.{IsNetworkReason, IsSlashReason};
 ghost use Rattle.route_tables.specs.declared.network.HostBits.{HostBits};
 
 use prefix_trie::{ParseNetworkError, Prefix};
@@ -63,8 +66,9 @@ impl Error for NetworkError {}
 /// parse_network("ten");              // Err(Address)
 /// ```
 pub fn parse_network(text: &str) -> Result<IpPrefix, NetworkError>
-    ensures { MatchResult result (IsNetworkText HostBits.Refused text.now)
+    ensures network { MatchResult result (IsNetworkText HostBits.Refused text.now)
         (λ _. (network : IpPrefix) → ¬ (IsNetworkText HostBits.Refused text.now network)) }
+    ensures reason { IfErr result (IsNetworkReason HostBits.Refused text.now) }
 {
     parse_network_with(text, HostBits::Refused)
 }
@@ -82,8 +86,9 @@ pub fn parse_network(text: &str) -> Result<IpPrefix, NetworkError>
 /// parse_network_with("10.0.0.1/8", HostBits::Refused);       // Err(HostBits)
 /// ```
 pub fn parse_network_with(text: &str, host_bits: HostBits) -> Result<IpPrefix, NetworkError>
-    ensures { MatchResult result (IsNetworkText host_bits text.now)
+    ensures network { MatchResult result (IsNetworkText host_bits text.now)
         (λ _. (network : IpPrefix) → ¬ (IsNetworkText host_bits text.now network)) }
+    ensures reason { IfErr result (IsNetworkReason host_bits text.now) }
 {
     if has_slash(text) {
         parse_with_length(text, host_bits)
@@ -101,8 +106,11 @@ fn has_slash(text: &str) -> bool
 
 // Reads an address, as the network that has all its bits.
 fn parse_host(text: &str) -> Result<IpPrefix, NetworkError>
-    ensures { (host_bits : HostBits) → MatchResult result (IsTextBySlash false host_bits text.now)
+    ensures network { (host_bits : HostBits)
+        → MatchResult result (IsTextBySlash false host_bits text.now)
         (λ _. (network : IpPrefix) → ¬ (IsTextBySlash false host_bits text.now network)) }
+    ensures reason { IfErr result (λ error. (error ≡ NetworkError.Address)
+        × ((address : Ip) → ¬ (IsIpText text.now address))) }
 {
     match text.parse::<IpAddr>() {
         Ok(address) => Ok(IpPrefix::host(address)),
@@ -112,8 +120,9 @@ fn parse_host(text: &str) -> Result<IpPrefix, NetworkError>
 
 // Reads a network with a length.
 fn parse_with_length(text: &str, host_bits: HostBits) -> Result<IpPrefix, NetworkError>
-    ensures { MatchResult result (IsTextBySlash true host_bits text.now)
+    ensures network { MatchResult result (IsTextBySlash true host_bits text.now)
         (λ _. (network : IpPrefix) → ¬ (IsTextBySlash true host_bits text.now network)) }
+    ensures reason { IfErr result (IsSlashReason host_bits text.now) }
 {
     ip_text_laws();
     match text.parse::<IpPrefix>() {
@@ -124,8 +133,10 @@ fn parse_with_length(text: &str, host_bits: HostBits) -> Result<IpPrefix, Networ
 
 // Returns a network without its host bits, or an error if it has some that are refused.
 fn without_host_bits(network: IpPrefix, host_bits: HostBits) -> Result<IpPrefix, NetworkError>
-    ensures { MatchResult result (IsReadAs host_bits network)
+    ensures network { MatchResult result (IsReadAs host_bits network)
         (λ _. (other : IpPrefix) → ¬ (IsReadAs host_bits network other)) }
+    ensures reason { IfErr result (λ error. (error ≡ NetworkError.HostBits)
+        × (host_bits ≡ HostBits.Refused) × ¬ (network ≡ lowest_ip network)) }
 {
     match host_bits {
         HostBits::Refused => refuse_host_bits(network),
@@ -146,8 +157,10 @@ fn lowest(network: IpPrefix) -> IpPrefix
 // Returns a network back if each bit of its address after its length is 0.
 #[tactic(auto, using(crate::proofs::HostBits::lowest_ipv4, crate::proofs::HostBits::of_lowest_ipv4, crate::proofs::HostBits::lowest_ipv6, crate::proofs::HostBits::of_lowest_ipv6))]
 fn refuse_host_bits(network: IpPrefix) -> Result<IpPrefix, NetworkError>
-    ensures { MatchResult result (λ same. (same ≡ network) × (network ≡ lowest_ip network))
+    ensures network { MatchResult result (λ same. (same ≡ network) × (network ≡ lowest_ip network))
         (λ _. ¬ (network ≡ lowest_ip network)) }
+    ensures reason { IfErr result (λ error. (error ≡ NetworkError.HostBits)
+        × ¬ (network ≡ lowest_ip network)) }
 {
     match network {
         IpPrefix::V4(network) => {

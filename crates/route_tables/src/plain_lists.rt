@@ -1,9 +1,10 @@
 //! Lists of networks without values, which are read without a table.
-ghost use Rattle.std.specs.Prelude.{IfErr, IfOk, IfSome};
+ghost use Rattle.std.specs.Prelude.{◌≡◌, IfErr, IfOk, IfSome};
+ghost use Rattle.prefix_trie_bits.specs.declared.prefix.Refusal.TheVariants.{IndexRange};
+ghost use Rattle.route_tables.specs.BadLines.{AreBadLines};
 ghost use Rattle.route_tables.specs.Lines.{table_lines};
 ghost use Rattle.route_tables.specs.Loads.{NamesFirstBad};
 ghost use Rattle.route_tables.specs.PlainLists.{AreFewestOfLines};
-ghost use Rattle.route_tables.specs.Routes.{AreBadLines};
 
 use crate::address_list::AddressList;
 use crate::load::{BadLine, LoadError, Reading};
@@ -51,6 +52,7 @@ pub fn fewest_of_plain(
     ensures skipped { IfOk result (λ found. IfSome found
         (λ fewest. AreBadLines reading 0 (table_lines text.now) fewest.skipped.items)) }
     ensures first_bad { IfErr result (NamesFirstBad reading (table_lines text.now)) }
+    ensures never_full { IfErr result (λ error. ¬ (error ≡ LoadError.Refused IndexRange)) }
 {
     lookup_laws::<Ipv4Prefix, Value>();
     match_laws::<Value>();

@@ -1,15 +1,17 @@
 //! The networks of a text: a network, an address, or a range of addresses.
-ghost use Rattle.std.specs.Prelude.{◌≡◌, IfErr, IfOk, false};
-ghost use Rattle.route_tables.specs.Networks.{AreOfEnds, AreOfIpv4Range, AreOfIpv6Range, AreOfRange, AreOfText, AreOfTextByHyphen, DenotesNone, all_networks, has_hyphen};
+ghost use Rattle.std.specs.Prelude.{◌≡◌, IfErr, IfOk, List, false};
+ghost use Rattle.std.specs.declared.net.ip_addr.IpAddr.TheVariants as Ip;
+ghost use Rattle.prefix_trie_joint.specs.declared.prefix.IpPrefix.{IpPrefix};
+ghost use Rattle.route_tables.specs.Networks.{AreOfEnds, AreOfIpv4Range, AreOfIpv6Range, AreOfRange, AreOfText, AreOfTextByHyphen, all_networks, has_hyphen};
+ghost use Rattle.route_tables.specs.Reasons.{IsEndsReason, IsRangeReason, IsReasonByHyphen, IsTextReason};
+ghost use Rattle.route_tables.specs.Routes.{IfLine};
 
-use crate::messages::OUT_OF_MEMORY;
-use crate::network::{HostBits, NetworkError, parse_network_with};
+use crate::line::{LineError, ReadError};
+use crate::network::{HostBits, parse_network_with};
 use address_ranges::networks_of;
 use prefix_trie::{Ipv4Prefix, Ipv6Prefix};
 use prefix_trie_joint::IpPrefix;
-use std::alloc::{AllocError, Global};
-use std::error::Error;
-use std::fmt::{self, Display, Formatter, Write};
+use std::alloc::Global;
 use std::net::{IpAddr, Ipv4Addr, Ipv6Addr};
 use std::slice;
 
@@ -41,65 +43,6 @@ impl Networks {
     }
 }
 
-/// Why a text denotes no networks.
-#[derive(Clone, Copy, Debug, PartialEq, Eq)]
-pub enum RangeError {
-    /// The text has no hyphen, and is neither a network nor an address.
-    One(NetworkError),
-    /// The text before the first hyphen is not an address, or the text after it is not.
-    Ends,
-    /// One end of the range is an IPv4 address, and the other an IPv6 address.
-    Families,
-    /// The first address is after the last.
-    Order,
-}
-
-impl Display for RangeError {
-    fn fmt<W: Write>(&self, f: &mut Formatter<W>) -> fmt::Result {
-        match self {
-            RangeError::One(NetworkError::Address) => {
-                f.write_str("expected a network, an address or a range")
-            }
-            RangeError::One(error) => Display::fmt(error, f),
-            RangeError::Ends => f.write_str("expected an address before and after the hyphen"),
-            RangeError::Families => f.write_str("range from one address family to the other"),
-            RangeError::Order => f.write_str("first address of the range is after its last"),
-        }
-    }
-}
-
-impl Error for RangeError {}
-
-/// Why the networks of a text are not returned.
-#[derive(Clone, Copy, Debug, PartialEq, Eq)]
-pub enum NetworksError {
-    /// The text denotes none.
-    Text(RangeError),
-    /// An allocation failed.
-    Memory,
-}
-
-impl Display for NetworksError {
-    fn fmt<W: Write>(&self, f: &mut Formatter<W>) -> fmt::Result {
-        match self {
-            NetworksError::Text(error) => Display::fmt(error, f),
-            NetworksError::Memory => f.write_str(OUT_OF_MEMORY),
-        }
-    }
-}
-
-impl Error for NetworksError {}
-
-impl From<AllocError> for NetworksError {
-    ghost use Rattle.route_tables.specs.declared.range.NetworksError.TheVariants.{Memory};
-
-    ghost from_gives = { λ _ error. error ≡ Memory };
-
-    fn from(_error: AllocError) -> NetworksError {
-        NetworksError::Memory
-    }
-}
-
 /// Reads a network, an address, or a range of addresses such as `10.0.0.0-10.0.1.255`.
 ///
 /// A text with a hyphen is a range: the first address, the hyphen and the last address, both of one family. Its networks
@@ -116,15 +59,17 @@ impl From<AllocError> for NetworksError {
 /// ```rust
 /// let networks = parse_network_or_range("10.0.0.1-10.0.0.4", HostBits::Refused, alloc)?;
 /// networks.as_slice();        // [V4(10.0.0.1/32), V4(10.0.0.2/31), V4(10.0.0.4/32)]
-/// parse_network_or_range("10.0.0.4-10.0.0.1", HostBits::Refused, alloc).err();       // Some(Text(Order))
+/// parse_network_or_range("10.0.0.4-10.0.0.1", HostBits::Refused, alloc).err();       // Some(Line(RangeOrder))
 /// ```
 pub fn parse_network_or_range(
     text: &str,
     host_bits: HostBits,
     alloc: Global,
-) -> Result<Networks, NetworksError>
+) -> Result<Networks, ReadError>
     ensures read { IfOk result (λ networks. AreOfText host_bits text.now (all_networks networks)) }
-    ensures none { IfErr result (DenotesNone (AreOfText host_bits text.now)) }
+    ensures none { IfErr result (IfLine ((networks : List IpPrefix)
+        → ¬ (AreOfText host_bits text.now networks))) }
+    ensures reason { IfErr result (IsTextReason host_bits text.now) }
 {
     // Most texts have no hyphen, and a search of bytes finds that sooner than `split_once`.
     if has_hyphen(text) {
@@ -135,9 +80,11 @@ pub fn parse_network_or_range(
 }
 
 // Reads a text that is split at its first hyphen, or one network if there is no hyphen.
-fn parse_split(text: &str, host_bits: HostBits, alloc: Global) -> Result<Networks, NetworksError>
+fn parse_split(text: &str, host_bits: HostBits, alloc: Global) -> Result<Networks, ReadError>
     ensures read { IfOk result (λ networks. AreOfText host_bits text.now (all_networks networks)) }
-    ensures none { IfErr result (DenotesNone (AreOfText host_bits text.now)) }
+    ensures none { IfErr result (IfLine ((networks : List IpPrefix)
+        → ¬ (AreOfText host_bits text.now networks))) }
+    ensures reason { IfErr result (IsTextReason host_bits text.now) }
 {
     match text.split_once('-') {
         Some((first, last)) => parse_range(first, last, alloc),
@@ -153,61 +100,73 @@ fn has_hyphen(text: &str) -> bool
 }
 
 // Reads one network.
-fn parse_one(text: &str, host_bits: HostBits) -> Result<Networks, NetworksError>
+fn parse_one(text: &str, host_bits: HostBits) -> Result<Networks, ReadError>
     ensures read { IfOk result
         (λ networks. AreOfTextByHyphen false host_bits text.now (all_networks networks)) }
-    ensures none { IfErr result (DenotesNone (AreOfTextByHyphen false host_bits text.now)) }
+    ensures none { IfErr result (IfLine ((networks : List IpPrefix)
+        → ¬ (AreOfTextByHyphen false host_bits text.now networks))) }
+    ensures reason { IfErr result (IsReasonByHyphen false host_bits text.now) }
 {
     match parse_network_with(text, host_bits) {
         Ok(network) => Ok(Networks::One(network)),
-        Err(error) => Err(NetworksError::Text(RangeError::One(error))),
+        Err(error) => Err(ReadError::Line(LineError::Network(error))),
     }
 }
 
 // Reads the two ends of a range, and returns its networks.
-pub(crate) fn parse_range(first: &str, last: &str, alloc: Global) -> Result<Networks, NetworksError>
+pub(crate) fn parse_range(first: &str, last: &str, alloc: Global) -> Result<Networks, ReadError>
     ensures read { IfOk result (λ networks. AreOfEnds first.now last.now (all_networks networks)) }
-    ensures none { IfErr result (DenotesNone (AreOfEnds first.now last.now)) }
+    ensures none { IfErr result (IfLine ((networks : List IpPrefix)
+        → ¬ (AreOfEnds first.now last.now networks))) }
+    ensures reason { IfErr result (IsEndsReason first.now last.now) }
 {
     let (Ok(first), Ok(last)) = (first.parse::<IpAddr>(), last.parse::<IpAddr>()) else {
-        return Err(NetworksError::Text(RangeError::Ends));
+        return Err(ReadError::Line(LineError::RangeEnds));
     };
     range_networks(first, last, alloc)
 }
 
 // Returns the networks of a range of addresses.
-fn range_networks(first: IpAddr, last: IpAddr, alloc: Global) -> Result<Networks, NetworksError>
+fn range_networks(first: IpAddr, last: IpAddr, alloc: Global) -> Result<Networks, ReadError>
     ensures read { IfOk result (λ networks. AreOfRange first last (all_networks networks)) }
-    ensures none { IfErr result (DenotesNone (AreOfRange first last)) }
+    ensures none { IfErr result (IfLine ((networks : List IpPrefix)
+        → ¬ (AreOfRange first last networks))) }
+    ensures reason { IfErr result (IsRangeReason first last) }
 {
     match (first, last) {
         (IpAddr::V4(first), IpAddr::V4(last)) => ipv4_networks(first, last, alloc),
         (IpAddr::V6(first), IpAddr::V6(last)) => ipv6_networks(first, last, alloc),
-        _ => Err(NetworksError::Text(RangeError::Families)),
+        (IpAddr::V4(_), IpAddr::V6(_)) | (IpAddr::V6(_), IpAddr::V4(_)) => {
+            Err(ReadError::Line(LineError::RangeFamilies))
+        }
     }
 }
 
 // Returns the networks of a range of IPv4 addresses.
-fn ipv4_networks(first: Ipv4Addr, last: Ipv4Addr, alloc: Global) -> Result<Networks, NetworksError>
+fn ipv4_networks(first: Ipv4Addr, last: Ipv4Addr, alloc: Global) -> Result<Networks, ReadError>
     ensures read { IfOk result (λ networks. AreOfIpv4Range first last (all_networks networks)) }
-    ensures none { IfErr result (DenotesNone (AreOfIpv4Range first last)) }
+    ensures none { IfErr result (IfLine ((networks : List IpPrefix)
+        → ¬ (AreOfIpv4Range first last networks))) }
+    ensures reason { IfErr result (IsRangeReason (Ip.V4 first) (Ip.V4 last)) }
 {
     let (first, last) = (first.to_bits(), last.to_bits());
     if last < first {
-        return Err(NetworksError::Text(RangeError::Order));
+        return Err(ReadError::Line(LineError::RangeOrder));
     }
     let networks = networks_of::<Ipv4Prefix, Global>(first, last, alloc)?;
     Ok(Networks::Many(networks.into_iter().map(IpPrefix::V4).collect(alloc)?))
 }
 
 // Returns the networks of a range of IPv6 addresses.
-fn ipv6_networks(first: Ipv6Addr, last: Ipv6Addr, alloc: Global) -> Result<Networks, NetworksError>
+fn ipv6_networks(first: Ipv6Addr, last: Ipv6Addr, alloc: Global) -> Result<Networks, ReadError>
     ensures read { IfOk result (λ networks. AreOfIpv6Range first last (all_networks networks)) }
-    ensures none { IfErr result (DenotesNone (AreOfIpv6Range first last)) }
+    ensures none { IfErr result (IfLine ((networks : List IpPrefix)
+        → ¬ (AreOfIpv6Range first last networks))) }
+    ensures reason { IfErr result (IsRangeReason (Ip.V6 first) (Ip.V6 last)) }
 {
     let (first, last) = (first.to_bits(), last.to_bits());
     if last < first {
-        return Err(NetworksError::Text(RangeError::Order));
+        return Err(ReadError::Line(LineError::RangeOrder));
     }
     let networks = networks_of::<Ipv6Prefix, Global>(first, last, alloc)?;
     Ok(Networks::Many(networks.into_iter().map(IpPrefix::V6).collect(alloc)?))

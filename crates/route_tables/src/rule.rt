@@ -1,5 +1,6 @@
 //! The rules of access lists: the values `allow` and `deny`.
 ghost use Rattle.std.specs.Prelude.{IsTrue, ◌↔◌};
+ghost use Rattle.route_tables.specs.Reasons.{IsRuleInOtherCase};
 ghost use Rattle.route_tables.specs.Routes.{IsRule};
 
 /// The value of networks whose addresses are allowed.
@@ -16,6 +17,8 @@ pub(crate) fn is_rule(value: &str) -> bool
 }
 
 // Returns whether a value is a rule except for the case of its letters.
-pub(crate) fn is_rule_in_other_case(value: &str) -> bool {
+pub(crate) fn is_rule_in_other_case(value: &str) -> bool
+    ensures { IsTrue result ↔ IsRuleInOtherCase value.now }
+{
     value.eq_ignore_ascii_case(ALLOW) || value.eq_ignore_ascii_case(DENY)
 }

@@ -3,8 +3,8 @@ use Rattle.std.proofs.Common.{◌≡◌, ◌⊎◌, ◌∙◌, ℕ, ◌+◌, ◌
 use Rattle.std.proofs.lemmas.Bool.{ltb-false, ltb-true}
 use Rattle.std.proofs.lemmas.List.{take-append-le, take_all}
 use Rattle.prefix_trie_joint.specs.declared.prefix.IpPrefix.{IpPrefix}
-use Rattle.route_tables.specs.BadLines.{AreFirstOf, FindsLine}
-use Rattle.route_tables.specs.Routes.{AreBadLines, IsBadLine, IsBlank, IsGood, IsRoute}
+use Rattle.route_tables.specs.BadLines.{AreBadLines, AreFirstOf, FindsLine, IsBadLine}
+use Rattle.route_tables.specs.Routes.{IsBlank, IsGood, IsRoute}
 use Rattle.route_tables.specs.declared.messages.bad_lines.FoundBadLines.{FoundBadLines}
 use Rattle.route_tables.specs.declared.load.BadLine.{BadLine}
 use Rattle.route_tables.specs.declared.load.Reading.{Reading}

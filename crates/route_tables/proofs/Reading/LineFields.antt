@@ -2,29 +2,31 @@
 use Rattle.std.proofs.Common.{◌≡◌, ◌⊎◌, ◌∙◌, ℕ, List, [], ◌∷◌, ap, arith, codes, inl, inr, length, refl, subst, sym}
 use Rattle.prefix_trie_joint.specs.declared.prefix.IpPrefix.{IpPrefix}
 use Rattle.route_tables.specs.Lines.{fields}
-use Rattle.route_tables.specs.Networks.{DenotesNone}
-use Rattle.route_tables.specs.Routes.{AreEndsAndValue, AreFieldsOf, AreNetworksAndValue, IfLine, IsBad, IsRule, IsValue, networks_error}
+use Rattle.route_tables.specs.Reasons.{IsPlainText, IsRuleInOtherCase, IsValueTextReason}
+use Rattle.route_tables.specs.Routes.{AreEndsAndValue, AreFieldsOf, AreNetworksAndValue, IfLine, IsBad, IsRule, IsValue}
+use Rattle.route_tables.specs.declared.line.LineError.{LineError}
+use Rattle.route_tables.specs.declared.line.LineError.TheVariants.{CapitalLetters, OtherValue}
 use Rattle.route_tables.specs.declared.line.ReadError.{ReadError}
 use Rattle.route_tables.specs.declared.line.ReadError.TheVariants.{Line, Memory}
 use Rattle.route_tables.specs.declared.load.Reading.{Reading}
 use Rattle.route_tables.specs.declared.load.TableKind.{TableKind}
-use Rattle.route_tables.specs.declared.range.NetworksError.{NetworksError}
-use Rattle.route_tables.specs.declared.range.NetworksError.TheVariants as networks
+use Rattle.route_tables.specs.declared.load.TableKind.TheVariants.{AccessList}
 
 pub if_line : (A B : Type 0) → (A → B) → (error : ReadError) → IfLine A error → IfLine B error
 if_line A B f (Line error) fact = f fact
 if_line A B f Memory fact = tt
 
--- an error about the text of networks is one about the line
-pub line_of_networks : (A : List IpPrefix → Type 0) (B : Type 0) → (((networks : List IpPrefix) → ¬ (A networks)) → B) → (error : NetworksError)
-    → DenotesNone A error → IfLine B (networks_error error)
-line_of_networks A B f (networks.Text error) none = f none
-line_of_networks A B f networks.Memory none = tt
-
 -- the empty value is no rule
 pub empty_is_no_rule : (value : List ℕ) → value ≡ [] → ¬ (IsRule value)
 empty_is_no_rule value none (inl is) = let e : length value ≡ 5 = ap length is in let z : length value ≡ 0 = ap length none in omega arith
 empty_is_no_rule value none (inr is) = let e : length value ≡ 4 = ap length is in let z : length value ≡ 0 = ap length none in omega arith
+
+-- why a plain text is no rule
+pub rule_reason : (kind : TableKind) (field : List ℕ) → kind ≡ AccessList → IsPlainText field → (error : LineError)
+    → ((error ≡ CapitalLetters) × ¬ (IsRule field) × IsRuleInOtherCase field) ⊎ ((error ≡ OtherValue) × ¬ (IsRule field) × ¬ (IsRuleInOtherCase field))
+    → IsValueTextReason kind field error
+rule_reason kind field of_kind plain error (inl (is, none, other)) = subst (IsValueTextReason kind field) (sym is) (of_kind, plain, none, other)
+rule_reason kind field of_kind plain error (inr (is, none, other)) = subst (IsValueTextReason kind field) (sym is) (of_kind, plain, none, other)
 
 module _ (reading : Reading) (first : List ℕ) (networks : List IpPrefix) (value : List ℕ) where
   -- a field alone is no range with a hyphen

@@ -6,7 +6,8 @@ use Rattle.prefix_trie_joint.specs.Networks.{ip_path}
 use Rattle.prefix_trie_joint.specs.declared.prefix.IpPrefix.{IpPrefix}
 use Rattle.route_tables.specs.AddressLists.{AddsRoutes, Covers}
 use Rattle.route_tables.specs.Loads.{IfLineError, ListsLine, NamesFirstBad, with_routes}
-use Rattle.route_tables.specs.Routes.{AreBadLines, Gives, HasRoutes, IsBadLine, Route, routes_to}
+use Rattle.route_tables.specs.BadLines.{AreBadLines, IsBadLine}
+use Rattle.route_tables.specs.Routes.{Gives, HasRoutes, Route, routes_to}
 use Rattle.route_tables.specs.Tables.{Values}
 use Rattle.route_tables.specs.declared.address_list.AddressList.{AddressList}
 use Rattle.route_tables.specs.declared.load.BadLine.{BadLine}
@@ -45,7 +46,7 @@ pub reads_error : (reading : Reading) (all rest later : List (List ℕ)) (line :
     → Reads reading all rest number before list listed → NamesFirstBad reading all error
 reads_error reading all rest later line number before list listed (Line bad) split (refused, is) old =
     let e = loads_error reading all rest later line number no_entries old.values old.values listed (Line bad) split (refused, is, refl) old.loads in
-    (e.refused, (e.index, e.number, e.text, e.first))
+    (e.refused, (e.index, e.first, e.named))
 reads_error reading all rest later line number before list listed (Refused cause) split is old = tt
 
 -- after the last line the routes of all lines are added, and all bad lines are listed

@@ -1,8 +1,9 @@
 //! All bad lines of a text that is refused.
 ghost use Rattle.std.specs.Prelude.{◌≡◌, ◌<◌, ◌+◌, [], ◌∷◌, ◌++◌, if◌then◌else◌, nat_lt, IfOk, List, MatchOption, OnOk};
-ghost use Rattle.route_tables.specs.BadLines.{AreFirstOf, FindsLine};
+ghost use Rattle.route_tables.specs.BadLines.{AreBadLines, AreFirstOf, FindsLine};
 ghost use Rattle.route_tables.specs.Lines.{table_lines};
-ghost use Rattle.route_tables.specs.Routes.{AreBadLines, IsBad, IsGood};
+ghost use Rattle.route_tables.specs.Reasons.{IsReason};
+ghost use Rattle.route_tables.specs.Routes.{IsBad, IsGood};
 ghost use Rattle.route_tables.specs.declared.load.BadLine.{BadLine};
 
 use crate::line::{LineError, ReadError, read_line};
@@ -102,7 +103,8 @@ fn add_bad_line<'a>(bad: BadLine<'a>, found: &mut FoundBadLines<'a>) -> Result<(
 #[tactic(auto, using(crate::proofs::Reading::FoundLines::good_of_read))]
 fn line_error(line: &[u8], reading: Reading, alloc: Global) -> Result<Option<LineError>, AllocError>
     ensures { IfOk result
-        (λ found. MatchOption found (IsGood reading line.now) (λ _. IsBad reading line.now)) }
+        (λ found. MatchOption found (IsGood reading line.now)
+        (λ error. IsBad reading line.now × IsReason reading line.now (ReadError.Line error))) }
 {
     match read_line(line, reading, alloc) {
         Ok(_) => Ok(None),

@@ -4,8 +4,8 @@ use Rattle.route_tables.specs.Routes.{IsOfKind}
 use Rattle.route_tables.proofs.Reading.LineFields.{empty_is_no_rule}
 use Rattle.route_tables.proofs.line.no_value.Goals as goal
 
-pub returns-in-AnyValues : goal.returns-in-AnyValues
-returns-in-AnyValues c = (refl, subst (λ kind. IsOfKind kind []) (sym c.in-AnyValues.is) tt)
+pub returns-in-AnyValues-clause-value : goal.returns-in-AnyValues-clause-value
+returns-in-AnyValues-clause-value c = (refl, subst (λ kind. IsOfKind kind []) (sym c.in-AnyValues.is) tt)
 
-pub returns-in-AccessList : goal.returns-in-AccessList
-returns-in-AccessList c value (none, of_kind) = empty_is_no_rule value none (subst (λ kind. IsOfKind kind value) c.in-AccessList.is of_kind)
+pub returns-in-AccessList-clause-value : goal.returns-in-AccessList-clause-value
+returns-in-AccessList-clause-value c value (none, of_kind) = empty_is_no_rule value none (subst (λ kind. IsOfKind kind value) c.in-AccessList.is of_kind)

@@ -1,5 +1,7 @@
 -- A line whose first field denotes no networks, or whose other fields are no value, is none of networks.
+use Rattle.std.proofs.Common.{inl, inr, refl}
 use Rattle.std.proofs.lemmas.Result.{err_from_is_err_and}
+use Rattle.route_tables.specs.Networks.{all_networks}
 use Rattle.route_tables.proofs.Reading.LineFields.{if_line}
 use Rattle.route_tables.proofs.line.read_alone.Goals as goal
 
@@ -11,4 +13,15 @@ returns-in_err-networks-clause-none c =
 pub returns-in_err-value-clause-none : goal.returns-in_err-value-clause-none
 returns-in_err-value-clause-none c =
     let p = err_from_is_err_and c.from_residual-in_err-value.result c.from_residual-in_err-value.ensures.1 in
-    rw (p.1, p.2) (λ networks value are. c.in_err-value.ensures value are.is_value)
+    rw (p.1, p.2) (λ networks value are. c.in_err-value.ensures.value value are.is_value)
+
+pub returns-in_err-networks-clause-reason : goal.returns-in_err-networks-clause-reason
+returns-in_err-networks-clause-reason c =
+    let p = err_from_is_err_and c.from_residual.result c.from_residual.ensures.1 in
+    rw (p.1, p.2) (inl c.in_err-networks.ensures.reason)
+
+pub returns-in_err-value-clause-reason : goal.returns-in_err-value-clause-reason
+returns-in_err-value-clause-reason c =
+    let p = err_from_is_err_and c.from_residual-in_err-value.result c.from_residual-in_err-value.ensures.1 in
+    let read = c.in_ok-networks.ensures.read in
+    rw (p.1, p.2) (inr (read.0, (all_networks c.in_ok-networks.networks, read.1), (c.in_err-value.field-0.0, refl, c.in_err-value.ensures.reason)))

@@ -1,14 +1,34 @@
--- Texts that are not the ends of a range denote no networks.
-use Rattle.std.proofs.Common.{ap₂, subst}
-use Rattle.std.proofs.lemmas.Result.{err_from_is_err_and}
-use Rattle.route_tables.specs.Networks.{AreOfEnds, DenotesNone}
-use Rattle.route_tables.proofs.Reading.LineFields.{line_of_networks}
+-- Two fields that are UTF-8 are read as texts.
+use Rattle.std.proofs.Common.{inr, subst, sym}
+use Rattle.std.proofs.lemmas.Result.{IfErr-weaker, IfOk-weaker}
+use Rattle.route_tables.specs.Networks.{AreOfEnds, all_networks}
+use Rattle.route_tables.specs.Reasons.{IsEndsReason}
+use Rattle.route_tables.proofs.Reading.LineFields.{if_line}
 use Rattle.route_tables.proofs.line.read_ends.Goals as goal
 
-pub returns-in_err-parse_range-clause-none : goal.returns-in_err-parse_range-clause-none
-returns-in_err-parse_range-clause-none c =
-    let p = err_from_is_err_and c.from_residual.result c.from_residual.ensures.1 in
-    rw (p.1, p.2)
-    (line_of_networks (AreOfEnds c.args.first.now c.args.last.now) _ (λ none first last. none) c.in_err-parse_range.field-0.0
-    (subst (λ first. DenotesNone (AreOfEnds first c.args.last.now) c.in_err-parse_range.field-0.0) c.in-Ok-Ok.ensures.cases.0
-    (subst (λ last. DenotesNone (AreOfEnds c.in-Ok-Ok.first.now last) c.in_err-parse_range.field-0.0) c.in-Ok-Ok.ensures'.cases.0 c.in_err-parse_range.ensures.none)))
+pub returns-clause-read : goal.returns-clause-read
+returns-clause-read c =
+    IfOk-weaker c.parse_range.result _ _
+    (λ networks are. (
+      c.in-Ok-Ok.ensures.cases.1,
+      c.in-Ok-Ok.ensures'.cases.1,
+      subst (λ first. AreOfEnds first c.args.last.now (all_networks networks)) c.in-Ok-Ok.ensures.cases.0
+          (subst (λ last. AreOfEnds c.in-Ok-Ok.first.now last (all_networks networks)) c.in-Ok-Ok.ensures'.cases.0 are),
+    )) c.parse_range.ensures.read
+
+pub returns-clause-none : goal.returns-clause-none
+returns-clause-none c =
+    IfErr-weaker c.parse_range.result _ _
+    (if_line _ _ (λ none is_first is_last networks are. none networks
+    (subst (λ first. AreOfEnds first c.in-Ok-Ok.last.now networks) (sym c.in-Ok-Ok.ensures.cases.0)
+    (subst (λ last. AreOfEnds c.args.first.now last networks) (sym c.in-Ok-Ok.ensures'.cases.0) are)))) c.parse_range.ensures.none
+
+pub returns-clause-reason : goal.returns-clause-reason
+returns-clause-reason c =
+    IfErr-weaker c.parse_range.result _ _
+    (λ error reason. inr (
+      c.in-Ok-Ok.ensures.cases.1,
+      c.in-Ok-Ok.ensures'.cases.1,
+      subst (λ first. IsEndsReason first c.args.last.now error) c.in-Ok-Ok.ensures.cases.0
+          (subst (λ last. IsEndsReason c.in-Ok-Ok.first.now last error) c.in-Ok-Ok.ensures'.cases.0 reason),
+    )) c.parse_range.ensures.reason

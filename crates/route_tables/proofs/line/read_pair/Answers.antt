@@ -24,3 +24,10 @@ returns-in-Some-clause-none c =
     (if_line _ _ (λ none networks value are. none networks value
     (of_spaced c.args.reading c.args.first.now networks value (c.args.second.now ∷ fields c.args.rest.now) (fields c.in-Some.rest.now) c.in-Some.last.now c.in-Some.ensures are)))
     c.read_spaced.ensures.none
+
+pub returns-in-None-clause-reason : goal.returns-in-None-clause-reason
+returns-in-None-clause-reason c = IfErr-weaker c.read_valued.result _ _ (λ error reason. inr (c.in-None.ensures, reason)) c.read_valued.ensures.reason
+
+pub returns-in-Some-clause-reason : goal.returns-in-Some-clause-reason
+returns-in-Some-clause-reason c =
+    IfErr-weaker c.read_spaced.result _ _ (λ error reason. inl (c.in-Some.last.now, fields c.in-Some.rest.now, c.in-Some.ensures, reason)) c.read_spaced.ensures.reason
