@@ -1,6 +1,9 @@
 //! The fewest networks that give each address the value of its longest match.
-ghost use Rattle.std.specs.Prelude.{◌≡◌, IfOk, IfSome, map};
+ghost use Rattle.std.specs.Prelude.{◌≡◌, ◌+◌, ◌-◌, ◌*◌, ◌^◌, ◌<◌, ◌≤◌, [], ◌∷◌, IfErr, IfOk, IfSome, OnOk, map};
+ghost use Rattle.std.specs.FinMap.{len};
 ghost use Rattle.prefix_trie.specs.Terms.{lent_item};
+ghost use Rattle.prefix_trie_bits.specs.Model.Space.{MayPassLimit};
+ghost use Rattle.prefix_trie_map.specs.Collected.{Puts};
 ghost use Rattle.route_tables.specs.Fewest.{HasOnly, HasRanks, IsFewest, Ranks, named_pairs, text_at, texts_of};
 
 use crate::table::FamilyTable;
@@ -18,7 +21,8 @@ use std::alloc::{AllocError, Global};
 ///
 /// # Errors
 ///
-/// Returns `Memory` if an allocation fails, and `IndexRange` if a map with the ranks of the values would be too large.
+/// Returns `Memory` if an allocation fails, and `IndexRange` if a map with the ranks of the values would be too large. This
+/// needs many networks: each makes at most 56 slots of an array.
 ///
 /// # Examples
 ///
@@ -30,9 +34,13 @@ pub fn fewest_networks<P: Prefix>(
     table: &FamilyTable<P>,
     alloc: Global,
 ) -> Result<Vec<(P, &str)>, Refusal>
-    ensures { IfOk result
+    ensures fewest { IfOk result
         (λ networks. IsFewest P.R.bit_width P.back table.now.entries
         (map lent_item networks.items)) }
+
+    // `IndexRange` comes only if 56 slots for each network would exceed the limit.
+    ensures full { IfErr result (λ cause. cause ≡ Refusal.IndexRange
+        → 2 ^ 32 - 1 < 1 + 56 * len table.now.entries) }
 {
     match only_value(table) {
         Some(value) => Ok(fewest_with(table, value, alloc)?),
@@ -93,9 +101,13 @@ fn fewest_by_ranks<P: Prefix>(
     table: &FamilyTable<P>,
     alloc: Global,
 ) -> Result<Vec<(P, &str)>, Refusal>
-    ensures { IfOk result
+    ensures fewest { IfOk result
         (λ networks. IsFewest P.R.bit_width P.back table.now.entries
         (map lent_item networks.items)) }
+
+    // `IndexRange` comes only if 56 slots for each network would exceed the limit.
+    ensures full { IfErr result (λ cause. cause ≡ Refusal.IndexRange
+        → 2 ^ 32 - 1 < 1 + 56 * len table.now.entries) }
 {
     lookup_laws::<P, usize>();
     let mut ranked = rank_values(table, alloc)?;
@@ -112,17 +124,38 @@ struct Ranked<'a, P: Prefix> {
 
 // Numbers the values of a table in the order in which they are listed first.
 fn rank_values<P: Prefix>(table: &FamilyTable<P>, alloc: Global) -> Result<Ranked<'_, P>, Refusal>
-    ensures { IfOk result
+    ensures ranks { IfOk result
         (λ made. HasRanks (texts_of made.texts.keys) made.ranks.entries table.now.entries) }
+    ensures few { IfOk result (λ made. (made.ranks.space.limit ≡ 2 ^ 32 - 1)
+        × (len made.ranks.entries ≤ len table.now.entries)) }
+    ensures full { IfErr result (λ cause. cause ≡ Refusal.IndexRange
+        → 2 ^ 32 - 1 < 1 + 56 * len table.now.entries) }
 {
     put_laws::<P, Value>();
     let mut ranks = PrefixMap::new(alloc)?;
     let mut texts = IndexSet::new(alloc);
     for (network, value) in table {
         let rank = rank_of(&mut texts, value.as_str())?;
-        ranks.insert(network, rank)?;
+        set_rank(&mut ranks, network, rank)?;
     }
     Ok(Ranked { ranks, texts })
+}
+
+// Sets the rank of a network.
+fn set_rank<P: Prefix>(
+    ranks: &mut PrefixMap<P, usize, Global>,
+    network: P,
+    rank: usize,
+) -> Result<(), Refusal>
+    requires { P.IsFitting network }
+    ensures puts { OnOk result (Puts P.path ranks.old ((network, rank) ∷ []) ranks.new) }
+    ensures full { IfErr result (λ cause. cause ≡ Refusal.IndexRange
+        → MayPassLimit ranks.old.space) }
+{
+    // The proof learns from `len` that the map is valid.
+    let _ = ranks.len();
+    ranks.insert(network, rank)?;
+    Ok(())
 }
 
 // Returns the rank of a text. A new text gets the next one.
