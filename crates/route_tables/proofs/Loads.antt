@@ -6,6 +6,7 @@ use Rattle.std.proofs.lemmas.List.{take-append-drop}
 use Rattle.prefix_trie_joint.specs.Networks.{ip_path}
 use Rattle.prefix_trie.specs.Terms.{with_entry}
 use Rattle.prefix_trie_joint.specs.declared.prefix.IpPrefix.{IpPrefix}
+use Rattle.route_tables.specs.Allocations.{LineMayAllocate}
 use Rattle.route_tables.specs.Loads.{AddsFirst, EndsAt, EndsAtLine, GivesFirst, IfLineError, ListsLine, with_routes}
 use Rattle.route_tables.specs.Reasons.{IsReason}
 use Rattle.route_tables.specs.declared.line.LineError.{LineError}
@@ -187,6 +188,19 @@ loads_error reading all rest later line number before m after listed (Refused ca
       part_of = subst (λ l. GivesFirst reading l part) (sym (ap (λ xs. get_or xs (length old.done) []) whole ∙ at_done old.done later line)) part_of;
       entries = adds ∙ ap (with_routes part) old.entries;
     }
+
+-- a line that may need an allocation
+pub loads_memory : (reading : Reading) (all rest later : List (List ℕ)) (line : List ℕ) (number : ℕ) (before m : Values) (listed : List BadLine)
+    → rest ≡ line ∷ later → LineMayAllocate reading line m → Loads reading all rest number before m listed
+    → (index : ℕ) × (routes : List Route) × HasRoutes reading (take index all) routes × LineMayAllocate reading (get_or all index []) (with_routes routes before)
+loads_memory reading all rest later line number before m listed split may old =
+    let whole : all ≡ old.done ++ line ∷ later = old.split ∙ ap (λ r. old.done ++ r) split in (
+      length old.done,
+      old.routes,
+      subst (λ xs. HasRoutes reading xs old.routes) (sym (ap (take (length old.done)) whole ∙ take-append_seam old.done (line ∷ later))) old.has,
+      subst (λ l. LineMayAllocate reading l (with_routes old.routes before)) (sym (ap (λ xs. get_or xs (length old.done) []) whole ∙ at_done old.done later line))
+          (subst (LineMayAllocate reading line) old.entries may),
+    )
 
 -- after the last line the routes of all lines are added, and all bad lines are listed
 pub loads_routes : (reading : Reading) (all rest : List (List ℕ)) (number : ℕ) (before m : Values) (listed : List BadLine) → rest ≡ []

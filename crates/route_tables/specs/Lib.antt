@@ -3,6 +3,7 @@
 pub mod Access
 pub mod AddressLists
 pub mod AddressSets
+pub mod Allocations
 pub mod Announcements
 pub mod AsNumbers
 pub mod BadLines

@@ -1,5 +1,5 @@
 //! The values of a table.
-ghost use Rattle.std.specs.Prelude.{◌≡◌, ◌↔◌, ◌∷◌, [], IfErr, IfOk, IsTrue, MatchResult, Some, bytes_eq};
+ghost use Rattle.std.specs.Prelude.{◌≡◌, ◌<◌, ◌↔◌, ◌∷◌, [], length, IfErr, IfOk, IsTrue, MatchResult, Some, bytes_eq};
 ghost use Rattle.route_tables.specs.Lines.{fields};
 ghost use Rattle.route_tables.specs.Routes.{IsLineValue};
 ghost use Rattle.route_tables.specs.Values.{IsReason};
@@ -100,7 +100,8 @@ impl Value {
     /// Returns a value with a copy of a text that a line can have as its value.
     pub(crate) fn of_line(text: &str, alloc: Global) -> Result<Value, AllocError>
         requires { IsLineValue text.now }
-        ensures { IfOk result (λ value. value ≡ text.now) }
+        ensures copy { IfOk result (λ value. value ≡ text.now) }
+        ensures long { IfErr result (λ _. 16 < length text.now) }
     {
         let text = match ArrayString::from(text) {
             Ok(short) => Text::Short(short),

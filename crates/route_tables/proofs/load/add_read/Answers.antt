@@ -1,7 +1,9 @@
 -- The networks of a route are those of the slice.
 use Rattle.std.proofs.Common.{◌≡◌, IfErr, OnOk, length, subst}
-use Rattle.prefix_trie_bits.specs.declared.prefix.Refusal.TheVariants.{IndexRange}
+use Rattle.prefix_trie_bits.specs.declared.prefix.Refusal.TheVariants.{IndexRange, Memory}
 use Rattle.prefix_trie_joint.specs.Changes.{maps_of}
+use Rattle.prefix_trie_joint.specs.Joined.{entries_of}
+use Rattle.route_tables.specs.Allocations.{SomeMayAllocate}
 use Rattle.route_tables.specs.Loads.{AddsSlots, MayExceed}
 use Rattle.route_tables.proofs.load.add_read.Goals as goal
 
@@ -12,3 +14,7 @@ returns-clause-slots c =
 pub returns-clause-full : goal.returns-clause-full
 returns-clause-full c =
     subst (λ networks. IfErr c.add_routes.result (λ cause. cause ≡ IndexRange → MayExceed (length networks) (maps_of c.args.table.now))) c.as_slice.ensures c.add_routes.ensures.full
+
+pub returns-clause-memory : goal.returns-clause-memory
+returns-clause-memory c =
+    subst (λ networks. IfErr c.add_routes.result (λ cause. cause ≡ Memory → SomeMayAllocate (entries_of c.args.table.now) networks c.args.route.1.now)) c.as_slice.ensures c.add_routes.ensures.memory

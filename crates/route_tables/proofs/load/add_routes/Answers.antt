@@ -6,6 +6,7 @@ use Rattle.prefix_trie_joint.specs.Joined.{entries_of}
 use Rattle.route_tables.specs.Loads.{AddsFirst, AddsSlots}
 use Rattle.route_tables.specs.Routes.{routes_to}
 use Rattle.route_tables.proofs.LoadedTables.{more_exceed, more_slots, one_replaced}
+use Rattle.route_tables.proofs.NeededMemory.{some_may}
 use Rattle.route_tables.proofs.Loads.{on_err, one_added, one_tried}
 use Rattle.route_tables.proofs.load.add_routes.Goals as goal
 
@@ -44,3 +45,11 @@ pub returns-clause-slots : goal.returns-clause-slots
 returns-clause-slots c =
     let all : c.loop-network.network-index ≡ length c.args.networks.now = omega arith in
     subst (λ n. AddsSlots n (maps_of c.args.table.now) (maps_of c.loop-network.table)) all c.loop-network.invariant.slots
+
+pub returns-in_err-add_route-clause-memory : goal.returns-in_err-add_route-clause-memory
+returns-in_err-add_route-clause-memory c =
+    let p = err_from_is_err_and c.from_residual.result c.from_residual.ensures.1 in
+    let less : c.loop-network.network-index < length c.args.networks.now = omega arith in
+    rw (p.1, p.2)
+    (λ memory. some_may c.args.value.now c.args.networks.now c.loop-network.network-index c.network-item.result (entries_of c.args.table.now) (entries_of c.loop-network.table)
+    less c.network-item.is c.loop-network.invariant.entries (c.in_err-add_route.ensures.memory memory))

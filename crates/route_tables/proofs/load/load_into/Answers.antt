@@ -4,7 +4,7 @@ use Rattle.std.proofs.lemmas.Result.{err_from_is_err_and}
 use Rattle.prefix_trie_joint.specs.Joined.{entries_of}
 use Rattle.route_tables.specs.Lines.{lines, table_lines}
 use Rattle.route_tables.proofs.LoadedTables.{LoadsTable, table_full, table_on, table_start}
-use Rattle.route_tables.proofs.Loads.{loads_error}
+use Rattle.route_tables.proofs.Loads.{loads_error, loads_memory}
 use Rattle.route_tables.proofs.load.load_into.Goals as goal
 
 pub loop-rest-init : goal.loop-rest-init
@@ -41,3 +41,11 @@ returns-in_err-add_line-clause-full c =
     (λ full. table_full c.args.reading (table_lines c.args.text.now) (lines c.loop-rest.rest.now) (lines c.split_line.result.1.now) c.split_line.result.0.now c.loop-rest.number
     c.args.table.now c.loop-rest.table c.loop-rest.warnings.skipped.items c.loop-rest.warnings.replaced.items
     c.split_line.ensures.first (c.in_err-add_line.ensures.full full) c.loop-rest.invariant.loads)
+
+pub returns-in_err-add_line-clause-memory : goal.returns-in_err-add_line-clause-memory
+returns-in_err-add_line-clause-memory c =
+    let p = err_from_is_err_and c.from_residual.result c.from_residual.ensures.1 in
+    rw (p.1, p.2)
+    (λ memory. loads_memory c.args.reading (table_lines c.args.text.now) (lines c.loop-rest.rest.now) (lines c.split_line.result.1.now) c.split_line.result.0.now c.loop-rest.number
+    (entries_of c.args.table.now) (entries_of c.loop-rest.table) c.loop-rest.warnings.skipped.items
+    c.split_line.ensures.first (c.in_err-add_line.ensures.memory memory) c.loop-rest.invariant.loads.loads)
