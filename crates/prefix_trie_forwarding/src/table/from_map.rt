@@ -59,7 +59,8 @@ fn slots_of<P: Prefix, M: Allocator, A: Allocator + Clone>(
     map: &PrefixMap<P, Hop, M>,
     bits: u32,
 ) -> Result<Slots<A>, Refusal>
-    ensures root { IfOk result (λ slots. slots.root_bits ≡ min (min (max bits 1) 24) P.R.bit_width) }
+    ensures root { IfOk result
+        (λ slots. slots.root_bits ≡ min (min (max bits 1) 24) P.R.bit_width) }
     ensures divided { IfOk result
         (λ slots. IsDivided P.R.bit_width slots.root_bits slots.levels) }
     ensures follows { IfOk result
