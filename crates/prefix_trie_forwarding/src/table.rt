@@ -27,8 +27,8 @@ use std::alloc::Allocator;
 /// bits, or as many as `with_root_bits` says. A slot of the root stands for a block of addresses. If a longer network lies
 /// in that block, the block has a group of 256 slots, which the next eight bits select, and so on until the address ends.
 ///
-/// A lookup reads one slot of the root and one of each group on its way. An insertion or a removal goes over the slots of the
-/// network's addresses, and not over the map.
+/// A lookup reads one slot of the root and one of each group on its way. An insertion or a removal changes the map, and then
+/// the slots of the network's addresses.
 ///
 /// A root of 24 bits takes 64 MB, a root of 16 bits 256 KB, and each group 1 KB. An insertion of a short network writes a
 /// slot for each block in it: 65,536 for a network of 8 bits and a root of 24.
@@ -195,9 +195,9 @@ impl<P: Prefix, A: Allocator> ForwardingTable<P, A> {
     ///
     /// # Errors
     ///
-    /// Returns an error if a new network needs memory that cannot be had, for the map or for a group: `Memory` if an
-    /// allocation fails, `IndexRange` if the map would exceed its slot limit or there would be more than 2^31 groups.
-    /// Networks, hops and answers are unchanged then. Groups that were made stay, free.
+    /// Returns an error if a new network needs a block of the map or a group that cannot be made: `Memory` if an allocation
+    /// fails, `IndexRange` if the map would exceed its slot limit or there would be more than 2^31 groups. Networks and
+    /// answers are unchanged then. Groups that the call made stay, as free ones.
     ///
     /// # Examples
     ///
