@@ -1,4 +1,4 @@
--- A line adds the routes that are read from it, and a refusal leaves the first ones.
+-- A line adds the routes that are read from it, whose value can be written, and a refusal leaves the first ones.
 use Rattle.std.proofs.Common.{◌≡◌, ◌++◌, inl, inr, length, refl, subst, sym}
 use Rattle.std.proofs.lemmas.List.{length-map}
 use Rattle.std.proofs.lemmas.Result.{err_from_is_err_and, IfErr-weaker}
@@ -10,11 +10,18 @@ use Rattle.route_tables.specs.Loads.{AddsFirst, AddsSlots, MayExceed, with_route
 use Rattle.route_tables.specs.Networks.{all_networks}
 use Rattle.route_tables.specs.Reasons.{IsReason}
 use Rattle.route_tables.specs.Replaced.{replaced_by}
-use Rattle.route_tables.specs.Routes.{IsBad, IsRoute, routes_to}
+use Rattle.route_tables.specs.Routes.{IsBad, IsLineValue, IsRoute, routes_to}
 use Rattle.route_tables.specs.declared.line.ReadError.TheVariants.{Line}
+use Rattle.route_tables.proofs.LineValues.{line_value}
 use Rattle.route_tables.proofs.LoadedTables.{adds_nothing, on_ok}
 use Rattle.route_tables.proofs.Loads.{ends_at_bad, lists_bad, some_first}
 use Rattle.route_tables.proofs.load.add_line.Goals as goal
+
+pub add_read-requires : goal.add_read-requires
+add_read-requires c =
+    let read : IsRoute c.args.reading c.args.line.now (all_networks c.in-Ok-Some.route.0) c.in-Ok-Some.route.1.now =
+    rw c.in-Ok-Some.field-0-is at c.in-Ok-Some.ensures.read in
+    subst (λ route. IsLineValue route.1.now) (sym c.in-Ok-Some.route-is) (line_value c.args.reading c.args.line.now (all_networks c.in-Ok-Some.route.0) c.in-Ok-Some.route.1.now read)
 
 pub returns-in_err-add_read-in-Ok-Some-clause-ends : goal.returns-in_err-add_read-in-Ok-Some-clause-ends
 returns-in_err-add_read-in-Ok-Some-clause-ends c =
