@@ -1,4 +1,4 @@
-//! The tests of `prefix_trie_forwarding`, and an example of its use.
+//! The tests of `prefix_trie_forwarding`.
 #![tactic(auto)]
 
 #[cfg(test)]
@@ -9,7 +9,6 @@ mod cases;
 mod copies;
 #[cfg(test)]
 mod every_order;
-pub mod examples;
 #[cfg(test)]
 mod runs;
 #[cfg(test)]

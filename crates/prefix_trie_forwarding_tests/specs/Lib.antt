@@ -1,2 +1,0 @@
--- The definitions of the example.
-pub mod Routing
