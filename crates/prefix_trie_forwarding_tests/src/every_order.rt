@@ -55,7 +55,7 @@ fn inserts(table: &mut Table<Address, Global>, networks: &[Network], is_asked: b
     let mut all = true;
     for (i, network) in networks.iter().enumerate() {
         let network = *network;
-        match Hop::new(i as u32 % 4) {
+        match Hop::new((i % 4) as u32) {
             Some(hop) if network.fits() => {
                 all &= table.insert(network, hop) == Ok(None);
             }
@@ -72,7 +72,7 @@ fn removes(table: &mut Table<Address, Global>, networks: &[Network], order: &[us
     for place in order {
         match networks.get(*place) {
             Some(network) if network.fits() => {
-                all &= table.remove(network) == Hop::new(*place as u32 % 4);
+                all &= table.remove(network) == Hop::new((*place % 4) as u32);
             }
             _ => all = false,
         }
