@@ -112,6 +112,9 @@ fn has_networks(set: &Set, bits: u32, len: u8) -> bool {
 
 /// Returns whether a set returns the first of these free networks of a length within each network.
 fn has_free_within(set: &Set, free: u32, len: u8) -> bool {
+    if len > 3 {
+        return false;
+    }
     for within_len in 0..=len {
         let size = 8_u32 >> within_len;
         for place in 0..1_u32 << within_len {
