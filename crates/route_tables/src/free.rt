@@ -37,7 +37,7 @@ impl Error for LengthError {}
 ///
 /// ```rust
 /// all_addresses(24);      // V4(0.0.0.0/0)
-/// all_addresses(64);      // V6(::/0)
+/// all_addresses(64);      // V6(0000:0000:0000:0000:0000:0000:0000:0000/0)
 /// ```
 pub fn all_addresses(len: u8) -> IpPrefix {
     if len <= 32 {
