@@ -1,7 +1,7 @@
 -- The bytes of an address are those of its number, filled up with zeros.
 use Rattle.std.proofs.Common.{◌≡◌, ◌∙◌, ℕ, suc, ◌+◌, ◌-◌, ◌*◌, ◌/◌, ◌%◌, ◌^◌, ◌<◌, ◌≤◌, Bool, false, List, [], ◌∷◌, ◌++◌, length, take, drop, append_assoc, mul_assoc, refl, zero, sym, ap, subst, arith, inl, inr, length-append, pow-add}
 use Rattle.std.proofs.lemmas.Bool.{cases_lt}
-use Rattle.std.proofs.lemmas.List.{drop-append-le, length-drop, length-replicate, length-take-le, replicate-append-replicate, take-append-le}
+use Rattle.std.proofs.lemmas.List.{drop-append-le, drop-drop, length-drop, length-replicate, length-take-le, replicate-append-replicate, take-append-le}
 use Rattle.std.proofs.Math.Nat.{mod-eq_of_lt}
 use Rattle.std.proofs.lemmas.Nat.{shr_below, shr_high}
 use Rattle.std.proofs.Math.Seq.{drop-append-add, take-add}
@@ -119,15 +119,23 @@ pub byte_after : (b : List Bool) (d m n : ℕ) → d ≤ length b → 8 ≤ m �
 byte_after b d m n within enough few = ap (take n) (drop-append-le d b (zeros m) within) ∙ any_zeros (drop d b) m 8 n (omega (arith, enough, few)) (omega (arith, few))
 
 -- a byte by its two halves
-pub halves : (b r : List Bool) (d x y : ℕ) → 1 ≤ length r → d ≤ length b → r ≡ drop d b ++ zeros d → x ≡ number (take 4 (drop 0 (r ++ zeros 5)))
-    → y ≡ number (take 4 (drop 4 (r ++ zeros 8))) → x * 16 + y ≡ number (take 8 (drop d b ++ zeros 8))
-halves b r d x y some within is first second =
+pub halves : (r : List Bool) (x y : ℕ) → x ≡ number (take 4 (drop 0 (r ++ zeros 5))) → y ≡ number (take 4 (drop 4 (r ++ zeros 8))) → x * 16 + y ≡ number (take 8 (r ++ zeros 8))
+halves r x y first second =
     let upper : number (take 4 (r ++ zeros 5)) ≡ number (take 4 (r ++ zeros 8)) = ap number (any_zeros r 5 8 4 (omega arith) (omega arith)) in
     let joined = number_joined (r ++ zeros 8) 4 4 (let l = length-append r (zeros 8) in omega (arith, l, length-replicate 8 false)) in
-    let eight : number (take 8 (r ++ zeros 8)) ≡ number (take 8 (drop d b ++ zeros 8)) =
+    omega (arith, first, second, upper, joined)
+
+-- the byte after the first d bits, and what is after it
+pub rest_byte : (b r : List Bool) (d : ℕ) → r ≡ drop d b ++ zeros d → number (take 8 (r ++ zeros 8)) ≡ number (take 8 (drop d b ++ zeros 8))
+rest_byte b r d is =
     ap (λ r. number (take 8 (r ++ zeros 8))) is ∙ ap (λ s. number (take 8 s)) (append_assoc (drop d b) (zeros d) (zeros 8) ∙ ap (λ z. drop d b ++ z) (replicate-append-replicate d 8 false)) ∙
-    ap number (any_zeros (drop d b) (d + 8) 8 8 (omega arith) (omega arith)) in
-    omega (arith, first, second, upper, joined, eight)
+    ap number (any_zeros (drop d b) (d + 8) 8 8 (omega arith) (omega arith))
+
+pub rest_after : (b r : List Bool) (d : ℕ) → d + 8 ≤ length b → r ≡ drop d b ++ zeros d → drop 8 r ++ zeros 8 ≡ drop (d + 8) b ++ zeros (d + 8)
+rest_after b r d within is =
+    ap (λ s. drop 8 s ++ zeros 8) is ∙
+    ap (λ s. s ++ zeros 8) (drop-append-le 8 (drop d b) (zeros d) (let l = length-drop d b in omega (arith, l, within)) ∙ ap (λ s. s ++ zeros d) (drop-drop 8 d b)) ∙
+    append_assoc (drop (d + 8) b) (zeros d) (zeros 8) ∙ ap (λ z. drop (d + 8) b ++ z) (replicate-append-replicate d 8 false)
 
 pub lower_half : (r : List Bool) → 4 ≤ length r → number (take 4 (drop 4 (r ++ zeros 5))) ≡ number (take 4 (drop 4 (r ++ zeros 8)))
 lower_half r within =

@@ -3,7 +3,7 @@ ghost use Rattle.std.specs.Prelude.{◌≡◌, ◌+◌, ◌*◌, ◌^◌, ◌<�
 ghost use Rattle.prefix_trie_forwarding.specs.Keys.{IsDivided, first_of};
 ghost use Rattle.prefix_trie_forwarding.specs.Walks.{AreSlots, HasValues, answer};
 
-use super::reading::{next_slot, root_index};
+use super::reading::{first_byte, next_slot, root_index};
 use prefix_trie_bits::prefix::Key;
 
 /// A slot that is at least this refers to a group.
@@ -31,13 +31,13 @@ pub(super) fn find_counted<K: Key>(
 {
     // The proof learns from it that the number is a key.
     let _ = address.is_key();
-    let mut depth = root_bits;
     let mut slot = slots[root_index(address, root_bits)];
+    let mut rest = address.behind(root_bits);
     let mut reads = 1;
     while slot >= GROUP {
-        slot = slots[next_slot(root_bits, slot, address, depth)];
+        slot = slots[next_slot(root_bits, slot, first_byte(rest))];
         reads += 1;
-        depth += 8;
+        rest = rest.behind(K::width().min(8));
     }
     (slot, reads)
 }

@@ -10,7 +10,7 @@ use super::find::GROUP;
 use super::free::Groups;
 use super::groups::make_group;
 use super::path::End;
-use super::reading::next_slot;
+use super::reading::{byte_at, next_slot};
 use prefix_trie_bits::prefix::Key;
 use std::alloc::Allocator;
 
@@ -51,7 +51,7 @@ pub(super) fn link<K: Key, A: Allocator>(
     while depth < len {
         let group = groups.take();
         make_group(slots, root_bits, groups.made, at, group);
-        at = next_slot(root_bits, GROUP + group, first, depth);
+        at = next_slot(root_bits, GROUP + group, byte_at(first, depth));
         depth += 8;
     }
 }

@@ -5,7 +5,7 @@ ghost use Rattle.prefix_trie_forwarding.specs.Paths.{IsEnd};
 ghost use Rattle.prefix_trie_forwarding.specs.Walks.{AreSlots};
 
 use super::find::GROUP;
-use super::reading::{next_slot, root_index};
+use super::reading::{byte_at, next_slot, root_index};
 use prefix_trie_bits::prefix::Key;
 
 /// Where the path of a network ends, for now: at its slots, or at an answer before them.
@@ -42,7 +42,7 @@ pub(super) fn walk<K: Key>(
     let mut before = None;
     while depth < len && slots[at] >= GROUP {
         before = Some(at);
-        at = next_slot(root_bits, slots[at], first, depth);
+        at = next_slot(root_bits, slots[at], byte_at(first, depth));
         depth += 8;
     }
     End { at, depth, before }

@@ -50,28 +50,38 @@ pub(super) fn byte_at<K: Key>(address: K, depth: u32) -> u32
     ensures part { (w k : ℕ) → K.bit_width ≤ w → w ≡ depth + 8 * suc k
         → result ≡ upper k (first_of w (K.bits address)) % 256 }
 {
+    // The proof learns from it that the number is a key.
     let _ = address.is_key();
-    let rest = address.behind(depth);
+    first_byte(address.behind(depth))
+}
+
+/// Returns the number of the first eight bits of a key. Bits past the end are 0.
+#[inline(always)]
+pub(super) fn first_byte<K: Key>(key: K) -> u32
+    ensures byte { result ≡ number (take 8 (K.bits key ++ zeros 8)) }
+    ensures small { result < 256 }
+{
+    // The proof learns from it that the number is a key.
+    let _ = key.is_key();
     let half = 4;
-    let upper = rest.window(0, half);
+    let upper = key.window(0, half);
     let lower = if half <= K::width() {
-        rest.window(half, half)
+        key.window(half, half)
     } else {
         0
     };
     upper * 16 + lower
 }
 
-/// Returns the slot of an address in the group that `slot` refers to, whose slots are read by the byte at `depth`.
+/// Returns the slot that a byte selects in the group that `slot` refers to.
 #[inline(always)]
-pub(super) fn next_slot<K: Key>(root_bits: u32, slot: u32, address: K, depth: u32) -> usize
+pub(super) fn next_slot(root_bits: u32, slot: u32, byte: u32) -> usize
     requires few { root_bits ≤ 24 }
-    requires within { depth ≤ K.bit_width }
+    requires small { byte < 256 }
     requires group { 2147483648 ≤ slot }
-    ensures { (w k : ℕ) → K.bit_width ≤ w → w ≡ depth + 8 * suc k
-        → result ≡ slot_in (2 ^ root_bits) slot (upper k (first_of w (K.bits address))) }
+    ensures { (q : ℕ) → byte ≡ q % 256 → result ≡ slot_in (2 ^ root_bits) slot q }
 {
-    power(root_bits) + 256 * (slot - GROUP) as usize + byte_at(address, depth) as usize
+    power(root_bits) + 256 * (slot - GROUP) as usize + byte as usize
 }
 
 /// Returns a power of two, as the number of slots of a root by so many bits.

@@ -2,7 +2,7 @@
 use Rattle.std.proofs.Common.{◌≡◌, ◌∙◌, ◌+◌, ◌*◌, ◌-◌, ◌^◌, ◌≤◌, [], ◌∷◌, ◌++◌, length, refl, sym, subst, arith, inr, slice_index}
 use Rattle.prefix_trie_forwarding.specs.Counts.{IsCounted}
 use Rattle.prefix_trie_forwarding.specs.Keys.{first_of}
-use Rattle.prefix_trie_forwarding.specs.Walks.{AreFree}
+use Rattle.prefix_trie_forwarding.specs.Walks.{AreFree, upper}
 use Rattle.prefix_trie_forwarding.proofs.Linking.{has_group_level, linking_end, linking_more, linking_none, linking_path, linking_reached, linking_start, linking_step}
 use Rattle.prefix_trie_forwarding.proofs.Counting.{count_gained}
 use Rattle.prefix_trie_forwarding.proofs.Making.{free_last}
@@ -75,7 +75,7 @@ loop-depth-preserved g c =
     let r = linking_reached c.args.root_bits c.args.levels b c.args.len c.loop-depth.depth c.loop-depth.at (slice_index c.args.slots.now) s i.linking c.loop-depth-test.true fits in
     let some = linking_more c.args.root_bits c.args.levels b c.args.len c.loop-depth.depth c.loop-depth.at (slice_index c.args.slots.now) s i.linking c.loop-depth-test.true fits in
     let e = c.make_group.ensures in
-    let to = c.next_slot-at.ensures (c.args.root_bits + 8 * c.args.levels) (i.linking.left - 1) c.requires.divided.reads (omega (arith, i.linking.here, some)) in
+    let to = c.next_slot-at.ensures (upper (i.linking.left - 1) b) (c.byte_at.ensures.part (c.args.root_bits + 8 * c.args.levels) (i.linking.left - 1) c.requires.divided.reads (omega (arith, i.linking.here, some))) in
     let u = slice_index c.make_group.new.slots in
     let gain = e.gains c.args.levels b i.linking.steps (i.linking.left - 1) ib r in
     let total = has_group_level (2 ^ c.args.root_bits) c.args.levels u b (i.linking.left - 1) ((gain b (i.linking.left - 1) ib).1 (inr (refl, refl))) in

@@ -1,7 +1,7 @@
 -- Each step goes into the group of the slot.
 use Rattle.std.proofs.Common.{◌≡◌, suc, ◌+◌, ◌*◌, ◌-◌, ◌^◌, ◌≤◌, length, refl, sym, subst, arith, slice_index}
 use Rattle.prefix_trie_forwarding.specs.Keys.{first_of}
-use Rattle.prefix_trie_forwarding.specs.Walks.{Reaches}
+use Rattle.prefix_trie_forwarding.specs.Walks.{Reaches, upper}
 use Rattle.prefix_trie_forwarding.proofs.Changes.{at_start}
 use Rattle.prefix_trie_forwarding.proofs.Prefixes.{reached_inside, stepped}
 use Rattle.prefix_trie_forwarding.proofs.Reading.{first_address}
@@ -45,7 +45,7 @@ loop-depth-preserved g c =
     let some : 1 ≤ i.0 = omega (arith, i.2, c.loop-depth-test.true, c.requires.len, c.requires.divided.reads) in
     let level : i.0 ≡ suc (i.0 - 1) = omega (arith, some) in
     let r = subst (λ k. Reaches (2 ^ c.args.root_bits) c.args.levels s b i.1 k c.loop-depth.at) level i.5 in
-    let to = c.next_slot-at.ensures (c.args.root_bits + 8 * c.args.levels) (i.0 - 1) c.requires.divided.reads (omega (arith, i.2, some)) in (
+    let to = c.next_slot-at.ensures (upper (i.0 - 1) b) (c.byte_at.ensures.part (c.args.root_bits + 8 * c.args.levels) (i.0 - 1) c.requires.divided.reads (omega (arith, i.2, some))) in (
       i.0 - 1,
       suc i.1,
       omega (arith, i.2, some),

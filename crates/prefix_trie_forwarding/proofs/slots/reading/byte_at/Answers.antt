@@ -1,42 +1,14 @@
--- A byte is its two halves, and the second one is 0 past the end of the address.
-use Rattle.std.proofs.Common.{◌≡◌, ◌∙◌, ◌++◌, length, drop, sym, arith, length-append}
-use Rattle.prefix_trie_bits.specs.Model.Bits.{zeros}
-use Rattle.prefix_trie_forwarding.proofs.Reading.{byte_bits, halves, lower_half, number_small, past_end}
-use Rattle.prefix_trie_forwarding.proofs.slots.reading.byte_at.Goals.{then-half-width, else-half-width}
+-- The byte is the first one of what is after the bits before it.
+use Rattle.std.proofs.Common.{◌≡◌, ◌∙◌, length, arith}
+use Rattle.prefix_trie_forwarding.proofs.Reading.{byte_bits, rest_byte}
 use Rattle.prefix_trie_forwarding.proofs.slots.reading.byte_at.Goals as goal
-
-pub overflow_mul-result : goal.overflow_mul-result
-overflow_mul-result g c =
-    let r = g.K.Key.bits c.behind-rest.result in
-    let wide : length r ≡ g.K.Key.bit_width = g.met.K.Key.key_laws.bits_length c.behind-rest.result c.behind-rest.ensures.key in
-    let upper = number_small (r ++ zeros 5) 4 (let l = length-append r (zeros 5) in omega (arith, l)) in
-    omega (arith, c.window-upper.ensures, upper)
 
 pub returns-clause-byte : goal.returns-clause-byte
 returns-clause-byte g c =
-    let b = g.K.Key.bits c.args.address in
-    let r = g.K.Key.bits c.behind-rest.result in
-    let long : length b ≡ g.K.Key.bit_width = g.met.K.Key.key_laws.bits_length c.args.address c.is_key.ensures.key in
-    let wide : length r ≡ g.K.Key.bit_width = g.met.K.Key.key_laws.bits_length c.behind-rest.result c.behind-rest.ensures.key in
-    let some = g.met.K.Key.key_laws.at_least_one in
-    let joined = halves b r c.args.depth c.window-upper.result c.if-half-width.lower (omega (arith, wide, some)) (omega (arith, long, c.requires)) c.behind-rest.ensures.value c.window-upper.ensures in
-    elim c.if-half-width.branch [
-      | then-half-width w ↦ joined (w.lower-is ∙ w.window-lower.ensures ∙ lower_half r (omega (arith, wide, w.if-half-width.true, c.width.ensures)))
-      | else-half-width w ↦ joined (w.lower-is ∙ sym (past_end r 4 4 8 (omega (arith, wide, w.if-half-width.false, c.width.ensures))))
-    ]
-
-pub returns-clause-small : goal.returns-clause-small
-returns-clause-small g c =
-    let b = g.K.Key.bits c.args.address in
-    let e = returns-clause-byte g c in
-    let small = number_small (drop c.args.depth b ++ zeros 8) 8 (let l = length-append (drop c.args.depth b) (zeros 8) in omega (arith, l)) in
-    omega (arith, e, small)
+    c.first_byte.ensures.byte ∙ rest_byte (g.K.Key.bits c.args.address) (g.K.Key.bits c.behind.result) c.args.depth c.behind.ensures.value
 
 pub returns-clause-part : goal.returns-clause-part
 returns-clause-part g c = λ w k fits size.
     let b = g.K.Key.bits c.args.address in
     let long : length b ≡ g.K.Key.bit_width = g.met.K.Key.key_laws.bits_length c.args.address c.is_key.ensures.key in
     returns-clause-byte g c ∙ byte_bits b w (omega (arith, long, fits)) c.args.depth k (omega (arith, long, c.requires)) size
-
-pub overflow_add-result : goal.overflow_add-result
-overflow_add-result g c = let l = returns-clause-small g c in omega (arith, l)
