@@ -6,4 +6,5 @@ pub mod Counts
 pub mod Slots
 pub mod Forwarding
 pub mod Needs
+pub mod Refusals
 pub mod Laws

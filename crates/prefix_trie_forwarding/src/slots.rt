@@ -1,11 +1,12 @@
 //! Slots of answers, in groups: what a lookup reads.
-ghost use Rattle.std.specs.Prelude.{◌≡◌, ◌⊎◌, ℕ, ◌+◌, ◌-◌, ◌*◌, ◌%◌, ◌^◌, ◌<◌, ◌≤◌, IfOk, IsOk, slice_index, vec_len};
+ghost use Rattle.std.specs.Prelude.{◌≡◌, ◌⊎◌, ℕ, ◌+◌, ◌-◌, ◌*◌, ◌%◌, ◌^◌, ◌<◌, ◌≤◌, IfErr, IfOk, IsOk, slice_index, vec_len};
 ghost use Rattle.std.specs.FinMap.{len};
 ghost use Rattle.prefix_trie_bits.specs.Model.Nodes.{Nodes};
 ghost use Rattle.prefix_trie_forwarding.specs.Counts.{HasBlocks};
 ghost use Rattle.prefix_trie_forwarding.specs.Keys.{IsDivided, first_of};
 ghost use Rattle.prefix_trie_forwarding.specs.Paths.{IsEnd};
 ghost use Rattle.prefix_trie_forwarding.specs.Slots.{IsSlots, Trims};
+ghost use Rattle.prefix_trie_forwarding.specs.Refusals.{LacksGroups, groups_above};
 ghost use Rattle.prefix_trie_forwarding.specs.Walks.{GainsPath, HasGroup, HasPath, IsAddress, IsChanged, IsSame, KeepsGroups, answer, changed};
 
 mod change;
@@ -120,6 +121,8 @@ impl<A: Allocator> Slots<A> {
             (slice_index self.old.items.items)
             (first_of (self.old.root_bits + 8 * self.old.levels) (K.bits first))
             (self.old.root_bits + 8 * self.old.levels - len) → IsOk result }
+        ensures refused { IfErr result (λ cause. LacksGroups self.new.groups.made
+            (vec_len self.new.groups.free) (groups_above self.old.root_bits len) cause) }
     {
         let end = walk(
             &self.items,

@@ -1,11 +1,16 @@
 //! A map from networks to next hops, with slots in which a lookup finds the longest match of an address.
-ghost use Rattle.std.specs.Prelude.{◌≡◌, ◌⊎◌, ◌+◌, ◌-◌, ◌*◌, ◌/◌, ◌^◌, ◌<◌, ◌≤◌, ◌↔◌, IfOk, IsOk, IsTrue, true, OnErr, OnOk, max, min, vec_len};
+ghost use Rattle.std.specs.Prelude.{◌≡◌, ◌⊎◌, ◌+◌, ◌-◌, ◌*◌, ◌/◌, ◌^◌, ◌<◌, ◌≤◌, ◌↔◌, IfErr, IfOk, IsOk, IsTrue, true, OnErr, OnOk, max, min, vec_len};
 ghost use Rattle.std.specs.FinMap.{contains_key, get, len};
 ghost use Rattle.prefix_trie_bits.specs.Model.Entries.{no_entries, with_entry, without_entry};
 ghost use Rattle.prefix_trie_bits.specs.Model.Matches.{longest_match};
+ghost use Rattle.prefix_trie_bits.specs.Model.Step.{Insert, Value};
+ghost use Rattle.prefix_trie_bits.specs.declared.prefix.Refusal.TheVariants.{Memory};
+ghost use Rattle.prefix_trie_bits.specs.Calls.Storage.{StepByPath};
 ghost use Rattle.prefix_trie_forwarding.specs.Forwarding.{Follows, answer_of, hop_of, length_and_hop};
 ghost use Rattle.prefix_trie_forwarding.specs.Keys.{IsDivided};
 ghost use Rattle.prefix_trie_forwarding.specs.Needs.{HasNeededGroups, needed_groups};
+ghost use Rattle.prefix_trie_forwarding.specs.Refusals.{Refuses};
+ghost use Rattle.prefix_trie_table.specs.Model.Contents.{stored_state};
 
 mod addresses;
 mod bulk;
@@ -68,6 +73,7 @@ impl<P: Prefix, A: Allocator + Clone> ForwardingTable<P, A> {
     pub fn new(alloc: A) -> Result<Self, Refusal>
         ensures entries { IfOk result (λ table. table.map.entries ≡ no_entries) }
         ensures root { IfOk result (λ table. table.slots.root_bits ≡ min 24 P.R.bit_width) }
+        ensures only_memory { IfErr result (λ cause. cause ≡ Memory) }
     {
         Self::with_root_bits(alloc, 24)
     }
@@ -91,6 +97,7 @@ impl<P: Prefix, A: Allocator + Clone> ForwardingTable<P, A> {
         ensures entries { IfOk result (λ table. table.map.entries ≡ no_entries) }
         ensures root { IfOk result (λ table. table.slots.root_bits
             ≡ min (min (max bits 1) 24) P.R.bit_width) }
+        ensures only_memory { IfErr result (λ cause. cause ≡ Memory) }
     {
         let width = P::R::width();
         // The proof learns from it how wide a key may be.
@@ -196,8 +203,8 @@ impl<P: Prefix, A: Allocator> ForwardingTable<P, A> {
     /// # Errors
     ///
     /// Returns an error if a new network needs a block of the map or a group that cannot be made: `Memory` if an allocation
-    /// fails, `IndexRange` if the map would exceed its slot limit or there would be more than 2^31 groups. Networks and
-    /// answers are unchanged then. Groups that the call made stay, as free ones.
+    /// fails, `IndexRange` if the map would exceed its slot limit or there are 2^31 groups. A network that is no longer
+    /// than the root needs no group. Networks and answers are unchanged then. Groups that the call made stay, as free ones.
     ///
     /// # Examples
     ///
@@ -214,6 +221,13 @@ impl<P: Prefix, A: Allocator> ForwardingTable<P, A> {
         ensures unchanged { OnErr result (self.new.map.entries ≡ self.old.map.entries) }
         ensures root { self.new.slots.root_bits ≡ self.old.slots.root_bits }
         ensures stored { contains_key self.old.map.entries (P.path prefix) ≡ true → IsOk result }
+
+        // For the map this is a step of the model, of its storage too. An error is that of such a step, or the map is
+        // unchanged and groups are missing: for `IndexRange`, there are 2^31; for `Memory`, fewer.
+        ensures step { IfOk result (λ before. StepByPath P.R.bit_width (stored_state self.old.map)
+            (Insert (P.path prefix) hop) (Value before) (stored_state self.new.map)) }
+        ensures refused { IfErr result (λ cause. Refuses P.R.bit_width self.old.slots.root_bits
+            (vec_len self.new.slots.items) (P.path prefix) hop cause self.old.map self.new.map) }
 
         // Free groups are used first: the slots grow only if no group is free afterwards.
         ensures slots { OnOk result ((vec_len self.new.slots.items ≡ vec_len self.old.slots.items)

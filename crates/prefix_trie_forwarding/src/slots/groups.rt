@@ -1,6 +1,8 @@
 //! Taking free groups into use, and giving them back.
-ghost use Rattle.std.specs.Prelude.{◌≡◌, ◌≢◌, ◌⊎◌, ℕ, ◌+◌, ◌*◌, ◌%◌, ◌^◌, ◌<◌, ◌≤◌, ◌++◌, ◌∷◌, [], IsOk, List, OnOk, false, true, length, slice_index, vec_len};
+ghost use Rattle.std.specs.Prelude.{◌≡◌, ◌≢◌, ◌⊎◌, ℕ, ◌+◌, ◌*◌, ◌%◌, ◌^◌, ◌<◌, ◌≤◌, ◌++◌, ◌∷◌, [], IfErr, IsOk, List, OnErr, OnOk, false, true, length, slice_index, vec_len};
 ghost use Rattle.std.proofs.Common.{suc};
+ghost use Rattle.prefix_trie_bits.specs.declared.prefix.Refusal.TheVariants.{IndexRange, Memory};
+ghost use Rattle.prefix_trie_forwarding.specs.Refusals.{LacksGroups};
 ghost use Rattle.prefix_trie_forwarding.specs.Slots.{AreGroups};
 ghost use Rattle.prefix_trie_forwarding.specs.Walks.{AgreesOutside, AreFree, AreSlots, GainsGroup, IsAddress, IsSame, Reaches};
 
@@ -99,6 +101,8 @@ pub(super) fn reserve<A: Allocator>(
     ensures made { OnOk result ((groups.new.made ≡ groups.old.made)
         ⊎ ((0 < missing) × (vec_len groups.new.free ≤ missing))) }
     ensures spare { missing ≤ vec_len groups.old.free → IsOk result }
+    ensures refused { IfErr result
+        (λ cause. LacksGroups groups.new.made (vec_len groups.new.free) missing cause) }
 {
     while groups.free.len() < missing {
         add_group(slots, groups, root_bits)?;
@@ -123,6 +127,10 @@ fn add_group<A: Allocator>(
     ensures more { OnOk result (vec_len groups.new.free ≡ vec_len groups.old.free + 1) }
     ensures as_many { groups.new.made + vec_len groups.old.free
         ≡ groups.old.made + vec_len groups.new.free }
+    ensures unchanged { OnErr result (groups.new.made ≡ groups.old.made) }
+    ensures range { IfErr result
+        (λ cause. cause ≡ IndexRange → groups.old.made ≡ 2147483648) }
+    ensures memory { IfErr result (λ cause. cause ≡ Memory → groups.old.made < 2147483648) }
 {
     if groups.made >= GROUP as usize {
         return Err(Refusal::IndexRange);

@@ -3,6 +3,7 @@ use Rattle.std.proofs.Common.{◌≡◌, ◌∙◌, ◌+◌, ◌*◌, ◌^◌, �
 use Rattle.std.specs.Coded.{le_prop}
 use Rattle.std.specs.FinMap.{len}
 use Rattle.std.proofs.lemmas.Bool.{false≢true}
+use Rattle.std.proofs.lemmas.Result.{err_from_is_err_and}
 use Rattle.std.proofs.Math.Logic.{∥∥₁_elim, ∥∥₁_map}
 use Rattle.prefix_trie_bits.specs.Calls.Entries.{AreWithin}
 use Rattle.prefix_trie_bits.specs.Keys.{path_length, path_within}
@@ -10,6 +11,7 @@ use Rattle.prefix_trie_bits.specs.Model.Entries.{with_entry}
 use Rattle.prefix_trie_forwarding.specs.Forwarding.{Follows}
 use Rattle.prefix_trie_forwarding.specs.Keys.{IsDivided, first_of}
 use Rattle.prefix_trie_forwarding.specs.Needs.{HasNeededGroups, needed_groups}
+use Rattle.prefix_trie_forwarding.specs.Refusals.{groups_above}
 use Rattle.prefix_trie_forwarding.proofs.Following.{follows_same}
 use Rattle.prefix_trie_forwarding.proofs.Needed.{needed_kept}
 use Rattle.prefix_trie_forwarding.proofs.Networks.{first_path}
@@ -166,3 +168,37 @@ returns-in_err-end-clause-stored g c = λ here.
     (λ has. stored_path s.root_bits s.levels t.map.entries (g.P.Prefix.path c.args.prefix) (omega (arith, within, reads)) (first_of (s.root_bits + 8 * s.levels) (g.P.R.Key.bits c.mask-first.result)) c.from-len.result
     (first_path g.met.P.Prefix.prefix_laws c.args.prefix c.requires (s.root_bits + 8 * s.levels) c.mask-first.result reads c.mask-first.ensures.value)
     (omega (arith, c.from-len.ensures, c.prefix_len.ensures, long)) s.items.items has here n k x reached more))))
+
+pub link-requires-clause-len : goal.link-requires-clause-len
+link-requires-clause-len g c =
+    let long = path_length g.met.P.Prefix.prefix_laws c.args.prefix c.requires in
+    let within = path_within g.met.P.Prefix.prefix_laws c.args.prefix c.requires in
+    omega (arith, c.from-len.ensures, c.prefix_len.ensures, long, within)
+
+pub returns-in_err-end-clause-refused : goal.returns-in_err-end-clause-refused
+returns-in_err-end-clause-refused g c =
+    let t = c.args.self.now in
+    let r = t.slots.root_bits in
+    let l = t.slots.levels in
+    let m = t.map.entries in
+    let xs = t.slots.items.items in
+    let s = c.prepare.new.self in
+    let ys = c.prepare.new.self.items.items in
+    let root = c.prepare.ensures.root in
+    let level = c.prepare.ensures.levels in
+    let long : length (g.P.Prefix.path c.args.prefix) ≡ g.P.Prefix.len_of c.args.prefix = path_length g.met.P.Prefix.prefix_laws c.args.prefix c.requires in
+    let len_is : c.from-len.result ≡ length (g.P.Prefix.path c.args.prefix) = omega (arith, c.from-len.ensures, c.prefix_len.ensures, long) in
+    let groups = ∥∥₁_map t.groups (λ has. needed_kept r l m xs ys has (keeps_points (2 ^ r) l xs ys c.prepare.ensures.points)) in
+    let used = used_groups s.root_bits s.levels s.groups.made ys s.groups.free.items m
+    (moved (λ r k m. ∥ HasNeededGroups r k ys m ∥₁) r l s.root_bits s.levels m m root level refl groups)
+    (λ k stored. (let most = c.len.ensures.whole.is_map.keys_within k stored in omega (arith, most, t.divided.reads, root, level))) s.sound.counted in
+    let count : len (needed_groups s.root_bits m) ≡ len (needed_groups r m) = ap (λ r. len (needed_groups r m)) root in
+    let size : 2 ^ s.root_bits ≡ 2 ^ r = ap (λ r. 2 ^ r) root in
+    let above : groups_above r c.from-len.result ≡ groups_above r (length (g.P.Prefix.path c.args.prefix)) = ap (groups_above r) len_is in
+    let lacks = c.in_err-end.ensures.refused in
+    let p = err_from_is_err_and c.from_residual.result c.from_residual.ensures.1 in
+    rw (p.1, p.2) (inr (refl, record {
+      few = omega (arith, lacks.few, used, count, size, above, s.sound.set.sizes);
+      range = λ is. (let all = lacks.range is in omega (arith, all, size, s.sound.set.sizes));
+      memory = λ is. (let fewer = lacks.memory is in omega (arith, fewer, size, s.sound.set.sizes));
+    }))
