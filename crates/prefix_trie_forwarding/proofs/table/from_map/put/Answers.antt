@@ -1,5 +1,5 @@
 -- The answers and groups follow the entries with one network more.
-use Rattle.std.proofs.Common.{◌≡◌, ◌∙◌, ◌+◌, ◌*◌, ◌^◌, ◌≤◌, length, arith}
+use Rattle.std.proofs.Common.{◌≡◌, ◌+◌, ◌*◌, ◌≤◌, length, arith}
 use Rattle.prefix_trie_bits.specs.Keys.{path_length, path_within}
 use Rattle.prefix_trie_bits.specs.Model.Entries.{no_entries}
 use Rattle.prefix_trie_forwarding.specs.Keys.{first_of}
