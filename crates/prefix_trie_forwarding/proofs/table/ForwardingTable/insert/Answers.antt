@@ -197,8 +197,11 @@ returns-in_err-end-clause-refused g c =
     let above : groups_above r c.from-len.result ≡ groups_above r (length (g.P.Prefix.path c.args.prefix)) = ap (groups_above r) len_is in
     let lacks = c.in_err-end.ensures.refused in
     let p = err_from_is_err_and c.from_residual.result c.from_residual.ensures.1 in
-    rw (p.1, p.2) (inr (refl, record {
-      few = omega (arith, lacks.few, used, count, size, above, s.sound.set.sizes);
-      range = λ is. (let all = lacks.range is in omega (arith, all, size, s.sound.set.sizes));
-      memory = λ is. (let fewer = lacks.memory is in omega (arith, fewer, size, s.sound.set.sizes));
-    }))
+    rw (p.1, p.2) (inr (
+      refl,
+      record {
+        few = omega (arith, lacks.few, used, count, size, above, s.sound.set.sizes);
+        range = λ is. (let all = lacks.range is in omega (arith, all, size, s.sound.set.sizes));
+        memory = λ is. (let fewer = lacks.memory is in omega (arith, fewer, size, s.sound.set.sizes));
+      },
+    ))
