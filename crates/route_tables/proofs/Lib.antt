@@ -2,6 +2,7 @@
 -- counting by length, texts of networks, the addresses of lists, and the fewest networks that cover them.
 pub mod AccessLists
 pub mod AddressTexts
+pub mod Answering
 pub mod SizeCounts
 pub mod Decisions
 pub mod FirstBytes
@@ -22,6 +23,7 @@ pub mod Paths
 pub mod PrintedRoutes
 pub mod PrintedVerdicts
 pub mod Printing
+pub mod RangeLines
 pub mod Ranges
 pub mod Ranking
 pub mod RankSlots

@@ -13,8 +13,8 @@ use Rattle.prefix_trie_joint.specs.declared.prefix.IpPrefix.{IpPrefix}
 use Rattle.route_tables.specs.Lines.{after_mark, begins_comment, begins_word, fields, has_bare_return, lines, table_lines, words}
 use Rattle.route_tables.specs.Loads.{strict}
 use Rattle.route_tables.specs.Networks.{has_hyphen, has_slash, AreOfText, AreOfTextByHyphen, IsNetworkText, IsTextBySlash}
-use Rattle.route_tables.specs.Printed.{route_line}
-use Rattle.route_tables.specs.PrintedLines.{printed, IsTableRoute, PrintedLaws}
+use Rattle.route_tables.specs.Printed.{route_line, routes_text}
+use Rattle.route_tables.specs.PrintedLines.{IsTableRoute, PrintedLaws}
 use Rattle.route_tables.specs.Routes.{AreFieldsOf, Gives, HasRoutes, IsBad, IsFirstBad, IsLineValue, IsRoute, IsValue, IsValueText, Route}
 use Rattle.route_tables.specs.declared.network.HostBits.TheVariants.{Refused}
 use Rattle.route_tables.proofs.LineValues.{field_of_fields, fields_next, fields_of_field, first_none, rest_none, IsField, IsWord}
@@ -197,27 +197,27 @@ starts network (b ∷ bs) more = (
 )
 
 module _ (laws : IpTextLaws) where
-  lines_of : (route : Route) (routes : List Route) → IsTableRoute route → lines (printed (route ∷ routes)) ≡ line_of route.0 route.1 ∷ lines (printed routes)
+  lines_of : (route : Route) (routes : List Route) → IsTableRoute route → lines (routes_text (route ∷ routes)) ≡ line_of route.0 route.1 ∷ lines (routes_text routes)
   lines_of route routes is =
-      ap lines (ap (λ l. l ++ printed routes) (ended route.0 route.1) ∙ append_assoc (line_of route.0 route.1) (codes "\n") (printed routes))
-      ∙ lines_line (line_of route.0 route.1) (printed routes) (line_is_one laws route.0 route.1 is.fits is.bare is.value)
+      ap lines (ap (λ l. l ++ routes_text routes) (ended route.0 route.1) ∙ append_assoc (line_of route.0 route.1) (codes "\n") (routes_text routes))
+      ∙ lines_line (line_of route.0 route.1) (routes_text routes) (line_is_one laws route.0 route.1 is.fits is.bare is.value)
 
-  no_mark_before : (routes : List Route) → All IsTableRoute routes → after_mark (printed routes) ≡ printed routes
+  no_mark_before : (routes : List Route) → All IsTableRoute routes → after_mark (routes_text routes) ≡ routes_text routes
   no_mark_before [] all = refl
   no_mark_before (route ∷ routes) all =
       let is = All-head IsTableRoute route routes all in
-      let (rest, at) = starts route.0 route.1 (printed routes) in
+      let (rest, at) = starts route.0 route.1 (routes_text routes) in
       let of_text = laws.is_text route.0 is.fits in
       ap after_mark at ∙ unmarked (ip_network_text route.0) rest (text_is_some (ip_network_text route.0) route.0 of_text) (of_network (ip_network_text route.0) route.0 of_text) ∙ sym at
 
-  read_lines : (routes read : List Route) → All IsTableRoute routes → HasRoutes strict (lines (printed routes)) read → read ≡ routes
+  read_lines : (routes read : List Route) → All IsTableRoute routes → HasRoutes strict (lines (routes_text routes)) read → read ≡ routes
   read_lines [] read all has = has
   read_lines (route ∷ routes) read all has =
       let is = All-head IsTableRoute route routes all in
       let (given, rest, gives, more, whole) = subst (λ ls. HasRoutes strict ls read) (lines_of route routes is) has in
       whole ∙ ap₂ (λ a b. a ++ b) (gives_route laws route.0 route.1 is.fits is.bare is.value given gives) (read_lines routes rest (All-tail IsTableRoute route routes all) more)
 
-  good_lines : (routes : List Route) (index : ℕ) → All IsTableRoute routes → IsFirstBad strict (lines (printed routes)) index → ⊥
+  good_lines : (routes : List Route) (index : ℕ) → All IsTableRoute routes → IsFirstBad strict (lines (routes_text routes)) index → ⊥
   good_lines [] index all bad = bad
   good_lines (route ∷ routes) zero all bad =
       let is = All-head IsTableRoute route routes all in

@@ -1,5 +1,5 @@
 -- The definitions of this crate: lines and routes, networks, loaded tables, changes, access rules, sets of addresses, fewest networks, lists without values,
--- VRPs and the states of routes, and printed lines.
+-- minimised tables, VRPs and the states of routes, and printed lines.
 pub mod Access
 pub mod AddressLists
 pub mod AddressSets
@@ -14,6 +14,7 @@ pub mod FreeNetworks
 pub mod LineAddresses
 pub mod Lines
 pub mod Loads
+pub mod Minimised
 pub mod Networks
 pub mod PlainLists
 pub mod Printed

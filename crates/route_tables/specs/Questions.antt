@@ -1,5 +1,5 @@
 -- Questions: the addresses and networks that a table is asked about. This project's own.
-use Rattle.std.specs.Prelude.{◌≡◌, ℕ, ◌-◌, ◌/◌, ◌%◌, ◌^◌, ◌==◌, ◌&&◌, Bool, false, cond, List, [], ◌∷◌, nat_le, Option, None, Some, Result, Ok, Err}
+use Rattle.std.specs.Prelude.{◌≡◌, ◌⊎◌, ◌++◌, ℕ, ◌-◌, ◌/◌, ◌%◌, ◌^◌, ◌==◌, ◌&&◌, Bool, false, cond, List, [], ◌∷◌, nat_le, Option, None, Some, Result, Ok, Err}
 use Rattle.std.specs.Net.Grammar.{IsIpText}
 use Rattle.std.specs.Str.{IsUtf8}
 use Rattle.std.specs.declared.net.ip_addr.IpAddr.{IpAddr}
@@ -49,6 +49,22 @@ pub record AreFieldsOfQuestion (asking : Asking) (read : List (List ℕ)) (text 
 -- the only field of the line is such a text
 abbrev pub IsQuestionLine : Asking → List ℕ → List ℕ → IpPrefix → Type 0
 IsQuestionLine asking line text network = AreFieldsOfQuestion asking (fields line) text network × (has_bare_return line ≡ false)
+
+-- the word is such a text
+abbrev pub IsQuestionWord : Asking → List ℕ → List ℕ → IpPrefix → Type 0
+IsQuestionWord asking word text network = (text ≡ word) × IsQuestion asking word network
+
+-- the question of a line or a word, if it has one
+abbrev pub GivesQuestion : (List ℕ → List ℕ → IpPrefix → Type 0) → List ℕ → List (List ℕ × IpPrefix) → Type 0
+GivesQuestion Asks line given =
+    ((given ≡ []) × ((text : List ℕ) (network : IpPrefix) → ¬ (Asks line text network)))
+    ⊎ ((text : List ℕ) × (network : IpPrefix) × Asks line text network × (given ≡ (text, network) ∷ []))
+
+-- the questions of lines or words, in order: the text and the network of each
+abbrev pub HasQuestions : (List ℕ → List ℕ → IpPrefix → Type 0) → List (List ℕ) → List (List ℕ × IpPrefix) → Type 0
+HasQuestions Asks [] questions = questions ≡ []
+HasQuestions Asks (line ∷ later) questions =
+    (given : List (List ℕ × IpPrefix)) × (rest : List (List ℕ × IpPrefix)) × GivesQuestion Asks line given × HasQuestions Asks later rest × (questions ≡ given ++ rest)
 
 -- what is read from a line: nothing if it is blank or a comment, its question, or an error if it is neither
 abbrev pub ReadsLine : Asking → List ℕ → Result (Option Question) QuestionError → Type 0

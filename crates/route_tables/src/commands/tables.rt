@@ -1,4 +1,10 @@
 //! What commands print of tables, by network.
+ghost use Rattle.std.specs.Prelude.{OnOk};
+ghost use Rattle.std.specs.Io.KnownBytes.{Appends};
+ghost use Rattle.prefix_trie.specs.Terms.{listing_below, prefix_pairs};
+ghost use Rattle.prefix_trie_joint.specs.Joined.{entries_of};
+ghost use Rattle.prefix_trie_joint.specs.Networks.{ip_back, ip_path};
+ghost use Rattle.route_tables.specs.Printed.{routes_text, table_text};
 
 use crate::commands::printer::Printer;
 use crate::diff::changes;
@@ -11,7 +17,13 @@ use std::alloc::Global;
 use std::io::{self, Write};
 
 /// Prints a table in listing order, a line for each network.
-pub fn list<W: Write + Drop>(table: &Table, out: &mut Printer<W>) -> io::Result<()> {
+///
+/// # Errors
+///
+/// Returns the printer's error.
+pub fn list<W: Write + Drop>(table: &Table, out: &mut Printer<W>) -> io::Result<()>
+    ensures { OnOk result (Appends out.old out.new (table_text (entries_of table.now))) }
+{
     for (network, value) in table {
         out.route(&network, value.as_str())?;
     }
@@ -19,11 +31,18 @@ pub fn list<W: Write + Drop>(table: &Table, out: &mut Printer<W>) -> io::Result<
 }
 
 /// Prints the networks that a network contains, in listing order.
+///
+/// # Errors
+///
+/// Returns the printer's error.
 pub fn list_within<W: Write + Drop>(
     table: &Table,
     network: IpPrefix,
     out: &mut Printer<W>,
-) -> io::Result<()> {
+) -> io::Result<()>
+    ensures { OnOk result (Appends out.old out.new (routes_text
+        (prefix_pairs ip_back (listing_below (entries_of table.now) (ip_path network))))) }
+{
     for (network, value) in table.children(&network) {
         out.route(&network, value.as_str())?;
     }
