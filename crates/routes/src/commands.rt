@@ -138,10 +138,15 @@ fn diff<'a, W: Write + Drop>(
     let new = session.read_tables(&[new], Values::Used)?;
     let mut is_same = true;
     let printed = print_diff(&old, &new, session.alloc(), out, &mut is_same);
-    if !is_same {
-        *status = Status::Bad;
-    }
+    *status = status_if(is_same);
     Ok(printed?)
+}
+
+// Returns the status of a comparison or a check: `Bad` if something differs or is not allowed.
+fn status_if(is_good: bool) -> Status
+    ensures { MatchBool is_good (result ≡ Status.Good) (result ≡ Status.Bad) }
+{
+    if is_good { Status::Good } else { Status::Bad }
 }
 
 // Returns the addresses that both files have, or that the first has and the second does not.
@@ -380,9 +385,7 @@ fn check<'a, W: Write + Drop>(
     };
     let mut asker = Asker::Check(&list, checking, Checked::new());
     let done = ask(session, words, &mut asker, out);
-    if !asker.is_good() {
-        *status = Status::Bad;
-    }
+    *status = status_if(asker.is_good());
     done
 }
 

@@ -1,9 +1,12 @@
 //! What `check` prints for questions.
 ghost use Rattle.std.specs.Prelude.{◌≡◌, ◌↔◌, [], ◌∷◌, All, IfErr, OnOk, false, map, true};
+ghost use Rattle.std.specs.Io.KnownBytes.{Appends};
 ghost use Rattle.prefix_trie_joint.specs.Networks.{ip_path};
 ghost use Rattle.route_tables.specs.Access.{IsAllowed};
 ghost use Rattle.route_tables.specs.Checks.{EndsCheck, HasChecked, IsAllowedLine, IsAllowedWord, IsGoodLine, IsGoodWord, IsOutput, NamesText, asking_of};
 ghost use Rattle.route_tables.specs.Lines.{lines};
+ghost use Rattle.route_tables.specs.Printed.{PrintsAnswers, decision_text};
+ghost use Rattle.route_tables.specs.Questions.{IsQuestionLine, IsQuestionWord};
 
 use crate::access::{AccessList, Precedence};
 use crate::commands::printer::Printer;
@@ -78,6 +81,8 @@ pub fn check_lines<'a, W: Write + Drop>(
         checked.old checked.new) }
     ensures good { OnOk result (checking.bad_questions ≡ BadLines.Refused
         → All (IsGoodLine checking) (lines text.now)) }
+    ensures printed { OnOk result (PrintsAnswers (IsQuestionLine (asking_of checking))
+        (decision_text checking.precedence list.now) (lines text.now) out.old out.new) }
     ensures ends { IfErr result (EndsCheck (IsGoodLine checking)
         (IsAllowedLine checking list.now) checking (lines text.now) checked.old checked.new) }
 {
@@ -108,6 +113,9 @@ pub fn check_words<'a, W: Write + Drop>(
         (map (λ word. word.now) words.now) checked.old checked.new) }
     ensures good { OnOk result (checking.bad_questions ≡ BadLines.Refused
         → All (IsGoodWord checking) (map (λ word. word.now) words.now)) }
+    ensures printed { OnOk result (PrintsAnswers (IsQuestionWord (asking_of checking))
+        (decision_text checking.precedence list.now) (map (λ word. word.now) words.now)
+        out.old out.new) }
     ensures ends { IfErr result (EndsCheck (IsGoodWord checking)
         (IsAllowedWord checking list.now) checking (map (λ word. word.now) words.now)
         checked.old checked.new) }
@@ -135,6 +143,8 @@ fn check_line<'a, W: Write + Drop>(
     ensures named { IfErr result
         (NamesText (IsGoodLine checking line.now) checking.bad_questions line.now
         checked.new.seen.count) }
+    ensures printed { OnOk result (PrintsAnswers (IsQuestionLine (asking_of checking))
+        (decision_text checking.precedence list.now) (line.now ∷ []) out.old out.new) }
 {
     checked.seen.count_one();
     match read_question(line, checking.asking()) {
@@ -169,6 +179,8 @@ fn check_word<'a, W: Write + Drop>(
     ensures named { IfErr result
         (NamesText (IsGoodWord checking word.now) checking.bad_questions word.now
         checked.new.seen.count) }
+    ensures printed { OnOk result (PrintsAnswers (IsQuestionWord (asking_of checking))
+        (decision_text checking.precedence list.now) (word.now ∷ []) out.old out.new) }
 {
     checked.seen.count_one();
     match parse_question(word, checking.asking()) {
@@ -203,6 +215,8 @@ fn answer<'a, W: Write + Drop>(
         × IsAllowed precedence list.now (ip_path network)) }
     ensures count { checked.new.seen.count ≡ checked.old.seen.count }
     ensures output { IfErr result IsOutput }
+    ensures printed { OnOk result (Appends out.old out.new
+        (decision_text precedence list.now text.now network)) }
 {
     let decision = list.decide(&network, precedence);
     checked.are_all_allowed &= decision.is_allowed();
