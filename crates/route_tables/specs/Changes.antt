@@ -1,17 +1,10 @@
 -- The networks at which two tables differ. This project's own.
 use Rattle.std.specs.Prelude.{ℕ, Bool, true, not, List, filter, bytes_eq}
-use Rattle.std.specs.Borrow.{Bor}
 use Rattle.prefix_trie.specs.Terms.{listing}
 use Rattle.prefix_trie_ops.specs.Merging.{union_of}
 use Rattle.prefix_trie_ops.specs.declared.map.sides.Side.{Side}
 use Rattle.prefix_trie_ops.specs.declared.map.sides.Side.TheVariants.{Left, Right, Both}
 use Rattle.route_tables.specs.Tables.{Values}
-
--- the values that are lent
-abbrev pub lent : {X : Type 0} → Side (Bor X) (Bor X) → Side X X
-lent (Left v) = Left v.now
-lent (Right w) = Right w.now
-lent (Both v w) = Both v.now w.now
 
 -- whether two tables with these values at a key differ there
 abbrev pub differ : Side (List ℕ) (List ℕ) → Bool

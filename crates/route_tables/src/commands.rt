@@ -21,7 +21,7 @@ use crate::table::Table;
 use address_ranges::JointAddressSet;
 use std::alloc::Global;
 use std::io::{self, Write};
-pub use tables::{list, list_within};
+pub use tables::{list, list_within, print_diff};
 
 /// Prints a report on a table.
 ///
@@ -81,22 +81,6 @@ pub fn print_addresses<W: Write + Drop>(
         AddressReport::Ranges => sets::print_ranges(set, out),
         AddressReport::Count => sets::count(set, out),
     }
-}
-
-/// Prints what changes from a table to another. Sets `is_same` to false if something does.
-///
-/// # Errors
-///
-/// Returns the writer's error, or an error if an allocation fails.
-pub fn print_diff<W: Write + Drop>(
-    old: &Table,
-    new: &Table,
-    alloc: Global,
-    out: &mut Printer<W>,
-    is_same: &mut bool,
-) -> io::Result<()> {
-    tables::diff(&old.ipv4, &new.ipv4, alloc, out, is_same)?;
-    tables::diff(&old.ipv6, &new.ipv6, alloc, out, is_same)
 }
 
 /// Prints the networks of a table all of whose addresses are in a set, with their values.

@@ -1,10 +1,10 @@
 //! What changes from one table to another.
-ghost use Rattle.std.specs.Prelude.{◌≡◌, ◌≢◌, ◌↔◌, ℕ, Bool, Contains, IfOk, List, Some, map};
+ghost use Rattle.std.specs.Prelude.{◌≡◌, ◌≢◌, ◌↔◌, [], ℕ, Bool, Contains, IfOk, List, Some, map};
 ghost use Rattle.std.specs.FinMap.{get};
 ghost use Rattle.prefix_trie.specs.Terms.{prefix_pairs};
-ghost use Rattle.prefix_trie_ops.specs.Merging.{lent_side, sides};
+ghost use Rattle.prefix_trie_ops.specs.Merging.{lent_side, lent_values, sides};
 ghost use Rattle.prefix_trie_ops.specs.declared.map.sides.Side.{Side};
-ghost use Rattle.route_tables.specs.Changes.{changes_of, differ, lent};
+ghost use Rattle.route_tables.specs.Changes.{changes_of, differ};
 
 use crate::table::FamilyTable;
 use crate::value::Value;
@@ -44,6 +44,8 @@ pub fn changes<'a, P: Prefix>(
         → Contains (changes_of old.now.entries new.now.entries) (s, values)
         ↔ ((get old.now.entries s ≢ get new.now.entries s)
         × (sides (get old.now.entries s) (get new.now.entries s) ≡ Some values))) }
+    ensures none { IfOk result
+        (λ changes. (changes.items ≡ []) ↔ (old.now.entries ≡ new.now.entries)) }
 {
     combining_laws::<Value, Value>();
     listing_laws::<Side<Value, Value>>();
@@ -58,7 +60,7 @@ pub fn changes<'a, P: Prefix>(
 
 // Returns whether two tables that have these values at a network differ there.
 fn differ(values: &Values<'_>) -> bool
-    ensures { result ≡ differ (lent values.now) }
+    ensures { result ≡ differ (lent_values values.now) }
 {
     match values {
         Side::Both(old, new) => old != new,

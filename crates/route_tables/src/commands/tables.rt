@@ -1,13 +1,15 @@
 //! What commands print of tables, by network.
-ghost use Rattle.std.specs.Prelude.{OnOk};
+ghost use Rattle.std.specs.Prelude.{◌≡◌, ◌↔◌, OnOk, flat_map, map, true};
 ghost use Rattle.std.specs.Io.KnownBytes.{Appends};
 ghost use Rattle.prefix_trie.specs.Terms.{listing_below, prefix_pairs};
 ghost use Rattle.prefix_trie_joint.specs.Joined.{entries_of};
 ghost use Rattle.prefix_trie_joint.specs.Networks.{ip_back, ip_path};
-ghost use Rattle.route_tables.specs.Printed.{routes_text, table_text};
+ghost use Rattle.prefix_trie_joint.specs.declared.prefix.IpPrefix.{IpPrefix};
+ghost use Rattle.prefix_trie_ops.specs.Merging.{lent_side};
+ghost use Rattle.route_tables.specs.Printed.{change_line, changes_text, routes_text, table_text, IsConversion, PrintsChanges};
 
 use crate::commands::printer::Printer;
-use crate::diff::changes;
+use crate::diff::{Values, changes};
 use crate::fewest::fewest_networks;
 use crate::minimise::remove_redundant;
 use crate::table::{FamilyTable, Table};
@@ -49,18 +51,60 @@ pub fn list_within<W: Write + Drop>(
     Ok(())
 }
 
-/// Prints what changes from an old table of a family to a new one, in listing order. Sets `is_same` to false if anything does.
-pub fn diff<P: Prefix + Into<IpPrefix>, W: Write + Drop>(
+/// Prints what changes from an old table to a new one, IPv4 first, each family in listing order. Sets `is_same` to false if
+/// anything does.
+///
+/// # Errors
+///
+/// Returns the printer's error, or an error if an allocation fails.
+pub fn print_diff<W: Write + Drop>(
+    old: &Table,
+    new: &Table,
+    alloc: Global,
+    out: &mut Printer<W>,
+    is_same: &mut bool,
+) -> io::Result<()>
+    ensures lines { OnOk result (Appends out.old out.new
+        (changes_text old.now.ipv4.entries new.now.ipv4.entries old.now.ipv6.entries
+        new.now.ipv6.entries)) }
+    ensures same { OnOk result ((is_same.new ≡ true) ↔ ((is_same.old ≡ true)
+        × (old.now.ipv4.entries ≡ new.now.ipv4.entries)
+        × (old.now.ipv6.entries ≡ new.now.ipv6.entries))) }
+{
+    diff(&old.ipv4, &new.ipv4, alloc, out, is_same)?;
+    diff(&old.ipv6, &new.ipv6, alloc, out, is_same)
+}
+
+// Prints what changes from a table of a family to another. Sets `is_same` to false if anything does.
+fn diff<P: Prefix + Copy + Into<IpPrefix>, W: Write + Drop>(
     old: &FamilyTable<P>,
     new: &FamilyTable<P>,
     alloc: Global,
     out: &mut Printer<W>,
     is_same: &mut bool,
-) -> io::Result<()> {
+) -> io::Result<()>
+    ensures lines { OnOk result (PrintsChanges P.Into.converts P.back old.now.entries
+        new.now.entries out.old out.new) }
+    ensures same { OnOk result ((is_same.new ≡ true)
+        ↔ ((is_same.old ≡ true) × (old.now.entries ≡ new.now.entries))) }
+{
     let changes = changes(old, new, alloc)?;
-    *is_same &= changes.is_empty();
-    for (network, values) in changes {
-        out.change(&network.into(), &values)?;
+    let list = changes.as_slice();
+    *is_same &= list.is_empty();
+    print_changes(list, out)
+}
+
+// Prints what two tables have at networks at which they differ.
+fn print_changes<P: Prefix + Copy + Into<IpPrefix>, W: Write + Drop>(
+    changes: &[(P, Values<'_>)],
+    out: &mut Printer<W>,
+) -> io::Result<()>
+    ensures { OnOk result ((ip : P → IpPrefix) → IsConversion P.Into.converts ip
+        → Appends out.old out.new
+        (flat_map (λ e. change_line (ip e.0) e.1) (map lent_side changes.now))) }
+{
+    for entry in changes {
+        out.change(&entry.0.into(), &entry.1)?;
     }
     Ok(())
 }
