@@ -1,12 +1,14 @@
 //! What commands print of tables, by network.
 ghost use Rattle.std.specs.Prelude.{◌≡◌, ◌↔◌, OnOk, flat_map, map, true};
 ghost use Rattle.std.specs.Io.KnownBytes.{Appends};
-ghost use Rattle.prefix_trie.specs.Terms.{listing_below, prefix_pairs};
+ghost use Rattle.prefix_trie.specs.Terms.{lent_item, listing_below, prefix_pairs};
 ghost use Rattle.prefix_trie_joint.specs.Joined.{entries_of};
 ghost use Rattle.prefix_trie_joint.specs.Networks.{ip_back, ip_path};
 ghost use Rattle.prefix_trie_joint.specs.declared.prefix.IpPrefix.{IpPrefix};
 ghost use Rattle.prefix_trie_ops.specs.Merging.{lent_side};
-ghost use Rattle.route_tables.specs.Printed.{change_line, changes_text, routes_text, table_text, IsConversion, PrintsChanges};
+ghost use Rattle.route_tables.specs.Fewest.{IsFewest};
+ghost use Rattle.route_tables.specs.Minimised.{IsMinimised};
+ghost use Rattle.route_tables.specs.Printed.{change_line, changes_text, routes_text, table_text, IsConversion, PrintsChanges, PrintsFamily};
 
 use crate::commands::printer::Printer;
 use crate::diff::{Values, changes};
@@ -116,20 +118,40 @@ pub fn minimise<W: Write + Drop>(
     table: &mut Table,
     alloc: Global,
     out: &mut Printer<W>,
-) -> io::Result<()> {
+) -> io::Result<()>
+    ensures ipv4 { OnOk result (IsMinimised table.old.ipv4.entries table.new.ipv4.entries) }
+    ensures ipv6 { OnOk result (IsMinimised table.old.ipv6.entries table.new.ipv6.entries) }
+    ensures lines { OnOk result (Appends out.old out.new (table_text (entries_of table.new))) }
+{
     remove_redundant(&mut table.ipv4, alloc)?;
     remove_redundant(&mut table.ipv6, alloc)?;
     list(table, out)
 }
 
 /// Prints the fewest networks that give each address the value that it has in a table of a family, in listing order.
-pub fn aggregate<P: Prefix + Into<IpPrefix>, W: Write + Drop>(
+pub fn aggregate<P: Prefix + Copy + Into<IpPrefix>, W: Write + Drop>(
     table: &FamilyTable<P>,
     alloc: Global,
     out: &mut Printer<W>,
-) -> io::Result<()> {
-    for (network, value) in fewest_networks(table, alloc)? {
-        out.route(&network.into(), value)?;
+) -> io::Result<()>
+    ensures { OnOk result (PrintsFamily P.Into.converts
+        (IsFewest P.R.bit_width P.back table.now.entries) out.old out.new) }
+{
+    let networks = fewest_networks(table, alloc)?;
+    print_routes(networks.as_slice(), out)
+}
+
+// Prints networks and their values.
+fn print_routes<P: Prefix + Copy + Into<IpPrefix>, W: Write + Drop>(
+    routes: &[(P, &str)],
+    out: &mut Printer<W>,
+) -> io::Result<()>
+    ensures { OnOk result ((ip : P → IpPrefix) → IsConversion P.Into.converts ip
+        → Appends out.old out.new
+        (routes_text (map (λ e. (ip e.0, e.1)) (map lent_item routes.now)))) }
+{
+    for entry in routes {
+        out.route(&entry.0.into(), entry.1)?;
     }
     Ok(())
 }
