@@ -1,4 +1,4 @@
--- The lemmas of this crate: ranges, networks, searches, the index, and the Poptrie.
+-- The lemmas of this crate: ranges, networks, searches, and the index.
 pub mod RangeValues
 pub mod NetworkIntervals
 pub mod Ends
@@ -16,16 +16,3 @@ pub mod OneTable
 pub mod Results
 pub mod Sweeps
 pub mod ValuedRanges
-pub mod Ranks
-pub mod Strides
-pub mod Windows
-pub mod Walks
-pub mod Growth
-pub mod Lows
-pub mod Pushing
-pub mod Building
-pub mod Extensions
-pub mod Direct
-pub mod Slots
-pub mod Views
-pub mod Steps

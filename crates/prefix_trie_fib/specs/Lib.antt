@@ -11,5 +11,3 @@ pub mod Ranges
 pub mod Search
 pub mod Sweep
 pub mod Tables
-pub mod Poptrie
-pub mod TableRanges

@@ -1,6 +1,5 @@
 -- Divisions of all addresses into ranges, and the value of each address. This project's own.
-use Rattle.std.specs.Prelude.{◌≡◌, ℕ, ◌+◌, ◌-◌, ◌^◌, ◌<◌, Bool, true, false, cond, List, [], ◌∷◌, ◌++◌, length, nat_eq, nat_le, Option, Some, None, slice_index_or}
-use Rattle.std.specs.List.{list_any}
+use Rattle.std.specs.Prelude.{◌≡◌, ℕ, ◌+◌, ◌-◌, ◌^◌, ◌<◌, Bool, true, false, cond, List, [], ◌∷◌, ◌++◌, length, nat_le, Option, Some, None, slice_index_or}
 use Rattle.std.specs.Option.{option_map}
 use Rattle.prefix_trie_bits.specs.Model.Bits.{number, zeros}
 use Rattle.prefix_trie_bits.specs.Model.Entries.{Entries}
@@ -35,10 +34,6 @@ module _ {V : Type 0} where
   abbrev pub value_along : V → List (ℕ × V) → ℕ → V
   value_along h [] n = h
   value_along h (r ∷ rs) n = cond (nat_le r.0 n) (value_along r.1 rs n) h
-
-  -- whether a range starts at n
-  abbrev pub is_start : List (ℕ × V) → ℕ → Bool
-  is_start rs n = list_any (λ r. nat_eq r.0 n) rs
 
   -- the first range starts at 0, and each before those after it
   pub record IsDivision (rs : List (ℕ × V)) : Type 0 where

@@ -8,7 +8,5 @@ mod index;
 mod indexed;
 pub mod laws;
 mod ranges;
-// a Poptrie of the same ranges, to which `Fib` will move
-mod table;
 
 pub use fib::{Fib, Ranges};
