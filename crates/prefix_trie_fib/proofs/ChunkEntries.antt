@@ -21,7 +21,7 @@ use Rattle.prefix_trie_fib.proofs.RangeValues.{value_of_range}
 module _ {T : Type 0} (w : ℕ) (rs : List (ℕ × Option T)) (chunks parts : List (Chunk T)) (bits : ℕ) (b : List Bool) (are : IsCompiled w rs chunks parts bits) (long : length b ≡ w) (k : ℕ) (is : k ≡ number (take bits b)) where
   pub chunk_inside : k < length chunks
   chunk_inside =
-      let within = are.within in
+      let within = are.sized.within in
       let below = number-below bits (take bits b) (length-take-le bits b (omega (arith, long, within))) in
       let all = are.long in
       omega (arith, all, is, below)

@@ -14,5 +14,6 @@ pub mod ListingOrder
 pub mod MergedRanges
 pub mod OneTable
 pub mod Results
+pub mod Sizes
 pub mod Sweeps
 pub mod ValuedRanges

@@ -6,6 +6,7 @@ use Rattle.prefix_trie_bits.specs.Model.Bits.{digits}
 use Rattle.prefix_trie_bits.specs.Model.Entries.{Entries}
 use Rattle.prefix_trie_fib.specs.Line.{AreMerged, IsDivision, StartBelow, are_same, value_along, value_of}
 use Rattle.prefix_trie_fib.specs.Tables.{IsTableOf}
+use Rattle.prefix_trie_fib.proofs.MergedRanges.{alike_exact}
 use Rattle.prefix_trie_fib.proofs.RangeValues.{step_in, step_out}
 
 -- a result is the same as itself, if values are
@@ -98,7 +99,7 @@ module _ {T : Type 0} (w : ℕ) (same : T → T → Bool) where
       one_division_of_values itself rs ss a.division b.division a.merged b.merged a.below b.below (λ n low.
       let is = number_of_digits w n low in
       let long = length-digits w n in
-      ap (λ k. value_along None rs k) (sym is) ∙ a.values exact (digits w n) long ∙ sym (b.values exact (digits w n) long) ∙ ap (λ k. value_along None ss k) is)
+      ap (λ k. value_along None rs k) (sym is) ∙ alike_exact same exact _ _ (a.values (digits w n) long) ∙ sym (alike_exact same exact _ _ (b.values (digits w n) long)) ∙ ap (λ k. value_along None ss k) is)
 
   -- the table of a map with no entry
   pub empty_table : (m : Entries T) → ((q : List Bool) → value_of m q ≡ None) → IsTableOf w same m ((0, None) ∷ [])
@@ -110,7 +111,7 @@ module _ {T : Type 0} (w : ℕ) (same : T → T → Bool) where
     };
     merged = λ k d in_it. absurd (omega (arith, in_it));
     below = first_below;
-    values = λ exact q long. step_in None (0, None) [] _ (omega arith) ∙ sym (none q);
+    values = λ q long. inl (step_in None (0, None) [] _ (omega arith) ∙ sym (none q));
   }
     where
       first_below : (k : ℕ) (d : ℕ × Option T) → k < 1 → (get_or {A = ℕ × Option T} ((0, None) ∷ []) k d).0 < 2 ^ w

@@ -17,7 +17,7 @@ use Rattle.prefix_trie_fib.specs.Line.{are_same, end_of, first_address, past_add
 use Rattle.prefix_trie_fib.specs.Sweep.{IsDoneTo, IsSweptTo, value_within, with_interval}
 use Rattle.prefix_trie_fib.proofs.NetworkIntervals.{begins_within, within_begins}
 use Rattle.prefix_trie_fib.proofs.ListingOrder.{listed_first}
-use Rattle.prefix_trie_fib.proofs.MergedRanges.{done_more, done_none}
+use Rattle.prefix_trie_fib.proofs.MergedRanges.{alike_to, done_more, done_none}
 use Rattle.prefix_trie_fib.proofs.RangeValues.{get_or-any}
 
 last-push : {X : Type 0} (xs : List X) (x : X) → last_item (xs ++ x ∷ []) ≡ Some x
@@ -95,7 +95,7 @@ module _ {T : Type 0} where
         rising = swept.done.rising;
         merged = swept.done.merged;
         below = swept.done.below;
-        right = λ exact n lt low. swept.done.right exact n lt low ∙ sym (ap (λ b. cond (b && not (leb past n)) (Some v) (of n)) (lt-leb at n lt));
+        right = λ n lt low. alike_to same _ (of n) _ (sym (ap (λ b. cond (b && not (leb past n)) (Some v) (of n)) (lt-leb at n lt))) (swept.done.right n lt low);
       };
       rest = λ n le low.
           ap (λ b. cond (b && not (leb past n)) (Some v) (of n)) (le-leb at n le)
@@ -118,7 +118,7 @@ module _ {T : Type 0} where
       rising = swept.done.rising;
       merged = swept.done.merged;
       below = swept.done.below;
-      right = λ exact n lt low. swept.done.right exact n lt low ∙ sym (is n low);
+      right = λ n lt low. alike_to same _ (of n) (of' n) (sym (is n low)) (swept.done.right n lt low);
     };
     rest = λ n le low. is n low ∙ swept.rest n le low;
   }

@@ -9,5 +9,6 @@ pub mod Layouts
 pub mod Line
 pub mod Ranges
 pub mod Search
+pub mod Sizes
 pub mod Sweep
 pub mod Tables

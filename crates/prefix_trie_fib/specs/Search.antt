@@ -1,5 +1,6 @@
 -- Which range of a division an address is in.
-use Rattle.std.specs.Prelude.{ℕ, ◌+◌, ◌<◌, ◌≤◌, List, length, slice_index_or}
+use Rattle.std.specs.Prelude.{◌≡◌, ℕ, ◌+◌, ◌<◌, ◌≤◌, Bool, List, length, MatchOption, Option, slice_index_or}
+use Rattle.prefix_trie_bits.specs.Model.Bits.{number}
 
 module _ {V : Type 0} where
   -- there is a range i, and it starts at n or before it
@@ -15,6 +16,10 @@ module _ {V : Type 0} where
   pub record IsRangeOf (rs : List (ℕ × V)) (i n : ℕ) : Type 0 where
     pub starts : StartsBy rs i n
     pub ends : (d : ℕ × V) → i + 1 < length rs → n < (slice_index_or rs (i + 1) d).0
+
+  -- range i is that of the next address, or i is the number of ranges if there is none
+  abbrev pub IsRangeOfNext : {K : Type 0} → (K → List Bool) → List (ℕ × V) → Option K → ℕ → Type 0
+  IsRangeOfNext bits rs next i = MatchOption next (i ≡ length rs) (λ k. IsRangeOf rs i (number (bits k)))
 
   -- that range is one of so many from the range i on
   pub record IsAmong (rs : List (ℕ × V)) (i count n : ℕ) : Type 0 where

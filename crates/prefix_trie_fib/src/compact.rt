@@ -3,6 +3,7 @@ ghost use Rattle.std.specs.Prelude.{◌≡◌, ℕ, ◌^◌, ◌<◌, ◌≤◌,
 ghost use Rattle.prefix_trie_bits.specs.Model.Bits.{number};
 ghost use Rattle.prefix_trie_bits.specs.declared.prefix.Refusal.TheVariants.{IndexRange};
 ghost use Rattle.prefix_trie_fib.specs.Line.{IsDivision, value_along};
+ghost use Rattle.prefix_trie_fib.specs.Sizes.{AreSlots, IsIndexSize};
 
 mod bulk;
 mod halves;
@@ -99,7 +100,7 @@ impl<K: Key, T: Copy, A: Allocator> Compact<K, T, A> {
 
     /// Returns the number of chunks of the index.
     pub(crate) fn chunks(&self) -> usize
-        ensures { result ≤ 2 ^ 20 }
+        ensures { IsIndexSize K.bit_width self.now result }
     {
         match &self.layout {
             Layout::Empty => 0,
@@ -110,7 +111,7 @@ impl<K: Key, T: Copy, A: Allocator> Compact<K, T, A> {
 
     /// Returns the number of ranges and of entries of the index.
     pub(crate) fn slots(&self) -> usize
-        ensures { length self.now ≤ result }
+        ensures { AreSlots K.bit_width self.now result }
     {
         match &self.layout {
             Layout::Empty => 1,

@@ -3,6 +3,7 @@ ghost use Rattle.std.specs.Prelude.{◌≡◌, ℕ, ◌+◌, ◌^◌, ◌<◌, �
 ghost use Rattle.prefix_trie_bits.specs.Model.Bits.{number};
 ghost use Rattle.prefix_trie_bits.specs.declared.prefix.Refusal.TheVariants.{IndexRange};
 ghost use Rattle.prefix_trie_fib.specs.Line.{end_of, value_along};
+ghost use Rattle.prefix_trie_fib.specs.Sizes.{AreSlots, IsIndexSize};
 ghost use Rattle.prefix_trie_fib.specs.Tables.{HasLongTable, IsTableOf};
 
 mod addresses;
@@ -59,8 +60,9 @@ impl<P: Prefix, T: Copy + PartialEq, A: Allocator> Model for Fib<P, T, A> {
 impl<P: Prefix, T: Copy + PartialEq, A: Allocator + Clone> Fib<P, T, A> {
     /// Compiles a map.
     ///
-    /// The time is that of a walk over the map and of one along the ranges. Maps with the same entries have the same
-    /// table, if a value equals itself and no other. See `fib_laws`.
+    /// The time is that of a walk over the map and of one along the ranges. Neighbours with equal values become one range,
+    /// which has the first of these values. Maps with the same entries have the same table, if a value equals itself and
+    /// no other. See `fib_laws`.
     ///
     /// # Errors
     ///
@@ -205,6 +207,9 @@ impl<P: Prefix, T: Copy + PartialEq, A: Allocator> Fib<P, T, A> {
 
     /// Returns the number of chunks that the index cuts all addresses into.
     ///
+    /// This is the largest power of two that is at most the number of ranges, but at least 2^8, and at most 2^20 and the
+    /// number of addresses. The table of an empty map has no chunk.
+    ///
     /// Each has an entry of the size of a value and a tag. A chunk with more than 12 ranges has more entries, unless its
     /// ranges start at its sixteenths: 16, or a power of two that is at most half the number of its ranges.
     ///
@@ -215,7 +220,8 @@ impl<P: Prefix, T: Copy + PartialEq, A: Allocator> Fib<P, T, A> {
     /// Fib::new(&map, alloc)?.index_slots();   // 256
     /// ```
     pub fn index_slots(&self) -> usize
-        ensures { result ≤ 2 ^ 20 }
+        ensures few { result ≤ 2 ^ 20 }
+        ensures size { IsIndexSize P.R.bit_width self.now result }
     {
         self.ranges.chunks()
     }
@@ -224,7 +230,7 @@ impl<P: Prefix, T: Copy + PartialEq, A: Allocator> Fib<P, T, A> {
     ///
     /// The slot of a range has the size of an address and a value, and one bit more. In a table of IPv6 networks of at
     /// most 64 bits the address takes 8 bytes. An entry of the index is that of a chunk or of a part of a chunk. It has
-    /// the size of a value and a tag, and at least 8 bytes.
+    /// the size of a value and a tag, and at least 8 bytes. There are at most two parts of chunks for each range.
     ///
     /// # Examples
     ///
@@ -233,7 +239,8 @@ impl<P: Prefix, T: Copy + PartialEq, A: Allocator> Fib<P, T, A> {
     /// Fib::new(&map, alloc)?.slots();         // 259: 3 ranges, and an index of 256 chunks
     /// ```
     pub fn slots(&self) -> usize
-        ensures { length self.now ≤ result }
+        ensures ranges { length self.now ≤ result }
+        ensures slots { AreSlots P.R.bit_width self.now result }
     {
         self.ranges.slots()
     }

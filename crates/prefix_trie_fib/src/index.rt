@@ -3,7 +3,8 @@ ghost use Rattle.std.specs.Prelude.{◌≡◌, ℕ, ◌+◌, ◌*◌, ◌-◌, �
 ghost use Rattle.prefix_trie_bits.specs.Model.Bits.{number};
 ghost use Rattle.prefix_trie_fib.specs.Index.{AreValued, Extends, HasParts, IsChunk, IsEntry, IsIndex, IsWhole};
 ghost use Rattle.prefix_trie_fib.specs.Line.{IsDivision};
-ghost use Rattle.prefix_trie_fib.specs.Search.{EndsBy, StartsBy};
+ghost use Rattle.prefix_trie_fib.specs.Search.{EndsBy, IsRangeOfNext, StartsBy};
+ghost use Rattle.prefix_trie_fib.specs.Sizes.{AreIndexBits};
 
 mod bitmap;
 mod chunk;
@@ -46,6 +47,7 @@ pub(crate) fn index_of<K: Key, T: Copy, A: Allocator, B: Allocator>(
     ensures long { IfOk result (λ index. length index.chunks.items ≡ 2 ^ bits) }
     ensures right { IfOk result
         (λ index. IsIndex K.bit_width bits line.now index.chunks.items index.parts.items) }
+    ensures few { IfOk result (λ index. length index.parts.items ≤ 2 * length line.now) }
 {
     let step = K::power(K::width() - bits);
     let mut chunks = Vec::with_capacity(alloc, 1 << bits)?;
@@ -85,6 +87,8 @@ fn entry_at<K: Key, T: Copy, A: Allocator, B: Allocator>(
         → number (K.bits low) ≡ c * 2 ^ (K.bit_width - bits)
         → IfSome next (λ k. (c + 1) * 2 ^ (K.bit_width - bits) ≤ number (K.bits k))
         → IsEntry K.bit_width bits line.now parts.new.items c entry) }
+    ensures few { OnOk result ((i : ℕ) → IsRangeOfNext K.bits line.now next i
+        → length parts.new.items + 2 * first ≤ length parts.old.items + 2 * i) }
 {
     let count = count_until(line, first, next);
     let entry = chunk_with(line, first, count, low, bits);
@@ -114,6 +118,7 @@ fn push_parts<K: Key, T: Copy, A: Allocator, B: Allocator>(
     requires within { depth ≤ K.bit_width }
     requires fits { number (K.bits low) + count * 2 ^ (K.bit_width - depth) ≤ 2 ^ K.bit_width }
     ensures kept { OnOk result (Extends parts.old.items parts.new.items) }
+    ensures long { OnOk result (length parts.new.items ≡ length parts.old.items + count) }
     ensures right { OnOk result
         ((c : ℕ) → number (K.bits low) ≡ c * 2 ^ (K.bit_width - depth)
         → HasParts K.bit_width depth line.now count parts.new.items (length parts.old.items) c) }
@@ -222,6 +227,7 @@ fn count_until<K: Key, T: Copy, A: Allocator>(
     ensures inside { first + result ≤ length line.now }
     ensures above { (high : ℕ) → IfSome next (λ k. high ≤ number (K.bits k))
         → EndsBy line.now (first + result) high }
+    ensures few { (i : ℕ) → IsRangeOfNext K.bits line.now next i → first + result ≤ i + 1 }
 {
     let len = line.len();
     let Some(end) = next else {
@@ -239,7 +245,8 @@ fn count_until<K: Key, T: Copy, A: Allocator>(
 ///
 /// Then the parts have about four ranges on average, or there are 16. The chunk is one of an index by `bits` bits.
 fn bits_of_part(count: usize, bits: u32, width: u32) -> Option<u32>
-    ensures { IfSome result (λ more. (0 < more) × (bits + more ≤ 30) × (bits + more ≤ width)) }
+    ensures { IfSome result (λ more. (0 < more) × (bits + more ≤ 30) × (bits + more ≤ width)
+        × (2 ^ more + 2 ≤ 2 * count)) }
 {
     let most = width.min(30).saturating_sub(bits);
     if count <= MOST_RANGES || most < 4 {
@@ -256,8 +263,7 @@ fn bits_of_part(count: usize, bits: u32, width: u32) -> Option<u32>
 pub(crate) fn index_bits(ranges: usize, width: u32) -> u32
     requires { 0 < width }
     ensures some { 0 < result }
-    ensures at_most { result ≤ 20 }
-    ensures within { result ≤ width }
+    ensures right { AreIndexBits width ranges result }
 {
     let mut bits = 8;
     while bits < MOST_BITS && 2 << bits <= ranges {

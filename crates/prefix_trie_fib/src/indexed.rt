@@ -4,6 +4,7 @@ ghost use Rattle.prefix_trie_bits.specs.Model.Bits.{number};
 ghost use Rattle.prefix_trie_bits.specs.declared.prefix.Refusal.TheVariants.{IndexRange};
 ghost use Rattle.prefix_trie_fib.specs.Index.{IsEntryAt, IsTop};
 ghost use Rattle.prefix_trie_fib.specs.Line.{IsDivision, value_along};
+ghost use Rattle.prefix_trie_fib.specs.Sizes.{AreSlots, IsIndexSize};
 
 mod bulk;
 
@@ -91,14 +92,14 @@ impl<K: Key, T: Copy, A: Allocator> Indexed<K, T, A> {
 
     /// Returns the number of chunks of the index.
     pub(crate) fn chunks(&self) -> usize
-        ensures { result ≤ 2 ^ 20 }
+        ensures { IsIndexSize K.bit_width self.now result }
     {
         self.index.chunks.len()
     }
 
     /// Returns the number of ranges, chunks and parts of chunks.
     pub(crate) fn slots(&self) -> usize
-        ensures { length self.now ≤ result }
+        ensures { AreSlots K.bit_width self.now result }
     {
         self.line.len() + self.index.chunks.len() + self.index.parts.len()
     }

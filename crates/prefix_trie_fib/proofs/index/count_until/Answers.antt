@@ -4,6 +4,7 @@ use Rattle.std.specs.Option.{IfSome}
 use Rattle.prefix_trie_bits.specs.Model.Bits.{number}
 use Rattle.prefix_trie_fib.specs.Search.{StartsBy}
 use Rattle.prefix_trie_fib.proofs.Entries.{from_middle, not_before}
+use Rattle.prefix_trie_fib.proofs.Sizes.{next_found}
 use Rattle.prefix_trie_fib.proofs.index.count_until.Goals as goal
 
 pub overflow_sub-result-then-is_at_most : goal.overflow_sub-result-then-is_at_most
@@ -30,3 +31,13 @@ returns-else-is_at_most-clause-above g c = λ high le k d from in_it.
     from_middle c.args.line.now c.requires.division (number (g.K.Key.bits c.in-Some.end)) (c.range_from-last.result + 1)
     (λ e. let s = c.range_from-last.ensures.ends e (omega (arith, after, in_it)) in omega (arith, s)) k d after in_it in
     omega (arith, le', at)
+
+pub returns-then-is_at_most-clause-few : goal.returns-then-is_at_most-clause-few
+returns-then-is_at_most-clause-few g c = λ i of.
+    let is = next_found g.K.Key.bits c.args.line.now c.requires.division (0, None) c.range_from-last.result i c.args.next c.in-Some.end c.in-Some.is c.range_from-last.ensures of in
+    omega (arith, is, overflow_sub-result-then-is_at_most g c)
+
+pub returns-else-is_at_most-clause-few : goal.returns-else-is_at_most-clause-few
+returns-else-is_at_most-clause-few g c = λ i of.
+    let is = next_found g.K.Key.bits c.args.line.now c.requires.division (0, None) c.range_from-last.result i c.args.next c.in-Some.end c.in-Some.is c.range_from-last.ensures of in
+    omega (arith, is, overflow_sub-result-else-is_at_most g c)

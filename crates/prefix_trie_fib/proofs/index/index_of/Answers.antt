@@ -1,10 +1,10 @@
 -- One more entry, and the next chunk begins where this one ends.
-use Rattle.std.proofs.Common.{◌≡◌, ◌∙◌, ◌+◌, ◌-◌, ◌*◌, ◌^◌, ◌<◌, ◌≤◌, ◌∷◌, [], length, length-append, ap, sym, subst, arith, pow_pos}
+use Rattle.std.proofs.Common.{◌≡◌, ◌∙◌, ◌+◌, ◌-◌, ◌*◌, ◌^◌, ◌<◌, ◌≤◌, ◌∷◌, [], length, length-append, ap, sym, subst, arith, refl, pow_pos}
 use Rattle.std.specs.Option.{MatchOption}
 use Rattle.prefix_trie_bits.specs.BitStrings.{number-below}
 use Rattle.prefix_trie_bits.specs.Model.Bits.{number}
 use Rattle.prefix_trie_fib.specs.Index.{IsIndex}
-use Rattle.prefix_trie_fib.specs.Search.{StartsBy}
+use Rattle.prefix_trie_fib.specs.Search.{IsRangeOfNext, StartsBy}
 use Rattle.prefix_trie_fib.proofs.NetworkIntervals.{number_zeros}
 use Rattle.prefix_trie_fib.proofs.Entries.{if_some, index_pushed, last_chunk, match_option, more_chunks, next_at, within_line}
 use Rattle.prefix_trie_fib.proofs.index.index_of.Goals as goal
@@ -18,6 +18,7 @@ loop-low-init g c =
       right = λ k d lt. absurd (omega (arith, lt, none));
       by = record { inside = c.requires.division.some; by = λ d. let f = c.requires.division.first d in omega (arith, f) };
       next = (ap number c.zero.ensures.value ∙ number_zeros g.K.Key.bit_width ∙ sym start, (let p = pow_pos c.args.bits in omega (arith, none, p)));
+      few = λ i of. let e = ap length c.new-parts.ensures.items in omega (arith, e);
     }
 
 pub loop-low-preserved : goal.loop-low-preserved
@@ -51,6 +52,10 @@ loop-low-preserved g c =
                 let more = more_chunks w bits count (number (g.K.Key.bits c.in-Some.at)) (number (g.K.Key.bits c.power-step.result)) c.requires.within step now.0 (omega (arith, small, e)) in
                 omega (arith, longer, more)),
           )) c.plus-next.ensures;
+      few = λ i of.
+          let grown = c.in_ok-entry.ensures.few i of in
+          let so_far = c.loop-low.invariant.few c.range_from-first.result (subst (λ o. IsRangeOfNext g.K.Key.bits c.args.line.now o c.range_from-first.result) (sym c.in-Some.is) c.range_from-first.ensures) in
+          omega (arith, grown, so_far);
     }
 
 pub entry_at-requires-clause-line : goal.entry_at-requires-clause-line
@@ -66,3 +71,9 @@ entry_at-requires-clause-line g c =
 
 pub returns-clause-right : goal.returns-clause-right
 returns-clause-right g c = subst (IsIndex g.K.Key.bit_width c.args.bits c.args.line.now c.loop-low.chunks.items) (sym c.shrink_to_fit.ensures.items) c.loop-low.invariant.right
+
+pub returns-clause-few : goal.returns-clause-few
+returns-clause-few g c =
+    let so_far = c.loop-low.invariant.few (length c.args.line.now) (subst (λ o. IsRangeOfNext g.K.Key.bits c.args.line.now o (length c.args.line.now)) (sym c.in_default.is) refl) in
+    let e = ap length c.shrink_to_fit.ensures.items in
+    omega (arith, so_far, e)

@@ -1,8 +1,9 @@
--- An index reads at most 20 bits.
-use Rattle.std.proofs.Common.{◌-◌, ◌^◌, ◌≤◌, arith, pow_mono}
+-- The index has a chunk for each number of the bits that select it.
+use Rattle.std.proofs.Common.{◌∙◌, ◌-◌, arith, inr, length, subst}
+use Rattle.prefix_trie_fib.specs.Sizes.{AreIndexBits}
 use Rattle.prefix_trie_fib.proofs.indexed.Indexed.chunks.Goals as goal
 
 pub returns : goal.returns
 returns g c =
-    let most : 2 ^ (30 - c.self.inside.rest) ≤ 2 ^ 20 = pow_mono {i = 30 - c.self.inside.rest} {j = 20} c.self.invariant.1.at_most in
-    omega (arith, c.len.ensures, c.self.inside.index.chunks.ok.0, c.self.invariant.1.long, most)
+    let bits = 30 - c.self.inside.rest in
+    inr (bits, omega (arith, c.len.ensures, c.self.inside.index.chunks.ok.0) ∙ c.self.invariant.1.long, subst (λ rs. AreIndexBits g.K.Key.bit_width (length rs) bits) c.self.view_is c.self.invariant.1.sized)

@@ -11,7 +11,7 @@ index-requires g c =
     let b = g.K.Key.bits c.args.address in
     let bits = 30 - c.self.inside.rest in
     let long : length b ≡ w = g.met.K.Key.key_laws.bits_length c.args.address c.is_key.ensures.key in
-    let at : c.chunk_of.result ≡ number (take bits b) = c.chunk_of.ensures b c.requires (omega (arith, long, c.self.invariant.1.within)) in
+    let at : c.chunk_of.result ≡ number (take bits b) = c.chunk_of.ensures b c.requires (omega (arith, long, c.self.invariant.1.sized.within)) in
     let inside = chunk_inside w c.self.inside.line c.self.inside.index.chunks.items c.self.inside.index.parts.items bits b c.self.invariant.1 long c.chunk_of.result at in
     omega (arith, inside, c.self.inside.index.chunks.ok.0)
 
@@ -21,6 +21,6 @@ returns g c = λ whole.
     let b = g.K.Key.bits c.args.address in
     let bits = 30 - c.self.inside.rest in
     let long : length b ≡ w = g.met.K.Key.key_laws.bits_length c.args.address c.is_key.ensures.key in
-    let at : c.chunk_of.result ≡ number (take bits b) = c.chunk_of.ensures b c.requires (omega (arith, long, c.self.invariant.1.within)) in
+    let at : c.chunk_of.result ≡ number (take bits b) = c.chunk_of.ensures b c.requires (omega (arith, long, c.self.invariant.1.sized.within)) in
     let x = c.index.result.now in
     subst (λ rs. IsEntryAt rs b x) c.self.view_is (in_whole w c.self.inside.line c.self.inside.index.chunks.items c.self.inside.index.parts.items bits b c.self.invariant.1 long c.chunk_of.result at x c.index.ensures whole)
