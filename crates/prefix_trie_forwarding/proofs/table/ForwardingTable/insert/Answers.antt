@@ -205,3 +205,6 @@ returns-in_err-end-clause-refused g c =
         memory = λ is. (let fewer = lacks.memory is in omega (arith, fewer, size, s.sound.set.sizes));
       },
     ))
+
+pub change-requires-clause-path : goal.change-requires-clause-path
+change-requires-clause-path g c = rw (c.link.ensures.root, c.link.ensures.levels) c.link.ensures.path
