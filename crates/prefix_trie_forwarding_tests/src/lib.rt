@@ -10,6 +10,8 @@ mod copies;
 #[cfg(test)]
 mod every_order;
 #[cfg(test)]
+mod examples;
+#[cfg(test)]
 mod runs;
 #[cfg(test)]
 mod tables;

@@ -1,0 +1,1 @@
+-- No lemmas of this crate's own. Its folders have the proof of the example.
