@@ -62,8 +62,11 @@ pub fn agrees<K: Address, A: Allocator>(table: &Table<K, A>) -> bool {
 fn blocks<K: Key, A: Allocator>(map: &PrefixMap<(K, u8), Hop, A>, bits: u32) -> usize {
     let mut count: usize = 0;
     let mut last = None;
+    if K::width() <= bits {
+        return count;
+    }
     for (number, len) in map.keys() {
-        if bits < u32::from(len) && bits <= K::width() {
+        if bits < u32::from(len) {
             let block = Some(number.keep(bits));
             if block != last {
                 count = count.saturating_add(1);

@@ -13,6 +13,10 @@ pub enum Case<K> {
     Removes((K, u8), Option<u32>),
     /// `lookup_len` of an address returns this length and this hop, and `lookup` the hop.
     Finds(K, Option<(u8, u32)>),
+    /// `lookup_counted` of an address returns this hop and this number of reads.
+    Reads(K, Option<u32>, u32),
+    /// `clear` removes all networks.
+    Clears,
     /// The number of networks.
     Len(usize),
     /// The number of groups.
@@ -56,12 +60,31 @@ fn finds<K: Key, A: Allocator>(table: &Table<K, A>, address: K, wanted: Option<(
     }
 }
 
+/// Returns whether the counted lookup of an address returns this hop and this number of reads.
+fn reads<K: Key, A: Allocator>(
+    table: &Table<K, A>,
+    address: K,
+    hop: Option<u32>,
+    wanted: u32,
+) -> bool {
+    let (found, count) = table.lookup_counted(address);
+    number(found) == hop && count == wanted
+}
+
+/// Removes all networks. Returns whether none is left.
+fn clears<K: Key, A: Allocator>(table: &mut Table<K, A>) -> bool {
+    table.clear();
+    table.is_empty()
+}
+
 /// Makes the call of a case. Returns whether its result is the expected one.
 fn holds<K: Key, A: Allocator>(table: &mut Table<K, A>, case: &Case<K>) -> bool {
     match *case {
         Case::Inserts(network, hop, before) => inserts(table, network, hop, before),
         Case::Removes(network, hop) => network.fits() && number(table.remove(&network)) == hop,
         Case::Finds(address, wanted) => finds(table, address, wanted),
+        Case::Reads(address, hop, count) => reads(table, address, hop, count),
+        Case::Clears => clears(table),
         Case::Len(len) => table.len() == len && table.is_empty() == (len == 0),
         Case::Groups(groups) => table.group_count() == groups,
         Case::Slots(slots) => table.slot_count() == slots,

@@ -1,32 +1,17 @@
-//! Three networks that are inserted in every order and removed in every order, asked at all addresses each time.
-use crate::agreement::{Table, agrees_at, groups_needed};
-use prefix_trie::{Narrow, Prefix, Refusal};
+//! Networks that are inserted in every order and removed in every order, with all addresses asked after each call.
+//!
+//! The root has two bits. Of addresses of four bits, every map with at most three networks is made. Addresses of ten bits
+//! have 2,047 networks, too many for all sets of three. There the tests make every map with at most three networks of a
+//! list, and every map of one network of the 2,047, one that ends beside the middle, and all addresses.
+use crate::agreement::{Table, groups_needed};
+use prefix_trie::{Narrow, Prefix, PrefixMap, Refusal};
 use prefix_trie_forwarding::Hop;
 use std::alloc::Global;
 
-type Address = Narrow<10>;
-
-type Network = (Address, u8);
+type Network<const W: u32> = (Narrow<W>, u8);
 
 /// The bits of the root.
 const ROOT_BITS: u32 = 2;
-
-/// Three networks, each a number and a length.
-type Networks = [(u64, u8); 3];
-
-/// Networks that lie in one another: all addresses, blocks of the root and wider ones, parts of a block, and hosts.
-static NESTED: [Networks; 3] = [
-    [(0, 0), (0, 2), (0, 10)],
-    [(0, 1), (0, 3), (0x07f, 10)],
-    [(0x100, 2), (0x1fe, 9), (0x1ff, 10)],
-];
-
-/// Networks that lie beside one another, with or without one around them.
-static APART: [Networks; 3] = [
-    [(0, 0), (0x0ff, 10), (0x100, 10)],
-    [(0x300, 2), (0x300, 10), (0x3ff, 10)],
-    [(0, 9), (2, 9), (0x200, 3)],
-];
 
 /// The orders of three networks.
 static ORDERS: [[usize; 3]; 6] = [
@@ -38,36 +23,116 @@ static ORDERS: [[usize; 3]; 6] = [
     [2, 1, 0],
 ];
 
-/// Returns whether a table agrees with its map at all addresses, and has the groups that its networks need.
-fn is_right(table: &Table<Address, Global>) -> bool {
+/// Networks of ten bits: all addresses, blocks of the root and wider ones, parts of a block, and hosts at their ends.
+static LISTED: [(u64, u8); 18] = [
+    (0, 0),
+    (0, 1),
+    (0, 2),
+    (0, 3),
+    (0, 9),
+    (0, 10),
+    (0x001, 10),
+    (0x07e, 9),
+    (0x07f, 10),
+    (0x080, 3),
+    (0x0f0, 6),
+    (0x0ff, 10),
+    (0x100, 2),
+    (0x100, 8),
+    (0x100, 10),
+    (0x200, 1),
+    (0x300, 2),
+    (0x3ff, 10),
+];
+
+/// A network with its first and its last address.
+#[derive(Clone, Copy)]
+struct Entry {
+    first: u64,
+    last: u64,
+    len: u8,
+    hop: Hop,
+}
+
+/// Returns the entries of a map in the order of its walk, in which a network comes after those that contain it.
+fn entries_of<const W: u32>(
+    map: &PrefixMap<Network<W>, Hop, Global>,
+    alloc: Global,
+) -> Result<Vec<Entry>, Refusal> {
+    let mut entries = Vec::new(alloc);
+    for ((first, len), hop) in map {
+        let first = first.get();
+        let host_bits = W.wrapping_sub(u32::from(len));
+        let more = 1_u64.checked_shl(host_bits).unwrap_or(0).wrapping_sub(1);
+        let last = first.wrapping_add(more);
+        let hop = *hop;
+        let entry = Entry {
+            first,
+            last,
+            len,
+            hop,
+        };
+        entries.push(entry).map_err(|_| Refusal::Memory)?;
+    }
+    Ok(entries)
+}
+
+/// Returns the length and the hop of the last entry that contains an address.
+fn scanned(entries: &[Entry], address: u64) -> Option<(u8, Hop)> {
+    let mut found = None;
+    for entry in entries {
+        if entry.first <= address && address <= entry.last {
+            found = Some((entry.len, entry.hop));
+        }
+    }
+    found
+}
+
+/// Returns whether a table agrees at all addresses with a scan of its map, and has the groups that its networks need.
+fn is_right<const W: u32>(
+    table: &Table<Narrow<W>, Global>,
+    alloc: Global,
+) -> Result<bool, Refusal> {
+    let entries = entries_of(table.map(), alloc)?;
     let mut all = table.group_count() == groups_needed(table.map(), ROOT_BITS);
     for number in 0..1024_u64 {
         match Narrow::new(number) {
-            Some(address) => all &= agrees_at(table, address),
-            None => all = false,
+            Some(address) => all &= table.lookup_len(address) == scanned(&entries, number),
+            None => return Ok(all),
         }
     }
-    all
+    Ok(all)
 }
 
-/// Inserts networks, each with its place as its hop. Returns whether the table is right after each insertion, if `is_asked`.
-fn inserts(table: &mut Table<Address, Global>, networks: &[Network], is_asked: bool) -> bool {
+/// Inserts networks in an order, each with its place as its hop. Returns whether the table is right after each insertion,
+/// if `is_asked`.
+fn inserts<const W: u32>(
+    table: &mut Table<Narrow<W>, Global>,
+    networks: &[Network<W>; 3],
+    order: &[usize; 3],
+    is_asked: bool,
+    alloc: Global,
+) -> Result<bool, Refusal> {
     let mut all = true;
-    for (i, network) in networks.iter().enumerate() {
-        let network = *network;
-        match Hop::new((i % 4) as u32) {
-            Some(hop) if network.fits() => {
-                all &= table.insert(network, hop) == Ok(None);
+    for place in order {
+        match (networks.get(*place), Hop::new((*place % 4) as u32)) {
+            (Some(network), Some(hop)) if network.fits() => {
+                all &= table.insert(*network, hop)?.is_none();
             }
             _ => all = false,
         }
-        all &= !is_asked || is_right(table);
+        all &= !is_asked || is_right(table, alloc)?;
     }
-    all
+    Ok(all)
 }
 
 /// Removes networks in an order. Returns whether the table is right after each removal.
-fn removes(table: &mut Table<Address, Global>, networks: &[Network], order: &[usize]) -> bool {
+fn removes<const W: u32>(
+    table: &mut Table<Narrow<W>, Global>,
+    networks: &[Network<W>; 3],
+    order: &[usize; 3],
+    alloc: Global,
+) -> Result<bool, Refusal> {
     let mut all = true;
     for place in order {
         match networks.get(*place) {
@@ -76,61 +141,157 @@ fn removes(table: &mut Table<Address, Global>, networks: &[Network], order: &[us
             }
             _ => all = false,
         }
-        all &= table.is_empty() || is_right(table);
+        all &= table.is_empty() || is_right(table, alloc)?;
     }
-    all & table.is_empty() & (table.group_count() == 0)
+    Ok(all & table.is_empty() & (table.group_count() == 0))
 }
 
-/// Returns the networks in an order, as prefixes.
-fn ordered(
-    networks: &Networks,
+/// Returns whether a table is right while networks are inserted in an order and removed, in every order.
+fn go<const W: u32>(
+    table: &mut Table<Narrow<W>, Global>,
+    networks: &[Network<W>; 3],
     order: &[usize; 3],
     alloc: Global,
-) -> Result<Vec<Network>, Refusal> {
-    let mut prefixes = Vec::new(alloc);
-    for place in order {
-        if let Some((number, len)) = networks.get(*place) {
-            if let Some(number) = Narrow::new(*number) {
-                prefixes.push((number, *len)).map_err(|_| Refusal::Memory)?;
-            }
-        }
+) -> Result<bool, Refusal> {
+    let mut all = true;
+    for (place, removals) in ORDERS.iter().enumerate() {
+        all &= inserts(table, networks, order, place == 0, alloc)?;
+        all &= removes(table, networks, removals, alloc)?;
     }
-    Ok(prefixes)
+    Ok(all)
 }
 
-/// Returns whether a table is right while three networks are inserted and removed, each in every order.
-fn come_and_go(
-    table: &mut Table<Address, Global>,
-    networks: &Networks,
+/// Returns whether an empty table is right while three networks are inserted in every order and removed in every order.
+fn come_and_go<const W: u32>(
+    table: &mut Table<Narrow<W>, Global>,
+    networks: &[Network<W>; 3],
     alloc: Global,
 ) -> Result<bool, Refusal> {
     let mut all = true;
     for order in ORDERS.iter() {
-        let prefixes = ordered(networks, order, alloc)?;
-        all &= prefixes.len() == 3;
-        for (place, removals) in ORDERS.iter().enumerate() {
-            all &= inserts(table, &prefixes, place == 0) & removes(table, &prefixes, removals);
-        }
+        all &= go(table, networks, order, alloc)?;
     }
-    Ok(all & is_right(table))
+    Ok(all)
 }
 
-/// Returns whether a new table is right with each of these networks, and has no more groups than three of them need.
-fn all_come_and_go(networks: &[Networks; 3], alloc: Global) -> Result<bool, Refusal> {
+/// Returns whether two networks come and go with each network of a list.
+fn come_and_go_with<const W: u32>(
+    table: &mut Table<Narrow<W>, Global>,
+    first: Network<W>,
+    second: Network<W>,
+    list: &[Network<W>],
+    alloc: Global,
+) -> Result<bool, Refusal> {
+    let mut all = true;
+    for third in list {
+        if *third != first && *third != second {
+            all &= come_and_go(table, &[first, second, *third], alloc)?;
+        }
+    }
+    Ok(all)
+}
+
+/// Returns whether a network comes and goes with all sets of two networks of a list.
+fn come_and_go_with_two<const W: u32>(
+    table: &mut Table<Narrow<W>, Global>,
+    first: Network<W>,
+    list: &[Network<W>],
+    alloc: Global,
+) -> Result<bool, Refusal> {
+    let mut all = true;
+    let mut rest = list;
+    for _ in 0..list.len() {
+        if let Some((second, more)) = rest.split_first() {
+            rest = more;
+            all &= come_and_go_with(table, first, *second, rest, alloc)?;
+        }
+    }
+    Ok(all)
+}
+
+/// Returns whether all sets of three networks of a list come and go, and a table has no more groups than three need.
+fn all_come_and_go<const W: u32>(list: &[Network<W>], alloc: Global) -> Result<bool, Refusal> {
     let mut table = Table::with_root_bits(alloc, ROOT_BITS)?;
     let mut all = true;
-    for three in networks.iter() {
-        all &= come_and_go(&mut table, three, alloc)?;
+    let mut rest = list;
+    for _ in 0..list.len() {
+        if let Some((first, more)) = rest.split_first() {
+            rest = more;
+            all &= come_and_go_with_two(&mut table, *first, rest, alloc)?;
+        }
     }
     Ok(all & (table.slot_count() <= 4 + 3 * 256))
 }
 
-#[test]
-fn nested_networks_come_and_go_in_every_order(rt: HostRuntime) {
-    assert!(rt; all_come_and_go(&NESTED, rt.alloc()) == Ok(true));
+/// Adds the networks of a length to a list.
+fn add_networks<const W: u32>(list: &mut Vec<Network<W>>, len: u8) -> Result<(), Refusal> {
+    for number in 0..1024_u64 {
+        if let Some(first) = Narrow::new(number) {
+            let network = (first, len);
+            if network.fits() && network.mask() == first {
+                list.push(network).map_err(|_| Refusal::Memory)?;
+            }
+        }
+    }
+    Ok(())
+}
+
+/// Returns all networks.
+fn all_networks<const W: u32>(alloc: Global) -> Result<Vec<Network<W>>, Refusal> {
+    let mut list = Vec::new(alloc);
+    for len in 0..=10_u8 {
+        add_networks(&mut list, len)?;
+    }
+    Ok(list)
+}
+
+/// Returns the networks of `LISTED`.
+fn listed(alloc: Global) -> Result<Vec<Network<10>>, Refusal> {
+    let mut list = Vec::new(alloc);
+    for (number, len) in LISTED.iter() {
+        if let Some(first) = Narrow::new(*number) {
+            list.push((first, *len)).map_err(|_| Refusal::Memory)?;
+        }
+    }
+    Ok(list)
+}
+
+/// Returns whether every map with at most three networks of four bits is right.
+fn small_maps_are_right(alloc: Global) -> Result<bool, Refusal> {
+    let list = all_networks::<4>(alloc)?;
+    Ok((list.len() == 31) & all_come_and_go(&list, alloc)?)
+}
+
+/// Returns whether every map with at most three listed networks is right.
+fn listed_maps_are_right(alloc: Global) -> Result<bool, Refusal> {
+    let list = listed(alloc)?;
+    Ok((list.len() == 18) & all_come_and_go(&list, alloc)?)
+}
+
+/// Returns whether each network of ten bits comes and goes with two others.
+fn each_network_is_right(alloc: Global) -> Result<bool, Refusal> {
+    let list = all_networks::<10>(alloc)?;
+    let mut table = Table::with_root_bits(alloc, ROOT_BITS)?;
+    match (Narrow::new(0), Narrow::new(0x1ff)) {
+        (Some(start), Some(host)) => {
+            let all = come_and_go_with(&mut table, (start, 0), (host, 10), &list, alloc)?;
+            Ok((list.len() == 2047) & all)
+        }
+        _ => Ok(false),
+    }
 }
 
 #[test]
-fn networks_apart_come_and_go_in_every_order(rt: HostRuntime) {
-    assert!(rt; all_come_and_go(&APART, rt.alloc()) == Ok(true));
+fn small_networks_come_and_go_in_every_order(rt: HostRuntime) {
+    assert!(rt; small_maps_are_right(rt.alloc()) == Ok(true));
+}
+
+#[test]
+fn listed_networks_come_and_go_in_every_order(rt: HostRuntime) {
+    assert!(rt; listed_maps_are_right(rt.alloc()) == Ok(true));
+}
+
+#[test]
+fn each_network_comes_and_goes_in_every_order(rt: HostRuntime) {
+    assert!(rt; each_network_is_right(rt.alloc()) == Ok(true));
 }

@@ -12,6 +12,8 @@ mod every_order;
 #[cfg(test)]
 mod examples;
 #[cfg(test)]
+mod networks;
+#[cfg(test)]
 mod runs;
 #[cfg(test)]
 mod tables;

@@ -1,5 +1,5 @@
 //! Tables of cases.
-use crate::cases::Case::{self, Finds, Groups, Inserts, Len, Removes, Slots};
+use crate::cases::Case::{self, Clears, Finds, Groups, Inserts, Len, Reads, Removes, Slots};
 use crate::cases::failure_in;
 
 /// 10.1.0.0, and an address in it.
@@ -30,8 +30,8 @@ static NESTED: [Case<u32>; 19] = [
     Finds(IN_NEAR, Some((0, 1))),
 ];
 
-/// Groups that come, go and come again at another place.
-static GROUPS: [Case<u32>; 17] = [
+/// Groups that come, go and come again at another place, and are given back with all networks.
+static GROUPS: [Case<u32>; 25] = [
     Inserts((NEAR, 16), 1, None),
     Groups(0),
     Slots(65_536),
@@ -49,6 +49,14 @@ static GROUPS: [Case<u32>; 17] = [
     Groups(2),
     Slots(65_536 + 512),
     Finds(IN_NEAR, Some((16, 1))),
+    Reads(IN_NEAR, Some(1), 1),
+    Reads(0x0b00_0000, Some(4), 3),
+    Reads(0x0b00_0100, None, 2),
+    Clears,
+    Groups(0),
+    Slots(65_536),
+    Finds(IN_NEAR, None),
+    Inserts((IN_NEAR, 32), 2, None),
 ];
 
 /// All addresses, each half of them, and the first and the last one.
@@ -74,7 +82,7 @@ static ENDS: [Case<u32>; 15] = [
 const SITE: u128 = 0x2001_0db8 << 96;
 
 /// IPv6 networks at several levels.
-static LEVELS: [Case<u128>; 14] = [
+static LEVELS: [Case<u128>; 16] = [
     Inserts((SITE, 128), 4, None),
     Groups(14),
     Inserts((SITE, 32), 1, None),
@@ -82,6 +90,8 @@ static LEVELS: [Case<u128>; 14] = [
     Inserts((SITE + (1 << 80), 48), 3, None),
     Groups(14),
     Finds(SITE, Some((128, 4))),
+    Reads(SITE, Some(4), 15),
+    Reads(SITE + (1 << 80), Some(3), 5),
     Finds(SITE + 1, Some((48, 2))),
     Finds(SITE + (1 << 80), Some((48, 3))),
     Finds(SITE + (2 << 80), Some((32, 1))),
