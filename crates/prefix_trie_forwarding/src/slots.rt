@@ -104,6 +104,7 @@ impl<A: Allocator> Slots<A> {
     /// # Errors
     ///
     /// Returns `Memory` if an allocation fails, `IndexRange` if there would be more than 2^31 groups.
+    #[inline]
     pub(crate) fn prepare<K: Key>(&mut self, first: K, len: u32) -> Result<End, Refusal>
         requires divided { IsDivided K.bit_width self.old.root_bits self.old.levels }
         requires len { len ≤ K.bit_width }
@@ -138,6 +139,7 @@ impl<A: Allocator> Slots<A> {
     }
 
     /// Makes the groups of the path of a network, after `prepare`. No answer changes.
+    #[inline]
     pub(crate) fn link<K: Key>(&mut self, first: K, len: u32, end: End)
         requires divided { IsDivided K.bit_width self.old.root_bits self.old.levels }
         requires len { len ≤ K.bit_width }
@@ -172,6 +174,7 @@ impl<A: Allocator> Slots<A> {
     }
 
     /// Changes the answers to the addresses of a network, whose groups are there.
+    #[inline]
     pub(crate) fn change<K: Key>(&mut self, first: K, len: u32, change: Change)
         requires divided { IsDivided K.bit_width self.old.root_bits self.old.levels }
         requires len { len ≤ K.bit_width }
@@ -206,6 +209,7 @@ impl<A: Allocator> Slots<A> {
     }
 
     /// Gives back the groups of the path of a network that has been removed, as far as they are not used.
+    #[inline]
     pub(crate) fn trim<K: Key>(&mut self, first: K, len: u32)
         requires divided { IsDivided K.bit_width self.old.root_bits self.old.levels }
         requires len { len ≤ K.bit_width }

@@ -32,7 +32,7 @@ fn changed(answer: u32, change: Change) -> u32
 }
 
 /// Changes the answers of slots that follow one another, and of the groups below them.
-pub(super) fn change_run(
+fn change_run(
     slots: &mut [u32],
     root: usize,
     groups: usize,
@@ -61,7 +61,35 @@ pub(super) fn change_run(
     }
 }
 
+/// Changes the answers of slots that follow one another, and of the groups below them. A single answer takes no loop.
+#[inline]
+fn change_slots(
+    slots: &mut [u32],
+    root: usize,
+    groups: usize,
+    low: usize,
+    count: usize,
+    left: u32,
+    change: Change,
+)
+    requires fits { low + count ≤ length slots.old }
+    requires sizes { length slots.old ≡ root + 256 * groups }
+    requires small { change.to < 2147483648 }
+    requires slots { AreSlots groups (slice_index slots.old) }
+    ensures changed { AreChanged root (changed_by change.least change.most change.to) left low count
+        (slice_index slots.old) (slice_index slots.new) (low + count) }
+    ensures kept { AreSlots groups (slice_index slots.new) }
+{
+    if count == 1 && slots[low] < GROUP {
+        let answer = changed(slots[low], change);
+        slots[low] = answer;
+    } else {
+        change_run(slots, root, groups, low, count, left, change);
+    }
+}
+
 /// Changes the answers to the addresses that begin with the first `len` bits of `first`, for which groups are there.
+#[inline]
 pub(super) fn change_network<K: Key>(
     slots: &mut [u32],
     root_bits: u32,
@@ -95,5 +123,5 @@ pub(super) fn change_network<K: Key>(
     let left = (root_bits + 8 * levels - end.depth) / 8;
     let root = power(root_bits);
     let count = power(end.depth - len);
-    change_run(slots, root, groups, end.at, count, left, change);
+    change_slots(slots, root, groups, end.at, count, left, change);
 }

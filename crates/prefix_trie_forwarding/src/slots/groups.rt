@@ -85,6 +85,7 @@ pub(super) fn is_spare(slots: &[u32], low: usize, limit: u32) -> bool
 /// # Errors
 ///
 /// Returns `Memory` if an allocation fails, `IndexRange` if there would be more than 2^31 groups.
+#[inline]
 pub(super) fn reserve<A: Allocator>(
     slots: &mut Vec<u32, A>,
     groups: &mut Groups<A>,

@@ -20,6 +20,7 @@ pub(crate) struct End {
 }
 
 /// Walks along the path of a network, as far as groups lead.
+#[inline]
 pub(super) fn walk<K: Key>(
     slots: &[u32],
     root_bits: u32,

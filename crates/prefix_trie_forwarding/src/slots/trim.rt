@@ -15,6 +15,7 @@ use std::alloc::Allocator;
 /// Gives back the groups of the path of a network whose addresses have one answer, of a match no longer than their block.
 ///
 /// It begins with the last one, and stops at the first that is used.
+#[inline]
 pub(super) fn trim<K: Key, A: Allocator>(
     slots: &mut [u32],
     groups: &mut Groups<A>,
