@@ -104,7 +104,7 @@ impl<A: Allocator> Slots<A> {
     /// # Errors
     ///
     /// Returns `Memory` if an allocation fails, `IndexRange` if there would be more than 2^31 groups.
-    #[inline]
+    #[inline(always)]
     pub(crate) fn prepare<K: Key>(&mut self, first: K, len: u32) -> Result<End, Refusal>
         requires divided { IsDivided K.bit_width self.old.root_bits self.old.levels }
         requires len { len ≤ K.bit_width }
@@ -174,7 +174,7 @@ impl<A: Allocator> Slots<A> {
     }
 
     /// Changes the answers to the addresses of a network, whose groups are there.
-    #[inline]
+    #[inline(always)]
     pub(crate) fn change<K: Key>(&mut self, first: K, len: u32, change: Change)
         requires divided { IsDivided K.bit_width self.old.root_bits self.old.levels }
         requires len { len ≤ K.bit_width }

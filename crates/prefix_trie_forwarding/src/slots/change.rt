@@ -62,7 +62,7 @@ fn change_run(
 }
 
 /// Changes the answers of slots that follow one another, and of the groups below them. A single answer takes no loop.
-#[inline]
+#[inline(always)]
 fn change_slots(
     slots: &mut [u32],
     root: usize,
@@ -89,7 +89,7 @@ fn change_slots(
 }
 
 /// Changes the answers to the addresses that begin with the first `len` bits of `first`, for which groups are there.
-#[inline]
+#[inline(always)]
 pub(super) fn change_network<K: Key>(
     slots: &mut [u32],
     root_bits: u32,
