@@ -1,8 +1,8 @@
 //! Countries of addresses: networks of both families are compiled, and addresses are looked up in groups.
-ghost use Rattle.std.specs.Prelude.{◌≡◌, IfOk, length, map, nat_eq};
+ghost use Rattle.std.specs.Prelude.{◌≡◌, Bool, IfOk, List, None, length, map};
+ghost use Rattle.prefix_trie_bits.specs.Model.Bits.{number};
 ghost use Rattle.prefix_trie.specs.Terms.{ipv4_address, ipv6_address};
-ghost use Rattle.prefix_trie_fib.specs.Line.{value_of};
-ghost use Rattle.prefix_trie_fib.specs.Tables.{IsTableOf};
+ghost use Rattle.prefix_trie_fib.specs.Line.{value_along, value_of};
 
 use prefix_trie::{Ipv4Prefix, Ipv6Prefix, PrefixMap, Refusal};
 use prefix_trie_fib::Fib;
@@ -29,8 +29,10 @@ pub struct Countries<'n, M: Allocator, A: Allocator> {
     pub ipv6: &'n Networks<Ipv6Prefix, M>,
     ipv4_table: Fib<Ipv4Prefix, Country, A>,
     ipv6_table: Fib<Ipv6Prefix, Country, A>,
-    ghost ipv4_compiled: { IsTableOf 32 nat_eq ipv4.now.entries ipv4_table },
-    ghost ipv6_compiled: { IsTableOf 128 nat_eq ipv6.now.entries ipv6_table },
+    ghost ipv4_compiled: { (q : List Bool) → length q ≡ 32
+        → value_along None ipv4_table (number q) ≡ value_of ipv4.now.entries q },
+    ghost ipv6_compiled: { (q : List Bool) → length q ≡ 128
+        → value_along None ipv6_table (number q) ≡ value_of ipv6.now.entries q },
 }
 
 impl<'n, M: Allocator, A: Allocator + Clone> Countries<'n, M, A> {
