@@ -14,6 +14,7 @@ pub mod HostBits
 pub mod LineValues
 pub mod Lists
 pub mod Loads
+pub mod Lookups
 pub mod LoadedTables
 pub mod NeededMemory
 pub mod NetworkOrder

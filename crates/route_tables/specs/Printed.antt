@@ -1,10 +1,12 @@
 -- The lines that commands print. This project's own.
 use Rattle.std.specs.Prelude.{◌≡◌, ◌⊎◌, ℕ, Bool, List, [], ◌∷◌, ◌++◌, Option, None, Some, codes, flat_map, map}
+use Rattle.std.specs.FinMap.{get}
 use Rattle.std.specs.Int.{w32, w128, to_be_bytes}
 use Rattle.std.specs.Io.KnownBytes.{Appends}
 use Rattle.std.specs.Net.Addr.{segments_of}
 use Rattle.std.specs.Net.Text.{ipv4_text, ipv6_text}
-use Rattle.prefix_trie.specs.Terms.{listing, prefix_pairs}
+use Rattle.std.specs.Option.{option_map}
+use Rattle.prefix_trie.specs.Terms.{covers, listing, listing_below, longest_match, prefix_pair, prefix_pairs}
 use Rattle.prefix_trie_bits.specs.Networks.{network_back}
 use Rattle.address_ranges.specs.Ranges.{ranges_of}
 use Rattle.prefix_trie_joint.specs.Joined.{both}
@@ -23,6 +25,8 @@ use Rattle.route_tables.specs.declared.access.Decision.TheVariants.{Allowed, Den
 use Rattle.route_tables.specs.declared.access.Precedence.{Precedence}
 use Rattle.route_tables.specs.declared.commands.printer.Style.{Style}
 use Rattle.route_tables.specs.declared.commands.printer.Style.TheVariants as styles
+use Rattle.route_tables.specs.declared.lookup.Relation.{Relation}
+use Rattle.route_tables.specs.declared.lookup.Relation.TheVariants.{Contained, Covering, Exact, Longest}
 
 -- what a printer printed: the bytes that its writer holds, if it prints lines of words; of other styles nothing is known
 abbrev pub printed : Style → Option (List ℕ) → Option (List ℕ)
@@ -118,6 +122,18 @@ PrintsAnswers Asks answer lines before after =
 -- what an access list says of a question
 abbrev pub decision_text : Precedence → Values → List ℕ → IpPrefix → List ℕ
 decision_text precedence m text network = decision_line text (decision precedence m (ip_path network))
+
+-- a line for each network that is found for a question, or one line if there is none
+abbrev pub answer_lines : List ℕ → List (IpPrefix × List ℕ) → List ℕ
+answer_lines text [] = answer_line text None
+answer_lines text (first ∷ later) = flat_map (λ found. answer_line text (Some found)) (first ∷ later)
+
+-- what a table has for a question: the networks in the relation, in listing order
+abbrev pub lookup_text : Relation → Values → List ℕ → IpPrefix → List ℕ
+lookup_text Longest m text network = answer_line text (prefix_pair ip_back (longest_match m (ip_path network)))
+lookup_text Exact m text network = answer_line text (option_map (λ value. (ip_back (ip_path network), value)) (get m (ip_path network)))
+lookup_text Covering m text network = answer_lines text (prefix_pairs ip_back (covers m (ip_path network)))
+lookup_text Contained m text network = answer_lines text (prefix_pairs ip_back (listing_below m (ip_path network)))
 
 -- the first and the last address of a range of IPv4 addresses
 abbrev pub ipv4_range_line : ℕ × ℕ → List ℕ

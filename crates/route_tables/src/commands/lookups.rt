@@ -1,6 +1,13 @@
 //! What a table says of addresses and networks.
-ghost use Rattle.std.specs.Prelude.{◌≡◌, ◌≤◌, ◌<◌, IfOk, length};
-ghost use Rattle.std.specs.Iterator.{IsFinite};
+ghost use Rattle.std.specs.Prelude.{◌≡◌, ◌≤◌, ◌<◌, [], ◌∷◌, IfOk, List, is_ok, OnOk, length, map, ℕ};
+ghost use Rattle.std.specs.Borrow.{Bor};
+ghost use Rattle.std.specs.Io.KnownBytes.{Appends};
+ghost use Rattle.std.specs.Iterator.{Drains, IsFinite};
+ghost use Rattle.prefix_trie.specs.Terms.{lent_item};
+ghost use Rattle.prefix_trie_joint.specs.Joined.{entries_of};
+ghost use Rattle.prefix_trie_joint.specs.declared.prefix.IpPrefix.{IpPrefix};
+ghost use Rattle.route_tables.specs.Printed.{PrintsAnswers, answer_lines, lookup_text};
+ghost use Rattle.route_tables.specs.Questions.{IsQuestionWord};
 
 use crate::commands::groups::{MOST, answer_together};
 use crate::commands::printer::Printer;
@@ -59,7 +66,11 @@ pub fn look_up_words<'a, W: Write + Drop>(
     looking: Looking,
     seen: &mut Seen,
     out: &mut Printer<W>,
-) -> Result<(), QuestionsError<'a>> {
+) -> Result<(), QuestionsError<'a>>
+    ensures { OnOk result (PrintsAnswers (IsQuestionWord looking.asking)
+        (lookup_text looking.relation (entries_of table.now))
+        (map (λ word. word.now) words.now) out.old out.new) }
+{
     for word in words {
         look_up_word(table, word, looking, seen, out)?;
     }
@@ -142,7 +153,10 @@ fn look_up_word<'a, W: Write + Drop>(
     looking: Looking,
     seen: &mut Seen,
     out: &mut Printer<W>,
-) -> Result<(), QuestionsError<'a>> {
+) -> Result<(), QuestionsError<'a>>
+    ensures { OnOk result (PrintsAnswers (IsQuestionWord looking.asking)
+        (lookup_text looking.relation (entries_of table.now)) (word.now ∷ []) out.old out.new) }
+{
     seen.count_one();
     match parse_question(word, looking.asking) {
         Ok(question) => {
@@ -154,7 +168,9 @@ fn look_up_word<'a, W: Write + Drop>(
 }
 
 // Returns the printer's error as that of a question.
-fn printed<'a>(printing: io::Result<()>) -> Result<(), QuestionsError<'a>> {
+fn printed<'a>(printing: io::Result<()>) -> Result<(), QuestionsError<'a>>
+    ensures { is_ok result ≡ is_ok printing }
+{
     match printing {
         Ok(()) => Ok(()),
         Err(error) => Err(QuestionsError::Output(error)),
@@ -168,7 +184,10 @@ fn print_found<W: Write + Drop>(
     network: IpPrefix,
     relation: Relation,
     out: &mut Printer<W>,
-) -> io::Result<()> {
+) -> io::Result<()>
+    ensures { OnOk result (Appends out.old out.new
+        (lookup_text relation (entries_of table.now) text.now network)) }
+{
     match relation {
         Relation::Longest => out.answer(text, &longest(table, &network)),
         Relation::Exact => out.answer(text, &table.get_key_value(&network)),
@@ -185,6 +204,9 @@ fn print_each<'a, Found: Iterator<Item = (IpPrefix, &'a Value)> + Drop, W: Write
 ) -> io::Result<()>
     requires can { Found.Iterator.can_next found }
     requires ends { IsFinite (Found.Iterator.remaining found) }
+    ensures { OnOk result ((lent : List (IpPrefix × Bor (List ℕ)))
+        × Drains Found.Iterator.next_gives found lent
+        × Appends out.old out.new (answer_lines question.now (map lent_item lent))) }
 {
     let mut is_any = false;
     for (network, value) in found {
