@@ -45,7 +45,7 @@ extern "C" {
 #define PREFIX_TRIE_DONE UINT32_C(0)    /* the call did what it is for */
 #define PREFIX_TRIE_MISSING UINT32_C(1) /* no such network, or no match */
 #define PREFIX_TRIE_MEMORY UINT32_C(2)  /* an allocation failed; the entries are unchanged */
-#define PREFIX_TRIE_FULL UINT32_C(3)    /* more than 2^32 - 1 slots or ranges are needed; the entries are unchanged */
+#define PREFIX_TRIE_FULL UINT32_C(3)    /* more slots or ranges are needed than fit; the entries are unchanged */
 #define PREFIX_TRIE_LENGTH UINT32_C(4)  /* a length above 32 or 128 */
 #define PREFIX_TRIE_NULL UINT32_C(5)    /* a null pointer */
 #define PREFIX_TRIE_IN_USE UINT32_C(6)  /* a variable for a new table that is not null (prefix_trie_c_ calls only) */
@@ -385,7 +385,7 @@ static inline uint32_t prefix_trie_v6_next(const prefix_trie *table, uint64_t hi
 
 /*
  * Writes a compiled table with the longest matches of both families. It does not change when the table does. The code
- * is PREFIX_TRIE_FULL if the addresses of a family fall into 2^32 ranges or more.
+ * is PREFIX_TRIE_FULL only if IPv4 addresses fall into 2^26 ranges or more, or IPv6 addresses into 2^24 or more.
  */
 static inline uint32_t prefix_trie_compile(const prefix_trie *table, prefix_trie_table **compiled) {
     prefix_trie_table *made = NULL;

@@ -24,7 +24,7 @@ HasMatches width m ranges = (address : ℕ) → value_at width ranges address �
 abbrev pub IsCompiled : Tables → Compiled → Type 0
 IsCompiled t c = HasMatches 32 t.v4.entries c.v4 × HasMatches 128 t.v6.entries c.v6
 
--- the addresses of a family fall into 2^32 ranges or more
+-- the IPv4 addresses fall into 2^26 ranges or more, or the IPv6 addresses into 2^24 or more
 abbrev pub IsTooLong : Tables → Type 0
 IsTooLong t = HasLongTable 32 nat_eq t.v4.entries ⊎ HasLongTable 128 nat_eq t.v6.entries
 

@@ -8,7 +8,7 @@ use prefix_trie::{Ipv4Prefix, Ipv6Prefix, Prefix};
 use prefix_trie_fib::Fib;
 use std::alloc::Global;
 
-/// The most addresses of a group. Compiled tables overlap the reads of so many.
+/// The most addresses of a group.
 const GROUP: usize = 128;
 
 /// An address that is looked up with others.

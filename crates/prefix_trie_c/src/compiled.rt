@@ -21,8 +21,8 @@ impl Compiled {
     ///
     /// # Errors
     ///
-    /// Returns `Memory` if an allocation fails, and `IndexRange` if the addresses of a family fall into 2^32 ranges or
-    /// more.
+    /// Returns `Memory` if an allocation fails. Returns `IndexRange` only if IPv4 addresses fall into 2^26 ranges or more,
+    /// or IPv6 addresses into 2^24 or more.
     #[tactic(auto, using(crate::proofs::LongestMatches::has_matches))]
     fn new(tables: &Tables, alloc: Global) -> Result<Compiled, Refusal>
         ensures matches { IfOk result (λ compiled. IsCompiled tables.now compiled) }

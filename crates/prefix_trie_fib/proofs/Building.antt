@@ -1,5 +1,5 @@
 -- A node made of right leaves and right children is right.
-use Rattle.std.proofs.Common.{◌≡◌, ◌∙◌, ℕ, suc, ◌+◌, ◌-◌, ◌*◌, ◌/◌, ◌^◌, ◌<◌, ◌≤◌, Bool, true, false, List, [], ◌∷◌, ◌++◌, length, length-append, get_or, Option, refl, sym, ap, ap₂, subst, arith, inl, inr}
+use Rattle.std.proofs.Common.{◌≡◌, ◌∙◌, ℕ, suc, ◌+◌, ◌-◌, ◌*◌, ◌/◌, ◌^◌, ◌<◌, Bool, true, false, List, [], ◌∷◌, ◌++◌, length, length-append, get_or, Option, refl, sym, ap, ap₂, subst, arith, inl, inr}
 use Rattle.std.specs.Bool.{MatchBool}
 use Rattle.std.proofs.lemmas.Bool.{cases_lt}
 use Rattle.std.proofs.Math.Seq.{get_or-append_right, get_or-append_seam}
@@ -172,7 +172,7 @@ module _ (w d : ℕ) (some : 0 < levels w d - 1) where
   one_less = omega (arith, some)
 
   module _ (x q v : ℕ) (is : x ≡ low (past w d) (levels w d - 1) (32 * q + v)) where
-    block_is : block_at w (d + 5) x ≡ 32 * q + v
+    pub block_is : block_at w (d + 5) x ≡ 32 * q + v
     block_is =
         let above : levels w d - 1 ≡ suc (levels w d - 2) = omega (arith, some) in
         let bits : w - (d + 5) ≡ 5 * suc (levels w d - 2) - past w d = omega (arith, some) in

@@ -1,6 +1,6 @@
 -- The direct table: its slots stay right as the nodes and leaves grow.
 use Rattle.std.proofs.Common.{◌≡◌, ◌≢◌, ◌∙◌, ℕ, zero, suc, ◌+◌, ◌-◌, ◌*◌, ◌/◌, ◌%◌, ◌^◌, ◌<◌, ◌≤◌, Bool, true, false, cond, List, [], ◌∷◌, ◌++◌, length, length-append, get_or, Option, None, Some, is_some, max, refl, sym, ap, ap₂, subst, arith, inl, inr}
-use Rattle.std.specs.Prelude.{slice_get, ◌&&◌, nat_eq, nat_le, nat_lt}
+use Rattle.std.specs.Prelude.{slice_get, ◌&&◌, nat_eq, nat_le}
 use Rattle.std.specs.Option.{MatchOption, unwrap_or}
 use Rattle.std.proofs.lemmas.Bool.{true≢false, cases_lt, eq-eqb, le-leb, le-ltb, lt-leb, lt-ltb, ne_eqb}
 use Rattle.std.specs.Bool.{MatchBool}
@@ -15,7 +15,7 @@ use Rattle.prefix_trie_fib.specs.declared.table.node.Node.{Node}
 use Rattle.prefix_trie_fib.specs.Line.{IsDivision, is_start, value_along}
 use Rattle.prefix_trie_fib.specs.Search.{IsRangeOf, StartsBy}
 use Rattle.prefix_trie_fib.specs.Poptrie.{block, block_at, first, find, leaf_value, levels, low, past, slot_found, slot_leaf, Agrees, Grows, IsRight, IsSlot, IsSound, IsTable, node_at, blank}
-use Rattle.prefix_trie_fib.proofs.Growth.{agrees_grows, find_grows, found_within, grows_by, grows_not, grows_on, sound_grows, value_grows}
+use Rattle.prefix_trie_fib.proofs.Growth.{agrees_grows, find_grows, found_within, grows_by, grows_not, sound_grows, value_grows}
 use Rattle.prefix_trie_fib.proofs.Lows.{begun_is, slot_low}
 use Rattle.prefix_trie_fib.proofs.Pushing.{start_of_range}
 use Rattle.prefix_trie_fib.proofs.RangeValues.{value_of_range}

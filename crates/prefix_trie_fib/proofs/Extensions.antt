@@ -1,6 +1,6 @@
 -- The first address of a place, as the first bits of its node with five more, and addresses of which only the first bits are kept.
-use Rattle.std.proofs.Common.{◌≡◌, ◌∙◌, ℕ, zero, suc, ◌+◌, ◌-◌, ◌*◌, ◌/◌, ◌%◌, ◌^◌, ◌<◌, ◌≤◌, Bool, List, ◌++◌, length, take, min, sym, ap, ap₂, subst, arith, inl, inr}
-use Rattle.std.proofs.Math.Nat.{add-mul-div_left, div-mul-le_self, div-one, div-lt_iff_lt-mul}
+use Rattle.std.proofs.Common.{◌≡◌, ◌∙◌, ℕ, zero, suc, ◌+◌, ◌-◌, ◌*◌, ◌/◌, ◌^◌, ◌<◌, ◌≤◌, Bool, List, ◌++◌, length, take, min, sym, ap, ap₂, subst, arith, inl, inr}
+use Rattle.std.proofs.Math.Nat.{add-mul-div_left, div-mul-le_self, div-one, div-lt_iff_lt-mul, le-div_iff_mul-le}
 use Rattle.std.proofs.Math.Pow.{pow-add}
 use Rattle.std.proofs.lemmas.Bool.{cases_lt}
 use Rattle.std.proofs.lemmas.Nat.{pow_pos}
@@ -55,3 +55,8 @@ module _ (x lo w d : ℕ) where
       let l = (div-lt_iff_lt-mul {k = 2 ^ (w - d)} {x = lo} {y = x / 2 ^ (w - d)} (pow_pos (w - d))).1 lt in
       let h = (div-lt_iff_lt-mul {k = 2 ^ (w - d)} {x = a} {y = x / 2 ^ (w - d)} (pow_pos (w - d))).0 (subst (λ k. k < x / 2 ^ (w - d)) (sym e) l) in
       let m = div-mul-le_self x (2 ^ (w - d)) in omega (arith, h, m)
+
+  pub in_block : x / 2 ^ (w - d) * 2 ^ (w - d) ≤ lo → x < (lo / 2 ^ (w - d) + 1) * 2 ^ (w - d)
+  in_block le =
+      let h = (le-div_iff_mul-le {k = 2 ^ (w - d)} {x = x / 2 ^ (w - d)} {y = lo} (pow_pos (w - d))).1 le in
+      (div-lt_iff_lt-mul {k = 2 ^ (w - d)} {x = x} {y = lo / 2 ^ (w - d) + 1} (pow_pos (w - d))).0 (omega (arith, h))

@@ -1,13 +1,13 @@
 -- What holds of nodes still holds after their lists of nodes and of leaves grew.
-use Rattle.std.proofs.Common.{◌≡◌, ◌∙◌, ℕ, zero, suc, ◌+◌, ◌-◌, ◌*◌, ◌^◌, ◌<◌, ◌≤◌, Bool, true, false, cond, List, [], ◌∷◌, ◌++◌, length, length-append, get_or, Option, None, Some, is_some, refl, sym, ap, subst, arith}
+use Rattle.std.proofs.Common.{◌≡◌, ◌∙◌, ℕ, zero, suc, ◌+◌, ◌*◌, ◌^◌, ◌<◌, ◌≤◌, Bool, true, false, cond, List, [], ◌∷◌, ◌++◌, length, length-append, Option, None, Some, refl, sym, ap, subst, arith}
 use Rattle.std.specs.Prelude.{slice_get}
 use Rattle.std.specs.Bool.{MatchBool}
 use Rattle.std.proofs.lemmas.List.{get_or_append_left}
-use Rattle.std.proofs.lemmas.Option.{slice_get-get_or, slice_get_cases}
+use Rattle.std.proofs.lemmas.Option.{slice_get-get_or}
 use Rattle.prefix_trie_bits.specs.Bitmaps.{rank}
 use Rattle.prefix_trie_bits.specs.Places.{has}
 use Rattle.prefix_trie_fib.specs.declared.table.node.Node.{Node}
-use Rattle.prefix_trie_fib.specs.Poptrie.{find, leaf_at, leaf_value, place, HasLeaf, IsSound, IsLeaf, IsRight, HasLeaves, HasKids, Agrees, Grows, child_index, leaf_index, node_at, blank, is_gap, is_begun}
+use Rattle.prefix_trie_fib.specs.Poptrie.{find, leaf_at, leaf_value, place, HasLeaf, IsSound, IsLeaf, HasLeaves, HasKids, Agrees, Grows, child_index, leaf_index, node_at, blank, is_gap}
 
 module _ {X : Type 0} where
   pub grows_not : (xs : List X) → Grows xs xs

@@ -1,24 +1,16 @@
--- The lemmas of this crate: ranges, networks, searches, the index, and the Poptrie.
+-- The lemmas of this crate: ranges, networks, and the Poptrie.
+pub mod Lines
+pub mod Sizes
 pub mod RangeValues
 pub mod NetworkIntervals
-pub mod Ends
-pub mod ChunkEntries
 pub mod Chunks
-pub mod Entries
 pub mod Equality
-pub mod Gaps
-pub mod Groups
-pub mod Halves
-pub mod Layouts
-pub mod ListingOrder
 pub mod MergedRanges
 pub mod OneTable
-pub mod Results
 pub mod Sweeps
 pub mod ValuedRanges
 pub mod Ranks
 pub mod Strides
-pub mod Windows
 pub mod Walks
 pub mod Growth
 pub mod Lows
@@ -29,3 +21,7 @@ pub mod Direct
 pub mod Slots
 pub mod Views
 pub mod Steps
+pub mod RangeWalks
+pub mod Counts
+pub mod Amounts
+pub mod Totals

@@ -1,5 +1,5 @@
 -- The first addresses of blocks, where addresses are followed by p zeros.
-use Rattle.std.proofs.Common.{◌≡◌, ◌∙◌, ℕ, zero, suc, ◌+◌, ◌-◌, ◌*◌, ◌/◌, ◌^◌, ◌<◌, ◌≤◌, refl, sym, ap, ap₂, subst, arith, inl, inr, mul_assoc}
+use Rattle.std.proofs.Common.{◌≡◌, ◌∙◌, ℕ, zero, suc, ◌+◌, ◌-◌, ◌*◌, ◌/◌, ◌^◌, ◌<◌, ◌≤◌, refl, sym, ap, ap₂, arith, inl, inr, mul_assoc}
 use Rattle.std.proofs.Math.Nat.{div-mul-le_self, div-one, mul-div_cancel, mul-div-mul_right, div-lt_iff_lt-mul}
 use Rattle.std.proofs.Math.Pow.{pow-add}
 use Rattle.std.specs.Prelude.{◌&&◌, nat_eq, nat_le}

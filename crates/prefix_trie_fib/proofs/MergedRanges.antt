@@ -1,9 +1,9 @@
 -- One more range keeps a line merged, below the end of all addresses, and right for the numbers before the next one.
-use Rattle.std.proofs.Common.{◌≡◌, ◌∙◌, ℕ, ◌-◌, ◌<◌, ◌≤◌, ◌⊎◌, Bool, true, false, List, [], ◌∷◌, ◌++◌, length, length-append, get_or, Option, None, Some, inl, inr, ap, sym, subst, arith, refl}
+use Rattle.std.proofs.Common.{◌≡◌, ◌∙◌, ℕ, ◌-◌, ◌<◌, ◌≤◌, ◌⊎◌, Bool, true, false, List, [], ◌∷◌, ◌++◌, length, length-append, get_or, Option, None, Some, inl, inr, ap, ap₂, sym, subst, arith, refl}
 use Rattle.std.proofs.Math.Seq.{get_or-append_seam}
 use Rattle.std.proofs.lemmas.Bool.{cases_lt}
 use Rattle.std.proofs.lemmas.List.{get_or_append_left}
-use Rattle.prefix_trie_fib.specs.Line.{StartBelow, are_same}
+use Rattle.prefix_trie_fib.specs.Line.{AreAlike, StartBelow, are_same}
 use Rattle.prefix_trie_fib.specs.Sweep.{IsDoneTo}
 use Rattle.prefix_trie_fib.proofs.RangeValues.{first_pushed, found_at, merged_pushed, pushed_above, pushed_last, rising_pushed}
 
@@ -13,6 +13,13 @@ same_exact eq exact None None h = refl
 same_exact eq exact None (Some y) h = cc
 same_exact eq exact (Some x) None h = cc
 same_exact eq exact (Some x) (Some y) h = ap Some (exact x y h)
+
+pub alike_exact : {T : Type 0} (eq : T → T → Bool) → ((x y : T) → eq x y ≡ true → x ≡ y) → (a b : Option T) → AreAlike eq a b → a ≡ b
+alike_exact eq exact a b (inl is) = is
+alike_exact eq exact a b (inr h) = same_exact eq exact a b h
+
+pub alike_to : {T : Type 0} (eq : T → T → Bool) (a b b' : Option T) → b ≡ b' → AreAlike eq a b → AreAlike eq a b'
+alike_to eq a b b' is h = subst (AreAlike eq a) is h
 
 -- a range that starts below a number is appended
 pub pushed_below : {V : Type 0} (top : ℕ) (rs : List (ℕ × V)) (r : ℕ × V) → StartBelow top rs → r.0 < top → StartBelow top (rs ++ r ∷ [])
@@ -36,7 +43,7 @@ module _ {T : Type 0} (top : ℕ) (same : T → T → Bool) (of : ℕ → Option
     rising = λ j k d lt in_it. absurd (omega (arith, in_it));
     merged = λ k d in_it. absurd (omega (arith, in_it));
     below = λ k d lt. absurd (omega (arith, lt));
-    right = λ exact n lt low. absurd (omega (arith, lt, zero));
+    right = λ n lt low. absurd (omega (arith, lt, zero));
   }
   done_none (x ∷ xs) at none zero = cc
 
@@ -57,9 +64,9 @@ module _ {T : Type 0} (top : ℕ) (same : T → T → Bool) (of : ℕ → Option
       rising = rising_pushed line (at, v) done.rising done.below;
       merged = merged_pushed (are_same same) line (at, v) done.merged differs;
       below = pushed_below to line (at, v) started later;
-      right = λ exact n lt low. elim (cases_lt n at) [
-        | inl before ↦ pushed_above None line (at, v) n before ∙ done.right exact n before low
-        | inr le ↦ pushed_last None line (at, v) n (λ k d in_it. let b = done.below k d in_it in omega (arith, b, le)) le ∙ sym (here n le lt low)
+      right = λ n lt low. elim (cases_lt n at) [
+        | inl before ↦ subst (λ x. AreAlike same x (of n)) (sym (pushed_above None line (at, v) n before)) (done.right n before low)
+        | inr le ↦ inl (pushed_last None line (at, v) n (λ k d in_it. let b = done.below k d in_it in omega (arith, b, le)) le ∙ sym (here n le lt low))
       ];
     }
 
@@ -70,11 +77,11 @@ module _ {T : Type 0} (top : ℕ) (same : T → T → Bool) (of : ℕ → Option
       rising = done.rising;
       merged = done.merged;
       below = started;
-      right = λ exact n lt low. elim (cases_lt n at) [
-        | inl before ↦ done.right exact n before low
-        | inr le ↦
-            found_at None line (length line - 1) n (0, v) (omega (arith, some)) (λ k in_it. let b = done.below k (0, v) (omega (arith, in_it, some)) in omega (arith, b, le)) (λ more. absurd (omega (arith, more, some)))
-            ∙ same_exact same exact (get_or line (length line - 1) (0, v)).1 v (kept (0, v)) ∙ sym (here n le lt low)
+      right = λ n lt low. elim (cases_lt n at) [
+        | inl before ↦ done.right n before low
+        | inr le ↦ inr (ap₂ (are_same same)
+            (found_at None line (length line - 1) n (0, v) (omega (arith, some)) (λ k in_it. let b = done.below k (0, v) (omega (arith, in_it, some)) in omega (arith, b, le)) (λ more. absurd (omega (arith, more, some))))
+            (here n le lt low) ∙ kept (0, v))
       ];
     }
 

@@ -1,11 +1,12 @@
 -- Merged divisions with the same values are the same list, so a map has one table.
-use Rattle.std.proofs.Common.{◌≡◌, ◌∙◌, zero, suc, ℕ, ◌+◌, ◌^◌, ◌<◌, ◌≤◌, Bool, true, false, List, [], ◌∷◌, length, get_or, Option, None, Some, inl, inr, ap, ap₂, sym, subst, arith, refl, pow_pos}
+use Rattle.std.proofs.Common.{◌≡◌, ◌∙◌, zero, suc, ℕ, ◌+◌, ◌^◌, ◌<◌, ◌≤◌, Bool, true, false, List, [], ◌∷◌, length, get_or, Option, None, Some, inl, inr, ap, ap₂, sym, subst, arith, refl}
 use Rattle.std.proofs.lemmas.Bool.{cases_lt}
 use Rattle.prefix_trie_bits.specs.BitStrings.{length-digits, number_of_digits}
 use Rattle.prefix_trie_bits.specs.Model.Bits.{digits}
 use Rattle.prefix_trie_bits.specs.Model.Entries.{Entries}
-use Rattle.prefix_trie_fib.specs.Line.{AreMerged, IsDivision, StartBelow, are_same, value_along, value_of}
+use Rattle.prefix_trie_fib.specs.Line.{AreMerged, IsDivision, StartBelow, are_same, value_along}
 use Rattle.prefix_trie_fib.specs.Tables.{IsTableOf}
+use Rattle.prefix_trie_fib.proofs.MergedRanges.{alike_exact}
 use Rattle.prefix_trie_fib.proofs.RangeValues.{step_in, step_out}
 
 -- a result is the same as itself, if values are
@@ -98,21 +99,4 @@ module _ {T : Type 0} (w : ℕ) (same : T → T → Bool) where
       one_division_of_values itself rs ss a.division b.division a.merged b.merged a.below b.below (λ n low.
       let is = number_of_digits w n low in
       let long = length-digits w n in
-      ap (λ k. value_along None rs k) (sym is) ∙ a.values exact (digits w n) long ∙ sym (b.values exact (digits w n) long) ∙ ap (λ k. value_along None ss k) is)
-
-  -- the table of a map with no entry
-  pub empty_table : (m : Entries T) → ((q : List Bool) → value_of m q ≡ None) → IsTableOf w same m ((0, None) ∷ [])
-  empty_table m none = record {
-    division = record {
-      some = omega arith;
-      first = λ d. refl;
-      rising = λ j k d lt in_it. absurd (omega (arith, lt, in_it));
-    };
-    merged = λ k d in_it. absurd (omega (arith, in_it));
-    below = first_below;
-    values = λ exact q long. step_in None (0, None) [] _ (omega arith) ∙ sym (none q);
-  }
-    where
-      first_below : (k : ℕ) (d : ℕ × Option T) → k < 1 → (get_or {A = ℕ × Option T} ((0, None) ∷ []) k d).0 < 2 ^ w
-      first_below zero d lt = pow_pos w
-      first_below (suc k) d lt = absurd (omega (arith, lt))
+      ap (λ k. value_along None rs k) (sym is) ∙ alike_exact same exact _ _ (a.values (digits w n) long) ∙ sym (alike_exact same exact _ _ (b.values (digits w n) long)) ∙ ap (λ k. value_along None ss k) is)

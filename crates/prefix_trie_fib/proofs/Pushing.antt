@@ -1,21 +1,18 @@
 -- The leaves of a node, place by place.
-use Rattle.std.proofs.Common.{◌≡◌, ◌≢◌, ◌∙◌, ℕ, suc, ◌+◌, ◌-◌, ◌*◌, ◌/◌, ◌^◌, ◌<◌, ◌≤◌, Bool, true, false, cond, List, [], ◌∷◌, ◌++◌, length, length-append, get_or, Option, None, Some, is_some, refl, sym, ap, ap₂, subst, arith, inl, inr, ◌⊎◌}
+use Rattle.std.proofs.Common.{◌≡◌, ◌≢◌, ◌∙◌, ℕ, suc, ◌+◌, ◌-◌, ◌*◌, ◌^◌, ◌<◌, ◌≤◌, Bool, true, false, cond, List, [], ◌∷◌, ◌++◌, length, length-append, get_or, Option, None, Some, is_some, refl, sym, ap, ap₂, subst, arith, inl, inr}
 use Rattle.std.specs.Prelude.{slice_get, ◌&&◌, ◌||◌, not, nat_eq, nat_le}
-use Rattle.std.specs.List.{list_any}
 use Rattle.std.proofs.lemmas.Bool.{true≢false, and_left, and_right, cases_eq, cases_lt, cases_Bool, eqb-false, ne_eqb}
 use Rattle.std.proofs.lemmas.List.Folds.{list_any_at}
 use Rattle.std.proofs.lemmas.Option.{slice_get-get_or}
-use Rattle.std.proofs.Math.Nat.{div-lt_iff_lt-mul, mul-div_cancel}
 use Rattle.std.proofs.Math.Seq.{get_or-append_seam}
-use Rattle.std.proofs.lemmas.Nat.{pow_pos}
 use Rattle.prefix_trie_bits.specs.Bitmaps.{rank}
 use Rattle.prefix_trie_bits.specs.Places.{has, Sets}
 use Rattle.prefix_trie_bits.proofs.Bitmaps.{has-zero}
 use Rattle.prefix_trie_fib.specs.declared.table.node.Node.{Node}
 use Rattle.prefix_trie_fib.specs.Line.{IsDivision, is_start, value_along}
 use Rattle.prefix_trie_fib.specs.Search.{IsRangeOf, StartsBy}
-use Rattle.prefix_trie_fib.specs.Poptrie.{block, first, low, is_gap, is_begun, leaf_at, leaf_index, leaf_value, HasLeaf, IsLeaf, IsRight, HasLeaves, Grows, GetsGap, GetsLeaf}
-use Rattle.prefix_trie_fib.proofs.RangeValues.{above_middle, get_or-any, item_at, value_of_range}
+use Rattle.prefix_trie_fib.specs.Poptrie.{block, first, low, is_gap, is_begun, leaf_at, leaf_index, leaf_value, IsLeaf, IsRight, HasLeaves, Grows, GetsGap, GetsLeaf}
+use Rattle.prefix_trie_fib.proofs.RangeValues.{above_middle, get_or-any, value_of_range}
 use Rattle.prefix_trie_fib.proofs.Lows.{begun_is, low_above, low_most}
 use Rattle.prefix_trie_fib.proofs.Growth.{grows_not, grows_on, grows_by, leaf_grows}
 use Rattle.prefix_trie_fib.proofs.Ranks.{rank_none, rank_set, rank_clear, rank_same}

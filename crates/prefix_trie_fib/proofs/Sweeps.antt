@@ -1,4 +1,5 @@
 -- The walk that compiles a map: intervals that open and close, and the networks read as values.
+pub mod ListingOrder
 use Rattle.std.proofs.Common.{◌≡◌, ◌∙◌, suc, ℕ, ◌+◌, ◌-◌, ◌^◌, ◌<◌, ◌≤◌, ◌&&◌, ◌⊎◌, Bool, true, false, not, cond, List, [], ◌∷◌, ◌++◌, length, length-append, append-nil, filter, drop, map, get_or, leb, Option, None, Some, inl, inr, ap, sym, subst, arith, refl}
 use Rattle.std.proofs.Math.Seq.{get_or-append_seam}
 use Rattle.std.proofs.lemmas.Bool.{le-leb, lt-leb, cases_lt}
@@ -16,8 +17,8 @@ use Rattle.prefix_trie_bits.specs.Model.Selections.{listing, prefix_pairs}
 use Rattle.prefix_trie_fib.specs.Line.{are_same, end_of, first_address, past_address}
 use Rattle.prefix_trie_fib.specs.Sweep.{IsDoneTo, IsSweptTo, value_within, with_interval}
 use Rattle.prefix_trie_fib.proofs.NetworkIntervals.{begins_within, within_begins}
-use Rattle.prefix_trie_fib.proofs.ListingOrder.{listed_first}
-use Rattle.prefix_trie_fib.proofs.MergedRanges.{done_more, done_none}
+use Rattle.prefix_trie_fib.proofs.Sweeps.ListingOrder.{listed_first}
+use Rattle.prefix_trie_fib.proofs.MergedRanges.{alike_to, done_more, done_none}
 use Rattle.prefix_trie_fib.proofs.RangeValues.{get_or-any}
 
 last-push : {X : Type 0} (xs : List X) (x : X) → last_item (xs ++ x ∷ []) ≡ Some x
@@ -95,7 +96,7 @@ module _ {T : Type 0} where
         rising = swept.done.rising;
         merged = swept.done.merged;
         below = swept.done.below;
-        right = λ exact n lt low. swept.done.right exact n lt low ∙ sym (ap (λ b. cond (b && not (leb past n)) (Some v) (of n)) (lt-leb at n lt));
+        right = λ n lt low. alike_to same _ (of n) _ (sym (ap (λ b. cond (b && not (leb past n)) (Some v) (of n)) (lt-leb at n lt))) (swept.done.right n lt low);
       };
       rest = λ n le low.
           ap (λ b. cond (b && not (leb past n)) (Some v) (of n)) (le-leb at n le)
@@ -118,7 +119,7 @@ module _ {T : Type 0} where
       rising = swept.done.rising;
       merged = swept.done.merged;
       below = swept.done.below;
-      right = λ exact n lt low. swept.done.right exact n lt low ∙ sym (is n low);
+      right = λ n lt low. alike_to same _ (of n) (of' n) (sym (is n low)) (swept.done.right n lt low);
     };
     rest = λ n le low. is n low ∙ swept.rest n le low;
   }

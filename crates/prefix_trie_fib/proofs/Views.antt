@@ -1,11 +1,11 @@
 -- The ranges of a table that was built from a line are that line.
-use Rattle.std.proofs.Common.{◌≡◌, ◌≢◌, ◌∙◌, ℕ, zero, suc, ◌+◌, ◌-◌, ◌*◌, ◌/◌, ◌^◌, ◌<◌, ◌≤◌, Bool, true, false, cond, List, [], ◌∷◌, length, map, get_or, Option, None, Some, is_some, refl, sym, ap, ap₂, subst, arith, inl, inr, pow_pos}
+use Rattle.std.proofs.Common.{◌≡◌, ◌≢◌, ◌∙◌, ℕ, zero, suc, ◌+◌, ◌-◌, ◌*◌, ◌/◌, ◌^◌, ◌<◌, ◌≤◌, ◌⊎◌, Bool, true, false, cond, List, [], ◌∷◌, length, map, get_or, Option, None, Some, is_some, refl, sym, ap, ap₂, subst, arith, inl, inr, pow_pos}
 use Rattle.std.specs.Prelude.{◌||◌, nat_eq}
 use Rattle.std.specs.List.{filter, range_with_len}
 use Rattle.std.proofs.Math.Nat.{div-lt_iff_lt-mul}
 use Rattle.std.proofs.lemmas.List.Folds.{list_any_at}
 use Rattle.std.proofs.Math.Pow.{pow-add}
-use Rattle.std.proofs.lemmas.Bool.{true≢false, cases_Bool, cases_eq, cases_lt, eq-eqb, eqb-true, eqb-false, ne_eqb, or_left, or_right}
+use Rattle.std.proofs.lemmas.Bool.{true≢false, cases_eq, cases_lt, eq-eqb, eqb-true, ne_eqb, or_left, or_right}
 use Rattle.prefix_trie_fib.specs.declared.table.node.Node.{Node}
 use Rattle.prefix_trie_fib.specs.Line.{AreMerged, IsDivision, StartBelow, are_same, is_start, value_along}
 use Rattle.prefix_trie_fib.specs.Poptrie.{IsRight, IsTable, find_in, levels, past, slot_found}
@@ -174,8 +174,9 @@ module _ {T : Type 0} (same : T → T → Bool) (w bits : ℕ) (direct : List �
     at = λ a le lt. (let l : a < 2 ^ w = omega (arith, lt) in starts_by_value a l (value_along None line a) refl);
   })
 
-  pub compiled : (len : ℕ) → len ≡ length line → IsCompiled w bits direct nodes leaves len
-  compiled len is = record {
+  pub compiled : (len : ℕ) → len ≡ length line → 2 ^ bits ≤ 2 * len → (len < 32 * 2 ^ bits) ⊎ (18 ≤ bits) → length nodes < 2 ^ 31 → length leaves < 2 ^ 30
+      → len ≤ 2 * length leaves + 1 → 2 ^ bits + length nodes + length leaves ≤ (w + 5) * len → IsCompiled w bits direct nodes leaves len
+  compiled len is few many few_nodes few_leaves some_leaves few_slots = record {
     within = within;
     long = long;
     division = subst IsDivision (sym ranges_are) division;
@@ -183,6 +184,12 @@ module _ {T : Type 0} (same : T → T → Bool) (w bits : ℕ) (direct : List �
     table = subst (λ l. IsTable (value_along None l) (is_start l) (past w bits) direct nodes leaves (levels w bits)) (sym ranges_are) table;
     starts = λ a lt. ap (λ l. is_start l a) ranges_are ∙ sym (starts_by_value a lt (value_along None line a) refl);
     count = ap length ranges_are ∙ sym is;
+    few = few;
+    few_nodes = few_nodes;
+    few_leaves = few_leaves;
+    many = many;
+    some_leaves = some_leaves;
+    few_slots = few_slots;
   }
 
 -- ---- the range after that of an address

@@ -2,14 +2,16 @@
 use Rattle.std.specs.Prelude.{◌≡◌, ℕ, ◌^◌, ◌<◌, Bool, true, List, length, Option, None, slice_index_or}
 use Rattle.prefix_trie_bits.specs.Model.Bits.{number}
 use Rattle.prefix_trie_bits.specs.Model.Entries.{Entries}
-use Rattle.prefix_trie_fib.specs.Line.{AreMerged, IsDivision, StartBelow, are_same, value_along, value_of}
+use Rattle.prefix_trie_fib.specs.Line.{AreAlike, AreMerged, IsDivision, StartBelow, are_same, value_along, value_of}
 use Rattle.prefix_trie_fib.specs.Ranges.{AreRangesOf, valued_ranges}
 use Rattle.prefix_trie_fib.specs.Search.{IsRangeOf}
 use Rattle.prefix_trie_fib.specs.Tables.{IsTableOf}
 
 pub record FibLaws {K : Type 0} (T : Type 0) (width : ℕ) (IsKey : K → Type 0) (bits : K → List Bool) : Type 0 where
-  -- if a table has the values of a map, it has the value of the longest match at each address
-  pub at_address : (fib : List (ℕ × Option T)) (m : Entries T) → ((q : List Bool) → length q ≡ width → value_along None fib (number q) ≡ value_of m q)
+  -- a table has the value of the longest match at each address, or an equal one
+  pub alike_at : (same : T → T → Bool) (m : Entries T) (fib : List (ℕ × Option T)) → IsTableOf width same m fib → (address : K) → IsKey address → AreAlike same (value_along None fib (number (bits address))) (value_of m (bits address))
+  -- which is the same one, if equal values are the same
+  pub at_address : (same : T → T → Bool) → ((x y : T) → same x y ≡ true → x ≡ y) → (m : Entries T) (fib : List (ℕ × Option T)) → IsTableOf width same m fib
       → (address : K) → IsKey address → value_along None fib (number (bits address)) ≡ value_of m (bits address)
   -- the range of an address has its value
   pub of_range : (fib : List (ℕ × Option T)) → IsDivision fib → (i n : ℕ) (d : ℕ × Option T) → IsRangeOf fib i n → value_along None fib n ≡ (slice_index_or fib i d).1

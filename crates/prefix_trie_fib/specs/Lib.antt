@@ -1,11 +1,6 @@
--- The definitions of this crate: divisions of all addresses into ranges, tables of maps, searches, the index, and laws.
-pub mod Bulk
-pub mod Compiled
+-- The definitions of this crate: divisions of all addresses into ranges, tables of maps, the Poptrie, and laws.
 pub mod Equality
-pub mod Gaps
-pub mod Index
 pub mod Laws
-pub mod Layouts
 pub mod Line
 pub mod Ranges
 pub mod Search
@@ -13,3 +8,4 @@ pub mod Sweep
 pub mod Tables
 pub mod Poptrie
 pub mod TableRanges
+pub mod Counts

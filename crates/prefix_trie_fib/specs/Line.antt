@@ -1,5 +1,5 @@
 -- Divisions of all addresses into ranges, and the value of each address. This project's own.
-use Rattle.std.specs.Prelude.{◌≡◌, ℕ, ◌+◌, ◌-◌, ◌^◌, ◌<◌, Bool, true, false, cond, List, [], ◌∷◌, ◌++◌, length, nat_eq, nat_le, Option, Some, None, slice_index_or}
+use Rattle.std.specs.Prelude.{◌≡◌, ℕ, ◌+◌, ◌-◌, ◌^◌, ◌<◌, ◌⊎◌, Bool, true, false, cond, List, [], ◌∷◌, ◌++◌, length, nat_eq, nat_le, Option, Some, None, slice_index_or}
 use Rattle.std.specs.List.{list_any}
 use Rattle.std.specs.Option.{option_map}
 use Rattle.prefix_trie_bits.specs.Model.Bits.{number, zeros}
@@ -29,6 +29,10 @@ are_same eq None None = true
 are_same eq None (Some v) = false
 are_same eq (Some v) None = false
 are_same eq (Some v) (Some w) = eq v w
+
+-- both values are missing, or both exist and are the same or equal
+abbrev pub AreAlike : {T : Type 0} → (T → T → Bool) → Option T → Option T → Type 0
+AreAlike eq a b = (a ≡ b) ⊎ (are_same eq a b ≡ true)
 
 module _ {V : Type 0} where
   -- the value of the last of the ranges before the first one that starts after n, or h if that is the first

@@ -1,9 +1,14 @@
 -- Nodes of 32 places, in one list, with two bitmaps each for children and for runs of leaves: Poptrie (Asai and Ohara 2015).
-use Rattle.std.specs.Prelude.{◌≡◌, ◌≢◌, ℕ, zero, suc, ◌+◌, ◌-◌, ◌*◌, ◌/◌, ◌%◌, ◌^◌, ◌<◌, ◌≤◌, ◌&&◌, not, Bool, true, false, cond, List, length, nat_eq, nat_lt, Option, None, Some, is_some, slice_get, slice_index_or}
+use Rattle.std.specs.Prelude.{◌≡◌, ◌≢◌, ℕ, zero, suc, ◌+◌, ◌-◌, ◌*◌, ◌/◌, ◌%◌, ◌^◌, ◌<◌, ◌≤◌, ◌&&◌, ◌++◌, not, Bool, true, false, cond, List, length, nat_eq, nat_lt, Option, None, Some, is_some, slice_get, slice_index_or, take}
 use Rattle.std.specs.Bool.{MatchBool}
 use Rattle.prefix_trie_bits.specs.Bitmaps.{rank}
+use Rattle.prefix_trie_bits.specs.Model.Bits.{number, zeros}
 use Rattle.prefix_trie_bits.specs.Places.{has, Sets}
 use Rattle.prefix_trie_fib.specs.declared.table.node.Node.{Node}
+
+-- the number of the first 30 bits of an address, where bits past its end are 0
+abbrev pub IsTop : ℕ → List Bool → Type 0
+IsTop top b = top ≡ number (take 30 (b ++ zeros 30))
 
 -- the number of the block of 32^n numbers that has number t
 unfoldable pub block : ℕ → ℕ → ℕ

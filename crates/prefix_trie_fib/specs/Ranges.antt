@@ -1,8 +1,13 @@
 -- The ranges of a division that have a value, each with its first and its last address. This project's own.
-use Rattle.std.specs.Prelude.{◌≡◌, ℕ, ◌+◌, ◌-◌, ◌^◌, ◌<◌, ◌≤◌, Bool, false, List, [], ◌∷◌, length, Contains, Option, None, Some, slice_index_or}
+use Rattle.std.specs.Prelude.{◌≡◌, ℕ, ◌+◌, ◌-◌, ◌^◌, ◌<◌, ◌≤◌, Bool, false, List, [], ◌∷◌, length, Contains, nat_le, Option, None, Some, slice_index_or}
+use Rattle.std.specs.List.{filter}
 use Rattle.prefix_trie_bits.specs.Model.Bits.{number}
 
 module _ {T : Type 0} where
+  -- the ranges that start at a number or after it
+  abbrev pub ranges_from : ℕ → List (ℕ × Option T) → List (ℕ × Option T)
+  ranges_from n rs = filter (λ r. nat_le n r.0) rs
+
   -- the address before the first of some ranges, or the last of all addresses if there are none
   abbrev pub last_before : ℕ → List (ℕ × Option T) → ℕ
   last_before width [] = 2 ^ width - 1

@@ -1,7 +1,7 @@
 -- The walk that compiles a map: the ranges that are done, and the intervals that reach beyond them. This project's own.
-use Rattle.std.specs.Prelude.{◌≡◌, ℕ, ◌^◌, ◌<◌, ◌≤◌, ◌&&◌, Bool, true, not, cond, List, [], ◌∷◌, length, map, nat_le, Option, None, Some, slice_index_or}
+use Rattle.std.specs.Prelude.{◌≡◌, ℕ, ◌^◌, ◌<◌, ◌≤◌, ◌&&◌, Bool, not, cond, List, [], ◌∷◌, length, map, nat_le, Option, None, Some, slice_index_or}
 use Rattle.prefix_trie_bits.specs.Model.Bits.{number}
-use Rattle.prefix_trie_fib.specs.Line.{AreMerged, StartBelow, are_same, end_of, value_along}
+use Rattle.prefix_trie_fib.specs.Line.{AreAlike, AreMerged, StartBelow, are_same, end_of, value_along}
 
 module _ {T : Type 0} where
   -- An interval is the number where it ends, and a value. This is the value of the last one that does not end by n, or h if all do.
@@ -21,7 +21,7 @@ module _ {T : Type 0} where
       pub rising : (j k : ℕ) (d : ℕ × Option T) → j < k → k < length line → (slice_index_or line j d).0 < (slice_index_or line k d).0
       pub merged : AreMerged (are_same same) line
       pub below : StartBelow at line
-      pub right : ((x y : T) → same x y ≡ true → x ≡ y) → (n : ℕ) → n < at → n < top → value_along None line n ≡ of n
+      pub right : (n : ℕ) → n < at → n < top → AreAlike same (value_along None line n) (of n)
 
     -- and intervals have those of the others
     pub record IsSweptTo (line : List (ℕ × Option T)) (at : ℕ) (intervals : List (ℕ × Option T)) : Type 0 where

@@ -1,5 +1,5 @@
 -- The ranges of a compiled table: its addresses at which a range starts, each with its value.
-use Rattle.std.specs.Prelude.{Bool, List, None, Option, cond, false, is_some, length, map, nat_eq, true, ℕ, ◌*◌, ◌-◌, ◌<◌, ◌^◌, ◌||◌, ◌≡◌, ◌≤◌}
+use Rattle.std.specs.Prelude.{Bool, List, None, Option, cond, false, is_some, length, map, nat_eq, true, ℕ, ◌+◌, ◌*◌, ◌-◌, ◌<◌, ◌^◌, ◌||◌, ◌≡◌, ◌≤◌, ◌⊎◌}
 use Rattle.std.specs.List.{filter, range_with_len}
 use Rattle.prefix_trie_fib.specs.declared.table.node.Node.{Node}
 use Rattle.prefix_trie_fib.specs.Line.{IsDivision, StartBelow, is_start, value_along}
@@ -32,6 +32,12 @@ module _ {T : Type 0} where
       pub table : IsTable (value_along None ranges_in) (is_start ranges_in) (past width bits) direct nodes leaves (levels width bits)
       pub starts : (a : ℕ) → a < 2 ^ width → is_start ranges_in a ≡ starts_in a
       pub count : length ranges_in ≡ len
+      pub few : 2 ^ bits ≤ 2 * len
+      pub few_nodes : length nodes < 2 ^ 31
+      pub few_leaves : length leaves < 2 ^ 30
+      pub many : (len < 32 * 2 ^ bits) ⊎ (18 ≤ bits)
+      pub some_leaves : len ≤ 2 * length leaves + 1
+      pub few_slots : 2 ^ bits + length nodes + length leaves ≤ (width + 5) * len
 
 -- of the numbers after n, `next` is the first that passes a test
 pub record IsNextStart (starts : ℕ → Bool) (n next : ℕ) : Type 0 where

@@ -1,8 +1,9 @@
 //! A table of longest matches that is compiled from a map.
-ghost use Rattle.std.specs.Prelude.{◌≡◌, ℕ, ◌+◌, ◌^◌, ◌<◌, ◌≤◌, ◌↔◌, ◌∷◌, [], IfErr, IfOk, IsTrue, MatchOption, None, Option, length, slice_index_or};
+ghost use Rattle.std.specs.Prelude.{◌≡◌, ℕ, ◌+◌, ◌*◌, ◌^◌, ◌<◌, ◌≤◌, ◌↔◌, ◌⊎◌, ◌∷◌, [], IfErr, IfOk, IfSome, IsTrue, MatchOption, None, Option, length, slice_index_or};
 ghost use Rattle.prefix_trie_bits.specs.Model.Bits.{number};
 ghost use Rattle.prefix_trie_bits.specs.declared.prefix.Refusal.TheVariants.{IndexRange};
-ghost use Rattle.prefix_trie_fib.specs.Line.{end_of, value_along};
+ghost use Rattle.prefix_trie_fib.specs.Line.{value_along};
+ghost use Rattle.prefix_trie_fib.specs.Search.{IsRangeOf};
 ghost use Rattle.prefix_trie_fib.specs.Tables.{HasLongTable, IsTableOf};
 
 mod addresses;
@@ -12,8 +13,8 @@ mod fmt;
 mod last_address;
 mod walk;
 
-use crate::compact::Compact;
-use crate::ranges::{ranges_of, some_value};
+use crate::ranges::ranges_of;
+use crate::table::Table;
 use prefix_trie_bits::prefix::{Key, Prefix, Refusal};
 use prefix_trie_map::map::PrefixMap;
 use std::alloc::{AllocError, Allocator};
@@ -22,13 +23,12 @@ pub use walk::Ranges;
 
 /// The longest match of each address in a map, as ranges of addresses.
 ///
-/// A lookup reads an index by the first bits of the address. An entry has the value of the address, or says which range it
-/// is in, or which few ranges have to be searched. First addresses are kept as 64 bits if no other bit of them is 1, as in
-/// most tables of IPv6 routes.
+/// The table is a Poptrie (Asai and Ohara 2015). A lookup reads a slot by the first bits of the address, and a node for each
+/// five bits after them, until no range starts among the addresses that are left.
 ///
 /// The table does not change when the map does. After changes of the map, compile it again and replace the table:
-/// `fib = Fib::new(&map, alloc)?`. This takes about as long as building the map, or less, however little changed. Until
-/// it returns, the old table can be used.
+/// `fib = Fib::new(&map, alloc)?`. This takes longer than building the map, however little changed. Until it returns, the
+/// old table can be used.
 ///
 /// # Examples
 ///
@@ -40,32 +40,34 @@ pub use walk::Ranges;
 /// ```
 #[derive(Drop)]
 pub struct Fib<P: Prefix, T: Copy + PartialEq, A: Allocator> {
-    ranges: Compact<P::R, T, A>,
+    table: Table<P::R, T, A>,
 }
 
 // a contract sees the first address of each range, as a number, and its value
 impl<P: Prefix, T: Copy + PartialEq, A: Allocator> Model for Fib<P, T, A> {
-    ghost use Rattle.std.specs.Prelude.{List, ℕ, Option};
-    ghost use Rattle.prefix_trie_fib.specs.Line.{AreMerged, IsDivision, are_same};
+    ghost use Rattle.std.specs.Prelude.{List, ℕ, ◌^◌, Option};
+    ghost use Rattle.prefix_trie_fib.specs.Line.{AreMerged, IsDivision, StartBelow, are_same};
 
     ghost Value = { List (ℕ × Option T) };
 
-    ghost view = { λ fib. fib.ranges };
+    ghost view = { λ fib. fib.table };
 
-    ghost invariant = { λ fib. IsDivision fib.ranges
-        × AreMerged (are_same T.PartialEq.eq) fib.ranges };
+    ghost invariant = { λ fib. IsDivision fib.table
+        × AreMerged (are_same T.PartialEq.eq) fib.table
+        × StartBelow (2 ^ P.R.bit_width) fib.table };
 }
 
 impl<P: Prefix, T: Copy + PartialEq, A: Allocator + Clone> Fib<P, T, A> {
     /// Compiles a map.
     ///
-    /// The time is that of a walk over the map and of one along the ranges. Maps with the same entries have the same
-    /// table, if a value equals itself and no other. See `fib_laws`.
+    /// The time is that of a walk over the map, and of one along the ranges for each level of nodes. Maps with the same
+    /// entries have the same table, if a value equals itself and no other. See `fib_laws`.
     ///
     /// # Errors
     ///
-    /// Returns `Memory` if an allocation fails, and `IndexRange` if the table would have 2^32 ranges or more. No table
-    /// exists then. If only the attempt to free spare memory fails, the table keeps that memory.
+    /// Returns `Memory` if an allocation fails, and `IndexRange` if the table would have 2^30 leaves or 2^31 nodes or more.
+    /// So many need 2^26 ranges of IPv4 addresses or more, or 2^24 of IPv6 addresses. No table exists then. If only the
+    /// attempt to free spare memory fails, the table keeps that memory.
     ///
     /// # Examples
     ///
@@ -76,12 +78,15 @@ impl<P: Prefix, T: Copy + PartialEq, A: Allocator + Clone> Fib<P, T, A> {
     pub fn new<M: Allocator>(map: &PrefixMap<P, T, M>, alloc: A) -> Result<Self, Refusal>
         ensures table { IfOk result
             (λ fib. IsTableOf P.R.bit_width T.PartialEq.eq map.now.entries fib) }
-        ensures few { IfOk result (λ fib. length fib < 2 ^ 32) }
+        ensures few { IfOk result (λ fib. length fib < 2 ^ 31) }
         ensures too_many { IfErr result (λ cause. cause ≡ IndexRange
             → HasLongTable P.R.bit_width T.PartialEq.eq map.now.entries) }
     {
-        let ranges = compact_of(map, alloc)?;
-        Ok(Fib { ranges })
+        let Ok(line) = ranges_of(map, alloc.clone()?) else {
+            return Err(Refusal::Memory);
+        };
+        let table = Table::new(&line, alloc)?;
+        Ok(Fib { table })
     }
 
     /// Copies the table, in memory of its own.
@@ -99,30 +104,9 @@ impl<P: Prefix, T: Copy + PartialEq, A: Allocator + Clone> Fib<P, T, A> {
     pub fn clone(&self) -> Result<Self, AllocError>
         ensures { IfOk result (λ copy. copy ≡ self.now) }
     {
-        let ranges = self.ranges.clone()?;
-        Ok(Fib { ranges })
+        let table = self.table.clone()?;
+        Ok(Fib { table })
     }
-}
-
-/// Returns the ranges of a map with an index.
-fn compact_of<P: Prefix, T: Copy + PartialEq, M: Allocator, A: Allocator + Clone>(
-    map: &PrefixMap<P, T, M>,
-    alloc: A,
-) -> Result<Compact<P::R, T, A>, Refusal>
-    ensures table { IfOk result
-        (λ ranges. IsTableOf P.R.bit_width T.PartialEq.eq map.now.entries ranges) }
-    ensures few { IfOk result (λ ranges. length ranges < 2 ^ 32) }
-    ensures too_many { IfErr result (λ cause. cause ≡ IndexRange
-        → HasLongTable P.R.bit_width T.PartialEq.eq map.now.entries) }
-{
-    let Some(placeholder) = some_value(map) else {
-        return Ok(Compact::empty());
-    };
-    let first = alloc.clone()?;
-    let Ok(line) = ranges_of(map, placeholder, first) else {
-        return Err(Refusal::Memory);
-    };
-    Compact::new(line, alloc)
 }
 
 impl<P: Prefix, T: Copy + PartialEq, A: Allocator> Fib<P, T, A> {
@@ -138,7 +122,7 @@ impl<P: Prefix, T: Copy + PartialEq, A: Allocator> Fib<P, T, A> {
     pub fn lookup(&self, address: P::R) -> Option<T>
         ensures { result ≡ value_along None self.now (number (P.R.bits address)) }
     {
-        self.ranges.lookup(address)
+        self.table.lookup(address)
     }
 
     /// Returns the number of ranges, with those that have no value.
@@ -152,7 +136,7 @@ impl<P: Prefix, T: Copy + PartialEq, A: Allocator> Fib<P, T, A> {
     pub fn len(&self) -> usize
         ensures { result ≡ length self.now }
     {
-        self.ranges.len()
+        self.table.len()
     }
 
     /// Returns whether no address has a value.
@@ -166,75 +150,66 @@ impl<P: Prefix, T: Copy + PartialEq, A: Allocator> Fib<P, T, A> {
     pub fn is_empty(&self) -> bool
         ensures { IsTrue result ↔ (self.now ≡ (0, None) ∷ []) }
     {
-        self.ranges.len() == 1 && self.ranges.value(0).is_none()
+        self.table.len() == 1 && self.table.lookup(P::R::zero()).is_none()
     }
 
-    /// Returns a range: its first address, the address after its last one, and its value.
+    /// Returns the first address after another one that begins a range, or `None` if the address is in the last range.
     ///
-    /// The second is `None` if the range ends at the last address. Ranges are in order, and each begins where the one
-    /// before it ends. Requires that `i` is below the number of ranges. `ranges` walks over those with a value.
+    /// The range of the address ends before it. So calls from the address 0 on walk over all ranges, with those that have no
+    /// value, and `lookup` of such an address returns the value of its range. `ranges` walks over those with a value.
     ///
     /// # Examples
     ///
     /// ```rust
     /// // map = {10.0.0.0/8: 1}
-    /// Fib::new(&map, alloc)?.range(1);    // (167772160, Some(184549376), Some(1)): from 10.0.0.0 up to 11.0.0.0
+    /// let fib = Fib::new(&map, alloc)?;
+    /// fib.next_start(0);              // Some(167772160): 10.0.0.0
+    /// fib.next_start(0x0a000000);     // Some(184549376): 11.0.0.0
+    /// fib.next_start(0x0b000000);     // None
     /// ```
-    pub fn range(&self, i: usize) -> (P::R, Option<P::R>, Option<T>)
-        requires { i < length self.now }
-        ensures first { (d : ℕ × Option T)
-            → number (P.R.bits result.0) ≡ (slice_index_or self.now i d).0 }
-        ensures past { MatchOption result.1 (i + 1 ≡ length self.now)
-            (λ past. (i + 1 < length self.now)
-            × ((d : ℕ × Option T)
-            → number (P.R.bits past) ≡ (slice_index_or self.now (i + 1) d).0)) }
-        ensures value { (d : ℕ × Option T) → result.2 ≡ (slice_index_or self.now i d).1 }
-        ensures some { number (P.R.bits result.0) < end_of P.R.bit_width P.R.bits result.1 }
+    pub fn next_start(&self, address: P::R) -> Option<P::R>
+        ensures start { (i : ℕ) → IsRangeOf self.now i (number (P.R.bits address))
+            → MatchOption result (i + 1 ≡ length self.now)
+            (λ k. (i + 1 < length self.now) × ((d : ℕ × Option T)
+            → number (P.R.bits k) ≡ (slice_index_or self.now (i + 1) d).0)) }
+        ensures later { IfSome result
+            (λ k. number (P.R.bits address) < number (P.R.bits k)) }
     {
-        let len = self.ranges.len();
-        let first = self.ranges.start(i);
-        // The proof learns from it that the number is a key.
-        let _ = first.is_key();
-        let past = if i + 1 < len {
-            Some(self.ranges.start(i + 1))
-        } else {
-            None
-        };
-        (first, past, self.ranges.value(i))
+        self.table.next_start(address)
     }
 
-    /// Returns the number of chunks that the index cuts all addresses into.
+    /// Returns the number of slots that the first bits of addresses select.
     ///
-    /// Each has an entry of the size of a value and a tag. A chunk with more than 12 ranges has more entries, unless its
-    /// ranges start at its sixteenths: 16, or a power of two that is at most half the number of its ranges.
+    /// Each has 4 bytes. There are at most two for each range, and one for 32 ranges or 2^18 of them.
     ///
     /// # Examples
     ///
     /// ```rust
     /// // map = {10.0.0.0/8: 1}
-    /// Fib::new(&map, alloc)?.index_slots();   // 256
+    /// Fib::new(&map, alloc)?.index_slots();   // 1
     /// ```
     pub fn index_slots(&self) -> usize
-        ensures { result ≤ 2 ^ 20 }
+        ensures few { result ≤ 2 * length self.now }
+        ensures many { (length self.now < 32 * result) ⊎ (2 ^ 18 ≤ result) }
     {
-        self.ranges.chunks()
+        self.table.direct_slots()
     }
 
-    /// Returns the number of slots that the table stores: one for each range, and one for each entry of its index.
+    /// Returns the number of slots that the table stores: those of the index, its nodes, and the values of its leaves.
     ///
-    /// The slot of a range has the size of an address and a value, and one bit more. In a table of IPv6 networks of at
-    /// most 64 bits the address takes 8 bytes. An entry of the index is that of a chunk or of a part of a chunk. It has
-    /// the size of a value and a tag, and at least 8 bytes.
+    /// A node has 20 bytes, and a leaf the size of a value. There are more than half as many slots as ranges.
     ///
     /// # Examples
     ///
     /// ```rust
     /// // map = {10.0.0.0/8: 1}
-    /// Fib::new(&map, alloc)?.slots();         // 259: 3 ranges, and an index of 256 chunks
+    /// Fib::new(&map, alloc)?.slots();         // 4: an index of one slot, two nodes, and a value
     /// ```
     pub fn slots(&self) -> usize
-        ensures { length self.now ≤ result }
+        ensures few { result ≤ (P.R.bit_width + 5) * length self.now }
+        ensures many { length self.now < 2 * result }
+        ensures fits { result < 2 ^ 32 }
     {
-        self.ranges.slots()
+        self.table.slots()
     }
 }

@@ -1,11 +1,13 @@
 //! A compiled table in the layout that a lookup reads fastest: a Poptrie.
-ghost use Rattle.std.specs.Prelude.{◌≡◌, ℕ, ◌+◌, ◌^◌, ◌<◌, ◌≤◌, ◌∷◌, [], Bool, IfOk, MatchOption, None, Option, length, slice_index_or};
+ghost use Rattle.std.specs.Prelude.{◌≡◌, ℕ, ◌+◌, ◌*◌, ◌^◌, ◌<◌, ◌≤◌, ◌⊎◌, Bool, IfErr, IfOk, MatchOption, None, Option, length, slice_index_or};
 ghost use Rattle.prefix_trie_bits.specs.Model.Bits.{number};
+ghost use Rattle.prefix_trie_bits.specs.declared.prefix.Refusal.TheVariants.{IndexRange};
 ghost use Rattle.prefix_trie_fib.specs.Line.{AreMerged, IsDivision, StartBelow, are_same, value_along};
 ghost use Rattle.prefix_trie_fib.specs.Search.{IsRangeOf};
 
 mod build;
 mod direct;
+mod first_bits;
 mod leaf;
 mod next;
 mod node;
@@ -13,7 +15,7 @@ mod walk;
 
 use crate::copies::copy_of;
 use crate::ranges::Line;
-use direct::{NOTHING, direct_of};
+use direct::{BEGINS, LEAF, direct_bits, direct_of};
 use leaf::leaf_in;
 use next::next_in;
 use node::Node;
@@ -55,23 +57,30 @@ impl<K: Key, T: Copy, A: Allocator + Clone> Table<K, T, A> {
     /// # Errors
     ///
     /// Returns `Memory` if an allocation fails, and `IndexRange` if there would be 2^30 leaves or 2^31 nodes or more.
-    pub(crate) fn new<B: Allocator>(
-        line: &Line<K, T, B>,
-        bits: u32,
-        alloc: A,
-    ) -> Result<Self, Refusal>
+    pub(crate) fn new<B: Allocator>(line: &Line<K, T, B>, alloc: A) -> Result<Self, Refusal>
         requires division { IsDivision line.now }
         requires merged { (same : T → T → Bool) × AreMerged (are_same same) line.now }
         requires below { StartBelow (2 ^ K.bit_width) line.now }
-        requires within { bits ≤ K.bit_width }
-        requires few { bits ≤ 20 }
-        ensures { IfOk result (λ table. table ≡ line.now) }
+        ensures same { IfOk result (λ table. table ≡ line.now) }
+        ensures few { IfOk result (λ table. length table < 2 ^ 31) }
+        ensures too_many { IfErr result
+            (λ cause. cause ≡ IndexRange → 2 ^ 31 ≤ K.bit_width * length line.now) }
     {
+        let len = line.len();
+        let bits = direct_bits::<K>(len);
         let first = alloc.clone()?;
         let second = alloc.clone()?;
         let mut nodes = Vec::new(first);
         let mut leaves = Vec::new(second);
         let direct = direct_of(line, bits, &mut nodes, &mut leaves, alloc)?;
+        let node_count = nodes.len();
+        if node_count >= LEAF as usize {
+            return Err(Refusal::IndexRange);
+        }
+        let leaf_count = leaves.len();
+        if leaf_count >= BEGINS as usize {
+            return Err(Refusal::IndexRange);
+        }
         nodes.shrink_to_fit();
         leaves.shrink_to_fit();
         Ok(Table {
@@ -79,35 +88,13 @@ impl<K: Key, T: Copy, A: Allocator + Clone> Table<K, T, A> {
             nodes,
             leaves,
             rest: 30 - bits,
-            len: line.len(),
+            len,
             key: PhantomData,
         })
     }
 }
 
 impl<K: Key, T: Copy, A: Allocator + Clone> Table<K, T, A> {
-    /// Returns the table of a line where no address has a value.
-    pub(crate) fn empty(alloc: A) -> Result<Self, Refusal>
-        ensures { IfOk result (λ table. table ≡ (0, None) ∷ []) }
-    {
-        let first = alloc.clone()?;
-        let second = alloc.clone()?;
-        let Ok(mut direct) = Vec::with_capacity(alloc, 1) else {
-            return Err(Refusal::Memory);
-        };
-        let Ok(()) = direct.push(NOTHING) else {
-            return Err(Refusal::Memory);
-        };
-        Ok(Table {
-            direct,
-            nodes: Vec::new(first),
-            leaves: Vec::new(second),
-            rest: 30,
-            len: 1,
-            key: PhantomData,
-        })
-    }
-
     /// Copies the table, in memory of its own.
     pub(crate) fn clone(&self) -> Result<Self, AllocError>
         ensures { IfOk result (λ copy. copy ≡ self.now) }
@@ -132,6 +119,23 @@ impl<K: Key, T: Copy, A: Allocator> Table<K, T, A> {
         ensures { result ≡ length self.now }
     {
         self.len
+    }
+
+    /// Returns the number of slots of the direct table.
+    pub(crate) fn direct_slots(&self) -> usize
+        ensures few { result ≤ 2 * length self.now }
+        ensures many { (length self.now < 32 * result) ⊎ (2 ^ 18 ≤ result) }
+    {
+        self.direct.len()
+    }
+
+    /// Returns the number of slots, nodes and leaves.
+    pub(crate) fn slots(&self) -> usize
+        ensures few { result ≤ (K.bit_width + 5) * length self.now }
+        ensures many { length self.now < 2 * result }
+        ensures fits { result < 2 ^ 32 }
+    {
+        self.direct.len() + self.nodes.len() + self.leaves.len()
     }
 
     /// Returns the value of the range of an address.

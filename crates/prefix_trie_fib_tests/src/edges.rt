@@ -1,4 +1,4 @@
-//! Empty maps, the first and the last addresses, keys of other widths, and a chunk with many ranges.
+//! Empty maps, the first and the last addresses, keys of other widths, and hosts far apart.
 use crate::tables::{agrees, agrees_at, keys_of, map_of, put};
 use prefix_trie::{Prefix, PrefixMap, Refusal};
 use prefix_trie_fib::Fib;
@@ -60,18 +60,13 @@ fn around_hosts(alloc: Global) -> Result<Vec<u32>, AllocError> {
     Ok(addresses)
 }
 
-/// Returns whether one of 256 chunks is split into 128 parts.
-fn is_split(fib: &Fib<(u32, u8), u32, Global>) -> bool {
-    fib.index_slots() == 256 && fib.slots() - fib.len() == 384
-}
-
-/// Returns whether this holds for the table of the map and for a copy of it, and both agree with the map.
-fn are_split(alloc: Global) -> Result<bool, Refusal> {
+/// Returns whether the table of the map and a copy of it agree with the map.
+fn hosts_agree(alloc: Global) -> Result<bool, Refusal> {
     let map = scattered(alloc)?;
     let fib = Fib::new(&map, alloc)?;
     let copy = fib.clone().map_err(|_| Refusal::Memory)?;
     let addresses = around_hosts(alloc)?;
-    let mut all = is_split(&fib) & is_split(&copy) & agrees(&map, &addresses, alloc)?;
+    let mut all = (copy.slots() == fib.slots()) & agrees(&map, &addresses, alloc)?;
     for address in addresses.iter() {
         all &= agrees_at(&map, &copy, *address);
     }
@@ -83,10 +78,12 @@ fn start_at(networks: &[(u128, u8)], starts: &[u128], alloc: Global) -> Result<b
     let map = map_of(networks, alloc)?;
     let fib = Fib::new(&map, alloc)?;
     let mut all = fib.len() == starts.len();
-    for (i, start) in starts.iter().enumerate() {
-        all &= i < fib.len() && fib.range(i).0 == *start;
+    let mut at = Some(0);
+    for start in starts {
+        all &= at == Some(*start);
+        at = fib.next_start(*start);
     }
-    Ok(all)
+    Ok(all & at.is_none())
 }
 
 static WHOLE: [(u32, u8); 1] = [(0, 0)];
@@ -204,6 +201,6 @@ fn narrow_keys_agree(rt: HostRuntime) {
 }
 
 #[test]
-fn a_crowded_chunk_is_split(rt: HostRuntime) {
-    assert!(rt; are_split(rt.alloc()) == Ok(true));
+fn hosts_far_apart_agree(rt: HostRuntime) {
+    assert!(rt; hosts_agree(rt.alloc()) == Ok(true));
 }

@@ -12,8 +12,8 @@ mod examples;
 #[cfg(test)]
 mod networks;
 #[cfg(test)]
-mod refusals;
+mod places;
 #[cfg(test)]
-mod sixteenths;
+mod refusals;
 #[cfg(test)]
 mod tables;

@@ -16,7 +16,7 @@ enum Step {
     Copy,
 }
 
-/// Creates a map of 40 host networks, every second address. They share a chunk, which is split.
+/// Creates a map of 40 host networks, every second address.
 fn filled<A: Allocator + Copy>(alloc: A) -> Result<PrefixMap<(u32, u8), u32, A>, Refusal> {
     let mut map = PrefixMap::new(alloc)?;
     for i in 0..40_u32 {
@@ -76,13 +76,12 @@ fn harmless_failures(heap: &Refusing<Global>, step: Step, refused: u64) -> Optio
     None
 }
 
-// the spare memory of the ranges and of their marks is given back before the index is made, and the parts of the index
-// have none
+// the last two allocations only give back the spare memory of the nodes and of the leaves
 #[test]
 fn compiling_fails_exactly_if_it_lacks_memory(rt: HostRuntime) {
     let heap = Refusing::new(rt.alloc());
     assert!(rt; harmless_failures(&heap, Step::Compile, 1) == Some(2));
-    assert!(rt; harmless_failures(&heap, Step::Compile, u64::MAX) == Some(0));
+    assert!(rt; harmless_failures(&heap, Step::Compile, u64::MAX) == Some(2));
 }
 
 #[test]

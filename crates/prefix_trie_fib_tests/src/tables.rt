@@ -59,28 +59,21 @@ pub fn agrees_at<P: Prefix>(
 }
 
 /// Returns whether a table has the same values for these addresses, looked up at once and one by one.
-///
-/// Fewer than eight addresses are looked up eight times each, so that there are enough for a group.
 fn agrees_in_bulk<P: Prefix>(
     fib: &Fib<P, u32, Global>,
     addresses: &[P::R],
     alloc: Global,
 ) -> Result<bool, Refusal> {
-    let times = if addresses.len() < 8 { 8 } else { 1 };
-    let mut all = Vec::new(alloc);
     let mut values = Vec::new(alloc);
-    for _ in 0..times {
-        for address in addresses {
-            all.push(*address).map_err(|_| Refusal::Memory)?;
-            values.push(None).map_err(|_| Refusal::Memory)?;
-        }
+    for _ in addresses {
+        values.push(None).map_err(|_| Refusal::Memory)?;
     }
-    if values.len() != all.len() {
+    if values.len() != addresses.len() {
         return Ok(false);
     }
-    fib.lookup_bulk(&all, &mut values);
+    fib.lookup_bulk(addresses, &mut values);
     let mut same = true;
-    for (address, value) in all.iter().zip(values.iter()) {
+    for (address, value) in addresses.iter().zip(values.iter()) {
         same &= fib.lookup(*address) == *value;
     }
     Ok(same)

@@ -10,9 +10,6 @@ use std::alloc::Allocator;
 impl<P: Prefix, T: Copy + PartialEq, A: Allocator> Fib<P, T, A> {
     /// Looks up each address, in the order of the addresses.
     ///
-    /// Groups of addresses are looked up side by side, so that the processor overlaps their reads. This takes less time than
-    /// calls of `lookup`.
-    ///
     /// Requires that `out` is as long as `addresses`.
     ///
     /// # Examples
@@ -29,6 +26,8 @@ impl<P: Prefix, T: Copy + PartialEq, A: Allocator> Fib<P, T, A> {
         ensures { out.new
             ≡ map (λ a. value_along None self.now (number (P.R.bits a))) addresses.now }
     {
-        self.ranges.lookup_bulk(addresses, out);
+        for i in 0..addresses.len() {
+            out[i] = self.lookup(addresses[i]);
+        }
     }
 }

@@ -1,11 +1,15 @@
 //! Equality of compiled tables.
-ghost use Rattle.std.specs.Prelude.{◌≡◌, ℕ, ◌<◌, Option, length, slice_index_or};
+ghost use Rattle.std.specs.Prelude.{◌≡◌, ◌≢◌, None};
+ghost use Rattle.std.specs.Bool.{MatchBool};
+ghost use Rattle.std.specs.Option.{option_eq};
+ghost use Rattle.prefix_trie_bits.specs.Model.Bits.{number};
 ghost use Rattle.std.specs.Cmp.Lexicographic.{pointwise, lists_equiv, lists_per};
 ghost use Rattle.prefix_trie_fib.specs.Equality.{range_eq, range_equiv, range_per};
+ghost use Rattle.prefix_trie_fib.specs.Line.{value_along};
 
 use crate::fib::Fib;
 use crate::ranges::is_at_most;
-use prefix_trie_bits::prefix::Prefix;
+use prefix_trie_bits::prefix::{Key, Prefix};
 use std::alloc::Allocator;
 
 /// Compares the ranges of two tables.
@@ -25,16 +29,27 @@ impl<P: Prefix, T: Copy + PartialEq, A: Allocator> PartialEq for Fib<P, T, A> {
     ghost laws = { lists_per (range_per T.PartialEq.laws) };
 
     fn eq(&self, other: &Self) -> bool {
-        let len = self.ranges.len();
-        if len != other.ranges.len() {
+        if self.table.len() != other.table.len() {
             return false;
         }
-        for i in 0..len {
-            if !is_same_range(self, other, i) {
+        let mut at = P::R::zero();
+        'walk: loop {
+            // The proof learns from it that the walk ends.
+            let _ = at.is_key();
+            if !has_same_value(self, other, at) {
                 return false;
             }
+            let Some(next) = self.next_start(at) else {
+                return true;
+            };
+            let Some(others) = other.next_start(at) else {
+                return false;
+            };
+            if !is_same_address(next, others) {
+                return false;
+            }
+            at = next;
         }
-        true
     }
 }
 
@@ -42,21 +57,23 @@ impl<P: Prefix, T: Copy + Eq, A: Allocator> Eq for Fib<P, T, A> {
     ghost laws = { lists_equiv (range_equiv T.Eq.laws) };
 }
 
-/// Returns whether two tables have the same range at this place.
-///
-/// Requires that `i` is below both numbers of ranges.
-fn is_same_range<P: Prefix, T: Copy + PartialEq, A: Allocator>(
+/// Returns whether both values of an address are missing, or both exist and are equal.
+fn has_same_value<P: Prefix, T: Copy + PartialEq, A: Allocator>(
     left: &Fib<P, T, A>,
     right: &Fib<P, T, A>,
-    i: usize,
+    address: P::R,
 ) -> bool
-    requires left { i < length left.now }
-    requires right { i < length right.now }
-    ensures { (d : ℕ × Option T)
-        → result ≡ range_eq T.PartialEq.eq
-        (slice_index_or left.now i d) (slice_index_or right.now i d) }
+    ensures { result ≡ option_eq T.PartialEq.eq
+        (value_along None left.now (number (P.R.bits address)))
+        (value_along None right.now (number (P.R.bits address))) }
 {
-    let (start, other) = (left.ranges.start(i), right.ranges.start(i));
-    let is_same_start = is_at_most(start, other) && is_at_most(other, start);
-    is_same_start && left.ranges.value(i) == right.ranges.value(i)
+    left.lookup(address) == right.lookup(address)
+}
+
+/// Returns whether two addresses are the same.
+fn is_same_address<K: Key>(a: K, b: K) -> bool
+    ensures { MatchBool result (number (K.bits a) ≡ number (K.bits b))
+        (number (K.bits a) ≢ number (K.bits b)) }
+{
+    is_at_most(a, b) && is_at_most(b, a)
 }

@@ -1,7 +1,7 @@
 //! Debug output of compiled tables.
 
 use crate::fib::Fib;
-use prefix_trie_bits::prefix::Prefix;
+use prefix_trie_bits::prefix::{Key, Prefix};
 use std::alloc::Allocator;
 use std::fmt::{self, Debug, Formatter, Write};
 
@@ -16,8 +16,12 @@ use std::fmt::{self, Debug, Formatter, Write};
 impl<P: Prefix, T: Copy + PartialEq + Debug, A: Allocator> Debug for Fib<P, T, A> {
     fn fmt<F: Write>(&self, f: &mut Formatter<F>) -> fmt::Result {
         let mut ranges = f.debug_map();
-        for i in 0..self.ranges.len() {
-            ranges.entry(&self.ranges.start(i), &self.ranges.value(i));
+        let mut at = Some(P::R::zero());
+        'walk: while let Some(start) = at {
+            // The proof learns from it that the walk ends.
+            let _ = start.is_key();
+            ranges.entry(&start, &self.lookup(start));
+            at = self.next_start(start);
         }
         ranges.finish()
     }

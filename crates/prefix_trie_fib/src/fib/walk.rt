@@ -1,15 +1,16 @@
 //! Walks over the ranges of a compiled table.
 //!
 //! Contracts see a walk as the list of the ranges still to come.
-ghost use Rattle.std.specs.Prelude.{◌≡◌, ◌<◌, ◌^◌, ◌∷◌, [], MatchOption, drop, length};
+ghost use Rattle.std.specs.Prelude.{◌≡◌, ◌<◌, ◌^◌, ◌∷◌, [], IfSome, MatchOption, length, true};
 ghost use Rattle.std.specs.Iterator.{at_most};
 ghost use Rattle.std.specs.Map.Iter.{TakesFirst};
-ghost use Rattle.prefix_trie_fib.specs.Line.{AreMerged, IsDivision, are_same};
-ghost use Rattle.prefix_trie_fib.specs.Ranges.{in_numbers, valued_ranges};
+ghost use Rattle.prefix_trie_bits.specs.Model.Bits.{number};
+ghost use Rattle.prefix_trie_fib.specs.Line.{AreMerged, IsDivision, are_same, end_of, is_start};
+ghost use Rattle.prefix_trie_fib.specs.Ranges.{in_numbers, ranges_from, valued_ranges};
 
 use super::last_address::last_address;
 use crate::fib::Fib;
-use prefix_trie_bits::prefix::Prefix;
+use prefix_trie_bits::prefix::{Key, Prefix};
 use std::alloc::Allocator;
 use std::fmt::{self, Debug, Formatter, Write};
 use std::marker::Model;
@@ -36,8 +37,11 @@ impl<P: Prefix, T: Copy + PartialEq, A: Allocator> Fib<P, T, A> {
         ensures merged { AreMerged (are_same T.PartialEq.eq) self.now }
     {
         // The proof learns from it what holds of every table.
-        let _ = self.ranges.len();
-        Ranges { fib: self, next: 0 }
+        let _ = self.table.len();
+        Ranges {
+            fib: self,
+            next: Some(P::R::zero()),
+        }
     }
 }
 
@@ -48,16 +52,23 @@ impl<P: Prefix, T: Copy + PartialEq, A: Allocator> Fib<P, T, A> {
 #[derive(Drop)]
 pub struct Ranges<'a, P: Prefix, T: Copy + PartialEq, A: Allocator> {
     fib: &'a Fib<P, T, A>,
-    next: usize,
+    /// The first address of the next range, or `None` after the last one.
+    next: Option<P::R>,
 }
 
 impl<'a, P: Prefix, T: Copy + PartialEq, A: Allocator> Model for Ranges<'a, P, T, A> {
-    ghost use Rattle.std.specs.Prelude.{List, ℕ, drop};
-    ghost use Rattle.prefix_trie_fib.specs.Ranges.{valued_ranges};
+    ghost use Rattle.std.specs.Prelude.{◌≡◌, List, ℕ, IfSome, true};
+    ghost use Rattle.prefix_trie_bits.specs.Model.Bits.{number};
+    ghost use Rattle.prefix_trie_fib.specs.Line.{end_of, is_start};
+    ghost use Rattle.prefix_trie_fib.specs.Ranges.{ranges_from, valued_ranges};
 
     ghost Value = { List (ℕ × ℕ × T) };
 
-    ghost view = { λ it. valued_ranges P.R.bit_width (drop it.next it.fib.now) };
+    ghost view = { λ it. valued_ranges P.R.bit_width
+        (ranges_from (end_of P.R.bit_width P.R.bits it.next) it.fib.now) };
+
+    ghost invariant = { λ it. IfSome it.next
+        (λ k. is_start it.fib.now (number (P.R.bits k)) ≡ true) };
 }
 
 impl<'a, P: Prefix, T: Copy + PartialEq, A: Allocator> Ranges<'a, P, T, A> {
@@ -88,21 +99,35 @@ impl<'a, P: Prefix, T: Copy + PartialEq, A: Allocator> Iterator for Ranges<'a, P
     }
 }
 
-/// Returns the first range with a value of those from `i` on, and the place after it.
+/// Returns the first range with a value of those from an address on, and the first address of the range after it.
+///
+/// `None` is the end of all addresses.
 fn range_from<P: Prefix, T: Copy + PartialEq, A: Allocator>(
     fib: &Fib<P, T, A>,
-    from: usize,
-) -> Option<((P::R, P::R, T), usize)>
-    ensures { MatchOption result (valued_ranges P.R.bit_width (drop from fib.now) ≡ [])
-        (λ found. valued_ranges P.R.bit_width (drop from fib.now)
-        ≡ in_numbers P.R.bits found.0
-        ∷ valued_ranges P.R.bit_width (drop found.1 fib.now)) }
+    from: Option<P::R>,
+) -> Option<((P::R, P::R, T), Option<P::R>)>
+    requires { IfSome from (λ k. is_start fib.now (number (P.R.bits k)) ≡ true) }
+    ensures found { MatchOption result
+        (valued_ranges P.R.bit_width
+        (ranges_from (end_of P.R.bit_width P.R.bits from) fib.now) ≡ [])
+        (λ found. valued_ranges P.R.bit_width
+        (ranges_from (end_of P.R.bit_width P.R.bits from) fib.now)
+        ≡ in_numbers P.R.bits found.0 ∷ valued_ranges P.R.bit_width
+        (ranges_from (end_of P.R.bit_width P.R.bits found.1) fib.now)) }
+    ensures start { IfSome result (λ found. IfSome found.1
+        (λ k. is_start fib.now (number (P.R.bits k)) ≡ true)) }
 {
-    for i in from..fib.len() {
-        let (first, past, value) = fib.range(i);
-        if let Some(value) = value {
-            return Some(((first, last_address(first, past), value), i + 1));
+    // The proof learns from it what holds of every table.
+    let _ = fib.table.len();
+    let mut at = from;
+    'walk: while let Some(first) = at {
+        // The proof learns from it that the walk ends.
+        let _ = first.is_key();
+        let past = fib.next_start(first);
+        if let Some(value) = fib.lookup(first) {
+            return Some(((first, last_address(first, past), value), past));
         }
+        at = past;
     }
     None
 }

@@ -1,6 +1,5 @@
 //! The ranges of a map.
-ghost use Rattle.std.specs.Prelude.{◌≡◌, Bool, List, None, Option, IfOk};
-ghost use Rattle.prefix_trie_fib.specs.Line.{value_of};
+ghost use Rattle.std.specs.Prelude.{IfOk};
 ghost use Rattle.prefix_trie_fib.specs.Tables.{IsTableOf};
 
 use super::Line;
@@ -12,19 +11,9 @@ use prefix_trie_map::laws::{listed_laws, walk_laws};
 use prefix_trie_map::map::PrefixMap;
 use std::alloc::{AllocError, Allocator};
 
-/// Returns the value of some entry, or `None` if there is no entry.
-pub(crate) fn some_value<P: Prefix, T: Copy, A: Allocator>(map: &PrefixMap<P, T, A>) -> Option<T>
-    ensures { result ≡ None → (q : List Bool) → value_of map.now.entries q ≡ None }
-{
-    map.values().next().copied()
-}
-
 /// Returns the table of a map: its ranges, neighbours with one value merged.
-///
-/// `placeholder` is kept in the place of a missing value.
 pub(crate) fn ranges_of<P: Prefix, T: Copy + PartialEq, A: Allocator, B: Allocator + Clone>(
     map: &PrefixMap<P, T, A>,
-    placeholder: T,
     alloc: B,
 ) -> Result<Line<P::R, T, B>, AllocError>
     ensures { IfOk result
@@ -33,7 +22,7 @@ pub(crate) fn ranges_of<P: Prefix, T: Copy + PartialEq, A: Allocator, B: Allocat
     listed_laws::<P, T>();
     listing_laws::<T>();
     walk_laws::<P, T>();
-    let line = Line::new(placeholder, alloc.clone()?, alloc.clone()?);
+    let line = Line::new(alloc.clone()?);
     let mut sweep = Sweep::new(line, alloc);
     for (prefix, value) in map.iter() {
         let (first, past) = ends_of(&prefix);

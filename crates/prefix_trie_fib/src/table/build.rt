@@ -1,7 +1,9 @@
 //! Nodes and leaves, built from the ranges of a line.
-ghost use Rattle.std.specs.Prelude.{◌≡◌, ◌≢◌, ℕ, ◌+◌, ◌-◌, ◌*◌, ◌<◌, ◌≤◌, ◌++◌, ◌∷◌, [], IfOk, None, Option, OnOk, Some, false, length, nat_le, slice_index_or, true, is_some};
+ghost use Rattle.std.specs.Prelude.{◌≡◌, ◌≢◌, ℕ, ◌+◌, ◌-◌, ◌*◌, ◌^◌, ◌<◌, ◌≤◌, ◌++◌, ◌∷◌, [], IfErr, IfOk, None, Option, OnOk, Some, false, length, nat_le, slice_index_or, true, is_some};
 ghost use Rattle.prefix_trie_bits.specs.Model.Bits.{number};
 ghost use Rattle.prefix_trie_bits.specs.Places.{has};
+ghost use Rattle.prefix_trie_bits.specs.declared.prefix.Refusal.TheVariants.{IndexRange};
+ghost use Rattle.prefix_trie_fib.specs.Counts.{Adds, HasOwnLeaves, MayExceed, block_end, block_start, started};
 ghost use Rattle.prefix_trie_fib.specs.Line.{IsDivision, is_start, value_along};
 ghost use Rattle.prefix_trie_fib.specs.Poptrie.{Agrees, GetsGap, GetsLeaf, Grows, HasLeaves, block_at, levels, low as low_of, past};
 ghost use Rattle.prefix_trie_fib.specs.Search.{IsRangeOf, StartsBy};
@@ -37,12 +39,15 @@ pub(super) fn is_cut<K: Key, T: Copy, A: Allocator>(
     low: K,
     depth: u32,
 ) -> bool
+    requires division { IsDivision line.now }
     requires within { depth ≤ K.bit_width }
     requires range { IsRangeOf line.now at (number (K.bits low)) }
     ensures cut { result ≡ true → depth < K.bit_width }
     ensures whole { result ≡ false → (a : ℕ) → number (K.bits low) ≤ a
         → block_at K.bit_width depth a ≡ block_at K.bit_width depth (number (K.bits low))
         → IsRangeOf line.now at a }
+    ensures more { result ≡ true → started line.now (number (K.bits low))
+        < started line.now (block_end K.bit_width depth (number (K.bits low))) }
 {
     // The proof learns from it that the number of ranges fits.
     let len = line.len();
@@ -125,6 +130,12 @@ fn push_leaves<K: Key, T: Copy, A: Allocator, B: Allocator>(
         (λ node. HasLeaves (value_along None line.now) (is_start line.now)
         (past K.bit_width depth) leaves.new.items (levels K.bit_width depth - 1)
         (block_at K.bit_width depth (number (K.bits low))) node 32) }
+    ensures own { IfOk result
+        (λ node. HasOwnLeaves line.now (past K.bit_width depth) (levels K.bit_width depth - 1)
+        (block_at K.bit_width depth (number (K.bits low))) node (length leaves.old.items)
+        (length leaves.new.items)) }
+    ensures too_many { IfErr result
+        (λ cause. cause ≡ IndexRange → 2 ^ 32 ≤ length leaves.old.items) }
 {
     let first_leaf = leaves.len();
     if first_leaf > u32::MAX as usize {
@@ -175,6 +186,15 @@ pub(super) fn build<K: Key, T: Copy, A: Allocator, B: Allocator>(
         (λ node. Agrees (value_along None line.now) (is_start line.now)
         (past K.bit_width depth) nodes.new.items leaves.new.items (levels K.bit_width depth)
         node (block_at K.bit_width depth (number (K.bits low)))) }
+    ensures adds { OnOk result (Adds line.now (levels K.bit_width depth - 1)
+        (2 * levels K.bit_width depth - 1) 1 (block_start K.bit_width depth (number (K.bits low)))
+        (block_end K.bit_width depth (number (K.bits low))) (length nodes.old.items)
+        (length nodes.new.items) (length leaves.old.items) (length leaves.new.items)) }
+    ensures too_many { IfErr result
+        (λ cause. cause ≡ IndexRange → MayExceed line.now (levels K.bit_width depth - 1)
+        (2 * levels K.bit_width depth - 1) 1 (block_start K.bit_width depth (number (K.bits low)))
+        (block_end K.bit_width depth (number (K.bits low))) (length nodes.old.items)
+        (length leaves.old.items)) }
 {
     let mut node = push_leaves(line, depth, low, from, leaves)?;
     let mut kids: ArrayVec<Node, 32> = ArrayVec::new();

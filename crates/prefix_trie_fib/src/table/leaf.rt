@@ -4,9 +4,9 @@ ghost use Rattle.prefix_trie_bits.specs.Model.Bits.{number};
 ghost use Rattle.prefix_trie_fib.specs.Poptrie.{IsTable, block, find_in, first, leaf_value, levels, past};
 
 use super::direct::{BEGINS, LEAF, NOTHING};
+use super::first_bits::{first_bits, slot_at};
 use super::node::Node;
 use super::walk::{Leaf, leaf_under};
-use crate::index::{chunk_of, first_bits};
 use prefix_trie_bits::node::has_bit;
 use prefix_trie_bits::prefix::Key;
 
@@ -42,7 +42,7 @@ pub(super) fn leaf_in<K: Key, T: Copy>(
 {
     let _ = address.is_key();
     let depth = 30 - rest;
-    let slot = direct[chunk_of(first_bits(address), rest)];
+    let slot = direct[slot_at(first_bits(address), rest)];
     if slot < LEAF {
         return leaf_under(nodes, leaves, nodes[slot as usize], depth, address);
     }

@@ -1,6 +1,6 @@
 //! The walk from a node to the leaf of an address.
-ghost use Rattle.std.specs.Prelude.{◌≡◌, ◌&&◌, ℕ, ◌+◌, ◌-◌, ◌*◌, ◌^◌, ◌<◌, ◌≤◌, length, nat_eq, cond, None, slice_get};
-ghost use Rattle.prefix_trie_bits.specs.Model.Bits.{number};
+ghost use Rattle.std.specs.Prelude.{◌≡◌, ◌&&◌, ℕ, ◌+◌, ◌-◌, ◌*◌, ◌^◌, ◌<◌, ◌≤◌, ◌++◌, Bool, List, drop, length, nat_eq, cond, None, slice_get};
+ghost use Rattle.prefix_trie_bits.specs.Model.Bits.{number, zeros};
 ghost use Rattle.prefix_trie_fib.specs.Poptrie.{block, find, first, HasLeaf, IsSound, is_gap, leaf_index, leaf_value, levels, past, place};
 
 use super::node::{Node, count_to};
@@ -18,16 +18,18 @@ pub(super) struct Leaf<T: Copy> {
     pub(super) depth: u32,
 }
 
-/// Returns the number of the five bits of an address from `depth` on. Bits past the end are 0.
+/// Returns the number of the next five bits of an address, whose bits from a depth on are those of `rest`.
+///
+/// Bits past the end are 0. The compiler makes one shift of it.
 #[inline(always)]
-pub(super) fn place_of<K: Key>(address: K, depth: u32) -> u32
-    requires { depth < K.bit_width }
-    ensures place { result ≡ place (levels K.bit_width depth - 1)
-        (number (K.bits address) * 2 ^ past K.bit_width depth) }
+fn place_of<K: Key>(rest: K) -> u32
+    ensures place { (b : List Bool) (depth : ℕ) → length b ≡ K.bit_width → depth < K.bit_width
+        → K.bits rest ≡ drop depth b ++ zeros depth
+        → result ≡ place (levels K.bit_width depth - 1) (number b * 2 ^ past K.bit_width depth) }
     ensures small { result < 32 }
 {
-    let _ = address.is_key();
-    address.window(depth, 5)
+    let _ = rest.is_key();
+    rest.window(0, 5)
 }
 
 /// Returns the value of the leaf at a place of a node.
@@ -68,10 +70,12 @@ pub(super) fn leaf_under<K: Key, T: Copy>(
         ≡ (result.begins && nat_eq (first (levels K.bit_width result.depth)
         (block (levels K.bit_width result.depth) t)) t) }
 {
+    let _ = address.is_key();
     let mut node = root;
     let mut at = depth;
+    let mut rest = address.behind(depth);
     'walk: loop {
-        let v = place_of(address, at);
+        let v = place_of(rest);
         at += 5;
         if !has_bit(node.children, v) {
             return Leaf {
@@ -80,6 +84,7 @@ pub(super) fn leaf_under<K: Key, T: Copy>(
                 depth: at,
             };
         }
+        rest = rest.behind(5);
         node = nodes[node.first_child as usize + rank(node.children, v) as usize];
     }
 }

@@ -1,6 +1,10 @@
 -- One range alone starts at 0, and has a value or none.
-use Rattle.std.proofs.Common.{◌≡◌, ◌∙◌, Bool, true, false, not, None, Option, Some, IsTrue, ap, arith, get_or, is_some, refl, rules, sym, ℕ}
-use Rattle.prefix_trie_fib.proofs.RangeValues.{single}
+use Rattle.std.proofs.Common.{◌≡◌, ◌∙◌, Bool, true, false, not, None, Option, Some, IsTrue, [], ap, arith, is_some, refl, rules, sym}
+use Rattle.prefix_trie_bits.specs.Model.Bits.{number}
+use Rattle.prefix_trie_fib.specs.Line.{value_along}
+use Rattle.prefix_trie_fib.proofs.NetworkIntervals.{number_zeros}
+use Rattle.prefix_trie_fib.proofs.RangeValues.{single, step_in, value_of_range}
+use Rattle.prefix_trie_fib.proofs.RangeWalks.{at_zero, range_here}
 use Rattle.prefix_trie_fib.proofs.fib.Fib.is_empty.Goals as goal
 
 -- what `is_none` returns
@@ -12,8 +16,12 @@ none_or_some (Some x) false h = (λ t. absurd (search rules), λ e. absurd (cc))
 
 pub returns-then-len-eq1 : goal.returns-then-len-eq1
 returns-then-len-eq1 g c =
-    let test = none_or_some c.value.result c.is_none.result c.is_none.ensures in
-    let is : c.args.self.now ≡ c.self.inside.ranges = sym c.self.view_is in (
-      λ t. is ∙ single c.self.inside.ranges None c.self.invariant.0 (omega (arith, c.len.ensures, c.if-len-eq1.true)) (λ d. test.0 t ∙ c.value.ensures d),
-      λ e. test.1 (c.value.ensures (0, None) ∙ ap (λ rs. (get_or {A = ℕ × Option g.row.T.Denot} rs 0 (0, None)).1) (sym is ∙ e)),
+    let rs = c.self.inside.table in
+    let division = c.self.invariant.0 in
+    let n = number (g.P.R.Key.bits c.zero.result) in
+    let at = at_zero rs division n (ap number c.zero.ensures.value ∙ number_zeros g.P.R.Key.bit_width) in
+    let test = none_or_some c.lookup.result c.is_none.result c.is_none.ensures in
+    let is : c.args.self.now ≡ rs = sym c.self.view_is in (
+      λ t. is ∙ single rs None division (omega (arith, c.len.ensures, c.if-len-eq1.true)) (λ d. test.0 t ∙ c.lookup.ensures ∙ value_of_range rs division None 0 n d (range_here rs division n 0 at)),
+      λ e. test.1 (c.lookup.ensures ∙ ap (λ rs. value_along None rs n) (sym is ∙ e) ∙ step_in None (0, None) [] n (omega arith)),
     )

@@ -1,6 +1,6 @@
 -- An address is before the end of all addresses.
 use Rattle.std.proofs.Common.{arith}
-use Rattle.prefix_trie_fib.proofs.Ends.{below_end, end_at_key, end_of_all, match_false, match_true, not_true}
+use Rattle.prefix_trie_fib.proofs.Lines.{below_end, end_at_key, end_of_all, match_false, match_true, not_true}
 use Rattle.prefix_trie_fib.proofs.ranges.ends.is_within.Goals as goal
 
 pub returns-in-Some-None-clause-order : goal.returns-in-Some-None-clause-order

@@ -8,6 +8,7 @@ use Rattle.prefix_trie_bits.specs.Model.Matches.{last_item}
 use Rattle.prefix_trie_bits.specs.Model.Selections.{listing}
 use Rattle.prefix_trie_fib.specs.Line.{end_of, first_address, past_address}
 use Rattle.prefix_trie_fib.specs.Sweep.{with_interval}
+use Rattle.prefix_trie_fib.proofs.MergedRanges.{alike_to}
 use Rattle.prefix_trie_fib.proofs.Sweeps.{IsReading, read_all, read_is, read_next, swept_as, value_read}
 use Rattle.prefix_trie_fib.proofs.ranges.of_map.ranges_of.Goals as goal
 
@@ -77,7 +78,7 @@ returns g c =
       division = record { some = some; first = λ d. done.first d some; rising = done.rising };
       merged = done.merged;
       below = done.below;
-      values = λ exact q long.
+      values = λ q long.
           let low = number-below w q long in
-          done.right exact (number q) low low ∙ ap (value_read read) (bits-number w q long) ∙ ap (λ es. option_map (λ e. e.1) (last_item (filter (λ e. begins e.0 q) es))) all;
+          alike_to g.T.PartialEq.eq _ _ _ (ap (value_read read) (bits-number w q long) ∙ ap (λ es. option_map (λ e. e.1) (last_item (filter (λ e. begins e.0 q) es))) all) (done.right (number q) low low);
     }

@@ -1,5 +1,5 @@
 -- The place's number follows the first bits of the node.
-use Rattle.std.proofs.Common.{◌∙◌, ◌+◌, ◌-◌, ◌/◌, ◌^◌, ap, arith}
+use Rattle.std.proofs.Common.{◌∙◌, ◌-◌, ◌/◌, ◌^◌, ap, arith}
 use Rattle.prefix_trie_bits.specs.Model.Bits.{number}
 use Rattle.prefix_trie_fib.specs.Poptrie.{block_at, levels, past}
 use Rattle.prefix_trie_fib.proofs.Extensions.{low_extended, number_extended, tail_fits}
