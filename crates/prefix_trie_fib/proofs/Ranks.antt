@@ -2,11 +2,14 @@
 use Rattle.std.proofs.Common.{◌≡◌, ◌∙◌, ℕ, zero, suc, ◌+◌, ◌-◌, ◌*◌, ◌/◌, ◌%◌, ◌^◌, ◌<◌, ◌≤◌, Bool, true, false, cond, length, length-append, refl, sym, ap, ap₂, subst, arith, inl, inr, add-mul, mul_assoc, count_ones}
 use Rattle.std.proofs.Math.Pow.{pow-add, shl_lt, split}
 use Rattle.std.proofs.lemmas.Nat.{mod-mul-add, ones_cat, pow_pos, mod_below}
-use Rattle.std.proofs.lemmas.Bool.{cases_lt}
+use Rattle.std.specs.Int.{bit_at}
+use Rattle.std.specs.Prelude.{nat_le}
+use Rattle.std.proofs.lemmas.Bool.{cases_lt, eq-eqb, le-leb, lt-leb, ne_eqb}
 use Rattle.prefix_trie_bits.specs.Bitmaps.{bits_below, if_set, has_bit}
 unfoldable use Rattle.prefix_trie_bits.specs.Bitmaps.{rank}
 use Rattle.prefix_trie_bits.specs.Places.{has}
-use Rattle.prefix_trie_bits.proofs.Ranks.{has_bit-is, if_set-length, bit-of, ones-mod-suc}
+use Rattle.prefix_trie_bits.proofs.Prelude.{bit_at-lt}
+use Rattle.prefix_trie_bits.proofs.Ranks.{mod-suc, has_bit-is, if_set-length, bit-of, ones-mod-suc}
 
 -- the rank behind a bit
 pub rank_step : (m b : ℕ) → b < 32 → rank m (suc b) ≡ rank m b + cond (has m b) 1 0
@@ -61,6 +64,20 @@ rank_ones m (suc b) le =
     rank_step m b (omega (arith, le))
     ∙ ap₂ (λ x y. x + y) (rank_ones m b (omega (arith, le))) (bit-of m b)
     ∙ omega (arith, ones-mod-suc m b)
+
+-- the top bit of it is the bit below those
+pub top_is : (m k : ℕ) → k < 32 → nat_le 2147483648 (m * 2 ^ (31 - k) % 4294967296) ≡ has m k
+top_is m k lt =
+    let word : 2 ^ k * 2 ^ (31 - k) ≡ 2147483648 = sym (pow-add 2 k (31 - k)) ∙ ap (λ n. 2 ^ n) (let e : k + (31 - k) ≡ 31 = omega (arith, lt) in e) in
+    let parts : m * 2 ^ (31 - k) % 4294967296 ≡ bit_at m k * 2147483648 + m % 2 ^ k * 2 ^ (31 - k) =
+    top_bits m (suc k) (31 - k) (omega (arith, lt)) ∙ ap (λ x. x * 2 ^ (31 - k)) (mod-suc m k) ∙ add-mul (bit_at m k * 2 ^ k) (m % 2 ^ k) (2 ^ (31 - k))
+    ∙ ap (λ x. x + m % 2 ^ k * 2 ^ (31 - k)) (mul_assoc (bit_at m k) (2 ^ k) (2 ^ (31 - k)) ∙ ap (λ x. bit_at m k * x) word) in
+    let rest : m % 2 ^ k * 2 ^ (31 - k) < 2147483648 =
+    subst (λ n. m % 2 ^ k * 2 ^ (31 - k) < 2 ^ n) (let e : k + (31 - k) ≡ 31 = omega (arith, lt) in e) (shl_lt k (31 - k) (mod_below m (2 ^ k) (pow_pos k))) in
+    elim (cases_lt (bit_at m k) 1) [
+      | inl none ↦ lt-leb 2147483648 (m * 2 ^ (31 - k) % 4294967296) (omega (arith, parts, rest, none)) ∙ sym (ne_eqb (bit_at m k) 1 (λ e. absurd (omega (arith, e, none))))
+      | inr some ↦ (let two = bit_at-lt m k in let one : bit_at m k ≡ 1 = omega (arith, some, two) in le-leb 2147483648 (m * 2 ^ (31 - k) % 4294967296) (omega (arith, parts, one)) ∙ sym (eq-eqb (bit_at m k) 1 one))
+    ]
 
 pub count_to_is : (m k : ℕ) → k < 32 → count_ones (m * 2 ^ (31 - k) % 4294967296) ≡ rank m (suc k)
 count_to_is m k lt =

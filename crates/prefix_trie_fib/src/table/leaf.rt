@@ -44,7 +44,7 @@ pub(super) fn leaf_in<K: Key, T: Copy>(
     let depth = 30 - rest;
     let slot = direct[slot_at(first_bits(address), rest)];
     if slot < LEAF {
-        return leaf_under(nodes, leaves, nodes[slot as usize], depth, address);
+        return leaf_under(nodes, leaves, slot as usize, depth, address);
     }
     let value = if slot == NOTHING {
         None

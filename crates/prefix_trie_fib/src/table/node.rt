@@ -1,6 +1,7 @@
 //! A node of a compiled table.
 ghost use Rattle.std.specs.Prelude.{◌≡◌, ◌<◌, suc};
 ghost use Rattle.prefix_trie_bits.specs.Bitmaps.{rank as rank_of};
+ghost use Rattle.prefix_trie_bits.specs.Places.{has};
 ghost use Rattle.prefix_trie_fib.specs.Poptrie.{is_begun, is_gap};
 
 use prefix_trie_bits::node::has_bit;
@@ -29,7 +30,7 @@ impl Node {
         requires { v < 32 }
         ensures { result ≡ is_gap self v }
     {
-        has_bit(self.gaps, v) && !has_bit(self.starts, v)
+        is_top(self.gaps, v) && !is_top(self.starts, v)
     }
 
     /// Returns whether a range that has a value starts with the first address of a place.
@@ -40,6 +41,16 @@ impl Node {
     {
         has_bit(self.gaps, v) && has_bit(self.starts, v)
     }
+}
+
+/// Returns whether a bit is set, which it shifts to the top as `count_to` does.
+#[inline(always)]
+#[tactic(auto, using(crate::proofs::Ranks::top_is))]
+fn is_top(bitmap: u32, k: u32) -> bool
+    requires { k < 32 }
+    ensures { result ≡ has bitmap k }
+{
+    bitmap << (31 - k) >= 0x8000_0000
 }
 
 /// Returns how many of the bits up to and with bit `k` are set.

@@ -1,7 +1,7 @@
 //! The walk from a node to the leaf of an address.
 ghost use Rattle.std.specs.Prelude.{◌≡◌, ◌&&◌, ℕ, ◌+◌, ◌-◌, ◌*◌, ◌^◌, ◌<◌, ◌≤◌, ◌++◌, Bool, List, drop, length, nat_eq, cond, None, slice_get};
 ghost use Rattle.prefix_trie_bits.specs.Model.Bits.{number, zeros};
-ghost use Rattle.prefix_trie_fib.specs.Poptrie.{block, find, first, HasLeaf, IsSound, is_gap, leaf_index, leaf_value, levels, past, place};
+ghost use Rattle.prefix_trie_fib.specs.Poptrie.{block, find, first, HasLeaf, IsSound, is_gap, leaf_index, leaf_value, levels, node_at, past, place};
 
 use super::node::{Node, count_to};
 use prefix_trie_bits::node::{has_bit, rank};
@@ -45,36 +45,43 @@ fn value_at<T: Copy>(leaves: &[T], node: Node, v: u32) -> Option<T>
     Some(leaves[node.first_leaf as usize + count_to(node.starts, v) as usize - 1])
 }
 
-/// Returns the leaf of an address, from a node on whose places are read at a depth.
+/// Returns the leaf of an address, from the node at index `root` on, whose places are read at a depth.
 #[inline(always)]
 pub(super) fn leaf_under<K: Key, T: Copy>(
     nodes: &[Node],
     leaves: &[T],
-    root: Node,
+    root: usize,
     depth: u32,
     address: K,
 ) -> Leaf<T>
-    requires sound { IsSound nodes.now (length leaves.now) (levels K.bit_width depth) root }
+    requires inside { root < length nodes.now }
+    requires few { depth < 32 }
+    requires sound { IsSound nodes.now (length leaves.now) (levels K.bit_width depth)
+        (node_at nodes.now root) }
     ensures down { depth ≤ result.depth }
     ensures aligned { result.depth + 5 * levels K.bit_width result.depth
         ≡ K.bit_width + past K.bit_width depth }
     ensures value { (t : ℕ)
         → block (levels K.bit_width result.depth) t ≡ block (levels K.bit_width result.depth)
         (number (K.bits address) * 2 ^ past K.bit_width depth)
-        → leaf_value leaves.now (find nodes.now (levels K.bit_width depth) root t).0
+        → leaf_value leaves.now (find nodes.now (levels K.bit_width depth)
+        (node_at nodes.now root) t).0
         ≡ result.value }
     ensures begins { (t : ℕ)
         → block (levels K.bit_width result.depth) t ≡ block (levels K.bit_width result.depth)
         (number (K.bits address) * 2 ^ past K.bit_width depth)
-        → (find nodes.now (levels K.bit_width depth) root t).1
+        → (find nodes.now (levels K.bit_width depth)
+        (node_at nodes.now root) t).1
         ≡ (result.begins && nat_eq (first (levels K.bit_width result.depth)
         (block (levels K.bit_width result.depth) t)) t) }
 {
     let _ = address.is_key();
-    let mut node = root;
+    let mut i = root;
     let mut at = depth;
-    let mut rest = address.behind(depth);
+    // The compiler knows by the remainder that the shift is short.
+    let mut rest = address.behind(depth % 32);
     'walk: loop {
+        let node = nodes[i];
         let v = place_of(rest);
         at += 5;
         if !has_bit(node.children, v) {
@@ -85,6 +92,6 @@ pub(super) fn leaf_under<K: Key, T: Copy>(
             };
         }
         rest = rest.behind(5);
-        node = nodes[node.first_child as usize + rank(node.children, v) as usize];
+        i = node.first_child as usize + rank(node.children, v) as usize;
     }
 }

@@ -30,11 +30,11 @@ offset_bounds-direct-slot_at g c =
     let below = slot_below b g.K.Key.bit_width bits len within in
     let most = pow_mono {i = bits} {j = 30} (omega arith) in omega (arith, at, below, most)
 
-pub bounds-nodes-slot : goal.bounds-nodes-slot
-bounds-nodes-slot g c = ((c.requires.table.2 c.slot_at.result (slot_inside (g.K.Key.bits c.args.address) g.K.Key.bit_width (30 - c.args.rest) (g.met.K.Key.key_laws.bits_length c.args.address c.is_key.ensures.key) c.requires.within c.args.direct.now c.slot_at.result c.requires.long (c.slot_at.ensures (g.K.Key.bits c.args.address) c.first_bits.ensures (let len = g.met.K.Key.key_laws.bits_length c.args.address c.is_key.ensures.key in let within = c.requires.within in omega (arith, len, within))))).node c.if-slot-lt-LEAF.true).0
+pub leaf_under-requires-clause-inside : goal.leaf_under-requires-clause-inside
+leaf_under-requires-clause-inside g c = ((c.requires.table.2 c.slot_at.result (slot_inside (g.K.Key.bits c.args.address) g.K.Key.bit_width (30 - c.args.rest) (g.met.K.Key.key_laws.bits_length c.args.address c.is_key.ensures.key) c.requires.within c.args.direct.now c.slot_at.result c.requires.long (c.slot_at.ensures (g.K.Key.bits c.args.address) c.first_bits.ensures (let len = g.met.K.Key.key_laws.bits_length c.args.address c.is_key.ensures.key in let within = c.requires.within in omega (arith, len, within))))).node c.if-slot-lt-LEAF.true).0
 
-pub leaf_under-requires : goal.leaf_under-requires
-leaf_under-requires g c = record { sound = ((c.requires.table.2 c.slot_at.result (slot_inside (g.K.Key.bits c.args.address) g.K.Key.bit_width (30 - c.args.rest) (g.met.K.Key.key_laws.bits_length c.args.address c.is_key.ensures.key) c.requires.within c.args.direct.now c.slot_at.result c.requires.long (c.slot_at.ensures (g.K.Key.bits c.args.address) c.first_bits.ensures (let len = g.met.K.Key.key_laws.bits_length c.args.address c.is_key.ensures.key in let within = c.requires.within in omega (arith, len, within))))).node c.if-slot-lt-LEAF.true).1 }
+pub leaf_under-requires-clause-sound : goal.leaf_under-requires-clause-sound
+leaf_under-requires-clause-sound g c = ((c.requires.table.2 c.slot_at.result (slot_inside (g.K.Key.bits c.args.address) g.K.Key.bit_width (30 - c.args.rest) (g.met.K.Key.key_laws.bits_length c.args.address c.is_key.ensures.key) c.requires.within c.args.direct.now c.slot_at.result c.requires.long (c.slot_at.ensures (g.K.Key.bits c.args.address) c.first_bits.ensures (let len = g.met.K.Key.key_laws.bits_length c.args.address c.is_key.ensures.key in let within = c.requires.within in omega (arith, len, within))))).node c.if-slot-lt-LEAF.true).1
 
 pub returns-then-slot-lt-LEAF-clause-value : goal.returns-then-slot-lt-LEAF-clause-value
 returns-then-slot-lt-LEAF-clause-value g c = λ t e.
