@@ -1,5 +1,5 @@
 -- Steps of a walk from a node to a child or a leaf.
-use Rattle.std.proofs.Common.{◌≡◌, ◌∙◌, ℕ, zero, suc, ◌+◌, ◌*◌, ◌/◌, ◌%◌, ◌<◌, ◌≤◌, Bool, true, false, cond, List, length, None, Some, refl, sym, ap, subst, arith}
+use Rattle.std.proofs.Common.{◌≡◌, ◌∙◌, ℕ, zero, suc, ◌+◌, ◌-◌, ◌*◌, ◌/◌, ◌%◌, ◌^◌, ◌<◌, ◌≤◌, Bool, true, false, cond, List, length, None, Some, refl, sym, ap, subst, arith}
 use Rattle.std.specs.Prelude.{slice_get}
 use Rattle.std.specs.Bool.{MatchBool}
 use Rattle.prefix_trie_bits.specs.Places.{has}
@@ -86,3 +86,11 @@ module _ (nodes : List Node) (count w depth : ℕ) (root : Node) (a : ℕ) where
             aligned = omega (arith, e, more);
             same = λ t e. ap (λ m. find nodes (levels w (at + 5)) m t) is_node ∙ sym (child_found nodes (levels w at) (levels w (at + 5)) node v t below (here t e) h) ∙ p.same t (above t e);
           }
+
+-- the place that is read for an address at the depth of a node
+pub place_read : (nodes : List Node) (count w depth : ℕ) (root : Node) (n : ℕ) (node : Node) (at v : ℕ) → IsWalking nodes count w depth root (n * 2 ^ past w depth) node at
+    → v ≡ place (levels w at - 1) (n * 2 ^ past w at) → v ≡ place (levels w (at + 5)) (n * 2 ^ past w depth)
+place_read nodes count w depth root n node at v p is =
+    let b = below nodes count w depth root (n * 2 ^ past w depth) node at v p in
+    is ∙ ap (λ k. place k (n * 2 ^ past w at)) (let l : levels w at - 1 ≡ levels w (at + 5) = omega (arith, b) in l)
+    ∙ ap (λ k. place (levels w (at + 5)) (n * 2 ^ k)) (same_past nodes count w depth root (n * 2 ^ past w depth) node at v p)

@@ -21,6 +21,8 @@ pub(super) fn next_in<K: Key, T: Copy>(
     requires rest { rest ≤ 30 }
     requires within { 30 - rest ≤ K.bit_width }
     requires long { length direct.now ≡ 2 ^ (30 - rest) }
+    requires few_nodes { length nodes.now < 2 ^ 32 }
+    requires few_leaves { length leaves.now < 2 ^ 32 }
     requires table { (value : ℕ → Option T) × (starts : ℕ → Bool)
         × IsTable value starts (past K.bit_width (30 - rest)) direct.now nodes.now leaves.now
         (levels K.bit_width (30 - rest)) }

@@ -13,14 +13,15 @@ use prefix_trie_bits::node::has_bit;
 pub(super) struct Node {
     /// Bit v is set if place v has a child.
     pub(super) children: u32,
+    /// The index of the first child.
+    // It is next to `children`: a step to a child reads no more than these two.
+    pub(super) first_child: u32,
     /// Bit v is set if the leaf at place v has a value of its own. Otherwise it has that of the last such place.
     pub(super) starts: u32,
     /// Bit v is set if the leaf at place v has no value, or if its bit in `starts` is set and a range starts with it.
     pub(super) gaps: u32,
     /// The index of the first leaf's value.
     pub(super) first_leaf: u32,
-    /// The index of the first child.
-    pub(super) first_child: u32,
 }
 
 impl Node {
@@ -30,7 +31,7 @@ impl Node {
         requires { v < 32 }
         ensures { result ≡ is_gap self v }
     {
-        is_top(self.gaps, v) && !is_top(self.starts, v)
+        !is_top(self.starts, v) && is_top(self.gaps, v)
     }
 
     /// Returns whether a range that has a value starts with the first address of a place.
@@ -46,7 +47,7 @@ impl Node {
 /// Returns whether a bit is set, which it shifts to the top as `count_to` does.
 #[inline(always)]
 #[tactic(auto, using(crate::proofs::Ranks::top_is))]
-fn is_top(bitmap: u32, k: u32) -> bool
+pub(super) fn is_top(bitmap: u32, k: u32) -> bool
     requires { k < 32 }
     ensures { result ≡ has bitmap k }
 {

@@ -3,8 +3,7 @@ ghost use Rattle.std.specs.Prelude.{◌≡◌, ◌&&◌, ℕ, ◌+◌, ◌-◌, 
 ghost use Rattle.prefix_trie_bits.specs.Model.Bits.{number, zeros};
 ghost use Rattle.prefix_trie_fib.specs.Poptrie.{block, find, first, HasLeaf, IsSound, is_gap, leaf_index, leaf_value, levels, node_at, past, place};
 
-use super::node::{Node, count_to};
-use prefix_trie_bits::node::{has_bit, rank};
+use super::node::{Node, count_to, is_top};
 use prefix_trie_bits::prefix::Key;
 
 /// The leaf of an address.
@@ -36,13 +35,14 @@ fn place_of<K: Key>(rest: K) -> u32
 #[inline(always)]
 fn value_at<T: Copy>(leaves: &[T], node: Node, v: u32) -> Option<T>
     requires small { v < 32 }
+    requires few { length leaves.now < 2 ^ 32 }
     requires within { HasLeaf (length leaves.now) node v }
     ensures { result ≡ cond (is_gap node v) None (slice_get leaves.now (leaf_index node v)) }
 {
     if node.is_gap(v) {
         return None;
     }
-    Some(leaves[node.first_leaf as usize + count_to(node.starts, v) as usize - 1])
+    Some(leaves[(node.first_leaf + count_to(node.starts, v) - 1) as usize])
 }
 
 /// Returns the leaf of an address, from the node at index `root` on, whose places are read at a depth.
@@ -56,6 +56,8 @@ pub(super) fn leaf_under<K: Key, T: Copy>(
 ) -> Leaf<T>
     requires inside { root < length nodes.now }
     requires few { depth < 32 }
+    requires few_nodes { length nodes.now < 2 ^ 32 }
+    requires few_leaves { length leaves.now < 2 ^ 32 }
     requires sound { IsSound nodes.now (length leaves.now) (levels K.bit_width depth)
         (node_at nodes.now root) }
     ensures down { depth ≤ result.depth }
@@ -76,22 +78,25 @@ pub(super) fn leaf_under<K: Key, T: Copy>(
         (block (levels K.bit_width result.depth) t)) t) }
 {
     let _ = address.is_key();
+    // The compiler knows by the remainder that the shifts are short.
+    let read = depth % 32;
+    let first = address.behind(read);
+    let mut v = place_of(first);
+    let mut rest = address.behind((read + 5).min(K::width()));
     let mut i = root;
     let mut at = depth;
-    // The compiler knows by the remainder that the shift is short.
-    let mut rest = address.behind(depth % 32);
     'walk: loop {
         let node = nodes[i];
-        let v = place_of(rest);
-        at += 5;
-        if !has_bit(node.children, v) {
+        if !is_top(node.children, v) {
             return Leaf {
                 value: value_at(leaves, node, v),
                 begins: node.is_begun(v),
-                depth: at,
+                depth: at + 5,
             };
         }
+        i = (node.first_child + count_to(node.children, v) - 1) as usize;
+        at += 5;
+        v = place_of(rest);
         rest = rest.behind(5);
-        i = node.first_child as usize + rank(node.children, v) as usize;
     }
 }
