@@ -1,5 +1,5 @@
 -- A node and what is below it add few nodes and leaves for each range that starts in its block, and a leaf for each that has a value.
-use Rattle.std.proofs.Common.{◌≡◌, ◌≢◌, ◌∙◌, ℕ, suc, ◌+◌, ◌-◌, ◌*◌, ◌/◌, ◌^◌, ◌<◌, ◌≤◌, Bool, true, false, cond, List, [], ◌∷◌, ◌++◌, length, length-append, Option, None, Some, is_some, refl, sym, ap, ap₂, subst, arith, inl, inr, pow_pos}
+use Rattle.std.proofs.Common.{◌≡◌, ◌≢◌, ◌∙◌, ℕ, zero, suc, ◌+◌, ◌-◌, ◌*◌, ◌/◌, ◌^◌, ◌<◌, ◌≤◌, Bool, true, false, cond, List, [], ◌∷◌, ◌++◌, length, length-append, Option, None, Some, is_some, refl, sym, ap, ap₂, subst, arith, inl, inr, pow_pos}
 use Rattle.std.specs.Prelude.{◌&&◌, nat_eq}
 use Rattle.std.proofs.Math.Nat.{add-mul, div-eq_of_lt-le, div-lt_iff_lt-mul, mul-le-mul_left}
 use Rattle.std.proofs.lemmas.Bool.{cases_eq, cases_lt, eqb-true, true≢false}
@@ -9,7 +9,7 @@ use Rattle.prefix_trie_fib.specs.declared.table.node.Node.{Node}
 use Rattle.prefix_trie_fib.specs.Counts.{Adds, HasOwnLeaves, MayExceed, block_end, block_start, started, valued}
 use Rattle.prefix_trie_fib.specs.Line.{IsDivision, is_start, value_along}
 unfoldable use Rattle.prefix_trie_fib.specs.Poptrie.{block, first}
-use Rattle.prefix_trie_fib.specs.Poptrie.{GetsGap, GetsLeaf, IsLeaf, block_at, is_begun, levels, low, past}
+use Rattle.prefix_trie_fib.specs.Poptrie.{GetsGaps, GetsLeaf, IsLeaf, block_at, is_begun, levels, low, past}
 use Rattle.prefix_trie_fib.specs.Search.{IsRangeOf}
 use Rattle.prefix_trie_fib.proofs.Building.{block_is}
 use Rattle.prefix_trie_fib.proofs.Counts.{and_both, count_few, started_is, started_most}
@@ -114,16 +114,17 @@ module _ {T : Type 0} (line : List (ℕ × Option T)) where
       by = λ lt. (let b = h.by lt in let m = on v in omega (arith, b, m));
     }
 
-    pub counting_leaf : (node node' : Node) (old leaves leaves' v last at : ℕ) → IsCounting p n q node old leaves v last → IsDivision line → IsRangeOf line at (low p n (32 * q + v)) → has node.children v ≡ false
-        → node'.children ≡ node.children → node'.first_leaf ≡ node.first_leaf → leaves' ≤ leaves + 1 → (at ≡ last → leaves' ≤ leaves) → IsCounting p n q node' old leaves' (v + 1) at
-    counting_leaf node node' old leaves leaves' v last at h division range clear children same one kept =
+    pub counting_leaf : (node node' : Node) (old leaves leaves' v w last at : ℕ) → IsCounting p n q node old leaves v last → IsDivision line → IsRangeOf line at (low p n (32 * q + v)) → v ≤ w
+        → ((u : ℕ) → v ≤ u → has node.children u ≡ false)
+        → node'.children ≡ node.children → node'.first_leaf ≡ node.first_leaf → leaves' ≤ leaves + 1 → (at ≡ last → leaves' ≤ leaves) → IsCounting p n q node' old leaves' w at
+    counting_leaf node node' old leaves leaves' v w last at h division range on_to clear children same one kept =
         let here = started_is line division at (low p n (32 * q + v)) range in
-        let m = on v in
+        let m = started_most line (low p n (32 * q + v)) (low p n (32 * q + w)) (low_most p n (32 * q + v) (32 * q + w) (omega (arith, on_to))) in
         let inside = range.starts.inside in record {
           first = same ∙ h.first;
           cut = λ u lt set. elim (cases_lt u v) [
             | inl less ↦ h.cut u less (ap (λ c. has c u) (sym children) ∙ set)
-            | inr le ↦ absurd (true≢false (sym set ∙ ap (λ c. has c u) children ∙ ap (has node.children) (let e : u ≡ v = omega (arith, lt, le) in e) ∙ clear))
+            | inr le ↦ absurd (true≢false (sym set ∙ ap (λ c. has c u) children ∙ clear u le))
           ];
           none = λ le. absurd (omega (arith, le, inside));
           few = λ lt. elim (cases_lt last (length line)) [
@@ -142,11 +143,12 @@ module _ {T : Type 0} (line : List (ℕ × Option T)) where
           by = λ lt. omega (arith, here, m);
         }
 
-    pub counting_moved : (node node' : Node) (old leaves leaves' v last last' : ℕ) → node' ≡ node → leaves' ≡ leaves → last' ≡ last → IsCounting p n q node old leaves v last → IsCounting p n q node' old leaves' v last'
-    counting_moved node node' old leaves leaves' v last last' en el e h =
-        subst (λ x. IsCounting p n q x old leaves' v last') (sym en)
-        (subst (λ x. IsCounting p n q node old x v last') (sym el)
-        (subst (λ x. IsCounting p n q node old leaves v x) (sym e) h))
+    pub counting_moved : (node node' : Node) (old leaves leaves' v v' last last' : ℕ) → node' ≡ node → leaves' ≡ leaves → v' ≡ v → last' ≡ last → IsCounting p n q node old leaves v last → IsCounting p n q node' old leaves' v' last'
+    counting_moved node node' old leaves leaves' v v' last last' en el ev e h =
+        subst (λ x. IsCounting p n q x old leaves' v' last') (sym en)
+        (subst (λ x. IsCounting p n q node old x v' last') (sym el)
+        (subst (λ x. IsCounting p n q node old leaves x last') (sym ev)
+        (subst (λ x. IsCounting p n q node old leaves v x) (sym e) h)))
 
     pub counting_done : (node : Node) (old leaves v last : ℕ) → IsCounting p n q node old leaves v last → v ≡ 32 → leaves ≡ node.first_leaf + rank node.starts v → HasOwnLeaves line p n q node old leaves
     counting_done node old leaves v last h end count = record {
@@ -185,17 +187,10 @@ module _ {T : Type 0} (line : List (ℕ × Option T)) where
       leaves_some = omega arith;
     }
 
-    pub adding_moved : (nodes nodes' kids kids' pushed leaves leaves' v : ℕ) → nodes' ≡ nodes → kids' ≡ kids → leaves' ≡ leaves
-        → IsAdding p n q starts old_nodes nodes kids pushed leaves v → IsAdding p n q starts old_nodes nodes' kids' pushed leaves' v
-    adding_moved nodes nodes' kids kids' pushed leaves leaves' v en ek el h =
-        subst (λ x. IsAdding p n q starts old_nodes x kids' pushed leaves' v) (sym en)
-        (subst (λ x. IsAdding p n q starts old_nodes nodes x pushed leaves' v) (sym ek)
-        (subst (λ x. IsAdding p n q starts old_nodes nodes kids pushed x v) (sym el) h))
-
     rank_on : (v : ℕ) → v < 32 → rank starts (v + 1) ≡ rank starts v + cond (has starts v) 1 0
     rank_on v lt = ap (rank starts) (let e : v + 1 ≡ suc v = omega arith in e) ∙ rank_step starts v lt
 
-    pub adding_skip : (nodes kids pushed leaves v : ℕ) (values : List T) (node : Node) → IsAdding p n q starts old_nodes nodes kids pushed leaves v → v < 32 → node.starts ≡ starts
+    adding_skip : (nodes kids pushed leaves v : ℕ) (values : List T) (node : Node) → IsAdding p n q starts old_nodes nodes kids pushed leaves v → v < 32 → node.starts ≡ starts
         → IsLeaf (value_along None line) (is_start line) p values n q node v → IsAdding p n q starts old_nodes nodes kids pushed leaves (v + 1)
     adding_skip nodes kids pushed leaves v values node h lt same leaf =
         let m = on p n q v in
@@ -209,6 +204,16 @@ module _ {T : Type 0} (line : List (ℕ × Option T)) where
         let at = leaf_valued p n q values node v leaf in
         let next : valued line (up p n (32 * q + (v + 1))) ≡ valued line (up p n (32 * q + v + 1)) = ap (λ k. valued line (up p n k)) (let e : 32 * q + (v + 1) ≡ 32 * q + v + 1 = omega arith in e) in
         record { nodes_few = omega (arith, nf, one); leaves_few = omega (arith, lf, two); leaves_some = omega (arith, ls, r, bit, at, next) }
+
+    -- places that are leaves
+    pub adding_run : (nodes kids pushed leaves v w : ℕ) (values : List T) (node : Node) → IsAdding p n q starts old_nodes nodes kids pushed leaves v → v ≤ w → w ≤ 32 → node.starts ≡ starts
+        → ((u : ℕ) → v ≤ u → u < w → IsLeaf (value_along None line) (is_start line) p values n q node u) → IsAdding p n q starts old_nodes nodes kids pushed leaves w
+    adding_run nodes kids pushed leaves v zero values node h le most same leaf = subst (λ k. IsAdding p n q starts old_nodes nodes kids pushed leaves k) (let e : v ≡ 0 = omega (arith, le) in e) h
+    adding_run nodes kids pushed leaves v (suc w) values node h le most same leaf = elim (cases_lt w v) [
+      | inl end ↦ subst (λ k. IsAdding p n q starts old_nodes nodes kids pushed leaves k) (let e : v ≡ suc w = omega (arith, le, end) in e) h
+      | inr more ↦ subst (λ k. IsAdding p n q starts old_nodes nodes kids pushed leaves k) (let e : w + 1 ≡ suc w = omega arith in e)
+          (adding_skip nodes kids pushed leaves w values node (adding_run nodes kids pushed leaves v w values node h more (omega (arith, most)) same (λ u from lt. leaf u from (omega (arith, lt)))) (omega (arith, most)) same (leaf w more (omega arith)))
+    ]
 
     -- a child of at least one level, whose addresses are those from lo on and before hi
     module _ (nodes kids pushed leaves v lo hi : ℕ) (h : IsAdding p n q starts old_nodes nodes kids pushed leaves v) (lt : v < 32) (some : 0 < n)
@@ -363,14 +368,14 @@ module _ (w d : ℕ) (some : 0 < levels w d - 1) (x q v : ℕ) (is : x ≡ low (
 
 -- ---- what `with_leaf` adds
 
-pub leaf_amounts : {T : Type 0} → (value : Option T) (at last v : ℕ) (begins : Bool) (leaves leaves' : List T) (node node' : Node)
-    → (value ≡ None → leaves' ≡ leaves) → (value ≡ None → GetsGap v node node') → (is_some value ≡ true → at ≡ last → leaves' ≡ leaves) → (is_some value ≡ true → at ≡ last → node' ≡ node)
+pub leaf_amounts : {T : Type 0} → (value : Option T) (at last v next : ℕ) (begins : Bool) (leaves leaves' : List T) (node node' : Node)
+    → (value ≡ None → leaves' ≡ leaves) → (value ≡ None → GetsGaps v next node node') → (is_some value ≡ true → at ≡ last → leaves' ≡ leaves) → (is_some value ≡ true → at ≡ last → node' ≡ node)
     → ((x : T) → value ≡ Some x → at ≢ last → leaves' ≡ leaves ++ x ∷ []) → (is_some value ≡ true → at ≢ last → GetsLeaf v begins node node')
     → (node'.children ≡ node.children) × (node'.first_leaf ≡ node.first_leaf) × (length leaves' ≤ length leaves + 1) × (at ≡ last → length leaves' ≤ length leaves)
-leaf_amounts None at last v begins leaves leaves' node node' gap gap_node same same_node more more_node =
+leaf_amounts None at last v next begins leaves leaves' node node' gap gap_node same same_node more more_node =
     let e = ap length (gap refl) in
     let n = gap_node refl in (n.children, n.first_leaf, omega (arith, e), λ _. omega (arith, e))
-leaf_amounts (Some x) at last v begins leaves leaves' node node' gap gap_node same same_node more more_node = elim (cases_eq at last) [
+leaf_amounts (Some x) at last v next begins leaves leaves' node node' gap gap_node same same_node more more_node = elim (cases_eq at last) [
   | inl is ↦ (let e = ap length (same refl is) in let n = same_node refl is in (ap (λ k. k.children) n, ap (λ k. k.first_leaf) n, omega (arith, e), λ _. omega (arith, e)))
   | inr other ↦ (let e = ap length (more x refl other) ∙ length-append leaves (x ∷ []) in let n = more_node refl other in (n.children, n.first_leaf, omega (arith, e), λ is. absurd (other is)))
 ]

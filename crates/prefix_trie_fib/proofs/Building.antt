@@ -1,17 +1,19 @@
 -- A node made of right leaves and right children is right.
 use Rattle.std.proofs.Common.{◌≡◌, ◌∙◌, ℕ, suc, ◌+◌, ◌-◌, ◌*◌, ◌/◌, ◌^◌, ◌<◌, Bool, true, false, List, [], ◌∷◌, ◌++◌, length, length-append, get_or, Option, refl, sym, ap, ap₂, subst, arith, inl, inr}
 use Rattle.std.specs.Bool.{MatchBool}
-use Rattle.std.proofs.lemmas.Bool.{cases_lt}
+use Rattle.std.proofs.lemmas.Bool.{cases_lt, true≢false}
 use Rattle.std.proofs.Math.Seq.{get_or-append_right, get_or-append_seam}
 use Rattle.std.proofs.lemmas.List.{get_or_append_left}
 use Rattle.prefix_trie_bits.specs.Bitmaps.{rank}
 use Rattle.prefix_trie_bits.specs.Places.{has}
+use Rattle.prefix_trie_bits.proofs.Bitmaps.{has-zero}
 use Rattle.prefix_trie_fib.specs.declared.table.node.Node.{Node}
 use Rattle.prefix_trie_fib.specs.Poptrie.{block, block_at, levels, past, place, low, Agrees, Grows, HasLeaves, HasKids, IsRight, child_index, node_at, blank}
 use Rattle.prefix_trie_fib.specs.Search.{StartsBy}
 use Rattle.prefix_trie_fib.proofs.Growth.{grows_not, grows_on, grows_by, agrees_grows, leaves_grow, kids_grow}
 use Rattle.prefix_trie_fib.proofs.Lows.{low_block, low_most, low_suc}
-use Rattle.prefix_trie_fib.proofs.Ranks.{rank_none, rank_less, rank_set, rank_clear}
+use Rattle.prefix_trie_fib.proofs.Pushing.{rank_run}
+use Rattle.prefix_trie_fib.proofs.Ranks.{rank_none, rank_less, rank_set}
 use Rattle.prefix_trie_fib.proofs.Strides.{block_suc}
 use Rattle.prefix_trie_fib.proofs.Walks.{child_found, leaf_found}
 
@@ -44,18 +46,19 @@ module _ {T : Type 0} (value : ℕ → Option T) (starts : ℕ → Bool) (p : �
     pub kids_none : HasKids value starts p nodes leaves n q children [] 0
     kids_none = record { count = sym (rank_none children); agree = λ v lt. absurd (omega (arith, lt)) }
 
+    pub kids_skip : (kids : List Node) (v w : ℕ) → HasKids value starts p nodes leaves n q children kids v → v ≤ w → w ≤ 32 → ((k : ℕ) → v ≤ k → k < w → has children k ≡ false)
+        → HasKids value starts p nodes leaves n q children kids w
+    kids_skip kids v w h le most clear = record {
+      count = h.count ∙ sym (rank_run children v w le most clear);
+      agree = λ u below set. elim (cases_lt u v) [
+        | inl less ↦ h.agree u less set
+        | inr from ↦ absurd (true≢false (sym set ∙ clear u from below))
+      ];
+    }
+
     module _ (kids : List Node) (v : ℕ) (h : HasKids value starts p nodes leaves n q children kids v) (lt : v < 32) where
       on : v + 1 ≡ suc v
       on = omega arith
-
-      pub kids_skip : has children v ≡ false → HasKids value starts p nodes leaves n q children kids (v + 1)
-      kids_skip clear = record {
-        count = h.count ∙ sym (rank_clear children v lt clear) ∙ ap (rank children) (sym on);
-        agree = λ w below set. elim (cases_lt w v) [
-          | inl less ↦ h.agree w less set
-          | inr le ↦ absurd (let e : w ≡ v = omega (arith, below, le) in let same = ap (has children) e in cc)
-        ];
-      }
 
       pub kids_more : (kids' : List Node) (kid : Node) → kids' ≡ kids ++ kid ∷ [] → has children v ≡ true → Agrees value starts p nodes leaves n kid (32 * q + v) → HasKids value starts p nodes leaves n q children kids' (v + 1)
       kids_more kids' kid items set a = record {
@@ -72,6 +75,13 @@ module _ {T : Type 0} (value : ℕ → Option T) (starts : ℕ → Bool) (p : �
 
         new : node_at kids' (rank children v) ≡ kid
         new = ap (λ l. get_or l (rank children v) blank) items ∙ ap (λ k. get_or (kids ++ kid ∷ []) k blank) (sym h.count) ∙ get_or-append_seam kids kid [] blank
+
+  -- a node that has only leaves
+  pub node_flat : (nodes : List Node) (leaves : List T) (n q levels : ℕ) (node : Node) → HasLeaves value starts p leaves n q node 32 → node.children ≡ 0 → suc n ≡ levels → Agrees value starts p nodes leaves levels node q
+  node_flat nodes leaves n q levels node right none above = subst (λ k. Agrees value starts p nodes leaves k node q) above
+      (node_agrees nodes leaves n q node right
+      (λ v lt set. absurd (true≢false (sym set ∙ ap (λ m. has m v) none ∙ has-zero v)))
+      (λ v lt set. absurd (true≢false (sym set ∙ ap (λ m. has m v) none ∙ has-zero v))))
 
   -- the node above its kids, once they are appended
   module _ (nodes nodes' kids : List Node) (leaves : List T) (n q : ℕ) (node : Node) where
@@ -116,39 +126,30 @@ module _ {T : Type 0} (value : ℕ → Option T) (starts : ℕ → Bool) (p : �
       kids_right = subst (λ k. HasKids value starts p old_nodes leaves n q node.children k 0) (sym none) (kids_none old_nodes leaves n q node.children);
     }
 
-    module _ (nodes : List Node) (leaves : List T) (kids : List Node) (v at : ℕ) (h : IsBuilding line old_nodes nodes old_leaves leaves n q node kids v at) (lt : v < 32) where
-      later : (i : ℕ) → StartsBy line i (low p n (32 * q + v)) → StartsBy line i (low p n (32 * q + (v + 1)))
-      later i by = record { inside = by.inside; by = λ d. (let b = by.by d in let m = low_most p n (32 * q + v) (32 * q + (v + 1)) (omega arith) in omega (arith, b, m)) }
+    module _ (nodes : List Node) (leaves : List T) (kids : List Node) (v at : ℕ) (h : IsBuilding line old_nodes nodes old_leaves leaves n q node kids v at) where
+      later : (i w : ℕ) → v ≤ w → StartsBy line i (low p n (32 * q + v)) → StartsBy line i (low p n (32 * q + w))
+      later i w le by = record { inside = by.inside; by = λ d. (let b = by.by d in let m = low_most p n (32 * q + v) (32 * q + w) (omega (arith, le)) in omega (arith, b, m)) }
 
-      pub build_skip : has node.children v ≡ false → IsBuilding line old_nodes nodes old_leaves leaves n q node kids (v + 1) at
-      build_skip clear = record {
-        by = later at h.by;
+      pub build_skip : (w : ℕ) → v ≤ w → w ≤ 32 → ((k : ℕ) → v ≤ k → k < w → has node.children k ≡ false) → IsBuilding line old_nodes nodes old_leaves leaves n q node kids w at
+      build_skip w le most clear = record {
+        by = later at w le h.by;
         nodes_grow = h.nodes_grow;
         leaves_grow = h.leaves_grow;
         right = h.right;
-        kids_right = kids_skip nodes leaves n q node.children kids v h.kids_right lt clear;
+        kids_right = kids_skip nodes leaves n q node.children kids v w h.kids_right le most clear;
       }
 
-      pub build_kid : (nodes' : List Node) (leaves' : List T) (kids' : List Node) (at' : ℕ) (kid : Node) → Grows nodes nodes' → Grows leaves leaves' → kids' ≡ kids ++ kid ∷ []
+      pub build_kid : (nodes' : List Node) (leaves' : List T) (kids' : List Node) (at' : ℕ) (kid : Node) → v < 32 → Grows nodes nodes' → Grows leaves leaves' → kids' ≡ kids ++ kid ∷ []
           → StartsBy line at' (low p n (32 * q + v)) → has node.children v ≡ true → Agrees value starts p nodes' leaves' n kid (32 * q + v)
           → IsBuilding line old_nodes nodes' old_leaves leaves' n q node kids' (v + 1) at'
-      build_kid nodes' leaves' kids' at' kid more more' items by set a = record {
-        by = later at' by;
+      build_kid nodes' leaves' kids' at' kid lt more more' items by set a = record {
+        by = later at' (v + 1) (omega arith) by;
         nodes_grow = grows_on old_nodes nodes nodes' h.nodes_grow more;
         leaves_grow = grows_on old_leaves leaves leaves' h.leaves_grow more';
         right = leaves_grow value starts p leaves leaves' more' n q node 32 h.right;
         kids_right = kids_more nodes' leaves' n q node.children kids v
             (kids_grow value starts p leaves leaves' more' nodes nodes' more n q node.children kids v h.kids_right) lt kids' kid items set a;
       }
-
-    pub moved : (nodes nodes' : List Node) (leaves leaves' : List T) (kids kids' : List Node) (v at at' : ℕ)
-        → nodes' ≡ nodes → leaves' ≡ leaves → kids' ≡ kids → at' ≡ at
-        → IsBuilding line old_nodes nodes old_leaves leaves n q node kids v at → IsBuilding line old_nodes nodes' old_leaves leaves' n q node kids' v at'
-    moved nodes nodes' leaves leaves' kids kids' v at at' en el ek e h =
-        subst (λ x. IsBuilding line old_nodes x old_leaves leaves' n q node kids' v at') (sym en)
-        (subst (λ x. IsBuilding line old_nodes nodes old_leaves x n q node kids' v at') (sym el)
-        (subst (λ x. IsBuilding line old_nodes nodes old_leaves leaves n q node x v at') (sym ek)
-        (subst (λ x. IsBuilding line old_nodes nodes old_leaves leaves n q node kids v x) (sym e) h)))
 
   pub build_done : (line : List (ℕ × Option T)) (old_nodes nodes nodes' : List Node) (old_leaves leaves : List T) (n q levels : ℕ) (node : Node) (kids : List Node) (v at first_child : ℕ)
       → IsBuilding line old_nodes nodes old_leaves leaves n q node kids v at → v ≡ 32 → nodes' ≡ nodes ++ kids → first_child ≡ length nodes → suc n ≡ levels

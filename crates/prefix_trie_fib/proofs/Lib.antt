@@ -25,3 +25,5 @@ pub mod RangeWalks
 pub mod Counts
 pub mod Amounts
 pub mod Totals
+pub mod WindowPlaces
+pub mod NextPlaces

@@ -55,7 +55,7 @@ module _ (p m : ℕ) (few : p ≤ 4) where
 at_last : (p a b : ℕ) → block 0 (a * 2 ^ p) ≡ b → first 0 b ≡ a * 2 ^ p
 at_last p a b e = first_one b ∙ sym e ∙ block_one (a * 2 ^ p)
 
-low_last : (p a b : ℕ) → block 0 (a * 2 ^ p) ≡ b → low p 0 b ≡ a
+pub low_last : (p a b : ℕ) → block 0 (a * 2 ^ p) ≡ b → low p 0 b ≡ a
 low_last p a b e = ap (λ k. k / 2 ^ p) (at_last p a b e) ∙ mul-div_cancel a {n = 2 ^ p} (pow_pos p)
 
 -- the first address of a block with an address, with its zeros, is the first number of the block

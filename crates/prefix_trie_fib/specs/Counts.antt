@@ -4,7 +4,8 @@ use Rattle.prefix_trie_bits.specs.Bitmaps.{rank}
 use Rattle.prefix_trie_bits.specs.Places.{has}
 use Rattle.prefix_trie_fib.specs.declared.table.node.Node.{Node}
 use Rattle.prefix_trie_fib.specs.Line.{is_start, value_along}
-use Rattle.prefix_trie_fib.specs.Poptrie.{block_at, low}
+use Rattle.prefix_trie_fib.specs.Poptrie.{block, block_at, low}
+use Rattle.prefix_trie_fib.specs.Search.{IsRangeOf}
 
 -- how many numbers below n pass a test
 unfoldable pub count_below : (ℕ → Bool) → ℕ → ℕ
@@ -44,3 +45,11 @@ module _ {T : Type 0} (line : List (ℕ × Option T)) where
     pub all : leaves' ≡ leaves + rank node.starts 32
     pub few : leaves' + started (low p n (32 * q)) ≤ leaves + started (low p n (32 * q + 32)) + 1
     pub cut : (v : ℕ) → v < 32 → has node.children v ≡ true → started (low p n (32 * q + v)) < started (low p n (32 * q + (v + 1)))
+
+  -- Range `at` is that of the first address at place v of a node of block q. It goes on up to place `next`, and ends in that place or with
+  -- the node. If `next` is v, a range starts behind the first address at place v.
+  pub record IsNextPlace (p n q at v next : ℕ) : Type 0 where
+    pub later : v ≤ next
+    pub within : (w a : ℕ) → v ≤ w → w < next → block n (a * 2 ^ p) ≡ 32 * q + w → IsRangeOf line at a
+    pub below : next ≡ v → 0 < n
+    pub cut : next ≡ v → started (low p n (32 * q + v)) < started (low p n (32 * q + (v + 1)))

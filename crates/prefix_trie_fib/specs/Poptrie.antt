@@ -1,5 +1,5 @@
 -- Nodes of 32 places, in one list, with two bitmaps each for children and for runs of leaves: Poptrie (Asai and Ohara 2015).
-use Rattle.std.specs.Prelude.{◌≡◌, ◌≢◌, ℕ, zero, suc, ◌+◌, ◌-◌, ◌*◌, ◌/◌, ◌%◌, ◌^◌, ◌<◌, ◌≤◌, ◌&&◌, ◌++◌, not, Bool, true, false, cond, List, length, nat_eq, nat_lt, Option, None, Some, is_some, slice_get, slice_index_or, take}
+use Rattle.std.specs.Prelude.{◌≡◌, ◌≢◌, ℕ, zero, suc, ◌+◌, ◌-◌, ◌*◌, ◌/◌, ◌%◌, ◌^◌, ◌<◌, ◌≤◌, ◌&&◌, ◌++◌, ◌⊎◌, not, Bool, true, false, cond, List, length, nat_eq, nat_lt, Option, None, Some, is_some, slice_get, slice_index_or, take}
 use Rattle.std.specs.Bool.{MatchBool}
 use Rattle.prefix_trie_bits.specs.Bitmaps.{rank}
 use Rattle.prefix_trie_bits.specs.Model.Bits.{number, zeros}
@@ -142,9 +142,10 @@ module _ {T : Type 0} where
     abbrev pub IsTable : List ℕ → List Node → List T → ℕ → Type 0
     IsTable direct nodes leaves n = (s : ℕ) → s < length direct → IsSlot nodes leaves n s (slice_index_or direct s 0)
 
--- a node gets a leaf without a value at place v
-pub record GetsGap (v : ℕ) (old new : Node) : Type 0 where
-  pub gaps : Sets old.gaps v new.gaps
+-- a node gets leaves without a value at the places from v on and before `next`
+pub record GetsGaps (v next : ℕ) (old new : Node) : Type 0 where
+  pub gaps : (w : ℕ) → v ≤ w → w < next → has new.gaps w ≡ true
+  pub others : (w : ℕ) → (w < v) ⊎ (next ≤ w) → has new.gaps w ≡ has old.gaps w
   pub starts : new.starts ≡ old.starts
   pub children : new.children ≡ old.children
   pub first_leaf : new.first_leaf ≡ old.first_leaf

@@ -1,17 +1,17 @@
 //! Nodes and leaves, built from the ranges of a line.
-ghost use Rattle.std.specs.Prelude.{◌≡◌, ◌≢◌, ℕ, ◌+◌, ◌-◌, ◌*◌, ◌^◌, ◌<◌, ◌≤◌, ◌++◌, ◌∷◌, [], IfErr, IfOk, None, Option, OnOk, Some, false, length, nat_le, slice_index_or, true, is_some};
+ghost use Rattle.std.specs.Prelude.{◌≡◌, ◌≢◌, ℕ, ◌+◌, ◌-◌, ◌*◌, ◌^◌, ◌<◌, ◌≤◌, ◌⊎◌, ◌++◌, ◌∷◌, [], IfErr, IfOk, None, Option, OnOk, Some, false, length, nat_le, slice_index_or, true, is_some};
 ghost use Rattle.prefix_trie_bits.specs.Model.Bits.{number};
 ghost use Rattle.prefix_trie_bits.specs.Places.{has};
 ghost use Rattle.prefix_trie_bits.specs.declared.prefix.Refusal.TheVariants.{IndexRange};
-ghost use Rattle.prefix_trie_fib.specs.Counts.{Adds, HasOwnLeaves, MayExceed, block_end, block_start, started};
+ghost use Rattle.prefix_trie_fib.specs.Counts.{Adds, HasOwnLeaves, IsNextPlace, MayExceed, block_end, block_start, started};
 ghost use Rattle.prefix_trie_fib.specs.Line.{IsDivision, is_start, value_along};
-ghost use Rattle.prefix_trie_fib.specs.Poptrie.{Agrees, GetsGap, GetsLeaf, Grows, HasLeaves, block_at, levels, low as low_of, past};
+ghost use Rattle.prefix_trie_fib.specs.Poptrie.{Agrees, GetsGaps, GetsLeaf, Grows, HasLeaves, block_at, levels, low as low_of, past};
 ghost use Rattle.prefix_trie_fib.specs.Search.{IsRangeOf, StartsBy};
 
 use super::node::Node;
 use crate::ranges::{Line, is_at_most};
 use arrayvec::ArrayVec;
-use prefix_trie_bits::node::{has_bit, with_bit};
+use prefix_trie_bits::node::with_bit;
 use prefix_trie_bits::prefix::{Key, Refusal};
 use std::alloc::{AllocError, Allocator};
 
@@ -59,7 +59,63 @@ pub(super) fn is_cut<K: Key, T: Copy, A: Allocator>(
     is_at_most(next.keep(depth), low)
 }
 
-/// Adds the leaf of place `v` to a node. All addresses of the place are in the range `at`, and `start` is the first of them.
+/// Returns the place of a node in which the range after another one starts, or 32 if it does not start in the node.
+///
+/// `low` is the first address of the node, which is read at a depth. The range `at` is that of the first address of a place.
+fn next_place<K: Key, T: Copy, A: Allocator>(
+    line: &Line<K, T, A>,
+    at: usize,
+    low: K,
+    depth: u32,
+) -> u32
+    requires division { IsDivision line.now }
+    requires inside { at < length line.now }
+    requires within { depth < K.bit_width }
+    ensures most { result ≤ 32 }
+    ensures next { (v : ℕ) → v < 32 → IsRangeOf line.now at (low_of (past K.bit_width depth)
+        (levels K.bit_width depth - 1)
+        (32 * block_at K.bit_width depth (number (K.bits low)) + v))
+        → IsNextPlace line.now (past K.bit_width depth) (levels K.bit_width depth - 1)
+        (block_at K.bit_width depth (number (K.bits low))) at v result }
+{
+    let len = line.len();
+    if at + 1 >= len {
+        return 32;
+    }
+    let next = line.start(at + 1);
+    let _ = next.is_key();
+    if is_at_most(next.keep(depth), low) {
+        next.window(depth, 5)
+    } else {
+        32
+    }
+}
+
+/// Returns a bitmap with the bits from `from` on and before `to` set as well.
+fn with_bits(bitmap: u32, from: u32, to: u32) -> u32
+    requires order { from ≤ to }
+    requires most { to ≤ 32 }
+    ensures set { (k : ℕ) → from ≤ k → k < to → has result k ≡ true }
+    ensures others { (k : ℕ) → (k < from) ⊎ (to ≤ k) → has result k ≡ has bitmap k }
+{
+    let mask = (1_u64 << to) - (1_u64 << from);
+    bitmap | mask as u32
+}
+
+/// Returns the first set bit of a bitmap from `from` on, or 32 if there is none.
+fn next_bit(bitmap: u32, from: u32) -> u32
+    requires { from ≤ 32 }
+    ensures later { from ≤ result }
+    ensures most { result ≤ 32 }
+    ensures set { result < 32 → has bitmap result ≡ true }
+    ensures first { (k : ℕ) → from ≤ k → k < result → has bitmap k ≡ false }
+{
+    let rest = ((1_u64 << 32) + u64::from(bitmap)) >> from;
+    from + rest.trailing_zeros()
+}
+
+/// Adds the leaves of the places from `v` on and before `next` to a node. All their addresses are in the range `at`, and `start` is
+/// the first of them.
 ///
 /// `last` is the range of the leaf before it, if there is one.
 fn with_leaf<K: Key, T: Copy, A: Allocator, B: Allocator>(
@@ -69,15 +125,17 @@ fn with_leaf<K: Key, T: Copy, A: Allocator, B: Allocator>(
     start: K,
     node: Node,
     v: u32,
+    next: u32,
     leaves: &mut Vec<T, B>,
 ) -> Result<Node, AllocError>
-    requires small { v < 32 }
+    requires order { v < next }
+    requires most { next ≤ 32 }
     requires clear { (has node.starts v ≡ false) × (has node.gaps v ≡ false) }
     requires range { at < length line.now }
     ensures gap { OnOk result ((d : ℕ × Option T) → (slice_index_or line.now at d).1 ≡ None
         → leaves.new.items ≡ leaves.old.items) }
     ensures gap_node { IfOk result (λ new. (d : ℕ × Option T)
-        → (slice_index_or line.now at d).1 ≡ None → GetsGap v node new) }
+        → (slice_index_or line.now at d).1 ≡ None → GetsGaps v next node new) }
     ensures same { OnOk result ((d : ℕ × Option T)
         → is_some (slice_index_or line.now at d).1 ≡ true → at ≡ last
         → leaves.new.items ≡ leaves.old.items) }
@@ -91,7 +149,7 @@ fn with_leaf<K: Key, T: Copy, A: Allocator, B: Allocator>(
         → GetsLeaf v (nat_le (number (K.bits start)) (slice_index_or line.now at d).0) node new) }
 {
     let Some(value) = line.value(at) else {
-        let gaps = with_bit(node.gaps, v);
+        let gaps = with_bits(node.gaps, v, next);
         return Ok(Node { gaps, ..node });
     };
     if at == last {
@@ -141,7 +199,6 @@ fn push_leaves<K: Key, T: Copy, A: Allocator, B: Allocator>(
     if first_leaf > u32::MAX as usize {
         return Err(Refusal::IndexRange);
     }
-    let end = (depth + 5).min(K::width());
     let mut node = Node {
         children: 0,
         starts: 0,
@@ -151,14 +208,18 @@ fn push_leaves<K: Key, T: Copy, A: Allocator, B: Allocator>(
     };
     let mut at = from;
     let mut last = line.len();
-    for v in 0..32_u32 {
+    let mut v = 0;
+    while v < 32 {
         let start = place_start(low, depth, v);
         at = line.range_from(at, start);
-        if is_cut(line, at, start, end) {
+        let next = next_place(line, at, low, depth);
+        if next == v {
             node.children = with_bit(node.children, v);
+            v += 1;
         } else {
-            node = with_leaf(line, at, last, start, node, v, leaves)?;
+            node = with_leaf(line, at, last, start, node, v, next, leaves)?;
             last = at;
+            v = next;
         }
     }
     Ok(node)
@@ -197,14 +258,17 @@ pub(super) fn build<K: Key, T: Copy, A: Allocator, B: Allocator>(
         (length leaves.old.items)) }
 {
     let mut node = push_leaves(line, depth, low, from, leaves)?;
+    if node.children == 0 {
+        return Ok(node);
+    }
     let mut kids: ArrayVec<Node, 32> = ArrayVec::new();
     let mut at = from;
-    for v in 0..32_u32 {
-        if has_bit(node.children, v) {
-            let start = place_start(low, depth, v);
-            at = line.range_from(at, start);
-            kids.push(build(line, depth + 5, start, at, nodes, leaves)?);
-        }
+    let mut v = next_bit(node.children, 0);
+    while v < 32 {
+        let start = place_start(low, depth, v);
+        at = line.range_from(at, start);
+        kids.push(build(line, depth + 5, start, at, nodes, leaves)?);
+        v = next_bit(node.children, v + 1);
     }
     if nodes.len() > u32::MAX as usize {
         return Err(Refusal::IndexRange);

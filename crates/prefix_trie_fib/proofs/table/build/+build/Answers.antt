@@ -7,23 +7,32 @@ use Rattle.prefix_trie_fib.specs.Counts.{Adds, MayExceed, block_end, block_start
 use Rattle.prefix_trie_fib.specs.Line.{is_start, value_along}
 use Rattle.prefix_trie_fib.specs.Poptrie.{block_at, levels, low, past}
 use Rattle.prefix_trie_fib.specs.Search.{StartsBy}
-use Rattle.prefix_trie_fib.proofs.Amounts.{adding_begins, adding_done, adding_kid, adding_moved, adding_skip, block_bounds, block_rises, exceeds_kid, exceeds_leaves, exceeds_nodes, kid_end, kid_start}
-use Rattle.prefix_trie_fib.proofs.Building.{agrees_above, build_begins, build_done, build_kid, build_skip, deeper, moved, starts_below}
+use Rattle.prefix_trie_fib.proofs.Amounts.{adding_begins, adding_done, adding_kid, adding_run, block_bounds, block_rises, exceeds_kid, exceeds_leaves, exceeds_nodes, kid_end, kid_start}
+use Rattle.prefix_trie_fib.proofs.Building.{agrees_above, build_begins, build_done, build_kid, build_skip, deeper, node_flat, starts_below}
 use Rattle.prefix_trie_fib.proofs.Lows.{low_suc}
 use Rattle.prefix_trie_fib.proofs.Ranks.{rank_at_most}
 use Rattle.prefix_trie_fib.proofs.table.build.+build.Goals as goal
-use Rattle.prefix_trie_fib.proofs.table.build.+build.Goals.{then-has_bit+in_ok-build, else-has_bit}
 
 pub loop-v-init : goal.loop-v-init
 loop-v-init g t c =
     let w = g.K.Key.bit_width in
     let d = c.args.depth in
+    let n = levels w d - 1 in
+    let q = block_at w d (number (g.K.Key.bits c.args.low)) in
     let none : c.new-kids.result.items ≡ [] = search rules in
-    let kids : length c.new-kids.result.items ≡ 0 = ap length none in (
-      build_begins (value_along None c.args.line.now) (is_start c.args.line.now) (past w d) c.args.line.now c.args.nodes.now.items c.args.leaves.now.items (levels w d - 1) (block_at w d (number (g.K.Key.bits c.args.low))) c.in_ok-node.node
-          c.push_leaves.new.leaves.items c.new-kids.result.items c.args.from (search rules) c.requires.starts c.in_ok-node.ensures.grows c.in_ok-node.ensures.right,
-      adding_begins c.args.line.now (past w d) (levels w d - 1) (block_at w d (number (g.K.Key.bits c.args.low))) c.in_ok-node.node.starts (length c.args.nodes.now.items) (omega arith)
-          (length c.new-kids.result.items) (length c.push_leaves.new.leaves.items) kids,
+    let kids : length c.new-kids.result.items ≡ 0 = ap length none in
+    let first = c.next_bit-v.ensures in (
+      build_skip (value_along None c.args.line.now) (is_start c.args.line.now) (past w d) c.args.line.now c.args.nodes.now.items c.args.leaves.now.items n q c.in_ok-node.node
+          c.args.nodes.now.items c.push_leaves.new.leaves.items c.new-kids.result.items 0 c.args.from
+          (build_begins (value_along None c.args.line.now) (is_start c.args.line.now) (past w d) c.args.line.now c.args.nodes.now.items c.args.leaves.now.items n q c.in_ok-node.node
+          c.push_leaves.new.leaves.items c.new-kids.result.items c.args.from none c.requires.starts c.in_ok-node.ensures.grows c.in_ok-node.ensures.right)
+          c.next_bit-v.result (omega arith) first.most first.first,
+      adding_run c.args.line.now (past w d) n q c.in_ok-node.node.starts (length c.args.nodes.now.items) (omega arith) (length c.args.nodes.now.items) (length c.new-kids.result.items) (length c.push_leaves.new.leaves.items) (length c.push_leaves.new.leaves.items) 0 c.next_bit-v.result
+          c.push_leaves.new.leaves.items c.in_ok-node.node
+          (adding_begins c.args.line.now (past w d) n q c.in_ok-node.node.starts (length c.args.nodes.now.items) (omega arith) (length c.new-kids.result.items) (length c.push_leaves.new.leaves.items) kids)
+          (omega arith) first.most refl (λ u from less. c.in_ok-node.ensures.right.leaf u (let most = first.most in omega (arith, most, less)) (first.first u from less)),
+      first.most,
+      first.set,
     )
 
 pub build-requires : goal.build-requires
@@ -32,7 +41,7 @@ build-requires g t c κs within =
     let d = c.args.depth in
     let q = block_at w d (number (g.K.Key.bits c.args.low)) in
     let x = number (g.K.Key.bits c.place_start-start.result) in
-    let set : has c.in_ok-node.node.children c.loop-v.v ≡ true = sym c.has_bit.ensures ∙ c.if-has_bit.true in
+    let set : has c.in_ok-node.node.children c.loop-v.v ≡ true = c.loop-v.invariant.3 c.loop-v-test.true in
     let some = c.loop-v.invariant.0.right.child c.loop-v.v c.loop-v-test.true set in
     let below = deeper w d some in (
       omega (arith, below),
@@ -72,36 +81,28 @@ loop-v-preserved g t c =
     let n = levels w d - 1 in
     let q = block_at w d (number (g.K.Key.bits c.args.low)) in
     let line = c.args.line.now in
-    let value = value_along None c.args.line.now in
-    let starts = is_start c.args.line.now in
-    elim c.if-has_bit.branch [
-      | then-has_bit+in_ok-build v ↦ (let set : has c.in_ok-node.node.children c.loop-v.v ≡ true = sym c.has_bit.ensures ∙ v.if-has_bit.true in
-          let some = c.loop-v.invariant.0.right.child c.loop-v.v c.loop-v-test.true set in
-          let x = number (g.K.Key.bits v.place_start-start.result) in
-          let below : levels w (d + 5) ≡ n = omega (arith, some) in
-          let adds = subst (λ k. Adds line (k - 1) (2 * k - 1) 1 (block_start w (d + 5) x) (block_end w (d + 5) x) (length c.loop-v.nodes.items) (length v.build.new.nodes.items) (length c.loop-v.leaves.items) (length v.build.new.leaves.items)) below v.in_ok-build.ensures.adds in (
-            moved (value_along None c.args.line.now) (is_start c.args.line.now) p line c.args.nodes.now.items c.args.leaves.now.items n q c.in_ok-node.node v.build.new.nodes.items c.if-has_bit.nodes.items v.build.new.leaves.items c.if-has_bit.leaves.items v.push.new.self.items c.if-has_bit.kids.items (c.loop-v.v + 1) v.range_from-at.result c.if-has_bit.at
-                (ap (λ x. x.items) v.nodes-is) (ap (λ x. x.items) v.leaves-is) (ap (λ x. x.items) v.kids-is) v.at-is
-                (build_kid (value_along None c.args.line.now) (is_start c.args.line.now) p line c.args.nodes.now.items c.args.leaves.now.items n q c.in_ok-node.node c.loop-v.nodes.items c.loop-v.leaves.items c.loop-v.kids.items c.loop-v.v c.loop-v.at c.loop-v.invariant.0 c.loop-v-test.true
-                v.build.new.nodes.items v.build.new.leaves.items v.push.new.self.items v.range_from-at.result v.in_ok-build.field-0 v.in_ok-build.ensures.nodes v.in_ok-build.ensures.leaves v.push.ensures.items
-                (subst (λ k. StartsBy line v.range_from-at.result k) v.place_start-start.ensures v.range_from-at.ensures.starts) set
-                (agrees_above w d some (number (g.K.Key.bits v.place_start-start.result)) q c.loop-v.v v.place_start-start.ensures (value_along None c.args.line.now) (is_start c.args.line.now) v.build.new.nodes.items v.build.new.leaves.items v.in_ok-build.field-0 v.in_ok-build.ensures.right)),
-            adding_moved line p n q c.in_ok-node.node.starts (length c.args.nodes.now.items) (omega arith) (length v.build.new.nodes.items) (length c.if-has_bit.nodes.items) (length v.push.new.self.items) (length c.if-has_bit.kids.items) (length c.push_leaves.new.leaves.items) (length v.build.new.leaves.items) (length c.if-has_bit.leaves.items) (c.loop-v.v + 1)
-                (ap (λ x. length x.items) v.nodes-is) (ap (λ x. length x.items) v.kids-is) (ap (λ x. length x.items) v.leaves-is)
-                (adding_kid line p n q c.in_ok-node.node.starts (length c.args.nodes.now.items) (omega arith) (length c.loop-v.nodes.items) (length c.loop-v.kids.items) (length c.push_leaves.new.leaves.items) (length c.loop-v.leaves.items) c.loop-v.v (block_start w (d + 5) x) (block_end w (d + 5) x)
-                c.loop-v.invariant.1 c.loop-v-test.true some (kid_start w d some x q c.loop-v.v v.place_start-start.ensures) (kid_end w d some x q c.loop-v.v v.place_start-start.ensures) (c.in_ok-node.ensures.own.cut c.loop-v.v c.loop-v-test.true set)
-                (length v.build.new.nodes.items) (length v.push.new.self.items) (length v.build.new.leaves.items) (ap length v.push.ensures.items ∙ length-append c.loop-v.kids.items (v.in_ok-build.field-0 ∷ [])) adds),
-          ))
-      | else-has_bit v ↦ (let clear : has c.in_ok-node.node.children c.loop-v.v ≡ false = sym c.has_bit.ensures ∙ v.if-has_bit.false in (
-        moved (value_along None c.args.line.now) (is_start c.args.line.now) p line c.args.nodes.now.items c.args.leaves.now.items n q c.in_ok-node.node c.loop-v.nodes.items c.if-has_bit.nodes.items c.loop-v.leaves.items c.if-has_bit.leaves.items c.loop-v.kids.items c.if-has_bit.kids.items (c.loop-v.v + 1) c.loop-v.at c.if-has_bit.at
-            (ap (λ x. x.items) v.nodes-is) (ap (λ x. x.items) v.leaves-is) (ap (λ x. x.items) v.kids-is) v.at-is
-            (build_skip (value_along None c.args.line.now) (is_start c.args.line.now) p line c.args.nodes.now.items c.args.leaves.now.items n q c.in_ok-node.node c.loop-v.nodes.items c.loop-v.leaves.items c.loop-v.kids.items c.loop-v.v c.loop-v.at c.loop-v.invariant.0 c.loop-v-test.true clear),
-        adding_moved line p n q c.in_ok-node.node.starts (length c.args.nodes.now.items) (omega arith) (length c.loop-v.nodes.items) (length c.if-has_bit.nodes.items) (length c.loop-v.kids.items) (length c.if-has_bit.kids.items) (length c.push_leaves.new.leaves.items) (length c.loop-v.leaves.items) (length c.if-has_bit.leaves.items) (c.loop-v.v + 1)
-            (ap (λ x. length x.items) v.nodes-is) (ap (λ x. length x.items) v.kids-is) (ap (λ x. length x.items) v.leaves-is)
-            (adding_skip line p n q c.in_ok-node.node.starts (length c.args.nodes.now.items) (omega arith) (length c.loop-v.nodes.items) (length c.loop-v.kids.items) (length c.push_leaves.new.leaves.items) (length c.loop-v.leaves.items) c.loop-v.v c.loop-v.leaves.items c.in_ok-node.node
-            c.loop-v.invariant.1 c.loop-v-test.true refl (c.loop-v.invariant.0.right.leaf c.loop-v.v c.loop-v-test.true clear)),
-      ))
-    ]
+    let lt = c.loop-v-test.true in
+    let set : has c.in_ok-node.node.children c.loop-v.v ≡ true = c.loop-v.invariant.3 lt in
+    let some = c.loop-v.invariant.0.right.child c.loop-v.v lt set in
+    let x = number (g.K.Key.bits c.place_start-start.result) in
+    let below : levels w (d + 5) ≡ n = omega (arith, some) in
+    let next = c.next_bit-v-2.ensures in
+    let adds = subst (λ k. Adds line (k - 1) (2 * k - 1) 1 (block_start w (d + 5) x) (block_end w (d + 5) x) (length c.loop-v.nodes.items) (length c.build.new.nodes.items) (length c.loop-v.leaves.items) (length c.build.new.leaves.items)) below c.in_ok-build.ensures.adds in
+    let built = build_kid (value_along None c.args.line.now) (is_start c.args.line.now) p line c.args.nodes.now.items c.args.leaves.now.items n q c.in_ok-node.node c.loop-v.nodes.items c.loop-v.leaves.items c.loop-v.kids.items c.loop-v.v c.loop-v.at c.loop-v.invariant.0
+    c.build.new.nodes.items c.build.new.leaves.items c.push.new.self.items c.range_from-at.result c.in_ok-build.field-0 lt c.in_ok-build.ensures.nodes c.in_ok-build.ensures.leaves c.push.ensures.items
+    (subst (λ k. StartsBy line c.range_from-at.result k) c.place_start-start.ensures c.range_from-at.ensures.starts) set
+    (agrees_above w d some x q c.loop-v.v c.place_start-start.ensures (value_along None c.args.line.now) (is_start c.args.line.now) c.build.new.nodes.items c.build.new.leaves.items c.in_ok-build.field-0 c.in_ok-build.ensures.right) in (
+      build_skip (value_along None c.args.line.now) (is_start c.args.line.now) p line c.args.nodes.now.items c.args.leaves.now.items n q c.in_ok-node.node c.build.new.nodes.items c.build.new.leaves.items c.push.new.self.items (c.loop-v.v + 1) c.range_from-at.result built
+          c.next_bit-v-2.result next.later next.most next.first,
+      adding_run line p n q c.in_ok-node.node.starts (length c.args.nodes.now.items) (omega arith) (length c.build.new.nodes.items) (length c.push.new.self.items) (length c.push_leaves.new.leaves.items) (length c.build.new.leaves.items) (c.loop-v.v + 1) c.next_bit-v-2.result
+          c.build.new.leaves.items c.in_ok-node.node
+          (adding_kid line p n q c.in_ok-node.node.starts (length c.args.nodes.now.items) (omega arith) (length c.loop-v.nodes.items) (length c.loop-v.kids.items) (length c.push_leaves.new.leaves.items) (length c.loop-v.leaves.items) c.loop-v.v (block_start w (d + 5) x) (block_end w (d + 5) x)
+          c.loop-v.invariant.1 lt some (kid_start w d some x q c.loop-v.v c.place_start-start.ensures) (kid_end w d some x q c.loop-v.v c.place_start-start.ensures) (c.in_ok-node.ensures.own.cut c.loop-v.v lt set)
+          (length c.build.new.nodes.items) (length c.push.new.self.items) (length c.build.new.leaves.items) (ap length c.push.ensures.items ∙ length-append c.loop-v.kids.items (c.in_ok-build.field-0 ∷ [])) adds)
+          next.later next.most refl (λ u from less. built.right.leaf u (let most = next.most in omega (arith, most, less)) (next.first u from less)),
+      next.most,
+      next.set,
+    )
 
 pub returns-clause-right : goal.returns-clause-right
 returns-clause-right g t c =
@@ -109,7 +110,7 @@ returns-clause-right g t c =
     let d = c.args.depth in
     let q = block_at w d (number (g.K.Key.bits c.args.low)) in
     let lt = c.requires.within in
-    let end : c.loop-v.v ≡ 32 = (let top = c.loop-v.auto.v-end in let out = c.loop-v-test.false in omega (arith, top, out)) in
+    let end : c.loop-v.v ≡ 32 = (let top = c.loop-v.invariant.2 in let out = c.loop-v-test.false in omega (arith, top, out)) in
     let items : c.extend_from_slice.new.self.items ≡ c.loop-v.nodes.items ++ c.loop-v.kids.items = c.in_ok-extend_from_slice.ensures.items ∙ ap (λ k. c.loop-v.nodes.items ++ k) (search rules) in
     let len : c.len-2.result ≡ length c.loop-v.nodes.items = search rules in
     build_done (value_along None c.args.line.now) (is_start c.args.line.now) (past w d) c.args.line.now c.args.nodes.now.items c.loop-v.nodes.items c.extend_from_slice.new.self.items c.args.leaves.now.items c.loop-v.leaves.items
@@ -122,7 +123,7 @@ returns-clause-adds g t c =
     let lo = number (g.K.Key.bits c.args.low) in
     let q = block_at w d (number (g.K.Key.bits c.args.low)) in
     let lt = c.requires.within in
-    let end : c.loop-v.v ≡ 32 = (let top = c.loop-v.auto.v-end in let out = c.loop-v-test.false in omega (arith, top, out)) in
+    let end : c.loop-v.v ≡ 32 = (let top = c.loop-v.invariant.2 in let out = c.loop-v-test.false in omega (arith, top, out)) in
     let items : c.extend_from_slice.new.self.items ≡ c.loop-v.nodes.items ++ c.loop-v.kids.items = c.in_ok-extend_from_slice.ensures.items ∙ ap (λ k. c.loop-v.nodes.items ++ k) (search rules) in
     let bounds = block_bounds w d q lt in
     let twice : 2 * (levels w d - 1) + 1 ≡ 2 * levels w d - 1 = omega (arith, lt) in
@@ -149,7 +150,7 @@ returns-in_err-build-clause-too_many g t c =
     let x = number (g.K.Key.bits c.place_start-start.result) in
     let q = block_at w d (number (g.K.Key.bits c.args.low)) in
     let lt = c.requires.within in
-    let set : has c.in_ok-node.node.children c.loop-v.v ≡ true = sym c.has_bit.ensures ∙ c.if-has_bit.true in
+    let set : has c.in_ok-node.node.children c.loop-v.v ≡ true = c.loop-v.invariant.3 c.loop-v-test.true in
     let some = c.loop-v.invariant.0.right.child c.loop-v.v c.loop-v-test.true set in
     let below : levels w (d + 5) ≡ levels w d - 1 = omega (arith, some) in
     let bounds = block_bounds w d q lt in
@@ -170,7 +171,7 @@ returns-then-len-clause-too_many g t c = λ range.
     let lo = number (g.K.Key.bits c.args.low) in
     let q = block_at w d (number (g.K.Key.bits c.args.low)) in
     let lt = c.requires.within in
-    let end : c.loop-v.v ≡ 32 = (let top = c.loop-v.auto.v-end in let out = c.loop-v-test.false in omega (arith, top, out)) in
+    let end : c.loop-v.v ≡ 32 = (let top = c.loop-v.invariant.2 in let out = c.loop-v-test.false in omega (arith, top, out)) in
     let len : c.len.result ≡ length c.loop-v.nodes.items = search rules in
     let many = c.if-len.true in
     let bounds = block_bounds w d q lt in
