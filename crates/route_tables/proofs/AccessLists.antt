@@ -1,10 +1,10 @@
 -- The rules of a list: what a text adds to it, and which decisions allow: for `AccessList`.
-use Rattle.std.proofs.Common.{◌≡◌, ◌↔◌, ◌∙◌, ◌⊎◌, ℕ, true, false, cond, Bool, List, [], ◌∷◌, ◌++◌, All, Option, None, Some, ap, arith, codes, inl, inr, is_some, length, refl, subst, sym, suc, true≢false}
+use Rattle.std.proofs.Common.{◌≡◌, ◌↔◌, ◌∙◌, ℕ, true, false, cond, Bool, List, [], ◌∷◌, All, None, Some, ap, arith, codes, inl, inr, is_some, length, subst, sym, suc, true≢false}
 use Rattle.std.proofs.lemmas.List.Elements.{All-append, All-cons, All-nil}
 use Rattle.std.specs.FinMap.{get, get-empty, get-insert}
 use Rattle.std.specs.Option.{option_map_or}
 use Rattle.std.specs.Ordering.{eq_by_cmp}
-use Rattle.prefix_trie.specs.Terms.{listing_cmp, longest_match, no_entries, with_entry, IsLongestMatch}
+use Rattle.prefix_trie.specs.Terms.{listing_cmp, no_entries, with_entry, IsLongestMatch}
 use Rattle.prefix_trie_bits.specs.Laws.Matches.{MatchLaws}
 use Rattle.prefix_trie_bits.specs.Order.{listing_total}
 use Rattle.prefix_trie_joint.specs.Networks.{ip_path}

@@ -4,7 +4,7 @@ use Rattle.std.specs.Io.KnownBytes.{Appends}
 use Rattle.std.proofs.lemmas.List.Concat.{flat_map-append}
 use Rattle.prefix_trie_joint.specs.declared.prefix.IpPrefix.{IpPrefix}
 use Rattle.route_tables.specs.Printed.{PrintsAnswers}
-use Rattle.route_tables.specs.Questions.{GivesQuestion, HasQuestions, IsQuestionLine}
+use Rattle.route_tables.specs.Questions.{HasQuestions, IsQuestionLine}
 use Rattle.route_tables.specs.Routes.{IsBlank}
 use Rattle.route_tables.specs.declared.questions.Asking.{Asking}
 use Rattle.route_tables.proofs.Printing.{appends_both, appends_none}

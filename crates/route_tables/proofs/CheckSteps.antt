@@ -1,6 +1,6 @@
 -- Checking texts one after another: the invariant of the loops, what each text shows, and what ends them: for `check_lines` and
 -- `check_words`.
-use Rattle.std.proofs.Common.{◌≡◌, ◌↔◌, ◌⊎◌, ◌∙◌, ℕ, ◌+◌, ◌-◌, ◌^◌, ◌<◌, ◌≤◌, true, false, List, [], ◌∷◌, ◌++◌, All, OnOk, Option, None, Some, Result, Ok, Err, ap, append-nil, append_assoc, arith, drop, get_or, inl, inr, length, length-append, map, min, refl, subst, suc, sym, take, true≢false, zero}
+use Rattle.std.proofs.Common.{◌≡◌, ◌↔◌, ◌∙◌, ℕ, ◌+◌, ◌-◌, ◌^◌, ◌<◌, ◌≤◌, true, false, List, [], ◌∷◌, ◌++◌, All, OnOk, Option, None, Some, Result, Ok, Err, ap, append-nil, append_assoc, arith, drop, get_or, inl, inr, length, length-append, map, min, refl, subst, suc, sym, take, true≢false, zero}
 use Rattle.std.specs.Bool.{⊤}
 use Rattle.std.specs.Borrow.{Bor}
 use Rattle.std.proofs.Math.Seq.{take-append_seam}
@@ -9,8 +9,8 @@ use Rattle.std.proofs.lemmas.List.Elements.{All-append, All-cons, All-nil}
 use Rattle.prefix_trie_joint.specs.Networks.{ip_host, ip_path}
 use Rattle.prefix_trie_joint.specs.declared.prefix.IpPrefix.{IpPrefix}
 use Rattle.route_tables.specs.Access.{IsAllowed}
-use Rattle.route_tables.specs.Checks.{EndsCheck, HasChecked, IsAllowedLine, IsAllowedWord, IsGoodLine, IsGoodWord, NamesText, asking_of, counted}
-use Rattle.route_tables.specs.Questions.{IsAsked, IsQuestion, IsQuestionLine, ReadsLine, as_mapped}
+use Rattle.route_tables.specs.Checks.{EndsCheck, HasChecked, IsAllowedLine, IsAllowedWord, IsGoodLine, NamesText, asking_of, counted}
+use Rattle.route_tables.specs.Questions.{IsAsked, IsQuestion, ReadsLine, as_mapped}
 use Rattle.route_tables.specs.Tables.{Values}
 use Rattle.route_tables.specs.declared.commands.questions.QuestionsError.{QuestionsError}
 use Rattle.route_tables.specs.declared.commands.questions.QuestionsError.TheVariants.{Output, Question as BadText}

@@ -1,5 +1,5 @@
 -- The first byte that passes a test, as `memchr` finds it: for lines, and for bytes that a text has or not.
-use Rattle.std.proofs.Common.{◌≡◌, ℕ, ◌<◌, ◌≤◌, Bool, true, false, not, List, length, get_or, Option, None, Some, is_some, All, arith, sym, ap}
+use Rattle.std.proofs.Common.{◌≡◌, ℕ, Bool, false, not, List, length, Option, None, Some, is_some, arith, sym, ap}
 use Rattle.std.specs.Option.{unwrap_or}
 use Rattle.std.specs.List.{list_any, position_or_len}
 use Rattle.std.proofs.lemmas.Bool.{false_from_ne_true}

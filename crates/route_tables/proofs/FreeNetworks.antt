@@ -1,8 +1,6 @@
 -- Networks that share no address with those of a table, by the addresses of a set: for `first_free`.
-use Rattle.std.proofs.Common.{◌≡◌, ◌∙◌, ℕ, ◌+◌, ◌-◌, ◌<◌, ◌≤◌, ◌^◌, Bool, true, false, true≢false, not, List, [], ◌∷◌, ◌++◌, is_some, length, ap, refl, sym, subst, arith}
-use Rattle.std.proofs.Math.Nat.{min-le_right}
+use Rattle.std.proofs.Common.{◌≡◌, ◌∙◌, ℕ, ◌-◌, ◌<◌, ◌≤◌, ◌^◌, Bool, true, false, true≢false, not, List, [], ◌∷◌, ◌++◌, is_some, length, ap, refl, sym, arith}
 use Rattle.std.proofs.lemmas.List.{length-take-le}
-use Rattle.std.specs.FinMap.{contains_key}
 use Rattle.prefix_trie.specs.Terms.{begins, digits, number, shortest_match, IsUncovered}
 use Rattle.prefix_trie_bits.proofs.Model.Members.{of-key, some-key}
 use Rattle.prefix_trie_bits.specs.BitStrings.{length-digits, number_of_digits}
@@ -10,11 +8,11 @@ use Rattle.prefix_trie_bits.specs.Laws.Matches.{MatchLaws}
 use Rattle.prefix_trie_bits.specs.Model.Bits.{zeros}
 use Rattle.prefix_trie_bits.specs.Networks.{network_back, network_path, HasNoHostBits}
 use Rattle.address_ranges.specs.Breaks.{has_address}
-use Rattle.address_ranges.specs.Networks.{first_address, past_address, IsFree as HasNone}
+use Rattle.address_ranges.specs.Networks.{first_address, IsFree as HasNone}
 use Rattle.address_ranges.proofs.Addresses.{begins_within, within_begins}
 use Rattle.address_ranges.proofs.Blocks.{past_within}
 use Rattle.prefix_trie_joint.proofs.Families.{begins_apart, begins_apart_too, begins_ipv4, begins_ipv6}
-use Rattle.prefix_trie_joint.specs.Networks.{ip_path, HasNoIpHostBits}
+use Rattle.prefix_trie_joint.specs.Networks.{HasNoIpHostBits}
 use Rattle.prefix_trie_joint.specs.declared.prefix.IpPrefix.{IpPrefix}
 use Rattle.prefix_trie_joint.specs.declared.prefix.IpPrefix.TheVariants.{V4, V6}
 use Rattle.route_tables.specs.AddressLists.{AreCovered, is_in}

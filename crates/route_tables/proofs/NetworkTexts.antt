@@ -1,5 +1,5 @@
 -- The bytes of the texts of networks: no white space, no hyphen, no comment sign. For `printed_laws`.
-use Rattle.std.proofs.Common.{◌≡◌, ◌∙◌, ◌⊎◌, ℕ, suc, zero, ◌-◌, ◌<◌, ◌≤◌, ◌^◌, leb, ltb, Bool, true, false, true≢false, cond, ◌||◌, List, [], ◌∷◌, ◌++◌, decimal, length, refl, sym, ap, subst, inl, inr, arith, codes, length-append}
+use Rattle.std.proofs.Common.{◌≡◌, ◌∙◌, ◌⊎◌, ℕ, suc, zero, ◌-◌, ◌<◌, ◌≤◌, ◌^◌, leb, ltb, Bool, true, false, cond, ◌||◌, List, [], ◌∷◌, ◌++◌, decimal, length, refl, sym, ap, subst, inl, inr, arith, codes, length-append}
 use Rattle.std.proofs.lemmas.Bool.{and_parts, cases_lt, le-ltb, leb-true, lt-ltb, ne_eqb}
 use Rattle.std.proofs.lemmas.Fmt.{decimal_is_IsNumeral}
 use Rattle.std.proofs.lemmas.List.Folds.{list_any-append}

@@ -1,12 +1,11 @@
 -- In a table with one value, the fewest networks of its addresses, each with this value, are the fewest with the same values: for
 -- `fewest_networks`.
-use Rattle.std.proofs.Common.{◌≡◌, ◌∙◌, ◌<◌, ◌≤◌, ℕ, Bool, true, false, true≢false, ◌&&◌, List, [], ◌∷◌, Option, Some, None, IfSome, MatchOption, Less, Bor, All, length, map, is_lt, is_some, refl, sym, ap, ap₂, subst, arith, T as IsT}
+use Rattle.std.proofs.Common.{◌≡◌, ◌∙◌, ◌≤◌, ℕ, Bool, true, false, true≢false, ◌&&◌, List, [], ◌∷◌, Option, Some, None, IfSome, MatchOption, Less, Bor, All, length, map, is_lt, is_some, refl, sym, ap, ap₂, subst, arith, T as IsT}
 use Rattle.std.proofs.lemmas.List.{length-map}
 use Rattle.std.proofs.lemmas.List.Elements.{All-cons, All-head, All-nil, All-tail}
-use Rattle.std.specs.FinMap.{contains_key, entries-from_sorted, from_sorted, get, is_sorted, keys, len, len-entries}
+use Rattle.std.specs.FinMap.{entries-from_sorted, from_sorted, get, is_sorted, len, len-entries}
 use Rattle.std.specs.FinMap.Entries.{below_all}
 use Rattle.std.specs.List.{list_any, Contains}
-use Rattle.std.specs.Option.{option_map}
 use Rattle.prefix_trie.specs.Laws.Lookups.{LookupLaws}
 use Rattle.prefix_trie.specs.Terms.{begins, lent_item, listing, listing_cmp, prefix_pairs, shortest_match, number, Entries, IsLongestMatch, IsUncovered}
 use Rattle.prefix_trie_bits.specs.Laws.Listings.{ListingLaws}

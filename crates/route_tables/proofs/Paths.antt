@@ -1,6 +1,6 @@
 -- The network that a stored key is listed as has this key as its path, so the longest match that a lookup returns is the
 -- longest match: for `stored_paths` and `longest`.
-use Rattle.std.proofs.Common.{◌≡◌, ◌≤◌, ℕ, Bool, true, false, List, [], ◌∷◌, Option, Some, None, MatchOption, length, is_some, sym, ap, subst, ◌∙◌, true≢false}
+use Rattle.std.proofs.Common.{◌≡◌, ◌≤◌, Bool, true, false, List, [], ◌∷◌, Option, Some, None, MatchOption, length, is_some, sym, ap, subst, ◌∙◌, true≢false}
 use Rattle.std.specs.Borrow.{Bor}
 use Rattle.std.specs.FinMap.{contains_key}
 use Rattle.std.specs.Option.{option_map}

@@ -10,12 +10,12 @@ use Rattle.prefix_trie_joint.proofs.Texts.{ip_text_laws}
 use Rattle.prefix_trie_joint.specs.Networks.{lowest_ip}
 use Rattle.prefix_trie_joint.specs.Texts.{ip_network_text, IpTextLaws, IsIp, IsIpNetworkText}
 use Rattle.prefix_trie_joint.specs.declared.prefix.IpPrefix.{IpPrefix}
-use Rattle.route_tables.specs.Lines.{after_mark, begins_comment, begins_word, fields, has_bare_return, lines, table_lines, words}
+use Rattle.route_tables.specs.Lines.{after_mark, begins_comment, begins_word, fields, has_bare_return, lines, words}
 use Rattle.route_tables.specs.Loads.{strict}
-use Rattle.route_tables.specs.Networks.{has_hyphen, has_slash, AreOfText, AreOfTextByHyphen, IsNetworkText, IsTextBySlash}
+use Rattle.route_tables.specs.Networks.{has_slash, AreOfText, AreOfTextByHyphen, IsTextBySlash}
 use Rattle.route_tables.specs.Printed.{route_line, routes_text}
 use Rattle.route_tables.specs.PrintedLines.{IsTableRoute, PrintedLaws}
-use Rattle.route_tables.specs.Routes.{AreFieldsOf, Gives, HasRoutes, IsBad, IsFirstBad, IsLineValue, IsRoute, IsValue, IsValueText, Route}
+use Rattle.route_tables.specs.Routes.{AreFieldsOf, Gives, HasRoutes, IsFirstBad, IsLineValue, IsRoute, IsValue, IsValueText, Route}
 use Rattle.route_tables.specs.declared.network.HostBits.TheVariants.{Refused}
 use Rattle.route_tables.proofs.LineValues.{field_of_fields, fields_next, fields_of_field, first_none, rest_none, IsField, IsWord}
 use Rattle.route_tables.proofs.NetworkTexts.{no_mark, of_network, text_has_no_hyphen, text_has_slash, text_is_no_comment, text_is_some, text_is_utf8, text_is_word, AreTextBytes}

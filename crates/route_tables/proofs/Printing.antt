@@ -6,7 +6,7 @@ use Rattle.std.specs.Io.KnownBytes.{Appends}
 use Rattle.std.proofs.lemmas.List.Concat.{flat_map-append}
 use Rattle.prefix_trie_bits.specs.Networks.{network_back, network_path}
 use Rattle.prefix_trie.specs.Terms.{lent_item}
-use Rattle.prefix_trie_joint.specs.Joined.{both, both_networks}
+use Rattle.prefix_trie_joint.specs.Joined.{both_networks}
 use Rattle.prefix_trie_joint.specs.Texts.{ip_network_text}
 use Rattle.prefix_trie_joint.specs.declared.prefix.IpPrefix.{IpPrefix}
 use Rattle.prefix_trie_joint.specs.declared.prefix.IpPrefix.TheVariants.{V4, V6}

@@ -1,5 +1,5 @@
 -- When a text denotes no networks, and how the hyphen of a range splits it: for `parse_network_or_range`.
-use Rattle.std.proofs.Common.{All, ◌≡◌, ◌<◌, ℕ, ◌+◌, ◌||◌, ◌^◌, ◌≤◌, suc, Bool, true, false, not, cond, List, [], ◌∷◌, length, filter, map, refl, ap, ◌∙◌, subst, arith, Result, IfErr}
+use Rattle.std.proofs.Common.{All, ◌≡◌, ◌<◌, ℕ, ◌+◌, ◌||◌, ◌^◌, suc, Bool, true, false, not, cond, List, [], ◌∷◌, length, map, refl, ◌∙◌, subst, arith, Result, IfErr}
 use Rattle.std.specs.List.{list_any, position_or_len}
 use Rattle.std.specs.Net.Grammar.{IsIpText}
 use Rattle.std.specs.declared.net.ip_addr.IpAddr.{IpAddr}
@@ -7,7 +7,7 @@ use Rattle.std.proofs.NetLemmas.Theorems.{IsIpText_unique}
 use Rattle.std.proofs.lemmas.Result.{IfErr-weaker}
 use Rattle.prefix_trie_bits.specs.BitStrings.{number_of_digits}
 use Rattle.prefix_trie_bits.specs.Networks.{network_back, network_path}
-use Rattle.prefix_trie.specs.Terms.{begins, digits, number}
+use Rattle.prefix_trie.specs.Terms.{digits, number}
 use Rattle.address_ranges.specs.Networks.{AreFewest, is_between}
 use Rattle.prefix_trie_joint.specs.declared.prefix.IpPrefix.{IpPrefix}
 use Rattle.route_tables.specs.Networks.{AreFewestFor, AreOfEnds, AreOfRange}

@@ -1,12 +1,11 @@
 -- The fewest networks by ranks are the fewest by values, and how ranks are given: for `fewest_networks`.
-use Rattle.std.proofs.Common.{◌≡◌, ℕ, ◌<◌, ◌≤◌, Bool, true, false, List, [], ◌∷◌, ◌++◌, length, get_or, map, Option, Some, None, IfSome, MatchOption, bytes_eq, refl, sym, ap, subst, ◌∙◌, arith}
+use Rattle.std.proofs.Common.{◌≡◌, ℕ, ◌<◌, Bool, true, false, List, [], ◌∷◌, length, get_or, map, Option, Some, None, IfSome, MatchOption, bytes_eq, refl, sym, ap, subst, ◌∙◌, arith}
 use Rattle.std.proofs.lemmas.List.Sums.{position_or_len_is}
 use Rattle.std.proofs.lemmas.Map.Keys.{apart_from_distinct}
 use Rattle.std.proofs.lemmas.Slice.Eq.{bytes_eq-Decides}
-use Rattle.std.specs.FinMap.{get, len}
 use Rattle.std.specs.List.{position_or_len, IsDistinct}
 use Rattle.std.specs.Option.{option_map}
-use Rattle.prefix_trie.specs.Terms.{listing, longest_match, prefix_pairs, Entries, IsLongestMatch}
+use Rattle.prefix_trie.specs.Terms.{listing, prefix_pairs, Entries, IsLongestMatch}
 use Rattle.prefix_trie.specs.Laws.Lookups.{LookupLaws}
 use Rattle.prefix_trie_ops.specs.Smallest.{HaveSameAnswers, IsSmallest}
 use Rattle.prefix_trie_ops.specs.Values.{value_of}

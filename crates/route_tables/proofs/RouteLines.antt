@@ -1,5 +1,5 @@
 -- The lines of routes: a field is at most one hop, and a line has at most one route: for reading paths, and for counting invalid routes.
-use Rattle.std.proofs.Common.{◌≡◌, ◌≢◌, ◌↔◌, ◌∙◌, ℕ, List, [], ◌∷◌, MatchResult, Option, None, Some, Result, Ok, Err, ap, false, inl, inr, refl, subst, sym, true, true≢false}
+use Rattle.std.proofs.Common.{◌≡◌, ◌↔◌, ◌∙◌, ℕ, List, [], ◌∷◌, MatchResult, Option, None, Some, Result, Ok, Err, ap, false, inl, inr, refl, subst, sym, true≢false}
 use Rattle.std.specs.Str.{IsUtf8}
 use Rattle.prefix_trie_joint.specs.Texts.{IpTextLaws}
 use Rattle.prefix_trie_joint.specs.declared.prefix.IpPrefix.{IpPrefix}

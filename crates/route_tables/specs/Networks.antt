@@ -1,5 +1,5 @@
 -- Networks of a table: their texts, and the networks of a range of addresses. This project's own.
-use Rattle.std.specs.Prelude.{◌≡◌, ◌==◌, ◌≤◌, ℕ, All, Bool, true, false, List, [], ◌∷◌, filter, length, map}
+use Rattle.std.specs.Prelude.{◌≡◌, ◌==◌, ◌≤◌, ℕ, All, Bool, true, false, List, [], ◌∷◌, map}
 use Rattle.std.specs.List.{after_first, before_first, list_any}
 use Rattle.std.specs.Net.Addr.{ipv4_bits, ipv6_bits}
 use Rattle.std.specs.Net.Grammar.{IsIpText}
@@ -7,7 +7,6 @@ use Rattle.std.specs.declared.net.ip_addr.IpAddr.{IpAddr}
 use Rattle.std.specs.declared.net.ip_addr.IpAddr.TheVariants as Ip
 use Rattle.std.specs.declared.net.ipv4_addr.Ipv4Addr.{Ipv4Addr}
 use Rattle.std.specs.declared.net.ipv6_addr.Ipv6Addr.{Ipv6Addr}
-use Rattle.prefix_trie_bits.specs.Model.Bits.{begins, number}
 use Rattle.prefix_trie_bits.specs.Networks.{network_back, network_path}
 use Rattle.address_ranges.specs.Networks.{AreFewest, is_between}
 use Rattle.prefix_trie_joint.specs.Networks.{ip_host, lowest_ip}

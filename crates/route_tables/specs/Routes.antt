@@ -12,7 +12,6 @@ use Rattle.route_tables.specs.declared.load.BadLines.TheVariants.{Skipped}
 use Rattle.route_tables.specs.declared.load.Reading.{Reading}
 use Rattle.route_tables.specs.declared.load.TableKind.{TableKind}
 use Rattle.route_tables.specs.declared.load.TableKind.TheVariants.{AccessList, AnyValues}
-use Rattle.route_tables.specs.declared.network.HostBits.{HostBits}
 
 -- a network and its value
 abbrev pub Route : Type 0

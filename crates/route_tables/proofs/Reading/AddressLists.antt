@@ -1,9 +1,9 @@
 -- Reading the addresses of texts: what a network, a line and all lines add. For `AddressList`.
-use Rattle.std.proofs.Common.{◌≡◌, ◌∙◌, ◌||◌, ℕ, ◌<◌, ◌≤◌, ◌^◌, Bool, true, false, true≢false, cond, List, [], ◌∷◌, ◌++◌, None, is_some, length, map, All, inl, inr, refl, sym, ap, ap₂, subst, arith}
+use Rattle.std.proofs.Common.{◌≡◌, ◌∙◌, ◌||◌, ℕ, ◌<◌, ◌≤◌, ◌^◌, Bool, true, false, true≢false, List, [], ◌∷◌, ◌++◌, is_some, length, map, All, inl, inr, refl, sym, ap, ap₂, subst, arith}
 use Rattle.std.proofs.Math.Nat.{min-le_right}
 use Rattle.std.proofs.lemmas.List.{length-take}
 use Rattle.std.proofs.lemmas.List.Elements.{All-append, All-cons, All-nil}
-use Rattle.std.specs.FinMap.{contains_key, get, get-empty}
+use Rattle.std.specs.FinMap.{contains_key, get-empty}
 use Rattle.prefix_trie.specs.Terms.{begins, digits, no_entries, number, shortest_match, with_entry, Entries}
 use Rattle.prefix_trie_bits.proofs.Model.Members.{has-inserted, is-same_string, of-key, or-left, or-right, some-key}
 use Rattle.prefix_trie_bits.proofs.Model.NodeSets.{key_cases}

@@ -1,5 +1,5 @@
 -- Finding the bad lines of a text line by line: the invariant of the loop, and how each line preserves it: for `find_bad_lines`.
-use Rattle.std.proofs.Common.{◌≡◌, ◌⊎◌, ◌∙◌, ℕ, ◌+◌, ◌<◌, ◌≤◌, true, false, cond, nat_lt, List, [], ◌∷◌, ◌++◌, Option, None, Some, MatchOption, ap, append-nil, append_assoc, arith, inl, inr, length, length-append, refl, subst, suc, sym, take, zero}
+use Rattle.std.proofs.Common.{◌≡◌, ◌∙◌, ℕ, ◌+◌, ◌<◌, ◌≤◌, true, false, cond, nat_lt, List, [], ◌∷◌, ◌++◌, Option, None, Some, MatchOption, ap, append-nil, append_assoc, arith, inl, inr, length, length-append, refl, subst, sym, take}
 use Rattle.std.proofs.lemmas.Bool.{ltb-false, ltb-true}
 use Rattle.std.proofs.lemmas.List.{take-append-le, take_all}
 use Rattle.prefix_trie_joint.specs.declared.prefix.IpPrefix.{IpPrefix}

@@ -1,5 +1,5 @@
 -- The fields of a line: what is left of a definition at the fields that were found: for the functions of `line`.
-use Rattle.std.proofs.Common.{◌≡◌, ◌⊎◌, ◌∙◌, ℕ, List, [], ◌∷◌, ap, arith, codes, inl, inr, length, refl, subst, sym}
+use Rattle.std.proofs.Common.{◌≡◌, ◌⊎◌, ◌∙◌, ℕ, List, [], ◌∷◌, ap, arith, codes, inl, inr, length, subst, sym}
 use Rattle.prefix_trie_joint.specs.declared.prefix.IpPrefix.{IpPrefix}
 use Rattle.route_tables.specs.Lines.{fields}
 use Rattle.route_tables.specs.Reasons.{IsPlainText, IsRuleInOtherCase, IsValueTextReason}

@@ -1,5 +1,5 @@
 -- The fewest networks of the addresses of lines without values: for `fewest_of_plain`.
-use Rattle.std.proofs.Common.{◌≡◌, ◌∙◌, ◌≤◌, ℕ, Bool, true, false, cond, All, List, [], ◌∷◌, Some, None, is_some, length, map, refl, sym, ap, subst}
+use Rattle.std.proofs.Common.{◌≡◌, ◌∙◌, ◌≤◌, ℕ, Bool, true, false, cond, All, List, [], ◌∷◌, Some, None, is_some, length, map, refl, sym, ap}
 use Rattle.std.proofs.lemmas.List.Elements.{All-head, All-tail}
 use Rattle.std.specs.FinMap.{get, get-empty}
 use Rattle.prefix_trie.specs.Laws.Lookups.{LookupLaws}

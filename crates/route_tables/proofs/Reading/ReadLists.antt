@@ -1,5 +1,5 @@
 -- Reading lists line by line: what the lines so far add, how each line goes on, and what an error says. For `AddressList::add`.
-use Rattle.std.proofs.Common.{◌≡◌, ◌<◌, ℕ, ◌+◌, false, Bool, All, Result, Ok, Err, OnOk, List, [], ◌∷◌, ◌++◌, length, map, take, get_or, refl, sym, ap, subst, ◌∙◌, append-nil, arith}
+use Rattle.std.proofs.Common.{◌≡◌, ◌<◌, ℕ, ◌+◌, false, Bool, All, Result, Ok, Err, OnOk, List, [], ◌∷◌, ◌++◌, length, take, get_or, refl, sym, ap, subst, ◌∙◌, append-nil}
 use Rattle.std.proofs.lemmas.List.Elements.{All-cons, All-nil}
 use Rattle.prefix_trie.specs.Terms.{no_entries, with_entry}
 use Rattle.prefix_trie_joint.specs.Networks.{ip_path}

@@ -1,5 +1,5 @@
 -- Each entry is that of a key, and is kept if all its addresses are in the set.
-use Rattle.std.proofs.Common.{◌≡◌, ◌∙◌, ◌++◌, ◌∷◌, [], ap, map, subst, sym}
+use Rattle.std.proofs.Common.{◌∙◌, ap, map, subst, sym}
 use Rattle.prefix_trie.specs.Terms.{lent_item}
 use Rattle.prefix_trie_bits.specs.Keys.{fits_back, path_back}
 use Rattle.address_ranges.specs.Breaks.{has_address}

@@ -1,5 +1,4 @@
 -- The walk over the ranks gives the networks in listing order, each with its rank.
-use Rattle.std.proofs.Common.{◌∙◌}
 use Rattle.route_tables.specs.Fewest.{texts_of}
 use Rattle.route_tables.proofs.Ranks.{named_walk}
 use Rattle.route_tables.proofs.fewest.named.Goals as goal

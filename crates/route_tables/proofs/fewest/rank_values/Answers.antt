@@ -3,7 +3,7 @@ use Rattle.std.proofs.Common.{rules, ap, subst}
 use Rattle.std.proofs.lemmas.Result.{err_from_is_err_and}
 use Rattle.std.specs.FinMap.{len}
 use Rattle.route_tables.specs.Fewest.{texts_of, Ranks}
-use Rattle.route_tables.proofs.Ranking.{ranking_end, ranking_fits, ranking_on, ranking_start}
+use Rattle.route_tables.proofs.Ranking.{ranking_fits, ranking_on, ranking_start}
 use Rattle.route_tables.proofs.RankSlots.{one_less, room_full, room_on, room_start}
 use Rattle.route_tables.proofs.fewest.rank_values.Goals as goal
 

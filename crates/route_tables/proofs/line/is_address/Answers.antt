@@ -1,5 +1,5 @@
 -- A text without a dot and a colon is no address.
-use Rattle.std.proofs.Common.{◌≡◌, ◌∙◌, false, true≢false, sym, true}
+use Rattle.std.proofs.Common.{◌≡◌, ◌∙◌, false, true≢false, sym}
 use Rattle.route_tables.proofs.AddressTexts.{address_has_separator}
 use Rattle.route_tables.proofs.line.is_address.Goals as goal
 

@@ -1,5 +1,5 @@
 -- A field that is no value has none after it either.
-use Rattle.std.proofs.Common.{◌≡◌, inl, subst}
+use Rattle.std.proofs.Common.{inl, subst}
 use Rattle.std.proofs.lemmas.Result.{err_from_is_err_and}
 use Rattle.route_tables.specs.Routes.{IsValueText}
 use Rattle.route_tables.proofs.line.read_last.Goals as goal

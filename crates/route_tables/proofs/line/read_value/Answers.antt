@@ -2,10 +2,9 @@
 use Rattle.std.proofs.Common.{◌≡◌, ◌∙◌, ◌⊎◌, false, true, true≢false, subst, sym}
 use Rattle.std.proofs.lemmas.Result.{IfErr-weaker, MatchResult-weaker}
 use Rattle.std.specs.Net.Grammar.{IsIpText}
-use Rattle.std.specs.declared.net.ip_addr.IpAddr.{IpAddr}
 use Rattle.route_tables.specs.Lines.{has_hidden}
 use Rattle.route_tables.specs.Reasons.{IsRuleInOtherCase}
-use Rattle.route_tables.specs.Routes.{IsOfKind, IsRule, IsValueText}
+use Rattle.route_tables.specs.Routes.{IsOfKind, IsRule}
 use Rattle.route_tables.specs.declared.line.LineError.TheVariants.{CapitalLetters, OtherValue}
 use Rattle.route_tables.proofs.Reading.LineFields.{rule_reason}
 use Rattle.route_tables.proofs.line.read_value.Goals as goal

@@ -1,5 +1,5 @@
 -- A single answer is changed as the loop of `change_run` changes it.
-use Rattle.std.proofs.Common.{◌≡◌, ◌∙◌, ◌+◌, ◌<◌, length, slice_index, slice_set, subst, arith}
+use Rattle.std.proofs.Common.{◌≡◌, ◌∙◌, ◌<◌, length, slice_index, slice_set, subst, arith}
 use Rattle.prefix_trie_forwarding.specs.Walks.{AreChanged, changed}
 use Rattle.prefix_trie_forwarding.proofs.Ends.{changed_once}
 use Rattle.prefix_trie_forwarding.proofs.Filling.{IsOnce, change_start, change_value}

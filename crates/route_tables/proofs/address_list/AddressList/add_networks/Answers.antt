@@ -1,5 +1,5 @@
 -- The loop over networks: the addresses of those so far are added.
-use Rattle.std.proofs.Common.{◌≡◌, ◌∙◌, ◌<◌, ◌≤◌, length, map, subst, take, arith}
+use Rattle.std.proofs.Common.{◌∙◌, ◌<◌, length, subst, arith}
 use Rattle.std.proofs.lemmas.List.{length-map, take_all}
 use Rattle.route_tables.specs.AddressLists.{Covers}
 use Rattle.route_tables.specs.Loads.{with_routes}

@@ -1,5 +1,5 @@
 -- The routes of a line are added, and a value that is not empty is noted.
-use Rattle.std.proofs.Common.{◌≡◌, ◌∙◌, ℕ, List, [], false, true≢false, ap, subst, sym}
+use Rattle.std.proofs.Common.{◌≡◌, ◌∙◌, [], false, true≢false, ap, subst, sym}
 use Rattle.route_tables.specs.AddressLists.{AddsRoutes, Covers}
 use Rattle.route_tables.specs.Routes.{routes_to}
 use Rattle.route_tables.specs.Tables.{Values}

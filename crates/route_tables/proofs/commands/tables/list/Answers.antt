@@ -1,5 +1,5 @@
 -- Each network of the walk is printed with its value.
-use Rattle.std.proofs.Common.{◌∙◌, ap}
+use Rattle.std.proofs.Common.{ap}
 use Rattle.route_tables.specs.Printed.{route_line, routes_text}
 use Rattle.route_tables.proofs.Printing.{so_far_end, so_far_more, so_far_start}
 use Rattle.route_tables.proofs.commands.tables.list.Goals as goal

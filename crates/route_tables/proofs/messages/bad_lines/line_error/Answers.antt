@@ -1,8 +1,8 @@
 -- A line that is read is good, and the reason of another one is that of `read_line`.
-use Rattle.std.proofs.Common.{IfOk, MatchOption, subst, sym}
+use Rattle.std.proofs.Common.{subst}
 use Rattle.route_tables.specs.Networks.{all_networks}
 use Rattle.route_tables.specs.Reasons.{IsReason}
-use Rattle.route_tables.specs.Routes.{IsBad, IsGood}
+use Rattle.route_tables.specs.Routes.{IsBad}
 use Rattle.route_tables.specs.declared.line.ReadError.TheVariants.{Line}
 use Rattle.route_tables.proofs.Reading.FoundLines.{good_of_read}
 use Rattle.route_tables.proofs.messages.bad_lines.line_error.Goals as goal
