@@ -9,12 +9,9 @@ use Rattle.route_tables.specs.Routes.{IsBlank}
 use Rattle.route_tables.specs.declared.questions.Asking.{Asking}
 use Rattle.route_tables.proofs.Printing.{appends_both, appends_none}
 
-module _ (Asks : List ℕ → List ℕ → IpPrefix → Type 0) (answer : List ℕ → IpPrefix → List ℕ) where
-  -- for no lines, nothing is printed
-  pub prints_none : (a : Option (List ℕ)) → PrintsAnswers Asks answer [] a a
-  prints_none a = ([], refl, appends_none a)
-
-  has_append : (lines more : List (List ℕ)) (questions given : List (List ℕ × IpPrefix)) → HasQuestions Asks lines questions → HasQuestions Asks more given
+module _ (Asks : List ℕ → List ℕ → IpPrefix → Type 0) where
+  -- the questions of lines after those before
+  pub has_append : (lines more : List (List ℕ)) (questions given : List (List ℕ × IpPrefix)) → HasQuestions Asks lines questions → HasQuestions Asks more given
       → HasQuestions Asks (lines ++ more) (questions ++ given)
   has_append [] more questions given none has = subst (HasQuestions Asks more) (ap (λ qs. qs ++ given) (sym none)) has
   has_append (first ∷ lines) more questions given (g, rest, gives, later, split) has = (
@@ -25,12 +22,17 @@ module _ (Asks : List ℕ → List ℕ → IpPrefix → Type 0) (answer : List �
     ap (λ qs. qs ++ given) split ∙ append_assoc g rest given,
   )
 
+module _ (Asks : List ℕ → List ℕ → IpPrefix → Type 0) (answer : List ℕ → IpPrefix → List ℕ) where
+  -- for no lines, nothing is printed
+  pub prints_none : (a : Option (List ℕ)) → PrintsAnswers Asks answer [] a a
+  prints_none a = ([], refl, appends_none a)
+
   -- lines after those before
   pub prints_more : (lines more : List (List ℕ)) (a b c : Option (List ℕ)) → PrintsAnswers Asks answer lines a b → PrintsAnswers Asks answer more b c → PrintsAnswers Asks answer (lines ++ more) a c
   prints_more lines more a b c (questions, has, printed) (given, have, then) =
       let line : List ℕ × IpPrefix → List ℕ = λ question. answer question.0 question.1 in (
         questions ++ given,
-        has_append lines more questions given has have,
+        has_append Asks lines more questions given has have,
         subst (Appends a c) (sym (flat_map-append line questions given)) (appends_both a b c (flat_map line questions) (flat_map line given) printed then),
       )
 

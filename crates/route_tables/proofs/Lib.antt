@@ -10,6 +10,7 @@ pub mod Changes
 pub mod CoveredEntries
 pub mod CheckSteps
 pub mod FreeNetworks
+pub mod Groups
 pub mod HostBits
 pub mod LineValues
 pub mod Lists

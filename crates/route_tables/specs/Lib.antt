@@ -11,6 +11,7 @@ pub mod Changes
 pub mod Checks
 pub mod Fewest
 pub mod FreeNetworks
+pub mod Groups
 pub mod LineAddresses
 pub mod Lines
 pub mod Loads

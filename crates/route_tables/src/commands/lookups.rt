@@ -6,16 +6,17 @@ ghost use Rattle.std.specs.Iterator.{Drains, IsFinite};
 ghost use Rattle.prefix_trie.specs.Terms.{lent_item};
 ghost use Rattle.prefix_trie_joint.specs.Joined.{entries_of};
 ghost use Rattle.prefix_trie_joint.specs.declared.prefix.IpPrefix.{IpPrefix};
+ghost use Rattle.route_tables.specs.Groups.{PrintsFirstAnswers, answers_text, questions_of};
+ghost use Rattle.route_tables.specs.Lines.{lines};
 ghost use Rattle.route_tables.specs.Printed.{PrintsAnswers, answer_lines, lookup_text};
-ghost use Rattle.route_tables.specs.Questions.{IsQuestionWord};
+ghost use Rattle.route_tables.specs.Questions.{IsQuestionLine, IsQuestionWord};
 
-use crate::commands::groups::{MOST, answer_together};
+use crate::commands::groups::{MOST, answer_together, read_group};
 use crate::commands::printer::Printer;
 use crate::commands::questions::{QuestionsError, Seen};
-use crate::lines::split_line;
 use crate::load::BadLines;
 use crate::lookup::{Relation, longest};
-use crate::questions::{Asking, parse_question, read_question};
+use crate::questions::{Asking, parse_question};
 use crate::table::Table;
 use crate::value::Value;
 use prefix_trie::Ipv4Prefix;
@@ -47,7 +48,10 @@ pub fn look_up_lines<'a, W: Write + Drop>(
     looking: Looking,
     seen: &mut Seen,
     out: &mut Printer<W>,
-) -> Result<(), QuestionsError<'a>> {
+) -> Result<(), QuestionsError<'a>>
+    ensures { OnOk result (PrintsAnswers (IsQuestionLine looking.asking)
+        (lookup_text looking.relation (entries_of table.now)) (lines text.now) out.old out.new) }
+{
     let mut rest = text;
     while !rest.is_empty() {
         rest = look_up_some(table, rest, looking, seen, out)?;
@@ -86,44 +90,19 @@ fn look_up_some<'a, W: Write + Drop>(
     out: &mut Printer<W>,
 ) -> Result<&'a [u8], QuestionsError<'a>>
     requires { 0 < length text.now }
-    ensures { IfOk result (λ later. length later.now < length text.now) }
+    ensures shorter { IfOk result (λ rest. length rest.now < length text.now) }
+    ensures printed { IfOk result (λ rest. PrintsFirstAnswers (IsQuestionLine looking.asking)
+        (lookup_text looking.relation (entries_of table.now)) text.now rest.now out.old out.new) }
 {
     let mut texts = [""; MOST];
     let mut networks = [IpPrefix::V4(Ipv4Prefix::host(0)); MOST];
-    let mut count = 0;
-    let mut rest = text;
-    while count < MOST && !rest.is_empty() {
-        let (line, later) = split_line(rest);
-        rest = later;
-        seen.count_one();
-        match read_question(line, looking.asking) {
-            Ok(Some(question)) => {
-                texts[count] = question.text;
-                networks[count] = question.network;
-                count += 1;
-            }
-            Ok(None) => {}
-            Err(error) => {
-                answer_all(
-                    table,
-                    &texts[..count],
-                    &networks[..count],
-                    looking.relation,
-                    out,
-                )?;
-                seen.skip_or_refuse(line, error, looking.bad_questions)?;
-                return Ok(rest);
-            }
-        }
+    let group = read_group(text, looking.asking, seen, &mut texts, &mut networks);
+    let (texts, networks) = (&texts[..group.count], &networks[..group.count]);
+    answer_all(table, texts, networks, looking.relation, out)?;
+    if let Some((line, error)) = group.bad {
+        seen.skip_or_refuse(line, error, looking.bad_questions)?;
     }
-    answer_all(
-        table,
-        &texts[..count],
-        &networks[..count],
-        looking.relation,
-        out,
-    )?;
-    Ok(rest)
+    Ok(group.rest)
 }
 
 // Prints what a table has for questions with these texts, in order.
@@ -136,6 +115,9 @@ fn answer_all<'a, W: Write + Drop>(
 ) -> Result<(), QuestionsError<'a>>
     requires few { length networks.now ≤ 32 }
     requires same_length { length texts.now ≡ length networks.now }
+    ensures { OnOk result (Appends out.old out.new
+        (answers_text (lookup_text relation (entries_of table.now))
+        (questions_of texts.now networks.now))) }
 {
     if relation == Relation::Longest {
         return printed(answer_together(table, texts, networks, out));
