@@ -91,6 +91,24 @@ module _ {P : Type 0} (laws : LookupLaws P Hop) (m : Entries Hop) where
             begins-linear s p q h within (omega (arith, least, most))
       ]
 
+  -- a key that is longer than the longest match of a string that begins with the key is not stored
+  pub shorter_answer : (s q : List Bool) → begins s q ≡ true → answer_of (longest_match m q) < (length s + 1) * 8388608 → get m s ≡ None
+  shorter_answer s q within small = cases (get m s) refl
+    where
+      stored : (v : Hop) → get m s ≡ Some v → ⊥
+      stored v e = elim (match_cases q) [
+        | inl n ↦ false≢true (sym (n.1 s (ap is_some e)) ∙ within)
+        | inr x ↦
+            let longer = x.2.longest s (ap is_some e) within in
+            let r = (range_of x.0).0 in
+            let same : answer_of (longest_match m q) ≡ answer_of (Some x.0) = ap answer_of x.1 in
+            omega (arith, longer, r, same, small)
+      ]
+
+      cases : (o : Option Hop) → get m s ≡ o → get m s ≡ None
+      cases None e = e
+      cases (Some v) e = absurd (stored v e)
+
   module _ (s : List Bool) where
     -- what becomes of the answers of the addresses of a network that gets a hop
     pub inserted : (v : Hop) (q : List Bool) → answer_of (longest_match (with_entry m s v) q)

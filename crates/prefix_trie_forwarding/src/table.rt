@@ -1,5 +1,5 @@
 //! A map from networks to next hops, with slots in which a lookup finds the longest match of an address.
-ghost use Rattle.std.specs.Prelude.{◌≡◌, ◌⊎◌, ◌+◌, ◌-◌, ◌*◌, ◌/◌, ◌^◌, ◌<◌, ◌≤◌, ◌↔◌, IfErr, IfOk, IsOk, IsTrue, true, OnErr, OnOk, max, min, vec_len};
+ghost use Rattle.std.specs.Prelude.{◌≡◌, ◌⊎◌, ◌+◌, ◌-◌, ◌*◌, ◌/◌, ◌^◌, ◌<◌, ◌≤◌, ◌↔◌, IfErr, IfOk, IsOk, IsTrue, None, true, OnErr, OnOk, max, min, vec_len};
 ghost use Rattle.std.specs.FinMap.{contains_key, get, len};
 ghost use Rattle.prefix_trie_bits.specs.Model.Entries.{no_entries, with_entry, without_entry};
 ghost use Rattle.prefix_trie_bits.specs.Model.Matches.{longest_match};
@@ -20,7 +20,7 @@ mod from_map;
 
 use crate::answers::{hop_in, insertion, match_answer, match_in, removal};
 use crate::hop::Hop;
-use crate::slots::Slots;
+use crate::slots::{LENGTH, Slots};
 use prefix_trie::laws::{lookup_laws, stored_laws};
 use prefix_trie_bits::prefix::{Key, Prefix, Refusal};
 use prefix_trie_map::map::PrefixMap;
@@ -195,6 +195,17 @@ impl<P: Prefix, A: Allocator> ForwardingTable<P, A> {
         self.slots.find_counted(address)
     }
 
+    /// Returns whether the longest match of the first address of a network is shorter. Then the network is not stored.
+    #[inline(always)]
+    fn is_missing(&self, prefix: &P) -> bool
+        requires { P.IsFitting prefix.now }
+        ensures { result ≡ true → get self.now.map.entries (P.path prefix.now) ≡ None }
+    {
+        lookup_laws::<P, Hop>();
+        let len = u32::from(prefix.prefix_len());
+        self.answer(prefix.mask()) < (len + 1) * LENGTH
+    }
+
     /// Sets the hop of a network and returns the previous one.
     ///
     /// Inserting a network that is already stored never fails and does not allocate. A new one takes free groups first, and
@@ -252,6 +263,8 @@ impl<P: Prefix, A: Allocator> ForwardingTable<P, A> {
     /// The call never fails, and allocates nothing for slots. The map's `remove` may request a smaller block, and keeps the
     /// larger one if there is none. Groups that no network needs any more are free afterwards, for networks to come.
     ///
+    /// If the longest match of the network's first address is shorter than the network, the call costs one lookup.
+    ///
     /// # Examples
     ///
     /// ```rust
@@ -269,6 +282,10 @@ impl<P: Prefix, A: Allocator> ForwardingTable<P, A> {
     {
         lookup_laws::<P, Hop>();
         stored_laws::<Hop>();
+        // The slots are read before the map, so that the processor waits for both at the same time.
+        if self.is_missing(prefix) {
+            return None;
+        }
         let hop = self.map.remove(prefix)?;
         // The proof learns from it what holds of the map.
         let _ = self.map.len();
