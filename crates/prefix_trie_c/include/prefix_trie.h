@@ -92,6 +92,13 @@ typedef struct prefix_trie_found {
     uint8_t length;
 } prefix_trie_found;
 
+/* A longest match as a proved function returns it. In this order, two registers hold it without a shift. */
+typedef struct prefix_trie_c_found {
+    uint64_t value;
+    uint8_t length;
+    uint8_t code;
+} prefix_trie_c_found;
+
 /* The code of an insertion, and the value that it replaced, if `found`. Otherwise the value is 0. */
 typedef struct prefix_trie_replaced {
     uint64_t value;
@@ -118,7 +125,7 @@ prefix_trie_value prefix_trie_c_v4_get(const prefix_trie **table, uint32_t addre
 uint32_t prefix_trie_c_v4_len(const prefix_trie **table, size_t *count);
 uint32_t prefix_trie_c_v4_match(const prefix_trie **table, uint32_t address, uint8_t length,
                                 prefix_trie_v4_entry *entry);
-prefix_trie_found prefix_trie_c_v4_match_address(const prefix_trie **table, uint32_t address);
+prefix_trie_c_found prefix_trie_c_v4_match_address(const prefix_trie **table, uint32_t address);
 uint32_t prefix_trie_c_v4_match_all(const prefix_trie **table, const uint32_t *addresses, size_t address_count,
                                     prefix_trie_v4_entry *entries, size_t entry_count);
 uint32_t prefix_trie_c_v4_shortest(const prefix_trie **table, uint32_t address, uint8_t length,
@@ -139,7 +146,7 @@ prefix_trie_value prefix_trie_c_v6_get(const prefix_trie **table, uint64_t high,
 uint32_t prefix_trie_c_v6_len(const prefix_trie **table, size_t *count);
 uint32_t prefix_trie_c_v6_match(const prefix_trie **table, uint64_t high, uint64_t low, uint8_t length,
                                 prefix_trie_v6_entry *entry);
-prefix_trie_found prefix_trie_c_v6_match_address(const prefix_trie **table, uint64_t high, uint64_t low);
+prefix_trie_c_found prefix_trie_c_v6_match_address(const prefix_trie **table, uint64_t high, uint64_t low);
 uint32_t prefix_trie_c_v6_match_all(const prefix_trie **table, const prefix_trie_v6_address *addresses,
                                     size_t address_count, prefix_trie_v6_entry *entries, size_t entry_count);
 uint32_t prefix_trie_c_v6_shortest(const prefix_trie **table, uint64_t high, uint64_t low, uint8_t length,
@@ -232,7 +239,9 @@ static inline uint32_t prefix_trie_v4_match(const prefix_trie *table, uint32_t a
  * of the address. It is the fastest lookup of one address.
  */
 static inline prefix_trie_found prefix_trie_v4_match_address(const prefix_trie *table, uint32_t address) {
-    return prefix_trie_c_v4_match_address(&table, address);
+    prefix_trie_c_found match = prefix_trie_c_v4_match_address(&table, address);
+    prefix_trie_found found = {match.value, match.code, match.length};
+    return found;
 }
 
 /* Writes the longest match of each address to the entry at its place. `found` says whether there is one. */
@@ -333,7 +342,9 @@ static inline uint32_t prefix_trie_v6_match(const prefix_trie *table, uint64_t h
  * of the address. It is the fastest lookup of one address.
  */
 static inline prefix_trie_found prefix_trie_v6_match_address(const prefix_trie *table, uint64_t high, uint64_t low) {
-    return prefix_trie_c_v6_match_address(&table, high, low);
+    prefix_trie_c_found match = prefix_trie_c_v6_match_address(&table, high, low);
+    prefix_trie_found found = {match.value, match.code, match.length};
+    return found;
 }
 
 /* Writes the longest match of each address to the entry at its place. `found` says whether there is one. */

@@ -42,12 +42,12 @@ found_value (Some x) = record { value = x; code = DONE }
 
 -- no match, and why
 abbrev pub no_match : ℕ → FoundMatch
-no_match code = record { value = 0; code = code; length = 0 }
+no_match code = record { value = 0; length = 0; code = code }
 
 -- the value of a match and the length of its network, or no match
 abbrev pub found_match : {P : Type 0} → (P → ℕ) → Option (P × ℕ) → FoundMatch
 found_match len_of None = no_match MISSING
-found_match len_of (Some (network, x)) = record { value = x; code = DONE; length = len_of network }
+found_match len_of (Some (network, x)) = record { value = x; length = len_of network; code = DONE }
 
 -- the value that an insertion replaced, if any, and the insertion's code
 abbrev pub replaced_value : ℕ → Option ℕ → Replaced

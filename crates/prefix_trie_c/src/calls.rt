@@ -76,10 +76,10 @@ pub(crate) fn find_match<P: Prefix>(map: &Map<P>, prefix: &P) -> FoundMatch
     match map.get_lpm(prefix) {
         Some((found, value)) => FoundMatch {
             value: *value,
-            code: DONE,
             length: found.prefix_len(),
+            code: DONE as u8,
         },
-        None => FoundMatch::none(MISSING),
+        None => FoundMatch::none(MISSING as u8),
     }
 }
 

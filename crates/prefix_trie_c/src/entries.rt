@@ -43,12 +43,13 @@ pub struct FoundValue {
 }
 
 /// The value and the length of a longest match, if the code is `DONE`. Otherwise both are 0.
+// With its code in a byte after the length, a match needs no shift to be packed into two registers, nor to be unpacked.
 #[repr(C)]
 #[derive(Clone, Copy)]
 pub struct FoundMatch {
     pub value: u64,
-    pub code: u32,
     pub length: u8,
+    pub code: u8,
 }
 
 /// The code of an insertion, and the value that it replaced, if `found`. Otherwise the value is 0.
@@ -105,13 +106,13 @@ impl FoundValue {
 impl FoundMatch {
     /// Returns the result of a call that found no match.
     #[inline]
-    pub(crate) fn none(code: u32) -> FoundMatch
+    pub(crate) fn none(code: u8) -> FoundMatch
         ensures { result ≡ no_match code }
     {
         FoundMatch {
             value: 0,
-            code,
             length: 0,
+            code,
         }
     }
 }

@@ -245,7 +245,7 @@ pub extern "C" fn prefix_trie_c_v4_match_address(
     ensures none { (result.code ≡ DONE → ⊥) → (result.value ≡ 0) × (result.length ≡ 0) }
 {
     if handle.is_empty(alloc) {
-        return FoundMatch::none(NULL);
+        return FoundMatch::none(NULL as u8);
     }
     replace_with(handle, (alloc, Ipv4Prefix::host(address)), find_match)
 }
@@ -260,7 +260,7 @@ fn find_match(handle: Handle, asked: (Global, Ipv4Prefix)) -> (Handle, FoundMatc
 {
     let (alloc, network) = asked;
     let Some(mut tables) = handle.into_loose() else {
-        return (Handle::empty(alloc), FoundMatch::none(NULL));
+        return (Handle::empty(alloc), FoundMatch::none(NULL as u8));
     };
     let found = calls::find_match(&tables.as_mut().v4, &network);
     (Handle::of_loose(tables), found)

@@ -180,7 +180,7 @@ fn look_up(table: &mut Table) {
     done(table.longest(v4(10, 1, 2, 3), 32, &mut found));
     print_v4(&found);
     let of_address = table.match_address(v4(10, 2, 0, 1));
-    done(of_address.code);
+    done(of_address.code.into());
     println!("10.2.0.1 is in a network of length {}: {}", of_address.length, of_address.value);
     done(table.remove(0, 0, &mut value));
     println!("removed the default route, {value}");
@@ -192,7 +192,7 @@ fn look_up(table: &mut Table) {
     done(table.v6_longest(0x2001_0db8_0001_0000, 1, 128, &mut found6));
     print_v6(&found6);
     let of_address = table.v6_match_address(0x2001_0db8_0002_0000, 1);
-    done(of_address.code);
+    done(of_address.code.into());
     println!("2001:db8:2::1 is in a network of length {}: {}", of_address.length, of_address.value);
 }
 

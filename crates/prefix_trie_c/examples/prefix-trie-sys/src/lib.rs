@@ -62,8 +62,8 @@ pub struct Value {
 #[derive(Clone, Copy, Debug, PartialEq, Eq)]
 pub struct Found {
     pub value: u64,
-    pub code: u32,
     pub length: u8,
+    pub code: u8,
 }
 
 /// The code of an insertion, and the value that it replaced, if `found`.
