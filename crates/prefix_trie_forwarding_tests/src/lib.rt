@@ -1,4 +1,4 @@
-//! The tests of `prefix_trie_forwarding`.
+//! The tests of `prefix_trie_forwarding`, and an example of its use.
 #![tactic(auto)]
 
 #[cfg(test)]
@@ -9,8 +9,7 @@ mod cases;
 mod copies;
 #[cfg(test)]
 mod every_order;
-#[cfg(test)]
-mod examples;
+pub mod examples;
 #[cfg(test)]
 mod networks;
 #[cfg(test)]
