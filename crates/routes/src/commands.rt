@@ -1,31 +1,31 @@
 //! Carrying out commands: which files they read, and what they print.
-ghost use Rattle.std.specs.Prelude.{◌≡◌, MatchBool, nat_lt};
+ghost use Rattle.std.specs.Prelude.{◌≡◌, ◌↔◌, MatchBool, OnOk, nat_lt};
+ghost use Rattle.std.specs.Io.KnownBytes.{Appends};
+ghost use Rattle.route_tables.specs.Printed.{changes_text};
+
+mod asking;
 
 use crate::failure::Failure;
 use crate::session::{Input, Session, Values};
 use crate::status::Status;
 use address_ranges::JointAddressSet;
+use asking::{check, look_up};
 use origin_validation::Vrps;
 use prefix_trie_joint::IpPrefix;
-use route_tables::access::{AccessList, Precedence};
 use route_tables::arguments::{AddressReport, Comparison, Invocation, Report, Task};
-use route_tables::commands::checks::{Checked, Checking, check_lines, check_words};
-use route_tables::commands::lookups::{Looking, look_up_lines, look_up_words};
 use route_tables::commands::printer::Printer;
-use route_tables::commands::questions::{QuestionsError, Seen};
+use route_tables::commands::questions::Seen;
 use route_tables::commands::validations::{Validated, Validating, Verdicts, validate_lines};
 use route_tables::commands::{
     list, list_within, print_addresses, print_covered, print_diff, print_fewest, print_report,
 };
 use route_tables::free::{all_addresses, first_free};
-use route_tables::lookup::Relation;
 use route_tables::matching::{Searched, Selection, print_lines};
 use route_tables::messages::NetworkMessage;
 use route_tables::network::parse_network_with;
-use route_tables::questions::{Asked, Asking};
 use route_tables::table::Table;
 use std::alloc::Global;
-use std::io::Write;
+use std::io::{self, Write};
 
 /// Carries out a command, and sets the status of what it finds.
 pub fn carry_out<W: Write + Drop>(
@@ -126,7 +126,7 @@ fn compare<'a, W: Write + Drop>(
     }
 }
 
-// Prints what changes from one table to another, and sets the status if something does.
+// Prints what changes from one file to another, and sets the status if something does.
 fn diff<'a, W: Write + Drop>(
     session: Session<'a>,
     old: &'a str,
@@ -136,17 +136,28 @@ fn diff<'a, W: Write + Drop>(
 ) -> Result<(), Failure> {
     let old = session.read_tables(&[old], Values::Used)?;
     let new = session.read_tables(&[new], Values::Used)?;
-    let mut is_same = true;
-    let printed = print_diff(&old, &new, session.alloc(), out, &mut is_same);
-    *status = status_if(is_same);
-    Ok(printed?)
+    Ok(diff_tables(&old, &new, session.alloc(), out, status)?)
 }
 
-// Returns the status of a comparison or a check: `Bad` if something differs or is not allowed.
-fn status_if(is_good: bool) -> Status
-    ensures { MatchBool is_good (result ≡ Status.Good) (result ≡ Status.Bad) }
+// Prints what changes from one table to another. The status is `Good` if nothing does.
+fn diff_tables<W: Write + Drop>(
+    old: &Table,
+    new: &Table,
+    alloc: Global,
+    out: &mut Printer<W>,
+    status: &mut Status,
+) -> io::Result<()>
+    ensures lines { OnOk result (Appends out.old out.new
+        (changes_text old.now.ipv4.entries new.now.ipv4.entries old.now.ipv6.entries
+        new.now.ipv6.entries)) }
+    ensures status { OnOk result ((status.new ≡ Status.Good)
+        ↔ ((old.now.ipv4.entries ≡ new.now.ipv4.entries)
+        × (old.now.ipv6.entries ≡ new.now.ipv6.entries))) }
 {
-    if is_good { Status::Good } else { Status::Bad }
+    let mut is_same = true;
+    let printed = print_diff(old, new, alloc, out, &mut is_same);
+    *status = Status::of(is_same);
+    printed
 }
 
 // Returns the addresses that both files have, or that the first has and the second does not.
@@ -242,153 +253,6 @@ fn free<'a, W: Write + Drop>(
     }
 }
 
-// What is asked of a table or an access list, and what the questions so far show.
-#[derive(Drop)]
-enum Asker<'t> {
-    Lookup(&'t Table, Looking, Seen),
-    Check(&'t AccessList, Checking, Checked),
-}
-
-impl Asker<'_> {
-    // Answers the lines of a text.
-    fn ask_lines<'a, W: Write + Drop>(
-        &mut self,
-        text: &'a [u8],
-        out: &mut Printer<W>,
-    ) -> Result<(), QuestionsError<'a>> {
-        match self {
-            Asker::Lookup(table, looking, seen) => look_up_lines(table, text, *looking, seen, out),
-            Asker::Check(list, checking, checked) => check_lines(
-                list, text, *checking, checked, out,
-            ),
-        }
-    }
-
-    // Answers words.
-    fn ask_words<'a, W: Write + Drop>(
-        &mut self,
-        words: &[&'a str],
-        out: &mut Printer<W>,
-    ) -> Result<(), QuestionsError<'a>> {
-        match self {
-            Asker::Lookup(table, looking, seen) => look_up_words(table, words, *looking, seen, out),
-            Asker::Check(list, checking, checked) => check_words(
-                list, words, *checking, checked, out,
-            ),
-        }
-    }
-
-    // Returns false if an access list was asked, and something that was read is not an address that it allows.
-    fn is_good(&self) -> bool {
-        match self {
-            Asker::Lookup(..) => true,
-            Asker::Check(_, _, checked) => checked.are_all_allowed,
-        }
-    }
-
-    // Returns what a question is.
-    fn wanted(&self) -> &'static str {
-        match self {
-            Asker::Lookup(..) => "an address or a network",
-            Asker::Check(..) => "an address",
-        }
-    }
-
-    // Returns what was read.
-    fn seen(&self) -> &Seen {
-        match self {
-            Asker::Lookup(_, _, seen) => seen,
-            Asker::Check(_, _, checked) => &checked.seen,
-        }
-    }
-}
-
-// Answers words, or the lines of standard input if there are none.
-fn ask<W: Write + Drop>(
-    session: Session<'_>,
-    words: &[&str],
-    asker: &mut Asker<'_>,
-    out: &mut Printer<W>,
-) -> Result<(), Failure> {
-    let done = if words.is_empty() {
-        ask_input(session, asker, out)
-    } else {
-        match asker.ask_words(words, out) {
-            Ok(()) => Ok(()),
-            Err(error) => Err(session.report_questions(words, error)),
-        }
-    };
-    session.warn_of_skipped(asker.wanted(), words, &asker.seen().skipped);
-    done
-}
-
-// Answers the lines of standard input, piece by piece.
-fn ask_input<W: Write + Drop>(
-    session: Session<'_>,
-    asker: &mut Asker<'_>,
-    out: &mut Printer<W>,
-) -> Result<(), Failure> {
-    let mut pieces = session.pieces("-", Input::Questions)?;
-    for _ in 0..u64::MAX {
-        let Some(piece) = session.next_piece("-", &mut pieces)? else {
-            break;
-        };
-        if let Err(error) = asker.ask_lines(piece, out) {
-            return Err(session.report_questions(&[], error));
-        }
-        out.flush()?;
-    }
-    Ok(())
-}
-
-// Looks up words, or the lines of standard input if there are none.
-fn look_up<'a, W: Write + Drop>(
-    session: Session<'a>,
-    relation: Relation,
-    files: &[&'a str],
-    words: &[&str],
-    out: &mut Printer<W>,
-) -> Result<(), Failure> {
-    let table = session.read_tables(files, Values::Used)?;
-    let reading = session.options.reading;
-    let looking = Looking {
-        relation,
-        asking: Asking {
-            asked: Asked::Networks(reading.host_bits),
-            mapped: session.options.mapped,
-        },
-        bad_questions: reading.bad_lines,
-    };
-    ask(
-        session,
-        words,
-        &mut Asker::Lookup(&table, looking, Seen::new()),
-        out,
-    )
-}
-
-// Checks words, or the lines of standard input if there are none, and sets the status if one is not allowed.
-fn check<'a, W: Write + Drop>(
-    session: Session<'a>,
-    precedence: Precedence,
-    files: &[&'a str],
-    words: &[&str],
-    out: &mut Printer<W>,
-    status: &mut Status,
-) -> Result<(), Failure> {
-    let list = session.read_access_list(files)?;
-    session.warn_of_idle(&list, precedence, words.is_empty())?;
-    let checking = Checking {
-        precedence,
-        bad_questions: session.options.reading.bad_lines,
-        mapped: session.options.mapped,
-    };
-    let mut asker = Asker::Check(&list, checking, Checked::new());
-    let done = ask(session, words, &mut asker, out);
-    *status = status_if(asker.is_good());
-    done
-}
-
 // Prints the lines of files that are selected, and sets the status if there are none. A file that cannot be read is reported, and the
 // others are searched.
 fn search<'a, W: Write + Drop>(
@@ -472,11 +336,7 @@ fn status_of(validated: &Validated) -> Status
     ensures { MatchBool (nat_lt 0 validated.now.counts.invalid) (result ≡ Status.Bad)
         (result ≡ Status.Good) }
 {
-    if validated.counts.invalid > 0 {
-        Status::Bad
-    } else {
-        Status::Good
-    }
+    Status::of(validated.counts.invalid == 0)
 }
 
 // Prints the states of the routes of files, up to the first that cannot be read.
