@@ -1,11 +1,11 @@
 //! Lookups in compiled tables.
 ghost use Rattle.std.specs.Prelude.{◌≡◌, ◌+◌, ◌*◌, ◌^◌, length, map};
 ghost use Rattle.prefix_trie_c.specs.Compiled.{OnCompiled, compiled_of, value_at};
-ghost use Rattle.prefix_trie_c.specs.Entries.{found_value};
-ghost use Rattle.prefix_trie_c.specs.declared.codes.TheConstants.{COUNTS, DONE};
+ghost use Rattle.prefix_trie_c.specs.Entries.{found_value, no_value};
+ghost use Rattle.prefix_trie_c.specs.declared.codes.TheConstants.{COUNTS, DONE, MISSING};
 
 use crate::bulk;
-use crate::codes::{COUNTS, DONE, NULL};
+use crate::codes::{COUNTS, DONE, MISSING, NULL};
 use crate::compiled_handle::CompiledHandle;
 use crate::entries::{FoundValue, V6Address, joined};
 use core::mem::replace_with;
@@ -39,7 +39,7 @@ fn v4_lookup(handle: CompiledHandle, asked: (Global, u32)) -> (CompiledHandle, F
     let Some(mut shared) = handle.into_loose() else {
         return (CompiledHandle::empty(alloc), FoundValue::none(NULL));
     };
-    let found = FoundValue::of(shared.as_mut().table.v4.lookup(address));
+    let found = with_code(shared.as_mut().table.v4.lookup(address));
     (CompiledHandle::of_loose(shared), found)
 }
 
@@ -73,8 +73,29 @@ fn v6_lookup(handle: CompiledHandle, asked: (Global, u128)) -> (CompiledHandle, 
     let Some(mut shared) = handle.into_loose() else {
         return (CompiledHandle::empty(alloc), FoundValue::none(NULL));
     };
-    let found = FoundValue::of(shared.as_mut().table.v6.lookup(address));
+    let found = with_code(shared.as_mut().table.v6.lookup(address));
     (CompiledHandle::of_loose(shared), found)
+}
+
+/// Returns a value, or that there is none, with the code.
+#[inline(always)]
+fn with_code(found: Option<u64>) -> FoundValue
+    ensures { result ≡ found_value found }
+{
+    match found {
+        Some(value) => FoundValue { value, code: DONE },
+        None => missing(),
+    }
+}
+
+/// Returns that there is no value.
+// It is out of line, because else the compiler tests twice what the lookup found.
+#[cold]
+#[inline(never)]
+fn missing() -> FoundValue
+    ensures { result ≡ no_value MISSING }
+{
+    FoundValue::none(MISSING)
 }
 
 /// Writes the value of the longest match of each IPv4 address to the result at its place.

@@ -136,7 +136,7 @@ impl<P: Prefix, T: Copy + PartialEq, A: Allocator> Fib<P, T, A> {
     /// // map = {10.0.0.0/8: 1, 10.1.0.0/16: 2}
     /// Fib::new(&map, alloc)?.lookup(0x0a020304);      // Some(1)
     /// ```
-    #[inline]
+    #[inline(always)]
     pub fn lookup(&self, address: P::R) -> Option<T>
         ensures { result ≡ value_along None self.now (number (P.R.bits address)) }
     {

@@ -63,7 +63,7 @@ impl<K: Key, T: Copy, A: Allocator> Line<K, T, A> {
     /// Returns the range of an address, which is one of those from `first` on.
     ///
     /// Requires that the range `first` starts at the address or before it.
-    #[inline(never)]
+    #[inline(always)]
     pub(crate) fn range_in_rest(&self, first: usize, address: K) -> usize
         requires division { IsDivision self.now }
         requires by { StartsBy self.now first (number (K.bits address)) }
